@@ -1,0 +1,4 @@
+//! `argon2-tool`: digests of standard input.
+#![tactic(auto)]
+
+fn main() {}
