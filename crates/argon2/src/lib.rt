@@ -1,5 +1,7 @@
 //! Argon2 (RFC 9106): password hashing and key derivation.
 #![tactic(auto)]
 
+pub use argon2_base::blake2b;
+pub use argon2_base::blake2b_long;
 pub use argon2_base::error;
 pub use argon2_base::error::{B64Error, Error, Result};

@@ -1,4 +1,6 @@
 //! What Argon2 stands on: BLAKE2b, the hash of any length, and the faults of every call.
 #![tactic(auto)]
 
+pub mod blake2b;
+pub mod blake2b_long;
 pub mod error;

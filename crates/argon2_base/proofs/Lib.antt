@@ -1,0 +1,5 @@
+pub mod KnownDigests
+pub mod Rounds
+pub mod Absorbing
+pub mod Hashing
+pub mod Pieces

@@ -1,0 +1,17 @@
+use Rattle.std.proofs.Common.{◌≡◌, length, take, arith}
+use Rattle.std.proofs.lemmas.List.{take_all}
+use Rattle.argon2_base.proofs.Pieces.{input_fits, long_hash_short, long_hash_pieces}
+use Rattle.argon2_base.proofs.blake2b_long.blake2b_long.Goals as goal
+
+pub update-requires-in-inputs : goal.update-requires-in-inputs
+update-requires-in-inputs c = input_fits c.args.inputs.now c.inputs.input-index _ _ c.inputs-test.true c.inputs.invariant.1 c.requires
+
+pub returns-then-len-le64-clause-written : goal.returns-then-len-le64-clause-written
+returns-then-len-le64-clause-written c =
+    let all : take c.inputs.input-index c.args.inputs.now ≡ c.args.inputs.now = take_all c.inputs.input-index c.args.inputs.now (omega arith) in
+    long_hash_short (length c.args.out.now) _ _ c.if-len-le64.true (rw all at (c.finalize_into.ensures _ c.inputs.invariant.2))
+
+pub returns-else-len-le64-clause-written : goal.returns-else-len-le64-clause-written
+returns-else-len-le64-clause-written c =
+    let all : take c.inputs.input-index c.args.inputs.now ≡ c.args.inputs.now = take_all c.inputs.input-index c.args.inputs.now (omega arith) in
+    long_hash_pieces (length c.args.out.now) _ _ _ (rw all at (c.finalize_into-else-len-le64.ensures _ c.inputs.invariant.2)) c.write_pieces.ensures
