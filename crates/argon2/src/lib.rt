@@ -1,7 +1,12 @@
 //! Argon2 (RFC 9106): password hashing and key derivation.
 #![tactic(auto)]
 
+pub mod algorithm;
+pub mod version;
+
+pub use algorithm::Algorithm;
 pub use argon2_base::blake2b;
 pub use argon2_base::blake2b_long;
 pub use argon2_base::error;
 pub use argon2_base::error::{B64Error, Error, Result};
+pub use version::Version;
