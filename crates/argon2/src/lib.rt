@@ -2,11 +2,11 @@
 #![tactic(auto)]
 
 pub mod algorithm;
+pub mod laws;
 pub mod version;
 
 pub use algorithm::Algorithm;
-pub use argon2_base::blake2b;
-pub use argon2_base::blake2b_long;
-pub use argon2_base::error;
+pub use argon2_base::block::{Block, Work};
 pub use argon2_base::error::{B64Error, Error, Result};
+pub use argon2_base::{blake2b, blake2b_long, block, error};
 pub use version::Version;

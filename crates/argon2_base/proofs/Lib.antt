@@ -1,5 +1,9 @@
-pub mod KnownDigests
-pub mod Rounds
 pub mod Absorbing
 pub mod Hashing
+pub mod KnownDigests
+pub mod LaneLemmas
+pub mod MixingLaws
+pub mod MixingLemmas
+pub mod MixingValues
 pub mod Pieces
+pub mod Rounds

@@ -1,0 +1,80 @@
+use Rattle.std.proofs.Common.{◌∙◌, ◌≡◌, ◌<◌, ℕ, lit<, [], ◌∷◌}
+use Rattle.argon2_base.specs.Lanes.{lane_at}
+use Rattle.argon2_base.proofs.LaneLemmas.{below_eight}
+use Rattle.argon2_base.proofs.block.kernel.transpose.Goals as goal
+
+pub returns : goal.returns
+returns c i k h l = below_eight (λ i. (k : ℕ) → k < 8 → lane_at (c.interleave-9.result.0 ∷ c.interleave-9.result.1 ∷ c.interleave-10.result.0 ∷ c.interleave-10.result.1 ∷ c.interleave-11.result.0 ∷ c.interleave-11.result.1 ∷ c.interleave-12.result.0 ∷ c.interleave-12.result.1 ∷ []) i k ≡ lane_at c.args.x k i)
+    (below_eight _
+    (c.interleave-9.ensures.left 0 (lit< tt) ∙ c.interleave-5.ensures.left 0 (lit< tt) ∙ c.interleave.ensures.left 0 (lit< tt))
+    (c.interleave-9.ensures.left 1 (lit< tt) ∙ c.interleave-7.ensures.left 0 (lit< tt) ∙ c.interleave-2.ensures.left 0 (lit< tt))
+    (c.interleave-9.ensures.left 2 (lit< tt) ∙ c.interleave-5.ensures.left 1 (lit< tt) ∙ c.interleave-3.ensures.left 0 (lit< tt))
+    (c.interleave-9.ensures.left 3 (lit< tt) ∙ c.interleave-7.ensures.left 1 (lit< tt) ∙ c.interleave-4.ensures.left 0 (lit< tt))
+    (c.interleave-9.ensures.left 4 (lit< tt) ∙ c.interleave-5.ensures.left 2 (lit< tt) ∙ c.interleave.ensures.left 1 (lit< tt))
+    (c.interleave-9.ensures.left 5 (lit< tt) ∙ c.interleave-7.ensures.left 2 (lit< tt) ∙ c.interleave-2.ensures.left 1 (lit< tt))
+    (c.interleave-9.ensures.left 6 (lit< tt) ∙ c.interleave-5.ensures.left 3 (lit< tt) ∙ c.interleave-3.ensures.left 1 (lit< tt))
+    (c.interleave-9.ensures.left 7 (lit< tt) ∙ c.interleave-7.ensures.left 3 (lit< tt) ∙ c.interleave-4.ensures.left 1 (lit< tt)))
+    (below_eight _
+    (c.interleave-9.ensures.right 0 (lit< tt) ∙ c.interleave-5.ensures.left 4 (lit< tt) ∙ c.interleave.ensures.left 2 (lit< tt))
+    (c.interleave-9.ensures.right 1 (lit< tt) ∙ c.interleave-7.ensures.left 4 (lit< tt) ∙ c.interleave-2.ensures.left 2 (lit< tt))
+    (c.interleave-9.ensures.right 2 (lit< tt) ∙ c.interleave-5.ensures.left 5 (lit< tt) ∙ c.interleave-3.ensures.left 2 (lit< tt))
+    (c.interleave-9.ensures.right 3 (lit< tt) ∙ c.interleave-7.ensures.left 5 (lit< tt) ∙ c.interleave-4.ensures.left 2 (lit< tt))
+    (c.interleave-9.ensures.right 4 (lit< tt) ∙ c.interleave-5.ensures.left 6 (lit< tt) ∙ c.interleave.ensures.left 3 (lit< tt))
+    (c.interleave-9.ensures.right 5 (lit< tt) ∙ c.interleave-7.ensures.left 6 (lit< tt) ∙ c.interleave-2.ensures.left 3 (lit< tt))
+    (c.interleave-9.ensures.right 6 (lit< tt) ∙ c.interleave-5.ensures.left 7 (lit< tt) ∙ c.interleave-3.ensures.left 3 (lit< tt))
+    (c.interleave-9.ensures.right 7 (lit< tt) ∙ c.interleave-7.ensures.left 7 (lit< tt) ∙ c.interleave-4.ensures.left 3 (lit< tt)))
+    (below_eight _
+    (c.interleave-10.ensures.left 0 (lit< tt) ∙ c.interleave-5.ensures.right 0 (lit< tt) ∙ c.interleave.ensures.left 4 (lit< tt))
+    (c.interleave-10.ensures.left 1 (lit< tt) ∙ c.interleave-7.ensures.right 0 (lit< tt) ∙ c.interleave-2.ensures.left 4 (lit< tt))
+    (c.interleave-10.ensures.left 2 (lit< tt) ∙ c.interleave-5.ensures.right 1 (lit< tt) ∙ c.interleave-3.ensures.left 4 (lit< tt))
+    (c.interleave-10.ensures.left 3 (lit< tt) ∙ c.interleave-7.ensures.right 1 (lit< tt) ∙ c.interleave-4.ensures.left 4 (lit< tt))
+    (c.interleave-10.ensures.left 4 (lit< tt) ∙ c.interleave-5.ensures.right 2 (lit< tt) ∙ c.interleave.ensures.left 5 (lit< tt))
+    (c.interleave-10.ensures.left 5 (lit< tt) ∙ c.interleave-7.ensures.right 2 (lit< tt) ∙ c.interleave-2.ensures.left 5 (lit< tt))
+    (c.interleave-10.ensures.left 6 (lit< tt) ∙ c.interleave-5.ensures.right 3 (lit< tt) ∙ c.interleave-3.ensures.left 5 (lit< tt))
+    (c.interleave-10.ensures.left 7 (lit< tt) ∙ c.interleave-7.ensures.right 3 (lit< tt) ∙ c.interleave-4.ensures.left 5 (lit< tt)))
+    (below_eight _
+    (c.interleave-10.ensures.right 0 (lit< tt) ∙ c.interleave-5.ensures.right 4 (lit< tt) ∙ c.interleave.ensures.left 6 (lit< tt))
+    (c.interleave-10.ensures.right 1 (lit< tt) ∙ c.interleave-7.ensures.right 4 (lit< tt) ∙ c.interleave-2.ensures.left 6 (lit< tt))
+    (c.interleave-10.ensures.right 2 (lit< tt) ∙ c.interleave-5.ensures.right 5 (lit< tt) ∙ c.interleave-3.ensures.left 6 (lit< tt))
+    (c.interleave-10.ensures.right 3 (lit< tt) ∙ c.interleave-7.ensures.right 5 (lit< tt) ∙ c.interleave-4.ensures.left 6 (lit< tt))
+    (c.interleave-10.ensures.right 4 (lit< tt) ∙ c.interleave-5.ensures.right 6 (lit< tt) ∙ c.interleave.ensures.left 7 (lit< tt))
+    (c.interleave-10.ensures.right 5 (lit< tt) ∙ c.interleave-7.ensures.right 6 (lit< tt) ∙ c.interleave-2.ensures.left 7 (lit< tt))
+    (c.interleave-10.ensures.right 6 (lit< tt) ∙ c.interleave-5.ensures.right 7 (lit< tt) ∙ c.interleave-3.ensures.left 7 (lit< tt))
+    (c.interleave-10.ensures.right 7 (lit< tt) ∙ c.interleave-7.ensures.right 7 (lit< tt) ∙ c.interleave-4.ensures.left 7 (lit< tt)))
+    (below_eight _
+    (c.interleave-11.ensures.left 0 (lit< tt) ∙ c.interleave-6.ensures.left 0 (lit< tt) ∙ c.interleave.ensures.right 0 (lit< tt))
+    (c.interleave-11.ensures.left 1 (lit< tt) ∙ c.interleave-8.ensures.left 0 (lit< tt) ∙ c.interleave-2.ensures.right 0 (lit< tt))
+    (c.interleave-11.ensures.left 2 (lit< tt) ∙ c.interleave-6.ensures.left 1 (lit< tt) ∙ c.interleave-3.ensures.right 0 (lit< tt))
+    (c.interleave-11.ensures.left 3 (lit< tt) ∙ c.interleave-8.ensures.left 1 (lit< tt) ∙ c.interleave-4.ensures.right 0 (lit< tt))
+    (c.interleave-11.ensures.left 4 (lit< tt) ∙ c.interleave-6.ensures.left 2 (lit< tt) ∙ c.interleave.ensures.right 1 (lit< tt))
+    (c.interleave-11.ensures.left 5 (lit< tt) ∙ c.interleave-8.ensures.left 2 (lit< tt) ∙ c.interleave-2.ensures.right 1 (lit< tt))
+    (c.interleave-11.ensures.left 6 (lit< tt) ∙ c.interleave-6.ensures.left 3 (lit< tt) ∙ c.interleave-3.ensures.right 1 (lit< tt))
+    (c.interleave-11.ensures.left 7 (lit< tt) ∙ c.interleave-8.ensures.left 3 (lit< tt) ∙ c.interleave-4.ensures.right 1 (lit< tt)))
+    (below_eight _
+    (c.interleave-11.ensures.right 0 (lit< tt) ∙ c.interleave-6.ensures.left 4 (lit< tt) ∙ c.interleave.ensures.right 2 (lit< tt))
+    (c.interleave-11.ensures.right 1 (lit< tt) ∙ c.interleave-8.ensures.left 4 (lit< tt) ∙ c.interleave-2.ensures.right 2 (lit< tt))
+    (c.interleave-11.ensures.right 2 (lit< tt) ∙ c.interleave-6.ensures.left 5 (lit< tt) ∙ c.interleave-3.ensures.right 2 (lit< tt))
+    (c.interleave-11.ensures.right 3 (lit< tt) ∙ c.interleave-8.ensures.left 5 (lit< tt) ∙ c.interleave-4.ensures.right 2 (lit< tt))
+    (c.interleave-11.ensures.right 4 (lit< tt) ∙ c.interleave-6.ensures.left 6 (lit< tt) ∙ c.interleave.ensures.right 3 (lit< tt))
+    (c.interleave-11.ensures.right 5 (lit< tt) ∙ c.interleave-8.ensures.left 6 (lit< tt) ∙ c.interleave-2.ensures.right 3 (lit< tt))
+    (c.interleave-11.ensures.right 6 (lit< tt) ∙ c.interleave-6.ensures.left 7 (lit< tt) ∙ c.interleave-3.ensures.right 3 (lit< tt))
+    (c.interleave-11.ensures.right 7 (lit< tt) ∙ c.interleave-8.ensures.left 7 (lit< tt) ∙ c.interleave-4.ensures.right 3 (lit< tt)))
+    (below_eight _
+    (c.interleave-12.ensures.left 0 (lit< tt) ∙ c.interleave-6.ensures.right 0 (lit< tt) ∙ c.interleave.ensures.right 4 (lit< tt))
+    (c.interleave-12.ensures.left 1 (lit< tt) ∙ c.interleave-8.ensures.right 0 (lit< tt) ∙ c.interleave-2.ensures.right 4 (lit< tt))
+    (c.interleave-12.ensures.left 2 (lit< tt) ∙ c.interleave-6.ensures.right 1 (lit< tt) ∙ c.interleave-3.ensures.right 4 (lit< tt))
+    (c.interleave-12.ensures.left 3 (lit< tt) ∙ c.interleave-8.ensures.right 1 (lit< tt) ∙ c.interleave-4.ensures.right 4 (lit< tt))
+    (c.interleave-12.ensures.left 4 (lit< tt) ∙ c.interleave-6.ensures.right 2 (lit< tt) ∙ c.interleave.ensures.right 5 (lit< tt))
+    (c.interleave-12.ensures.left 5 (lit< tt) ∙ c.interleave-8.ensures.right 2 (lit< tt) ∙ c.interleave-2.ensures.right 5 (lit< tt))
+    (c.interleave-12.ensures.left 6 (lit< tt) ∙ c.interleave-6.ensures.right 3 (lit< tt) ∙ c.interleave-3.ensures.right 5 (lit< tt))
+    (c.interleave-12.ensures.left 7 (lit< tt) ∙ c.interleave-8.ensures.right 3 (lit< tt) ∙ c.interleave-4.ensures.right 5 (lit< tt)))
+    (below_eight _
+    (c.interleave-12.ensures.right 0 (lit< tt) ∙ c.interleave-6.ensures.right 4 (lit< tt) ∙ c.interleave.ensures.right 6 (lit< tt))
+    (c.interleave-12.ensures.right 1 (lit< tt) ∙ c.interleave-8.ensures.right 4 (lit< tt) ∙ c.interleave-2.ensures.right 6 (lit< tt))
+    (c.interleave-12.ensures.right 2 (lit< tt) ∙ c.interleave-6.ensures.right 5 (lit< tt) ∙ c.interleave-3.ensures.right 6 (lit< tt))
+    (c.interleave-12.ensures.right 3 (lit< tt) ∙ c.interleave-8.ensures.right 5 (lit< tt) ∙ c.interleave-4.ensures.right 6 (lit< tt))
+    (c.interleave-12.ensures.right 4 (lit< tt) ∙ c.interleave-6.ensures.right 6 (lit< tt) ∙ c.interleave.ensures.right 7 (lit< tt))
+    (c.interleave-12.ensures.right 5 (lit< tt) ∙ c.interleave-8.ensures.right 6 (lit< tt) ∙ c.interleave-2.ensures.right 7 (lit< tt))
+    (c.interleave-12.ensures.right 6 (lit< tt) ∙ c.interleave-6.ensures.right 7 (lit< tt) ∙ c.interleave-3.ensures.right 7 (lit< tt))
+    (c.interleave-12.ensures.right 7 (lit< tt) ∙ c.interleave-8.ensures.right 7 (lit< tt) ∙ c.interleave-4.ensures.right 7 (lit< tt)))
+    i h k l
