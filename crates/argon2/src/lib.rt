@@ -2,9 +2,11 @@
 #![tactic(auto)]
 
 pub mod algorithm;
+pub mod params;
 pub mod version;
 
 pub use algorithm::Algorithm;
 pub use argon2_base::error;
 pub use argon2_base::error::{B64Error, Error, Result};
+pub use params::{AssociatedData, KeyId, Params};
 pub use version::Version;
