@@ -8,5 +8,5 @@ pub mod version;
 pub use algorithm::Algorithm;
 pub use argon2_base::error;
 pub use argon2_base::error::{B64Error, Error, Result};
-pub use params::{AssociatedData, KeyId, Params};
+pub use params::{AssociatedData, KeyId, Params, ParamsBuilder};
 pub use version::Version;

@@ -6,10 +6,12 @@ ghost use Rattle.argon2.specs.Parameters.{first_fault};
 use argon2_base::error::{Error, Result};
 
 mod associated_data;
+mod builder;
 mod byte_list;
 mod key_id;
 
 pub use associated_data::AssociatedData;
+pub use builder::ParamsBuilder;
 pub use key_id::KeyId;
 
 /// Parameters of a hash, which are valid by this type.
