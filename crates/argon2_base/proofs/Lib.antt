@@ -1,4 +1,5 @@
 pub mod Absorbing
+pub mod Base64Lemmas
 pub mod Hashing
 pub mod KnownDigests
 pub mod LaneLemmas
