@@ -3,10 +3,12 @@
 
 pub mod algorithm;
 pub mod laws;
+pub mod params;
 pub mod version;
 
 pub use algorithm::Algorithm;
 pub use argon2_base::block::{Block, Work};
 pub use argon2_base::error::{B64Error, Error, Result};
 pub use argon2_base::{block, error};
+pub use params::{AssociatedData, KeyId, Params};
 pub use version::Version;
