@@ -1,1 +1,13 @@
 mod Filled
+mod Sources
+mod History
+mod Schedules
+mod Filling
+mod LaneAfterLane
+mod Watched
+mod Counts
+mod LastColumn
+mod PermittedPlaces
+mod InMemory
+mod Validity
+mod Independence

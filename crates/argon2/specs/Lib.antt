@@ -1,9 +1,15 @@
 pub mod Algorithm
 pub mod ByteLists
+pub mod Context
+pub mod Counting
 pub mod Laws
 pub mod Parameters
 pub mod Params
 pub mod ParamsBuilder
+pub mod Recurrence
+pub mod Reference
 pub mod Refusals
 pub mod Shape
+pub mod Steps
 pub mod Version
+pub mod Watching
