@@ -5,7 +5,7 @@ use Rattle.std.specs.List.{range_with_len, fold}
 use Rattle.argon2_base.specs.Block.{xor_blocks, zero_block}
 use Rattle.argon2_base.specs.Mixing.{mixed}
 use Rattle.argon2.specs.Context.{Context, segment_length, lane_length, block_count}
-use Rattle.argon2.specs.Reference.{Reference, reference}
+use Rattle.argon2.specs.Reference.{Reference, place_of, reference}
 
 -- the block of a pass, a lane and a column
 abbrev pub Blocks : Type 0
@@ -96,11 +96,10 @@ unfoldable pub block_of : Context → FirstColumns → ℕ → ℕ → ℕ → L
 block_of ctx first pass lane column =
     in_history ctx (history ctx first (suc (pass * lane_length ctx + column))) pass lane column
 
--- the place, lane after lane, of the block that the block of a pass, a lane and a column refers to
+-- the place of the block that the block of a pass, a lane and a column refers to
 unfoldable pub reference_places : Context → FirstColumns → ℕ → ℕ → ℕ → ℕ
 reference_places ctx first pass lane column =
-    let from = reference_of ctx (block_of ctx first) pass lane column in
-    from.lane * lane_length ctx + from.column
+    place_of ctx (reference_of ctx (block_of ctx first) pass lane column)
 
 -- the blocks of the last pass, lane after lane
 unfoldable pub matrix : Context → FirstColumns → List (List ℕ)
