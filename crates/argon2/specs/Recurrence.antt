@@ -17,11 +17,10 @@ FirstColumns = ℕ → ℕ → List ℕ
 
 -- ---- the word that takes the reference
 
--- Argon2i's always, and Argon2id's in the first two slices of pass 0
+-- in all slices of Argon2i, and of Argon2id in the first two of pass 0
 unfoldable pub is_independent : Context → ℕ → ℕ → Bool
-is_independent ctx pass column =
-    (ctx.algorithm == 1)
-    || ((ctx.algorithm == 2) && ((pass == 0) && nat_lt (column / segment_length ctx) 2))
+is_independent ctx pass slice =
+    (ctx.algorithm == 1) || ((ctx.algorithm == 2) && ((pass == 0) && nat_lt slice 2))
 
 -- 128 words made of numbers alone, the counter telling the address blocks of a segment apart
 -- (RFC 9106, section 3.4.1.2)
@@ -44,8 +43,9 @@ previous ctx blocks pass lane (suc column) = blocks pass lane column
 -- the address word, or the previous block's first word
 unfoldable pub reference_word : Context → Blocks → ℕ → ℕ → ℕ → ℕ
 reference_word ctx blocks pass lane column =
-    if is_independent ctx pass column
-    then address_word ctx pass lane (column / segment_length ctx) (column % segment_length ctx)
+    let slice = column / segment_length ctx in
+    if is_independent ctx pass slice
+    then address_word ctx pass lane slice (column % segment_length ctx)
     else slice_index (previous ctx blocks pass lane column) 0
 
 -- the block that the block of a pass, a lane and a column refers to

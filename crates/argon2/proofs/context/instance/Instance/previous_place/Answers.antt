@@ -1,4 +1,4 @@
-use Rattle.std.proofs.Common.{arith, ◌-◌, rules}
+use Rattle.std.proofs.Common.{◌-◌, rules}
 use Rattle.argon2.proofs.InMemory.{place_below}
 use Rattle.argon2.proofs.context.instance.Instance.previous_place.Goals as goal
 

@@ -1,5 +1,4 @@
-use Rattle.std.proofs.Common.{◌≡◌, ◌+◌, ◌*◌, ◌<◌, ap, ◌∙◌, arith, rules}
-use Rattle.argon2.specs.Context.{lane_length}
+use Rattle.std.proofs.Common.{arith, rules}
 use Rattle.argon2.specs.Reference.{reference}
 use Rattle.argon2.proofs.InMemory.{place_below}
 use Rattle.argon2.proofs.context.instance.Instance.reference_place.Goals as goal

@@ -1,11 +1,9 @@
-use Rattle.std.proofs.Common.{◌≡◌, ℕ, ◌+◌, ◌-◌, ◌*◌, ◌<◌, List, [], cond, ◌&&◌, eqb, ltb, get_or, set, sym, ap, ◌∙◌, arith, rules}
+use Rattle.std.proofs.Common.{◌+◌, ◌*◌, [], ◌&&◌, eqb, ltb, get_or, sym, ◌∙◌, rules}
 use Rattle.std.proofs.lemmas.Bool.{cond-true, cond-false}
 use Rattle.std.proofs.lemmas.List.{get_or_read}
 use Rattle.argon2_base.proofs.MixingLaws.{xor_blocks-comm}
-use Rattle.argon2_base.specs.Block.{xor_blocks}
 use Rattle.argon2.specs.Context.{lane_length}
-use Rattle.argon2.specs.Recurrence.{made_block}
-use Rattle.argon2.specs.Steps.{in_memory, step}
+use Rattle.argon2.specs.Steps.{step}
 use Rattle.argon2.proofs.InMemory.{made_by_places, place_by_word, place_below}
 use Rattle.argon2.proofs.context.instance.Instance.step.Goals as goal
 
