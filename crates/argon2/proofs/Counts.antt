@@ -1,6 +1,5 @@
 -- The mixings of all segments are t * B - 2p, and two for each address block.
 use Rattle.std.proofs.Common.{◌≡◌, ℕ, zero, suc, ◌+◌, ◌*◌, ◌/◌, ◌<◌, ◌≤◌, ◌≢◌, inl, inr, true, false, ◌&&◌, ◌||◌, eqb, ltb, refl, ap, ◌∙◌, arith}
-use Rattle.std.proofs.lemmas.Nat.{div-mul-add}
 use Rattle.std.proofs.Math.Nat.{mul-le-mul_left}
 use Rattle.std.proofs.lemmas.Bool.{cond-true, cond-false, cases_eq, eq-eqb, ne_eqb, lt-ltb, eqb-true, ltb-true, and_from, and_parts, or_left, or_right, or_cases, false_from_ne_true}
 use Rattle.argon2.specs.Context.{Context, segment_length, lane_length, block_count}
@@ -16,23 +15,13 @@ module _ (ctx : Context) (fits : Fits ctx) where
   address_blocks : ℕ
   address_blocks = (segment_length ctx + 127) / 128
 
-  slice_at : (k : ℕ) → k * segment_length ctx / segment_length ctx ≡ k
-  slice_at k =
-      let two = fits.two_columns in
-      let zero : k * segment_length ctx ≡ k * segment_length ctx + 0 = omega arith in
-      ap (λ x. x / segment_length ctx) zero ∙ div-mul-add k (segment_length ctx) 0 (omega arith)
-
-  independent_is : (pass k : ℕ) → is_independent ctx pass (k * segment_length ctx) ≡ ((eqb ctx.algorithm 1) || ((eqb ctx.algorithm 2) && ((eqb pass 0) && ltb k 2)))
-  unfolding is_independent
-  independent_is pass k = ap (λ x. (eqb ctx.algorithm 1) || ((eqb ctx.algorithm 2) && ((eqb pass 0) && ltb x 2))) (slice_at k)
-
   yes : (pass k : ℕ) → ((eqb ctx.algorithm 1) || ((eqb ctx.algorithm 2) && ((eqb pass 0) && ltb k 2))) ≡ true → segment_calls ctx pass k ≡ 2 * address_blocks + turn_count ctx pass k
-  unfolding segment_calls address_blocks
-  yes pass k h = ap (λ x. x + turn_count ctx pass k) (cond-true (is_independent ctx pass (k * segment_length ctx)) (2 * address_blocks) 0 (independent_is pass k ∙ h))
+  unfolding segment_calls address_blocks is_independent
+  yes pass k h = ap (λ x. x + turn_count ctx pass k) (cond-true (is_independent ctx pass k) (2 * address_blocks) 0 (h))
 
   no : (pass k : ℕ) → ((eqb ctx.algorithm 1) || ((eqb ctx.algorithm 2) && ((eqb pass 0) && ltb k 2))) ≡ false → segment_calls ctx pass k ≡ turn_count ctx pass k
-  unfolding segment_calls address_blocks
-  no pass k h = ap (λ x. x + turn_count ctx pass k) (cond-false (is_independent ctx pass (k * segment_length ctx)) (2 * address_blocks) 0 (independent_is pass k ∙ h)) ∙ omega arith
+  unfolding segment_calls address_blocks is_independent
+  no pass k h = ap (λ x. x + turn_count ctx pass k) (cond-false (is_independent ctx pass k) (2 * address_blocks) 0 (h)) ∙ omega arith
 
   -- in each pass, how many of its four slices are independent
   sum_of : ℕ → ℕ

@@ -1,13 +1,19 @@
 -- What a step reads of a list, by places.
-use Rattle.std.proofs.Common.{◌≡◌, ℕ, zero, suc, ◌+◌, ◌-◌, ◌*◌, cond, ◌&&◌, eqb, ltb, List, [], get_or, refl, sym, ap, ◌∙◌, arith}
+use Rattle.std.proofs.Common.{◌≡◌, ℕ, zero, suc, ◌+◌, ◌-◌, ◌*◌, cond, ◌&&◌, eqb, ltb, List, [], get_or, refl, sym, ap, ◌∙◌, arith, ◌<◌}
+use Rattle.std.proofs.lemmas.Nat.{mul-add-lt}
 use Rattle.std.proofs.lemmas.Bool.{cond-false, ne_eqb}
 use Rattle.argon2_base.specs.Block.{xor_blocks}
 use Rattle.argon2_base.specs.Mixing.{mixed}
-use Rattle.argon2.specs.Context.{Context, lane_length}
+use Rattle.argon2.specs.Context.{Context, lane_length, block_count}
 use Rattle.argon2.specs.Recurrence.{previous, reference_word, reference_of, made_block}
 use Rattle.argon2.specs.Reference.{reference}
 use Rattle.argon2.specs.Steps.{in_memory, reference_place}
 
+-- a place of a lane and a column is one of the memory's
+pub place_below : (ctx : Context) (lane column : ℕ) → lane < ctx.p_cost → column < lane_length ctx → lane * lane_length ctx + column < block_count ctx
+place_below ctx lane column a b = let h = mul-add-lt lane (lane_length ctx) column ctx.p_cost a b in omega arith
+
+-- the previous block's place
 pub previous_in_memory : (ctx : Context) (memory : List (List ℕ)) (pass lane column : ℕ) →
     previous ctx (in_memory ctx memory) pass lane column ≡ get_or memory (lane * lane_length ctx + cond (eqb column 0) (lane_length ctx - 1) (column - 1)) []
 unfolding previous in_memory
@@ -34,8 +40,8 @@ made_by_places ctx memory pass lane column w e =
     let block = mixed (get_or memory (lane * q + cond (eqb column 0) (q - 1) (column - 1)) []) (get_or memory (from.lane * q + from.column) []) in
     cond ((eqb ctx.version 19) && (ltb 0 pass)) (xor_blocks block (get_or memory (lane * q + column) [])) block) (sym e)
 
-pub at_by_places : (ctx : Context) (memory : List (List ℕ)) (pass lane column w : ℕ) → w ≡ reference_word ctx (in_memory ctx memory) pass lane column →
+pub place_by_word : (ctx : Context) (memory : List (List ℕ)) (pass lane column w : ℕ) → w ≡ reference_word ctx (in_memory ctx memory) pass lane column →
     reference_place ctx memory pass lane column ≡ (reference ctx pass lane column w).lane * lane_length ctx + (reference ctx pass lane column w).column
 unfolding reference_place reference_of
-at_by_places ctx memory pass lane column w e =
+place_by_word ctx memory pass lane column w e =
     ap (λ w'. (reference ctx pass lane column w').lane * lane_length ctx + (reference ctx pass lane column w').column) (sym e)

@@ -185,7 +185,7 @@ pub word_cong : (ctx : Context) → Fits ctx → (pass lane column : ℕ) → Is
     reference_word ctx f pass lane column ≡ reference_word ctx g pass lane column
 unfolding reference_word
 word_cong ctx fits pass lane column st f g h =
-    ap (λ (b : List ℕ). cond (is_independent ctx pass column) (address_word ctx pass lane (column / segment_length ctx) (column % segment_length ctx)) (get_or b 0 0)) (previous_cong ctx fits pass lane column st f g h)
+    ap (λ (b : List ℕ). cond (is_independent ctx pass (column / segment_length ctx)) (address_word ctx pass lane (column / segment_length ctx) (column % segment_length ctx)) (get_or b 0 0)) (previous_cong ctx fits pass lane column st f g h)
 
 pub reference_of_cong : (ctx : Context) → Fits ctx → (pass lane column : ℕ) → IsStep ctx pass lane column → (f g : Blocks) → AgreeOn ctx pass lane column f g →
     reference_of ctx f pass lane column ≡ reference_of ctx g pass lane column

@@ -21,7 +21,7 @@ mixing_calls ctx =
 unfoldable pub segment_calls : Context → ℕ → ℕ → ℕ
 segment_calls ctx pass slice =
     let of_addresses = 2 * ((segment_length ctx + 127) / 128) in
-    (if is_independent ctx pass (slice * segment_length ctx) then of_addresses else 0)
+    (if is_independent ctx pass slice then of_addresses else 0)
     + turn_count ctx pass slice
 
 -- of the first slices of a pass

@@ -5,7 +5,7 @@ use Rattle.std.specs.List.{range_with_len, fold}
 use Rattle.argon2_base.specs.Block.{xor_blocks, zero_block}
 use Rattle.argon2_base.specs.Mixing.{mixed}
 use Rattle.argon2.specs.Context.{Context, segment_length, lane_length, block_count}
-use Rattle.argon2.specs.Reference.{Reference, reference}
+use Rattle.argon2.specs.Reference.{Reference, place_of, reference}
 
 -- the block of a pass, a lane and a column
 abbrev pub Blocks : Type 0
@@ -17,11 +17,10 @@ FirstColumns = ℕ → ℕ → List ℕ
 
 -- ---- the word that takes the reference
 
--- Argon2i's always, and Argon2id's in the first two slices of pass 0
+-- in all slices of Argon2i, and of Argon2id in the first two of pass 0
 unfoldable pub is_independent : Context → ℕ → ℕ → Bool
-is_independent ctx pass column =
-    (ctx.algorithm == 1)
-    || ((ctx.algorithm == 2) && ((pass == 0) && nat_lt (column / segment_length ctx) 2))
+is_independent ctx pass slice =
+    (ctx.algorithm == 1) || ((ctx.algorithm == 2) && ((pass == 0) && nat_lt slice 2))
 
 -- 128 words made of numbers alone, the counter telling the address blocks of a segment apart
 -- (RFC 9106, section 3.4.1.2)
@@ -44,8 +43,9 @@ previous ctx blocks pass lane (suc column) = blocks pass lane column
 -- the address word, or the previous block's first word
 unfoldable pub reference_word : Context → Blocks → ℕ → ℕ → ℕ → ℕ
 reference_word ctx blocks pass lane column =
-    if is_independent ctx pass column
-    then address_word ctx pass lane (column / segment_length ctx) (column % segment_length ctx)
+    let slice = column / segment_length ctx in
+    if is_independent ctx pass slice
+    then address_word ctx pass lane slice (column % segment_length ctx)
     else slice_index (previous ctx blocks pass lane column) 0
 
 -- the block that the block of a pass, a lane and a column refers to
@@ -96,11 +96,10 @@ unfoldable pub block_of : Context → FirstColumns → ℕ → ℕ → ℕ → L
 block_of ctx first pass lane column =
     in_history ctx (history ctx first (suc (pass * lane_length ctx + column))) pass lane column
 
--- the place, lane after lane, of the block that the block of a pass, a lane and a column refers to
+-- the place of the block that the block of a pass, a lane and a column refers to
 unfoldable pub reference_places : Context → FirstColumns → ℕ → ℕ → ℕ → ℕ
 reference_places ctx first pass lane column =
-    let from = reference_of ctx (block_of ctx first) pass lane column in
-    from.lane * lane_length ctx + from.column
+    place_of ctx (reference_of ctx (block_of ctx first) pass lane column)
 
 -- the blocks of the last pass, lane after lane
 unfoldable pub matrix : Context → FirstColumns → List (List ℕ)

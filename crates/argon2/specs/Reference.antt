@@ -40,6 +40,10 @@ pub record Reference : Type 0 where
   pub lane : ℕ
   pub column : ℕ
 
+-- its place in a memory, lane after lane
+abbrev pub place_of : Context → Reference → ℕ
+place_of ctx from = from.lane * lane_length ctx + from.column
+
 -- in the first slice of all the block's own lane, else by the word's high half
 unfoldable pub reference_lane : Context → ℕ → ℕ → ℕ → ℕ → ℕ
 reference_lane ctx pass lane column word =

@@ -3,6 +3,7 @@
 use Rattle.std.specs.Prelude.{◌≡◌, ℕ, zero, suc, ◌+◌, ◌-◌, ◌*◌, ◌<◌, ◌&&◌, List, [], ◌∷◌, ◌==◌, count_by, replicate, slice_index_or, slice_set, if◌then◌else◌}
 use Rattle.std.specs.List.{AllByRecursion, flat_map, range_with_len}
 use Rattle.argon2.specs.Context.{Context, segment_length, lane_length}
+use Rattle.argon2.specs.Reference.{place_of}
 use Rattle.argon2.specs.Recurrence.{reference_of, made_block, xor_lanes}
 
 -- blocks, lane after lane
@@ -22,8 +23,7 @@ step ctx memory pass lane column =
 -- the place of the block that the step refers to
 unfoldable pub reference_place : Context → Memory → ℕ → ℕ → ℕ → ℕ
 reference_place ctx memory pass lane column =
-    let from = reference_of ctx (in_memory ctx memory) pass lane column in
-    from.lane * lane_length ctx + from.column
+    place_of ctx (reference_of ctx (in_memory ctx memory) pass lane column)
 
 -- the xor of the last column
 abbrev pub last_column : Context → Memory → List ℕ

@@ -2,6 +2,7 @@
 #![tactic(auto)]
 
 pub mod algorithm;
+mod context;
 pub mod laws;
 pub mod params;
 pub mod version;

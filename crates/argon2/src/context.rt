@@ -1,0 +1,5 @@
+//! Hashing: what a hash depends on, and the way from the first two columns to the last.
+
+mod instance;
+mod reference;
+mod step;
