@@ -11,3 +11,6 @@ mod PermittedPlaces
 mod InMemory
 mod Validity
 mod Independence
+pub mod FirstColumns
+pub mod InitialHashing
+pub mod TagOfMatrix

@@ -19,8 +19,8 @@ pub record Context : Type 0 where
   pub associated : List ℕ
 
 -- what a variant, a version, parameters and a secret make
-abbrev pub context_of : Algorithm → Version → Parameters → List ℕ → Context
-context_of algorithm version v secret = record {
+abbrev pub context_with : Algorithm → Version → Parameters → List ℕ → Context
+context_with algorithm version v secret = record {
   algorithm = algorithm_number algorithm;
   version = version_number version;
   m_cost = v.m_cost;

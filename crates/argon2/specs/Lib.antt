@@ -13,3 +13,6 @@ pub mod Shape
 pub mod Steps
 pub mod Version
 pub mod Watching
+pub mod Argon2
+pub mod InitialHash
+pub mod Tag

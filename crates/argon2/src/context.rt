@@ -1,5 +1,173 @@
-//! Hashing: what a hash depends on, and the way from the first two columns to the last.
+//! Hashing by Argon2 (RFC 9106, section 3), on memory that the caller lends.
 
+ghost use Rattle.std.specs.Prelude.{◌≡◌};
+
+use crate::algorithm::Algorithm;
+use crate::params::Params;
+use crate::version::Version;
+use argon2_base::error::{Error, Result};
+use std::fmt;
+
+mod inputs;
 mod instance;
 mod reference;
+mod secret;
 mod step;
+
+use instance::Instance;
+use secret::Secret;
+
+/// The most bytes of a password.
+pub const MAX_PWD_LEN: usize = 4294967295;
+
+/// The fewest bytes of a salt.
+pub const MIN_SALT_LEN: usize = 8;
+
+/// The most bytes of a salt.
+pub const MAX_SALT_LEN: usize = 4294967295;
+
+/// The bytes of a salt that are recommended for hashing passwords (RFC 9106, section 3.1).
+pub const RECOMMENDED_SALT_LEN: usize = 16;
+
+/// The most bytes of a secret.
+pub const MAX_SECRET_LEN: usize = 4294967295;
+
+/// What passwords are hashed under: an algorithm, its version, parameters, and a secret if there
+/// is one.
+#[derive(Clone, Drop)]
+pub struct Argon2<'key> {
+    algorithm: Algorithm,
+    version: Version,
+    params: Params,
+    secret: Option<Secret<'key>>,
+}
+
+impl<'key> Argon2<'key> {
+    ghost use Rattle.std.specs.Prelude.{◌≡◌, ◌↔◌, ◌≤◌, ℕ, List, [], IsOk, IfOk, IfErr, length};
+    ghost use Rattle.argon2_base.specs.declared.error.Error.TheVariants.{SecretTooLong};
+    ghost use Rattle.argon2.specs.Argon2.{context_of, own_parameters, secret_bytes};
+    ghost use Rattle.argon2.specs.Context.{context_with};
+    ghost use Rattle.argon2.specs.Params.{parameters_of};
+
+    /// Hashing with these parameters and no secret. The key identifier of the parameters changes no
+    /// tag; their associated data is hashed.
+    pub fn new(algorithm: Algorithm, version: Version, params: Params) -> Argon2<'key>
+        ensures context { context_of result ≡ context_with algorithm version (parameters_of params) [] }
+        ensures params { own_parameters result ≡ parameters_of params }
+
+        ensures keyid { (keyid : List ℕ) → context_of result
+            ≡ context_with algorithm version (record (parameters_of params) { keyid = keyid }) [] }
+        ensures associated { (context_of result).associated ≡ (parameters_of params).associated }
+    {
+        Argon2 {
+            algorithm,
+            version,
+            params,
+            secret: None,
+        }
+    }
+
+    /// Hashing with these parameters and a secret, 0 to 4294967295 bytes. An empty secret gives the
+    /// tags of no secret.
+    ///
+    /// # Errors
+    /// [`Error::SecretTooLong`] where the secret is longer.
+    pub fn new_with_secret(
+        secret: &'key [u8],
+        algorithm: Algorithm,
+        version: Version,
+        params: Params,
+    ) -> Result<Argon2<'key>>
+        ensures short { IsOk result ↔ (length secret.now ≤ MAX_SECRET_LEN) }
+        ensures long { IfErr result (λ e. e ≡ SecretTooLong) }
+        ensures context { IfOk result (λ a. context_of a
+            ≡ context_with algorithm version (parameters_of params) secret.now) }
+        ensures params { IfOk result (λ a. own_parameters a ≡ parameters_of params) }
+
+        ensures empty { secret.now ≡ [] → IfOk result (λ a. context_of a
+            ≡ context_with algorithm version (parameters_of params) []) }
+    {
+        if secret.len() > MAX_SECRET_LEN {
+            return Err(Error::SecretTooLong);
+        }
+        Ok(Argon2 {
+            algorithm,
+            version,
+            params,
+            secret: Some(Secret { bytes: secret }),
+        })
+    }
+
+    /// The parameters.
+    pub fn params(&self) -> &Params
+        ensures { parameters_of result.now ≡ own_parameters self.now }
+    {
+        &self.params
+    }
+
+    // The secret's bytes.
+    fn secret(&self) -> &'key [u8]
+        ensures value { result.now ≡ secret_bytes self.now.secret }
+        ensures short { length result.now ≤ MAX_SECRET_LEN }
+    {
+        match self.secret {
+            Some(secret) => secret.bytes,
+            None => &[],
+        }
+    }
+
+    // What the hash's blocks are filled by.
+    fn instance(&self) -> Instance<'_>
+        ensures { result ≡ context_of self.now }
+    {
+        Instance::new(self.algorithm, self.version, &self.params, self.secret())
+    }
+}
+
+impl Default for Argon2<'_> {
+    ghost use Rattle.std.specs.Prelude.{◌≡◌, None};
+    ghost use Rattle.argon2.specs.Argon2.{IsArgon2idWith};
+    ghost use Rattle.argon2.specs.Parameters.{plain};
+
+    ghost is_default = { IsArgon2idWith (plain 19456 2 1 None) };
+
+    /// Argon2id of version 0x13 with the default parameters and no secret.
+    fn default() -> Self {
+        Argon2::from(Params::default())
+    }
+}
+
+impl From<Params> for Argon2<'_> {
+    ghost use Rattle.argon2.specs.Argon2.{IsArgon2idWith};
+    ghost use Rattle.argon2.specs.Params.{parameters_of};
+
+    ghost from_gives = { λ params. IsArgon2idWith (parameters_of params) };
+
+    /// Argon2id of version 0x13 with these parameters and no secret.
+    fn from(params: Params) -> Self {
+        Argon2::new(Algorithm::Argon2id, Version::V0x13, params)
+    }
+}
+
+impl From<&Params> for Argon2<'_> {
+    ghost use Rattle.argon2.specs.Argon2.{IsArgon2idWith};
+    ghost use Rattle.argon2.specs.Params.{parameters_of};
+
+    ghost from_gives = { λ params. IsArgon2idWith (parameters_of params.now) };
+
+    /// Argon2id of version 0x13 with these parameters and no secret.
+    fn from(params: &Params) -> Self {
+        Argon2::from(*params)
+    }
+}
+
+/// Shows neither the secret nor whether there is one.
+impl fmt::Debug for Argon2<'_> {
+    fn fmt<W: fmt::Write>(&self, f: &mut fmt::Formatter<W>) -> fmt::Result {
+        f.debug_struct("Argon2")
+            .field("algorithm", &self.algorithm)
+            .field("version", &self.version)
+            .field("params", &self.params)
+            .finish_non_exhaustive()
+    }
+}

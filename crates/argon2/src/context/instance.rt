@@ -2,7 +2,7 @@
 
 ghost use Rattle.std.specs.Prelude.{◌≡◌, ◌≤◌, ◌&&◌, ◌==◌, length, nat_lt};
 ghost use Rattle.argon2.specs.Algorithm.{algorithm_number};
-ghost use Rattle.argon2.specs.Context.{context_of, segment_length, lane_length, block_count, Sizes};
+ghost use Rattle.argon2.specs.Context.{context_with, segment_length, lane_length, block_count, Sizes};
 ghost use Rattle.argon2.specs.Params.{parameters_of};
 
 use crate::{Algorithm, Params, Version};
@@ -52,7 +52,7 @@ impl<'a> Instance<'a> {
         params: &'a Params,
         secret: &'a [u8],
     ) -> Instance<'a>
-        ensures { result ≡ context_of algorithm version (parameters_of params.now) secret.now }
+        ensures { result ≡ context_with algorithm version (parameters_of params.now) secret.now }
     {
         let m_cost = params.m_cost();
         let p_cost = params.p_cost();
