@@ -1,11 +1,15 @@
 //! A builder of parameters.
 
 ghost use Rattle.std.specs.Prelude.{◌≡◌, Some};
+ghost use Rattle.argon2.specs.Argon2.{IsContextOf};
 ghost use Rattle.argon2.specs.ByteLists.{keyid_bytes, data_bytes};
 ghost use Rattle.argon2.specs.ParamsBuilder.{built, default_settings, settings_of};
 ghost use Rattle.argon2.specs.Params.{IsParamsOf};
 
 use super::{AssociatedData, KeyId, Params};
+use crate::algorithm::Algorithm;
+use crate::context::Argon2;
+use crate::version::Version;
 use argon2_base::error::{Error, Result};
 
 /// Six settings that parameters are built of. Two builders are equal where all six are; a key
@@ -108,6 +112,16 @@ impl ParamsBuilder {
             params.associated = associated;
         }
         Ok(params)
+    }
+
+    /// Hashing by the parameters of the settings and no secret.
+    ///
+    /// # Errors
+    /// Those of [`ParamsBuilder::build`].
+    pub fn context(&self, algorithm: Algorithm, version: Version) -> Result<Argon2<'_>>
+        ensures { IsContextOf algorithm version (built (settings_of self.now)) result }
+    {
+        Ok(Argon2::new(algorithm, version, self.build()?))
     }
 }
 
