@@ -1,1 +1,2 @@
+mod DecodedSlices
 mod Filled
