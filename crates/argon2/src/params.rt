@@ -202,3 +202,6 @@ impl Default for Params {
         Params::DEFAULT
     }
 }
+
+#[cfg(test)]
+mod tests;
