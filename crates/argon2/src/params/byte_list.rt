@@ -55,7 +55,7 @@ impl<const N: usize> ByteList<N> {
     /// The bytes.
     pub(crate) fn as_bytes(&self) -> &[u8]
         ensures value { result.now ≡ list_bytes self.now }
-        ensures fits { length result.now ≤ N }
+        ensures fits { length (list_bytes self.now) ≤ N }
     {
         &self.bytes[..self.len]
     }
