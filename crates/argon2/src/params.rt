@@ -27,7 +27,7 @@ pub struct Params {
 }
 
 impl Params {
-    ghost use Rattle.std.specs.Prelude.{◌≡◌};
+    ghost use Rattle.std.specs.Prelude.{◌≡◌, ◌≤◌, length};
     ghost use Rattle.argon2.specs.Parameters.{IsValid, plain};
     ghost use Rattle.argon2.specs.Params.{IsParamsOf, parameters_of};
     ghost use Rattle.argon2.specs.Shape.{block_count};
@@ -162,6 +162,7 @@ impl Params {
     /// The key identifier's bytes, 0 to 8.
     pub fn keyid(&self) -> &[u8]
         ensures value { result.now ≡ (parameters_of self.now).keyid }
+        ensures fits { length (parameters_of self.now).keyid ≤ 8 }
     {
         self.keyid.as_bytes()
     }
@@ -169,6 +170,7 @@ impl Params {
     /// The associated data, 0 to 32 bytes.
     pub fn data(&self) -> &[u8]
         ensures value { result.now ≡ (parameters_of self.now).associated }
+        ensures fits { length (parameters_of self.now).associated ≤ 32 }
     {
         self.associated.as_bytes()
     }
@@ -202,3 +204,6 @@ impl Default for Params {
         Params::DEFAULT
     }
 }
+
+#[cfg(test)]
+mod tests;
