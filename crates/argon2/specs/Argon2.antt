@@ -7,7 +7,7 @@ use Rattle.argon2.specs.declared.version.Version.TheVariants.{V0x13}
 use Rattle.argon2.specs.declared.context.secret.Secret.{Secret}
 use Rattle.argon2.specs.declared.context.Argon2.{Argon2}
 use Rattle.argon2.specs.Context.{Context, context_with}
-use Rattle.argon2.specs.Parameters.{Parameters, fault_of, IsValid}
+use Rattle.argon2.specs.Parameters.{Parameters, first_fault, IsValid}
 use Rattle.argon2_base.specs.declared.error.Error.{Error}
 use Rattle.argon2.specs.Params.{parameters_of}
 
@@ -34,4 +34,4 @@ IsArgon2idWith parameters argon2 =
 abbrev pub IsContextOf : Algorithm → Version → Parameters → Result Argon2 Error → Type 0
 IsContextOf algorithm version v (Ok argon2) =
     IsValid v × (context_of argon2 ≡ context_with algorithm version v []) × (own_parameters argon2 ≡ v)
-IsContextOf algorithm version v (Err e) = fault_of v ≡ Some e
+IsContextOf algorithm version v (Err e) = first_fault v.m_cost v.t_cost v.p_cost v.output_len ≡ Some e
