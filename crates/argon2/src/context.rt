@@ -2,4 +2,5 @@
 
 mod instance;
 mod reference;
+mod segment;
 mod step;
