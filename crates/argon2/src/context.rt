@@ -12,6 +12,7 @@ mod inputs;
 mod instance;
 mod reference;
 mod secret;
+mod segment;
 mod step;
 
 use instance::Instance;

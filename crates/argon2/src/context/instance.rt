@@ -113,6 +113,13 @@ impl<'a> Instance<'a> {
         self.algorithm
     }
 
+    /// The variant's number.
+    pub(super) fn algorithm_number(&self) -> u32
+        ensures { result ≡ self.now.algorithm }
+    {
+        self.algorithm as u32
+    }
+
     /// Whether a pass's blocks are xored with those of the pass before.
     pub(super) fn xors(&self, pass: u32) -> bool
         ensures { result ≡ ((self.now.version == 19) && nat_lt 0 pass) }
