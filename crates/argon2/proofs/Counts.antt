@@ -1,12 +1,13 @@
 -- The mixings of all segments are t * B - 2p, and two for each address block.
-use Rattle.std.proofs.Common.{◌≡◌, ℕ, zero, suc, ◌+◌, ◌*◌, ◌/◌, ◌<◌, ◌≤◌, ◌≢◌, inl, inr, true, false, ◌&&◌, ◌||◌, eqb, ltb, refl, ap, ◌∙◌, arith}
-use Rattle.std.proofs.Math.Nat.{mul-le-mul_left}
-use Rattle.std.proofs.lemmas.Bool.{cond-true, cond-false, cases_eq, eq-eqb, ne_eqb, lt-ltb, eqb-true, ltb-true, and_from, and_parts, or_left, or_right, or_cases, false_from_ne_true}
-use Rattle.argon2.specs.Context.{Context, segment_length, lane_length, block_count}
+use Rattle.std.proofs.Common.{◌≡◌, ℕ, zero, suc, ◌+◌, ◌*◌, ◌/◌, ◌<◌, ◌≤◌, ◌≢◌, inl, inr, true, false, ◌&&◌, ◌||◌, eqb, ltb, refl, ap, ◌∙◌, arith, ◌^◌, ◌-◌}
+use Rattle.std.proofs.Math.Nat.{mul-le-mul, mul-le-mul_left, mul-le-mul_right}
+use Rattle.std.proofs.lemmas.Bool.{cond-true, cond-false, cases_eq, cases_lt, cond_both, eq-eqb, ne_eqb, lt-ltb, eqb-true, ltb-true, and_from, and_parts, or_left, or_right, or_cases, false_from_ne_true}
+use Rattle.argon2.specs.Context.{Context, Sizes, segment_length, lane_length, block_count}
 use Rattle.argon2.specs.Recurrence.{is_independent}
 use Rattle.argon2.specs.Counting.{independent_segments, mixing_calls}
 use Rattle.argon2.specs.Steps.{turn_count}
 use Rattle.argon2.specs.Counting.{segment_calls, slices_calls, passes_calls}
+use Rattle.argon2.proofs.Validity.{Fits-sizes}
 use Rattle.argon2.proofs.Sources.{Fits}
 use Rattle.argon2.proofs.Schedules.{turn_count-first}
 use Rattle.argon2.proofs.Filling.{turn_count-later_slice, turn_count-later_pass}
@@ -122,3 +123,44 @@ module _ (ctx : Context) (fits : Fits ctx) where
               omega arith)
         ])
       ]
+
+-- a pass's first slices are not more than more of them
+pub slices_calls-le : (ctx : Context) (pass k n : ℕ) → k ≤ n → slices_calls ctx pass k ≤ slices_calls ctx pass n
+unfolding slices_calls
+slices_calls-le ctx pass k zero le = let e : k ≡ 0 = omega arith in omega (arith, ap (slices_calls ctx pass) e)
+slices_calls-le ctx pass k (suc n) le = elim (cases_lt k (suc n)) [
+  | inl lt ↦ (let i = slices_calls-le ctx pass k n (omega arith) in omega arith)
+  | inr ge ↦ (let e : k ≡ suc n = omega arith in omega (arith, ap (slices_calls ctx pass) e))
+]
+
+-- the first passes are not more than more of them
+pub passes_calls-le : (ctx : Context) (r n : ℕ) → r ≤ n → passes_calls ctx r ≤ passes_calls ctx n
+unfolding passes_calls
+passes_calls-le ctx r zero le = let e : r ≡ 0 = omega arith in omega (arith, ap (passes_calls ctx) e)
+passes_calls-le ctx r (suc n) le = elim (cases_lt r (suc n)) [
+  | inl lt ↦ (let i = passes_calls-le ctx r n (omega arith) in omega arith)
+  | inr ge ↦ (let e : r ≡ suc n = omega arith in omega (arith, ap (passes_calls ctx) e))
+]
+
+-- a count of all mixings fits
+pub mixing_calls-few : (ctx : Context) → Sizes ctx → mixing_calls ctx < 2 ^ 126
+unfolding mixing_calls independent_segments
+mixing_calls-few ctx sizes =
+    let s = segment_length ctx in
+    let p = ctx.p_cost in
+    let t = ctx.t_cost in
+    let two = sizes.two_columns in
+    let n : independent_segments ctx ≤ 4 * t * p =
+    (let positive : 1 * p ≤ t * p = mul-le-mul_right p sizes.some_pass in
+    cond_both (eqb ctx.algorithm 1) _ _ (λ x. x ≤ 4 * t * p) (λ _. omega arith) (λ _.
+    cond_both (eqb ctx.algorithm 2) _ _ (λ x. x ≤ 4 * t * p) (λ _. omega arith) (λ _. omega arith))) in
+    let a : (s + 127) / 128 ≤ s = omega arith in
+    let h : (s + 127) / 128 * independent_segments ctx ≤ s * (4 * t * p) = mul-le-mul a n in
+    let b : t * (p * (4 * s)) ≤ 2 ^ 32 * (p * (4 * s)) = mul-le-mul_right (p * (4 * s)) (let w = sizes.t_cost in omega arith) in
+    let room = sizes.in_memory in
+    let most = sizes.m_cost in
+    omega arith
+
+-- all passes' mixings are those of the formula
+pub passes_calls-all : (ctx : Context) → Sizes ctx → passes_calls ctx ctx.t_cost ≡ mixing_calls ctx
+passes_calls-all ctx sizes = passes_calls_are ctx (Fits-sizes ctx sizes) (ctx.t_cost - 1) (let some = sizes.some_pass in omega arith)

@@ -72,3 +72,7 @@ unfoldable pub lane_after_lane : Context → ℕ → ℕ → ℕ → List ℕ
 lane_after_lane ctx pass slice from =
     flat_map (λ lane. replicate (turn_count ctx pass slice) lane)
     (range_with_len from (ctx.p_cost - from))
+
+-- the same from lane 0 on
+abbrev pub lanes_in_order : Context → ℕ → ℕ → List ℕ
+lanes_in_order ctx pass slice = lane_after_lane ctx pass slice 0

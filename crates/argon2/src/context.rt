@@ -8,6 +8,7 @@ use crate::version::Version;
 use argon2_base::error::{Error, Result};
 use std::fmt;
 
+mod fill;
 mod inputs;
 mod instance;
 mod reference;

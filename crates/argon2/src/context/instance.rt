@@ -77,7 +77,8 @@ impl<'a> Instance<'a> {
 
     /// The number of passes.
     pub(super) fn passes(&self) -> u32
-        ensures { result ≡ self.now.t_cost }
+        ensures value { result ≡ self.now.t_cost }
+        ensures sizes { Sizes self.now }
     {
         self.t_cost
     }

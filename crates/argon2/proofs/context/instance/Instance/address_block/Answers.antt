@@ -6,6 +6,6 @@ unfolding address_block
 returns-clause-block c =
     let input = c.block_of_words-input.ensures in
     let count = c.block_count.ensures.value in
-    let passes = c.passes.ensures in
+    let passes = c.passes.ensures.value in
     let algorithm = c.algorithm_number.ensures in
     cc
