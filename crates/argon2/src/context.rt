@@ -5,6 +5,7 @@ ghost use Rattle.std.specs.Prelude.{◌≡◌};
 use crate::algorithm::Algorithm;
 use crate::params::Params;
 use crate::version::Version;
+use argon2_base::block::{Block, Work};
 use argon2_base::error::{Error, Result};
 use std::fmt;
 
@@ -15,7 +16,9 @@ mod reference;
 mod secret;
 mod segment;
 mod step;
+mod tag;
 
+use inputs::check_inputs;
 use instance::Instance;
 use secret::Secret;
 
@@ -45,11 +48,13 @@ pub struct Argon2<'key> {
 }
 
 impl<'key> Argon2<'key> {
-    ghost use Rattle.std.specs.Prelude.{◌≡◌, ◌↔◌, ◌≤◌, ℕ, List, [], IsOk, IfOk, IfErr, length};
+    ghost use Rattle.std.specs.Prelude.{◌≡◌, ◌↔◌, ◌≤◌, ℕ, List, [], IsOk, IfOk, IfErr, OnOk, OnErr, length, take, drop};
     ghost use Rattle.argon2_base.specs.declared.error.Error.TheVariants.{SecretTooLong};
     ghost use Rattle.argon2.specs.Argon2.{context_of, own_parameters, secret_bytes};
-    ghost use Rattle.argon2.specs.Context.{context_with};
+    ghost use Rattle.argon2.specs.Context.{context_with, block_count};
     ghost use Rattle.argon2.specs.Params.{parameters_of};
+    ghost use Rattle.argon2.specs.Refusals.{answer_of, refusal_of, fill_refusal};
+    ghost use Rattle.argon2.specs.Tag.{tag_of, matrix_of};
 
     /// Hashing with these parameters and no secret. The key identifier of the parameters changes no
     /// tag; their associated data is hashed.
@@ -105,6 +110,92 @@ impl<'key> Argon2<'key> {
         ensures { parameters_of result.now ≡ own_parameters self.now }
     {
         &self.params
+    }
+
+    /// Writes the tag of a password and a salt into `out`. The first
+    /// [`block_count`](Params::block_count) blocks of `memory` are then the matrix that it was made
+    /// of, whatever they were before, and the others are as they were. No other memory is taken.
+    ///
+    /// Where the parameters set an output length, `out` has just that many bytes; else it has 4 to
+    /// 4294967295. The password has 0 to 4294967295 bytes, the salt 8 to 4294967295.
+    ///
+    /// # Errors
+    /// The first of these that holds; output and memory are then as before:
+    /// - [`Error::OutputTooShort`]: `out` is shorter than the parameters' output length, or than 4
+    ///   bytes where they set none.
+    /// - [`Error::OutputTooLong`]: `out` is longer than that length, or than 4294967295 bytes.
+    /// - [`Error::PwdTooLong`]: the password is longer than 4294967295 bytes.
+    /// - [`Error::SaltTooShort`]: the salt is shorter than 8 bytes.
+    /// - [`Error::SaltTooLong`]: the salt is longer than 4294967295 bytes.
+    /// - [`Error::MemoryTooLittle`]: `memory` has fewer blocks than are filled.
+    pub fn hash_password_into_with_memory(
+        &self,
+        pwd: &[u8],
+        salt: &[u8],
+        out: &mut [u8],
+        memory: &mut [Block],
+    ) -> Result<()>
+        ensures answer { result ≡ answer_of (refusal_of (own_parameters self.now).output_len
+            (length out.old) (length pwd.now) (length salt.now)
+            (block_count (context_of self.now)) (length memory.old)) }
+
+        ensures tag { OnOk result (out.new
+            ≡ tag_of (context_of self.now) pwd.now salt.now (length out.old)) }
+        ensures matrix { OnOk result (take (block_count (context_of self.now)) memory.new
+            ≡ matrix_of (context_of self.now) pwd.now salt.now (length out.old)) }
+        ensures rest { drop (block_count (context_of self.now)) memory.new
+            ≡ drop (block_count (context_of self.now)) memory.old }
+
+        ensures same_output { OnErr result (out.new ≡ out.old) }
+        ensures same_memory { OnErr result (memory.new ≡ memory.old) }
+    {
+        self.check_output(out.len())?;
+        check_inputs(pwd, salt)?;
+        self.check_memory(memory.len())?;
+        let instance = self.instance();
+        let blocks = &mut memory[..instance.block_count()];
+        self.fill_blocks(pwd, salt, out.len() as u32, blocks);
+        instance.write_tag(blocks, out);
+        Ok(())
+    }
+
+    /// Fills the first [`block_count`](Params::block_count) blocks of `memory` as a hash of a
+    /// password and a salt for an output of no bytes does. The others are as they were.
+    ///
+    /// # Errors
+    /// The first of these that holds; the memory is then as before:
+    /// - [`Error::PwdTooLong`]: the password is longer than 4294967295 bytes.
+    /// - [`Error::SaltTooShort`]: the salt is shorter than 8 bytes.
+    /// - [`Error::SaltTooLong`]: the salt is longer than 4294967295 bytes.
+    /// - [`Error::MemoryTooLittle`]: `memory` has fewer blocks than are filled.
+    pub fn fill_memory(&self, pwd: &[u8], salt: &[u8], memory: &mut [Block]) -> Result<()>
+        ensures answer { result ≡ answer_of (fill_refusal (length pwd.now) (length salt.now)
+            (block_count (context_of self.now)) (length memory.old)) }
+
+        ensures matrix { OnOk result (take (block_count (context_of self.now)) memory.new
+            ≡ matrix_of (context_of self.now) pwd.now salt.now 0) }
+        ensures rest { drop (block_count (context_of self.now)) memory.new
+            ≡ drop (block_count (context_of self.now)) memory.old }
+
+        ensures same { OnErr result (memory.new ≡ memory.old) }
+    {
+        check_inputs(pwd, salt)?;
+        self.check_memory(memory.len())?;
+        let count = self.instance().block_count();
+        self.fill_blocks(pwd, salt, 0, &mut memory[..count]);
+        Ok(())
+    }
+
+    // Makes the matrix for an output of `out_len` bytes.
+    fn fill_blocks(&self, pwd: &[u8], salt: &[u8], out_len: u32, blocks: &mut [Block])
+        requires pwd { length pwd.now ≤ MAX_PWD_LEN }
+        requires salt { length salt.now ≤ MAX_SALT_LEN }
+        requires size { length blocks.old ≡ block_count (context_of self.now) }
+        ensures { blocks.new ≡ matrix_of (context_of self.now) pwd.now salt.now out_len }
+    {
+        let instance = self.instance();
+        instance.begin(&self.initial_hash(pwd, salt, out_len), blocks);
+        instance.fill(blocks, &mut [], &mut Work::new());
     }
 
     // The secret's bytes.

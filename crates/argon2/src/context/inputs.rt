@@ -3,14 +3,12 @@
 ghost use Rattle.std.specs.Prelude.{◌≡◌, ℕ, ◌+◌, ◌*◌, ◌<◌, ◌≤◌, ◌^◌, ◌++◌, List, [], length, slice_index_or};
 ghost use Rattle.std.specs.Int.{w32, to_le_bytes};
 ghost use Rattle.argon2_base.specs.Hasher.{Holds};
-ghost use Rattle.argon2.specs.Algorithm.{algorithm_number};
 ghost use Rattle.argon2.specs.Context.{lane_length, block_count};
 ghost use Rattle.argon2.specs.InitialHash.{block_after, number, with_length};
 ghost use Rattle.argon2.specs.Refusals.{answer_of, first_of, input_faults};
 
 use super::instance::Instance;
 use super::{Argon2, MAX_PWD_LEN, MAX_SALT_LEN, MIN_SALT_LEN};
-use crate::algorithm::Algorithm;
 use crate::params::Params;
 use argon2_base::blake2b::Blake2b;
 use argon2_base::blake2b_long::blake2b_long;
@@ -31,13 +29,6 @@ pub(super) fn check_inputs(pwd: &[u8], salt: &[u8]) -> Result<()>
         return Err(Error::SaltTooLong);
     }
     Ok(())
-}
-
-// The type of Argon2, y.
-fn type_number(algorithm: Algorithm) -> u32
-    ensures { result ≡ algorithm_number algorithm }
-{
-    algorithm as u32
 }
 
 // Adds a number in four bytes.
@@ -121,7 +112,7 @@ impl Argon2<'_> {
         update_number(&mut hasher, self.params.m_cost());
         update_number(&mut hasher, self.params.t_cost());
         update_number(&mut hasher, u32::from(self.version));
-        update_number(&mut hasher, type_number(self.algorithm));
+        update_number(&mut hasher, self.instance().algorithm_number());
         update_input(&mut hasher, pwd);
         update_input(&mut hasher, salt);
         update_input(&mut hasher, self.secret());
