@@ -264,3 +264,6 @@ impl fmt::Debug for Argon2<'_> {
             .finish_non_exhaustive()
     }
 }
+
+#[cfg(test)]
+mod tests;
