@@ -5,3 +5,4 @@ mod instance;
 mod reference;
 mod segment;
 mod step;
+mod step_block;
