@@ -65,7 +65,7 @@ static int64_t now(void)
 int main(int count, char **words)
 {
     static uint64_t b[3][128];
-    int turns = count > 1 ? atoi(words[1]) : 1000;
+    int turns = count > 1 ? atoi(words[1]) : 300;
     int64_t least = INT64_MAX;
     uint64_t all = 0;
     for (int k = 0; k < 384; k++)
