@@ -1,3 +1,4 @@
+mod DecodedSlices
 mod Filled
 mod Sources
 mod History

@@ -7,6 +7,7 @@ pub mod Parameters
 pub mod Params
 pub mod Recurrence
 pub mod Reference
+pub mod ParamsBuilder
 pub mod Refusals
 pub mod Shape
 pub mod Steps

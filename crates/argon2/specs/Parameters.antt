@@ -25,13 +25,9 @@ first_fault m t p output_len = first_of (
     ∷ (nat_lt 4294967295 (unwrap_or output_len 4), OutputTooLong)
     ∷ [])
 
--- the same of parameters
-abbrev pub fault_of : Parameters → Option Error
-fault_of v = first_fault v.m_cost v.t_cost v.p_cost v.output_len
-
 -- nothing is refused
 abbrev pub IsValid : Parameters → Type 0
-IsValid v = IsNone (fault_of v)
+IsValid v = IsNone (first_fault v.m_cost v.t_cost v.p_cost v.output_len)
 
 -- costs and an output length, with no key identifier and no associated data
 abbrev pub plain : ℕ → ℕ → ℕ → Option ℕ → Parameters

@@ -72,3 +72,6 @@ impl FromStr for Algorithm {
         Algorithm::new(name)
     }
 }
+
+#[cfg(test)]
+mod tests;

@@ -11,5 +11,5 @@ pub use algorithm::Algorithm;
 pub use argon2_base::block::{Block, Work};
 pub use argon2_base::error::{B64Error, Error, Result};
 pub use argon2_base::{block, error};
-pub use params::{AssociatedData, KeyId, Params};
+pub use params::{AssociatedData, KeyId, Params, ParamsBuilder};
 pub use version::Version;

@@ -6,10 +6,12 @@ ghost use Rattle.argon2.specs.Parameters.{first_fault};
 use argon2_base::error::{Error, Result};
 
 mod associated_data;
+mod builder;
 mod byte_list;
 mod key_id;
 
 pub use associated_data::AssociatedData;
+pub use builder::ParamsBuilder;
 pub use key_id::KeyId;
 
 /// Parameters of a hash, which are valid by this type.
@@ -25,7 +27,7 @@ pub struct Params {
 }
 
 impl Params {
-    ghost use Rattle.std.specs.Prelude.{◌≡◌};
+    ghost use Rattle.std.specs.Prelude.{◌≡◌, ◌≤◌, length};
     ghost use Rattle.argon2.specs.Parameters.{IsValid, plain};
     ghost use Rattle.argon2.specs.Params.{IsParamsOf, parameters_of};
     ghost use Rattle.argon2.specs.Shape.{block_count};
@@ -160,6 +162,7 @@ impl Params {
     /// The key identifier's bytes, 0 to 8.
     pub fn keyid(&self) -> &[u8]
         ensures value { result.now ≡ (parameters_of self.now).keyid }
+        ensures fits { length (parameters_of self.now).keyid ≤ 8 }
     {
         self.keyid.as_bytes()
     }
@@ -167,6 +170,7 @@ impl Params {
     /// The associated data, 0 to 32 bytes.
     pub fn data(&self) -> &[u8]
         ensures value { result.now ≡ (parameters_of self.now).associated }
+        ensures fits { length (parameters_of self.now).associated ≤ 32 }
     {
         self.associated.as_bytes()
     }
@@ -200,3 +204,6 @@ impl Default for Params {
         Params::DEFAULT
     }
 }
+
+#[cfg(test)]
+mod tests;

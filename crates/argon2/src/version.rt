@@ -37,3 +37,6 @@ impl From<Version> for u32 {
         version as u32
     }
 }
+
+#[cfg(test)]
+mod tests;

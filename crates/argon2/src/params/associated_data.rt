@@ -5,6 +5,7 @@ ghost use Rattle.std.specs.Prelude.{◌≡◌, ◌≤◌, ◌↔◌, [], IsTrue,
 use super::byte_list::ByteList;
 use argon2_base::error::{Error, Result};
 use std::convert::AsSlice;
+use std::str::FromStr;
 
 /// Associated data: 0 to 32 bytes that every hash depends on, the `X` of RFC 9106, section 3.1. It
 /// is equal to, ordered with and hashed as its bytes; a shorter one stands before its continuations.
@@ -14,7 +15,7 @@ pub struct AssociatedData {
 }
 
 impl AssociatedData {
-    ghost use Rattle.argon2.specs.ByteLists.{data_bytes, IsAssociatedDataOf};
+    ghost use Rattle.argon2.specs.ByteLists.{data_bytes, IsAssociatedDataOf, IsAssociatedDataOfText};
 
     /// The most bytes of associated data.
     pub const MAX_LEN: usize = 32;
@@ -35,6 +36,19 @@ impl AssociatedData {
             Some(bytes) => Ok(AssociatedData { bytes }),
             None => Err(Error::AdTooLong),
         }
+    }
+
+    /// The associated data whose Base64 the text is (RFC 4648, section 4): without padding, unused last bits
+    /// zero.
+    ///
+    /// # Errors
+    /// [`Error::B64Encoding`], of `InvalidLength` where the text has more than 43 bytes, else of
+    /// `InvalidEncoding` where it is the Base64 of no bytes.
+    pub fn from_b64(text: &str) -> Result<AssociatedData>
+        ensures { IsAssociatedDataOfText text.now result }
+    {
+        let bytes = ByteList::from_b64(text)?;
+        Ok(AssociatedData { bytes })
     }
 
     /// The bytes.
@@ -78,6 +92,18 @@ impl AsSlice<u8> for AssociatedData {
 
     fn as_slice(&self) -> &[u8] {
         self.as_bytes()
+    }
+}
+
+impl FromStr for AssociatedData {
+    ghost use Rattle.argon2.specs.ByteLists.{IsAssociatedDataOfText};
+
+    type Err = Error;
+
+    ghost from_str_gives = { IsAssociatedDataOfText };
+
+    fn from_str(text: &str) -> Result<AssociatedData> {
+        AssociatedData::from_b64(text)
     }
 }
 

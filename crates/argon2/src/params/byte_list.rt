@@ -2,6 +2,8 @@
 
 ghost use Rattle.std.specs.Prelude.{◌≡◌, ◌≤◌, ◌-◌, drop, length, replicate};
 
+use argon2_base::error::B64Error;
+use base64::engine::general_purpose::STANDARD_NO_PAD;
 use std::cmp::Ordering;
 use std::fmt;
 use std::hash::{Hash, Hasher};
@@ -17,8 +19,8 @@ pub(crate) struct ByteList<const N: usize> {
 }
 
 impl<const N: usize> ByteList<N> {
-    ghost use Rattle.std.specs.Prelude.{◌≡◌, ◌≤◌, ◌<◌, length, MatchOption};
-    ghost use Rattle.argon2.specs.ByteLists.{list_bytes};
+    ghost use Rattle.std.specs.Prelude.{◌≡◌, ◌≤◌, ◌<◌, ◌+◌, ◌*◌, ◌^◌, length, MatchOption};
+    ghost use Rattle.argon2.specs.ByteLists.{IsListOfText, list_bytes};
 
     /// The list of these bytes, if it fits.
     pub(crate) fn new(source: &[u8]) -> Option<Self>
@@ -35,10 +37,25 @@ impl<const N: usize> ByteList<N> {
         })
     }
 
+    /// The list whose strict Base64 the text is, if there is one.
+    pub(crate) fn from_b64(text: &str) -> Result<Self, B64Error>
+        requires { 4 * N + 2 < 2 ^ 64 }
+        ensures { IsListOfText text.now result }
+    {
+        if text.len() > (4 * N + 2) / 3 {
+            return Err(B64Error::InvalidLength);
+        }
+        let mut bytes = [0; N];
+        match STANDARD_NO_PAD.decode_slice(text.as_bytes(), &mut bytes) {
+            Ok(len) => Ok(ByteList { bytes, len }),
+            Err(_) => Err(B64Error::InvalidEncoding),
+        }
+    }
+
     /// The bytes.
     pub(crate) fn as_bytes(&self) -> &[u8]
         ensures value { result.now ≡ list_bytes self.now }
-        ensures fits { length result.now ≤ N }
+        ensures fits { length (list_bytes self.now) ≤ N }
     {
         &self.bytes[..self.len]
     }

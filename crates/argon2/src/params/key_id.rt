@@ -5,6 +5,7 @@ ghost use Rattle.std.specs.Prelude.{◌≡◌, ◌≤◌, ◌↔◌, [], IsTrue,
 use super::byte_list::ByteList;
 use argon2_base::error::{Error, Result};
 use std::convert::AsSlice;
+use std::str::FromStr;
 
 /// A key identifier: 0 to 8 bytes, which tell keys apart and take no part in any hash. It is
 /// equal to, ordered with and hashed as its bytes; a shorter one stands before its continuations.
@@ -14,7 +15,7 @@ pub struct KeyId {
 }
 
 impl KeyId {
-    ghost use Rattle.argon2.specs.ByteLists.{keyid_bytes, IsKeyIdOf};
+    ghost use Rattle.argon2.specs.ByteLists.{keyid_bytes, IsKeyIdOf, IsKeyIdOfText};
 
     /// The most bytes of a key identifier.
     pub const MAX_LEN: usize = 8;
@@ -35,6 +36,19 @@ impl KeyId {
             Some(bytes) => Ok(KeyId { bytes }),
             None => Err(Error::KeyIdTooLong),
         }
+    }
+
+    /// The key identifier whose Base64 the text is (RFC 4648, section 4): without padding, unused last bits
+    /// zero.
+    ///
+    /// # Errors
+    /// [`Error::B64Encoding`], of `InvalidLength` where the text has more than 11 bytes, else of
+    /// `InvalidEncoding` where it is the Base64 of no bytes.
+    pub fn from_b64(text: &str) -> Result<KeyId>
+        ensures { IsKeyIdOfText text.now result }
+    {
+        let bytes = ByteList::from_b64(text)?;
+        Ok(KeyId { bytes })
     }
 
     /// The bytes.
@@ -78,6 +92,18 @@ impl AsSlice<u8> for KeyId {
 
     fn as_slice(&self) -> &[u8] {
         self.as_bytes()
+    }
+}
+
+impl FromStr for KeyId {
+    ghost use Rattle.argon2.specs.ByteLists.{IsKeyIdOfText};
+
+    type Err = Error;
+
+    ghost from_str_gives = { IsKeyIdOfText };
+
+    fn from_str(text: &str) -> Result<KeyId> {
+        KeyId::from_b64(text)
     }
 }
 
