@@ -18,7 +18,8 @@ impl<'a> Instance<'a> {
         requires room { block_count self.now ≤ length memory.old }
         ensures step { take (block_count self.now) memory.new
             ≡ step self.now (take (block_count self.now) memory.old) pass lane column }
-        ensures rest { drop (block_count self.now) memory.new ≡ drop (block_count self.now) memory.old }
+        ensures rest { drop (block_count self.now) memory.new
+            ≡ drop (block_count self.now) memory.old }
         ensures place { result
             ≡ reference_place self.now (take (block_count self.now) memory.old) pass lane column }
     {
@@ -34,7 +35,8 @@ impl<'a> Instance<'a> {
         requires in_columns { column < lane_length self.now }
         requires room { block_count self.now ≤ length memory.now }
         requires count { work.old ≡ 0 }
-        ensures word { result ≡ reference_word self.now (in_memory self.now memory.now) pass lane column }
+        ensures word { result
+            ≡ reference_word self.now (in_memory self.now memory.now) pass lane column }
         ensures work { work.new ≤ 2 }
     {
         let slice = column / self.segment_length();
