@@ -7,7 +7,7 @@ use Rattle.argon2_base.specs.Mixing.{mixed}
 use Rattle.argon2.specs.Context.{Context, lane_length, block_count, segment_length}
 use Rattle.argon2.specs.Recurrence.{is_independent, address_block, address_word, previous, reference_word, reference_of, made_block}
 use Rattle.argon2.specs.Reference.{reference}
-use Rattle.argon2.specs.Steps.{in_memory, reference_place}
+use Rattle.argon2.specs.Steps.{in_memory, previous_place, reference_place}
 
 -- a place of a lane and a column is one of the memory's
 pub place_below : (ctx : Context) (lane column : ℕ) → lane < ctx.p_cost → column < lane_length ctx → lane * lane_length ctx + column < block_count ctx
@@ -15,7 +15,7 @@ place_below ctx lane column a b = let h = mul-add-lt lane (lane_length ctx) colu
 
 -- the previous block's place
 pub previous_in_memory : (ctx : Context) (memory : List (List ℕ)) (pass lane column : ℕ) →
-    previous ctx (in_memory ctx memory) pass lane column ≡ get_or memory (lane * lane_length ctx + cond (eqb column 0) (lane_length ctx - 1) (column - 1)) []
+    previous ctx (in_memory ctx memory) pass lane column ≡ get_or memory (previous_place ctx lane column) []
 unfolding previous in_memory
 previous_in_memory ctx memory pass lane zero = refl
 previous_in_memory ctx memory pass lane (suc column) =
@@ -26,7 +26,7 @@ previous_in_memory ctx memory pass lane (suc column) =
 pub made_by_places : (ctx : Context) (memory : List (List ℕ)) (pass lane column w : ℕ) → w ≡ reference_word ctx (in_memory ctx memory) pass lane column →
     let q = lane_length ctx in
     let from = reference ctx pass lane column w in
-    let block = mixed (get_or memory (lane * q + cond (eqb column 0) (q - 1) (column - 1)) []) (get_or memory (from.lane * q + from.column) []) in
+    let block = mixed (get_or memory (previous_place ctx lane column) []) (get_or memory (from.lane * q + from.column) []) in
     made_block ctx (in_memory ctx memory) pass lane column ≡ cond ((eqb ctx.version 19) && (ltb 0 pass)) (xor_blocks block (get_or memory (lane * q + column) [])) block
 unfolding made_block reference_of in_memory
 made_by_places ctx memory pass lane column w e =
@@ -37,7 +37,7 @@ made_by_places ctx memory pass lane column w e =
     ∙ ap (λ (w' : ℕ).
     let q = lane_length ctx in
     let from = reference ctx pass lane column w' in
-    let block = mixed (get_or memory (lane * q + cond (eqb column 0) (q - 1) (column - 1)) []) (get_or memory (from.lane * q + from.column) []) in
+    let block = mixed (get_or memory (previous_place ctx lane column) []) (get_or memory (from.lane * q + from.column) []) in
     cond ((eqb ctx.version 19) && (ltb 0 pass)) (xor_blocks block (get_or memory (lane * q + column) [])) block) (sym e)
 
 pub place_by_word : (ctx : Context) (memory : List (List ℕ)) (pass lane column w : ℕ) → w ≡ reference_word ctx (in_memory ctx memory) pass lane column →

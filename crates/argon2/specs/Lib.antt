@@ -5,9 +5,9 @@ pub mod Counting
 pub mod Laws
 pub mod Parameters
 pub mod Params
-pub mod ParamsBuilder
 pub mod Recurrence
 pub mod Reference
+pub mod ParamsBuilder
 pub mod Refusals
 pub mod Shape
 pub mod Steps

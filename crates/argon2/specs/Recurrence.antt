@@ -30,10 +30,14 @@ address_block ctx pass lane slice counter =
     (pass ∷ lane ∷ slice ∷ block_count ctx ∷ ctx.t_cost ∷ ctx.algorithm ∷ counter
     ∷ replicate 121 0))
 
+-- which address block of its segment has the word of an index, from 1 on
+abbrev pub address_counter : ℕ → ℕ
+address_counter index = index / 128 + 1
+
 -- the word of an index of a segment
 unfoldable pub address_word : Context → ℕ → ℕ → ℕ → ℕ → ℕ
 address_word ctx pass lane slice index =
-    slice_index (address_block ctx pass lane slice (index / 128 + 1)) (index % 128)
+    slice_index (address_block ctx pass lane slice (address_counter index)) (index % 128)
 
 -- the block one column before, or at column 0 the last of the pass before
 unfoldable pub previous : Context → Blocks → ℕ → ℕ → ℕ → List ℕ

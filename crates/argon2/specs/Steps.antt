@@ -14,6 +14,11 @@ Memory = List (List ℕ)
 unfoldable pub in_memory : Context → Memory → ℕ → ℕ → ℕ → List ℕ
 in_memory ctx memory pass lane column = slice_index_or memory (lane * lane_length ctx + column) []
 
+-- the place of the previous block, which before column 0 is the lane's last
+abbrev pub previous_place : Context → ℕ → ℕ → ℕ
+previous_place ctx lane column =
+    lane * lane_length ctx + (if column == 0 then lane_length ctx - 1 else column - 1)
+
 -- the memory after the block of a pass, a lane and a column is written
 unfoldable pub step : Context → Memory → ℕ → ℕ → ℕ → Memory
 step ctx memory pass lane column =
@@ -66,6 +71,10 @@ unfoldable pub run_passes : Context → (ℕ → ℕ → List ℕ) → ℕ → M
 run_passes ctx schedules zero memory = memory
 run_passes ctx schedules (suc pass) memory =
     run_slices ctx (schedules pass) pass 4 (run_passes ctx schedules pass memory)
+
+-- all turns of a lane
+abbrev pub lane_turns : Context → ℕ → ℕ → ℕ → List ℕ
+lane_turns ctx pass slice lane = replicate (turn_count ctx pass slice) lane
 
 -- all turns of a lane at once, from one lane on
 unfoldable pub lane_after_lane : Context → ℕ → ℕ → ℕ → List ℕ

@@ -16,6 +16,7 @@ mod reference;
 mod secret;
 mod segment;
 mod step;
+mod step_block;
 mod tag;
 
 use inputs::check_inputs;

@@ -2,9 +2,11 @@ pub mod Absorbing
 pub mod Base64Lemmas
 pub mod Hashing
 pub mod KnownDigests
+pub mod BlockLemmas
 pub mod LaneLemmas
 pub mod MixingLaws
 pub mod MixingLemmas
 pub mod MixingValues
 pub mod Pieces
 pub mod Rounds
+pub mod Base64Lemmas

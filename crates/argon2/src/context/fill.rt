@@ -17,7 +17,8 @@ impl<'a> Instance<'a> {
     pub(crate) fn fill(&self, memory: &mut [Block], positions: &mut [u32], work: &mut Work)
         requires room { length memory.old ≡ block_count self.now }
         requires count { work.old < 2 ^ 126 }
-        ensures matrix { (first : FirstColumns) → Begins self.now first memory.old → memory.new ≡ matrix self.now first }
+        ensures matrix { (first : FirstColumns) → Begins self.now first memory.old
+            → memory.new ≡ matrix self.now first }
         ensures positions { (first : FirstColumns) → Begins self.now first memory.old
             → length positions.old ≡ self.now.t_cost * block_count self.now
             → AreReferencePlaces self.now first positions.old positions.new }
@@ -32,7 +33,8 @@ impl<'a> Instance<'a> {
     fn fill_pass(&self, memory: &mut [Block], positions: &mut [u32], pass: u32, work: &mut Work)
         requires room { block_count self.now ≤ length memory.old }
         requires count { work.old + slices_calls self.now pass 4 < 2 ^ 127 }
-        ensures memory { memory.new ≡ run_slices self.now (lanes_in_order self.now pass) pass 4 memory.old }
+        ensures memory { memory.new
+            ≡ run_slices self.now (lanes_in_order self.now pass) pass 4 memory.old }
         ensures positions { positions.new
             ≡ watch_slices self.now (lanes_in_order self.now pass) pass 4 memory.old positions.old }
         ensures work { work.new ≡ work.old + slices_calls self.now pass 4 }
@@ -54,9 +56,10 @@ impl<'a> Instance<'a> {
         requires in_slices { slice < 4 }
         requires room { block_count self.now ≤ length memory.old }
         requires count { work.old + self.now.p_cost * segment_calls self.now pass slice < 2 ^ 127 }
-        ensures memory { memory.new ≡ run self.now pass slice (lanes_in_order self.now pass slice) memory.old }
-        ensures positions { positions.new
-            ≡ watch self.now pass slice (lanes_in_order self.now pass slice) memory.old positions.old }
+        ensures memory { memory.new
+            ≡ run self.now pass slice (lanes_in_order self.now pass slice) memory.old }
+        ensures positions { let schedule = lanes_in_order self.now pass slice in
+            positions.new ≡ watch self.now pass slice schedule memory.old positions.old }
         ensures work { work.new ≡ work.old + self.now.p_cost * segment_calls self.now pass slice }
     {
         for lane in 0..self.lanes() {

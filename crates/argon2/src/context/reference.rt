@@ -79,7 +79,8 @@ impl<'a> Instance<'a> {
     fn permitted_column(&self, pass: u32, column: u32, index: u32) -> u32
         requires in_columns { column < lane_length self.now }
         requires few { index < lane_length self.now }
-        ensures value { (lane other : ℕ) → index < length (permitted self.now pass lane column other)
+        ensures value { (lane other : ℕ)
+            → index < length (permitted self.now pass lane column other)
             → result ≡ (slice_index_or (permitted self.now pass lane column other) index (0, 0)).1 }
         ensures within { result < lane_length self.now }
     {

@@ -2,8 +2,8 @@
 
 ghost use Rattle.std.specs.Prelude.{◌≡◌, ◌+◌, ◌-◌, ◌*◌, ◌/◌, ◌%◌, ◌^◌, ◌<◌, ◌≤◌, ◌++◌, IsTrue, length, replicate, slice_set, if◌then◌else◌};
 ghost use Rattle.argon2.specs.Context.{segment_length, lane_length, block_count};
-ghost use Rattle.argon2.specs.Recurrence.{is_independent, address_block, reference_word};
-ghost use Rattle.argon2.specs.Steps.{in_memory, run, turn_count};
+ghost use Rattle.argon2.specs.Recurrence.{is_independent, address_block, address_counter, reference_word};
+ghost use Rattle.argon2.specs.Steps.{in_memory, run, lane_turns};
 ghost use Rattle.argon2.specs.Watching.{position_index, watch};
 ghost use Rattle.argon2.specs.Counting.{segment_calls};
 
@@ -47,9 +47,10 @@ impl<'a> Instance<'a> {
         requires in_lanes { lane < self.now.p_cost }
         requires room { block_count self.now ≤ length memory.old }
         requires count { work.old < 2 ^ 127 }
-        ensures memory { memory.new ≡ run self.now pass slice (replicate (turn_count self.now pass slice) lane) memory.old }
-        ensures positions { positions.new
-            ≡ watch self.now pass slice (replicate (turn_count self.now pass slice) lane) memory.old positions.old }
+        ensures memory { memory.new
+            ≡ run self.now pass slice (lane_turns self.now pass slice lane) memory.old }
+        ensures positions { let schedule = lane_turns self.now pass slice lane in
+            positions.new ≡ watch self.now pass slice schedule memory.old positions.old }
         ensures work { work.new ≡ work.old + segment_calls self.now pass slice }
     {
         let segment = self.segment_length();
@@ -68,7 +69,8 @@ impl<'a> Instance<'a> {
         requires { work.old + 2 < 2 ^ 128 }
         ensures independent { result.independent ≡ is_independent self.now pass slice }
         ensures counter { result.counter ≡ 1 }
-        ensures block { IsTrue result.independent → result.block ≡ address_block self.now pass lane slice 1 }
+        ensures block { IsTrue result.independent
+            → result.block ≡ address_block self.now pass lane slice 1 }
         ensures work { work.new ≡ work.old + (if result.independent then 2 else 0) }
     {
         let independent = self.is_independent(pass, slice);
@@ -102,17 +104,20 @@ impl<'a> Instance<'a> {
         requires room { block_count self.now ≤ length memory.now }
         requires count { work.old + 2 < 2 ^ 128 }
         requires independent { addresses.old.independent ≡ is_independent self.now pass slice }
-        requires counter { IsTrue addresses.old.independent → addresses.old.counter ≡ (index - 1) / 128 + 1 }
+        requires counter { IsTrue addresses.old.independent
+            → addresses.old.counter ≡ address_counter (index - 1) }
         requires block { IsTrue addresses.old.independent
-            → addresses.old.block ≡ address_block self.now pass lane slice ((index - 1) / 128 + 1) }
-        ensures word { result
-            ≡ reference_word self.now (in_memory self.now memory.now) pass lane (slice * segment_length self.now + index) }
+            → addresses.old.block ≡ address_block self.now pass lane slice (address_counter (index - 1)) }
+        ensures word { let column = slice * segment_length self.now + index in
+            result ≡ reference_word self.now (in_memory self.now memory.now) pass lane column }
         ensures independent { addresses.new.independent ≡ addresses.old.independent }
-        ensures counter { IsTrue addresses.old.independent → addresses.new.counter ≡ index / 128 + 1 }
+        ensures counter { IsTrue addresses.old.independent
+            → addresses.new.counter ≡ address_counter index }
         ensures block { IsTrue addresses.old.independent
-            → addresses.new.block ≡ address_block self.now pass lane slice (index / 128 + 1) }
-        ensures work { work.new + (if addresses.old.independent then 2 * ((index - 1) / 128 + 1) else 0)
-            ≡ work.old + (if addresses.old.independent then 2 * (index / 128 + 1) else 0) }
+            → addresses.new.block ≡ address_block self.now pass lane slice (address_counter index) }
+        ensures work { let independent = addresses.old.independent in
+            work.new + (if independent then 2 * address_counter (index - 1) else 0)
+            ≡ work.old + (if independent then 2 * address_counter index else 0) }
     {
         let column = slice * self.segment_length() + index;
         if !addresses.independent {
@@ -134,12 +139,15 @@ impl<'a> Instance<'a> {
     )
         requires small { index < 2 ^ 30 }
         requires count { work.old + 2 < 2 ^ 128 }
-        requires counter { addresses.old.counter ≡ (index - 1) / 128 + 1 }
-        requires block { addresses.old.block ≡ address_block self.now pass lane slice ((index - 1) / 128 + 1) }
+        requires counter { addresses.old.counter ≡ address_counter (index - 1) }
+        requires block { addresses.old.block
+            ≡ address_block self.now pass lane slice (address_counter (index - 1)) }
         ensures independent { addresses.new.independent ≡ addresses.old.independent }
-        ensures counter { addresses.new.counter ≡ index / 128 + 1 }
-        ensures block { addresses.new.block ≡ address_block self.now pass lane slice (index / 128 + 1) }
-        ensures work { work.new + 2 * ((index - 1) / 128 + 1) ≡ work.old + 2 * (index / 128 + 1) }
+        ensures counter { addresses.new.counter ≡ address_counter index }
+        ensures block { addresses.new.block
+            ≡ address_block self.now pass lane slice (address_counter index) }
+        ensures work { work.new + 2 * address_counter (index - 1)
+            ≡ work.old + 2 * address_counter index }
     {
         if index == 128 * addresses.counter {
             addresses.counter += 1;
@@ -190,7 +198,8 @@ impl<'a> Instance<'a> {
     fn put_position(&self, positions: &mut [u32], pass: u32, lane: u32, column: u32, place: u32)
         requires in_lanes { lane < self.now.p_cost }
         requires in_columns { column < lane_length self.now }
-        ensures { positions.new ≡ slice_set positions.old (position_index self.now pass lane column) place }
+        ensures { positions.new
+            ≡ slice_set positions.old (position_index self.now pass lane column) place }
     {
         let block = lane * self.lane_length() + column;
         let index = pass as usize * self.block_count() + block as usize;

@@ -1,10 +1,10 @@
 //! A single step: one block is written.
 
-ghost use Rattle.std.specs.Prelude.{◌≡◌, ℕ, ◌+◌, ◌-◌, ◌*◌, ◌^◌, ◌<◌, ◌≤◌, ◌==◌, [], length, slice_index, slice_index_or, if◌then◌else◌};
+ghost use Rattle.std.specs.Prelude.{◌≡◌, ℕ, ◌+◌, ◌-◌, ◌*◌, ◌^◌, ◌<◌, ◌≤◌, [], length, slice_index, slice_index_or};
 ghost use Rattle.argon2_base.specs.Mixing.{mixed};
 ghost use Rattle.argon2.specs.Context.{lane_length, block_count};
 ghost use Rattle.argon2.specs.Recurrence.{previous, reference_word};
-ghost use Rattle.argon2.specs.Steps.{in_memory, step, reference_place};
+ghost use Rattle.argon2.specs.Steps.{in_memory, previous_place, step, reference_place};
 
 use super::instance::Instance;
 use crate::{Block, Work};
@@ -26,7 +26,8 @@ impl<'a> Instance<'a> {
         requires in_columns { column < lane_length self.now }
         requires later { pass ≡ 0 → 2 ≤ column }
         requires room { block_count self.now ≤ length memory.old }
-        requires word { word ≡ reference_word self.now (in_memory self.now memory.old) pass lane column }
+        requires word { word
+            ≡ reference_word self.now (in_memory self.now memory.old) pass lane column }
         requires count { work.old < 2 ^ 128 - 1 }
         ensures step { memory.new ≡ step self.now memory.old pass lane column }
         ensures place { result ≡ reference_place self.now memory.old pass lane column }
@@ -58,8 +59,7 @@ impl<'a> Instance<'a> {
         requires room { block_count self.now ≤ length memory.now }
         requires count { work.old < 2 ^ 128 - 1 }
         ensures block { result ≡ mixed
-            (slice_index_or memory.now
-            (lane * lane_length self.now + (if column == 0 then lane_length self.now - 1 else column - 1)) [])
+            (slice_index_or memory.now (previous_place self.now lane column) [])
             (slice_index_or memory.now reference []) }
         ensures work { work.new ≡ work.old + 1 }
     {
@@ -76,7 +76,8 @@ impl<'a> Instance<'a> {
         requires in_lanes { lane < self.now.p_cost }
         requires in_columns { column < lane_length self.now }
         requires room { block_count self.now ≤ length memory.now }
-        ensures { (pass : ℕ) → result ≡ slice_index (previous self.now (in_memory self.now memory.now) pass lane column) 0 }
+        ensures { (pass : ℕ) → result
+            ≡ slice_index (previous self.now (in_memory self.now memory.now) pass lane column) 0 }
     {
         let previous = self.previous_place(lane, column);
         memory[previous as usize].as_slice()[0]
@@ -86,8 +87,7 @@ impl<'a> Instance<'a> {
     fn previous_place(&self, lane: u32, column: u32) -> u32
         requires in_lanes { lane < self.now.p_cost }
         requires in_columns { column < lane_length self.now }
-        ensures value { result
-            ≡ lane * lane_length self.now + (if column == 0 then lane_length self.now - 1 else column - 1) }
+        ensures value { result ≡ previous_place self.now lane column }
         ensures within { result < block_count self.now }
     {
         let length = self.lane_length();

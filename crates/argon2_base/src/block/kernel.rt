@@ -3,7 +3,7 @@
 ghost use Rattle.std.specs.Prelude.{◌≡◌, ℕ, ◌+◌, ◌*◌, ◌/◌, ◌%◌, ◌^◌, ◌<◌, ◌≤◌, length, slice_index, bit_xor, ◌==◌, if◌then◌else◌};
 ghost use Rattle.argon2_base.specs.Block.{xor_blocks};
 ghost use Rattle.argon2_base.specs.Mixing.{add_mul, xor_rotate, gb, mix_columns, mix_diagonals, perm, row, column, mixed};
-ghost use Rattle.argon2_base.specs.Lanes.{lane, lane_at};
+ghost use Rattle.argon2_base.specs.Lanes.{lane, lane_at, left_exchanged, right_exchanged};
 
 use std::simd::u64x8;
 
@@ -120,24 +120,57 @@ fn interleave(a: u64x8, b: u64x8) -> (u64x8, u64x8)
     a.interleave(b)
 }
 
-// Lane i of vector k goes to lane k of vector i.
+// The odd lanes of a change places with the even lanes of b.
+#[inline(always)]
+fn exchange_ones(a: u64x8, b: u64x8) -> (u64x8, u64x8)
+    ensures left { (j : ℕ) → j < 8 → slice_index result.0 j ≡ left_exchanged 1 a b j }
+    ensures right { (j : ℕ) → j < 8 → slice_index result.1 j ≡ right_exchanged 1 a b j }
+{
+    let left = a.shuffle(b, [0, 8, 2, 10, 4, 12, 6, 14]);
+    let right = a.shuffle(b, [1, 9, 3, 11, 5, 13, 7, 15]);
+    (left, right)
+}
+
+// The same of every second pair of lanes.
+#[inline(always)]
+fn exchange_twos(a: u64x8, b: u64x8) -> (u64x8, u64x8)
+    ensures left { (j : ℕ) → j < 8 → slice_index result.0 j ≡ left_exchanged 2 a b j }
+    ensures right { (j : ℕ) → j < 8 → slice_index result.1 j ≡ right_exchanged 2 a b j }
+{
+    let left = a.shuffle(b, [0, 1, 8, 9, 4, 5, 12, 13]);
+    let right = a.shuffle(b, [2, 3, 10, 11, 6, 7, 14, 15]);
+    (left, right)
+}
+
+// The same of the halves.
+#[inline(always)]
+fn exchange_fours(a: u64x8, b: u64x8) -> (u64x8, u64x8)
+    ensures left { (j : ℕ) → j < 8 → slice_index result.0 j ≡ left_exchanged 4 a b j }
+    ensures right { (j : ℕ) → j < 8 → slice_index result.1 j ≡ right_exchanged 4 a b j }
+{
+    let left = a.shuffle(b, [0, 1, 2, 3, 8, 9, 10, 11]);
+    let right = a.shuffle(b, [4, 5, 6, 7, 12, 13, 14, 15]);
+    (left, right)
+}
+
+// Lane i of vector k goes to lane k of vector i: a digit of k changes places with one of i at a time.
 #[inline(always)]
 fn transpose(x: [u64x8; 8]) -> [u64x8; 8]
     ensures { (i k : ℕ) → i < 8 → k < 8 → lane_at result i k ≡ lane_at x k i }
 {
     let [x0, x1, x2, x3, x4, x5, x6, x7] = x;
-    let (a0, a1) = interleave(x0, x4);
-    let (a2, a3) = interleave(x1, x5);
-    let (a4, a5) = interleave(x2, x6);
-    let (a6, a7) = interleave(x3, x7);
-    let (b0, b1) = interleave(a0, a4);
-    let (b2, b3) = interleave(a1, a5);
-    let (b4, b5) = interleave(a2, a6);
-    let (b6, b7) = interleave(a3, a7);
-    let (c0, c1) = interleave(b0, b4);
-    let (c2, c3) = interleave(b1, b5);
-    let (c4, c5) = interleave(b2, b6);
-    let (c6, c7) = interleave(b3, b7);
+    let (a0, a1) = exchange_ones(x0, x1);
+    let (a2, a3) = exchange_ones(x2, x3);
+    let (a4, a5) = exchange_ones(x4, x5);
+    let (a6, a7) = exchange_ones(x6, x7);
+    let (b0, b2) = exchange_twos(a0, a2);
+    let (b1, b3) = exchange_twos(a1, a3);
+    let (b4, b6) = exchange_twos(a4, a6);
+    let (b5, b7) = exchange_twos(a5, a7);
+    let (c0, c4) = exchange_fours(b0, b4);
+    let (c1, c5) = exchange_fours(b1, b5);
+    let (c2, c6) = exchange_fours(b2, b6);
+    let (c3, c7) = exchange_fours(b3, b7);
     [c0, c1, c2, c3, c4, c5, c6, c7]
 }
 
