@@ -1,4 +1,5 @@
-//! What Argon2 stands on: BLAKE2b, the hash of any length, and the faults of every call.
+//! What Argon2 stands on: the blocks of its memory and their mixing, and the faults of every call.
 #![tactic(auto)]
 
+pub mod block;
 pub mod error;

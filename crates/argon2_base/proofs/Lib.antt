@@ -1,0 +1,5 @@
+pub mod BlockLemmas
+pub mod LaneLemmas
+pub mod MixingLaws
+pub mod MixingLemmas
+pub mod MixingValues
