@@ -5,15 +5,11 @@ use Rattle.std.proofs.lemmas.Grind.{flat_map-append}
 use Rattle.std.proofs.lemmas.Slice.{take-put_mid}
 use Rattle.std.specs.List.{flat_map, range_with_len}
 use Rattle.argon2_base.specs.Blake2b.{blake2b}
-use Rattle.argon2_base.specs.LongHash.{chain, halves, pieces, joined, long_hash}
+use Rattle.argon2_base.specs.LongHash.{chain, half, halves, pieces, joined, long_hash}
 use Rattle.std.specs.Borrow.{Bor}
 use Rattle.std.specs.Int.{w32, to_le_bytes}
 use Rattle.std.proofs.lemmas.List.Folds.{length-flat_map-take}
 use borrow.Rule.Slice.PartMut.{put_mid}
-
--- the first half of V(i)
-abbrev pub half : List ℕ → ℕ → List ℕ
-half first i = take 32 (chain first i)
 
 range_more : (a n : ℕ) → range_with_len a (suc n) ≡ range_with_len a n ++ (a + n) ∷ []
 range_more a zero = rw add-zero refl

@@ -1,7 +1,6 @@
 use Rattle.std.proofs.Common.{◌≡◌, ℕ, List, ◌*◌, length, take}
 use Rattle.std.specs.List.{flat_map, range_with_len}
-use Rattle.argon2_base.specs.LongHash.{chain}
-use Rattle.argon2_base.proofs.Pieces.{half}
+use Rattle.argon2_base.specs.LongHash.{chain, half}
 use Rattle.argon2_base.proofs.blake2b_long.write_pieces.Given as goal
 
 abbrev pub invariant-pieces : goal.invariant-pieces
