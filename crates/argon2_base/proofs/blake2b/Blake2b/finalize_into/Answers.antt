@@ -1,6 +1,6 @@
 use Rattle.std.proofs.Common.{◌≡◌, ℕ, length, refl, ap, sym, ◌∙◌}
 use Rattle.argon2_base.specs.Blake2b.{blake2b}
-use Rattle.argon2_base.proofs.Hashing.{opened, digest_written}
+use Rattle.argon2_base.proofs.HasherFields.{opened, digest_written}
 use Rattle.argon2_base.proofs.blake2b.Blake2b.finalize_into.Goals as goal
 
 pub returns : goal.returns
