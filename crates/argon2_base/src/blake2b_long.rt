@@ -10,8 +10,8 @@ mod tests;
 use crate::blake2b::Blake2b;
 use crate::error::{Error, Result};
 
-/// Writes the hash of the inputs, joined in their order, into `out`: as many bytes as it has, from 1 to
-/// 4294967295. The inputs have at most 2^128 - 5 bytes in all.
+/// Writes the hash of the inputs, joined in their order, into `out`: as many bytes as it has, from 1
+/// to 4294967295. The inputs have at most 2^128 - 5 bytes in all.
 ///
 /// # Errors
 /// [`Error::OutputTooShort`] if `out` is empty, [`Error::OutputTooLong`] if it has more bytes than

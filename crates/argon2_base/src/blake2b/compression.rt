@@ -14,8 +14,8 @@ pub(crate) const IV: [u64; 8] = [
     0x5be0_cd19_137e_2179,
 ];
 
-// The words of m in the order of a row of SIGMA. Its places are literals, which is what makes the rounds
-// fast and their order computed in the proof.
+// The words of m in the order of a row of SIGMA. Places that are literals make the rounds faster than a
+// table would, and their proof shorter.
 macro_rules! scheduled {
     ($m:ident: $($k:literal)*) => {
         [$($m[$k]),*]
