@@ -9,6 +9,6 @@ pub mod version;
 pub use algorithm::Algorithm;
 pub use argon2_base::block::{Block, Work};
 pub use argon2_base::error::{B64Error, Error, Result};
-pub use argon2_base::{block, error};
+pub use argon2_base::{blake2b, blake2b_long, block, error};
 pub use params::{AssociatedData, KeyId, Params, ParamsBuilder};
 pub use version::Version;

@@ -1,6 +1,12 @@
+pub mod Absorbing
+pub mod Base64Lemmas
 pub mod BlockLemmas
+pub mod HashBlocks
+pub mod HasherFields
+pub mod KnownDigests
 pub mod LaneLemmas
 pub mod MixingLaws
 pub mod MixingLemmas
 pub mod MixingValues
-pub mod Base64Lemmas
+pub mod Pieces
+pub mod Rounds
