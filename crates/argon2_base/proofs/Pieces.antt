@@ -5,7 +5,7 @@ use Rattle.std.proofs.lemmas.Grind.{flat_map-append}
 use Rattle.std.proofs.lemmas.Slice.{take-put_mid}
 use Rattle.std.specs.List.{flat_map, range_with_len}
 use Rattle.argon2_base.specs.Blake2b.{blake2b}
-use Rattle.argon2_base.specs.LongHash.{chain, half, halves, pieces, joined, long_hash}
+use Rattle.argon2_base.specs.LongHash.{chain, half, half_count, pieces, joined, long_hash}
 use Rattle.std.specs.Borrow.{Bor}
 use Rattle.std.specs.Int.{w32, to_le_bytes}
 use Rattle.std.proofs.lemmas.List.Folds.{length-flat_map-take}
@@ -74,7 +74,7 @@ pub long_hash_short : (n : ℕ) (m out : List ℕ) → n ≤ 64 → out ≡ blak
     → out ≡ long_hash n m
 unfolding chain long_hash
 long_hash_short n m out small eo =
-    let none : halves n ≡ 0 = omega arith in
+    let none : half_count n ≡ 0 = omega arith in
     let all : n - 0 ≡ n = omega arith in
     rw (none, all, eo) refl
 

@@ -13,8 +13,8 @@ chain first zero = first
 chain first (suc i) = blake2b 64 (chain first i)
 
 -- how many halves stand before the last piece of n bytes: ceil (n / 32) - 2, or none up to 64 bytes
-abbrev pub halves : ℕ → ℕ
-halves n = (n + 31) / 32 - 2
+abbrev pub half_count : ℕ → ℕ
+half_count n = (n + 31) / 32 - 2
 
 -- W(i): the first half of V(i)
 abbrev pub half : List ℕ → ℕ → List ℕ
@@ -23,7 +23,7 @@ half first i = take 32 (chain first i)
 -- W(1) to W(r), and a last piece, of 33 to 64 bytes where n is above 64
 abbrev pub pieces : ℕ → List ℕ → List ℕ
 pieces n first =
-    let r : ℕ = halves n in
+    let r : ℕ = half_count n in
     flat_map (half first) (range_with_len 1 r) ++ blake2b (n - 32 * r) (chain first r)
 
 -- H'(n, m), where V(0) is the message with the output's length before it
