@@ -13,8 +13,10 @@ use crate::fault::{Fault, of_reading};
 use argon2::blake2b::Blake2b;
 use argon2::blake2b_long::blake2b_long;
 use std::alloc::Global;
-use std::io;
 use std::io::{ErrorKind, Read, Write};
+
+#[cfg(test)]
+mod tests;
 
 const USAGE: &str =
     "usage: argon2-tool digest N | long N | tag ALG VER M T P LEN SALT | phc ALG VER M T P SALT | verify TEXT";
