@@ -28,11 +28,17 @@ fn main(rt: HostRuntime) -> ExitCode {
     ExitCode::from(status)
 }
 
-// The arguments after the program's name; none where one of them is no text, since no command has such a one.
+// The arguments after the program's name; none where one is no text, as no command has such a one.
 fn words(rt: &HostRuntime) -> Result<Vec<String>, AllocError> {
+    let mut args = Vec::new(rt.alloc());
     match env::args(rt) {
-        Ok(words) => words.skip(1).collect::<Vec<String>>(rt.alloc()),
-        Err(e) if e.kind() == ErrorKind::OutOfMemory => Err(AllocError),
-        Err(_) => Ok(Vec::new(rt.alloc())),
+        Ok(words) => {
+            for word in words.skip(1) {
+                args.push(word)?;
+            }
+        }
+        Err(e) if e.kind() == ErrorKind::OutOfMemory => return Err(AllocError),
+        Err(_) => {}
     }
+    Ok(args)
 }
