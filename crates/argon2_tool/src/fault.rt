@@ -1,6 +1,8 @@
 //! Why a command fails.
 
-ghost use Rattle.argon2_tool.specs.Faults.{IsOfReading};
+ghost use Rattle.std.specs.Prelude.{◌≡◌, ◌≢◌};
+ghost use Rattle.std.specs.IoError.{error_kind};
+ghost use Rattle.argon2_tool.specs.Faults.{IsOfReading, IsMemory};
 
 use std::alloc::AllocError;
 use std::io;
@@ -26,7 +28,9 @@ pub enum Fault {
 
 /// The fault of a read that fails: want of memory is no failed read.
 pub fn of_reading(error: &io::Error) -> Fault
-    ensures { IsOfReading result }
+    ensures memory { error_kind error.now ≡ ErrorKind.OutOfMemory → IsMemory result }
+    ensures input { error_kind error.now ≢ ErrorKind.OutOfMemory → result ≡ Fault.Input }
+    ensures reading { IsOfReading result }
 {
     if error.kind() == ErrorKind::OutOfMemory {
         Fault::Memory(AllocError)
