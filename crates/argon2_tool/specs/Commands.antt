@@ -1,5 +1,6 @@
 -- What the program is asked for, and what it answers.
-use Rattle.std.specs.Prelude.{ℕ, ◌≡◌, ◌≤◌, ◌==◌, if◌then◌else◌, Result, Ok, Err, List, [], ◌∷◌, codes}
+use Rattle.std.specs.Prelude.{ℕ, ◌≡◌, ◌≤◌, ◌==◌, if◌then◌else◌, Option, IfSome, Result, Ok, Err, IsOkAnd, List, [], ◌∷◌, ◌++◌, codes}
+use Rattle.std.specs.Io.KnownBytes.{Appends}
 use Rattle.std.specs.Fmt.{decimal}
 use Rattle.hex.specs.Hex.{encode_lower}
 use Rattle.argon2_base.specs.Blake2b.{blake2b}
@@ -27,3 +28,8 @@ Spells words command = IsCommand command × (words ≡ words_of command)
 abbrev pub answer_of : Command → List ℕ → Result (List ℕ) Error
 answer_of (Digest len) message = Ok (encode_lower (blake2b len message))
 answer_of (Long len) message = if len == 0 then Err OutputTooShort else Ok (encode_lower (long_hash len message))
+
+-- where the input is known, the command has an answer to it, which is appended to a known output, as a line
+abbrev pub IsAnswered : Command → Option (List ℕ) → Option (List ℕ) → Option (List ℕ) → Type 0
+IsAnswered command input old new = IfSome input (λ message.
+    IsOkAnd (answer_of command message) (λ text. Appends old new (text ++ 10 ∷ [])))

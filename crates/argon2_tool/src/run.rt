@@ -5,7 +5,7 @@ ghost use Rattle.std.specs.Io.KnownBytes.{Appends, Keeps};
 ghost use Rattle.hex.specs.Hex.{encode_lower};
 ghost use Rattle.argon2_base.specs.Blake2b.{blake2b};
 ghost use Rattle.argon2_base.specs.Hasher.{Holds};
-ghost use Rattle.argon2_tool.specs.Commands.{IsCommand, Spells, answer_of};
+ghost use Rattle.argon2_tool.specs.Commands.{IsCommand, Spells, answer_of, IsAnswered};
 ghost use Rattle.argon2_tool.specs.Faults.{IsOfReading, IsBeforeWriting};
 
 use crate::arguments::Command;
@@ -38,8 +38,7 @@ pub fn run<R: Read, W: Write, E: Write>(
     ensures unread { result ≡ 2 → Keeps (R.remaining input.old) (R.remaining input.new) }
     ensures unwritten { result ≡ 2 → Keeps (W.contents output.old) (W.contents output.new) }
     ensures answered { result ≡ 0 → (c : Command) × Spells (map string_bytes args.now) c
-        × IfSome (R.remaining input.old) (λ message. IsOkAnd (answer_of c message)
-        (λ text. Appends (W.contents output.old) (W.contents output.new) (text ++ 10 ∷ []))) }
+        × IsAnswered c (R.remaining input.old) (W.contents output.old) (W.contents output.new) }
 {
     let Some(command) = Command::parsed(args) else {
         let _ = writeln!(errors, "{USAGE}");
@@ -67,8 +66,8 @@ fn answer<R: Read, W: Write>(
     output: &mut W,
 ) -> Result<(), Fault>
     requires { IsCommand command }
-    ensures ok { OnOk result (IfSome (R.remaining input.old) (λ message. IsOkAnd (answer_of command message)
-        (λ text. Appends (W.contents output.old) (W.contents output.new) (text ++ 10 ∷ [])))) }
+    ensures ok { OnOk result (IsAnswered command (R.remaining input.old)
+        (W.contents output.old) (W.contents output.new)) }
     ensures err { IfErr result (λ fault. (fault ≡ Fault.Output)
         ⊎ (IsBeforeWriting command fault × Keeps (W.contents output.old) (W.contents output.new))) }
 {
@@ -81,7 +80,8 @@ fn answer<R: Read, W: Write>(
 
 // Writes a text and a line feed.
 fn write_line<W: Write>(output: &mut W, text: &str) -> Result<(), Fault>
-    ensures ok { OnOk result (Appends (W.contents output.old) (W.contents output.new) (text.now ++ 10 ∷ [])) }
+    ensures ok { OnOk result (Appends (W.contents output.old) (W.contents output.new)
+        (text.now ++ 10 ∷ [])) }
     ensures err { IfErr result (λ fault. fault ≡ Fault.Output) }
 {
     let Ok(()) = writeln!(output, "{text}") else {
@@ -96,7 +96,7 @@ fn digest<R: Read>(alloc: Global, len: usize, input: &mut R) -> Result<String, F
     requires low { 1 ≤ len }
     requires high { len ≤ 64 }
     ensures ok { IfOk result (λ text. IfSome (R.remaining input.old)
-        (λ message. string_bytes text ≡ encode_lower (blake2b len message))) }
+        (λ message. answer_of (Command.Digest len) message ≡ Ok (string_bytes text))) }
     ensures err { IfErr result IsOfReading }
 {
     let hasher = hasher_of(len, input)?;
@@ -144,7 +144,8 @@ fn long<R: Read>(alloc: Global, len: usize, input: &mut R) -> Result<String, Fau
 
 // All that is left in `input`.
 fn read_all<R: Read>(alloc: Global, input: &mut R) -> Result<Vec<u8>, Fault>
-    ensures ok { IfOk result (λ bytes. IfSome (R.remaining input.old) (λ message. bytes.items ≡ message)) }
+    ensures ok { IfOk result (λ bytes. IfSome (R.remaining input.old)
+        (λ message. bytes.items ≡ message)) }
     ensures err { IfErr result IsOfReading }
 {
     let mut bytes = Vec::new(alloc);
