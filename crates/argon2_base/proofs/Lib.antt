@@ -1,5 +1,6 @@
 pub mod KnownDigests
 pub mod Rounds
 pub mod Absorbing
-pub mod Hashing
+pub mod HashBlocks
+pub mod HasherFields
 pub mod Pieces

@@ -10,7 +10,7 @@ mod tests;
 use crate::blake2b::Blake2b;
 use crate::error::{Error, Result};
 
-/// Writes the hash of the inputs, joined in their order, into `out`: as many bytes as `out` has, from 1
+/// Writes the hash of the inputs, joined in their order, into `out`: as many bytes as it has, from 1
 /// to 4294967295. The inputs have at most 2^128 - 5 bytes in all.
 ///
 /// # Errors
@@ -48,15 +48,15 @@ fn write_pieces(start: &[u8; 64], out: &mut [u8])
     requires { 64 < length out.old }
     ensures { (first : List ℕ) → start.now ≡ chain first 1 → out.new ≡ pieces (length out.old) first }
 {
-    let halves = out.len().div_ceil(32) - 2;
+    let half_count = out.len().div_ceil(32) - 2;
     let mut current = *start;
     out[0..32].copy_from_slice(first_half(&current));
-    'pieces: for i in 1..halves {
+    'pieces: for i in 1..half_count {
         let before = current;
         write_digest(&before, &mut current);
         out[32 * i..32 * i + 32].copy_from_slice(first_half(&current));
     }
-    write_digest(&current, &mut out[32 * halves..]);
+    write_digest(&current, &mut out[32 * half_count..]);
 }
 
 // Writes the digest of `message`, of as many bytes as `out` has.
