@@ -17,6 +17,7 @@ use Rattle.argon2.proofs.Filled.{drop-filled}
 abbrev answer : Option DecodeError → Bool → Option DecodeError → List ℕ → ℕ → Result ℕ DecodeSliceError
 answer x small y d room = or_error x (if small then Err OutputSliceTooSmall else or_error y (bytes_fit (length d) room))
 
+-- an answer that counts bytes comes of no error, and they fit
 answer_ok : (x y : Option DecodeError) (small : Bool) (d : List ℕ) (room n : ℕ) → answer x small y d room ≡ Ok n
     → (decode_outcome (or_else x y) d ≡ Ok d) × (n ≡ length d) × (length d ≤ room)
 answer_ok (Some e) y small d room n h = cc h
@@ -27,6 +28,7 @@ answer_ok None None false d room n h = elim (cases_Bool (nat_lt room (length d))
   | inr wide ↦ (refl, (let f = rw wide at h in cc), ltb-false room (length d) wide)
 ]
 
+-- where there is no error and room for the bytes, nothing is refused
 answer_err : (x y : Option DecodeError) (small : Bool) (d b : List ℕ) (room : ℕ) (f : DecodeSliceError) → decode_outcome (or_else x y) d ≡ Ok b
     → length b ≤ room → small ≡ false → answer x small y d room ≡ Err f → ⊥
 answer_err (Some e) y small d b room f ok fits wide h = cc ok

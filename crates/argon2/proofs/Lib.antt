@@ -1,17 +1,17 @@
+mod Counts
 mod DecodedSlices
 mod Filled
-mod Sources
-mod History
-mod Schedules
 mod Filling
+mod History
+mod InMemory
+mod Independence
 mod LaneAfterLane
-mod Watched
-mod Counts
 mod LastColumn
 mod PermittedPlaces
-mod InMemory
+mod Schedules
+mod Sources
 mod Validity
-mod Independence
+mod Watched
 pub mod FirstColumns
 pub mod InitialHashing
 pub mod TagOfMatrix

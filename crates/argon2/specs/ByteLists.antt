@@ -43,6 +43,7 @@ IsBase64Cause longest text InvalidLength = longest < length text
 IsBase64Cause longest text InvalidEncoding =
     (length text ≤ longest) × ((bytes : List ℕ) → IsBytes bytes → text ≢ strict_base64 bytes)
 
+-- the same as a fault of hashing
 abbrev pub IsBase64Fault : ℕ → List ℕ → Error → Type 0
 IsBase64Fault longest text (B64Encoding cause) = IsBase64Cause longest text cause
 IsBase64Fault longest text _ = ⊥

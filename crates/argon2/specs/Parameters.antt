@@ -4,7 +4,8 @@ use Rattle.argon2.specs.Refusals.{first_of}
 use Rattle.argon2_base.specs.declared.error.Error.{Error}
 use Rattle.argon2_base.specs.declared.error.Error.TheVariants.{MemoryTooLittle, OutputTooLong, OutputTooShort, ThreadsTooFew, ThreadsTooMany, TimeTooSmall}
 
--- memory in blocks of 1024 bytes, passes, lanes, and the output's length in bytes where it is set
+-- memory in blocks of 1024 bytes, passes and lanes; the bytes of the key identifier and of the
+-- associated data; and the output's length in bytes, where it is set
 pub record Parameters : Type 0 where
   pub m_cost : ℕ
   pub t_cost : ℕ

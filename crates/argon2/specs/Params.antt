@@ -5,6 +5,7 @@ use Rattle.argon2.specs.ByteLists.{keyid_bytes, data_bytes}
 use Rattle.argon2.specs.Parameters.{Parameters, first_fault, IsValid}
 use Rattle.argon2_base.specs.declared.error.Error.{Error}
 
+-- costs, bytes and output length, in place of the fields
 abbrev pub parameters_of : Params → Parameters
 parameters_of params = record {
   m_cost = params.m_cost;

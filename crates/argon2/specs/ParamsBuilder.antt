@@ -14,6 +14,7 @@ pub record BuilderSettings : Type 0 where
   pub associated : Option (List ℕ)
   pub output_len : Option ℕ
 
+-- the settings, in place of the fields
 abbrev pub settings_of : ParamsBuilder → BuilderSettings
 settings_of builder = record {
   m_cost = builder.m_cost;

@@ -186,7 +186,8 @@ impl Params {
     /// The number of blocks that a hash fills: the greatest multiple of 4 times the number of lanes
     /// that is at most the memory cost (RFC 9106, section 3.2).
     pub fn block_count(&self) -> usize
-        ensures value { result ≡ block_count (parameters_of self.now).m_cost (parameters_of self.now).p_cost }
+        ensures value { result
+            ≡ block_count (parameters_of self.now).m_cost (parameters_of self.now).p_cost }
     {
         let segments = 4 * self.p_cost as usize;
         self.m_cost as usize / segments * segments

@@ -9,25 +9,29 @@ use Rattle.argon2_base.specs.LongHash.{chain, long_hash}
 
 -- RFC 7693, appendix A
 pub digest_of_abc : blake2b 64 (codes "abc")
-    ≡ bytes_high_first 64 0xba80a53f981c4d0d6a2797b69f12f6e94c212f14685ac4b74b12bb6fdbffa2d17d87c5392aab792dc252d5de4533cc9518d38aa8dbf1925ab92386edd4009923
+    ≡ bytes_high_first 32 0xba80a53f981c4d0d6a2797b69f12f6e94c212f14685ac4b74b12bb6fdbffa2d1
+    ++ bytes_high_first 32 0x7d87c5392aab792dc252d5de4533cc9518d38aa8dbf1925ab92386edd4009923
 unfolding mix round rounds words compress hash_blocks blake2b
 digest_of_abc = refl
 
 -- the empty message is one block of zeros
 pub digest_of_nothing : blake2b 64 []
-    ≡ bytes_high_first 64 0x786a02f742015903c6c6fd852552d272912f4740e15847618a86e217f71f5419d25e1031afee585313896444934eb04b903a685b1448b755d56f701afe9be2ce
+    ≡ bytes_high_first 32 0x786a02f742015903c6c6fd852552d272912f4740e15847618a86e217f71f5419
+    ++ bytes_high_first 32 0xd25e1031afee585313896444934eb04b903a685b1448b755d56f701afe9be2ce
 unfolding mix round rounds words compress hash_blocks blake2b
 digest_of_nothing = refl
 
 -- 128 bytes are one block
 pub digest_of_one_block : blake2b 64 (range_with_len 0 128)
-    ≡ bytes_high_first 64 0x2319e3789c47e2daa5fe807f61bec2a1a6537fa03f19ff32e87eecbfd64b7e0e8ccff439ac333b040f19b0c4ddd11a61e24ac1fe0f10a039806c5dcc0da3d115
+    ≡ bytes_high_first 32 0x2319e3789c47e2daa5fe807f61bec2a1a6537fa03f19ff32e87eecbfd64b7e0e
+    ++ bytes_high_first 32 0x8ccff439ac333b040f19b0c4ddd11a61e24ac1fe0f10a039806c5dcc0da3d115
 unfolding mix round rounds words compress hash_blocks blake2b
 digest_of_one_block = refl
 
 -- 129 bytes are two
 pub digest_of_two_blocks : blake2b 64 (range_with_len 0 129)
-    ≡ bytes_high_first 64 0xf59711d44a031d5f97a9413c065d1e614c417ede998590325f49bad2fd444d3e4418be19aec4e11449ac1a57207898bc57d76a1bcf3566292c20c683a5c4648f
+    ≡ bytes_high_first 32 0xf59711d44a031d5f97a9413c065d1e614c417ede998590325f49bad2fd444d3e
+    ++ bytes_high_first 32 0x4418be19aec4e11449ac1a57207898bc57d76a1bcf3566292c20c683a5c4648f
 unfolding mix round rounds words compress hash_blocks blake2b
 digest_of_two_blocks = refl
 

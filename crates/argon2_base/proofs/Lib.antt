@@ -1,12 +1,12 @@
 pub mod Absorbing
 pub mod Base64Lemmas
-pub mod Hashing
-pub mod KnownDigests
 pub mod BlockLemmas
+pub mod HashBlocks
+pub mod HasherFields
+pub mod KnownDigests
 pub mod LaneLemmas
 pub mod MixingLaws
 pub mod MixingLemmas
 pub mod MixingValues
 pub mod Pieces
 pub mod Rounds
-pub mod Base64Lemmas

@@ -54,7 +54,10 @@ mix a b c d x y =
 -- v with the words q in the places i, j, k, l
 abbrev pub placed : List ℕ → ℕ → ℕ → ℕ → ℕ → List ℕ → List ℕ
 placed v i j k l q =
-    slice_set (slice_set (slice_set (slice_set v i (slice_index q 0)) j (slice_index q 1)) k (slice_index q 2)) l (slice_index q 3)
+    let v0 : List ℕ = slice_set v i (slice_index q 0) in
+    let v1 : List ℕ = slice_set v0 j (slice_index q 1) in
+    let v2 : List ℕ = slice_set v1 k (slice_index q 2) in
+    slice_set v2 l (slice_index q 3)
 
 -- G (v, i, j, k, l, x, y) (3.1)
 abbrev pub mix_at : List ℕ → ℕ → ℕ → ℕ → ℕ → ℕ → ℕ → List ℕ
@@ -78,7 +81,8 @@ unfoldable pub rounds : List ℕ → List ℕ → ℕ → List ℕ
 rounds v m zero = v
 rounds v m (suc r) = round (rounds v m r) (map (λ k. slice_index m k) (sigma r))
 
--- the working vector at the start: h, then IV with the counter t and the flag of the last block (3.2)
+-- the working vector at the start: h, and then IV with the counter t and the flag of the last block
+-- (3.2)
 abbrev pub working_vector : List ℕ → ℕ → Bool → List ℕ
 working_vector h t last =
     h ++ take 4 iv

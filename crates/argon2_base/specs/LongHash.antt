@@ -7,18 +7,24 @@ use Rattle.argon2_base.specs.Blake2b.{blake2b}
 use Rattle.argon2_base.specs.declared.error.Error.{Error}
 use Rattle.argon2_base.specs.declared.error.Error.TheVariants.{OutputTooShort, OutputTooLong}
 
--- V(i) over V(0): each is the digest of 64 bytes of the one before
+-- V(i) over V(0): each is the digest of 64 bytes of the one before it
 unfoldable pub chain : List ℕ → ℕ → List ℕ
 chain first zero = first
 chain first (suc i) = blake2b 64 (chain first i)
 
--- how many first halves stand before the last piece of n bytes: ceil (n / 32) - 2, or 0 up to 64 bytes
-abbrev pub halves : ℕ → ℕ
-halves n = (n + 31) / 32 - 2
+-- how many halves stand before the last piece of n bytes: ceil (n / 32) - 2, or none up to 64 bytes
+abbrev pub half_count : ℕ → ℕ
+half_count n = (n + 31) / 32 - 2
 
--- the first halves of V(1) to V(r), and a last piece, of 33 to 64 bytes where n is above 64
+-- W(i): the first half of V(i)
+abbrev pub half : List ℕ → ℕ → List ℕ
+half first i = take 32 (chain first i)
+
+-- W(1) to W(r), and a last piece, of 33 to 64 bytes where n is above 64
 abbrev pub pieces : ℕ → List ℕ → List ℕ
-pieces n first = flat_map (λ i. take 32 (chain first i)) (range_with_len 1 (halves n)) ++ blake2b (n - 32 * halves n) (chain first (halves n))
+pieces n first =
+    let r : ℕ = half_count n in
+    flat_map (half first) (range_with_len 1 r) ++ blake2b (n - 32 * r) (chain first r)
 
 -- H'(n, m), where V(0) is the message with the output's length before it
 unfoldable pub long_hash : ℕ → List ℕ → List ℕ
@@ -30,4 +36,6 @@ joined inputs = flat_map (λ r. r.now) inputs
 
 -- what is answered for an output of n bytes
 abbrev pub long_answer : ℕ → Result (Unit {0}) Error
-long_answer n = if nat_lt n 1 then Err OutputTooShort else (if nat_lt n (2 ^ 32) then Ok tt else Err OutputTooLong)
+long_answer n =
+    if nat_lt n 1 then Err OutputTooShort
+    else (if nat_lt n (2 ^ 32) then Ok tt else Err OutputTooLong)

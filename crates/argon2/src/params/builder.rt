@@ -72,7 +72,8 @@ impl ParamsBuilder {
     /// Sets the key identifier.
     pub fn keyid(&mut self, keyid: KeyId) -> &mut Self
         ensures same_reference { result.ghost_name ≡ self.entry.ghost_name }
-        ensures value { settings_of result.now ≡ record (settings_of self.old) { keyid = Some (keyid_bytes keyid) } }
+        ensures value { settings_of result.now
+            ≡ record (settings_of self.old) { keyid = Some (keyid_bytes keyid) } }
     {
         self.keyid = Some(keyid);
         self
@@ -81,7 +82,8 @@ impl ParamsBuilder {
     /// Sets the associated data.
     pub fn data(&mut self, data: AssociatedData) -> &mut Self
         ensures same_reference { result.ghost_name ≡ self.entry.ghost_name }
-        ensures value { settings_of result.now ≡ record (settings_of self.old) { associated = Some (data_bytes «data») } }
+        ensures value { settings_of result.now
+            ≡ record (settings_of self.old) { associated = Some (data_bytes «data») } }
     {
         self.associated = Some(data);
         self
@@ -90,7 +92,8 @@ impl ParamsBuilder {
     /// Sets the length of each output in bytes: 4 to 4294967295.
     pub fn output_len(&mut self, len: usize) -> &mut Self
         ensures same_reference { result.ghost_name ≡ self.entry.ghost_name }
-        ensures value { settings_of result.now ≡ record (settings_of self.old) { output_len = Some len } }
+        ensures value { settings_of result.now
+            ≡ record (settings_of self.old) { output_len = Some len } }
     {
         self.output_len = Some(len);
         self

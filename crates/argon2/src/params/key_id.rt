@@ -38,8 +38,8 @@ impl KeyId {
         }
     }
 
-    /// The key identifier whose Base64 the text is (RFC 4648, section 4): without padding, unused last bits
-    /// zero.
+    /// The key identifier whose Base64 the text is (RFC 4648, section 4), without padding and with
+    /// the unused last bits zero.
     ///
     /// # Errors
     /// [`Error::B64Encoding`], of `InvalidLength` where the text has more than 11 bytes, else of

@@ -1,23 +1,24 @@
-use Rattle.std.proofs.Common.{List, ℕ, refl, ap}
-use Rattle.argon2_base.specs.Compression.{compress, rounds, words, working_vector, xor_halves}
-use Rattle.argon2_base.proofs.Rounds.{rounds_step}
+use Rattle.std.proofs.Common.{List, ℕ, ap, ◌∙◌}
+use Rattle.argon2_base.specs.Compression.{compress, rounds, working_vector, xor_halves}
+use Rattle.argon2_base.proofs.Rounds.{one_more}
 use Rattle.argon2_base.proofs.blake2b.compression.compress.Goals as goal
 
 pub returns : goal.returns
 unfolding compress rounds
 returns c =
-    let w : List ℕ = working_vector c.args.h.now c.args.t c.args.last in
-    let m : List ℕ = words c.args.block.now in
-    let s1 = rounds_step w m _ _ _ 0 c.working_vector-v.ensures (rw c.words-m.ensures refl) c.round-v.ensures in
-    let s2 = rounds_step w m _ _ _ 1 s1 (rw c.words-m.ensures refl) c.round-v-2.ensures in
-    let s3 = rounds_step w m _ _ _ 2 s2 (rw c.words-m.ensures refl) c.round-v-3.ensures in
-    let s4 = rounds_step w m _ _ _ 3 s3 (rw c.words-m.ensures refl) c.round-v-4.ensures in
-    let s5 = rounds_step w m _ _ _ 4 s4 (rw c.words-m.ensures refl) c.round-v-5.ensures in
-    let s6 = rounds_step w m _ _ _ 5 s5 (rw c.words-m.ensures refl) c.round-v-6.ensures in
-    let s7 = rounds_step w m _ _ _ 6 s6 (rw c.words-m.ensures refl) c.round-v-7.ensures in
-    let s8 = rounds_step w m _ _ _ 7 s7 (rw c.words-m.ensures refl) c.round-v-8.ensures in
-    let s9 = rounds_step w m _ _ _ 8 s8 (rw c.words-m.ensures refl) c.round-v-9.ensures in
-    let s10 = rounds_step w m _ _ _ 9 s9 (rw c.words-m.ensures refl) c.round-v-10.ensures in
-    let s11 = rounds_step w m _ _ _ 10 s10 (rw c.words-m.ensures refl) c.round-v-11.ensures in
-    let s12 = rounds_step w m _ _ _ 11 s11 (rw c.words-m.ensures refl) c.round-v-12.ensures in
-    ap (xor_halves c.args.h.now) s12
+    let v : List ℕ = working_vector c.args.h.now c.args.t c.args.last in
+    let m : List ℕ = c.words-m.result in
+    let r1 = one_more v m 0 c.working_vector-v.ensures c.round-v.ensures in
+    let r2 = one_more v m 1 r1 c.round-v-2.ensures in
+    let r3 = one_more v m 2 r2 c.round-v-3.ensures in
+    let r4 = one_more v m 3 r3 c.round-v-4.ensures in
+    let r5 = one_more v m 4 r4 c.round-v-5.ensures in
+    let r6 = one_more v m 5 r5 c.round-v-6.ensures in
+    let r7 = one_more v m 6 r6 c.round-v-7.ensures in
+    let r8 = one_more v m 7 r7 c.round-v-8.ensures in
+    let r9 = one_more v m 8 r8 c.round-v-9.ensures in
+    let r10 = one_more v m 9 r9 c.round-v-10.ensures in
+    let r11 = one_more v m 10 r10 c.round-v-11.ensures in
+    let r12 = one_more v m 11 r11 c.round-v-12.ensures in
+    ap (xor_halves c.args.h.now) r12
+    ∙ ap (λ m. xor_halves c.args.h.now (rounds v m 12)) c.words-m.ensures
