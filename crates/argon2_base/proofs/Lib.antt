@@ -1,4 +1,5 @@
 pub mod BlockLemmas
+pub mod ByteLemmas
 pub mod LaneLemmas
 pub mod MixingLaws
 pub mod MixingLemmas

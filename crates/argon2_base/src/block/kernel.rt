@@ -3,9 +3,9 @@
 ghost use Rattle.std.specs.Prelude.{◌≡◌, ℕ, ◌+◌, ◌*◌, ◌/◌, ◌%◌, ◌^◌, ◌<◌, ◌≤◌, length, slice_index, bit_xor, ◌==◌, if◌then◌else◌};
 ghost use Rattle.argon2_base.specs.Block.{xor_blocks};
 ghost use Rattle.argon2_base.specs.Mixing.{add_mul, xor_rotate, gb, mix_columns, mix_diagonals, perm, row, column, mixed};
-ghost use Rattle.argon2_base.specs.Lanes.{lane, lane_at, left_exchanged, right_exchanged};
+ghost use Rattle.argon2_base.specs.Lanes.{lane, lane_at, left_exchanged, right_exchanged, word_at};
 
-use std::simd::u64x8;
+use std::simd::{u8x64, u64x8};
 
 #[inline(always)]
 fn add_mul(a: u64x8, b: u64x8) -> u64x8
@@ -25,6 +25,45 @@ fn xor_rotate(a: u64x8, b: u64x8, k: u64) -> u64x8
     (x >> u64x8::splat(k)) | (x << u64x8::splat(64 - k))
 }
 
+// The bytes of each word, the low byte first.
+#[inline(always)]
+fn bytes(x: u64x8) -> u8x64
+    ensures { (j k : ℕ) → j < 8 → k < 8
+        → slice_index result (8 * j + k) ≡ slice_index x j / 256 ^ k % 256 }
+{
+    x.to_le_bytes()
+}
+
+// Turns the eight bytes of each word by three places.
+#[inline(always)]
+fn turn_bytes(x: u8x64) -> u8x64
+    ensures { (j : ℕ) → j < 8 → (k : ℕ) → k < 8
+        → slice_index result (8 * j + k) ≡ slice_index x (8 * j + (k + 3) % 8) }
+{
+    x.swizzle([
+        3, 4, 5, 6, 7, 0, 1, 2, 11, 12, 13, 14, 15, 8, 9, 10, 19, 20, 21, 22, 23, 16, 17, 18, 27,
+        28, 29, 30, 31, 24, 25, 26, 35, 36, 37, 38, 39, 32, 33, 34, 43, 44, 45, 46, 47, 40, 41, 42,
+        51, 52, 53, 54, 55, 48, 49, 50, 59, 60, 61, 62, 63, 56, 57, 58,
+    ])
+}
+
+// The words of the bytes, the low byte first.
+#[inline(always)]
+fn from_bytes(x: u8x64) -> u64x8
+    ensures { (j : ℕ) → j < 8 → slice_index result j ≡ word_at x (8 * j) }
+{
+    u64x8::from_le_bytes(x)
+}
+
+// `xor_rotate` by 24 bits, which are whole bytes.
+#[inline(always)]
+fn xor_rotate_24(a: u64x8, b: u64x8) -> u64x8
+    ensures { (j : ℕ) → j < 8
+        → slice_index result j ≡ xor_rotate (slice_index a j) (slice_index b j) 24 }
+{
+    from_bytes(turn_bytes(bytes(a ^ b)))
+}
+
 #[inline(always)]
 fn gb(a: u64x8, b: u64x8, c: u64x8, d: u64x8) -> (u64x8, u64x8, u64x8, u64x8)
     ensures { (j : ℕ) → j < 8
@@ -34,7 +73,7 @@ fn gb(a: u64x8, b: u64x8, c: u64x8, d: u64x8) -> (u64x8, u64x8, u64x8, u64x8)
     let a1 = add_mul(a, b);
     let d1 = xor_rotate(d, a1, 32);
     let c1 = add_mul(c, d1);
-    let b1 = xor_rotate(b, c1, 24);
+    let b1 = xor_rotate_24(b, c1);
     let a2 = add_mul(a1, b1);
     let d2 = xor_rotate(d1, a2, 16);
     let c2 = add_mul(c1, d2);
