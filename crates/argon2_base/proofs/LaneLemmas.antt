@@ -1,3 +1,4 @@
+-- Vectors of eight lanes, and what the steps of the mixing do in each lane.
 use Rattle.std.proofs.Common.{◌≡◌, ℕ, zero, suc, ◌<◌, ◌+◌, ◌-◌, ◌*◌, ◌/◌, ◌%◌, ◌^◌, List, [], ◌∷◌, ◌++◌, length, slice_index, ◌==◌, if◌then◌else◌, bit_and, bit_or, bit_xor, slice_index_or, map, arith, refl, subst, ◌∙◌, lit<}
 use Rattle.std.specs.List.{range_with_len}
 use Rattle.std.proofs.lemmas.Nat.{and_mask}
@@ -55,9 +56,11 @@ two_vectors P t =
     eight_lanes (λ x. (y : List ℕ) → length y ≡ 8 → P x y) (λ a b c d e f g h.
     eight_lanes (P (a ∷ b ∷ c ∷ d ∷ e ∷ f ∷ g ∷ h ∷ [])) (t a b c d e f g h))
 
+-- a sum and twice a product, each kept below 2 ^ 64
 wrapped_sum : (s x : ℕ) → (s % 2 ^ 64 + (x % 2 ^ 64 + x % 2 ^ 64) % 2 ^ 64) % 2 ^ 64 ≡ (s + 2 * x) % 2 ^ 64
 wrapped_sum s x = omega arith
 
+-- the same where the product is doubled by a factor
 wrapped_twice : (s x : ℕ) → (s % 2 ^ 64 + x * 2 % 2 ^ 64) % 2 ^ 64 ≡ (s + x * 2) % 2 ^ 64
 wrapped_twice s x = omega arith
 
@@ -67,6 +70,7 @@ add_mul_steps a b =
     let p = bit_and a 0xffffffff * bit_and b 0xffffffff % 2 ^ 64 in
     ((a + b) % 2 ^ 64 + (p + p) % 2 ^ 64) % 2 ^ 64
 
+-- these steps give u + v + 2 * low32(u) * low32(v)
 add_mul_word : (a b : ℕ) → add_mul_steps a b ≡ add_mul a b
 unfolding add_mul
 add_mul_word a b =
@@ -102,10 +106,9 @@ AddsMul a b = (j : ℕ) → j < 8
 
 pub add_mul_lanes : (a : List ℕ) → length a ≡ 8 → (b : List ℕ) → length b ≡ 8 → AddsMul a b
 add_mul_lanes =
-    eight_lanes (λ a. (b : List ℕ) → length b ≡ 8 → AddsMul a b) (λ a0 a1 a2 a3 a4 a5 a6 a7.
-    eight_lanes (AddsMul (a0 ∷ a1 ∷ a2 ∷ a3 ∷ a4 ∷ a5 ∷ a6 ∷ a7 ∷ [])) (λ b0 b1 b2 b3 b4 b5 b6 b7.
+    two_vectors AddsMul (λ a0 a1 a2 a3 a4 a5 a6 a7 b0 b1 b2 b3 b4 b5 b6 b7.
     below_eight _ (add_mul_word a0 b0) (add_mul_word a1 b1) (add_mul_word a2 b2) (add_mul_word a3 b3)
-    (add_mul_word a4 b4) (add_mul_word a5 b5) (add_mul_word a6 b6) (add_mul_word a7 b7)))
+    (add_mul_word a4 b4) (add_mul_word a5 b5) (add_mul_word a6 b6) (add_mul_word a7 b7))
 
 -- two shifts of each lane and an or are a rotation
 abbrev Rotates : ℕ → List ℕ → List ℕ → Type 0
@@ -121,10 +124,9 @@ unfolding xor_rotate
 shifts_rotate k low high =
     let left : (64 - k) % 64 ≡ 64 - k = omega arith in
     let right : k % 64 ≡ k = omega arith in
-    eight_lanes (λ a. (b : List ℕ) → length b ≡ 8 → Rotates k a b) (λ a0 a1 a2 a3 a4 a5 a6 a7.
-    eight_lanes (Rotates k (a0 ∷ a1 ∷ a2 ∷ a3 ∷ a4 ∷ a5 ∷ a6 ∷ a7 ∷ [])) (λ b0 b1 b2 b3 b4 b5 b6 b7.
+    two_vectors (Rotates k) (λ a0 a1 a2 a3 a4 a5 a6 a7 b0 b1 b2 b3 b4 b5 b6 b7.
     below_eight _ (rw (right, left) refl) (rw (right, left) refl) (rw (right, left) refl) (rw (right, left) refl)
-    (rw (right, left) refl) (rw (right, left) refl) (rw (right, left) refl) (rw (right, left) refl)))
+    (rw (right, left) refl) (rw (right, left) refl) (rw (right, left) refl) (rw (right, left) refl))
 
 -- what two shuffles of two vectors are
 abbrev Exchanged : ℕ → List ℕ → List ℕ → List ℕ → List ℕ → Type 0
@@ -160,9 +162,8 @@ Interleaved a b =
 
 pub interleaved : (a : List ℕ) → length a ≡ 8 → (b : List ℕ) → length b ≡ 8 → Interleaved a b
 interleaved =
-    eight_lanes (λ a. (b : List ℕ) → length b ≡ 8 → Interleaved a b) (λ a0 a1 a2 a3 a4 a5 a6 a7.
-    eight_lanes (Interleaved (a0 ∷ a1 ∷ a2 ∷ a3 ∷ a4 ∷ a5 ∷ a6 ∷ a7 ∷ [])) (λ b0 b1 b2 b3 b4 b5 b6 b7.
-    (below_eight _ refl refl refl refl refl refl refl refl, below_eight _ refl refl refl refl refl refl refl refl)))
+    two_vectors Interleaved (λ a0 a1 a2 a3 a4 a5 a6 a7 b0 b1 b2 b3 b4 b5 b6 b7.
+    (below_eight _ refl refl refl refl refl refl refl refl, below_eight _ refl refl refl refl refl refl refl refl))
 
 -- the words of a lane, given by number
 pub lane_is : (x : List (List ℕ)) (j : ℕ) (f : ℕ → ℕ) → ((k : ℕ) → k < 16 → lane_at x k j ≡ f k) → lane j x ≡ map f (range_with_len 0 16)

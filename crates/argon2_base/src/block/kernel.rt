@@ -1,12 +1,14 @@
-//! The mixing of a block over vectors of eight words.
+//! The mixing of two blocks over sixteen vectors of eight words: lane i of vector k is word k of row i,
+//! and then word k of column i, so that P goes on eight rows and on eight columns at once.
 
 ghost use Rattle.std.specs.Prelude.{◌≡◌, ℕ, ◌+◌, ◌*◌, ◌/◌, ◌%◌, ◌^◌, ◌<◌, ◌≤◌, length, slice_index, bit_xor, ◌==◌, if◌then◌else◌};
 ghost use Rattle.argon2_base.specs.Block.{xor_blocks};
-ghost use Rattle.argon2_base.specs.Mixing.{add_mul, xor_rotate, gb, mix_columns, mix_diagonals, perm, row, column, mixed};
+ghost use Rattle.argon2_base.specs.Mixing.{add_mul, xor_rotate, gb, gb_at, perm, row, column, mixed};
 ghost use Rattle.argon2_base.specs.Lanes.{lane, lane_at, left_exchanged, right_exchanged, word_at};
 
 use std::simd::{u8x64, u64x8};
 
+// u + v + 2 * low32(u) * low32(v) in each lane.
 #[inline(always)]
 fn add_mul(a: u64x8, b: u64x8) -> u64x8
     ensures { (j : ℕ) → j < 8 → slice_index result j ≡ add_mul (slice_index a j) (slice_index b j) }
@@ -16,6 +18,7 @@ fn add_mul(a: u64x8, b: u64x8) -> u64x8
     a + b + (product + product)
 }
 
+// (a xor b) >>> k in each lane.
 #[inline(always)]
 fn xor_rotate(a: u64x8, b: u64x8, k: u64) -> u64x8
     requires { (0 < k) × (k < 64) }
@@ -64,6 +67,7 @@ fn xor_rotate_24(a: u64x8, b: u64x8) -> u64x8
     from_bytes(turn_bytes(bytes(a ^ b)))
 }
 
+// GB in each lane.
 #[inline(always)]
 fn gb(a: u64x8, b: u64x8, c: u64x8, d: u64x8) -> (u64x8, u64x8, u64x8, u64x8)
     ensures { (j : ℕ) → j < 8
@@ -81,73 +85,29 @@ fn gb(a: u64x8, b: u64x8, c: u64x8, d: u64x8) -> (u64x8, u64x8, u64x8, u64x8)
     (a2, b2, c2, d2)
 }
 
+// GB on the vectors at four places.
 #[inline(always)]
-fn mix_columns(x: [u64x8; 16]) -> [u64x8; 16]
-    ensures { (j : ℕ) → j < 8 → lane j result ≡ mix_columns (lane j x) }
+fn gb_at(v: &mut [u64x8; 16], i: usize, j: usize, k: usize, l: usize)
+    requires { (i < 16) × (j < 16) × (k < 16) × (l < 16) }
+    ensures { (n : ℕ) → n < 8 → lane n v.new ≡ gb_at i j k l (lane n v.old) }
 {
-    let [
-        x0,
-        x1,
-        x2,
-        x3,
-        x4,
-        x5,
-        x6,
-        x7,
-        x8,
-        x9,
-        x10,
-        x11,
-        x12,
-        x13,
-        x14,
-        x15,
-    ] = x;
-    let (x0, x4, x8, x12) = gb(x0, x4, x8, x12);
-    let (x1, x5, x9, x13) = gb(x1, x5, x9, x13);
-    let (x2, x6, x10, x14) = gb(x2, x6, x10, x14);
-    let (x3, x7, x11, x15) = gb(x3, x7, x11, x15);
-    [
-        x0, x1, x2, x3, x4, x5, x6, x7, x8, x9, x10, x11, x12, x13, x14, x15,
-    ]
+    (v[i], v[j], v[k], v[l]) = gb(v[i], v[j], v[k], v[l]);
 }
 
+// P in each lane.
 #[inline(always)]
-fn mix_diagonals(x: [u64x8; 16]) -> [u64x8; 16]
-    ensures { (j : ℕ) → j < 8 → lane j result ≡ mix_diagonals (lane j x) }
+fn perm(mut v: [u64x8; 16]) -> [u64x8; 16]
+    ensures { (n : ℕ) → n < 8 → lane n result ≡ perm (lane n v) }
 {
-    let [
-        x0,
-        x1,
-        x2,
-        x3,
-        x4,
-        x5,
-        x6,
-        x7,
-        x8,
-        x9,
-        x10,
-        x11,
-        x12,
-        x13,
-        x14,
-        x15,
-    ] = x;
-    let (x0, x5, x10, x15) = gb(x0, x5, x10, x15);
-    let (x1, x6, x11, x12) = gb(x1, x6, x11, x12);
-    let (x2, x7, x8, x13) = gb(x2, x7, x8, x13);
-    let (x3, x4, x9, x14) = gb(x3, x4, x9, x14);
-    [
-        x0, x1, x2, x3, x4, x5, x6, x7, x8, x9, x10, x11, x12, x13, x14, x15,
-    ]
-}
-
-#[inline(always)]
-fn perm(x: [u64x8; 16]) -> [u64x8; 16]
-    ensures { (j : ℕ) → j < 8 → lane j result ≡ perm (lane j x) }
-{
-    mix_diagonals(mix_columns(x))
+    gb_at(&mut v, 0, 4, 8, 12);
+    gb_at(&mut v, 1, 5, 9, 13);
+    gb_at(&mut v, 2, 6, 10, 14);
+    gb_at(&mut v, 3, 7, 11, 15);
+    gb_at(&mut v, 0, 5, 10, 15);
+    gb_at(&mut v, 1, 6, 11, 12);
+    gb_at(&mut v, 2, 7, 8, 13);
+    gb_at(&mut v, 3, 4, 9, 14);
+    v
 }
 
 // The lanes of two vectors in turn.
@@ -307,6 +267,7 @@ fn store_row(out: &mut [u64], r: &[u64], i: usize, even: u64x8, odd: u64x8)
     store_xor(out, 16 * i + 8, right, load(r, 16 * i + 8));
 }
 
+// The words of the columns in their places, each xored with the word of r there.
 #[inline(always)]
 fn words(x: &[u64x8; 16], r: &[u64; 128]) -> [u64; 128]
     ensures { (w : ℕ) → w < 128 → slice_index result w
@@ -329,6 +290,7 @@ pub fn xor_into(x: &mut [u64; 128], y: &[u64; 128])
     }
 }
 
+/// G of two blocks.
 pub fn mix(x: &[u64; 128], y: &[u64; 128]) -> [u64; 128]
     ensures { result ≡ mixed x.now y.now }
 {
