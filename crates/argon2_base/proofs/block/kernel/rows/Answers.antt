@@ -1,4 +1,4 @@
-use Rattle.std.proofs.Common.{add_assoc, ap, ◌≡◌, ◌<◌, ◌+◌, ◌*◌, ℕ, [], ◌∷◌, ◌∙◌, slice_index}
+use Rattle.std.proofs.Common.{add_assoc, ap, ◌≡◌, ◌+◌, ◌*◌, [], ◌∷◌, ◌∙◌, slice_index}
 use Rattle.argon2_base.specs.Lanes.{lane_at}
 use Rattle.argon2_base.proofs.LaneLemmas.{rows_from, below_eight}
 use Rattle.argon2_base.proofs.block.kernel.rows.Goals as goal
