@@ -1,10 +1,10 @@
 -- Vectors of eight lanes, and what the steps of the mixing do in each lane.
-use Rattle.std.proofs.Common.{◌≡◌, ℕ, zero, suc, ◌<◌, ◌+◌, ◌-◌, ◌*◌, ◌/◌, ◌%◌, ◌^◌, List, [], ◌∷◌, ◌++◌, length, slice_index, ◌==◌, if◌then◌else◌, bit_and, bit_or, bit_xor, slice_index_or, map, arith, refl, subst, ◌∙◌, lit<}
+use Rattle.std.proofs.Common.{◌≡◌, ℕ, zero, suc, ◌<◌, ◌+◌, ◌-◌, ◌*◌, ◌/◌, ◌%◌, ◌^◌, List, [], ◌∷◌, ◌++◌, length, slice_index, ◌==◌, if◌then◌else◌, bit_and, bit_or, bit_xor, slice_index_or, map, arith, refl, ap, subst, ◌∙◌, lit<}
 use Rattle.std.specs.List.{range_with_len}
 use Rattle.std.proofs.lemmas.Nat.{and_mask}
 use Rattle.std.specs.Simd.Lanes.{zip2, pick_l}
 use Rattle.argon2_base.specs.Mixing.{add_mul, xor_rotate, row}
-use Rattle.argon2_base.specs.Lanes.{lane, lane_at, left_exchanged, right_exchanged}
+use Rattle.argon2_base.specs.Lanes.{lane, lane_at, ones_left, ones_right, twos_left, twos_right, fours_left, fours_right}
 
 -- what holds of 0 and 1
 pub below_two : (P : ℕ → Type 0) → P 0 → P 1 → (e : ℕ) → e < 2 → P e
@@ -129,28 +129,39 @@ shifts_rotate k low high =
     (rw (right, left) refl) (rw (right, left) refl) (rw (right, left) refl) (rw (right, left) refl))
 
 -- what two shuffles of two vectors are
-abbrev Exchanged : ℕ → List ℕ → List ℕ → List ℕ → List ℕ → Type 0
-Exchanged w lefts rights a b =
-    ((j : ℕ) → j < 8 → slice_index (pick_l 0 (a ++ b) lefts) j ≡ left_exchanged w a b j)
-    × ((j : ℕ) → j < 8 → slice_index (pick_l 0 (a ++ b) rights) j ≡ right_exchanged w a b j)
+abbrev Shuffled : List ℕ → List ℕ → (List ℕ → List ℕ → List ℕ) → (List ℕ → List ℕ → List ℕ) → List ℕ → List ℕ → Type 0
+Shuffled lefts rights left right a b =
+    (pick_l 0 (a ++ b) lefts ≡ left a b) × (pick_l 0 (a ++ b) rights ≡ right a b)
 
 pub exchanged_ones : (a : List ℕ) → length a ≡ 8 → (b : List ℕ) → length b ≡ 8
-    → Exchanged 1 (0 ∷ 8 ∷ 2 ∷ 10 ∷ 4 ∷ 12 ∷ 6 ∷ 14 ∷ []) (1 ∷ 9 ∷ 3 ∷ 11 ∷ 5 ∷ 13 ∷ 7 ∷ 15 ∷ []) a b
+    → Shuffled (0 ∷ 8 ∷ 2 ∷ 10 ∷ 4 ∷ 12 ∷ 6 ∷ 14 ∷ []) (1 ∷ 9 ∷ 3 ∷ 11 ∷ 5 ∷ 13 ∷ 7 ∷ 15 ∷ []) ones_left ones_right a b
 exchanged_ones =
-    two_vectors (Exchanged 1 (0 ∷ 8 ∷ 2 ∷ 10 ∷ 4 ∷ 12 ∷ 6 ∷ 14 ∷ []) (1 ∷ 9 ∷ 3 ∷ 11 ∷ 5 ∷ 13 ∷ 7 ∷ 15 ∷ [])) (λ a0 a1 a2 a3 a4 a5 a6 a7 b0 b1 b2 b3 b4 b5 b6 b7.
-    (below_eight _ refl refl refl refl refl refl refl refl, below_eight _ refl refl refl refl refl refl refl refl))
+    two_vectors (Shuffled (0 ∷ 8 ∷ 2 ∷ 10 ∷ 4 ∷ 12 ∷ 6 ∷ 14 ∷ []) (1 ∷ 9 ∷ 3 ∷ 11 ∷ 5 ∷ 13 ∷ 7 ∷ 15 ∷ []) ones_left ones_right)
+    (λ a0 a1 a2 a3 a4 a5 a6 a7 b0 b1 b2 b3 b4 b5 b6 b7. (refl, refl))
 
 pub exchanged_twos : (a : List ℕ) → length a ≡ 8 → (b : List ℕ) → length b ≡ 8
-    → Exchanged 2 (0 ∷ 1 ∷ 8 ∷ 9 ∷ 4 ∷ 5 ∷ 12 ∷ 13 ∷ []) (2 ∷ 3 ∷ 10 ∷ 11 ∷ 6 ∷ 7 ∷ 14 ∷ 15 ∷ []) a b
+    → Shuffled (0 ∷ 1 ∷ 8 ∷ 9 ∷ 4 ∷ 5 ∷ 12 ∷ 13 ∷ []) (2 ∷ 3 ∷ 10 ∷ 11 ∷ 6 ∷ 7 ∷ 14 ∷ 15 ∷ []) twos_left twos_right a b
 exchanged_twos =
-    two_vectors (Exchanged 2 (0 ∷ 1 ∷ 8 ∷ 9 ∷ 4 ∷ 5 ∷ 12 ∷ 13 ∷ []) (2 ∷ 3 ∷ 10 ∷ 11 ∷ 6 ∷ 7 ∷ 14 ∷ 15 ∷ [])) (λ a0 a1 a2 a3 a4 a5 a6 a7 b0 b1 b2 b3 b4 b5 b6 b7.
-    (below_eight _ refl refl refl refl refl refl refl refl, below_eight _ refl refl refl refl refl refl refl refl))
+    two_vectors (Shuffled (0 ∷ 1 ∷ 8 ∷ 9 ∷ 4 ∷ 5 ∷ 12 ∷ 13 ∷ []) (2 ∷ 3 ∷ 10 ∷ 11 ∷ 6 ∷ 7 ∷ 14 ∷ 15 ∷ []) twos_left twos_right)
+    (λ a0 a1 a2 a3 a4 a5 a6 a7 b0 b1 b2 b3 b4 b5 b6 b7. (refl, refl))
 
 pub exchanged_fours : (a : List ℕ) → length a ≡ 8 → (b : List ℕ) → length b ≡ 8
-    → Exchanged 4 (0 ∷ 1 ∷ 2 ∷ 3 ∷ 8 ∷ 9 ∷ 10 ∷ 11 ∷ []) (4 ∷ 5 ∷ 6 ∷ 7 ∷ 12 ∷ 13 ∷ 14 ∷ 15 ∷ []) a b
+    → Shuffled (0 ∷ 1 ∷ 2 ∷ 3 ∷ 8 ∷ 9 ∷ 10 ∷ 11 ∷ []) (4 ∷ 5 ∷ 6 ∷ 7 ∷ 12 ∷ 13 ∷ 14 ∷ 15 ∷ []) fours_left fours_right a b
 exchanged_fours =
-    two_vectors (Exchanged 4 (0 ∷ 1 ∷ 2 ∷ 3 ∷ 8 ∷ 9 ∷ 10 ∷ 11 ∷ []) (4 ∷ 5 ∷ 6 ∷ 7 ∷ 12 ∷ 13 ∷ 14 ∷ 15 ∷ [])) (λ a0 a1 a2 a3 a4 a5 a6 a7 b0 b1 b2 b3 b4 b5 b6 b7.
-    (below_eight _ refl refl refl refl refl refl refl refl, below_eight _ refl refl refl refl refl refl refl refl))
+    two_vectors (Shuffled (0 ∷ 1 ∷ 2 ∷ 3 ∷ 8 ∷ 9 ∷ 10 ∷ 11 ∷ []) (4 ∷ 5 ∷ 6 ∷ 7 ∷ 12 ∷ 13 ∷ 14 ∷ 15 ∷ []) fours_left fours_right)
+    (λ a0 a1 a2 a3 a4 a5 a6 a7 b0 b1 b2 b3 b4 b5 b6 b7. (refl, refl))
+
+-- lane i of each of eight vectors
+abbrev lanes : List (List ℕ) → ℕ → List ℕ
+lanes x i =
+    lane_at x 0 i ∷ lane_at x 1 i ∷ lane_at x 2 i ∷ lane_at x 3 i
+    ∷ lane_at x 4 i ∷ lane_at x 5 i ∷ lane_at x 6 i ∷ lane_at x 7 i ∷ []
+
+-- a vector of these, lane by lane
+pub turned_lanes : (x : List (List ℕ)) (v : List ℕ) (i : ℕ) → v ≡ lanes x i → (k : ℕ) → k < 8 → slice_index v k ≡ lane_at x k i
+turned_lanes x v i same k h =
+    ap (λ v. slice_index v k) same
+    ∙ below_eight (λ k. slice_index (lanes x i) k ≡ lane_at x k i) refl refl refl refl refl refl refl refl k h
 
 -- the lanes of two vectors in turn
 abbrev Interleaved : List ℕ → List ℕ → Type 0

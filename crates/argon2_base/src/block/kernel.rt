@@ -4,7 +4,7 @@
 ghost use Rattle.std.specs.Prelude.{◌≡◌, ℕ, ◌+◌, ◌*◌, ◌/◌, ◌%◌, ◌^◌, ◌<◌, ◌≤◌, length, slice_index, bit_xor, ◌==◌, if◌then◌else◌};
 ghost use Rattle.argon2_base.specs.Block.{xor_blocks};
 ghost use Rattle.argon2_base.specs.Mixing.{add_mul, xor_rotate, gb, gb_at, perm, row, column, mixed};
-ghost use Rattle.argon2_base.specs.Lanes.{lane, lane_at, left_exchanged, right_exchanged, word_at};
+ghost use Rattle.argon2_base.specs.Lanes.{lane, lane_at, ones_left, ones_right, twos_left, twos_right, fours_left, fours_right, word_at};
 
 use std::simd::{u8x64, u64x8};
 
@@ -119,40 +119,40 @@ fn interleave(a: u64x8, b: u64x8) -> (u64x8, u64x8)
     a.interleave(b)
 }
 
-// The odd lanes of a change places with the even lanes of b.
+// The odd lanes of a and the even lanes of b change places.
 #[inline(always)]
 fn exchange_ones(a: u64x8, b: u64x8) -> (u64x8, u64x8)
-    ensures left { (j : ℕ) → j < 8 → slice_index result.0 j ≡ left_exchanged 1 a b j }
-    ensures right { (j : ℕ) → j < 8 → slice_index result.1 j ≡ right_exchanged 1 a b j }
+    ensures left { result.0 ≡ ones_left a b }
+    ensures right { result.1 ≡ ones_right a b }
 {
     let left = a.shuffle(b, [0, 8, 2, 10, 4, 12, 6, 14]);
     let right = a.shuffle(b, [1, 9, 3, 11, 5, 13, 7, 15]);
     (left, right)
 }
 
-// The same of every second pair of lanes.
+// The second pair of each half of a and the first pair of each half of b change places.
 #[inline(always)]
 fn exchange_twos(a: u64x8, b: u64x8) -> (u64x8, u64x8)
-    ensures left { (j : ℕ) → j < 8 → slice_index result.0 j ≡ left_exchanged 2 a b j }
-    ensures right { (j : ℕ) → j < 8 → slice_index result.1 j ≡ right_exchanged 2 a b j }
+    ensures left { result.0 ≡ twos_left a b }
+    ensures right { result.1 ≡ twos_right a b }
 {
     let left = a.shuffle(b, [0, 1, 8, 9, 4, 5, 12, 13]);
     let right = a.shuffle(b, [2, 3, 10, 11, 6, 7, 14, 15]);
     (left, right)
 }
 
-// The same of the halves.
+// The second half of a and the first half of b change places.
 #[inline(always)]
 fn exchange_fours(a: u64x8, b: u64x8) -> (u64x8, u64x8)
-    ensures left { (j : ℕ) → j < 8 → slice_index result.0 j ≡ left_exchanged 4 a b j }
-    ensures right { (j : ℕ) → j < 8 → slice_index result.1 j ≡ right_exchanged 4 a b j }
+    ensures left { result.0 ≡ fours_left a b }
+    ensures right { result.1 ≡ fours_right a b }
 {
     let left = a.shuffle(b, [0, 1, 2, 3, 8, 9, 10, 11]);
     let right = a.shuffle(b, [4, 5, 6, 7, 12, 13, 14, 15]);
     (left, right)
 }
 
-// Lane i of vector k goes to lane k of vector i: a digit of k changes places with one of i at a time.
+// Lane i of vector k goes to lane k of vector i.
 #[inline(always)]
 fn transpose(x: [u64x8; 8]) -> [u64x8; 8]
     ensures { (i k : ℕ) → i < 8 → k < 8 → lane_at result i k ≡ lane_at x k i }
