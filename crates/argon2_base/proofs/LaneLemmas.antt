@@ -203,12 +203,19 @@ pub slice_index-lane : (x : List (List ℕ)) (j k : ℕ) → k < 16 → slice_in
 slice_index-lane x j =
     below_sixteen (λ k. slice_index (lane j x) k ≡ lane_at x k j) refl refl refl refl refl refl refl refl refl refl refl refl refl refl refl refl
 
+-- vectors of y and of z in turn
 abbrev column_vectors : List (List ℕ) → List (List ℕ) → List (List ℕ)
 column_vectors y z =
-    slice_index_or y 0 [] ∷ slice_index_or z 0 [] ∷ slice_index_or y 1 [] ∷ slice_index_or z 1 [] ∷ slice_index_or y 2 [] ∷ slice_index_or z 2 [] ∷ slice_index_or y 3 [] ∷ slice_index_or z 3 [] ∷ slice_index_or y 4 [] ∷ slice_index_or z 4 [] ∷ slice_index_or y 5 [] ∷ slice_index_or z 5 [] ∷ slice_index_or y 6 [] ∷ slice_index_or z 6 [] ∷ slice_index_or y 7 [] ∷ slice_index_or z 7 [] ∷ []
+    slice_index_or y 0 [] ∷ slice_index_or z 0 [] ∷ slice_index_or y 1 [] ∷ slice_index_or z 1 []
+    ∷ slice_index_or y 2 [] ∷ slice_index_or z 2 [] ∷ slice_index_or y 3 [] ∷ slice_index_or z 3 []
+    ∷ slice_index_or y 4 [] ∷ slice_index_or z 4 [] ∷ slice_index_or y 5 [] ∷ slice_index_or z 5 []
+    ∷ slice_index_or y 6 [] ∷ slice_index_or z 6 [] ∷ slice_index_or y 7 [] ∷ slice_index_or z 7 [] ∷ []
 
+-- the vectors of even or of odd numbers
 abbrev every_second : List (List ℕ) → ℕ → List (List ℕ)
-every_second x e = slice_index_or x (0 + e) [] ∷ slice_index_or x (2 + e) [] ∷ slice_index_or x (4 + e) [] ∷ slice_index_or x (6 + e) [] ∷ slice_index_or x (8 + e) [] ∷ slice_index_or x (10 + e) [] ∷ slice_index_or x (12 + e) [] ∷ slice_index_or x (14 + e) [] ∷ []
+every_second x e =
+    slice_index_or x (0 + e) [] ∷ slice_index_or x (2 + e) [] ∷ slice_index_or x (4 + e) [] ∷ slice_index_or x (6 + e) []
+    ∷ slice_index_or x (8 + e) [] ∷ slice_index_or x (10 + e) [] ∷ slice_index_or x (12 + e) [] ∷ slice_index_or x (14 + e) [] ∷ []
 
 -- sixteen vectors turned by two transpositions, of the vectors of even and of odd numbers
 pub columns_from : (x y z : List (List ℕ))
@@ -227,9 +234,13 @@ columns_from x y z even odd i j (suc (suc e)) hi hj he = absurd (omega arith)
 
 -- sixteen vectors of two transpositions, of the left and of the right halves of the rows
 pub rows_from : (y z : List (List ℕ)) (words : List ℕ) (i : ℕ)
-    → ((k : ℕ) → k < 8 → lane_at y k i ≡ slice_index words (16 * i + k))
+    → ((k : ℕ) → k < 8 → lane_at y k i ≡ slice_index words (16 * i + (0 + k)))
     → ((k : ℕ) → k < 8 → lane_at z k i ≡ slice_index words (16 * i + (8 + k)))
-    → lane i (slice_index_or y 0 [] ∷ slice_index_or y 1 [] ∷ slice_index_or y 2 [] ∷ slice_index_or y 3 [] ∷ slice_index_or y 4 [] ∷ slice_index_or y 5 [] ∷ slice_index_or y 6 [] ∷ slice_index_or y 7 [] ∷ slice_index_or z 0 [] ∷ slice_index_or z 1 [] ∷ slice_index_or z 2 [] ∷ slice_index_or z 3 [] ∷ slice_index_or z 4 [] ∷ slice_index_or z 5 [] ∷ slice_index_or z 6 [] ∷ slice_index_or z 7 [] ∷ []) ≡ row i words
+    → lane i (
+    slice_index_or y 0 [] ∷ slice_index_or y 1 [] ∷ slice_index_or y 2 [] ∷ slice_index_or y 3 []
+    ∷ slice_index_or y 4 [] ∷ slice_index_or y 5 [] ∷ slice_index_or y 6 [] ∷ slice_index_or y 7 []
+    ∷ slice_index_or z 0 [] ∷ slice_index_or z 1 [] ∷ slice_index_or z 2 [] ∷ slice_index_or z 3 []
+    ∷ slice_index_or z 4 [] ∷ slice_index_or z 5 [] ∷ slice_index_or z 6 [] ∷ slice_index_or z 7 [] ∷ []) ≡ row i words
 unfolding row
 rows_from y z words i left right =
     rw (

@@ -192,31 +192,32 @@ fn store_xor(words: &mut [u64], at: usize, v: u64x8, r: u64x8)
     (v ^ r).copy_to_slice(&mut words[at..]);
 }
 
+// Eight words of each row, from a word of it on.
+#[inline(always)]
+fn eights(words: &[u64; 128], from: usize) -> [u64x8; 8]
+    requires { from + 8 ≤ 16 }
+    ensures { (i k : ℕ) → i < 8 → k < 8
+        → lane_at result i k ≡ slice_index words.now (16 * i + (from + k)) }
+{
+    [
+        load(words, from),
+        load(words, 16 + from),
+        load(words, 32 + from),
+        load(words, 48 + from),
+        load(words, 64 + from),
+        load(words, 80 + from),
+        load(words, 96 + from),
+        load(words, 112 + from),
+    ]
+}
+
 // Lane i of vector k is word k of row i.
 #[inline(always)]
 fn rows(words: &[u64; 128]) -> [u64x8; 16]
     ensures { (i : ℕ) → i < 8 → lane i result ≡ row i words.now }
 {
-    let [a0, a1, a2, a3, a4, a5, a6, a7] = transpose([
-        load(words, 0),
-        load(words, 16),
-        load(words, 32),
-        load(words, 48),
-        load(words, 64),
-        load(words, 80),
-        load(words, 96),
-        load(words, 112),
-    ]);
-    let [b0, b1, b2, b3, b4, b5, b6, b7] = transpose([
-        load(words, 8),
-        load(words, 24),
-        load(words, 40),
-        load(words, 56),
-        load(words, 72),
-        load(words, 88),
-        load(words, 104),
-        load(words, 120),
-    ]);
+    let [a0, a1, a2, a3, a4, a5, a6, a7] = transpose(eights(words, 0));
+    let [b0, b1, b2, b3, b4, b5, b6, b7] = transpose(eights(words, 8));
     [
         a0, a1, a2, a3, a4, a5, a6, a7, b0, b1, b2, b3, b4, b5, b6, b7,
     ]
