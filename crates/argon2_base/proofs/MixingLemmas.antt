@@ -61,9 +61,13 @@ perm_steps v s1 s2 s3 s4 s5 s6 s7 s8 =
     (s3 ∙ ap (gb_at 2 6 10 14)
     (s2 ∙ ap (gb_at 1 5 9 13) s1))))))
 
--- one of two neighbouring vectors, by the parity of its number
-picked : (x : List (List ℕ)) (i q e : ℕ) → e < 2
-    → slice_index (if e == 0 then slice_index_or x (2 * i) [] else slice_index_or x (2 * i + 1) []) q ≡ lane_at x (2 * i + e) q
+-- lane q of the vector of an even or an odd number, of two neighbours
+abbrev one_of : List (List ℕ) → ℕ → ℕ → ℕ → ℕ
+one_of x i e q =
+    slice_index (if e == 0 then slice_index_or x (2 * i) [] else slice_index_or x (2 * i + 1) []) q
+
+-- which is the lane of the vector of that number
+picked : (x : List (List ℕ)) (i q e : ℕ) → e < 2 → one_of x i e q ≡ lane_at x (2 * i + e) q
 picked x i q =
     let first : 2 * i ≡ 2 * i + 0 = omega arith in
     below_two _ (ap (λ k. lane_at x k q) first) refl
@@ -76,9 +80,9 @@ Stored x r out w =
 -- the words of a row that is stored by halves
 pub row_stored : (x : List (List ℕ)) (r out : List ℕ) (i : ℕ)
     → ((k : ℕ) → k < 8 → slice_index out (16 * i + k)
-    ≡ bit_xor (slice_index (if k % 2 == 0 then slice_index_or x (2 * i) [] else slice_index_or x (2 * i + 1) []) (k / 2)) (slice_index r (16 * i + k)))
+    ≡ bit_xor (one_of x i (k % 2) (k / 2)) (slice_index r (16 * i + k)))
     → ((k : ℕ) → k < 8 → slice_index out (16 * i + 8 + k)
-    ≡ bit_xor (slice_index (if k % 2 == 0 then slice_index_or x (2 * i) [] else slice_index_or x (2 * i + 1) []) (4 + k / 2)) (slice_index r (16 * i + 8 + k)))
+    ≡ bit_xor (one_of x i (k % 2) (4 + k / 2)) (slice_index r (16 * i + 8 + k)))
     → (w : ℕ) → 16 * i ≤ w → w < 16 * (i + 1) → Stored x r out w
 row_stored x r out i left right w low high =
     elim (cases_lt w (16 * i + 8)) [
@@ -100,6 +104,7 @@ row_stored x r out i left right w low high =
           ∙ ap₂ bit_xor (picked x i (4 + k / 2) (k % 2) (omega arith) ∙ ap₂ (lane_at x) vector lane_of) (ap (slice_index r) place)
     ]
 
+-- a word of the rows that P mixed
 by_rows_word : (r : List ℕ) (i k : ℕ) → i < 8 → k < 16 → slice_index (by_rows r) (16 * i + k) ≡ slice_index (perm (row i r)) k
 unfolding by_rows
 by_rows_word r i k hi hk =
@@ -109,6 +114,7 @@ by_rows_word r i k hi hk =
     get_or-map-range_with_len (λ w. slice_index (perm (row (w / 16) r)) (w % 16)) 0 128 (16 * i + k) (16 * i + k) 0 (omega arith) at_start
     ∙ ap₂ (λ a b. slice_index (perm (row a r)) b) at_row at_word
 
+-- a word of the columns that P mixed
 by_columns_word : (q : List ℕ) (w : ℕ) → w < 128
     → slice_index (by_columns q) w ≡ slice_index (perm (column (w % 16 / 2) q)) (2 * (w / 16) + w % 2)
 unfolding by_columns
@@ -116,6 +122,7 @@ by_columns_word q w h =
     let at_start : 0 + w ≡ w = omega arith in
     get_or-map-range_with_len (λ w. slice_index (perm (column (w % 16 / 2) q)) (2 * (w / 16) + w % 2)) 0 128 w w 0 h at_start
 
+-- the columns are a block again
 length-by_columns : (q : List ℕ) → length (by_columns q) ≡ 128
 unfolding by_columns
 length-by_columns q = length-map-range_with_len (λ w. slice_index (perm (column (w % 16 / 2) q)) (2 * (w / 16) + w % 2)) 0 128
