@@ -228,26 +228,12 @@ fn rows(words: &[u64; 128]) -> [u64x8; 16]
 fn columns(x: [u64x8; 16]) -> [u64x8; 16]
     ensures { (i j e : ℕ) → i < 8 → j < 8 → e < 2 → lane_at result (2 * i + e) j ≡ lane_at x (2 * j + e) i }
 {
-    let [
-        x0,
-        x1,
-        x2,
-        x3,
-        x4,
-        x5,
-        x6,
-        x7,
-        x8,
-        x9,
-        x10,
-        x11,
-        x12,
-        x13,
-        x14,
-        x15,
-    ] = x;
-    let [a0, a1, a2, a3, a4, a5, a6, a7] = transpose([x0, x2, x4, x6, x8, x10, x12, x14]);
-    let [b0, b1, b2, b3, b4, b5, b6, b7] = transpose([x1, x3, x5, x7, x9, x11, x13, x15]);
+    let [a0, a1, a2, a3, a4, a5, a6, a7] = transpose([
+        x[0], x[2], x[4], x[6], x[8], x[10], x[12], x[14],
+    ]);
+    let [b0, b1, b2, b3, b4, b5, b6, b7] = transpose([
+        x[1], x[3], x[5], x[7], x[9], x[11], x[13], x[15],
+    ]);
     [
         a0, b0, a1, b1, a2, b2, a3, b3, a4, b4, a5, b5, a6, b6, a7, b7,
     ]
