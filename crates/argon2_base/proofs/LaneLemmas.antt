@@ -1,9 +1,10 @@
-use Rattle.std.proofs.Common.{◌≡◌, ℕ, zero, suc, ◌<◌, ◌+◌, ◌-◌, ◌*◌, ◌/◌, ◌%◌, ◌^◌, List, [], ◌∷◌, ◌++◌, length, slice_index, ◌==◌, if◌then◌else◌, bit_and, bit_or, bit_xor, slice_index_or, map, arith, refl, subst, ◌∙◌, lit<}
+-- Vectors of eight lanes, and what the steps of the mixing do in each lane.
+use Rattle.std.proofs.Common.{◌≡◌, ℕ, zero, suc, ◌<◌, ◌+◌, ◌-◌, ◌*◌, ◌/◌, ◌%◌, ◌^◌, List, [], ◌∷◌, ◌++◌, length, slice_index, ◌==◌, if◌then◌else◌, bit_and, bit_or, bit_xor, slice_index_or, map, arith, refl, ap, subst, ◌∙◌, lit<}
 use Rattle.std.specs.List.{range_with_len}
 use Rattle.std.proofs.lemmas.Nat.{and_mask}
 use Rattle.std.specs.Simd.Lanes.{zip2, pick_l}
 use Rattle.argon2_base.specs.Mixing.{add_mul, xor_rotate, row}
-use Rattle.argon2_base.specs.Lanes.{lane, lane_at, left_exchanged, right_exchanged}
+use Rattle.argon2_base.specs.Lanes.{lane, lane_at, ones_left, ones_right, twos_left, twos_right, fours_left, fours_right}
 
 -- what holds of 0 and 1
 pub below_two : (P : ℕ → Type 0) → P 0 → P 1 → (e : ℕ) → e < 2 → P e
@@ -55,9 +56,11 @@ two_vectors P t =
     eight_lanes (λ x. (y : List ℕ) → length y ≡ 8 → P x y) (λ a b c d e f g h.
     eight_lanes (P (a ∷ b ∷ c ∷ d ∷ e ∷ f ∷ g ∷ h ∷ [])) (t a b c d e f g h))
 
+-- a sum and twice a product, each kept below 2 ^ 64
 wrapped_sum : (s x : ℕ) → (s % 2 ^ 64 + (x % 2 ^ 64 + x % 2 ^ 64) % 2 ^ 64) % 2 ^ 64 ≡ (s + 2 * x) % 2 ^ 64
 wrapped_sum s x = omega arith
 
+-- the same where the product is doubled by a factor
 wrapped_twice : (s x : ℕ) → (s % 2 ^ 64 + x * 2 % 2 ^ 64) % 2 ^ 64 ≡ (s + x * 2) % 2 ^ 64
 wrapped_twice s x = omega arith
 
@@ -67,6 +70,7 @@ add_mul_steps a b =
     let p = bit_and a 0xffffffff * bit_and b 0xffffffff % 2 ^ 64 in
     ((a + b) % 2 ^ 64 + (p + p) % 2 ^ 64) % 2 ^ 64
 
+-- these steps give u + v + 2 * low32(u) * low32(v)
 add_mul_word : (a b : ℕ) → add_mul_steps a b ≡ add_mul a b
 unfolding add_mul
 add_mul_word a b =
@@ -102,10 +106,9 @@ AddsMul a b = (j : ℕ) → j < 8
 
 pub add_mul_lanes : (a : List ℕ) → length a ≡ 8 → (b : List ℕ) → length b ≡ 8 → AddsMul a b
 add_mul_lanes =
-    eight_lanes (λ a. (b : List ℕ) → length b ≡ 8 → AddsMul a b) (λ a0 a1 a2 a3 a4 a5 a6 a7.
-    eight_lanes (AddsMul (a0 ∷ a1 ∷ a2 ∷ a3 ∷ a4 ∷ a5 ∷ a6 ∷ a7 ∷ [])) (λ b0 b1 b2 b3 b4 b5 b6 b7.
+    two_vectors AddsMul (λ a0 a1 a2 a3 a4 a5 a6 a7 b0 b1 b2 b3 b4 b5 b6 b7.
     below_eight _ (add_mul_word a0 b0) (add_mul_word a1 b1) (add_mul_word a2 b2) (add_mul_word a3 b3)
-    (add_mul_word a4 b4) (add_mul_word a5 b5) (add_mul_word a6 b6) (add_mul_word a7 b7)))
+    (add_mul_word a4 b4) (add_mul_word a5 b5) (add_mul_word a6 b6) (add_mul_word a7 b7))
 
 -- two shifts of each lane and an or are a rotation
 abbrev Rotates : ℕ → List ℕ → List ℕ → Type 0
@@ -121,34 +124,44 @@ unfolding xor_rotate
 shifts_rotate k low high =
     let left : (64 - k) % 64 ≡ 64 - k = omega arith in
     let right : k % 64 ≡ k = omega arith in
-    eight_lanes (λ a. (b : List ℕ) → length b ≡ 8 → Rotates k a b) (λ a0 a1 a2 a3 a4 a5 a6 a7.
-    eight_lanes (Rotates k (a0 ∷ a1 ∷ a2 ∷ a3 ∷ a4 ∷ a5 ∷ a6 ∷ a7 ∷ [])) (λ b0 b1 b2 b3 b4 b5 b6 b7.
+    two_vectors (Rotates k) (λ a0 a1 a2 a3 a4 a5 a6 a7 b0 b1 b2 b3 b4 b5 b6 b7.
     below_eight _ (rw (right, left) refl) (rw (right, left) refl) (rw (right, left) refl) (rw (right, left) refl)
-    (rw (right, left) refl) (rw (right, left) refl) (rw (right, left) refl) (rw (right, left) refl)))
+    (rw (right, left) refl) (rw (right, left) refl) (rw (right, left) refl) (rw (right, left) refl))
 
 -- what two shuffles of two vectors are
-abbrev Exchanged : ℕ → List ℕ → List ℕ → List ℕ → List ℕ → Type 0
-Exchanged w lefts rights a b =
-    ((j : ℕ) → j < 8 → slice_index (pick_l 0 (a ++ b) lefts) j ≡ left_exchanged w a b j)
-    × ((j : ℕ) → j < 8 → slice_index (pick_l 0 (a ++ b) rights) j ≡ right_exchanged w a b j)
+abbrev Shuffled : List ℕ → List ℕ → (List ℕ → List ℕ → List ℕ) → (List ℕ → List ℕ → List ℕ) → List ℕ → List ℕ → Type 0
+Shuffled lefts rights left right a b =
+    (pick_l 0 (a ++ b) lefts ≡ left a b) × (pick_l 0 (a ++ b) rights ≡ right a b)
 
 pub exchanged_ones : (a : List ℕ) → length a ≡ 8 → (b : List ℕ) → length b ≡ 8
-    → Exchanged 1 (0 ∷ 8 ∷ 2 ∷ 10 ∷ 4 ∷ 12 ∷ 6 ∷ 14 ∷ []) (1 ∷ 9 ∷ 3 ∷ 11 ∷ 5 ∷ 13 ∷ 7 ∷ 15 ∷ []) a b
+    → Shuffled (0 ∷ 8 ∷ 2 ∷ 10 ∷ 4 ∷ 12 ∷ 6 ∷ 14 ∷ []) (1 ∷ 9 ∷ 3 ∷ 11 ∷ 5 ∷ 13 ∷ 7 ∷ 15 ∷ []) ones_left ones_right a b
 exchanged_ones =
-    two_vectors (Exchanged 1 (0 ∷ 8 ∷ 2 ∷ 10 ∷ 4 ∷ 12 ∷ 6 ∷ 14 ∷ []) (1 ∷ 9 ∷ 3 ∷ 11 ∷ 5 ∷ 13 ∷ 7 ∷ 15 ∷ [])) (λ a0 a1 a2 a3 a4 a5 a6 a7 b0 b1 b2 b3 b4 b5 b6 b7.
-    (below_eight _ refl refl refl refl refl refl refl refl, below_eight _ refl refl refl refl refl refl refl refl))
+    two_vectors (Shuffled (0 ∷ 8 ∷ 2 ∷ 10 ∷ 4 ∷ 12 ∷ 6 ∷ 14 ∷ []) (1 ∷ 9 ∷ 3 ∷ 11 ∷ 5 ∷ 13 ∷ 7 ∷ 15 ∷ []) ones_left ones_right)
+    (λ a0 a1 a2 a3 a4 a5 a6 a7 b0 b1 b2 b3 b4 b5 b6 b7. (refl, refl))
 
 pub exchanged_twos : (a : List ℕ) → length a ≡ 8 → (b : List ℕ) → length b ≡ 8
-    → Exchanged 2 (0 ∷ 1 ∷ 8 ∷ 9 ∷ 4 ∷ 5 ∷ 12 ∷ 13 ∷ []) (2 ∷ 3 ∷ 10 ∷ 11 ∷ 6 ∷ 7 ∷ 14 ∷ 15 ∷ []) a b
+    → Shuffled (0 ∷ 1 ∷ 8 ∷ 9 ∷ 4 ∷ 5 ∷ 12 ∷ 13 ∷ []) (2 ∷ 3 ∷ 10 ∷ 11 ∷ 6 ∷ 7 ∷ 14 ∷ 15 ∷ []) twos_left twos_right a b
 exchanged_twos =
-    two_vectors (Exchanged 2 (0 ∷ 1 ∷ 8 ∷ 9 ∷ 4 ∷ 5 ∷ 12 ∷ 13 ∷ []) (2 ∷ 3 ∷ 10 ∷ 11 ∷ 6 ∷ 7 ∷ 14 ∷ 15 ∷ [])) (λ a0 a1 a2 a3 a4 a5 a6 a7 b0 b1 b2 b3 b4 b5 b6 b7.
-    (below_eight _ refl refl refl refl refl refl refl refl, below_eight _ refl refl refl refl refl refl refl refl))
+    two_vectors (Shuffled (0 ∷ 1 ∷ 8 ∷ 9 ∷ 4 ∷ 5 ∷ 12 ∷ 13 ∷ []) (2 ∷ 3 ∷ 10 ∷ 11 ∷ 6 ∷ 7 ∷ 14 ∷ 15 ∷ []) twos_left twos_right)
+    (λ a0 a1 a2 a3 a4 a5 a6 a7 b0 b1 b2 b3 b4 b5 b6 b7. (refl, refl))
 
 pub exchanged_fours : (a : List ℕ) → length a ≡ 8 → (b : List ℕ) → length b ≡ 8
-    → Exchanged 4 (0 ∷ 1 ∷ 2 ∷ 3 ∷ 8 ∷ 9 ∷ 10 ∷ 11 ∷ []) (4 ∷ 5 ∷ 6 ∷ 7 ∷ 12 ∷ 13 ∷ 14 ∷ 15 ∷ []) a b
+    → Shuffled (0 ∷ 1 ∷ 2 ∷ 3 ∷ 8 ∷ 9 ∷ 10 ∷ 11 ∷ []) (4 ∷ 5 ∷ 6 ∷ 7 ∷ 12 ∷ 13 ∷ 14 ∷ 15 ∷ []) fours_left fours_right a b
 exchanged_fours =
-    two_vectors (Exchanged 4 (0 ∷ 1 ∷ 2 ∷ 3 ∷ 8 ∷ 9 ∷ 10 ∷ 11 ∷ []) (4 ∷ 5 ∷ 6 ∷ 7 ∷ 12 ∷ 13 ∷ 14 ∷ 15 ∷ [])) (λ a0 a1 a2 a3 a4 a5 a6 a7 b0 b1 b2 b3 b4 b5 b6 b7.
-    (below_eight _ refl refl refl refl refl refl refl refl, below_eight _ refl refl refl refl refl refl refl refl))
+    two_vectors (Shuffled (0 ∷ 1 ∷ 2 ∷ 3 ∷ 8 ∷ 9 ∷ 10 ∷ 11 ∷ []) (4 ∷ 5 ∷ 6 ∷ 7 ∷ 12 ∷ 13 ∷ 14 ∷ 15 ∷ []) fours_left fours_right)
+    (λ a0 a1 a2 a3 a4 a5 a6 a7 b0 b1 b2 b3 b4 b5 b6 b7. (refl, refl))
+
+-- lane i of each of eight vectors
+abbrev lanes : List (List ℕ) → ℕ → List ℕ
+lanes x i =
+    lane_at x 0 i ∷ lane_at x 1 i ∷ lane_at x 2 i ∷ lane_at x 3 i
+    ∷ lane_at x 4 i ∷ lane_at x 5 i ∷ lane_at x 6 i ∷ lane_at x 7 i ∷ []
+
+-- a vector of these, lane by lane
+pub turned_lanes : (x : List (List ℕ)) (v : List ℕ) (i : ℕ) → v ≡ lanes x i → (k : ℕ) → k < 8 → slice_index v k ≡ lane_at x k i
+turned_lanes x v i same k h =
+    ap (λ v. slice_index v k) same
+    ∙ below_eight (λ k. slice_index (lanes x i) k ≡ lane_at x k i) refl refl refl refl refl refl refl refl k h
 
 -- the lanes of two vectors in turn
 abbrev Interleaved : List ℕ → List ℕ → Type 0
@@ -160,9 +173,8 @@ Interleaved a b =
 
 pub interleaved : (a : List ℕ) → length a ≡ 8 → (b : List ℕ) → length b ≡ 8 → Interleaved a b
 interleaved =
-    eight_lanes (λ a. (b : List ℕ) → length b ≡ 8 → Interleaved a b) (λ a0 a1 a2 a3 a4 a5 a6 a7.
-    eight_lanes (Interleaved (a0 ∷ a1 ∷ a2 ∷ a3 ∷ a4 ∷ a5 ∷ a6 ∷ a7 ∷ [])) (λ b0 b1 b2 b3 b4 b5 b6 b7.
-    (below_eight _ refl refl refl refl refl refl refl refl, below_eight _ refl refl refl refl refl refl refl refl)))
+    two_vectors Interleaved (λ a0 a1 a2 a3 a4 a5 a6 a7 b0 b1 b2 b3 b4 b5 b6 b7.
+    (below_eight _ refl refl refl refl refl refl refl refl, below_eight _ refl refl refl refl refl refl refl refl))
 
 -- the words of a lane, given by number
 pub lane_is : (x : List (List ℕ)) (j : ℕ) (f : ℕ → ℕ) → ((k : ℕ) → k < 16 → lane_at x k j ≡ f k) → lane j x ≡ map f (range_with_len 0 16)
@@ -191,12 +203,19 @@ pub slice_index-lane : (x : List (List ℕ)) (j k : ℕ) → k < 16 → slice_in
 slice_index-lane x j =
     below_sixteen (λ k. slice_index (lane j x) k ≡ lane_at x k j) refl refl refl refl refl refl refl refl refl refl refl refl refl refl refl refl
 
+-- vectors of y and of z in turn
 abbrev column_vectors : List (List ℕ) → List (List ℕ) → List (List ℕ)
 column_vectors y z =
-    slice_index_or y 0 [] ∷ slice_index_or z 0 [] ∷ slice_index_or y 1 [] ∷ slice_index_or z 1 [] ∷ slice_index_or y 2 [] ∷ slice_index_or z 2 [] ∷ slice_index_or y 3 [] ∷ slice_index_or z 3 [] ∷ slice_index_or y 4 [] ∷ slice_index_or z 4 [] ∷ slice_index_or y 5 [] ∷ slice_index_or z 5 [] ∷ slice_index_or y 6 [] ∷ slice_index_or z 6 [] ∷ slice_index_or y 7 [] ∷ slice_index_or z 7 [] ∷ []
+    slice_index_or y 0 [] ∷ slice_index_or z 0 [] ∷ slice_index_or y 1 [] ∷ slice_index_or z 1 []
+    ∷ slice_index_or y 2 [] ∷ slice_index_or z 2 [] ∷ slice_index_or y 3 [] ∷ slice_index_or z 3 []
+    ∷ slice_index_or y 4 [] ∷ slice_index_or z 4 [] ∷ slice_index_or y 5 [] ∷ slice_index_or z 5 []
+    ∷ slice_index_or y 6 [] ∷ slice_index_or z 6 [] ∷ slice_index_or y 7 [] ∷ slice_index_or z 7 [] ∷ []
 
+-- the vectors of even or of odd numbers
 abbrev every_second : List (List ℕ) → ℕ → List (List ℕ)
-every_second x e = slice_index_or x (0 + e) [] ∷ slice_index_or x (2 + e) [] ∷ slice_index_or x (4 + e) [] ∷ slice_index_or x (6 + e) [] ∷ slice_index_or x (8 + e) [] ∷ slice_index_or x (10 + e) [] ∷ slice_index_or x (12 + e) [] ∷ slice_index_or x (14 + e) [] ∷ []
+every_second x e =
+    slice_index_or x (0 + e) [] ∷ slice_index_or x (2 + e) [] ∷ slice_index_or x (4 + e) [] ∷ slice_index_or x (6 + e) []
+    ∷ slice_index_or x (8 + e) [] ∷ slice_index_or x (10 + e) [] ∷ slice_index_or x (12 + e) [] ∷ slice_index_or x (14 + e) [] ∷ []
 
 -- sixteen vectors turned by two transpositions, of the vectors of even and of odd numbers
 pub columns_from : (x y z : List (List ℕ))
@@ -215,9 +234,13 @@ columns_from x y z even odd i j (suc (suc e)) hi hj he = absurd (omega arith)
 
 -- sixteen vectors of two transpositions, of the left and of the right halves of the rows
 pub rows_from : (y z : List (List ℕ)) (words : List ℕ) (i : ℕ)
-    → ((k : ℕ) → k < 8 → lane_at y k i ≡ slice_index words (16 * i + k))
+    → ((k : ℕ) → k < 8 → lane_at y k i ≡ slice_index words (16 * i + (0 + k)))
     → ((k : ℕ) → k < 8 → lane_at z k i ≡ slice_index words (16 * i + (8 + k)))
-    → lane i (slice_index_or y 0 [] ∷ slice_index_or y 1 [] ∷ slice_index_or y 2 [] ∷ slice_index_or y 3 [] ∷ slice_index_or y 4 [] ∷ slice_index_or y 5 [] ∷ slice_index_or y 6 [] ∷ slice_index_or y 7 [] ∷ slice_index_or z 0 [] ∷ slice_index_or z 1 [] ∷ slice_index_or z 2 [] ∷ slice_index_or z 3 [] ∷ slice_index_or z 4 [] ∷ slice_index_or z 5 [] ∷ slice_index_or z 6 [] ∷ slice_index_or z 7 [] ∷ []) ≡ row i words
+    → lane i (
+    slice_index_or y 0 [] ∷ slice_index_or y 1 [] ∷ slice_index_or y 2 [] ∷ slice_index_or y 3 []
+    ∷ slice_index_or y 4 [] ∷ slice_index_or y 5 [] ∷ slice_index_or y 6 [] ∷ slice_index_or y 7 []
+    ∷ slice_index_or z 0 [] ∷ slice_index_or z 1 [] ∷ slice_index_or z 2 [] ∷ slice_index_or z 3 []
+    ∷ slice_index_or z 4 [] ∷ slice_index_or z 5 [] ∷ slice_index_or z 6 [] ∷ slice_index_or z 7 [] ∷ []) ≡ row i words
 unfolding row
 rows_from y z words i left right =
     rw (

@@ -4,6 +4,7 @@ pub mod BlockLemmas
 pub mod HashBlocks
 pub mod HasherFields
 pub mod KnownDigests
+pub mod ByteLemmas
 pub mod LaneLemmas
 pub mod MixingLaws
 pub mod MixingLemmas

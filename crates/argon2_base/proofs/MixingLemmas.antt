@@ -1,18 +1,73 @@
-use Rattle.std.proofs.Common.{◌≡◌, ℕ, zero, suc, ◌<◌, ◌≤◌, ◌+◌, ◌-◌, ◌*◌, ◌/◌, ◌%◌, List, [], ◌∷◌, ◌⊎◌, inl, inr, length, slice_index, slice_index_or, ◌==◌, if◌then◌else◌, bit_xor, map, arith, refl, subst, sym, ap, ap₂, ◌∙◌}
-use Rattle.std.specs.List.{range_with_len}
-use Rattle.std.specs.Simd.Lanes.{zip2}
-use Rattle.std.proofs.lemmas.Bool.{cases_lt}
-use Rattle.std.proofs.lemmas.List.{ext_get_or}
+-- From the vectors of the kernel to the mixing that the standard defines.
+use Rattle.std.proofs.Common.{◌≡◌, ℕ, ◌<◌, ◌≤◌, ◌+◌, ◌-◌, ◌*◌, ◌/◌, ◌%◌, List, [], inl, inr, length, slice_index, slice_index_or, slice_set, ◌==◌, if◌then◌else◌, bit_xor, arith, refl, sym, ap, ap₂, ◌∙◌}
+use Rattle.std.proofs.lemmas.Bool.{cases_eq, cases_lt}
+use Rattle.std.proofs.lemmas.List.{ext_get_or, get_or-set_other, length-set}
+use Rattle.std.proofs.lemmas.Grind.{get_or-set_at}
 use Rattle.std.proofs.lemmas.List.FromFn.{get_or-map-range_with_len, length-map-range_with_len}
 use Rattle.std.proofs.lemmas.Simd.{get_or-zip2, length-zip2}
 use Rattle.argon2_base.specs.Block.{xor_blocks}
-use Rattle.argon2_base.specs.Mixing.{perm, row, column, by_rows, by_columns}
+use Rattle.argon2_base.specs.Mixing.{gb, gb_at, mix_columns, mix_diagonals, perm, row, column, by_rows, by_columns}
 use Rattle.argon2_base.specs.Lanes.{lane, lane_at}
 use Rattle.argon2_base.proofs.LaneLemmas.{below_two, lane_is, slice_index-lane}
 
--- one of two neighbouring vectors, by the parity of its number
-picked : (x : List (List ℕ)) (i q e : ℕ) → e < 2
-    → slice_index (if e == 0 then slice_index_or x (2 * i) [] else slice_index_or x (2 * i + 1) []) q ≡ lane_at x (2 * i + e) q
+-- a lane of the vectors once one of them is replaced
+lane-slice_set : (x : List (List ℕ)) (i n : ℕ) (y : List ℕ) → i < 16 → length x ≡ 16
+    → lane n (slice_set x i y) ≡ slice_set (lane n x) i (slice_index y n)
+lane-slice_set x i n y below long =
+    let there : i < length x = omega arith in
+    ext_get_or 0 (lane n (slice_set x i y)) (slice_set (lane n x) i (slice_index y n)) (sym (length-set (lane n x) i (slice_index y n))) (λ k h.
+    slice_index-lane (slice_set x i y) n k h ∙ elim (cases_eq k i) [
+      | inl same ↦
+          ap (λ v. slice_index v n) (get_or-set_at x i k y [] same there)
+          ∙ sym (get_or-set_at (lane n x) i k (slice_index y n) 0 same below)
+      | inr other ↦
+          ap (λ v. slice_index v n) (get_or-set_other x i k y [] other)
+          ∙ sym (slice_index-lane x n k h)
+          ∙ sym (get_or-set_other (lane n x) i k (slice_index y n) 0 other)
+    ])
+
+-- a lane of the vectors once four of them are mixed
+pub lane-gb_at : (x : List (List ℕ)) (i j k l n : ℕ) → i < 16 → j < 16 → k < 16 → l < 16 → length x ≡ 16
+    → (a b c d : List ℕ)
+    → (slice_index a n, slice_index b n, slice_index c n, slice_index d n) ≡ gb (lane_at x i n) (lane_at x j n) (lane_at x k n) (lane_at x l n)
+    → lane n (slice_set (slice_set (slice_set (slice_set x i a) j b) k c) l d) ≡ gb_at i j k l (lane n x)
+lane-gb_at x i j k l n hi hj hk hl long a b c d mixed =
+    let x1 = slice_set x i a in
+    let x2 = slice_set x1 j b in
+    let x3 = slice_set x2 k c in
+    let long1 : length x1 ≡ 16 = length-set x i a ∙ long in
+    let long2 : length x2 ≡ 16 = length-set x1 j b ∙ long1 in
+    let long3 : length x3 ≡ 16 = length-set x2 k c ∙ long2 in
+    let word : (k : ℕ) → k < 16 → lane_at x k n ≡ slice_index (lane n x) k = λ k h. sym (slice_index-lane x n k h) in
+    lane-slice_set x3 l n d hl long3
+    ∙ ap (λ v. slice_set v l (slice_index d n)) (lane-slice_set x2 k n c hk long2
+    ∙ ap (λ v. slice_set v k (slice_index c n)) (lane-slice_set x1 j n b hj long1
+    ∙ ap (λ v. slice_set v j (slice_index b n)) (lane-slice_set x i n a hi long)))
+    ∙ ap (λ (m : ℕ × ℕ × ℕ × ℕ). slice_set (slice_set (slice_set (slice_set (lane n x) i m.0) j m.1) k m.2) l m.3)
+    (mixed ∙ (λ p. gb (word i hi p) (word j hj p) (word k hk p) (word l hl p)))
+
+-- P in its eight steps
+pub perm_steps : (v : List ℕ) {a b c d e f g h : List ℕ}
+    → a ≡ gb_at 0 4 8 12 v → b ≡ gb_at 1 5 9 13 a → c ≡ gb_at 2 6 10 14 b → d ≡ gb_at 3 7 11 15 c
+    → e ≡ gb_at 0 5 10 15 d → f ≡ gb_at 1 6 11 12 e → g ≡ gb_at 2 7 8 13 f → h ≡ gb_at 3 4 9 14 g
+    → h ≡ perm v
+unfolding mix_columns mix_diagonals perm
+perm_steps v s1 s2 s3 s4 s5 s6 s7 s8 =
+    s8 ∙ ap (gb_at 3 4 9 14)
+    (s7 ∙ ap (gb_at 2 7 8 13)
+    (s6 ∙ ap (gb_at 1 6 11 12)
+    (s5 ∙ ap (gb_at 0 5 10 15)
+    (s4 ∙ ap (gb_at 3 7 11 15)
+    (s3 ∙ ap (gb_at 2 6 10 14)
+    (s2 ∙ ap (gb_at 1 5 9 13) s1))))))
+
+-- lane q of the vector of an even or an odd number, of two neighbours
+abbrev one_of : List (List ℕ) → ℕ → ℕ → ℕ → ℕ
+one_of x i e q =
+    slice_index (if e == 0 then slice_index_or x (2 * i) [] else slice_index_or x (2 * i + 1) []) q
+
+-- which is the lane of the vector of that number
+picked : (x : List (List ℕ)) (i q e : ℕ) → e < 2 → one_of x i e q ≡ lane_at x (2 * i + e) q
 picked x i q =
     let first : 2 * i ≡ 2 * i + 0 = omega arith in
     below_two _ (ap (λ k. lane_at x k q) first) refl
@@ -25,9 +80,9 @@ Stored x r out w =
 -- the words of a row that is stored by halves
 pub row_stored : (x : List (List ℕ)) (r out : List ℕ) (i : ℕ)
     → ((k : ℕ) → k < 8 → slice_index out (16 * i + k)
-    ≡ bit_xor (slice_index (if k % 2 == 0 then slice_index_or x (2 * i) [] else slice_index_or x (2 * i + 1) []) (k / 2)) (slice_index r (16 * i + k)))
+    ≡ bit_xor (one_of x i (k % 2) (k / 2)) (slice_index r (16 * i + k)))
     → ((k : ℕ) → k < 8 → slice_index out (16 * i + 8 + k)
-    ≡ bit_xor (slice_index (if k % 2 == 0 then slice_index_or x (2 * i) [] else slice_index_or x (2 * i + 1) []) (4 + k / 2)) (slice_index r (16 * i + 8 + k)))
+    ≡ bit_xor (one_of x i (k % 2) (4 + k / 2)) (slice_index r (16 * i + 8 + k)))
     → (w : ℕ) → 16 * i ≤ w → w < 16 * (i + 1) → Stored x r out w
 row_stored x r out i left right w low high =
     elim (cases_lt w (16 * i + 8)) [
@@ -49,6 +104,7 @@ row_stored x r out i left right w low high =
           ∙ ap₂ bit_xor (picked x i (4 + k / 2) (k % 2) (omega arith) ∙ ap₂ (lane_at x) vector lane_of) (ap (slice_index r) place)
     ]
 
+-- a word of the rows that P mixed
 by_rows_word : (r : List ℕ) (i k : ℕ) → i < 8 → k < 16 → slice_index (by_rows r) (16 * i + k) ≡ slice_index (perm (row i r)) k
 unfolding by_rows
 by_rows_word r i k hi hk =
@@ -58,6 +114,7 @@ by_rows_word r i k hi hk =
     get_or-map-range_with_len (λ w. slice_index (perm (row (w / 16) r)) (w % 16)) 0 128 (16 * i + k) (16 * i + k) 0 (omega arith) at_start
     ∙ ap₂ (λ a b. slice_index (perm (row a r)) b) at_row at_word
 
+-- a word of the columns that P mixed
 by_columns_word : (q : List ℕ) (w : ℕ) → w < 128
     → slice_index (by_columns q) w ≡ slice_index (perm (column (w % 16 / 2) q)) (2 * (w / 16) + w % 2)
 unfolding by_columns
@@ -65,6 +122,7 @@ by_columns_word q w h =
     let at_start : 0 + w ≡ w = omega arith in
     get_or-map-range_with_len (λ w. slice_index (perm (column (w % 16 / 2) q)) (2 * (w / 16) + w % 2)) 0 128 w w 0 h at_start
 
+-- the columns are a block again
 length-by_columns : (q : List ℕ) → length (by_columns q) ≡ 128
 unfolding by_columns
 length-by_columns q = length-map-range_with_len (λ w. slice_index (perm (column (w % 16 / 2) q)) (2 * (w / 16) + w % 2)) 0 128

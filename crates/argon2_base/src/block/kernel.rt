@@ -1,12 +1,14 @@
-//! The mixing of a block over vectors of eight words.
+//! The mixing of two blocks over sixteen vectors of eight words: lane i of vector k is word k of row i,
+//! and then word k of column i, so that P goes on eight rows and on eight columns at once.
 
 ghost use Rattle.std.specs.Prelude.{◌≡◌, ℕ, ◌+◌, ◌*◌, ◌/◌, ◌%◌, ◌^◌, ◌<◌, ◌≤◌, length, slice_index, bit_xor, ◌==◌, if◌then◌else◌};
 ghost use Rattle.argon2_base.specs.Block.{xor_blocks};
-ghost use Rattle.argon2_base.specs.Mixing.{add_mul, xor_rotate, gb, mix_columns, mix_diagonals, perm, row, column, mixed};
-ghost use Rattle.argon2_base.specs.Lanes.{lane, lane_at, left_exchanged, right_exchanged};
+ghost use Rattle.argon2_base.specs.Mixing.{add_mul, xor_rotate, gb, gb_at, perm, row, column, mixed};
+ghost use Rattle.argon2_base.specs.Lanes.{lane, lane_at, ones_left, ones_right, twos_left, twos_right, fours_left, fours_right, word_at};
 
-use std::simd::u64x8;
+use std::simd::{u8x64, u64x8};
 
+// u + v + 2 * low32(u) * low32(v) in each lane.
 #[inline(always)]
 fn add_mul(a: u64x8, b: u64x8) -> u64x8
     ensures { (j : ℕ) → j < 8 → slice_index result j ≡ add_mul (slice_index a j) (slice_index b j) }
@@ -16,6 +18,7 @@ fn add_mul(a: u64x8, b: u64x8) -> u64x8
     a + b + (product + product)
 }
 
+// (a xor b) >>> k in each lane.
 #[inline(always)]
 fn xor_rotate(a: u64x8, b: u64x8, k: u64) -> u64x8
     requires { (0 < k) × (k < 64) }
@@ -25,6 +28,46 @@ fn xor_rotate(a: u64x8, b: u64x8, k: u64) -> u64x8
     (x >> u64x8::splat(k)) | (x << u64x8::splat(64 - k))
 }
 
+// The bytes of each word, the low byte first.
+#[inline(always)]
+fn bytes(x: u64x8) -> u8x64
+    ensures { (j k : ℕ) → j < 8 → k < 8
+        → slice_index result (8 * j + k) ≡ slice_index x j / 256 ^ k % 256 }
+{
+    x.to_le_bytes()
+}
+
+// Turns the eight bytes of each word by three places.
+#[inline(always)]
+fn turn_bytes(x: u8x64) -> u8x64
+    ensures { (j : ℕ) → j < 8 → (k : ℕ) → k < 8
+        → slice_index result (8 * j + k) ≡ slice_index x (8 * j + (k + 3) % 8) }
+{
+    x.swizzle([
+        3, 4, 5, 6, 7, 0, 1, 2, 11, 12, 13, 14, 15, 8, 9, 10, 19, 20, 21, 22, 23, 16, 17, 18, 27,
+        28, 29, 30, 31, 24, 25, 26, 35, 36, 37, 38, 39, 32, 33, 34, 43, 44, 45, 46, 47, 40, 41, 42,
+        51, 52, 53, 54, 55, 48, 49, 50, 59, 60, 61, 62, 63, 56, 57, 58,
+    ])
+}
+
+// The words of the bytes, the low byte first.
+#[inline(always)]
+fn from_bytes(x: u8x64) -> u64x8
+    ensures { (j : ℕ) → j < 8 → slice_index result j ≡ word_at x (8 * j) }
+{
+    u64x8::from_le_bytes(x)
+}
+
+// `xor_rotate` by 24 bits, which are whole bytes.
+#[inline(always)]
+fn xor_rotate_24(a: u64x8, b: u64x8) -> u64x8
+    ensures { (j : ℕ) → j < 8
+        → slice_index result j ≡ xor_rotate (slice_index a j) (slice_index b j) 24 }
+{
+    from_bytes(turn_bytes(bytes(a ^ b)))
+}
+
+// GB in each lane.
 #[inline(always)]
 fn gb(a: u64x8, b: u64x8, c: u64x8, d: u64x8) -> (u64x8, u64x8, u64x8, u64x8)
     ensures { (j : ℕ) → j < 8
@@ -34,7 +77,7 @@ fn gb(a: u64x8, b: u64x8, c: u64x8, d: u64x8) -> (u64x8, u64x8, u64x8, u64x8)
     let a1 = add_mul(a, b);
     let d1 = xor_rotate(d, a1, 32);
     let c1 = add_mul(c, d1);
-    let b1 = xor_rotate(b, c1, 24);
+    let b1 = xor_rotate_24(b, c1);
     let a2 = add_mul(a1, b1);
     let d2 = xor_rotate(d1, a2, 16);
     let c2 = add_mul(c1, d2);
@@ -42,73 +85,29 @@ fn gb(a: u64x8, b: u64x8, c: u64x8, d: u64x8) -> (u64x8, u64x8, u64x8, u64x8)
     (a2, b2, c2, d2)
 }
 
+// GB on the vectors at four places.
 #[inline(always)]
-fn mix_columns(x: [u64x8; 16]) -> [u64x8; 16]
-    ensures { (j : ℕ) → j < 8 → lane j result ≡ mix_columns (lane j x) }
+fn gb_at(v: &mut [u64x8; 16], i: usize, j: usize, k: usize, l: usize)
+    requires { (i < 16) × (j < 16) × (k < 16) × (l < 16) }
+    ensures { (n : ℕ) → n < 8 → lane n v.new ≡ gb_at i j k l (lane n v.old) }
 {
-    let [
-        x0,
-        x1,
-        x2,
-        x3,
-        x4,
-        x5,
-        x6,
-        x7,
-        x8,
-        x9,
-        x10,
-        x11,
-        x12,
-        x13,
-        x14,
-        x15,
-    ] = x;
-    let (x0, x4, x8, x12) = gb(x0, x4, x8, x12);
-    let (x1, x5, x9, x13) = gb(x1, x5, x9, x13);
-    let (x2, x6, x10, x14) = gb(x2, x6, x10, x14);
-    let (x3, x7, x11, x15) = gb(x3, x7, x11, x15);
-    [
-        x0, x1, x2, x3, x4, x5, x6, x7, x8, x9, x10, x11, x12, x13, x14, x15,
-    ]
+    (v[i], v[j], v[k], v[l]) = gb(v[i], v[j], v[k], v[l]);
 }
 
+// P in each lane.
 #[inline(always)]
-fn mix_diagonals(x: [u64x8; 16]) -> [u64x8; 16]
-    ensures { (j : ℕ) → j < 8 → lane j result ≡ mix_diagonals (lane j x) }
+fn perm(mut v: [u64x8; 16]) -> [u64x8; 16]
+    ensures { (n : ℕ) → n < 8 → lane n result ≡ perm (lane n v) }
 {
-    let [
-        x0,
-        x1,
-        x2,
-        x3,
-        x4,
-        x5,
-        x6,
-        x7,
-        x8,
-        x9,
-        x10,
-        x11,
-        x12,
-        x13,
-        x14,
-        x15,
-    ] = x;
-    let (x0, x5, x10, x15) = gb(x0, x5, x10, x15);
-    let (x1, x6, x11, x12) = gb(x1, x6, x11, x12);
-    let (x2, x7, x8, x13) = gb(x2, x7, x8, x13);
-    let (x3, x4, x9, x14) = gb(x3, x4, x9, x14);
-    [
-        x0, x1, x2, x3, x4, x5, x6, x7, x8, x9, x10, x11, x12, x13, x14, x15,
-    ]
-}
-
-#[inline(always)]
-fn perm(x: [u64x8; 16]) -> [u64x8; 16]
-    ensures { (j : ℕ) → j < 8 → lane j result ≡ perm (lane j x) }
-{
-    mix_diagonals(mix_columns(x))
+    gb_at(&mut v, 0, 4, 8, 12);
+    gb_at(&mut v, 1, 5, 9, 13);
+    gb_at(&mut v, 2, 6, 10, 14);
+    gb_at(&mut v, 3, 7, 11, 15);
+    gb_at(&mut v, 0, 5, 10, 15);
+    gb_at(&mut v, 1, 6, 11, 12);
+    gb_at(&mut v, 2, 7, 8, 13);
+    gb_at(&mut v, 3, 4, 9, 14);
+    v
 }
 
 // The lanes of two vectors in turn.
@@ -120,40 +119,40 @@ fn interleave(a: u64x8, b: u64x8) -> (u64x8, u64x8)
     a.interleave(b)
 }
 
-// The odd lanes of a change places with the even lanes of b.
+// The odd lanes of a and the even lanes of b change places.
 #[inline(always)]
 fn exchange_ones(a: u64x8, b: u64x8) -> (u64x8, u64x8)
-    ensures left { (j : ℕ) → j < 8 → slice_index result.0 j ≡ left_exchanged 1 a b j }
-    ensures right { (j : ℕ) → j < 8 → slice_index result.1 j ≡ right_exchanged 1 a b j }
+    ensures left { result.0 ≡ ones_left a b }
+    ensures right { result.1 ≡ ones_right a b }
 {
     let left = a.shuffle(b, [0, 8, 2, 10, 4, 12, 6, 14]);
     let right = a.shuffle(b, [1, 9, 3, 11, 5, 13, 7, 15]);
     (left, right)
 }
 
-// The same of every second pair of lanes.
+// The second pair of each half of a and the first pair of each half of b change places.
 #[inline(always)]
 fn exchange_twos(a: u64x8, b: u64x8) -> (u64x8, u64x8)
-    ensures left { (j : ℕ) → j < 8 → slice_index result.0 j ≡ left_exchanged 2 a b j }
-    ensures right { (j : ℕ) → j < 8 → slice_index result.1 j ≡ right_exchanged 2 a b j }
+    ensures left { result.0 ≡ twos_left a b }
+    ensures right { result.1 ≡ twos_right a b }
 {
     let left = a.shuffle(b, [0, 1, 8, 9, 4, 5, 12, 13]);
     let right = a.shuffle(b, [2, 3, 10, 11, 6, 7, 14, 15]);
     (left, right)
 }
 
-// The same of the halves.
+// The second half of a and the first half of b change places.
 #[inline(always)]
 fn exchange_fours(a: u64x8, b: u64x8) -> (u64x8, u64x8)
-    ensures left { (j : ℕ) → j < 8 → slice_index result.0 j ≡ left_exchanged 4 a b j }
-    ensures right { (j : ℕ) → j < 8 → slice_index result.1 j ≡ right_exchanged 4 a b j }
+    ensures left { result.0 ≡ fours_left a b }
+    ensures right { result.1 ≡ fours_right a b }
 {
     let left = a.shuffle(b, [0, 1, 2, 3, 8, 9, 10, 11]);
     let right = a.shuffle(b, [4, 5, 6, 7, 12, 13, 14, 15]);
     (left, right)
 }
 
-// Lane i of vector k goes to lane k of vector i: a digit of k changes places with one of i at a time.
+// Lane i of vector k goes to lane k of vector i.
 #[inline(always)]
 fn transpose(x: [u64x8; 8]) -> [u64x8; 8]
     ensures { (i k : ℕ) → i < 8 → k < 8 → lane_at result i k ≡ lane_at x k i }
@@ -193,31 +192,32 @@ fn store_xor(words: &mut [u64], at: usize, v: u64x8, r: u64x8)
     (v ^ r).copy_to_slice(&mut words[at..]);
 }
 
+// Eight words of each row, from a word of it on.
+#[inline(always)]
+fn eights(words: &[u64; 128], from: usize) -> [u64x8; 8]
+    requires { from + 8 ≤ 16 }
+    ensures { (i k : ℕ) → i < 8 → k < 8
+        → lane_at result i k ≡ slice_index words.now (16 * i + (from + k)) }
+{
+    [
+        load(words, from),
+        load(words, 16 + from),
+        load(words, 32 + from),
+        load(words, 48 + from),
+        load(words, 64 + from),
+        load(words, 80 + from),
+        load(words, 96 + from),
+        load(words, 112 + from),
+    ]
+}
+
 // Lane i of vector k is word k of row i.
 #[inline(always)]
 fn rows(words: &[u64; 128]) -> [u64x8; 16]
     ensures { (i : ℕ) → i < 8 → lane i result ≡ row i words.now }
 {
-    let [a0, a1, a2, a3, a4, a5, a6, a7] = transpose([
-        load(words, 0),
-        load(words, 16),
-        load(words, 32),
-        load(words, 48),
-        load(words, 64),
-        load(words, 80),
-        load(words, 96),
-        load(words, 112),
-    ]);
-    let [b0, b1, b2, b3, b4, b5, b6, b7] = transpose([
-        load(words, 8),
-        load(words, 24),
-        load(words, 40),
-        load(words, 56),
-        load(words, 72),
-        load(words, 88),
-        load(words, 104),
-        load(words, 120),
-    ]);
+    let [a0, a1, a2, a3, a4, a5, a6, a7] = transpose(eights(words, 0));
+    let [b0, b1, b2, b3, b4, b5, b6, b7] = transpose(eights(words, 8));
     [
         a0, a1, a2, a3, a4, a5, a6, a7, b0, b1, b2, b3, b4, b5, b6, b7,
     ]
@@ -228,26 +228,12 @@ fn rows(words: &[u64; 128]) -> [u64x8; 16]
 fn columns(x: [u64x8; 16]) -> [u64x8; 16]
     ensures { (i j e : ℕ) → i < 8 → j < 8 → e < 2 → lane_at result (2 * i + e) j ≡ lane_at x (2 * j + e) i }
 {
-    let [
-        x0,
-        x1,
-        x2,
-        x3,
-        x4,
-        x5,
-        x6,
-        x7,
-        x8,
-        x9,
-        x10,
-        x11,
-        x12,
-        x13,
-        x14,
-        x15,
-    ] = x;
-    let [a0, a1, a2, a3, a4, a5, a6, a7] = transpose([x0, x2, x4, x6, x8, x10, x12, x14]);
-    let [b0, b1, b2, b3, b4, b5, b6, b7] = transpose([x1, x3, x5, x7, x9, x11, x13, x15]);
+    let [a0, a1, a2, a3, a4, a5, a6, a7] = transpose([
+        x[0], x[2], x[4], x[6], x[8], x[10], x[12], x[14],
+    ]);
+    let [b0, b1, b2, b3, b4, b5, b6, b7] = transpose([
+        x[1], x[3], x[5], x[7], x[9], x[11], x[13], x[15],
+    ]);
     [
         a0, b0, a1, b1, a2, b2, a3, b3, a4, b4, a5, b5, a6, b6, a7, b7,
     ]
@@ -268,6 +254,7 @@ fn store_row(out: &mut [u64], r: &[u64], i: usize, even: u64x8, odd: u64x8)
     store_xor(out, 16 * i + 8, right, load(r, 16 * i + 8));
 }
 
+// The words of the columns in their places, each xored with the word of r there.
 #[inline(always)]
 fn words(x: &[u64x8; 16], r: &[u64; 128]) -> [u64; 128]
     ensures { (w : ℕ) → w < 128 → slice_index result w
@@ -290,6 +277,7 @@ pub fn xor_into(x: &mut [u64; 128], y: &[u64; 128])
     }
 }
 
+/// G of two blocks.
 pub fn mix(x: &[u64; 128], y: &[u64; 128]) -> [u64; 128]
     ensures { result ≡ mixed x.now y.now }
 {

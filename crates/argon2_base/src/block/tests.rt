@@ -71,6 +71,10 @@ fn mixes_and_counts(rt: HostRuntime) -> Result<(), Fail> {
     let none = Block::mix(&mixed, &mixed, &mut work);
     assert!(rt; none.as_slice() == Block::new().as_slice());
     assert_eq!(rt; work.mixes(), 2);
+    assert_eq!(rt;
+        format!(in rt.alloc(); "{work:?}")?.as_str(),
+        "Work { mixes: 2 }"
+    );
     Ok(())
 }
 

@@ -10,7 +10,7 @@ returns c j h =
       c.add_mul-c2.ensures j h,
       c.xor_rotate-d2.ensures j h,
       c.add_mul-a2.ensures j h,
-      c.xor_rotate-b1.ensures j h,
+      c.xor_rotate_24-b1.ensures j h,
       c.add_mul-c1.ensures j h,
       c.xor_rotate-d1.ensures j h,
       c.add_mul-a1.ensures j h,

@@ -1,4 +1,4 @@
-use Rattle.std.proofs.Common.{◌≡◌, ◌∙◌, ap, length, arith}
+use Rattle.std.proofs.Common.{◌∙◌, ap, arith}
 use Rattle.argon2_base.specs.Block.{xor_blocks}
 use Rattle.argon2_base.specs.Mixing.{mixed, by_rows, by_columns}
 use Rattle.argon2_base.proofs.MixingLemmas.{kernel_mixes}

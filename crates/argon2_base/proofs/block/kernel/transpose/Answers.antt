@@ -1,83 +1,38 @@
-use Rattle.std.proofs.Common.{◌∙◌, ◌≡◌, ◌<◌, ℕ, lit<, [], ◌∷◌}
-use Rattle.argon2_base.specs.Lanes.{lane_at}
-use Rattle.argon2_base.proofs.LaneLemmas.{below_eight}
+use Rattle.std.proofs.Common.{◌∙◌, ◌≡◌, ◌<◌, ℕ, [], ◌∷◌, ap₂}
+use Rattle.argon2_base.specs.Lanes.{lane_at, twos_left, twos_right, fours_left, fours_right}
+use Rattle.argon2_base.proofs.LaneLemmas.{below_eight, turned_lanes}
 use Rattle.argon2_base.proofs.block.kernel.transpose.Goals as goal
 
--- each lane of each vector, followed back through the three exchanges
+-- each vector by the words of the eight, once the three exchanges are put into one another
 pub returns : goal.returns
 returns c i k h l =
+    let x = c.args.x in
+    let a0 = c.exchange_ones.ensures.left in
+    let a1 = c.exchange_ones.ensures.right in
+    let a2 = c.exchange_ones-2.ensures.left in
+    let a3 = c.exchange_ones-2.ensures.right in
+    let a4 = c.exchange_ones-3.ensures.left in
+    let a5 = c.exchange_ones-3.ensures.right in
+    let a6 = c.exchange_ones-4.ensures.left in
+    let a7 = c.exchange_ones-4.ensures.right in
+    let b0 = c.exchange_twos.ensures.left ∙ ap₂ twos_left a0 a2 in
+    let b1 = c.exchange_twos-2.ensures.left ∙ ap₂ twos_left a1 a3 in
+    let b2 = c.exchange_twos.ensures.right ∙ ap₂ twos_right a0 a2 in
+    let b3 = c.exchange_twos-2.ensures.right ∙ ap₂ twos_right a1 a3 in
+    let b4 = c.exchange_twos-3.ensures.left ∙ ap₂ twos_left a4 a6 in
+    let b5 = c.exchange_twos-4.ensures.left ∙ ap₂ twos_left a5 a7 in
+    let b6 = c.exchange_twos-3.ensures.right ∙ ap₂ twos_right a4 a6 in
+    let b7 = c.exchange_twos-4.ensures.right ∙ ap₂ twos_right a5 a7 in
     below_eight (λ i. (k : ℕ) → k < 8
-    → lane_at (c.exchange_fours.result.0 ∷ c.exchange_fours-2.result.0 ∷ c.exchange_fours-3.result.0 ∷ c.exchange_fours-4.result.0 ∷ c.exchange_fours.result.1 ∷ c.exchange_fours-2.result.1 ∷ c.exchange_fours-3.result.1 ∷ c.exchange_fours-4.result.1 ∷ []) i k ≡ lane_at c.args.x k i)
-    (below_eight _
-    (c.exchange_fours.ensures.left 0 (lit< tt) ∙ c.exchange_twos.ensures.left 0 (lit< tt) ∙ c.exchange_ones.ensures.left 0 (lit< tt))
-    (c.exchange_fours.ensures.left 1 (lit< tt) ∙ c.exchange_twos.ensures.left 1 (lit< tt) ∙ c.exchange_ones.ensures.left 1 (lit< tt))
-    (c.exchange_fours.ensures.left 2 (lit< tt) ∙ c.exchange_twos.ensures.left 2 (lit< tt) ∙ c.exchange_ones-2.ensures.left 0 (lit< tt))
-    (c.exchange_fours.ensures.left 3 (lit< tt) ∙ c.exchange_twos.ensures.left 3 (lit< tt) ∙ c.exchange_ones-2.ensures.left 1 (lit< tt))
-    (c.exchange_fours.ensures.left 4 (lit< tt) ∙ c.exchange_twos-3.ensures.left 0 (lit< tt) ∙ c.exchange_ones-3.ensures.left 0 (lit< tt))
-    (c.exchange_fours.ensures.left 5 (lit< tt) ∙ c.exchange_twos-3.ensures.left 1 (lit< tt) ∙ c.exchange_ones-3.ensures.left 1 (lit< tt))
-    (c.exchange_fours.ensures.left 6 (lit< tt) ∙ c.exchange_twos-3.ensures.left 2 (lit< tt) ∙ c.exchange_ones-4.ensures.left 0 (lit< tt))
-    (c.exchange_fours.ensures.left 7 (lit< tt) ∙ c.exchange_twos-3.ensures.left 3 (lit< tt) ∙ c.exchange_ones-4.ensures.left 1 (lit< tt)))
-    (below_eight _
-    (c.exchange_fours-2.ensures.left 0 (lit< tt) ∙ c.exchange_twos-2.ensures.left 0 (lit< tt) ∙ c.exchange_ones.ensures.right 0 (lit< tt))
-    (c.exchange_fours-2.ensures.left 1 (lit< tt) ∙ c.exchange_twos-2.ensures.left 1 (lit< tt) ∙ c.exchange_ones.ensures.right 1 (lit< tt))
-    (c.exchange_fours-2.ensures.left 2 (lit< tt) ∙ c.exchange_twos-2.ensures.left 2 (lit< tt) ∙ c.exchange_ones-2.ensures.right 0 (lit< tt))
-    (c.exchange_fours-2.ensures.left 3 (lit< tt) ∙ c.exchange_twos-2.ensures.left 3 (lit< tt) ∙ c.exchange_ones-2.ensures.right 1 (lit< tt))
-    (c.exchange_fours-2.ensures.left 4 (lit< tt) ∙ c.exchange_twos-4.ensures.left 0 (lit< tt) ∙ c.exchange_ones-3.ensures.right 0 (lit< tt))
-    (c.exchange_fours-2.ensures.left 5 (lit< tt) ∙ c.exchange_twos-4.ensures.left 1 (lit< tt) ∙ c.exchange_ones-3.ensures.right 1 (lit< tt))
-    (c.exchange_fours-2.ensures.left 6 (lit< tt) ∙ c.exchange_twos-4.ensures.left 2 (lit< tt) ∙ c.exchange_ones-4.ensures.right 0 (lit< tt))
-    (c.exchange_fours-2.ensures.left 7 (lit< tt) ∙ c.exchange_twos-4.ensures.left 3 (lit< tt) ∙ c.exchange_ones-4.ensures.right 1 (lit< tt)))
-    (below_eight _
-    (c.exchange_fours-3.ensures.left 0 (lit< tt) ∙ c.exchange_twos.ensures.right 0 (lit< tt) ∙ c.exchange_ones.ensures.left 2 (lit< tt))
-    (c.exchange_fours-3.ensures.left 1 (lit< tt) ∙ c.exchange_twos.ensures.right 1 (lit< tt) ∙ c.exchange_ones.ensures.left 3 (lit< tt))
-    (c.exchange_fours-3.ensures.left 2 (lit< tt) ∙ c.exchange_twos.ensures.right 2 (lit< tt) ∙ c.exchange_ones-2.ensures.left 2 (lit< tt))
-    (c.exchange_fours-3.ensures.left 3 (lit< tt) ∙ c.exchange_twos.ensures.right 3 (lit< tt) ∙ c.exchange_ones-2.ensures.left 3 (lit< tt))
-    (c.exchange_fours-3.ensures.left 4 (lit< tt) ∙ c.exchange_twos-3.ensures.right 0 (lit< tt) ∙ c.exchange_ones-3.ensures.left 2 (lit< tt))
-    (c.exchange_fours-3.ensures.left 5 (lit< tt) ∙ c.exchange_twos-3.ensures.right 1 (lit< tt) ∙ c.exchange_ones-3.ensures.left 3 (lit< tt))
-    (c.exchange_fours-3.ensures.left 6 (lit< tt) ∙ c.exchange_twos-3.ensures.right 2 (lit< tt) ∙ c.exchange_ones-4.ensures.left 2 (lit< tt))
-    (c.exchange_fours-3.ensures.left 7 (lit< tt) ∙ c.exchange_twos-3.ensures.right 3 (lit< tt) ∙ c.exchange_ones-4.ensures.left 3 (lit< tt)))
-    (below_eight _
-    (c.exchange_fours-4.ensures.left 0 (lit< tt) ∙ c.exchange_twos-2.ensures.right 0 (lit< tt) ∙ c.exchange_ones.ensures.right 2 (lit< tt))
-    (c.exchange_fours-4.ensures.left 1 (lit< tt) ∙ c.exchange_twos-2.ensures.right 1 (lit< tt) ∙ c.exchange_ones.ensures.right 3 (lit< tt))
-    (c.exchange_fours-4.ensures.left 2 (lit< tt) ∙ c.exchange_twos-2.ensures.right 2 (lit< tt) ∙ c.exchange_ones-2.ensures.right 2 (lit< tt))
-    (c.exchange_fours-4.ensures.left 3 (lit< tt) ∙ c.exchange_twos-2.ensures.right 3 (lit< tt) ∙ c.exchange_ones-2.ensures.right 3 (lit< tt))
-    (c.exchange_fours-4.ensures.left 4 (lit< tt) ∙ c.exchange_twos-4.ensures.right 0 (lit< tt) ∙ c.exchange_ones-3.ensures.right 2 (lit< tt))
-    (c.exchange_fours-4.ensures.left 5 (lit< tt) ∙ c.exchange_twos-4.ensures.right 1 (lit< tt) ∙ c.exchange_ones-3.ensures.right 3 (lit< tt))
-    (c.exchange_fours-4.ensures.left 6 (lit< tt) ∙ c.exchange_twos-4.ensures.right 2 (lit< tt) ∙ c.exchange_ones-4.ensures.right 2 (lit< tt))
-    (c.exchange_fours-4.ensures.left 7 (lit< tt) ∙ c.exchange_twos-4.ensures.right 3 (lit< tt) ∙ c.exchange_ones-4.ensures.right 3 (lit< tt)))
-    (below_eight _
-    (c.exchange_fours.ensures.right 0 (lit< tt) ∙ c.exchange_twos.ensures.left 4 (lit< tt) ∙ c.exchange_ones.ensures.left 4 (lit< tt))
-    (c.exchange_fours.ensures.right 1 (lit< tt) ∙ c.exchange_twos.ensures.left 5 (lit< tt) ∙ c.exchange_ones.ensures.left 5 (lit< tt))
-    (c.exchange_fours.ensures.right 2 (lit< tt) ∙ c.exchange_twos.ensures.left 6 (lit< tt) ∙ c.exchange_ones-2.ensures.left 4 (lit< tt))
-    (c.exchange_fours.ensures.right 3 (lit< tt) ∙ c.exchange_twos.ensures.left 7 (lit< tt) ∙ c.exchange_ones-2.ensures.left 5 (lit< tt))
-    (c.exchange_fours.ensures.right 4 (lit< tt) ∙ c.exchange_twos-3.ensures.left 4 (lit< tt) ∙ c.exchange_ones-3.ensures.left 4 (lit< tt))
-    (c.exchange_fours.ensures.right 5 (lit< tt) ∙ c.exchange_twos-3.ensures.left 5 (lit< tt) ∙ c.exchange_ones-3.ensures.left 5 (lit< tt))
-    (c.exchange_fours.ensures.right 6 (lit< tt) ∙ c.exchange_twos-3.ensures.left 6 (lit< tt) ∙ c.exchange_ones-4.ensures.left 4 (lit< tt))
-    (c.exchange_fours.ensures.right 7 (lit< tt) ∙ c.exchange_twos-3.ensures.left 7 (lit< tt) ∙ c.exchange_ones-4.ensures.left 5 (lit< tt)))
-    (below_eight _
-    (c.exchange_fours-2.ensures.right 0 (lit< tt) ∙ c.exchange_twos-2.ensures.left 4 (lit< tt) ∙ c.exchange_ones.ensures.right 4 (lit< tt))
-    (c.exchange_fours-2.ensures.right 1 (lit< tt) ∙ c.exchange_twos-2.ensures.left 5 (lit< tt) ∙ c.exchange_ones.ensures.right 5 (lit< tt))
-    (c.exchange_fours-2.ensures.right 2 (lit< tt) ∙ c.exchange_twos-2.ensures.left 6 (lit< tt) ∙ c.exchange_ones-2.ensures.right 4 (lit< tt))
-    (c.exchange_fours-2.ensures.right 3 (lit< tt) ∙ c.exchange_twos-2.ensures.left 7 (lit< tt) ∙ c.exchange_ones-2.ensures.right 5 (lit< tt))
-    (c.exchange_fours-2.ensures.right 4 (lit< tt) ∙ c.exchange_twos-4.ensures.left 4 (lit< tt) ∙ c.exchange_ones-3.ensures.right 4 (lit< tt))
-    (c.exchange_fours-2.ensures.right 5 (lit< tt) ∙ c.exchange_twos-4.ensures.left 5 (lit< tt) ∙ c.exchange_ones-3.ensures.right 5 (lit< tt))
-    (c.exchange_fours-2.ensures.right 6 (lit< tt) ∙ c.exchange_twos-4.ensures.left 6 (lit< tt) ∙ c.exchange_ones-4.ensures.right 4 (lit< tt))
-    (c.exchange_fours-2.ensures.right 7 (lit< tt) ∙ c.exchange_twos-4.ensures.left 7 (lit< tt) ∙ c.exchange_ones-4.ensures.right 5 (lit< tt)))
-    (below_eight _
-    (c.exchange_fours-3.ensures.right 0 (lit< tt) ∙ c.exchange_twos.ensures.right 4 (lit< tt) ∙ c.exchange_ones.ensures.left 6 (lit< tt))
-    (c.exchange_fours-3.ensures.right 1 (lit< tt) ∙ c.exchange_twos.ensures.right 5 (lit< tt) ∙ c.exchange_ones.ensures.left 7 (lit< tt))
-    (c.exchange_fours-3.ensures.right 2 (lit< tt) ∙ c.exchange_twos.ensures.right 6 (lit< tt) ∙ c.exchange_ones-2.ensures.left 6 (lit< tt))
-    (c.exchange_fours-3.ensures.right 3 (lit< tt) ∙ c.exchange_twos.ensures.right 7 (lit< tt) ∙ c.exchange_ones-2.ensures.left 7 (lit< tt))
-    (c.exchange_fours-3.ensures.right 4 (lit< tt) ∙ c.exchange_twos-3.ensures.right 4 (lit< tt) ∙ c.exchange_ones-3.ensures.left 6 (lit< tt))
-    (c.exchange_fours-3.ensures.right 5 (lit< tt) ∙ c.exchange_twos-3.ensures.right 5 (lit< tt) ∙ c.exchange_ones-3.ensures.left 7 (lit< tt))
-    (c.exchange_fours-3.ensures.right 6 (lit< tt) ∙ c.exchange_twos-3.ensures.right 6 (lit< tt) ∙ c.exchange_ones-4.ensures.left 6 (lit< tt))
-    (c.exchange_fours-3.ensures.right 7 (lit< tt) ∙ c.exchange_twos-3.ensures.right 7 (lit< tt) ∙ c.exchange_ones-4.ensures.left 7 (lit< tt)))
-    (below_eight _
-    (c.exchange_fours-4.ensures.right 0 (lit< tt) ∙ c.exchange_twos-2.ensures.right 4 (lit< tt) ∙ c.exchange_ones.ensures.right 6 (lit< tt))
-    (c.exchange_fours-4.ensures.right 1 (lit< tt) ∙ c.exchange_twos-2.ensures.right 5 (lit< tt) ∙ c.exchange_ones.ensures.right 7 (lit< tt))
-    (c.exchange_fours-4.ensures.right 2 (lit< tt) ∙ c.exchange_twos-2.ensures.right 6 (lit< tt) ∙ c.exchange_ones-2.ensures.right 6 (lit< tt))
-    (c.exchange_fours-4.ensures.right 3 (lit< tt) ∙ c.exchange_twos-2.ensures.right 7 (lit< tt) ∙ c.exchange_ones-2.ensures.right 7 (lit< tt))
-    (c.exchange_fours-4.ensures.right 4 (lit< tt) ∙ c.exchange_twos-4.ensures.right 4 (lit< tt) ∙ c.exchange_ones-3.ensures.right 6 (lit< tt))
-    (c.exchange_fours-4.ensures.right 5 (lit< tt) ∙ c.exchange_twos-4.ensures.right 5 (lit< tt) ∙ c.exchange_ones-3.ensures.right 7 (lit< tt))
-    (c.exchange_fours-4.ensures.right 6 (lit< tt) ∙ c.exchange_twos-4.ensures.right 6 (lit< tt) ∙ c.exchange_ones-4.ensures.right 6 (lit< tt))
-    (c.exchange_fours-4.ensures.right 7 (lit< tt) ∙ c.exchange_twos-4.ensures.right 7 (lit< tt) ∙ c.exchange_ones-4.ensures.right 7 (lit< tt)))
+    → lane_at (
+    c.exchange_fours.result.0 ∷ c.exchange_fours-2.result.0 ∷ c.exchange_fours-3.result.0 ∷ c.exchange_fours-4.result.0
+    ∷ c.exchange_fours.result.1 ∷ c.exchange_fours-2.result.1 ∷ c.exchange_fours-3.result.1 ∷ c.exchange_fours-4.result.1 ∷ []) i k ≡ lane_at x k i)
+    (turned_lanes x _ 0 (c.exchange_fours.ensures.left ∙ ap₂ fours_left b0 b4))
+    (turned_lanes x _ 1 (c.exchange_fours-2.ensures.left ∙ ap₂ fours_left b1 b5))
+    (turned_lanes x _ 2 (c.exchange_fours-3.ensures.left ∙ ap₂ fours_left b2 b6))
+    (turned_lanes x _ 3 (c.exchange_fours-4.ensures.left ∙ ap₂ fours_left b3 b7))
+    (turned_lanes x _ 4 (c.exchange_fours.ensures.right ∙ ap₂ fours_right b0 b4))
+    (turned_lanes x _ 5 (c.exchange_fours-2.ensures.right ∙ ap₂ fours_right b1 b5))
+    (turned_lanes x _ 6 (c.exchange_fours-3.ensures.right ∙ ap₂ fours_right b2 b6))
+    (turned_lanes x _ 7 (c.exchange_fours-4.ensures.right ∙ ap₂ fours_right b3 b7))
     i h k l

@@ -1,4 +1,4 @@
-use Rattle.std.proofs.Common.{◌<◌, ◌≤◌, ◌*◌, ◌+◌, ◌∙◌, inl, inr, arith}
+use Rattle.std.proofs.Common.{◌*◌, ◌∙◌, inl, inr}
 use Rattle.std.proofs.lemmas.Bool.{cases_lt}
 use Rattle.argon2_base.proofs.MixingLemmas.{row_stored}
 use Rattle.argon2_base.proofs.block.kernel.words.Goals as goal

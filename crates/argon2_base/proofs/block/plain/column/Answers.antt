@@ -1,4 +1,4 @@
-use Rattle.std.proofs.Common.{◌≡◌, ℕ, ◌+◌, ◌*◌, ◌/◌, ◌%◌, ◌<◌, slice_index, arith}
+use Rattle.std.proofs.Common.{◌+◌, ◌*◌, ◌/◌, ◌%◌, slice_index, arith}
 use Rattle.argon2_base.specs.Mixing.{column}
 use Rattle.argon2_base.proofs.BlockLemmas.{counted_is}
 use Rattle.argon2_base.proofs.block.plain.column.Goals as goal
