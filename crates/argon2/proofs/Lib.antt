@@ -12,3 +12,4 @@ mod PermittedPlaces
 mod InMemory
 mod Validity
 mod Independence
+mod KnownAnswers
