@@ -58,6 +58,7 @@ calls : ℕ → ℕ → ℕ → ℕ → ℕ
 calls algorithm m t p =
     mixing_calls (record { algorithm = algorithm; version = 19; m_cost = m; t_cost = t; p_cost = p; secret = []; associated = [] })
 
+-- for Argon2d, Argon2id and Argon2i
 calls_values : (calls 0 32 3 4 ∷ calls 2 32 3 4 ∷ calls 1 32 3 4
     ∷ calls 0 8 1 1 ∷ calls 2 8 1 1 ∷ calls 1 8 1 1
     ∷ calls 0 33 1 2 ∷ calls 2 33 1 2 ∷ calls 1 33 1 2
