@@ -13,13 +13,16 @@ use Rattle.argon2.proofs.Schedules.{turn_count-first}
 use Rattle.argon2.proofs.Filling.{turn_count-later_slice, turn_count-later_pass}
 
 module _ (ctx : Context) (fits : Fits ctx) where
+  -- of a segment
   address_blocks : ℕ
   address_blocks = (segment_length ctx + 127) / 128
 
+  -- a segment with address blocks
   yes : (pass k : ℕ) → ((eqb ctx.algorithm 1) || ((eqb ctx.algorithm 2) && ((eqb pass 0) && ltb k 2))) ≡ true → segment_calls ctx pass k ≡ 2 * address_blocks + turn_count ctx pass k
   unfolding segment_calls address_blocks is_independent
   yes pass k h = ap (λ x. x + turn_count ctx pass k) (cond-true (is_independent ctx pass k) (2 * address_blocks) 0 (h))
 
+  -- and without
   no : (pass k : ℕ) → ((eqb ctx.algorithm 1) || ((eqb ctx.algorithm 2) && ((eqb pass 0) && ltb k 2))) ≡ false → segment_calls ctx pass k ≡ turn_count ctx pass k
   unfolding segment_calls address_blocks is_independent
   no pass k h = ap (λ x. x + turn_count ctx pass k) (cond-false (is_independent ctx pass k) (2 * address_blocks) 0 (h)) ∙ omega arith
@@ -28,11 +31,13 @@ module _ (ctx : Context) (fits : Fits ctx) where
   sum_of : ℕ → ℕ
   sum_of pass = segment_calls ctx pass 0 + segment_calls ctx pass 1 + segment_calls ctx pass 2 + segment_calls ctx pass 3
 
+  -- the turns of a lane in pass 0
   wanted_sum : (turn_count ctx 0 0 + turn_count ctx 0 1 + turn_count ctx 0 2 + turn_count ctx 0 3) + 2 ≡ 4 * segment_length ctx
   wanted_sum =
       let two = fits.two_columns in
       omega (arith, turn_count-first ctx 0 0 refl refl, turn_count-later_slice ctx 0 0, turn_count-later_slice ctx 0 1, turn_count-later_slice ctx 0 2)
 
+  -- and in a later pass
   wanted_sum_later : (r : ℕ) → turn_count ctx (suc r) 0 + turn_count ctx (suc r) 1 + turn_count ctx (suc r) 2 + turn_count ctx (suc r) 3 ≡ 4 * segment_length ctx
   wanted_sum_later r = omega (arith, turn_count-later_pass ctx r, turn_count-later_slice ctx (suc r) 0, turn_count-later_slice ctx (suc r) 1, turn_count-later_slice ctx (suc r) 2)
 
@@ -55,12 +60,15 @@ module _ (ctx : Context) (fits : Fits ctx) where
       let s = slices_calls-4 (suc r) in
       omega arith
 
+  -- Argon2i has them in all segments
   argon2i : ctx.algorithm ≡ 1 → (pass k : ℕ) → segment_calls ctx pass k ≡ 2 * address_blocks + turn_count ctx pass k
   argon2i h pass k = yes pass k (or_left (eqb ctx.algorithm 1) _ (eq-eqb ctx.algorithm 1 h))
 
+  -- Argon2id in slices 0 and 1 of pass 0
   argon2id_first : ctx.algorithm ≡ 2 → (k : ℕ) → k < 2 → segment_calls ctx 0 k ≡ 2 * address_blocks + turn_count ctx 0 k
   argon2id_first h k lt = yes 0 k (or_right (eqb ctx.algorithm 1) _ (and_from (eqb ctx.algorithm 2) _ (eq-eqb ctx.algorithm 2 h) (and_from (eqb 0 0) (ltb k 2) refl (lt-ltb k 2 lt))))
 
+  -- and nowhere else
   argon2id_later : ctx.algorithm ≡ 2 → (pass k : ℕ) → (pass ≡ 0 → 2 ≤ k) → segment_calls ctx pass k ≡ turn_count ctx pass k
   argon2id_later h pass k late = no pass k (false_from_ne_true _ (λ e.
       elim (or_cases (eqb ctx.algorithm 1) ((eqb ctx.algorithm 2) && ((eqb pass 0) && ltb k 2)) e) [
@@ -72,6 +80,7 @@ module _ (ctx : Context) (fits : Fits ctx) where
             omega arith)
       ]))
 
+  -- Argon2d nowhere
   argon2d : ctx.algorithm ≢ 1 → ctx.algorithm ≢ 2 → (pass k : ℕ) → segment_calls ctx pass k ≡ turn_count ctx pass k
   argon2d a b pass k = no pass k (false_from_ne_true _ (λ e.
       elim (or_cases (eqb ctx.algorithm 1) ((eqb ctx.algorithm 2) && ((eqb pass 0) && ltb k 2)) e) [
@@ -79,14 +88,17 @@ module _ (ctx : Context) (fits : Fits ctx) where
         | inr x ↦ b (eqb-true ctx.algorithm 2 (and_parts (eqb ctx.algorithm 2) ((eqb pass 0) && ltb k 2) x).0)
       ]))
 
+  -- how many segments of Argon2i have them
   segments_i : ctx.algorithm ≡ 1 → independent_segments ctx ≡ 4 * ctx.t_cost * ctx.p_cost
   unfolding independent_segments
   segments_i h = cond-true (eqb ctx.algorithm 1) (4 * ctx.t_cost * ctx.p_cost) _ (eq-eqb ctx.algorithm 1 h)
 
+  -- of Argon2id
   segments_id : ctx.algorithm ≡ 2 → independent_segments ctx ≡ 2 * ctx.p_cost
   unfolding independent_segments
   segments_id h = cond-false (eqb ctx.algorithm 1) (4 * ctx.t_cost * ctx.p_cost) _ (ne_eqb ctx.algorithm 1 (λ e. omega arith)) ∙ cond-true (eqb ctx.algorithm 2) (2 * ctx.p_cost) 0 (eq-eqb ctx.algorithm 2 h)
 
+  -- of Argon2d
   segments_d : ctx.algorithm ≢ 1 → ctx.algorithm ≢ 2 → independent_segments ctx ≡ 0
   unfolding independent_segments
   segments_d a b = cond-false (eqb ctx.algorithm 1) (4 * ctx.t_cost * ctx.p_cost) _ (ne_eqb ctx.algorithm 1 a) ∙ cond-false (eqb ctx.algorithm 2) (2 * ctx.p_cost) 0 (ne_eqb ctx.algorithm 2 b)

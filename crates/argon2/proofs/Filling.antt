@@ -20,6 +20,7 @@ pub record Holds (ctx : Context) (first : FirstColumns) (pass : ℕ) (done : ℕ
   pub new : (l c : ℕ) → l < ctx.p_cost → c < lane_length ctx → c < done l → get_or memory (l * lane_length ctx + c) [] ≡ block_of ctx first pass l c
   pub old : (r l c : ℕ) → pass ≡ suc r → l < ctx.p_cost → c < lane_length ctx → done l ≤ c → get_or memory (l * lane_length ctx + c) [] ≡ block_of ctx first r l c
 
+-- of two equal counts of made columns
 pub Holds-like : (ctx : Context) (first : FirstColumns) (pass : ℕ) (done done' : ℕ → ℕ) (memory : List (List ℕ)) → ((l : ℕ) → l < ctx.p_cost → done l ≡ done' l) →
     Holds ctx first pass done memory → Holds ctx first pass done' memory
 Holds-like ctx first pass done done' memory same h = record {
@@ -78,6 +79,7 @@ step_answers ctx fits first pass lane column k done memory st here now about h =
     ap (λ (x : Reference). x.lane * lane_length ctx + x.column)
     (reference_of_cong ctx fits pass lane column st _ (block_of ctx first) (step_reads ctx first pass lane column k done memory here now about h))
 
+-- a step adds a column to its lane
 pub step_holds : (ctx : Context) → Fits ctx → (first : FirstColumns) (pass lane column k : ℕ) (done done' : ℕ → ℕ) (memory : List (List ℕ)) → IsStep ctx pass lane column → InSlice (segment_length ctx) column k →
     done lane ≡ column → done' lane ≡ suc column → ((l : ℕ) → l ≢ lane → done' l ≡ done l) →
     ((l : ℕ) → l < ctx.p_cost → (k * segment_length ctx ≤ done l) × (done l ≤ (k + 1) * segment_length ctx)) →
@@ -123,6 +125,7 @@ step_holds ctx fits first pass lane column k done done' memory st here now then'
 abbrev pub done_before : Context → ℕ → List ℕ → ℕ → ℕ
 done_before ctx k schedule l = (k + 1) * segment_length ctx - turns l schedule
 
+-- what is left of a schedule finishes the slice
 pub run_holds : (ctx : Context) → Fits ctx → (first : FirstColumns) (pass k : ℕ) → k < 4 → (schedule : List ℕ) (memory : List (List ℕ)) → MayRun ctx pass k schedule →
     Holds ctx first pass (done_before ctx k schedule) memory → Holds ctx first pass (done_before ctx k []) (run ctx pass k schedule memory)
 unfolding run
@@ -148,9 +151,11 @@ run_holds ctx fits first pass k four (lane ∷ schedule) memory m h =
 abbrev pub begun : Context → ℕ → ℕ → ℕ
 begun ctx pass k = (k + 1) * segment_length ctx - turn_count ctx pass k
 
+-- all turns in the later slices
 pub turn_count-later_slice : (ctx : Context) (pass k : ℕ) → turn_count ctx pass (suc k) ≡ segment_length ctx
 turn_count-later_slice ctx pass k = cond-false ((eqb pass 0) && (eqb (suc k) 0)) _ _ (and_right (eqb pass 0) (eqb (suc k) 0) (ne_eqb (suc k) 0 (λ e. omega arith)))
 
+-- the first slices, each by its schedule
 pub slices_hold : (ctx : Context) → Fits ctx → (first : FirstColumns) (schedules : ℕ → List ℕ) (pass k : ℕ) → k ≤ 4 → ((j : ℕ) → j < 4 → IsSchedule ctx pass j (schedules j)) → (memory : List (List ℕ)) →
     Holds ctx first pass (λ _. begun ctx pass 0) memory → Holds ctx first pass (λ _. begun ctx pass k) (run_slices ctx schedules pass k memory)
 unfolding run_slices
@@ -167,9 +172,11 @@ slices_hold ctx fits first schedules pass (suc k) four is memory h =
     (λ l below. let w = turn_count-later_slice ctx pass k in omega arith)
     (run_holds ctx fits first pass k (omega arith) schedule before (MayRun-from ctx pass k schedule it) start)
 
+-- all turns in the later passes
 pub turn_count-later_pass : (ctx : Context) (pass : ℕ) → turn_count ctx (suc pass) 0 ≡ segment_length ctx
 turn_count-later_pass ctx pass = cond-false ((eqb (suc pass) 0) && (eqb 0 0)) _ _ (and_left (eqb (suc pass) 0) (eqb 0 0) (ne_eqb (suc pass) 0 (λ e. omega arith)))
 
+-- the end of a pass is the start of the next
 next_pass : (ctx : Context) (first : FirstColumns) (pass : ℕ) (memory : List (List ℕ)) → Holds ctx first pass (λ _. begun ctx pass 4) memory → Holds ctx first (suc pass) (λ _. begun ctx (suc pass) 0) memory
 next_pass ctx first pass memory h =
     let s = segment_length ctx in
@@ -181,6 +188,7 @@ next_pass ctx first pass memory h =
       old = λ r l c p a b le. h.new l c a b (omega arith) ∙ ap (λ x. block_of ctx first x l c) (let o : pass ≡ r = omega arith in o);
     }
 
+-- the first passes
 pub passes_hold : (ctx : Context) → Fits ctx → (first : FirstColumns) (schedules : ℕ → ℕ → List ℕ) (passes : ℕ) → ((r k : ℕ) → r < passes → k < 4 → IsSchedule ctx r k (schedules r k)) → (memory : List (List ℕ)) →
     Holds ctx first 0 (λ _. begun ctx 0 0) memory → Holds ctx first passes (λ _. begun ctx passes 0) (run_passes ctx schedules passes memory)
 unfolding run_passes
@@ -202,6 +210,7 @@ begins ctx fits first memory start =
       old = λ r l c p a b le. absurd (omega arith);
     }
 
+-- after the last pass the memory is the matrix
 pub ends : (ctx : Context) → Fits ctx → (first : FirstColumns) (passes : ℕ) (memory : List (List ℕ)) → passes ≡ ctx.t_cost → 0 < passes →
     Holds ctx first passes (λ _. begun ctx passes 0) memory → memory ≡ matrix ctx first
 unfolding matrix

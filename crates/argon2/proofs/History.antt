@@ -14,6 +14,7 @@ use Rattle.argon2.proofs.Sources.{Fits, IsStep, Reads, made_cong}
 abbrev pub moment : Context → ℕ → ℕ → ℕ
 moment ctx pass column = pass * lane_length ctx + column
 
+-- sources are made earlier
 pub reads_earlier : (ctx : Context) (pass lane column r l c : ℕ) → Reads ctx pass lane column r l c → moment ctx r c < moment ctx pass column
 reads_earlier ctx pass lane column r l c reads =
     let q = lane_length ctx in
@@ -42,15 +43,18 @@ rule_cong ctx fits first pass lane column in_lanes in_columns f g h = go ((eqb p
           ];
         }) f g (λ r l c reads. h r l c reads.in_lanes reads.in_columns (reads_earlier ctx pass lane column r l c reads))
 
+-- a history of n columns has n
 length-history : (ctx : Context) (first : FirstColumns) (n : ℕ) → length (history ctx first n) ≡ n
 unfolding history
 length-history ctx first zero = refl
 length-history ctx first (suc n) = length_push (history ctx first n) _ ∙ (let i = length-history ctx first n in omega arith)
 
+-- one more column leaves those before
 grows : (ctx : Context) (first : FirstColumns) (n k : ℕ) → k < n → get_or (history ctx first (suc n)) k [] ≡ get_or (history ctx first n) k []
 unfolding history
 grows ctx first n k lt = get_or_append_left (history ctx first n) _ [] k (let l = length-history ctx first n in omega arith)
 
+-- so does any number
 history_stays : (ctx : Context) (first : FirstColumns) (n k : ℕ) → k < n → get_or (history ctx first n) k [] ≡ get_or (history ctx first (suc k)) k []
 history_stays ctx first zero k h = absurd (omega arith)
 history_stays ctx first (suc n) k h =
@@ -59,10 +63,12 @@ history_stays ctx first (suc n) k h =
       | inr le ↦ (let e : suc n ≡ suc k = omega arith in ap (λ m. get_or (history ctx first m) k []) e)
     ]
 
+-- so a history holds the blocks of its moments
 in_history_is : (ctx : Context) (first : FirstColumns) (n r l c : ℕ) → moment ctx r c < n → in_history ctx (history ctx first n) r l c ≡ block_of ctx first r l c
 unfolding in_history block_of
 in_history_is ctx first n r l c h = ap (λ (column : List (List ℕ)). get_or column l []) (history_stays ctx first n (moment ctx r c) h)
 
+-- the newest column is made by the rule
 newest : (ctx : Context) (first : FirstColumns) (n lane : ℕ) → lane < ctx.p_cost →
     get_or (get_or (history ctx first (suc n)) n []) lane [] ≡ rule ctx first (in_history ctx (history ctx first n)) (n / lane_length ctx) lane (n % lane_length ctx)
 unfolding history
@@ -71,6 +77,7 @@ newest ctx first n lane h =
     ap (λ (column : List (List ℕ)). get_or column lane []) (get_or_push (history ctx first n) (map f (range_with_len 0 ctx.p_cost)) [] n (length-history ctx first n))
     ∙ get_or-map-range_with_len f 0 ctx.p_cost lane lane [] h (omega arith)
 
+-- a block is read from the history that ends with its column
 at_newest : (ctx : Context) (first : FirstColumns) (pass lane column : ℕ) → block_of ctx first pass lane column ≡ get_or (get_or (history ctx first (suc (moment ctx pass column))) (moment ctx pass column) []) lane []
 unfolding block_of in_history
 at_newest ctx first pass lane column = refl
@@ -88,6 +95,7 @@ recurrence ctx fits first pass lane column in_lanes in_columns =
     ∙ ap (λ c. rule ctx first f pass lane c) (mod-mul-add pass q column in_columns)
     ∙ rule_cong ctx fits first pass lane column in_lanes in_columns f (block_of ctx first) (λ r l c _ _ lt. in_history_is ctx first n r l c lt)
 
+-- two recurrences agree up to any moment
 only_up_to : (ctx : Context) → Fits ctx → (first : FirstColumns) (f g : Blocks) → IsRecurrence ctx first f → IsRecurrence ctx first g → (n pass lane column : ℕ) →
     lane < ctx.p_cost → column < lane_length ctx → moment ctx pass column < n → f pass lane column ≡ g pass lane column
 only_up_to ctx fits first f g hf hg zero pass lane column a b lt = absurd (omega arith)
@@ -104,6 +112,7 @@ only ctx fits first f h pass lane column a b =
 
 -- ---- the rule's two cases
 
+-- columns 0 and 1 of pass 0
 pub first_columns : (ctx : Context) → Fits ctx → (first : FirstColumns) (lane column : ℕ) → lane < ctx.p_cost → column < 2 → block_of ctx first 0 lane column ≡ first lane column
 unfolding rule
 first_columns ctx fits first lane column a b =
@@ -111,6 +120,7 @@ first_columns ctx fits first lane column a b =
     recurrence ctx fits first 0 lane column a (omega arith)
     ∙ cond-true ((eqb 0 0) && (ltb column 2)) (first lane column) (made_block ctx (block_of ctx first) 0 lane column) (and_from (eqb 0 0) (ltb column 2) refl (lt-ltb column 2 b))
 
+-- all others
 pub made_blocks : (ctx : Context) → Fits ctx → (first : FirstColumns) (pass lane column : ℕ) → IsStep ctx pass lane column → block_of ctx first pass lane column ≡ made_block ctx (block_of ctx first) pass lane column
 unfolding rule
 made_blocks ctx fits first pass lane column st =

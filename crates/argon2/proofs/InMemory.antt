@@ -40,6 +40,7 @@ made_by_places ctx memory pass lane column w e =
     let block = mixed (get_or memory (previous_place ctx lane column) []) (get_or memory (from.lane * q + from.column) []) in
     cond ((eqb ctx.version 19) && (ltb 0 pass)) (xor_blocks block (get_or memory (lane * q + column) [])) block) (sym e)
 
+-- a step's reference, by its place
 pub place_by_word : (ctx : Context) (memory : List (List ℕ)) (pass lane column w : ℕ) → w ≡ reference_word ctx (in_memory ctx memory) pass lane column →
     reference_place ctx memory pass lane column ≡ (reference ctx pass lane column w).lane * lane_length ctx + (reference ctx pass lane column w).column
 unfolding reference_place reference_of
@@ -54,6 +55,7 @@ pub record WordOfIndex (ctx : Context) (memory : List (List ℕ)) (pass lane sli
       reference_word ctx (in_memory ctx memory) pass lane (slice * segment_length ctx + index)
       ≡ get_or (previous ctx (in_memory ctx memory) pass lane (slice * segment_length ctx + index)) 0 0
 
+-- each index has one
 pub word_of_index : (ctx : Context) (memory : List (List ℕ)) (pass lane slice index : ℕ) → index < segment_length ctx → WordOfIndex ctx memory pass lane slice index
 unfolding reference_word address_word
 word_of_index ctx memory pass lane slice index below =

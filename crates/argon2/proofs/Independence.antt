@@ -14,6 +14,7 @@ addressed ctx pass lane column =
     let from = reference ctx pass lane column (address_word ctx pass lane (column / segment_length ctx) (column % segment_length ctx)) in
     from.lane * lane_length ctx + from.column
 
+-- where addressing is independent, the place is that
 position_addressed : (ctx : Context) (first : FirstColumns) (pass lane column : ℕ) → is_independent ctx pass (column / segment_length ctx) ≡ true → reference_places ctx first pass lane column ≡ addressed ctx pass lane column
 unfolding reference_places reference_of reference_word addressed
 position_addressed ctx first pass lane column e =
@@ -24,6 +25,7 @@ position_addressed ctx first pass lane column e =
 with_rest : Context → Context → Context
 with_rest a b = record { algorithm = b.algorithm; version = a.version; m_cost = b.m_cost; t_cost = b.t_cost; p_cost = b.p_cost; secret = a.secret; associated = a.associated }
 
+-- alike contexts differ in nothing else
 rest_is : (a b : Context) → AreAlike a b → a ≡ with_rest a b
 unfolding with_rest
 rest_is a b h = λ i. record { algorithm = h.algorithm i; version = a.version; m_cost = h.m_cost i; t_cost = h.t_cost i; p_cost = h.p_cost i; secret = a.secret; associated = a.associated }
@@ -34,6 +36,7 @@ unfolding with_rest addressed reference reference_lane permitted finished_segmen
 addressed_rest a b zero lane column = refl
 addressed_rest a b (suc pass) lane column = refl
 
+-- which addressing is independent does not depend on them
 independent_rest : (a b : Context) (pass column : ℕ) →
     is_independent (with_rest a b) pass (column / segment_length (with_rest a b)) ≡ is_independent b pass (column / segment_length b)
 unfolding with_rest is_independent segment_length

@@ -12,6 +12,7 @@ use Rattle.argon2.specs.Steps.{run_passes, last_column}
 use Rattle.argon2.specs.Laws.{Begins, AreSchedules}
 use Rattle.argon2.proofs.Filling.{filled}
 
+-- the matrix has the last pass's blocks at their places
 pub matrix_at : (ctx : Context) → Fits ctx → (first : FirstColumns) (lane column : ℕ) → lane < ctx.p_cost → column < lane_length ctx →
     get_or (matrix ctx first) (lane * lane_length ctx + column) [] ≡ block_of ctx first (ctx.t_cost - 1) lane column
 unfolding matrix
@@ -22,6 +23,7 @@ matrix_at ctx fits first lane column a b =
     get_or-map-range_with_len (λ place. block_of ctx first (ctx.t_cost - 1) (place / q) (place % q)) 0 (block_count ctx) n n [] (omega arith) (omega arith)
     ∙ ap (λ l. block_of ctx first (ctx.t_cost - 1) l (n % q)) (div-mul-add lane q column b) ∙ ap (block_of ctx first (ctx.t_cost - 1) lane) (mod-mul-add lane q column b)
 
+-- equal blocks of each lane have one exclusive or
 xor_lanes_cong : (ctx : Context) (f g : ℕ → List ℕ) → ((lane : ℕ) → lane < ctx.p_cost → f lane ≡ g lane) → xor_lanes ctx f ≡ xor_lanes ctx g
 unfolding xor_lanes
 xor_lanes_cong ctx f g h =
@@ -39,18 +41,18 @@ last_of_matrix ctx fits first memory e =
 -- ---- after a lane's first two columns are written
 
 module _ (q lane : ℕ) (two : 2 ≤ q) (memory : List (List ℕ)) (a b : List ℕ) where
-  written : List (List ℕ)
-  written = set (set memory (lane * q) a) (lane * q + 1) b
-
+  -- other places stay
   pub begun_apart : (k c : ℕ) → c < q → (k ≡ lane → 2 ≤ c) → get_or (set (set memory (lane * q) a) (lane * q + 1) b) (k * q + c) [] ≡ get_or memory (k * q + c) []
   begun_apart k c below apart =
       let ne0 : k * q + c ≢ lane * q + 0 = λ e. (let s = same_from_place k c lane 0 q below (omega arith) e in let h = apart s.0 in let z : c ≡ 0 = s.1 in omega arith) in
       let ne1 : k * q + c ≢ lane * q + 1 = λ e. (let s = same_from_place k c lane 1 q below (omega arith) e in let h = apart s.0 in let z : c ≡ 1 = s.1 in omega arith) in
       get_or-set_other (set memory (lane * q) a) (lane * q + 1) (k * q + c) b [] ne1 ∙ get_or-set_other memory (lane * q) (k * q + c) a [] (λ e. ne0 (omega arith))
 
+  -- column 0 is written
   pub begun_first : lane * q < length memory → get_or (set (set memory (lane * q) a) (lane * q + 1) b) (lane * q) [] ≡ a
   begun_first h = get_or-set_other (set memory (lane * q) a) (lane * q + 1) (lane * q) b [] (λ e. omega arith) ∙ get_or-set_same memory (lane * q) a [] h
 
+  -- column 1 is written
   pub begun_second : lane * q + 1 < length memory → get_or (set (set memory (lane * q) a) (lane * q + 1) b) (lane * q + 1) [] ≡ b
   begun_second h = get_or-set_same (set memory (lane * q) a) (lane * q + 1) b [] (omega (arith, length-set memory (lane * q) a))
 

@@ -15,3 +15,5 @@ mod Watched
 pub mod FirstColumns
 pub mod InitialHashing
 pub mod TagOfMatrix
+mod Independence
+mod KnownAnswers

@@ -9,6 +9,7 @@ use Rattle.argon2.proofs.Validity.{Fits-sizes}
 use Rattle.argon2.specs.Reference.{columns, finished_segments, without_last, permitted, reference_lane, reference}
 use Rattle.argon2.proofs.Sources.{Fits, InSlice, in_slice, length-columns, lane_below, lane_alone, some_permitted, reference_reads}
 
+-- the column at an index of a list of columns
 get_or-columns : (pass from to i : ℕ) → i < to - from → (get_or (columns pass from to) i (0, 0)).1 ≡ from + i
 unfolding columns
 get_or-columns pass from to i h = ap (λ (x : ℕ × ℕ). x.1) (get_or-map-range_with_len (λ c. (pass, c)) from (to - from) i (from + i) (0, 0) h refl)
@@ -23,9 +24,11 @@ finished_column ctx pass slice i =
     cond (eqb pass 0) i (cond (ltb ((slice + 1) * segment_length ctx + i) (lane_length ctx)) ((slice + 1) * segment_length ctx + i) ((slice + 1) * segment_length ctx + i - lane_length ctx))
 
 module _ (ctx : Context) (fits : Fits ctx) (column : ℕ) (in_columns : column < lane_length ctx) where
+  -- the column's slice
   bounds : InSlice (segment_length ctx) column (column / segment_length ctx)
   bounds = in_slice (segment_length ctx) column fits.two_columns in_columns
 
+  -- the count is that
   pub length-finished : (pass : ℕ) → length (finished_segments ctx pass (column / segment_length ctx)) ≡ finished_count ctx pass (column / segment_length ctx)
   unfolding finished_segments
   length-finished zero = length-columns 0 0 _ ∙ omega arith
@@ -37,6 +40,7 @@ module _ (ctx : Context) (fits : Fits ctx) (column : ℕ) (in_columns : column <
       omega (arith, length-append (columns pass ((k + 1) * s) (lane_length ctx)) (columns (suc pass) 0 (k * s)), length-columns pass ((k + 1) * s) (lane_length ctx), length-columns (suc pass) 0 (k * s)) in
       e ∙ sym (cond-false (eqb (suc pass) 0) (k * s) (lane_length ctx - s) (ne_eqb (suc pass) 0 (λ z. omega arith)))
 
+  -- the column is that
   pub get_or-finished : (pass i : ℕ) → i < length (finished_segments ctx pass (column / segment_length ctx)) →
       (get_or (finished_segments ctx pass (column / segment_length ctx)) i (0, 0)).1 ≡ finished_column ctx pass (column / segment_length ctx) i
   unfolding finished_segments
@@ -65,6 +69,7 @@ module _ (ctx : Context) (fits : Fits ctx) (column : ℕ) (in_columns : column <
             ∙ sym (later ∙ cond-false (ltb ((k + 1) * s + i) q) ((k + 1) * s + i) ((k + 1) * s + i - q) (le-ltb ((k + 1) * s + i) q (omega arith))))
       ]
 
+  -- how many permitted blocks there are
   pub length-permitted : (pass lane other : ℕ) → (pass ≡ 0 → 2 ≤ column) → length (permitted ctx pass lane column other)
       ≡ cond (eqb (column % segment_length ctx) 0) (finished_count ctx pass (column / segment_length ctx) - 1)
       (finished_count ctx pass (column / segment_length ctx) + cond (eqb other lane) (column % segment_length ctx - 1) 0)
@@ -90,6 +95,7 @@ module _ (ctx : Context) (fits : Fits ctx) (column : ℕ) (in_columns : column <
             ∙ length-append f own ∙ ap (λ x. x + length own) n ∙ ap (λ x. finished_count ctx pass k + x) lo ∙ sym (cond-false (eqb (column % s) 0) _ _ e))
       ]
 
+  -- behind the finished segments the own one goes on
   wraps : (pass i : ℕ) → length (finished_segments ctx pass (column / segment_length ctx)) ≤ i →
       column / segment_length ctx * segment_length ctx + (i - length (finished_segments ctx pass (column / segment_length ctx))) ≡ finished_column ctx pass (column / segment_length ctx) i
   wraps zero i le = let n = length-finished zero in omega arith
@@ -134,44 +140,3 @@ module _ (ctx : Context) (fits : Fits ctx) (column : ℕ) (in_columns : column <
       let nil : List (ℕ × ℕ) = [] in
       let all : length (f ++ nil) ≡ length f + 0 = length-append f nil in
       ap (λ (x : ℕ × ℕ). x.1) (get_or_append_left f nil (0, 0) i (omega arith)) ∙ get_or-finished pass i (omega arith)))
-
-  pub permitted_short : (pass lane other : ℕ) → (pass ≡ 0 → 2 ≤ column) → length (permitted ctx pass lane column other) < lane_length ctx
-  permitted_short pass lane other later =
-      let s = segment_length ctx in
-      let k = column / s in
-      let two = fits.two_columns in
-      let b = bounds in
-      let e = length-permitted pass lane other later in
-      let rest : column % s < s = mod-lt column (omega arith) in
-      let three : k * s ≤ 3 * s = mul-le-mul_right s (let l = b.one_of_four in omega arith) in
-      let f : finished_count ctx pass k ≤ 3 * s = cond_both (eqb pass 0) (k * s) (lane_length ctx - s) (λ x. x ≤ 3 * s) (λ _. three) (λ _. omega arith) in
-      let o : cond (eqb other lane) (column % s - 1) 0 ≤ s - 1 = cond_both (eqb other lane) (column % s - 1) 0 (λ x. x ≤ s - 1) (λ _. omega arith) (λ _. omega arith) in
-      let m : cond (eqb (column % s) 0) (finished_count ctx pass k - 1) (finished_count ctx pass k + cond (eqb other lane) (column % s - 1) 0) < lane_length ctx =
-      cond_both (eqb (column % s) 0) (finished_count ctx pass k - 1) (finished_count ctx pass k + cond (eqb other lane) (column % s - 1) 0) (λ x. x < lane_length ctx) (λ _. omega arith) (λ _. omega arith) in
-      omega arith
-
-pub record CountBounds (ctx : Context) (count : ℕ) : Type 0 where
-  pub some : 0 < count
-  pub short : count < lane_length ctx
-  pub few : count < 2 ^ 32
-
-pub count_bounds : (ctx : Context) → Sizes ctx → (pass lane column w other : ℕ) → lane < ctx.p_cost → column < lane_length ctx → (pass ≡ 0 → 2 ≤ column) →
-    other ≡ reference_lane ctx pass lane column w → CountBounds ctx (length (permitted ctx pass lane column other))
-count_bounds ctx sizes pass lane column w other a b later e =
-    let fits = Fits-sizes ctx sizes in
-    let below : other < ctx.p_cost = subst (λ x. x < ctx.p_cost) (sym e) (lane_below ctx fits pass lane column w a) in
-    let short : length (permitted ctx pass lane column other) < lane_length ctx = permitted_short ctx fits column b pass lane other later in
-    let one : 1 * lane_length ctx ≤ ctx.p_cost * lane_length ctx = mul-le-mul_right (lane_length ctx) sizes.some_lane in
-    let m : ctx.p_cost * (4 * segment_length ctx) ≤ ctx.m_cost = sizes.in_memory in
-    let most : ctx.m_cost < 2 ^ 32 = sizes.m_cost in
-    record {
-      some = some_permitted ctx fits lane column other below b pass later (λ p k. e ∙ lane_alone ctx pass lane column w p k);
-      short = short;
-      few = omega arith;
-    }
-
-pub reference_within : (ctx : Context) → Sizes ctx → (pass lane column w : ℕ) → lane < ctx.p_cost → column < lane_length ctx → (pass ≡ 0 → 2 ≤ column) →
-    ((reference ctx pass lane column w).lane < ctx.p_cost) × ((reference ctx pass lane column w).column < lane_length ctx)
-reference_within ctx sizes pass lane column w a b later =
-    let r = reference_reads ctx (Fits-sizes ctx sizes) pass lane column w (record { in_lanes = a; in_columns = b; later = later }) in
-    (r.in_lanes, r.in_columns)

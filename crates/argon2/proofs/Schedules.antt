@@ -11,6 +11,7 @@ use Rattle.argon2.specs.Recurrence.{made_block}
 use Rattle.argon2.specs.Steps.{in_memory, step, turns, turn_count, IsSchedule, run}
 use Rattle.argon2.proofs.Sources.{Fits, IsStep, InSlice, made_cong}
 
+-- other lanes or columns stand at other places
 pub place_apart : (q l c m d : ℕ) → c < q → d < q → (l ≡ m → c ≡ d → ⊥) → l * q + c ≢ m * q + d
 place_apart q l c m d hc hd ne e = let s = same_from_place l c m d q hc hd e in ne s.0 s.1
 
@@ -33,6 +34,7 @@ made_kept ctx fits pass lane column l c k st here other below there memory b =
       ])
     ])))
 
+-- two steps of different lanes in one slice may change places
 pub steps_commute : (ctx : Context) → Fits ctx → (pass k : ℕ) (l c m d : ℕ) → l ≢ m →
     IsStep ctx pass l c → InSlice (segment_length ctx) c k → IsStep ctx pass m d → InSlice (segment_length ctx) d k → (memory : List (List ℕ)) →
     step ctx (step ctx memory pass l c) pass m d ≡ step ctx (step ctx memory pass m d) pass l c
@@ -50,32 +52,41 @@ steps_commute ctx fits pass k l c m d ne sc ic sd id memory =
 
 -- ---- turns
 
+-- turns are counted one by one
 turns-cons : (lane x : ℕ) (xs : List ℕ) → turns lane (x ∷ xs) ≡ cond (eqb x lane) 1 0 + turns lane xs
 turns-cons lane x xs = sum_by-cons (λ y. cond (eqb y lane) 1 0) x xs
 
+-- a lane's own turn counts
 pub turns-same : (lane : ℕ) (xs : List ℕ) → turns lane (lane ∷ xs) ≡ suc (turns lane xs)
 turns-same lane xs = turns-cons lane lane xs ∙ ap (λ n. n + turns lane xs) (cond-true (eqb lane lane) 1 0 (eq-eqb lane lane refl)) ∙ omega arith
 
+-- another lane's does not
 pub turns-other : (lane x : ℕ) (xs : List ℕ) → x ≢ lane → turns lane (x ∷ xs) ≡ turns lane xs
 turns-other lane x xs ne = turns-cons lane x xs ∙ ap (λ n. n + turns lane xs) (cond-false (eqb x lane) 1 0 (ne_eqb x lane ne)) ∙ omega arith
 
+-- the turns of two lists add up
 pub turns-append : (lane : ℕ) (xs ys : List ℕ) → turns lane (xs ++ ys) ≡ turns lane xs + turns lane ys
 turns-append lane xs ys = sum_by-append (λ y. cond (eqb y lane) 1 0) xs ys
 
+-- a tail has no more turns
 pub turns-tail : (lane x : ℕ) (xs : List ℕ) → turns lane xs ≤ turns lane (x ∷ xs)
 turns-tail lane x xs = omega (arith, turns-cons lane x xs)
 
+-- another lane's turn may be left out of the count
 turns-without : (lane x : ℕ) (xs ys : List ℕ) → x ≢ lane → turns lane (xs ++ x ∷ ys) ≡ turns lane (xs ++ ys)
 turns-without lane x xs ys ne = omega (arith, turns-append lane xs (x ∷ ys), turns-append lane xs ys, turns-other lane x ys ne)
 
+-- a lane's own counts wherever it stands
 turns-with : (lane : ℕ) (xs ys : List ℕ) → turns lane (xs ++ lane ∷ ys) ≡ suc (turns lane (xs ++ ys))
 turns-with lane xs ys = omega (arith, turns-append lane xs (lane ∷ ys), turns-append lane xs ys, turns-same lane ys)
 
 -- ---- the step of a turn
 
+-- no lane has more turns than its segment has columns
 pub turn_count-le : (ctx : Context) (pass k : ℕ) → turn_count ctx pass k ≤ segment_length ctx
 turn_count-le ctx pass k = cond_both ((eqb pass 0) && (eqb k 0)) _ _ (λ x. x ≤ segment_length ctx) (λ _. omega arith) (λ _. omega arith)
 
+-- two fewer in the first slice of all
 pub turn_count-first : (ctx : Context) (pass k : ℕ) → pass ≡ 0 → k ≡ 0 → turn_count ctx pass k ≡ segment_length ctx - 2
 turn_count-first ctx pass k p e = cond-true ((eqb pass 0) && (eqb k 0)) (segment_length ctx - 2) (segment_length ctx) (and_from (eqb pass 0) (eqb k 0) (eq-eqb pass 0 p) (eq-eqb k 0 e))
 
@@ -83,6 +94,7 @@ turn_count-first ctx pass k p e = cond-true ((eqb pass 0) && (eqb k 0)) (segment
 abbrev pub turn_column : Context → ℕ → ℕ → ℕ
 turn_column ctx k n = (k + 1) * segment_length ctx - suc n
 
+-- a turn is a step, in its slice
 pub turn_step : (ctx : Context) → Fits ctx → (pass k lane n : ℕ) → k < 4 → lane < ctx.p_cost → suc n ≤ turn_count ctx pass k →
     IsStep ctx pass lane (turn_column ctx k n) × InSlice (segment_length ctx) (turn_column ctx k n) k
 turn_step ctx fits pass k lane n four below room =
@@ -103,25 +115,30 @@ turn_step ctx fits pass k lane n four below room =
 
 -- ---- schedules, whole or what is left of them
 
+-- lanes in any order, none with too many turns
 pub record MayRun (ctx : Context) (pass k : ℕ) (schedule : List ℕ) : Type 0 where
   pub lanes : AllByRecursion (λ lane. lane < ctx.p_cost) schedule
   pub few : (lane : ℕ) → lane < ctx.p_cost → turns lane schedule ≤ turn_count ctx pass k
 
+-- what is left may run too
 pub MayRun-tail : (ctx : Context) (pass k lane : ℕ) (schedule : List ℕ) → MayRun ctx pass k (lane ∷ schedule) → MayRun ctx pass k schedule
 MayRun-tail ctx pass k lane schedule m = record {
   lanes = m.lanes.1;
   few = λ l h. let a = m.few l h in let b = turns-tail l lane schedule in omega arith;
 }
 
+-- the first turn is a step
 pub head_step : (ctx : Context) → Fits ctx → (pass k lane : ℕ) (schedule : List ℕ) → k < 4 → MayRun ctx pass k (lane ∷ schedule) →
     IsStep ctx pass lane (turn_column ctx k (turns lane schedule)) × InSlice (segment_length ctx) (turn_column ctx k (turns lane schedule)) k
 head_step ctx fits pass k lane schedule four m =
     turn_step ctx fits pass k lane (turns lane schedule) four m.lanes.0 (let a = m.few lane m.lanes.0 in let b = turns-same lane schedule in omega arith)
 
+-- one lane fewer in the list
 lanes_without : (p x : ℕ) (xs ys : List ℕ) → AllByRecursion (λ lane. lane < p) (xs ++ x ∷ ys) → AllByRecursion (λ lane. lane < p) (xs ++ ys)
 lanes_without p x [] ys h = h.1
 lanes_without p x (y ∷ xs) ys h = (h.0, lanes_without p x xs ys h.1)
 
+-- a lane that stands in the list is one
 lane_among : (p x : ℕ) (xs ys : List ℕ) → AllByRecursion (λ lane. lane < p) (xs ++ x ∷ ys) → x < p
 lane_among p x [] ys h = h.0
 lane_among p x (y ∷ xs) ys h = lane_among p x xs ys h.1
@@ -156,6 +173,7 @@ record FirstTurn (lane : ℕ) (ys : List ℕ) : Type 0 where
   is : ys ≡ before ++ lane ∷ after
   none : turns lane before ≡ 0
 
+-- where it stands
 first_turn : (lane : ℕ) (ys : List ℕ) → 0 < turns lane ys → FirstTurn lane ys
 first_turn lane [] h = absurd (omega arith)
 first_turn lane (y ∷ ys) h =
@@ -166,6 +184,7 @@ first_turn lane (y ∷ ys) h =
           record { before = y ∷ t.before; after = t.after; is = ap (λ zs. y ∷ zs) t.is; none = turns-other lane y t.before ne ∙ t.none })
     ]
 
+-- a list without turns is empty
 no_turns : (p : ℕ) (ys : List ℕ) → AllByRecursion (λ lane. lane < p) ys → ((lane : ℕ) → lane < p → 0 ≡ turns lane ys) → ys ≡ []
 no_turns p [] h none = refl
 no_turns p (y ∷ ys) h none = absurd (let a = none y h.0 in let b = turns-same y ys in omega arith)
@@ -200,6 +219,7 @@ same_turns ctx fits pass k four (x ∷ xs) ys mx my same memory =
     ∙ same_turns ctx fits pass k four xs later (MayRun-tail ctx pass k x xs mx) mlater same' (step ctx memory pass x (turn_column ctx k (turns x later)))
     ∙ sym (ap (λ zs. run ctx pass k zs memory) t.is ∙ first_to_front ctx fits pass k x four t.before t.after t.none my' memory)
 
+-- a schedule may run
 pub MayRun-from : (ctx : Context) (pass k : ℕ) (schedule : List ℕ) → IsSchedule ctx pass k schedule → MayRun ctx pass k schedule
 MayRun-from ctx pass k schedule is = record { lanes = is.lanes; few = λ lane h. let e = is.turns lane h in omega arith }
 

@@ -31,12 +31,14 @@ pub record Reads (ctx : Context) (pass lane column r l c : ℕ) : Type 0 where
   pub newest : ((r ≡ pass) × (c < column)) ⊎ ((pass ≡ suc r) × (column ≤ c))
   pub apart : (l ≡ lane) ⊎ ((c < column / segment_length ctx * segment_length ctx) ⊎ ((column / segment_length ctx + 1) * segment_length ctx ≤ c))
 
+-- a column c of slice k, where a segment has s columns
 pub record InSlice (s c k : ℕ) : Type 0 where
   pub above : k * s ≤ c
   pub below : c < (k + 1) * s
   pub whole : (k + 1) * s ≤ 4 * s
   pub one_of_four : k < 4
 
+-- each column of a lane is one of its slice
 pub in_slice : (s c : ℕ) → 2 ≤ s → c < 4 * s → InSlice s c (c / s)
 in_slice s c two h =
     let k : c / s < 4 = (div-lt_iff_lt-mul {k = s} {x = c} {y = 4} (omega arith)).1 h in
@@ -44,6 +46,7 @@ in_slice s c two h =
     let e : c < s * (c / s + 1) = lt-mul-div-succ c (omega arith) in
     record { above = div-mul-le_self c s; below = omega arith; whole = m; one_of_four = k }
 
+-- what holds of each column holds of the list
 pub All-columns : (P : ℕ × ℕ → Type 0) (pass from to : ℕ) → ((c : ℕ) → from ≤ c → c < to → P (pass, c)) → All P (columns pass from to)
 unfolding columns
 All-columns P pass from to h =
@@ -51,6 +54,7 @@ All-columns P pass from to h =
     let lt' : k < to - from = omega (arith, length-range_with_len from (to - from)) in
     subst (λ c. P (pass, c)) (sym (get_or-range_with_len from (to - from) k d lt')) (h (from + k) (omega arith) (omega arith)))
 
+-- how many there are
 pub length-columns : (pass from to : ℕ) → length (columns pass from to) ≡ to - from
 unfolding columns
 length-columns pass from to = length-map (range_with_len from (to - from)) (λ c. (pass, c)) ∙ length-range_with_len from (to - from)
@@ -58,12 +62,15 @@ length-columns pass from to = length-map (range_with_len from (to - from)) (λ c
 -- ---- what may be referred to is a source, and there is some
 
 module _ (ctx : Context) (fits : Fits ctx) (lane column other : ℕ) (in_lanes : other < ctx.p_cost) (in_columns : column < lane_length ctx) where
+  -- a pair that the block may be made of
   abbrev IsSource : ℕ → ℕ × ℕ → Type 0
   IsSource pass x = Reads ctx pass lane column x.0 other x.1
 
+  -- the column's slice
   bounds : InSlice (segment_length ctx) column (column / segment_length ctx)
   bounds = in_slice (segment_length ctx) column fits.two_columns in_columns
 
+  -- finished segments are sources
   finished_sources : (pass : ℕ) → All (IsSource pass) (finished_segments ctx pass (column / segment_length ctx))
   unfolding finished_segments
   finished_sources zero = All-columns (IsSource zero) 0 0 _ (λ c low high.
@@ -77,18 +84,21 @@ module _ (ctx : Context) (fits : Fits ctx) (lane column other : ℕ) (in_lanes :
       let b = bounds in
       record { in_lanes = in_lanes; in_columns = omega arith; newest = inl (refl, omega arith); apart = inr (inl high) }))
 
+  -- so is the own segment so far
   own_sources : (pass : ℕ) → All (IsSource pass) (cond (eqb other lane) (columns pass (column / segment_length ctx * segment_length ctx) (column - 1)) [])
   own_sources pass = cond_both (eqb other lane) _ [] (All (IsSource pass))
       (λ e. All-columns (IsSource pass) pass _ _ (λ c low high.
       record { in_lanes = in_lanes; in_columns = omega arith; newest = inl (refl, omega arith); apart = inl (eqb-true other lane e) }))
       (λ _. All-nil (IsSource pass))
 
+  -- all permitted blocks are sources
   pub permitted_sources : (pass : ℕ) → All (IsSource pass) (permitted ctx pass lane column other)
   unfolding permitted without_last
   permitted_sources pass = cond_both (eqb (column % segment_length ctx) 0) _ _ (All (IsSource pass))
       (λ _. All-take (IsSource pass) _ _ (finished_sources pass))
       (λ _. All-append (IsSource pass) _ _ (finished_sources pass) (own_sources pass))
 
+  -- how many blocks of finished segments there are at least
   length-finished : (pass : ℕ) → (zero < pass → 3 * segment_length ctx ≤ length (finished_segments ctx pass (column / segment_length ctx)))
       × (pass ≡ zero → length (finished_segments ctx pass (column / segment_length ctx)) ≡ column / segment_length ctx * segment_length ctx)
   unfolding finished_segments
@@ -139,17 +149,20 @@ module _ (ctx : Context) (fits : Fits ctx) (lane column other : ℕ) (in_lanes :
 
 -- ---- each block is made of its sources alone
 
+-- the lane referred to is one
 pub lane_below : (ctx : Context) → Fits ctx → (pass lane column w : ℕ) → lane < ctx.p_cost → reference_lane ctx pass lane column w < ctx.p_cost
 unfolding reference_lane
 lane_below ctx fits pass lane column w h =
     cond_both ((eqb pass 0) && (eqb (column / segment_length ctx) 0)) lane ((w / 2 ^ 32) % ctx.p_cost) (λ x. x < ctx.p_cost) (λ _. h) (λ _. mod-lt (w / 2 ^ 32) fits.some_lane)
 
+-- in the first slice of all it is the block's own
 pub lane_alone : (ctx : Context) (pass lane column w : ℕ) → pass ≡ 0 → column / segment_length ctx ≡ 0 → reference_lane ctx pass lane column w ≡ lane
 unfolding reference_lane
 lane_alone ctx pass lane column w p k =
     cond-true ((eqb pass 0) && (eqb (column / segment_length ctx) 0)) lane ((w / 2 ^ 32) % ctx.p_cost)
     (and_from (eqb pass 0) (eqb (column / segment_length ctx) 0) (eq-eqb pass 0 p) (eq-eqb (column / segment_length ctx) 0 k))
 
+-- the index taken is one of them
 pub index_below : (count w : ℕ) → 0 < count → reference_index count w < count
 unfolding reference_index
 index_below count w h = omega arith
@@ -167,9 +180,11 @@ reference_reads ctx fits pass lane column w st =
     (index_below (length blocks) w some)
     (permitted_sources ctx fits lane column other below st.in_columns pass)
 
+-- two readers that agree on what a block may be made of
 abbrev pub AgreeOn : (ctx : Context) (pass lane column : ℕ) → Blocks → Blocks → Type 0
 AgreeOn ctx pass lane column f g = (r l c : ℕ) → Reads ctx pass lane column r l c → f r l c ≡ g r l c
 
+-- they have one previous block
 pub previous_cong : (ctx : Context) → Fits ctx → (pass lane column : ℕ) → IsStep ctx pass lane column → (f g : Blocks) → AgreeOn ctx pass lane column f g →
     previous ctx f pass lane column ≡ previous ctx g pass lane column
 unfolding previous
@@ -181,26 +196,31 @@ previous_cong ctx fits pass lane (suc column) st f g h =
     let below : suc column < lane_length ctx = st.in_columns in
     h pass lane column (record { in_lanes = st.in_lanes; in_columns = omega arith; newest = inl (refl, omega arith); apart = inl refl })
 
+-- one word
 pub word_cong : (ctx : Context) → Fits ctx → (pass lane column : ℕ) → IsStep ctx pass lane column → (f g : Blocks) → AgreeOn ctx pass lane column f g →
     reference_word ctx f pass lane column ≡ reference_word ctx g pass lane column
 unfolding reference_word
 word_cong ctx fits pass lane column st f g h =
     ap (λ (b : List ℕ). cond (is_independent ctx pass (column / segment_length ctx)) (address_word ctx pass lane (column / segment_length ctx) (column % segment_length ctx)) (get_or b 0 0)) (previous_cong ctx fits pass lane column st f g h)
 
+-- one reference
 pub reference_of_cong : (ctx : Context) → Fits ctx → (pass lane column : ℕ) → IsStep ctx pass lane column → (f g : Blocks) → AgreeOn ctx pass lane column f g →
     reference_of ctx f pass lane column ≡ reference_of ctx g pass lane column
 unfolding reference_of
 reference_of_cong ctx fits pass lane column st f g h = ap (reference ctx pass lane column) (word_cong ctx fits pass lane column st f g h)
 
+-- which is a source
 pub reference_of_reads : (ctx : Context) → Fits ctx → (pass lane column : ℕ) → IsStep ctx pass lane column → (f : Blocks) →
     Reads ctx pass lane column (reference_of ctx f pass lane column).pass (reference_of ctx f pass lane column).lane (reference_of ctx f pass lane column).column
 unfolding reference_of
 reference_of_reads ctx fits pass lane column st f = reference_reads ctx fits pass lane column (reference_word ctx f pass lane column) st
 
+-- a branch that is taken may be changed for an equal one
 cond_same : {X : Type 0} (b : Bool) (x u y : X) → (b ≡ true → x ≡ u) → cond b x y ≡ cond b u y
 cond_same true x u y h = h refl
 cond_same false x u y h = refl
 
+-- and make one block
 pub made_cong : (ctx : Context) → Fits ctx → (pass lane column : ℕ) → IsStep ctx pass lane column → (f g : Blocks) → AgreeOn ctx pass lane column f g →
     made_block ctx f pass lane column ≡ made_block ctx g pass lane column
 unfolding made_block

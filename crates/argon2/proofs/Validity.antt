@@ -21,6 +21,7 @@ pub record HasRoom (m t p : ℕ) : Type 0 where
   pub blocks : 8 * p ≤ m
   pub passes : 1 ≤ t
 
+-- all that the tests say
 pub has_room : (m t p : ℕ) → IsNone (first_fault m t p None) → HasRoom m t p
 has_room m t p e =
     let a = not_refused (ltb m 8) _ _ e in
@@ -30,6 +31,7 @@ has_room m t p e =
     let f = not_refused (ltb t 1) _ _ d.1 in
     record { lanes = ltb-false p 1 b.0; lanes_below = let x = ltb-false 16777215 p c.0 in omega arith; blocks = ltb-false m (8 * p) d.0; passes = ltb-false t 1 f.0 }
 
+-- costs that are not refused have these sizes
 pub sizes : (ctx : Context) → ctx.m_cost < 2 ^ 32 → ctx.t_cost < 2 ^ 32 → IsNone (first_fault ctx.m_cost ctx.t_cost ctx.p_cost None) → Sizes ctx
 unfolding segment_length
 sizes ctx m t e =
@@ -47,11 +49,14 @@ sizes ctx m t e =
       t_cost = t;
     }
 
+-- so has a valid context
 pub sizes-valid : (ctx : Context) → IsValid ctx → Sizes ctx
 sizes-valid ctx v = sizes ctx v.m_cost v.t_cost v.costs
 
+-- all that the laws need of them
 pub Fits-sizes : (ctx : Context) → Sizes ctx → Fits ctx
 Fits-sizes ctx s = record { some_lane = s.some_lane; two_columns = s.two_columns }
 
+-- which a valid context has
 pub Fits-valid : (ctx : Context) → IsValid ctx → Fits ctx
 Fits-valid ctx v = Fits-sizes ctx (sizes-valid ctx v)

@@ -12,11 +12,13 @@ use Rattle.argon2.proofs.Sources.{Fits, IsStep}
 use Rattle.argon2.proofs.Schedules.{turn_column, turns-same, turns-other, MayRun, MayRun-tail, MayRun-from, head_step, turn_count-le}
 use Rattle.argon2.proofs.Filling.{Holds, Holds-like, step_holds, step_answers, done_before, begun, slices_hold, passes_hold, begins, turn_count-later_slice, turn_count-later_pass}
 
+-- two blocks that are one
 pub record SameMark (pass lane column r l c : ℕ) : Type 0 where
   pub one_pass : r ≡ pass
   pub one_lane : l ≡ lane
   pub one_column : c ≡ column
 
+-- blocks of one index are one
 same_mark : (ctx : Context) (pass lane column r l c : ℕ) → lane < ctx.p_cost → column < lane_length ctx → l < ctx.p_cost → c < lane_length ctx →
     position_index ctx r l c ≡ position_index ctx pass lane column → SameMark pass lane column r l c
 same_mark ctx pass lane column r l c a b x y e =
@@ -28,6 +30,7 @@ same_mark ctx pass lane column r l c a b x y e =
     let inner = same_from_place l c lane column q y b outer.1 in
     record { one_pass = outer.0; one_lane = inner.0; one_column = inner.1 }
 
+-- an index is one of the list's
 pub mark_within : (ctx : Context) (pass lane column : ℕ) → pass < ctx.t_cost → lane < ctx.p_cost → column < lane_length ctx → position_index ctx pass lane column < ctx.t_cost * block_count ctx
 mark_within ctx pass lane column t a b =
     let q = lane_length ctx in
@@ -42,6 +45,7 @@ pub record Marked (ctx : Context) (first : FirstColumns) (pass : ℕ) (done : �
   pub steps : (r l c : ℕ) → r < ctx.t_cost → l < ctx.p_cost → c < lane_length ctx → (r ≡ 0 → 2 ≤ c) → (r < pass) ⊎ ((r ≡ pass) × (c < done l)) → get_or new (position_index ctx r l c) 0 ≡ reference_places ctx first r l c
   pub firsts : (l c : ℕ) → l < ctx.p_cost → c < 2 → get_or new (position_index ctx 0 l c) 0 ≡ get_or old (position_index ctx 0 l c) 0
 
+-- of two equal counts of made columns
 Marked-like : (ctx : Context) (first : FirstColumns) (pass : ℕ) (done done' : ℕ → ℕ) (old new : List ℕ) → ((l : ℕ) → l < ctx.p_cost → done l ≡ done' l) → Marked ctx first pass done old new → Marked ctx first pass done' old new
 Marked-like ctx first pass done done' old new same m = record {
   size = m.size;
@@ -49,6 +53,7 @@ Marked-like ctx first pass done done' old new same m = record {
   firsts = m.firsts;
 }
 
+-- a step puts down its own
 step_marked : (ctx : Context) → Fits ctx → (first : FirstColumns) (pass lane column : ℕ) (done done' : ℕ → ℕ) (old new : List ℕ) (place : ℕ) → IsStep ctx pass lane column → pass < ctx.t_cost →
     place ≡ reference_places ctx first pass lane column → done lane ≡ column → done' lane ≡ suc column → ((l : ℕ) → l ≢ lane → done' l ≡ done l) →
     Marked ctx first pass done old new → Marked ctx first pass done' old (set new (position_index ctx pass lane column) place)
@@ -90,6 +95,7 @@ step_marked ctx fits first pass lane column done done' old new place st t is now
           get_or-set_other new i (position_index ctx 0 l c) place 0 apart ∙ m.firsts l c a b;
     }
 
+-- what is left of a schedule finishes the slice
 watch_marked : (ctx : Context) → Fits ctx → (first : FirstColumns) (pass k : ℕ) → pass < ctx.t_cost → k < 4 → (schedule : List ℕ) (memory : List (List ℕ)) (old new : List ℕ) → MayRun ctx pass k schedule →
     Holds ctx first pass (done_before ctx k schedule) memory → Marked ctx first pass (done_before ctx k schedule) old new → Marked ctx first pass (done_before ctx k []) old (watch ctx pass k schedule memory new)
 unfolding watch
@@ -111,6 +117,7 @@ watch_marked ctx fits first pass k t four (lane ∷ schedule) memory old new m h
     (step_marked ctx fits first pass lane column (done_before ctx k (lane ∷ schedule)) (done_before ctx k schedule) old new (reference_place ctx memory pass lane column) st.0 t
     (step_answers ctx fits first pass lane column k (done_before ctx k (lane ∷ schedule)) memory st.0 st.1 now about h) now then' others w)
 
+-- the first slices, each by its schedule
 watch_slices_marked : (ctx : Context) → Fits ctx → (first : FirstColumns) (schedules : ℕ → List ℕ) (pass k : ℕ) → pass < ctx.t_cost → k ≤ 4 → ((j : ℕ) → j < 4 → IsSchedule ctx pass j (schedules j)) → (memory : List (List ℕ)) (old new : List ℕ) →
     Holds ctx first pass (λ _. begun ctx pass 0) memory → Marked ctx first pass (λ _. begun ctx pass 0) old new → Marked ctx first pass (λ _. begun ctx pass k) old (watch_slices ctx schedules pass k memory new)
 unfolding watch_slices
@@ -130,6 +137,7 @@ watch_slices_marked ctx fits first schedules pass (suc k) t four is memory old n
     (Holds-like ctx first pass (λ _. begun ctx pass k) (done_before ctx k schedule) before start i)
     (Marked-like ctx first pass (λ _. begun ctx pass k) (done_before ctx k schedule) old marks start j))
 
+-- the end of a pass is the start of the next
 next_marked : (ctx : Context) (first : FirstColumns) (pass : ℕ) (old new : List ℕ) → Marked ctx first pass (λ _. begun ctx pass 4) old new → Marked ctx first (suc pass) (λ _. begun ctx (suc pass) 0) old new
 next_marked ctx first pass old new m =
     let s = segment_length ctx in
@@ -144,6 +152,7 @@ next_marked ctx first pass old new m =
       firsts = m.firsts;
     }
 
+-- the first passes
 watch_passes_marked : (ctx : Context) → Fits ctx → (first : FirstColumns) (schedules : ℕ → ℕ → List ℕ) (passes : ℕ) → passes ≤ ctx.t_cost → ((r k : ℕ) → r < ctx.t_cost → k < 4 → IsSchedule ctx r k (schedules r k)) → (memory : List (List ℕ)) (old new : List ℕ) →
     Holds ctx first 0 (λ _. begun ctx 0 0) memory → Marked ctx first 0 (λ _. begun ctx 0 0) old new → Marked ctx first passes (λ _. begun ctx passes 0) old (watch_passes ctx schedules passes memory new)
 unfolding watch_passes
@@ -156,6 +165,7 @@ watch_passes_marked ctx fits first schedules (suc r) t is memory old new h w =
     (passes_hold ctx fits first schedules r (λ a k x y. is a k (omega arith) y) memory h)
     (watch_passes_marked ctx fits first schedules r (omega arith) is memory old new h w))
 
+-- after the last pass the list is that of the reference places
 pub watched : (ctx : Context) → Fits ctx → (first : FirstColumns) (schedules : ℕ → ℕ → List ℕ) → AreSchedules ctx schedules →
     (memory : List (List ℕ)) (old : List ℕ) → Begins ctx first memory → length old ≡ ctx.t_cost * block_count ctx →
     AreReferencePlaces ctx first old (watch_passes ctx schedules ctx.t_cost memory old)
