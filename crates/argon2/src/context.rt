@@ -55,7 +55,7 @@ impl<'key> Argon2<'key> {
     ghost use Rattle.std.specs.Prelude.{◌≡◌, ◌↔◌, ◌≤◌, ℕ, List, [], IsOk, IfOk, IfErr, OnOk, OnErr, length, take, drop};
     ghost use Rattle.argon2_base.specs.declared.error.Error.TheVariants.{SecretTooLong};
     ghost use Rattle.argon2.specs.Argon2.{context_of, own_parameters, secret_bytes};
-    ghost use Rattle.argon2.specs.Context.{context_with, block_count};
+    ghost use Rattle.argon2.specs.Context.{context_with, block_count, IsValid};
     ghost use Rattle.argon2.specs.Params.{parameters_of};
     ghost use Rattle.argon2.specs.Refusals.{answer_of, refusal_of, fill_refusal};
     ghost use Rattle.argon2.specs.Tag.{tag_of, matrix_of};
@@ -203,7 +203,8 @@ impl<'key> Argon2<'key> {
 
     // What the hash's blocks are filled by.
     fn instance(&self) -> Instance<'_>
-        ensures { result ≡ context_of self.now }
+        ensures value { result ≡ context_of self.now }
+        ensures valid { IsValid (context_of self.now) }
     {
         Instance::new(self.algorithm, self.version, &self.params, self.secret())
     }

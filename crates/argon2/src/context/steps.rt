@@ -9,7 +9,7 @@ impl Argon2<'_> {
     ghost use Rattle.argon2_base.specs.Block.{bytes_of};
     ghost use Rattle.argon2_base.specs.LongHash.{long_hash};
     ghost use Rattle.argon2.specs.Argon2.{context_of, own_parameters};
-    ghost use Rattle.argon2.specs.Context.{lane_length, block_count};
+    ghost use Rattle.argon2.specs.Context.{IsValid, lane_length, block_count};
     ghost use Rattle.argon2.specs.InitialHash.{first_block};
     ghost use Rattle.argon2.specs.Laws.{Begins};
     ghost use Rattle.argon2.specs.Refusals.{answer_of, first_of, output_faults, refusal_of};
@@ -33,6 +33,7 @@ impl Argon2<'_> {
             out_len (length pwd.now) (length salt.now)
             (block_count (context_of self.now)) (length memory.old)) }
 
+        ensures valid { OnOk result (IsValid (context_of self.now)) }
         ensures begins { let ctx = context_of self.now in OnOk result
             (Begins ctx (first_block ctx pwd.now salt.now out_len)
             (take (block_count ctx) memory.new)) }

@@ -6,6 +6,6 @@ use Rattle.argon2.proofs.context.Argon2.hash.Goals as goal
 
 pub returns-clause-tag : goal.returns-clause-tag
 returns-clause-tag c =
-    let same = c.instance-instance.ensures in
+    let same = c.instance-instance.ensures.value in
     rw same at c.write_tag.ensures
     ∙ tag_of_matrix (context_of c.args.self.now) (subst Sizes same c.block_count.ensures.sizes) c.args.pwd.now c.args.salt.now _ _ c.fill_blocks.ensures.matrix
