@@ -1,9 +1,13 @@
 -- What the laws of Argon2 say.
 use Rattle.std.specs.Prelude.{◌≡◌, ℕ, ◌+◌, ◌*◌, ◌<◌, List, [], length, slice_index_or}
+use Rattle.argon2_base.specs.Block.{bytes_of}
+use Rattle.argon2_base.specs.LongHash.{long_hash}
 use Rattle.argon2_base.specs.Mixing.{mixed}
 use Rattle.argon2.specs.Context.{Context, IsValid, segment_length, lane_length, block_count}
-use Rattle.argon2.specs.Recurrence.{FirstColumns, Blocks, rule, block_of, reference_places, matrix, last_block}
+use Rattle.argon2.specs.InitialHash.{first_block}
+use Rattle.argon2.specs.Recurrence.{FirstColumns, Blocks, rule, block_of, reference_places, matrix}
 use Rattle.argon2.specs.Steps.{Memory, IsSchedule, run, run_passes, last_column}
+use Rattle.argon2.specs.Tag.{tag_of}
 
 -- mixing does not mind the order of the two blocks
 abbrev pub MixingIsSymmetric : Type 0
@@ -58,12 +62,13 @@ SchedulesFill = (ctx : Context) → IsValid ctx →
     (schedules : ℕ → ℕ → List ℕ) → AreSchedules ctx schedules →
     run_passes ctx schedules ctx.t_cost memory ≡ matrix ctx first
 
--- And the last column is that of the tag.
+-- From the first two columns of a hash, any schedules lead to a last column that gives the tag.
 abbrev pub SchedulesGiveTag : Type 0
-SchedulesGiveTag = (ctx : Context) → IsValid ctx →
-    (first : FirstColumns) (memory : Memory) → Begins ctx first memory →
+SchedulesGiveTag = (ctx : Context) → IsValid ctx → (password salt : List ℕ) (n : ℕ) →
+    (memory : Memory) → Begins ctx (first_block ctx password salt n) memory →
     (schedules : ℕ → ℕ → List ℕ) → AreSchedules ctx schedules →
-    last_column ctx (run_passes ctx schedules ctx.t_cost memory) ≡ last_block ctx first
+    long_hash n (bytes_of (last_column ctx (run_passes ctx schedules ctx.t_cost memory)))
+    ≡ tag_of ctx password salt n
 
 -- ---- independence
 

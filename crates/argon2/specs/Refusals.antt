@@ -13,6 +13,11 @@ abbrev pub answer_of : Option Error → Result (Unit {0}) Error
 answer_of None = Ok tt
 answer_of (Some fault) = Err fault
 
+-- the same of a call that answers a value
+abbrev pub answer_with : {A : Type 0} → A → Option Error → Result A Error
+answer_with value None = Ok value
+answer_with value (Some fault) = Err fault
+
 -- an output of so many bytes, where the parameters set the length n or none
 abbrev pub output_faults : Option ℕ → ℕ → List (Bool × Error)
 output_faults n output =

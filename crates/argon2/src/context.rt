@@ -10,6 +10,7 @@ use argon2_base::error::{Error, Result};
 use std::fmt;
 
 mod fill;
+mod hash;
 mod inputs;
 mod instance;
 mod reference;
@@ -17,7 +18,9 @@ mod secret;
 mod segment;
 mod step;
 mod step_block;
+mod steps;
 mod tag;
+mod watched;
 
 use inputs::check_inputs;
 use instance::Instance;
@@ -52,7 +55,7 @@ impl<'key> Argon2<'key> {
     ghost use Rattle.std.specs.Prelude.{◌≡◌, ◌↔◌, ◌≤◌, ℕ, List, [], IsOk, IfOk, IfErr, OnOk, OnErr, length, take, drop};
     ghost use Rattle.argon2_base.specs.declared.error.Error.TheVariants.{SecretTooLong};
     ghost use Rattle.argon2.specs.Argon2.{context_of, own_parameters, secret_bytes};
-    ghost use Rattle.argon2.specs.Context.{context_with, block_count};
+    ghost use Rattle.argon2.specs.Context.{context_with, block_count, IsValid};
     ghost use Rattle.argon2.specs.Params.{parameters_of};
     ghost use Rattle.argon2.specs.Refusals.{answer_of, refusal_of, fill_refusal};
     ghost use Rattle.argon2.specs.Tag.{tag_of, matrix_of};
@@ -150,14 +153,7 @@ impl<'key> Argon2<'key> {
         ensures same_output { OnErr result (out.new ≡ out.old) }
         ensures same_memory { OnErr result (memory.new ≡ memory.old) }
     {
-        self.check_output(out.len())?;
-        check_inputs(pwd, salt)?;
-        self.check_memory(memory.len())?;
-        let instance = self.instance();
-        let blocks = &mut memory[..instance.block_count()];
-        self.fill_blocks(pwd, salt, out.len() as u32, blocks);
-        instance.write_tag(blocks, out);
-        Ok(())
+        self.hash(pwd, salt, out, memory, &mut [], &mut Work::new())
     }
 
     /// Fills the first [`block_count`](Params::block_count) blocks of `memory` as a hash of a
@@ -183,20 +179,15 @@ impl<'key> Argon2<'key> {
         check_inputs(pwd, salt)?;
         self.check_memory(memory.len())?;
         let count = self.instance().block_count();
-        self.fill_blocks(pwd, salt, 0, &mut memory[..count]);
+        self.fill_blocks(
+            pwd,
+            salt,
+            0,
+            &mut memory[..count],
+            &mut [],
+            &mut Work::new(),
+        );
         Ok(())
-    }
-
-    // Makes the matrix for an output of `out_len` bytes.
-    fn fill_blocks(&self, pwd: &[u8], salt: &[u8], out_len: u32, blocks: &mut [Block])
-        requires pwd { length pwd.now ≤ MAX_PWD_LEN }
-        requires salt { length salt.now ≤ MAX_SALT_LEN }
-        requires size { length blocks.old ≡ block_count (context_of self.now) }
-        ensures { blocks.new ≡ matrix_of (context_of self.now) pwd.now salt.now out_len }
-    {
-        let instance = self.instance();
-        instance.begin(&self.initial_hash(pwd, salt, out_len), blocks);
-        instance.fill(blocks, &mut [], &mut Work::new());
     }
 
     // The secret's bytes.
@@ -212,7 +203,8 @@ impl<'key> Argon2<'key> {
 
     // What the hash's blocks are filled by.
     fn instance(&self) -> Instance<'_>
-        ensures { result ≡ context_of self.now }
+        ensures value { result ≡ context_of self.now }
+        ensures valid { IsValid (context_of self.now) }
     {
         Instance::new(self.algorithm, self.version, &self.params, self.secret())
     }

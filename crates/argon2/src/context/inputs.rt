@@ -73,11 +73,22 @@ impl Argon2<'_> {
     ghost use Rattle.std.specs.Prelude.{◌≡◌, ◌<◌, ◌^◌, length};
     ghost use Rattle.argon2.specs.Argon2.{context_of, own_parameters};
     ghost use Rattle.argon2.specs.Context.{block_count};
-    ghost use Rattle.argon2.specs.Refusals.{answer_of, first_of, output_faults, memory_faults};
+    ghost use Rattle.argon2.specs.Refusals.{answer_of, first_of, output_faults, memory_faults, refusal_of};
     ghost use Rattle.argon2.specs.InitialHash.{initial_hash};
 
+    /// Refuses an output of `out_len` bytes, a password, a salt, or memory of `blocks` blocks, by
+    /// the first fault.
+    pub(super) fn check(&self, out_len: usize, pwd: &[u8], salt: &[u8], blocks: usize) -> Result<()>
+        ensures { result ≡ answer_of (refusal_of (own_parameters self.now).output_len
+            out_len (length pwd.now) (length salt.now) (block_count (context_of self.now)) blocks) }
+    {
+        self.check_output(out_len)?;
+        check_inputs(pwd, salt)?;
+        self.check_memory(blocks)
+    }
+
     /// Refuses an output of `len` bytes.
-    pub(super) fn check_output(&self, len: usize) -> Result<()>
+    fn check_output(&self, len: usize) -> Result<()>
         ensures { result ≡ answer_of (first_of (output_faults (own_parameters self.now).output_len len)) }
     {
         let output_len = self.params.output_len();

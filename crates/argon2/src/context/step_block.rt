@@ -1,4 +1,4 @@
-//! Single steps, in the order that a caller chooses.
+//! The word of a single step, with an address block of its own.
 
 ghost use Rattle.std.specs.Prelude.{◌≡◌, ◌/◌, ◌%◌, ◌<◌, ◌≤◌, take, drop, length};
 ghost use Rattle.argon2.specs.Context.{segment_length, lane_length, block_count};
@@ -10,27 +10,15 @@ use crate::{Block, Work};
 use std::convert::AsSlice;
 
 impl<'a> Instance<'a> {
-    /// Writes the block of a pass, a lane and a column, and answers the place of its reference.
-    pub(crate) fn step_block(&self, memory: &mut [Block], pass: u32, lane: u32, column: u32) -> u32
-        requires in_lanes { lane < self.now.p_cost }
-        requires in_columns { column < lane_length self.now }
-        requires later { pass ≡ 0 → 2 ≤ column }
-        requires room { block_count self.now ≤ length memory.old }
-        ensures step { take (block_count self.now) memory.new
-            ≡ step self.now (take (block_count self.now) memory.old) pass lane column }
-        ensures rest { drop (block_count self.now) memory.new
-            ≡ drop (block_count self.now) memory.old }
-        ensures place { result
-            ≡ reference_place self.now (take (block_count self.now) memory.old) pass lane column }
-    {
-        let memory = &mut memory[..self.block_count()];
-        let mut work = Work::new();
-        let word = self.own_word(memory, pass, lane, column, &mut work);
-        self.step(memory, pass, lane, column, word, &mut work)
-    }
-
     /// The word of a block, for which an address block is made if it has one.
-    fn own_word(&self, memory: &[Block], pass: u32, lane: u32, column: u32, work: &mut Work) -> u64
+    pub(super) fn own_word(
+        &self,
+        memory: &[Block],
+        pass: u32,
+        lane: u32,
+        column: u32,
+        work: &mut Work,
+    ) -> u64
         requires in_lanes { lane < self.now.p_cost }
         requires in_columns { column < lane_length self.now }
         requires room { block_count self.now ≤ length memory.now }

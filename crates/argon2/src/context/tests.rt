@@ -5,6 +5,8 @@ use std::convert::AsSlice;
 use std::test::Fail;
 
 mod further_tags;
+mod steps;
+mod watched;
 
 // At most so many of some bytes.
 fn part(bytes: &[u8], len: usize) -> &[u8] {

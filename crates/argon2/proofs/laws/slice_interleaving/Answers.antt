@@ -1,3 +1,8 @@
+use Rattle.std.proofs.Common.{ap}
+use Rattle.argon2_base.specs.Block.{bytes_of}
+use Rattle.argon2_base.specs.LongHash.{long_hash}
+use Rattle.argon2.specs.InitialHash.{first_block}
+use Rattle.argon2.specs.Tag.{tag_of}
 use Rattle.argon2.proofs.Validity.{Fits-valid, sizes-valid}
 use Rattle.argon2.proofs.Schedules.{schedules_agree}
 use Rattle.argon2.proofs.Filling.{filled}
@@ -11,4 +16,7 @@ pub returns-clause-fill : goal.returns-clause-fill
 returns-clause-fill c = λ ctx v first memory begins schedules are. filled ctx (Fits-valid ctx v) (sizes-valid ctx v).some_pass first schedules are memory begins
 
 pub returns-clause-tag : goal.returns-clause-tag
-returns-clause-tag c = λ ctx v first memory begins schedules are. steps_give_last ctx (Fits-valid ctx v) (sizes-valid ctx v).some_pass first schedules are memory begins
+unfolding tag_of
+returns-clause-tag c = λ ctx v password salt n memory begins schedules are.
+    ap (λ block. long_hash n (bytes_of block))
+    (steps_give_last ctx (Fits-valid ctx v) (sizes-valid ctx v).some_pass (first_block ctx password salt n) schedules are memory begins)

@@ -11,5 +11,5 @@ returns c =
     let message = c.update_input-4.ensures.holds _ (c.update_input-3.ensures.holds _
     (c.update_input-2.ensures.holds _ (c.update_input.ensures.holds _ numbers))) in
     initial_hash_of_pieces (context_of c.args.self.now) c.args.pwd.now c.args.salt.now c.args.out_len _ _ _ _ _ _ _ _ _
-    c.p_cost.ensures.value c.m_cost.ensures.value c.t_cost.ensures.value c.from.ensures (c.algorithm_number.ensures ∙ ap (λ ctx. ctx.algorithm) c.instance.ensures)
+    c.p_cost.ensures.value c.m_cost.ensures.value c.t_cost.ensures.value c.from.ensures (c.algorithm_number.ensures ∙ ap (λ ctx. ctx.algorithm) c.instance.ensures.value)
     c.secret.ensures.value c.data.ensures.value (c.finalize_into.ensures _ message) (omega arith)
