@@ -12,6 +12,7 @@ use std::fmt;
 mod fill;
 mod inputs;
 mod instance;
+mod own_memory;
 mod reference;
 mod secret;
 mod segment;

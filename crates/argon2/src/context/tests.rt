@@ -5,6 +5,7 @@ use std::convert::AsSlice;
 use std::test::Fail;
 
 mod further_tags;
+mod own_memory;
 
 // At most so many of some bytes.
 fn part(bytes: &[u8], len: usize) -> &[u8] {
