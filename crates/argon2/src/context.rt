@@ -13,6 +13,7 @@ mod fill;
 mod hash;
 mod inputs;
 mod instance;
+mod own_memory;
 mod reference;
 mod secret;
 mod segment;

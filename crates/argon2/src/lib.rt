@@ -3,6 +3,7 @@
 
 pub mod algorithm;
 mod context;
+pub mod kdf;
 pub mod laws;
 pub mod params;
 pub mod version;
@@ -14,5 +15,6 @@ pub use argon2_base::{blake2b, blake2b_long, block, error};
 pub use context::{
     Argon2, MAX_PWD_LEN, MAX_SALT_LEN, MAX_SECRET_LEN, MIN_SALT_LEN, RECOMMENDED_SALT_LEN,
 };
+pub use kdf::{Kdf, Pbkdf};
 pub use params::{AssociatedData, KeyId, Params, ParamsBuilder};
 pub use version::Version;

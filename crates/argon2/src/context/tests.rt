@@ -5,6 +5,7 @@ use std::convert::AsSlice;
 use std::test::Fail;
 
 mod further_tags;
+mod own_memory;
 mod steps;
 mod watched;
 
