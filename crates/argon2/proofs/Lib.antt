@@ -5,6 +5,7 @@ mod Filling
 mod History
 mod InMemory
 mod Independence
+mod KnownAnswers
 mod LaneAfterLane
 mod LastColumn
 mod PermittedPlaces
@@ -15,5 +16,3 @@ mod Watched
 pub mod FirstColumns
 pub mod InitialHashing
 pub mod TagOfMatrix
-mod Independence
-mod KnownAnswers

@@ -1,10 +1,10 @@
 pub mod Absorbing
 pub mod Base64Lemmas
 pub mod BlockLemmas
+pub mod ByteLemmas
 pub mod HashBlocks
 pub mod HasherFields
 pub mod KnownDigests
-pub mod ByteLemmas
 pub mod LaneLemmas
 pub mod MixingLaws
 pub mod MixingLemmas
