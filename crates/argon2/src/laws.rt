@@ -1,8 +1,28 @@
 //! Laws of Argon2: each is the contract of a function without parameters, and calling it does nothing.
 
-ghost use Rattle.argon2.specs.Laws.{MixingIsSymmetric};
+ghost use Rattle.argon2.specs.Laws.{MixingIsSymmetric, BlocksFollowRule, NoOthersDo, SchedulesAgree, SchedulesFill, SchedulesGiveTag, Argon2iIsIndependent, Argon2idIsIndependentAtFirst};
 
 /// The mixing of two blocks (RFC 9106, section 3.5) is the same in either order.
 pub fn mixing_symmetric()
     ensures { MixingIsSymmetric }
+{}
+
+/// The blocks are made of each other as RFC 9106, section 3 says, and no other blocks are.
+pub fn recurrence()
+    ensures follow { BlocksFollowRule }
+    ensures alone { NoOthersDo }
+{}
+
+/// However the lanes of a slice take turns, the blocks are the same, and in the end they are the
+/// matrix and give the tag.
+pub fn slice_interleaving()
+    ensures agree { SchedulesAgree }
+    ensures fill { SchedulesFill }
+    ensures tag { SchedulesGiveTag }
+{}
+
+/// Where references do not depend on the blocks, they depend on the algorithm and the costs alone.
+pub fn independent_positions()
+    ensures argon2i { Argon2iIsIndependent }
+    ensures argon2id { Argon2idIsIndependentAtFirst }
 {}

@@ -1,8 +1,18 @@
 //! Argon2 (RFC 9106): password hashing and key derivation.
 #![tactic(auto)]
 
+pub mod algorithm;
+mod context;
 pub mod laws;
+pub mod params;
+pub mod version;
 
+pub use algorithm::Algorithm;
 pub use argon2_base::block::{Block, Work};
 pub use argon2_base::error::{B64Error, Error, Result};
-pub use argon2_base::{block, error};
+pub use argon2_base::{blake2b, blake2b_long, block, error};
+pub use context::{
+    Argon2, MAX_PWD_LEN, MAX_SALT_LEN, MAX_SECRET_LEN, MIN_SALT_LEN, RECOMMENDED_SALT_LEN,
+};
+pub use params::{AssociatedData, KeyId, Params, ParamsBuilder};
+pub use version::Version;

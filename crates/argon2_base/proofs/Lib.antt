@@ -1,6 +1,13 @@
+pub mod Absorbing
+pub mod Base64Lemmas
 pub mod BlockLemmas
 pub mod ByteLemmas
+pub mod HashBlocks
+pub mod HasherFields
+pub mod KnownDigests
 pub mod LaneLemmas
 pub mod MixingLaws
 pub mod MixingLemmas
 pub mod MixingValues
+pub mod Pieces
+pub mod Rounds

@@ -1,0 +1,17 @@
+mod Counts
+mod DecodedSlices
+mod Filled
+mod Filling
+mod History
+mod InMemory
+mod Independence
+mod LaneAfterLane
+mod LastColumn
+mod PermittedPlaces
+mod Schedules
+mod Sources
+mod Validity
+mod Watched
+pub mod FirstColumns
+pub mod InitialHashing
+pub mod TagOfMatrix

@@ -1,0 +1,10 @@
+use Rattle.std.proofs.Common.{◌≡◌, ℕ, ◌+◌, ◌-◌, ◌*◌, [], map, fold, get_or}
+use Rattle.std.specs.List.{range_with_len}
+use Rattle.argon2_base.specs.Block.{xor_blocks, zero_block}
+use Rattle.argon2.specs.Context.{lane_length}
+use Rattle.argon2.proofs.context.instance.Instance.last_column.Given as goal
+
+-- the lanes so far
+abbrev pub invariant-loop-lane : goal.invariant-loop-lane
+invariant-loop-lane l =
+    l.all ≡ fold xor_blocks zero_block (map (λ (lane : ℕ). get_or l.memory (lane * lane_length l.self + (lane_length l.self - 1)) []) (range_with_len 0 l.lane))

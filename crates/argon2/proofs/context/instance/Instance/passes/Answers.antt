@@ -1,0 +1,7 @@
+use Rattle.std.proofs.Common.{subst, rules}
+use Rattle.argon2.specs.Context.{Sizes}
+use Rattle.argon2.proofs.Validity.{sizes}
+use Rattle.argon2.proofs.context.instance.Instance.passes.Goals as goal
+
+pub returns-clause-sizes : goal.returns-clause-sizes
+returns-clause-sizes c = subst Sizes c.self.view_is (sizes _ (search rules) (search rules) c.self.invariant.0)

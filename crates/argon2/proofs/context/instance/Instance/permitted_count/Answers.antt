@@ -1,0 +1,20 @@
+use Rattle.std.proofs.Common.{arith}
+use Rattle.std.proofs.lemmas.Bool.Decides.{nat_tests}
+use Rattle.argon2.proofs.PermittedPlaces.{length-permitted}
+use Rattle.argon2.proofs.Validity.{Fits-sizes}
+use Rattle.argon2.proofs.context.instance.Instance.permitted_count.Goals as goal
+
+pub returns-then-index-eq0-clause-value : goal.returns-then-index-eq0-clause-value
+returns-then-index-eq0-clause-value c =
+    let e = length-permitted c.args.self.now (Fits-sizes c.args.self.now c.segment_length-segment.ensures.sizes) c.args.column c.requires.in_columns c.args.pass c.args.lane c.args.other c.requires.later in
+    grind (arith, nat_tests)
+
+pub returns-then-other-lane-clause-value : goal.returns-then-other-lane-clause-value
+returns-then-other-lane-clause-value c =
+    let e = length-permitted c.args.self.now (Fits-sizes c.args.self.now c.segment_length-segment.ensures.sizes) c.args.column c.requires.in_columns c.args.pass c.args.lane c.args.other c.requires.later in
+    grind (arith, nat_tests)
+
+pub returns-else-other-lane-clause-value : goal.returns-else-other-lane-clause-value
+returns-else-other-lane-clause-value c =
+    let e = length-permitted c.args.self.now (Fits-sizes c.args.self.now c.segment_length-segment.ensures.sizes) c.args.column c.requires.in_columns c.args.pass c.args.lane c.args.other c.requires.later in
+    grind (arith, nat_tests)

@@ -1,0 +1,47 @@
+use Rattle.std.proofs.Common.{◌+◌, ◌*◌, [], ◌&&◌, eqb, ltb, get_or, sym, ◌∙◌, rules}
+use Rattle.std.proofs.lemmas.Bool.{cond-true, cond-false}
+use Rattle.std.proofs.lemmas.List.{get_or_read}
+use Rattle.argon2_base.proofs.MixingLaws.{xor_blocks-comm}
+use Rattle.argon2.specs.Context.{lane_length}
+use Rattle.argon2.specs.Steps.{step}
+use Rattle.argon2.proofs.InMemory.{made_by_places, place_by_word, place_below}
+use Rattle.argon2.proofs.context.instance.Instance.step.Goals as goal
+
+pub returns-then-xors-clause-step : goal.returns-then-xors-clause-step
+unfolding step
+returns-then-xors-clause-step c =
+    let ctx = c.args.self.now in
+    let m = c.args.memory.now in
+    let place = c.args.lane * lane_length ctx + c.args.column in
+    let q = c.lane_length.ensures.value in
+    let r = c.reference_place-reference.ensures.value in
+    let b = c.mixed_block-block.ensures.block in
+    let below = place_below ctx c.args.lane c.args.column c.requires.in_lanes c.requires.in_columns in
+    let old = get_or_read m (c.args.lane * c.lane_length.result + c.args.column) c.index-memory-place.result (search rules) c.index-memory-place.is [] in
+    let x = c.bitxor_assign.ensures.after in
+    let y = xor_blocks-comm (get_or m place []) c.mixed_block-block.result in
+    let yes = sym c.xors.ensures ∙ c.if-xors.true in
+    let by = made_by_places ctx m c.args.pass c.args.lane c.args.column c.args.word c.requires.word
+    ∙ cond-true ((eqb ctx.version 19) && (ltb 0 c.args.pass)) _ _ yes in
+    cc
+
+pub returns-then-xors-clause-place : goal.returns-then-xors-clause-place
+returns-then-xors-clause-place c =
+    c.reference_place-reference.ensures.value ∙ sym (place_by_word c.args.self.now c.args.memory.now c.args.pass c.args.lane c.args.column c.args.word c.requires.word)
+
+pub returns-else-xors-clause-step : goal.returns-else-xors-clause-step
+unfolding step
+returns-else-xors-clause-step c =
+    let ctx = c.args.self.now in
+    let m = c.args.memory.now in
+    let q = c.lane_length.ensures.value in
+    let r = c.reference_place-reference.ensures.value in
+    let b = c.mixed_block-block.ensures.block in
+    let no = sym c.xors.ensures ∙ c.if-xors.false in
+    let by = made_by_places ctx m c.args.pass c.args.lane c.args.column c.args.word c.requires.word
+    ∙ cond-false ((eqb ctx.version 19) && (ltb 0 c.args.pass)) _ _ no in
+    cc
+
+pub returns-else-xors-clause-place : goal.returns-else-xors-clause-place
+returns-else-xors-clause-place c =
+    c.reference_place-reference.ensures.value ∙ sym (place_by_word c.args.self.now c.args.memory.now c.args.pass c.args.lane c.args.column c.args.word c.requires.word)

@@ -1,0 +1,10 @@
+use Rattle.std.proofs.Common.{◌++◌, length, drop, replicate, ap, ◌∙◌}
+use Rattle.std.proofs.lemmas.List.{drop-replicate}
+use Rattle.argon2.proofs.context.segment.block_of_words.Goals as goal
+
+pub returns : goal.returns
+returns c =
+    let words = c.args.words.now in
+    c.copy_from_slice-2.ensures.after
+    ∙ ap (λ front. front ++ drop (length words) (replicate 128 0)) c.copy_from_slice.ensures.after
+    ∙ ap (λ rest. words ++ rest) (drop-replicate (length words) 128 0)

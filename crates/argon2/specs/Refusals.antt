@@ -1,0 +1,47 @@
+-- Orders of refusal, as tables.
+use Rattle.std.specs.Prelude.{ℕ, Bool, List, [], ◌∷◌, ◌++◌, nat_lt, if◌then◌else◌, Option, Some, None, unwrap_or, Result, Ok, Err}
+use Rattle.argon2_base.specs.declared.error.Error.{Error}
+use Rattle.argon2_base.specs.declared.error.Error.TheVariants.{MemoryTooLittle, OutputTooLong, OutputTooShort, PwdTooLong, SaltTooLong, SaltTooShort}
+
+-- the fault beside the first test that holds
+abbrev pub first_of : {E : Type 0} → List (Bool × E) → Option E
+first_of [] = None
+first_of (row ∷ rows) = if row.0 then Some row.1 else first_of rows
+
+-- the answer of a call that has this fault, or none
+abbrev pub answer_of : Option Error → Result (Unit {0}) Error
+answer_of None = Ok tt
+answer_of (Some fault) = Err fault
+
+-- an output of so many bytes, where the parameters set the length n or none
+abbrev pub output_faults : Option ℕ → ℕ → List (Bool × Error)
+output_faults n output =
+    (nat_lt output (unwrap_or n 4), OutputTooShort)
+    ∷ (nat_lt (unwrap_or n 4294967295) output, OutputTooLong)
+    ∷ []
+
+-- a password and a salt of so many bytes
+abbrev pub input_faults : ℕ → ℕ → List (Bool × Error)
+input_faults password salt =
+    (nat_lt 4294967295 password, PwdTooLong)
+    ∷ (nat_lt salt 8, SaltTooShort)
+    ∷ (nat_lt 4294967295 salt, SaltTooLong)
+    ∷ []
+
+-- memory of so many blocks, where so many are filled
+abbrev pub memory_faults : ℕ → ℕ → List (Bool × Error)
+memory_faults wanted lent = (nat_lt lent wanted, MemoryTooLittle) ∷ []
+
+-- why a hash is refused, memory aside
+abbrev pub length_refusal : Option ℕ → ℕ → ℕ → ℕ → Option Error
+length_refusal n output password salt = first_of (output_faults n output ++ input_faults password salt)
+
+-- why a hash on lent memory is refused
+abbrev pub refusal_of : Option ℕ → ℕ → ℕ → ℕ → ℕ → ℕ → Option Error
+refusal_of n output password salt wanted lent =
+    first_of (output_faults n output ++ input_faults password salt ++ memory_faults wanted lent)
+
+-- why the filling of lent memory is refused
+abbrev pub fill_refusal : ℕ → ℕ → ℕ → ℕ → Option Error
+fill_refusal password salt wanted lent =
+    first_of (input_faults password salt ++ memory_faults wanted lent)

@@ -1,0 +1,87 @@
+-- The blocks in one memory, lane after lane, where a block overwrites that of the pass before; and
+-- the orders of the steps that write them.
+use Rattle.std.specs.Prelude.{◌≡◌, ℕ, zero, suc, ◌+◌, ◌-◌, ◌*◌, ◌<◌, ◌&&◌, List, [], ◌∷◌, ◌==◌, count_by, replicate, slice_index_or, slice_set, if◌then◌else◌}
+use Rattle.std.specs.List.{AllByRecursion, flat_map, range_with_len}
+use Rattle.argon2.specs.Context.{Context, segment_length, lane_length}
+use Rattle.argon2.specs.Reference.{place_of}
+use Rattle.argon2.specs.Recurrence.{reference_of, made_block, xor_lanes}
+
+-- blocks, lane after lane
+abbrev pub Memory : Type 0
+Memory = List (List ℕ)
+
+-- the block at a lane's and a column's place, whatever the pass
+unfoldable pub in_memory : Context → Memory → ℕ → ℕ → ℕ → List ℕ
+in_memory ctx memory pass lane column = slice_index_or memory (lane * lane_length ctx + column) []
+
+-- the place of the previous block, which before column 0 is the lane's last
+abbrev pub previous_place : Context → ℕ → ℕ → ℕ
+previous_place ctx lane column =
+    lane * lane_length ctx + (if column == 0 then lane_length ctx - 1 else column - 1)
+
+-- the memory after the block of a pass, a lane and a column is written
+unfoldable pub step : Context → Memory → ℕ → ℕ → ℕ → Memory
+step ctx memory pass lane column =
+    slice_set memory (lane * lane_length ctx + column)
+    (made_block ctx (in_memory ctx memory) pass lane column)
+
+-- the place of the block that the step refers to
+unfoldable pub reference_place : Context → Memory → ℕ → ℕ → ℕ → ℕ
+reference_place ctx memory pass lane column =
+    place_of ctx (reference_of ctx (in_memory ctx memory) pass lane column)
+
+-- the xor of the last column
+abbrev pub last_column : Context → Memory → List ℕ
+last_column ctx memory =
+    let last = lane_length ctx - 1 in
+    xor_lanes ctx (λ lane. slice_index_or memory (lane * lane_length ctx + last) [])
+
+-- ---- schedules: the lanes of a slice in the order of their turns
+
+-- how many turns a lane has
+abbrev pub turns : ℕ → List ℕ → ℕ
+turns lane schedule = count_by (λ x. x == lane) schedule
+
+-- as many as there are columns to fill: a segment's, without columns 0 and 1 of pass 0
+abbrev pub turn_count : Context → ℕ → ℕ → ℕ
+turn_count ctx pass slice =
+    if (pass == 0) && (slice == 0) then segment_length ctx - 2 else segment_length ctx
+
+-- a list of lanes in which each lane stands as often as it has columns to fill
+pub record IsSchedule (ctx : Context) (pass slice : ℕ) (schedule : List ℕ) : Type 0 where
+  pub lanes : AllByRecursion (λ lane. lane < ctx.p_cost) schedule
+  pub turns : (lane : ℕ) → lane < ctx.p_cost → turns lane schedule ≡ turn_count ctx pass slice
+
+-- The steps of a slice in the schedule's order, each lane's columns ascending: a lane's last turn
+-- takes the segment's last column, and one with n more turns after it the column n before that.
+unfoldable pub run : Context → ℕ → ℕ → List ℕ → Memory → Memory
+run ctx pass slice [] memory = memory
+run ctx pass slice (lane ∷ schedule) memory =
+    let column = (slice + 1) * segment_length ctx - suc (turns lane schedule) in
+    run ctx pass slice schedule (step ctx memory pass lane column)
+
+-- the first slices of a pass, each by its schedule
+unfoldable pub run_slices : Context → (ℕ → List ℕ) → ℕ → ℕ → Memory → Memory
+run_slices ctx schedules pass zero memory = memory
+run_slices ctx schedules pass (suc slice) memory =
+    run ctx pass slice (schedules slice) (run_slices ctx schedules pass slice memory)
+
+-- the first passes, each slice by its schedule
+unfoldable pub run_passes : Context → (ℕ → ℕ → List ℕ) → ℕ → Memory → Memory
+run_passes ctx schedules zero memory = memory
+run_passes ctx schedules (suc pass) memory =
+    run_slices ctx (schedules pass) pass 4 (run_passes ctx schedules pass memory)
+
+-- all turns of a lane
+abbrev pub lane_turns : Context → ℕ → ℕ → ℕ → List ℕ
+lane_turns ctx pass slice lane = replicate (turn_count ctx pass slice) lane
+
+-- all turns of a lane at once, from one lane on
+unfoldable pub lane_after_lane : Context → ℕ → ℕ → ℕ → List ℕ
+lane_after_lane ctx pass slice from =
+    flat_map (λ lane. replicate (turn_count ctx pass slice) lane)
+    (range_with_len from (ctx.p_cost - from))
+
+-- the same from lane 0 on
+abbrev pub lanes_in_order : Context → ℕ → ℕ → List ℕ
+lanes_in_order ctx pass slice = lane_after_lane ctx pass slice 0

@@ -1,0 +1,43 @@
+-- The places of the references, in a list that has a place for each pass, lane and column.
+use Rattle.std.specs.Prelude.{◌≡◌, ℕ, zero, suc, ◌+◌, ◌-◌, ◌*◌, ◌<◌, ◌≤◌, List, [], ◌∷◌, slice_index, slice_set}
+use Rattle.argon2.specs.Context.{Context, segment_length, lane_length, block_count}
+use Rattle.argon2.specs.Recurrence.{FirstColumns, reference_places}
+use Rattle.argon2.specs.Steps.{Memory, step, reference_place, turns, run_slices, run_passes}
+
+-- where the list has the place of a block's reference
+abbrev pub position_index : Context → ℕ → ℕ → ℕ → ℕ
+position_index ctx pass lane column = pass * block_count ctx + (lane * lane_length ctx + column)
+
+-- The list after all steps: each block's reference, and as before at columns 0 and 1 of pass 0.
+pub record AreReferencePlaces (ctx : Context) (first : FirstColumns) (old new : List ℕ) : Type 0
+  where
+    pub of_steps : (pass lane column : ℕ) →
+        pass < ctx.t_cost → lane < ctx.p_cost → column < lane_length ctx → (pass ≡ 0 → 2 ≤ column) →
+        slice_index new (position_index ctx pass lane column)
+        ≡ reference_places ctx first pass lane column
+    pub of_first_columns : (lane column : ℕ) → lane < ctx.p_cost → column < 2 →
+        slice_index new (position_index ctx 0 lane column)
+        ≡ slice_index old (position_index ctx 0 lane column)
+
+-- the list after the steps of a slice by a schedule, each of which puts down its reference's place
+unfoldable pub watch : Context → ℕ → ℕ → List ℕ → Memory → List ℕ → List ℕ
+watch ctx pass slice [] memory positions = positions
+watch ctx pass slice (lane ∷ schedule) memory positions =
+    let column = (slice + 1) * segment_length ctx - suc (turns lane schedule) in
+    watch ctx pass slice schedule (step ctx memory pass lane column)
+    (slice_set positions (position_index ctx pass lane column)
+    (reference_place ctx memory pass lane column))
+
+-- the same of the first slices of a pass
+unfoldable pub watch_slices : Context → (ℕ → List ℕ) → ℕ → ℕ → Memory → List ℕ → List ℕ
+watch_slices ctx schedules pass zero memory positions = positions
+watch_slices ctx schedules pass (suc slice) memory positions =
+    watch ctx pass slice (schedules slice) (run_slices ctx schedules pass slice memory)
+    (watch_slices ctx schedules pass slice memory positions)
+
+-- the same of the first passes
+unfoldable pub watch_passes : Context → (ℕ → ℕ → List ℕ) → ℕ → Memory → List ℕ → List ℕ
+watch_passes ctx schedules zero memory positions = positions
+watch_passes ctx schedules (suc pass) memory positions =
+    watch_slices ctx (schedules pass) pass 4 (run_passes ctx schedules pass memory)
+    (watch_passes ctx schedules pass memory positions)

@@ -1,0 +1,270 @@
+//! Hashing by Argon2 (RFC 9106, section 3), on memory that the caller lends.
+
+ghost use Rattle.std.specs.Prelude.{◌≡◌};
+
+use crate::algorithm::Algorithm;
+use crate::params::Params;
+use crate::version::Version;
+use argon2_base::block::{Block, Work};
+use argon2_base::error::{Error, Result};
+use std::fmt;
+
+mod fill;
+mod inputs;
+mod instance;
+mod reference;
+mod secret;
+mod segment;
+mod step;
+mod step_block;
+mod tag;
+
+use inputs::check_inputs;
+use instance::Instance;
+use secret::Secret;
+
+/// The most bytes of a password.
+pub const MAX_PWD_LEN: usize = 4294967295;
+
+/// The fewest bytes of a salt.
+pub const MIN_SALT_LEN: usize = 8;
+
+/// The most bytes of a salt.
+pub const MAX_SALT_LEN: usize = 4294967295;
+
+/// The bytes of a salt that are recommended for hashing passwords (RFC 9106, section 3.1).
+pub const RECOMMENDED_SALT_LEN: usize = 16;
+
+/// The most bytes of a secret.
+pub const MAX_SECRET_LEN: usize = 4294967295;
+
+/// What passwords are hashed under: an algorithm, its version, parameters, and a secret if there
+/// is one.
+#[derive(Clone, Drop)]
+pub struct Argon2<'key> {
+    algorithm: Algorithm,
+    version: Version,
+    params: Params,
+    secret: Option<Secret<'key>>,
+}
+
+impl<'key> Argon2<'key> {
+    ghost use Rattle.std.specs.Prelude.{◌≡◌, ◌↔◌, ◌≤◌, ℕ, List, [], IsOk, IfOk, IfErr, OnOk, OnErr, length, take, drop};
+    ghost use Rattle.argon2_base.specs.declared.error.Error.TheVariants.{SecretTooLong};
+    ghost use Rattle.argon2.specs.Argon2.{context_of, own_parameters, secret_bytes};
+    ghost use Rattle.argon2.specs.Context.{context_with, block_count};
+    ghost use Rattle.argon2.specs.Params.{parameters_of};
+    ghost use Rattle.argon2.specs.Refusals.{answer_of, refusal_of, fill_refusal};
+    ghost use Rattle.argon2.specs.Tag.{tag_of, matrix_of};
+
+    /// Hashing with these parameters and no secret. The key identifier of the parameters changes no
+    /// tag; their associated data is hashed.
+    pub fn new(algorithm: Algorithm, version: Version, params: Params) -> Argon2<'key>
+        ensures context { context_of result ≡ context_with algorithm version (parameters_of params) [] }
+        ensures params { own_parameters result ≡ parameters_of params }
+
+        ensures keyid { (keyid : List ℕ) → context_of result
+            ≡ context_with algorithm version (record (parameters_of params) { keyid = keyid }) [] }
+        ensures associated { (context_of result).associated ≡ (parameters_of params).associated }
+    {
+        Argon2 {
+            algorithm,
+            version,
+            params,
+            secret: None,
+        }
+    }
+
+    /// Hashing with these parameters and a secret, 0 to 4294967295 bytes. An empty secret gives the
+    /// tags of no secret.
+    ///
+    /// # Errors
+    /// [`Error::SecretTooLong`] where the secret is longer.
+    pub fn new_with_secret(
+        secret: &'key [u8],
+        algorithm: Algorithm,
+        version: Version,
+        params: Params,
+    ) -> Result<Argon2<'key>>
+        ensures short { IsOk result ↔ (length secret.now ≤ MAX_SECRET_LEN) }
+        ensures long { IfErr result (λ e. e ≡ SecretTooLong) }
+        ensures context { IfOk result (λ a. context_of a
+            ≡ context_with algorithm version (parameters_of params) secret.now) }
+        ensures params { IfOk result (λ a. own_parameters a ≡ parameters_of params) }
+
+        ensures empty { secret.now ≡ [] → IfOk result (λ a. context_of a
+            ≡ context_with algorithm version (parameters_of params) []) }
+    {
+        if secret.len() > MAX_SECRET_LEN {
+            return Err(Error::SecretTooLong);
+        }
+        Ok(Argon2 {
+            algorithm,
+            version,
+            params,
+            secret: Some(Secret { bytes: secret }),
+        })
+    }
+
+    /// The parameters.
+    pub fn params(&self) -> &Params
+        ensures { parameters_of result.now ≡ own_parameters self.now }
+    {
+        &self.params
+    }
+
+    /// Writes the tag of a password and a salt into `out`. The first
+    /// [`block_count`](Params::block_count) blocks of `memory` are then the matrix that it was made
+    /// of, whatever they were before, and the others are as they were. No other memory is taken.
+    ///
+    /// Where the parameters set an output length, `out` has just that many bytes; else it has 4 to
+    /// 4294967295. The password has 0 to 4294967295 bytes, the salt 8 to 4294967295.
+    ///
+    /// # Errors
+    /// The first of these that holds; output and memory are then as before:
+    /// - [`Error::OutputTooShort`]: `out` is shorter than the parameters' output length, or than 4
+    ///   bytes where they set none.
+    /// - [`Error::OutputTooLong`]: `out` is longer than that length, or than 4294967295 bytes.
+    /// - [`Error::PwdTooLong`]: the password is longer than 4294967295 bytes.
+    /// - [`Error::SaltTooShort`]: the salt is shorter than 8 bytes.
+    /// - [`Error::SaltTooLong`]: the salt is longer than 4294967295 bytes.
+    /// - [`Error::MemoryTooLittle`]: `memory` has fewer blocks than are filled.
+    pub fn hash_password_into_with_memory(
+        &self,
+        pwd: &[u8],
+        salt: &[u8],
+        out: &mut [u8],
+        memory: &mut [Block],
+    ) -> Result<()>
+        ensures answer { result ≡ answer_of (refusal_of (own_parameters self.now).output_len
+            (length out.old) (length pwd.now) (length salt.now)
+            (block_count (context_of self.now)) (length memory.old)) }
+
+        ensures tag { OnOk result (out.new
+            ≡ tag_of (context_of self.now) pwd.now salt.now (length out.old)) }
+        ensures matrix { OnOk result (take (block_count (context_of self.now)) memory.new
+            ≡ matrix_of (context_of self.now) pwd.now salt.now (length out.old)) }
+        ensures rest { drop (block_count (context_of self.now)) memory.new
+            ≡ drop (block_count (context_of self.now)) memory.old }
+
+        ensures same_output { OnErr result (out.new ≡ out.old) }
+        ensures same_memory { OnErr result (memory.new ≡ memory.old) }
+    {
+        self.check_output(out.len())?;
+        check_inputs(pwd, salt)?;
+        self.check_memory(memory.len())?;
+        let instance = self.instance();
+        let blocks = &mut memory[..instance.block_count()];
+        self.fill_blocks(pwd, salt, out.len() as u32, blocks);
+        instance.write_tag(blocks, out);
+        Ok(())
+    }
+
+    /// Fills the first [`block_count`](Params::block_count) blocks of `memory` as a hash of a
+    /// password and a salt for an output of no bytes does. The others are as they were.
+    ///
+    /// # Errors
+    /// The first of these that holds; the memory is then as before:
+    /// - [`Error::PwdTooLong`]: the password is longer than 4294967295 bytes.
+    /// - [`Error::SaltTooShort`]: the salt is shorter than 8 bytes.
+    /// - [`Error::SaltTooLong`]: the salt is longer than 4294967295 bytes.
+    /// - [`Error::MemoryTooLittle`]: `memory` has fewer blocks than are filled.
+    pub fn fill_memory(&self, pwd: &[u8], salt: &[u8], memory: &mut [Block]) -> Result<()>
+        ensures answer { result ≡ answer_of (fill_refusal (length pwd.now) (length salt.now)
+            (block_count (context_of self.now)) (length memory.old)) }
+
+        ensures matrix { OnOk result (take (block_count (context_of self.now)) memory.new
+            ≡ matrix_of (context_of self.now) pwd.now salt.now 0) }
+        ensures rest { drop (block_count (context_of self.now)) memory.new
+            ≡ drop (block_count (context_of self.now)) memory.old }
+
+        ensures same { OnErr result (memory.new ≡ memory.old) }
+    {
+        check_inputs(pwd, salt)?;
+        self.check_memory(memory.len())?;
+        let count = self.instance().block_count();
+        self.fill_blocks(pwd, salt, 0, &mut memory[..count]);
+        Ok(())
+    }
+
+    // Makes the matrix for an output of `out_len` bytes.
+    fn fill_blocks(&self, pwd: &[u8], salt: &[u8], out_len: u32, blocks: &mut [Block])
+        requires pwd { length pwd.now ≤ MAX_PWD_LEN }
+        requires salt { length salt.now ≤ MAX_SALT_LEN }
+        requires size { length blocks.old ≡ block_count (context_of self.now) }
+        ensures { blocks.new ≡ matrix_of (context_of self.now) pwd.now salt.now out_len }
+    {
+        let instance = self.instance();
+        instance.begin(&self.initial_hash(pwd, salt, out_len), blocks);
+        instance.fill(blocks, &mut [], &mut Work::new());
+    }
+
+    // The secret's bytes.
+    fn secret(&self) -> &'key [u8]
+        ensures value { result.now ≡ secret_bytes self.now.secret }
+        ensures short { length result.now ≤ MAX_SECRET_LEN }
+    {
+        match self.secret {
+            Some(secret) => secret.bytes,
+            None => &[],
+        }
+    }
+
+    // What the hash's blocks are filled by.
+    fn instance(&self) -> Instance<'_>
+        ensures { result ≡ context_of self.now }
+    {
+        Instance::new(self.algorithm, self.version, &self.params, self.secret())
+    }
+}
+
+impl Default for Argon2<'_> {
+    ghost use Rattle.std.specs.Prelude.{◌≡◌, None};
+    ghost use Rattle.argon2.specs.Argon2.{IsArgon2idWith};
+    ghost use Rattle.argon2.specs.Parameters.{plain};
+
+    ghost is_default = { IsArgon2idWith (plain 19456 2 1 None) };
+
+    /// Argon2id of version 0x13 with the default parameters and no secret.
+    fn default() -> Self {
+        Argon2::from(Params::default())
+    }
+}
+
+impl From<Params> for Argon2<'_> {
+    ghost use Rattle.argon2.specs.Argon2.{IsArgon2idWith};
+    ghost use Rattle.argon2.specs.Params.{parameters_of};
+
+    ghost from_gives = { λ params. IsArgon2idWith (parameters_of params) };
+
+    /// Argon2id of version 0x13 with these parameters and no secret.
+    fn from(params: Params) -> Self {
+        Argon2::new(Algorithm::Argon2id, Version::V0x13, params)
+    }
+}
+
+impl From<&Params> for Argon2<'_> {
+    ghost use Rattle.argon2.specs.Argon2.{IsArgon2idWith};
+    ghost use Rattle.argon2.specs.Params.{parameters_of};
+
+    ghost from_gives = { λ params. IsArgon2idWith (parameters_of params.now) };
+
+    /// Argon2id of version 0x13 with these parameters and no secret.
+    fn from(params: &Params) -> Self {
+        Argon2::from(*params)
+    }
+}
+
+/// Shows neither the secret nor whether there is one.
+impl fmt::Debug for Argon2<'_> {
+    fn fmt<W: fmt::Write>(&self, f: &mut fmt::Formatter<W>) -> fmt::Result {
+        f.debug_struct("Argon2")
+            .field("algorithm", &self.algorithm)
+            .field("version", &self.version)
+            .field("params", &self.params)
+            .finish_non_exhaustive()
+    }
+}
+
+#[cfg(test)]
+mod tests;

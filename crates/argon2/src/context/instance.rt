@@ -1,0 +1,133 @@
+//! What a hash depends on beside the password and the salt.
+
+ghost use Rattle.std.specs.Prelude.{◌≡◌, ◌≤◌, ◌&&◌, ◌==◌, length, nat_lt};
+ghost use Rattle.argon2.specs.Algorithm.{algorithm_number};
+ghost use Rattle.argon2.specs.Context.{context_with, segment_length, lane_length, block_count, Sizes};
+ghost use Rattle.argon2.specs.Params.{parameters_of};
+
+use crate::{Algorithm, Params, Version};
+use std::marker::Model;
+
+/// A variant with its costs and its keys, and the shape of the memory that follows from them.
+#[derive(Drop)]
+pub(crate) struct Instance<'a> {
+    algorithm: Algorithm,
+    version: Version,
+    m_cost: u32,
+    t_cost: u32,
+    p_cost: u32,
+    segment_length: u32,
+    secret: &'a [u8],
+    associated: &'a [u8],
+}
+
+impl<'a> Model for Instance<'a> {
+    ghost use Rattle.std.specs.Prelude.{◌≡◌, ◌≤◌, ◌*◌, ◌/◌, length, None, IsNone};
+    ghost use Rattle.argon2.specs.Algorithm.{algorithm_number};
+    ghost use Rattle.argon2.specs.Version.{version_number};
+    ghost use Rattle.argon2.specs.Parameters.{first_fault};
+    ghost use Rattle.argon2.specs.Context.{Context};
+
+    ghost Value = { Context };
+
+    ghost view = { λ a. record {
+      algorithm = algorithm_number a.algorithm;
+      version = version_number a.version;
+      m_cost = a.m_cost;
+      t_cost = a.t_cost;
+      p_cost = a.p_cost;
+      secret = a.secret.now;
+      associated = a.associated.now;
+    } };
+
+    ghost invariant = { λ a. IsNone (first_fault a.m_cost a.t_cost a.p_cost None)
+        × (a.segment_length ≡ a.m_cost / (4 * a.p_cost)) };
+}
+
+impl<'a> Instance<'a> {
+    /// The instance of valid parameters.
+    pub(crate) fn new(
+        algorithm: Algorithm,
+        version: Version,
+        params: &'a Params,
+        secret: &'a [u8],
+    ) -> Instance<'a>
+        ensures { result ≡ context_with algorithm version (parameters_of params.now) secret.now }
+    {
+        let m_cost = params.m_cost();
+        let p_cost = params.p_cost();
+        Instance {
+            algorithm,
+            version,
+            m_cost,
+            t_cost: params.t_cost(),
+            p_cost,
+            segment_length: m_cost / (4 * p_cost),
+            secret,
+            associated: params.data(),
+        }
+    }
+
+    /// The number of lanes.
+    pub(super) fn lanes(&self) -> u32
+        ensures { result ≡ self.now.p_cost }
+    {
+        self.p_cost
+    }
+
+    /// The number of passes.
+    pub(super) fn passes(&self) -> u32
+        ensures value { result ≡ self.now.t_cost }
+        ensures sizes { Sizes self.now }
+    {
+        self.t_cost
+    }
+
+    /// The columns of a segment.
+    pub(super) fn segment_length(&self) -> u32
+        ensures value { result ≡ segment_length self.now }
+        ensures sizes { Sizes self.now }
+    {
+        self.segment_length
+    }
+
+    /// The columns of a lane.
+    pub(super) fn lane_length(&self) -> u32
+        ensures value { result ≡ lane_length self.now }
+        ensures sizes { Sizes self.now }
+    {
+        4 * self.segment_length()
+    }
+
+    /// The blocks of all lanes.
+    pub(crate) fn block_count(&self) -> usize
+        ensures value { result ≡ block_count self.now }
+        ensures sizes { Sizes self.now }
+    {
+        (self.lanes() * self.lane_length()) as usize
+    }
+
+    /// The variant.
+    pub(super) fn algorithm(&self) -> Algorithm
+        ensures { algorithm_number result ≡ self.now.algorithm }
+    {
+        self.algorithm
+    }
+
+    /// The variant's number.
+    pub(super) fn algorithm_number(&self) -> u32
+        ensures { result ≡ self.now.algorithm }
+    {
+        self.algorithm as u32
+    }
+
+    /// Whether a pass's blocks are xored with those of the pass before.
+    pub(super) fn xors(&self, pass: u32) -> bool
+        ensures { result ≡ ((self.now.version == 19) && nat_lt 0 pass) }
+    {
+        match self.version {
+            Version::V0x10 => false,
+            Version::V0x13 => pass > 0,
+        }
+    }
+}

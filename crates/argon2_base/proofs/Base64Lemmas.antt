@@ -1,0 +1,78 @@
+-- The engine without padding reads and writes strict Base64, and nothing else.
+use Rattle.std.proofs.Common.{◌≡◌, ℕ, ◌+◌, ◌*◌, ◌/◌, ◌<◌, ◌≤◌, List, ◌++◌, length, take, drop, Ok, Err, codes, refl, sym, ◌∙◌, ap, Result}
+use Rattle.std.proofs.lemmas.List.{append-nil}
+use Rattle.std.proofs.lemmas.Str.{IsUtf8-from_ascii}
+use Rattle.std.specs.Str.{IsUtf8}
+use Rattle.base64.specs.Engines.{standard_no_pad}
+use Rattle.base64.specs.Rfc4648.{encode_symbols}
+use Rattle.base64.specs.GeneralPurpose.{decode_of, encode_of, encoded_size_of}
+use Rattle.base64.specs.declared.decode.DecodeError.{DecodeError}
+use Rattle.base64.specs.declared.encode.EncodeSliceError.{EncodeSliceError}
+use Rattle.base64.specs.declared.encode.EncodeSliceError.TheVariants.{OutputSliceTooSmall}
+use Rattle.base64.proofs.EngineFacts.{decode_of_strict, decode_of-encode_of, encoded_prefix, IsAscii-encode_of}
+use Rattle.base64.proofs.RoundTrip.{length-encode_symbols}
+use Rattle.argon2_base.specs.Base64.{alphabet, strict_base64, IsBytes}
+
+-- the engine's symbols are the alphabet of RFC 4648
+pub encode_table-alphabet : standard_no_pad.encode_table ≡ alphabet
+encode_table-alphabet = refl
+
+-- what the engine writes
+pub encode_of-strict : (b : List ℕ) → encode_of standard_no_pad b ≡ strict_base64 b
+encode_of-strict b = append-nil (strict_base64 b)
+
+-- what decodes is the text of what it decodes to
+pub strict_base64_decoded : (s b : List ℕ) → IsBytes s → decode_of standard_no_pad s ≡ Ok b → s ≡ strict_base64 b
+strict_base64_decoded s b bytes ok = decode_of_strict standard_no_pad s b (refl, refl) bytes ok ∙ encode_of-strict b
+
+-- a strict text decodes to its bytes
+pub decode_of-strict_base64 : (b : List ℕ) → IsBytes b → decode_of standard_no_pad (strict_base64 b) ≡ Ok b
+decode_of-strict_base64 b bytes = ap (decode_of standard_no_pad) (sym (encode_of-strict b)) ∙ decode_of-encode_of standard_no_pad b refl bytes
+
+-- how long the text of so many bytes is
+pub length-strict_base64 : (b : List ℕ) → length (strict_base64 b) ≡ (4 * length b + 2) / 3
+length-strict_base64 b = length-encode_symbols alphabet b
+
+-- two byte lists with one text are one
+pub strict_base64_unique : (s b d : List ℕ) → IsBytes b → s ≡ strict_base64 b → decode_of standard_no_pad s ≡ Ok d → b ≡ d
+strict_base64_unique s b d bytes is ok =
+    let again : decode_of standard_no_pad s ≡ Ok b = rw is (decode_of-strict_base64 b bytes) in
+    let both = sym again ∙ ok in
+    cc both
+
+-- a strict text is never refused
+pub strict_base64_never_refused : (s b : List ℕ) (e : DecodeError) → IsBytes b → s ≡ strict_base64 b → decode_of standard_no_pad s ≡ Err e → ⊥
+strict_base64_never_refused s b e bytes is err =
+    let again : decode_of standard_no_pad s ≡ Ok b = rw is (decode_of-strict_base64 b bytes) in
+    let both = sym again ∙ err in
+    cc both
+
+abbrev written : ℕ → Result ℕ EncodeSliceError
+written n = Ok n
+
+-- what encoding into a slice wrote, where it said Ok
+pub strict_base64_written : (b old new : List ℕ) (len : ℕ) → length new ≡ length old
+    → (encoded_size_of standard_no_pad (length b) ≤ length old → written len ≡ Ok (encoded_size_of standard_no_pad (length b)))
+    → (length old < encoded_size_of standard_no_pad (length b) → written len ≡ Err OutputSliceTooSmall)
+    → new ≡ encode_of standard_no_pad b ++ drop (encoded_size_of standard_no_pad (length b)) old
+    → take len new ≡ strict_base64 b
+strict_base64_written b old new len same fits small put =
+    encoded_prefix (encode_of standard_no_pad b) old new (encoded_size_of standard_no_pad (length b)) len (Ok len) OutputSliceTooSmall same fits small refl put
+    ∙ encode_of-strict b
+
+-- a strict text is text
+pub IsUtf8-strict_base64 : (b : List ℕ) → IsUtf8 (strict_base64 b)
+IsUtf8-strict_base64 b = rw (encode_of-strict b) at (IsUtf8-from_ascii (encode_of standard_no_pad b) (IsAscii-encode_of standard_no_pad b))
+
+-- the values of RFC 4648, section 10, without their padding
+pub fooba : strict_base64 (codes "fooba") ≡ codes "Zm9vYmE"
+unfolding encode_symbols
+fooba = refl
+
+pub foob : strict_base64 (codes "foob") ≡ codes "Zm9vYg"
+unfolding encode_symbols
+foob = refl
+
+pub foobar : strict_base64 (codes "foobar") ≡ codes "Zm9vYmFy"
+unfolding encode_symbols
+foobar = refl

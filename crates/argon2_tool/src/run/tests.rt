@@ -1,0 +1,275 @@
+//! The program over streams in memory, and over streams that fail.
+
+use super::run;
+use std::alloc::{AllocError, Global};
+use std::io;
+use std::io::{ErrorKind, Read, Write};
+use std::process::Abort;
+use std::test::Fail;
+
+const USAGE: &str =
+    "usage: argon2-tool digest N | long N | tag ALG VER M T P LEN SALT | phc ALG VER M T P SALT | verify TEXT\n";
+
+// A stream that takes or gives this many calls, and then fails each one.
+#[derive(Drop)]
+struct Failing {
+    calls: usize,
+    kind: ErrorKind,
+}
+
+impl Failing {
+    fn after(calls: usize) -> Failing {
+        let kind = ErrorKind::Other;
+        Failing { calls, kind }
+    }
+
+    fn call(&mut self) -> io::Result<()> {
+        if self.calls == 0 {
+            return Err(io::Error::from(self.kind));
+        }
+        self.calls -= 1;
+        Ok(())
+    }
+}
+
+impl Read for Failing {
+    fn read(&mut self, buf: &mut [u8]) -> io::Result<usize> {
+        self.call()?;
+        Ok(buf.len().min(1))
+    }
+}
+
+impl Write for Failing {
+    fn write(&mut self, buf: &[u8]) -> io::Result<usize> {
+        self.call()?;
+        Ok(buf.len())
+    }
+
+    fn flush(&mut self) -> io::Result<()> {
+        self.call()
+    }
+}
+
+// A reader that a signal interrupts before each of its reads.
+#[derive(Drop)]
+struct Interrupted<'a> {
+    bytes: &'a [u8],
+    reads: bool,
+}
+
+impl Read for Interrupted<'_> {
+    fn read(&mut self, buf: &mut [u8]) -> io::Result<usize> {
+        self.reads = !self.reads;
+        if self.reads {
+            return Err(io::Error::from(ErrorKind::Interrupted));
+        }
+        self.bytes.read(buf)
+    }
+}
+
+fn run_words<R: Read, W: Write, E: Write>(
+    alloc: Global,
+    words: &[&str],
+    input: &mut R,
+    output: &mut W,
+    errors: &mut E,
+) -> Result<u8, AllocError> {
+    let mut args = Vec::new(alloc);
+    for word in words {
+        args.push(String::from_str(alloc, word)?)?;
+    }
+    Ok(run(alloc, args.as_slice(), input, output, errors))
+}
+
+// Runs the program from a reader, and compares the status and all that it writes.
+fn expect<R: Read>(
+    rt: &impl Abort,
+    alloc: Global,
+    words: &[&str],
+    input: &mut R,
+    (status, line, text): (u8, &str, &str),
+) -> Result<(), Fail> {
+    let (mut output, mut errors) = (Vec::new(alloc), Vec::new(alloc));
+    let ended = run_words(alloc, words, input, &mut output, &mut errors)?;
+    assert_eq!(rt; errors.as_slice(), text.as_bytes());
+    assert_eq!(rt; output.as_slice(), line.as_bytes());
+    assert_eq!(rt; ended, status);
+    Ok(())
+}
+
+#[test]
+fn answers(rt: HostRuntime) -> Result<(), Fail> {
+    for (command, len, message, line) in [
+        (
+            "digest",
+            "64",
+            "",
+            "786a02f742015903c6c6fd852552d272912f4740e15847618a86e217f71f5419d25e1031afee585313896444934eb04b903a685b1448b755d56f701afe9be2ce\n",
+        ),
+        (
+            "digest",
+            "32",
+            "abc",
+            "bddd813c634239723171ef3fee98579b94964e3bb1cb3e427262c8c068d52319\n",
+        ),
+        ("digest", "1", "abc", "6b\n"),
+        ("long", "1", "abc", "79\n"),
+        (
+            "long",
+            "65",
+            "abc",
+            "77baa447fe6f777c9bcb519545ce80badaf08ecb973fbb4ff45af7d8b569ec7caad65f72669d05153cdeaa563a162bb5ae4c42214551593816008dc560c5a65391\n",
+        ),
+    ] {
+        let mut input = message.as_bytes();
+        expect(&rt, rt.alloc(), &[command, len], &mut input, (0, line, ""))?;
+    }
+    let mut input = Interrupted {
+        bytes: b"abc",
+        reads: false,
+    };
+    expect(
+        &rt,
+        rt.alloc(),
+        &["digest", "1"],
+        &mut input,
+        (0, "6b\n", ""),
+    )
+}
+
+// Up to 64 bytes the long hash is the digest of the length, as four bytes, and the message.
+#[test]
+fn long_64_is_a_digest(rt: HostRuntime) -> Result<(), Fail> {
+    let alloc = rt.alloc();
+    let (mut long, mut digest) = (Vec::new(alloc), Vec::new(alloc));
+    let (mut message, mut prefixed): (&[u8], &[u8]) = (b"abc", b"\x40\0\0\0abc");
+    let mut errors = Vec::new(alloc);
+    run_words(alloc, &["long", "64"], &mut message, &mut long, &mut errors)?;
+    run_words(
+        alloc,
+        &["digest", "64"],
+        &mut prefixed,
+        &mut digest,
+        &mut errors,
+    )?;
+    assert_eq!(rt;
+        long.as_slice(),
+        b"f32577a3172f56657d531faaa43077bb8c9726ada7bb04dd337ec5a65454abff241ad6b87a72440e5127c6f9caa70327f2a699096e52d163eb52d9cd99620593\n".as_slice()
+    );
+    assert_eq!(rt; digest.as_slice(), long.as_slice());
+    Ok(())
+}
+
+#[test]
+fn other_arguments(rt: HostRuntime) -> Result<(), Fail> {
+    let usage = (2, "", USAGE);
+    for len in [
+        "",
+        "0",
+        "65",
+        "08",
+        "+19",
+        "-1",
+        " 1",
+        "1 ",
+        "0x20",
+        "4294967328",
+    ] {
+        expect(
+            &rt,
+            rt.alloc(),
+            &["digest", len],
+            &mut Failing::after(0),
+            usage,
+        )?;
+    }
+    for len in ["1025", "00", "4294967296"] {
+        expect(
+            &rt,
+            rt.alloc(),
+            &["long", len],
+            &mut Failing::after(0),
+            usage,
+        )?;
+    }
+    expect(&rt, rt.alloc(), &[], &mut Failing::after(0), usage)?;
+    expect(&rt, rt.alloc(), &["digest"], &mut Failing::after(0), usage)?;
+    expect(
+        &rt,
+        rt.alloc(),
+        &["digest", "6", "4"],
+        &mut Failing::after(0),
+        usage,
+    )?;
+    expect(
+        &rt,
+        rt.alloc(),
+        &["verify", "$argon2id$"],
+        &mut Failing::after(0),
+        usage,
+    )
+}
+
+#[test]
+fn input_that_fails(rt: HostRuntime) -> Result<(), Fail> {
+    for words in [["digest", "64"], ["long", "100"], ["long", "0"]] {
+        for calls in [0, 1, 1000] {
+            let unread = (1, "", "argon2: standard input can't be read\n");
+            expect(&rt, rt.alloc(), &words, &mut Failing::after(calls), unread)?;
+            let kind = ErrorKind::OutOfMemory;
+            let refused = (1, "", "argon2: out of memory\n");
+            expect(
+                &rt,
+                rt.alloc(),
+                &words,
+                &mut Failing { calls, kind },
+                refused,
+            )?;
+        }
+    }
+    let mut input: &[u8] = b"abc";
+    let too_short = (1, "", "argon2: output is too short\n");
+    expect(&rt, rt.alloc(), &["long", "0"], &mut input, too_short)
+}
+
+// The line, its line feed and the flush: whichever of them fails is told.
+#[test]
+fn output_that_fails(rt: HostRuntime) -> Result<(), Fail> {
+    let alloc = rt.alloc();
+    let unwritten = "argon2: standard output can't be written\n";
+    for (calls, status, text) in [
+        (0, 1, unwritten),
+        (1, 1, unwritten),
+        (2, 1, unwritten),
+        (3, 0, ""),
+    ] {
+        let (mut input, mut errors): (&[u8], _) = (b"abc", Vec::new(alloc));
+        let mut output = Failing::after(calls);
+        let ended = run_words(
+            alloc,
+            &["digest", "64"],
+            &mut input,
+            &mut output,
+            &mut errors,
+        )?;
+        assert_eq!(rt; ended, status);
+        assert_eq!(rt; errors.as_slice(), text.as_bytes());
+    }
+    Ok(())
+}
+
+// The status stays where the text can't be written.
+#[test]
+fn errors_that_fail(rt: HostRuntime) -> Result<(), Fail> {
+    let alloc = rt.alloc();
+    for (words, status) in [(["digest", "65"], 2), (["long", "0"], 1)] {
+        for calls in [0, 1] {
+            let (mut input, mut output): (&[u8], _) = (b"abc", Vec::new(alloc));
+            let mut errors = Failing::after(calls);
+            let ended = run_words(alloc, &words, &mut input, &mut output, &mut errors)?;
+            assert_eq!(rt; ended, status);
+            assert_eq!(rt; output.len(), 0);
+        }
+    }
+    Ok(())
+}
