@@ -18,14 +18,18 @@ module _ (ctx : Context) (fits : Fits ctx) where
   address_blocks = (segment_length ctx + 127) / 128
 
   -- a segment with address blocks
-  yes : (pass k : ℕ) → ((eqb ctx.algorithm 1) || ((eqb ctx.algorithm 2) && ((eqb pass 0) && ltb k 2))) ≡ true → segment_calls ctx pass k ≡ 2 * address_blocks + turn_count ctx pass k
+  yes : (pass k : ℕ) →
+      ((eqb ctx.algorithm 1) || ((eqb ctx.algorithm 2) && ((eqb pass 0) && ltb k 2))) ≡ true →
+      segment_calls ctx pass k ≡ 2 * address_blocks + turn_count ctx pass k
   unfolding segment_calls address_blocks is_independent
-  yes pass k h = ap (λ x. x + turn_count ctx pass k) (cond-true (is_independent ctx pass k) (2 * address_blocks) 0 (h))
+  yes pass k h = ap (λ x. x + turn_count ctx pass k) (cond-true (is_independent ctx pass k) (2 * address_blocks) 0 h)
 
   -- and without
-  no : (pass k : ℕ) → ((eqb ctx.algorithm 1) || ((eqb ctx.algorithm 2) && ((eqb pass 0) && ltb k 2))) ≡ false → segment_calls ctx pass k ≡ turn_count ctx pass k
+  no : (pass k : ℕ) →
+      ((eqb ctx.algorithm 1) || ((eqb ctx.algorithm 2) && ((eqb pass 0) && ltb k 2))) ≡ false →
+      segment_calls ctx pass k ≡ turn_count ctx pass k
   unfolding segment_calls address_blocks is_independent
-  no pass k h = ap (λ x. x + turn_count ctx pass k) (cond-false (is_independent ctx pass k) (2 * address_blocks) 0 (h)) ∙ omega arith
+  no pass k h = ap (λ x. x + turn_count ctx pass k) (cond-false (is_independent ctx pass k) (2 * address_blocks) 0 h) ∙ omega arith
 
   -- in each pass, how many of its four slices are independent
   sum_of : ℕ → ℕ
@@ -38,7 +42,8 @@ module _ (ctx : Context) (fits : Fits ctx) where
       omega (arith, turn_count-first ctx 0 0 refl refl, turn_count-later_slice ctx 0 0, turn_count-later_slice ctx 0 1, turn_count-later_slice ctx 0 2)
 
   -- and in a later pass
-  wanted_sum_later : (r : ℕ) → turn_count ctx (suc r) 0 + turn_count ctx (suc r) 1 + turn_count ctx (suc r) 2 + turn_count ctx (suc r) 3 ≡ 4 * segment_length ctx
+  wanted_sum_later : (r : ℕ) →
+      turn_count ctx (suc r) 0 + turn_count ctx (suc r) 1 + turn_count ctx (suc r) 2 + turn_count ctx (suc r) 3 ≡ 4 * segment_length ctx
   wanted_sum_later r = omega (arith, turn_count-later_pass ctx r, turn_count-later_slice ctx (suc r) 0, turn_count-later_slice ctx (suc r) 1, turn_count-later_slice ctx (suc r) 2)
 
   -- a pass's four slices
@@ -50,8 +55,10 @@ module _ (ctx : Context) (fits : Fits ctx) where
       omega arith
 
   -- n of pass 0's slices and m of each later pass's are independent
-  total : (n m : ℕ) → sum_of 0 + 2 ≡ 4 * segment_length ctx + 2 * address_blocks * n → ((r : ℕ) → sum_of (suc r) ≡ 4 * segment_length ctx + 2 * address_blocks * m) →
-      (r : ℕ) → passes_calls ctx (suc r) + 2 * ctx.p_cost ≡ (suc r) * block_count ctx + 2 * address_blocks * (ctx.p_cost * n + r * (ctx.p_cost * m))
+  total : (n m : ℕ) → sum_of 0 + 2 ≡ 4 * segment_length ctx + 2 * address_blocks * n →
+      ((r : ℕ) → sum_of (suc r) ≡ 4 * segment_length ctx + 2 * address_blocks * m) →
+      (r : ℕ) →
+      passes_calls ctx (suc r) + 2 * ctx.p_cost ≡ (suc r) * block_count ctx + 2 * address_blocks * (ctx.p_cost * n + r * (ctx.p_cost * m))
   unfolding passes_calls sum_of
   total n m first later zero = let e = ap (λ x. ctx.p_cost * x) first in let s = slices_calls-4 0 in omega arith
   total n m first later (suc r) =
@@ -61,15 +68,18 @@ module _ (ctx : Context) (fits : Fits ctx) where
       omega arith
 
   -- Argon2i has them in all segments
-  argon2i : ctx.algorithm ≡ 1 → (pass k : ℕ) → segment_calls ctx pass k ≡ 2 * address_blocks + turn_count ctx pass k
+  argon2i : ctx.algorithm ≡ 1 → (pass k : ℕ) →
+      segment_calls ctx pass k ≡ 2 * address_blocks + turn_count ctx pass k
   argon2i h pass k = yes pass k (or_left (eqb ctx.algorithm 1) _ (eq-eqb ctx.algorithm 1 h))
 
   -- Argon2id in slices 0 and 1 of pass 0
-  argon2id_first : ctx.algorithm ≡ 2 → (k : ℕ) → k < 2 → segment_calls ctx 0 k ≡ 2 * address_blocks + turn_count ctx 0 k
+  argon2id_first : ctx.algorithm ≡ 2 → (k : ℕ) → k < 2 →
+      segment_calls ctx 0 k ≡ 2 * address_blocks + turn_count ctx 0 k
   argon2id_first h k lt = yes 0 k (or_right (eqb ctx.algorithm 1) _ (and_from (eqb ctx.algorithm 2) _ (eq-eqb ctx.algorithm 2 h) (and_from (eqb 0 0) (ltb k 2) refl (lt-ltb k 2 lt))))
 
   -- and nowhere else
-  argon2id_later : ctx.algorithm ≡ 2 → (pass k : ℕ) → (pass ≡ 0 → 2 ≤ k) → segment_calls ctx pass k ≡ turn_count ctx pass k
+  argon2id_later : ctx.algorithm ≡ 2 → (pass k : ℕ) → (pass ≡ 0 → 2 ≤ k) →
+      segment_calls ctx pass k ≡ turn_count ctx pass k
   argon2id_later h pass k late = no pass k (false_from_ne_true _ (λ e.
       elim (or_cases (eqb ctx.algorithm 1) ((eqb ctx.algorithm 2) && ((eqb pass 0) && ltb k 2)) e) [
         | inl a ↦ (let x : ctx.algorithm ≡ 1 = eqb-true ctx.algorithm 1 a in omega arith)
@@ -81,7 +91,8 @@ module _ (ctx : Context) (fits : Fits ctx) where
       ]))
 
   -- Argon2d nowhere
-  argon2d : ctx.algorithm ≢ 1 → ctx.algorithm ≢ 2 → (pass k : ℕ) → segment_calls ctx pass k ≡ turn_count ctx pass k
+  argon2d : ctx.algorithm ≢ 1 → ctx.algorithm ≢ 2 → (pass k : ℕ) →
+      segment_calls ctx pass k ≡ turn_count ctx pass k
   argon2d a b pass k = no pass k (false_from_ne_true _ (λ e.
       elim (or_cases (eqb ctx.algorithm 1) ((eqb ctx.algorithm 2) && ((eqb pass 0) && ltb k 2)) e) [
         | inl x ↦ a (eqb-true ctx.algorithm 1 x)
@@ -104,7 +115,8 @@ module _ (ctx : Context) (fits : Fits ctx) where
   segments_d a b = cond-false (eqb ctx.algorithm 1) (4 * ctx.t_cost * ctx.p_cost) _ (ne_eqb ctx.algorithm 1 a) ∙ cond-false (eqb ctx.algorithm 2) (2 * ctx.p_cost) 0 (ne_eqb ctx.algorithm 2 b)
 
   -- all of them
-  pub passes_calls_are : (r : ℕ) → ctx.t_cost ≡ suc r → passes_calls ctx ctx.t_cost ≡ mixing_calls ctx
+  pub passes_calls_are : (r : ℕ) → ctx.t_cost ≡ suc r →
+      passes_calls ctx ctx.t_cost ≡ mixing_calls ctx
   unfolding mixing_calls address_blocks sum_of
   passes_calls_are r t =
       let two = fits.two_columns in
@@ -137,7 +149,8 @@ module _ (ctx : Context) (fits : Fits ctx) where
       ]
 
 -- a pass's first slices are not more than more of them
-pub slices_calls-le : (ctx : Context) (pass k n : ℕ) → k ≤ n → slices_calls ctx pass k ≤ slices_calls ctx pass n
+pub slices_calls-le : (ctx : Context) (pass k n : ℕ) → k ≤ n →
+    slices_calls ctx pass k ≤ slices_calls ctx pass n
 unfolding slices_calls
 slices_calls-le ctx pass k zero le = let e : k ≡ 0 = omega arith in omega (arith, ap (slices_calls ctx pass) e)
 slices_calls-le ctx pass k (suc n) le = elim (cases_lt k (suc n)) [

@@ -17,11 +17,14 @@ use Rattle.argon2.proofs.History.{first_columns, made_blocks}
 -- In the pass at hand the first done(l) columns of each lane l are made. Each place holds the block of the last pass that wrote it.
 pub record Holds (ctx : Context) (first : FirstColumns) (pass : ℕ) (done : ℕ → ℕ) (memory : List (List ℕ)) : Type 0 where
   pub size : length memory ≡ block_count ctx
-  pub new : (l c : ℕ) → l < ctx.p_cost → c < lane_length ctx → c < done l → get_or memory (l * lane_length ctx + c) [] ≡ block_of ctx first pass l c
-  pub old : (r l c : ℕ) → pass ≡ suc r → l < ctx.p_cost → c < lane_length ctx → done l ≤ c → get_or memory (l * lane_length ctx + c) [] ≡ block_of ctx first r l c
+  pub new : (l c : ℕ) → l < ctx.p_cost → c < lane_length ctx → c < done l →
+      get_or memory (l * lane_length ctx + c) [] ≡ block_of ctx first pass l c
+  pub old : (r l c : ℕ) → pass ≡ suc r → l < ctx.p_cost → c < lane_length ctx → done l ≤ c →
+      get_or memory (l * lane_length ctx + c) [] ≡ block_of ctx first r l c
 
 -- of two equal counts of made columns
-pub Holds-like : (ctx : Context) (first : FirstColumns) (pass : ℕ) (done done' : ℕ → ℕ) (memory : List (List ℕ)) → ((l : ℕ) → l < ctx.p_cost → done l ≡ done' l) →
+pub Holds-like : (ctx : Context) (first : FirstColumns) (pass : ℕ) (done done' : ℕ → ℕ) (memory : List (List ℕ)) →
+    ((l : ℕ) → l < ctx.p_cost → done l ≡ done' l) →
     Holds ctx first pass done memory → Holds ctx first pass done' memory
 Holds-like ctx first pass done done' memory same h = record {
   size = h.size;
@@ -30,9 +33,13 @@ Holds-like ctx first pass done done' memory same h = record {
 }
 
 -- what a step reads are the recurrence's blocks
-pub step_reads : (ctx : Context) → (first : FirstColumns) (pass lane column k : ℕ) (done : ℕ → ℕ) (memory : List (List ℕ)) → InSlice (segment_length ctx) column k →
-    done lane ≡ column → ((l : ℕ) → l < ctx.p_cost → (k * segment_length ctx ≤ done l) × (done l ≤ (k + 1) * segment_length ctx)) →
-    Holds ctx first pass done memory → AgreeOn ctx pass lane column (in_memory ctx memory) (block_of ctx first)
+pub step_reads : (ctx : Context) →
+    (first : FirstColumns) (pass lane column k : ℕ) (done : ℕ → ℕ) (memory : List (List ℕ)) →
+    InSlice (segment_length ctx) column k →
+    done lane ≡ column →
+    ((l : ℕ) → l < ctx.p_cost → (k * segment_length ctx ≤ done l) × (done l ≤ (k + 1) * segment_length ctx)) →
+    Holds ctx first pass done memory →
+    AgreeOn ctx pass lane column (in_memory ctx memory) (block_of ctx first)
 unfolding in_memory
 step_reads ctx first pass lane column k done memory here now about h =
     let s = segment_length ctx in
@@ -63,24 +70,34 @@ step_reads ctx first pass lane column k done memory here now about h =
     ]
 
 -- a step's block is the recurrence's
-pub step_makes : (ctx : Context) → Fits ctx → (first : FirstColumns) (pass lane column k : ℕ) (done : ℕ → ℕ) (memory : List (List ℕ)) → IsStep ctx pass lane column → InSlice (segment_length ctx) column k →
-    done lane ≡ column → ((l : ℕ) → l < ctx.p_cost → (k * segment_length ctx ≤ done l) × (done l ≤ (k + 1) * segment_length ctx)) →
-    Holds ctx first pass done memory → made_block ctx (in_memory ctx memory) pass lane column ≡ block_of ctx first pass lane column
+pub step_makes : (ctx : Context) → Fits ctx →
+    (first : FirstColumns) (pass lane column k : ℕ) (done : ℕ → ℕ) (memory : List (List ℕ)) →
+    IsStep ctx pass lane column → InSlice (segment_length ctx) column k →
+    done lane ≡ column →
+    ((l : ℕ) → l < ctx.p_cost → (k * segment_length ctx ≤ done l) × (done l ≤ (k + 1) * segment_length ctx)) →
+    Holds ctx first pass done memory →
+    made_block ctx (in_memory ctx memory) pass lane column ≡ block_of ctx first pass lane column
 step_makes ctx fits first pass lane column k done memory st here now about h =
     made_cong ctx fits pass lane column st _ (block_of ctx first) (step_reads ctx first pass lane column k done memory here now about h)
     ∙ sym (made_blocks ctx fits first pass lane column st)
 
 -- the place of a step's reference is the recurrence's
-pub step_answers : (ctx : Context) → Fits ctx → (first : FirstColumns) (pass lane column k : ℕ) (done : ℕ → ℕ) (memory : List (List ℕ)) → IsStep ctx pass lane column → InSlice (segment_length ctx) column k →
-    done lane ≡ column → ((l : ℕ) → l < ctx.p_cost → (k * segment_length ctx ≤ done l) × (done l ≤ (k + 1) * segment_length ctx)) →
-    Holds ctx first pass done memory → reference_place ctx memory pass lane column ≡ reference_places ctx first pass lane column
+pub step_answers : (ctx : Context) → Fits ctx →
+    (first : FirstColumns) (pass lane column k : ℕ) (done : ℕ → ℕ) (memory : List (List ℕ)) →
+    IsStep ctx pass lane column → InSlice (segment_length ctx) column k →
+    done lane ≡ column →
+    ((l : ℕ) → l < ctx.p_cost → (k * segment_length ctx ≤ done l) × (done l ≤ (k + 1) * segment_length ctx)) →
+    Holds ctx first pass done memory →
+    reference_place ctx memory pass lane column ≡ reference_places ctx first pass lane column
 unfolding reference_place reference_places
 step_answers ctx fits first pass lane column k done memory st here now about h =
     ap (λ (x : Reference). x.lane * lane_length ctx + x.column)
     (reference_of_cong ctx fits pass lane column st _ (block_of ctx first) (step_reads ctx first pass lane column k done memory here now about h))
 
 -- a step adds a column to its lane
-pub step_holds : (ctx : Context) → Fits ctx → (first : FirstColumns) (pass lane column k : ℕ) (done done' : ℕ → ℕ) (memory : List (List ℕ)) → IsStep ctx pass lane column → InSlice (segment_length ctx) column k →
+pub step_holds : (ctx : Context) → Fits ctx →
+    (first : FirstColumns) (pass lane column k : ℕ) (done done' : ℕ → ℕ) (memory : List (List ℕ)) →
+    IsStep ctx pass lane column → InSlice (segment_length ctx) column k →
     done lane ≡ column → done' lane ≡ suc column → ((l : ℕ) → l ≢ lane → done' l ≡ done l) →
     ((l : ℕ) → l < ctx.p_cost → (k * segment_length ctx ≤ done l) × (done l ≤ (k + 1) * segment_length ctx)) →
     Holds ctx first pass done memory → Holds ctx first pass done' (step ctx memory pass lane column)
@@ -126,8 +143,10 @@ abbrev pub done_before : Context → ℕ → List ℕ → ℕ → ℕ
 done_before ctx k schedule l = (k + 1) * segment_length ctx - turns l schedule
 
 -- what is left of a schedule finishes the slice
-pub run_holds : (ctx : Context) → Fits ctx → (first : FirstColumns) (pass k : ℕ) → k < 4 → (schedule : List ℕ) (memory : List (List ℕ)) → MayRun ctx pass k schedule →
-    Holds ctx first pass (done_before ctx k schedule) memory → Holds ctx first pass (done_before ctx k []) (run ctx pass k schedule memory)
+pub run_holds : (ctx : Context) → Fits ctx → (first : FirstColumns) (pass k : ℕ) → k < 4 →
+    (schedule : List ℕ) (memory : List (List ℕ)) → MayRun ctx pass k schedule →
+    Holds ctx first pass (done_before ctx k schedule) memory →
+    Holds ctx first pass (done_before ctx k []) (run ctx pass k schedule memory)
 unfolding run
 run_holds ctx fits first pass k four [] memory m h = h
 run_holds ctx fits first pass k four (lane ∷ schedule) memory m h =
@@ -152,12 +171,16 @@ abbrev pub begun : Context → ℕ → ℕ → ℕ
 begun ctx pass k = (k + 1) * segment_length ctx - turn_count ctx pass k
 
 -- all turns in the later slices
-pub turn_count-later_slice : (ctx : Context) (pass k : ℕ) → turn_count ctx pass (suc k) ≡ segment_length ctx
+pub turn_count-later_slice : (ctx : Context) (pass k : ℕ) →
+    turn_count ctx pass (suc k) ≡ segment_length ctx
 turn_count-later_slice ctx pass k = cond-false ((eqb pass 0) && (eqb (suc k) 0)) _ _ (and_right (eqb pass 0) (eqb (suc k) 0) (ne_eqb (suc k) 0 (λ e. omega arith)))
 
 -- the first slices, each by its schedule
-pub slices_hold : (ctx : Context) → Fits ctx → (first : FirstColumns) (schedules : ℕ → List ℕ) (pass k : ℕ) → k ≤ 4 → ((j : ℕ) → j < 4 → IsSchedule ctx pass j (schedules j)) → (memory : List (List ℕ)) →
-    Holds ctx first pass (λ _. begun ctx pass 0) memory → Holds ctx first pass (λ _. begun ctx pass k) (run_slices ctx schedules pass k memory)
+pub slices_hold : (ctx : Context) → Fits ctx →
+    (first : FirstColumns) (schedules : ℕ → List ℕ) (pass k : ℕ) → k ≤ 4 →
+    ((j : ℕ) → j < 4 → IsSchedule ctx pass j (schedules j)) → (memory : List (List ℕ)) →
+    Holds ctx first pass (λ _. begun ctx pass 0) memory →
+    Holds ctx first pass (λ _. begun ctx pass k) (run_slices ctx schedules pass k memory)
 unfolding run_slices
 slices_hold ctx fits first schedules pass zero four is memory h = h
 slices_hold ctx fits first schedules pass (suc k) four is memory h =
@@ -173,11 +196,14 @@ slices_hold ctx fits first schedules pass (suc k) four is memory h =
     (run_holds ctx fits first pass k (omega arith) schedule before (MayRun-from ctx pass k schedule it) start)
 
 -- all turns in the later passes
-pub turn_count-later_pass : (ctx : Context) (pass : ℕ) → turn_count ctx (suc pass) 0 ≡ segment_length ctx
+pub turn_count-later_pass : (ctx : Context) (pass : ℕ) →
+    turn_count ctx (suc pass) 0 ≡ segment_length ctx
 turn_count-later_pass ctx pass = cond-false ((eqb (suc pass) 0) && (eqb 0 0)) _ _ (and_left (eqb (suc pass) 0) (eqb 0 0) (ne_eqb (suc pass) 0 (λ e. omega arith)))
 
 -- the end of a pass is the start of the next
-next_pass : (ctx : Context) (first : FirstColumns) (pass : ℕ) (memory : List (List ℕ)) → Holds ctx first pass (λ _. begun ctx pass 4) memory → Holds ctx first (suc pass) (λ _. begun ctx (suc pass) 0) memory
+next_pass : (ctx : Context) (first : FirstColumns) (pass : ℕ) (memory : List (List ℕ)) →
+    Holds ctx first pass (λ _. begun ctx pass 4) memory →
+    Holds ctx first (suc pass) (λ _. begun ctx (suc pass) 0) memory
 next_pass ctx first pass memory h =
     let s = segment_length ctx in
     let w = turn_count-later_pass ctx pass in
@@ -189,8 +215,12 @@ next_pass ctx first pass memory h =
     }
 
 -- the first passes
-pub passes_hold : (ctx : Context) → Fits ctx → (first : FirstColumns) (schedules : ℕ → ℕ → List ℕ) (passes : ℕ) → ((r k : ℕ) → r < passes → k < 4 → IsSchedule ctx r k (schedules r k)) → (memory : List (List ℕ)) →
-    Holds ctx first 0 (λ _. begun ctx 0 0) memory → Holds ctx first passes (λ _. begun ctx passes 0) (run_passes ctx schedules passes memory)
+pub passes_hold : (ctx : Context) → Fits ctx →
+    (first : FirstColumns) (schedules : ℕ → ℕ → List ℕ) (passes : ℕ) →
+    ((r k : ℕ) → r < passes → k < 4 → IsSchedule ctx r k (schedules r k)) →
+    (memory : List (List ℕ)) →
+    Holds ctx first 0 (λ _. begun ctx 0 0) memory →
+    Holds ctx first passes (λ _. begun ctx passes 0) (run_passes ctx schedules passes memory)
 unfolding run_passes
 passes_hold ctx fits first schedules zero is memory h = h
 passes_hold ctx fits first schedules (suc r) is memory h =
@@ -200,7 +230,8 @@ passes_hold ctx fits first schedules (suc r) is memory h =
     (passes_hold ctx fits first schedules r (λ a k x y. is a k (omega arith) y) memory h))
 
 -- what begins with the first two columns
-pub begins : (ctx : Context) → Fits ctx → (first : FirstColumns) (memory : List (List ℕ)) → Begins ctx first memory → Holds ctx first 0 (λ _. begun ctx 0 0) memory
+pub begins : (ctx : Context) → Fits ctx → (first : FirstColumns) (memory : List (List ℕ)) →
+    Begins ctx first memory → Holds ctx first 0 (λ _. begun ctx 0 0) memory
 begins ctx fits first memory start =
     let two = fits.two_columns in
     let w : turn_count ctx 0 0 ≡ segment_length ctx - 2 = refl in
@@ -211,7 +242,9 @@ begins ctx fits first memory start =
     }
 
 -- after the last pass the memory is the matrix
-pub ends : (ctx : Context) → Fits ctx → (first : FirstColumns) (passes : ℕ) (memory : List (List ℕ)) → passes ≡ ctx.t_cost → 0 < passes →
+pub ends : (ctx : Context) → Fits ctx →
+    (first : FirstColumns) (passes : ℕ) (memory : List (List ℕ)) → passes ≡ ctx.t_cost →
+    0 < passes →
     Holds ctx first passes (λ _. begun ctx passes 0) memory → memory ≡ matrix ctx first
 unfolding matrix
 ends ctx fits first zero memory t some h = absurd (omega arith)
@@ -228,7 +261,9 @@ ends ctx fits first (suc r) memory t some h =
     ∙ ap (λ x. block_of ctx first x (n / q) (n % q)) p)
 
 -- any schedules lead from the first two columns to the matrix
-pub filled : (ctx : Context) → Fits ctx → 0 < ctx.t_cost → (first : FirstColumns) (schedules : ℕ → ℕ → List ℕ) → AreSchedules ctx schedules →
-    (memory : List (List ℕ)) → Begins ctx first memory → run_passes ctx schedules ctx.t_cost memory ≡ matrix ctx first
+pub filled : (ctx : Context) → Fits ctx → 0 < ctx.t_cost →
+    (first : FirstColumns) (schedules : ℕ → ℕ → List ℕ) → AreSchedules ctx schedules →
+    (memory : List (List ℕ)) → Begins ctx first memory →
+    run_passes ctx schedules ctx.t_cost memory ≡ matrix ctx first
 filled ctx fits some first schedules is memory start =
     ends ctx fits first ctx.t_cost _ refl some (passes_hold ctx fits first schedules ctx.t_cost is memory (begins ctx fits first memory start))

@@ -15,7 +15,8 @@ abbrev pub moment : Context → ℕ → ℕ → ℕ
 moment ctx pass column = pass * lane_length ctx + column
 
 -- sources are made earlier
-pub reads_earlier : (ctx : Context) (pass lane column r l c : ℕ) → Reads ctx pass lane column r l c → moment ctx r c < moment ctx pass column
+pub reads_earlier : (ctx : Context) (pass lane column r l c : ℕ) →
+    Reads ctx pass lane column r l c → moment ctx r c < moment ctx pass column
 reads_earlier ctx pass lane column r l c reads =
     let q = lane_length ctx in
     let below : c < q = reads.in_columns in
@@ -25,13 +26,15 @@ reads_earlier ctx pass lane column r l c reads =
     ]
 
 -- a rule reads earlier moments alone
-pub rule_cong : (ctx : Context) → Fits ctx → (first : FirstColumns) (pass lane column : ℕ) → lane < ctx.p_cost → column < lane_length ctx → (f g : Blocks) →
+pub rule_cong : (ctx : Context) → Fits ctx → (first : FirstColumns) (pass lane column : ℕ) →
+    lane < ctx.p_cost → column < lane_length ctx → (f g : Blocks) →
     ((r l c : ℕ) → l < ctx.p_cost → c < lane_length ctx → moment ctx r c < moment ctx pass column → f r l c ≡ g r l c) →
     rule ctx first f pass lane column ≡ rule ctx first g pass lane column
 unfolding rule
 rule_cong ctx fits first pass lane column in_lanes in_columns f g h = go ((eqb pass 0) && (ltb column 2)) refl
   where
-    go : (b : Bool) → ((eqb pass 0) && (ltb column 2)) ≡ b → cond b (first lane column) (made_block ctx f pass lane column) ≡ cond b (first lane column) (made_block ctx g pass lane column)
+    go : (b : Bool) → ((eqb pass 0) && (ltb column 2)) ≡ b →
+        cond b (first lane column) (made_block ctx f pass lane column) ≡ cond b (first lane column) (made_block ctx g pass lane column)
     go true e = refl
     go false e = made_cong ctx fits pass lane column
         (record {
@@ -50,12 +53,14 @@ length-history ctx first zero = refl
 length-history ctx first (suc n) = length_push (history ctx first n) _ ∙ (let i = length-history ctx first n in omega arith)
 
 -- one more column leaves those before
-grows : (ctx : Context) (first : FirstColumns) (n k : ℕ) → k < n → get_or (history ctx first (suc n)) k [] ≡ get_or (history ctx first n) k []
+grows : (ctx : Context) (first : FirstColumns) (n k : ℕ) → k < n →
+    get_or (history ctx first (suc n)) k [] ≡ get_or (history ctx first n) k []
 unfolding history
 grows ctx first n k lt = get_or_append_left (history ctx first n) _ [] k (let l = length-history ctx first n in omega arith)
 
 -- so does any number
-history_stays : (ctx : Context) (first : FirstColumns) (n k : ℕ) → k < n → get_or (history ctx first n) k [] ≡ get_or (history ctx first (suc k)) k []
+history_stays : (ctx : Context) (first : FirstColumns) (n k : ℕ) → k < n →
+    get_or (history ctx first n) k [] ≡ get_or (history ctx first (suc k)) k []
 history_stays ctx first zero k h = absurd (omega arith)
 history_stays ctx first (suc n) k h =
     elim (cases_lt k n) [
@@ -64,7 +69,8 @@ history_stays ctx first (suc n) k h =
     ]
 
 -- so a history holds the blocks of its moments
-in_history_is : (ctx : Context) (first : FirstColumns) (n r l c : ℕ) → moment ctx r c < n → in_history ctx (history ctx first n) r l c ≡ block_of ctx first r l c
+in_history_is : (ctx : Context) (first : FirstColumns) (n r l c : ℕ) → moment ctx r c < n →
+    in_history ctx (history ctx first n) r l c ≡ block_of ctx first r l c
 unfolding in_history block_of
 in_history_is ctx first n r l c h = ap (λ (column : List (List ℕ)). get_or column l []) (history_stays ctx first n (moment ctx r c) h)
 
@@ -78,12 +84,14 @@ newest ctx first n lane h =
     ∙ get_or-map-range_with_len f 0 ctx.p_cost lane lane [] h (omega arith)
 
 -- a block is read from the history that ends with its column
-at_newest : (ctx : Context) (first : FirstColumns) (pass lane column : ℕ) → block_of ctx first pass lane column ≡ get_or (get_or (history ctx first (suc (moment ctx pass column))) (moment ctx pass column) []) lane []
+at_newest : (ctx : Context) (first : FirstColumns) (pass lane column : ℕ) →
+    block_of ctx first pass lane column ≡ get_or (get_or (history ctx first (suc (moment ctx pass column))) (moment ctx pass column) []) lane []
 unfolding block_of in_history
 at_newest ctx first pass lane column = refl
 
 -- each block is as the rule says
-pub recurrence : (ctx : Context) → Fits ctx → (first : FirstColumns) (pass lane column : ℕ) → lane < ctx.p_cost → column < lane_length ctx →
+pub recurrence : (ctx : Context) → Fits ctx → (first : FirstColumns) (pass lane column : ℕ) →
+    lane < ctx.p_cost → column < lane_length ctx →
     block_of ctx first pass lane column ≡ rule ctx first (block_of ctx first) pass lane column
 recurrence ctx fits first pass lane column in_lanes in_columns =
     let q = lane_length ctx in
@@ -96,8 +104,10 @@ recurrence ctx fits first pass lane column in_lanes in_columns =
     ∙ rule_cong ctx fits first pass lane column in_lanes in_columns f (block_of ctx first) (λ r l c _ _ lt. in_history_is ctx first n r l c lt)
 
 -- two recurrences agree up to any moment
-only_up_to : (ctx : Context) → Fits ctx → (first : FirstColumns) (f g : Blocks) → IsRecurrence ctx first f → IsRecurrence ctx first g → (n pass lane column : ℕ) →
-    lane < ctx.p_cost → column < lane_length ctx → moment ctx pass column < n → f pass lane column ≡ g pass lane column
+only_up_to : (ctx : Context) → Fits ctx → (first : FirstColumns) (f g : Blocks) →
+    IsRecurrence ctx first f → IsRecurrence ctx first g → (n pass lane column : ℕ) →
+    lane < ctx.p_cost → column < lane_length ctx → moment ctx pass column < n →
+    f pass lane column ≡ g pass lane column
 only_up_to ctx fits first f g hf hg zero pass lane column a b lt = absurd (omega arith)
 only_up_to ctx fits first f g hf hg (suc n) pass lane column a b lt =
     hf pass lane column a b
@@ -105,7 +115,9 @@ only_up_to ctx fits first f g hf hg (suc n) pass lane column a b lt =
     ∙ sym (hg pass lane column a b)
 
 -- they alone are
-pub only : (ctx : Context) → Fits ctx → (first : FirstColumns) (f : Blocks) → IsRecurrence ctx first f → (pass lane column : ℕ) → lane < ctx.p_cost → column < lane_length ctx →
+pub only : (ctx : Context) → Fits ctx → (first : FirstColumns) (f : Blocks) →
+    IsRecurrence ctx first f → (pass lane column : ℕ) → lane < ctx.p_cost →
+    column < lane_length ctx →
     f pass lane column ≡ block_of ctx first pass lane column
 only ctx fits first f h pass lane column a b =
     only_up_to ctx fits first f (block_of ctx first) h (recurrence ctx fits first) (suc (moment ctx pass column)) pass lane column a b (omega arith)
@@ -113,7 +125,8 @@ only ctx fits first f h pass lane column a b =
 -- ---- the rule's two cases
 
 -- columns 0 and 1 of pass 0
-pub first_columns : (ctx : Context) → Fits ctx → (first : FirstColumns) (lane column : ℕ) → lane < ctx.p_cost → column < 2 → block_of ctx first 0 lane column ≡ first lane column
+pub first_columns : (ctx : Context) → Fits ctx → (first : FirstColumns) (lane column : ℕ) →
+    lane < ctx.p_cost → column < 2 → block_of ctx first 0 lane column ≡ first lane column
 unfolding rule
 first_columns ctx fits first lane column a b =
     let two = fits.two_columns in
@@ -121,7 +134,9 @@ first_columns ctx fits first lane column a b =
     ∙ cond-true ((eqb 0 0) && (ltb column 2)) (first lane column) (made_block ctx (block_of ctx first) 0 lane column) (and_from (eqb 0 0) (ltb column 2) refl (lt-ltb column 2 b))
 
 -- all others
-pub made_blocks : (ctx : Context) → Fits ctx → (first : FirstColumns) (pass lane column : ℕ) → IsStep ctx pass lane column → block_of ctx first pass lane column ≡ made_block ctx (block_of ctx first) pass lane column
+pub made_blocks : (ctx : Context) → Fits ctx → (first : FirstColumns) (pass lane column : ℕ) →
+    IsStep ctx pass lane column →
+    block_of ctx first pass lane column ≡ made_block ctx (block_of ctx first) pass lane column
 unfolding rule
 made_blocks ctx fits first pass lane column st =
     recurrence ctx fits first pass lane column st.in_lanes st.in_columns

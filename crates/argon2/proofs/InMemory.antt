@@ -10,7 +10,8 @@ use Rattle.argon2.specs.Reference.{reference}
 use Rattle.argon2.specs.Steps.{in_memory, previous_place, reference_place}
 
 -- a place of a lane and a column is one of the memory's
-pub place_below : (ctx : Context) (lane column : ℕ) → lane < ctx.p_cost → column < lane_length ctx → lane * lane_length ctx + column < block_count ctx
+pub place_below : (ctx : Context) (lane column : ℕ) → lane < ctx.p_cost → column < lane_length ctx →
+    lane * lane_length ctx + column < block_count ctx
 place_below ctx lane column a b = let h = mul-add-lt lane (lane_length ctx) column ctx.p_cost a b in omega arith
 
 -- the previous block's place
@@ -23,7 +24,8 @@ previous_in_memory ctx memory pass lane (suc column) =
     (sym (cond-false (eqb (suc column) 0) (lane_length ctx - 1) (suc column - 1) (ne_eqb (suc column) 0 (λ e. omega arith)) ∙ omega arith))
 
 -- a step's block, by places
-pub made_by_places : (ctx : Context) (memory : List (List ℕ)) (pass lane column w : ℕ) → w ≡ reference_word ctx (in_memory ctx memory) pass lane column →
+pub made_by_places : (ctx : Context) (memory : List (List ℕ)) (pass lane column w : ℕ) →
+    w ≡ reference_word ctx (in_memory ctx memory) pass lane column →
     let q = lane_length ctx in
     let from = reference ctx pass lane column w in
     let block = mixed (get_or memory (previous_place ctx lane column) []) (get_or memory (from.lane * q + from.column) []) in
@@ -41,7 +43,8 @@ made_by_places ctx memory pass lane column w e =
     cond ((eqb ctx.version 19) && (ltb 0 pass)) (xor_blocks block (get_or memory (lane * q + column) [])) block) (sym e)
 
 -- a step's reference, by its place
-pub place_by_word : (ctx : Context) (memory : List (List ℕ)) (pass lane column w : ℕ) → w ≡ reference_word ctx (in_memory ctx memory) pass lane column →
+pub place_by_word : (ctx : Context) (memory : List (List ℕ)) (pass lane column w : ℕ) →
+    w ≡ reference_word ctx (in_memory ctx memory) pass lane column →
     reference_place ctx memory pass lane column ≡ (reference ctx pass lane column w).lane * lane_length ctx + (reference ctx pass lane column w).column
 unfolding reference_place reference_of
 place_by_word ctx memory pass lane column w e =
@@ -56,7 +59,8 @@ pub record WordOfIndex (ctx : Context) (memory : List (List ℕ)) (pass lane sli
       ≡ get_or (previous ctx (in_memory ctx memory) pass lane (slice * segment_length ctx + index)) 0 0
 
 -- each index has one
-pub word_of_index : (ctx : Context) (memory : List (List ℕ)) (pass lane slice index : ℕ) → index < segment_length ctx → WordOfIndex ctx memory pass lane slice index
+pub word_of_index : (ctx : Context) (memory : List (List ℕ)) (pass lane slice index : ℕ) →
+    index < segment_length ctx → WordOfIndex ctx memory pass lane slice index
 unfolding reference_word address_word
 word_of_index ctx memory pass lane slice index below =
     let s = segment_length ctx in

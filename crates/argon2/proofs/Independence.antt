@@ -15,7 +15,9 @@ addressed ctx pass lane column =
     from.lane * lane_length ctx + from.column
 
 -- where addressing is independent, the place is that
-position_addressed : (ctx : Context) (first : FirstColumns) (pass lane column : ℕ) → is_independent ctx pass (column / segment_length ctx) ≡ true → reference_places ctx first pass lane column ≡ addressed ctx pass lane column
+position_addressed : (ctx : Context) (first : FirstColumns) (pass lane column : ℕ) →
+    is_independent ctx pass (column / segment_length ctx) ≡ true →
+    reference_places ctx first pass lane column ≡ addressed ctx pass lane column
 unfolding reference_places reference_of reference_word addressed
 position_addressed ctx first pass lane column e =
     ap (λ w. (reference ctx pass lane column w).lane * lane_length ctx + (reference ctx pass lane column w).column)
@@ -31,7 +33,8 @@ unfolding with_rest
 rest_is a b h = λ i. record { algorithm = h.algorithm i; version = a.version; m_cost = h.m_cost i; t_cost = h.t_cost i; p_cost = h.p_cost i; secret = a.secret; associated = a.associated }
 
 -- version, secret and data go into none of the parts
-addressed_rest : (a b : Context) (pass lane column : ℕ) → addressed (with_rest a b) pass lane column ≡ addressed b pass lane column
+addressed_rest : (a b : Context) (pass lane column : ℕ) →
+    addressed (with_rest a b) pass lane column ≡ addressed b pass lane column
 unfolding with_rest addressed reference reference_lane permitted finished_segments segment_length address_word address_block
 addressed_rest a b zero lane column = refl
 addressed_rest a b (suc pass) lane column = refl
@@ -43,8 +46,10 @@ unfolding with_rest is_independent segment_length
 independent_rest a b pass column = refl
 
 -- where addressing is independent, alike contexts have alike reference places
-pub positions_agree : (a b : Context) → AreAlike a b → (first second : FirstColumns) (pass lane column : ℕ) →
-    is_independent a pass (column / segment_length a) ≡ true → reference_places a first pass lane column ≡ reference_places b second pass lane column
+pub positions_agree : (a b : Context) → AreAlike a b →
+    (first second : FirstColumns) (pass lane column : ℕ) →
+    is_independent a pass (column / segment_length a) ≡ true →
+    reference_places a first pass lane column ≡ reference_places b second pass lane column
 positions_agree a b h first second pass lane column e =
     let r = rest_is a b h in
     let e' : is_independent b pass (column / segment_length b) ≡ true =
@@ -55,12 +60,14 @@ positions_agree a b h first second pass lane column e =
     ∙ sym (position_addressed b second pass lane column e')
 
 -- Argon2i's is everywhere
-pub argon2i_independent : (ctx : Context) (pass slice : ℕ) → ctx.algorithm ≡ 1 → is_independent ctx pass slice ≡ true
+pub argon2i_independent : (ctx : Context) (pass slice : ℕ) → ctx.algorithm ≡ 1 →
+    is_independent ctx pass slice ≡ true
 unfolding is_independent
 argon2i_independent ctx pass slice h = or_left (eqb ctx.algorithm 1) _ (eq-eqb ctx.algorithm 1 h)
 
 -- Argon2id's is in the first half of pass 0
-pub argon2id_independent : (ctx : Context) → Fits ctx → (column : ℕ) → ctx.algorithm ≡ 2 → column < 2 * segment_length ctx →
+pub argon2id_independent : (ctx : Context) → Fits ctx → (column : ℕ) → ctx.algorithm ≡ 2 →
+    column < 2 * segment_length ctx →
     is_independent ctx 0 (column / segment_length ctx) ≡ true
 unfolding is_independent
 argon2id_independent ctx fits column h low =

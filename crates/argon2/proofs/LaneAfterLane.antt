@@ -18,7 +18,8 @@ turns-replicate_other lane other zero ne = refl
 turns-replicate_other lane other (suc n) ne = turns-other lane other (replicate n other) ne ∙ turns-replicate_other lane other n ne
 
 -- one step of a lane's turns
-pub run_turn : (ctx : Context) (pass k lane i : ℕ) (memory : List (List ℕ)) → i < segment_length ctx →
+pub run_turn : (ctx : Context) (pass k lane i : ℕ) (memory : List (List ℕ)) →
+    i < segment_length ctx →
     run ctx pass k (replicate (segment_length ctx - i) lane) memory ≡ run ctx pass k (replicate (segment_length ctx - (i + 1)) lane) (step ctx memory pass lane (k * segment_length ctx + i))
 unfolding run
 run_turn ctx pass k lane i memory h =
@@ -30,7 +31,8 @@ run_turn ctx pass k lane i memory h =
     ap (λ n. run ctx pass k (replicate n lane) memory) e ∙ ap (λ x. run ctx pass k (replicate m lane) (step ctx memory pass lane x)) c
 
 -- the turns of one lane at once, before those of others
-run_replicate-append : (ctx : Context) (pass k lane n : ℕ) (ys : List ℕ) (memory : List (List ℕ)) → turns lane ys ≡ 0 →
+run_replicate-append : (ctx : Context) (pass k lane n : ℕ) (ys : List ℕ) (memory : List (List ℕ)) →
+    turns lane ys ≡ 0 →
     run ctx pass k (replicate n lane ++ ys) memory ≡ run ctx pass k ys (run ctx pass k (replicate n lane) memory)
 unfolding run
 run_replicate-append ctx pass k lane zero ys memory none = refl
@@ -63,7 +65,8 @@ turns_inside n a (suc len) lane h below =
     ]
 
 -- turns of one lane more
-lanes-replicate : (p lane n : ℕ) → lane < p → (ys : List ℕ) → AllByRecursion (λ l. l < p) ys → AllByRecursion (λ l. l < p) (replicate n lane ++ ys)
+lanes-replicate : (p lane n : ℕ) → lane < p → (ys : List ℕ) → AllByRecursion (λ l. l < p) ys →
+    AllByRecursion (λ l. l < p) (replicate n lane ++ ys)
 lanes-replicate p lane zero h ys a = a
 lanes-replicate p lane (suc n) h ys a = (h, lanes-replicate p lane n h ys a)
 
@@ -74,7 +77,8 @@ lanes_below p n a zero h = tt
 lanes_below p n a (suc len) h = lanes-replicate p a n (omega arith) (flat_map (λ l. replicate n l) (range_with_len (a + 1) len)) (lanes_below p n (a + 1) len (omega arith))
 
 -- the lanes in order are a schedule
-pub ascending_schedule : (ctx : Context) (pass k : ℕ) → IsSchedule ctx pass k (lane_after_lane ctx pass k 0)
+pub ascending_schedule : (ctx : Context) (pass k : ℕ) →
+    IsSchedule ctx pass k (lane_after_lane ctx pass k 0)
 unfolding lane_after_lane segments
 ascending_schedule ctx pass k = record {
   lanes = lanes_below ctx.p_cost (turn_count ctx pass k) 0 (ctx.p_cost - 0) (omega arith);
@@ -92,7 +96,8 @@ run_lane ctx pass k lane memory h =
     ∙ run_replicate-append ctx pass k lane n (segments n (lane + 1) (ctx.p_cost - (lane + 1))) memory (turns_outside n (lane + 1) (ctx.p_cost - (lane + 1)) lane (omega arith))
 
 -- no lane is left
-pub run_no_lane : (ctx : Context) (pass k : ℕ) (memory : List (List ℕ)) → run ctx pass k (lane_after_lane ctx pass k ctx.p_cost) memory ≡ memory
+pub run_no_lane : (ctx : Context) (pass k : ℕ) (memory : List (List ℕ)) →
+    run ctx pass k (lane_after_lane ctx pass k ctx.p_cost) memory ≡ memory
 unfolding lane_after_lane run
 run_no_lane ctx pass k memory =
     let e : ctx.p_cost - ctx.p_cost ≡ 0 = omega arith in
@@ -101,7 +106,8 @@ run_no_lane ctx pass k memory =
 -- ---- the same of what is watched
 
 -- one step of a lane's turns
-pub watch_turn : (ctx : Context) (pass k lane i : ℕ) (memory : List (List ℕ)) (positions : List ℕ) → i < segment_length ctx →
+pub watch_turn : (ctx : Context) (pass k lane i : ℕ) (memory : List (List ℕ)) (positions : List ℕ) →
+    i < segment_length ctx →
     watch ctx pass k (replicate (segment_length ctx - i) lane) memory positions
     ≡ watch ctx pass k (replicate (segment_length ctx - (i + 1)) lane) (step ctx memory pass lane (k * segment_length ctx + i))
     (set positions (position_index ctx pass lane (k * segment_length ctx + i)) (reference_place ctx memory pass lane (k * segment_length ctx + i)))
@@ -116,7 +122,8 @@ watch_turn ctx pass k lane i memory positions h =
     ∙ ap (λ x. watch ctx pass k (replicate m lane) (step ctx memory pass lane x) (set positions (position_index ctx pass lane x) (reference_place ctx memory pass lane x))) c
 
 -- the turns of one lane at once, before those of others
-watch_replicate-append : (ctx : Context) (pass k lane n : ℕ) (ys : List ℕ) (memory : List (List ℕ)) (positions : List ℕ) → turns lane ys ≡ 0 →
+watch_replicate-append : (ctx : Context) (pass k lane n : ℕ) (ys : List ℕ) (memory : List (List ℕ)) (positions : List ℕ) →
+    turns lane ys ≡ 0 →
     watch ctx pass k (replicate n lane ++ ys) memory positions
     ≡ watch ctx pass k ys (run ctx pass k (replicate n lane) memory) (watch ctx pass k (replicate n lane) memory positions)
 unfolding run watch
@@ -128,7 +135,8 @@ watch_replicate-append ctx pass k lane (suc n) ys memory positions none =
     ∙ watch_replicate-append ctx pass k lane n ys (step ctx memory pass lane c) (set positions (position_index ctx pass lane c) (reference_place ctx memory pass lane c)) none
 
 -- one lane's segment
-pub watch_lane : (ctx : Context) (pass k lane : ℕ) (memory : List (List ℕ)) (positions : List ℕ) → lane < ctx.p_cost →
+pub watch_lane : (ctx : Context) (pass k lane : ℕ) (memory : List (List ℕ)) (positions : List ℕ) →
+    lane < ctx.p_cost →
     watch ctx pass k (lane_after_lane ctx pass k lane) memory positions
     ≡ watch ctx pass k (lane_after_lane ctx pass k (lane + 1)) (run ctx pass k (replicate (turn_count ctx pass k) lane) memory) (watch ctx pass k (replicate (turn_count ctx pass k) lane) memory positions)
 unfolding lane_after_lane segments
@@ -139,7 +147,8 @@ watch_lane ctx pass k lane memory positions h =
     ∙ watch_replicate-append ctx pass k lane n (segments n (lane + 1) (ctx.p_cost - (lane + 1))) memory positions (turns_outside n (lane + 1) (ctx.p_cost - (lane + 1)) lane (omega arith))
 
 -- no lane is left
-pub watch_no_lane : (ctx : Context) (pass k : ℕ) (memory : List (List ℕ)) (positions : List ℕ) → watch ctx pass k (lane_after_lane ctx pass k ctx.p_cost) memory positions ≡ positions
+pub watch_no_lane : (ctx : Context) (pass k : ℕ) (memory : List (List ℕ)) (positions : List ℕ) →
+    watch ctx pass k (lane_after_lane ctx pass k ctx.p_cost) memory positions ≡ positions
 unfolding lane_after_lane watch
 watch_no_lane ctx pass k memory positions =
     let e : ctx.p_cost - ctx.p_cost ≡ 0 = omega arith in

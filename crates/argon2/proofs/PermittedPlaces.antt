@@ -10,7 +10,8 @@ use Rattle.argon2.specs.Reference.{columns, finished_segments, without_last, per
 use Rattle.argon2.proofs.Sources.{Fits, InSlice, in_slice, length-columns, lane_below, lane_alone, some_permitted, reference_reads}
 
 -- the column at an index of a list of columns
-get_or-columns : (pass from to i : ℕ) → i < to - from → (get_or (columns pass from to) i (0, 0)).1 ≡ from + i
+get_or-columns : (pass from to i : ℕ) → i < to - from →
+    (get_or (columns pass from to) i (0, 0)).1 ≡ from + i
 unfolding columns
 get_or-columns pass from to i h = ap (λ (x : ℕ × ℕ). x.1) (get_or-map-range_with_len (λ c. (pass, c)) from (to - from) i (from + i) (0, 0) h refl)
 
@@ -29,7 +30,8 @@ module _ (ctx : Context) (fits : Fits ctx) (column : ℕ) (in_columns : column <
   bounds = in_slice (segment_length ctx) column fits.two_columns in_columns
 
   -- the count is that
-  pub length-finished : (pass : ℕ) → length (finished_segments ctx pass (column / segment_length ctx)) ≡ finished_count ctx pass (column / segment_length ctx)
+  pub length-finished : (pass : ℕ) →
+      length (finished_segments ctx pass (column / segment_length ctx)) ≡ finished_count ctx pass (column / segment_length ctx)
   unfolding finished_segments
   length-finished zero = length-columns 0 0 _ ∙ omega arith
   length-finished (suc pass) =
@@ -41,7 +43,8 @@ module _ (ctx : Context) (fits : Fits ctx) (column : ℕ) (in_columns : column <
       e ∙ sym (cond-false (eqb (suc pass) 0) (k * s) (lane_length ctx - s) (ne_eqb (suc pass) 0 (λ z. omega arith)))
 
   -- the column is that
-  pub get_or-finished : (pass i : ℕ) → i < length (finished_segments ctx pass (column / segment_length ctx)) →
+  pub get_or-finished : (pass i : ℕ) →
+      i < length (finished_segments ctx pass (column / segment_length ctx)) →
       (get_or (finished_segments ctx pass (column / segment_length ctx)) i (0, 0)).1 ≡ finished_column ctx pass (column / segment_length ctx) i
   unfolding finished_segments
   get_or-finished zero i h =
@@ -70,7 +73,8 @@ module _ (ctx : Context) (fits : Fits ctx) (column : ℕ) (in_columns : column <
       ]
 
   -- how many permitted blocks there are
-  pub length-permitted : (pass lane other : ℕ) → (pass ≡ 0 → 2 ≤ column) → length (permitted ctx pass lane column other)
+  pub length-permitted : (pass lane other : ℕ) → (pass ≡ 0 → 2 ≤ column) →
+      length (permitted ctx pass lane column other)
       ≡ cond (eqb (column % segment_length ctx) 0) (finished_count ctx pass (column / segment_length ctx) - 1)
       (finished_count ctx pass (column / segment_length ctx) + cond (eqb other lane) (column % segment_length ctx - 1) 0)
   unfolding permitted without_last
@@ -111,7 +115,8 @@ module _ (ctx : Context) (fits : Fits ctx) (column : ℕ) (in_columns : column <
       ∙ cond-false (ltb ((k + 1) * s + i) q) ((k + 1) * s + i) ((k + 1) * s + i - q) (le-ltb ((k + 1) * s + i) q (omega arith)))
 
   -- the column of an item
-  pub get_or-permitted : (pass lane other i : ℕ) → i < length (permitted ctx pass lane column other) →
+  pub get_or-permitted : (pass lane other i : ℕ) →
+      i < length (permitted ctx pass lane column other) →
       (get_or (permitted ctx pass lane column other) i (0, 0)).1 ≡ finished_column ctx pass (column / segment_length ctx) i
   unfolding permitted without_last
   get_or-permitted pass lane other i =

@@ -16,8 +16,10 @@ pub place_apart : (q l c m d : ℕ) → c < q → d < q → (l ≡ m → c ≡ d
 place_apart q l c m d hc hd ne e = let s = same_from_place l c m d q hc hd e in ne s.0 s.1
 
 -- what another lane writes in the slice leaves a step's block as it is
-pub made_kept : (ctx : Context) → Fits ctx → (pass lane column l c k : ℕ) → IsStep ctx pass lane column → InSlice (segment_length ctx) column k →
-    l ≢ lane → c < lane_length ctx → InSlice (segment_length ctx) c k → (memory : List (List ℕ)) (b : List ℕ) →
+pub made_kept : (ctx : Context) → Fits ctx → (pass lane column l c k : ℕ) →
+    IsStep ctx pass lane column → InSlice (segment_length ctx) column k →
+    l ≢ lane → c < lane_length ctx → InSlice (segment_length ctx) c k →
+    (memory : List (List ℕ)) (b : List ℕ) →
     made_block ctx (in_memory ctx (set memory (l * lane_length ctx + c) b)) pass lane column ≡ made_block ctx (in_memory ctx memory) pass lane column
 unfolding in_memory
 made_kept ctx fits pass lane column l c k st here other below there memory b =
@@ -36,7 +38,8 @@ made_kept ctx fits pass lane column l c k st here other below there memory b =
 
 -- two steps of different lanes in one slice may change places
 pub steps_commute : (ctx : Context) → Fits ctx → (pass k : ℕ) (l c m d : ℕ) → l ≢ m →
-    IsStep ctx pass l c → InSlice (segment_length ctx) c k → IsStep ctx pass m d → InSlice (segment_length ctx) d k → (memory : List (List ℕ)) →
+    IsStep ctx pass l c → InSlice (segment_length ctx) c k → IsStep ctx pass m d →
+    InSlice (segment_length ctx) d k → (memory : List (List ℕ)) →
     step ctx (step ctx memory pass l c) pass m d ≡ step ctx (step ctx memory pass m d) pass l c
 unfolding step
 steps_commute ctx fits pass k l c m d ne sc ic sd id memory =
@@ -53,7 +56,8 @@ steps_commute ctx fits pass k l c m d ne sc ic sd id memory =
 -- ---- turns
 
 -- turns are counted one by one
-turns-cons : (lane x : ℕ) (xs : List ℕ) → turns lane (x ∷ xs) ≡ cond (eqb x lane) 1 0 + turns lane xs
+turns-cons : (lane x : ℕ) (xs : List ℕ) →
+    turns lane (x ∷ xs) ≡ cond (eqb x lane) 1 0 + turns lane xs
 turns-cons lane x xs = sum_by-cons (λ y. cond (eqb y lane) 1 0) x xs
 
 -- a lane's own turn counts
@@ -65,7 +69,8 @@ pub turns-other : (lane x : ℕ) (xs : List ℕ) → x ≢ lane → turns lane (
 turns-other lane x xs ne = turns-cons lane x xs ∙ ap (λ n. n + turns lane xs) (cond-false (eqb x lane) 1 0 (ne_eqb x lane ne)) ∙ omega arith
 
 -- the turns of two lists add up
-pub turns-append : (lane : ℕ) (xs ys : List ℕ) → turns lane (xs ++ ys) ≡ turns lane xs + turns lane ys
+pub turns-append : (lane : ℕ) (xs ys : List ℕ) →
+    turns lane (xs ++ ys) ≡ turns lane xs + turns lane ys
 turns-append lane xs ys = sum_by-append (λ y. cond (eqb y lane) 1 0) xs ys
 
 -- a tail has no more turns
@@ -73,11 +78,13 @@ pub turns-tail : (lane x : ℕ) (xs : List ℕ) → turns lane xs ≤ turns lane
 turns-tail lane x xs = omega (arith, turns-cons lane x xs)
 
 -- another lane's turn may be left out of the count
-turns-without : (lane x : ℕ) (xs ys : List ℕ) → x ≢ lane → turns lane (xs ++ x ∷ ys) ≡ turns lane (xs ++ ys)
+turns-without : (lane x : ℕ) (xs ys : List ℕ) → x ≢ lane →
+    turns lane (xs ++ x ∷ ys) ≡ turns lane (xs ++ ys)
 turns-without lane x xs ys ne = omega (arith, turns-append lane xs (x ∷ ys), turns-append lane xs ys, turns-other lane x ys ne)
 
 -- a lane's own counts wherever it stands
-turns-with : (lane : ℕ) (xs ys : List ℕ) → turns lane (xs ++ lane ∷ ys) ≡ suc (turns lane (xs ++ ys))
+turns-with : (lane : ℕ) (xs ys : List ℕ) →
+    turns lane (xs ++ lane ∷ ys) ≡ suc (turns lane (xs ++ ys))
 turns-with lane xs ys = omega (arith, turns-append lane xs (lane ∷ ys), turns-append lane xs ys, turns-same lane ys)
 
 -- ---- the step of a turn
@@ -87,7 +94,8 @@ pub turn_count-le : (ctx : Context) (pass k : ℕ) → turn_count ctx pass k ≤
 turn_count-le ctx pass k = cond_both ((eqb pass 0) && (eqb k 0)) _ _ (λ x. x ≤ segment_length ctx) (λ _. omega arith) (λ _. omega arith)
 
 -- two fewer in the first slice of all
-pub turn_count-first : (ctx : Context) (pass k : ℕ) → pass ≡ 0 → k ≡ 0 → turn_count ctx pass k ≡ segment_length ctx - 2
+pub turn_count-first : (ctx : Context) (pass k : ℕ) → pass ≡ 0 → k ≡ 0 →
+    turn_count ctx pass k ≡ segment_length ctx - 2
 turn_count-first ctx pass k p e = cond-true ((eqb pass 0) && (eqb k 0)) (segment_length ctx - 2) (segment_length ctx) (and_from (eqb pass 0) (eqb k 0) (eq-eqb pass 0 p) (eq-eqb k 0 e))
 
 -- the column of a lane's turn with n more after it
@@ -95,7 +103,8 @@ abbrev pub turn_column : Context → ℕ → ℕ → ℕ
 turn_column ctx k n = (k + 1) * segment_length ctx - suc n
 
 -- a turn is a step, in its slice
-pub turn_step : (ctx : Context) → Fits ctx → (pass k lane n : ℕ) → k < 4 → lane < ctx.p_cost → suc n ≤ turn_count ctx pass k →
+pub turn_step : (ctx : Context) → Fits ctx → (pass k lane n : ℕ) → k < 4 → lane < ctx.p_cost →
+    suc n ≤ turn_count ctx pass k →
     IsStep ctx pass lane (turn_column ctx k n) × InSlice (segment_length ctx) (turn_column ctx k n) k
 turn_step ctx fits pass k lane n four below room =
     let s = segment_length ctx in
@@ -121,20 +130,23 @@ pub record MayRun (ctx : Context) (pass k : ℕ) (schedule : List ℕ) : Type 0 
   pub few : (lane : ℕ) → lane < ctx.p_cost → turns lane schedule ≤ turn_count ctx pass k
 
 -- what is left may run too
-pub MayRun-tail : (ctx : Context) (pass k lane : ℕ) (schedule : List ℕ) → MayRun ctx pass k (lane ∷ schedule) → MayRun ctx pass k schedule
+pub MayRun-tail : (ctx : Context) (pass k lane : ℕ) (schedule : List ℕ) →
+    MayRun ctx pass k (lane ∷ schedule) → MayRun ctx pass k schedule
 MayRun-tail ctx pass k lane schedule m = record {
   lanes = m.lanes.1;
   few = λ l h. let a = m.few l h in let b = turns-tail l lane schedule in omega arith;
 }
 
 -- the first turn is a step
-pub head_step : (ctx : Context) → Fits ctx → (pass k lane : ℕ) (schedule : List ℕ) → k < 4 → MayRun ctx pass k (lane ∷ schedule) →
+pub head_step : (ctx : Context) → Fits ctx → (pass k lane : ℕ) (schedule : List ℕ) → k < 4 →
+    MayRun ctx pass k (lane ∷ schedule) →
     IsStep ctx pass lane (turn_column ctx k (turns lane schedule)) × InSlice (segment_length ctx) (turn_column ctx k (turns lane schedule)) k
 head_step ctx fits pass k lane schedule four m =
     turn_step ctx fits pass k lane (turns lane schedule) four m.lanes.0 (let a = m.few lane m.lanes.0 in let b = turns-same lane schedule in omega arith)
 
 -- one lane fewer in the list
-lanes_without : (p x : ℕ) (xs ys : List ℕ) → AllByRecursion (λ lane. lane < p) (xs ++ x ∷ ys) → AllByRecursion (λ lane. lane < p) (xs ++ ys)
+lanes_without : (p x : ℕ) (xs ys : List ℕ) → AllByRecursion (λ lane. lane < p) (xs ++ x ∷ ys) →
+    AllByRecursion (λ lane. lane < p) (xs ++ ys)
 lanes_without p x [] ys h = h.1
 lanes_without p x (y ∷ xs) ys h = (h.0, lanes_without p x xs ys h.1)
 
@@ -144,7 +156,8 @@ lane_among p x [] ys h = h.0
 lane_among p x (y ∷ xs) ys h = lane_among p x xs ys h.1
 
 -- a lane's first turn may come before the turns of other lanes
-pub first_to_front : (ctx : Context) → Fits ctx → (pass k lane : ℕ) → k < 4 → (xs ys : List ℕ) → turns lane xs ≡ 0 → MayRun ctx pass k (xs ++ lane ∷ ys) → (memory : List (List ℕ)) →
+pub first_to_front : (ctx : Context) → Fits ctx → (pass k lane : ℕ) → k < 4 → (xs ys : List ℕ) →
+    turns lane xs ≡ 0 → MayRun ctx pass k (xs ++ lane ∷ ys) → (memory : List (List ℕ)) →
     run ctx pass k (xs ++ lane ∷ ys) memory ≡ run ctx pass k (lane ∷ (xs ++ ys)) memory
 unfolding run
 first_to_front ctx fits pass k lane four [] ys none m memory = refl
@@ -185,13 +198,16 @@ first_turn lane (y ∷ ys) h =
     ]
 
 -- a list without turns is empty
-no_turns : (p : ℕ) (ys : List ℕ) → AllByRecursion (λ lane. lane < p) ys → ((lane : ℕ) → lane < p → 0 ≡ turns lane ys) → ys ≡ []
+no_turns : (p : ℕ) (ys : List ℕ) → AllByRecursion (λ lane. lane < p) ys →
+    ((lane : ℕ) → lane < p → 0 ≡ turns lane ys) → ys ≡ []
 no_turns p [] h none = refl
 no_turns p (y ∷ ys) h none = absurd (let a = none y h.0 in let b = turns-same y ys in omega arith)
 
 -- schedules with the same turns give the same blocks
-pub same_turns : (ctx : Context) → Fits ctx → (pass k : ℕ) → k < 4 → (xs ys : List ℕ) → MayRun ctx pass k xs → MayRun ctx pass k ys →
-    ((lane : ℕ) → lane < ctx.p_cost → turns lane xs ≡ turns lane ys) → (memory : List (List ℕ)) → run ctx pass k xs memory ≡ run ctx pass k ys memory
+pub same_turns : (ctx : Context) → Fits ctx → (pass k : ℕ) → k < 4 → (xs ys : List ℕ) →
+    MayRun ctx pass k xs → MayRun ctx pass k ys →
+    ((lane : ℕ) → lane < ctx.p_cost → turns lane xs ≡ turns lane ys) → (memory : List (List ℕ)) →
+    run ctx pass k xs memory ≡ run ctx pass k ys memory
 unfolding run
 same_turns ctx fits pass k four [] ys mx my same memory = ap (λ zs. run ctx pass k zs memory) (sym (no_turns ctx.p_cost ys my.lanes same))
 same_turns ctx fits pass k four (x ∷ xs) ys mx my same memory =
@@ -220,11 +236,13 @@ same_turns ctx fits pass k four (x ∷ xs) ys mx my same memory =
     ∙ sym (ap (λ zs. run ctx pass k zs memory) t.is ∙ first_to_front ctx fits pass k x four t.before t.after t.none my' memory)
 
 -- a schedule may run
-pub MayRun-from : (ctx : Context) (pass k : ℕ) (schedule : List ℕ) → IsSchedule ctx pass k schedule → MayRun ctx pass k schedule
+pub MayRun-from : (ctx : Context) (pass k : ℕ) (schedule : List ℕ) →
+    IsSchedule ctx pass k schedule → MayRun ctx pass k schedule
 MayRun-from ctx pass k schedule is = record { lanes = is.lanes; few = λ lane h. let e = is.turns lane h in omega arith }
 
 -- any two schedules of a slice give the same blocks, whatever the list holds
-pub schedules_agree : (ctx : Context) → Fits ctx → (pass k : ℕ) → k < 4 → (xs ys : List ℕ) → IsSchedule ctx pass k xs → IsSchedule ctx pass k ys →
+pub schedules_agree : (ctx : Context) → Fits ctx → (pass k : ℕ) → k < 4 → (xs ys : List ℕ) →
+    IsSchedule ctx pass k xs → IsSchedule ctx pass k ys →
     (memory : List (List ℕ)) → run ctx pass k xs memory ≡ run ctx pass k ys memory
 schedules_agree ctx fits pass k four xs ys ix iy memory =
     same_turns ctx fits pass k four xs ys (MayRun-from ctx pass k xs ix) (MayRun-from ctx pass k ys iy) (λ lane h. ix.turns lane h ∙ sym (iy.turns lane h)) memory

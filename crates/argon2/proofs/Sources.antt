@@ -47,7 +47,8 @@ in_slice s c two h =
     record { above = div-mul-le_self c s; below = omega arith; whole = m; one_of_four = k }
 
 -- what holds of each column holds of the list
-pub All-columns : (P : ℕ × ℕ → Type 0) (pass from to : ℕ) → ((c : ℕ) → from ≤ c → c < to → P (pass, c)) → All P (columns pass from to)
+pub All-columns : (P : ℕ × ℕ → Type 0) (pass from to : ℕ) →
+    ((c : ℕ) → from ≤ c → c < to → P (pass, c)) → All P (columns pass from to)
 unfolding columns
 All-columns P pass from to h =
     All-map P (λ c. (pass, c)) (range_with_len from (to - from)) (λ k d lt.
@@ -71,7 +72,8 @@ module _ (ctx : Context) (fits : Fits ctx) (lane column other : ℕ) (in_lanes :
   bounds = in_slice (segment_length ctx) column fits.two_columns in_columns
 
   -- finished segments are sources
-  finished_sources : (pass : ℕ) → All (IsSource pass) (finished_segments ctx pass (column / segment_length ctx))
+  finished_sources : (pass : ℕ) →
+      All (IsSource pass) (finished_segments ctx pass (column / segment_length ctx))
   unfolding finished_segments
   finished_sources zero = All-columns (IsSource zero) 0 0 _ (λ c low high.
       let b = bounds in
@@ -85,7 +87,8 @@ module _ (ctx : Context) (fits : Fits ctx) (lane column other : ℕ) (in_lanes :
       record { in_lanes = in_lanes; in_columns = omega arith; newest = inl (refl, omega arith); apart = inr (inl high) }))
 
   -- so is the own segment so far
-  own_sources : (pass : ℕ) → All (IsSource pass) (cond (eqb other lane) (columns pass (column / segment_length ctx * segment_length ctx) (column - 1)) [])
+  own_sources : (pass : ℕ) →
+      All (IsSource pass) (cond (eqb other lane) (columns pass (column / segment_length ctx * segment_length ctx) (column - 1)) [])
   own_sources pass = cond_both (eqb other lane) _ [] (All (IsSource pass))
       (λ e. All-columns (IsSource pass) pass _ _ (λ c low high.
       record { in_lanes = in_lanes; in_columns = omega arith; newest = inl (refl, omega arith); apart = inl (eqb-true other lane e) }))
@@ -99,7 +102,8 @@ module _ (ctx : Context) (fits : Fits ctx) (lane column other : ℕ) (in_lanes :
       (λ _. All-append (IsSource pass) _ _ (finished_sources pass) (own_sources pass))
 
   -- how many blocks of finished segments there are at least
-  length-finished : (pass : ℕ) → (zero < pass → 3 * segment_length ctx ≤ length (finished_segments ctx pass (column / segment_length ctx)))
+  length-finished : (pass : ℕ) →
+      (zero < pass → 3 * segment_length ctx ≤ length (finished_segments ctx pass (column / segment_length ctx)))
       × (pass ≡ zero → length (finished_segments ctx pass (column / segment_length ctx)) ≡ column / segment_length ctx * segment_length ctx)
   unfolding finished_segments
   length-finished zero = (λ h. absurd (omega (arith, h)), λ _. length-columns 0 0 _ ∙ omega arith)
@@ -112,7 +116,9 @@ module _ (ctx : Context) (fits : Fits ctx) (lane column other : ℕ) (in_lanes :
       )
 
   -- in the first slice of all there is only the lane itself
-  pub some_permitted : (pass : ℕ) → (pass ≡ 0 → 2 ≤ column) → (pass ≡ 0 → column / segment_length ctx ≡ 0 → other ≡ lane) → 0 < length (permitted ctx pass lane column other)
+  pub some_permitted : (pass : ℕ) → (pass ≡ 0 → 2 ≤ column) →
+      (pass ≡ 0 → column / segment_length ctx ≡ 0 → other ≡ lane) →
+      0 < length (permitted ctx pass lane column other)
   unfolding permitted without_last
   some_permitted pass later alone =
       let s = segment_length ctx in
@@ -150,13 +156,15 @@ module _ (ctx : Context) (fits : Fits ctx) (lane column other : ℕ) (in_lanes :
 -- ---- each block is made of its sources alone
 
 -- the lane referred to is one
-pub lane_below : (ctx : Context) → Fits ctx → (pass lane column w : ℕ) → lane < ctx.p_cost → reference_lane ctx pass lane column w < ctx.p_cost
+pub lane_below : (ctx : Context) → Fits ctx → (pass lane column w : ℕ) → lane < ctx.p_cost →
+    reference_lane ctx pass lane column w < ctx.p_cost
 unfolding reference_lane
 lane_below ctx fits pass lane column w h =
     cond_both ((eqb pass 0) && (eqb (column / segment_length ctx) 0)) lane ((w / 2 ^ 32) % ctx.p_cost) (λ x. x < ctx.p_cost) (λ _. h) (λ _. mod-lt (w / 2 ^ 32) fits.some_lane)
 
 -- in the first slice of all it is the block's own
-pub lane_alone : (ctx : Context) (pass lane column w : ℕ) → pass ≡ 0 → column / segment_length ctx ≡ 0 → reference_lane ctx pass lane column w ≡ lane
+pub lane_alone : (ctx : Context) (pass lane column w : ℕ) → pass ≡ 0 →
+    column / segment_length ctx ≡ 0 → reference_lane ctx pass lane column w ≡ lane
 unfolding reference_lane
 lane_alone ctx pass lane column w p k =
     cond-true ((eqb pass 0) && (eqb (column / segment_length ctx) 0)) lane ((w / 2 ^ 32) % ctx.p_cost)
@@ -168,7 +176,8 @@ unfolding reference_index
 index_below count w h = omega arith
 
 -- whatever the word
-pub reference_reads : (ctx : Context) → Fits ctx → (pass lane column w : ℕ) → IsStep ctx pass lane column →
+pub reference_reads : (ctx : Context) → Fits ctx → (pass lane column w : ℕ) →
+    IsStep ctx pass lane column →
     Reads ctx pass lane column (reference ctx pass lane column w).pass (reference ctx pass lane column w).lane (reference ctx pass lane column w).column
 unfolding reference
 reference_reads ctx fits pass lane column w st =
@@ -185,7 +194,8 @@ abbrev pub AgreeOn : (ctx : Context) (pass lane column : ℕ) → Blocks → Blo
 AgreeOn ctx pass lane column f g = (r l c : ℕ) → Reads ctx pass lane column r l c → f r l c ≡ g r l c
 
 -- they have one previous block
-pub previous_cong : (ctx : Context) → Fits ctx → (pass lane column : ℕ) → IsStep ctx pass lane column → (f g : Blocks) → AgreeOn ctx pass lane column f g →
+pub previous_cong : (ctx : Context) → Fits ctx → (pass lane column : ℕ) →
+    IsStep ctx pass lane column → (f g : Blocks) → AgreeOn ctx pass lane column f g →
     previous ctx f pass lane column ≡ previous ctx g pass lane column
 unfolding previous
 previous_cong ctx fits zero lane zero st f g h = absurd (let two : 2 ≤ zero = st.later refl in omega arith)
@@ -197,20 +207,23 @@ previous_cong ctx fits pass lane (suc column) st f g h =
     h pass lane column (record { in_lanes = st.in_lanes; in_columns = omega arith; newest = inl (refl, omega arith); apart = inl refl })
 
 -- one word
-pub word_cong : (ctx : Context) → Fits ctx → (pass lane column : ℕ) → IsStep ctx pass lane column → (f g : Blocks) → AgreeOn ctx pass lane column f g →
+pub word_cong : (ctx : Context) → Fits ctx → (pass lane column : ℕ) → IsStep ctx pass lane column →
+    (f g : Blocks) → AgreeOn ctx pass lane column f g →
     reference_word ctx f pass lane column ≡ reference_word ctx g pass lane column
 unfolding reference_word
 word_cong ctx fits pass lane column st f g h =
     ap (λ (b : List ℕ). cond (is_independent ctx pass (column / segment_length ctx)) (address_word ctx pass lane (column / segment_length ctx) (column % segment_length ctx)) (get_or b 0 0)) (previous_cong ctx fits pass lane column st f g h)
 
 -- one reference
-pub reference_of_cong : (ctx : Context) → Fits ctx → (pass lane column : ℕ) → IsStep ctx pass lane column → (f g : Blocks) → AgreeOn ctx pass lane column f g →
+pub reference_of_cong : (ctx : Context) → Fits ctx → (pass lane column : ℕ) →
+    IsStep ctx pass lane column → (f g : Blocks) → AgreeOn ctx pass lane column f g →
     reference_of ctx f pass lane column ≡ reference_of ctx g pass lane column
 unfolding reference_of
 reference_of_cong ctx fits pass lane column st f g h = ap (reference ctx pass lane column) (word_cong ctx fits pass lane column st f g h)
 
 -- which is a source
-pub reference_of_reads : (ctx : Context) → Fits ctx → (pass lane column : ℕ) → IsStep ctx pass lane column → (f : Blocks) →
+pub reference_of_reads : (ctx : Context) → Fits ctx → (pass lane column : ℕ) →
+    IsStep ctx pass lane column → (f : Blocks) →
     Reads ctx pass lane column (reference_of ctx f pass lane column).pass (reference_of ctx f pass lane column).lane (reference_of ctx f pass lane column).column
 unfolding reference_of
 reference_of_reads ctx fits pass lane column st f = reference_reads ctx fits pass lane column (reference_word ctx f pass lane column) st
@@ -221,7 +234,8 @@ cond_same true x u y h = h refl
 cond_same false x u y h = refl
 
 -- and make one block
-pub made_cong : (ctx : Context) → Fits ctx → (pass lane column : ℕ) → IsStep ctx pass lane column → (f g : Blocks) → AgreeOn ctx pass lane column f g →
+pub made_cong : (ctx : Context) → Fits ctx → (pass lane column : ℕ) → IsStep ctx pass lane column →
+    (f g : Blocks) → AgreeOn ctx pass lane column f g →
     made_block ctx f pass lane column ≡ made_block ctx g pass lane column
 unfolding made_block
 made_cong ctx fits pass lane column st f g h =

@@ -10,7 +10,8 @@ use Rattle.argon2.specs.Context.{Context, IsValid, segment_length, Sizes}
 use Rattle.argon2.proofs.Sources.{Fits}
 
 -- a test that would refuse is false
-not_refused : (b : Bool) (fault : Error) (rest : Option Error) → IsNone (cond b (Some fault) rest) → (b ≡ false) × IsNone rest
+not_refused : (b : Bool) (fault : Error) (rest : Option Error) → IsNone (cond b (Some fault) rest) →
+    (b ≡ false) × IsNone rest
 not_refused true fault rest h = absurd (let x : true ≡ false = h in cc)
 not_refused false fault rest h = (refl, h)
 
@@ -32,7 +33,8 @@ has_room m t p e =
     record { lanes = ltb-false p 1 b.0; lanes_below = let x = ltb-false 16777215 p c.0 in omega arith; blocks = ltb-false m (8 * p) d.0; passes = ltb-false t 1 f.0 }
 
 -- costs that are not refused have these sizes
-pub sizes : (ctx : Context) → ctx.m_cost < 2 ^ 32 → ctx.t_cost < 2 ^ 32 → IsNone (first_fault ctx.m_cost ctx.t_cost ctx.p_cost None) → Sizes ctx
+pub sizes : (ctx : Context) → ctx.m_cost < 2 ^ 32 → ctx.t_cost < 2 ^ 32 →
+    IsNone (first_fault ctx.m_cost ctx.t_cost ctx.p_cost None) → Sizes ctx
 unfolding segment_length
 sizes ctx m t e =
     let r = has_room ctx.m_cost ctx.t_cost ctx.p_cost e in

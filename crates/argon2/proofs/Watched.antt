@@ -19,7 +19,8 @@ pub record SameMark (pass lane column r l c : ℕ) : Type 0 where
   pub one_column : c ≡ column
 
 -- blocks of one index are one
-same_mark : (ctx : Context) (pass lane column r l c : ℕ) → lane < ctx.p_cost → column < lane_length ctx → l < ctx.p_cost → c < lane_length ctx →
+same_mark : (ctx : Context) (pass lane column r l c : ℕ) → lane < ctx.p_cost →
+    column < lane_length ctx → l < ctx.p_cost → c < lane_length ctx →
     position_index ctx r l c ≡ position_index ctx pass lane column → SameMark pass lane column r l c
 same_mark ctx pass lane column r l c a b x y e =
     let q = lane_length ctx in
@@ -31,7 +32,8 @@ same_mark ctx pass lane column r l c a b x y e =
     record { one_pass = outer.0; one_lane = inner.0; one_column = inner.1 }
 
 -- an index is one of the list's
-pub mark_within : (ctx : Context) (pass lane column : ℕ) → pass < ctx.t_cost → lane < ctx.p_cost → column < lane_length ctx → position_index ctx pass lane column < ctx.t_cost * block_count ctx
+pub mark_within : (ctx : Context) (pass lane column : ℕ) → pass < ctx.t_cost → lane < ctx.p_cost →
+    column < lane_length ctx → position_index ctx pass lane column < ctx.t_cost * block_count ctx
 mark_within ctx pass lane column t a b =
     let q = lane_length ctx in
     let p = ctx.p_cost in
@@ -42,11 +44,16 @@ mark_within ctx pass lane column t a b =
 -- The positions so far: in the pass at hand the first done(l) columns of each lane l.
 pub record Marked (ctx : Context) (first : FirstColumns) (pass : ℕ) (done : ℕ → ℕ) (old new : List ℕ) : Type 0 where
   pub size : length new ≡ ctx.t_cost * block_count ctx
-  pub steps : (r l c : ℕ) → r < ctx.t_cost → l < ctx.p_cost → c < lane_length ctx → (r ≡ 0 → 2 ≤ c) → (r < pass) ⊎ ((r ≡ pass) × (c < done l)) → get_or new (position_index ctx r l c) 0 ≡ reference_places ctx first r l c
-  pub firsts : (l c : ℕ) → l < ctx.p_cost → c < 2 → get_or new (position_index ctx 0 l c) 0 ≡ get_or old (position_index ctx 0 l c) 0
+  pub steps : (r l c : ℕ) → r < ctx.t_cost → l < ctx.p_cost → c < lane_length ctx →
+      (r ≡ 0 → 2 ≤ c) → (r < pass) ⊎ ((r ≡ pass) × (c < done l)) →
+      get_or new (position_index ctx r l c) 0 ≡ reference_places ctx first r l c
+  pub firsts : (l c : ℕ) → l < ctx.p_cost → c < 2 →
+      get_or new (position_index ctx 0 l c) 0 ≡ get_or old (position_index ctx 0 l c) 0
 
 -- of two equal counts of made columns
-Marked-like : (ctx : Context) (first : FirstColumns) (pass : ℕ) (done done' : ℕ → ℕ) (old new : List ℕ) → ((l : ℕ) → l < ctx.p_cost → done l ≡ done' l) → Marked ctx first pass done old new → Marked ctx first pass done' old new
+Marked-like : (ctx : Context) (first : FirstColumns) (pass : ℕ) (done done' : ℕ → ℕ) (old new : List ℕ) →
+    ((l : ℕ) → l < ctx.p_cost → done l ≡ done' l) → Marked ctx first pass done old new →
+    Marked ctx first pass done' old new
 Marked-like ctx first pass done done' old new same m = record {
   size = m.size;
   steps = λ r l c t a b g h. m.steps r l c t a b g (elim h [ inl x ↦ inl x | inr x ↦ inr (x.0, (let e = same l a in let lt = x.1 in omega arith)) ]);
@@ -54,9 +61,13 @@ Marked-like ctx first pass done done' old new same m = record {
 }
 
 -- a step puts down its own
-step_marked : (ctx : Context) → Fits ctx → (first : FirstColumns) (pass lane column : ℕ) (done done' : ℕ → ℕ) (old new : List ℕ) (place : ℕ) → IsStep ctx pass lane column → pass < ctx.t_cost →
-    place ≡ reference_places ctx first pass lane column → done lane ≡ column → done' lane ≡ suc column → ((l : ℕ) → l ≢ lane → done' l ≡ done l) →
-    Marked ctx first pass done old new → Marked ctx first pass done' old (set new (position_index ctx pass lane column) place)
+step_marked : (ctx : Context) → Fits ctx →
+    (first : FirstColumns) (pass lane column : ℕ) (done done' : ℕ → ℕ) (old new : List ℕ) (place : ℕ) →
+    IsStep ctx pass lane column → pass < ctx.t_cost →
+    place ≡ reference_places ctx first pass lane column → done lane ≡ column →
+    done' lane ≡ suc column → ((l : ℕ) → l ≢ lane → done' l ≡ done l) →
+    Marked ctx first pass done old new →
+    Marked ctx first pass done' old (set new (position_index ctx pass lane column) place)
 step_marked ctx fits first pass lane column done done' old new place st t is now then' others m =
     let size = m.size in
     let fit = mark_within ctx pass lane column t st.in_lanes st.in_columns in
@@ -96,8 +107,12 @@ step_marked ctx fits first pass lane column done done' old new place st t is now
     }
 
 -- what is left of a schedule finishes the slice
-watch_marked : (ctx : Context) → Fits ctx → (first : FirstColumns) (pass k : ℕ) → pass < ctx.t_cost → k < 4 → (schedule : List ℕ) (memory : List (List ℕ)) (old new : List ℕ) → MayRun ctx pass k schedule →
-    Holds ctx first pass (done_before ctx k schedule) memory → Marked ctx first pass (done_before ctx k schedule) old new → Marked ctx first pass (done_before ctx k []) old (watch ctx pass k schedule memory new)
+watch_marked : (ctx : Context) → Fits ctx → (first : FirstColumns) (pass k : ℕ) →
+    pass < ctx.t_cost → k < 4 → (schedule : List ℕ) (memory : List (List ℕ)) (old new : List ℕ) →
+    MayRun ctx pass k schedule →
+    Holds ctx first pass (done_before ctx k schedule) memory →
+    Marked ctx first pass (done_before ctx k schedule) old new →
+    Marked ctx first pass (done_before ctx k []) old (watch ctx pass k schedule memory new)
 unfolding watch
 watch_marked ctx fits first pass k t four [] memory old new m h w = w
 watch_marked ctx fits first pass k t four (lane ∷ schedule) memory old new m h w =
@@ -118,8 +133,13 @@ watch_marked ctx fits first pass k t four (lane ∷ schedule) memory old new m h
     (step_answers ctx fits first pass lane column k (done_before ctx k (lane ∷ schedule)) memory st.0 st.1 now about h) now then' others w)
 
 -- the first slices, each by its schedule
-watch_slices_marked : (ctx : Context) → Fits ctx → (first : FirstColumns) (schedules : ℕ → List ℕ) (pass k : ℕ) → pass < ctx.t_cost → k ≤ 4 → ((j : ℕ) → j < 4 → IsSchedule ctx pass j (schedules j)) → (memory : List (List ℕ)) (old new : List ℕ) →
-    Holds ctx first pass (λ _. begun ctx pass 0) memory → Marked ctx first pass (λ _. begun ctx pass 0) old new → Marked ctx first pass (λ _. begun ctx pass k) old (watch_slices ctx schedules pass k memory new)
+watch_slices_marked : (ctx : Context) → Fits ctx →
+    (first : FirstColumns) (schedules : ℕ → List ℕ) (pass k : ℕ) → pass < ctx.t_cost → k ≤ 4 →
+    ((j : ℕ) → j < 4 → IsSchedule ctx pass j (schedules j)) →
+    (memory : List (List ℕ)) (old new : List ℕ) →
+    Holds ctx first pass (λ _. begun ctx pass 0) memory →
+    Marked ctx first pass (λ _. begun ctx pass 0) old new →
+    Marked ctx first pass (λ _. begun ctx pass k) old (watch_slices ctx schedules pass k memory new)
 unfolding watch_slices
 watch_slices_marked ctx fits first schedules pass zero t four is memory old new h w = w
 watch_slices_marked ctx fits first schedules pass (suc k) t four is memory old new h w =
@@ -138,7 +158,9 @@ watch_slices_marked ctx fits first schedules pass (suc k) t four is memory old n
     (Marked-like ctx first pass (λ _. begun ctx pass k) (done_before ctx k schedule) old marks start j))
 
 -- the end of a pass is the start of the next
-next_marked : (ctx : Context) (first : FirstColumns) (pass : ℕ) (old new : List ℕ) → Marked ctx first pass (λ _. begun ctx pass 4) old new → Marked ctx first (suc pass) (λ _. begun ctx (suc pass) 0) old new
+next_marked : (ctx : Context) (first : FirstColumns) (pass : ℕ) (old new : List ℕ) →
+    Marked ctx first pass (λ _. begun ctx pass 4) old new →
+    Marked ctx first (suc pass) (λ _. begun ctx (suc pass) 0) old new
 next_marked ctx first pass old new m =
     let s = segment_length ctx in
     let w = turn_count-later_pass ctx pass in
@@ -153,8 +175,13 @@ next_marked ctx first pass old new m =
     }
 
 -- the first passes
-watch_passes_marked : (ctx : Context) → Fits ctx → (first : FirstColumns) (schedules : ℕ → ℕ → List ℕ) (passes : ℕ) → passes ≤ ctx.t_cost → ((r k : ℕ) → r < ctx.t_cost → k < 4 → IsSchedule ctx r k (schedules r k)) → (memory : List (List ℕ)) (old new : List ℕ) →
-    Holds ctx first 0 (λ _. begun ctx 0 0) memory → Marked ctx first 0 (λ _. begun ctx 0 0) old new → Marked ctx first passes (λ _. begun ctx passes 0) old (watch_passes ctx schedules passes memory new)
+watch_passes_marked : (ctx : Context) → Fits ctx →
+    (first : FirstColumns) (schedules : ℕ → ℕ → List ℕ) (passes : ℕ) → passes ≤ ctx.t_cost →
+    ((r k : ℕ) → r < ctx.t_cost → k < 4 → IsSchedule ctx r k (schedules r k)) →
+    (memory : List (List ℕ)) (old new : List ℕ) →
+    Holds ctx first 0 (λ _. begun ctx 0 0) memory →
+    Marked ctx first 0 (λ _. begun ctx 0 0) old new →
+    Marked ctx first passes (λ _. begun ctx passes 0) old (watch_passes ctx schedules passes memory new)
 unfolding watch_passes
 watch_passes_marked ctx fits first schedules zero t is memory old new h w = w
 watch_passes_marked ctx fits first schedules (suc r) t is memory old new h w =
@@ -166,8 +193,10 @@ watch_passes_marked ctx fits first schedules (suc r) t is memory old new h w =
     (watch_passes_marked ctx fits first schedules r (omega arith) is memory old new h w))
 
 -- after the last pass the list is that of the reference places
-pub watched : (ctx : Context) → Fits ctx → (first : FirstColumns) (schedules : ℕ → ℕ → List ℕ) → AreSchedules ctx schedules →
-    (memory : List (List ℕ)) (old : List ℕ) → Begins ctx first memory → length old ≡ ctx.t_cost * block_count ctx →
+pub watched : (ctx : Context) → Fits ctx → (first : FirstColumns) (schedules : ℕ → ℕ → List ℕ) →
+    AreSchedules ctx schedules →
+    (memory : List (List ℕ)) (old : List ℕ) → Begins ctx first memory →
+    length old ≡ ctx.t_cost * block_count ctx →
     AreReferencePlaces ctx first old (watch_passes ctx schedules ctx.t_cost memory old)
 watched ctx fits first schedules is memory old start marks =
     let two = fits.two_columns in
