@@ -74,6 +74,7 @@ impl PasswordHash {
     }
 }
 
+// The facts of a version, of a salt and of a hash, where there is one.
 fn know_version(version: Option<u32>)
     ensures { IfSome version (λ n. n < 2 ^ 32) }
 {

@@ -12,10 +12,12 @@ const TEXT: &str = "$argon2id$v=19$m=8,t=1,p=1$c29tZXNhbHQ$AAAAAA";
 
 // Whether a text is read, and if it is, that it prints itself.
 fn is_read(rt: &impl Abort, alloc: Global, text: &str) -> Result<bool, Fail> {
-    match PasswordHash::new(text) {
+    match text.parse::<PasswordHash>() {
         Ok(hash) => {
+            hash.is_grammatical();
             let printed = hash.to_string(alloc)?;
             assert_eq!(rt; printed.as_str(), text);
+            assert!(rt; PasswordHash::new(printed.as_str())? == hash);
             Ok(true)
         }
         Err(error) => {
@@ -73,7 +75,6 @@ fn texts_that_are_refused(rt: HostRuntime) -> Result<(), Fail> {
         "$argon2id$c29tZXNhbHQ$AAAAAA$",
     ] {
         assert!(rt; !is_read(&rt, rt.alloc(), text)?);
-        assert!(rt; text.parse::<PasswordHash>().is_err());
     }
     Ok(())
 }
