@@ -1,5 +1,14 @@
 //! Argon2 (RFC 9106): password hashing and key derivation.
 #![tactic(auto)]
 
-pub use argon2_base::error;
+pub mod algorithm;
+pub mod laws;
+pub mod params;
+pub mod version;
+
+pub use algorithm::Algorithm;
+pub use argon2_base::block::{Block, Work};
 pub use argon2_base::error::{B64Error, Error, Result};
+pub use argon2_base::{blake2b, blake2b_long, block, error};
+pub use params::{AssociatedData, KeyId, Params, ParamsBuilder};
+pub use version::Version;

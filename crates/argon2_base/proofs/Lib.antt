@@ -1,3 +1,4 @@
+pub mod Absorbing
 pub mod Base64Lemmas
 pub mod Characters
 pub mod DecimalLemmas
@@ -6,3 +7,13 @@ pub mod ParamsTextLemmas
 pub mod PhcTextLemmas
 pub mod Separators
 pub mod ValueCharacters
+pub mod BlockLemmas
+pub mod HashBlocks
+pub mod HasherFields
+pub mod KnownDigests
+pub mod LaneLemmas
+pub mod MixingLaws
+pub mod MixingLemmas
+pub mod MixingValues
+pub mod Pieces
+pub mod Rounds

@@ -1,0 +1,59 @@
+-- What the strict engine answers where it decodes into a slice.
+use Rattle.std.proofs.Common.{◌≡◌, ℕ, ◌/◌, ◌-◌, ◌≤◌, Bool, true, false, List, ◌++◌, length, take, drop, replicate, if◌then◌else◌, nat_lt, Option, Some, None, Result, Ok, Err, refl, sym, ap, ◌∙◌, arith, inl, inr}
+use Rattle.std.proofs.lemmas.Bool.{cases_Bool, le-ltb, ltb-false}
+use Rattle.std.proofs.lemmas.List.{take_at}
+use Rattle.base64.specs.Engines.{standard_no_pad}
+use Rattle.base64.specs.GeneralPurpose.{decode_of, decode_slice_of, decoded_bytes_of}
+use Rattle.base64.specs.Decode.{bytes_fit, decode_outcome, groups_before_last, or_else, or_error}
+use Rattle.base64.specs.declared.decode.DecodeError.{DecodeError}
+use Rattle.base64.specs.declared.decode.DecodeSliceError.{DecodeSliceError}
+use Rattle.base64.specs.declared.decode.DecodeSliceError.TheVariants.{OutputSliceTooSmall}
+use Rattle.argon2_base.specs.Base64.{IsBytes, strict_base64}
+use Rattle.argon2_base.proofs.Base64Lemmas.{decode_of-strict_base64, length-strict_base64, strict_base64_decoded}
+use Rattle.argon2.specs.ByteLists.{base64_length}
+use Rattle.argon2.proofs.Filled.{drop-filled}
+
+-- the answer by the errors x and y, a test for room between them, and the bytes d
+abbrev answer : Option DecodeError → Bool → Option DecodeError → List ℕ → ℕ → Result ℕ DecodeSliceError
+answer x small y d room = or_error x (if small then Err OutputSliceTooSmall else or_error y (bytes_fit (length d) room))
+
+answer_ok : (x y : Option DecodeError) (small : Bool) (d : List ℕ) (room n : ℕ) → answer x small y d room ≡ Ok n
+    → (decode_outcome (or_else x y) d ≡ Ok d) × (n ≡ length d) × (length d ≤ room)
+answer_ok (Some e) y small d room n h = cc h
+answer_ok None y true d room n h = cc h
+answer_ok None (Some e) false d room n h = cc h
+answer_ok None None false d room n h = elim (cases_Bool (nat_lt room (length d))) [
+  | inl small ↦ absurd (let f = rw small at h in cc)
+  | inr wide ↦ (refl, (let f = rw wide at h in cc), ltb-false room (length d) wide)
+]
+
+answer_err : (x y : Option DecodeError) (small : Bool) (d b : List ℕ) (room : ℕ) (f : DecodeSliceError) → decode_outcome (or_else x y) d ≡ Ok b
+    → length b ≤ room → small ≡ false → answer x small y d room ≡ Err f → ⊥
+answer_err (Some e) y small d b room f ok fits wide h = cc ok
+answer_err None y true d b room f ok fits wide h = cc wide
+answer_err None (Some e) false d b room f ok fits wide h = cc ok
+answer_err None None false d b room f ok fits wide h =
+    let same : d ≡ b = cc ok in
+    let no : nat_lt room (length d) ≡ false = le-ltb room (length d) (rw same fits) in
+    let bad = rw no at h in
+    cc bad
+
+-- the text is of what was decoded into zeros, and zeros are left behind that
+pub decoded_into_zeros : (s new : List ℕ) (room n : ℕ) → IsBytes s → decode_slice_of standard_no_pad s room ≡ Ok n
+    → new ≡ decoded_bytes_of standard_no_pad s ++ drop (length (decoded_bytes_of standard_no_pad s)) (replicate room 0)
+    → (s ≡ strict_base64 (take n new)) × (drop n new ≡ replicate (room - n) 0) × (n ≤ room)
+decoded_into_zeros s new room n bytes ok written =
+    let d : List ℕ = decoded_bytes_of standard_no_pad s in
+    let parts = answer_ok _ _ _ d room n ok in
+    let text : s ≡ strict_base64 d = strict_base64_decoded s d bytes parts.0 in
+    let front : take n new ≡ d = rw written (take_at d (drop (length d) (replicate room 0)) n (sym parts.1)) in
+    let rest : drop n new ≡ replicate (room - n) 0 = rw (written, parts.1) (drop-filled room (length d) d refl) in
+    (text ∙ ap strict_base64 (sym front), rest, omega (arith, parts.1, parts.2))
+
+-- no text of bytes is refused that is no longer than that of as many bytes as there is room for
+pub decode_slice_err : (s b : List ℕ) (room : ℕ) (f : DecodeSliceError) → IsBytes b → s ≡ strict_base64 b → length s ≤ base64_length room
+    → decode_slice_of standard_no_pad s room ≡ Err f → ⊥
+decode_slice_err s b room f bytes is short err =
+    let ok : decode_of standard_no_pad s ≡ Ok b = rw is (decode_of-strict_base64 b bytes) in
+    let fits : length b ≤ room = omega (arith, ap length is, length-strict_base64 b) in
+    answer_err _ _ _ _ b room f ok fits (le-ltb (room / 3) (groups_before_last (length s)) (omega arith)) err

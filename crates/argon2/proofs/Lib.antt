@@ -1,0 +1,2 @@
+mod DecodedSlices
+mod Filled

@@ -1,0 +1,5 @@
+use Rattle.argon2_base.proofs.MixingLaws.{mixed-comm}
+use Rattle.argon2.proofs.laws.mixing_symmetric.Goals as goal
+
+pub returns : goal.returns
+returns c = mixed-comm

@@ -1,0 +1,21 @@
+-- What callers see of the code's parameters.
+use Rattle.std.specs.Prelude.{◌≡◌, Some, Result, Ok, Err}
+use Rattle.argon2.specs.declared.params.Params.{Params}
+use Rattle.argon2.specs.ByteLists.{keyid_bytes, data_bytes}
+use Rattle.argon2.specs.Parameters.{Parameters, first_fault, IsValid}
+use Rattle.argon2_base.specs.declared.error.Error.{Error}
+
+abbrev pub parameters_of : Params → Parameters
+parameters_of params = record {
+  m_cost = params.m_cost;
+  t_cost = params.t_cost;
+  p_cost = params.p_cost;
+  keyid = keyid_bytes params.keyid;
+  associated = data_bytes params.associated;
+  output_len = params.output_len;
+}
+
+-- these parameters, which are valid, or their first fault
+abbrev pub IsParamsOf : Parameters → Result Params Error → Type 0
+IsParamsOf v (Ok params) = IsValid v × (parameters_of params ≡ v)
+IsParamsOf v (Err e) = first_fault v.m_cost v.t_cost v.p_cost v.output_len ≡ Some e

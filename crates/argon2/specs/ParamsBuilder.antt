@@ -1,0 +1,47 @@
+-- What callers see of a builder of parameters.
+use Rattle.std.specs.Prelude.{ℕ, List, [], Option, None, unwrap_or}
+use Rattle.std.specs.Option.{option_map}
+use Rattle.argon2.specs.declared.params.builder.ParamsBuilder.{ParamsBuilder}
+use Rattle.argon2.specs.ByteLists.{keyid_bytes, data_bytes}
+use Rattle.argon2.specs.Parameters.{Parameters}
+
+-- the six settings; bytes that are not set differ from the empty list
+pub record BuilderSettings : Type 0 where
+  pub m_cost : ℕ
+  pub t_cost : ℕ
+  pub p_cost : ℕ
+  pub keyid : Option (List ℕ)
+  pub associated : Option (List ℕ)
+  pub output_len : Option ℕ
+
+abbrev pub settings_of : ParamsBuilder → BuilderSettings
+settings_of builder = record {
+  m_cost = builder.m_cost;
+  t_cost = builder.t_cost;
+  p_cost = builder.p_cost;
+  keyid = option_map keyid_bytes builder.keyid;
+  associated = option_map data_bytes builder.associated;
+  output_len = builder.output_len;
+}
+
+-- what a builder starts with
+abbrev pub default_settings : BuilderSettings
+default_settings = record {
+  m_cost = 19456;
+  t_cost = 2;
+  p_cost = 1;
+  keyid = None;
+  associated = None;
+  output_len = None;
+}
+
+-- the parameters of settings, where bytes that are not set are none
+abbrev pub built : BuilderSettings → Parameters
+built s = record {
+  m_cost = s.m_cost;
+  t_cost = s.t_cost;
+  p_cost = s.p_cost;
+  keyid = unwrap_or s.keyid [];
+  associated = unwrap_or s.associated [];
+  output_len = s.output_len;
+}

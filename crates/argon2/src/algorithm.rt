@@ -1,0 +1,77 @@
+//! The variants of Argon2 (RFC 9106, section 3.1).
+
+ghost use Rattle.std.specs.Prelude.{◌≡◌, Some};
+ghost use Rattle.argon2.specs.Algorithm.{algorithm_name, IsNamed};
+
+use argon2_base::error::{Error, Result};
+use std::convert::AsStr;
+use std::fmt;
+use std::str::FromStr;
+
+/// A variant of Argon2. Its number is the type `y` of RFC 9106, section 3.2.
+#[derive(Clone, Copy, Debug, Default, PartialEq, Eq, PartialOrd, Ord)]
+pub enum Algorithm {
+    /// References depend on the password, which leaves the least room for tradeoffs of time
+    /// against memory, and leaks through side channels.
+    Argon2d = 0,
+    /// References depend on positions alone, and tell nothing through side channels.
+    Argon2i = 1,
+    /// Argon2i in the first half of the first pass, and Argon2d from then on.
+    #[default]
+    Argon2id = 2,
+}
+
+impl Algorithm {
+    /// The variant of this name: `argon2d`, `argon2i` or `argon2id`. Any other name is
+    /// [`Error::AlgorithmInvalid`].
+    pub fn new(name: &str) -> Result<Algorithm>
+        ensures { IsNamed name.now result }
+    {
+        match name {
+            "argon2d" => Ok(Algorithm::Argon2d),
+            "argon2i" => Ok(Algorithm::Argon2i),
+            "argon2id" => Ok(Algorithm::Argon2id),
+            _ => Err(Error::AlgorithmInvalid),
+        }
+    }
+
+    /// The variant's name.
+    pub fn as_str(&self) -> &'static str
+        ensures { result.now ≡ algorithm_name self.now }
+    {
+        match self {
+            Algorithm::Argon2d => "argon2d",
+            Algorithm::Argon2i => "argon2i",
+            Algorithm::Argon2id => "argon2id",
+        }
+    }
+}
+
+impl AsStr for Algorithm {
+    ghost text = { algorithm_name };
+
+    fn as_str(&self) -> &str {
+        self.as_str()
+    }
+}
+
+impl fmt::Display for Algorithm {
+    ghost output = { λ algorithm. Some (algorithm_name algorithm) };
+
+    fn fmt<W: fmt::Write>(&self, f: &mut fmt::Formatter<W>) -> fmt::Result {
+        f.write_str(self.as_str())
+    }
+}
+
+impl FromStr for Algorithm {
+    type Err = Error;
+
+    ghost from_str_gives = { IsNamed };
+
+    fn from_str(name: &str) -> Result<Algorithm> {
+        Algorithm::new(name)
+    }
+}
+
+#[cfg(test)]
+mod tests;

@@ -1,0 +1,209 @@
+//! Parameters of a hash (RFC 9106, section 3.1), and their builder.
+
+ghost use Rattle.std.specs.Prelude.{IsNone};
+ghost use Rattle.argon2.specs.Parameters.{first_fault};
+
+use argon2_base::error::{Error, Result};
+
+mod associated_data;
+mod builder;
+mod byte_list;
+mod key_id;
+
+pub use associated_data::AssociatedData;
+pub use builder::ParamsBuilder;
+pub use key_id::KeyId;
+
+/// Parameters of a hash, which are valid by this type.
+#[derive(Clone, Copy, Debug, PartialEq, Eq)]
+pub struct Params {
+    m_cost: u32,
+    t_cost: u32,
+    p_cost: u32,
+    keyid: KeyId,
+    associated: AssociatedData,
+    output_len: Option<usize>,
+    ghost valid: { IsNone (first_fault m_cost t_cost p_cost output_len) },
+}
+
+impl Params {
+    ghost use Rattle.std.specs.Prelude.{◌≡◌, ◌≤◌, length};
+    ghost use Rattle.argon2.specs.Parameters.{IsValid, plain};
+    ghost use Rattle.argon2.specs.Params.{IsParamsOf, parameters_of};
+    ghost use Rattle.argon2.specs.Shape.{block_count};
+
+    /// The memory cost by default.
+    pub const DEFAULT_M_COST: u32 = 19456;
+
+    /// The least memory cost: two blocks for each slice of one lane.
+    pub const MIN_M_COST: u32 = 8;
+
+    /// The greatest memory cost.
+    pub const MAX_M_COST: u32 = 4294967295;
+
+    /// The number of passes by default.
+    pub const DEFAULT_T_COST: u32 = 2;
+
+    /// The least number of passes.
+    pub const MIN_T_COST: u32 = 1;
+
+    /// The greatest number of passes.
+    pub const MAX_T_COST: u32 = 4294967295;
+
+    /// The number of lanes by default.
+    pub const DEFAULT_P_COST: u32 = 1;
+
+    /// The least number of lanes.
+    pub const MIN_P_COST: u32 = 1;
+
+    /// The greatest number of lanes, 2^24 - 1.
+    pub const MAX_P_COST: u32 = 16777215;
+
+    /// The most bytes of a key identifier.
+    pub const MAX_KEYID_LEN: usize = 8;
+
+    /// The most bytes of associated data.
+    pub const MAX_DATA_LEN: usize = 32;
+
+    /// The length of an output in bytes by default.
+    pub const DEFAULT_OUTPUT_LEN: usize = 32;
+
+    /// The least length of an output in bytes.
+    pub const MIN_OUTPUT_LEN: usize = 4;
+
+    /// The greatest length of an output in bytes.
+    pub const MAX_OUTPUT_LEN: usize = 4294967295;
+
+    /// The parameters by default: 19456 blocks, 2 passes, 1 lane, no key identifier, no associated
+    /// data, and any length of output.
+    pub const DEFAULT: Params = Params {
+        m_cost: Params::DEFAULT_M_COST,
+        t_cost: Params::DEFAULT_T_COST,
+        p_cost: Params::DEFAULT_P_COST,
+        keyid: KeyId::EMPTY,
+        associated: AssociatedData::EMPTY,
+        output_len: None,
+    };
+
+    /// The parameters of `m_cost` blocks of 1024 bytes, `t_cost` passes and `p_cost` lanes, with
+    /// no key identifier and no associated data. Where an output length is set, in bytes, each
+    /// output has just that length.
+    ///
+    /// # Errors
+    /// The first of these that holds:
+    /// - [`Error::MemoryTooLittle`]: `m_cost` is below 8.
+    /// - [`Error::ThreadsTooFew`]: `p_cost` is 0.
+    /// - [`Error::ThreadsTooMany`]: `p_cost` is above 16777215.
+    /// - [`Error::MemoryTooLittle`]: `m_cost` is below 8 times `p_cost`.
+    /// - [`Error::TimeTooSmall`]: `t_cost` is 0.
+    /// - [`Error::OutputTooShort`]: the output length is below 4.
+    /// - [`Error::OutputTooLong`]: the output length is above 4294967295.
+    pub fn new(m_cost: u32, t_cost: u32, p_cost: u32, output_len: Option<usize>) -> Result<Params>
+        ensures { IsParamsOf (plain m_cost t_cost p_cost output_len) result }
+    {
+        if m_cost < Params::MIN_M_COST {
+            return Err(Error::MemoryTooLittle);
+        }
+        if p_cost < Params::MIN_P_COST {
+            return Err(Error::ThreadsTooFew);
+        }
+        if p_cost > Params::MAX_P_COST {
+            return Err(Error::ThreadsTooMany);
+        }
+        if m_cost < 8 * p_cost {
+            return Err(Error::MemoryTooLittle);
+        }
+        if t_cost < Params::MIN_T_COST {
+            return Err(Error::TimeTooSmall);
+        }
+        if let Some(len) = output_len {
+            if len < Params::MIN_OUTPUT_LEN {
+                return Err(Error::OutputTooShort);
+            }
+            if len > Params::MAX_OUTPUT_LEN {
+                return Err(Error::OutputTooLong);
+            }
+        }
+        Ok(Params {
+            m_cost,
+            t_cost,
+            p_cost,
+            keyid: KeyId::EMPTY,
+            associated: AssociatedData::EMPTY,
+            output_len,
+        })
+    }
+
+    /// The memory cost in blocks of 1024 bytes. As many are used as fill all segments evenly, which
+    /// [`Params::block_count`] says.
+    pub fn m_cost(&self) -> u32
+        ensures value { result ≡ (parameters_of self.now).m_cost }
+        ensures valid { IsValid (parameters_of self.now) }
+    {
+        self.m_cost
+    }
+
+    /// The number of passes.
+    pub fn t_cost(&self) -> u32
+        ensures value { result ≡ (parameters_of self.now).t_cost }
+        ensures valid { IsValid (parameters_of self.now) }
+    {
+        self.t_cost
+    }
+
+    /// The number of lanes.
+    pub fn p_cost(&self) -> u32
+        ensures value { result ≡ (parameters_of self.now).p_cost }
+        ensures valid { IsValid (parameters_of self.now) }
+    {
+        self.p_cost
+    }
+
+    /// The key identifier's bytes, 0 to 8.
+    pub fn keyid(&self) -> &[u8]
+        ensures value { result.now ≡ (parameters_of self.now).keyid }
+        ensures fits { length (parameters_of self.now).keyid ≤ 8 }
+    {
+        self.keyid.as_bytes()
+    }
+
+    /// The associated data, 0 to 32 bytes.
+    pub fn data(&self) -> &[u8]
+        ensures value { result.now ≡ (parameters_of self.now).associated }
+        ensures fits { length (parameters_of self.now).associated ≤ 32 }
+    {
+        self.associated.as_bytes()
+    }
+
+    /// The length that each output has, in bytes, where it is set.
+    pub fn output_len(&self) -> Option<usize>
+        ensures value { result ≡ (parameters_of self.now).output_len }
+        ensures valid { IsValid (parameters_of self.now) }
+    {
+        self.output_len
+    }
+
+    /// The number of blocks that a hash fills: the greatest multiple of 4 times the number of lanes
+    /// that is at most the memory cost (RFC 9106, section 3.2).
+    pub fn block_count(&self) -> usize
+        ensures value { result ≡ block_count (parameters_of self.now).m_cost (parameters_of self.now).p_cost }
+    {
+        let segments = 4 * self.p_cost as usize;
+        self.m_cost as usize / segments * segments
+    }
+}
+
+impl Default for Params {
+    ghost use Rattle.std.specs.Prelude.{◌≡◌, None};
+    ghost use Rattle.argon2.specs.Parameters.{plain};
+    ghost use Rattle.argon2.specs.Params.{parameters_of};
+
+    ghost is_default = { λ params. parameters_of params ≡ plain 19456 2 1 None };
+
+    fn default() -> Params {
+        Params::DEFAULT
+    }
+}
+
+#[cfg(test)]
+mod tests;

@@ -1,0 +1,130 @@
+//! A builder of parameters.
+
+ghost use Rattle.std.specs.Prelude.{◌≡◌, Some};
+ghost use Rattle.argon2.specs.ByteLists.{keyid_bytes, data_bytes};
+ghost use Rattle.argon2.specs.ParamsBuilder.{built, default_settings, settings_of};
+ghost use Rattle.argon2.specs.Params.{IsParamsOf};
+
+use super::{AssociatedData, KeyId, Params};
+use argon2_base::error::{Error, Result};
+
+/// Six settings that parameters are built of. Two builders are equal where all six are; a key
+/// identifier or associated data that is not set differs from an empty one that was set.
+#[derive(Clone, Debug, PartialEq, Eq, Drop)]
+pub struct ParamsBuilder {
+    m_cost: u32,
+    t_cost: u32,
+    p_cost: u32,
+    keyid: Option<KeyId>,
+    associated: Option<AssociatedData>,
+    output_len: Option<usize>,
+}
+
+impl ParamsBuilder {
+    /// The costs of [`Params::DEFAULT`], and nothing else set.
+    pub const DEFAULT: ParamsBuilder = ParamsBuilder {
+        m_cost: Params::DEFAULT_M_COST,
+        t_cost: Params::DEFAULT_T_COST,
+        p_cost: Params::DEFAULT_P_COST,
+        keyid: None,
+        associated: None,
+        output_len: None,
+    };
+
+    /// A builder with the costs of [`Params::DEFAULT`], and nothing else set.
+    pub fn new() -> ParamsBuilder
+        ensures { settings_of result ≡ default_settings }
+    {
+        ParamsBuilder::DEFAULT
+    }
+
+    /// Sets the memory cost in blocks of 1024 bytes: from 8 times the number of lanes on.
+    pub fn m_cost(&mut self, m_cost: u32) -> &mut Self
+        ensures same_reference { result.ghost_name ≡ self.entry.ghost_name }
+        ensures value { settings_of result.now ≡ record (settings_of self.old) { m_cost = m_cost } }
+    {
+        self.m_cost = m_cost;
+        self
+    }
+
+    /// Sets the number of passes: from 1 on.
+    pub fn t_cost(&mut self, t_cost: u32) -> &mut Self
+        ensures same_reference { result.ghost_name ≡ self.entry.ghost_name }
+        ensures value { settings_of result.now ≡ record (settings_of self.old) { t_cost = t_cost } }
+    {
+        self.t_cost = t_cost;
+        self
+    }
+
+    /// Sets the number of lanes: 1 to 16777215.
+    pub fn p_cost(&mut self, p_cost: u32) -> &mut Self
+        ensures same_reference { result.ghost_name ≡ self.entry.ghost_name }
+        ensures value { settings_of result.now ≡ record (settings_of self.old) { p_cost = p_cost } }
+    {
+        self.p_cost = p_cost;
+        self
+    }
+
+    /// Sets the key identifier.
+    pub fn keyid(&mut self, keyid: KeyId) -> &mut Self
+        ensures same_reference { result.ghost_name ≡ self.entry.ghost_name }
+        ensures value { settings_of result.now ≡ record (settings_of self.old) { keyid = Some (keyid_bytes keyid) } }
+    {
+        self.keyid = Some(keyid);
+        self
+    }
+
+    /// Sets the associated data.
+    pub fn data(&mut self, data: AssociatedData) -> &mut Self
+        ensures same_reference { result.ghost_name ≡ self.entry.ghost_name }
+        ensures value { settings_of result.now ≡ record (settings_of self.old) { associated = Some (data_bytes «data») } }
+    {
+        self.associated = Some(data);
+        self
+    }
+
+    /// Sets the length of each output in bytes: 4 to 4294967295.
+    pub fn output_len(&mut self, len: usize) -> &mut Self
+        ensures same_reference { result.ghost_name ≡ self.entry.ghost_name }
+        ensures value { settings_of result.now ≡ record (settings_of self.old) { output_len = Some len } }
+    {
+        self.output_len = Some(len);
+        self
+    }
+
+    /// The parameters of the settings, where a key identifier or associated data that is not set
+    /// is empty.
+    ///
+    /// # Errors
+    /// Those of [`Params::new`], in the same order.
+    pub fn build(&self) -> Result<Params>
+        ensures { IsParamsOf (built (settings_of self.now)) result }
+    {
+        let mut params = Params::new(self.m_cost, self.t_cost, self.p_cost, self.output_len)?;
+        if let Some(keyid) = self.keyid {
+            params.keyid = keyid;
+        }
+        if let Some(associated) = self.associated {
+            params.associated = associated;
+        }
+        Ok(params)
+    }
+}
+
+impl Default for ParamsBuilder {
+    ghost is_default = { λ builder. settings_of builder ≡ default_settings };
+
+    fn default() -> ParamsBuilder {
+        ParamsBuilder::DEFAULT
+    }
+}
+
+impl TryFrom<ParamsBuilder> for Params {
+    type Error = Error;
+
+    ghost try_from_gives = { λ builder r. IsParamsOf (built (settings_of builder)) r };
+
+    fn try_from(builder: ParamsBuilder) -> Result<Params> {
+        builder.build()
+    }
+}

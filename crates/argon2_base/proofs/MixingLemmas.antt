@@ -1,0 +1,112 @@
+use Rattle.std.proofs.Common.{◌≡◌, ℕ, zero, suc, ◌<◌, ◌≤◌, ◌+◌, ◌-◌, ◌*◌, ◌/◌, ◌%◌, List, [], ◌∷◌, ◌⊎◌, inl, inr, length, slice_index, slice_index_or, ◌==◌, if◌then◌else◌, bit_xor, map, arith, refl, subst, sym, ap, ap₂, ◌∙◌}
+use Rattle.std.specs.List.{range_with_len}
+use Rattle.std.specs.Simd.Lanes.{zip2}
+use Rattle.std.proofs.lemmas.Bool.{cases_lt}
+use Rattle.std.proofs.lemmas.List.{ext_get_or}
+use Rattle.std.proofs.lemmas.List.FromFn.{get_or-map-range_with_len, length-map-range_with_len}
+use Rattle.std.proofs.lemmas.Simd.{get_or-zip2, length-zip2}
+use Rattle.argon2_base.specs.Block.{xor_blocks}
+use Rattle.argon2_base.specs.Mixing.{perm, row, column, by_rows, by_columns}
+use Rattle.argon2_base.specs.Lanes.{lane, lane_at}
+use Rattle.argon2_base.proofs.LaneLemmas.{below_two, lane_is, slice_index-lane}
+
+-- one of two neighbouring vectors, by the parity of its number
+picked : (x : List (List ℕ)) (i q e : ℕ) → e < 2
+    → slice_index (if e == 0 then slice_index_or x (2 * i) [] else slice_index_or x (2 * i + 1) []) q ≡ lane_at x (2 * i + e) q
+picked x i q =
+    let first : 2 * i ≡ 2 * i + 0 = omega arith in
+    below_two _ (ap (λ k. lane_at x k q) first) refl
+
+-- word w of the columns, xored with the word of r
+abbrev Stored : List (List ℕ) → List ℕ → List ℕ → ℕ → Type 0
+Stored x r out w =
+    slice_index out w ≡ bit_xor (lane_at x (2 * (w / 16) + w % 2) (w % 16 / 2)) (slice_index r w)
+
+-- the words of a row that is stored by halves
+pub row_stored : (x : List (List ℕ)) (r out : List ℕ) (i : ℕ)
+    → ((k : ℕ) → k < 8 → slice_index out (16 * i + k)
+    ≡ bit_xor (slice_index (if k % 2 == 0 then slice_index_or x (2 * i) [] else slice_index_or x (2 * i + 1) []) (k / 2)) (slice_index r (16 * i + k)))
+    → ((k : ℕ) → k < 8 → slice_index out (16 * i + 8 + k)
+    ≡ bit_xor (slice_index (if k % 2 == 0 then slice_index_or x (2 * i) [] else slice_index_or x (2 * i + 1) []) (4 + k / 2)) (slice_index r (16 * i + 8 + k)))
+    → (w : ℕ) → 16 * i ≤ w → w < 16 * (i + 1) → Stored x r out w
+row_stored x r out i left right w low high =
+    elim (cases_lt w (16 * i + 8)) [
+      | inl in_left ↦
+          let k = w - 16 * i in
+          let place : 16 * i + k ≡ w = omega arith in
+          let vector : 2 * i + k % 2 ≡ 2 * (w / 16) + w % 2 = omega arith in
+          let lane_of : k / 2 ≡ w % 16 / 2 = omega arith in
+          ap (slice_index out) (sym place)
+          ∙ left k (omega arith)
+          ∙ ap₂ bit_xor (picked x i (k / 2) (k % 2) (omega arith) ∙ ap₂ (lane_at x) vector lane_of) (ap (slice_index r) place)
+      | inr in_right ↦
+          let k = w - (16 * i + 8) in
+          let place : 16 * i + 8 + k ≡ w = omega arith in
+          let vector : 2 * i + k % 2 ≡ 2 * (w / 16) + w % 2 = omega arith in
+          let lane_of : 4 + k / 2 ≡ w % 16 / 2 = omega arith in
+          ap (slice_index out) (sym place)
+          ∙ right k (omega arith)
+          ∙ ap₂ bit_xor (picked x i (4 + k / 2) (k % 2) (omega arith) ∙ ap₂ (lane_at x) vector lane_of) (ap (slice_index r) place)
+    ]
+
+by_rows_word : (r : List ℕ) (i k : ℕ) → i < 8 → k < 16 → slice_index (by_rows r) (16 * i + k) ≡ slice_index (perm (row i r)) k
+unfolding by_rows
+by_rows_word r i k hi hk =
+    let at_row : (16 * i + k) / 16 ≡ i = omega arith in
+    let at_word : (16 * i + k) % 16 ≡ k = omega arith in
+    let at_start : 0 + (16 * i + k) ≡ 16 * i + k = omega arith in
+    get_or-map-range_with_len (λ w. slice_index (perm (row (w / 16) r)) (w % 16)) 0 128 (16 * i + k) (16 * i + k) 0 (omega arith) at_start
+    ∙ ap₂ (λ a b. slice_index (perm (row a r)) b) at_row at_word
+
+by_columns_word : (q : List ℕ) (w : ℕ) → w < 128
+    → slice_index (by_columns q) w ≡ slice_index (perm (column (w % 16 / 2) q)) (2 * (w / 16) + w % 2)
+unfolding by_columns
+by_columns_word q w h =
+    let at_start : 0 + w ≡ w = omega arith in
+    get_or-map-range_with_len (λ w. slice_index (perm (column (w % 16 / 2) q)) (2 * (w / 16) + w % 2)) 0 128 w w 0 h at_start
+
+length-by_columns : (q : List ℕ) → length (by_columns q) ≡ 128
+unfolding by_columns
+length-by_columns q = length-map-range_with_len (λ w. slice_index (perm (column (w % 16 / 2) q)) (2 * (w / 16) + w % 2)) 0 128
+
+-- the vectors of the rows, mixed, turned, mixed and stored, are G
+pub kernel_mixes : (r out : List ℕ) (rows across cols down : List (List ℕ)) → length r ≡ 128 → length out ≡ 128
+    → ((i : ℕ) → i < 8 → lane i rows ≡ row i r)
+    → ((i : ℕ) → i < 8 → lane i across ≡ perm (lane i rows))
+    → ((i j e : ℕ) → i < 8 → j < 8 → e < 2 → lane_at cols (2 * i + e) j ≡ lane_at across (2 * j + e) i)
+    → ((j : ℕ) → j < 8 → lane j down ≡ perm (lane j cols))
+    → ((w : ℕ) → w < 128 → Stored down r out w)
+    → out ≡ xor_blocks (by_columns (by_rows r)) r
+unfolding column xor_blocks
+kernel_mixes r out rows across cols down long_r long_out rows_are across_are cols_are down_are stored =
+    let q = by_rows r in
+    let across_word : (i k : ℕ) → i < 8 → k < 16 → lane_at across k i ≡ slice_index q (16 * i + k) =
+    λ i k hi hk.
+    sym (slice_index-lane across i k hk)
+    ∙ ap (λ l. slice_index l k) (across_are i hi ∙ ap perm (rows_are i hi))
+    ∙ sym (by_rows_word r i k hi hk)
+    in
+    let column_is : (j : ℕ) → j < 8 → lane j cols ≡ column j q =
+    λ j hj. lane_is cols j (λ k. slice_index q (16 * (k / 2) + 2 * j + k % 2)) (λ k hk.
+    let halves : k ≡ 2 * (k / 2) + k % 2 = omega arith in
+    let place : 16 * (k / 2) + (2 * j + k % 2) ≡ 16 * (k / 2) + 2 * j + k % 2 = omega arith in
+    ap (λ n. lane_at cols n j) halves
+    ∙ cols_are (k / 2) j (k % 2) (omega arith) hj (omega arith)
+    ∙ across_word (k / 2) (2 * j + k % 2) (omega arith) (omega arith)
+    ∙ ap (slice_index q) place)
+    in
+    let down_word : (j k : ℕ) → j < 8 → k < 16 → lane_at down k j ≡ slice_index (perm (column j q)) k =
+    λ j k hj hk.
+    sym (slice_index-lane down j k hk)
+    ∙ ap (λ l. slice_index l k) (down_are j hj ∙ ap perm (column_is j hj))
+    in
+    let long : length (by_columns q) ≡ 128 = length-by_columns q in
+    let long_xor : length (xor_blocks (by_columns q) r) ≡ length (by_columns q) = length-zip2 bit_xor (by_columns q) r (long ∙ sym long_r) in
+    ext_get_or 0 out (xor_blocks (by_columns q) r) (omega arith) (λ w h.
+    let below : w < 128 = omega arith in
+    let below_columns : w < length (by_columns q) = omega arith in
+    let below_r : w < length r = omega arith in
+    stored w below
+    ∙ ap (λ a. bit_xor a (slice_index r w))
+    (down_word (w % 16 / 2) (2 * (w / 16) + w % 2) (omega arith) (omega arith) ∙ sym (by_columns_word q w below))
+    ∙ sym (get_or-zip2 bit_xor (by_columns q) r w 0 0 0 below_columns below_r))

@@ -1,0 +1,85 @@
+-- How the output of the hash of any length grows piece by piece.
+use Rattle.std.proofs.Common.{◌≡◌, ℕ, zero, suc, ◌+◌, ◌-◌, ◌*◌, ◌<◌, ◌≤◌, List, [], ◌∷◌, ◌++◌, ◌^◌, length, take, slice_index_or, refl, sym, ap, ◌∙◌, arith, add-one, add-zero}
+use Rattle.std.proofs.lemmas.List.{append-nil, take_at}
+use Rattle.std.proofs.lemmas.Grind.{flat_map-append}
+use Rattle.std.proofs.lemmas.Slice.{take-put_mid}
+use Rattle.std.specs.List.{flat_map, range_with_len}
+use Rattle.argon2_base.specs.Blake2b.{blake2b}
+use Rattle.argon2_base.specs.LongHash.{chain, half, half_count, pieces, joined, long_hash}
+use Rattle.std.specs.Borrow.{Bor}
+use Rattle.std.specs.Int.{w32, to_le_bytes}
+use Rattle.std.proofs.lemmas.List.Folds.{length-flat_map-take}
+use borrow.Rule.Slice.PartMut.{put_mid}
+
+-- the first i halves
+abbrev pub first_halves : List ℕ → ℕ → List ℕ
+first_halves first i = flat_map (half first) (range_with_len 1 i)
+
+-- one more number
+range_with_len_more : (a n : ℕ) → range_with_len a (suc n) ≡ range_with_len a n ++ (a + n) ∷ []
+range_with_len_more a zero = rw add-zero refl
+range_with_len_more a (suc n) =
+    let e : (a + 1) + n ≡ a + suc n = omega arith in
+    ap (λ (xs : List ℕ). a ∷ xs) (rw e at (range_with_len_more (a + 1) n))
+
+-- one more half
+first_halves_more : (first : List ℕ) (i : ℕ)
+    → first_halves first (i + 1) ≡ first_halves first i ++ half first (i + 1)
+first_halves_more first i =
+    let along : i + 1 ≡ suc i = omega arith in
+    let e : 1 + i ≡ i + 1 = omega arith in
+    let range : range_with_len 1 (i + 1) ≡ range_with_len 1 i ++ (1 + i) ∷ [] =
+    ap (λ (k : ℕ). range_with_len 1 k) along ∙ range_with_len_more 1 i in
+    let last : flat_map (half first) ((1 + i) ∷ []) ≡ half first (i + 1) =
+    append-nil (half first (1 + i)) ∙ ap (half first) e in
+    ap (flat_map (half first)) range ∙ flat_map-append (half first) (range_with_len 1 i) ((1 + i) ∷ [])
+    ∙ ap (λ (xs : List ℕ). first_halves first i ++ xs) last
+
+-- V(i + 1) is the digest of V(i)
+chain_more : (first : List ℕ) (i : ℕ) → chain first (i + 1) ≡ blake2b 64 (chain first i)
+unfolding chain
+chain_more first i = rw add-one refl
+
+-- what stands in the output after the first half ys
+pub first_piece : (first s ys rest : List ℕ) (i : ℕ) → s ≡ chain first 1 → ys ≡ take 32 s
+    → length ys ≡ 32 → i ≡ 1 → take (32 * i) (ys ++ rest) ≡ first_halves first i
+first_piece first s ys rest i es ey len ei =
+    let whole : first_halves first 1 ≡ half first 1 = append-nil (half first 1) in
+    rw (ei, whole, take_at ys rest 32 len, ey, es) refl
+
+-- what stands in it after one half ys more, the first of the digest `now` of V(i)
+pub next_piece : (first out before now ys : List ℕ) (i n k : ℕ)
+    → take (32 * i) out ≡ first_halves first i → 32 * i ≤ length out
+    → before ≡ chain first i → now ≡ blake2b n before → n ≡ 64 → ys ≡ take 32 now → length ys ≡ 32
+    → (now ≡ chain first (i + 1))
+    × (take (32 * (i + 1)) (put_mid (32 * i) k out ys) ≡ first_halves first (i + 1))
+next_piece first out before now ys i n k held fits eb en e64 ey len =
+    let at : now ≡ chain first (i + 1) = rw (en, e64, eb) (sym (chain_more first i)) in
+    let front : take (32 * (i + 1)) (put_mid (32 * i) k out ys) ≡ take (32 * i) out ++ ys =
+    take-put_mid (32 * i) k out ys (32 * (i + 1)) (omega arith) fits in
+    let piece : ys ≡ half first (i + 1) = rw (ey, at) refl in
+    (at, rw (front, held, piece) (sym (first_halves_more first i)))
+
+-- one more input keeps the message's length in range
+pub input_fits : (inputs : List (Bor (List ℕ))) (i n : ℕ) (d : Bor (List ℕ)) → i < length inputs
+    → n ≡ length (joined (take i inputs)) + 4 → length (joined inputs) + 4 < 2 ^ 128
+    → n + length (slice_index_or inputs i d).now < 2 ^ 128
+input_fits inputs i n d lt e fits =
+    let more : length (joined (take i inputs)) + length (slice_index_or inputs i d).now
+    ≤ length (joined inputs) = length-flat_map-take (λ (r : Bor (List ℕ)). r.now) inputs i d lt in
+    omega arith
+
+-- an output of at most 64 bytes is one digest
+pub long_hash_short : (n : ℕ) (m out : List ℕ) → n ≤ 64 → out ≡ blake2b n (to_le_bytes w32 n ++ m)
+    → out ≡ long_hash n m
+unfolding chain long_hash
+long_hash_short n m out small eo =
+    let none : half_count n ≡ 0 = omega arith in
+    let all : n - 0 ≡ n = omega arith in
+    rw (none, all, eo) refl
+
+-- an output of more than 64 bytes is the pieces from V(1) on
+pub long_hash_pieces : (n : ℕ) (m start out : List ℕ) → start ≡ blake2b 64 (to_le_bytes w32 n ++ m)
+    → ((first : List ℕ) → start ≡ chain first 1 → out ≡ pieces n first) → out ≡ long_hash n m
+unfolding chain long_hash
+long_hash_pieces n m start out es written = written (to_le_bytes w32 n ++ m) es

@@ -1,0 +1,8 @@
+use Rattle.std.proofs.Common.{◌≡◌, ◌*◌, length, take}
+use Rattle.std.specs.List.{flat_map}
+use Rattle.std.specs.Int.{w64, to_le_bytes}
+use Rattle.argon2_base.proofs.blake2b.le_bytes.Given as goal
+
+abbrev pub invariant-words : goal.invariant-words
+invariant-words l = (length l.out ≡ 64)
+    × (take (8 * l.i) l.out ≡ flat_map (to_le_bytes w64) (take l.i l.words))

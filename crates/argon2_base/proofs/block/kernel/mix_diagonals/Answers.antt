@@ -1,0 +1,6 @@
+use Rattle.argon2_base.specs.Mixing.{mix_diagonals}
+use Rattle.argon2_base.proofs.block.kernel.mix_diagonals.Goals as goal
+
+pub returns : goal.returns
+unfolding mix_diagonals
+returns c j h = rw (← c.gb.ensures j h, ← c.gb-2.ensures j h, ← c.gb-3.ensures j h, ← c.gb-4.ensures j h)

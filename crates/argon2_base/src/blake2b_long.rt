@@ -1,0 +1,79 @@
+//! The variable-length hash function H' (RFC 9106, section 3.3).
+
+ghost use Rattle.std.specs.Prelude.{◌≡◌, ℕ, ◌+◌, ◌^◌, ◌<◌, ◌≤◌, List, length, take, OnOk, OnErr};
+ghost use Rattle.argon2_base.specs.Blake2b.{blake2b};
+ghost use Rattle.argon2_base.specs.LongHash.{chain, pieces, long_hash, long_answer, joined};
+
+#[cfg(test)]
+mod tests;
+
+use crate::blake2b::Blake2b;
+use crate::error::{Error, Result};
+
+/// Writes the hash of the inputs, joined in their order, into `out`: as many bytes as it has, from 1
+/// to 4294967295. The inputs have at most 2^128 - 5 bytes in all.
+///
+/// # Errors
+/// [`Error::OutputTooShort`] if `out` is empty, [`Error::OutputTooLong`] if it has more bytes than
+/// that; `out` is unchanged then.
+pub fn blake2b_long(inputs: &[&[u8]], out: &mut [u8]) -> Result<()>
+    requires { length (joined inputs.now) + 4 < 2 ^ 128 }
+    ensures answer { result ≡ long_answer (length out.old) }
+    ensures written { OnOk result (out.new ≡ long_hash (length out.old) (joined inputs.now)) }
+    ensures unchanged { OnErr result (out.new ≡ out.old) }
+{
+    if out.is_empty() {
+        return Err(Error::OutputTooShort);
+    }
+    let Ok(len) = u32::try_from(out.len()) else {
+        return Err(Error::OutputTooLong);
+    };
+    let mut hasher = Blake2b::new(out.len().min(64));
+    hasher.update(&len.to_le_bytes());
+    'inputs: for input in inputs {
+        hasher.update(input);
+    }
+    if out.len() <= 64 {
+        hasher.finalize_into(out);
+    } else {
+        let mut first = [0u8; 64];
+        hasher.finalize_into(&mut first);
+        write_pieces(&first, out);
+    }
+    Ok(())
+}
+
+// Writes an output of more than 64 bytes, whose V(1) is `start`.
+fn write_pieces(start: &[u8; 64], out: &mut [u8])
+    requires { 64 < length out.old }
+    ensures { (first : List ℕ) → start.now ≡ chain first 1 → out.new ≡ pieces (length out.old) first }
+{
+    let half_count = out.len().div_ceil(32) - 2;
+    let mut current = *start;
+    out[0..32].copy_from_slice(first_half(&current));
+    'pieces: for i in 1..half_count {
+        let before = current;
+        write_digest(&before, &mut current);
+        out[32 * i..32 * i + 32].copy_from_slice(first_half(&current));
+    }
+    write_digest(&current, &mut out[32 * half_count..]);
+}
+
+// Writes the digest of `message`, of as many bytes as `out` has.
+fn write_digest(message: &[u8; 64], out: &mut [u8])
+    requires low { 1 ≤ length out.old }
+    requires high { length out.old ≤ 64 }
+    ensures { out.new ≡ blake2b (length out.old) message.now }
+{
+    let mut hasher = Blake2b::new(out.len());
+    hasher.update(message);
+    hasher.finalize_into(out);
+}
+
+// The first half of V(i).
+fn first_half(digest: &[u8; 64]) -> &[u8]
+    ensures value { result.now ≡ take 32 digest.now }
+    ensures len { length result.now ≡ 32 }
+{
+    &digest[..32]
+}

@@ -1,0 +1,301 @@
+//! The mixing of a block over vectors of eight words.
+
+ghost use Rattle.std.specs.Prelude.{◌≡◌, ℕ, ◌+◌, ◌*◌, ◌/◌, ◌%◌, ◌^◌, ◌<◌, ◌≤◌, length, slice_index, bit_xor, ◌==◌, if◌then◌else◌};
+ghost use Rattle.argon2_base.specs.Block.{xor_blocks};
+ghost use Rattle.argon2_base.specs.Mixing.{add_mul, xor_rotate, gb, mix_columns, mix_diagonals, perm, row, column, mixed};
+ghost use Rattle.argon2_base.specs.Lanes.{lane, lane_at, left_exchanged, right_exchanged};
+
+use std::simd::u64x8;
+
+#[inline(always)]
+fn add_mul(a: u64x8, b: u64x8) -> u64x8
+    ensures { (j : ℕ) → j < 8 → slice_index result j ≡ add_mul (slice_index a j) (slice_index b j) }
+{
+    let low = u64x8::splat(0xffff_ffff);
+    let product = (a & low) * (b & low);
+    a + b + (product + product)
+}
+
+#[inline(always)]
+fn xor_rotate(a: u64x8, b: u64x8, k: u64) -> u64x8
+    requires { (0 < k) × (k < 64) }
+    ensures { (j : ℕ) → j < 8 → slice_index result j ≡ xor_rotate (slice_index a j) (slice_index b j) k }
+{
+    let x = a ^ b;
+    (x >> u64x8::splat(k)) | (x << u64x8::splat(64 - k))
+}
+
+#[inline(always)]
+fn gb(a: u64x8, b: u64x8, c: u64x8, d: u64x8) -> (u64x8, u64x8, u64x8, u64x8)
+    ensures { (j : ℕ) → j < 8
+        → (slice_index result.0 j, slice_index result.1 j, slice_index result.2 j, slice_index result.3 j)
+        ≡ gb (slice_index a j) (slice_index b j) (slice_index c j) (slice_index d j) }
+{
+    let a1 = add_mul(a, b);
+    let d1 = xor_rotate(d, a1, 32);
+    let c1 = add_mul(c, d1);
+    let b1 = xor_rotate(b, c1, 24);
+    let a2 = add_mul(a1, b1);
+    let d2 = xor_rotate(d1, a2, 16);
+    let c2 = add_mul(c1, d2);
+    let b2 = xor_rotate(b1, c2, 63);
+    (a2, b2, c2, d2)
+}
+
+#[inline(always)]
+fn mix_columns(x: [u64x8; 16]) -> [u64x8; 16]
+    ensures { (j : ℕ) → j < 8 → lane j result ≡ mix_columns (lane j x) }
+{
+    let [
+        x0,
+        x1,
+        x2,
+        x3,
+        x4,
+        x5,
+        x6,
+        x7,
+        x8,
+        x9,
+        x10,
+        x11,
+        x12,
+        x13,
+        x14,
+        x15,
+    ] = x;
+    let (x0, x4, x8, x12) = gb(x0, x4, x8, x12);
+    let (x1, x5, x9, x13) = gb(x1, x5, x9, x13);
+    let (x2, x6, x10, x14) = gb(x2, x6, x10, x14);
+    let (x3, x7, x11, x15) = gb(x3, x7, x11, x15);
+    [
+        x0, x1, x2, x3, x4, x5, x6, x7, x8, x9, x10, x11, x12, x13, x14, x15,
+    ]
+}
+
+#[inline(always)]
+fn mix_diagonals(x: [u64x8; 16]) -> [u64x8; 16]
+    ensures { (j : ℕ) → j < 8 → lane j result ≡ mix_diagonals (lane j x) }
+{
+    let [
+        x0,
+        x1,
+        x2,
+        x3,
+        x4,
+        x5,
+        x6,
+        x7,
+        x8,
+        x9,
+        x10,
+        x11,
+        x12,
+        x13,
+        x14,
+        x15,
+    ] = x;
+    let (x0, x5, x10, x15) = gb(x0, x5, x10, x15);
+    let (x1, x6, x11, x12) = gb(x1, x6, x11, x12);
+    let (x2, x7, x8, x13) = gb(x2, x7, x8, x13);
+    let (x3, x4, x9, x14) = gb(x3, x4, x9, x14);
+    [
+        x0, x1, x2, x3, x4, x5, x6, x7, x8, x9, x10, x11, x12, x13, x14, x15,
+    ]
+}
+
+#[inline(always)]
+fn perm(x: [u64x8; 16]) -> [u64x8; 16]
+    ensures { (j : ℕ) → j < 8 → lane j result ≡ perm (lane j x) }
+{
+    mix_diagonals(mix_columns(x))
+}
+
+// The lanes of two vectors in turn.
+#[inline(always)]
+fn interleave(a: u64x8, b: u64x8) -> (u64x8, u64x8)
+    ensures left { (j : ℕ) → j < 8 → slice_index result.0 j ≡ slice_index (if j % 2 == 0 then a else b) (j / 2) }
+    ensures right { (j : ℕ) → j < 8 → slice_index result.1 j ≡ slice_index (if j % 2 == 0 then a else b) (4 + j / 2) }
+{
+    a.interleave(b)
+}
+
+// The odd lanes of a change places with the even lanes of b.
+#[inline(always)]
+fn exchange_ones(a: u64x8, b: u64x8) -> (u64x8, u64x8)
+    ensures left { (j : ℕ) → j < 8 → slice_index result.0 j ≡ left_exchanged 1 a b j }
+    ensures right { (j : ℕ) → j < 8 → slice_index result.1 j ≡ right_exchanged 1 a b j }
+{
+    let left = a.shuffle(b, [0, 8, 2, 10, 4, 12, 6, 14]);
+    let right = a.shuffle(b, [1, 9, 3, 11, 5, 13, 7, 15]);
+    (left, right)
+}
+
+// The same of every second pair of lanes.
+#[inline(always)]
+fn exchange_twos(a: u64x8, b: u64x8) -> (u64x8, u64x8)
+    ensures left { (j : ℕ) → j < 8 → slice_index result.0 j ≡ left_exchanged 2 a b j }
+    ensures right { (j : ℕ) → j < 8 → slice_index result.1 j ≡ right_exchanged 2 a b j }
+{
+    let left = a.shuffle(b, [0, 1, 8, 9, 4, 5, 12, 13]);
+    let right = a.shuffle(b, [2, 3, 10, 11, 6, 7, 14, 15]);
+    (left, right)
+}
+
+// The same of the halves.
+#[inline(always)]
+fn exchange_fours(a: u64x8, b: u64x8) -> (u64x8, u64x8)
+    ensures left { (j : ℕ) → j < 8 → slice_index result.0 j ≡ left_exchanged 4 a b j }
+    ensures right { (j : ℕ) → j < 8 → slice_index result.1 j ≡ right_exchanged 4 a b j }
+{
+    let left = a.shuffle(b, [0, 1, 2, 3, 8, 9, 10, 11]);
+    let right = a.shuffle(b, [4, 5, 6, 7, 12, 13, 14, 15]);
+    (left, right)
+}
+
+// Lane i of vector k goes to lane k of vector i: a digit of k changes places with one of i at a time.
+#[inline(always)]
+fn transpose(x: [u64x8; 8]) -> [u64x8; 8]
+    ensures { (i k : ℕ) → i < 8 → k < 8 → lane_at result i k ≡ lane_at x k i }
+{
+    let [x0, x1, x2, x3, x4, x5, x6, x7] = x;
+    let (a0, a1) = exchange_ones(x0, x1);
+    let (a2, a3) = exchange_ones(x2, x3);
+    let (a4, a5) = exchange_ones(x4, x5);
+    let (a6, a7) = exchange_ones(x6, x7);
+    let (b0, b2) = exchange_twos(a0, a2);
+    let (b1, b3) = exchange_twos(a1, a3);
+    let (b4, b6) = exchange_twos(a4, a6);
+    let (b5, b7) = exchange_twos(a5, a7);
+    let (c0, c4) = exchange_fours(b0, b4);
+    let (c1, c5) = exchange_fours(b1, b5);
+    let (c2, c6) = exchange_fours(b2, b6);
+    let (c3, c7) = exchange_fours(b3, b7);
+    [c0, c1, c2, c3, c4, c5, c6, c7]
+}
+
+// The eight words from a place on.
+#[inline(always)]
+fn load(words: &[u64], at: usize) -> u64x8
+    requires { at + 8 ≤ length words.now }
+    ensures { (k : ℕ) → k < 8 → slice_index result k ≡ slice_index words.now (at + k) }
+{
+    u64x8::from_slice(&words[at..])
+}
+
+// Writes the exclusive or of two vectors from a place on.
+#[inline(always)]
+fn store_xor(words: &mut [u64], at: usize, v: u64x8, r: u64x8)
+    requires { at + 8 ≤ length words.old }
+    ensures here { (k : ℕ) → k < 8 → slice_index words.new (at + k) ≡ bit_xor (slice_index v k) (slice_index r k) }
+    ensures below { (k : ℕ) → k < at → slice_index words.new k ≡ slice_index words.old k }
+{
+    (v ^ r).copy_to_slice(&mut words[at..]);
+}
+
+// Lane i of vector k is word k of row i.
+#[inline(always)]
+fn rows(words: &[u64; 128]) -> [u64x8; 16]
+    ensures { (i : ℕ) → i < 8 → lane i result ≡ row i words.now }
+{
+    let [a0, a1, a2, a3, a4, a5, a6, a7] = transpose([
+        load(words, 0),
+        load(words, 16),
+        load(words, 32),
+        load(words, 48),
+        load(words, 64),
+        load(words, 80),
+        load(words, 96),
+        load(words, 112),
+    ]);
+    let [b0, b1, b2, b3, b4, b5, b6, b7] = transpose([
+        load(words, 8),
+        load(words, 24),
+        load(words, 40),
+        load(words, 56),
+        load(words, 72),
+        load(words, 88),
+        load(words, 104),
+        load(words, 120),
+    ]);
+    [
+        a0, a1, a2, a3, a4, a5, a6, a7, b0, b1, b2, b3, b4, b5, b6, b7,
+    ]
+}
+
+// From words of rows to words of columns: word 2 * i + e of column j is word 2 * j + e of row i.
+#[inline(always)]
+fn columns(x: [u64x8; 16]) -> [u64x8; 16]
+    ensures { (i j e : ℕ) → i < 8 → j < 8 → e < 2 → lane_at result (2 * i + e) j ≡ lane_at x (2 * j + e) i }
+{
+    let [
+        x0,
+        x1,
+        x2,
+        x3,
+        x4,
+        x5,
+        x6,
+        x7,
+        x8,
+        x9,
+        x10,
+        x11,
+        x12,
+        x13,
+        x14,
+        x15,
+    ] = x;
+    let [a0, a1, a2, a3, a4, a5, a6, a7] = transpose([x0, x2, x4, x6, x8, x10, x12, x14]);
+    let [b0, b1, b2, b3, b4, b5, b6, b7] = transpose([x1, x3, x5, x7, x9, x11, x13, x15]);
+    [
+        a0, b0, a1, b1, a2, b2, a3, b3, a4, b4, a5, b5, a6, b6, a7, b7,
+    ]
+}
+
+// The words of row i of the columns, each xored with the word of r there.
+#[inline(always)]
+fn store_row(out: &mut [u64], r: &[u64], i: usize, even: u64x8, odd: u64x8)
+    requires { (i < 8) × (length out.old ≡ 128) × (length r.now ≡ 128) }
+    ensures left { (k : ℕ) → k < 8 → slice_index out.new (16 * i + k)
+        ≡ bit_xor (slice_index (if k % 2 == 0 then even else odd) (k / 2)) (slice_index r.now (16 * i + k)) }
+    ensures right { (k : ℕ) → k < 8 → slice_index out.new (16 * i + 8 + k)
+        ≡ bit_xor (slice_index (if k % 2 == 0 then even else odd) (4 + k / 2)) (slice_index r.now (16 * i + 8 + k)) }
+    ensures below { (k : ℕ) → k < 16 * i → slice_index out.new k ≡ slice_index out.old k }
+{
+    let (left, right) = interleave(even, odd);
+    store_xor(out, 16 * i, left, load(r, 16 * i));
+    store_xor(out, 16 * i + 8, right, load(r, 16 * i + 8));
+}
+
+#[inline(always)]
+fn words(x: &[u64x8; 16], r: &[u64; 128]) -> [u64; 128]
+    ensures { (w : ℕ) → w < 128 → slice_index result w
+        ≡ bit_xor (lane_at x.now (2 * (w / 16) + w % 2) (w % 16 / 2)) (slice_index r.now w) }
+{
+    let mut out = [0; 128];
+    'rows: for i in 0..8 {
+        store_row(&mut out, r, i, x[2 * i], x[2 * i + 1]);
+    }
+    out
+}
+
+/// The exclusive or, word by word.
+#[inline(always)]
+pub fn xor_into(x: &mut [u64; 128], y: &[u64; 128])
+    ensures { x.new ≡ xor_blocks x.old y.now }
+{
+    'words: for w in 0..128 {
+        x[w] ^= y[w];
+    }
+}
+
+pub fn mix(x: &[u64; 128], y: &[u64; 128]) -> [u64; 128]
+    ensures { result ≡ mixed x.now y.now }
+{
+    let mut r = *x;
+    xor_into(&mut r, y);
+    let across = perm(rows(&r));
+    let down = perm(columns(across));
+    words(&down, &r)
+}
