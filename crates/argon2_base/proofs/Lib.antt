@@ -1,13 +1,8 @@
 pub mod Absorbing
 pub mod Base64Lemmas
+pub mod BlockLemmas
 pub mod Characters
 pub mod DecimalLemmas
-pub mod ParamsReading
-pub mod ParamsTextLemmas
-pub mod PhcTextLemmas
-pub mod Separators
-pub mod ValueCharacters
-pub mod BlockLemmas
 pub mod HashBlocks
 pub mod HasherFields
 pub mod KnownDigests
@@ -15,5 +10,10 @@ pub mod LaneLemmas
 pub mod MixingLaws
 pub mod MixingLemmas
 pub mod MixingValues
+pub mod ParamsReading
+pub mod ParamsTextLemmas
+pub mod PhcTextLemmas
 pub mod Pieces
 pub mod Rounds
+pub mod Separators
+pub mod ValueCharacters
