@@ -1,8 +1,11 @@
-pub mod Laws
 pub mod Algorithm
 pub mod ByteLists
+pub mod Faults
+pub mod Laws
+pub mod ListedParameters
 pub mod Parameters
 pub mod Params
+pub mod ParamsAnswers
 pub mod ParamsBuilder
 pub mod Refusals
 pub mod Shape
