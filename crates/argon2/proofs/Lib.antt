@@ -1,2 +1,4 @@
 mod DecodedSlices
 mod Filled
+mod ListedLemmas
+mod ReadBytes
