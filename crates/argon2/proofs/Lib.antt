@@ -1,4 +1,5 @@
 mod DecodedSlices
 mod Filled
 mod ListedLemmas
+mod ReadAgain
 mod ReadBytes

@@ -92,3 +92,14 @@ abbrev pub params_of : Option ℕ → List Pair → Result Parameters Fault
 params_of output_len ps = checked (items_fault ps)
     (with_costs (number_at (codes "m") ps) (number_at (codes "t") ps) (number_at (codes "p") ps)
     (bytes_at 8 (codes "keyid") ps) (bytes_at 32 (codes "data") ps) output_len)
+
+-- parameters with any length of output
+abbrev pub unsized : ℕ → ℕ → ℕ → List ℕ → List ℕ → Parameters
+unsized m t p keyid associated = record {
+  m_cost = m;
+  t_cost = t;
+  p_cost = p;
+  keyid = keyid;
+  associated = associated;
+  output_len = None;
+}

@@ -1,11 +1,12 @@
 //! Parameters as texts: printed as a parameter list, and read from one.
 
-ghost use Rattle.std.specs.Prelude.{◌≡◌, ◌≤◌, ◌++◌, IsTrue, IsSome, Some, None, MatchResult, length};
+ghost use Rattle.std.specs.Prelude.{◌≡◌, ◌≤◌, ◌++◌, ℕ, IsTrue, IsSome, IsNone, Option, Some, None, Ok, MatchResult, length};
 ghost use Rattle.argon2_base.specs.Decimal.{number_of};
 ghost use Rattle.argon2_base.specs.ParamsText.{are_params};
 ghost use Rattle.argon2_base.specs.declared.error.password_hash.Error.TheVariants.{ParamsInvalid};
 ghost use Rattle.argon2.specs.Faults.{fault_of, bad_param};
-ghost use Rattle.argon2.specs.ListedParameters.{bytes_item, listed, item_fault, items_fault, number_at};
+ghost use Rattle.argon2.specs.ListedParameters.{bytes_item, listed, item_fault, items_fault, number_at, params_of, unsized};
+ghost use Rattle.argon2.specs.Parameters.{first_fault};
 
 use super::{AssociatedData, KeyId, Params};
 use argon2_base::error::password_hash::{Error, Result};
@@ -17,7 +18,10 @@ use std::str::FromStr;
 fn params_string(m: u32, t: u32, p: u32, keyid: &[u8], associated: &[u8]) -> ParamsString
     requires keyid_fits { length keyid.now ≤ 8 }
     requires data_fits { length associated.now ≤ 32 }
-    ensures { result ≡ listed m t p keyid.now associated.now }
+    ensures list { result ≡ listed m t p keyid.now associated.now }
+    ensures again { (o : Option ℕ) → IsNone (first_fault m t p o)
+        → params_of None (listed m t p keyid.now associated.now)
+        ≡ Ok (unsized m t p keyid.now associated.now) }
 {
     let mut list = ParamsString::new();
     let Ok(()) = list.add_decimal("m", m) else {
@@ -47,14 +51,15 @@ fn add_bytes(list: &mut ParamsString, name: &str, bytes: &[u8])
     };
 }
 
+/// The list of the parameters, always Ok. Read again, it is the same parameters with any length of
+/// output.
 impl TryFrom<&Params> for ParamsString {
-    ghost use Rattle.std.specs.Prelude.{◌≡◌, Ok};
-    ghost use Rattle.argon2.specs.ListedParameters.{list_of};
     ghost use Rattle.argon2.specs.Params.{parameters_of};
+    ghost use Rattle.argon2.specs.ParamsAnswers.{IsListOf};
 
     type Error = Error;
 
-    ghost try_from_gives = { λ params r. r ≡ Ok (list_of (parameters_of params.now)) };
+    ghost try_from_gives = { λ params r. IsListOf (parameters_of params.now) r };
 
     fn try_from(params: &Params) -> Result<ParamsString> {
         let (m, t, p) = (params.m_cost(), params.t_cost(), params.p_cost());
@@ -62,20 +67,22 @@ impl TryFrom<&Params> for ParamsString {
     }
 }
 
+/// The same of parameters by value.
 impl TryFrom<Params> for ParamsString {
-    ghost use Rattle.std.specs.Prelude.{◌≡◌, Ok};
-    ghost use Rattle.argon2.specs.ListedParameters.{list_of};
     ghost use Rattle.argon2.specs.Params.{parameters_of};
+    ghost use Rattle.argon2.specs.ParamsAnswers.{IsListOf};
 
     type Error = Error;
 
-    ghost try_from_gives = { λ params r. r ≡ Ok (list_of (parameters_of params)) };
+    ghost try_from_gives = { λ params r. IsListOf (parameters_of params) r };
 
     fn try_from(params: Params) -> Result<ParamsString> {
         ParamsString::try_from(&params)
     }
 }
 
+/// `m=`, `t=` and `p=` with decimals, then `keyid=` and `data=` with Base64 where they are not empty,
+/// joined by `,`.
 impl fmt::Display for Params {
     ghost use Rattle.std.specs.Prelude.{Some};
     ghost use Rattle.argon2_base.specs.ParamsText.{params_text};
@@ -234,3 +241,6 @@ impl FromStr for Params {
         Params::listed(&list, None)
     }
 }
+
+#[cfg(test)]
+mod tests;
