@@ -19,20 +19,25 @@ pub each : (p : ℕ → Bool) (P : ℕ → Type 0) (gives : (c : ℕ) → p c �
 each p P gives [] h = tt
 each p P gives (x ∷ s) h = let b = both (p x) (list_all p s) h in (gives x b.0, each p P gives s b.1)
 
+-- a character of names is ASCII
 pub name_char_small : (c : ℕ) → is_name_char c ≡ true → c < 128
 name_char_small c h = grind (arith, nat_tests)
 
+-- a character of values is ASCII
 pub value_char_small : (c : ℕ) → is_value_char c ≡ true → c < 128
 value_char_small c h = grind (arith, nat_tests)
 
+-- characters that pass such a test are ASCII text
 ascii : (p : ℕ → Bool) (gives : (c : ℕ) → p c ≡ true → c < 128) (s : List ℕ) → list_all p s ≡ true → IsAscii s
 ascii p gives [] h i = omega arith
 ascii p gives (x ∷ s) h zero = gives x (both (p x) (list_all p s) h).0
 ascii p gives (x ∷ s) h (suc i) = ascii p gives s (both (p x) (list_all p s) h).1 i
 
+-- the characters of a name
 pub name_chars : (s : List ℕ) → is_name s ≡ true → list_all is_name_char s ≡ true
 name_chars s h = (both _ (list_all is_name_char s) h).1
 
+-- a name is text
 pub IsUtf8-name : (s : List ℕ) → is_name s ≡ true → IsUtf8 s
 IsUtf8-name s h = IsUtf8-from_ascii s (ascii is_name_char name_char_small s (name_chars s h))
 

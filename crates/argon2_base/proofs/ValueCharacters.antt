@@ -1,4 +1,4 @@
--- The characters of decimals and of B64.
+-- The characters of decimals and of strict Base64.
 use Rattle.std.proofs.Common.{◌≡◌, ℕ, zero, suc, ◌+◌, ◌*◌, ◌/◌, ◌%◌, ◌<◌, ◌^◌, Bool, true, List, [], ◌∷◌, length, get_or, refl, arith}
 use Rattle.std.proofs.lemmas.Bool.Decides.{nat_tests}
 use Rattle.std.proofs.lemmas.List.Folds.{list_all-append}
@@ -10,6 +10,7 @@ use Rattle.argon2_base.specs.Names.{is_value_char}
 use Rattle.argon2_base.specs.Base64.{alphabet, strict_base64, IsBytes}
 use Rattle.argon2_base.proofs.Characters.{both}
 
+-- digits are characters of values
 digit_char : (n : ℕ) → n < 10 → is_value_char (48 + n) ≡ true
 digit_char n h = grind (arith, nat_tests)
 
@@ -20,6 +21,7 @@ decimal_chars n small = decimal_by_steps (λ n ds. list_all is_value_char ds ≡
     (λ n ds ten h. let last : n % 10 < 10 = omega arith in rw (list_all-append is_value_char ds ((48 + n % 10) ∷ []), h, digit_char (n % 10) last) refl)
     n small
 
+-- what passes at each place
 list_all_get : (p : ℕ → Bool) (t : List ℕ) (i : ℕ) → list_all p t ≡ true → i < length t → p (get_or t i 0) ≡ true
 list_all_get p [] i h lt = absurd (omega arith)
 list_all_get p (x ∷ t) zero h lt = (both (p x) (list_all p t) h).0
