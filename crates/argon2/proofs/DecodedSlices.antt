@@ -52,10 +52,22 @@ decoded_into_zeros s new room n bytes ok written =
     let rest : drop n new ≡ replicate (room - n) 0 = rw (written, parts.1) (drop-filled room (length d) d refl) in
     (text ∙ ap strict_base64 (sym front), rest, omega (arith, parts.1, parts.2))
 
+-- what decodes to so few bytes is never refused
+pub decode_slice_fits : (s b : List ℕ) (room : ℕ) (f : DecodeSliceError) → decode_of standard_no_pad s ≡ Ok b → length b ≤ room
+    → length s ≤ base64_length room → decode_slice_of standard_no_pad s room ≡ Err f → ⊥
+decode_slice_fits s b room f ok fits short err =
+    answer_err _ _ _ _ b room f ok fits (le-ltb (room / 3) (groups_before_last (length s)) (omega arith)) err
+
+-- what was decoded into a slice, and that it decodes to it
+pub decoded_slice : (s : List ℕ) (room n : ℕ) → decode_slice_of standard_no_pad s room ≡ Ok n
+    → (decode_of standard_no_pad s ≡ Ok (decoded_bytes_of standard_no_pad s)) × (n ≡ length (decoded_bytes_of standard_no_pad s))
+    × (length (decoded_bytes_of standard_no_pad s) ≤ room)
+decoded_slice s room n ok = answer_ok _ _ _ (decoded_bytes_of standard_no_pad s) room n ok
+
 -- no text of bytes is refused that is no longer than that of as many bytes as there is room for
 pub decode_slice_err : (s b : List ℕ) (room : ℕ) (f : DecodeSliceError) → IsBytes b → s ≡ strict_base64 b → length s ≤ base64_length room
     → decode_slice_of standard_no_pad s room ≡ Err f → ⊥
 decode_slice_err s b room f bytes is short err =
     let ok : decode_of standard_no_pad s ≡ Ok b = rw is (decode_of-strict_base64 b bytes) in
     let fits : length b ≤ room = omega (arith, ap length is, length-strict_base64 b) in
-    answer_err _ _ _ _ b room f ok fits (le-ltb (room / 3) (groups_before_last (length s)) (omega arith)) err
+    decode_slice_fits s b room f ok fits short err

@@ -8,7 +8,10 @@ mod Independence
 mod KnownAnswers
 mod LaneAfterLane
 mod LastColumn
+mod ListedLemmas
 mod PermittedPlaces
+mod ReadAgain
+mod ReadBytes
 mod Schedules
 mod Sources
 mod Validity

@@ -4,6 +4,8 @@ use Rattle.argon2.specs.declared.algorithm.Algorithm.{Algorithm}
 use Rattle.argon2.specs.declared.algorithm.Algorithm.TheVariants.{Argon2d, Argon2i, Argon2id}
 use Rattle.argon2_base.specs.declared.error.Error.{Error}
 use Rattle.argon2_base.specs.declared.error.Error.TheVariants.{AlgorithmInvalid}
+use Rattle.argon2_base.specs.declared.error.password_hash.Error.{Error as HashError}
+use Rattle.argon2_base.specs.declared.error.password_hash.Error.TheVariants.{Algorithm as NoAlgorithm}
 
 -- the name of a variant
 abbrev pub algorithm_name : Algorithm → List ℕ
@@ -22,3 +24,9 @@ abbrev pub IsNamed : List ℕ → Result Algorithm Error → Type 0
 IsNamed name (Ok algorithm) = name ≡ algorithm_name algorithm
 IsNamed name (Err e) =
     (e ≡ AlgorithmInvalid) × ((algorithm : Algorithm) → name ≢ algorithm_name algorithm)
+
+-- the same for a caller that asked for a text
+abbrev pub IsNamedInText : List ℕ → Result Algorithm HashError → Type 0
+IsNamedInText name (Ok algorithm) = name ≡ algorithm_name algorithm
+IsNamedInText name (Err e) =
+    (e ≡ NoAlgorithm) × ((algorithm : Algorithm) → name ≢ algorithm_name algorithm)

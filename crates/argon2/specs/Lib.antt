@@ -3,10 +3,13 @@ pub mod Argon2
 pub mod ByteLists
 pub mod Context
 pub mod Counting
+pub mod Faults
 pub mod InitialHash
 pub mod Laws
+pub mod ListedParameters
 pub mod Parameters
 pub mod Params
+pub mod ParamsAnswers
 pub mod ParamsBuilder
 pub mod Recurrence
 pub mod Reference

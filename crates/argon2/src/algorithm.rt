@@ -1,9 +1,12 @@
 //! The variants of Argon2 (RFC 9106, section 3.1).
 
 ghost use Rattle.std.specs.Prelude.{◌≡◌, Some};
-ghost use Rattle.argon2.specs.Algorithm.{algorithm_name, IsNamed};
+ghost use Rattle.argon2_base.specs.Ident.{ident_text};
+ghost use Rattle.argon2.specs.Algorithm.{algorithm_name, IsNamed, IsNamedInText};
 
-use argon2_base::error::{Error, Result};
+use argon2_base::error::{Error, Result, password_hash};
+use argon2_base::phc::Ident;
+pub use argon2_base::phc::{ARGON2D_IDENT, ARGON2I_IDENT, ARGON2ID_IDENT};
 use std::convert::AsStr;
 use std::fmt;
 use std::str::FromStr;
@@ -45,6 +48,17 @@ impl Algorithm {
             Algorithm::Argon2id => "argon2id",
         }
     }
+
+    /// The variant's name as the identifier of a PHC text.
+    pub fn ident(&self) -> Ident
+        ensures { ident_text result ≡ algorithm_name self.now }
+    {
+        match self {
+            Algorithm::Argon2d => ARGON2D_IDENT,
+            Algorithm::Argon2i => ARGON2I_IDENT,
+            Algorithm::Argon2id => ARGON2ID_IDENT,
+        }
+    }
 }
 
 impl AsStr for Algorithm {
@@ -70,6 +84,24 @@ impl FromStr for Algorithm {
 
     fn from_str(name: &str) -> Result<Algorithm> {
         Algorithm::new(name)
+    }
+}
+
+impl TryFrom<&str> for Algorithm {
+    type Error = password_hash::Error;
+
+    ghost try_from_gives = { λ name r. IsNamedInText name.now r };
+
+    fn try_from(name: &str) -> password_hash::Result<Algorithm> {
+        Ok(Algorithm::new(name)?)
+    }
+}
+
+impl From<Algorithm> for Ident {
+    ghost from_gives = { λ algorithm ident. ident_text ident ≡ algorithm_name algorithm };
+
+    fn from(algorithm: Algorithm) -> Ident {
+        algorithm.ident()
     }
 }
 

@@ -9,6 +9,7 @@ mod associated_data;
 mod builder;
 mod byte_list;
 mod key_id;
+mod text;
 
 pub use associated_data::AssociatedData;
 pub use builder::ParamsBuilder;

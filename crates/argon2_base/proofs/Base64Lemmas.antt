@@ -19,7 +19,8 @@ encode_table-alphabet = refl
 
 -- what the engine writes
 pub encode_of-strict : (b : List ℕ) → encode_of standard_no_pad b ≡ strict_base64 b
-encode_of-strict b = append-nil (strict_base64 b)
+unfolding strict_base64
+encode_of-strict b = append-nil (encode_symbols alphabet b)
 
 -- what decodes is the text of what it decodes to
 pub strict_base64_decoded : (s b : List ℕ) → IsBytes s → decode_of standard_no_pad s ≡ Ok b → s ≡ strict_base64 b
@@ -31,6 +32,7 @@ decode_of-strict_base64 b bytes = ap (decode_of standard_no_pad) (sym (encode_of
 
 -- how long the text of so many bytes is
 pub length-strict_base64 : (b : List ℕ) → length (strict_base64 b) ≡ (4 * length b + 2) / 3
+unfolding strict_base64
 length-strict_base64 b = length-encode_symbols alphabet b
 
 -- two byte lists with one text are one
@@ -66,13 +68,13 @@ IsUtf8-strict_base64 b = rw (encode_of-strict b) at (IsUtf8-from_ascii (encode_o
 
 -- the values of RFC 4648, section 10, without their padding
 pub fooba : strict_base64 (codes "fooba") ≡ codes "Zm9vYmE"
-unfolding encode_symbols
+unfolding encode_symbols strict_base64
 fooba = refl
 
 pub foob : strict_base64 (codes "foob") ≡ codes "Zm9vYg"
-unfolding encode_symbols
+unfolding encode_symbols strict_base64
 foob = refl
 
 pub foobar : strict_base64 (codes "foobar") ≡ codes "Zm9vYmFy"
-unfolding encode_symbols
+unfolding encode_symbols strict_base64
 foobar = refl

@@ -2,6 +2,8 @@ pub mod Absorbing
 pub mod Base64Lemmas
 pub mod BlockLemmas
 pub mod ByteLemmas
+pub mod Characters
+pub mod DecimalLemmas
 pub mod HashBlocks
 pub mod HasherFields
 pub mod KnownDigests
@@ -9,5 +11,10 @@ pub mod LaneLemmas
 pub mod MixingLaws
 pub mod MixingLemmas
 pub mod MixingValues
+pub mod ParamsReading
+pub mod ParamsTextLemmas
+pub mod PhcTextLemmas
 pub mod Pieces
 pub mod Rounds
+pub mod Separators
+pub mod ValueCharacters

@@ -7,7 +7,7 @@ abbrev pub alphabet : List ℕ
 alphabet = codes "ABCDEFGHIJKLMNOPQRSTUVWXYZabcdefghijklmnopqrstuvwxyz0123456789+/"
 
 -- the one text of bytes: no padding, and the unused last bits are zero
-abbrev pub strict_base64 : List ℕ → List ℕ
+unfoldable pub strict_base64 : List ℕ → List ℕ
 strict_base64 bytes = encode_symbols alphabet bytes
 
 -- each is a byte

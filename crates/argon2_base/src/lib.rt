@@ -6,3 +6,4 @@ pub mod blake2b;
 pub mod blake2b_long;
 pub mod block;
 pub mod error;
+pub mod phc;

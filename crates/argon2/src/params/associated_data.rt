@@ -15,6 +15,9 @@ pub struct AssociatedData {
 }
 
 impl AssociatedData {
+    ghost use Rattle.std.specs.Option.{option_map};
+    ghost use Rattle.std.specs.Result.{result_ok};
+    ghost use Rattle.argon2.specs.ListedParameters.{bytes_of};
     ghost use Rattle.argon2.specs.ByteLists.{data_bytes, IsAssociatedDataOf, IsAssociatedDataOfText};
 
     /// The most bytes of associated data.
@@ -45,7 +48,8 @@ impl AssociatedData {
     /// [`Error::B64Encoding`], of `InvalidLength` where the text has more than 43 bytes, else of
     /// `InvalidEncoding` where it is the Base64 of no bytes.
     pub fn from_b64(text: &str) -> Result<AssociatedData>
-        ensures { IsAssociatedDataOfText text.now result }
+        ensures text { IsAssociatedDataOfText text.now result }
+        ensures read { option_map data_bytes (result_ok result) ≡ bytes_of 32 text.now }
     {
         let bytes = ByteList::from_b64(text)?;
         Ok(AssociatedData { bytes })

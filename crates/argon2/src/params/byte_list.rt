@@ -21,6 +21,9 @@ pub(crate) struct ByteList<const N: usize> {
 impl<const N: usize> ByteList<N> {
     ghost use Rattle.std.specs.Prelude.{◌≡◌, ◌≤◌, ◌<◌, ◌+◌, ◌*◌, ◌^◌, length, MatchOption};
     ghost use Rattle.argon2.specs.ByteLists.{IsListOfText, list_bytes};
+    ghost use Rattle.argon2.specs.ListedParameters.{bytes_of};
+    ghost use Rattle.std.specs.Option.{option_map};
+    ghost use Rattle.std.specs.Result.{result_ok};
 
     /// The list of these bytes, if it fits.
     pub(crate) fn new(source: &[u8]) -> Option<Self>
@@ -40,7 +43,8 @@ impl<const N: usize> ByteList<N> {
     /// The list whose strict Base64 the text is, if there is one.
     pub(crate) fn from_b64(text: &str) -> Result<Self, B64Error>
         requires { 4 * N + 2 < 2 ^ 64 }
-        ensures { IsListOfText text.now result }
+        ensures text { IsListOfText text.now result }
+        ensures read { option_map list_bytes (result_ok result) ≡ bytes_of N text.now }
     {
         if text.len() > (4 * N + 2) / 3 {
             return Err(B64Error::InvalidLength);

@@ -15,6 +15,9 @@ pub struct KeyId {
 }
 
 impl KeyId {
+    ghost use Rattle.std.specs.Option.{option_map};
+    ghost use Rattle.std.specs.Result.{result_ok};
+    ghost use Rattle.argon2.specs.ListedParameters.{bytes_of};
     ghost use Rattle.argon2.specs.ByteLists.{keyid_bytes, IsKeyIdOf, IsKeyIdOfText};
 
     /// The most bytes of a key identifier.
@@ -45,7 +48,8 @@ impl KeyId {
     /// [`Error::B64Encoding`], of `InvalidLength` where the text has more than 11 bytes, else of
     /// `InvalidEncoding` where it is the Base64 of no bytes.
     pub fn from_b64(text: &str) -> Result<KeyId>
-        ensures { IsKeyIdOfText text.now result }
+        ensures text { IsKeyIdOfText text.now result }
+        ensures read { option_map keyid_bytes (result_ok result) ≡ bytes_of 8 text.now }
     {
         let bytes = ByteList::from_b64(text)?;
         Ok(KeyId { bytes })

@@ -1,0 +1,105 @@
+-- Parameters as a parameter list, and the parameters that a list stands for.
+use Rattle.std.specs.Prelude.{ℕ, nat_le, List, [], ◌∷◌, ◌++◌, codes, length, if◌then◌else◌, Option, Some, None, Result, Ok, Err, unwrap_or, option_and_then}
+use Rattle.std.specs.Fmt.{decimal}
+use Rattle.std.specs.Option.{option_or}
+use Rattle.std.specs.Str.{bytes_eq}
+use Rattle.base64.specs.Engines.{standard_no_pad}
+use Rattle.base64.specs.GeneralPurpose.{decoded_of}
+use Rattle.argon2_base.specs.Base64.{strict_base64}
+use Rattle.argon2_base.specs.Decimal.{number_of}
+use Rattle.argon2_base.specs.ParamsText.{Pair, value_of}
+use Rattle.argon2_base.specs.declared.error.Error.{Error}
+use Rattle.argon2.specs.Faults.{Fault, bad_param, bad_params, as_fault}
+use Rattle.argon2.specs.Parameters.{Parameters, first_fault}
+
+-- bytes under a name, where there are any
+abbrev pub bytes_item : List ℕ → List ℕ → List Pair
+bytes_item name [] = []
+bytes_item name (x ∷ b) = (name, strict_base64 (x ∷ b)) ∷ []
+
+-- the list of costs, a key identifier and associated data
+abbrev pub listed : ℕ → ℕ → ℕ → List ℕ → List ℕ → List Pair
+listed m t p keyid associated =
+    ((codes "m", decimal m) ∷ (codes "t", decimal t) ∷ (codes "p", decimal p) ∷ [])
+    ++ bytes_item (codes "keyid") keyid ++ bytes_item (codes "data") associated
+
+-- the list of parameters; it has no output length
+abbrev pub list_of : Parameters → List Pair
+list_of v = listed v.m_cost v.t_cost v.p_cost v.keyid v.associated
+
+-- ---- reading
+
+-- the bytes, at most so many, whose strict Base64 the text is
+abbrev pub bytes_of : ℕ → List ℕ → Option (List ℕ)
+bytes_of most text =
+    option_and_then (λ b. if nat_le (length b) most then Some b else None) (decoded_of standard_no_pad text)
+
+-- a value that can't be read is a fault of its parameter
+abbrev pub unless_read : {X : Type 0} → Option X → List ℕ → Option Fault
+unless_read (Some x) name = None
+unless_read None name = Some (bad_param name)
+
+-- why an item is refused
+abbrev pub item_fault : Pair → Option Fault
+item_fault p =
+    if bytes_eq p.0 (codes "m") then unless_read (number_of p.1) (codes "m")
+    else if bytes_eq p.0 (codes "t") then unless_read (number_of p.1) (codes "t")
+    else if bytes_eq p.0 (codes "p") then unless_read (number_of p.1) (codes "p")
+    else if bytes_eq p.0 (codes "keyid") then unless_read (bytes_of 8 p.1) (codes "keyid")
+    else if bytes_eq p.0 (codes "data") then unless_read (bytes_of 32 p.1) (codes "data")
+    else Some bad_params
+
+-- the fault of the first item that is refused
+abbrev pub items_fault : List Pair → Option Fault
+items_fault [] = None
+items_fault (p ∷ ps) = option_or (item_fault p) (items_fault ps)
+
+-- what is found by name
+abbrev pub number_at : List ℕ → List Pair → Option ℕ
+number_at name ps = option_and_then number_of (value_of name ps)
+
+abbrev pub bytes_at : ℕ → List ℕ → List Pair → List ℕ
+bytes_at most name ps = unwrap_or (option_and_then (bytes_of most) (value_of name ps)) []
+
+-- refused by the fault, if there is one
+abbrev pub checked : {X : Type 0} → Option Fault → Result X Fault → Result X Fault
+checked None next = next
+checked (Some fault) next = Err fault
+
+-- refused by the fault of costs and an output length, if there is one
+abbrev pub cost_fault : Option Error → Option Fault
+cost_fault None = None
+cost_fault (Some e) = Some (as_fault e)
+
+-- each of m, t and p has to be there, and together they have to be valid
+abbrev pub with_costs : Option ℕ → Option ℕ → Option ℕ → List ℕ → List ℕ → Option ℕ → Result Parameters Fault
+with_costs None _ _ _ _ _ = Err bad_params
+with_costs (Some m) None _ _ _ _ = Err bad_params
+with_costs (Some m) (Some t) None _ _ _ = Err bad_params
+with_costs (Some m) (Some t) (Some p) keyid associated output_len =
+    checked (cost_fault (first_fault m t p output_len))
+    (Ok (record {
+      m_cost = m;
+      t_cost = t;
+      p_cost = p;
+      keyid = keyid;
+      associated = associated;
+      output_len = output_len;
+    }))
+
+-- the parameters of a list, with this output length, or the first fault
+abbrev pub params_of : Option ℕ → List Pair → Result Parameters Fault
+params_of output_len ps = checked (items_fault ps)
+    (with_costs (number_at (codes "m") ps) (number_at (codes "t") ps) (number_at (codes "p") ps)
+    (bytes_at 8 (codes "keyid") ps) (bytes_at 32 (codes "data") ps) output_len)
+
+-- parameters with any length of output
+abbrev pub unsized : ℕ → ℕ → ℕ → List ℕ → List ℕ → Parameters
+unsized m t p keyid associated = record {
+  m_cost = m;
+  t_cost = t;
+  p_cost = p;
+  keyid = keyid;
+  associated = associated;
+  output_len = None;
+}

@@ -1,0 +1,246 @@
+//! Parameters as texts: printed as a parameter list, and read from one.
+
+ghost use Rattle.std.specs.Prelude.{◌≡◌, ◌≤◌, ◌++◌, ℕ, IsTrue, IsSome, IsNone, Option, Some, None, Ok, MatchResult, length};
+ghost use Rattle.argon2_base.specs.Decimal.{number_of};
+ghost use Rattle.argon2_base.specs.ParamsText.{are_params};
+ghost use Rattle.argon2_base.specs.declared.error.password_hash.Error.TheVariants.{ParamsInvalid};
+ghost use Rattle.argon2.specs.Faults.{fault_of, bad_param};
+ghost use Rattle.argon2.specs.ListedParameters.{bytes_item, listed, item_fault, items_fault, number_at, params_of, unsized};
+ghost use Rattle.argon2.specs.Parameters.{first_fault};
+
+use super::{AssociatedData, KeyId, Params};
+use argon2_base::error::password_hash::{Error, Result};
+use argon2_base::phc::{ParamsString, PasswordHash, Value};
+use std::fmt;
+use std::str::FromStr;
+
+// The list of costs, a key identifier and associated data.
+fn params_string(m: u32, t: u32, p: u32, keyid: &[u8], associated: &[u8]) -> ParamsString
+    requires keyid_fits { length keyid.now ≤ 8 }
+    requires data_fits { length associated.now ≤ 32 }
+    ensures list { result ≡ listed m t p keyid.now associated.now }
+    ensures again { (o : Option ℕ) → IsNone (first_fault m t p o)
+        → params_of None (listed m t p keyid.now associated.now)
+        ≡ Ok (unsized m t p keyid.now associated.now) }
+{
+    let mut list = ParamsString::new();
+    let Ok(()) = list.add_decimal("m", m) else {
+        unreachable!();
+    };
+    let Ok(()) = list.add_decimal("t", t) else {
+        unreachable!();
+    };
+    let Ok(()) = list.add_decimal("p", p) else {
+        unreachable!();
+    };
+    add_bytes(&mut list, "keyid", keyid);
+    add_bytes(&mut list, "data", associated);
+    list
+}
+
+// Appends bytes, where there are any.
+fn add_bytes(list: &mut ParamsString, name: &str, bytes: &[u8])
+    requires { IsTrue (are_params (list.old ++ bytes_item name.now bytes.now)) }
+    ensures { list.new ≡ list.old ++ bytes_item name.now bytes.now }
+{
+    if bytes.is_empty() {
+        return;
+    }
+    let Ok(()) = list.add_b64_bytes(name, bytes) else {
+        unreachable!();
+    };
+}
+
+/// The list of the parameters, always Ok. Read again, it is the same parameters with any length of
+/// output.
+impl TryFrom<&Params> for ParamsString {
+    ghost use Rattle.argon2.specs.Params.{parameters_of};
+    ghost use Rattle.argon2.specs.ParamsAnswers.{IsListOf};
+
+    type Error = Error;
+
+    ghost try_from_gives = { λ params r. IsListOf (parameters_of params.now) r };
+
+    fn try_from(params: &Params) -> Result<ParamsString> {
+        let (m, t, p) = (params.m_cost(), params.t_cost(), params.p_cost());
+        Ok(params_string(m, t, p, params.keyid(), params.data()))
+    }
+}
+
+/// The same of parameters by value.
+impl TryFrom<Params> for ParamsString {
+    ghost use Rattle.argon2.specs.Params.{parameters_of};
+    ghost use Rattle.argon2.specs.ParamsAnswers.{IsListOf};
+
+    type Error = Error;
+
+    ghost try_from_gives = { λ params r. IsListOf (parameters_of params) r };
+
+    fn try_from(params: Params) -> Result<ParamsString> {
+        ParamsString::try_from(&params)
+    }
+}
+
+/// `m=`, `t=` and `p=` with decimals, then `keyid=` and `data=` with Base64 where they are not empty,
+/// joined by `,`.
+impl fmt::Display for Params {
+    ghost use Rattle.std.specs.Prelude.{Some};
+    ghost use Rattle.argon2_base.specs.ParamsText.{params_text};
+    ghost use Rattle.argon2.specs.ListedParameters.{list_of};
+    ghost use Rattle.argon2.specs.Params.{parameters_of};
+
+    ghost output = { λ params. Some (params_text (list_of (parameters_of params))) };
+
+    fn fmt<W: fmt::Write>(&self, f: &mut fmt::Formatter<W>) -> fmt::Result {
+        let (m, t, p) = (self.m_cost(), self.t_cost(), self.p_cost());
+        let list = params_string(m, t, p, self.keyid(), self.data());
+        f.pad(list.as_str())
+    }
+}
+
+// ---- reading
+
+// Whether the value is a decimal.
+fn check_number(name: &'static str, value: &Value<'_>) -> Result<()>
+    ensures { MatchResult result (λ _. IsSome (number_of value.now))
+        (λ e. (number_of value.now ≡ None) × (fault_of e ≡ bad_param name.now)) }
+{
+    value.decimal().or(Err(Error::ParamInvalid { name }))?;
+    Ok(())
+}
+
+// Whether an item can be read.
+fn check_item(name: &str, value: &Value<'_>) -> Result<()>
+    ensures { MatchResult result (λ _. item_fault (name.now, value.now) ≡ None)
+        (λ e. item_fault (name.now, value.now) ≡ Some (fault_of e)) }
+{
+    match name {
+        "m" => check_number("m", value),
+        "t" => check_number("t", value),
+        "p" => check_number("p", value),
+        "keyid" => match KeyId::from_b64(value.as_str()) {
+            Ok(_) => Ok(()),
+            Err(_) => Err(Error::ParamInvalid { name: "keyid" }),
+        },
+        "data" => match AssociatedData::from_b64(value.as_str()) {
+            Ok(_) => Ok(()),
+            Err(_) => Err(Error::ParamInvalid { name: "data" }),
+        },
+        _ => Err(Error::ParamsInvalid),
+    }
+}
+
+// Whether every item can be read: the fault of the first that can't.
+fn check_items(list: &ParamsString) -> Result<()>
+    ensures { MatchResult result (λ _. items_fault list.now ≡ None)
+        (λ e. items_fault list.now ≡ Some (fault_of e)) }
+{
+    for (name, value) in list.iter() {
+        check_item(name.as_str(), &value)?;
+    }
+    Ok(())
+}
+
+// The number of this name.
+fn cost(list: &ParamsString, name: &str) -> Result<u32>
+    ensures { MatchResult result (λ n. number_at name.now list.now ≡ Some n)
+        (λ e. (number_at name.now list.now ≡ None) × (e ≡ ParamsInvalid)) }
+{
+    let Some(value) = list.get(name) else {
+        return Err(Error::ParamsInvalid);
+    };
+    value.decimal()
+}
+
+impl Params {
+    ghost use Rattle.std.specs.Prelude.{◌≡◌, ℕ, Option, codes};
+    ghost use Rattle.argon2.specs.ByteLists.{keyid_bytes, data_bytes};
+    ghost use Rattle.argon2.specs.Faults.{answer_of};
+    ghost use Rattle.argon2.specs.ListedParameters.{bytes_at, params_of};
+    ghost use Rattle.argon2.specs.Params.{parameters_of};
+
+    // The key identifier of a list, which is empty where there is none.
+    fn listed_keyid(list: &ParamsString) -> KeyId
+        ensures { keyid_bytes result ≡ bytes_at 8 (codes "keyid") list.now }
+    {
+        match list.get("keyid") {
+            Some(value) => KeyId::from_b64(value.as_str()).unwrap_or(KeyId::EMPTY),
+            None => KeyId::EMPTY,
+        }
+    }
+
+    // The associated data of a list, which is empty where there is none.
+    fn listed_data(list: &ParamsString) -> AssociatedData
+        ensures { data_bytes result ≡ bytes_at 32 (codes "data") list.now }
+    {
+        match list.get("data") {
+            Some(value) => {
+                AssociatedData::from_b64(value.as_str()).unwrap_or(AssociatedData::EMPTY)
+            }
+            None => AssociatedData::EMPTY,
+        }
+    }
+
+    // The parameters of a list, with this output length.
+    fn listed(list: &ParamsString, output_len: Option<usize>) -> Result<Params>
+        ensures { answer_of parameters_of result ≡ params_of output_len list.now }
+    {
+        check_items(list)?;
+        let m = cost(list, "m")?;
+        let t = cost(list, "t")?;
+        let p = cost(list, "p")?;
+        let mut params = Params::new(m, t, p, output_len)?;
+        params.keyid = Params::listed_keyid(list);
+        params.associated = Params::listed_data(list);
+        Ok(params)
+    }
+}
+
+/// The parameters that a list stands for, with any length of output. The items are gone through in
+/// the order of the text: a value of `m`, `t` or `p` that is no decimal up to 4294967295, and one of
+/// `keyid` or `data` that is refused as Base64, is `ParamInvalid` with that name; any other name is
+/// `ParamsInvalid`. Then `ParamsInvalid` where `m`, `t` or `p` is missing, and then the fault of
+/// [`Params::new`].
+impl TryFrom<&ParamsString> for Params {
+    ghost use Rattle.argon2.specs.ParamsAnswers.{IsListAnswer};
+
+    type Error = Error;
+
+    ghost try_from_gives = { λ list r. IsListAnswer list.now r };
+
+    fn try_from(list: &ParamsString) -> Result<Params> {
+        Params::listed(list, None)
+    }
+}
+
+/// The same of a whole PHC text, whose hash has the length of the output.
+impl TryFrom<&PasswordHash> for Params {
+    ghost use Rattle.argon2_base.specs.PasswordHash.{phc_of};
+    ghost use Rattle.argon2.specs.ParamsAnswers.{IsPhcAnswer};
+
+    type Error = Error;
+
+    ghost try_from_gives = { λ hash r. IsPhcAnswer (phc_of hash.now) r };
+
+    fn try_from(hash: &PasswordHash) -> Result<Params> {
+        let output_len = hash.hash.as_ref().map(|bytes| bytes.len());
+        Params::listed(&hash.params, output_len)
+    }
+}
+
+/// The same of a list's text, or `ParamsInvalid` where it is no list's.
+impl FromStr for Params {
+    ghost use Rattle.argon2.specs.ParamsAnswers.{IsTextAnswer};
+
+    type Err = Error;
+
+    ghost from_str_gives = { IsTextAnswer };
+
+    fn from_str(text: &str) -> Result<Params> {
+        let list = text.parse::<ParamsString>()?;
+        Params::listed(&list, None)
+    }
+}
+
+#[cfg(test)]
+mod tests;

@@ -1,0 +1,59 @@
+-- What follows from a test of each character.
+use Rattle.std.proofs.Common.{◌≡◌, ◌-◌, ◌∙◌, ap, ℕ, zero, suc, ◌<◌, Bool, true, false, ◌&&◌, List, [], ◌∷◌, ◌++◌, length, take, drop, replicate, refl, arith, inl, inr, eqb}
+use Rattle.std.proofs.lemmas.Bool.Decides.{nat_tests}
+use Rattle.std.proofs.lemmas.Bool.{cases_Bool, eqb-true}
+use Rattle.std.proofs.lemmas.List.{drop-replicate, take_at}
+use Rattle.std.specs.List.{list_all, AllByRecursion}
+use Rattle.std.specs.Str.{IsAscii, IsUtf8}
+use Rattle.std.proofs.lemmas.Str.{IsUtf8-from_ascii}
+use Rattle.std.proofs.lemmas.Slice.{drop-append-drop}
+use Rattle.argon2_base.specs.Names.{is_name_char, is_value_char, is_name}
+
+-- both parts of a conjunction
+pub both : (a b : Bool) → (a && b) ≡ true → (a ≡ true) × (b ≡ true)
+both true b h = (refl, h)
+both false b h = absurd cc
+
+-- each element is what passing elements are
+pub each : (p : ℕ → Bool) (P : ℕ → Type 0) (gives : (c : ℕ) → p c ≡ true → P c) (s : List ℕ) → list_all p s ≡ true → AllByRecursion P s
+each p P gives [] h = tt
+each p P gives (x ∷ s) h = let b = both (p x) (list_all p s) h in (gives x b.0, each p P gives s b.1)
+
+-- a character of names is ASCII
+pub name_char_small : (c : ℕ) → is_name_char c ≡ true → c < 128
+name_char_small c h = grind (arith, nat_tests)
+
+-- a character of values is ASCII
+pub value_char_small : (c : ℕ) → is_value_char c ≡ true → c < 128
+value_char_small c h = grind (arith, nat_tests)
+
+-- characters that pass such a test are ASCII text
+ascii : (p : ℕ → Bool) (gives : (c : ℕ) → p c ≡ true → c < 128) (s : List ℕ) → list_all p s ≡ true → IsAscii s
+ascii p gives [] h i = omega arith
+ascii p gives (x ∷ s) h zero = gives x (both (p x) (list_all p s) h).0
+ascii p gives (x ∷ s) h (suc i) = ascii p gives s (both (p x) (list_all p s) h).1 i
+
+-- the characters of a name
+pub name_chars : (s : List ℕ) → is_name s ≡ true → list_all is_name_char s ≡ true
+name_chars s h = (both _ (list_all is_name_char s) h).1
+
+-- a name is text
+pub IsUtf8-name : (s : List ℕ) → is_name s ≡ true → IsUtf8 s
+IsUtf8-name s h = IsUtf8-from_ascii s (ascii is_name_char name_char_small s (name_chars s h))
+
+-- a character that doesn't pass is in no list of those that do
+pub lacks_by : (p : ℕ → Bool) (c : ℕ) → p c ≡ false → (s : List ℕ) → list_all p s ≡ true → AllByRecursion (λ x. eqb x c ≡ false) s
+lacks_by p c fails s h = each p (λ x. eqb x c ≡ false) (λ x yes. elim (cases_Bool (eqb x c)) [
+  | inl same ↦ let e : x ≡ c = eqb-true x c same in absurd (let y : p c ≡ true = rw (← e) yes in cc)
+  | inr other ↦ other
+]) s h
+
+-- ---- a text at the front of an array, and the zeros behind it
+
+-- the front is the text
+pub front_filled : (t new ys : List ℕ) → new ≡ t → take (length t) (new ++ ys) ≡ t
+front_filled t new ys e = rw e (take_at t ys (length t) refl)
+
+-- behind it are zeros
+pub zeros_filled : (n : ℕ) (t new : List ℕ) → new ≡ t → drop (length t) (new ++ drop (length t) (replicate n 0)) ≡ replicate (n - length t) 0
+zeros_filled n t new e = drop-append-drop (length t) (replicate n 0) new (length t) (omega arith) (ap length e) ∙ drop-replicate (length t) n 0

@@ -1,0 +1,224 @@
+//! Salts and outputs, and the bytes of a strict Base64 text.
+ghost use Rattle.std.specs.Prelude.{◌≡◌, ◌≤◌, ℕ, List, Some, IfOk, IfSome, IsSomeAnd, MatchResult, length, nat_eq};
+ghost use Rattle.std.specs.Cmp.{partial_equiv_from_equiv};
+ghost use Rattle.std.specs.Cmp.Lexicographic.{pointwise, nat_list_eq_equiv};
+ghost use Rattle.argon2_base.specs.Base64.{IsBytes, strict_base64};
+ghost use Rattle.argon2_base.specs.declared.error.password_hash.Error.TheVariants.{SaltInvalid, OutputSize};
+
+use crate::error::password_hash::{Error, Result};
+use arrayvec::ArrayVec;
+use base64::display::Base64Display;
+use base64::engine::general_purpose::STANDARD_NO_PAD;
+use std::convert::AsSlice;
+use std::fmt;
+use std::marker::Model;
+
+/// A salt of 8 to 48 bytes.
+#[derive(Drop)]
+pub struct Salt {
+    bytes: ArrayVec<u8, 48>,
+}
+
+impl Model for Salt {
+    ghost use Rattle.std.specs.Prelude.{ℕ, List, ◌≤◌, length};
+    ghost use Rattle.argon2_base.specs.Base64.{IsBytes};
+
+    ghost Value = { List ℕ };
+
+    ghost view = { λ s. s.bytes.items };
+
+    ghost invariant = { λ s. (8 ≤ length s.bytes.items) × (length s.bytes.items ≤ 48)
+        × IsBytes s.bytes.items };
+}
+
+impl Salt {
+    /// The fewest bytes that a salt has.
+    pub const MIN_LENGTH: usize = 8;
+
+    /// The most bytes that a salt has.
+    pub const MAX_LENGTH: usize = 48;
+
+    /// How many bytes a fresh salt has.
+    pub const RECOMMENDED_LENGTH: usize = 16;
+
+    /// The salt of these bytes, or `SaltInvalid` where they are fewer than 8 or more than 48.
+    pub fn new(bytes: &[u8]) -> Result<Salt>
+        ensures value { IfOk result (λ s. s ≡ bytes.now) }
+        ensures when { MatchResult result (λ _. (8 ≤ length bytes.now) × (length bytes.now ≤ 48))
+            (λ e. (e ≡ SaltInvalid) × (8 ≤ length bytes.now → length bytes.now ≤ 48 → ⊥)) }
+    {
+        if bytes.len() < Self::MIN_LENGTH || bytes.len() > Self::MAX_LENGTH {
+            return Err(Error::SaltInvalid);
+        }
+        let mut kept = ArrayVec::new();
+        let _fits = kept.try_extend_from_slice(bytes);
+        Ok(Salt { bytes: kept })
+    }
+
+    /// Its bytes.
+    pub fn as_bytes(&self) -> &[u8]
+        ensures value { result.now ≡ self.now }
+        ensures min { 8 ≤ length self.now }
+        ensures max { length self.now ≤ 48 }
+        ensures bytes { IsBytes self.now }
+    {
+        self.bytes.as_slice()
+    }
+
+    /// How many bytes it has.
+    pub fn len(&self) -> usize
+        ensures { result ≡ length self.now }
+    {
+        self.bytes.len()
+    }
+}
+
+impl AsSlice<u8> for Salt {
+    ghost items = { λ s. s };
+
+    fn as_slice(&self) -> &[u8] {
+        self.as_bytes()
+    }
+}
+
+impl fmt::Display for Salt {
+    ghost output = { λ s. Some (strict_base64 s) };
+
+    fn fmt<W: fmt::Write>(&self, f: &mut fmt::Formatter<W>) -> fmt::Result {
+        fmt::Display::fmt(&Base64Display::new(self.as_bytes(), &STANDARD_NO_PAD), f)
+    }
+}
+
+impl fmt::Debug for Salt {
+    fn fmt<W: fmt::Write>(&self, f: &mut fmt::Formatter<W>) -> fmt::Result {
+        write!(f, "Salt({self})")
+    }
+}
+
+impl PartialEq for Salt {
+    ghost eq = { pointwise nat_eq };
+
+    ghost laws = { partial_equiv_from_equiv nat_list_eq_equiv };
+
+    fn eq(&self, other: &Self) -> bool {
+        self.as_bytes() == other.as_bytes()
+    }
+}
+
+impl Eq for Salt {
+    ghost laws = { nat_list_eq_equiv };
+}
+
+/// An output of 4 to 64 bytes: the hash of a password.
+#[derive(Drop)]
+pub struct Output {
+    bytes: ArrayVec<u8, 64>,
+}
+
+impl Model for Output {
+    ghost use Rattle.std.specs.Prelude.{ℕ, List, ◌≤◌, length};
+    ghost use Rattle.argon2_base.specs.Base64.{IsBytes};
+
+    ghost Value = { List ℕ };
+
+    ghost view = { λ s. s.bytes.items };
+
+    ghost invariant = { λ s. (4 ≤ length s.bytes.items) × (length s.bytes.items ≤ 64)
+        × IsBytes s.bytes.items };
+}
+
+impl Output {
+    /// The fewest bytes that an output has.
+    pub const MIN_LENGTH: usize = 4;
+
+    /// The most bytes that an output has.
+    pub const MAX_LENGTH: usize = 64;
+
+    /// The output of these bytes, or `OutputSize` where they are fewer than 4 or more than 64.
+    pub fn new(bytes: &[u8]) -> Result<Output>
+        ensures value { IfOk result (λ s. s ≡ bytes.now) }
+        ensures when { MatchResult result (λ _. (4 ≤ length bytes.now) × (length bytes.now ≤ 64))
+            (λ e. (e ≡ OutputSize) × (4 ≤ length bytes.now → length bytes.now ≤ 64 → ⊥)) }
+    {
+        if bytes.len() < Self::MIN_LENGTH || bytes.len() > Self::MAX_LENGTH {
+            return Err(Error::OutputSize);
+        }
+        let mut kept = ArrayVec::new();
+        let _fits = kept.try_extend_from_slice(bytes);
+        Ok(Output { bytes: kept })
+    }
+
+    /// Its bytes.
+    pub fn as_bytes(&self) -> &[u8]
+        ensures value { result.now ≡ self.now }
+        ensures min { 4 ≤ length self.now }
+        ensures max { length self.now ≤ 64 }
+        ensures bytes { IsBytes self.now }
+    {
+        self.bytes.as_slice()
+    }
+
+    /// How many bytes it has.
+    pub fn len(&self) -> usize
+        ensures { result ≡ length self.now }
+    {
+        self.bytes.len()
+    }
+}
+
+impl AsSlice<u8> for Output {
+    ghost items = { λ s. s };
+
+    fn as_slice(&self) -> &[u8] {
+        self.as_bytes()
+    }
+}
+
+impl fmt::Display for Output {
+    ghost output = { λ s. Some (strict_base64 s) };
+
+    fn fmt<W: fmt::Write>(&self, f: &mut fmt::Formatter<W>) -> fmt::Result {
+        fmt::Display::fmt(&Base64Display::new(self.as_bytes(), &STANDARD_NO_PAD), f)
+    }
+}
+
+impl fmt::Debug for Output {
+    fn fmt<W: fmt::Write>(&self, f: &mut fmt::Formatter<W>) -> fmt::Result {
+        write!(f, "Output({self})")
+    }
+}
+
+impl PartialEq for Output {
+    ghost eq = { pointwise nat_eq };
+
+    ghost laws = { partial_equiv_from_equiv nat_list_eq_equiv };
+
+    fn eq(&self, other: &Self) -> bool {
+        self.as_bytes() == other.as_bytes()
+    }
+}
+
+impl Eq for Output {
+    ghost laws = { nat_list_eq_equiv };
+}
+
+// The bytes, at most 64, whose strict Base64 a text is.
+pub(super) fn read_base64(text: &str) -> Option<ArrayVec<u8, 64>>
+    ensures found { IfSome result (λ v. text.now ≡ strict_base64 v.items) }
+    ensures only { (b : List ℕ) → IsBytes b → length b ≤ 64 → text.now ≡ strict_base64 b
+        → IsSomeAnd result (λ v. v.items ≡ b) }
+{
+    if text.len() > 86 {
+        return None;
+    }
+    let mut buffer = [0u8; 66];
+    let Ok(len) = STANDARD_NO_PAD.decode_slice_unchecked(text.as_bytes(), &mut buffer) else {
+        return None;
+    };
+    if len > 64 {
+        return None;
+    }
+    let mut bytes = ArrayVec::new();
+    let _fits = bytes.try_extend_from_slice(&buffer[..len]);
+    Some(bytes)
+}

@@ -1,0 +1,123 @@
+//! The fields of a PHC text, read one by one.
+ghost use Rattle.std.specs.Prelude.{◌≡◌, ◌<◌, ◌^◌, ◌++◌, ◌∷◌, [], ℕ, List, None, Option, IfOk, IfErr, IfSome, IsOkAnd, IsNone, IsTrue};
+ghost use Rattle.argon2_base.specs.Base64.{strict_base64};
+ghost use Rattle.argon2_base.specs.ParamsText.{Pair, are_params};
+ghost use Rattle.argon2_base.specs.PhcFields.{fields_of, fields_left, NoVersionFirst, NoItemFirst};
+ghost use Rattle.argon2_base.specs.PhcText.{HasBytes, field, list_field, version_text};
+ghost use Rattle.argon2_base.specs.declared.error.password_hash.Error.TheVariants.{EncodingInvalid};
+
+use super::bytes::{Output, Salt, read_base64};
+use super::list::{ParamsString, split_item};
+use super::value::read_decimal;
+use crate::error::password_hash::{Error, Result};
+
+// The text up to the first `$`, and what follows that.
+pub(super) fn first_field(text: &str) -> (&str, Option<&str>)
+    ensures { fields_of text.now ≡ result.0.now ∷ fields_left result.1 }
+{
+    match text.split_once('$') {
+        Some((field, rest)) => (field, Some(rest)),
+        None => (text, None),
+    }
+}
+
+// The version, where it is next, and what is left.
+pub(super) fn version_field(left: Option<&str>) -> Result<(Option<u32>, Option<&str>)>
+    ensures found { IfOk result (λ x.
+        (fields_left left.entry ≡ field version_text x.0 ++ fields_left x.1)
+        × IfSome x.0 (λ n. n < 2 ^ 32)) }
+    ensures only { (o : Option ℕ) (rest : List (List ℕ))
+        → IfSome o (λ n. n < 2 ^ 32) → NoVersionFirst rest
+        → fields_left left.entry ≡ field version_text o ++ rest
+        → IsOkAnd result (λ x. (x.0 ≡ o) × (fields_left x.1 ≡ rest)) }
+    ensures invalid { IfErr result (λ e. e ≡ EncodingInvalid) }
+{
+    let Some(text) = left else {
+        return Ok((None, None));
+    };
+    let (field, more) = first_field(text);
+    let Some((name, digits)) = split_item(field) else {
+        return Ok((None, left));
+    };
+    if name != "v" {
+        return Ok((None, left));
+    }
+    let Some(number) = read_decimal(digits) else {
+        return Err(Error::EncodingInvalid);
+    };
+    Ok((Some(number), more))
+}
+
+// The parameters, where they are next, and what is left.
+pub(super) fn params_field(left: Option<&str>) -> Result<(ParamsString, Option<&str>)>
+    ensures found { IfOk result (λ x.
+        (fields_left left.entry ≡ list_field x.0 ++ fields_left x.1)
+        × IsTrue (are_params x.0)) }
+    ensures only { (ps : List Pair) (rest : List (List ℕ))
+        → IsTrue (are_params ps) → NoItemFirst rest
+        → fields_left left.entry ≡ list_field ps ++ rest
+        → IsOkAnd result (λ x. (x.0 ≡ ps) × (fields_left x.1 ≡ rest)) }
+    ensures invalid { IfErr result (λ e. e ≡ EncodingInvalid) }
+{
+    let Some(text) = left else {
+        return Ok((ParamsString::new(), None));
+    };
+    let (field, more) = first_field(text);
+    let Some(_pair) = split_item(field) else {
+        return Ok((ParamsString::new(), left));
+    };
+    let Ok(params) = ParamsString::read(field) else {
+        return Err(Error::EncodingInvalid);
+    };
+    Ok((params, more))
+}
+
+// The salt, where anything is left, and what is left.
+pub(super) fn salt_field(left: Option<&str>) -> Result<(Option<Salt>, Option<&str>)>
+    ensures found { IfOk result (λ x.
+        (fields_left left.entry ≡ field strict_base64 x.0 ++ fields_left x.1)
+        × IfSome x.0 (HasBytes 8 48)) }
+    ensures end { IfOk result (λ x. IsNone x.0 → x.1 ≡ None) }
+    ensures only { (o : Option (List ℕ)) (rest : List (List ℕ))
+        → IfSome o (HasBytes 8 48) → (IsNone o → rest ≡ [])
+        → fields_left left.entry ≡ field strict_base64 o ++ rest
+        → IsOkAnd result (λ x. (x.0 ≡ o) × (fields_left x.1 ≡ rest)) }
+    ensures invalid { IfErr result (λ e. e ≡ EncodingInvalid) }
+{
+    let Some(text) = left else {
+        return Ok((None, None));
+    };
+    let (field, more) = first_field(text);
+    let Some(bytes) = read_base64(field) else {
+        return Err(Error::EncodingInvalid);
+    };
+    let Ok(salt) = Salt::new(bytes.as_slice()) else {
+        return Err(Error::EncodingInvalid);
+    };
+    Ok((Some(salt), more))
+}
+
+// The hash, where anything is left, and what is left.
+pub(super) fn hash_field(left: Option<&str>) -> Result<(Option<Output>, Option<&str>)>
+    ensures found { IfOk result (λ x.
+        (fields_left left.entry ≡ field strict_base64 x.0 ++ fields_left x.1)
+        × IfSome x.0 (HasBytes 4 64)) }
+    ensures end { IfOk result (λ x. IsNone x.0 → x.1 ≡ None) }
+    ensures only { (o : Option (List ℕ)) (rest : List (List ℕ))
+        → IfSome o (HasBytes 4 64) → (IsNone o → rest ≡ [])
+        → fields_left left.entry ≡ field strict_base64 o ++ rest
+        → IsOkAnd result (λ x. (x.0 ≡ o) × (fields_left x.1 ≡ rest)) }
+    ensures invalid { IfErr result (λ e. e ≡ EncodingInvalid) }
+{
+    let Some(text) = left else {
+        return Ok((None, None));
+    };
+    let (field, more) = first_field(text);
+    let Some(bytes) = read_base64(field) else {
+        return Err(Error::EncodingInvalid);
+    };
+    let Ok(hash) = Output::new(bytes.as_slice()) else {
+        return Err(Error::EncodingInvalid);
+    };
+    Ok((Some(hash), more))
+}

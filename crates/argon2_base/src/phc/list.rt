@@ -1,0 +1,280 @@
+//! Parameter lists.
+ghost use Rattle.std.specs.Prelude.{◌≡◌, ◌≢◌, ◌↔◌, ◌<◌, ◌≤◌, ◌++◌, ◌∷◌, [], ℕ, List, false, Some, Ok, is_ok, IfOk, IfErr, IfSome, IfNone, OnOk, OnErr, MatchResult, IsTrue, length, nat_eq, nat_le};
+ghost use Rattle.std.specs.Fmt.{decimal};
+ghost use Rattle.std.specs.Cmp.{on_equiv, on_per, partial_equiv_from_equiv};
+ghost use Rattle.std.specs.Cmp.Lexicographic.{pointwise, nat_list_eq_equiv};
+ghost use Rattle.argon2_base.specs.Base64.{strict_base64};
+ghost use Rattle.argon2_base.specs.ParamsText.{Pair, item, params_text, value_of, is_param, are_params, ParamsText, pair_of, items_of, items_left, with_item};
+ghost use Rattle.argon2_base.specs.declared.error.password_hash.Error.TheVariants.{ParamsInvalid};
+
+use super::ident::{Ident, is_name_text};
+use super::value::{Value, decimal_text, is_value_text};
+use crate::error::password_hash::{Error, Result};
+use arrayvec::ArrayString;
+use base64::engine::general_purpose::STANDARD_NO_PAD;
+use std::marker::Model;
+use std::str::FromStr;
+use std::{fmt, str};
+
+/// Parameters with distinct names, in the order of their text, which has at most 127 bytes.
+#[derive(Drop)]
+pub struct ParamsString {
+    text: ArrayString<127>,
+}
+
+impl Model for ParamsString {
+    ghost use Rattle.std.specs.Prelude.{◌≡◌, ℕ, List, IsTrue};
+    ghost use Rattle.argon2_base.specs.ParamsText.{pairs_of, are_params, params_text};
+
+    ghost Value = { List (List ℕ × List ℕ) };
+
+    ghost view = { λ s. pairs_of s.text.bytes };
+
+    ghost invariant = { λ s. IsTrue (are_params (pairs_of s.text.bytes))
+        × (s.text.bytes ≡ params_text (pairs_of s.text.bytes)) };
+}
+
+impl ParamsString {
+    /// The empty list.
+    pub fn new() -> ParamsString
+        ensures { result ≡ [] }
+    {
+        ParamsString {
+            text: ArrayString::new(),
+        }
+    }
+
+    /// Its text.
+    pub fn as_str(&self) -> &str
+        ensures value { result.now ≡ params_text self.now }
+        ensures params { IsTrue (are_params self.now) }
+        ensures fits { length (params_text self.now) ≤ 127 }
+    {
+        self.text.as_str()
+    }
+
+    /// Whether there is no parameter.
+    pub fn is_empty(&self) -> bool
+        ensures { IsTrue result ↔ (self.now ≡ []) }
+    {
+        self.text.is_empty()
+    }
+
+    /// The names and values, in the order of the text.
+    pub fn iter(&self) -> Iter<'_>
+        ensures { result ≡ self.now }
+    {
+        let text = self.text.as_str();
+        Iter {
+            rest: if text.is_empty() { None } else { Some(text) },
+        }
+    }
+
+    /// The value of the parameter with this name.
+    pub fn get(&self, name: &str) -> Option<Value<'_>>
+        ensures { result ≡ value_of name.now self.now }
+    {
+        for (key, value) in self.iter() {
+            if key.as_str() == name {
+                return Some(value);
+            }
+        }
+        None
+    }
+
+    // Appends a parameter, where the longer list is in the grammar.
+    fn add(&mut self, name: &str, value: &str) -> Result<()>
+        ensures when { is_ok result ≡ are_params (self.old ++ (name.now, value.now) ∷ []) }
+        ensures ok { OnOk result (self.new ≡ self.old ++ (name.now, value.now) ∷ []) }
+        ensures err { OnErr result (self.new ≡ self.old) }
+        ensures invalid { IfErr result (λ e. e ≡ ParamsInvalid) }
+    {
+        if !is_param_text(name, value) || self.get(name).is_some() {
+            return Err(Error::ParamsInvalid);
+        }
+        if !push_item(&mut self.text, name, value) {
+            return Err(Error::ParamsInvalid);
+        }
+        Ok(())
+    }
+
+    /// Appends a parameter whose value is the decimal of a number. `ParamsInvalid` where the longer
+    /// list would be outside the grammar: the list is then as before.
+    pub fn add_decimal(&mut self, name: &str, value: u32) -> Result<()>
+        ensures when { is_ok result ≡ are_params (self.old ++ (name.now, decimal value) ∷ []) }
+        ensures ok { OnOk result (self.new ≡ self.old ++ (name.now, decimal value) ∷ []) }
+        ensures err { OnErr result (self.new ≡ self.old) }
+        ensures invalid { IfErr result (λ e. e ≡ ParamsInvalid) }
+    {
+        self.add(name, decimal_text(value).as_str())
+    }
+
+    /// Appends a parameter whose value is the strict Base64 of bytes. `ParamsInvalid` where the
+    /// longer list would be outside the grammar: the list is then as before.
+    pub fn add_b64_bytes(&mut self, name: &str, bytes: &[u8]) -> Result<()>
+        ensures when { is_ok result
+            ≡ are_params (self.old ++ (name.now, strict_base64 bytes.now) ∷ []) }
+        ensures ok { OnOk result (self.new ≡ self.old ++ (name.now, strict_base64 bytes.now) ∷ []) }
+        ensures err { OnErr result (self.new ≡ self.old) }
+        ensures invalid { IfErr result (λ e. e ≡ ParamsInvalid) }
+    {
+        let mut buffer = [0u8; 64];
+        let Ok(len) = STANDARD_NO_PAD.encode_slice(bytes, &mut buffer) else {
+            return Err(Error::ParamsInvalid);
+        };
+        let Ok(text) = str::from_utf8(&buffer[..len]) else {
+            unreachable!();
+        };
+        self.add(name, text)
+    }
+
+    // The list whose text this is.
+    pub(super) fn read(text: &str) -> Result<ParamsString>
+        ensures found { IfOk result (λ ps. ParamsText text.now ps) }
+        ensures only { (ps : List Pair) → ParamsText text.now ps → result ≡ Ok ps }
+        ensures invalid { IfErr result (λ e. e ≡ ParamsInvalid) }
+    {
+        let mut list = ParamsString::new();
+        if text.is_empty() {
+            return Ok(list);
+        }
+        let mut left = Some(text);
+        'items: while let Some(rest) = left {
+            let (item, more) = first_item(rest);
+            let Some((name, value)) = split_item(item) else {
+                return Err(Error::ParamsInvalid);
+            };
+            list.add(name, value)?;
+            left = more;
+        }
+        Ok(list)
+    }
+}
+
+/// The list whose text this is, or `ParamsInvalid` where it is no list's. The empty text is the
+/// empty list's.
+impl FromStr for ParamsString {
+    type Err = Error;
+
+    ghost from_str_gives = { λ text r. MatchResult r (λ ps. ParamsText text ps)
+        (λ e. (e ≡ ParamsInvalid) × ((ps : List Pair) → ParamsText text ps → ⊥)) };
+
+    fn from_str(text: &str) -> Result<ParamsString> {
+        ParamsString::read(text)
+    }
+}
+
+impl fmt::Display for ParamsString {
+    ghost output = { λ ps. Some (params_text ps) };
+
+    fn fmt<W: fmt::Write>(&self, f: &mut fmt::Formatter<W>) -> fmt::Result {
+        f.pad(self.as_str())
+    }
+}
+
+impl fmt::Debug for ParamsString {
+    fn fmt<W: fmt::Write>(&self, f: &mut fmt::Formatter<W>) -> fmt::Result {
+        fmt::Debug::fmt(&self.as_str(), f)
+    }
+}
+
+impl PartialEq for ParamsString {
+    ghost eq = { λ ps qs. pointwise nat_eq (params_text ps) (params_text qs) };
+
+    ghost laws = { on_per params_text (partial_equiv_from_equiv nat_list_eq_equiv) };
+
+    fn eq(&self, other: &Self) -> bool {
+        self.as_str() == other.as_str()
+    }
+}
+
+impl Eq for ParamsString {
+    ghost laws = { on_equiv params_text nat_list_eq_equiv };
+}
+
+/// The names and values of a list, in the order of its text.
+#[derive(Drop)]
+pub struct Iter<'a> {
+    rest: Option<&'a str>,
+}
+
+impl<'a> Model for Iter<'a> {
+    ghost use Rattle.std.specs.Prelude.{◌≡◌, ℕ, List, map, IsTrue};
+    ghost use Rattle.std.specs.List.{list_all};
+    ghost use Rattle.argon2_base.specs.ParamsText.{pair_of, item, items_left, is_param};
+
+    ghost Value = { List (List ℕ × List ℕ) };
+
+    ghost view = { λ s. map pair_of (items_left s.rest) };
+
+    ghost invariant = { λ s. IsTrue (list_all is_param (map pair_of (items_left s.rest)))
+        × (items_left s.rest ≡ map item (map pair_of (items_left s.rest))) };
+}
+
+impl<'a> Iterator for Iter<'a> {
+    ghost use Rattle.std.specs.Iterator.{YieldsFirstBy, item_count};
+    ghost use Rattle.argon2_base.specs.Ident.{shown_pair};
+
+    type Item = (Ident, Value<'a>);
+
+    ghost next_gives = { YieldsFirstBy shown_pair (λ s. s) };
+
+    ghost remaining = { item_count (λ s. s) };
+
+    fn next(&mut self) -> Option<(Ident, Value<'a>)> {
+        let (item, rest) = first_item(self.rest?);
+        let Some((name, value)) = split_item(item) else {
+            unreachable!();
+        };
+        let Ok(name) = Ident::new(name) else {
+            unreachable!();
+        };
+        self.rest = rest;
+        Some((name, Value { text: value }))
+    }
+}
+
+fn is_param_text(name: &str, value: &str) -> bool
+    ensures { result ≡ is_param (name.now, value.now) }
+{
+    is_name_text(name) && name != "v" && is_value_text(value)
+}
+
+// Appends an item, where it fits.
+fn push_item(text: &mut ArrayString<127>, name: &str, value: &str) -> bool
+    requires name_fits { length name.now ≤ 32 }
+    requires value_fits { length value.now ≤ 64 }
+    ensures when { result ≡ nat_le (length (with_item text.old.bytes (name.now, value.now))) 127 }
+    ensures yes { IsTrue result → text.new.bytes ≡ with_item text.old.bytes (name.now, value.now) }
+    ensures no { result ≡ false → text.new ≡ text.old }
+{
+    let comma = if text.is_empty() { "" } else { "," };
+    if text.remaining_capacity() < comma.len() + name.len() + 1 + value.len() {
+        return false;
+    }
+    text.push_str(comma);
+    text.push_str(name);
+    text.push_str("=");
+    text.push_str(value);
+    true
+}
+
+// The text up to the first `,`, and what follows that.
+fn first_item(text: &str) -> (&str, Option<&str>)
+    ensures items { items_of text.now ≡ result.0.now ∷ items_left result.1 }
+    ensures shorter { IfSome result.1 (λ rest. length rest.now < length text.now) }
+{
+    match text.split_once(',') {
+        Some((item, rest)) => (item, Some(rest)),
+        None => (text, None),
+    }
+}
+
+// The name and the value of an item.
+pub(super) fn split_item(text: &str) -> Option<(&str, &str)>
+    ensures found { IfSome result (λ x. (pair_of text.now ≡ (x.0.now, x.1.now))
+        × (text.now ≡ item (x.0.now, x.1.now))) }
+    ensures none { IfNone result ((p : Pair) → text.now ≢ item p) }
+{
+    text.split_once('=')
+}
