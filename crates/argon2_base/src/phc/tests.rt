@@ -185,19 +185,19 @@ fn lists(rt: HostRuntime) -> Result<(), Fail> {
 #[test]
 fn values(rt: HostRuntime) -> Result<(), Fail> {
     let list = "a=0,b=08,c=4294967295,d=4294967296".parse::<ParamsString>()?;
-    let wanted = [
-        Ok(0),
-        Err(Error::ParamsInvalid),
-        Ok(u32::MAX),
-        Err(Error::ParamsInvalid),
-    ];
-    let mut count = 0;
-    for ((name, value), number) in list.iter().zip(wanted) {
+    let mut items = list.iter();
+    for (name, number) in [
+        ("a", Ok(0)),
+        ("b", Err(Error::ParamsInvalid)),
+        ("c", Ok(u32::MAX)),
+        ("d", Err(Error::ParamsInvalid)),
+    ] {
+        let (key, value) = items.next().expect(&rt, "an item is left");
+        assert_eq!(rt; key.as_str(), name);
         assert_eq!(rt; value.decimal(), number);
-        assert_eq!(rt; list.get(name.as_str()).map(|v| v.decimal()), Some(number));
-        count += 1;
+        assert_eq!(rt; list.get(name).map(|v| v.decimal()), Some(number));
     }
-    assert_eq!(rt; count, 4);
+    assert!(rt; items.next().is_none());
     assert!(rt; list.get("e").is_none());
     assert_eq!(rt; list.get("b").map(|v: Value| v.as_str()), Some("08"));
     Ok(())
