@@ -55,162 +55,92 @@ fn counts_the_mixings_of_the_known_tags(rt: HostRuntime) -> Result<(), Fail> {
     Ok(())
 }
 
-// The version, the memory cost, passes and lanes; and for each algorithm how often blocks are mixed
-// for a tag of 32 bytes of `password` and `somesalt`, and the digest of all places where those of
+// The algorithm's number, the version, the memory cost, passes and lanes; how often blocks are mixed
+// for a tag of 32 bytes of `password` and `somesalt`; and the digest of all places, where those of
 // the first two columns are 4294967295.
-type Row = (Version, u32, u32, u32, [(Algorithm, u128, u64); 3]);
+type Row = (u32, u32, u32, u32, u32, u128, u64);
 
-const ROWS: [Row; 8] = [
-    (
-        Version::V0x13,
-        8,
-        1,
-        1,
-        [
-            (Algorithm::Argon2d, 6, 0xfcf9509d0b66e675),
-            (Algorithm::Argon2id, 10, 0x544e5c94b0436334),
-            (Algorithm::Argon2i, 14, 0x4bb94294ab6cb266),
-        ],
-    ),
-    (
-        Version::V0x10,
-        16,
-        1,
-        2,
-        [
-            (Algorithm::Argon2d, 12, 0x21ffbff2f73a4c7c),
-            (Algorithm::Argon2id, 20, 0xf76e2fe24f203a38),
-            (Algorithm::Argon2i, 28, 0xad07d65250efbfd4),
-        ],
-    ),
-    (
-        Version::V0x13,
-        24,
-        1,
-        2,
-        [
-            (Algorithm::Argon2d, 20, 0x13928f02f56c4b34),
-            (Algorithm::Argon2id, 28, 0x06d898af850936b7),
-            (Algorithm::Argon2i, 36, 0x0251ac420ed0ae39),
-        ],
-    ),
-    (
-        Version::V0x10,
-        33,
-        1,
-        2,
-        [
-            (Algorithm::Argon2d, 28, 0x9131b215fa7742a5),
-            (Algorithm::Argon2id, 36, 0x63d3c18207bf5113),
-            (Algorithm::Argon2i, 44, 0x1514966d1cb34bd3),
-        ],
-    ),
-    (
-        Version::V0x13,
-        40,
-        3,
-        1,
-        [
-            (Algorithm::Argon2d, 118, 0x09af18b2e51b7f75),
-            (Algorithm::Argon2id, 122, 0x795497b9be045443),
-            (Algorithm::Argon2i, 142, 0xba8bdb7ed3929780),
-        ],
-    ),
-    (
-        Version::V0x10,
-        48,
-        2,
-        3,
-        [
-            (Algorithm::Argon2d, 90, 0x21e5942deb913fd2),
-            (Algorithm::Argon2id, 102, 0x573e377d0556e772),
-            (Algorithm::Argon2i, 138, 0x78e1811420150e91),
-        ],
-    ),
-    (
-        Version::V0x13,
-        512,
-        1,
-        1,
-        [
-            (Algorithm::Argon2d, 510, 0x129eb807e62790f6),
-            (Algorithm::Argon2id, 514, 0x51c90c2448e4c82e),
-            (Algorithm::Argon2i, 518, 0x24a5f834c3e44a53),
-        ],
-    ),
-    (
-        Version::V0x10,
-        516,
-        1,
-        1,
-        [
-            (Algorithm::Argon2d, 514, 0x2eb8cb09fe66d52b),
-            (Algorithm::Argon2id, 522, 0x2843c12dffa59454),
-            (Algorithm::Argon2i, 530, 0xc23e9593ef105499),
-        ],
-    ),
+const ROWS: [Row; 24] = [
+    (0, 19, 8, 1, 1, 6, 0xfcf9509d0b66e675),
+    (2, 19, 8, 1, 1, 10, 0x544e5c94b0436334),
+    (1, 19, 8, 1, 1, 14, 0x4bb94294ab6cb266),
+    (0, 16, 16, 1, 2, 12, 0x21ffbff2f73a4c7c),
+    (2, 16, 16, 1, 2, 20, 0xf76e2fe24f203a38),
+    (1, 16, 16, 1, 2, 28, 0xad07d65250efbfd4),
+    (0, 19, 24, 1, 2, 20, 0x13928f02f56c4b34),
+    (2, 19, 24, 1, 2, 28, 0x06d898af850936b7),
+    (1, 19, 24, 1, 2, 36, 0x0251ac420ed0ae39),
+    (0, 16, 33, 1, 2, 28, 0x9131b215fa7742a5),
+    (2, 16, 33, 1, 2, 36, 0x63d3c18207bf5113),
+    (1, 16, 33, 1, 2, 44, 0x1514966d1cb34bd3),
+    (0, 19, 40, 3, 1, 118, 0x09af18b2e51b7f75),
+    (2, 19, 40, 3, 1, 122, 0x795497b9be045443),
+    (1, 19, 40, 3, 1, 142, 0xba8bdb7ed3929780),
+    (0, 16, 48, 2, 3, 90, 0x21e5942deb913fd2),
+    (2, 16, 48, 2, 3, 102, 0x573e377d0556e772),
+    (1, 16, 48, 2, 3, 138, 0x78e1811420150e91),
+    (0, 19, 512, 1, 1, 510, 0x129eb807e62790f6),
+    (2, 19, 512, 1, 1, 514, 0x51c90c2448e4c82e),
+    (1, 19, 512, 1, 1, 518, 0x24a5f834c3e44a53),
+    (0, 16, 516, 1, 1, 514, 0x2eb8cb09fe66d52b),
+    (2, 16, 516, 1, 1, 522, 0x2843c12dffa59454),
+    (1, 16, 516, 1, 1, 530, 0xc23e9593ef105499),
 ];
+
+// The algorithm of a number.
+fn algorithm_of(number: u32) -> Algorithm {
+    match number {
+        0 => Algorithm::Argon2d,
+        1 => Algorithm::Argon2i,
+        _ => Algorithm::Argon2id,
+    }
+}
 
 #[test]
 fn tells_all_places_under_small_costs(rt: HostRuntime) -> Result<(), Fail> {
     let mut memory = Vec::from_elem(rt.alloc(), Block::new(), 516)?;
-    for &(version, m_cost, t_cost, p_cost, ref answers) in &ROWS {
+    for row in &ROWS {
+        let &(algorithm, version, m_cost, t_cost, p_cost, mixes, digest) = row;
         let mut builder = ParamsBuilder::new();
         builder.m_cost(m_cost).t_cost(t_cost).p_cost(p_cost);
-        for &(algorithm, mixes, digest) in answers {
-            let argon2 = builder.context(algorithm, version)?;
-            let mut places = Vec::from_elem(rt.alloc(), u32::MAX, place_count(&argon2)?)?;
-            let work = argon2.hash_password_into_watched(
-                b"password",
-                b"somesalt",
-                &mut [0; 32],
-                memory.as_mut_slice(),
-                places.as_mut_slice(),
-            )?;
-            assert_eq!(rt;
-                work.mixes(),
-                mixes,
-                "{algorithm} {m_cost} {t_cost} {p_cost}"
-            );
-            assert_eq!(rt;
-                digest_of(&places),
-                digest,
-                "{algorithm} {m_cost} {t_cost} {p_cost}"
-            );
-        }
+        let argon2 = builder.context(algorithm_of(algorithm), Version::try_from(version)?)?;
+        let mut places = Vec::from_elem(rt.alloc(), u32::MAX, place_count(&argon2)?)?;
+        let work = argon2.hash_password_into_watched(
+            b"password",
+            b"somesalt",
+            &mut [0; 32],
+            memory.as_mut_slice(),
+            places.as_mut_slice(),
+        )?;
+        assert_eq!(rt; work.mixes(), mixes, "at {row:?}");
+        assert_eq!(rt; digest_of(&places), digest, "at {row:?}");
     }
     Ok(())
 }
 
-// The places of all references of a hash of a password with the known inputs.
-fn places_of(
-    argon2: &Argon2<'_>,
-    pwd: &[u8],
-    places: &mut [u32; 96],
-    memory: &mut [Block],
-) -> Result<(), Fail> {
+// The places of all references of a hash with the known inputs beside the password.
+fn known_places(argon2: &Argon2<'_>, pwd: &[u8], memory: &mut [Block]) -> Result<[u32; 96], Fail> {
+    let mut places = [0; 96];
     if place_count(argon2)? != places.len() {
         return Err("another number of places".into());
     }
-    argon2.hash_password_into_watched(pwd, &SALT, &mut [0; 32], memory, places)?;
-    Ok(())
+    argon2.hash_password_into_watched(pwd, &SALT, &mut [0; 32], memory, &mut places)?;
+    Ok(places)
 }
 
 #[test]
 fn tells_the_same_places_for_other_passwords(rt: HostRuntime) -> Result<(), Fail> {
     let mut memory = Vec::from_elem(rt.alloc(), Block::new(), 32)?;
-    for (algorithm, places_alike) in [(Algorithm::Argon2i, 96), (Algorithm::Argon2id, 16)] {
+    for algorithm in [Algorithm::Argon2i, Algorithm::Argon2id] {
         let argon2 = known(algorithm, Version::V0x13)?;
-        let mut one = [0; 96];
-        let mut other = [0; 96];
-        places_of(&argon2, &PWD, &mut one, memory.as_mut_slice())?;
-        places_of(&argon2, b"password", &mut other, memory.as_mut_slice())?;
-        // each lane of 8 columns has its first two slices in columns 0 to 3
-        let alike = (0..96usize)
-            .filter(|&n| (n < 32 && n % 8 < 4 || algorithm == Algorithm::Argon2i)
-                && one[n] == other[n])
-            .count();
-        assert_eq!(rt; alike, places_alike, "{algorithm}");
+        let one = known_places(&argon2, &PWD, memory.as_mut_slice())?;
+        let other = known_places(&argon2, b"password", memory.as_mut_slice())?;
+        for (n, (place, beside)) in one.iter().zip(other.iter()).enumerate() {
+            // in pass 0 columns 0 to 3 of each lane are slices 0 and 1
+            if algorithm == Algorithm::Argon2i || (n < 32 && n % 8 < 4) {
+                assert_eq!(rt; place, beside, "{algorithm} {n}");
+            }
+        }
     }
     Ok(())
 }
