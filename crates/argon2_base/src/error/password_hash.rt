@@ -1,7 +1,7 @@
 //! The faults of calls on passwords and PHC texts.
 
-ghost use Rattle.std.specs.Prelude.{Some};
-ghost use Rattle.argon2_base.specs.Error.{hash_error_text, IsHashErrorOf};
+ghost use Rattle.std.specs.Prelude.{◌≡◌, Some};
+ghost use Rattle.argon2_base.specs.Error.{hash_error_text, fault_of, as_fault};
 
 use super::Error as HashingError;
 use std::fmt;
@@ -56,7 +56,7 @@ impl fmt::Display for Error {
 impl std::error::Error for Error {}
 
 impl From<HashingError> for Error {
-    ghost from_gives = { IsHashErrorOf };
+    ghost from_gives = { λ error e. fault_of e ≡ as_fault error };
 
     fn from(error: HashingError) -> Error {
         match error {
