@@ -6,7 +6,7 @@ use Rattle.std.specs.Fmt.{decimal}
 use Rattle.argon2_base.specs.Base64.{IsBytes, strict_base64}
 use Rattle.argon2_base.proofs.Base64Lemmas.{decode_of-strict_base64}
 use Rattle.argon2_base.proofs.DecimalLemmas.{number_again}
-use Rattle.argon2.specs.ListedParameters.{bytes_of, listed, params_of, unsized}
+use Rattle.argon2.specs.ListedParameters.{short_bytes, listed, params_of, unsized}
 use Rattle.argon2.specs.Parameters.{first_fault}
 use Rattle.argon2.proofs.ReadBytes.{bytes_of_short}
 
@@ -14,7 +14,7 @@ use Rattle.argon2.proofs.ReadBytes.{bytes_of_short}
 pub valid_without : (m t p : ℕ) (o : Option ℕ) → IsNone (first_fault m t p o) → first_fault m t p None ≡ None
 valid_without m t p o valid = grind (arith, nat_tests)
 
-bytes_again : (most : ℕ) (b : List ℕ) → IsBytes b → length b ≤ most → bytes_of most (strict_base64 b) ≡ Some b
+bytes_again : (most : ℕ) (b : List ℕ) → IsBytes b → length b ≤ most → short_bytes most (strict_base64 b) ≡ Some b
 bytes_again most b bytes short = bytes_of_short most (strict_base64 b) b (decode_of-strict_base64 b bytes) short
 
 -- the parameters that were listed

@@ -3,7 +3,6 @@ pub mod Argon2
 pub mod ByteLists
 pub mod Context
 pub mod Counting
-pub mod Faults
 pub mod InitialHash
 pub mod Laws
 pub mod ListedParameters

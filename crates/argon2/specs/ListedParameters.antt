@@ -9,7 +9,7 @@ use Rattle.argon2_base.specs.Base64.{strict_base64}
 use Rattle.argon2_base.specs.Decimal.{number_of}
 use Rattle.argon2_base.specs.ParamsText.{Pair, value_of}
 use Rattle.argon2_base.specs.declared.error.Error.{Error}
-use Rattle.argon2.specs.Faults.{Fault, bad_param, bad_params, as_fault}
+use Rattle.argon2_base.specs.Error.{Fault, bad_param, bad_params, as_fault}
 use Rattle.argon2.specs.Parameters.{Parameters, first_fault}
 
 -- bytes under a name, where there are any
@@ -30,8 +30,8 @@ list_of v = listed v.m_cost v.t_cost v.p_cost v.keyid v.associated
 -- ---- reading
 
 -- the bytes, at most so many, whose strict Base64 the text is
-abbrev pub bytes_of : ℕ → List ℕ → Option (List ℕ)
-bytes_of most text =
+abbrev pub short_bytes : ℕ → List ℕ → Option (List ℕ)
+short_bytes most text =
     option_and_then (λ b. if nat_le (length b) most then Some b else None) (decoded_of standard_no_pad text)
 
 -- a value that can't be read is a fault of its parameter
@@ -45,8 +45,8 @@ item_fault p =
     if bytes_eq p.0 (codes "m") then unless_read (number_of p.1) (codes "m")
     else if bytes_eq p.0 (codes "t") then unless_read (number_of p.1) (codes "t")
     else if bytes_eq p.0 (codes "p") then unless_read (number_of p.1) (codes "p")
-    else if bytes_eq p.0 (codes "keyid") then unless_read (bytes_of 8 p.1) (codes "keyid")
-    else if bytes_eq p.0 (codes "data") then unless_read (bytes_of 32 p.1) (codes "data")
+    else if bytes_eq p.0 (codes "keyid") then unless_read (short_bytes 8 p.1) (codes "keyid")
+    else if bytes_eq p.0 (codes "data") then unless_read (short_bytes 32 p.1) (codes "data")
     else Some bad_params
 
 -- the fault of the first item that is refused
@@ -59,7 +59,7 @@ abbrev pub number_at : List ℕ → List Pair → Option ℕ
 number_at name ps = option_and_then number_of (value_of name ps)
 
 abbrev pub bytes_at : ℕ → List ℕ → List Pair → List ℕ
-bytes_at most name ps = unwrap_or (option_and_then (bytes_of most) (value_of name ps)) []
+bytes_at most name ps = unwrap_or (option_and_then (short_bytes most) (value_of name ps)) []
 
 -- refused by the fault, if there is one
 abbrev pub checked : {X : Type 0} → Option Fault → Result X Fault → Result X Fault

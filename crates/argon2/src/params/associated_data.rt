@@ -17,7 +17,7 @@ pub struct AssociatedData {
 impl AssociatedData {
     ghost use Rattle.std.specs.Option.{option_map};
     ghost use Rattle.std.specs.Result.{result_ok};
-    ghost use Rattle.argon2.specs.ListedParameters.{bytes_of};
+    ghost use Rattle.argon2.specs.ListedParameters.{short_bytes};
     ghost use Rattle.argon2.specs.ByteLists.{data_bytes, IsAssociatedDataOf, IsAssociatedDataOfText};
 
     /// The most bytes of associated data.
@@ -49,7 +49,7 @@ impl AssociatedData {
     /// `InvalidEncoding` where it is the Base64 of no bytes.
     pub fn from_b64(text: &str) -> Result<AssociatedData>
         ensures text { IsAssociatedDataOfText text.now result }
-        ensures read { option_map data_bytes (result_ok result) ≡ bytes_of 32 text.now }
+        ensures read { option_map data_bytes (result_ok result) ≡ short_bytes 32 text.now }
     {
         let bytes = ByteList::from_b64(text)?;
         Ok(AssociatedData { bytes })

@@ -21,7 +21,7 @@ pub(crate) struct ByteList<const N: usize> {
 impl<const N: usize> ByteList<N> {
     ghost use Rattle.std.specs.Prelude.{◌≡◌, ◌≤◌, ◌<◌, ◌+◌, ◌*◌, ◌^◌, length, MatchOption};
     ghost use Rattle.argon2.specs.ByteLists.{IsListOfText, list_bytes};
-    ghost use Rattle.argon2.specs.ListedParameters.{bytes_of};
+    ghost use Rattle.argon2.specs.ListedParameters.{short_bytes};
     ghost use Rattle.std.specs.Option.{option_map};
     ghost use Rattle.std.specs.Result.{result_ok};
 
@@ -44,7 +44,7 @@ impl<const N: usize> ByteList<N> {
     pub(crate) fn from_b64(text: &str) -> Result<Self, B64Error>
         requires { 4 * N + 2 < 2 ^ 64 }
         ensures text { IsListOfText text.now result }
-        ensures read { option_map list_bytes (result_ok result) ≡ bytes_of N text.now }
+        ensures read { option_map list_bytes (result_ok result) ≡ short_bytes N text.now }
     {
         if text.len() > (4 * N + 2) / 3 {
             return Err(B64Error::InvalidLength);

@@ -17,7 +17,7 @@ pub struct KeyId {
 impl KeyId {
     ghost use Rattle.std.specs.Option.{option_map};
     ghost use Rattle.std.specs.Result.{result_ok};
-    ghost use Rattle.argon2.specs.ListedParameters.{bytes_of};
+    ghost use Rattle.argon2.specs.ListedParameters.{short_bytes};
     ghost use Rattle.argon2.specs.ByteLists.{keyid_bytes, IsKeyIdOf, IsKeyIdOfText};
 
     /// The most bytes of a key identifier.
@@ -49,7 +49,7 @@ impl KeyId {
     /// `InvalidEncoding` where it is the Base64 of no bytes.
     pub fn from_b64(text: &str) -> Result<KeyId>
         ensures text { IsKeyIdOfText text.now result }
-        ensures read { option_map keyid_bytes (result_ok result) ≡ bytes_of 8 text.now }
+        ensures read { option_map keyid_bytes (result_ok result) ≡ short_bytes 8 text.now }
     {
         let bytes = ByteList::from_b64(text)?;
         Ok(KeyId { bytes })

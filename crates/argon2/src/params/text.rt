@@ -4,7 +4,7 @@ ghost use Rattle.std.specs.Prelude.{◌≡◌, ◌≤◌, ◌++◌, ℕ, IsTrue,
 ghost use Rattle.argon2_base.specs.Decimal.{number_of};
 ghost use Rattle.argon2_base.specs.ParamsText.{are_params};
 ghost use Rattle.argon2_base.specs.declared.error.password_hash.Error.TheVariants.{ParamsInvalid};
-ghost use Rattle.argon2.specs.Faults.{fault_of, bad_param};
+ghost use Rattle.argon2_base.specs.Error.{fault_of, bad_param};
 ghost use Rattle.argon2.specs.ListedParameters.{bytes_item, listed, item_fault, items_fault, number_at, params_of, unsized};
 ghost use Rattle.argon2.specs.Parameters.{first_fault};
 
@@ -155,7 +155,7 @@ fn cost(list: &ParamsString, name: &str) -> Result<u32>
 impl Params {
     ghost use Rattle.std.specs.Prelude.{◌≡◌, ℕ, Option, codes};
     ghost use Rattle.argon2.specs.ByteLists.{keyid_bytes, data_bytes};
-    ghost use Rattle.argon2.specs.Faults.{answer_of};
+    ghost use Rattle.argon2_base.specs.Error.{outcome_of};
     ghost use Rattle.argon2.specs.ListedParameters.{bytes_at, params_of};
     ghost use Rattle.argon2.specs.Params.{parameters_of};
 
@@ -183,7 +183,7 @@ impl Params {
 
     // The parameters of a list, with this output length.
     fn listed(list: &ParamsString, output_len: Option<usize>) -> Result<Params>
-        ensures { answer_of parameters_of result ≡ params_of output_len list.now }
+        ensures { outcome_of parameters_of result ≡ params_of output_len list.now }
     {
         check_items(list)?;
         let m = cost(list, "m")?;
