@@ -1,42 +1,66 @@
 //! The commands, as the program's arguments spell them.
 
-ghost use Rattle.std.specs.Prelude.{◌≡◌, ℕ, ◌<◌, ◌^◌, List, ◌∷◌, Some, IfSome, IsSome, map, string_bytes};
+ghost use Rattle.std.specs.Prelude.{◌≡◌, ℕ, ◌<◌, ◌^◌, Some, IfSome, IsSome, map, string_bytes};
 ghost use Rattle.std.specs.Fmt.{decimal};
-ghost use Rattle.argon2_tool.specs.Commands.{Spells, SpellsTag};
+ghost use Rattle.argon2_tool.specs.Commands.{Spells};
+
+/// What a hash is asked for under: an algorithm by its name, a version by its number, and costs. None
+/// of them is checked yet.
+#[derive(Clone, Copy, Debug)]
+pub struct Settings<'a> {
+    pub algorithm: &'a str,
+    pub version: u32,
+    pub m_cost: u32,
+    pub t_cost: u32,
+    pub p_cost: u32,
+}
+
+impl<'a> Settings<'a> {
+    ghost use Rattle.std.specs.Prelude.{◌≡◌, [], ◌∷◌, IfSome, IsSome};
+    ghost use Rattle.argon2_tool.specs.Commands.{IsSettings, settings_words};
+
+    // The settings that five words spell, if they spell any.
+    fn parsed(
+        algorithm: &'a str,
+        version: &str,
+        m_cost: &str,
+        t_cost: &str,
+        p_cost: &str,
+    ) -> Option<Settings<'a>>
+        ensures found { IfSome result (λ s. IsSettings s × (settings_words s
+            ≡ algorithm.now ∷ version.now ∷ m_cost.now ∷ t_cost.now ∷ p_cost.now ∷ [])) }
+        ensures only { (s : Settings) → IsSettings s
+            → settings_words s ≡ algorithm.now ∷ version.now ∷ m_cost.now ∷ t_cost.now ∷ p_cost.now ∷ []
+            → IsSome result }
+    {
+        Some(Settings {
+            algorithm,
+            version: decimal(version)?,
+            m_cost: decimal(m_cost)?,
+            t_cost: decimal(t_cost)?,
+            p_cost: decimal(p_cost)?,
+        })
+    }
+}
 
 /// What the program is asked for.
-#[derive(Clone, Copy, Debug, PartialEq, Eq)]
+#[derive(Clone, Copy, Debug)]
 pub enum Command<'a> {
     /// `digest N`: the BLAKE2b digest of N bytes, 1 to 64.
     Digest(u32),
     /// `long N`: the variable-length hash of N bytes, at most 1024.
     Long(u32),
-    /// `tag ALG VER M T P LEN SALT`: the tag of a password.
-    Tag(TagRequest<'a>),
+    /// `tag ALG VER M T P LEN SALT`: the tag of LEN bytes, at most 1024, of a password.
+    Tag(Settings<'a>, u32, &'a str),
 }
 
-/// A tag of `len` bytes, at most 1024, with no secret and no associated data.
-#[derive(Clone, Copy, Debug, PartialEq, Eq)]
-pub struct TagRequest<'a> {
-    /// The algorithm's name, if it is one.
-    pub algorithm: &'a str,
-    /// The version's number, if it is one.
-    pub version: u32,
-    /// The memory cost in blocks.
-    pub m_cost: u32,
-    /// The number of passes.
-    pub t_cost: u32,
-    /// The number of lanes.
-    pub p_cost: u32,
-    /// The length of the tag in bytes.
-    pub len: u32,
-    /// The salt's text.
-    pub salt: &'a str,
-}
+impl<'a> Command<'a> {
+    ghost use Rattle.std.specs.Prelude.{[], ◌∷◌, codes, IfSome, IsSome, map, string_bytes};
+    ghost use Rattle.argon2_tool.specs.declared.arguments.Command.{Command};
+    ghost use Rattle.argon2_tool.specs.Commands.{Spells};
 
-impl Command<'_> {
     /// The command that the arguments spell, if they spell one.
-    pub fn parsed(args: &[String]) -> Option<Command<'_>>
+    pub fn parsed(args: &'a [String]) -> Option<Command<'a>>
         ensures found { IfSome result (λ command. Spells (map string_bytes args.now) command) }
         ensures only { (command : Command) → Spells (map string_bytes args.now) command → IsSome result }
     {
@@ -50,54 +74,41 @@ impl Command<'_> {
                 len if len <= 1024 => Some(Command::Long(len)),
                 _ => None,
             },
-            ("tag", values) => Some(Command::Tag(tag_request(values)?)),
+            ("tag", [algorithm, version, m_cost, t_cost, p_cost, len, salt]) => Command::tag(
+                algorithm.as_str(),
+                version.as_str(),
+                m_cost.as_str(),
+                t_cost.as_str(),
+                p_cost.as_str(),
+                len.as_str(),
+                salt.as_str(),
+            ),
             _ => None,
         }
     }
-}
 
-// What the values of `tag` ask for.
-fn tag_request(values: &[String]) -> Option<TagRequest<'_>>
-    ensures found { IfSome result (λ request. SpellsTag (map string_bytes values.now) request) }
-    ensures only { (request : TagRequest) → SpellsTag (map string_bytes values.now) request → IsSome result }
-{
-    let (algorithm, rest) = values.split_first()?;
-    let (version, rest) = first_number(rest)?;
-    let (m_cost, rest) = first_number(rest)?;
-    let (t_cost, rest) = first_number(rest)?;
-    let (p_cost, rest) = first_number(rest)?;
-    let (len, rest) = first_number(rest)?;
-    let (salt, rest) = rest.split_first()?;
-    if len > 1024 {
-        return None;
+    // The command that `tag` and seven words spell, if they spell one.
+    fn tag(
+        algorithm: &'a str,
+        version: &str,
+        m_cost: &str,
+        t_cost: &str,
+        p_cost: &str,
+        len: &str,
+        salt: &'a str,
+    ) -> Option<Command<'a>>
+        ensures found { IfSome result (Spells (codes "tag" ∷ algorithm.now ∷ version.now ∷ m_cost.now
+            ∷ t_cost.now ∷ p_cost.now ∷ len.now ∷ salt.now ∷ [])) }
+        ensures only { (command : Command) → Spells (codes "tag" ∷ algorithm.now ∷ version.now ∷ m_cost.now
+            ∷ t_cost.now ∷ p_cost.now ∷ len.now ∷ salt.now ∷ []) command → IsSome result }
+    {
+        let settings = Settings::parsed(algorithm, version, m_cost, t_cost, p_cost)?;
+        let len = decimal(len)?;
+        if len > 1024 {
+            return None;
+        }
+        Some(Command::Tag(settings, len, salt))
     }
-    if !rest.is_empty() {
-        return None;
-    }
-    Some(TagRequest {
-        algorithm: algorithm.as_str(),
-        version,
-        m_cost,
-        t_cost,
-        p_cost,
-        len,
-        salt: salt.as_str(),
-    })
-}
-
-// The number that the first word spells, and the words after it.
-fn first_number(words: &[String]) -> Option<(u32, &[String])>
-    ensures found { IfSome result (λ first.
-        map string_bytes words.now ≡ decimal first.0 ∷ map string_bytes first.1.now) }
-    ensures small { IfSome result (λ first. first.0 < 2 ^ 32) }
-    ensures only { (n : ℕ) (rest : List (List ℕ)) → n < 2 ^ 32
-        → map string_bytes words.now ≡ decimal n ∷ rest → IsSome result }
-    ensures same { (n : ℕ) (rest : List (List ℕ)) → n < 2 ^ 32
-        → map string_bytes words.now ≡ decimal n ∷ rest → IfSome result (λ first.
-        (first.0 ≡ n) × (map string_bytes first.1.now ≡ rest)) }
-{
-    let (word, rest) = words.split_first()?;
-    Some((decimal(word.as_str())?, rest))
 }
 
 /// The number that a decimal spells: no sign, and no zero in front of other digits.

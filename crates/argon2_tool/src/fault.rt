@@ -2,7 +2,7 @@
 
 ghost use Rattle.std.specs.Prelude.{◌≡◌, ◌≢◌};
 ghost use Rattle.std.specs.IoError.{error_kind};
-ghost use Rattle.argon2_tool.specs.Faults.{IsOfReading, IsMemory};
+ghost use Rattle.argon2_tool.specs.Faults.{IsOfReading, IsMemory, IsOfHashing};
 
 use std::alloc::AllocError;
 use std::io;
@@ -36,5 +36,17 @@ pub fn of_reading(error: &io::Error) -> Fault
         Fault::Memory(AllocError)
     } else {
         Fault::Input
+    }
+}
+
+/// Want of memory is told as such, whoever met it.
+impl From<argon2::Error> for Fault {
+    ghost from_gives = { IsOfHashing };
+
+    fn from(error: argon2::Error) -> Fault {
+        match error {
+            argon2::Error::OutOfMemory => Fault::Memory(AllocError),
+            error => Fault::Hashing(error),
+        }
     }
 }

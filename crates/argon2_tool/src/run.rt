@@ -1,20 +1,18 @@
 //! The program over any streams.
 
-ghost use Rattle.std.specs.Prelude.{◌≡◌, ◌↔◌, ◌⊎◌, ℕ, ◌+◌, ◌*◌, ◌<◌, ◌≤◌, ◌^◌, List, [], ◌∷◌, ◌++◌, IfSome, IfOk, OnOk, IfErr, IsOkAnd, MatchResult, Ok, None, map, string_bytes};
+ghost use Rattle.std.specs.Prelude.{◌≡◌, ◌↔◌, ◌⊎◌, ℕ, ◌+◌, ◌*◌, ◌<◌, ◌≤◌, ◌^◌, List, [], ◌∷◌, ◌++◌, IfSome, IfOk, OnOk, IfErr, IsOkAnd, Ok, map, string_bytes};
 ghost use Rattle.std.specs.Io.KnownBytes.{Appends, Keeps};
 ghost use Rattle.hex.specs.Hex.{encode_lower};
 ghost use Rattle.argon2_base.specs.Blake2b.{blake2b};
 ghost use Rattle.argon2_base.specs.Hasher.{Holds};
-ghost use Rattle.argon2_tool.specs.Commands.{IsCommand, Spells, answer_of, IsAnswered};
-ghost use Rattle.argon2_tool.specs.Faults.{IsOfReading, IsBeforeWriting, IsOfHashing};
-ghost use Rattle.argon2_tool.specs.Tags.{context_answer, tag_answer};
-ghost use Rattle.argon2.specs.Argon2.{context_of, own_parameters};
+ghost use Rattle.argon2_tool.specs.Commands.{IsAsked, IsCommand, Spells, answer_of, context_asked, tag_answer, IsAnswered};
+ghost use Rattle.argon2_tool.specs.Faults.{IsOfReading, IsBeforeWriting, IsRefusal};
 
-use crate::arguments::{Command, TagRequest};
+use crate::arguments::{Command, Settings};
 use crate::fault::{Fault, of_reading};
 use argon2::blake2b::Blake2b;
 use argon2::blake2b_long::blake2b_long;
-use argon2::{Algorithm, Argon2, Block, Params, Version};
+use argon2::{Algorithm, Argon2, Params, Version};
 use std::alloc::Global;
 use std::io::{ErrorKind, Read, Write};
 
@@ -47,7 +45,7 @@ pub fn run<R: Read, W: Write, E: Write>(
         let _ = writeln!(errors, "{USAGE}");
         return 2;
     };
-    match answer(alloc, command, input, output) {
+    match answer(alloc, &command, input, output) {
         Ok(()) => 0,
         Err(fault) => fail(errors, fault),
     }
@@ -64,20 +62,20 @@ pub fn fail<E: Write>(errors: &mut E, fault: Fault) -> u8
 // Writes the answer of a command to `output`, as a line.
 fn answer<R: Read, W: Write>(
     alloc: Global,
-    command: Command<'_>,
+    command: &Command<'_>,
     input: &mut R,
     output: &mut W,
 ) -> Result<(), Fault>
-    requires { IsCommand command }
-    ensures ok { OnOk result (IsAnswered command.entry (R.remaining input.old)
+    requires { IsCommand command.now }
+    ensures ok { OnOk result (IsAnswered command.now (R.remaining input.old)
         (W.contents output.old) (W.contents output.new)) }
     ensures err { IfErr result (λ fault. (fault ≡ Fault.Output)
-        ⊎ (IsBeforeWriting command.entry (R.remaining input.old) fault × Keeps (W.contents output.old) (W.contents output.new))) }
+        ⊎ (IsBeforeWriting (answer_of command.now) (R.remaining input.old) fault × Keeps (W.contents output.old) (W.contents output.new))) }
 {
-    let text = match command {
+    let text = match *command {
         Command::Digest(len) => digest(alloc, len as usize, input)?,
         Command::Long(len) => long(alloc, len as usize, input)?,
-        Command::Tag(request) => tag(alloc, &request, input)?,
+        Command::Tag(settings, len, salt) => tag(alloc, &settings, len as usize, salt, input)?,
     };
     write_line(output, text.as_str())
 }
@@ -138,7 +136,7 @@ fn long<R: Read>(alloc: Global, len: usize, input: &mut R) -> Result<String, Fau
     requires { len ≤ 1024 }
     ensures ok { IfOk result (λ text. IfSome (R.remaining input.old)
         (λ message. answer_of (Command.Long len) message ≡ Ok (string_bytes text))) }
-    ensures err { IfErr result (IsBeforeWriting (Command.Long len) (R.remaining input.old)) }
+    ensures err { IfErr result (IsBeforeWriting (answer_of (Command.Long len)) (R.remaining input.old)) }
 {
     let message = read_all(alloc, input)?;
     let mut out = vec![in alloc; 0u8; len].map_err(Fault::Memory)?;
@@ -146,48 +144,49 @@ fn long<R: Read>(alloc: Global, len: usize, input: &mut R) -> Result<String, Fau
     hex::encode(alloc, out.as_slice()).map_err(Fault::Memory)
 }
 
-// The tag of the input as a password, in hex.
-fn tag<R: Read>(alloc: Global, request: &TagRequest<'_>, input: &mut R) -> Result<String, Fault>
-    requires { request.now.len ≤ 1024 }
-    ensures ok { IfOk result (λ text. IfSome (R.remaining input.old)
-        (λ password. answer_of (Command.Tag request.now) password ≡ Ok (string_bytes text))) }
-    ensures err { IfErr result (IsBeforeWriting (Command.Tag request.now) (R.remaining input.old)) }
+// The tag of the input as a password, of `len` bytes, in hex.
+fn tag<R: Read>(
+    alloc: Global,
+    settings: &Settings<'_>,
+    len: usize,
+    salt: &str,
+    input: &mut R,
+) -> Result<String, Fault>
+    ensures ok { IfOk result (λ text. IfSome (R.remaining input.old) (λ password.
+        tag_answer (context_asked settings.now) len salt.now password ≡ Ok (string_bytes text))) }
+    ensures err { IfErr result (IsBeforeWriting
+        (tag_answer (context_asked settings.now) len salt.now) (R.remaining input.old)) }
 {
     let password = read_all(alloc, input)?;
-    tag_of(alloc, request, password.as_slice())
+    tag_text(alloc, settings, len, salt, password.as_slice())
 }
 
-// The tag of a password, in hex.
-fn tag_of(alloc: Global, request: &TagRequest<'_>, password: &[u8]) -> Result<String, Fault>
-    requires { request.now.len ≤ 1024 }
-    ensures ok { IfOk result (λ text. tag_answer request.now password.now ≡ Ok (string_bytes text)) }
-    ensures err { IfErr result (IsOfHashing (tag_answer request.now password.now)) }
+// The tag of a password, of `len` bytes, in hex.
+fn tag_text(
+    alloc: Global,
+    settings: &Settings<'_>,
+    len: usize,
+    salt: &str,
+    password: &[u8],
+) -> Result<String, Fault>
+    ensures ok { IfOk result (λ text.
+        tag_answer (context_asked settings.now) len salt.now password.now ≡ Ok (string_bytes text)) }
+    ensures err { IfErr result (IsRefusal
+        (tag_answer (context_asked settings.now) len salt.now password.now)) }
 {
-    let argon2 = argon2_of(request).map_err(Fault::Hashing)?;
-    let count = argon2.params().block_count();
-    let mut memory = vec![in alloc; Block::new(); count].map_err(Fault::Memory)?;
-    let mut out = [0u8; 1024];
-    let out = &mut out[..request.len as usize];
-    argon2
-        .hash_password_into_with_memory(
-            password,
-            request.salt.as_bytes(),
-            out,
-            memory.as_mut_slice(),
-        )
-        .map_err(Fault::Hashing)?;
-    hex::encode(alloc, out).map_err(Fault::Memory)
+    let argon2 = context(settings)?;
+    let mut out = vec![in alloc; 0u8; len].map_err(Fault::Memory)?;
+    argon2.hash_password_into(alloc, password, salt.as_bytes(), out.as_mut_slice())?;
+    hex::encode(alloc, out.as_slice()).map_err(Fault::Memory)
 }
 
-// What the tag is made under.
-fn argon2_of(request: &TagRequest<'_>) -> argon2::Result<Argon2<'static>>
-    ensures { MatchResult result
-        (λ argon2. (context_answer request.now ≡ Ok (context_of argon2)) × ((own_parameters argon2).output_len ≡ None))
-        (λ error. context_answer request.now ≡ Err error) }
+// What settings stand for, with no secret, no data and any length of output.
+fn context(settings: &Settings<'_>) -> argon2::Result<Argon2<'static>>
+    ensures { IsAsked settings.now result }
 {
-    let algorithm = Algorithm::new(request.algorithm)?;
-    let version = Version::try_from(request.version)?;
-    let params = Params::new(request.m_cost, request.t_cost, request.p_cost, None)?;
+    let algorithm = Algorithm::new(settings.algorithm)?;
+    let version = Version::try_from(settings.version)?;
+    let params = Params::new(settings.m_cost, settings.t_cost, settings.p_cost, None)?;
     Ok(Argon2::new(algorithm, version, params))
 }
 

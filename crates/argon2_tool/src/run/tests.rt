@@ -137,84 +137,57 @@ fn answers(rt: HostRuntime) -> Result<(), Fail> {
     )
 }
 
-#[test]
-fn answers_tags(rt: HostRuntime) -> Result<(), Fail> {
-    for (words, password, line) in [
-        (
-            ["tag", "argon2id", "19", "256", "2", "1", "32", "somesalt"],
-            "password",
-            "9dfeb910e80bad0311fee20f9c0e2b12c17987b4cac90c2ef54d5b3021c68bfe\n",
-        ),
-        (
-            ["tag", "argon2i", "16", "37", "3", "2", "20", "with spaces"],
-            "abc",
-            "b3214e3405bc4ee4a12a08f85a4d164493f582fa\n",
-        ),
-        (
-            ["tag", "argon2d", "19", "16", "1", "1", "4", "12345678"],
-            "",
-            "87e0da78\n",
-        ),
-    ] {
-        let mut input = password.as_bytes();
-        expect(&rt, rt.alloc(), &words, &mut input, (0, line, ""))?;
-    }
-    Ok(())
-}
+const TAG: &str = "9dfeb910e80bad0311fee20f9c0e2b12c17987b4cac90c2ef54d5b3021c68bfe\n";
 
-// The input is read first, and then the first fault is told.
+// The tag, or the first refusal: of the arguments, the algorithm, the version, the parameters, the call.
 #[test]
-fn refuses_tags(rt: HostRuntime) -> Result<(), Fail> {
-    for (algorithm, version, m, t, len, text) in [
+fn tags(rt: HostRuntime) -> Result<(), Fail> {
+    for (algorithm, version, t_cost, len, answer) in [
+        ("argon2id", "19", "2", "32", (0, TAG, "")),
+        ("argon2x", "17", "0", "1025", (2, "", USAGE)),
+        ("argon2x", "019", "0", "3", (2, "", USAGE)),
         (
-            "argon2",
+            "argon2x",
             "17",
-            "7",
             "0",
             "3",
-            "argon2: algorithm identifier invalid\n",
+            (1, "", "argon2: algorithm identifier invalid\n"),
         ),
-        ("argon2d", "17", "7", "0", "3", "argon2: invalid version\n"),
         (
-            "argon2d",
-            "19",
-            "7",
+            "argon2id",
+            "17",
             "0",
             "3",
-            "argon2: memory cost is too small\n",
+            (1, "", "argon2: invalid version\n"),
         ),
         (
-            "argon2d",
+            "argon2id",
             "19",
-            "8",
             "0",
             "3",
-            "argon2: time cost is too small\n",
+            (1, "", "argon2: time cost is too small\n"),
         ),
         (
-            "argon2d",
+            "argon2id",
             "19",
-            "8",
-            "1",
+            "2",
             "3",
-            "argon2: output is too short\n",
-        ),
-        (
-            "argon2d",
-            "19",
-            "8",
-            "1",
-            "4",
-            "argon2: salt is too short\n",
+            (1, "", "argon2: output is too short\n"),
         ),
     ] {
-        let words = ["tag", algorithm, version, m, t, "1", len, ""];
-        let mut input = "password".as_bytes();
-        expect(&rt, rt.alloc(), &words, &mut input, (1, "", text))?;
+        let mut input: &[u8] = b"password";
+        let words = &[
+            "tag", algorithm, version, "256", t_cost, "1", len, "somesalt",
+        ];
+        expect(&rt, rt.alloc(), words, &mut input, answer)?;
     }
-    let words = ["tag", "argon2", "17", "7", "0", "0", "3", ""];
+    let mut input: &[u8] = b"password";
+    let words = &["tag", "argon2d", "16", "8", "1", "1", "4", ""];
+    let too_short = (1, "", "argon2: salt is too short\n");
+    expect(&rt, rt.alloc(), words, &mut input, too_short)?;
+    let words = &["tag", "argon2x", "17", "0", "0", "0", "3", ""];
     let unread = (1, "", "argon2: standard input can't be read\n");
-    expect(&rt, rt.alloc(), &words, &mut Failing::after(1), unread)
+    expect(&rt, rt.alloc(), words, &mut Failing::after(1), unread)
 }
 
 // Up to 64 bytes the long hash is the digest of the length, as four bytes, and the message.
@@ -278,29 +251,6 @@ fn other_arguments(rt: HostRuntime) -> Result<(), Fail> {
         &rt,
         rt.alloc(),
         &["digest", "6", "4"],
-        &mut Failing::after(0),
-        usage,
-    )?;
-    for words in [
-        ["tag", "argon2d", "019", "8", "1", "1", "4", "somesalt"],
-        [
-            "tag",
-            "argon2d",
-            "19",
-            "4294967296",
-            "1",
-            "1",
-            "4",
-            "somesalt",
-        ],
-        ["tag", "argon2d", "19", "8", "1", "1", "1025", "somesalt"],
-    ] {
-        expect(&rt, rt.alloc(), &words, &mut Failing::after(0), usage)?;
-    }
-    expect(
-        &rt,
-        rt.alloc(),
-        &["tag", "argon2d", "19", "8", "1", "1", "4"],
         &mut Failing::after(0),
         usage,
     )?;
