@@ -60,7 +60,7 @@ fn counts_the_mixings_of_the_known_tags(rt: HostRuntime) -> Result<(), Fail> {
 // the first two columns are 4294967295.
 type Row = (u32, u32, u32, u32, u32, u128, u64);
 
-const ROWS: [Row; 24] = [
+const ROWS: [Row; 27] = [
     (0, 19, 8, 1, 1, 6, 0xfcf9509d0b66e675),
     (2, 19, 8, 1, 1, 10, 0x544e5c94b0436334),
     (1, 19, 8, 1, 1, 14, 0x4bb94294ab6cb266),
@@ -85,6 +85,9 @@ const ROWS: [Row; 24] = [
     (0, 16, 516, 1, 1, 514, 0x2eb8cb09fe66d52b),
     (2, 16, 516, 1, 1, 522, 0x2843c12dffa59454),
     (1, 16, 516, 1, 1, 530, 0xc23e9593ef105499),
+    (0, 19, 19456, 2, 1, 38910, 0x254da72ba4b98a54),
+    (2, 19, 19456, 2, 1, 39062, 0x375d213df36cccc7),
+    (1, 19, 19456, 2, 1, 39518, 0x3be9b9094b1a931e),
 ];
 
 // The algorithm of a number.
@@ -98,7 +101,7 @@ fn algorithm_of(number: u32) -> Algorithm {
 
 #[test]
 fn tells_all_places_under_small_costs(rt: HostRuntime) -> Result<(), Fail> {
-    let mut memory = Vec::from_elem(rt.alloc(), Block::new(), 516)?;
+    let mut memory = Vec::from_elem(rt.alloc(), Block::new(), 19456)?;
     for row in &ROWS {
         let &(algorithm, version, m_cost, t_cost, p_cost, mixes, digest) = row;
         let mut builder = ParamsBuilder::new();
