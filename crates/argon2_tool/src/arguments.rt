@@ -4,6 +4,8 @@ ghost use Rattle.std.specs.Prelude.{◌≡◌, ℕ, ◌<◌, ◌^◌, Some, IfSo
 ghost use Rattle.std.specs.Fmt.{decimal};
 ghost use Rattle.argon2_tool.specs.Commands.{Spells};
 
+use argon2::phc::read_decimal;
+
 /// What a hash is asked for under: an algorithm by its name, a version by its number, and costs. None
 /// of them is checked yet.
 #[derive(Clone, Copy, Debug)]
@@ -35,10 +37,10 @@ impl<'a> Settings<'a> {
     {
         Some(Settings {
             algorithm,
-            version: decimal(version)?,
-            m_cost: decimal(m_cost)?,
-            t_cost: decimal(t_cost)?,
-            p_cost: decimal(p_cost)?,
+            version: read_decimal(version)?,
+            m_cost: read_decimal(m_cost)?,
+            t_cost: read_decimal(t_cost)?,
+            p_cost: read_decimal(p_cost)?,
         })
     }
 }
@@ -66,11 +68,11 @@ impl<'a> Command<'a> {
     {
         let (name, values) = args.split_first()?;
         match (name.as_str(), values) {
-            ("digest", [len]) => match decimal(len.as_str())? {
+            ("digest", [len]) => match read_decimal(len.as_str())? {
                 len if 1 <= len && len <= 64 => Some(Command::Digest(len)),
                 _ => None,
             },
-            ("long", [len]) => match decimal(len.as_str())? {
+            ("long", [len]) => match read_decimal(len.as_str())? {
                 len if len <= 1024 => Some(Command::Long(len)),
                 _ => None,
             },
@@ -103,25 +105,10 @@ impl<'a> Command<'a> {
             ∷ t_cost.now ∷ p_cost.now ∷ len.now ∷ salt.now ∷ []) command → IsSome result }
     {
         let settings = Settings::parsed(algorithm, version, m_cost, t_cost, p_cost)?;
-        let len = decimal(len)?;
+        let len = read_decimal(len)?;
         if len > 1024 {
             return None;
         }
         Some(Command::Tag(settings, len, salt))
     }
-}
-
-/// The number that a decimal spells: no sign, and no zero in front of other digits.
-fn decimal(text: &str) -> Option<u32>
-    ensures found { IfSome result (λ n. text.now ≡ decimal n) }
-    ensures only { (n : ℕ) → n < 2 ^ 32 → text.now ≡ decimal n → result ≡ Some n }
-{
-    let Ok(number) = text.parse::<u32>() else {
-        return None;
-    };
-    let mut buffer = itoa::Buffer::new();
-    if buffer.format(number) != text {
-        return None;
-    }
-    Some(number)
 }

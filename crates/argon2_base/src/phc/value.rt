@@ -65,8 +65,9 @@ fn with_digit(mut text: ArrayString<10>, digit: u32) -> ArrayString<10>
     text
 }
 
-// The number whose decimal a text is.
-pub(super) fn read_decimal(text: &str) -> Option<u32>
+/// The number up to 4294967295 whose decimal a text is, if it is one: no sign, and no zero in front of
+/// other digits.
+pub fn read_decimal(text: &str) -> Option<u32>
     ensures found { IfSome result (λ n. text.now ≡ decimal n) }
     ensures only { (n : ℕ) → n < 2 ^ 32 → text.now ≡ decimal n → result ≡ Some n }
     ensures value { result ≡ number_of text.now }
