@@ -1,13 +1,12 @@
 -- What may be referred to, as numbers: how many blocks, and in which columns.
-use Rattle.std.proofs.Common.{◌≡◌, ℕ, zero, suc, ◌+◌, ◌-◌, ◌*◌, ◌/◌, ◌%◌, ◌^◌, ◌<◌, ◌≤◌, inl, inr, false, cond, eqb, ltb, List, [], ◌++◌, take, length, get_or, refl, sym, ap, ◌∙◌, subst, arith}
-use Rattle.std.proofs.Math.Nat.{div-add-mod', mul-le-mul_right, mod-lt}
+use Rattle.std.proofs.Common.{◌≡◌, ℕ, zero, suc, ◌+◌, ◌-◌, ◌*◌, ◌/◌, ◌%◌, ◌<◌, ◌≤◌, inl, inr, false, cond, eqb, ltb, List, [], ◌++◌, take, length, get_or, refl, sym, ap, ◌∙◌, arith}
+use Rattle.std.proofs.Math.Nat.{div-add-mod'}
 use Rattle.std.proofs.lemmas.List.{length-append, length-take, length-take-le, get_or_append_left, get_or-append_right, get_or-take}
 use Rattle.std.proofs.lemmas.List.FromFn.{get_or-map-range_with_len}
 use Rattle.std.proofs.lemmas.Bool.{cond_both, cond-true, cond-false, cases_lt, cases_Bool, ne_eqb, lt-ltb, le-ltb}
-use Rattle.argon2.specs.Context.{Context, segment_length, lane_length, Sizes}
-use Rattle.argon2.proofs.Validity.{Fits-sizes}
-use Rattle.argon2.specs.Reference.{columns, finished_segments, without_last, permitted, reference_lane, reference}
-use Rattle.argon2.proofs.Sources.{Fits, InSlice, in_slice, length-columns, lane_below, lane_alone, some_permitted, reference_reads}
+use Rattle.argon2.specs.Context.{Context, segment_length, lane_length}
+use Rattle.argon2.specs.Reference.{columns, finished_segments, without_last, permitted}
+use Rattle.argon2.proofs.Sources.{Fits, InSlice, in_slice, length-columns}
 
 -- the column at an index of a list of columns
 get_or-columns : (pass from to i : ℕ) → i < to - from →

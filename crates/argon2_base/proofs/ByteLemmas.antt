@@ -4,15 +4,15 @@ use Rattle.std.specs.Int.{w64, rotate_right}
 use Rattle.std.specs.Simd.Lanes.{chunk, number_l, pick_l}
 use Rattle.std.proofs.lemmas.Nat.{or_comm, or_shifted}
 use Rattle.std.proofs.lemmas.Simd.{get_or-chunk, length-chunk, pick_l_left}
-use Rattle.argon2_base.specs.Lanes.{word_at}
+use Rattle.argon2_base.specs.Lanes.{word_from}
 use Rattle.argon2_base.proofs.LaneLemmas.{below_eight, eight_lanes}
 
-number_of_eight : (bs : List ℕ) → length bs ≡ 8 → number_l 256 bs ≡ word_at bs 0
+number_of_eight : (bs : List ℕ) → length bs ≡ 8 → number_l 256 bs ≡ word_from bs 0
 number_of_eight =
-    eight_lanes (λ bs. number_l 256 bs ≡ word_at bs 0) (λ a b c d e f g h. omega arith)
+    eight_lanes (λ bs. number_l 256 bs ≡ word_from bs 0) (λ a b c d e f g h. omega arith)
 
 -- the number that eight bytes of a list write
-pub number_l-chunk : (bs : List ℕ) (i : ℕ) → i + 8 ≤ length bs → number_l 256 (chunk i 8 bs) ≡ word_at bs i
+pub number_l-chunk : (bs : List ℕ) (i : ℕ) → i + 8 ≤ length bs → number_l 256 (chunk i 8 bs) ≡ word_from bs i
 number_l-chunk bs i le =
     let byte : (k : ℕ) → k < 8 → slice_index (chunk i 8 bs) k ≡ slice_index bs (i + k) =
     λ k h. get_or-chunk i 8 bs k 0 h
@@ -51,9 +51,9 @@ turned_sum : (x : ℕ) → x < 2 ^ 64
 turned_sum x small = omega arith
 
 -- the word of eight bytes that were turned by three places is rotated by 24 bits
-pub word_at-turned : (bs : List ℕ) (i x : ℕ) → x < 2 ^ 64
-    → ((k : ℕ) → k < 8 → slice_index bs (i + k) ≡ x / 256 ^ ((k + 3) % 8) % 256) → word_at bs i ≡ rotate_right w64 x 24
-word_at-turned bs i x small byte =
+pub word_from-turned : (bs : List ℕ) (i x : ℕ) → x < 2 ^ 64
+    → ((k : ℕ) → k < 8 → slice_index bs (i + k) ≡ x / 256 ^ ((k + 3) % 8) % 256) → word_from bs i ≡ rotate_right w64 x 24
+word_from-turned bs i x small byte =
     rw (
       byte 0 (lit< tt),
       byte 1 (lit< tt),

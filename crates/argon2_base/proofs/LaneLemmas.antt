@@ -4,7 +4,7 @@ use Rattle.std.specs.List.{range_with_len}
 use Rattle.std.proofs.lemmas.Nat.{and_mask}
 use Rattle.std.specs.Simd.Lanes.{zip2, pick_l}
 use Rattle.argon2_base.specs.Mixing.{add_mul, xor_rotate, row}
-use Rattle.argon2_base.specs.Lanes.{lane, lane_at, ones_left, ones_right, twos_left, twos_right, fours_left, fours_right}
+use Rattle.argon2_base.specs.Lanes.{lane, lane_word, ones_left, ones_right, twos_left, twos_right, fours_left, fours_right}
 
 -- what holds of 0 and 1
 pub below_two : (P : ℕ → Type 0) → P 0 → P 1 → (e : ℕ) → e < 2 → P e
@@ -154,14 +154,14 @@ exchanged_fours =
 -- lane i of each of eight vectors
 abbrev lanes : List (List ℕ) → ℕ → List ℕ
 lanes x i =
-    lane_at x 0 i ∷ lane_at x 1 i ∷ lane_at x 2 i ∷ lane_at x 3 i
-    ∷ lane_at x 4 i ∷ lane_at x 5 i ∷ lane_at x 6 i ∷ lane_at x 7 i ∷ []
+    lane_word x 0 i ∷ lane_word x 1 i ∷ lane_word x 2 i ∷ lane_word x 3 i
+    ∷ lane_word x 4 i ∷ lane_word x 5 i ∷ lane_word x 6 i ∷ lane_word x 7 i ∷ []
 
 -- a vector of these, lane by lane
-pub turned_lanes : (x : List (List ℕ)) (v : List ℕ) (i : ℕ) → v ≡ lanes x i → (k : ℕ) → k < 8 → slice_index v k ≡ lane_at x k i
+pub turned_lanes : (x : List (List ℕ)) (v : List ℕ) (i : ℕ) → v ≡ lanes x i → (k : ℕ) → k < 8 → slice_index v k ≡ lane_word x k i
 turned_lanes x v i same k h =
     ap (λ v. slice_index v k) same
-    ∙ below_eight (λ k. slice_index (lanes x i) k ≡ lane_at x k i) refl refl refl refl refl refl refl refl k h
+    ∙ below_eight (λ k. slice_index (lanes x i) k ≡ lane_word x k i) refl refl refl refl refl refl refl refl k h
 
 -- the lanes of two vectors in turn
 abbrev Interleaved : List ℕ → List ℕ → Type 0
@@ -177,7 +177,7 @@ interleaved =
     (below_eight _ refl refl refl refl refl refl refl refl, below_eight _ refl refl refl refl refl refl refl refl))
 
 -- the words of a lane, given by number
-pub lane_is : (x : List (List ℕ)) (j : ℕ) (f : ℕ → ℕ) → ((k : ℕ) → k < 16 → lane_at x k j ≡ f k) → lane j x ≡ map f (range_with_len 0 16)
+pub lane_is : (x : List (List ℕ)) (j : ℕ) (f : ℕ → ℕ) → ((k : ℕ) → k < 16 → lane_word x k j ≡ f k) → lane j x ≡ map f (range_with_len 0 16)
 lane_is x j f h =
     rw (
       h 0 (lit< tt),
@@ -199,9 +199,9 @@ lane_is x j f h =
     ) refl
 
 -- word k of a lane
-pub slice_index-lane : (x : List (List ℕ)) (j k : ℕ) → k < 16 → slice_index (lane j x) k ≡ lane_at x k j
+pub slice_index-lane : (x : List (List ℕ)) (j k : ℕ) → k < 16 → slice_index (lane j x) k ≡ lane_word x k j
 slice_index-lane x j =
-    below_sixteen (λ k. slice_index (lane j x) k ≡ lane_at x k j) refl refl refl refl refl refl refl refl refl refl refl refl refl refl refl refl
+    below_sixteen (λ k. slice_index (lane j x) k ≡ lane_word x k j) refl refl refl refl refl refl refl refl refl refl refl refl refl refl refl refl
 
 -- vectors of y and of z in turn
 abbrev column_vectors : List (List ℕ) → List (List ℕ) → List (List ℕ)
@@ -219,23 +219,23 @@ every_second x e =
 
 -- sixteen vectors turned by two transpositions, of the vectors of even and of odd numbers
 pub columns_from : (x y z : List (List ℕ))
-    → ((i k : ℕ) → i < 8 → k < 8 → lane_at y i k ≡ lane_at (every_second x 0) k i)
-    → ((i k : ℕ) → i < 8 → k < 8 → lane_at z i k ≡ lane_at (every_second x 1) k i)
-    → (i j e : ℕ) → i < 8 → j < 8 → e < 2 → lane_at (column_vectors y z) (2 * i + e) j ≡ lane_at x (2 * j + e) i
+    → ((i k : ℕ) → i < 8 → k < 8 → lane_word y i k ≡ lane_word (every_second x 0) k i)
+    → ((i k : ℕ) → i < 8 → k < 8 → lane_word z i k ≡ lane_word (every_second x 1) k i)
+    → (i j e : ℕ) → i < 8 → j < 8 → e < 2 → lane_word (column_vectors y z) (2 * i + e) j ≡ lane_word x (2 * j + e) i
 columns_from x y z even odd i j zero hi hj he =
-    below_eight (λ i. lane_at (column_vectors y z) (2 * i + 0) j ≡ lane_at y i j) refl refl refl refl refl refl refl refl i hi
+    below_eight (λ i. lane_word (column_vectors y z) (2 * i + 0) j ≡ lane_word y i j) refl refl refl refl refl refl refl refl i hi
     ∙ even i j hi hj
-    ∙ below_eight (λ j. lane_at (every_second x 0) j i ≡ lane_at x (2 * j + 0) i) refl refl refl refl refl refl refl refl j hj
+    ∙ below_eight (λ j. lane_word (every_second x 0) j i ≡ lane_word x (2 * j + 0) i) refl refl refl refl refl refl refl refl j hj
 columns_from x y z even odd i j (suc zero) hi hj he =
-    below_eight (λ i. lane_at (column_vectors y z) (2 * i + 1) j ≡ lane_at z i j) refl refl refl refl refl refl refl refl i hi
+    below_eight (λ i. lane_word (column_vectors y z) (2 * i + 1) j ≡ lane_word z i j) refl refl refl refl refl refl refl refl i hi
     ∙ odd i j hi hj
-    ∙ below_eight (λ j. lane_at (every_second x 1) j i ≡ lane_at x (2 * j + 1) i) refl refl refl refl refl refl refl refl j hj
+    ∙ below_eight (λ j. lane_word (every_second x 1) j i ≡ lane_word x (2 * j + 1) i) refl refl refl refl refl refl refl refl j hj
 columns_from x y z even odd i j (suc (suc e)) hi hj he = absurd (omega arith)
 
 -- sixteen vectors of two transpositions, of the left and of the right halves of the rows
 pub rows_from : (y z : List (List ℕ)) (words : List ℕ) (i : ℕ)
-    → ((k : ℕ) → k < 8 → lane_at y k i ≡ slice_index words (16 * i + (0 + k)))
-    → ((k : ℕ) → k < 8 → lane_at z k i ≡ slice_index words (16 * i + (8 + k)))
+    → ((k : ℕ) → k < 8 → lane_word y k i ≡ slice_index words (16 * i + (0 + k)))
+    → ((k : ℕ) → k < 8 → lane_word z k i ≡ slice_index words (16 * i + (8 + k)))
     → lane i (
     slice_index_or y 0 [] ∷ slice_index_or y 1 [] ∷ slice_index_or y 2 [] ∷ slice_index_or y 3 []
     ∷ slice_index_or y 4 [] ∷ slice_index_or y 5 [] ∷ slice_index_or y 6 [] ∷ slice_index_or y 7 []

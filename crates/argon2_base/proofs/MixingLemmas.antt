@@ -7,7 +7,7 @@ use Rattle.std.proofs.lemmas.List.FromFn.{get_or-map-range_with_len, length-map-
 use Rattle.std.proofs.lemmas.Simd.{get_or-zip2, length-zip2}
 use Rattle.argon2_base.specs.Block.{xor_blocks}
 use Rattle.argon2_base.specs.Mixing.{gb, gb_at, mix_columns, mix_diagonals, perm, row, column, by_rows, by_columns}
-use Rattle.argon2_base.specs.Lanes.{lane, lane_at}
+use Rattle.argon2_base.specs.Lanes.{lane, lane_word}
 use Rattle.argon2_base.proofs.LaneLemmas.{below_two, lane_is, slice_index-lane}
 
 -- a lane of the vectors once one of them is replaced
@@ -29,7 +29,7 @@ lane-slice_set x i n y below long =
 -- a lane of the vectors once four of them are mixed
 pub lane-gb_at : (x : List (List ℕ)) (i j k l n : ℕ) → i < 16 → j < 16 → k < 16 → l < 16 → length x ≡ 16
     → (a b c d : List ℕ)
-    → (slice_index a n, slice_index b n, slice_index c n, slice_index d n) ≡ gb (lane_at x i n) (lane_at x j n) (lane_at x k n) (lane_at x l n)
+    → (slice_index a n, slice_index b n, slice_index c n, slice_index d n) ≡ gb (lane_word x i n) (lane_word x j n) (lane_word x k n) (lane_word x l n)
     → lane n (slice_set (slice_set (slice_set (slice_set x i a) j b) k c) l d) ≡ gb_at i j k l (lane n x)
 lane-gb_at x i j k l n hi hj hk hl long a b c d mixed =
     let x1 = slice_set x i a in
@@ -38,7 +38,7 @@ lane-gb_at x i j k l n hi hj hk hl long a b c d mixed =
     let long1 : length x1 ≡ 16 = length-set x i a ∙ long in
     let long2 : length x2 ≡ 16 = length-set x1 j b ∙ long1 in
     let long3 : length x3 ≡ 16 = length-set x2 k c ∙ long2 in
-    let word : (k : ℕ) → k < 16 → lane_at x k n ≡ slice_index (lane n x) k = λ k h. sym (slice_index-lane x n k h) in
+    let word : (k : ℕ) → k < 16 → lane_word x k n ≡ slice_index (lane n x) k = λ k h. sym (slice_index-lane x n k h) in
     lane-slice_set x3 l n d hl long3
     ∙ ap (λ v. slice_set v l (slice_index d n)) (lane-slice_set x2 k n c hk long2
     ∙ ap (λ v. slice_set v k (slice_index c n)) (lane-slice_set x1 j n b hj long1
@@ -67,15 +67,15 @@ one_of x i e q =
     slice_index (if e == 0 then slice_index_or x (2 * i) [] else slice_index_or x (2 * i + 1) []) q
 
 -- which is the lane of the vector of that number
-picked : (x : List (List ℕ)) (i q e : ℕ) → e < 2 → one_of x i e q ≡ lane_at x (2 * i + e) q
+picked : (x : List (List ℕ)) (i q e : ℕ) → e < 2 → one_of x i e q ≡ lane_word x (2 * i + e) q
 picked x i q =
     let first : 2 * i ≡ 2 * i + 0 = omega arith in
-    below_two _ (ap (λ k. lane_at x k q) first) refl
+    below_two _ (ap (λ k. lane_word x k q) first) refl
 
 -- word w of the columns, xored with the word of r
 abbrev Stored : List (List ℕ) → List ℕ → List ℕ → ℕ → Type 0
 Stored x r out w =
-    slice_index out w ≡ bit_xor (lane_at x (2 * (w / 16) + w % 2) (w % 16 / 2)) (slice_index r w)
+    slice_index out w ≡ bit_xor (lane_word x (2 * (w / 16) + w % 2) (w % 16 / 2)) (slice_index r w)
 
 -- the words of a row that is stored by halves
 pub row_stored : (x : List (List ℕ)) (r out : List ℕ) (i : ℕ)
@@ -93,7 +93,7 @@ row_stored x r out i left right w low high =
           let lane_of : k / 2 ≡ w % 16 / 2 = omega arith in
           ap (slice_index out) (sym place)
           ∙ left k (omega arith)
-          ∙ ap₂ bit_xor (picked x i (k / 2) (k % 2) (omega arith) ∙ ap₂ (lane_at x) vector lane_of) (ap (slice_index r) place)
+          ∙ ap₂ bit_xor (picked x i (k / 2) (k % 2) (omega arith) ∙ ap₂ (lane_word x) vector lane_of) (ap (slice_index r) place)
       | inr in_right ↦
           let k = w - (16 * i + 8) in
           let place : 16 * i + 8 + k ≡ w = omega arith in
@@ -101,7 +101,7 @@ row_stored x r out i left right w low high =
           let lane_of : 4 + k / 2 ≡ w % 16 / 2 = omega arith in
           ap (slice_index out) (sym place)
           ∙ right k (omega arith)
-          ∙ ap₂ bit_xor (picked x i (4 + k / 2) (k % 2) (omega arith) ∙ ap₂ (lane_at x) vector lane_of) (ap (slice_index r) place)
+          ∙ ap₂ bit_xor (picked x i (4 + k / 2) (k % 2) (omega arith) ∙ ap₂ (lane_word x) vector lane_of) (ap (slice_index r) place)
     ]
 
 -- a word of the rows that P mixed
@@ -131,14 +131,14 @@ length-by_columns q = length-map-range_with_len (λ w. slice_index (perm (column
 pub kernel_mixes : (r out : List ℕ) (rows across cols down : List (List ℕ)) → length r ≡ 128 → length out ≡ 128
     → ((i : ℕ) → i < 8 → lane i rows ≡ row i r)
     → ((i : ℕ) → i < 8 → lane i across ≡ perm (lane i rows))
-    → ((i j e : ℕ) → i < 8 → j < 8 → e < 2 → lane_at cols (2 * i + e) j ≡ lane_at across (2 * j + e) i)
+    → ((i j e : ℕ) → i < 8 → j < 8 → e < 2 → lane_word cols (2 * i + e) j ≡ lane_word across (2 * j + e) i)
     → ((j : ℕ) → j < 8 → lane j down ≡ perm (lane j cols))
     → ((w : ℕ) → w < 128 → Stored down r out w)
     → out ≡ xor_blocks (by_columns (by_rows r)) r
 unfolding column xor_blocks
 kernel_mixes r out rows across cols down long_r long_out rows_are across_are cols_are down_are stored =
     let q = by_rows r in
-    let across_word : (i k : ℕ) → i < 8 → k < 16 → lane_at across k i ≡ slice_index q (16 * i + k) =
+    let across_word : (i k : ℕ) → i < 8 → k < 16 → lane_word across k i ≡ slice_index q (16 * i + k) =
     λ i k hi hk.
     sym (slice_index-lane across i k hk)
     ∙ ap (λ l. slice_index l k) (across_are i hi ∙ ap perm (rows_are i hi))
@@ -148,12 +148,12 @@ kernel_mixes r out rows across cols down long_r long_out rows_are across_are col
     λ j hj. lane_is cols j (λ k. slice_index q (16 * (k / 2) + 2 * j + k % 2)) (λ k hk.
     let halves : k ≡ 2 * (k / 2) + k % 2 = omega arith in
     let place : 16 * (k / 2) + (2 * j + k % 2) ≡ 16 * (k / 2) + 2 * j + k % 2 = omega arith in
-    ap (λ n. lane_at cols n j) halves
+    ap (λ n. lane_word cols n j) halves
     ∙ cols_are (k / 2) j (k % 2) (omega arith) hj (omega arith)
     ∙ across_word (k / 2) (2 * j + k % 2) (omega arith) (omega arith)
     ∙ ap (slice_index q) place)
     in
-    let down_word : (j k : ℕ) → j < 8 → k < 16 → lane_at down k j ≡ slice_index (perm (column j q)) k =
+    let down_word : (j k : ℕ) → j < 8 → k < 16 → lane_word down k j ≡ slice_index (perm (column j q)) k =
     λ j k hj hk.
     sym (slice_index-lane down j k hk)
     ∙ ap (λ l. slice_index l k) (down_are j hj ∙ ap perm (column_is j hj))

@@ -4,7 +4,7 @@
 ghost use Rattle.std.specs.Prelude.{◌≡◌, ℕ, ◌+◌, ◌*◌, ◌/◌, ◌%◌, ◌^◌, ◌<◌, ◌≤◌, length, slice_index, bit_xor, ◌==◌, if◌then◌else◌};
 ghost use Rattle.argon2_base.specs.Block.{xor_blocks};
 ghost use Rattle.argon2_base.specs.Mixing.{add_mul, xor_rotate, gb, gb_at, perm, row, column, mixed};
-ghost use Rattle.argon2_base.specs.Lanes.{lane, lane_at, ones_left, ones_right, twos_left, twos_right, fours_left, fours_right, word_at};
+ghost use Rattle.argon2_base.specs.Lanes.{lane, lane_word, ones_left, ones_right, twos_left, twos_right, fours_left, fours_right, word_from};
 
 use std::simd::{u8x64, u64x8};
 
@@ -53,7 +53,7 @@ fn turn_bytes(x: u8x64) -> u8x64
 // The words of the bytes, the low byte first.
 #[inline(always)]
 fn from_bytes(x: u8x64) -> u64x8
-    ensures { (j : ℕ) → j < 8 → slice_index result j ≡ word_at x (8 * j) }
+    ensures { (j : ℕ) → j < 8 → slice_index result j ≡ word_from x (8 * j) }
 {
     u64x8::from_le_bytes(x)
 }
@@ -155,7 +155,7 @@ fn exchange_fours(a: u64x8, b: u64x8) -> (u64x8, u64x8)
 // Lane i of vector k goes to lane k of vector i.
 #[inline(always)]
 fn transpose(x: [u64x8; 8]) -> [u64x8; 8]
-    ensures { (i k : ℕ) → i < 8 → k < 8 → lane_at result i k ≡ lane_at x k i }
+    ensures { (i k : ℕ) → i < 8 → k < 8 → lane_word result i k ≡ lane_word x k i }
 {
     let [x0, x1, x2, x3, x4, x5, x6, x7] = x;
     let (a0, a1) = exchange_ones(x0, x1);
@@ -197,7 +197,7 @@ fn store_xor(words: &mut [u64], at: usize, v: u64x8, r: u64x8)
 fn eights(words: &[u64; 128], from: usize) -> [u64x8; 8]
     requires { from + 8 ≤ 16 }
     ensures { (i k : ℕ) → i < 8 → k < 8
-        → lane_at result i k ≡ slice_index words.now (16 * i + (from + k)) }
+        → lane_word result i k ≡ slice_index words.now (16 * i + (from + k)) }
 {
     [
         load(words, from),
@@ -226,7 +226,7 @@ fn rows(words: &[u64; 128]) -> [u64x8; 16]
 // From words of rows to words of columns: word 2 * i + e of column j is word 2 * j + e of row i.
 #[inline(always)]
 fn columns(x: [u64x8; 16]) -> [u64x8; 16]
-    ensures { (i j e : ℕ) → i < 8 → j < 8 → e < 2 → lane_at result (2 * i + e) j ≡ lane_at x (2 * j + e) i }
+    ensures { (i j e : ℕ) → i < 8 → j < 8 → e < 2 → lane_word result (2 * i + e) j ≡ lane_word x (2 * j + e) i }
 {
     let [a0, a1, a2, a3, a4, a5, a6, a7] = transpose([
         x[0], x[2], x[4], x[6], x[8], x[10], x[12], x[14],
@@ -258,7 +258,7 @@ fn store_row(out: &mut [u64], r: &[u64], i: usize, even: u64x8, odd: u64x8)
 #[inline(always)]
 fn words(x: &[u64x8; 16], r: &[u64; 128]) -> [u64; 128]
     ensures { (w : ℕ) → w < 128 → slice_index result w
-        ≡ bit_xor (lane_at x.now (2 * (w / 16) + w % 2) (w % 16 / 2)) (slice_index r.now w) }
+        ≡ bit_xor (lane_word x.now (2 * (w / 16) + w % 2) (w % 16 / 2)) (slice_index r.now w) }
 {
     let mut out = [0; 128];
     'rows: for i in 0..8 {

@@ -2,7 +2,7 @@ use Rattle.std.proofs.Common.{◌≡◌, ◌<◌, ◌+◌, ◌*◌, ◌/◌, ◌
 use Rattle.std.proofs.lemmas.Nat.{xor_lt}
 use Rattle.std.proofs.lemmas.Simd.{below_from_Fits, Each1-get_or, get_or-zip2}
 use Rattle.argon2_base.specs.Mixing.{xor_rotate}
-use Rattle.argon2_base.proofs.ByteLemmas.{word_at-turned}
+use Rattle.argon2_base.proofs.ByteLemmas.{word_from-turned}
 use Rattle.argon2_base.proofs.block.kernel.xor_rotate_24.Goals as goal
 
 pub returns : goal.returns
@@ -19,7 +19,7 @@ returns c j h =
     let x = bit_xor (slice_index a j) (slice_index b j) in
     let small : x < 2 ^ 64 = xor_lt 64 (slice_index a j) (slice_index b j) small_a small_b in
     c.from_bytes.ensures j h
-    ∙ word_at-turned c.turn_bytes.result (8 * j) x small (λ k l.
+    ∙ word_from-turned c.turn_bytes.result (8 * j) x small (λ k l.
     c.turn_bytes.ensures j h k l
     ∙ c.bytes.ensures j ((k + 3) % 8) h (omega arith)
     ∙ ap (λ w. w / 256 ^ ((k + 3) % 8) % 256) (get_or-zip2 bit_xor a b j 0 0 0 in_a in_b))
