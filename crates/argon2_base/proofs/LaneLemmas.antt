@@ -1,10 +1,12 @@
 -- Vectors of eight lanes, and what the steps of the mixing do in each lane.
-use Rattle.std.proofs.Common.{◌≡◌, ℕ, zero, suc, ◌<◌, ◌+◌, ◌-◌, ◌*◌, ◌/◌, ◌%◌, ◌^◌, List, [], ◌∷◌, ◌++◌, length, slice_index, ◌==◌, if◌then◌else◌, bit_and, bit_or, bit_xor, slice_index_or, map, arith, refl, ap, subst, ◌∙◌, lit<}
+use Rattle.std.proofs.Common.{◌≡◌, ℕ, zero, suc, ◌<◌, ◌+◌, ◌-◌, ◌*◌, ◌/◌, ◌%◌, ◌^◌, List, [], ◌∷◌, ◌++◌, length, slice_index, ◌==◌, if◌then◌else◌, bit_and, bit_or, bit_xor, slice_index_or, map, arith, refl, ap, subst, ◌∙◌, lit<, sym, ap₂}
 use Rattle.std.specs.List.{range_with_len}
 use Rattle.std.proofs.lemmas.Nat.{and_mask}
+use Rattle.std.proofs.lemmas.List.{ext_get_or}
+use Rattle.std.proofs.lemmas.List.FromFn.{get_or-map-range_with_len, length-map-range_with_len}
 use Rattle.std.specs.Simd.Lanes.{zip2, pick_l}
 use Rattle.argon2_base.specs.Mixing.{add_mul, xor_rotate, row}
-use Rattle.argon2_base.specs.Lanes.{lane, lane_word, ones_left, ones_right, twos_left, twos_right, fours_left, fours_right}
+use Rattle.argon2_base.specs.Lanes.{lane, lane_word, words_in_eights, ones_left, ones_right, twos_left, twos_right, fours_left, fours_right}
 
 -- what holds of 0 and 1
 pub below_two : (P : ℕ → Type 0) → P 0 → P 1 → (e : ℕ) → e < 2 → P e
@@ -231,6 +233,37 @@ columns_from x y z even odd i j (suc zero) hi hj he =
     ∙ odd i j hi hj
     ∙ below_eight (λ j. lane_word (every_second x 1) j i ≡ lane_word x (2 * j + 1) i) refl refl refl refl refl refl refl refl j hj
 columns_from x y z even odd i j (suc (suc e)) hi hj he = absurd (omega arith)
+
+-- a word of the vectors read one after the other
+pub word_in_eights : (x : List (List ℕ)) (k j w : ℕ) → k < 16 → j < 8 → 8 * k + j ≡ w
+    → slice_index (words_in_eights x) w ≡ lane_word x k j
+unfolding words_in_eights
+word_in_eights x k j w hk hj place =
+    let vector : w / 8 ≡ k = omega arith in
+    let in_vector : w % 8 ≡ j = omega arith in
+    let at_start : 0 + w ≡ w = omega arith in
+    get_or-map-range_with_len (λ w. lane_word x (w / 8) (w % 8)) 0 128 w w 0 (omega arith) at_start
+    ∙ ap₂ (lane_word x) vector in_vector
+
+-- such vectors hold the words of a list, if each holds its eight
+pub in_eights : (x : List (List ℕ)) (words : List ℕ) → length words ≡ 128
+    → ((k : ℕ) → k < 16 → (j : ℕ) → j < 8 → lane_word x k j ≡ slice_index words (8 * k + j))
+    → words_in_eights x ≡ words
+unfolding words_in_eights
+in_eights x words long same =
+    let long_x : length (words_in_eights x) ≡ 128 = length-map-range_with_len (λ w. lane_word x (w / 8) (w % 8)) 0 128 in
+    ext_get_or 0 (words_in_eights x) words (long_x ∙ sym long) (λ w h.
+    let place : 8 * (w / 8) + w % 8 ≡ w = omega arith in
+    word_in_eights x (w / 8) (w % 8) w (omega arith) (omega arith) place
+    ∙ same (w / 8) (omega arith) (w % 8) (omega arith)
+    ∙ ap (slice_index words) place)
+
+-- the left and the right halves of the rows are vectors of even and of odd numbers
+pub half_row : (x : List (List ℕ)) (i k e : ℕ) → i < 8 → k < 8 → e < 2
+    → lane_word (every_second x e) i k ≡ slice_index (words_in_eights x) (16 * i + (8 * e + k))
+half_row x i k e hi hk he =
+    below_eight (λ i. lane_word (every_second x e) i k ≡ lane_word x (2 * i + e) k) refl refl refl refl refl refl refl refl i hi
+    ∙ sym (word_in_eights x (2 * i + e) k (16 * i + (8 * e + k)) (omega arith) hk (omega arith))
 
 -- sixteen vectors of two transpositions, of the left and of the right halves of the rows
 pub rows_from : (y z : List (List ℕ)) (words : List ℕ) (i : ℕ)

@@ -42,10 +42,11 @@ impl<'a> Instance<'a> {
         ensures alone { pass ≡ 0 → column / segment_length self.now ≡ 0 → result ≡ lane }
     {
         let slice = column / self.segment_length();
-        if pass == 0 && slice == 0 {
+        let lanes = self.lanes();
+        if lanes == 1 || pass == 0 && slice == 0 {
             lane
         } else {
-            (word >> 32) as u32 % self.lanes()
+            (word >> 32) as u32 % lanes
         }
     }
 

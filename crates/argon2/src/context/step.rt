@@ -34,12 +34,13 @@ impl<'a> Instance<'a> {
         ensures work { work.new ≡ work.old + 1 }
     {
         let reference = self.reference_place(pass, lane, column, word);
-        let block = self.mixed_block(memory, lane, column, reference, work);
         let place = (lane * self.lane_length() + column) as usize;
+        // Each arm mixes for itself: a result that is used once is not copied.
         if self.xors(pass) {
-            memory[place] ^= &block;
+            let block = &self.mixed_block(memory, lane, column, reference, work);
+            memory[place] ^= block;
         } else {
-            memory[place] = block;
+            memory[place] = self.mixed_block(memory, lane, column, reference, work);
         }
         reference
     }

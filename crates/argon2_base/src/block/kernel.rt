@@ -4,7 +4,7 @@
 ghost use Rattle.std.specs.Prelude.{◌≡◌, ℕ, ◌+◌, ◌*◌, ◌/◌, ◌%◌, ◌^◌, ◌<◌, ◌≤◌, length, slice_index, bit_xor, ◌==◌, if◌then◌else◌};
 ghost use Rattle.argon2_base.specs.Block.{xor_blocks};
 ghost use Rattle.argon2_base.specs.Mixing.{add_mul, xor_rotate, gb, gb_at, perm, row, column, mixed};
-ghost use Rattle.argon2_base.specs.Lanes.{lane, lane_word, ones_left, ones_right, twos_left, twos_right, fours_left, fours_right, word_from};
+ghost use Rattle.argon2_base.specs.Lanes.{lane, lane_word, ones_left, ones_right, twos_left, twos_right, fours_left, fours_right, word_from, words_in_eights};
 
 use std::simd::{u8x64, u64x8};
 
@@ -182,6 +182,15 @@ fn load(words: &[u64], at: usize) -> u64x8
     u64x8::from_slice(&words[at..])
 }
 
+// Eight words of the exclusive or of two blocks, from a place on.
+#[inline(always)]
+fn load_xor(x: &[u64; 128], y: &[u64; 128], at: usize) -> u64x8
+    requires { at + 8 ≤ 128 }
+    ensures { (k : ℕ) → k < 8 → slice_index result k ≡ slice_index (xor_blocks x.now y.now) (at + k) }
+{
+    load(x, at) ^ load(y, at)
+}
+
 // Writes the exclusive or of two vectors from a place on.
 #[inline(always)]
 fn store_xor(words: &mut [u64], at: usize, v: u64x8, r: u64x8)
@@ -192,32 +201,42 @@ fn store_xor(words: &mut [u64], at: usize, v: u64x8, r: u64x8)
     (v ^ r).copy_to_slice(&mut words[at..]);
 }
 
-// Eight words of each row, from a word of it on.
+// The exclusive or of two blocks, eight words a vector.
 #[inline(always)]
-fn eights(words: &[u64; 128], from: usize) -> [u64x8; 8]
-    requires { from + 8 ≤ 16 }
-    ensures { (i k : ℕ) → i < 8 → k < 8
-        → lane_word result i k ≡ slice_index words.now (16 * i + (from + k)) }
+fn exclusive_or(x: &[u64; 128], y: &[u64; 128]) -> [u64x8; 16]
+    ensures { words_in_eights result ≡ xor_blocks x.now y.now }
 {
     [
-        load(words, from),
-        load(words, 16 + from),
-        load(words, 32 + from),
-        load(words, 48 + from),
-        load(words, 64 + from),
-        load(words, 80 + from),
-        load(words, 96 + from),
-        load(words, 112 + from),
+        load_xor(x, y, 0),
+        load_xor(x, y, 8),
+        load_xor(x, y, 16),
+        load_xor(x, y, 24),
+        load_xor(x, y, 32),
+        load_xor(x, y, 40),
+        load_xor(x, y, 48),
+        load_xor(x, y, 56),
+        load_xor(x, y, 64),
+        load_xor(x, y, 72),
+        load_xor(x, y, 80),
+        load_xor(x, y, 88),
+        load_xor(x, y, 96),
+        load_xor(x, y, 104),
+        load_xor(x, y, 112),
+        load_xor(x, y, 120),
     ]
 }
 
-// Lane i of vector k is word k of row i.
+// From words in eights to words of rows: lane i of vector k is word k of row i.
 #[inline(always)]
-fn rows(words: &[u64; 128]) -> [u64x8; 16]
-    ensures { (i : ℕ) → i < 8 → lane i result ≡ row i words.now }
+fn rows(r: &[u64x8; 16]) -> [u64x8; 16]
+    ensures { (i : ℕ) → i < 8 → lane i result ≡ row i (words_in_eights r.now) }
 {
-    let [a0, a1, a2, a3, a4, a5, a6, a7] = transpose(eights(words, 0));
-    let [b0, b1, b2, b3, b4, b5, b6, b7] = transpose(eights(words, 8));
+    let [a0, a1, a2, a3, a4, a5, a6, a7] = transpose([
+        r[0], r[2], r[4], r[6], r[8], r[10], r[12], r[14],
+    ]);
+    let [b0, b1, b2, b3, b4, b5, b6, b7] = transpose([
+        r[1], r[3], r[5], r[7], r[9], r[11], r[13], r[15],
+    ]);
     [
         a0, a1, a2, a3, a4, a5, a6, a7, b0, b1, b2, b3, b4, b5, b6, b7,
     ]
@@ -239,30 +258,31 @@ fn columns(x: [u64x8; 16]) -> [u64x8; 16]
     ]
 }
 
-// The words of row i of the columns, each xored with the word of r there.
+// The words of row i of the columns, each xored with its word of the vectors left and right.
 #[inline(always)]
-fn store_row(out: &mut [u64], r: &[u64], i: usize, even: u64x8, odd: u64x8)
-    requires { (i < 8) × (length out.old ≡ 128) × (length r.now ≡ 128) }
+fn store_row(out: &mut [u64], i: usize, even: u64x8, odd: u64x8, left: u64x8, right: u64x8)
+    requires { (i < 8) × (length out.old ≡ 128) }
     ensures left { (k : ℕ) → k < 8 → slice_index out.new (16 * i + k)
-        ≡ bit_xor (slice_index (if k % 2 == 0 then even else odd) (k / 2)) (slice_index r.now (16 * i + k)) }
+        ≡ bit_xor (slice_index (if k % 2 == 0 then even else odd) (k / 2)) (slice_index left k) }
     ensures right { (k : ℕ) → k < 8 → slice_index out.new (16 * i + 8 + k)
-        ≡ bit_xor (slice_index (if k % 2 == 0 then even else odd) (4 + k / 2)) (slice_index r.now (16 * i + 8 + k)) }
+        ≡ bit_xor (slice_index (if k % 2 == 0 then even else odd) (4 + k / 2)) (slice_index right k) }
     ensures below { (k : ℕ) → k < 16 * i → slice_index out.new k ≡ slice_index out.old k }
 {
-    let (left, right) = interleave(even, odd);
-    store_xor(out, 16 * i, left, load(r, 16 * i));
-    store_xor(out, 16 * i + 8, right, load(r, 16 * i + 8));
+    let (low, high) = interleave(even, odd);
+    store_xor(out, 16 * i, low, left);
+    store_xor(out, 16 * i + 8, high, right);
 }
 
 // The words of the columns in their places, each xored with the word of r there.
 #[inline(always)]
-fn words(x: &[u64x8; 16], r: &[u64; 128]) -> [u64; 128]
+fn words(columns: &[u64x8; 16], r: &[u64x8; 16]) -> [u64; 128]
     ensures { (w : ℕ) → w < 128 → slice_index result w
-        ≡ bit_xor (lane_word x.now (2 * (w / 16) + w % 2) (w % 16 / 2)) (slice_index r.now w) }
+        ≡ bit_xor (lane_word columns.now (2 * (w / 16) + w % 2) (w % 16 / 2)) (slice_index (words_in_eights r.now) w) }
 {
     let mut out = [0; 128];
     'rows: for i in 0..8 {
-        store_row(&mut out, r, i, x[2 * i], x[2 * i + 1]);
+        let (even, odd) = (columns[2 * i], columns[2 * i + 1]);
+        store_row(&mut out, i, even, odd, r[2 * i], r[2 * i + 1]);
     }
     out
 }
@@ -281,8 +301,7 @@ pub fn xor_into(x: &mut [u64; 128], y: &[u64; 128])
 pub fn mix(x: &[u64; 128], y: &[u64; 128]) -> [u64; 128]
     ensures { result ≡ mixed x.now y.now }
 {
-    let mut r = *x;
-    xor_into(&mut r, y);
+    let r = exclusive_or(x, y);
     let across = perm(rows(&r));
     let down = perm(columns(across));
     words(&down, &r)

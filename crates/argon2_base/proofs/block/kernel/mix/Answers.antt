@@ -1,12 +1,13 @@
 use Rattle.std.proofs.Common.{◌∙◌, ap, arith}
 use Rattle.argon2_base.specs.Block.{xor_blocks}
+use Rattle.argon2_base.specs.Lanes.{words_in_eights}
 use Rattle.argon2_base.specs.Mixing.{mixed, by_rows, by_columns}
 use Rattle.argon2_base.proofs.MixingLemmas.{kernel_mixes}
 use Rattle.argon2_base.proofs.block.kernel.mix.Goals as goal
 
 pub returns : goal.returns
-unfolding mixed
+unfolding mixed words_in_eights
 returns c =
-    kernel_mixes c.xor_into.new.x c.words.result c.rows.result c.perm-across.result c.columns.result c.perm-down.result
+    kernel_mixes (words_in_eights c.exclusive_or-r.result) c.words.result c.rows.result c.perm-across.result c.columns.result c.perm-down.result
     (omega arith) (omega arith) c.rows.ensures c.perm-across.ensures c.columns.ensures c.perm-down.ensures c.words.ensures
-    ∙ ap (λ r. xor_blocks (by_columns (by_rows r)) r) c.xor_into.ensures
+    ∙ ap (λ r. xor_blocks (by_columns (by_rows r)) r) c.exclusive_or-r.ensures

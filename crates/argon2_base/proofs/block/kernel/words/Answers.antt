@@ -1,12 +1,19 @@
-use Rattle.std.proofs.Common.{◌*◌, ◌∙◌, inl, inr}
+use Rattle.std.proofs.Common.{◌*◌, ◌+◌, ◌∙◌, inl, inr, sym, ap, arith, bit_xor}
 use Rattle.std.proofs.lemmas.Bool.{cases_lt}
+use Rattle.argon2_base.specs.Lanes.{words_in_eights}
+use Rattle.argon2_base.proofs.LaneLemmas.{word_in_eights}
 use Rattle.argon2_base.proofs.MixingLemmas.{row_stored}
 use Rattle.argon2_base.proofs.block.kernel.words.Goals as goal
 
 pub rows-preserved : goal.rows-preserved
 rows-preserved c w h =
-    elim (cases_lt w (16 * c.rows.i)) [
+    let r = c.args.r.now in
+    let i = c.rows.i in
+    elim (cases_lt w (16 * i)) [
       | inl before ↦ c.store_row.ensures.below w before ∙ c.rows.invariant w before
       | inr here ↦
-          row_stored c.args.x.now c.args.r.now c.store_row.new.out c.rows.i c.store_row.ensures.left c.store_row.ensures.right w here h
+          row_stored c.args.columns.now (words_in_eights r) c.store_row.new.out i
+          (λ k l. c.store_row.ensures.left k l ∙ ap (bit_xor _) (sym (word_in_eights r (2 * i) k (16 * i + k) (omega arith) l (omega arith))))
+          (λ k l. c.store_row.ensures.right k l ∙ ap (bit_xor _) (sym (word_in_eights r (2 * i + 1) k (16 * i + 8 + k) (omega arith) l (omega arith))))
+          w here h
     ]

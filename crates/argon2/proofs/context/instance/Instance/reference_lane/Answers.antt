@@ -7,6 +7,6 @@ pub returns-then-slice-eq0-clause-value : goal.returns-then-slice-eq0-clause-val
 unfolding reference_lane
 returns-then-slice-eq0-clause-value c = grind (arith, nat_tests)
 
-pub returns-else-pass-eq0-clause-value : goal.returns-else-pass-eq0-clause-value
+pub returns-else-slice-eq0-clause-value : goal.returns-else-slice-eq0-clause-value
 unfolding reference_lane
-returns-else-pass-eq0-clause-value c = grind (arith, nat_tests)
+returns-else-slice-eq0-clause-value c = grind (arith, nat_tests)

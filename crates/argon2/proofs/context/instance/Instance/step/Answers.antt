@@ -15,11 +15,11 @@ returns-then-xors-clause-step c =
     let place = c.args.lane * lane_length ctx + c.args.column in
     let q = c.lane_length.ensures.value in
     let r = c.reference_place-reference.ensures.value in
-    let b = c.mixed_block-block.ensures.block in
+    let b = c.mixed_block.ensures.block in
     let below = place_below ctx c.args.lane c.args.column c.requires.in_lanes c.requires.in_columns in
     let old = get_or_read m (c.args.lane * c.lane_length.result + c.args.column) c.index-memory-place.result (search rules) c.index-memory-place.is [] in
     let x = c.bitxor_assign.ensures.after in
-    let y = xor_blocks-comm (get_or m place []) c.mixed_block-block.result in
+    let y = xor_blocks-comm (get_or m place []) c.mixed_block.result in
     let yes = sym c.xors.ensures ∙ c.if-xors.true in
     let by = made_by_places ctx m c.args.pass c.args.lane c.args.column c.args.word c.requires.word
     ∙ cond-true ((eqb ctx.version 19) && (ltb 0 c.args.pass)) _ _ yes in
@@ -36,7 +36,7 @@ returns-else-xors-clause-step c =
     let m = c.args.memory.now in
     let q = c.lane_length.ensures.value in
     let r = c.reference_place-reference.ensures.value in
-    let b = c.mixed_block-block.ensures.block in
+    let b = c.mixed_block-else-xors.ensures.block in
     let no = sym c.xors.ensures ∙ c.if-xors.false in
     let by = made_by_places ctx m c.args.pass c.args.lane c.args.column c.args.word c.requires.word
     ∙ cond-false ((eqb ctx.version 19) && (ltb 0 c.args.pass)) _ _ no in

@@ -1,0 +1,19 @@
+use Rattle.std.proofs.Common.{◌≡◌, ◌∙◌, length, arith, bit_xor}
+use Rattle.std.proofs.lemmas.Simd.{length-zip2}
+use Rattle.argon2_base.specs.Block.{xor_blocks}
+use Rattle.argon2_base.proofs.LaneLemmas.{below_sixteen, in_eights}
+use Rattle.argon2_base.proofs.block.kernel.exclusive_or.Goals as goal
+
+pub returns : goal.returns
+unfolding xor_blocks
+returns c =
+    let x = c.args.x.now in
+    let y = c.args.y.now in
+    let same : length x ≡ length y = omega arith in
+    let long_x : length x ≡ 128 = omega arith in
+    let long : length (xor_blocks x y) ≡ 128 = length-zip2 bit_xor x y same ∙ long_x in
+    in_eights _ (xor_blocks x y) long
+    (below_sixteen _ c.load_xor.ensures c.load_xor-2.ensures c.load_xor-3.ensures c.load_xor-4.ensures
+    c.load_xor-5.ensures c.load_xor-6.ensures c.load_xor-7.ensures c.load_xor-8.ensures
+    c.load_xor-9.ensures c.load_xor-10.ensures c.load_xor-11.ensures c.load_xor-12.ensures
+    c.load_xor-13.ensures c.load_xor-14.ensures c.load_xor-15.ensures c.load_xor-16.ensures)
