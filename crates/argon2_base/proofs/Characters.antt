@@ -23,10 +23,6 @@ each p P gives (x ∷ s) h = let b = both (p x) (list_all p s) h in (gives x b.0
 pub name_char_small : (c : ℕ) → is_name_char c ≡ true → c < 128
 name_char_small c h = grind (arith, nat_tests)
 
--- a character of values is ASCII
-pub value_char_small : (c : ℕ) → is_value_char c ≡ true → c < 128
-value_char_small c h = grind (arith, nat_tests)
-
 -- characters that pass such a test are ASCII text
 ascii : (p : ℕ → Bool) (gives : (c : ℕ) → p c ≡ true → c < 128) (s : List ℕ) → list_all p s ≡ true → IsAscii s
 ascii p gives [] h i = omega arith

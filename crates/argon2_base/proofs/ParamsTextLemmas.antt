@@ -64,10 +64,6 @@ map_again (p ∷ ps) h = let b = both (is_param p) (list_all is_param ps) h in r
 pub all_params : (ps : List Pair) → are_params ps ≡ true → list_all is_param ps ≡ true
 all_params ps h = (both (list_all is_param ps) _ (both _ (leb (length (params_text ps)) 127) h).0).0
 
--- text that has a first character
-pub pairs_of_some : (c : ℕ) (s : List ℕ) → pairs_of (c ∷ s) ≡ map pair_of (items_of (c ∷ s))
-pairs_of_some c s = refl
-
 -- text that isn't empty
 pub pairs_of_items : (t : List ℕ) → 0 < length t → pairs_of t ≡ map pair_of (items_of t)
 pairs_of_items [] h = absurd (omega arith)

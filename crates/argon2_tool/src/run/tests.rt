@@ -190,6 +190,15 @@ fn tags(rt: HostRuntime) -> Result<(), Fail> {
     expect(&rt, rt.alloc(), words, &mut Failing::after(1), unread)
 }
 
+#[test]
+fn tags_by_64_mebibytes(rt: HostRuntime) -> Result<(), Fail> {
+    let mut input: &[u8] = b"password";
+    let salt = "c29tZXNhbHQAAAAAAAAAAA";
+    let words = &["tag", "argon2d", "19", "65536", "2", "1", "32", salt];
+    let tag = "271cbbe1cb306369aaf72faefa225c272f04a8ea78b7f0bb0d60f31b0181dc83\n";
+    expect(&rt, rt.alloc(), words, &mut input, (0, tag, ""))
+}
+
 // Up to 64 bytes the long hash is the digest of the length, as four bytes, and the message.
 #[test]
 fn long_64_is_a_digest(rt: HostRuntime) -> Result<(), Fail> {
