@@ -6,6 +6,7 @@ mod History
 mod InMemory
 mod Independence
 mod KnownAnswers
+mod KnownTag
 mod LaneAfterLane
 mod LastColumn
 mod ListedLemmas
