@@ -1,5 +1,7 @@
 -- The names and numbers of the variants.
-use Rattle.std.specs.Prelude.{◌≡◌, ◌≢◌, ℕ, List, codes, Result, Ok, Err}
+use Rattle.std.specs.Prelude.{◌≡◌, ◌≢◌, ℕ, List, [], ◌∷◌, codes, Option, Result, Ok, Err}
+use Rattle.std.specs.List.{find}
+use Rattle.std.specs.Str.{bytes_eq}
 use Rattle.argon2.specs.declared.algorithm.Algorithm.{Algorithm}
 use Rattle.argon2.specs.declared.algorithm.Algorithm.TheVariants.{Argon2d, Argon2i, Argon2id}
 use Rattle.argon2_base.specs.declared.error.Error.{Error}
@@ -18,6 +20,11 @@ abbrev pub algorithm_number : Algorithm → ℕ
 algorithm_number Argon2d = 0
 algorithm_number Argon2i = 1
 algorithm_number Argon2id = 2
+
+-- the variant of this name
+abbrev pub algorithm_named : List ℕ → Option Algorithm
+algorithm_named name =
+    find (λ algorithm. bytes_eq name (algorithm_name algorithm)) (Argon2d ∷ Argon2i ∷ Argon2id ∷ [])
 
 -- the variant of this name, or the refusal of a name that no variant has
 abbrev pub IsNamed : List ℕ → Result Algorithm Error → Type 0

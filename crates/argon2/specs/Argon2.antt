@@ -8,6 +8,7 @@ use Rattle.argon2.specs.declared.context.secret.Secret.{Secret}
 use Rattle.argon2.specs.declared.context.Argon2.{Argon2}
 use Rattle.argon2.specs.Context.{Context, context_with}
 use Rattle.argon2.specs.Parameters.{Parameters, first_fault, IsValid}
+use Rattle.argon2.specs.Settings.{Settings}
 use Rattle.argon2_base.specs.declared.error.Error.{Error}
 use Rattle.argon2.specs.Params.{parameters_of}
 
@@ -16,22 +17,38 @@ abbrev pub secret_bytes : Option Secret → List ℕ
 secret_bytes None = []
 secret_bytes (Some secret) = secret.bytes.now
 
+-- its secret
+abbrev pub secret_of : Argon2 → List ℕ
+secret_of argon2 = secret_bytes argon2.secret
+
+-- all else that it has
+abbrev pub settings_of : Argon2 → Settings
+settings_of argon2 = record {
+  algorithm = argon2.algorithm;
+  version = argon2.version;
+  parameters = parameters_of argon2.params;
+}
+
 -- its parameters
 abbrev pub own_parameters : Argon2 → Parameters
-own_parameters argon2 = parameters_of argon2.params
+own_parameters argon2 = (settings_of argon2).parameters
 
 -- what its hashes depend on beside the password, the salt and the output's length
 abbrev pub context_of : Argon2 → Context
-context_of argon2 =
-    context_with argon2.algorithm argon2.version (own_parameters argon2) (secret_bytes argon2.secret)
+context_of argon2 = context_with (settings_of argon2) (secret_of argon2)
 
--- Argon2id of version 0x13 with these parameters and no secret
+-- Argon2id of version 0x13 with these parameters
+abbrev pub argon2id_with : Parameters → Settings
+argon2id_with parameters = record { algorithm = Argon2id; version = V0x13; parameters = parameters }
+
+-- the same and no secret
 abbrev pub IsArgon2idWith : Parameters → Argon2 → Type 0
 IsArgon2idWith parameters argon2 =
-    (context_of argon2 ≡ context_with Argon2id V0x13 parameters []) × (own_parameters argon2 ≡ parameters)
+    (settings_of argon2 ≡ argon2id_with parameters) × (secret_of argon2 ≡ [])
 
 -- hashing with these parameters, which are valid, and no secret, or their first fault
 abbrev pub IsContextOf : Algorithm → Version → Parameters → Result Argon2 Error → Type 0
-IsContextOf algorithm version v (Ok argon2) =
-    IsValid v × (context_of argon2 ≡ context_with algorithm version v []) × (own_parameters argon2 ≡ v)
+IsContextOf algorithm version v (Ok argon2) = IsValid v
+    × (settings_of argon2 ≡ record { algorithm = algorithm; version = version; parameters = v })
+    × (secret_of argon2 ≡ [])
 IsContextOf algorithm version v (Err e) = first_fault v.m_cost v.t_cost v.p_cost v.output_len ≡ Some e

@@ -1,11 +1,10 @@
 -- What a hash depends on beside the password, the salt and the output's length, and the shape of
 -- its memory (RFC 9106, section 3.2).
 use Rattle.std.specs.Prelude.{◌≡◌, ℕ, ◌*◌, ◌^◌, ◌<◌, ◌≤◌, ◌⊎◌, List, length, None, IsNone}
-use Rattle.argon2.specs.declared.algorithm.Algorithm.{Algorithm}
-use Rattle.argon2.specs.declared.version.Version.{Version}
 use Rattle.argon2.specs.Algorithm.{algorithm_number}
 use Rattle.argon2.specs.Version.{version_number}
-use Rattle.argon2.specs.Parameters.{Parameters, first_fault}
+use Rattle.argon2.specs.Parameters.{first_fault}
+use Rattle.argon2.specs.Settings.{Settings}
 use Rattle.argon2.specs.Shape as shape
 
 -- The numbers are those that enter the initial hash and the address blocks.
@@ -18,16 +17,16 @@ pub record Context : Type 0 where
   pub secret : List ℕ
   pub associated : List ℕ
 
--- what a variant, a version, parameters and a secret make
-abbrev pub context_with : Algorithm → Version → Parameters → List ℕ → Context
-context_with algorithm version v secret = record {
-  algorithm = algorithm_number algorithm;
-  version = version_number version;
-  m_cost = v.m_cost;
-  t_cost = v.t_cost;
-  p_cost = v.p_cost;
+-- what settings and a secret make
+abbrev pub context_with : Settings → List ℕ → Context
+context_with settings secret = record {
+  algorithm = algorithm_number settings.algorithm;
+  version = version_number settings.version;
+  m_cost = settings.parameters.m_cost;
+  t_cost = settings.parameters.t_cost;
+  p_cost = settings.parameters.p_cost;
   secret = secret;
-  associated = v.associated;
+  associated = settings.parameters.associated;
 }
 
 -- the columns of a segment

@@ -13,6 +13,7 @@ pub mod ParamsBuilder
 pub mod Recurrence
 pub mod Reference
 pub mod Refusals
+pub mod Settings
 pub mod Shape
 pub mod Steps
 pub mod Tag

@@ -55,7 +55,7 @@ pub struct Argon2<'key> {
 impl<'key> Argon2<'key> {
     ghost use Rattle.std.specs.Prelude.{◌≡◌, ◌↔◌, ◌≤◌, ℕ, List, [], IsOk, IfOk, IfErr, OnOk, OnErr, length, take, drop};
     ghost use Rattle.argon2_base.specs.declared.error.Error.TheVariants.{SecretTooLong};
-    ghost use Rattle.argon2.specs.Argon2.{context_of, own_parameters, secret_bytes};
+    ghost use Rattle.argon2.specs.Argon2.{context_of, own_parameters, secret_of, settings_of};
     ghost use Rattle.argon2.specs.Context.{context_with, block_count, IsValid};
     ghost use Rattle.argon2.specs.Params.{parameters_of};
     ghost use Rattle.argon2.specs.Refusals.{answer_of, refusal_of, fill_refusal};
@@ -64,12 +64,13 @@ impl<'key> Argon2<'key> {
     /// Hashing with these parameters and no secret. The key identifier of the parameters changes no
     /// tag; their associated data is hashed.
     pub fn new(algorithm: Algorithm, version: Version, params: Params) -> Argon2<'key>
-        ensures context { context_of result ≡ context_with algorithm version (parameters_of params) [] }
-        ensures params { own_parameters result ≡ parameters_of params }
+        ensures settings { settings_of result
+            ≡ record { algorithm = algorithm; version = version; parameters = parameters_of params } }
+        ensures no_secret { secret_of result ≡ [] }
 
-        ensures keyid { (keyid : List ℕ) → context_of result
-            ≡ context_with algorithm version (record (parameters_of params) { keyid = keyid }) [] }
-        ensures associated { (context_of result).associated ≡ (parameters_of params).associated }
+        ensures keyid { (keyid : List ℕ) → let parameters = record (parameters_of params) { keyid = keyid } in
+            context_of result ≡ context_with
+            (record { algorithm = algorithm; version = version; parameters = parameters }) [] }
     {
         Argon2 {
             algorithm,
@@ -92,12 +93,9 @@ impl<'key> Argon2<'key> {
     ) -> Result<Argon2<'key>>
         ensures short { IsOk result ↔ (length secret.now ≤ MAX_SECRET_LEN) }
         ensures long { IfErr result (λ e. e ≡ SecretTooLong) }
-        ensures context { IfOk result (λ a. context_of a
-            ≡ context_with algorithm version (parameters_of params) secret.now) }
-        ensures params { IfOk result (λ a. own_parameters a ≡ parameters_of params) }
-
-        ensures empty { secret.now ≡ [] → IfOk result (λ a. context_of a
-            ≡ context_with algorithm version (parameters_of params) []) }
+        ensures settings { IfOk result (λ a. settings_of a
+            ≡ record { algorithm = algorithm; version = version; parameters = parameters_of params }) }
+        ensures secret { IfOk result (λ a. secret_of a ≡ secret.now) }
     {
         if secret.len() > MAX_SECRET_LEN {
             return Err(Error::SecretTooLong);
@@ -193,7 +191,7 @@ impl<'key> Argon2<'key> {
 
     // The secret's bytes.
     fn secret(&self) -> &'key [u8]
-        ensures value { result.now ≡ secret_bytes self.now.secret }
+        ensures value { result.now ≡ secret_of self.now }
         ensures short { length result.now ≤ MAX_SECRET_LEN }
     {
         match self.secret {

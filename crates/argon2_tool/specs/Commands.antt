@@ -2,21 +2,17 @@
 use Rattle.std.specs.Prelude.{ℕ, ◌≡◌, ◌≤◌, ◌<◌, ◌^◌, ◌==◌, if◌then◌else◌, Option, Some, None, IfSome, Result, Ok, Err, IsOkAnd, List, [], ◌∷◌, ◌++◌, length, codes}
 use Rattle.std.specs.Io.KnownBytes.{Appends}
 use Rattle.std.specs.Fmt.{decimal}
-use Rattle.std.specs.List.{find}
-use Rattle.std.specs.Str.{bytes_eq}
 use Rattle.hex.specs.Hex.{encode_lower}
 use Rattle.argon2_base.specs.Blake2b.{blake2b}
 use Rattle.argon2_base.specs.LongHash.{long_hash}
 use Rattle.argon2_base.specs.declared.error.Error.{Error}
 use Rattle.argon2_base.specs.declared.error.Error.TheVariants.{AlgorithmInvalid, OutputTooShort, VersionInvalid}
 use Rattle.argon2.specs.declared.algorithm.Algorithm.{Algorithm}
-use Rattle.argon2.specs.declared.algorithm.Algorithm.TheVariants.{Argon2d, Argon2i, Argon2id}
 use Rattle.argon2.specs.declared.version.Version.{Version}
-use Rattle.argon2.specs.declared.version.Version.TheVariants.{V0x10, V0x13}
 use Rattle.argon2.specs.declared.context.Argon2.{Argon2}
-use Rattle.argon2.specs.Algorithm.{algorithm_name}
+use Rattle.argon2.specs.Algorithm.{algorithm_named}
 use Rattle.argon2.specs.Argon2.{context_of, own_parameters}
-use Rattle.argon2.specs.Version.{version_number}
+use Rattle.argon2.specs.Version.{version_numbered}
 use Rattle.argon2.specs.Context.{Context, context_with}
 use Rattle.argon2.specs.Parameters.{first_fault, plain}
 use Rattle.argon2.specs.Refusals.{length_refusal}
@@ -50,14 +46,6 @@ words_of (Tag settings len salt) = codes "tag" ∷ settings_words settings ++ de
 abbrev pub Spells : List (List ℕ) → Command → Type 0
 Spells words command = IsCommand command × (words ≡ words_of command)
 
--- the variant of this name
-abbrev pub algorithm_named : List ℕ → Option Algorithm
-algorithm_named name = find (λ algorithm. bytes_eq name (algorithm_name algorithm)) (Argon2d ∷ Argon2i ∷ Argon2id ∷ [])
-
--- the version of this number
-abbrev pub version_numbered : ℕ → Option Version
-version_numbered number = find (λ version. number == version_number version) (V0x10 ∷ V0x13 ∷ [])
-
 -- the value, where nothing refuses it
 abbrev pub unless : {X : Type 0} → Option Error → X → Result X Error
 unless None value = Ok value
@@ -68,7 +56,11 @@ abbrev pub context_under : Option Algorithm → Option Version → Settings → 
 context_under None version s = Err AlgorithmInvalid
 context_under (Some algorithm) None s = Err VersionInvalid
 context_under (Some algorithm) (Some version) s = unless (first_fault s.m_cost s.t_cost s.p_cost None)
-    (context_with algorithm version (plain s.m_cost s.t_cost s.p_cost None) [])
+    (context_with (record {
+      algorithm = algorithm;
+      version = version;
+      parameters = plain s.m_cost s.t_cost s.p_cost None;
+    }) [])
 
 -- what settings stand for, or why they are refused
 abbrev pub context_asked : Settings → Result Context Error

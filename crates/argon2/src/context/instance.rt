@@ -52,7 +52,8 @@ impl<'a> Instance<'a> {
         params: &'a Params,
         secret: &'a [u8],
     ) -> Instance<'a>
-        ensures { result ≡ context_with algorithm version (parameters_of params.now) secret.now }
+        ensures { let parameters = parameters_of params.now in result ≡ context_with
+            (record { algorithm = algorithm; version = version; parameters = parameters }) secret.now }
     {
         let m_cost = params.m_cost();
         let p_cost = params.p_cost();

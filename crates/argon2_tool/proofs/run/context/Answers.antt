@@ -6,9 +6,8 @@ use Rattle.argon2.specs.declared.algorithm.Algorithm.{Algorithm}
 use Rattle.argon2.specs.declared.algorithm.Algorithm.TheVariants.{Argon2d, Argon2i, Argon2id}
 use Rattle.argon2.specs.declared.version.Version.{Version}
 use Rattle.argon2.specs.declared.version.Version.TheVariants.{V0x10, V0x13}
-use Rattle.argon2.specs.Algorithm.{algorithm_name}
-use Rattle.argon2.specs.Version.{version_number}
-use Rattle.argon2_tool.specs.Commands.{algorithm_named, version_numbered}
+use Rattle.argon2.specs.Algorithm.{algorithm_name, algorithm_named}
+use Rattle.argon2.specs.Version.{version_number, version_numbered}
 use Rattle.argon2_tool.proofs.run.context.Goals as goal
 
 -- a test of what does not hold fails
