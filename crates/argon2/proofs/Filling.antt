@@ -8,9 +8,9 @@ use Rattle.std.proofs.lemmas.Bool.{cond-false, cases_eq, and_left, and_right, ne
 use Rattle.argon2.specs.Context.{Context, segment_length, lane_length, block_count}
 use Rattle.argon2.specs.Reference.{Reference}
 use Rattle.argon2.specs.Recurrence.{FirstColumns, made_block, block_of, reference_places, matrix}
-use Rattle.argon2.specs.Steps.{in_memory, step, reference_place, turns, turn_count, IsSchedule, run, run_slices, run_passes}
+use Rattle.argon2.specs.Steps.{IsStep, in_memory, step, reference_place, turns, turn_count, IsSchedule, run, run_slices, run_passes}
 use Rattle.argon2.specs.Laws.{Begins, AreSchedules}
-use Rattle.argon2.proofs.Sources.{Fits, IsStep, InSlice, AgreeOn, made_cong, reference_of_cong}
+use Rattle.argon2.proofs.Sources.{Fits, InSlice, AgreeOn, made_cong, reference_of_cong}
 use Rattle.argon2.proofs.Schedules.{turn_column, turns-same, turns-other, MayRun, MayRun-tail, MayRun-from, head_step, turn_count-le, place_apart}
 use Rattle.argon2.proofs.History.{first_columns, made_blocks}
 

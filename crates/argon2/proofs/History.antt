@@ -7,8 +7,9 @@ use Rattle.std.proofs.lemmas.Nat.{div-mul-add, mod-mul-add}
 use Rattle.std.proofs.lemmas.Bool.{cond-true, cond-false, cases_lt, eqb-true, ltb-true, eq-eqb, lt-ltb, and_parts, and_from, false_from_ne_true}
 use Rattle.argon2.specs.Context.{Context, lane_length}
 use Rattle.argon2.specs.Recurrence.{FirstColumns, Blocks, made_block, rule, in_history, history, block_of}
+use Rattle.argon2.specs.Steps.{IsStep}
 use Rattle.argon2.specs.Laws.{IsRecurrence}
-use Rattle.argon2.proofs.Sources.{Fits, IsStep, Reads, made_cong}
+use Rattle.argon2.proofs.Sources.{Fits, Reads, made_cong}
 
 -- a column's moment
 abbrev pub moment : Context → ℕ → ℕ → ℕ

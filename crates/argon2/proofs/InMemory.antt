@@ -1,11 +1,11 @@
 -- What a step reads of a list, by places.
-use Rattle.std.proofs.Common.{◌≡◌, ℕ, zero, suc, ◌+◌, ◌-◌, ◌*◌, cond, ◌&&◌, eqb, ltb, List, [], get_or, refl, sym, ap, ◌∙◌, arith, ◌<◌, true, ◌/◌, ◌%◌, false}
-use Rattle.std.proofs.lemmas.Nat.{mul-add-lt, div-mul-add, mod-mul-add}
-use Rattle.std.proofs.lemmas.Bool.{cond-true, cond-false, ne_eqb}
+use Rattle.std.proofs.Common.{◌≡◌, ℕ, zero, suc, ◌+◌, ◌-◌, ◌*◌, cond, ◌&&◌, eqb, ltb, List, [], get_or, refl, sym, ap, ◌∙◌, arith, ◌<◌}
+use Rattle.std.proofs.lemmas.Nat.{mul-add-lt}
+use Rattle.std.proofs.lemmas.Bool.{cond-false, ne_eqb}
 use Rattle.argon2_base.specs.Block.{xor_blocks}
 use Rattle.argon2_base.specs.Mixing.{mixed}
-use Rattle.argon2.specs.Context.{Context, lane_length, block_count, segment_length}
-use Rattle.argon2.specs.Recurrence.{is_independent, address_block, address_word, previous, reference_word, reference_of, made_block}
+use Rattle.argon2.specs.Context.{Context, lane_length, block_count}
+use Rattle.argon2.specs.Recurrence.{previous, reference_word, reference_of, made_block}
 use Rattle.argon2.specs.Reference.{reference}
 use Rattle.argon2.specs.Steps.{in_memory, previous_place, reference_place}
 
@@ -49,28 +49,3 @@ pub place_by_word : (ctx : Context) (memory : List (List ℕ)) (pass lane column
 unfolding reference_place reference_of
 place_by_word ctx memory pass lane column w e =
     ap (λ w'. (reference ctx pass lane column w').lane * lane_length ctx + (reference ctx pass lane column w').column) (sym e)
-
--- the word of an index of a segment
-pub record WordOfIndex (ctx : Context) (memory : List (List ℕ)) (pass lane slice index : ℕ) : Type 0 where
-  pub addressed : is_independent ctx pass slice ≡ true →
-      reference_word ctx (in_memory ctx memory) pass lane (slice * segment_length ctx + index) ≡ get_or (address_block ctx pass lane slice (index / 128 + 1)) (index % 128) 0
-  pub otherwise : is_independent ctx pass slice ≡ false →
-      reference_word ctx (in_memory ctx memory) pass lane (slice * segment_length ctx + index)
-      ≡ get_or (previous ctx (in_memory ctx memory) pass lane (slice * segment_length ctx + index)) 0 0
-
--- each index has one
-pub word_of_index : (ctx : Context) (memory : List (List ℕ)) (pass lane slice index : ℕ) →
-    index < segment_length ctx → WordOfIndex ctx memory pass lane slice index
-unfolding reference_word address_word
-word_of_index ctx memory pass lane slice index below =
-    let s = segment_length ctx in
-    let column = slice * s + index in
-    let k = div-mul-add slice s index below in
-    let i = mod-mul-add slice s index below in
-    let before = get_or (previous ctx (in_memory ctx memory) pass lane column) 0 0 in
-    let at : ℕ → ℕ → ℕ = λ k i. cond (is_independent ctx pass k) (get_or (address_block ctx pass lane k (i / 128 + 1)) (i % 128) 0) before in
-    let e : at (column / s) (column % s) ≡ at slice index = ap (λ k. at k (column % s)) k ∙ ap (at slice) i in
-    record {
-      addressed = λ yes. e ∙ cond-true (is_independent ctx pass slice) _ before yes;
-      otherwise = λ no. e ∙ cond-false (is_independent ctx pass slice) _ before no;
-    }

@@ -1,3 +1,4 @@
+mod Addresses
 mod Counts
 mod DecodedSlices
 mod Filled

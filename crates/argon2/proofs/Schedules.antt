@@ -8,8 +8,8 @@ use Rattle.std.proofs.lemmas.Nat.{same_from_place}
 use Rattle.std.proofs.lemmas.Bool.{cond_both, cond-true, cond-false, cases_eq, eq-eqb, ne_eqb, and_from}
 use Rattle.argon2.specs.Context.{Context, segment_length, lane_length}
 use Rattle.argon2.specs.Recurrence.{made_block}
-use Rattle.argon2.specs.Steps.{in_memory, step, turns, turn_count, IsSchedule, run}
-use Rattle.argon2.proofs.Sources.{Fits, IsStep, InSlice, made_cong}
+use Rattle.argon2.specs.Steps.{IsStep, in_memory, step, turns, turn_count, IsSchedule, run}
+use Rattle.argon2.proofs.Sources.{Fits, InSlice, made_cong}
 
 -- other lanes or columns stand at other places
 pub place_apart : (q l c m d : ℕ) → c < q → d < q → (l ≡ m → c ≡ d → ⊥) → l * q + c ≢ m * q + d

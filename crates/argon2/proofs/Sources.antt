@@ -10,18 +10,13 @@ use Rattle.argon2_base.specs.Block.{xor_blocks}
 use Rattle.argon2_base.specs.Mixing.{mixed}
 use Rattle.argon2.specs.Context.{Context, segment_length, lane_length}
 use Rattle.argon2.specs.Recurrence.{Blocks, is_independent, address_word, previous, reference_word, reference_of, made_block}
+use Rattle.argon2.specs.Steps.{IsStep}
 use Rattle.argon2.specs.Reference.{columns, finished_segments, without_last, permitted, Reference, reference_lane, reference_index, reference}
 
 -- what the proofs need of the parameters
 pub record Fits (ctx : Context) : Type 0 where
   pub some_lane : 0 < ctx.p_cost
   pub two_columns : 2 ≤ segment_length ctx
-
--- a block that is made of others
-pub record IsStep (ctx : Context) (pass lane column : ℕ) : Type 0 where
-  pub in_lanes : lane < ctx.p_cost
-  pub in_columns : column < lane_length ctx
-  pub later : (pass ≡ 0) → 2 ≤ column
 
 -- The block of pass, lane and column may be made of that of r, l and c: the block of c that is the newest at that moment, and in
 -- another lane none of the slice at hand

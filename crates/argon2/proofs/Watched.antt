@@ -5,10 +5,10 @@ use Rattle.std.proofs.lemmas.Nat.{mul-add-lt, same_from_place}
 use Rattle.std.proofs.lemmas.Bool.{cases_eq}
 use Rattle.argon2.specs.Context.{Context, segment_length, lane_length, block_count}
 use Rattle.argon2.specs.Recurrence.{FirstColumns, reference_places}
-use Rattle.argon2.specs.Steps.{reference_place, step, turns, turn_count, IsSchedule, run_slices, run_passes}
+use Rattle.argon2.specs.Steps.{IsStep, reference_place, step, turns, turn_count, IsSchedule, run_slices, run_passes}
 use Rattle.argon2.specs.Watching.{position_index, watch, watch_slices, watch_passes, AreReferencePlaces}
 use Rattle.argon2.specs.Laws.{Begins, AreSchedules}
-use Rattle.argon2.proofs.Sources.{Fits, IsStep}
+use Rattle.argon2.proofs.Sources.{Fits}
 use Rattle.argon2.proofs.Schedules.{turn_column, turns-same, turns-other, MayRun, MayRun-tail, MayRun-from, head_step, turn_count-le}
 use Rattle.argon2.proofs.Filling.{Holds, Holds-like, step_holds, step_answers, done_before, begun, slices_hold, passes_hold, begins, turn_count-later_slice, turn_count-later_pass}
 
@@ -208,6 +208,6 @@ watched ctx fits first schedules is memory old start marks =
       firsts = λ l c a b. refl;
     }) in
     record {
-      of_steps = λ pass lane column t a b g. m.steps pass lane column t a b g (inl t);
+      of_steps = λ pass lane column t st. m.steps pass lane column t st.in_lanes st.in_columns st.later (inl t);
       of_first_columns = m.firsts;
     }

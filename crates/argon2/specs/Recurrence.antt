@@ -1,6 +1,6 @@
 -- The blocks of Argon2 (RFC 9106, section 3.2): which blocks each one is made of. Passes are kept
 -- apart, and nothing is overwritten.
-use Rattle.std.specs.Prelude.{ℕ, zero, suc, ◌+◌, ◌-◌, ◌*◌, ◌/◌, ◌%◌, Bool, ◌&&◌, ◌||◌, List, [], ◌∷◌, ◌++◌, map, replicate, nat_lt, ◌==◌, slice_index, slice_index_or, if◌then◌else◌}
+use Rattle.std.specs.Prelude.{ℕ, zero, suc, ◌+◌, ◌-◌, ◌*◌, ◌/◌, ◌%◌, Bool, ◌&&◌, ◌||◌, List, [], ◌∷◌, ◌++◌, map, replicate, Option, Some, None, nat_lt, ◌==◌, slice_index, slice_index_or, if◌then◌else◌}
 use Rattle.std.specs.List.{range_with_len, fold}
 use Rattle.argon2_base.specs.Block.{xor_blocks, zero_block}
 use Rattle.argon2_base.specs.Mixing.{mixed}
@@ -38,6 +38,14 @@ address_counter index = index / 128 + 1
 unfoldable pub address_word : Context → ℕ → ℕ → ℕ → ℕ → ℕ
 address_word ctx pass lane slice index =
     slice_index (address_block ctx pass lane slice (address_counter index)) (index % 128)
+
+-- The address block that has the word of a block, in a slice that has address blocks: one serves 128
+-- indexes.
+unfoldable pub addresses_of : Context → ℕ → ℕ → ℕ → Option (List ℕ)
+addresses_of ctx pass lane column =
+    let slice = column / segment_length ctx in
+    let counter = address_counter (column % segment_length ctx) in
+    if is_independent ctx pass slice then Some (address_block ctx pass lane slice counter) else None
 
 -- the block one column before, or at column 0 the last of the pass before
 unfoldable pub previous : Context → Blocks → ℕ → ℕ → ℕ → List ℕ

@@ -1,6 +1,6 @@
 -- The blocks in one memory, lane after lane, where a block overwrites that of the pass before; and
 -- the orders of the steps that write them.
-use Rattle.std.specs.Prelude.{◌≡◌, ℕ, zero, suc, ◌+◌, ◌-◌, ◌*◌, ◌<◌, ◌&&◌, List, [], ◌∷◌, ◌==◌, count_by, replicate, slice_index_or, slice_set, if◌then◌else◌}
+use Rattle.std.specs.Prelude.{◌≡◌, ℕ, zero, suc, ◌+◌, ◌-◌, ◌*◌, ◌<◌, ◌≤◌, ◌&&◌, List, [], ◌∷◌, ◌==◌, count_by, replicate, slice_index_or, slice_set, if◌then◌else◌}
 use Rattle.std.specs.List.{AllByRecursion, flat_map, range_with_len}
 use Rattle.argon2.specs.Context.{Context, segment_length, lane_length}
 use Rattle.argon2.specs.Reference.{place_of}
@@ -18,6 +18,12 @@ in_memory ctx memory pass lane column = slice_index_or memory (lane * lane_lengt
 abbrev pub previous_place : Context → ℕ → ℕ → ℕ
 previous_place ctx lane column =
     lane * lane_length ctx + (if column == 0 then lane_length ctx - 1 else column - 1)
+
+-- a block that a step writes: any but those of columns 0 and 1 of pass 0
+pub record IsStep (ctx : Context) (pass lane column : ℕ) : Type 0 where
+  pub in_lanes : lane < ctx.p_cost
+  pub in_columns : column < lane_length ctx
+  pub later : pass ≡ 0 → 2 ≤ column
 
 -- the memory after the block of a pass, a lane and a column is written
 unfoldable pub step : Context → Memory → ℕ → ℕ → ℕ → Memory

@@ -1,8 +1,8 @@
 -- The places of the references, in a list that has a place for each pass, lane and column.
-use Rattle.std.specs.Prelude.{◌≡◌, ℕ, zero, suc, ◌+◌, ◌-◌, ◌*◌, ◌<◌, ◌≤◌, List, [], ◌∷◌, slice_index, slice_set}
+use Rattle.std.specs.Prelude.{◌≡◌, ℕ, zero, suc, ◌+◌, ◌-◌, ◌*◌, ◌<◌, List, [], ◌∷◌, slice_index, slice_set}
 use Rattle.argon2.specs.Context.{Context, segment_length, lane_length, block_count}
 use Rattle.argon2.specs.Recurrence.{FirstColumns, reference_places}
-use Rattle.argon2.specs.Steps.{Memory, step, reference_place, turns, run_slices, run_passes}
+use Rattle.argon2.specs.Steps.{Memory, IsStep, step, reference_place, turns, run_slices, run_passes}
 
 -- where the list has the place of a block's reference
 abbrev pub position_index : Context → ℕ → ℕ → ℕ → ℕ
@@ -12,7 +12,7 @@ position_index ctx pass lane column = pass * block_count ctx + (lane * lane_leng
 pub record AreReferencePlaces (ctx : Context) (first : FirstColumns) (old new : List ℕ) : Type 0
   where
     pub of_steps : (pass lane column : ℕ) →
-        pass < ctx.t_cost → lane < ctx.p_cost → column < lane_length ctx → (pass ≡ 0 → 2 ≤ column) →
+        pass < ctx.t_cost → IsStep ctx pass lane column →
         slice_index new (position_index ctx pass lane column)
         ≡ reference_places ctx first pass lane column
     pub of_first_columns : (lane column : ℕ) → lane < ctx.p_cost → column < 2 →

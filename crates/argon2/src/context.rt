@@ -9,12 +9,12 @@ use argon2_base::block::{Block, Work};
 use argon2_base::error::{Error, Result};
 use std::fmt;
 
+mod addresses;
 mod fill;
 mod hash;
 mod inputs;
 mod instance;
 mod own_memory;
-mod own_word;
 mod reference;
 mod secret;
 mod segment;

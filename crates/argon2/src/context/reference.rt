@@ -2,9 +2,11 @@
 
 ghost use Rattle.std.specs.Prelude.{◌≡◌, ℕ, ◌+◌, ◌-◌, ◌*◌, ◌/◌, ◌^◌, ◌<◌, ◌≤◌, ◌==◌, length, slice_index_or, if◌then◌else◌};
 ghost use Rattle.argon2.specs.Context.{segment_length, lane_length, block_count};
+ghost use Rattle.argon2.specs.Steps.{IsStep};
 ghost use Rattle.argon2.specs.Reference.{permitted, reference_lane, reference_index, reference, place_of};
 
 use super::instance::Instance;
+use super::step::Step;
 
 /// Which of `count` blocks a word takes.
 #[tactic(auto, unfolding(crate::specs::Reference::reference_index))]
@@ -20,56 +22,53 @@ fn reference_index(count: u32, word: u64) -> u32
 }
 
 impl<'a> Instance<'a> {
-    /// The place of the block that a word takes for the block of a pass, a lane and a column.
-    pub(super) fn reference_place(&self, pass: u32, lane: u32, column: u32, word: u64) -> u32
-        requires in_lanes { lane < self.now.p_cost }
-        requires in_columns { column < lane_length self.now }
-        requires later { pass ≡ 0 → 2 ≤ column }
-        ensures value { result ≡ place_of self.now (reference self.now pass lane column word) }
+    /// The place of the block that a word takes for a step.
+    pub(super) fn reference_place(&self, at: Step, word: u64) -> u32
+        requires { IsStep self.now at.pass at.lane at.column }
+        ensures value { result ≡ place_of self.now (reference self.now at.pass at.lane at.column word) }
         ensures within { result < block_count self.now }
     {
-        let other = self.reference_lane(pass, lane, column, word);
-        let count = self.permitted_count(pass, lane, column, other);
+        let other = self.reference_lane(at, word);
+        let count = self.permitted_count(at, other);
         let index = reference_index(count, word);
-        other * self.lane_length() + self.permitted_column(pass, column, index)
+        other * self.lane_length() + self.permitted_column(at, index)
     }
 
     /// The lane that is referred to.
-    fn reference_lane(&self, pass: u32, lane: u32, column: u32, word: u64) -> u32
-        requires in_lanes { lane < self.now.p_cost }
-        ensures value { result ≡ reference_lane self.now pass lane column word }
+    fn reference_lane(&self, at: Step, word: u64) -> u32
+        requires { IsStep self.now at.pass at.lane at.column }
+        ensures value { result ≡ reference_lane self.now at.pass at.lane at.column word }
         ensures within { result < self.now.p_cost }
-        ensures alone { pass ≡ 0 → column / segment_length self.now ≡ 0 → result ≡ lane }
+        ensures alone { at.pass ≡ 0 → at.column / segment_length self.now ≡ 0 → result ≡ at.lane }
     {
-        let slice = column / self.segment_length();
+        let slice = at.column / self.segment_length();
         let lanes = self.lanes();
-        if lanes == 1 || pass == 0 && slice == 0 {
-            lane
+        if lanes == 1 || at.pass == 0 && slice == 0 {
+            at.lane
         } else {
             (word >> 32) as u32 % lanes
         }
     }
 
     /// How many blocks of a lane may be referred to.
-    fn permitted_count(&self, pass: u32, lane: u32, column: u32, other: u32) -> u32
-        requires in_lanes { other < self.now.p_cost }
-        requires in_columns { column < lane_length self.now }
-        requires later { pass ≡ 0 → 2 ≤ column }
-        requires alone { pass ≡ 0 → column / segment_length self.now ≡ 0 → other ≡ lane }
-        ensures value { result ≡ length (permitted self.now pass lane column other) }
+    fn permitted_count(&self, at: Step, other: u32) -> u32
+        requires step { IsStep self.now at.pass at.lane at.column }
+        requires within { other < self.now.p_cost }
+        requires alone { at.pass ≡ 0 → at.column / segment_length self.now ≡ 0 → other ≡ at.lane }
+        ensures value { result ≡ length (permitted self.now at.pass at.lane at.column other) }
         ensures some { 0 < result }
         ensures short { result < lane_length self.now }
     {
         let segment = self.segment_length();
-        let index = column % segment;
-        let finished = if pass == 0 {
-            column / segment * segment
+        let index = at.column % segment;
+        let finished = if at.pass == 0 {
+            at.column / segment * segment
         } else {
             3 * segment
         };
         if index == 0 {
             finished - 1
-        } else if other == lane {
+        } else if other == at.lane {
             finished + (index - 1)
         } else {
             finished
@@ -77,18 +76,17 @@ impl<'a> Instance<'a> {
     }
 
     /// The column of one of them.
-    fn permitted_column(&self, pass: u32, column: u32, index: u32) -> u32
-        requires in_columns { column < lane_length self.now }
+    fn permitted_column(&self, at: Step, index: u32) -> u32
+        requires step { IsStep self.now at.pass at.lane at.column }
         requires few { index < lane_length self.now }
-        ensures value { (lane other : ℕ)
-            → index < length (permitted self.now pass lane column other)
-            → result ≡ (slice_index_or (permitted self.now pass lane column other) index (0, 0)).1 }
+        ensures value { (other : ℕ) → let blocks = permitted self.now at.pass at.lane at.column other in
+            index < length blocks → result ≡ (slice_index_or blocks index (0, 0)).1 }
         ensures within { result < lane_length self.now }
     {
         let segment = self.segment_length();
         let length = self.lane_length();
-        let finished = (column / segment + 1) * segment;
-        if pass == 0 {
+        let finished = (at.column / segment + 1) * segment;
+        if at.pass == 0 {
             index
         } else if index < length - finished {
             finished + index

@@ -1,6 +1,7 @@
 //! Filling by single steps, whose order the caller chooses.
 
 use super::Argon2;
+use super::step::Step;
 use crate::{Block, Work};
 use argon2_base::error::Result;
 
@@ -13,7 +14,7 @@ impl Argon2<'_> {
     ghost use Rattle.argon2.specs.InitialHash.{first_block};
     ghost use Rattle.argon2.specs.Laws.{Begins};
     ghost use Rattle.argon2.specs.Refusals.{answer_of, first_of, output_faults, refusal_of};
-    ghost use Rattle.argon2.specs.Steps.{step, reference_place, last_column};
+    ghost use Rattle.argon2.specs.Steps.{IsStep, step, reference_place, last_column};
 
     /// Writes columns 0 and 1 of each lane, and no other block, for a tag of `out_len` bytes
     /// (RFC 9106, section 3.2, steps 3 and 4). Lane by lane, the first
@@ -60,9 +61,7 @@ impl Argon2<'_> {
     /// [`slice_interleaving`](crate::laws::slice_interleaving).
     pub fn step_block(&self, memory: &mut [Block], pass: u32, lane: u32, column: u32) -> u32
         requires in_passes { pass < (context_of self.now).t_cost }
-        requires in_lanes { lane < (context_of self.now).p_cost }
-        requires in_columns { column < lane_length (context_of self.now) }
-        requires later { pass ≡ 0 → 2 ≤ column }
+        requires step { IsStep (context_of self.now) pass lane column }
         requires room { block_count (context_of self.now) ≤ length memory.old }
         ensures step { let ctx = context_of self.now in take (block_count ctx) memory.new
             ≡ step ctx (take (block_count ctx) memory.old) pass lane column }
@@ -74,8 +73,10 @@ impl Argon2<'_> {
         let instance = self.instance();
         let blocks = &mut memory[..instance.block_count()];
         let mut work = Work::new();
-        let word = instance.own_word(blocks, pass, lane, column, &mut work);
-        instance.step(blocks, pass, lane, column, word, &mut work)
+        let at = Step { pass, lane, column };
+        let addresses = instance.addresses(at, &mut work);
+        let word = instance.word(blocks, &addresses, at);
+        instance.step(blocks, at, word, &mut work)
     }
 
     /// Writes the hash of the last column's exclusive or, of as many bytes as `out` has, whatever

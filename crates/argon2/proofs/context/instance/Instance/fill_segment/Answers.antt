@@ -1,12 +1,63 @@
-use Rattle.std.proofs.Common.{◌≡◌, ◌+◌, ◌-◌, ◌*◌, ◌/◌, ◌≤◌, cond, replicate, sym, ap, ◌∙◌, arith}
+use Rattle.std.proofs.Common.{◌≡◌, ℕ, ◌+◌, ◌-◌, ◌*◌, ◌/◌, ◌%◌, ◌<◌, ◌≤◌, ◌≢◌, ◌⊎◌, inl, inr, cond, replicate, sym, ap, ◌∙◌, arith}
 use Rattle.std.proofs.lemmas.Bool.Decides.{nat_tests}
 use Rattle.argon2.specs.Context.{segment_length}
-use Rattle.argon2.specs.Recurrence.{address_block, is_independent}
+use Rattle.argon2.specs.Recurrence.{addresses_of, is_independent}
 use Rattle.argon2.specs.Steps.{run, turn_count}
 use Rattle.argon2.specs.Watching.{watch}
 use Rattle.argon2.specs.Counting.{segment_calls}
+use Rattle.argon2.proofs.Addresses.{same_addresses, address_mixings, mixings_more}
 use Rattle.argon2.proofs.LaneAfterLane.{run_turn, watch_turn}
 use Rattle.argon2.proofs.context.instance.Instance.fill_segment.Goals as goal
+use Rattle.argon2.proofs.context.instance.Instance.fill_segment.Goals.{then-index-gt0+then-index-eq0, else-index-gt0, else-index-gt0-via-then-index-gt0+else-index-eq0, else-index-gt0-via-else-index-gt0}
+
+-- at an index that begins no address block the one at hand serves on
+serves_on : (index : ℕ) → (index % 128 ≢ 0) ⊎ (index ≤ 0) → (index - 1) / 128 ≡ index / 128
+serves_on index (inl e) = omega arith
+serves_on index (inr e) = omega arith
+
+-- at any other the next begins
+serves_next : (index : ℕ) → 0 < index → index % 128 ≡ 0 → index / 128 + 1 ≡ (index - 1) / 128 + 1 + 1
+serves_next index some e = omega arith
+
+pub loop-index-init : goal.loop-index-init
+loop-index-init c =
+    let ctx = c.args.self.now in
+    let s = c.segment_length-segment.ensures.value in
+    let two = c.segment_length-segment.ensures.sizes.two_columns in
+    let small : c.if-pass-eq0.start ≤ 2 = grind (arith, nat_tests) in
+    let turns : segment_length ctx - c.if-pass-eq0.start ≡ turn_count ctx c.args.pass c.args.slice = grind (arith, nat_tests) in
+    let first : (c.if-pass-eq0.start - 1) / 128 ≡ 0 = omega arith in
+    let product = ap (λ x. c.args.slice * x) s in
+    let column : c.args.slice * c.segment_length-segment.result ≡ c.args.slice * segment_length ctx + 0 = omega arith in
+    let mixings : ℕ → ℕ = λ x. cond (is_independent ctx c.args.pass (x / segment_length ctx)) 2 0 in
+    let blocks : ℕ → ℕ = λ n. cond (is_independent ctx c.args.pass c.args.slice) (2 * (n + 1)) 0 in
+    record {
+      memory = ap (λ n. run ctx c.args.pass c.args.slice (replicate n c.args.lane) c.args.memory.now) turns;
+      positions = ap (λ n. watch ctx c.args.pass c.args.slice (replicate n c.args.lane) c.args.memory.now c.args.positions.now) turns;
+      addresses = c.addresses-addresses.ensures.block ∙ ap (addresses_of ctx c.args.pass c.args.lane) column
+          ∙ same_addresses ctx c.args.pass c.args.lane c.args.slice 0 (c.if-pass-eq0.start - 1) (omega arith) (omega arith) (sym first);
+      work =
+          let one = ap mixings column ∙ address_mixings ctx c.args.pass c.args.slice 0 (omega arith) ∙ ap blocks (sym first) in
+          let work = c.addresses-addresses.ensures.work in
+          omega arith;
+    }
+
+pub word-word-requires-clause-addresses : goal.word-word-requires-clause-addresses
+word-word-requires-clause-addresses c =
+    let ctx = c.args.self.now in
+    let i = c.loop-index.index in
+    let s = c.segment_length-segment.ensures.value in
+    elim c.if-index-gt0.branch [
+      | then-index-gt0+then-index-eq0 w ↦ (w.addresses-is ∙ w.addresses-addresses-then-index-eq0.ensures.block)
+      | else-index-gt0 w ↦ (
+          let stays : (i - 1) / 128 ≡ i / 128 = elim w.else-index-gt0.branch [
+            | else-index-gt0-via-then-index-gt0+else-index-eq0 v ↦ serves_on i (inl v.if-index-eq0.false)
+            | else-index-gt0-via-else-index-gt0 v ↦ serves_on i (inr v.if-index-gt0.false)
+          ] in
+          w.addresses-is ∙ c.loop-index.invariant.addresses
+          ∙ same_addresses ctx c.args.pass c.args.lane c.args.slice (i - 1) i (omega arith) (omega arith) stays
+          ∙ ap (λ s. addresses_of ctx c.args.pass c.args.lane (c.args.slice * s + i)) (sym s))
+    ]
 
 pub loop-index-preserved : goal.loop-index-preserved
 loop-index-preserved c =
@@ -15,27 +66,52 @@ loop-index-preserved c =
     let s = c.segment_length-segment.ensures.value in
     let t = run_turn ctx c.args.pass c.args.slice c.args.lane i c.loop-index.memory (omega arith) in
     let u = watch_turn ctx c.args.pass c.args.slice c.args.lane i c.loop-index.memory c.loop-index.positions (omega arith) in
-    let stepped = c.step-place.ensures.step in
-    let place = c.step-place.ensures.place in
+    let stepped = c.step-reference.ensures.step in
+    let place = c.step-reference.ensures.place in
     let put = c.put_position.ensures in
-    let memory = c.loop-index.invariant.memory in
-    let positions = c.loop-index.invariant.positions in
-    let kind = c.word-word.ensures.independent in
-    let same : i + 1 - 1 ≡ i = omega arith in
+    let before = c.loop-index.invariant in
+    let memory = before.memory in
+    let positions = before.positions in
+    let same : i ≡ i + 1 - 1 = omega arith in
+    let block = addresses_of ctx c.args.pass c.args.lane in
+    let mixings : ℕ → ℕ = λ x. cond (is_independent ctx c.args.pass (x / segment_length ctx)) 2 0 in
+    let blocks : ℕ → ℕ = λ n. cond (is_independent ctx c.args.pass c.args.slice) (2 * n) 0 in
+    let column' = ap (λ x. c.args.slice * x + i) s in
+    let column = column' ∙ ap (λ n. c.args.slice * segment_length ctx + n) same in
     record {
       memory = cc;
       positions = cc;
-      independent = kind ∙ c.loop-index.invariant.independent;
-      counter = λ h. c.word-word.ensures.counter (sym kind ∙ h) ∙ ap (λ x. x / 128 + 1) (sym same);
-      block = λ h. c.word-word.ensures.block (sym kind ∙ h)
-          ∙ ap (λ x. address_block ctx c.args.pass c.args.lane c.args.slice (x / 128 + 1)) (sym same);
+      addresses = elim c.if-index-gt0.branch [
+        | then-index-gt0+then-index-eq0 w ↦ (w.addresses-is ∙ w.addresses-addresses-then-index-eq0.ensures.block ∙ ap block column)
+        | else-index-gt0 w ↦ (
+            let stays : (i - 1) / 128 ≡ i / 128 = elim w.else-index-gt0.branch [
+              | else-index-gt0-via-then-index-gt0+else-index-eq0 v ↦ serves_on i (inl v.if-index-eq0.false)
+              | else-index-gt0-via-else-index-gt0 v ↦ serves_on i (inr v.if-index-gt0.false)
+            ] in
+            w.addresses-is ∙ before.addresses
+            ∙ same_addresses ctx c.args.pass c.args.lane c.args.slice (i - 1) i (omega arith) (omega arith) stays
+            ∙ ap (λ n. block (c.args.slice * segment_length ctx + n)) same)
+      ];
       work =
-          let next = ap (λ b. cond b (2 * ((i + 1 - 1) / 128 + 1)) 0) kind
-          ∙ ap (λ x. cond c.loop-index.addresses.independent (2 * (x / 128 + 1)) 0) same in
-          let word = c.word-word.ensures.work in
-          let steps = c.step-place.ensures.work in
-          let before = c.loop-index.invariant.work in
-          omega arith;
+          let steps = c.step-reference.ensures.work in
+          let word = before.work in
+          elim c.if-index-gt0.branch [
+            | then-index-gt0+then-index-eq0 w ↦ (
+                let is = w.work-is in
+                let made = w.addresses-addresses-then-index-eq0.ensures.work in
+                let one = ap mixings column' ∙ address_mixings ctx c.args.pass c.args.slice i (omega arith) in
+                let more = mixings_more (is_independent ctx c.args.pass c.args.slice) ((i - 1) / 128 + 1) in
+                let next = ap blocks (sym (serves_next i w.if-index-gt0.true w.if-index-eq0.true) ∙ ap (λ n. n / 128 + 1) same) in
+                omega arith)
+            | else-index-gt0 w ↦ (
+                let is = w.work-is in
+                let stays : (i - 1) / 128 ≡ i / 128 = elim w.else-index-gt0.branch [
+                  | else-index-gt0-via-then-index-gt0+else-index-eq0 v ↦ serves_on i (inl v.if-index-eq0.false)
+                  | else-index-gt0-via-else-index-gt0 v ↦ serves_on i (inr v.if-index-gt0.false)
+                ] in
+                let next = ap blocks (ap (λ n. n + 1) stays ∙ ap (λ n. n / 128 + 1) same) in
+                omega arith)
+          ];
     }
 
 pub returns-clause-memory : goal.returns-clause-memory
@@ -61,8 +137,8 @@ returns-clause-work c =
     let small : c.if-pass-eq0.start ≤ 2 = grind (arith, nat_tests) in
     let turns : s - c.if-pass-eq0.start ≡ turn_count c.args.self.now c.args.pass c.args.slice = grind (arith, nat_tests) in
     let end : n ≡ s = omega arith in
-    let up : (s + 127) / 128 ≡ (n - 1) / 128 + 1 = omega arith in
-    let blocks = ap (λ b. cond b (2 * ((n - 1) / 128 + 1)) 0) c.loop-index.invariant.independent
-    ∙ ap (λ x. cond (is_independent c.args.self.now c.args.pass c.args.slice) (2 * x) 0) (sym up) in
+    let up : (n - 1) / 128 + 1 ≡ (s + 127) / 128 = omega arith in
+    let blocks : ℕ → ℕ = λ k. cond (is_independent c.args.self.now c.args.pass c.args.slice) (2 * k) 0 in
+    let all = ap blocks up in
     let k = c.loop-index.invariant.work in
     omega arith

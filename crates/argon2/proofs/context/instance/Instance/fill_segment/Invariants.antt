@@ -1,6 +1,6 @@
-use Rattle.std.proofs.Common.{◌≡◌, ◌+◌, ◌-◌, ◌*◌, ◌/◌, true, cond, replicate}
+use Rattle.std.proofs.Common.{◌≡◌, ◌+◌, ◌-◌, ◌*◌, ◌/◌, cond, replicate}
 use Rattle.argon2.specs.Context.{segment_length}
-use Rattle.argon2.specs.Recurrence.{is_independent, address_block}
+use Rattle.argon2.specs.Recurrence.{is_independent, addresses_of}
 use Rattle.argon2.specs.Steps.{run, turn_count}
 use Rattle.argon2.specs.Watching.{watch}
 use Rattle.argon2.proofs.context.instance.Instance.fill_segment.Given as goal
@@ -12,8 +12,6 @@ invariant-loop-index l = record {
       ≡ run l.self l.pass l.slice (replicate (turn_count l.self l.pass l.slice) l.lane) l.fn.memory;
   positions : watch l.self l.pass l.slice (replicate (segment_length l.self - l.index) l.lane) l.memory l.positions
       ≡ watch l.self l.pass l.slice (replicate (turn_count l.self l.pass l.slice) l.lane) l.fn.memory l.fn.positions;
-  independent : l.addresses.independent ≡ is_independent l.self l.pass l.slice;
-  counter : l.addresses.independent ≡ true → l.addresses.counter ≡ (l.index - 1) / 128 + 1;
-  block : l.addresses.independent ≡ true → l.addresses.block ≡ address_block l.self l.pass l.lane l.slice ((l.index - 1) / 128 + 1);
-  work : l.work ≡ l.fn.work + cond l.addresses.independent (2 * ((l.index - 1) / 128 + 1)) 0 + (l.index - l.start);
+  addresses : l.addresses ≡ addresses_of l.self l.pass l.lane (l.slice * segment_length l.self + (l.index - 1));
+  work : l.work ≡ l.fn.work + cond (is_independent l.self l.pass l.slice) (2 * ((l.index - 1) / 128 + 1)) 0 + (l.index - l.start);
 }

@@ -12,22 +12,22 @@ unfolding step
 returns-then-xors-clause-step c =
     let ctx = c.args.self.now in
     let m = c.args.memory.now in
-    let place = c.args.lane * lane_length ctx + c.args.column in
+    let place = c.args.at.lane * lane_length ctx + c.args.at.column in
     let q = c.lane_length.ensures.value in
     let r = c.reference_place-reference.ensures.value in
     let b = c.mixed_block.ensures.block in
-    let below = place_below ctx c.args.lane c.args.column c.requires.in_lanes c.requires.in_columns in
-    let old = get_or_read m (c.args.lane * c.lane_length.result + c.args.column) c.index-memory-place.result (search rules) c.index-memory-place.is [] in
+    let below = place_below ctx c.args.at.lane c.args.at.column c.requires.step.in_lanes c.requires.step.in_columns in
+    let old = get_or_read m (c.args.at.lane * c.lane_length.result + c.args.at.column) c.index-memory-place.result (search rules) c.index-memory-place.is [] in
     let x = c.bitxor_assign.ensures.after in
     let y = xor_blocks-comm (get_or m place []) c.mixed_block.result in
     let yes = sym c.xors.ensures ∙ c.if-xors.true in
-    let by = made_by_places ctx m c.args.pass c.args.lane c.args.column c.args.word c.requires.word
-    ∙ cond-true ((eqb ctx.version 19) && (ltb 0 c.args.pass)) _ _ yes in
+    let by = made_by_places ctx m c.args.at.pass c.args.at.lane c.args.at.column c.args.word c.requires.word
+    ∙ cond-true ((eqb ctx.version 19) && (ltb 0 c.args.at.pass)) _ _ yes in
     cc
 
 pub returns-then-xors-clause-place : goal.returns-then-xors-clause-place
 returns-then-xors-clause-place c =
-    c.reference_place-reference.ensures.value ∙ sym (place_by_word c.args.self.now c.args.memory.now c.args.pass c.args.lane c.args.column c.args.word c.requires.word)
+    c.reference_place-reference.ensures.value ∙ sym (place_by_word c.args.self.now c.args.memory.now c.args.at.pass c.args.at.lane c.args.at.column c.args.word c.requires.word)
 
 pub returns-else-xors-clause-step : goal.returns-else-xors-clause-step
 unfolding step
@@ -38,10 +38,10 @@ returns-else-xors-clause-step c =
     let r = c.reference_place-reference.ensures.value in
     let b = c.mixed_block-else-xors.ensures.block in
     let no = sym c.xors.ensures ∙ c.if-xors.false in
-    let by = made_by_places ctx m c.args.pass c.args.lane c.args.column c.args.word c.requires.word
-    ∙ cond-false ((eqb ctx.version 19) && (ltb 0 c.args.pass)) _ _ no in
+    let by = made_by_places ctx m c.args.at.pass c.args.at.lane c.args.at.column c.args.word c.requires.word
+    ∙ cond-false ((eqb ctx.version 19) && (ltb 0 c.args.at.pass)) _ _ no in
     cc
 
 pub returns-else-xors-clause-place : goal.returns-else-xors-clause-place
 returns-else-xors-clause-place c =
-    c.reference_place-reference.ensures.value ∙ sym (place_by_word c.args.self.now c.args.memory.now c.args.pass c.args.lane c.args.column c.args.word c.requires.word)
+    c.reference_place-reference.ensures.value ∙ sym (place_by_word c.args.self.now c.args.memory.now c.args.at.pass c.args.at.lane c.args.at.column c.args.word c.requires.word)

@@ -1,17 +1,20 @@
 use Rattle.std.proofs.Common.{sym, ◌∙◌}
-use Rattle.argon2.proofs.InMemory.{word_of_index}
+use Rattle.argon2.specs.Steps.{in_memory}
+use Rattle.argon2.proofs.Addresses.{word_addressed, word_not_addressed}
 use Rattle.argon2.proofs.context.instance.Instance.word.Goals as goal
 
-pub returns-then-not-addresses-clause-word : goal.returns-then-not-addresses-clause-word
-returns-then-not-addresses-clause-word c =
-    let p = c.previous_word.ensures c.args.pass in
+pub returns-in-Some : goal.returns-in-Some
+returns-in-Some c =
+    let ctx = c.args.self.now in
+    let blocks = in_memory ctx c.args.memory.now in
     let s = c.segment_length.ensures.value in
-    let w = (word_of_index c.args.self.now c.args.memory.now c.args.pass c.args.lane c.args.slice c.args.index c.requires.in_segment).otherwise (sym c.requires.independent ∙ c.if-not-addresses.true) in
+    let i = c.as_slice.ensures.items in
+    let w = word_addressed ctx blocks c.args.at.pass c.args.at.lane c.args.at.column _ (sym c.requires.addresses ∙ c.in-Some.is) in
     cc
 
-pub returns-clause-word : goal.returns-clause-word
-returns-clause-word c =
-    let b = c.refresh.ensures.block in
-    let i = c.as_slice.ensures.items in
-    let w = (word_of_index c.args.self.now c.args.memory.now c.args.pass c.args.lane c.args.slice c.args.index c.requires.in_segment).addressed (sym c.requires.independent ∙ c.if-not-addresses.false) in
-    cc
+pub returns-in-None : goal.returns-in-None
+returns-in-None c =
+    let ctx = c.args.self.now in
+    let blocks = in_memory ctx c.args.memory.now in
+    c.previous_word.ensures
+    ∙ sym (word_not_addressed ctx blocks c.args.at.pass c.args.at.lane c.args.at.column (sym c.requires.addresses ∙ c.in-None.is))
