@@ -9,6 +9,7 @@ mod KnownAnswers
 mod KnownTag
 mod LaneAfterLane
 mod LastColumn
+mod ListReading
 mod ListedLemmas
 mod PermittedPlaces
 mod ReadAgain

@@ -63,7 +63,8 @@ impl ParamsString {
 
     /// The names and values, in the order of the text.
     pub fn iter(&self) -> Iter<'_>
-        ensures { result ≡ self.now }
+        ensures value { result ≡ self.now }
+        ensures params { IsTrue (are_params self.now) }
     {
         let text = self.text.as_str();
         Iter {
