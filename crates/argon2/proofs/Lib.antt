@@ -10,6 +10,7 @@ mod KnownAnswers
 mod KnownTag
 mod LaneAfterLane
 mod LastColumn
+mod ListReading
 mod ListedLemmas
 mod PermittedPlaces
 mod ReadAgain
@@ -20,4 +21,5 @@ mod Validity
 mod Watched
 pub mod FirstColumns
 pub mod InitialHashing
+pub mod Named
 pub mod TagOfMatrix

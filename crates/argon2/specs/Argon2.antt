@@ -7,7 +7,7 @@ use Rattle.argon2.specs.declared.version.Version.TheVariants.{V0x13}
 use Rattle.argon2.specs.declared.context.secret.Secret.{Secret}
 use Rattle.argon2.specs.declared.context.Argon2.{Argon2}
 use Rattle.argon2.specs.Context.{Context, context_with}
-use Rattle.argon2.specs.Parameters.{Parameters, first_fault, IsValid}
+use Rattle.argon2.specs.Parameters.{Parameters, AreValid, first_fault}
 use Rattle.argon2.specs.Settings.{Settings}
 use Rattle.argon2_base.specs.declared.error.Error.{Error}
 use Rattle.argon2.specs.Params.{parameters_of}
@@ -48,7 +48,7 @@ IsArgon2idWith parameters argon2 =
 
 -- hashing with these parameters, which are valid, and no secret, or their first fault
 abbrev pub IsContextOf : Algorithm → Version → Parameters → Result Argon2 Error → Type 0
-IsContextOf algorithm version v (Ok argon2) = IsValid v
+IsContextOf algorithm version v (Ok argon2) = AreValid v
     × (settings_of argon2 ≡ record { algorithm = algorithm; version = version; parameters = v })
     × (secret_of argon2 ≡ [])
 IsContextOf algorithm version v (Err e) = first_fault v.m_cost v.t_cost v.p_cost v.output_len ≡ Some e

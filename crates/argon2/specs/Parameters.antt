@@ -1,5 +1,5 @@
 -- Parameters as callers see them, and which are valid (RFC 9106, section 3.1).
-use Rattle.std.specs.Prelude.{ℕ, ◌*◌, List, [], ◌∷◌, nat_lt, Option, IsNone, unwrap_or}
+use Rattle.std.specs.Prelude.{ℕ, ◌*◌, List, [], ◌∷◌, nat_lt, Option, None, IsNone, unwrap_or}
 use Rattle.argon2.specs.Refusals.{first_of}
 use Rattle.argon2_base.specs.declared.error.Error.{Error}
 use Rattle.argon2_base.specs.declared.error.Error.TheVariants.{MemoryTooLittle, OutputTooLong, OutputTooShort, ThreadsTooFew, ThreadsTooMany, TimeTooSmall}
@@ -27,8 +27,8 @@ first_fault m t p output_len = first_of (
     ∷ [])
 
 -- nothing is refused
-abbrev pub IsValid : Parameters → Type 0
-IsValid v = IsNone (first_fault v.m_cost v.t_cost v.p_cost v.output_len)
+abbrev pub AreValid : Parameters → Type 0
+AreValid v = IsNone (first_fault v.m_cost v.t_cost v.p_cost v.output_len)
 
 -- costs and an output length, with no key identifier and no associated data
 abbrev pub plain : ℕ → ℕ → ℕ → Option ℕ → Parameters
@@ -40,3 +40,7 @@ plain m t p output_len = record {
   associated = [];
   output_len = output_len;
 }
+
+-- those that are used where none are given
+abbrev pub default_parameters : Parameters
+default_parameters = plain 19456 2 1 None

@@ -2,7 +2,7 @@
 use Rattle.std.specs.Prelude.{◌≡◌, Some, Result, Ok, Err}
 use Rattle.argon2.specs.declared.params.Params.{Params}
 use Rattle.argon2.specs.ByteLists.{keyid_bytes, data_bytes}
-use Rattle.argon2.specs.Parameters.{Parameters, first_fault, IsValid}
+use Rattle.argon2.specs.Parameters.{Parameters, AreValid, first_fault}
 use Rattle.argon2_base.specs.declared.error.Error.{Error}
 
 -- costs, bytes and output length, in place of the fields
@@ -18,5 +18,5 @@ parameters_of params = record {
 
 -- these parameters, which are valid, or their first fault
 abbrev pub IsParamsOf : Parameters → Result Params Error → Type 0
-IsParamsOf v (Ok params) = IsValid v × (parameters_of params ≡ v)
+IsParamsOf v (Ok params) = AreValid v × (parameters_of params ≡ v)
 IsParamsOf v (Err e) = first_fault v.m_cost v.t_cost v.p_cost v.output_len ≡ Some e

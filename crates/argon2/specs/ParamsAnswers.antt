@@ -21,8 +21,9 @@ IsPhcAnswer v r = outcome_of parameters_of r ≡ params_of (option_map length v.
 -- the answer for a text: that of its list, or `ParamsInvalid` where it is no list's
 abbrev pub IsTextAnswer : List ℕ → Result Params Error → Type 0
 IsTextAnswer text r =
-    ((ps : List Pair) × ParamsText text ps × IsListAnswer ps r)
-    ⊎ (((ps : List Pair) → ParamsText text ps → ⊥) × (outcome_of parameters_of r ≡ Err bad_params))
+    ((ps : List Pair) → ParamsText text ps → IsListAnswer ps r)
+    × (((ps : List Pair) × ParamsText text ps)
+    ⊎ (((ps : List Pair) → ParamsText text ps → ⊥) × (outcome_of parameters_of r ≡ Err bad_params)))
 
 -- the list of parameters, which is read as the same with any length of output
 abbrev pub IsListOf : Parameters → Result (List Pair) Error → Type 0

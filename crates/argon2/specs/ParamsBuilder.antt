@@ -3,7 +3,7 @@ use Rattle.std.specs.Prelude.{ℕ, List, [], Option, None, unwrap_or}
 use Rattle.std.specs.Option.{option_map}
 use Rattle.argon2.specs.declared.params.builder.ParamsBuilder.{ParamsBuilder}
 use Rattle.argon2.specs.ByteLists.{keyid_bytes, data_bytes}
-use Rattle.argon2.specs.Parameters.{Parameters}
+use Rattle.argon2.specs.Parameters.{Parameters, default_parameters}
 
 -- the six settings; bytes that are not set differ from the empty list
 pub record BuilderSettings : Type 0 where
@@ -15,8 +15,8 @@ pub record BuilderSettings : Type 0 where
   pub output_len : Option ℕ
 
 -- the settings, in place of the fields
-abbrev pub settings_of : ParamsBuilder → BuilderSettings
-settings_of builder = record {
+abbrev pub builder_settings : ParamsBuilder → BuilderSettings
+builder_settings builder = record {
   m_cost = builder.m_cost;
   t_cost = builder.t_cost;
   p_cost = builder.p_cost;
@@ -25,12 +25,12 @@ settings_of builder = record {
   output_len = builder.output_len;
 }
 
--- what a builder starts with
+-- what a builder starts with: the costs by default
 abbrev pub default_settings : BuilderSettings
 default_settings = record {
-  m_cost = 19456;
-  t_cost = 2;
-  p_cost = 1;
+  m_cost = default_parameters.m_cost;
+  t_cost = default_parameters.t_cost;
+  p_cost = default_parameters.p_cost;
   keyid = None;
   associated = None;
   output_len = None;

@@ -210,11 +210,10 @@ impl<'key> Argon2<'key> {
 }
 
 impl Default for Argon2<'_> {
-    ghost use Rattle.std.specs.Prelude.{◌≡◌, None};
     ghost use Rattle.argon2.specs.Argon2.{IsArgon2idWith};
-    ghost use Rattle.argon2.specs.Parameters.{plain};
+    ghost use Rattle.argon2.specs.Parameters.{default_parameters};
 
-    ghost is_default = { IsArgon2idWith (plain 19456 2 1 None) };
+    ghost is_default = { IsArgon2idWith default_parameters };
 
     /// Argon2id of version 0x13 with the default parameters and no secret.
     fn default() -> Self {

@@ -29,9 +29,9 @@ pub struct Params {
 
 impl Params {
     ghost use Rattle.std.specs.Prelude.{◌≡◌, ◌≤◌, length};
-    ghost use Rattle.argon2.specs.Parameters.{IsValid, plain};
+    ghost use Rattle.argon2.specs.Parameters.{AreValid, plain};
     ghost use Rattle.argon2.specs.Params.{IsParamsOf, parameters_of};
-    ghost use Rattle.argon2.specs.Shape.{block_count};
+    ghost use Rattle.argon2.specs.Shape.{block_count, lane_length};
 
     /// The memory cost by default.
     pub const DEFAULT_M_COST: u32 = 19456;
@@ -139,7 +139,7 @@ impl Params {
     /// [`Params::block_count`] says.
     pub fn m_cost(&self) -> u32
         ensures value { result ≡ (parameters_of self.now).m_cost }
-        ensures valid { IsValid (parameters_of self.now) }
+        ensures valid { AreValid (parameters_of self.now) }
     {
         self.m_cost
     }
@@ -147,7 +147,7 @@ impl Params {
     /// The number of passes.
     pub fn t_cost(&self) -> u32
         ensures value { result ≡ (parameters_of self.now).t_cost }
-        ensures valid { IsValid (parameters_of self.now) }
+        ensures valid { AreValid (parameters_of self.now) }
     {
         self.t_cost
     }
@@ -155,7 +155,7 @@ impl Params {
     /// The number of lanes.
     pub fn p_cost(&self) -> u32
         ensures value { result ≡ (parameters_of self.now).p_cost }
-        ensures valid { IsValid (parameters_of self.now) }
+        ensures valid { AreValid (parameters_of self.now) }
     {
         self.p_cost
     }
@@ -179,7 +179,7 @@ impl Params {
     /// The length that each output has, in bytes, where it is set.
     pub fn output_len(&self) -> Option<usize>
         ensures value { result ≡ (parameters_of self.now).output_len }
-        ensures valid { IsValid (parameters_of self.now) }
+        ensures valid { AreValid (parameters_of self.now) }
     {
         self.output_len
     }
@@ -189,18 +189,27 @@ impl Params {
     pub fn block_count(&self) -> usize
         ensures value { result
             ≡ block_count (parameters_of self.now).m_cost (parameters_of self.now).p_cost }
+        ensures in_memory { result ≤ (parameters_of self.now).m_cost }
     {
         let segments = 4 * self.p_cost as usize;
         self.m_cost as usize / segments * segments
     }
+
+    /// The number of columns of a lane: four segments (RFC 9106, section 3.2, where it is `q`).
+    pub fn lane_length(&self) -> u32
+        ensures { result
+            ≡ lane_length (parameters_of self.now).m_cost (parameters_of self.now).p_cost }
+    {
+        4 * (self.m_cost / (4 * self.p_cost))
+    }
 }
 
 impl Default for Params {
-    ghost use Rattle.std.specs.Prelude.{◌≡◌, None};
-    ghost use Rattle.argon2.specs.Parameters.{plain};
+    ghost use Rattle.std.specs.Prelude.{◌≡◌};
+    ghost use Rattle.argon2.specs.Parameters.{default_parameters};
     ghost use Rattle.argon2.specs.Params.{parameters_of};
 
-    ghost is_default = { λ params. parameters_of params ≡ plain 19456 2 1 None };
+    ghost is_default = { λ params. parameters_of params ≡ default_parameters };
 
     fn default() -> Params {
         Params::DEFAULT

@@ -3,7 +3,7 @@
 ghost use Rattle.std.specs.Prelude.{◌≡◌, Some};
 ghost use Rattle.argon2.specs.Argon2.{IsContextOf};
 ghost use Rattle.argon2.specs.ByteLists.{keyid_bytes, data_bytes};
-ghost use Rattle.argon2.specs.ParamsBuilder.{built, default_settings, settings_of};
+ghost use Rattle.argon2.specs.ParamsBuilder.{builder_settings, built, default_settings};
 ghost use Rattle.argon2.specs.Params.{IsParamsOf};
 
 use super::{AssociatedData, KeyId, Params};
@@ -37,7 +37,7 @@ impl ParamsBuilder {
 
     /// A builder with the costs of [`Params::DEFAULT`], and nothing else set.
     pub fn new() -> ParamsBuilder
-        ensures { settings_of result ≡ default_settings }
+        ensures { builder_settings result ≡ default_settings }
     {
         ParamsBuilder::DEFAULT
     }
@@ -45,7 +45,7 @@ impl ParamsBuilder {
     /// Sets the memory cost in blocks of 1024 bytes: from 8 times the number of lanes on.
     pub fn m_cost(&mut self, m_cost: u32) -> &mut Self
         ensures same_reference { result.ghost_name ≡ self.entry.ghost_name }
-        ensures value { settings_of result.now ≡ record (settings_of self.old) { m_cost = m_cost } }
+        ensures value { builder_settings result.now ≡ record (builder_settings self.old) { m_cost = m_cost } }
     {
         self.m_cost = m_cost;
         self
@@ -54,7 +54,7 @@ impl ParamsBuilder {
     /// Sets the number of passes: from 1 on.
     pub fn t_cost(&mut self, t_cost: u32) -> &mut Self
         ensures same_reference { result.ghost_name ≡ self.entry.ghost_name }
-        ensures value { settings_of result.now ≡ record (settings_of self.old) { t_cost = t_cost } }
+        ensures value { builder_settings result.now ≡ record (builder_settings self.old) { t_cost = t_cost } }
     {
         self.t_cost = t_cost;
         self
@@ -63,7 +63,7 @@ impl ParamsBuilder {
     /// Sets the number of lanes: 1 to 16777215.
     pub fn p_cost(&mut self, p_cost: u32) -> &mut Self
         ensures same_reference { result.ghost_name ≡ self.entry.ghost_name }
-        ensures value { settings_of result.now ≡ record (settings_of self.old) { p_cost = p_cost } }
+        ensures value { builder_settings result.now ≡ record (builder_settings self.old) { p_cost = p_cost } }
     {
         self.p_cost = p_cost;
         self
@@ -72,8 +72,8 @@ impl ParamsBuilder {
     /// Sets the key identifier.
     pub fn keyid(&mut self, keyid: KeyId) -> &mut Self
         ensures same_reference { result.ghost_name ≡ self.entry.ghost_name }
-        ensures value { settings_of result.now
-            ≡ record (settings_of self.old) { keyid = Some (keyid_bytes keyid) } }
+        ensures value { builder_settings result.now
+            ≡ record (builder_settings self.old) { keyid = Some (keyid_bytes keyid) } }
     {
         self.keyid = Some(keyid);
         self
@@ -82,8 +82,8 @@ impl ParamsBuilder {
     /// Sets the associated data.
     pub fn data(&mut self, data: AssociatedData) -> &mut Self
         ensures same_reference { result.ghost_name ≡ self.entry.ghost_name }
-        ensures value { settings_of result.now
-            ≡ record (settings_of self.old) { associated = Some (data_bytes «data») } }
+        ensures value { builder_settings result.now
+            ≡ record (builder_settings self.old) { associated = Some (data_bytes «data») } }
     {
         self.associated = Some(data);
         self
@@ -92,8 +92,8 @@ impl ParamsBuilder {
     /// Sets the length of each output in bytes: 4 to 4294967295.
     pub fn output_len(&mut self, len: usize) -> &mut Self
         ensures same_reference { result.ghost_name ≡ self.entry.ghost_name }
-        ensures value { settings_of result.now
-            ≡ record (settings_of self.old) { output_len = Some len } }
+        ensures value { builder_settings result.now
+            ≡ record (builder_settings self.old) { output_len = Some len } }
     {
         self.output_len = Some(len);
         self
@@ -105,7 +105,7 @@ impl ParamsBuilder {
     /// # Errors
     /// Those of [`Params::new`], in the same order.
     pub fn build(&self) -> Result<Params>
-        ensures { IsParamsOf (built (settings_of self.now)) result }
+        ensures { IsParamsOf (built (builder_settings self.now)) result }
     {
         let mut params = Params::new(self.m_cost, self.t_cost, self.p_cost, self.output_len)?;
         if let Some(keyid) = self.keyid {
@@ -122,14 +122,14 @@ impl ParamsBuilder {
     /// # Errors
     /// Those of [`ParamsBuilder::build`].
     pub fn context(&self, algorithm: Algorithm, version: Version) -> Result<Argon2<'_>>
-        ensures { IsContextOf algorithm version (built (settings_of self.now)) result }
+        ensures { IsContextOf algorithm version (built (builder_settings self.now)) result }
     {
         Ok(Argon2::new(algorithm, version, self.build()?))
     }
 }
 
 impl Default for ParamsBuilder {
-    ghost is_default = { λ builder. settings_of builder ≡ default_settings };
+    ghost is_default = { λ builder. builder_settings builder ≡ default_settings };
 
     fn default() -> ParamsBuilder {
         ParamsBuilder::DEFAULT
@@ -139,7 +139,7 @@ impl Default for ParamsBuilder {
 impl TryFrom<ParamsBuilder> for Params {
     type Error = Error;
 
-    ghost try_from_gives = { λ builder r. IsParamsOf (built (settings_of builder)) r };
+    ghost try_from_gives = { λ builder r. IsParamsOf (built (builder_settings builder)) r };
 
     fn try_from(builder: ParamsBuilder) -> Result<Params> {
         builder.build()

@@ -1,11 +1,11 @@
 //! Parameters as texts: printed as a parameter list, and read from one.
 
-ghost use Rattle.std.specs.Prelude.{◌≡◌, ◌≤◌, ◌++◌, ℕ, IsTrue, IsSome, IsNone, Option, Some, None, Ok, MatchResult, length};
+ghost use Rattle.std.specs.Prelude.{◌≡◌, ◌≤◌, ◌++◌, ℕ, IsTrue, IsNone, Option, Some, None, Ok, MatchResult, codes, length};
 ghost use Rattle.argon2_base.specs.Decimal.{number_of};
 ghost use Rattle.argon2_base.specs.ParamsText.{are_params};
-ghost use Rattle.argon2_base.specs.declared.error.password_hash.Error.TheVariants.{ParamsInvalid};
 ghost use Rattle.argon2_base.specs.Error.{fault_of, bad_param};
-ghost use Rattle.argon2.specs.ListedParameters.{bytes_item, listed, item_fault, items_fault, number_at, params_of, unsized};
+ghost use Rattle.argon2.specs.ByteLists.{keyid_bytes, data_bytes};
+ghost use Rattle.argon2.specs.ListedParameters.{bytes_item, listed, params_of, short_bytes, unsized};
 ghost use Rattle.argon2.specs.Parameters.{first_fault};
 
 use super::{AssociatedData, KeyId, Params};
@@ -100,98 +100,59 @@ impl fmt::Display for Params {
 
 // ---- reading
 
-// Whether the value is a decimal.
-fn check_number(name: &'static str, value: &Value<'_>) -> Result<()>
-    ensures { MatchResult result (λ _. IsSome (number_of value.now))
+// The number that the value of this name is the decimal of.
+fn number(name: &'static str, value: &Value<'_>) -> Result<u32>
+    ensures { MatchResult result (λ n. number_of value.now ≡ Some n)
         (λ e. (number_of value.now ≡ None) × (fault_of e ≡ bad_param name.now)) }
 {
-    value.decimal().or(Err(Error::ParamInvalid { name }))?;
-    Ok(())
+    value.decimal().or(Err(Error::ParamInvalid { name }))
 }
 
-// Whether an item can be read.
-fn check_item(name: &str, value: &Value<'_>) -> Result<()>
-    ensures { MatchResult result (λ _. item_fault (name.now, value.now) ≡ None)
-        (λ e. item_fault (name.now, value.now) ≡ Some (fault_of e)) }
+// The key identifier that the value is the Base64 of.
+fn key_id(value: &Value<'_>) -> Result<KeyId>
+    ensures { MatchResult result (λ keyid. short_bytes 8 value.now ≡ Some (keyid_bytes keyid))
+        (λ e. (short_bytes 8 value.now ≡ None) × (fault_of e ≡ bad_param (codes "keyid"))) }
 {
-    match name {
-        "m" => check_number("m", value),
-        "t" => check_number("t", value),
-        "p" => check_number("p", value),
-        "keyid" => match KeyId::from_b64(value.as_str()) {
-            Ok(_) => Ok(()),
-            Err(_) => Err(Error::ParamInvalid { name: "keyid" }),
-        },
-        "data" => match AssociatedData::from_b64(value.as_str()) {
-            Ok(_) => Ok(()),
-            Err(_) => Err(Error::ParamInvalid { name: "data" }),
-        },
-        _ => Err(Error::ParamsInvalid),
-    }
+    KeyId::from_b64(value.as_str()).or(Err(Error::ParamInvalid { name: "keyid" }))
 }
 
-// Whether every item can be read: the fault of the first that can't.
-fn check_items(list: &ParamsString) -> Result<()>
-    ensures { MatchResult result (λ _. items_fault list.now ≡ None)
-        (λ e. items_fault list.now ≡ Some (fault_of e)) }
+// The associated data that the value is the Base64 of.
+fn associated_data(value: &Value<'_>) -> Result<AssociatedData>
+    ensures { MatchResult result (λ bytes. short_bytes 32 value.now ≡ Some (data_bytes bytes))
+        (λ e. (short_bytes 32 value.now ≡ None) × (fault_of e ≡ bad_param (codes "data"))) }
 {
-    for (name, value) in list.iter() {
-        check_item(name.as_str(), &value)?;
-    }
-    Ok(())
-}
-
-// The number of this name.
-fn cost(list: &ParamsString, name: &str) -> Result<u32>
-    ensures { MatchResult result (λ n. number_at name.now list.now ≡ Some n)
-        (λ e. (number_at name.now list.now ≡ None) × (e ≡ ParamsInvalid)) }
-{
-    let Some(value) = list.get(name) else {
-        return Err(Error::ParamsInvalid);
-    };
-    value.decimal()
+    AssociatedData::from_b64(value.as_str()).or(Err(Error::ParamInvalid { name: "data" }))
 }
 
 impl Params {
-    ghost use Rattle.std.specs.Prelude.{◌≡◌, ℕ, Option, codes};
-    ghost use Rattle.argon2.specs.ByteLists.{keyid_bytes, data_bytes};
+    ghost use Rattle.std.specs.Prelude.{◌≡◌};
     ghost use Rattle.argon2_base.specs.Error.{outcome_of};
-    ghost use Rattle.argon2.specs.ListedParameters.{bytes_at, params_of};
+    ghost use Rattle.argon2.specs.ListedParameters.{params_of};
     ghost use Rattle.argon2.specs.Params.{parameters_of};
 
-    // The key identifier of a list, which is empty where there is none.
-    fn listed_keyid(list: &ParamsString) -> KeyId
-        ensures { keyid_bytes result ≡ bytes_at 8 (codes "keyid") list.now }
-    {
-        match list.get("keyid") {
-            Some(value) => KeyId::from_b64(value.as_str()).unwrap_or(KeyId::EMPTY),
-            None => KeyId::EMPTY,
-        }
-    }
-
-    // The associated data of a list, which is empty where there is none.
-    fn listed_data(list: &ParamsString) -> AssociatedData
-        ensures { data_bytes result ≡ bytes_at 32 (codes "data") list.now }
-    {
-        match list.get("data") {
-            Some(value) => {
-                AssociatedData::from_b64(value.as_str()).unwrap_or(AssociatedData::EMPTY)
-            }
-            None => AssociatedData::EMPTY,
-        }
-    }
-
     // The parameters of a list, with this output length.
-    fn listed(list: &ParamsString, output_len: Option<usize>) -> Result<Params>
+    #[tactic(auto, using(crate::proofs::ListReading::nothing_read, crate::proofs::ListReading::memory_read, crate::proofs::ListReading::passes_read, crate::proofs::ListReading::lanes_read, crate::proofs::ListReading::keyid_read, crate::proofs::ListReading::data_read, crate::proofs::ListReading::params_read, crate::proofs::ListReading::item_refused))]
+    fn read(list: &ParamsString, output_len: Option<usize>) -> Result<Params>
         ensures { outcome_of parameters_of result ≡ params_of output_len list.now }
     {
-        check_items(list)?;
-        let m = cost(list, "m")?;
-        let t = cost(list, "t")?;
-        let p = cost(list, "p")?;
+        let (mut m, mut t, mut p) = (None, None, None);
+        let (mut keyid, mut associated) = (KeyId::EMPTY, AssociatedData::EMPTY);
+        for (name, value) in list.iter() {
+            match name.as_str() {
+                "m" => m = Some(number("m", &value)?),
+                "t" => t = Some(number("t", &value)?),
+                "p" => p = Some(number("p", &value)?),
+                "keyid" => keyid = key_id(&value)?,
+                "data" => associated = associated_data(&value)?,
+                _ => return Err(Error::ParamsInvalid),
+            }
+        }
+        let (Some(m), Some(t), Some(p)) = (m, t, p) else {
+            return Err(Error::ParamsInvalid);
+        };
         let mut params = Params::new(m, t, p, output_len)?;
-        params.keyid = Params::listed_keyid(list);
-        params.associated = Params::listed_data(list);
+        params.keyid = keyid;
+        params.associated = associated;
         Ok(params)
     }
 }
@@ -209,7 +170,7 @@ impl TryFrom<&ParamsString> for Params {
     ghost try_from_gives = { λ list r. IsListAnswer list.now r };
 
     fn try_from(list: &ParamsString) -> Result<Params> {
-        Params::listed(list, None)
+        Params::read(list, None)
     }
 }
 
@@ -224,7 +185,7 @@ impl TryFrom<&PasswordHash> for Params {
 
     fn try_from(hash: &PasswordHash) -> Result<Params> {
         let output_len = hash.hash.as_ref().map(|bytes| bytes.len());
-        Params::listed(&hash.params, output_len)
+        Params::read(&hash.params, output_len)
     }
 }
 
@@ -238,7 +199,7 @@ impl FromStr for Params {
 
     fn from_str(text: &str) -> Result<Params> {
         let list = text.parse::<ParamsString>()?;
-        Params::listed(&list, None)
+        Params::read(&list, None)
     }
 }
 

@@ -1,4 +1,5 @@
 //! The fields of a PHC text, read one by one.
+
 ghost use Rattle.std.specs.Prelude.{◌≡◌, ◌<◌, ◌^◌, ◌++◌, ◌∷◌, [], ℕ, List, None, Option, IfOk, IfErr, IfSome, IsOkAnd, IsNone, IsTrue};
 ghost use Rattle.argon2_base.specs.Base64.{strict_base64};
 ghost use Rattle.argon2_base.specs.ParamsText.{Pair, are_params};

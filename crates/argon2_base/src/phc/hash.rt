@@ -1,4 +1,5 @@
 //! Whole PHC texts.
+
 ghost use Rattle.std.specs.Prelude.{◌<◌, ◌^◌, IsTrue, is_some, IfSome};
 ghost use Rattle.std.specs.Fmt.{DisplaysOnOk};
 ghost use Rattle.argon2_base.specs.PhcFields.{field_output};
@@ -97,16 +98,18 @@ fn know_hash(hash: &Option<Output>)
     }
 }
 
+/// What [`PasswordHash::new`] answers.
 impl FromStr for PasswordHash {
-    ghost use Rattle.std.specs.Prelude.{◌≡◌, MatchResult};
+    ghost use Rattle.std.specs.Prelude.{◌≡◌, IsOkAnd, MatchResult};
     ghost use Rattle.argon2_base.specs.PasswordHash.{phc_of};
     ghost use Rattle.argon2_base.specs.PhcText.{Phc, PhcText};
     ghost use Rattle.argon2_base.specs.declared.error.password_hash.Error.TheVariants.{EncodingInvalid};
 
     type Err = Error;
 
-    ghost from_str_gives = { λ text r. MatchResult r (λ h. PhcText text (phc_of h))
-        (λ e. (e ≡ EncodingInvalid) × ((v : Phc) → PhcText text v → ⊥)) };
+    ghost from_str_gives = { λ text r.
+        MatchResult r (λ h. PhcText text (phc_of h)) (λ e. e ≡ EncodingInvalid)
+        × ((v : Phc) → PhcText text v → IsOkAnd r (λ h. phc_of h ≡ v)) };
 
     fn from_str(text: &str) -> Result<PasswordHash> {
         PasswordHash::new(text)

@@ -1,4 +1,5 @@
 //! Identifiers of algorithms, and names of parameters.
+
 ghost use Rattle.std.specs.Prelude.{◌≡◌, ◌≤◌, ◌-◌, IsTrue, take, drop, replicate};
 ghost use Rattle.std.specs.List.{list_all};
 ghost use Rattle.argon2_base.specs.Names.{is_name, is_name_char};

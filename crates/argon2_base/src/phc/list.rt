@@ -1,4 +1,5 @@
 //! Parameter lists.
+
 ghost use Rattle.std.specs.Prelude.{◌≡◌, ◌≢◌, ◌↔◌, ◌<◌, ◌≤◌, ◌++◌, ◌∷◌, [], ℕ, List, false, Some, Ok, is_ok, IfOk, IfErr, IfSome, IfNone, OnOk, OnErr, MatchResult, IsTrue, length, nat_eq, nat_le};
 ghost use Rattle.std.specs.Fmt.{decimal};
 ghost use Rattle.std.specs.Cmp.{on_equiv, on_per, partial_equiv_from_equiv};
@@ -62,7 +63,8 @@ impl ParamsString {
 
     /// The names and values, in the order of the text.
     pub fn iter(&self) -> Iter<'_>
-        ensures { result ≡ self.now }
+        ensures value { result ≡ self.now }
+        ensures params { IsTrue (are_params self.now) }
     {
         let text = self.text.as_str();
         Iter {
@@ -156,8 +158,9 @@ impl ParamsString {
 impl FromStr for ParamsString {
     type Err = Error;
 
-    ghost from_str_gives = { λ text r. MatchResult r (λ ps. ParamsText text ps)
-        (λ e. (e ≡ ParamsInvalid) × ((ps : List Pair) → ParamsText text ps → ⊥)) };
+    ghost from_str_gives = { λ text r.
+        MatchResult r (λ ps. ParamsText text ps) (λ e. e ≡ ParamsInvalid)
+        × ((ps : List Pair) → ParamsText text ps → r ≡ Ok ps) };
 
     fn from_str(text: &str) -> Result<ParamsString> {
         ParamsString::read(text)
