@@ -3,6 +3,8 @@ use Rattle.std.specs.Prelude.{◌≡◌, ℕ, ◌==◌, ◌&&◌, not, Bool, tru
 use Rattle.std.specs.List.{list_all, join_with_byte, slice_split}
 use Rattle.std.specs.Str.{bytes_eq}
 use Rattle.std.specs.Borrow.{Bor}
+use Rattle.std.specs.Cmp.{IsEquivalence, and_equiv, on_equiv}
+use Rattle.std.specs.Cmp.Lexicographic.{pointwise, lists_equiv, nat_list_eq_equiv}
 use Rattle.argon2_base.specs.Names.{is_name, is_value}
 
 -- a name and a value
@@ -38,6 +40,13 @@ are_params ps = list_all is_param ps && are_distinct ps && nat_le (length (param
 -- the text is the list's
 abbrev pub ParamsText : List ℕ → List Pair → Type 0
 ParamsText text ps = IsTrue (are_params ps) × (text ≡ params_text ps)
+
+-- whether two lists have the same names and values in the same order
+abbrev pub pairs_eq : List Pair → List Pair → Bool
+pairs_eq = pointwise (λ p q. bytes_eq p.0 q.0 && bytes_eq p.1 q.1)
+
+pub pairs_eq_equiv : IsEquivalence pairs_eq
+pairs_eq_equiv = lists_equiv (and_equiv (on_equiv (λ (p : Pair). p.0) nat_list_eq_equiv) (on_equiv (λ (p : Pair). p.1) nat_list_eq_equiv))
 
 -- ---- what a text says
 

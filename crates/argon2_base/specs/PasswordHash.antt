@@ -1,14 +1,7 @@
 -- What a `PasswordHash` says.
 use Rattle.argon2_base.specs.declared.phc.hash.PasswordHash.{PasswordHash}
-use Rattle.argon2_base.specs.Ident.{ident_text}
-use Rattle.argon2_base.specs.PhcText.{Phc}
+use Rattle.argon2_base.specs.PhcText.{Phc, phc_with}
 
 -- its fields, as its text has them
 abbrev pub phc_of : PasswordHash → Phc
-phc_of h = record {
-  algorithm = ident_text h.algorithm;
-  version = h.version;
-  params = h.params;
-  salt = h.salt;
-  hash = h.hash;
-}
+phc_of h = phc_with h.algorithm h.version h.params h.salt h.hash

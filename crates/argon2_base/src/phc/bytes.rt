@@ -67,9 +67,11 @@ impl Salt {
         self.bytes.as_slice()
     }
 
-    /// How many bytes it has.
+    /// How many bytes it has: 8 to 48.
     pub fn len(&self) -> usize
-        ensures { result ≡ length self.now }
+        ensures value { result ≡ length self.now }
+        ensures min { 8 ≤ result }
+        ensures max { result ≤ 48 }
     {
         self.bytes.len()
     }
@@ -160,9 +162,11 @@ impl Output {
         self.bytes.as_slice()
     }
 
-    /// How many bytes it has.
+    /// How many bytes it has: 4 to 64.
     pub fn len(&self) -> usize
-        ensures { result ≡ length self.now }
+        ensures value { result ≡ length self.now }
+        ensures min { 4 ≤ result }
+        ensures max { result ≤ 64 }
     {
         self.bytes.len()
     }

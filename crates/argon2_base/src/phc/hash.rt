@@ -1,9 +1,9 @@
 //! Whole PHC texts.
 
-ghost use Rattle.std.specs.Prelude.{◌<◌, ◌^◌, IsTrue, is_some, IfSome};
 ghost use Rattle.std.specs.Fmt.{DisplaysOnOk};
+ghost use Rattle.std.proofs.Props.{props};
 ghost use Rattle.argon2_base.specs.PhcFields.{field_output};
-ghost use Rattle.argon2_base.specs.PhcText.{HasBytes};
+ghost use Rattle.argon2_base.specs.PhcText.{IsPhc, phc_with};
 
 use super::bytes::{Output, Salt};
 use super::fields::{first_field, hash_field, params_field, salt_field, version_field};
@@ -13,8 +13,8 @@ use crate::error::password_hash::{Error, Result};
 use std::fmt;
 use std::str::FromStr;
 
-/// What a PHC text says. There is no hash without a salt.
-#[derive(Debug, PartialEq, Eq, Drop)]
+/// What a PHC text says, which is in the grammar by this type: there is no hash without a salt.
+#[derive(Debug, Drop)]
 pub struct PasswordHash {
     /// The identifier of the algorithm.
     pub algorithm: Ident,
@@ -26,13 +26,13 @@ pub struct PasswordHash {
     pub salt: Option<Salt>,
     /// The hash, where the text has one.
     pub hash: Option<Output>,
-    ghost salted: { IsTrue (is_some hash) → IsTrue (is_some salt) },
+    ghost grammatical: { IsPhc (phc_with algorithm version params salt hash) } by { Prim.hlevel props },
 }
 
 impl PasswordHash {
     ghost use Rattle.std.specs.Prelude.{◌≡◌, IfOk, IfErr, IsOkAnd};
     ghost use Rattle.argon2_base.specs.PasswordHash.{phc_of};
-    ghost use Rattle.argon2_base.specs.PhcText.{Phc, PhcText, phc_text};
+    ghost use Rattle.argon2_base.specs.PhcText.{Phc, PhcText};
     ghost use Rattle.argon2_base.specs.declared.error.password_hash.Error.TheVariants.{EncodingInvalid};
 
     /// What a PHC text says, or `EncodingInvalid` where it is outside the grammar.
@@ -61,41 +61,6 @@ impl PasswordHash {
             hash,
         })
     }
-
-    /// Does nothing: its contract is that every value is in the grammar, so that what `Display`
-    /// prints is read as the value again.
-    pub fn is_grammatical(&self)
-        ensures { PhcText (phc_text (phc_of self.now)) (phc_of self.now) }
-    {
-        let _name = self.algorithm.as_str();
-        know_version(self.version);
-        let _params = self.params.as_str();
-        know_salt(&self.salt);
-        know_hash(&self.hash);
-    }
-}
-
-// The facts of a version, of a salt and of a hash, where there is one.
-fn know_version(version: Option<u32>)
-    ensures { IfSome version (λ n. n < 2 ^ 32) }
-{
-    let _ = version;
-}
-
-fn know_salt(salt: &Option<Salt>)
-    ensures { IfSome salt.now (HasBytes 8 48) }
-{
-    if let Some(salt) = salt {
-        let _bytes = salt.as_bytes();
-    }
-}
-
-fn know_hash(hash: &Option<Output>)
-    ensures { IfSome hash.now (HasBytes 4 64) }
-{
-    if let Some(hash) = hash {
-        let _bytes = hash.as_bytes();
-    }
 }
 
 /// What [`PasswordHash::new`] answers.
@@ -114,6 +79,37 @@ impl FromStr for PasswordHash {
     fn from_str(text: &str) -> Result<PasswordHash> {
         PasswordHash::new(text)
     }
+}
+
+/// Two are equal where they say the same.
+impl PartialEq for PasswordHash {
+    ghost use Rattle.std.specs.Prelude.{◌≡◌, ◌↔◌, IsTrue};
+    ghost use Rattle.std.specs.Cmp.{on_per, partial_equiv_from_equiv};
+    ghost use Rattle.argon2_base.specs.PasswordHash.{phc_of};
+    ghost use Rattle.argon2_base.specs.PhcText.{phc_eq, phc_eq_equiv};
+
+    ghost eq = { λ a b. phc_eq (phc_of a) (phc_of b) };
+
+    ghost laws = { on_per phc_of (partial_equiv_from_equiv phc_eq_equiv) };
+
+    fn eq(&self, other: &Self) -> bool
+        ensures value { result ≡ phc_eq (phc_of self.now) (phc_of other.now) }
+        ensures same { IsTrue result ↔ (phc_of self.now ≡ phc_of other.now) }
+    {
+        self.algorithm == other.algorithm
+            && self.version == other.version
+            && self.params == other.params
+            && self.salt == other.salt
+            && self.hash == other.hash
+    }
+}
+
+impl Eq for PasswordHash {
+    ghost use Rattle.std.specs.Cmp.{on_equiv};
+    ghost use Rattle.argon2_base.specs.PasswordHash.{phc_of};
+    ghost use Rattle.argon2_base.specs.PhcText.{phc_eq_equiv};
+
+    ghost laws = { on_equiv phc_of phc_eq_equiv };
 }
 
 impl fmt::Display for PasswordHash {

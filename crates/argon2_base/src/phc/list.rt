@@ -1,11 +1,10 @@
 //! Parameter lists.
 
-ghost use Rattle.std.specs.Prelude.{◌≡◌, ◌≢◌, ◌↔◌, ◌<◌, ◌≤◌, ◌++◌, ◌∷◌, [], ℕ, List, false, Some, Ok, is_ok, IfOk, IfErr, IfSome, IfNone, OnOk, OnErr, MatchResult, IsTrue, length, nat_eq, nat_le};
+ghost use Rattle.std.specs.Prelude.{◌≡◌, ◌≢◌, ◌↔◌, ◌<◌, ◌≤◌, ◌++◌, ◌∷◌, [], ℕ, List, false, Some, Ok, is_ok, IfOk, IfErr, IfSome, IfNone, OnOk, OnErr, MatchResult, IsTrue, length, nat_le};
 ghost use Rattle.std.specs.Fmt.{decimal};
-ghost use Rattle.std.specs.Cmp.{on_equiv, on_per, partial_equiv_from_equiv};
-ghost use Rattle.std.specs.Cmp.Lexicographic.{pointwise, nat_list_eq_equiv};
+ghost use Rattle.std.specs.Cmp.{partial_equiv_from_equiv};
 ghost use Rattle.argon2_base.specs.Base64.{strict_base64};
-ghost use Rattle.argon2_base.specs.ParamsText.{Pair, item, params_text, value_of, is_param, are_params, ParamsText, pair_of, items_of, items_left, with_item};
+ghost use Rattle.argon2_base.specs.ParamsText.{Pair, item, params_text, value_of, is_param, are_params, ParamsText, pair_of, items_of, items_left, with_item, pairs_eq, pairs_eq_equiv};
 ghost use Rattle.argon2_base.specs.declared.error.password_hash.Error.TheVariants.{ParamsInvalid};
 
 use super::ident::{Ident, is_name_text};
@@ -182,9 +181,9 @@ impl fmt::Debug for ParamsString {
 }
 
 impl PartialEq for ParamsString {
-    ghost eq = { λ ps qs. pointwise nat_eq (params_text ps) (params_text qs) };
+    ghost eq = { pairs_eq };
 
-    ghost laws = { on_per params_text (partial_equiv_from_equiv nat_list_eq_equiv) };
+    ghost laws = { partial_equiv_from_equiv pairs_eq_equiv };
 
     fn eq(&self, other: &Self) -> bool {
         self.as_str() == other.as_str()
@@ -192,7 +191,7 @@ impl PartialEq for ParamsString {
 }
 
 impl Eq for ParamsString {
-    ghost laws = { on_equiv params_text nat_list_eq_equiv };
+    ghost laws = { pairs_eq_equiv };
 }
 
 /// The names and values of a list, in the order of its text.

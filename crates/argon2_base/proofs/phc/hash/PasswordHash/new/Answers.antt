@@ -64,7 +64,16 @@ returns-then-is_some-clause-only c = λ v h.
     cc
 
 pub invariant_of-result : goal.invariant_of-result
-invariant_of-result c = record { salted = λ some. salted_ok c.in_ok-salt.salt c.in_ok-hash.hash c.in_ok-salt.left c.in_ok-hash.left c.in_ok-salt.ensures.end c.in_ok-hash.ensures.found.0 some }
+invariant_of-result c = record {
+  grammatical = record {
+    algorithm = rw c.in_ok-algorithm.ensures.value c.in_ok-algorithm.ensures.when;
+    version = c.in_ok-version.ensures.found.1;
+    params = c.in_ok-params.ensures.found.1;
+    salt = c.in_ok-salt.ensures.found.1;
+    hash = c.in_ok-hash.ensures.found.1;
+    salted = salted_ok c.in_ok-salt.salt c.in_ok-hash.hash c.in_ok-salt.left c.in_ok-hash.left c.in_ok-salt.ensures.end c.in_ok-hash.ensures.found.0;
+  };
+}
 
 pub returns-clause-only : goal.returns-clause-only
 returns-clause-only c = λ v h.
