@@ -1,3 +1,4 @@
+mod Computing
 mod Counts
 mod DecodedSlices
 mod Filled
@@ -6,6 +7,7 @@ mod History
 mod InMemory
 mod Independence
 mod KnownAnswers
+mod KnownInitialHash
 mod KnownTag
 mod LaneAfterLane
 mod LastColumn
