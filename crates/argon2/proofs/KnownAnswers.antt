@@ -1,13 +1,15 @@
--- The recurrence at small costs, against values of another implementation: a definition with a wrong
--- constant or a wrong step does not check.
+-- The recurrence at small costs, against values of another implementation. There are two or three
+-- columns a segment, one or two lanes, one or two passes, each algorithm and both versions; an address
+-- block that is the second of its segment; an exclusive or over two lanes. A definition that errs in
+-- one of these does not check.
 use Rattle.std.proofs.Common.{◌≡◌, ℕ, ◌+◌, ◌-◌, ◌*◌, ◌/◌, ◌%◌, ◌^◌, List, [], ◌∷◌, ◌++◌, fold, get_or, map, take, refl}
 use Rattle.std.specs.List.{range_with_len}
 use Rattle.argon2_base.specs.Block.{zero_block, xor_blocks}
-use Rattle.argon2_base.specs.Mixing.{mixed, by_rows, by_columns, column, row, perm, mix_columns, mix_diagonals, gb, xor_rotate, add_mul}
 use Rattle.argon2.specs.Context.{Context, segment_length, lane_length, block_count}
-use Rattle.argon2.specs.Reference.{columns, finished_segments, without_last, permitted, reference_lane, reference_index, reference, place_of}
+use Rattle.argon2.specs.Reference.{place_of}
 use Rattle.argon2.specs.Counting.{independent_segments, mixing_calls}
-use Rattle.argon2.specs.Recurrence.{FirstColumns, is_independent, address_block, address_word, previous, reference_word, reference_of, made_block, rule, in_history, history}
+use Rattle.argon2.specs.Recurrence.{FirstColumns, address_word, reference_of, in_history, history, xor_lanes}
+use Rattle.argon2.proofs.Computing.{addresses, recurrence, last_blocks}
 
 -- first columns of words that are multiples of one number
 first : FirstColumns
@@ -30,7 +32,7 @@ ctx_argon2d = record { algorithm = 0; version = 19; m_cost = 16; t_cost = 2; p_c
 argon2d_value : (let h = history ctx_argon2d first 16 in last_words ctx_argon2d h ++ places ctx_argon2d h)
     ≡ 10718237531185049381 ∷ 7985400641692774939
     ∷ 13 ∷ 13 ∷ 0 ∷ 1 ∷ 2 ∷ 15 ∷ 9 ∷ 13 ∷ 3 ∷ 12 ∷ 6 ∷ 1 ∷ 8 ∷ 3 ∷ 12 ∷ 12 ∷ []
-unfolding rule in_history history made_block reference_of reference_word previous address_word address_block is_independent reference reference_index reference_lane permitted without_last finished_segments columns segment_length mixed by_rows by_columns column row perm mix_columns mix_diagonals gb xor_rotate add_mul xor_blocks zero_block first last_words places ctx_argon2d
+unfolding recurrence first last_words places ctx_argon2d
 argon2d_value = refl
 
 -- one lane and two passes, the first overwritten
@@ -38,7 +40,7 @@ ctx_argon2i : Context
 ctx_argon2i = record { algorithm = 1; version = 16; m_cost = 8; t_cost = 2; p_cost = 1; secret = []; associated = [] }
 
 argon2i_value : last_words ctx_argon2i (history ctx_argon2i first 16) ≡ 16414865654818697123 ∷ 3293329966495352252 ∷ []
-unfolding rule in_history history made_block reference_of reference_word previous address_word address_block is_independent reference reference_index reference_lane permitted without_last finished_segments columns segment_length mixed by_rows by_columns column row perm mix_columns mix_diagonals gb xor_rotate add_mul xor_blocks zero_block first last_words ctx_argon2i
+unfolding recurrence first last_words ctx_argon2i
 argon2i_value = refl
 
 -- one lane and two passes
@@ -48,8 +50,29 @@ ctx_argon2id = record { algorithm = 2; version = 19; m_cost = 8; t_cost = 2; p_c
 argon2id_value : (let h = history ctx_argon2id first 16 in last_words ctx_argon2id h ++ places ctx_argon2id h)
     ≡ 13564120000123350929 ∷ 17152559826884169098
     ∷ 6 ∷ 7 ∷ 0 ∷ 1 ∷ 2 ∷ 6 ∷ 4 ∷ 5 ∷ []
-unfolding rule in_history history made_block reference_of reference_word previous address_word address_block is_independent reference reference_index reference_lane permitted without_last finished_segments columns segment_length mixed by_rows by_columns column row perm mix_columns mix_diagonals gb xor_rotate add_mul xor_blocks zero_block first last_words places ctx_argon2id
+unfolding recurrence first last_words places ctx_argon2id
 argon2id_value = refl
+
+-- three columns a segment and two lanes
+ctx_three_columns : Context
+ctx_three_columns = record { algorithm = 2; version = 19; m_cost = 24; t_cost = 1; p_cost = 2; secret = []; associated = [] }
+
+three_columns_value : last_words ctx_three_columns (history ctx_three_columns first 12)
+    ≡ 12191841907471625132 ∷ 9955704013308080359 ∷ []
+unfolding recurrence first last_words ctx_three_columns
+three_columns_value = refl
+
+lanes_value : take 2 (xor_lanes ctx_three_columns (λ lane. first lane 0)) ≡ 5442119120697748736 ∷ 5730372582314996992 ∷ []
+unfolding last_blocks first ctx_three_columns
+lanes_value = refl
+
+-- 130 columns a segment, whose addresses are the words of two blocks
+ctx_long_segment : Context
+ctx_long_segment = record { algorithm = 1; version = 19; m_cost = 1040; t_cost = 1; p_cost = 2; secret = []; associated = [] }
+
+address_value : address_word ctx_long_segment 0 1 2 129 ≡ 1154725382045286597
+unfolding addresses ctx_long_segment
+address_value = refl
 
 -- ---- how often two blocks are mixed
 

@@ -3,16 +3,14 @@ use Rattle.std.proofs.Common.{◌≡◌, ℕ, zero, suc, ◌+◌, ◌-◌, ◌*�
 use mathlib.Core.Path.{fun_ext}
 use Rattle.std.specs.Int.{w32, to_le_bytes, bytes_high_first}
 use Rattle.std.specs.List.{flat_map, range_with_len}
-use Rattle.argon2_base.specs.Block.{bytes_of, words_of, xor_blocks, zero_block}
-use Rattle.argon2_base.specs.Compression.{mix, round, rounds, words, compress}
-use Rattle.argon2_base.specs.Blake2b.{hash_blocks, blake2b}
+use Rattle.argon2_base.specs.Block.{bytes_of, words_of}
+use Rattle.argon2_base.specs.Blake2b.{blake2b}
 use Rattle.argon2_base.specs.LongHash.{chain, half, half_count, long_hash}
-use Rattle.argon2_base.specs.Mixing.{mixed, by_rows, by_columns, column, row, perm, mix_columns, mix_diagonals, gb, xor_rotate, add_mul}
-use Rattle.argon2.specs.Context.{Context, segment_length}
+use Rattle.argon2.specs.Context.{Context}
 use Rattle.argon2.specs.InitialHash.{initial_hash, block_after, first_block, number}
-use Rattle.argon2.specs.Reference.{columns, finished_segments, without_last, permitted, reference_lane, reference_index, reference}
-use Rattle.argon2.specs.Recurrence.{is_independent, address_block, address_word, previous, reference_word, reference_of, made_block, rule, in_history, history, block_of, xor_lanes, last_block}
+use Rattle.argon2.specs.Recurrence.{last_block}
 use Rattle.argon2.specs.Tag.{tag_of}
+use Rattle.argon2.proofs.Computing.{digests, last_blocks}
 
 -- the first halves of so many digests, each of the one before
 halves : ℕ → List ℕ → List ℕ
@@ -61,5 +59,5 @@ ctx_argon2id = record { algorithm = 2; version = 19; m_cost = 8; t_cost = 1; p_c
 
 known_tag : tag_of ctx_argon2id (codes "password") (codes "somesalt") 32
     ≡ bytes_high_first 32 0x018254e3c239eff6bebb81e68b5355ccf537386553d74828065728b9723a5b54
-unfolding ctx_argon2id halves long_hash_once initial_hash mix round rounds words compress hash_blocks blake2b chain rule in_history history made_block reference_of reference_word previous address_word address_block is_independent reference reference_index reference_lane permitted without_last finished_segments columns segment_length mixed by_rows by_columns column row perm mix_columns mix_diagonals gb xor_rotate add_mul xor_blocks zero_block block_of xor_lanes last_block words_of
+unfolding digests last_blocks ctx_argon2id halves long_hash_once chain words_of
 known_tag = tag_once ctx_argon2id (codes "password") (codes "somesalt") 32 ∙ refl

@@ -1,4 +1,5 @@
 mod Addresses
+mod Computing
 mod Counts
 mod DecodedSlices
 mod Filled
@@ -7,6 +8,7 @@ mod History
 mod InMemory
 mod Independence
 mod KnownAnswers
+mod KnownInitialHash
 mod KnownTag
 mod LaneAfterLane
 mod LastColumn

@@ -1,9 +1,10 @@
 //! The faults of hashing, and their texts.
 
-ghost use Rattle.std.specs.Prelude.{◌≡◌, Some};
+ghost use Rattle.std.specs.Prelude.{◌≡◌, ◌++◌, Some, codes};
 ghost use Rattle.argon2_base.specs.Error.{cause_text, error_text};
-ghost use Rattle.argon2_base.specs.declared.error.Error.TheVariants.{B64Encoding};
+ghost use Rattle.argon2_base.specs.declared.error.Error.TheVariants.{B64Encoding, OutOfMemory};
 
+use std::alloc::AllocError;
 use std::fmt;
 
 pub mod kdf;
@@ -18,14 +19,23 @@ pub enum B64Error {
     InvalidLength,
 }
 
+impl B64Error {
+    /// What is printed.
+    pub fn text(&self) -> &'static str
+        ensures { result.now ≡ cause_text self.now }
+    {
+        match self {
+            B64Error::InvalidEncoding => "invalid Base64 encoding",
+            B64Error::InvalidLength => "invalid Base64 length",
+        }
+    }
+}
+
 impl fmt::Display for B64Error {
     ghost output = { λ e. Some (cause_text e) };
 
     fn fmt<W: fmt::Write>(&self, f: &mut fmt::Formatter<W>) -> fmt::Result {
-        match self {
-            B64Error::InvalidEncoding => write!(f, "invalid Base64 encoding"),
-            B64Error::InvalidLength => write!(f, "invalid Base64 length"),
-        }
+        f.write_str(self.text())
     }
 }
 
@@ -75,29 +85,48 @@ pub enum Error {
 /// A result with the fault of hashing.
 pub type Result<T> = std::result::Result<T, Error>;
 
+impl Error {
+    /// What is printed.
+    pub fn text(&self) -> &'static str
+        ensures { result.now ≡ error_text self.now }
+    {
+        match self {
+            Error::AdTooLong => "associated data is too long",
+            Error::AlgorithmInvalid => "algorithm identifier invalid",
+            Error::B64Encoding(cause) => encoding_text(cause),
+            Error::KeyIdTooLong => "key ID is too long",
+            Error::MemoryTooLittle => "memory cost is too small",
+            Error::MemoryTooMuch => "memory cost is too large",
+            Error::OutputTooShort => "output is too short",
+            Error::OutputTooLong => "output is too long",
+            Error::PwdTooLong => "password is too long",
+            Error::SaltTooShort => "salt is too short",
+            Error::SaltTooLong => "salt is too long",
+            Error::SecretTooLong => "secret is too long",
+            Error::ThreadsTooFew => "not enough threads",
+            Error::ThreadsTooMany => "too many threads",
+            Error::TimeTooSmall => "time cost is too small",
+            Error::VersionInvalid => "invalid version",
+            Error::OutOfMemory => "out of memory",
+        }
+    }
+}
+
+// What is printed of a Base64 text that is refused for such a cause.
+fn encoding_text(cause: &B64Error) -> &'static str
+    ensures { result.now ≡ codes "B64 encoding invalid: " ++ cause_text cause.now }
+{
+    match cause {
+        B64Error::InvalidEncoding => "B64 encoding invalid: invalid Base64 encoding",
+        B64Error::InvalidLength => "B64 encoding invalid: invalid Base64 length",
+    }
+}
+
 impl fmt::Display for Error {
     ghost output = { λ e. Some (error_text e) };
 
     fn fmt<W: fmt::Write>(&self, f: &mut fmt::Formatter<W>) -> fmt::Result {
-        match self {
-            Error::AdTooLong => write!(f, "associated data is too long"),
-            Error::AlgorithmInvalid => write!(f, "algorithm identifier invalid"),
-            Error::B64Encoding(cause) => write!(f, "B64 encoding invalid: {cause}"),
-            Error::KeyIdTooLong => write!(f, "key ID is too long"),
-            Error::MemoryTooLittle => write!(f, "memory cost is too small"),
-            Error::MemoryTooMuch => write!(f, "memory cost is too large"),
-            Error::OutputTooShort => write!(f, "output is too short"),
-            Error::OutputTooLong => write!(f, "output is too long"),
-            Error::PwdTooLong => write!(f, "password is too long"),
-            Error::SaltTooShort => write!(f, "salt is too short"),
-            Error::SaltTooLong => write!(f, "salt is too long"),
-            Error::SecretTooLong => write!(f, "secret is too long"),
-            Error::ThreadsTooFew => write!(f, "not enough threads"),
-            Error::ThreadsTooMany => write!(f, "too many threads"),
-            Error::TimeTooSmall => write!(f, "time cost is too small"),
-            Error::VersionInvalid => write!(f, "invalid version"),
-            Error::OutOfMemory => write!(f, "out of memory"),
-        }
+        f.write_str(self.text())
     }
 }
 
@@ -108,5 +137,13 @@ impl From<B64Error> for Error {
 
     fn from(cause: B64Error) -> Error {
         Error::B64Encoding(cause)
+    }
+}
+
+impl From<AllocError> for Error {
+    ghost from_gives = { λ _ e. e ≡ OutOfMemory };
+
+    fn from(_error: AllocError) -> Error {
+        Error::OutOfMemory
     }
 }

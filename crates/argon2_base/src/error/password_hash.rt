@@ -1,9 +1,11 @@
 //! The faults of calls on passwords and PHC texts.
 
-ghost use Rattle.std.specs.Prelude.{◌≡◌, Some};
+ghost use Rattle.std.specs.Prelude.{◌≡◌, ◌++◌, Some};
 ghost use Rattle.argon2_base.specs.Error.{hash_error_text, fault_of, as_fault};
+ghost use Rattle.argon2_base.specs.declared.error.password_hash.Error.TheVariants.{OutOfMemory};
 
 use super::Error as HashingError;
+use std::alloc::AllocError;
 use std::fmt;
 
 /// Why a call on passwords or PHC texts is refused.
@@ -35,21 +37,31 @@ pub enum Error {
 /// A result with the fault of calls on passwords.
 pub type Result<T> = std::result::Result<T, Error>;
 
+impl Error {
+    /// What is printed, in three parts: the second is the name of a parameter, or empty with the third.
+    pub fn text(&self) -> (&'static str, &'static str, &'static str)
+        ensures { result.0.now ++ result.1.now ++ result.2.now ≡ hash_error_text self.now }
+    {
+        match self {
+            Error::Algorithm => ("algorithm is not supported", "", ""),
+            Error::EncodingInvalid => ("encoding is invalid", "", ""),
+            Error::OutOfMemory => ("out of memory", "", ""),
+            Error::OutputSize => ("output size is invalid", "", ""),
+            Error::ParamInvalid { name } => ("parameter ", name, " is invalid"),
+            Error::ParamsInvalid => ("parameters are invalid", "", ""),
+            Error::PasswordInvalid => ("password is invalid", "", ""),
+            Error::SaltInvalid => ("salt is invalid", "", ""),
+            Error::Version => ("version is not supported", "", ""),
+        }
+    }
+}
+
 impl fmt::Display for Error {
     ghost output = { λ e. Some (hash_error_text e) };
 
     fn fmt<W: fmt::Write>(&self, f: &mut fmt::Formatter<W>) -> fmt::Result {
-        match self {
-            Error::Algorithm => write!(f, "algorithm is not supported"),
-            Error::EncodingInvalid => write!(f, "encoding is invalid"),
-            Error::OutOfMemory => write!(f, "out of memory"),
-            Error::OutputSize => write!(f, "output size is invalid"),
-            Error::ParamInvalid { name } => write!(f, "parameter {name} is invalid"),
-            Error::ParamsInvalid => write!(f, "parameters are invalid"),
-            Error::PasswordInvalid => write!(f, "password is invalid"),
-            Error::SaltInvalid => write!(f, "salt is invalid"),
-            Error::Version => write!(f, "version is not supported"),
-        }
+        let (start, name, end) = self.text();
+        write!(f, "{start}{name}{end}")
     }
 }
 
@@ -78,5 +90,13 @@ impl From<HashingError> for Error {
             HashingError::VersionInvalid => Error::Version,
             HashingError::OutOfMemory => Error::OutOfMemory,
         }
+    }
+}
+
+impl From<AllocError> for Error {
+    ghost from_gives = { λ _ e. e ≡ OutOfMemory };
+
+    fn from(_error: AllocError) -> Error {
+        Error::OutOfMemory
     }
 }

@@ -13,4 +13,4 @@ returns c =
     let all = take_all c.words.k c.words.words (omega arith) in
     let whole = take_all c.words.k pieces (omega arith) in
     let cut = c.as_chunks.ensures.front ∙ ap (λ n. first_chunks 8 (n / 8) c.args.block.now) c.requires in
-    sym all ∙ c.words.invariant.1 ∙ ap (map (from_le_bytes w64)) (whole ∙ cut)
+    sym all ∙ c.words.invariant.done ∙ ap (map (from_le_bytes w64)) (whole ∙ cut)

@@ -3,5 +3,7 @@ use Rattle.std.specs.Int.{w64, from_le_bytes}
 use Rattle.argon2_base.proofs.blake2b.compression.words.Given as goal
 
 abbrev pub invariant-words : goal.invariant-words
-invariant-words l =
-    (length l.words ≡ 16) × (take l.k l.words ≡ map (from_le_bytes w64) (take l.k l.pieces))
+invariant-words l = record {
+  long : length l.words ≡ 16;
+  done : take l.k l.words ≡ map (from_le_bytes w64) (take l.k l.pieces);
+}
