@@ -1,5 +1,5 @@
 -- What the program is asked for, and what it answers.
-use Rattle.std.specs.Prelude.{ℕ, ◌≡◌, ◌≤◌, ◌<◌, ◌^◌, ◌==◌, if◌then◌else◌, Option, Some, None, IfSome, Result, Ok, Err, IsOkAnd, List, [], ◌∷◌, ◌++◌, length, codes}
+use Rattle.std.specs.Prelude.{ℕ, ◌≡◌, ◌≤◌, ◌<◌, ◌^◌, ◌==◌, if◌then◌else◌, Option, Some, None, IfSome, Result, Ok, Err, IsErr, IsOkAnd, List, [], ◌∷◌, ◌++◌, length, codes}
 use Rattle.std.specs.Io.KnownBytes.{Appends}
 use Rattle.std.specs.Fmt.{decimal}
 use Rattle.hex.specs.Hex.{encode_lower}
@@ -87,3 +87,8 @@ answer_of (Tag settings len salt) password = tag_answer (context_asked settings)
 abbrev pub IsAnswered : Command → Option (List ℕ) → Option (List ℕ) → Option (List ℕ) → Type 0
 IsAnswered command input old new = IfSome input (λ message.
     IsOkAnd (answer_of command message) (λ text. Appends old new (text ++ 10 ∷ [])))
+
+-- the input is known, and the command's answer to it is a refusal
+abbrev pub IsRefused : Command → Option (List ℕ) → Type 0
+IsRefused command None = ⊥
+IsRefused command (Some message) = IsErr (answer_of command message)

@@ -5,7 +5,7 @@ ghost use Rattle.std.specs.Io.KnownBytes.{Appends, Keeps};
 ghost use Rattle.hex.specs.Hex.{encode_lower};
 ghost use Rattle.argon2_base.specs.Blake2b.{blake2b};
 ghost use Rattle.argon2_base.specs.Hasher.{Holds};
-ghost use Rattle.argon2_tool.specs.Commands.{IsAsked, IsCommand, Spells, answer_of, context_asked, tag_answer, IsAnswered};
+ghost use Rattle.argon2_tool.specs.Commands.{IsAsked, IsCommand, Spells, answer_of, context_asked, tag_answer, IsAnswered, IsRefused};
 ghost use Rattle.argon2_tool.specs.Faults.{IsOfReading, IsBeforeWriting, IsRefusal};
 
 use crate::arguments::{Command, Settings};
@@ -24,9 +24,10 @@ const USAGE: &str =
 
 /// Runs the command that `args` spell on `input`, and returns the exit status.
 ///
-/// Status 0: the answer is written to `output`, as a line. Status 1: the fault's text is written to
-/// `errors`. Status 2: the arguments spell no command, `errors` has the usage line, and neither
-/// `input` nor `output` is touched. Where `errors` can't be written, the status stays.
+/// Status 0: the answer is written to `output`, as a line, and nothing to `errors`. Status 1: the
+/// fault's text is written to `errors`, and where the answer to `input` is a refusal, nothing to
+/// `output`. Status 2: the arguments spell no command, `errors` has the usage line, and neither `input`
+/// nor `output` is touched. Where `errors` can't be written, the status stays.
 pub fn run<R: Read, W: Write, E: Write>(
     alloc: Global,
     args: &[String],
@@ -40,6 +41,9 @@ pub fn run<R: Read, W: Write, E: Write>(
     ensures unwritten { result ≡ 2 → Keeps (W.contents output.old) (W.contents output.new) }
     ensures answered { result ≡ 0 → (c : Command) × Spells (map string_bytes args.now) c
         × IsAnswered c (R.remaining input.old) (W.contents output.old) (W.contents output.new) }
+    ensures quiet { result ≡ 0 → Keeps (E.contents errors.old) (E.contents errors.new) }
+    ensures refused { result ≡ 1 → (c : Command) × Spells (map string_bytes args.now) c
+        × (IsRefused c (R.remaining input.old) → Keeps (W.contents output.old) (W.contents output.new)) }
 {
     let Some(command) = Command::parsed(args) else {
         let _ = writeln!(errors, "{USAGE}");
@@ -69,8 +73,10 @@ fn answer<R: Read, W: Write>(
     requires { IsCommand command.now }
     ensures ok { OnOk result (IsAnswered command.now (R.remaining input.old)
         (W.contents output.old) (W.contents output.new)) }
-    ensures err { IfErr result (λ fault. (fault ≡ Fault.Output)
-        ⊎ (IsBeforeWriting (answer_of command.now) (R.remaining input.old) fault × Keeps (W.contents output.old) (W.contents output.new))) }
+    ensures err { IfErr result (λ fault.
+        ((fault ≡ Fault.Output) × ¬ IsRefused command.now (R.remaining input.old))
+        ⊎ (IsBeforeWriting (answer_of command.now) (R.remaining input.old) fault
+        × Keeps (W.contents output.old) (W.contents output.new))) }
 {
     let text = match *command {
         Command::Digest(len) => digest(alloc, len as usize, input)?,
