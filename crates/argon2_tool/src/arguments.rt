@@ -1,59 +1,20 @@
 //! The commands, as the program's arguments spell them.
 
-ghost use Rattle.std.specs.Prelude.{◌≡◌, ℕ, ◌<◌, ◌^◌, Some, IfSome, IsSome, map, string_bytes};
+ghost use Rattle.std.specs.Prelude.{◌≡◌, ℕ, ◌≤◌, IfSome, IsSome};
 ghost use Rattle.std.specs.Fmt.{decimal};
-ghost use Rattle.argon2_tool.specs.Commands.{Spells};
 
+use crate::request::Request;
 use argon2::phc::read_decimal;
 
-/// What a hash is asked for under: an algorithm by its name, a version by its number, and costs. None
-/// of them is checked yet.
-#[derive(Clone, Copy, Debug)]
-pub struct Settings<'a> {
-    pub algorithm: &'a str,
-    pub version: u32,
-    pub m_cost: u32,
-    pub t_cost: u32,
-    pub p_cost: u32,
-}
-
-impl<'a> Settings<'a> {
-    ghost use Rattle.std.specs.Prelude.{◌≡◌, [], ◌∷◌, IfSome, IsSome};
-    ghost use Rattle.argon2_tool.specs.Commands.{IsSettings, settings_words};
-
-    // The settings that five words spell, if they spell any.
-    fn parsed(
-        algorithm: &'a str,
-        version: &str,
-        m_cost: &str,
-        t_cost: &str,
-        p_cost: &str,
-    ) -> Option<Settings<'a>>
-        ensures found { IfSome result (λ s. IsSettings s × (settings_words s
-            ≡ algorithm.now ∷ version.now ∷ m_cost.now ∷ t_cost.now ∷ p_cost.now ∷ [])) }
-        ensures only { (s : Settings) → IsSettings s
-            → settings_words s ≡ algorithm.now ∷ version.now ∷ m_cost.now ∷ t_cost.now ∷ p_cost.now ∷ []
-            → IsSome result }
-    {
-        Some(Settings {
-            algorithm,
-            version: read_decimal(version)?,
-            m_cost: read_decimal(m_cost)?,
-            t_cost: read_decimal(t_cost)?,
-            p_cost: read_decimal(p_cost)?,
-        })
-    }
-}
-
 /// What the program is asked for.
-#[derive(Clone, Copy, Debug)]
+#[derive(Clone, Copy)]
 pub enum Command<'a> {
     /// `digest N`: the BLAKE2b digest of N bytes, 1 to 64.
     Digest(u32),
     /// `long N`: the variable-length hash of N bytes, at most 1024.
     Long(u32),
     /// `tag ALG VER M T P LEN SALT`: the tag of LEN bytes, at most 1024, of a password.
-    Tag(Settings<'a>, u32, &'a str),
+    Tag(Request<'a>, u32, &'a str),
 }
 
 impl<'a> Command<'a> {
@@ -68,23 +29,19 @@ impl<'a> Command<'a> {
     {
         let (name, values) = args.split_first()?;
         match (name.as_str(), values) {
-            ("digest", [len]) => match read_decimal(len.as_str())? {
-                len if 1 <= len && len <= 64 => Some(Command::Digest(len)),
-                _ => None,
-            },
-            ("long", [len]) => match read_decimal(len.as_str())? {
-                len if len <= 1024 => Some(Command::Long(len)),
-                _ => None,
-            },
-            ("tag", [algorithm, version, m_cost, t_cost, p_cost, len, salt]) => Command::tag(
-                algorithm.as_str(),
-                version.as_str(),
-                m_cost.as_str(),
-                t_cost.as_str(),
-                p_cost.as_str(),
-                len.as_str(),
-                salt.as_str(),
-            ),
+            ("digest", [len]) => Some(Command::Digest(number_within(len.as_str(), 1, 64)?)),
+            ("long", [len]) => Some(Command::Long(number_within(len.as_str(), 0, 1024)?)),
+            ("tag", [algorithm, version, m_cost, t_cost, p_cost, len, salt]) => {
+                Command::tag(
+                    algorithm.as_str(),
+                    version.as_str(),
+                    m_cost.as_str(),
+                    t_cost.as_str(),
+                    p_cost.as_str(),
+                    len.as_str(),
+                    salt.as_str(),
+                )
+            }
             _ => None,
         }
     }
@@ -104,11 +61,20 @@ impl<'a> Command<'a> {
         ensures only { (command : Command) → Spells (codes "tag" ∷ algorithm.now ∷ version.now ∷ m_cost.now
             ∷ t_cost.now ∷ p_cost.now ∷ len.now ∷ salt.now ∷ []) command → IsSome result }
     {
-        let settings = Settings::parsed(algorithm, version, m_cost, t_cost, p_cost)?;
-        let len = read_decimal(len)?;
-        if len > 1024 {
-            return None;
-        }
-        Some(Command::Tag(settings, len, salt))
+        let request = Request::parsed(algorithm, version, m_cost, t_cost, p_cost)?;
+        let len = number_within(len, 0, 1024)?;
+        Some(Command::Tag(request, len, salt))
     }
+}
+
+// The number that a decimal spells, where it is within these bounds.
+fn number_within(text: &str, least: u32, most: u32) -> Option<u32>
+    ensures found { IfSome result (λ n. (least ≤ n) × (n ≤ most) × (text.now ≡ decimal n)) }
+    ensures only { (n : ℕ) → least ≤ n → n ≤ most → text.now ≡ decimal n → IsSome result }
+{
+    let number = read_decimal(text)?;
+    if number < least || number > most {
+        return None;
+    }
+    Some(number)
 }

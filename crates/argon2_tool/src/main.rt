@@ -1,14 +1,15 @@
-//! `argon2-tool`: digests of standard input.
+//! `argon2-tool`: digests and tags of standard input.
 #![tactic(auto)]
 
-use fault::Fault;
+use failure::Failure;
 use std::alloc::AllocError;
 use std::env;
 use std::io::ErrorKind;
 use std::process::ExitCode;
 
 mod arguments;
-mod fault;
+mod failure;
+mod request;
 mod run;
 
 pub use run::run;
@@ -23,7 +24,7 @@ fn main(rt: HostRuntime) -> ExitCode {
             &mut output,
             &mut errors,
         ),
-        Err(refused) => run::fail(&mut errors, Fault::Memory(refused)),
+        Err(refused) => run::fail(&mut errors, Failure::Memory(refused)),
     };
     ExitCode::from(status)
 }

@@ -98,7 +98,7 @@ fn expect<R: Read>(
 }
 
 #[test]
-fn answers(rt: HostRuntime) -> Result<(), Fail> {
+fn answers_the_digest_of_its_input(rt: HostRuntime) -> Result<(), Fail> {
     for (command, len, message, line) in [
         (
             "digest",
@@ -141,7 +141,7 @@ const TAG: &str = "9dfeb910e80bad0311fee20f9c0e2b12c17987b4cac90c2ef54d5b3021c68
 
 // The tag, or the first refusal: of the arguments, the algorithm, the version, the parameters, the call.
 #[test]
-fn tags(rt: HostRuntime) -> Result<(), Fail> {
+fn answers_a_tag_or_the_first_refusal(rt: HostRuntime) -> Result<(), Fail> {
     for (algorithm, version, t_cost, len, answer) in [
         ("argon2id", "19", "2", "32", (0, TAG, "")),
         ("argon2x", "17", "0", "1025", (2, "", USAGE)),
@@ -191,7 +191,7 @@ fn tags(rt: HostRuntime) -> Result<(), Fail> {
 }
 
 #[test]
-fn tags_by_64_mebibytes(rt: HostRuntime) -> Result<(), Fail> {
+fn tags_on_64_mebibytes(rt: HostRuntime) -> Result<(), Fail> {
     let mut input: &[u8] = b"password";
     let salt = "c29tZXNhbHQAAAAAAAAAAA";
     let words = &["tag", "argon2d", "19", "65536", "2", "1", "32", salt];
@@ -223,7 +223,7 @@ fn long_64_is_a_digest(rt: HostRuntime) -> Result<(), Fail> {
 }
 
 #[test]
-fn other_arguments(rt: HostRuntime) -> Result<(), Fail> {
+fn tells_its_usage_where_arguments_spell_no_command(rt: HostRuntime) -> Result<(), Fail> {
     let usage = (2, "", USAGE);
     for len in [
         "",
@@ -273,7 +273,7 @@ fn other_arguments(rt: HostRuntime) -> Result<(), Fail> {
 }
 
 #[test]
-fn input_that_fails(rt: HostRuntime) -> Result<(), Fail> {
+fn tells_that_the_input_fails(rt: HostRuntime) -> Result<(), Fail> {
     for words in [["digest", "64"], ["long", "100"], ["long", "0"]] {
         for calls in [0, 1, 1000] {
             let unread = (1, "", "argon2: standard input can't be read\n");
@@ -296,7 +296,7 @@ fn input_that_fails(rt: HostRuntime) -> Result<(), Fail> {
 
 // The line, its line feed and the flush: whichever of them fails is told.
 #[test]
-fn output_that_fails(rt: HostRuntime) -> Result<(), Fail> {
+fn tells_that_the_output_fails(rt: HostRuntime) -> Result<(), Fail> {
     let alloc = rt.alloc();
     let unwritten = "argon2: standard output can't be written\n";
     for (calls, status, text) in [
@@ -322,7 +322,7 @@ fn output_that_fails(rt: HostRuntime) -> Result<(), Fail> {
 
 // The status stays where the text can't be written.
 #[test]
-fn errors_that_fail(rt: HostRuntime) -> Result<(), Fail> {
+fn keeps_its_status_where_errors_fail(rt: HostRuntime) -> Result<(), Fail> {
     let alloc = rt.alloc();
     for (words, status) in [(["digest", "65"], 2), (["long", "0"], 1)] {
         for calls in [0, 1] {

@@ -2,7 +2,7 @@
 
 ghost use Rattle.std.specs.Prelude.{◌≡◌, ◌≢◌};
 ghost use Rattle.std.specs.IoError.{error_kind};
-ghost use Rattle.argon2_tool.specs.Faults.{IsOfReading, IsMemory, IsOfHashing};
+ghost use Rattle.argon2_tool.specs.Failures.{IsOfReading, IsMemory, IsOfHashing};
 
 use std::alloc::AllocError;
 use std::io;
@@ -11,11 +11,11 @@ use thiserror::Error;
 
 /// Why a command fails, with the text that the program prints.
 #[derive(Debug, Drop, Error)]
-pub enum Fault {
+pub enum Failure {
     /// Standard input fails before its end.
     #[error("standard input can't be read")]
     Input,
-    /// Standard output does not take the answer.
+    /// Standard output does not take the reply.
     #[error("standard output can't be written")]
     Output,
     /// A request for memory was refused.
@@ -26,27 +26,35 @@ pub enum Fault {
     Hashing(argon2::Error),
 }
 
-/// The fault of a read that fails: want of memory is no failed read.
-pub fn of_reading(error: &io::Error) -> Fault
+/// The failure of a read: want of memory is told as such.
+pub fn of_reading(error: &io::Error) -> Failure
     ensures memory { error_kind error.now ≡ ErrorKind.OutOfMemory → IsMemory result }
-    ensures input { error_kind error.now ≢ ErrorKind.OutOfMemory → result ≡ Fault.Input }
+    ensures input { error_kind error.now ≢ ErrorKind.OutOfMemory → result ≡ Failure.Input }
     ensures reading { IsOfReading result }
 {
     if error.kind() == ErrorKind::OutOfMemory {
-        Fault::Memory(AllocError)
+        Failure::Memory(AllocError)
     } else {
-        Fault::Input
+        Failure::Input
+    }
+}
+
+impl From<AllocError> for Failure {
+    ghost from_gives = { λ _. IsMemory };
+
+    fn from(refused: AllocError) -> Failure {
+        Failure::Memory(refused)
     }
 }
 
 /// Want of memory is told as such, whoever met it.
-impl From<argon2::Error> for Fault {
+impl From<argon2::Error> for Failure {
     ghost from_gives = { IsOfHashing };
 
-    fn from(error: argon2::Error) -> Fault {
+    fn from(error: argon2::Error) -> Failure {
         match error {
-            argon2::Error::OutOfMemory => Fault::Memory(AllocError),
-            error => Fault::Hashing(error),
+            argon2::Error::OutOfMemory => Failure::Memory(AllocError),
+            error => Failure::Hashing(error),
         }
     }
 }
