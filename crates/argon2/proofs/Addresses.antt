@@ -42,7 +42,8 @@ unfolding addresses_of
 addresses_at ctx pass lane slice index below =
     let s = segment_length ctx in
     let column = slice * s + index in
-    let at : ℕ → ℕ → Option (List ℕ) = λ k i. cond (is_independent ctx pass k) (Some (address_block ctx pass lane k (i / 128 + 1))) None in
+    let at : ℕ → ℕ → Option (List ℕ) =
+    λ k i. cond (is_independent ctx pass k) (Some (address_block ctx pass lane k (i / 128 + 1))) None in
     ap (λ k. at k (column % s)) (div-mul-add slice s index below) ∙ ap (at slice) (mod-mul-add slice s index below)
 
 -- one address block serves 128 indexes
@@ -57,9 +58,11 @@ same_addresses ctx pass lane slice i j a b same =
 -- each address block of a segment takes two mixings
 pub address_mixings : (ctx : Context) (pass slice index : ℕ) → index < segment_length ctx →
     (let two : ℕ = 2 in
-    cond (is_independent ctx pass ((slice * segment_length ctx + index) / segment_length ctx)) two 0 ≡ cond (is_independent ctx pass slice) two 0)
+    cond (is_independent ctx pass ((slice * segment_length ctx + index) / segment_length ctx)) two 0
+    ≡ cond (is_independent ctx pass slice) two 0)
 address_mixings ctx pass slice index below =
-    let mixings : ℕ → ℕ = λ k. cond (is_independent ctx pass k) 2 0 in ap mixings (div-mul-add slice (segment_length ctx) index below)
+    let mixings : ℕ → ℕ = λ k. cond (is_independent ctx pass k) 2 0 in
+    ap mixings (div-mul-add slice (segment_length ctx) index below)
 
 -- the mixings of n address blocks and one more
 pub mixings_more : (b : Bool) (n : ℕ) → cond b (2 * (n + 1)) 0 ≡ cond b (2 * n) 0 + cond b 2 0

@@ -13,74 +13,98 @@ use Rattle.argon2.proofs.Schedules.{turn_count-first}
 use Rattle.argon2.proofs.Filling.{turn_count-later_slice, turn_count-later_pass}
 
 module _ (ctx : Context) (fits : Fits ctx) where
-  -- of a segment
+  -- the address blocks of an independent segment
   address_blocks : ℕ
   address_blocks = (segment_length ctx + 127) / 128
 
-  -- a segment with address blocks
-  yes : (pass k : ℕ) →
+  -- the mixings of a segment with address blocks
+  segment_calls-independent : (pass k : ℕ) →
       ((eqb ctx.algorithm 1) || ((eqb ctx.algorithm 2) && ((eqb pass 0) && ltb k 2))) ≡ true →
       segment_calls ctx pass k ≡ 2 * address_blocks + turn_count ctx pass k
   unfolding segment_calls address_blocks is_independent
-  yes pass k h = ap (λ x. x + turn_count ctx pass k) (cond-true (is_independent ctx pass k) (2 * address_blocks) 0 h)
+  segment_calls-independent pass k h =
+      ap (λ x. x + turn_count ctx pass k) (cond-true (is_independent ctx pass k) (2 * address_blocks) 0 h)
 
-  -- and without
-  no : (pass k : ℕ) →
+  -- the mixings of a segment without
+  segment_calls-dependent : (pass k : ℕ) →
       ((eqb ctx.algorithm 1) || ((eqb ctx.algorithm 2) && ((eqb pass 0) && ltb k 2))) ≡ false →
       segment_calls ctx pass k ≡ turn_count ctx pass k
   unfolding segment_calls address_blocks is_independent
-  no pass k h = ap (λ x. x + turn_count ctx pass k) (cond-false (is_independent ctx pass k) (2 * address_blocks) 0 h) ∙ omega arith
+  segment_calls-dependent pass k h =
+      ap (λ x. x + turn_count ctx pass k) (cond-false (is_independent ctx pass k) (2 * address_blocks) 0 h) ∙ omega arith
 
-  -- in each pass, how many of its four slices are independent
-  sum_of : ℕ → ℕ
-  sum_of pass = segment_calls ctx pass 0 + segment_calls ctx pass 1 + segment_calls ctx pass 2 + segment_calls ctx pass 3
+  -- the mixings of a lane in a pass
+  pass_calls : ℕ → ℕ
+  pass_calls pass = segment_calls ctx pass 0 + segment_calls ctx pass 1 + segment_calls ctx pass 2 + segment_calls ctx pass 3
 
   -- the turns of a lane in pass 0
-  wanted_sum : (turn_count ctx 0 0 + turn_count ctx 0 1 + turn_count ctx 0 2 + turn_count ctx 0 3) + 2 ≡ 4 * segment_length ctx
-  wanted_sum =
+  pass_turns-first : (turn_count ctx 0 0 + turn_count ctx 0 1 + turn_count ctx 0 2 + turn_count ctx 0 3) + 2
+      ≡ 4 * segment_length ctx
+  pass_turns-first =
       let two = fits.two_columns in
-      omega (arith, turn_count-first ctx 0 0 refl refl, turn_count-later_slice ctx 0 0, turn_count-later_slice ctx 0 1, turn_count-later_slice ctx 0 2)
+      omega (
+        arith,
+        turn_count-first ctx 0 0 refl refl,
+        turn_count-later_slice ctx 0 0,
+        turn_count-later_slice ctx 0 1,
+        turn_count-later_slice ctx 0 2,
+      )
 
-  -- and in a later pass
-  wanted_sum_later : (r : ℕ) →
-      turn_count ctx (suc r) 0 + turn_count ctx (suc r) 1 + turn_count ctx (suc r) 2 + turn_count ctx (suc r) 3 ≡ 4 * segment_length ctx
-  wanted_sum_later r = omega (arith, turn_count-later_pass ctx r, turn_count-later_slice ctx (suc r) 0, turn_count-later_slice ctx (suc r) 1, turn_count-later_slice ctx (suc r) 2)
+  -- the turns of a lane in a later pass
+  pass_turns-later : (r : ℕ) →
+      turn_count ctx (suc r) 0 + turn_count ctx (suc r) 1 + turn_count ctx (suc r) 2 + turn_count ctx (suc r) 3
+      ≡ 4 * segment_length ctx
+  pass_turns-later r =
+      omega (
+        arith,
+        turn_count-later_pass ctx r,
+        turn_count-later_slice ctx (suc r) 0,
+        turn_count-later_slice ctx
+            (suc r) 1,
+        turn_count-later_slice ctx (suc r) 2,
+      )
 
-  -- a pass's four slices
-  slices_calls-4 : (pass : ℕ) → slices_calls ctx pass 4 ≡ ctx.p_cost * sum_of pass
-  unfolding slices_calls sum_of
+  -- the mixings of a pass's four slices are those of its lanes
+  slices_calls-4 : (pass : ℕ) → slices_calls ctx pass 4 ≡ ctx.p_cost * pass_calls pass
+  unfolding slices_calls pass_calls
   slices_calls-4 pass =
       let p = ctx.p_cost in
-      let e : slices_calls ctx pass 4 ≡ 0 + p * segment_calls ctx pass 0 + p * segment_calls ctx pass 1 + p * segment_calls ctx pass 2 + p * segment_calls ctx pass 3 = refl in
+      let e : slices_calls ctx pass 4
+      ≡ 0 + p * segment_calls ctx pass 0 + p * segment_calls ctx pass 1 + p * segment_calls ctx pass 2
+      + p * segment_calls ctx pass 3 = refl in
       omega arith
 
-  -- n of pass 0's slices and m of each later pass's are independent
-  total : (n m : ℕ) → sum_of 0 + 2 ≡ 4 * segment_length ctx + 2 * address_blocks * n →
-      ((r : ℕ) → sum_of (suc r) ≡ 4 * segment_length ctx + 2 * address_blocks * m) →
+  -- the mixings of all passes, where n of pass 0's slices and m of each later pass's are independent
+  passes_calls-sum : (n m : ℕ) → pass_calls 0 + 2 ≡ 4 * segment_length ctx + 2 * address_blocks * n →
+      ((r : ℕ) → pass_calls (suc r) ≡ 4 * segment_length ctx + 2 * address_blocks * m) →
       (r : ℕ) →
-      passes_calls ctx (suc r) + 2 * ctx.p_cost ≡ (suc r) * block_count ctx + 2 * address_blocks * (ctx.p_cost * n + r * (ctx.p_cost * m))
-  unfolding passes_calls sum_of
-  total n m first later zero = let e = ap (λ x. ctx.p_cost * x) first in let s = slices_calls-4 0 in omega arith
-  total n m first later (suc r) =
-      let i = total n m first later r in
+      passes_calls ctx (suc r) + 2 * ctx.p_cost
+      ≡ (suc r) * block_count ctx + 2 * address_blocks * (ctx.p_cost * n + r * (ctx.p_cost * m))
+  unfolding passes_calls pass_calls
+  passes_calls-sum n m first later zero = let e = ap (λ x. ctx.p_cost * x) first in let s = slices_calls-4 0 in omega arith
+  passes_calls-sum n m first later (suc r) =
+      let i = passes_calls-sum n m first later r in
       let e = ap (λ x. ctx.p_cost * x) (later r) in
       let s = slices_calls-4 (suc r) in
       omega arith
 
-  -- Argon2i has them in all segments
-  argon2i : ctx.algorithm ≡ 1 → (pass k : ℕ) →
+  -- all segments of Argon2i have address blocks
+  segment_calls-argon2i : ctx.algorithm ≡ 1 → (pass k : ℕ) →
       segment_calls ctx pass k ≡ 2 * address_blocks + turn_count ctx pass k
-  argon2i h pass k = yes pass k (or_left (eqb ctx.algorithm 1) _ (eq-eqb ctx.algorithm 1 h))
+  segment_calls-argon2i h pass k = segment_calls-independent pass k (or_left (eqb ctx.algorithm 1) _ (eq-eqb ctx.algorithm 1 h))
 
-  -- Argon2id in slices 0 and 1 of pass 0
-  argon2id_first : ctx.algorithm ≡ 2 → (k : ℕ) → k < 2 →
+  -- those of Argon2id in slices 0 and 1 of pass 0 have address blocks
+  segment_calls-argon2id_first : ctx.algorithm ≡ 2 → (k : ℕ) → k < 2 →
       segment_calls ctx 0 k ≡ 2 * address_blocks + turn_count ctx 0 k
-  argon2id_first h k lt = yes 0 k (or_right (eqb ctx.algorithm 1) _ (and_from (eqb ctx.algorithm 2) _ (eq-eqb ctx.algorithm 2 h) (and_from (eqb 0 0) (ltb k 2) refl (lt-ltb k 2 lt))))
+  segment_calls-argon2id_first h k lt =
+      segment_calls-independent 0 k
+      (or_right (eqb ctx.algorithm 1) _
+      (and_from (eqb ctx.algorithm 2) _ (eq-eqb ctx.algorithm 2 h) (and_from (eqb 0 0) (ltb k 2) refl (lt-ltb k 2 lt))))
 
-  -- and nowhere else
-  argon2id_later : ctx.algorithm ≡ 2 → (pass k : ℕ) → (pass ≡ 0 → 2 ≤ k) →
+  -- no others of Argon2id have
+  segment_calls-argon2id_later : ctx.algorithm ≡ 2 → (pass k : ℕ) → (pass ≡ 0 → 2 ≤ k) →
       segment_calls ctx pass k ≡ turn_count ctx pass k
-  argon2id_later h pass k late = no pass k (false_from_ne_true _ (λ e.
+  segment_calls-argon2id_later h pass k late = segment_calls-dependent pass k (false_from_ne_true _ (λ e.
       elim (or_cases (eqb ctx.algorithm 1) ((eqb ctx.algorithm 2) && ((eqb pass 0) && ltb k 2)) e) [
         | inl a ↦ (let x : ctx.algorithm ≡ 1 = eqb-true ctx.algorithm 1 a in omega arith)
         | inr b ↦ (
@@ -90,38 +114,41 @@ module _ (ctx : Context) (fits : Fits ctx) where
             omega arith)
       ]))
 
-  -- Argon2d nowhere
-  argon2d : ctx.algorithm ≢ 1 → ctx.algorithm ≢ 2 → (pass k : ℕ) →
+  -- none of Argon2d has
+  segment_calls-argon2d : ctx.algorithm ≢ 1 → ctx.algorithm ≢ 2 → (pass k : ℕ) →
       segment_calls ctx pass k ≡ turn_count ctx pass k
-  argon2d a b pass k = no pass k (false_from_ne_true _ (λ e.
+  segment_calls-argon2d a b pass k = segment_calls-dependent pass k (false_from_ne_true _ (λ e.
       elim (or_cases (eqb ctx.algorithm 1) ((eqb ctx.algorithm 2) && ((eqb pass 0) && ltb k 2)) e) [
         | inl x ↦ a (eqb-true ctx.algorithm 1 x)
         | inr x ↦ b (eqb-true ctx.algorithm 2 (and_parts (eqb ctx.algorithm 2) ((eqb pass 0) && ltb k 2) x).0)
       ]))
 
-  -- how many segments of Argon2i have them
-  segments_i : ctx.algorithm ≡ 1 → independent_segments ctx ≡ 4 * ctx.t_cost * ctx.p_cost
+  -- how many segments of Argon2i are independent
+  independent_segments-argon2i : ctx.algorithm ≡ 1 → independent_segments ctx ≡ 4 * ctx.t_cost * ctx.p_cost
   unfolding independent_segments
-  segments_i h = cond-true (eqb ctx.algorithm 1) (4 * ctx.t_cost * ctx.p_cost) _ (eq-eqb ctx.algorithm 1 h)
+  independent_segments-argon2i h = cond-true (eqb ctx.algorithm 1) (4 * ctx.t_cost * ctx.p_cost) _ (eq-eqb ctx.algorithm 1 h)
 
-  -- of Argon2id
-  segments_id : ctx.algorithm ≡ 2 → independent_segments ctx ≡ 2 * ctx.p_cost
+  -- how many segments of Argon2id are independent
+  independent_segments-argon2id : ctx.algorithm ≡ 2 → independent_segments ctx ≡ 2 * ctx.p_cost
   unfolding independent_segments
-  segments_id h = cond-false (eqb ctx.algorithm 1) (4 * ctx.t_cost * ctx.p_cost) _ (ne_eqb ctx.algorithm 1 (λ e. omega arith)) ∙ cond-true (eqb ctx.algorithm 2) (2 * ctx.p_cost) 0 (eq-eqb ctx.algorithm 2 h)
+  independent_segments-argon2id h =
+      cond-false (eqb ctx.algorithm 1) (4 * ctx.t_cost * ctx.p_cost) _ (ne_eqb ctx.algorithm 1 (λ e. omega arith))
+      ∙ cond-true (eqb ctx.algorithm 2) (2 * ctx.p_cost) 0 (eq-eqb ctx.algorithm 2 h)
 
-  -- of Argon2d
-  segments_d : ctx.algorithm ≢ 1 → ctx.algorithm ≢ 2 → independent_segments ctx ≡ 0
+  -- no segment of Argon2d is independent
+  independent_segments-argon2d : ctx.algorithm ≢ 1 → ctx.algorithm ≢ 2 → independent_segments ctx ≡ 0
   unfolding independent_segments
-  segments_d a b = cond-false (eqb ctx.algorithm 1) (4 * ctx.t_cost * ctx.p_cost) _ (ne_eqb ctx.algorithm 1 a) ∙ cond-false (eqb ctx.algorithm 2) (2 * ctx.p_cost) 0 (ne_eqb ctx.algorithm 2 b)
+  independent_segments-argon2d a b = cond-false (eqb ctx.algorithm 1) (4 * ctx.t_cost * ctx.p_cost) _ (ne_eqb ctx.algorithm 1 a)
+      ∙ cond-false (eqb ctx.algorithm 2) (2 * ctx.p_cost) 0 (ne_eqb ctx.algorithm 2 b)
 
-  -- all of them
-  pub passes_calls_are : (r : ℕ) → ctx.t_cost ≡ suc r →
+  -- the mixings of all passes are the formula's, where there is some pass
+  passes_calls-suc : (r : ℕ) → ctx.t_cost ≡ suc r →
       passes_calls ctx ctx.t_cost ≡ mixing_calls ctx
-  unfolding mixing_calls address_blocks sum_of
-  passes_calls_are r t =
+  unfolding mixing_calls address_blocks pass_calls
+  passes_calls-suc r t =
       let two = fits.two_columns in
-      let w = wanted_sum in
-      let v = wanted_sum_later in
+      let w = pass_turns-first in
+      let v = pass_turns-later in
       let p = ctx.p_cost in
       let a = address_blocks in
       let tb : ctx.t_cost * block_count ctx ≡ (suc r) * block_count ctx = ap (λ x. x * block_count ctx) t in
@@ -130,20 +157,70 @@ module _ (ctx : Context) (fits : Fits ctx) where
       let big : 2 * p ≤ (suc r) * block_count ctx = omega (arith, mul-le-mul_left p eight) in
       elim (cases_eq ctx.algorithm 1) [
         | inl one ↦ (
-            let m = total 4 4 (omega (arith, argon2i one 0 0, argon2i one 0 1, argon2i one 0 2, argon2i one 0 3)) (λ s. omega (arith, argon2i one (suc s) 0, argon2i one (suc s) 1, argon2i one (suc s) 2, argon2i one (suc s) 3, v s)) r in
-            let n : independent_segments ctx ≡ 4 * (suc r) * p = segments_i one ∙ ap (λ x. 4 * x * p) t in
+            let m = passes_calls-sum 4 4
+            (omega (
+              arith,
+              segment_calls-argon2i one 0 0,
+              segment_calls-argon2i one 0 1,
+              segment_calls-argon2i one 0 2,
+              segment_calls-argon2i one 0 3,
+            ))
+            (λ s. omega (
+              arith,
+              segment_calls-argon2i one (suc s) 0,
+              segment_calls-argon2i one (suc s) 1,
+              segment_calls-argon2i one
+                  (suc s) 2,
+              segment_calls-argon2i one (suc s) 3,
+              v s,
+            )) r in
+            let n : independent_segments ctx ≡ 4 * (suc r) * p = independent_segments-argon2i one ∙ ap (λ x. 4 * x * p) t in
             let n' = ap (λ x. 2 * a * x) n in
             omega arith)
         | inr no_one ↦ (elim (cases_eq ctx.algorithm 2) [
           | inl id ↦ (
-              let m = total 2 0 (omega (arith, argon2id_first id 0 (omega arith), argon2id_first id 1 (omega arith), argon2id_later id 0 2 (λ _. omega arith), argon2id_later id 0 3 (λ _. omega arith)))
-              (λ s. omega (arith, argon2id_later id (suc s) 0 (λ z. absurd (omega arith)), argon2id_later id (suc s) 1 (λ z. absurd (omega arith)), argon2id_later id (suc s) 2 (λ _. omega arith), argon2id_later id (suc s) 3 (λ _. omega arith), v s)) r in
-              let n' = ap (λ x. 2 * a * x) (segments_id id) in
+              let m = passes_calls-sum 2 0
+              (omega (
+                arith,
+                segment_calls-argon2id_first id 0 (omega arith),
+                segment_calls-argon2id_first id 1
+                    (omega arith),
+                segment_calls-argon2id_later id 0 2 (λ _. omega arith),
+                segment_calls-argon2id_later id 0 3
+                    (λ _. omega arith),
+              ))
+              (λ s. omega (
+                arith,
+                segment_calls-argon2id_later id (suc s) 0 (λ z. absurd (omega arith)),
+                segment_calls-argon2id_later id
+                    (suc s) 1 (λ z. absurd (omega arith)),
+                segment_calls-argon2id_later id (suc s) 2
+                    (λ _. omega arith),
+                segment_calls-argon2id_later id (suc s) 3 (λ _. omega arith),
+                v s,
+              )) r in
+              let n' = ap (λ x. 2 * a * x) (independent_segments-argon2id id) in
               omega arith)
           | inr no_two ↦ (
-              let m = total 0 0 (omega (arith, argon2d no_one no_two 0 0, argon2d no_one no_two 0 1, argon2d no_one no_two 0 2, argon2d no_one no_two 0 3))
-              (λ s. omega (arith, argon2d no_one no_two (suc s) 0, argon2d no_one no_two (suc s) 1, argon2d no_one no_two (suc s) 2, argon2d no_one no_two (suc s) 3, v s)) r in
-              let n' = ap (λ x. 2 * a * x) (segments_d no_one no_two) in
+              let m = passes_calls-sum 0 0
+              (omega (
+                arith,
+                segment_calls-argon2d no_one no_two 0 0,
+                segment_calls-argon2d no_one no_two 0 1,
+                segment_calls-argon2d no_one no_two 0 2,
+                segment_calls-argon2d no_one no_two 0 3,
+              ))
+              (λ s. omega (
+                arith,
+                segment_calls-argon2d no_one no_two (suc s) 0,
+                segment_calls-argon2d no_one no_two
+                    (suc s) 1,
+                segment_calls-argon2d no_one no_two (suc s) 2,
+                segment_calls-argon2d no_one no_two (suc s) 3,
+                v s,
+              )) r
+              in
+              let n' = ap (λ x. 2 * a * x) (independent_segments-argon2d no_one no_two) in
               omega arith)
         ])
       ]
@@ -167,7 +244,7 @@ passes_calls-le ctx r (suc n) le = elim (cases_lt r (suc n)) [
   | inr ge ↦ (let e : r ≡ suc n = omega arith in omega (arith, ap (passes_calls ctx) e))
 ]
 
--- a count of all mixings fits
+-- the count of all mixings is small
 pub mixing_calls-few : (ctx : Context) → Sizes ctx → mixing_calls ctx < 2 ^ 126
 unfolding mixing_calls independent_segments
 mixing_calls-few ctx sizes =
@@ -188,4 +265,5 @@ mixing_calls-few ctx sizes =
 
 -- all passes' mixings are those of the formula
 pub passes_calls-all : (ctx : Context) → Sizes ctx → passes_calls ctx ctx.t_cost ≡ mixing_calls ctx
-passes_calls-all ctx sizes = passes_calls_are ctx (Fits-sizes ctx sizes) (ctx.t_cost - 1) (let some = sizes.some_pass in omega arith)
+passes_calls-all ctx sizes =
+    passes_calls-suc ctx (Fits-sizes ctx sizes) (ctx.t_cost - 1) (let some = sizes.some_pass in omega arith)

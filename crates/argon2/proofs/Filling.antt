@@ -14,31 +14,32 @@ use Rattle.argon2.proofs.Sources.{Fits, InSlice, AgreeOn, made_cong, reference_o
 use Rattle.argon2.proofs.Schedules.{turn_column, turns-same, turns-other, MayRun, MayRun-tail, MayRun-from, head_step, turn_count-le, place_apart}
 use Rattle.argon2.proofs.History.{first_columns, made_blocks}
 
--- In the pass at hand the first done(l) columns of each lane l are made. Each place holds the block of the last pass that wrote it.
-pub record Holds (ctx : Context) (first : FirstColumns) (pass : ℕ) (done : ℕ → ℕ) (memory : List (List ℕ)) : Type 0 where
+-- In the pass at hand the first done(l) columns of each lane l are made. Each place has the block of
+-- the last pass that wrote it.
+pub record FilledUpTo (ctx : Context) (first : FirstColumns) (pass : ℕ) (done : ℕ → ℕ) (memory : List (List ℕ)) : Type 0 where
   pub size : length memory ≡ block_count ctx
   pub new : (l c : ℕ) → l < ctx.p_cost → c < lane_length ctx → c < done l →
       get_or memory (l * lane_length ctx + c) [] ≡ block_of ctx first pass l c
   pub old : (r l c : ℕ) → pass ≡ suc r → l < ctx.p_cost → c < lane_length ctx → done l ≤ c →
       get_or memory (l * lane_length ctx + c) [] ≡ block_of ctx first r l c
 
--- of two equal counts of made columns
-pub Holds-like : (ctx : Context) (first : FirstColumns) (pass : ℕ) (done done' : ℕ → ℕ) (memory : List (List ℕ)) →
+-- equal counts of made columns say the same
+pub FilledUpTo-like : (ctx : Context) (first : FirstColumns) (pass : ℕ) (done done' : ℕ → ℕ) (memory : List (List ℕ)) →
     ((l : ℕ) → l < ctx.p_cost → done l ≡ done' l) →
-    Holds ctx first pass done memory → Holds ctx first pass done' memory
-Holds-like ctx first pass done done' memory same h = record {
+    FilledUpTo ctx first pass done memory → FilledUpTo ctx first pass done' memory
+FilledUpTo-like ctx first pass done done' memory same h = record {
   size = h.size;
   new = λ l c a b lt. let e = same l a in h.new l c a b (omega arith);
   old = λ r l c p a b le. let e = same l a in h.old r l c p a b (omega arith);
 }
 
 -- what a step reads are the recurrence's blocks
-pub step_reads : (ctx : Context) →
+step_reads : (ctx : Context) →
     (first : FirstColumns) (pass lane column k : ℕ) (done : ℕ → ℕ) (memory : List (List ℕ)) →
     InSlice (segment_length ctx) column k →
     done lane ≡ column →
     ((l : ℕ) → l < ctx.p_cost → (k * segment_length ctx ≤ done l) × (done l ≤ (k + 1) * segment_length ctx)) →
-    Holds ctx first pass done memory →
+    FilledUpTo ctx first pass done memory →
     AgreeOn ctx pass lane column (in_memory ctx memory) (block_of ctx first)
 unfolding in_memory
 step_reads ctx first pass lane column k done memory here now about h =
@@ -53,7 +54,9 @@ step_reads ctx first pass lane column k done memory here now about h =
             | inl e ↦ (let d : done l ≡ done lane = ap done e in omega arith)
             | inr o ↦ (elim o [
               | inl before ↦ (let before' : c < k * s = subst (λ x. c < x * s) is before in omega arith)
-              | inr after ↦ absurd (let after' : (k + 1) * s ≤ c = subst (λ x. (x + 1) * s ≤ c) is after in let high : column < (k + 1) * s = here.below in omega arith)
+              | inr after ↦
+                  absurd (let after' : (k + 1) * s ≤ c = subst (λ x. (x + 1) * s ≤ c) is after in
+                  let high : column < (k + 1) * s = here.below in omega arith)
             ])
           ] in
           h.new l c reads.in_lanes reads.in_columns u ∙ ap (λ p. block_of ctx first p l c) (sym n.0))
@@ -62,7 +65,9 @@ step_reads ctx first pass lane column k done memory here now about h =
           let u : done l ≤ c = elim reads.apart [
             | inl e ↦ (let d : done l ≡ done lane = ap done e in omega arith)
             | inr o ↦ (elim o [
-              | inl before ↦ absurd (let before' : c < k * s = subst (λ x. c < x * s) is before in let low : k * s ≤ column = here.above in omega arith)
+              | inl before ↦
+                  absurd (let before' : c < k * s = subst (λ x. c < x * s) is before in let low : k * s ≤ column = here.above in
+                  omega arith)
               | inr after ↦ (let after' : (k + 1) * s ≤ c = subst (λ x. (x + 1) * s ≤ c) is after in omega arith)
             ])
           ] in
@@ -70,15 +75,16 @@ step_reads ctx first pass lane column k done memory here now about h =
     ]
 
 -- a step's block is the recurrence's
-pub step_makes : (ctx : Context) → Fits ctx →
+step_makes : (ctx : Context) → Fits ctx →
     (first : FirstColumns) (pass lane column k : ℕ) (done : ℕ → ℕ) (memory : List (List ℕ)) →
     IsStep ctx pass lane column → InSlice (segment_length ctx) column k →
     done lane ≡ column →
     ((l : ℕ) → l < ctx.p_cost → (k * segment_length ctx ≤ done l) × (done l ≤ (k + 1) * segment_length ctx)) →
-    Holds ctx first pass done memory →
+    FilledUpTo ctx first pass done memory →
     made_block ctx (in_memory ctx memory) pass lane column ≡ block_of ctx first pass lane column
 step_makes ctx fits first pass lane column k done memory st here now about h =
-    made_cong ctx fits pass lane column st _ (block_of ctx first) (step_reads ctx first pass lane column k done memory here now about h)
+    made_cong ctx fits pass lane column st _ (block_of ctx first)
+    (step_reads ctx first pass lane column k done memory here now about h)
     ∙ sym (made_blocks ctx fits first pass lane column st)
 
 -- the place of a step's reference is the recurrence's
@@ -87,22 +93,23 @@ pub step_answers : (ctx : Context) → Fits ctx →
     IsStep ctx pass lane column → InSlice (segment_length ctx) column k →
     done lane ≡ column →
     ((l : ℕ) → l < ctx.p_cost → (k * segment_length ctx ≤ done l) × (done l ≤ (k + 1) * segment_length ctx)) →
-    Holds ctx first pass done memory →
+    FilledUpTo ctx first pass done memory →
     reference_place ctx memory pass lane column ≡ reference_places ctx first pass lane column
 unfolding reference_place reference_places
 step_answers ctx fits first pass lane column k done memory st here now about h =
     ap (λ (x : Reference). x.lane * lane_length ctx + x.column)
-    (reference_of_cong ctx fits pass lane column st _ (block_of ctx first) (step_reads ctx first pass lane column k done memory here now about h))
+    (reference_of_cong ctx fits pass lane column st _ (block_of ctx first)
+    (step_reads ctx first pass lane column k done memory here now about h))
 
 -- a step adds a column to its lane
-pub step_holds : (ctx : Context) → Fits ctx →
+pub step_fills : (ctx : Context) → Fits ctx →
     (first : FirstColumns) (pass lane column k : ℕ) (done done' : ℕ → ℕ) (memory : List (List ℕ)) →
     IsStep ctx pass lane column → InSlice (segment_length ctx) column k →
     done lane ≡ column → done' lane ≡ suc column → ((l : ℕ) → l ≢ lane → done' l ≡ done l) →
     ((l : ℕ) → l < ctx.p_cost → (k * segment_length ctx ≤ done l) × (done l ≤ (k + 1) * segment_length ctx)) →
-    Holds ctx first pass done memory → Holds ctx first pass done' (step ctx memory pass lane column)
+    FilledUpTo ctx first pass done memory → FilledUpTo ctx first pass done' (step ctx memory pass lane column)
 unfolding step
-step_holds ctx fits first pass lane column k done done' memory st here now then' others about h =
+step_fills ctx fits first pass lane column k done done' memory st here now then' others about h =
     let q = lane_length ctx in
     let i = lane * q + column in
     let b = made_block ctx (in_memory ctx memory) pass lane column in
@@ -114,25 +121,32 @@ step_holds ctx fits first pass lane column k done done' memory st here now then'
       size = length-set memory i b ∙ h.size;
       new = λ l c a below lt. elim (cases_eq l lane) [
         | inl e ↦ (elim (cases_eq c column) [
-          | inl f ↦ (ap (λ n. get_or (set memory i b) n []) (ap (λ x. x * q + c) e ∙ ap (λ x. lane * q + x) f) ∙ get_or-set_same memory i b [] fit ∙ is ∙ ap (λ x. block_of ctx first pass x column) (sym e) ∙ ap (block_of ctx first pass l) (sym f))
+          | inl f ↦
+              (ap (λ n. get_or (set memory i b) n []) (ap (λ x. x * q + c) e ∙ ap (λ x. lane * q + x) f)
+              ∙ get_or-set_same memory i b [] fit ∙ is ∙ ap (λ x. block_of ctx first pass x column) (sym e)
+              ∙ ap (block_of ctx first pass l) (sym f))
           | inr f ↦ (
               let d : done' l ≡ done' lane = ap done' e in
               let d' : done l ≡ done lane = ap done e in
-              get_or-set_other memory i (l * q + c) b [] (place_apart q l c lane column below st.in_columns (λ _ y. f y)) ∙ h.new l c a below (omega arith))
+              get_or-set_other memory i (l * q + c) b [] (place_apart q l c lane column below st.in_columns (λ _ y. f y))
+              ∙ h.new l c a below (omega arith))
         ])
         | inr e ↦ (
             let d = others l e in
-            get_or-set_other memory i (l * q + c) b [] (place_apart q l c lane column below st.in_columns (λ x _. e x)) ∙ h.new l c a below (omega arith))
+            get_or-set_other memory i (l * q + c) b [] (place_apart q l c lane column below st.in_columns (λ x _. e x))
+            ∙ h.new l c a below (omega arith))
       ];
       old = λ r l c p a below le. elim (cases_eq l lane) [
         | inl e ↦ (
             let d : done' l ≡ done' lane = ap done' e in
             let d' : done l ≡ done lane = ap done e in
             let f : c ≢ column = omega arith in
-            get_or-set_other memory i (l * q + c) b [] (place_apart q l c lane column below st.in_columns (λ _ y. f y)) ∙ h.old r l c p a below (omega arith))
+            get_or-set_other memory i (l * q + c) b [] (place_apart q l c lane column below st.in_columns (λ _ y. f y))
+            ∙ h.old r l c p a below (omega arith))
         | inr e ↦ (
             let d = others l e in
-            get_or-set_other memory i (l * q + c) b [] (place_apart q l c lane column below st.in_columns (λ x _. e x)) ∙ h.old r l c p a below (omega arith))
+            get_or-set_other memory i (l * q + c) b [] (place_apart q l c lane column below st.in_columns (λ x _. e x))
+            ∙ h.old r l c p a below (omega arith))
       ];
     }
 
@@ -143,13 +157,13 @@ abbrev pub done_before : Context → ℕ → List ℕ → ℕ → ℕ
 done_before ctx k schedule l = (k + 1) * segment_length ctx - turns l schedule
 
 -- what is left of a schedule finishes the slice
-pub run_holds : (ctx : Context) → Fits ctx → (first : FirstColumns) (pass k : ℕ) → k < 4 →
+run_fills : (ctx : Context) → Fits ctx → (first : FirstColumns) (pass k : ℕ) → k < 4 →
     (schedule : List ℕ) (memory : List (List ℕ)) → MayRun ctx pass k schedule →
-    Holds ctx first pass (done_before ctx k schedule) memory →
-    Holds ctx first pass (done_before ctx k []) (run ctx pass k schedule memory)
+    FilledUpTo ctx first pass (done_before ctx k schedule) memory →
+    FilledUpTo ctx first pass (done_before ctx k []) (run ctx pass k schedule memory)
 unfolding run
-run_holds ctx fits first pass k four [] memory m h = h
-run_holds ctx fits first pass k four (lane ∷ schedule) memory m h =
+run_fills ctx fits first pass k four [] memory m h = h
+run_fills ctx fits first pass k four (lane ∷ schedule) memory m h =
     let s = segment_length ctx in
     let st = head_step ctx fits pass k lane schedule four m in
     let same = turns-same lane schedule in
@@ -158,8 +172,9 @@ run_holds ctx fits first pass k four (lane ∷ schedule) memory m h =
     let column = turn_column ctx k (turns lane schedule) in
     let now : done_before ctx k (lane ∷ schedule) lane ≡ column = ap (λ n. (k + 1) * s - n) same in
     let then' : done_before ctx k schedule lane ≡ suc column = omega arith in
-    run_holds ctx fits first pass k four schedule (step ctx memory pass lane column) (MayRun-tail ctx pass k lane schedule m)
-    (step_holds ctx fits first pass lane column k (done_before ctx k (lane ∷ schedule)) (done_before ctx k schedule) memory st.0 st.1 now then'
+    run_fills ctx fits first pass k four schedule (step ctx memory pass lane column) (MayRun-tail ctx pass k lane schedule m)
+    (step_fills ctx fits first pass lane column k (done_before ctx k (lane ∷ schedule))
+    (done_before ctx k schedule) memory st.0 st.1 now then'
     (λ l ne. ap (λ n. (k + 1) * s - n) (sym (turns-other l lane schedule (λ e. ne (sym e)))))
     (λ l below. let few : turns l (lane ∷ schedule) ≤ turn_count ctx pass k = m.few l below in (omega arith, omega arith))
     h)
@@ -170,40 +185,46 @@ run_holds ctx fits first pass k four (lane ∷ schedule) memory m h =
 abbrev pub begun : Context → ℕ → ℕ → ℕ
 begun ctx pass k = (k + 1) * segment_length ctx - turn_count ctx pass k
 
--- all turns in the later slices
+-- in later slices a lane has as many turns as its segment has columns
 pub turn_count-later_slice : (ctx : Context) (pass k : ℕ) →
     turn_count ctx pass (suc k) ≡ segment_length ctx
-turn_count-later_slice ctx pass k = cond-false ((eqb pass 0) && (eqb (suc k) 0)) _ _ (and_right (eqb pass 0) (eqb (suc k) 0) (ne_eqb (suc k) 0 (λ e. omega arith)))
+turn_count-later_slice ctx pass k =
+    cond-false ((eqb pass 0) && (eqb (suc k) 0)) _ _
+    (and_right (eqb pass 0) (eqb (suc k) 0) (ne_eqb (suc k) 0 (λ e. omega arith)))
 
--- the first slices, each by its schedule
-pub slices_hold : (ctx : Context) → Fits ctx →
+-- the first slices of a pass fill it up to there, each by its schedule
+pub slices_fill : (ctx : Context) → Fits ctx →
     (first : FirstColumns) (schedules : ℕ → List ℕ) (pass k : ℕ) → k ≤ 4 →
     ((j : ℕ) → j < 4 → IsSchedule ctx pass j (schedules j)) → (memory : List (List ℕ)) →
-    Holds ctx first pass (λ _. begun ctx pass 0) memory →
-    Holds ctx first pass (λ _. begun ctx pass k) (run_slices ctx schedules pass k memory)
+    FilledUpTo ctx first pass (λ _. begun ctx pass 0) memory →
+    FilledUpTo ctx first pass (λ _. begun ctx pass k) (run_slices ctx schedules pass k memory)
 unfolding run_slices
-slices_hold ctx fits first schedules pass zero four is memory h = h
-slices_hold ctx fits first schedules pass (suc k) four is memory h =
+slices_fill ctx fits first schedules pass zero four is memory h = h
+slices_fill ctx fits first schedules pass (suc k) four is memory h =
     let s = segment_length ctx in
     let before = run_slices ctx schedules pass k memory in
-    let i : Holds ctx first pass (λ _. begun ctx pass k) before = slices_hold ctx fits first schedules pass k (omega arith) is memory h in
+    let i : FilledUpTo ctx first pass (λ _. begun ctx pass k) before =
+    slices_fill ctx fits first schedules pass k (omega arith) is memory h in
     let schedule = schedules k in
     let it : IsSchedule ctx pass k schedule = is k (omega arith) in
-    let start : Holds ctx first pass (done_before ctx k schedule) before =
-    Holds-like ctx first pass (λ _. begun ctx pass k) (done_before ctx k schedule) before (λ l below. ap (λ n. (k + 1) * s - n) (sym (it.turns l below))) i in
-    Holds-like ctx first pass (done_before ctx k []) (λ _. begun ctx pass (suc k)) (run ctx pass k schedule before)
+    let start : FilledUpTo ctx first pass (done_before ctx k schedule) before =
+    FilledUpTo-like ctx first pass (λ _. begun ctx pass k) (done_before ctx k schedule) before
+    (λ l below. ap (λ n. (k + 1) * s - n) (sym (it.turns l below))) i in
+    FilledUpTo-like ctx first pass (done_before ctx k []) (λ _. begun ctx pass (suc k)) (run ctx pass k schedule before)
     (λ l below. let w = turn_count-later_slice ctx pass k in omega arith)
-    (run_holds ctx fits first pass k (omega arith) schedule before (MayRun-from ctx pass k schedule it) start)
+    (run_fills ctx fits first pass k (omega arith) schedule before (MayRun-from ctx pass k schedule it) start)
 
--- all turns in the later passes
+-- in later passes a lane has as many turns as its segment has columns
 pub turn_count-later_pass : (ctx : Context) (pass : ℕ) →
     turn_count ctx (suc pass) 0 ≡ segment_length ctx
-turn_count-later_pass ctx pass = cond-false ((eqb (suc pass) 0) && (eqb 0 0)) _ _ (and_left (eqb (suc pass) 0) (eqb 0 0) (ne_eqb (suc pass) 0 (λ e. omega arith)))
+turn_count-later_pass ctx pass =
+    cond-false ((eqb (suc pass) 0) && (eqb 0 0)) _ _
+    (and_left (eqb (suc pass) 0) (eqb 0 0) (ne_eqb (suc pass) 0 (λ e. omega arith)))
 
 -- the end of a pass is the start of the next
 next_pass : (ctx : Context) (first : FirstColumns) (pass : ℕ) (memory : List (List ℕ)) →
-    Holds ctx first pass (λ _. begun ctx pass 4) memory →
-    Holds ctx first (suc pass) (λ _. begun ctx (suc pass) 0) memory
+    FilledUpTo ctx first pass (λ _. begun ctx pass 4) memory →
+    FilledUpTo ctx first (suc pass) (λ _. begun ctx (suc pass) 0) memory
 next_pass ctx first pass memory h =
     let s = segment_length ctx in
     let w = turn_count-later_pass ctx pass in
@@ -211,28 +232,29 @@ next_pass ctx first pass memory h =
     record {
       size = h.size;
       new = λ l c a b lt. absurd (omega arith);
-      old = λ r l c p a b le. h.new l c a b (omega arith) ∙ ap (λ x. block_of ctx first x l c) (let o : pass ≡ r = omega arith in o);
+      old = λ r l c p a b le. h.new l c a b (omega arith)
+          ∙ ap (λ x. block_of ctx first x l c) (let o : pass ≡ r = omega arith in o);
     }
 
--- the first passes
-pub passes_hold : (ctx : Context) → Fits ctx →
+-- the first passes fill the memory, each slice by its schedule
+pub passes_fill : (ctx : Context) → Fits ctx →
     (first : FirstColumns) (schedules : ℕ → ℕ → List ℕ) (passes : ℕ) →
     ((r k : ℕ) → r < passes → k < 4 → IsSchedule ctx r k (schedules r k)) →
     (memory : List (List ℕ)) →
-    Holds ctx first 0 (λ _. begun ctx 0 0) memory →
-    Holds ctx first passes (λ _. begun ctx passes 0) (run_passes ctx schedules passes memory)
+    FilledUpTo ctx first 0 (λ _. begun ctx 0 0) memory →
+    FilledUpTo ctx first passes (λ _. begun ctx passes 0) (run_passes ctx schedules passes memory)
 unfolding run_passes
-passes_hold ctx fits first schedules zero is memory h = h
-passes_hold ctx fits first schedules (suc r) is memory h =
+passes_fill ctx fits first schedules zero is memory h = h
+passes_fill ctx fits first schedules (suc r) is memory h =
     let before = run_passes ctx schedules r memory in
     next_pass ctx first r (run_slices ctx (schedules r) r 4 before)
-    (slices_hold ctx fits first (schedules r) r 4 (omega arith) (λ k lt. is r k (omega arith) lt) before
-    (passes_hold ctx fits first schedules r (λ a k x y. is a k (omega arith) y) memory h))
+    (slices_fill ctx fits first (schedules r) r 4 (omega arith) (λ k lt. is r k (omega arith) lt) before
+    (passes_fill ctx fits first schedules r (λ a k x y. is a k (omega arith) y) memory h))
 
--- what begins with the first two columns
-pub begins : (ctx : Context) → Fits ctx → (first : FirstColumns) (memory : List (List ℕ)) →
-    Begins ctx first memory → Holds ctx first 0 (λ _. begun ctx 0 0) memory
-begins ctx fits first memory start =
+-- a memory that begins with the first two columns is filled up to there
+pub filled_at_first : (ctx : Context) → Fits ctx → (first : FirstColumns) (memory : List (List ℕ)) →
+    Begins ctx first memory → FilledUpTo ctx first 0 (λ _. begun ctx 0 0) memory
+filled_at_first ctx fits first memory start =
     let two = fits.two_columns in
     let w : turn_count ctx 0 0 ≡ segment_length ctx - 2 = refl in
     record {
@@ -242,13 +264,13 @@ begins ctx fits first memory start =
     }
 
 -- after the last pass the memory is the matrix
-pub ends : (ctx : Context) → Fits ctx →
+filled_at_last : (ctx : Context) → Fits ctx →
     (first : FirstColumns) (passes : ℕ) (memory : List (List ℕ)) → passes ≡ ctx.t_cost →
     0 < passes →
-    Holds ctx first passes (λ _. begun ctx passes 0) memory → memory ≡ matrix ctx first
+    FilledUpTo ctx first passes (λ _. begun ctx passes 0) memory → memory ≡ matrix ctx first
 unfolding matrix
-ends ctx fits first zero memory t some h = absurd (omega arith)
-ends ctx fits first (suc r) memory t some h =
+filled_at_last ctx fits first zero memory t some h = absurd (omega arith)
+filled_at_last ctx fits first (suc r) memory t some h =
     let q = lane_length ctx in
     let two = fits.two_columns in
     let w = turn_count-later_pass ctx r in
@@ -261,9 +283,10 @@ ends ctx fits first (suc r) memory t some h =
     ∙ ap (λ x. block_of ctx first x (n / q) (n % q)) p)
 
 -- any schedules lead from the first two columns to the matrix
-pub filled : (ctx : Context) → Fits ctx → 0 < ctx.t_cost →
+pub schedules_fill : (ctx : Context) → Fits ctx → 0 < ctx.t_cost →
     (first : FirstColumns) (schedules : ℕ → ℕ → List ℕ) → AreSchedules ctx schedules →
     (memory : List (List ℕ)) → Begins ctx first memory →
     run_passes ctx schedules ctx.t_cost memory ≡ matrix ctx first
-filled ctx fits some first schedules is memory start =
-    ends ctx fits first ctx.t_cost _ refl some (passes_hold ctx fits first schedules ctx.t_cost is memory (begins ctx fits first memory start))
+schedules_fill ctx fits some first schedules is memory start =
+    filled_at_last ctx fits first ctx.t_cost _ refl some
+    (passes_fill ctx fits first schedules ctx.t_cost is memory (filled_at_first ctx fits first memory start))

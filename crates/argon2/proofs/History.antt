@@ -11,23 +11,25 @@ use Rattle.argon2.specs.Steps.{IsStep}
 use Rattle.argon2.specs.Laws.{IsRecurrence}
 use Rattle.argon2.proofs.Sources.{Fits, Reads, made_cong}
 
--- a column's moment
+-- the moment of a pass's column: how many columns are made before it
 abbrev pub moment : Context → ℕ → ℕ → ℕ
 moment ctx pass column = pass * lane_length ctx + column
 
 -- sources are made earlier
-pub reads_earlier : (ctx : Context) (pass lane column r l c : ℕ) →
+reads_earlier : (ctx : Context) (pass lane column r l c : ℕ) →
     Reads ctx pass lane column r l c → moment ctx r c < moment ctx pass column
 reads_earlier ctx pass lane column r l c reads =
     let q = lane_length ctx in
     let below : c < q = reads.in_columns in
     elim reads.newest [
       | inl h ↦ (let e : r * q ≡ pass * q = ap (λ x. x * q) h.0 in let lt = h.1 in omega arith)
-      | inr h ↦ (let e : pass * q ≡ (r + 1) * q = ap (λ x. x * q) (let p : pass ≡ suc r = h.0 in let o : pass ≡ r + 1 = omega arith in o) in omega arith)
+      | inr h ↦
+          (let e : pass * q ≡ (r + 1) * q =
+          ap (λ x. x * q) (let p : pass ≡ suc r = h.0 in let o : pass ≡ r + 1 = omega arith in o) in omega arith)
     ]
 
 -- a rule reads earlier moments alone
-pub rule_cong : (ctx : Context) → Fits ctx → (first : FirstColumns) (pass lane column : ℕ) →
+rule_cong : (ctx : Context) → Fits ctx → (first : FirstColumns) (pass lane column : ℕ) →
     lane < ctx.p_cost → column < lane_length ctx → (f g : Blocks) →
     ((r l c : ℕ) → l < ctx.p_cost → c < lane_length ctx → moment ctx r c < moment ctx pass column → f r l c ≡ g r l c) →
     rule ctx first f pass lane column ≡ rule ctx first g pass lane column
@@ -35,60 +37,69 @@ unfolding rule
 rule_cong ctx fits first pass lane column in_lanes in_columns f g h = go ((eqb pass 0) && (ltb column 2)) refl
   where
     go : (b : Bool) → ((eqb pass 0) && (ltb column 2)) ≡ b →
-        cond b (first lane column) (made_block ctx f pass lane column) ≡ cond b (first lane column) (made_block ctx g pass lane column)
+        cond b (first lane column) (made_block ctx f pass lane column)
+        ≡ cond b (first lane column) (made_block ctx g pass lane column)
     go true e = refl
     go false e = made_cong ctx fits pass lane column
         (record {
           in_lanes = in_lanes;
           in_columns = in_columns;
           later = λ z. elim (cases_lt column 2) [
-            | inl lt ↦ absurd (let t : true ≡ false = sym (and_from (eqb pass 0) (ltb column 2) (eq-eqb pass 0 z) (lt-ltb column 2 lt)) ∙ e in cc)
+            | inl lt ↦
+                absurd (let t : true ≡ false = sym (and_from (eqb pass 0) (ltb column 2) (eq-eqb pass 0 z) (lt-ltb column 2 lt))
+                ∙ e in cc)
             | inr le ↦ le
           ];
         }) f g (λ r l c reads. h r l c reads.in_lanes reads.in_columns (reads_earlier ctx pass lane column r l c reads))
 
--- a history of n columns has n
+-- a history of n columns has length n
 length-history : (ctx : Context) (first : FirstColumns) (n : ℕ) → length (history ctx first n) ≡ n
 unfolding history
 length-history ctx first zero = refl
 length-history ctx first (suc n) = length_push (history ctx first n) _ ∙ (let i = length-history ctx first n in omega arith)
 
 -- one more column leaves those before
-grows : (ctx : Context) (first : FirstColumns) (n k : ℕ) → k < n →
+history_grows : (ctx : Context) (first : FirstColumns) (n k : ℕ) → k < n →
     get_or (history ctx first (suc n)) k [] ≡ get_or (history ctx first n) k []
 unfolding history
-grows ctx first n k lt = get_or_append_left (history ctx first n) _ [] k (let l = length-history ctx first n in omega arith)
+history_grows ctx first n k lt =
+    get_or_append_left (history ctx first n) _ [] k (let l = length-history ctx first n in omega arith)
 
--- so does any number
+-- more columns leave those before
 history_stays : (ctx : Context) (first : FirstColumns) (n k : ℕ) → k < n →
     get_or (history ctx first n) k [] ≡ get_or (history ctx first (suc k)) k []
 history_stays ctx first zero k h = absurd (omega arith)
 history_stays ctx first (suc n) k h =
     elim (cases_lt k n) [
-      | inl lt ↦ (grows ctx first n k lt ∙ history_stays ctx first n k lt)
+      | inl lt ↦ (history_grows ctx first n k lt ∙ history_stays ctx first n k lt)
       | inr le ↦ (let e : suc n ≡ suc k = omega arith in ap (λ m. get_or (history ctx first m) k []) e)
     ]
 
--- so a history holds the blocks of its moments
+-- a history has the block of each moment before its end
 in_history_is : (ctx : Context) (first : FirstColumns) (n r l c : ℕ) → moment ctx r c < n →
     in_history ctx (history ctx first n) r l c ≡ block_of ctx first r l c
 unfolding in_history block_of
-in_history_is ctx first n r l c h = ap (λ (column : List (List ℕ)). get_or column l []) (history_stays ctx first n (moment ctx r c) h)
+in_history_is ctx first n r l c h =
+    ap (λ (column : List (List ℕ)). get_or column l []) (history_stays ctx first n (moment ctx r c) h)
 
 -- the newest column is made by the rule
-newest : (ctx : Context) (first : FirstColumns) (n lane : ℕ) → lane < ctx.p_cost →
-    get_or (get_or (history ctx first (suc n)) n []) lane [] ≡ rule ctx first (in_history ctx (history ctx first n)) (n / lane_length ctx) lane (n % lane_length ctx)
+newest_column : (ctx : Context) (first : FirstColumns) (n lane : ℕ) → lane < ctx.p_cost →
+    get_or (get_or (history ctx first (suc n)) n []) lane []
+    ≡ rule ctx first (in_history ctx (history ctx first n)) (n / lane_length ctx) lane (n % lane_length ctx)
 unfolding history
-newest ctx first n lane h =
-    let f : ℕ → List ℕ = λ l. rule ctx first (in_history ctx (history ctx first n)) (n / lane_length ctx) l (n % lane_length ctx) in
-    ap (λ (column : List (List ℕ)). get_or column lane []) (get_or_push (history ctx first n) (map f (range_with_len 0 ctx.p_cost)) [] n (length-history ctx first n))
+newest_column ctx first n lane h =
+    let f : ℕ → List ℕ =
+    λ l. rule ctx first (in_history ctx (history ctx first n)) (n / lane_length ctx) l (n % lane_length ctx) in
+    ap (λ (column : List (List ℕ)). get_or column lane [])
+    (get_or_push (history ctx first n) (map f (range_with_len 0 ctx.p_cost)) [] n (length-history ctx first n))
     ∙ get_or-map-range_with_len f 0 ctx.p_cost lane lane [] h (omega arith)
 
 -- a block is read from the history that ends with its column
-at_newest : (ctx : Context) (first : FirstColumns) (pass lane column : ℕ) →
-    block_of ctx first pass lane column ≡ get_or (get_or (history ctx first (suc (moment ctx pass column))) (moment ctx pass column) []) lane []
+read_at_newest : (ctx : Context) (first : FirstColumns) (pass lane column : ℕ) →
+    block_of ctx first pass lane column
+    ≡ get_or (get_or (history ctx first (suc (moment ctx pass column))) (moment ctx pass column) []) lane []
 unfolding block_of in_history
-at_newest ctx first pass lane column = refl
+read_at_newest ctx first pass lane column = refl
 
 -- each block is as the rule says
 pub recurrence : (ctx : Context) → Fits ctx → (first : FirstColumns) (pass lane column : ℕ) →
@@ -98,43 +109,47 @@ recurrence ctx fits first pass lane column in_lanes in_columns =
     let q = lane_length ctx in
     let n = moment ctx pass column in
     let f = in_history ctx (history ctx first n) in
-    at_newest ctx first pass lane column
-    ∙ newest ctx first n lane in_lanes
+    read_at_newest ctx first pass lane column
+    ∙ newest_column ctx first n lane in_lanes
     ∙ ap (λ r. rule ctx first f r lane (n % q)) (div-mul-add pass q column in_columns)
     ∙ ap (λ c. rule ctx first f pass lane c) (mod-mul-add pass q column in_columns)
-    ∙ rule_cong ctx fits first pass lane column in_lanes in_columns f (block_of ctx first) (λ r l c _ _ lt. in_history_is ctx first n r l c lt)
+    ∙ rule_cong ctx fits first pass lane column in_lanes in_columns f (block_of ctx first)
+    (λ r l c _ _ lt. in_history_is ctx first n r l c lt)
 
 -- two recurrences agree up to any moment
-only_up_to : (ctx : Context) → Fits ctx → (first : FirstColumns) (f g : Blocks) →
+recurrence_unique_up_to : (ctx : Context) → Fits ctx → (first : FirstColumns) (f g : Blocks) →
     IsRecurrence ctx first f → IsRecurrence ctx first g → (n pass lane column : ℕ) →
     lane < ctx.p_cost → column < lane_length ctx → moment ctx pass column < n →
     f pass lane column ≡ g pass lane column
-only_up_to ctx fits first f g hf hg zero pass lane column a b lt = absurd (omega arith)
-only_up_to ctx fits first f g hf hg (suc n) pass lane column a b lt =
+recurrence_unique_up_to ctx fits first f g hf hg zero pass lane column a b lt = absurd (omega arith)
+recurrence_unique_up_to ctx fits first f g hf hg (suc n) pass lane column a b lt =
     hf pass lane column a b
-    ∙ rule_cong ctx fits first pass lane column a b f g (λ r l c u v earlier. only_up_to ctx fits first f g hf hg n r l c u v (omega arith))
+    ∙ rule_cong ctx fits first pass lane column a b f g
+    (λ r l c u v earlier. recurrence_unique_up_to ctx fits first f g hf hg n r l c u v (omega arith))
     ∙ sym (hg pass lane column a b)
 
--- they alone are
-pub only : (ctx : Context) → Fits ctx → (first : FirstColumns) (f : Blocks) →
+-- no other blocks are as the rule says
+pub recurrence_unique : (ctx : Context) → Fits ctx → (first : FirstColumns) (f : Blocks) →
     IsRecurrence ctx first f → (pass lane column : ℕ) → lane < ctx.p_cost →
     column < lane_length ctx →
     f pass lane column ≡ block_of ctx first pass lane column
-only ctx fits first f h pass lane column a b =
-    only_up_to ctx fits first f (block_of ctx first) h (recurrence ctx fits first) (suc (moment ctx pass column)) pass lane column a b (omega arith)
+recurrence_unique ctx fits first f h pass lane column a b =
+    recurrence_unique_up_to ctx fits first f (block_of ctx first) h (recurrence ctx fits first)
+    (suc (moment ctx pass column)) pass lane column a b (omega arith)
 
 -- ---- the rule's two cases
 
--- columns 0 and 1 of pass 0
+-- the blocks of columns 0 and 1 of pass 0 are the first columns
 pub first_columns : (ctx : Context) → Fits ctx → (first : FirstColumns) (lane column : ℕ) →
     lane < ctx.p_cost → column < 2 → block_of ctx first 0 lane column ≡ first lane column
 unfolding rule
 first_columns ctx fits first lane column a b =
     let two = fits.two_columns in
     recurrence ctx fits first 0 lane column a (omega arith)
-    ∙ cond-true ((eqb 0 0) && (ltb column 2)) (first lane column) (made_block ctx (block_of ctx first) 0 lane column) (and_from (eqb 0 0) (ltb column 2) refl (lt-ltb column 2 b))
+    ∙ cond-true ((eqb 0 0) && (ltb column 2)) (first lane column) (made_block ctx (block_of ctx first) 0 lane column)
+    (and_from (eqb 0 0) (ltb column 2) refl (lt-ltb column 2 b))
 
--- all others
+-- all other blocks are made of others
 pub made_blocks : (ctx : Context) → Fits ctx → (first : FirstColumns) (pass lane column : ℕ) →
     IsStep ctx pass lane column →
     block_of ctx first pass lane column ≡ made_block ctx (block_of ctx first) pass lane column

@@ -1,4 +1,5 @@
--- Where addressing is independent, the place of a reference is a function of the algorithm, the three costs and the block's place.
+-- Where addressing is independent, the place of a reference is a function of the algorithm, the three
+-- costs and the block's place.
 use Rattle.std.proofs.Common.{◌≡◌, ℕ, zero, suc, ◌+◌, ◌*◌, ◌/◌, ◌%◌, ◌<◌, true, eqb, ltb, get_or, refl, sym, ap, ◌∙◌, arith}
 use Rattle.std.proofs.lemmas.Bool.{cond-true, eq-eqb, lt-ltb, and_from, or_left, or_right}
 use Rattle.std.proofs.lemmas.Nat.{div_below}
@@ -8,40 +9,64 @@ use Rattle.argon2.specs.Recurrence.{FirstColumns, is_independent, address_block,
 use Rattle.argon2.specs.Laws.{AreAlike}
 use Rattle.argon2.proofs.Sources.{Fits}
 
--- the place by the address word
-addressed : Context → ℕ → ℕ → ℕ → ℕ
-addressed ctx pass lane column =
-    let from = reference ctx pass lane column (address_word ctx pass lane (column / segment_length ctx) (column % segment_length ctx)) in
+-- the place of the block that the address word takes
+addressed_place : Context → ℕ → ℕ → ℕ → ℕ
+addressed_place ctx pass lane column =
+    let from =
+    reference ctx pass lane column (address_word ctx pass lane (column / segment_length ctx) (column % segment_length ctx)) in
     from.lane * lane_length ctx + from.column
 
--- where addressing is independent, the place is that
-position_addressed : (ctx : Context) (first : FirstColumns) (pass lane column : ℕ) →
+-- where addressing is independent, that is the place of the reference
+reference_place-addressed : (ctx : Context) (first : FirstColumns) (pass lane column : ℕ) →
     is_independent ctx pass (column / segment_length ctx) ≡ true →
-    reference_places ctx first pass lane column ≡ addressed ctx pass lane column
-unfolding reference_places reference_of reference_word addressed
-position_addressed ctx first pass lane column e =
+    reference_places ctx first pass lane column ≡ addressed_place ctx pass lane column
+unfolding reference_places reference_of reference_word addressed_place
+reference_place-addressed ctx first pass lane column e =
     ap (λ w. (reference ctx pass lane column w).lane * lane_length ctx + (reference ctx pass lane column w).column)
-    (cond-true (is_independent ctx pass (column / segment_length ctx)) (address_word ctx pass lane (column / segment_length ctx) (column % segment_length ctx)) (get_or (previous ctx (block_of ctx first) pass lane column) 0 0) e)
+    (cond-true (is_independent ctx pass (column / segment_length ctx))
+    (address_word ctx pass lane (column / segment_length ctx) (column % segment_length ctx))
+    (get_or (previous ctx (block_of ctx first) pass lane column) 0 0) e)
 
 -- the same context with another version, secret and data
 with_rest : Context → Context → Context
-with_rest a b = record { algorithm = b.algorithm; version = a.version; m_cost = b.m_cost; t_cost = b.t_cost; p_cost = b.p_cost; secret = a.secret; associated = a.associated }
+with_rest a b =
+    record {
+      algorithm = b.algorithm;
+      version = a.version;
+      m_cost = b.m_cost;
+      t_cost = b.t_cost;
+      p_cost = b.p_cost;
+      secret =
+          a.secret;
+      associated = a.associated;
+    }
 
 -- alike contexts differ in nothing else
 rest_is : (a b : Context) → AreAlike a b → a ≡ with_rest a b
 unfolding with_rest
-rest_is a b h = λ i. record { algorithm = h.algorithm i; version = a.version; m_cost = h.m_cost i; t_cost = h.t_cost i; p_cost = h.p_cost i; secret = a.secret; associated = a.associated }
+rest_is a b h =
+    λ i. record {
+      algorithm = h.algorithm i;
+      version = a.version;
+      m_cost = h.m_cost i;
+      t_cost = h.t_cost i;
+      p_cost =
+          h.p_cost i;
+      secret = a.secret;
+      associated = a.associated;
+    }
 
--- version, secret and data go into none of the parts
-addressed_rest : (a b : Context) (pass lane column : ℕ) →
-    addressed (with_rest a b) pass lane column ≡ addressed b pass lane column
-unfolding with_rest addressed reference reference_lane permitted finished_segments segment_length address_word address_block
-addressed_rest a b zero lane column = refl
-addressed_rest a b (suc pass) lane column = refl
+-- the place by the address word does not depend on version, secret and data
+addressed_place-rest : (a b : Context) (pass lane column : ℕ) →
+    addressed_place (with_rest a b) pass lane column ≡ addressed_place b pass lane column
+unfolding with_rest addressed_place reference reference_lane permitted finished_segments segment_length address_word address_block
+addressed_place-rest a b zero lane column = refl
+addressed_place-rest a b (suc pass) lane column = refl
 
--- which addressing is independent does not depend on them
+-- which addressing is independent does not depend on version, secret and data
 independent_rest : (a b : Context) (pass column : ℕ) →
-    is_independent (with_rest a b) pass (column / segment_length (with_rest a b)) ≡ is_independent b pass (column / segment_length b)
+    is_independent (with_rest a b) pass (column / segment_length (with_rest a b))
+    ≡ is_independent b pass (column / segment_length b)
 unfolding with_rest is_independent segment_length
 independent_rest a b pass column = refl
 
@@ -54,18 +79,18 @@ positions_agree a b h first second pass lane column e =
     let r = rest_is a b h in
     let e' : is_independent b pass (column / segment_length b) ≡ true =
     sym (ap (λ x. is_independent x pass (column / segment_length x)) r ∙ independent_rest a b pass column) ∙ e in
-    position_addressed a first pass lane column e
-    ∙ ap (λ x. addressed x pass lane column) r
-    ∙ addressed_rest a b pass lane column
-    ∙ sym (position_addressed b second pass lane column e')
+    reference_place-addressed a first pass lane column e
+    ∙ ap (λ x. addressed_place x pass lane column) r
+    ∙ addressed_place-rest a b pass lane column
+    ∙ sym (reference_place-addressed b second pass lane column e')
 
--- Argon2i's is everywhere
+-- Argon2i's addressing is independent everywhere
 pub argon2i_independent : (ctx : Context) (pass slice : ℕ) → ctx.algorithm ≡ 1 →
     is_independent ctx pass slice ≡ true
 unfolding is_independent
 argon2i_independent ctx pass slice h = or_left (eqb ctx.algorithm 1) _ (eq-eqb ctx.algorithm 1 h)
 
--- Argon2id's is in the first half of pass 0
+-- Argon2id's addressing is independent in the first half of pass 0
 pub argon2id_independent : (ctx : Context) → Fits ctx → (column : ℕ) → ctx.algorithm ≡ 2 →
     column < 2 * segment_length ctx →
     is_independent ctx 0 (column / segment_length ctx) ≡ true

@@ -12,23 +12,26 @@ use Rattle.argon2.proofs.Sources.{Fits, InSlice, in_slice, length-columns}
 get_or-columns : (pass from to i : ℕ) → i < to - from →
     (get_or (columns pass from to) i (0, 0)).1 ≡ from + i
 unfolding columns
-get_or-columns pass from to i h = ap (λ (x : ℕ × ℕ). x.1) (get_or-map-range_with_len (λ c. (pass, c)) from (to - from) i (from + i) (0, 0) h refl)
+get_or-columns pass from to i h =
+    ap (λ (x : ℕ × ℕ). x.1) (get_or-map-range_with_len (λ c. (pass, c)) from (to - from) i (from + i) (0, 0) h refl)
 
 -- how many blocks of finished segments there are
 abbrev pub finished_count : Context → ℕ → ℕ → ℕ
 finished_count ctx pass slice = cond (eqb pass 0) (slice * segment_length ctx) (lane_length ctx - segment_length ctx)
 
--- the column of the one at an index
+-- the column of the one at an index, which goes round at the lane's end
 abbrev pub finished_column : Context → ℕ → ℕ → ℕ → ℕ
 finished_column ctx pass slice i =
-    cond (eqb pass 0) i (cond (ltb ((slice + 1) * segment_length ctx + i) (lane_length ctx)) ((slice + 1) * segment_length ctx + i) ((slice + 1) * segment_length ctx + i - lane_length ctx))
+    cond (eqb pass 0) i
+    (cond (ltb ((slice + 1) * segment_length ctx + i) (lane_length ctx)) ((slice + 1) * segment_length ctx + i)
+    ((slice + 1) * segment_length ctx + i - lane_length ctx))
 
 module _ (ctx : Context) (fits : Fits ctx) (column : ℕ) (in_columns : column < lane_length ctx) where
   -- the column's slice
   bounds : InSlice (segment_length ctx) column (column / segment_length ctx)
   bounds = in_slice (segment_length ctx) column fits.two_columns in_columns
 
-  -- the count is that
+  -- the finished segments have that count
   pub length-finished : (pass : ℕ) →
       length (finished_segments ctx pass (column / segment_length ctx)) ≡ finished_count ctx pass (column / segment_length ctx)
   unfolding finished_segments
@@ -38,13 +41,21 @@ module _ (ctx : Context) (fits : Fits ctx) (column : ℕ) (in_columns : column <
       let s = segment_length ctx in
       let k = column / s in
       let e : length (columns pass ((k + 1) * s) (lane_length ctx) ++ columns (suc pass) 0 (k * s)) ≡ lane_length ctx - s =
-      omega (arith, length-append (columns pass ((k + 1) * s) (lane_length ctx)) (columns (suc pass) 0 (k * s)), length-columns pass ((k + 1) * s) (lane_length ctx), length-columns (suc pass) 0 (k * s)) in
+      omega (
+        arith,
+        length-append (columns pass ((k + 1) * s) (lane_length ctx))
+            (columns (suc pass) 0 (k * s)),
+        length-columns pass ((k + 1) * s) (lane_length ctx),
+        length-columns (suc pass) 0
+            (k * s),
+      ) in
       e ∙ sym (cond-false (eqb (suc pass) 0) (k * s) (lane_length ctx - s) (ne_eqb (suc pass) 0 (λ z. omega arith)))
 
-  -- the column is that
-  pub get_or-finished : (pass i : ℕ) →
+  -- the one at an index has that column
+  get_or-finished : (pass i : ℕ) →
       i < length (finished_segments ctx pass (column / segment_length ctx)) →
-      (get_or (finished_segments ctx pass (column / segment_length ctx)) i (0, 0)).1 ≡ finished_column ctx pass (column / segment_length ctx) i
+      (get_or (finished_segments ctx pass (column / segment_length ctx)) i (0, 0)).1
+      ≡ finished_column ctx pass (column / segment_length ctx) i
   unfolding finished_segments
   get_or-finished zero i h =
       let l = length-columns 0 0 (column / segment_length ctx * segment_length ctx) in
@@ -60,15 +71,21 @@ module _ (ctx : Context) (fits : Fits ctx) (column : ℕ) (in_columns : column <
       let ly : length ys ≡ k * s - 0 = length-columns (suc pass) 0 (k * s) in
       let all : length (xs ++ ys) ≡ length xs + length ys = length-append xs ys in
       let later : finished_column ctx (suc pass) k i ≡ cond (ltb ((k + 1) * s + i) q) ((k + 1) * s + i) ((k + 1) * s + i - q) =
-      cond-false (eqb (suc pass) 0) i (cond (ltb ((k + 1) * s + i) q) ((k + 1) * s + i) ((k + 1) * s + i - q)) (ne_eqb (suc pass) 0 (λ z. omega arith)) in
+      cond-false (eqb (suc pass) 0) i (cond (ltb ((k + 1) * s + i) q) ((k + 1) * s + i) ((k + 1) * s + i - q))
+      (ne_eqb (suc pass) 0 (λ z. omega arith)) in
       elim (cases_lt i (length xs)) [
         | inl lt ↦ (
             ap (λ (x : ℕ × ℕ). x.1) (get_or_append_left xs ys (0, 0) i lt) ∙ get_or-columns pass ((k + 1) * s) q i (omega arith)
-            ∙ sym (later ∙ cond-true (ltb ((k + 1) * s + i) q) ((k + 1) * s + i) ((k + 1) * s + i - q) (lt-ltb ((k + 1) * s + i) q (omega arith))))
+            ∙ sym (later
+            ∙ cond-true (ltb ((k + 1) * s + i) q) ((k + 1) * s + i) ((k + 1) * s + i - q)
+            (lt-ltb ((k + 1) * s + i) q (omega arith))))
         | inr le ↦ (
-            ap (λ (x : ℕ × ℕ). x.1) (get_or-append_right xs ys (length xs) i (0, 0) refl le) ∙ get_or-columns (suc pass) 0 (k * s) (i - length xs) (omega arith)
+            ap (λ (x : ℕ × ℕ). x.1) (get_or-append_right xs ys (length xs) i (0, 0) refl le)
+            ∙ get_or-columns (suc pass) 0 (k * s) (i - length xs) (omega arith)
             ∙ (let e : 0 + (i - length xs) ≡ (k + 1) * s + i - q = omega arith in e)
-            ∙ sym (later ∙ cond-false (ltb ((k + 1) * s + i) q) ((k + 1) * s + i) ((k + 1) * s + i - q) (le-ltb ((k + 1) * s + i) q (omega arith))))
+            ∙ sym (later
+            ∙ cond-false (ltb ((k + 1) * s + i) q) ((k + 1) * s + i) ((k + 1) * s + i - q)
+            (le-ltb ((k + 1) * s + i) q (omega arith))))
       ]
 
   -- how many permitted blocks there are
@@ -90,17 +107,24 @@ module _ (ctx : Context) (fits : Fits ctx) (column : ℕ) (in_columns : column <
         | inr e ↦ (
             let own = cond (eqb other lane) (columns pass (k * s) (column - 1)) [] in
             let lo : length own ≡ cond (eqb other lane) (column % s - 1) 0 = elim (cases_Bool (eqb other lane)) [
-              | inl o ↦ (ap (λ (xs : List (ℕ × ℕ)). length xs) (cond-true (eqb other lane) (columns pass (k * s) (column - 1)) [] o) ∙ length-columns pass (k * s) (column - 1)
-                  ∙ (let m : column - 1 - k * s ≡ column % s - 1 = omega arith in m) ∙ sym (cond-true (eqb other lane) (column % s - 1) 0 o))
-              | inr o ↦ (ap (λ (xs : List (ℕ × ℕ)). length xs) (cond-false (eqb other lane) (columns pass (k * s) (column - 1)) [] o) ∙ sym (cond-false (eqb other lane) (column % s - 1) 0 o))
+              | inl o ↦
+                  (ap (λ (xs : List (ℕ × ℕ)). length xs) (cond-true (eqb other lane) (columns pass (k * s) (column - 1)) [] o)
+                  ∙ length-columns pass (k * s) (column - 1)
+                  ∙ (let m : column - 1 - k * s ≡ column % s - 1 = omega arith in m)
+                  ∙ sym (cond-true (eqb other lane) (column % s - 1) 0 o))
+              | inr o ↦
+                  (ap (λ (xs : List (ℕ × ℕ)). length xs) (cond-false (eqb other lane) (columns pass (k * s) (column - 1)) [] o)
+                  ∙ sym (cond-false (eqb other lane) (column % s - 1) 0 o))
             ] in
             ap (λ (xs : List (ℕ × ℕ)). length xs) (cond-false (eqb (column % s) 0) (take (length f - 1) f) (f ++ own) e)
-            ∙ length-append f own ∙ ap (λ x. x + length own) n ∙ ap (λ x. finished_count ctx pass k + x) lo ∙ sym (cond-false (eqb (column % s) 0) _ _ e))
+            ∙ length-append f own ∙ ap (λ x. x + length own) n ∙ ap (λ x. finished_count ctx pass k + x) lo
+            ∙ sym (cond-false (eqb (column % s) 0) _ _ e))
       ]
 
   -- behind the finished segments the own one goes on
   wraps : (pass i : ℕ) → length (finished_segments ctx pass (column / segment_length ctx)) ≤ i →
-      column / segment_length ctx * segment_length ctx + (i - length (finished_segments ctx pass (column / segment_length ctx))) ≡ finished_column ctx pass (column / segment_length ctx) i
+      column / segment_length ctx * segment_length ctx + (i - length (finished_segments ctx pass (column / segment_length ctx)))
+      ≡ finished_column ctx pass (column / segment_length ctx) i
   wraps zero i le = let n = length-finished zero in omega arith
   wraps (suc pass) i le =
       let s = segment_length ctx in
@@ -108,12 +132,13 @@ module _ (ctx : Context) (fits : Fits ctx) (column : ℕ) (in_columns : column <
       let q = lane_length ctx in
       let b = bounds in
       let z : eqb (suc pass) 0 ≡ false = ne_eqb (suc pass) 0 (λ z. omega arith) in
-      let n : length (finished_segments ctx (suc pass) k) ≡ q - s = length-finished (suc pass) ∙ cond-false (eqb (suc pass) 0) (k * s) (q - s) z in
+      let n : length (finished_segments ctx (suc pass) k) ≡ q - s = length-finished (suc pass)
+      ∙ cond-false (eqb (suc pass) 0) (k * s) (q - s) z in
       let e : k * s + (i - length (finished_segments ctx (suc pass) k)) ≡ (k + 1) * s + i - q = omega arith in
       e ∙ sym (cond-false (eqb (suc pass) 0) i (cond (ltb ((k + 1) * s + i) q) ((k + 1) * s + i) ((k + 1) * s + i - q)) z
       ∙ cond-false (ltb ((k + 1) * s + i) q) ((k + 1) * s + i) ((k + 1) * s + i - q) (le-ltb ((k + 1) * s + i) q (omega arith)))
 
-  -- the column of an item
+  -- the column of the permitted block at an index
   pub get_or-permitted : (pass lane other i : ℕ) →
       i < length (permitted ctx pass lane column other) →
       (get_or (permitted ctx pass lane column other) i (0, 0)).1 ≡ finished_column ctx pass (column / segment_length ctx) i
@@ -125,11 +150,13 @@ module _ (ctx : Context) (fits : Fits ctx) (column : ℕ) (in_columns : column <
       let f = finished_segments ctx pass k in
       let n = length-finished pass in
       let b = bounds in
-      cond_both (eqb (column % s) 0) _ _ (λ (xs : List (ℕ × ℕ)). i < length xs → (get_or xs i (0, 0)).1 ≡ finished_column ctx pass k i)
+      cond_both (eqb (column % s) 0) _ _
+      (λ (xs : List (ℕ × ℕ)). i < length xs → (get_or xs i (0, 0)).1 ≡ finished_column ctx pass k i)
       (λ e (h : i < length (take (length f - 1) f)).
       let room : i < length f - 1 = omega (arith, length-take (length f - 1) f) in
       ap (λ (x : ℕ × ℕ). x.1) (get_or-take (length f - 1) f i (0, 0) room) ∙ get_or-finished pass i (omega arith))
-      (λ e. cond_both (eqb other lane) _ _ (λ (own : List (ℕ × ℕ)). i < length (f ++ own) → (get_or (f ++ own) i (0, 0)).1 ≡ finished_column ctx pass k i)
+      (λ e. cond_both (eqb other lane) _ _
+      (λ (own : List (ℕ × ℕ)). i < length (f ++ own) → (get_or (f ++ own) i (0, 0)).1 ≡ finished_column ctx pass k i)
       (λ o h.
       let own = columns pass (k * s) (column - 1) in
       let all : length (f ++ own) ≡ length f + length own = length-append f own in
@@ -137,7 +164,8 @@ module _ (ctx : Context) (fits : Fits ctx) (column : ℕ) (in_columns : column <
       elim (cases_lt i (length f)) [
         | inl lt ↦ (ap (λ (x : ℕ × ℕ). x.1) (get_or_append_left f own (0, 0) i lt) ∙ get_or-finished pass i lt)
         | inr le ↦ (
-            ap (λ (x : ℕ × ℕ). x.1) (get_or-append_right f own (length f) i (0, 0) refl le) ∙ get_or-columns pass (k * s) (column - 1) (i - length f) (omega arith)
+            ap (λ (x : ℕ × ℕ). x.1) (get_or-append_right f own (length f) i (0, 0) refl le)
+            ∙ get_or-columns pass (k * s) (column - 1) (i - length f) (omega arith)
             ∙ wraps pass i le)
       ])
       (λ o h.

@@ -1,4 +1,4 @@
--- Which blocks a block is made of: the two laws that all the others rest on are `reference_reads` and `made_cong`.
+-- Which blocks a block is made of. All else rests on two laws, `reference_reads` and `made_cong`.
 use Rattle.std.proofs.Common.{◌≡◌, ℕ, zero, suc, ◌+◌, ◌-◌, ◌*◌, ◌/◌, ◌%◌, ◌^◌, ◌<◌, ◌≤◌, ◌⊎◌, inl, inr, Bool, true, false, cond, ◌&&◌, eqb, ltb, List, [], ◌++◌, length, get_or, refl, sym, ap, ◌∙◌, subst, arith}
 use Rattle.std.proofs.Math.Nat.{mod-lt, mul-le-mul_right, div-lt_iff_lt-mul, div-mul-le_self, lt-mul-div-succ, div-add-mod', zero-mul}
 use Rattle.std.specs.List.{range_with_len, All}
@@ -18,13 +18,14 @@ pub record Fits (ctx : Context) : Type 0 where
   pub some_lane : 0 < ctx.p_cost
   pub two_columns : 2 ≤ segment_length ctx
 
--- The block of pass, lane and column may be made of that of r, l and c: the block of c that is the newest at that moment, and in
--- another lane none of the slice at hand
+-- The block of pass, lane and column may be made of that of r, l and c: the newest block of lane l and
+-- column c at that moment, and in another lane none of the slice at hand.
 pub record Reads (ctx : Context) (pass lane column r l c : ℕ) : Type 0 where
   pub in_lanes : l < ctx.p_cost
   pub in_columns : c < lane_length ctx
   pub newest : ((r ≡ pass) × (c < column)) ⊎ ((pass ≡ suc r) × (column ≤ c))
-  pub apart : (l ≡ lane) ⊎ ((c < column / segment_length ctx * segment_length ctx) ⊎ ((column / segment_length ctx + 1) * segment_length ctx ≤ c))
+  pub apart : (l ≡ lane)
+      ⊎ ((c < column / segment_length ctx * segment_length ctx) ⊎ ((column / segment_length ctx + 1) * segment_length ctx ≤ c))
 
 -- a column c of slice k, where a segment has s columns
 pub record InSlice (s c k : ℕ) : Type 0 where
@@ -42,7 +43,7 @@ in_slice s c two h =
     record { above = div-mul-le_self c s; below = omega arith; whole = m; one_of_four = k }
 
 -- what holds of each column holds of the list
-pub All-columns : (P : ℕ × ℕ → Type 0) (pass from to : ℕ) →
+All-columns : (P : ℕ × ℕ → Type 0) (pass from to : ℕ) →
     ((c : ℕ) → from ≤ c → c < to → P (pass, c)) → All P (columns pass from to)
 unfolding columns
 All-columns P pass from to h =
@@ -50,14 +51,16 @@ All-columns P pass from to h =
     let lt' : k < to - from = omega (arith, length-range_with_len from (to - from)) in
     subst (λ c. P (pass, c)) (sym (get_or-range_with_len from (to - from) k d lt')) (h (from + k) (omega arith) (omega arith)))
 
--- how many there are
+-- how many pairs a list of columns has
 pub length-columns : (pass from to : ℕ) → length (columns pass from to) ≡ to - from
 unfolding columns
-length-columns pass from to = length-map (range_with_len from (to - from)) (λ c. (pass, c)) ∙ length-range_with_len from (to - from)
+length-columns pass from to = length-map (range_with_len from (to - from)) (λ c. (pass, c))
+    ∙ length-range_with_len from (to - from)
 
 -- ---- what may be referred to is a source, and there is some
 
-module _ (ctx : Context) (fits : Fits ctx) (lane column other : ℕ) (in_lanes : other < ctx.p_cost) (in_columns : column < lane_length ctx) where
+module _ (ctx : Context) (fits : Fits ctx) (lane column other : ℕ) (in_lanes : other < ctx.p_cost)
+    (in_columns : column < lane_length ctx) where
   -- a pair that the block may be made of
   abbrev IsSource : ℕ → ℕ × ℕ → Type 0
   IsSource pass x = Reads ctx pass lane column x.0 other x.1
@@ -81,37 +84,52 @@ module _ (ctx : Context) (fits : Fits ctx) (lane column other : ℕ) (in_lanes :
       let b = bounds in
       record { in_lanes = in_lanes; in_columns = omega arith; newest = inl (refl, omega arith); apart = inr (inl high) }))
 
-  -- so is the own segment so far
+  -- the own segment's blocks so far, but for the previous one, are sources
   own_sources : (pass : ℕ) →
-      All (IsSource pass) (cond (eqb other lane) (columns pass (column / segment_length ctx * segment_length ctx) (column - 1)) [])
+      All (IsSource pass)
+      (cond (eqb other lane) (columns pass (column / segment_length ctx * segment_length ctx) (column - 1)) [])
   own_sources pass = cond_both (eqb other lane) _ [] (All (IsSource pass))
       (λ e. All-columns (IsSource pass) pass _ _ (λ c low high.
-      record { in_lanes = in_lanes; in_columns = omega arith; newest = inl (refl, omega arith); apart = inl (eqb-true other lane e) }))
+      record {
+        in_lanes = in_lanes;
+        in_columns = omega arith;
+        newest = inl (refl, omega arith);
+        apart =
+            inl (eqb-true other lane e);
+      }))
       (λ _. All-nil (IsSource pass))
 
   -- all permitted blocks are sources
-  pub permitted_sources : (pass : ℕ) → All (IsSource pass) (permitted ctx pass lane column other)
+  permitted_sources : (pass : ℕ) → All (IsSource pass) (permitted ctx pass lane column other)
   unfolding permitted without_last
   permitted_sources pass = cond_both (eqb (column % segment_length ctx) 0) _ _ (All (IsSource pass))
       (λ _. All-take (IsSource pass) _ _ (finished_sources pass))
       (λ _. All-append (IsSource pass) _ _ (finished_sources pass) (own_sources pass))
 
-  -- how many blocks of finished segments there are at least
+  -- finished segments have three segments in later passes, and in pass 0 the slices before
   length-finished : (pass : ℕ) →
       (zero < pass → 3 * segment_length ctx ≤ length (finished_segments ctx pass (column / segment_length ctx)))
-      × (pass ≡ zero → length (finished_segments ctx pass (column / segment_length ctx)) ≡ column / segment_length ctx * segment_length ctx)
+      × (pass ≡ zero → length (finished_segments ctx pass (column / segment_length ctx))
+      ≡ column / segment_length ctx * segment_length ctx)
   unfolding finished_segments
   length-finished zero = (λ h. absurd (omega (arith, h)), λ _. length-columns 0 0 _ ∙ omega arith)
   length-finished (suc pass) =
       let b = bounds in
       let s = segment_length ctx in
       let k = column / s in (
-        λ _. omega (arith, length-append (columns pass ((k + 1) * s) (lane_length ctx)) (columns (suc pass) 0 (k * s)), length-columns pass ((k + 1) * s) (lane_length ctx), length-columns (suc pass) 0 (k * s)),
+        λ _. omega (
+          arith,
+          length-append (columns pass ((k + 1) * s) (lane_length ctx))
+              (columns (suc pass) 0 (k * s)),
+          length-columns pass ((k + 1) * s) (lane_length ctx),
+          length-columns (suc pass) 0
+              (k * s),
+        ),
         λ h. absurd (omega (arith, h)),
       )
 
-  -- in the first slice of all there is only the lane itself
-  pub some_permitted : (pass : ℕ) → (pass ≡ 0 → 2 ≤ column) →
+  -- some block is permitted, where in the first slice of all the lane itself is asked
+  some_permitted : (pass : ℕ) → (pass ≡ 0 → 2 ≤ column) →
       (pass ≡ 0 → column / segment_length ctx ≡ 0 → other ≡ lane) →
       0 < length (permitted ctx pass lane column other)
   unfolding permitted without_last
@@ -139,96 +157,112 @@ module _ (ctx : Context) (fits : Fits ctx) (lane column other : ℕ) (in_lanes :
             let m : 2 ≤ column = later z in
             elim (cases_order k 0) [
               | inl none ↦ (
-                  let o : own ≡ columns pass (k * s) (column - 1) = cond-true (eqb other lane) (columns pass (k * s) (column - 1)) [] (eq-eqb other lane (alone z none)) in
+                  let o : own ≡ columns pass (k * s) (column - 1) =
+                  cond-true (eqb other lane) (columns pass (k * s) (column - 1)) [] (eq-eqb other lane (alone z none)) in
                   let lo : length own ≡ column - 1 - k * s = ap length o ∙ length-columns pass (k * s) (column - 1) in
                   let zs : k * s ≡ 0 = ap (λ x. x * s) none ∙ zero-mul s in
                   omega arith)
-              | inr r ↦ (elim r [ inl w ↦ absurd (omega arith) | inr w ↦ (let g : 1 * s ≤ k * s = mul-le-mul_right s w in omega arith) ])
+              | inr r ↦
+                  (elim r [
+                    | inl w ↦ absurd (omega arith)
+                    | inr w ↦
+                        (let g : 1 * s ≤ k * s = mul-le-mul_right s w in omega arith)
+                  ])
             ])
         | inr r ↦ (elim r [ inl w ↦ absurd (omega arith) | inr w ↦ (let l : 3 * s ≤ length f = n.0 w in omega arith) ])
       ])
 
 -- ---- each block is made of its sources alone
 
--- the lane referred to is one
-pub lane_below : (ctx : Context) → Fits ctx → (pass lane column w : ℕ) → lane < ctx.p_cost →
+-- the lane referred to is one of the lanes
+lane_below : (ctx : Context) → Fits ctx → (pass lane column w : ℕ) → lane < ctx.p_cost →
     reference_lane ctx pass lane column w < ctx.p_cost
 unfolding reference_lane
 lane_below ctx fits pass lane column w h =
-    cond_both ((eqb pass 0) && (eqb (column / segment_length ctx) 0)) lane ((w / 2 ^ 32) % ctx.p_cost) (λ x. x < ctx.p_cost) (λ _. h) (λ _. mod-lt (w / 2 ^ 32) fits.some_lane)
+    cond_both ((eqb pass 0) && (eqb (column / segment_length ctx) 0)) lane ((w / 2 ^ 32) % ctx.p_cost) (λ x. x < ctx.p_cost)
+    (λ _. h) (λ _. mod-lt (w / 2 ^ 32) fits.some_lane)
 
--- in the first slice of all it is the block's own
-pub lane_alone : (ctx : Context) (pass lane column w : ℕ) → pass ≡ 0 →
+-- in the first slice of all the lane referred to is the block's own
+lane_alone : (ctx : Context) (pass lane column w : ℕ) → pass ≡ 0 →
     column / segment_length ctx ≡ 0 → reference_lane ctx pass lane column w ≡ lane
 unfolding reference_lane
 lane_alone ctx pass lane column w p k =
     cond-true ((eqb pass 0) && (eqb (column / segment_length ctx) 0)) lane ((w / 2 ^ 32) % ctx.p_cost)
     (and_from (eqb pass 0) (eqb (column / segment_length ctx) 0) (eq-eqb pass 0 p) (eq-eqb (column / segment_length ctx) 0 k))
 
--- the index taken is one of them
-pub index_below : (count w : ℕ) → 0 < count → reference_index count w < count
+-- the index that a word takes is below the count
+index_below : (count w : ℕ) → 0 < count → reference_index count w < count
 unfolding reference_index
 index_below count w h = omega arith
 
--- whatever the word
-pub reference_reads : (ctx : Context) → Fits ctx → (pass lane column w : ℕ) →
+-- whatever the word, the block that it takes is a source
+reference_reads : (ctx : Context) → Fits ctx → (pass lane column w : ℕ) →
     IsStep ctx pass lane column →
-    Reads ctx pass lane column (reference ctx pass lane column w).pass (reference ctx pass lane column w).lane (reference ctx pass lane column w).column
+    Reads ctx pass lane column (reference ctx pass lane column w).pass (reference ctx pass lane column w).lane
+    (reference ctx pass lane column w).column
 unfolding reference
 reference_reads ctx fits pass lane column w st =
     let other = reference_lane ctx pass lane column w in
     let below : other < ctx.p_cost = lane_below ctx fits pass lane column w st.in_lanes in
     let blocks = permitted ctx pass lane column other in
-    let some : 0 < length blocks = some_permitted ctx fits lane column other below st.in_columns pass st.later (lane_alone ctx pass lane column w) in
+    let some : 0 < length blocks =
+    some_permitted ctx fits lane column other below st.in_columns pass st.later (lane_alone ctx pass lane column w) in
     All-get_or (λ (x : ℕ × ℕ). Reads ctx pass lane column x.0 other x.1) blocks (reference_index (length blocks) w) (0, 0)
     (index_below (length blocks) w some)
     (permitted_sources ctx fits lane column other below st.in_columns pass)
 
--- two readers that agree on what a block may be made of
+-- blocks f and g agree wherever the block of pass, lane and column may be made of them
 abbrev pub AgreeOn : (ctx : Context) (pass lane column : ℕ) → Blocks → Blocks → Type 0
 AgreeOn ctx pass lane column f g = (r l c : ℕ) → Reads ctx pass lane column r l c → f r l c ≡ g r l c
 
--- they have one previous block
-pub previous_cong : (ctx : Context) → Fits ctx → (pass lane column : ℕ) →
+-- such blocks have one previous block
+previous_cong : (ctx : Context) → Fits ctx → (pass lane column : ℕ) →
     IsStep ctx pass lane column → (f g : Blocks) → AgreeOn ctx pass lane column f g →
     previous ctx f pass lane column ≡ previous ctx g pass lane column
 unfolding previous
 previous_cong ctx fits zero lane zero st f g h = absurd (let two : 2 ≤ zero = st.later refl in omega arith)
 previous_cong ctx fits (suc pass) lane zero st f g h =
     let two = fits.two_columns in
-    h (suc pass - 1) lane (lane_length ctx - 1) (record { in_lanes = st.in_lanes; in_columns = omega arith; newest = inr (omega arith, omega arith); apart = inl refl })
+    h (suc pass - 1) lane (lane_length ctx - 1)
+    (record { in_lanes = st.in_lanes; in_columns = omega arith; newest = inr (omega arith, omega arith); apart = inl refl })
 previous_cong ctx fits pass lane (suc column) st f g h =
     let below : suc column < lane_length ctx = st.in_columns in
-    h pass lane column (record { in_lanes = st.in_lanes; in_columns = omega arith; newest = inl (refl, omega arith); apart = inl refl })
+    h pass lane column
+    (record { in_lanes = st.in_lanes; in_columns = omega arith; newest = inl (refl, omega arith); apart = inl refl })
 
--- one word
-pub word_cong : (ctx : Context) → Fits ctx → (pass lane column : ℕ) → IsStep ctx pass lane column →
+-- such blocks have one word
+word_cong : (ctx : Context) → Fits ctx → (pass lane column : ℕ) → IsStep ctx pass lane column →
     (f g : Blocks) → AgreeOn ctx pass lane column f g →
     reference_word ctx f pass lane column ≡ reference_word ctx g pass lane column
 unfolding reference_word
 word_cong ctx fits pass lane column st f g h =
-    ap (λ (b : List ℕ). cond (is_independent ctx pass (column / segment_length ctx)) (address_word ctx pass lane (column / segment_length ctx) (column % segment_length ctx)) (get_or b 0 0)) (previous_cong ctx fits pass lane column st f g h)
+    ap (λ (b : List ℕ). cond (is_independent ctx pass (column / segment_length ctx))
+    (address_word ctx pass lane (column / segment_length ctx) (column % segment_length ctx)) (get_or b 0 0))
+    (previous_cong ctx fits pass lane column st f g h)
 
--- one reference
+-- such blocks have one reference
 pub reference_of_cong : (ctx : Context) → Fits ctx → (pass lane column : ℕ) →
     IsStep ctx pass lane column → (f g : Blocks) → AgreeOn ctx pass lane column f g →
     reference_of ctx f pass lane column ≡ reference_of ctx g pass lane column
 unfolding reference_of
-reference_of_cong ctx fits pass lane column st f g h = ap (reference ctx pass lane column) (word_cong ctx fits pass lane column st f g h)
+reference_of_cong ctx fits pass lane column st f g h =
+    ap (reference ctx pass lane column) (word_cong ctx fits pass lane column st f g h)
 
--- which is a source
-pub reference_of_reads : (ctx : Context) → Fits ctx → (pass lane column : ℕ) →
+-- the reference is a source
+reference_of_reads : (ctx : Context) → Fits ctx → (pass lane column : ℕ) →
     IsStep ctx pass lane column → (f : Blocks) →
-    Reads ctx pass lane column (reference_of ctx f pass lane column).pass (reference_of ctx f pass lane column).lane (reference_of ctx f pass lane column).column
+    Reads ctx pass lane column (reference_of ctx f pass lane column).pass (reference_of ctx f pass lane column).lane
+    (reference_of ctx f pass lane column).column
 unfolding reference_of
-reference_of_reads ctx fits pass lane column st f = reference_reads ctx fits pass lane column (reference_word ctx f pass lane column) st
+reference_of_reads ctx fits pass lane column st f =
+    reference_reads ctx fits pass lane column (reference_word ctx f pass lane column) st
 
 -- a branch that is taken may be changed for an equal one
 cond_same : {X : Type 0} (b : Bool) (x u y : X) → (b ≡ true → x ≡ u) → cond b x y ≡ cond b u y
 cond_same true x u y h = h refl
 cond_same false x u y h = refl
 
--- and make one block
+-- such blocks make one block
 pub made_cong : (ctx : Context) → Fits ctx → (pass lane column : ℕ) → IsStep ctx pass lane column →
     (f g : Blocks) → AgreeOn ctx pass lane column f g →
     made_block ctx f pass lane column ≡ made_block ctx g pass lane column
@@ -239,13 +273,23 @@ made_cong ctx fits pass lane column st f g h =
     let e : from ≡ to = reference_of_cong ctx fits pass lane column st f g h in
     let p = previous_cong ctx fits pass lane column st f g h in
     let read : f from.pass from.lane from.column ≡ g to.pass to.lane to.column =
-    h from.pass from.lane from.column (reference_of_reads ctx fits pass lane column st f) ∙ ap (λ (x : Reference). g x.pass x.lane x.column) e in
+    h from.pass from.lane from.column (reference_of_reads ctx fits pass lane column st f)
+    ∙ ap (λ (x : Reference). g x.pass x.lane x.column) e in
     let block = mixed (previous ctx f pass lane column) (f from.pass from.lane from.column) in
     let block' = mixed (previous ctx g pass lane column) (g to.pass to.lane to.column) in
-    let m : block ≡ block' = ap (λ x. mixed x (f from.pass from.lane from.column)) p ∙ ap (mixed (previous ctx g pass lane column)) read in
-    cond_same ((eqb ctx.version 19) && (ltb 0 pass)) (xor_blocks block (f (pass - 1) lane column)) (xor_blocks block' (g (pass - 1) lane column)) block
+    let m : block ≡ block' = ap (λ x. mixed x (f from.pass from.lane from.column)) p
+    ∙ ap (mixed (previous ctx g pass lane column)) read in
+    cond_same ((eqb ctx.version 19) && (ltb 0 pass)) (xor_blocks block (f (pass - 1) lane column))
+    (xor_blocks block' (g (pass - 1) lane column)) block
     (λ b.
     let pos : 0 < pass = ltb-true 0 pass (and_parts (eqb ctx.version 19) (ltb 0 pass) b).1 in
     ap (λ x. xor_blocks x (f (pass - 1) lane column)) m ∙ ap (xor_blocks block')
-    (h (pass - 1) lane column (record { in_lanes = st.in_lanes; in_columns = st.in_columns; newest = inr (omega arith, omega arith); apart = inl refl })))
+    (h (pass - 1) lane column
+    (record {
+      in_lanes = st.in_lanes;
+      in_columns = st.in_columns;
+      newest = inr (omega arith, omega arith);
+      apart =
+          inl refl;
+    })))
     ∙ ap (cond ((eqb ctx.version 19) && (ltb 0 pass)) (xor_blocks block' (g (pass - 1) lane column))) m

@@ -10,8 +10,10 @@ use Rattle.argon2.proofs.LastColumn.{last_of_matrix}
 use Rattle.argon2.proofs.Validity.{Fits-sizes}
 
 -- the hash of the matrix's last column is the tag
-pub tag_of_matrix : (ctx : Context) → Sizes ctx → (password salt : List ℕ) (n : ℕ) (memory : Memory) → memory ≡ matrix_of ctx password salt n →
+pub tag_of_matrix : (ctx : Context) → Sizes ctx → (password salt : List ℕ) (n : ℕ) (memory : Memory) → memory
+    ≡ matrix_of ctx password salt n →
     long_hash n (bytes_of (last_column ctx memory)) ≡ tag_of ctx password salt n
 unfolding matrix_of tag_of
 tag_of_matrix ctx sizes password salt n memory e =
-    ap (λ block. long_hash n (bytes_of block)) (last_of_matrix ctx (Fits-sizes ctx sizes) (first_block ctx password salt n) memory e)
+    ap (λ block. long_hash n (bytes_of block))
+    (last_of_matrix ctx (Fits-sizes ctx sizes) (first_block ctx password salt n) memory e)

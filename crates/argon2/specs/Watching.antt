@@ -20,24 +20,24 @@ pub record AreReferencePlaces (ctx : Context) (first : FirstColumns) (old new : 
         ≡ slice_index old (position_index ctx 0 lane column)
 
 -- the list after the steps of a slice by a schedule, each of which puts down its reference's place
-unfoldable pub watch : Context → ℕ → ℕ → List ℕ → Memory → List ℕ → List ℕ
-watch ctx pass slice [] memory positions = positions
-watch ctx pass slice (lane ∷ schedule) memory positions =
+unfoldable pub positions_of_run : Context → ℕ → ℕ → List ℕ → Memory → List ℕ → List ℕ
+positions_of_run ctx pass slice [] memory positions = positions
+positions_of_run ctx pass slice (lane ∷ schedule) memory positions =
     let column = (slice + 1) * segment_length ctx - suc (turns lane schedule) in
-    watch ctx pass slice schedule (step ctx memory pass lane column)
+    positions_of_run ctx pass slice schedule (step ctx memory pass lane column)
     (slice_set positions (position_index ctx pass lane column)
     (reference_place ctx memory pass lane column))
 
 -- the same of the first slices of a pass
-unfoldable pub watch_slices : Context → (ℕ → List ℕ) → ℕ → ℕ → Memory → List ℕ → List ℕ
-watch_slices ctx schedules pass zero memory positions = positions
-watch_slices ctx schedules pass (suc slice) memory positions =
-    watch ctx pass slice (schedules slice) (run_slices ctx schedules pass slice memory)
-    (watch_slices ctx schedules pass slice memory positions)
+unfoldable pub positions_of_slices : Context → (ℕ → List ℕ) → ℕ → ℕ → Memory → List ℕ → List ℕ
+positions_of_slices ctx schedules pass zero memory positions = positions
+positions_of_slices ctx schedules pass (suc slice) memory positions =
+    positions_of_run ctx pass slice (schedules slice) (run_slices ctx schedules pass slice memory)
+    (positions_of_slices ctx schedules pass slice memory positions)
 
 -- the same of the first passes
-unfoldable pub watch_passes : Context → (ℕ → ℕ → List ℕ) → ℕ → Memory → List ℕ → List ℕ
-watch_passes ctx schedules zero memory positions = positions
-watch_passes ctx schedules (suc pass) memory positions =
-    watch_slices ctx (schedules pass) pass 4 (run_passes ctx schedules pass memory)
-    (watch_passes ctx schedules pass memory positions)
+unfoldable pub positions_of_passes : Context → (ℕ → ℕ → List ℕ) → ℕ → Memory → List ℕ → List ℕ
+positions_of_passes ctx schedules zero memory positions = positions
+positions_of_passes ctx schedules (suc pass) memory positions =
+    positions_of_slices ctx (schedules pass) pass 4 (run_passes ctx schedules pass memory)
+    (positions_of_passes ctx schedules pass memory positions)

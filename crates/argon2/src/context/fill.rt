@@ -4,7 +4,7 @@ ghost use Rattle.std.specs.Prelude.{◌≡◌, ◌+◌, ◌*◌, ◌^◌, ◌<�
 ghost use Rattle.argon2.specs.Context.{block_count};
 ghost use Rattle.argon2.specs.Recurrence.{FirstColumns, matrix};
 ghost use Rattle.argon2.specs.Steps.{run, run_slices, lanes_in_order, last_column};
-ghost use Rattle.argon2.specs.Watching.{watch, watch_slices, AreReferencePlaces};
+ghost use Rattle.argon2.specs.Watching.{positions_of_run, positions_of_slices, AreReferencePlaces};
 ghost use Rattle.argon2.specs.Counting.{segment_calls, slices_calls, mixing_calls};
 ghost use Rattle.argon2.specs.Laws.{Begins};
 
@@ -36,7 +36,7 @@ impl<'a> Instance<'a> {
         ensures memory { memory.new
             ≡ run_slices self.now (lanes_in_order self.now pass) pass 4 memory.old }
         ensures positions { positions.new
-            ≡ watch_slices self.now (lanes_in_order self.now pass) pass 4 memory.old positions.old }
+            ≡ positions_of_slices self.now (lanes_in_order self.now pass) pass 4 memory.old positions.old }
         ensures work { work.new ≡ work.old + slices_calls self.now pass 4 }
     {
         for slice in 0..4 {
@@ -59,7 +59,7 @@ impl<'a> Instance<'a> {
         ensures memory { memory.new
             ≡ run self.now pass slice (lanes_in_order self.now pass slice) memory.old }
         ensures positions { let schedule = lanes_in_order self.now pass slice in
-            positions.new ≡ watch self.now pass slice schedule memory.old positions.old }
+            positions.new ≡ positions_of_run self.now pass slice schedule memory.old positions.old }
         ensures work { work.new ≡ work.old + self.now.p_cost * segment_calls self.now pass slice }
     {
         for lane in 0..self.lanes() {

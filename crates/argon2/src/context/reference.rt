@@ -1,6 +1,6 @@
 //! Which block a block refers to (RFC 9106, section 3.4.2).
 
-ghost use Rattle.std.specs.Prelude.{◌≡◌, ℕ, ◌+◌, ◌-◌, ◌*◌, ◌/◌, ◌^◌, ◌<◌, ◌≤◌, ◌==◌, length, slice_index_or, if◌then◌else◌};
+ghost use Rattle.std.specs.Prelude.{◌≡◌, ℕ, ◌+◌, ◌-◌, ◌*◌, ◌/◌, ◌<◌, ◌==◌, length, slice_index_or};
 ghost use Rattle.argon2.specs.Context.{segment_length, lane_length, block_count};
 ghost use Rattle.argon2.specs.Steps.{IsStep};
 ghost use Rattle.argon2.specs.Reference.{permitted, reference_lane, reference_index, reference, place_of};

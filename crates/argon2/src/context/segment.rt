@@ -3,7 +3,7 @@
 ghost use Rattle.std.specs.Prelude.{◌≡◌, ◌+◌, ◌^◌, ◌<◌, ◌≤◌, length, slice_set};
 ghost use Rattle.argon2.specs.Context.{block_count};
 ghost use Rattle.argon2.specs.Steps.{IsStep, run, lane_turns};
-ghost use Rattle.argon2.specs.Watching.{position_index, watch};
+ghost use Rattle.argon2.specs.Watching.{position_index, positions_of_run};
 ghost use Rattle.argon2.specs.Counting.{segment_calls};
 
 use super::instance::Instance;
@@ -29,7 +29,7 @@ impl<'a> Instance<'a> {
         ensures memory { memory.new
             ≡ run self.now pass slice (lane_turns self.now pass slice lane) memory.old }
         ensures positions { let schedule = lane_turns self.now pass slice lane in
-            positions.new ≡ watch self.now pass slice schedule memory.old positions.old }
+            positions.new ≡ positions_of_run self.now pass slice schedule memory.old positions.old }
         ensures work { work.new ≡ work.old + segment_calls self.now pass slice }
     {
         let segment = self.segment_length();

@@ -6,4 +6,5 @@ pub returns-clause-follow : goal.returns-clause-follow
 returns-clause-follow c = λ ctx v first pass lane column a b. h.recurrence ctx (Fits-valid ctx v) first pass lane column a b
 
 pub returns-clause-alone : goal.returns-clause-alone
-returns-clause-alone c = λ ctx v first blocks is pass lane column a b. h.only ctx (Fits-valid ctx v) first blocks is pass lane column a b
+returns-clause-alone c =
+    λ ctx v first blocks is pass lane column a b. h.recurrence_unique ctx (Fits-valid ctx v) first blocks is pass lane column a b

@@ -5,18 +5,23 @@ use Rattle.argon2.specs.InitialHash.{first_block}
 use Rattle.argon2.specs.Tag.{tag_of}
 use Rattle.argon2.proofs.Validity.{Fits-valid, sizes-valid}
 use Rattle.argon2.proofs.Schedules.{schedules_agree}
-use Rattle.argon2.proofs.Filling.{filled}
+use Rattle.argon2.proofs.Filling.{schedules_fill}
 use Rattle.argon2.proofs.LastColumn.{steps_give_last}
 use Rattle.argon2.proofs.laws.slice_interleaving.Goals as goal
 
 pub returns-clause-agree : goal.returns-clause-agree
-returns-clause-agree c = λ ctx v memory size pass slice _ four one other a b. schedules_agree ctx (Fits-valid ctx v) pass slice four one other a b memory
+returns-clause-agree c =
+    λ ctx v memory size pass slice _ four one other a b. schedules_agree ctx
+    (Fits-valid ctx v) pass slice four one other a b memory
 
 pub returns-clause-fill : goal.returns-clause-fill
-returns-clause-fill c = λ ctx v first memory begins schedules are. filled ctx (Fits-valid ctx v) (sizes-valid ctx v).some_pass first schedules are memory begins
+returns-clause-fill c =
+    λ ctx v first memory begins schedules are. schedules_fill ctx (Fits-valid ctx v)
+    (sizes-valid ctx v).some_pass first schedules are memory begins
 
 pub returns-clause-tag : goal.returns-clause-tag
 unfolding tag_of
 returns-clause-tag c = λ ctx v password salt n memory begins schedules are.
     ap (λ block. long_hash n (bytes_of block))
-    (steps_give_last ctx (Fits-valid ctx v) (sizes-valid ctx v).some_pass (first_block ctx password salt n) schedules are memory begins)
+    (steps_give_last ctx (Fits-valid ctx v) (sizes-valid ctx v).some_pass
+    (first_block ctx password salt n) schedules are memory begins)

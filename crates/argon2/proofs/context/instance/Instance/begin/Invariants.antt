@@ -6,5 +6,6 @@ use Rattle.argon2.proofs.context.instance.Instance.begin.Given as goal
 abbrev pub invariant-loop-lane : goal.invariant-loop-lane
 invariant-loop-lane l = record {
   begun : (k c : ℕ) → k < l.lane → c < 2 → get_or l.memory (k * lane_length l.self + c) [] ≡ block_after l.hash k c;
-  others : (k c : ℕ) → k < l.self.p_cost → 2 ≤ c → c < lane_length l.self → get_or l.memory (k * lane_length l.self + c) [] ≡ get_or l.fn.memory (k * lane_length l.self + c) [];
+  others : (k c : ℕ) → k < l.self.p_cost → 2 ≤ c → c < lane_length l.self → get_or l.memory (k * lane_length l.self + c) []
+      ≡ get_or l.fn.memory (k * lane_length l.self + c) [];
 }

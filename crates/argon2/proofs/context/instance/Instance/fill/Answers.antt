@@ -1,16 +1,16 @@
 use Rattle.std.proofs.Common.{◌≡◌, suc, refl, sym, ap, ◌∙◌, add-one, arith, subst}
 use Rattle.argon2.specs.Steps.{run_passes, lanes_in_order}
-use Rattle.argon2.specs.Watching.{watch_passes, AreReferencePlaces}
+use Rattle.argon2.specs.Watching.{positions_of_passes, AreReferencePlaces}
 use Rattle.argon2.specs.Counting.{passes_calls}
 use Rattle.argon2.proofs.Counts.{passes_calls-le, passes_calls-all, mixing_calls-few}
-use Rattle.argon2.proofs.Filling.{filled}
+use Rattle.argon2.proofs.Filling.{schedules_fill}
 use Rattle.argon2.proofs.LaneAfterLane.{ascending_schedule}
 use Rattle.argon2.proofs.Validity.{Fits-sizes}
-use Rattle.argon2.proofs.Watched.{watched}
+use Rattle.argon2.proofs.Watched.{positions_are_references}
 use Rattle.argon2.proofs.context.instance.Instance.fill.Goals as goal
 
 pub loop-pass-init : goal.loop-pass-init
-unfolding run_passes watch_passes passes_calls
+unfolding run_passes positions_of_passes passes_calls
 loop-pass-init c = record { memory = refl; positions = refl; work = omega arith }
 
 pub fill_pass-requires-clause-count : goal.fill_pass-requires-clause-count
@@ -25,7 +25,7 @@ fill_pass-requires-clause-count c =
     omega arith
 
 pub loop-pass-preserved : goal.loop-pass-preserved
-unfolding run_passes watch_passes passes_calls
+unfolding run_passes positions_of_passes passes_calls
 loop-pass-preserved c =
     let memory = c.fill_pass.ensures.memory in
     let positions = c.fill_pass.ensures.positions in
@@ -43,7 +43,8 @@ returns-clause-matrix c = λ first begins.
     let all : c.loop-pass.pass ≡ ctx.t_cost = omega arith in
     c.loop-pass.invariant.memory
     ∙ ap (λ passes. run_passes ctx (lanes_in_order ctx) passes c.args.memory.now) all
-    ∙ filled ctx (Fits-sizes ctx sizes) sizes.some_pass first _ (λ pass slice _ _. ascending_schedule ctx pass slice) c.args.memory.now begins
+    ∙ schedules_fill ctx (Fits-sizes ctx sizes) sizes.some_pass first _
+    (λ pass slice _ _. ascending_schedule ctx pass slice) c.args.memory.now begins
 
 pub returns-clause-positions : goal.returns-clause-positions
 returns-clause-positions c = λ first begins size.
@@ -51,9 +52,10 @@ returns-clause-positions c = λ first begins size.
     let sizes = c.passes-pass-end.ensures.sizes in
     let all : c.loop-pass.pass ≡ ctx.t_cost = omega arith in
     let is = c.loop-pass.invariant.positions
-    ∙ ap (λ passes. watch_passes ctx (lanes_in_order ctx) passes c.args.memory.now c.args.positions.now) all in
+    ∙ ap (λ passes. positions_of_passes ctx (lanes_in_order ctx) passes c.args.memory.now c.args.positions.now) all in
     subst (AreReferencePlaces ctx first c.args.positions.now) (sym is)
-    (watched ctx (Fits-sizes ctx sizes) first _ (λ pass slice _ _. ascending_schedule ctx pass slice) c.args.memory.now c.args.positions.now begins size)
+    (positions_are_references ctx (Fits-sizes ctx sizes) first _
+    (λ pass slice _ _. ascending_schedule ctx pass slice) c.args.memory.now c.args.positions.now begins size)
 
 pub returns-clause-work : goal.returns-clause-work
 returns-clause-work c =

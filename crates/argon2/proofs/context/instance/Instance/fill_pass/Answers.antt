@@ -1,12 +1,12 @@
 use Rattle.std.proofs.Common.{suc, refl, add-one, arith}
 use Rattle.argon2.specs.Steps.{run_slices}
-use Rattle.argon2.specs.Watching.{watch_slices}
+use Rattle.argon2.specs.Watching.{positions_of_slices}
 use Rattle.argon2.specs.Counting.{slices_calls}
 use Rattle.argon2.proofs.Counts.{slices_calls-le}
 use Rattle.argon2.proofs.context.instance.Instance.fill_pass.Goals as goal
 
 pub loop-slice-init : goal.loop-slice-init
-unfolding run_slices watch_slices slices_calls
+unfolding run_slices positions_of_slices slices_calls
 loop-slice-init c = record { memory = refl; positions = refl; work = omega arith }
 
 pub fill_slice-requires-clause-count : goal.fill_slice-requires-clause-count
@@ -17,7 +17,7 @@ fill_slice-requires-clause-count c =
     omega arith
 
 pub loop-slice-preserved : goal.loop-slice-preserved
-unfolding run_slices watch_slices slices_calls
+unfolding run_slices positions_of_slices slices_calls
 loop-slice-preserved c =
     let memory = c.fill_slice.ensures.memory in
     let positions = c.fill_slice.ensures.positions in

@@ -3,10 +3,10 @@ use Rattle.std.proofs.lemmas.Bool.Decides.{nat_tests}
 use Rattle.argon2.specs.Context.{segment_length}
 use Rattle.argon2.specs.Recurrence.{addresses_of, is_independent}
 use Rattle.argon2.specs.Steps.{run, turn_count}
-use Rattle.argon2.specs.Watching.{watch}
+use Rattle.argon2.specs.Watching.{positions_of_run}
 use Rattle.argon2.specs.Counting.{segment_calls}
 use Rattle.argon2.proofs.Addresses.{same_addresses, address_mixings, mixings_more}
-use Rattle.argon2.proofs.LaneAfterLane.{run_turn, watch_turn}
+use Rattle.argon2.proofs.LaneAfterLane.{run_turn, positions_of_turn}
 use Rattle.argon2.proofs.context.instance.Instance.fill_segment.Goals as goal
 use Rattle.argon2.proofs.context.instance.Instance.fill_segment.Goals.{then-index-gt0+then-index-eq0, else-index-gt0, else-index-gt0-via-then-index-gt0+else-index-eq0, else-index-gt0-via-else-index-gt0}
 
@@ -33,9 +33,12 @@ loop-index-init c =
     let blocks : ℕ → ℕ = λ n. cond (is_independent ctx c.args.pass c.args.slice) (2 * (n + 1)) 0 in
     record {
       memory = ap (λ n. run ctx c.args.pass c.args.slice (replicate n c.args.lane) c.args.memory.now) turns;
-      positions = ap (λ n. watch ctx c.args.pass c.args.slice (replicate n c.args.lane) c.args.memory.now c.args.positions.now) turns;
+      positions =
+          ap (λ n. positions_of_run ctx c.args.pass c.args.slice (replicate n c.args.lane) c.args.memory.now c.args.positions.now)
+          turns;
       addresses = c.addresses-addresses.ensures.block ∙ ap (addresses_of ctx c.args.pass c.args.lane) column
-          ∙ same_addresses ctx c.args.pass c.args.lane c.args.slice 0 (c.if-pass-eq0.start - 1) (omega arith) (omega arith) (sym first);
+          ∙ same_addresses ctx c.args.pass c.args.lane c.args.slice 0 (c.if-pass-eq0.start - 1) (omega arith) (omega arith)
+          (sym first);
       work =
           let one = ap mixings column ∙ address_mixings ctx c.args.pass c.args.slice 0 (omega arith) ∙ ap blocks (sym first) in
           let work = c.addresses-addresses.ensures.work in
@@ -65,7 +68,8 @@ loop-index-preserved c =
     let i = c.loop-index.index in
     let s = c.segment_length-segment.ensures.value in
     let t = run_turn ctx c.args.pass c.args.slice c.args.lane i c.loop-index.memory (omega arith) in
-    let u = watch_turn ctx c.args.pass c.args.slice c.args.lane i c.loop-index.memory c.loop-index.positions (omega arith) in
+    let u = positions_of_turn ctx c.args.pass c.args.slice c.args.lane i c.loop-index.memory c.loop-index.positions
+    (omega arith) in
     let stepped = c.step-reference.ensures.step in
     let place = c.step-reference.ensures.place in
     let put = c.put_position.ensures in
@@ -82,7 +86,8 @@ loop-index-preserved c =
       memory = cc;
       positions = cc;
       addresses = elim c.if-index-gt0.branch [
-        | then-index-gt0+then-index-eq0 w ↦ (w.addresses-is ∙ w.addresses-addresses-then-index-eq0.ensures.block ∙ ap block column)
+        | then-index-gt0+then-index-eq0 w ↦
+            (w.addresses-is ∙ w.addresses-addresses-then-index-eq0.ensures.block ∙ ap block column)
         | else-index-gt0 w ↦ (
             let stays : (i - 1) / 128 ≡ i / 128 = elim w.else-index-gt0.branch [
               | else-index-gt0-via-then-index-gt0+else-index-eq0 v ↦ serves_on i (inl v.if-index-eq0.false)
@@ -118,13 +123,15 @@ pub returns-clause-memory : goal.returns-clause-memory
 unfolding run
 returns-clause-memory c =
     let e : segment_length c.args.self.now - c.loop-index.index ≡ 0 = omega arith in
-    sym (ap (λ n. run c.args.self.now c.args.pass c.args.slice (replicate n c.args.lane) c.loop-index.memory) e) ∙ c.loop-index.invariant.memory
+    sym (ap (λ n. run c.args.self.now c.args.pass c.args.slice (replicate n c.args.lane) c.loop-index.memory) e)
+    ∙ c.loop-index.invariant.memory
 
 pub returns-clause-positions : goal.returns-clause-positions
-unfolding watch
+unfolding positions_of_run
 returns-clause-positions c =
     let e : segment_length c.args.self.now - c.loop-index.index ≡ 0 = omega arith in
-    sym (ap (λ n. watch c.args.self.now c.args.pass c.args.slice (replicate n c.args.lane) c.loop-index.memory c.loop-index.positions) e)
+    sym (ap (λ n. positions_of_run c.args.self.now c.args.pass c.args.slice
+    (replicate n c.args.lane) c.loop-index.memory c.loop-index.positions) e)
     ∙ c.loop-index.invariant.positions
 
 pub returns-clause-work : goal.returns-clause-work

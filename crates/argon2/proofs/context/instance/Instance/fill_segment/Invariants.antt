@@ -2,7 +2,7 @@ use Rattle.std.proofs.Common.{◌≡◌, ◌+◌, ◌-◌, ◌*◌, ◌/◌, con
 use Rattle.argon2.specs.Context.{segment_length}
 use Rattle.argon2.specs.Recurrence.{is_independent, addresses_of}
 use Rattle.argon2.specs.Steps.{run, turn_count}
-use Rattle.argon2.specs.Watching.{watch}
+use Rattle.argon2.specs.Watching.{positions_of_run}
 use Rattle.argon2.proofs.context.instance.Instance.fill_segment.Given as goal
 
 -- the turns that are left do what all were to do; the address block at hand serves the index before
@@ -10,8 +10,8 @@ abbrev pub invariant-loop-index : goal.invariant-loop-index
 invariant-loop-index l = record {
   memory : run l.self l.pass l.slice (replicate (segment_length l.self - l.index) l.lane) l.memory
       ≡ run l.self l.pass l.slice (replicate (turn_count l.self l.pass l.slice) l.lane) l.fn.memory;
-  positions : watch l.self l.pass l.slice (replicate (segment_length l.self - l.index) l.lane) l.memory l.positions
-      ≡ watch l.self l.pass l.slice (replicate (turn_count l.self l.pass l.slice) l.lane) l.fn.memory l.fn.positions;
+  positions : positions_of_run l.self l.pass l.slice (replicate (segment_length l.self - l.index) l.lane) l.memory l.positions
+      ≡ positions_of_run l.self l.pass l.slice (replicate (turn_count l.self l.pass l.slice) l.lane) l.fn.memory l.fn.positions;
   addresses : l.addresses ≡ addresses_of l.self l.pass l.lane (l.slice * segment_length l.self + (l.index - 1));
   work : l.work ≡ l.fn.work + cond (is_independent l.self l.pass l.slice) (2 * ((l.index - 1) / 128 + 1)) 0 + (l.index - l.start);
 }

@@ -1,11 +1,12 @@
 use Rattle.std.proofs.Common.{◌≡◌, arith}
-use Rattle.argon2.proofs.LaneAfterLane.{run_lane, run_no_lane, watch_lane, watch_no_lane}
+use Rattle.argon2.proofs.LaneAfterLane.{run_lane, run_no_lane, positions_of_lane, positions_of_no_lane}
 use Rattle.argon2.proofs.context.instance.Instance.fill_slice.Goals as goal
 
 pub loop-lane-preserved : goal.loop-lane-preserved
 loop-lane-preserved c =
     let t = run_lane c.args.self.now c.args.pass c.args.slice c.loop-lane.lane c.loop-lane.memory (omega arith) in
-    let u = watch_lane c.args.self.now c.args.pass c.args.slice c.loop-lane.lane c.loop-lane.memory c.loop-lane.positions (omega arith) in
+    let u = positions_of_lane c.args.self.now c.args.pass c.args.slice c.loop-lane.lane c.loop-lane.memory c.loop-lane.positions
+    (omega arith) in
     let memory = c.fill_segment.ensures.memory in
     let positions = c.fill_segment.ensures.positions in
     let work = c.fill_segment.ensures.work in
@@ -25,6 +26,6 @@ returns-clause-memory c =
 pub returns-clause-positions : goal.returns-clause-positions
 returns-clause-positions c =
     let all : c.loop-lane.lane ≡ c.args.self.now.p_cost = omega arith in
-    let none = watch_no_lane c.args.self.now c.args.pass c.args.slice c.loop-lane.memory c.loop-lane.positions in
+    let none = positions_of_no_lane c.args.self.now c.args.pass c.args.slice c.loop-lane.memory c.loop-lane.positions in
     let left = c.loop-lane.invariant.positions in
     cc

@@ -1,6 +1,6 @@
 use Rattle.std.proofs.Common.{◌≡◌, ◌+◌, ◌*◌}
 use Rattle.argon2.specs.Steps.{run, lane_after_lane}
-use Rattle.argon2.specs.Watching.{watch}
+use Rattle.argon2.specs.Watching.{positions_of_run}
 use Rattle.argon2.specs.Counting.{segment_calls}
 use Rattle.argon2.proofs.context.instance.Instance.fill_slice.Given as goal
 
@@ -9,7 +9,7 @@ abbrev pub invariant-loop-lane : goal.invariant-loop-lane
 invariant-loop-lane l = record {
   memory : run l.self l.pass l.slice (lane_after_lane l.self l.pass l.slice l.lane) l.memory
       ≡ run l.self l.pass l.slice (lane_after_lane l.self l.pass l.slice 0) l.fn.memory;
-  positions : watch l.self l.pass l.slice (lane_after_lane l.self l.pass l.slice l.lane) l.memory l.positions
-      ≡ watch l.self l.pass l.slice (lane_after_lane l.self l.pass l.slice 0) l.fn.memory l.fn.positions;
+  positions : positions_of_run l.self l.pass l.slice (lane_after_lane l.self l.pass l.slice l.lane) l.memory l.positions
+      ≡ positions_of_run l.self l.pass l.slice (lane_after_lane l.self l.pass l.slice 0) l.fn.memory l.fn.positions;
   work : l.work ≡ l.fn.work + l.lane * segment_calls l.self l.pass l.slice;
 }

@@ -12,13 +12,15 @@ pub loop-lane-preserved : goal.loop-lane-preserved
 loop-lane-preserved c =
     let n = c.loop-lane.lane in
     let q = c.lane_length-length.result in
-    let at : ℕ → List ℕ = λ lane. get_or c.args.memory.now (lane * lane_length c.args.self.now + (lane_length c.args.self.now - 1)) [] in
+    let at : ℕ → List ℕ =
+    λ lane. get_or c.args.memory.now (lane * lane_length c.args.self.now + (lane_length c.args.self.now - 1)) [] in
     let length = c.lane_length-length.ensures.value in
     let more = map-range_with_len_more at 0 n n (omega arith) in
     let push = fold_push xor_blocks zero_block (map at (range_with_len 0 n)) (at n) in
     let before = c.loop-lane.invariant in
     let xored = c.bitxor_assign.ensures.after in
-    let read = get_or_read c.args.memory.now (n * q + (q - 1)) c.index-memory-place.result (search rules) c.index-memory-place.is [] in
+    let read =
+    get_or_read c.args.memory.now (n * q + (q - 1)) c.index-memory-place.result (search rules) c.index-memory-place.is [] in
     cc
 
 pub returns : goal.returns

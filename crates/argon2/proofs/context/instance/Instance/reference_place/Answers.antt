@@ -10,10 +10,12 @@ returns-clause-value c =
     let n = c.permitted_count-count.ensures.value in
     let i = c.reference_index-index.ensures.value in
     let q = c.lane_length.ensures.value in
-    let e = c.permitted_column.ensures.value c.reference_lane-other.result (let w = c.reference_index-index.ensures.within in omega arith) in
+    let e = c.permitted_column.ensures.value c.reference_lane-other.result
+    (let w = c.reference_index-index.ensures.within in omega arith) in
     cc
 
 pub returns-clause-within : goal.returns-clause-within
 returns-clause-within c =
-    let b = place_below c.args.self.now c.reference_lane-other.result c.permitted_column.result c.reference_lane-other.ensures.within c.permitted_column.ensures.within in
+    let b = place_below c.args.self.now c.reference_lane-other.result c.permitted_column.result
+    c.reference_lane-other.ensures.within c.permitted_column.ensures.within in
     search rules

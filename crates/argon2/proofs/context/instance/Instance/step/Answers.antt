@@ -17,7 +17,9 @@ returns-then-xors-clause-step c =
     let r = c.reference_place-reference.ensures.value in
     let b = c.mixed_block.ensures.block in
     let below = place_below ctx c.args.at.lane c.args.at.column c.requires.step.in_lanes c.requires.step.in_columns in
-    let old = get_or_read m (c.args.at.lane * c.lane_length.result + c.args.at.column) c.index-memory-place.result (search rules) c.index-memory-place.is [] in
+    let old =
+    get_or_read m (c.args.at.lane * c.lane_length.result + c.args.at.column) c.index-memory-place.result
+    (search rules) c.index-memory-place.is [] in
     let x = c.bitxor_assign.ensures.after in
     let y = xor_blocks-comm (get_or m place []) c.mixed_block.result in
     let yes = sym c.xors.ensures ∙ c.if-xors.true in
@@ -27,7 +29,9 @@ returns-then-xors-clause-step c =
 
 pub returns-then-xors-clause-place : goal.returns-then-xors-clause-place
 returns-then-xors-clause-place c =
-    c.reference_place-reference.ensures.value ∙ sym (place_by_word c.args.self.now c.args.memory.now c.args.at.pass c.args.at.lane c.args.at.column c.args.word c.requires.word)
+    c.reference_place-reference.ensures.value
+    ∙ sym (place_by_word c.args.self.now c.args.memory.now c.args.at.pass c.args.at.lane c.args.at.column c.args.word
+    c.requires.word)
 
 pub returns-else-xors-clause-step : goal.returns-else-xors-clause-step
 unfolding step
@@ -44,4 +48,6 @@ returns-else-xors-clause-step c =
 
 pub returns-else-xors-clause-place : goal.returns-else-xors-clause-place
 returns-else-xors-clause-place c =
-    c.reference_place-reference.ensures.value ∙ sym (place_by_word c.args.self.now c.args.memory.now c.args.at.pass c.args.at.lane c.args.at.column c.args.word c.requires.word)
+    c.reference_place-reference.ensures.value
+    ∙ sym (place_by_word c.args.self.now c.args.memory.now c.args.at.pass c.args.at.lane c.args.at.column c.args.word
+    c.requires.word)

@@ -9,7 +9,8 @@ returns-in-Some c =
     let blocks = in_memory ctx c.args.memory.now in
     let s = c.segment_length.ensures.value in
     let i = c.as_slice.ensures.items in
-    let w = word_addressed ctx blocks c.args.at.pass c.args.at.lane c.args.at.column _ (sym c.requires.addresses ∙ c.in-Some.is) in
+    let w = word_addressed ctx blocks c.args.at.pass c.args.at.lane c.args.at.column _
+    (sym c.requires.addresses ∙ c.in-Some.is) in
     cc
 
 pub returns-in-None : goal.returns-in-None
