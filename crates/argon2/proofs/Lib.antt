@@ -9,8 +9,8 @@ mod KnownAnswers
 mod KnownTag
 mod LaneAfterLane
 mod LastColumn
-mod ListReading
 mod ListedLemmas
+mod ListReading
 mod PermittedPlaces
 mod ReadAgain
 mod ReadBytes

@@ -30,12 +30,7 @@ has_room m t p e =
     let c = not_refused (ltb 16777215 p) _ _ b.1 in
     let d = not_refused (ltb m (8 * p)) _ _ c.1 in
     let f = not_refused (ltb t 1) _ _ d.1 in
-    record {
-      lanes = ltb-false p 1 b.0;
-      lanes_below = let x = ltb-false 16777215 p c.0 in omega arith;
-      blocks = ltb-false m (8 * p) d.0;
-      passes = ltb-false t 1 f.0;
-    }
+    record { lanes = ltb-false p 1 b.0; lanes_below = let x = ltb-false 16777215 p c.0 in omega arith; blocks = ltb-false m (8 * p) d.0; passes = ltb-false t 1 f.0 }
 
 -- costs that are not refused have these sizes
 pub sizes : (ctx : Context) → ctx.m_cost < 2 ^ 32 → ctx.t_cost < 2 ^ 32 →
