@@ -29,7 +29,8 @@ answer_ok None None false d room n h = elim (cases_Bool (nat_lt room (length d))
 ]
 
 -- where there is no error and room for the bytes, nothing is refused
-answer_err : (x y : Option DecodeError) (small : Bool) (d b : List ℕ) (room : ℕ) (f : DecodeSliceError) → decode_outcome (or_else x y) d ≡ Ok b
+answer_err : (x y : Option DecodeError) (small : Bool) (d b : List ℕ) (room : ℕ) (f : DecodeSliceError)
+    → decode_outcome (or_else x y) d ≡ Ok b
     → length b ≤ room → small ≡ false → answer x small y d room ≡ Err f → ⊥
 answer_err (Some e) y small d b room f ok fits wide h = cc ok
 answer_err None y true d b room f ok fits wide h = cc wide
@@ -65,7 +66,8 @@ pub decoded_slice : (s : List ℕ) (room n : ℕ) → decode_slice_of standard_n
 decoded_slice s room n ok = answer_ok _ _ _ (decoded_bytes_of standard_no_pad s) room n ok
 
 -- no text of bytes is refused that is no longer than that of as many bytes as there is room for
-pub decode_slice_err : (s b : List ℕ) (room : ℕ) (f : DecodeSliceError) → IsBytes b → s ≡ strict_base64 b → length s ≤ base64_length room
+pub decode_slice_err : (s b : List ℕ) (room : ℕ) (f : DecodeSliceError) → IsBytes b → s ≡ strict_base64 b
+    → length s ≤ base64_length room
     → decode_slice_of standard_no_pad s room ≡ Err f → ⊥
 decode_slice_err s b room f bytes is short err =
     let ok : decode_of standard_no_pad s ≡ Ok b = rw is (decode_of-strict_base64 b bytes) in

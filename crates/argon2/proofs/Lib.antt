@@ -12,8 +12,8 @@ mod KnownInitialHash
 mod KnownTag
 mod LaneAfterLane
 mod LastColumn
-mod ListReading
 mod ListedLemmas
+mod ListReading
 mod PermittedPlaces
 mod ReadAgain
 mod ReadBytes

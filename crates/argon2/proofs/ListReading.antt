@@ -42,7 +42,8 @@ no_value None e = refl
 no_value (Some x) e = absurd cc
 
 -- the name of the first item stands in no other
-named_once : (p : Pair) (rest : List Pair) → are_distinct (p ∷ rest) ≡ true → (value_of p.0 rest ≡ None) × (are_distinct rest ≡ true)
+named_once : (p : Pair) (rest : List Pair) → are_distinct (p ∷ rest) ≡ true
+    → (value_of p.0 rest ≡ None) × (are_distinct rest ≡ true)
 named_once p rest names =
     let parts = both (is_none (value_of p.0 rest)) (are_distinct rest) names in
     (no_value (value_of p.0 rest) parts.0, parts.1)
@@ -127,6 +128,10 @@ pub params_read : (list : List Pair) (m t p : Option ℕ) (k d : List ℕ) (o : 
 params_read list m t p k d o r = rw (← r.fault, ← r.memory, ← r.passes, ← r.lanes, ← r.keyid, ← r.associated) refl
 
 -- where an item is refused
-pub item_refused : (list rest : List Pair) (m t p : Option ℕ) (k d : List ℕ) (o : Option ℕ) (item : Pair) (f : Fault) → item_fault item ≡ Some f
+pub item_refused : (list rest : List Pair) (m t p : Option ℕ) (k d : List ℕ) (o : Option ℕ) (item : Pair) (f : Fault)
+    → item_fault item ≡ Some f
     → Reading list (item ∷ rest) m t p k d → params_of o list ≡ Err f
 item_refused list rest m t p k d o item f is r = rw (← r.fault, is) refl
+
+-- for a loop over a list's items
+pub ruleset list_reading = (nothing_read, memory_read, passes_read, lanes_read, keyid_read, data_read, params_read, item_refused)

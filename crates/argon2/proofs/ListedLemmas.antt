@@ -18,17 +18,22 @@ use Rattle.argon2_base.proofs.ValueCharacters.{decimal_chars, base64_chars}
 abbrev pub cost_item : List ℕ → ℕ → Pair
 cost_item name n = (name, decimal n)
 
+-- so many characters of values are a value
 value_from : (s : List ℕ) → 1 ≤ length s → length s ≤ 64 → list_all is_value_char s ≡ true → is_value s ≡ true
 value_from s low high chars = rw (le-leb 1 (length s) low, le-leb (length s) 64 high, chars) refl
 
-pub short : (n : ℕ) → n < 2 ^ 32 → length (decimal n) ≤ 10
-short n h = length-decimal-le 10 n (omega arith) (omega arith) (omega arith)
+-- a cost has at most ten digits
+length-cost : (n : ℕ) → n < 2 ^ 32 → length (decimal n) ≤ 10
+length-cost n h = length-decimal-le 10 n (omega arith) (omega arith) (omega arith)
 
 decimal_value : (n : ℕ) → n < 2 ^ 32 → is_value (decimal n) ≡ true
-decimal_value n h = value_from (decimal n) (decimal_nonempty n (omega arith)) (omega (arith, short n h)) (decimal_chars n (omega arith))
+decimal_value n h =
+    value_from (decimal n) (decimal_nonempty n (omega arith)) (omega (arith, length-cost n h)) (decimal_chars n (omega arith))
 
 base64_value : (x : ℕ) (b : List ℕ) → IsBytes (x ∷ b) → length (x ∷ b) ≤ 32 → is_value (strict_base64 (x ∷ b)) ≡ true
-base64_value x b bytes h = value_from (strict_base64 (x ∷ b)) (omega (arith, length-strict_base64 (x ∷ b))) (omega (arith, length-strict_base64 (x ∷ b))) (base64_chars (x ∷ b) bytes)
+base64_value x b bytes h =
+    value_from (strict_base64 (x ∷ b)) (omega (arith, length-strict_base64 (x ∷ b)))
+    (omega (arith, length-strict_base64 (x ∷ b))) (base64_chars (x ∷ b) bytes)
 
 -- each item takes its own length, and at most one `,`
 text_length : (ps : List Pair) → length (params_text ps) ≤ sum_by (λ p. length (item p) + 1) ps
@@ -38,32 +43,56 @@ text_length (p ∷ q ∷ ps) =
     let rest = text_length (q ∷ ps) in
     rw sum_by-cons (omega (arith, rest, length-append (item p) (44 ∷ params_text (q ∷ ps))))
 
-good_from : (ps : List Pair) → list_all is_param ps ≡ true → are_distinct ps ≡ true → sum_by (λ p. length (item p) + 1) ps ≤ 127 → are_params ps ≡ true
+-- what the three conditions of the grammar are shown by
+good_from : (ps : List Pair) → list_all is_param ps ≡ true → are_distinct ps ≡ true
+    → sum_by (λ p. length (item p) + 1) ps ≤ 127 → are_params ps ≡ true
 good_from ps each names fits = rw (each, names, le-leb (length (params_text ps)) 127 (omega (arith, fits, text_length ps))) refl
 
-pub listed_good : (m t p : ℕ) (k d : List ℕ) → m < 2 ^ 32 → t < 2 ^ 32 → p < 2 ^ 32 → IsBytes k → IsBytes d → length k ≤ 8 → length d ≤ 32 → are_params (listed m t p k d) ≡ true
+-- what parameters are listed as
+pub listed_good : (m t p : ℕ) (k d : List ℕ) → m < 2 ^ 32 → t < 2 ^ 32 → p < 2 ^ 32 → IsBytes k → IsBytes d
+    → length k ≤ 8 → length d ≤ 32 → are_params (listed m t p k d) ≡ true
 listed_good m t p [] [] hm ht hp bk bd lk ld =
     good_from (listed m t p [] []) (rw (decimal_value m hm, decimal_value t ht, decimal_value p hp) refl) refl
-    (omega (arith, short m hm, short t ht, short p hp))
+    (omega (arith, length-cost m hm, length-cost t ht, length-cost p hp))
 listed_good m t p (x ∷ k) [] hm ht hp bk bd lk ld =
-    good_from (listed m t p (x ∷ k) []) (rw (decimal_value m hm, decimal_value t ht, decimal_value p hp, base64_value x k bk (omega (arith, lk))) refl) refl
-    (omega (arith, short m hm, short t ht, short p hp, length-strict_base64 (x ∷ k), lk))
+    good_from (listed m t p (x ∷ k) [])
+    (rw (decimal_value m hm, decimal_value t ht, decimal_value p hp, base64_value x k bk (omega (arith, lk))) refl) refl
+    (omega (arith, length-cost m hm, length-cost t ht, length-cost p hp, length-strict_base64 (x ∷ k), lk))
 listed_good m t p [] (y ∷ d) hm ht hp bk bd lk ld =
-    good_from (listed m t p [] (y ∷ d)) (rw (decimal_value m hm, decimal_value t ht, decimal_value p hp, base64_value y d bd ld) refl) refl
-    (omega (arith, short m hm, short t ht, short p hp, length-strict_base64 (y ∷ d), ld))
+    good_from (listed m t p [] (y ∷ d))
+    (rw (decimal_value m hm, decimal_value t ht, decimal_value p hp, base64_value y d bd ld) refl) refl
+    (omega (arith, length-cost m hm, length-cost t ht, length-cost p hp, length-strict_base64 (y ∷ d), ld))
 listed_good m t p (x ∷ k) (y ∷ d) hm ht hp bk bd lk ld =
-    good_from (listed m t p (x ∷ k) (y ∷ d)) (rw (decimal_value m hm, decimal_value t ht, decimal_value p hp, base64_value x k bk (omega (arith, lk)), base64_value y d bd ld) refl) refl
-    (omega (arith, short m hm, short t ht, short p hp, length-strict_base64 (x ∷ k), length-strict_base64 (y ∷ d), lk, ld))
+    good_from (listed m t p (x ∷ k) (y ∷ d))
+    (rw (
+      decimal_value m hm,
+      decimal_value t ht,
+      decimal_value p hp,
+      base64_value x k bk (omega (arith, lk)),
+      base64_value y d bd ld,
+    ) refl) refl
+    (omega (
+      arith,
+      length-cost m hm,
+      length-cost t ht,
+      length-cost p hp,
+      length-strict_base64 (x ∷ k),
+      length-strict_base64 (y ∷ d),
+      lk,
+      ld,
+    ))
 
 -- the list as it grows
 pub record Fronts (m t p : ℕ) (k d : List ℕ) : Type 0 where
   pub memory : are_params (cost_item (codes "m") m ∷ []) ≡ true
   pub passes : are_params (cost_item (codes "m") m ∷ cost_item (codes "t") t ∷ []) ≡ true
   pub lanes : are_params (cost_item (codes "m") m ∷ cost_item (codes "t") t ∷ cost_item (codes "p") p ∷ []) ≡ true
-  pub keyid : are_params (cost_item (codes "m") m ∷ cost_item (codes "t") t ∷ cost_item (codes "p") p ∷ bytes_item (codes "keyid") k) ≡ true
+  pub keyid : are_params
+      (cost_item (codes "m") m ∷ cost_item (codes "t") t ∷ cost_item (codes "p") p ∷ bytes_item (codes "keyid") k) ≡ true
   pub whole : are_params (listed m t p k d) ≡ true
 
-pub listed_fronts : (m t p : ℕ) (k d : List ℕ) → m < 2 ^ 32 → t < 2 ^ 32 → p < 2 ^ 32 → IsBytes k → IsBytes d → length k ≤ 8 → length d ≤ 32 → Fronts m t p k d
+pub listed_fronts : (m t p : ℕ) (k d : List ℕ) → m < 2 ^ 32 → t < 2 ^ 32 → p < 2 ^ 32 → IsBytes k → IsBytes d
+    → length k ≤ 8 → length d ≤ 32 → Fronts m t p k d
 listed_fronts m t p k d hm ht hp bk bd lk ld =
     let mt : List Pair = cost_item (codes "m") m ∷ cost_item (codes "t") t ∷ [] in
     let mtp : List Pair = cost_item (codes "m") m ∷ cost_item (codes "t") t ∷ cost_item (codes "p") p ∷ [] in
@@ -71,7 +100,8 @@ listed_fronts m t p k d hm ht hp bk bd lk ld =
     let rest : List Pair = bytes_item (codes "data") d in
     let whole : are_params (listed m t p k d) ≡ true = listed_good m t p k d hm ht hp bk bd lk ld in
     record {
-      memory = params_front (cost_item (codes "m") m ∷ []) (cost_item (codes "t") t ∷ cost_item (codes "p") p ∷ (keyid ++ rest)) whole;
+      memory = params_front (cost_item (codes "m") m ∷ [])
+          (cost_item (codes "t") t ∷ cost_item (codes "p") p ∷ (keyid ++ rest)) whole;
       passes = params_front mt (cost_item (codes "p") p ∷ (keyid ++ rest)) whole;
       lanes = params_front mtp (keyid ++ rest) whole;
       keyid = params_front (mtp ++ keyid) rest whole;

@@ -25,7 +25,8 @@ algorithm_named-name Argon2i = refl
 algorithm_named-name Argon2id = refl
 
 -- by a name that no variant has none is found
-pub algorithm_named-no : (name : List ℕ) → ((algorithm : Algorithm) → name ≢ algorithm_name algorithm) → algorithm_named name ≡ None
+pub algorithm_named-no : (name : List ℕ) → ((algorithm : Algorithm) → name ≢ algorithm_name algorithm)
+    → algorithm_named name ≡ None
 algorithm_named-no name other =
     let d = fails _ (bytes_eq-Decides name (algorithm_name Argon2d)) (other Argon2d) in
     let i = fails _ (bytes_eq-Decides name (algorithm_name Argon2i)) (other Argon2i) in
@@ -50,11 +51,13 @@ algorithm_named-answer name (Ok algorithm) is = rw is (algorithm_named-name algo
 algorithm_named-answer name (Err e) not = algorithm_named-no name not.1
 
 -- the same for a caller that asked for a text
-pub algorithm_named-text : (name : List ℕ) (r : Result Algorithm HashError) → IsNamedInText name r → algorithm_named name ≡ result_ok r
+pub algorithm_named-text : (name : List ℕ) (r : Result Algorithm HashError) → IsNamedInText name r
+    → algorithm_named name ≡ result_ok r
 algorithm_named-text name (Ok algorithm) is = rw is (algorithm_named-name algorithm)
 algorithm_named-text name (Err e) not = algorithm_named-no name not.1
 
 -- what a number is answered is what is found by it
-pub version_numbered-answer : (number : ℕ) (r : Result Version Error) → IsNumbered number r → version_numbered number ≡ result_ok r
+pub version_numbered-answer : (number : ℕ) (r : Result Version Error) → IsNumbered number r
+    → version_numbered number ≡ result_ok r
 version_numbered-answer number (Ok version) is = rw is (version_numbered-number version)
 version_numbered-answer number (Err e) not = version_numbered-no number not.1

@@ -18,7 +18,8 @@ bytes_again : (most : ℕ) (b : List ℕ) → IsBytes b → length b ≤ most �
 bytes_again most b bytes short = bytes_of_short most (strict_base64 b) b (decode_of-strict_base64 b bytes) short
 
 -- the parameters that were listed
-pub read_again : (m t p : ℕ) (k d : List ℕ) → m < 2 ^ 32 → t < 2 ^ 32 → p < 2 ^ 32 → IsBytes k → IsBytes d → length k ≤ 8 → length d ≤ 32
+pub read_again : (m t p : ℕ) (k d : List ℕ) → m < 2 ^ 32 → t < 2 ^ 32 → p < 2 ^ 32 → IsBytes k → IsBytes d
+    → length k ≤ 8 → length d ≤ 32
     → first_fault m t p None ≡ None → params_of None (listed m t p k d) ≡ Ok (unsized m t p k d)
 read_again m t p [] [] hm ht hp bk bd lk ld valid =
     rw (number_again (decimal m) m hm refl, number_again (decimal t) t ht refl, number_again (decimal p) p hp refl, valid) refl

@@ -13,7 +13,8 @@ use Rattle.argon2.specs.ListedParameters.{short_bytes}
 use Rattle.argon2.proofs.DecodedSlices.{decode_slice_fits, decoded_slice}
 
 -- what decodes to so few bytes
-pub bytes_of_short : (most : ℕ) (s b : List ℕ) → decode_of standard_no_pad s ≡ Ok b → length b ≤ most → short_bytes most s ≡ Some b
+pub bytes_of_short : (most : ℕ) (s b : List ℕ) → decode_of standard_no_pad s ≡ Ok b → length b ≤ most
+    → short_bytes most s ≡ Some b
 unfolding decoded_of
 bytes_of_short most s b is short = rw (is, le-leb (length b) most short) refl
 
@@ -32,7 +33,9 @@ bytes_of_long most s bytes long = none_by most s (decode_of standard_no_pad s) r
 pub bytes_of_refused : (most : ℕ) (s : List ℕ) (f : DecodeSliceError) → IsBytes s → length s ≤ base64_length most
     → decode_slice_of standard_no_pad s most ≡ Err f → short_bytes most s ≡ None
 bytes_of_refused most s f bytes short err = none_by most s (decode_of standard_no_pad s) refl
-    (λ b ok. absurd (decode_slice_fits s b most f ok (omega (arith, ap length (strict_base64_decoded s b bytes ok), length-strict_base64 b)) short err))
+    (λ b ok.
+    let fits : length b ≤ most = omega (arith, ap length (strict_base64_decoded s b bytes ok), length-strict_base64 b) in
+    absurd (decode_slice_fits s b most f ok fits short err))
 
 -- what was decoded into zeros
 pub bytes_of_slice : (most : ℕ) (s new : List ℕ) (n : ℕ) → decode_slice_of standard_no_pad s most ≡ Ok n

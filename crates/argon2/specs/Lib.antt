@@ -19,3 +19,16 @@ pub mod Steps
 pub mod Tag
 pub mod Version
 pub mod Watching
+pub use Rattle.argon2_base.specs.Base64
+pub use Rattle.argon2_base.specs.Blake2b
+pub use Rattle.argon2_base.specs.Block
+pub use Rattle.argon2_base.specs.Decimal
+pub use Rattle.argon2_base.specs.Error
+pub use Rattle.argon2_base.specs.Ident
+pub use Rattle.argon2_base.specs.LongHash
+pub use Rattle.argon2_base.specs.Mixing
+pub use Rattle.argon2_base.specs.Names
+pub use Rattle.argon2_base.specs.ParamsText
+pub use Rattle.argon2_base.specs.PasswordHash
+pub use Rattle.argon2_base.specs.PhcText
+pub use Rattle.argon2_base.specs.declared as base_declared

@@ -28,7 +28,7 @@ pub struct Params {
 }
 
 impl Params {
-    ghost use Rattle.std.specs.Prelude.{◌≡◌, ◌≤◌, length};
+    ghost use Rattle.std.specs.Prelude.{◌≡◌, ◌<◌, ◌≤◌, ◌^◌, length};
     ghost use Rattle.argon2.specs.Parameters.{AreValid, plain};
     ghost use Rattle.argon2.specs.Params.{IsParamsOf, parameters_of};
     ghost use Rattle.argon2.specs.Shape.{block_count, lane_length};
@@ -190,6 +190,7 @@ impl Params {
         ensures value { result
             ≡ block_count (parameters_of self.now).m_cost (parameters_of self.now).p_cost }
         ensures in_memory { result ≤ (parameters_of self.now).m_cost }
+        ensures small { result < 2 ^ 32 }
     {
         let segments = 4 * self.p_cost as usize;
         self.m_cost as usize / segments * segments

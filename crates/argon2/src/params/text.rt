@@ -131,7 +131,7 @@ impl Params {
     ghost use Rattle.argon2.specs.Params.{parameters_of};
 
     // The parameters of a list, with this output length.
-    #[tactic(auto, using(crate::proofs::ListReading::nothing_read, crate::proofs::ListReading::memory_read, crate::proofs::ListReading::passes_read, crate::proofs::ListReading::lanes_read, crate::proofs::ListReading::keyid_read, crate::proofs::ListReading::data_read, crate::proofs::ListReading::params_read, crate::proofs::ListReading::item_refused))]
+    #[tactic(auto, using(crate::proofs::ListReading::list_reading))]
     fn read(list: &ParamsString, output_len: Option<usize>) -> Result<Params>
         ensures { outcome_of parameters_of result ≡ params_of output_len list.now }
     {
