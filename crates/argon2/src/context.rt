@@ -189,8 +189,22 @@ impl<'key> Argon2<'key> {
         Ok(())
     }
 
+    // The algorithm.
+    pub(crate) fn algorithm(&self) -> Algorithm
+        ensures { result ≡ (settings_of self.now).algorithm }
+    {
+        self.algorithm
+    }
+
+    // The version.
+    pub(crate) fn version(&self) -> Version
+        ensures { result ≡ (settings_of self.now).version }
+    {
+        self.version
+    }
+
     // The secret's bytes.
-    fn secret(&self) -> &'key [u8]
+    pub(crate) fn secret(&self) -> &'key [u8]
         ensures value { result.now ≡ secret_of self.now }
         ensures short { length result.now ≤ MAX_SECRET_LEN }
     {
