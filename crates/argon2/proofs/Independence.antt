@@ -35,14 +35,14 @@ rest_is a b h = λ i. record { algorithm = h.algorithm i; version = a.version; m
 -- version, secret and data go into none of the parts
 addressed_rest : (a b : Context) (pass lane column : ℕ) →
     addressed (with_rest a b) pass lane column ≡ addressed b pass lane column
-unfolding with_rest addressed reference reference_lane permitted finished_segments segment_length address_word address_block
+unfolding with_rest addressed reference reference_lane permitted finished_segments address_word address_block
 addressed_rest a b zero lane column = refl
 addressed_rest a b (suc pass) lane column = refl
 
 -- which addressing is independent does not depend on them
 independent_rest : (a b : Context) (pass column : ℕ) →
     is_independent (with_rest a b) pass (column / segment_length (with_rest a b)) ≡ is_independent b pass (column / segment_length b)
-unfolding with_rest is_independent segment_length
+unfolding with_rest is_independent
 independent_rest a b pass column = refl
 
 -- where addressing is independent, alike contexts have alike reference places

@@ -4,7 +4,8 @@ use Rattle.std.proofs.Common.{◌≡◌, ℕ, ◌+◌, ◌-◌, ◌*◌, ◌/◌
 use Rattle.std.specs.List.{range_with_len}
 use Rattle.argon2_base.specs.Block.{zero_block, xor_blocks}
 use Rattle.argon2_base.specs.Mixing.{mixed, by_rows, by_columns, column, row, perm, mix_columns, mix_diagonals, gb, xor_rotate, add_mul}
-use Rattle.argon2.specs.Context.{Context, segment_length, lane_length, block_count}
+use Rattle.argon2.specs.Context.{Context, lane_length, block_count}
+use Rattle.argon2.specs.Shape.{segment_length}
 use Rattle.argon2.specs.Reference.{columns, finished_segments, without_last, permitted, reference_lane, reference_index, reference, place_of}
 use Rattle.argon2.specs.Counting.{independent_segments, mixing_calls}
 use Rattle.argon2.specs.Recurrence.{FirstColumns, is_independent, address_block, address_word, previous, reference_word, reference_of, made_block, rule, in_history, history}
