@@ -9,6 +9,7 @@ mod KnownAnswers
 mod KnownTag
 mod LaneAfterLane
 mod LastColumn
+mod LentMemory
 mod ListedLemmas
 mod PermittedPlaces
 mod ReadAgain
