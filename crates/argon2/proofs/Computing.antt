@@ -4,10 +4,10 @@ use Rattle.argon2_base.specs.Block.{xor_blocks, zero_block}
 use Rattle.argon2_base.specs.Blake2b.{hash_blocks, blake2b}
 use Rattle.argon2_base.specs.Compression.{mix, round, rounds, words, compress}
 use Rattle.argon2_base.specs.Mixing.{mixed, by_rows, by_columns, column, row, perm, mix_columns, mix_diagonals, gb, xor_rotate, add_mul}
-use Rattle.argon2.specs.Context.{segment_length}
 use Rattle.argon2.specs.InitialHash.{initial_hash}
 use Rattle.argon2.specs.Reference.{columns, finished_segments, without_last, permitted, reference_lane, reference_index, reference}
 use Rattle.argon2.specs.Recurrence.{is_independent, address_block, address_word, previous, reference_word, reference_of, made_block, rule, in_history, history, block_of, xor_lanes, last_block}
+use Rattle.argon2.specs.Shape.{segment_length}
 
 -- the mixing of two blocks
 unfoldable pub mixing : Unit {0}

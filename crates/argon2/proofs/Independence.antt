@@ -59,7 +59,7 @@ rest_is a b h =
 -- the place by the address word does not depend on version, secret and data
 addressed_place-rest : (a b : Context) (pass lane column : ℕ) →
     addressed_place (with_rest a b) pass lane column ≡ addressed_place b pass lane column
-unfolding with_rest addressed_place reference reference_lane permitted finished_segments segment_length address_word address_block
+unfolding with_rest addressed_place reference reference_lane permitted finished_segments address_word address_block
 addressed_place-rest a b zero lane column = refl
 addressed_place-rest a b (suc pass) lane column = refl
 
@@ -67,7 +67,7 @@ addressed_place-rest a b (suc pass) lane column = refl
 independent_rest : (a b : Context) (pass column : ℕ) →
     is_independent (with_rest a b) pass (column / segment_length (with_rest a b))
     ≡ is_independent b pass (column / segment_length b)
-unfolding with_rest is_independent segment_length
+unfolding with_rest is_independent
 independent_rest a b pass column = refl
 
 -- where addressing is independent, alike contexts have alike reference places

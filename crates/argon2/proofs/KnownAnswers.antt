@@ -5,7 +5,8 @@
 use Rattle.std.proofs.Common.{◌≡◌, ℕ, ◌+◌, ◌-◌, ◌*◌, ◌/◌, ◌%◌, ◌^◌, List, [], ◌∷◌, ◌++◌, fold, get_or, map, take, refl}
 use Rattle.std.specs.List.{range_with_len}
 use Rattle.argon2_base.specs.Block.{zero_block, xor_blocks}
-use Rattle.argon2.specs.Context.{Context, segment_length, lane_length, block_count}
+use Rattle.argon2.specs.Context.{Context, lane_length, block_count}
+use Rattle.argon2.specs.Shape.{segment_length}
 use Rattle.argon2.specs.Reference.{place_of}
 use Rattle.argon2.specs.Counting.{independent_segments, mixing_calls}
 use Rattle.argon2.specs.Recurrence.{FirstColumns, address_word, reference_of, in_history, history, xor_lanes}

@@ -12,6 +12,7 @@ mod KnownInitialHash
 mod KnownTag
 mod LaneAfterLane
 mod LastColumn
+mod LentMemory
 mod ListedLemmas
 mod ListReading
 mod PermittedPlaces

@@ -6,7 +6,8 @@ use Rattle.std.proofs.Math.Nat.{div-mul-le_self}
 use Rattle.argon2_base.specs.declared.error.Error.{Error}
 use Rattle.std.specs.Prelude.{IsNone}
 use Rattle.argon2.specs.Parameters.{first_fault}
-use Rattle.argon2.specs.Context.{Context, IsValid, segment_length, Sizes}
+use Rattle.argon2.specs.Context.{Context, IsValid, Sizes}
+use Rattle.argon2.specs.Shape.{segment_length}
 use Rattle.argon2.proofs.Sources.{Fits}
 
 -- a test that would refuse is false

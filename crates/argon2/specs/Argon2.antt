@@ -4,7 +4,7 @@ use Rattle.argon2.specs.declared.algorithm.Algorithm.{Algorithm}
 use Rattle.argon2.specs.declared.algorithm.Algorithm.TheVariants.{Argon2id}
 use Rattle.argon2.specs.declared.version.Version.{Version}
 use Rattle.argon2.specs.declared.version.Version.TheVariants.{V0x13}
-use Rattle.argon2.specs.declared.context.secret.Secret.{Secret}
+use Rattle.argon2.specs.declared.context.Secret.{Secret}
 use Rattle.argon2.specs.declared.context.Argon2.{Argon2}
 use Rattle.argon2.specs.Context.{Context, context_with}
 use Rattle.argon2.specs.Parameters.{Parameters, AreValid, first_fault}

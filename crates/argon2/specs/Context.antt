@@ -30,16 +30,16 @@ context_with settings secret = record {
 }
 
 -- the columns of a segment
-unfoldable pub segment_length : Context → ℕ
+abbrev pub segment_length : Context → ℕ
 segment_length ctx = shape.segment_length ctx.m_cost ctx.p_cost
 
 -- the columns of a lane
 abbrev pub lane_length : Context → ℕ
-lane_length ctx = 4 * segment_length ctx
+lane_length ctx = shape.lane_length ctx.m_cost ctx.p_cost
 
 -- the blocks of the memory, lane after lane
 abbrev pub block_count : Context → ℕ
-block_count ctx = ctx.p_cost * lane_length ctx
+block_count ctx = shape.block_count ctx.m_cost ctx.p_cost
 
 -- costs that are not refused, numbers that the algorithms and versions have, lengths that are taken
 pub record IsValid (ctx : Context) : Type 0 where

@@ -3,15 +3,22 @@ use Rattle.std.specs.Prelude.{◌≡◌, ℕ, ◌+◌, ◌*◌, ◌<◌, List, [
 use Rattle.argon2_base.specs.Block.{bytes_of}
 use Rattle.argon2_base.specs.LongHash.{long_hash}
 use Rattle.argon2_base.specs.Mixing.{mixed}
-use Rattle.argon2.specs.Context.{Context, IsValid, segment_length, lane_length, block_count}
+use Rattle.argon2.specs.Context.{Context, context_with, IsValid, segment_length, lane_length, block_count}
 use Rattle.argon2.specs.InitialHash.{first_block}
 use Rattle.argon2.specs.Recurrence.{FirstColumns, Blocks, rule, block_of, reference_places, matrix}
+use Rattle.argon2.specs.Settings.{Settings}
 use Rattle.argon2.specs.Steps.{Memory, IsSchedule, run, run_passes, last_column}
 use Rattle.argon2.specs.Tag.{tag_of}
 
 -- mixing does not mind the order of the two blocks
 abbrev pub MixingIsSymmetric : Type 0
 MixingIsSymmetric = (x y : List ℕ) → mixed x y ≡ mixed y x
+
+-- The key identifier enters no hash.
+abbrev pub KeyIdIsNotHashed : Type 0
+KeyIdIsNotHashed = (settings : Settings) (secret keyid : List ℕ) →
+    let parameters = record settings.parameters { keyid = keyid } in
+    context_with (record settings { parameters = parameters }) secret ≡ context_with settings secret
 
 -- ---- the recurrence
 

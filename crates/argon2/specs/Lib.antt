@@ -3,6 +3,7 @@ pub mod Argon2
 pub mod ByteLists
 pub mod Context
 pub mod Counting
+pub mod Hashing
 pub mod InitialHash
 pub mod Laws
 pub mod ListedParameters

@@ -8,15 +8,10 @@ abbrev pub first_of : {E : Type 0} → List (Bool × E) → Option E
 first_of [] = None
 first_of (row ∷ rows) = if row.0 then Some row.1 else first_of rows
 
--- the answer of a call that has this fault, or none
-abbrev pub answer_of : Option Error → Result (Unit {0}) Error
-answer_of None = Ok tt
-answer_of (Some fault) = Err fault
-
--- the same of a call that answers a value
-abbrev pub answer_with : {A : Type 0} → A → Option Error → Result A Error
-answer_with value None = Ok value
-answer_with value (Some fault) = Err fault
+-- this fault, or a value where there is none
+abbrev pub answer_unless : {A : Type 0} → Option Error → A → Result A Error
+answer_unless None value = Ok value
+answer_unless (Some fault) value = Err fault
 
 -- an output of so many bytes, where the parameters set the length n or none
 abbrev pub output_faults : Option ℕ → ℕ → List (Bool × Error)
@@ -40,13 +35,3 @@ memory_faults wanted lent = (nat_lt lent wanted, MemoryTooLittle) ∷ []
 -- why a hash is refused, memory aside
 abbrev pub length_refusal : Option ℕ → ℕ → ℕ → ℕ → Option Error
 length_refusal n output password salt = first_of (output_faults n output ++ input_faults password salt)
-
--- why a hash on lent memory is refused
-abbrev pub refusal_of : Option ℕ → ℕ → ℕ → ℕ → ℕ → ℕ → Option Error
-refusal_of n output password salt wanted lent =
-    first_of (output_faults n output ++ input_faults password salt ++ memory_faults wanted lent)
-
--- why the filling of lent memory is refused
-abbrev pub fill_refusal : ℕ → ℕ → ℕ → ℕ → Option Error
-fill_refusal password salt wanted lent =
-    first_of (input_faults password salt ++ memory_faults wanted lent)

@@ -2,7 +2,7 @@
 use Rattle.std.specs.Prelude.{ℕ, ◌*◌, ◌/◌}
 
 -- the columns of a lane that a slice has
-abbrev pub segment_length : ℕ → ℕ → ℕ
+unfoldable pub segment_length : ℕ → ℕ → ℕ
 segment_length m p = m / (4 * p)
 
 -- the columns of a lane, q

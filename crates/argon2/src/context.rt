@@ -1,12 +1,13 @@
-//! Hashing by Argon2 (RFC 9106, section 3), on memory that the caller lends.
+//! Hashing by Argon2 (RFC 9106, section 3), on memory that the caller lends or that is asked for.
 
-ghost use Rattle.std.specs.Prelude.{◌≡◌};
+ghost use Rattle.std.specs.Prelude.{◌≡◌, ◌≤◌, length};
 
 use crate::algorithm::Algorithm;
 use crate::params::Params;
 use crate::version::Version;
 use argon2_base::block::{Block, Work};
 use argon2_base::error::{Error, Result};
+use std::alloc::Allocator;
 use std::fmt;
 
 mod addresses;
@@ -14,18 +15,15 @@ mod fill;
 mod hash;
 mod inputs;
 mod instance;
-mod own_memory;
+mod lengths;
 mod reference;
-mod secret;
 mod segment;
 mod step;
 mod steps;
 mod tag;
-mod watched;
 
-use inputs::check_inputs;
 use instance::Instance;
-use secret::Secret;
+use lengths::check_inputs;
 
 /// The most bytes of a password.
 pub const MAX_PWD_LEN: usize = 4294967295;
@@ -42,6 +40,13 @@ pub const RECOMMENDED_SALT_LEN: usize = 16;
 /// The most bytes of a secret.
 pub const MAX_SECRET_LEN: usize = 4294967295;
 
+// A secret of at most 4294967295 bytes.
+#[derive(Clone, Copy)]
+struct Secret<'key> {
+    bytes: &'key [u8],
+    ghost short: { length bytes.now ≤ 4294967295 },
+}
+
 /// What passwords are hashed under: an algorithm, its version, parameters, and a secret if there
 /// is one.
 #[derive(Clone, Drop)]
@@ -53,13 +58,16 @@ pub struct Argon2<'key> {
 }
 
 impl<'key> Argon2<'key> {
-    ghost use Rattle.std.specs.Prelude.{◌≡◌, ◌↔◌, ◌≤◌, ℕ, List, [], IsOk, IfOk, IfErr, OnOk, OnErr, length, take, drop};
-    ghost use Rattle.argon2_base.specs.declared.error.Error.TheVariants.{SecretTooLong};
+    ghost use Rattle.std.specs.Prelude.{◌≡◌, ◌+◌, ◌<◌, ◌≤◌, ◌^◌, ◌↔◌, ◌⊎◌, [], Some, None, IsOk, IfOk, IfErr, OnOk, OnErr, MatchResult, length, replicate};
+    ghost use Rattle.argon2_base.specs.Block.{zero_block};
+    ghost use Rattle.argon2_base.specs.declared.error.Error.TheVariants.{OutOfMemory, SecretTooLong};
     ghost use Rattle.argon2.specs.Argon2.{context_of, own_parameters, secret_of, settings_of};
-    ghost use Rattle.argon2.specs.Context.{context_with, block_count, IsValid};
+    ghost use Rattle.argon2.specs.Context.{block_count, IsValid};
+    ghost use Rattle.argon2.specs.Counting.{mixing_calls};
+    ghost use Rattle.argon2.specs.Hashing.{fill_refusal, place_count, refusal_of, AreReferencesOf, IsFilled, IsHashed};
     ghost use Rattle.argon2.specs.Params.{parameters_of};
-    ghost use Rattle.argon2.specs.Refusals.{answer_of, refusal_of, fill_refusal};
-    ghost use Rattle.argon2.specs.Tag.{tag_of, matrix_of};
+    ghost use Rattle.argon2.specs.Refusals.{answer_unless, length_refusal};
+    ghost use Rattle.argon2.specs.Tag.{tag_of};
 
     /// Hashing with these parameters and no secret. The key identifier of the parameters changes no
     /// tag; their associated data is hashed.
@@ -67,10 +75,6 @@ impl<'key> Argon2<'key> {
         ensures settings { settings_of result
             ≡ record { algorithm = algorithm; version = version; parameters = parameters_of params } }
         ensures no_secret { secret_of result ≡ [] }
-
-        ensures keyid { (keyid : List ℕ) → let parameters = record (parameters_of params) { keyid = keyid } in
-            context_of result ≡ context_with
-            (record { algorithm = algorithm; version = version; parameters = parameters }) [] }
     {
         Argon2 {
             algorithm,
@@ -138,21 +142,88 @@ impl<'key> Argon2<'key> {
         out: &mut [u8],
         memory: &mut [Block],
     ) -> Result<()>
-        ensures answer { result ≡ answer_of (refusal_of (own_parameters self.now).output_len
-            (length out.old) (length pwd.now) (length salt.now)
-            (block_count (context_of self.now)) (length memory.old)) }
+        ensures answer { result
+            ≡ answer_unless (refusal_of self.now (length out.old) pwd.now salt.now memory.old) tt }
 
-        ensures tag { OnOk result (out.new
-            ≡ tag_of (context_of self.now) pwd.now salt.now (length out.old)) }
-        ensures matrix { OnOk result (take (block_count (context_of self.now)) memory.new
-            ≡ matrix_of (context_of self.now) pwd.now salt.now (length out.old)) }
-        ensures rest { drop (block_count (context_of self.now)) memory.new
-            ≡ drop (block_count (context_of self.now)) memory.old }
+        ensures valid { OnOk result (IsValid (context_of self.now)) }
+        ensures hashed { OnOk result
+            (IsHashed (context_of self.now) pwd.now salt.now out.new memory.old memory.new) }
 
         ensures same_output { OnErr result (out.new ≡ out.old) }
         ensures same_memory { OnErr result (memory.new ≡ memory.old) }
     {
         self.hash(pwd, salt, out, memory, &mut [], &mut Work::new())
+    }
+
+    /// Writes the tag of a password and a salt into `out`, on memory of its own: one request to
+    /// `alloc` for [`block_count`](Params::block_count) blocks of 1024 bytes, which are given back
+    /// before the call returns.
+    ///
+    /// The lengths of `out`, the password and the salt are as for
+    /// [`hash_password_into_with_memory`](Argon2::hash_password_into_with_memory).
+    ///
+    /// # Errors
+    /// [`Error::OutOfMemory`] where the request was refused, else those of
+    /// [`hash_password_into_with_memory`](Argon2::hash_password_into_with_memory) but
+    /// [`Error::MemoryTooLittle`], in their order. `out` is then as before.
+    pub fn hash_password_into<A: Allocator>(
+        &self,
+        alloc: A,
+        pwd: &[u8],
+        salt: &[u8],
+        out: &mut [u8],
+    ) -> Result<()>
+        ensures answer { let refusal = length_refusal (own_parameters self.now).output_len
+            (length out.old) (length pwd.now) (length salt.now) in
+            MatchResult result (λ _. refusal ≡ None) (λ e. (e ≡ OutOfMemory) ⊎ (refusal ≡ Some e)) }
+
+        ensures tag { OnOk result (out.new
+            ≡ tag_of (context_of self.now) pwd.now salt.now (length out.old)) }
+        ensures same { OnErr result (out.new ≡ out.old) }
+    {
+        let mut memory = self.zeroed_blocks(alloc)?;
+        self.hash_password_into_with_memory(pwd, salt, out, memory.as_mut_slice())
+    }
+
+    /// Writes the tag as [`hash_password_into_with_memory`](Argon2::hash_password_into_with_memory)
+    /// does, and into `positions` which block each block refers to. Answers how often two blocks
+    /// were mixed: once for each block but those of columns 0 and 1 of pass 0, and twice for each
+    /// address block (RFC 9106, section 3.4.1.2), of which one serves 128 columns of a segment.
+    ///
+    /// `positions` has as many places as passes times blocks. Where a lane has q columns, the block
+    /// of a lane and a column stands at place lane * q + column of the memory, and the place of its
+    /// reference is put down at that index after one whole memory for each pass before. What stands
+    /// for columns 0 and 1 of pass 0 stays.
+    ///
+    /// # Errors
+    /// Those of [`hash_password_into_with_memory`](Argon2::hash_password_into_with_memory) in their
+    /// order; output, memory and positions are then as before.
+    pub fn hash_password_into_watched(
+        &self,
+        pwd: &[u8],
+        salt: &[u8],
+        out: &mut [u8],
+        memory: &mut [Block],
+        positions: &mut [u32],
+    ) -> Result<Work>
+        requires { length positions.old ≡ place_count (context_of self.now) }
+        ensures answer { result
+            ≡ answer_unless (refusal_of self.now (length out.old) pwd.now salt.now memory.old)
+            (mixing_calls (context_of self.now)) }
+
+        ensures valid { OnOk result (IsValid (context_of self.now)) }
+        ensures hashed { OnOk result
+            (IsHashed (context_of self.now) pwd.now salt.now out.new memory.old memory.new) }
+        ensures positions { OnOk result (AreReferencesOf (context_of self.now) pwd.now salt.now
+            (length out.old) positions.old positions.new) }
+
+        ensures same_output { OnErr result (out.new ≡ out.old) }
+        ensures same_memory { OnErr result (memory.new ≡ memory.old) }
+        ensures same_positions { OnErr result (positions.new ≡ positions.old) }
+    {
+        let mut work = Work::new();
+        self.hash(pwd, salt, out, memory, positions, &mut work)?;
+        Ok(work)
     }
 
     /// Fills the first [`block_count`](Params::block_count) blocks of `memory` as a hash of a
@@ -165,32 +236,84 @@ impl<'key> Argon2<'key> {
     /// - [`Error::SaltTooLong`]: the salt is longer than 4294967295 bytes.
     /// - [`Error::MemoryTooLittle`]: `memory` has fewer blocks than are filled.
     pub fn fill_memory(&self, pwd: &[u8], salt: &[u8], memory: &mut [Block]) -> Result<()>
-        ensures answer { result ≡ answer_of (fill_refusal (length pwd.now) (length salt.now)
-            (block_count (context_of self.now)) (length memory.old)) }
+        ensures answer { result
+            ≡ answer_unless (fill_refusal self.now pwd.now salt.now memory.old) tt }
 
-        ensures matrix { OnOk result (take (block_count (context_of self.now)) memory.new
-            ≡ matrix_of (context_of self.now) pwd.now salt.now 0) }
-        ensures rest { drop (block_count (context_of self.now)) memory.new
-            ≡ drop (block_count (context_of self.now)) memory.old }
-
+        ensures filled { OnOk result
+            (IsFilled (context_of self.now) pwd.now salt.now 0 memory.old memory.new) }
         ensures same { OnErr result (memory.new ≡ memory.old) }
     {
         check_inputs(pwd, salt)?;
-        self.check_memory(memory.len())?;
-        let count = self.instance().block_count();
-        self.fill_blocks(
-            pwd,
-            salt,
-            0,
-            &mut memory[..count],
-            &mut [],
-            &mut Work::new(),
-        );
+        self.check_memory(memory)?;
+        let instance = self.instance();
+        let matrix = &mut memory[..instance.block_count()];
+        instance.fill_blocks(pwd, salt, 0, matrix, &mut [], &mut Work::new());
         Ok(())
     }
 
+    // Writes the tag into `out` and counts each mixing. `positions` has a place for each block of
+    // each pass, where the place of the block's reference is put down; or it is empty.
+    fn hash(
+        &self,
+        pwd: &[u8],
+        salt: &[u8],
+        out: &mut [u8],
+        memory: &mut [Block],
+        positions: &mut [u32],
+        work: &mut Work,
+    ) -> Result<()>
+        requires count { work.old < 2 ^ 126 }
+        ensures answer { result
+            ≡ answer_unless (refusal_of self.now (length out.old) pwd.now salt.now memory.old) tt }
+
+        ensures valid { OnOk result (IsValid (context_of self.now)) }
+        ensures hashed { OnOk result
+            (IsHashed (context_of self.now) pwd.now salt.now out.new memory.old memory.new) }
+        ensures positions { OnOk result (length positions.old ≡ place_count (context_of self.now)
+            → AreReferencesOf (context_of self.now) pwd.now salt.now
+            (length out.old) positions.old positions.new) }
+        ensures work { OnOk result (work.new ≡ work.old + mixing_calls (context_of self.now)) }
+
+        ensures same_output { OnErr result (out.new ≡ out.old) }
+        ensures same_memory { OnErr result (memory.new ≡ memory.old) }
+        ensures same_positions { OnErr result (positions.new ≡ positions.old) }
+    {
+        self.check(out.len(), pwd, salt, memory)?;
+        let instance = self.instance();
+        let blocks = &mut memory[..instance.block_count()];
+        instance.fill_blocks(pwd, salt, out.len() as u32, blocks, positions, work);
+        instance.write_tag(blocks, out);
+        Ok(())
+    }
+
+    // As many blocks as a hash fills, each of zeros, by one request.
+    fn zeroed_blocks<A: Allocator>(&self, alloc: A) -> Result<Vec<Block, A>>
+        ensures zeroed { IfOk result (λ blocks. blocks.items
+            ≡ replicate (block_count (context_of self.now)) zero_block) }
+        ensures refused { IfErr result (λ e. e ≡ OutOfMemory) }
+    {
+        let Ok(blocks) = vec![in alloc; Block::new(); self.params.block_count()] else {
+            return Err(Error::OutOfMemory);
+        };
+        Ok(blocks)
+    }
+
+    // The algorithm.
+    pub(crate) fn algorithm(&self) -> Algorithm
+        ensures { result ≡ (settings_of self.now).algorithm }
+    {
+        self.algorithm
+    }
+
+    // The version.
+    pub(crate) fn version(&self) -> Version
+        ensures { result ≡ (settings_of self.now).version }
+    {
+        self.version
+    }
+
     // The secret's bytes.
-    fn secret(&self) -> &'key [u8]
+    pub(crate) fn secret(&self) -> &'key [u8]
         ensures value { result.now ≡ secret_of self.now }
         ensures short { length result.now ≤ MAX_SECRET_LEN }
     {

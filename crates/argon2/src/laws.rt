@@ -1,10 +1,15 @@
 //! Laws of Argon2: each is the contract of a function without parameters, and calling it does nothing.
 
-ghost use Rattle.argon2.specs.Laws.{MixingIsSymmetric, BlocksFollowRule, NoOthersDo, SchedulesAgree, SchedulesFill, SchedulesGiveTag, Argon2iIsIndependent, Argon2idIsIndependentAtFirst};
+ghost use Rattle.argon2.specs.Laws.{KeyIdIsNotHashed, MixingIsSymmetric, BlocksFollowRule, NoOthersDo, SchedulesAgree, SchedulesFill, SchedulesGiveTag, Argon2iIsIndependent, Argon2idIsIndependentAtFirst};
 
 /// The mixing of two blocks (RFC 9106, section 3.5) is the same in either order.
 pub fn mixing_symmetric()
     ensures { MixingIsSymmetric }
+{}
+
+/// The key identifier of the parameters changes no hash.
+pub fn key_identifier()
+    ensures { KeyIdIsNotHashed }
 {}
 
 /// The blocks are made of each other as RFC 9106, section 3 says, and no other blocks are.

@@ -186,6 +186,7 @@ impl Params {
 
     /// The number of blocks that a hash fills: the greatest multiple of 4 times the number of lanes
     /// that is at most the memory cost (RFC 9106, section 3.2).
+    #[tactic(auto, unfolding(crate::specs::Shape::segment_length))]
     pub fn block_count(&self) -> usize
         ensures value { result
             ≡ block_count (parameters_of self.now).m_cost (parameters_of self.now).p_cost }
@@ -197,6 +198,7 @@ impl Params {
     }
 
     /// The number of columns of a lane: four segments (RFC 9106, section 3.2, where it is `q`).
+    #[tactic(auto, unfolding(crate::specs::Shape::segment_length))]
     pub fn lane_length(&self) -> u32
         ensures { result
             ≡ lane_length (parameters_of self.now).m_cost (parameters_of self.now).p_cost }

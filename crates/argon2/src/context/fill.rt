@@ -3,7 +3,7 @@
 ghost use Rattle.std.specs.Prelude.{◌≡◌, ◌+◌, ◌*◌, ◌^◌, ◌<◌, ◌≤◌, length};
 ghost use Rattle.argon2.specs.Context.{block_count};
 ghost use Rattle.argon2.specs.Recurrence.{FirstColumns, matrix};
-ghost use Rattle.argon2.specs.Steps.{run, run_slices, lanes_in_order, last_column};
+ghost use Rattle.argon2.specs.Steps.{run, run_slices, lanes_in_order};
 ghost use Rattle.argon2.specs.Watching.{positions_of_run, positions_of_slices, AreReferencePlaces};
 ghost use Rattle.argon2.specs.Counting.{segment_calls, slices_calls, mixing_calls};
 ghost use Rattle.argon2.specs.Laws.{Begins};
@@ -65,19 +65,5 @@ impl<'a> Instance<'a> {
         for lane in 0..self.lanes() {
             self.fill_segment(memory, positions, pass, slice, lane, work);
         }
-    }
-
-    /// The exclusive or of the last column's blocks, whatever the memory holds.
-    pub(crate) fn last_column(&self, memory: &[Block]) -> Block
-        requires { block_count self.now ≤ length memory.now }
-        ensures { result ≡ last_column self.now memory.now }
-    {
-        let length = self.lane_length();
-        let mut all = Block::new();
-        for lane in 0..self.lanes() {
-            let place = lane * length + (length - 1);
-            all ^= &memory[place as usize];
-        }
-        all
     }
 }

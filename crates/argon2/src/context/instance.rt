@@ -1,6 +1,6 @@
 //! What a hash depends on beside the password and the salt.
 
-ghost use Rattle.std.specs.Prelude.{◌≡◌, ◌≤◌, ◌&&◌, ◌==◌, length, nat_lt};
+ghost use Rattle.std.specs.Prelude.{◌≡◌, ◌^◌, ◌<◌, ◌≤◌, ◌&&◌, ◌==◌, length, nat_lt};
 ghost use Rattle.argon2.specs.Algorithm.{algorithm_number};
 ghost use Rattle.argon2.specs.Context.{context_with, segment_length, lane_length, block_count, Sizes};
 ghost use Rattle.argon2.specs.Params.{parameters_of};
@@ -12,17 +12,17 @@ use std::marker::Model;
 #[derive(Drop)]
 pub(crate) struct Instance<'a> {
     algorithm: Algorithm,
-    version: Version,
-    m_cost: u32,
+    pub(super) version: Version,
+    pub(super) m_cost: u32,
     t_cost: u32,
     p_cost: u32,
     segment_length: u32,
-    secret: &'a [u8],
-    associated: &'a [u8],
+    pub(super) secret: &'a [u8],
+    pub(super) associated: &'a [u8],
 }
 
 impl<'a> Model for Instance<'a> {
-    ghost use Rattle.std.specs.Prelude.{◌≡◌, ◌≤◌, ◌*◌, ◌/◌, length, None, IsNone};
+    ghost use Rattle.std.specs.Prelude.{◌≡◌, ◌<◌, ◌≤◌, ◌*◌, ◌/◌, ◌^◌, length, None, IsNone};
     ghost use Rattle.argon2.specs.Algorithm.{algorithm_number};
     ghost use Rattle.argon2.specs.Version.{version_number};
     ghost use Rattle.argon2.specs.Parameters.{first_fault};
@@ -41,7 +41,8 @@ impl<'a> Model for Instance<'a> {
     } };
 
     ghost invariant = { λ a. IsNone (first_fault a.m_cost a.t_cost a.p_cost None)
-        × (a.segment_length ≡ a.m_cost / (4 * a.p_cost)) };
+        × (a.segment_length ≡ a.m_cost / (4 * a.p_cost))
+        × (length a.secret.now < 2 ^ 32) × (length a.associated.now ≤ 32) };
 }
 
 impl<'a> Instance<'a> {
@@ -52,6 +53,7 @@ impl<'a> Instance<'a> {
         params: &'a Params,
         secret: &'a [u8],
     ) -> Instance<'a>
+        requires { length secret.now < 2 ^ 32 }
         ensures { let parameters = parameters_of params.now in result ≡ context_with
             (record { algorithm = algorithm; version = version; parameters = parameters }) secret.now }
     {

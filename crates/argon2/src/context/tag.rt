@@ -21,4 +21,18 @@ impl Instance<'_> {
         let last = self.last_column(memory);
         blake2b_long(&[&last.to_bytes()], out).unwrap();
     }
+
+    /// The exclusive or of the last column's blocks, whatever the memory holds.
+    fn last_column(&self, memory: &[Block]) -> Block
+        requires { block_count self.now ≤ length memory.now }
+        ensures { result ≡ last_column self.now memory.now }
+    {
+        let length = self.lane_length();
+        let mut all = Block::new();
+        for lane in 0..self.lanes() {
+            let place = lane * length + (length - 1);
+            all ^= &memory[place as usize];
+        }
+        all
+    }
 }

@@ -6,6 +6,7 @@ use std::test::Fail;
 
 mod counted;
 mod further_tags;
+mod lending;
 mod own_memory;
 mod steps;
 mod watched;

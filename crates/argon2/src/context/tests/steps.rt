@@ -5,7 +5,6 @@ use crate::{Algorithm, Argon2, Block, Error, Version};
 use std::test::Fail;
 
 // A step, where its conditions hold.
-#[tactic(auto, unfolding(crate::specs::Context::segment_length))]
 fn step(
     argon2: &Argon2<'_>,
     memory: &mut [Block],
@@ -14,8 +13,9 @@ fn step(
     column: u32,
 ) -> Result<(), Fail> {
     let params = argon2.params();
-    let columns = 4 * (params.m_cost() / (4 * params.p_cost()));
-    let in_range = pass < params.t_cost() && lane < params.p_cost() && column < columns;
+    let in_range = pass < params.t_cost()
+        && lane < params.p_cost()
+        && column < params.lane_length();
     if in_range && (pass > 0 || column >= 2) && params.block_count() <= memory.len() {
         argon2.step_block(memory, pass, lane, column);
         return Ok(());
@@ -24,7 +24,6 @@ fn step(
 }
 
 // The end of a filling, where its conditions hold.
-#[tactic(auto, unfolding(crate::specs::Context::segment_length))]
 fn finish(argon2: &Argon2<'_>, memory: &[Block]) -> Result<[u8; 32], Fail> {
     let params = argon2.params();
     if params.output_len().is_some() || memory.len() < params.block_count() {

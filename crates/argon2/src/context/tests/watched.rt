@@ -10,7 +10,6 @@ use crate::{Algorithm, Argon2, Block, Error, ParamsBuilder, Version};
 use std::test::Fail;
 
 // How many places there are for the references of all steps.
-#[tactic(auto, unfolding(crate::specs::Context::segment_length))]
 fn place_count(argon2: &Argon2<'_>) -> Result<usize, Fail>
     ensures { IfOk result (λ n. n ≡ (context_of argon2.now).t_cost * block_count (context_of argon2.now)) }
 {

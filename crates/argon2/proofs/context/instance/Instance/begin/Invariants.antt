@@ -1,11 +1,11 @@
-use Rattle.std.proofs.Common.{◌≡◌, ℕ, ◌+◌, ◌*◌, ◌<◌, ◌≤◌, [], get_or}
+use Rattle.std.proofs.Common.{◌≡◌, ℕ, ◌+◌, ◌*◌, ◌<◌, [], get_or}
 use Rattle.argon2.specs.Context.{lane_length}
+use Rattle.argon2.specs.Hashing.{KeepsOtherColumns}
 use Rattle.argon2.specs.InitialHash.{block_after}
 use Rattle.argon2.proofs.context.instance.Instance.begin.Given as goal
 
 abbrev pub invariant-loop-lane : goal.invariant-loop-lane
 invariant-loop-lane l = record {
-  begun : (k c : ℕ) → k < l.lane → c < 2 → get_or l.memory (k * lane_length l.self + c) [] ≡ block_after l.hash k c;
-  others : (k c : ℕ) → k < l.self.p_cost → 2 ≤ c → c < lane_length l.self → get_or l.memory (k * lane_length l.self + c) []
-      ≡ get_or l.fn.memory (k * lane_length l.self + c) [];
+  begun : (k c : ℕ) → k < l.lane → c < 2 → get_or l.blocks (k * lane_length l.self + c) [] ≡ block_after l.hash k c;
+  others : KeepsOtherColumns l.self l.fn.blocks l.blocks;
 }

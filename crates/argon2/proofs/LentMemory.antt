@@ -1,0 +1,64 @@
+-- Lent memory after its first blocks were written.
+use Rattle.std.proofs.Common.{◌≡◌, ℕ, ◌+◌, ◌*◌, ◌++◌, List, [], length, take, drop, sym, ap, subst, ◌∙◌, arith}
+use Rattle.std.proofs.lemmas.List.{get_or_append_left, get_or-take}
+use Rattle.std.proofs.lemmas.List.FromFn.{length-map-range_with_len}
+use Rattle.std.proofs.lemmas.Nat.{mul-add-lt}
+use Rattle.std.proofs.lemmas.Slice.{drop-append-drop}
+use Rattle.std.proofs.Math.Seq.{take-append_seam}
+use Rattle.argon2.specs.Context.{Context, lane_length, block_count}
+use Rattle.argon2.specs.Hashing.{blocks_of, KeepsOtherColumns, KeepsRest, IsBegun, IsFilled, IsHashed}
+use Rattle.argon2.specs.InitialHash.{first_block}
+use Rattle.argon2.specs.Laws.{Begins}
+use Rattle.argon2.specs.Recurrence.{matrix}
+use Rattle.argon2.specs.Steps.{Memory}
+use Rattle.argon2.specs.Tag.{matrix_of, tag_of}
+
+-- the matrix has as many blocks as are filled
+length-matrix_of : (ctx : Context) (password salt : List ℕ) (n : ℕ) → length (matrix_of ctx password salt n) ≡ block_count ctx
+unfolding matrix_of matrix
+length-matrix_of ctx password salt n = length-map-range_with_len _ 0 (block_count ctx)
+
+module _ (ctx : Context) (count : ℕ) (all : count ≡ block_count ctx) (old blocks : Memory) where
+  -- they are the first blocks
+  front : length blocks ≡ block_count ctx → blocks_of ctx (blocks ++ drop count old) ≡ blocks
+  front size = ap (λ n. take n (blocks ++ drop count old)) (sym size) ∙ take-append_seam blocks (drop count old)
+
+  -- those behind them stay
+  rest : length blocks ≡ block_count ctx → KeepsRest ctx old (blocks ++ drop count old)
+  rest size = drop-append-drop count old blocks (block_count ctx) (omega (arith, all)) (size ∙ sym all)
+
+  -- so do all columns but the first two
+  others : length blocks ≡ block_count ctx → KeepsOtherColumns ctx (take count old) blocks →
+      KeepsOtherColumns ctx old (blocks ++ drop count old)
+  others size same lane column l low high =
+      let place = lane * lane_length ctx + column in
+      let below = mul-add-lt lane (lane_length ctx) column ctx.p_cost l high in
+      get_or_append_left blocks (drop count old) [] place (omega (arith, below, size))
+      ∙ same lane column l low high ∙ get_or-take count old place [] (omega (arith, below, all))
+
+  -- the beginning of a fill
+  pub is_begun : (password salt : List ℕ) (n : ℕ) → Begins ctx (first_block ctx password salt n) blocks →
+      KeepsOtherColumns ctx (take count old) blocks → IsBegun ctx password salt n old (blocks ++ drop count old)
+  is_begun password salt n begins same = record {
+    begins = subst (Begins ctx (first_block ctx password salt n)) (sym (front begins.size)) begins;
+    others = others begins.size same;
+    rest = rest begins.size;
+  }
+
+  -- its end
+  pub is_filled : (password salt : List ℕ) (n : ℕ) → blocks ≡ matrix_of ctx password salt n →
+      IsFilled ctx password salt n old (blocks ++ drop count old)
+  is_filled password salt n filled =
+      let size : length blocks ≡ block_count ctx = ap length filled ∙ length-matrix_of ctx password salt n in
+      record { matrix = front size ∙ filled; rest = rest size }
+
+  -- a whole hash
+  pub is_hashed : (password salt output : List ℕ) (n : ℕ) → length output ≡ n → output ≡ tag_of ctx password salt n →
+      blocks ≡ matrix_of ctx password salt n → IsHashed ctx password salt output old (blocks ++ drop count old)
+  is_hashed password salt output n size tag filled =
+      let left = is_filled password salt n filled in
+      record {
+        tag = tag ∙ ap (tag_of ctx password salt) (sym size);
+        matrix = left.matrix ∙ ap (matrix_of ctx password salt) (sym size);
+        rest = left.rest;
+      }

@@ -1,0 +1,81 @@
+-- Hashing by an `Argon2`: when a call is refused, and what it leaves.
+use Rattle.std.specs.Prelude.{◌≡◌, ℕ, ◌+◌, ◌*◌, ◌<◌, ◌≤◌, List, [], ◌++◌, Option, length, take, drop, slice_index_or}
+use Rattle.argon2_base.specs.declared.error.Error.{Error}
+use Rattle.argon2.specs.declared.context.Argon2.{Argon2}
+use Rattle.argon2.specs.Argon2.{context_of, own_parameters}
+use Rattle.argon2.specs.Context.{Context, lane_length, block_count}
+use Rattle.argon2.specs.InitialHash.{first_block}
+use Rattle.argon2.specs.Laws.{Begins}
+use Rattle.argon2.specs.Refusals.{first_of, output_faults, input_faults, memory_faults}
+use Rattle.argon2.specs.Steps.{Memory}
+use Rattle.argon2.specs.Tag.{tag_of, matrix_of}
+use Rattle.argon2.specs.Watching.{AreReferencePlaces}
+
+-- ---- refusals
+
+-- why an output of n bytes is refused
+abbrev pub output_refusal : Argon2 → ℕ → Option Error
+output_refusal argon2 n = first_of (output_faults (own_parameters argon2).output_len n)
+
+-- why an output of n bytes, a password, a salt or lent memory is refused
+abbrev pub refusal_of : Argon2 → ℕ → List ℕ → List ℕ → Memory → Option Error
+refusal_of argon2 n password salt memory = first_of (
+    output_faults (own_parameters argon2).output_len n
+    ++ input_faults (length password) (length salt)
+    ++ memory_faults (block_count (context_of argon2)) (length memory))
+
+-- the same where nothing is put out
+abbrev pub fill_refusal : Argon2 → List ℕ → List ℕ → Memory → Option Error
+fill_refusal argon2 password salt memory = first_of (
+    input_faults (length password) (length salt)
+    ++ memory_faults (block_count (context_of argon2)) (length memory))
+
+-- ---- lent memory
+
+-- the blocks that are filled: the first of the memory, lane after lane
+abbrev pub blocks_of : Context → Memory → Memory
+blocks_of ctx memory = take (block_count ctx) memory
+
+-- The blocks behind them stay.
+abbrev pub KeepsRest : Context → Memory → Memory → Type 0
+KeepsRest ctx old new = drop (block_count ctx) new ≡ drop (block_count ctx) old
+
+-- The blocks of columns 2 and above stay.
+abbrev pub KeepsOtherColumns : Context → Memory → Memory → Type 0
+KeepsOtherColumns ctx old new =
+    (lane column : ℕ) → lane < ctx.p_cost → 2 ≤ column → column < lane_length ctx →
+    slice_index_or new (lane * lane_length ctx + column) []
+    ≡ slice_index_or old (lane * lane_length ctx + column) []
+
+-- ---- what a call leaves
+
+-- the beginning for a tag of n bytes: columns 0 and 1 of each lane, and all other blocks as before
+pub record IsBegun (ctx : Context) (password salt : List ℕ) (n : ℕ) (old new : Memory) : Type 0
+  where
+    pub begins : Begins ctx (first_block ctx password salt n) (blocks_of ctx new)
+    pub others : KeepsOtherColumns ctx old new
+    pub rest : KeepsRest ctx old new
+
+-- the matrix for a tag of n bytes, and the rest as before
+pub record IsFilled (ctx : Context) (password salt : List ℕ) (n : ℕ) (old new : Memory) : Type 0
+  where
+    pub matrix : blocks_of ctx new ≡ matrix_of ctx password salt n
+    pub rest : KeepsRest ctx old new
+
+-- an output that is the tag, the matrix that it was made of, and the rest as before
+pub record IsHashed (ctx : Context) (password salt output : List ℕ) (old new : Memory) : Type 0
+  where
+    pub tag : output ≡ tag_of ctx password salt (length output)
+    pub matrix : blocks_of ctx new ≡ matrix_of ctx password salt (length output)
+    pub rest : KeepsRest ctx old new
+
+-- ---- watching
+
+-- how many places there are for references: one for each pass and block
+abbrev pub place_count : Context → ℕ
+place_count ctx = ctx.t_cost * block_count ctx
+
+-- each block's reference in a hash for a tag of n bytes
+abbrev pub AreReferencesOf : Context → List ℕ → List ℕ → ℕ → List ℕ → List ℕ → Type 0
+AreReferencesOf ctx password salt n old new =
+    AreReferencePlaces ctx (first_block ctx password salt n) old new
