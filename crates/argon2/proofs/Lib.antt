@@ -19,4 +19,5 @@ mod Validity
 mod Watched
 pub mod FirstColumns
 pub mod InitialHashing
+pub mod Named
 pub mod TagOfMatrix

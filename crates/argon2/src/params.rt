@@ -31,7 +31,7 @@ impl Params {
     ghost use Rattle.std.specs.Prelude.{◌≡◌, ◌≤◌, length};
     ghost use Rattle.argon2.specs.Parameters.{IsValid, plain};
     ghost use Rattle.argon2.specs.Params.{IsParamsOf, parameters_of};
-    ghost use Rattle.argon2.specs.Shape.{block_count};
+    ghost use Rattle.argon2.specs.Shape.{block_count, lane_length};
 
     /// The memory cost by default.
     pub const DEFAULT_M_COST: u32 = 19456;
@@ -189,9 +189,18 @@ impl Params {
     pub fn block_count(&self) -> usize
         ensures value { result
             ≡ block_count (parameters_of self.now).m_cost (parameters_of self.now).p_cost }
+        ensures in_memory { result ≤ (parameters_of self.now).m_cost }
     {
         let segments = 4 * self.p_cost as usize;
         self.m_cost as usize / segments * segments
+    }
+
+    /// The number of columns of a lane: four segments (RFC 9106, section 3.2, where it is `q`).
+    pub fn lane_length(&self) -> u32
+        ensures { result
+            ≡ lane_length (parameters_of self.now).m_cost (parameters_of self.now).p_cost }
+    {
+        4 * (self.m_cost / (4 * self.p_cost))
     }
 }
 

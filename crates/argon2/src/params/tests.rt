@@ -33,13 +33,14 @@ fn refuses_the_first_fault(rt: HostRuntime) {
 #[test]
 fn counts_blocks(rt: HostRuntime) -> Result<(), Fail> {
     let rows = [
-        (33, 1, 2, 32),
-        (4294967295, 4294967295, 16777215, 4294967040),
-        (4294967295, 1, 1, 4294967292),
-        (134217720, 1, 16777215, 134217720),
+        (33, 1, 2, 16, 32),
+        (4294967295, 4294967295, 16777215, 256, 4294967040),
+        (4294967295, 1, 1, 4294967292, 4294967292),
+        (134217720, 1, 16777215, 8, 134217720),
     ];
-    for (m, t, p, blocks) in rows {
+    for (m, t, p, columns, blocks) in rows {
         let params = Params::new(m, t, p, None)?;
+        assert_eq!(rt; params.lane_length(), columns, "{m} {t} {p}");
         assert_eq!(rt; params.block_count(), blocks, "{m} {t} {p}");
     }
     Ok(())

@@ -1,0 +1,60 @@
+-- Algorithms by their names and versions by their numbers.
+use Rattle.std.proofs.Common.{◌≡◌, ◌≢◌, ℕ, List, Bool, true, false, Option, Some, None, Result, Ok, Err, refl}
+use Rattle.std.specs.Bool.{Decides}
+use Rattle.std.specs.Result.{result_ok}
+use Rattle.std.proofs.lemmas.Bool.Decides.{Decides-eqb}
+use Rattle.std.proofs.lemmas.Slice.Eq.{bytes_eq-Decides}
+use Rattle.argon2.specs.declared.algorithm.Algorithm.{Algorithm}
+use Rattle.argon2.specs.declared.algorithm.Algorithm.TheVariants.{Argon2d, Argon2i, Argon2id}
+use Rattle.argon2.specs.declared.version.Version.{Version}
+use Rattle.argon2.specs.declared.version.Version.TheVariants.{V0x10, V0x13}
+use Rattle.argon2.specs.Algorithm.{algorithm_name, algorithm_named, IsNamed, IsNamedInText}
+use Rattle.argon2.specs.Version.{version_number, version_numbered, IsNumbered}
+use Rattle.argon2_base.specs.declared.error.Error.{Error}
+use Rattle.argon2_base.specs.declared.error.password_hash.Error.{Error as HashError}
+
+-- a test of what does not hold fails
+fails : {P : Type 0} (test : Bool) → Decides test P → (P → ⊥) → test ≡ false
+fails true d not = absurd (not (d.0 refl))
+fails false d not = refl
+
+-- a variant is found by its name
+pub algorithm_named-name : (algorithm : Algorithm) → algorithm_named (algorithm_name algorithm) ≡ Some algorithm
+algorithm_named-name Argon2d = refl
+algorithm_named-name Argon2i = refl
+algorithm_named-name Argon2id = refl
+
+-- by a name that no variant has none is found
+pub algorithm_named-no : (name : List ℕ) → ((algorithm : Algorithm) → name ≢ algorithm_name algorithm) → algorithm_named name ≡ None
+algorithm_named-no name other =
+    let d = fails _ (bytes_eq-Decides name (algorithm_name Argon2d)) (other Argon2d) in
+    let i = fails _ (bytes_eq-Decides name (algorithm_name Argon2i)) (other Argon2i) in
+    let id = fails _ (bytes_eq-Decides name (algorithm_name Argon2id)) (other Argon2id) in
+    rw (d, i, id) refl
+
+-- a version is found by its number
+pub version_numbered-number : (version : Version) → version_numbered (version_number version) ≡ Some version
+version_numbered-number V0x10 = refl
+version_numbered-number V0x13 = refl
+
+-- by a number that no version has none is found
+pub version_numbered-no : (number : ℕ) → ((version : Version) → number ≢ version_number version) → version_numbered number ≡ None
+version_numbered-no number other =
+    let old = fails _ (Decides-eqb number 16) (other V0x10) in
+    let new = fails _ (Decides-eqb number 19) (other V0x13) in
+    rw (old, new) refl
+
+-- what a name is answered is what is found by it
+pub algorithm_named-answer : (name : List ℕ) (r : Result Algorithm Error) → IsNamed name r → algorithm_named name ≡ result_ok r
+algorithm_named-answer name (Ok algorithm) is = rw is (algorithm_named-name algorithm)
+algorithm_named-answer name (Err e) not = algorithm_named-no name not.1
+
+-- the same for a caller that asked for a text
+pub algorithm_named-text : (name : List ℕ) (r : Result Algorithm HashError) → IsNamedInText name r → algorithm_named name ≡ result_ok r
+algorithm_named-text name (Ok algorithm) is = rw is (algorithm_named-name algorithm)
+algorithm_named-text name (Err e) not = algorithm_named-no name not.1
+
+-- what a number is answered is what is found by it
+pub version_numbered-answer : (number : ℕ) (r : Result Version Error) → IsNumbered number r → version_numbered number ≡ result_ok r
+version_numbered-answer number (Ok version) is = rw is (version_numbered-number version)
+version_numbered-answer number (Err e) not = version_numbered-no number not.1
