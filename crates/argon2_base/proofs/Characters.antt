@@ -7,7 +7,7 @@ use Rattle.std.specs.List.{list_all, AllByRecursion}
 use Rattle.std.specs.Str.{IsAscii, IsUtf8}
 use Rattle.std.proofs.lemmas.Str.{IsUtf8-from_ascii}
 use Rattle.std.proofs.lemmas.Slice.{drop-append-drop}
-use Rattle.argon2_base.specs.Names.{is_name_char, is_value_char, is_name}
+use Rattle.argon2_base.specs.Names.{is_name_char, is_name}
 
 -- both parts of a conjunction
 pub both : (a b : Bool) → (a && b) ≡ true → (a ≡ true) × (b ≡ true)

@@ -3,6 +3,7 @@ pub mod Base64Lemmas
 pub mod BlockLemmas
 pub mod ByteLemmas
 pub mod Characters
+pub mod Compared
 pub mod DecimalLemmas
 pub mod HashBlocks
 pub mod HasherFields

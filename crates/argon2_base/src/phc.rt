@@ -18,6 +18,7 @@
 //! takes memory.
 
 mod bytes;
+mod compare;
 mod fields;
 mod hash;
 mod ident;

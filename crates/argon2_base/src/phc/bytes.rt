@@ -1,10 +1,12 @@
 //! Salts and outputs, and the bytes of a strict Base64 text.
+
 ghost use Rattle.std.specs.Prelude.{◌≡◌, ◌≤◌, ℕ, List, Some, IfOk, IfSome, IsSomeAnd, MatchResult, length, nat_eq};
 ghost use Rattle.std.specs.Cmp.{partial_equiv_from_equiv};
 ghost use Rattle.std.specs.Cmp.Lexicographic.{pointwise, nat_list_eq_equiv};
 ghost use Rattle.argon2_base.specs.Base64.{IsBytes, strict_base64};
 ghost use Rattle.argon2_base.specs.declared.error.password_hash.Error.TheVariants.{SaltInvalid, OutputSize};
 
+use super::compare::are_equal;
 use crate::error::password_hash::{Error, Result};
 use arrayvec::ArrayVec;
 use base64::display::Base64Display;
@@ -194,7 +196,7 @@ impl PartialEq for Output {
     ghost laws = { partial_equiv_from_equiv nat_list_eq_equiv };
 
     fn eq(&self, other: &Self) -> bool {
-        self.as_bytes() == other.as_bytes()
+        are_equal(self.as_bytes(), other.as_bytes())
     }
 }
 
