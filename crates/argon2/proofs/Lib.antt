@@ -1,3 +1,4 @@
+mod Asked
 mod Counts
 mod DecodedSlices
 mod Filled
@@ -10,12 +11,15 @@ mod KnownTag
 mod LaneAfterLane
 mod LastColumn
 mod ListedLemmas
+mod MadeValues
 mod PermittedPlaces
 mod ReadAgain
 mod ReadBytes
 mod Schedules
 mod Sources
+mod TagBytes
 mod Validity
+mod Verified
 mod Watched
 pub mod FirstColumns
 pub mod InitialHashing
