@@ -1,4 +1,5 @@
 mod Addresses
+mod Asked
 mod Computing
 mod Counts
 mod DecodedSlices
@@ -15,12 +16,15 @@ mod LastColumn
 mod LentMemory
 mod ListedLemmas
 mod ListReading
+mod MadeValues
 mod PermittedPlaces
 mod ReadAgain
 mod ReadBytes
 mod Schedules
 mod Sources
+mod TagBytes
 mod Validity
+mod Verified
 mod Watched
 pub mod FirstColumns
 pub mod InitialHashing

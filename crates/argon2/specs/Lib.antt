@@ -1,3 +1,4 @@
+pub mod Accepts
 pub mod Algorithm
 pub mod Argon2
 pub mod ByteLists
@@ -7,6 +8,7 @@ pub mod Hashing
 pub mod InitialHash
 pub mod Laws
 pub mod ListedParameters
+pub mod Made
 pub mod Parameters
 pub mod Params
 pub mod ParamsAnswers
@@ -17,6 +19,8 @@ pub mod Refusals
 pub mod Settings
 pub mod Shape
 pub mod Steps
+pub mod Stored
+pub mod StoredHash
 pub mod Tag
 pub mod Version
 pub mod Watching

@@ -6,6 +6,7 @@ mod context;
 pub mod kdf;
 pub mod laws;
 pub mod params;
+pub mod password_hash;
 pub mod version;
 
 pub use algorithm::Algorithm;
@@ -18,4 +19,5 @@ pub use context::{
 };
 pub use kdf::{Kdf, Pbkdf};
 pub use params::{AssociatedData, KeyId, Params, ParamsBuilder};
+pub use password_hash::{CustomizedPasswordHasher, PasswordHasher, PasswordVerifier};
 pub use version::Version;

@@ -1,4 +1,4 @@
-use Rattle.std.proofs.Common.{ℕ, ◌≤◌, Fits, List, arith, length, slice_index, w8, w32}
+use Rattle.std.proofs.Common.{ℕ, ◌≤◌, Fits, List, None, arith, length, slice_index, w8, w32}
 use Rattle.argon2.proofs.ListedLemmas.{Fronts, listed_fronts}
 use Rattle.argon2.proofs.ReadAgain.{read_again, valid_without}
 use Rattle.argon2.proofs.params.text.params_string.Goals as goal
@@ -53,6 +53,6 @@ add_bytes-requires-2 c =
 
 pub returns-clause-again : goal.returns-clause-again
 returns-clause-again c = λ o valid.
-    read_again c.args.m c.args.t c.args.p c.args.keyid.now c.args.associated.now (omega arith) (omega arith) (omega arith)
+    read_again c.args.m c.args.t c.args.p c.args.keyid.now c.args.associated.now None (omega arith) (omega arith) (omega arith)
     (λ i. omega (arith, c.type_inv.keyid i)) (λ i. omega (arith, c.type_inv.associated i))
     c.requires.keyid_fits c.requires.data_fits (valid_without c.args.m c.args.t c.args.p o valid)

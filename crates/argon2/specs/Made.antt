@@ -1,0 +1,113 @@
+-- The value that hashing makes, and what hashing to a text answers.
+use Rattle.std.specs.Prelude.{◌≡◌, ◌≤◌, ◌<◌, ◌^◌, ◌⊎◌, ℕ, Bool, List, [], ◌∷◌, ◌++◌, length, nat_lt, Option, Some, None, IsNone, Result, Ok, Err, unwrap_or}
+use Rattle.argon2_base.specs.Error.{Fault, bad_algorithm, bad_output_size, bad_password, bad_salt, bad_version, no_memory, outcome_of}
+use Rattle.argon2_base.specs.PasswordHash.{phc_of}
+use Rattle.argon2_base.specs.PhcText.{Phc, HasBytes}
+use Rattle.argon2_base.specs.declared.error.password_hash.Error.{Error}
+use Rattle.argon2_base.specs.declared.phc.hash.PasswordHash.{PasswordHash}
+use Rattle.argon2.specs.declared.algorithm.Algorithm.{Algorithm}
+use Rattle.argon2.specs.declared.algorithm.Algorithm.TheVariants.{Argon2id}
+use Rattle.argon2.specs.declared.context.Argon2.{Argon2}
+use Rattle.argon2.specs.declared.version.Version.{Version}
+use Rattle.argon2.specs.declared.version.Version.TheVariants.{V0x13}
+use Rattle.argon2.specs.Algorithm.{algorithm_name, algorithm_named}
+use Rattle.argon2.specs.Argon2.{secret_of, settings_of}
+use Rattle.argon2.specs.Context.{context_with}
+use Rattle.argon2.specs.ListedParameters.{checked, list_of}
+use Rattle.argon2.specs.Parameters.{Parameters, IsValid}
+use Rattle.argon2.specs.Refusals.{first_of}
+use Rattle.argon2.specs.Settings.{Settings}
+use Rattle.argon2.specs.Stored.{found}
+use Rattle.argon2.specs.Tag.{tag_of}
+use Rattle.argon2.specs.Version.{version_number, version_numbered}
+
+-- what hashes are made under
+pub record Target : Type 0 where
+  pub settings : Settings
+  pub secret : List ℕ
+
+-- what an `Argon2` makes hashes under
+abbrev pub target_of : Argon2 → Target
+target_of argon2 = record { settings = settings_of argon2; secret = secret_of argon2 }
+
+-- the length of a hash: the output length, or 32 where none is set
+abbrev pub tag_length : Settings → ℕ
+tag_length settings = unwrap_or settings.parameters.output_len 32
+
+-- the same settings with that length set
+abbrev pub sized : Settings → Settings
+sized settings = record settings {
+  parameters = record settings.parameters { output_len = Some (tag_length settings) };
+}
+
+-- the value that a password and a salt make
+abbrev pub made : Target → List ℕ → List ℕ → Phc
+made target password salt = record {
+  algorithm = algorithm_name target.settings.algorithm;
+  version = Some (version_number target.settings.version);
+  params = list_of target.settings.parameters;
+  salt = Some salt;
+  hash = Some (tag_of (context_with target.settings target.secret) password salt (tag_length target.settings));
+}
+
+-- settings whose hashes fit into texts
+pub record IsTarget (target : Target) : Type 0 where
+  pub valid : IsValid target.settings.parameters
+  pub m_cost : target.settings.parameters.m_cost < 2 ^ 32
+  pub t_cost : target.settings.parameters.t_cost < 2 ^ 32
+  pub keyid : HasBytes 0 8 target.settings.parameters.keyid
+  pub associated : HasBytes 0 32 target.settings.parameters.associated
+  pub tag_length : tag_length target.settings ≤ 64
+
+-- ---- what hashing to a text answers
+
+-- a salt and a hash of so many bytes
+abbrev pub text_faults : ℕ → ℕ → List (Bool × Fault)
+text_faults salt hash =
+    (nat_lt salt 8, bad_salt)
+    ∷ (nat_lt 48 salt, bad_salt)
+    ∷ (nat_lt 64 hash, bad_output_size)
+    ∷ []
+
+-- a password of so many bytes
+abbrev pub password_faults : ℕ → List (Bool × Fault)
+password_faults password = (nat_lt 4294967295 password, bad_password) ∷ []
+
+-- the value that is made, or the fault of the first length that is refused
+abbrev pub hashed : Target → List ℕ → List ℕ → Result Phc Fault
+hashed target password salt =
+    checked (first_of (text_faults (length salt) (tag_length target.settings)
+    ++ password_faults (length password)))
+    (Ok (made target password salt))
+
+-- what hashing to a text may answer: memory is wanted only where salt and hash fit into a text
+abbrev pub IsHashAnswer : Target → List ℕ → List ℕ → Result PasswordHash Error → Type 0
+IsHashAnswer target password salt r =
+    (outcome_of phc_of r ≡ hashed target password salt)
+    ⊎ ((outcome_of phc_of r ≡ Err no_memory)
+    × IsNone (first_of (text_faults (length salt) (tag_length target.settings))))
+
+-- ---- settings that the caller gives
+
+-- the algorithm of this name, Argon2id where none is given
+abbrev pub algorithm_asked : Option (List ℕ) → Option Algorithm
+algorithm_asked None = Some Argon2id
+algorithm_asked (Some name) = algorithm_named name
+
+-- the version of this number, 0x13 where none is given
+abbrev pub version_asked : Option ℕ → Option Version
+version_asked None = Some V0x13
+version_asked (Some number) = version_numbered number
+
+-- the settings of a name, a number and parameters, or the fault of the first that there is not
+abbrev pub settings_asked : Option (List ℕ) → Option ℕ → Parameters → Result Settings Fault
+settings_asked name number parameters =
+    found (algorithm_asked name) bad_algorithm (λ algorithm.
+    found (version_asked number) bad_version (λ version.
+    Ok (record { algorithm = algorithm; version = version; parameters = parameters })))
+
+-- what hashing under such settings may answer
+abbrev pub IsAskedAnswer : Result Settings Fault → List ℕ → List ℕ → List ℕ → Result PasswordHash Error → Type 0
+IsAskedAnswer (Err fault) secret password salt r = outcome_of phc_of r ≡ Err fault
+IsAskedAnswer (Ok settings) secret password salt r =
+    IsHashAnswer (record { settings = settings; secret = secret }) password salt r
