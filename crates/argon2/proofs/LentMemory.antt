@@ -5,6 +5,8 @@ use Rattle.std.proofs.lemmas.List.FromFn.{length-map-range_with_len}
 use Rattle.std.proofs.lemmas.Nat.{mul-add-lt}
 use Rattle.std.proofs.lemmas.Slice.{drop-append-drop}
 use Rattle.std.proofs.Math.Seq.{take-append_seam}
+use Rattle.argon2.specs.declared.context.Argon2.{Argon2}
+use Rattle.argon2.specs.Argon2.{context_of}
 use Rattle.argon2.specs.Context.{Context, lane_length, block_count}
 use Rattle.argon2.specs.Hashing.{blocks_of, KeepsOtherColumns, KeepsRest, IsBegun, IsFilled, IsHashed}
 use Rattle.argon2.specs.InitialHash.{first_block}
@@ -14,11 +16,15 @@ use Rattle.argon2.specs.Steps.{Memory}
 use Rattle.argon2.specs.Tag.{matrix_of, tag_of}
 
 -- the matrix has as many blocks as are filled
-length-matrix_of : (ctx : Context) (password salt : List ℕ) (n : ℕ) → length (matrix_of ctx password salt n) ≡ block_count ctx
+length-matrix_of : (ctx : Context) (password salt : List ℕ) (n : ℕ) →
+    length (matrix_of ctx password salt n) ≡ block_count ctx
 unfolding matrix_of matrix
 length-matrix_of ctx password salt n = length-map-range_with_len _ 0 (block_count ctx)
 
-module _ (ctx : Context) (count : ℕ) (all : count ≡ block_count ctx) (old blocks : Memory) where
+module _ (argon2 : Argon2) (count : ℕ) (all : count ≡ block_count (context_of argon2)) (old blocks : Memory) where
+  abbrev ctx : Context
+  ctx = context_of argon2
+
   -- they are the first blocks
   front : length blocks ≡ block_count ctx → blocks_of ctx (blocks ++ drop count old) ≡ blocks
   front size = ap (λ n. take n (blocks ++ drop count old)) (sym size) ∙ take-append_seam blocks (drop count old)
@@ -38,7 +44,7 @@ module _ (ctx : Context) (count : ℕ) (all : count ≡ block_count ctx) (old bl
 
   -- the beginning of a fill
   pub is_begun : (password salt : List ℕ) (n : ℕ) → Begins ctx (first_block ctx password salt n) blocks →
-      KeepsOtherColumns ctx (take count old) blocks → IsBegun ctx password salt n old (blocks ++ drop count old)
+      KeepsOtherColumns ctx (take count old) blocks → IsBegun argon2 password salt n old (blocks ++ drop count old)
   is_begun password salt n begins same = record {
     begins = subst (Begins ctx (first_block ctx password salt n)) (sym (front begins.size)) begins;
     others = others begins.size same;
@@ -47,14 +53,15 @@ module _ (ctx : Context) (count : ℕ) (all : count ≡ block_count ctx) (old bl
 
   -- its end
   pub is_filled : (password salt : List ℕ) (n : ℕ) → blocks ≡ matrix_of ctx password salt n →
-      IsFilled ctx password salt n old (blocks ++ drop count old)
+      IsFilled argon2 password salt n old (blocks ++ drop count old)
   is_filled password salt n filled =
       let size : length blocks ≡ block_count ctx = ap length filled ∙ length-matrix_of ctx password salt n in
       record { matrix = front size ∙ filled; rest = rest size }
 
   -- a whole hash
-  pub is_hashed : (password salt output : List ℕ) (n : ℕ) → length output ≡ n → output ≡ tag_of ctx password salt n →
-      blocks ≡ matrix_of ctx password salt n → IsHashed ctx password salt output old (blocks ++ drop count old)
+  pub is_hashed : (password salt output : List ℕ) (n : ℕ) → length output ≡ n →
+      output ≡ tag_of ctx password salt n →
+      blocks ≡ matrix_of ctx password salt n → IsHashed argon2 password salt output old (blocks ++ drop count old)
   is_hashed password salt output n size tag filled =
       let left = is_filled password salt n filled in
       record {

@@ -50,24 +50,26 @@ KeepsOtherColumns ctx old new =
 -- ---- what a call leaves
 
 -- the beginning for a tag of n bytes: columns 0 and 1 of each lane, and all other blocks as before
-pub record IsBegun (ctx : Context) (password salt : List ℕ) (n : ℕ) (old new : Memory) : Type 0
+pub record IsBegun (argon2 : Argon2) (password salt : List ℕ) (n : ℕ) (old new : Memory) : Type 0
   where
-    pub begins : Begins ctx (first_block ctx password salt n) (blocks_of ctx new)
-    pub others : KeepsOtherColumns ctx old new
-    pub rest : KeepsRest ctx old new
+    pub begins : let ctx = context_of argon2 in
+        Begins ctx (first_block ctx password salt n) (blocks_of ctx new)
+    pub others : KeepsOtherColumns (context_of argon2) old new
+    pub rest : KeepsRest (context_of argon2) old new
 
 -- the matrix for a tag of n bytes, and the rest as before
-pub record IsFilled (ctx : Context) (password salt : List ℕ) (n : ℕ) (old new : Memory) : Type 0
+pub record IsFilled (argon2 : Argon2) (password salt : List ℕ) (n : ℕ) (old new : Memory) : Type 0
   where
-    pub matrix : blocks_of ctx new ≡ matrix_of ctx password salt n
-    pub rest : KeepsRest ctx old new
+    pub matrix : let ctx = context_of argon2 in blocks_of ctx new ≡ matrix_of ctx password salt n
+    pub rest : KeepsRest (context_of argon2) old new
 
 -- an output that is the tag, the matrix that it was made of, and the rest as before
-pub record IsHashed (ctx : Context) (password salt output : List ℕ) (old new : Memory) : Type 0
+pub record IsHashed (argon2 : Argon2) (password salt output : List ℕ) (old new : Memory) : Type 0
   where
-    pub tag : output ≡ tag_of ctx password salt (length output)
-    pub matrix : blocks_of ctx new ≡ matrix_of ctx password salt (length output)
-    pub rest : KeepsRest ctx old new
+    pub tag : output ≡ tag_of (context_of argon2) password salt (length output)
+    pub matrix : let ctx = context_of argon2 in
+        blocks_of ctx new ≡ matrix_of ctx password salt (length output)
+    pub rest : KeepsRest (context_of argon2) old new
 
 -- ---- watching
 
@@ -76,6 +78,7 @@ abbrev pub place_count : Context → ℕ
 place_count ctx = ctx.t_cost * block_count ctx
 
 -- each block's reference in a hash for a tag of n bytes
-abbrev pub AreReferencesOf : Context → List ℕ → List ℕ → ℕ → List ℕ → List ℕ → Type 0
-AreReferencesOf ctx password salt n old new =
+abbrev pub AreReferencesOf : Argon2 → List ℕ → List ℕ → ℕ → List ℕ → List ℕ → Type 0
+AreReferencesOf argon2 password salt n old new =
+    let ctx = context_of argon2 in
     AreReferencePlaces ctx (first_block ctx password salt n) old new

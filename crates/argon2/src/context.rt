@@ -58,7 +58,7 @@ pub struct Argon2<'key> {
 }
 
 impl<'key> Argon2<'key> {
-    ghost use Rattle.std.specs.Prelude.{◌≡◌, ◌+◌, ◌<◌, ◌≤◌, ◌^◌, ◌↔◌, ◌⊎◌, [], Some, None, IsOk, IfOk, IfErr, OnOk, OnErr, MatchResult, length, replicate};
+    ghost use Rattle.std.specs.Prelude.{◌≡◌, ◌≤◌, ◌↔◌, ◌⊎◌, [], Some, None, IsOk, IfOk, IfErr, OnOk, OnErr, MatchResult, length, replicate};
     ghost use Rattle.argon2_base.specs.Block.{zero_block};
     ghost use Rattle.argon2_base.specs.declared.error.Error.TheVariants.{OutOfMemory, SecretTooLong};
     ghost use Rattle.argon2.specs.Argon2.{context_of, own_parameters, secret_of, settings_of};
@@ -146,13 +146,13 @@ impl<'key> Argon2<'key> {
             ≡ answer_unless (refusal_of self.now (length out.old) pwd.now salt.now memory.old) tt }
 
         ensures valid { OnOk result (IsValid (context_of self.now)) }
-        ensures hashed { OnOk result
-            (IsHashed (context_of self.now) pwd.now salt.now out.new memory.old memory.new) }
+        ensures hashed { OnOk result (IsHashed self.now pwd.now salt.now out.new memory.old memory.new) }
 
         ensures same_output { OnErr result (out.new ≡ out.old) }
         ensures same_memory { OnErr result (memory.new ≡ memory.old) }
     {
-        self.hash(pwd, salt, out, memory, &mut [], &mut Work::new())
+        self.hash(pwd, salt, out, memory, &mut [])?;
+        Ok(())
     }
 
     /// Writes the tag of a password and a salt into `out`, on memory of its own: one request to
@@ -212,18 +212,15 @@ impl<'key> Argon2<'key> {
             (mixing_calls (context_of self.now)) }
 
         ensures valid { OnOk result (IsValid (context_of self.now)) }
-        ensures hashed { OnOk result
-            (IsHashed (context_of self.now) pwd.now salt.now out.new memory.old memory.new) }
-        ensures positions { OnOk result (AreReferencesOf (context_of self.now) pwd.now salt.now
-            (length out.old) positions.old positions.new) }
+        ensures hashed { OnOk result (IsHashed self.now pwd.now salt.now out.new memory.old memory.new) }
+        ensures positions { OnOk result
+            (AreReferencesOf self.now pwd.now salt.now (length out.old) positions.old positions.new) }
 
         ensures same_output { OnErr result (out.new ≡ out.old) }
         ensures same_memory { OnErr result (memory.new ≡ memory.old) }
         ensures same_positions { OnErr result (positions.new ≡ positions.old) }
     {
-        let mut work = Work::new();
-        self.hash(pwd, salt, out, memory, positions, &mut work)?;
-        Ok(work)
+        self.hash(pwd, salt, out, memory, positions)
     }
 
     /// Fills the first [`block_count`](Params::block_count) blocks of `memory` as a hash of a
@@ -239,8 +236,7 @@ impl<'key> Argon2<'key> {
         ensures answer { result
             ≡ answer_unless (fill_refusal self.now pwd.now salt.now memory.old) tt }
 
-        ensures filled { OnOk result
-            (IsFilled (context_of self.now) pwd.now salt.now 0 memory.old memory.new) }
+        ensures filled { OnOk result (IsFilled self.now pwd.now salt.now 0 memory.old memory.new) }
         ensures same { OnErr result (memory.new ≡ memory.old) }
     {
         check_inputs(pwd, salt)?;
@@ -251,8 +247,8 @@ impl<'key> Argon2<'key> {
         Ok(())
     }
 
-    // Writes the tag into `out` and counts each mixing. `positions` has a place for each block of
-    // each pass, where the place of the block's reference is put down; or it is empty.
+    // Writes the tag into `out`, and answers how often blocks were mixed. `positions` has a place for
+    // each block of each pass, where the place of the block's reference is put down; or it is empty.
     fn hash(
         &self,
         pwd: &[u8],
@@ -260,19 +256,15 @@ impl<'key> Argon2<'key> {
         out: &mut [u8],
         memory: &mut [Block],
         positions: &mut [u32],
-        work: &mut Work,
-    ) -> Result<()>
-        requires count { work.old < 2 ^ 126 }
+    ) -> Result<Work>
         ensures answer { result
-            ≡ answer_unless (refusal_of self.now (length out.old) pwd.now salt.now memory.old) tt }
+            ≡ answer_unless (refusal_of self.now (length out.old) pwd.now salt.now memory.old)
+            (mixing_calls (context_of self.now)) }
 
         ensures valid { OnOk result (IsValid (context_of self.now)) }
-        ensures hashed { OnOk result
-            (IsHashed (context_of self.now) pwd.now salt.now out.new memory.old memory.new) }
+        ensures hashed { OnOk result (IsHashed self.now pwd.now salt.now out.new memory.old memory.new) }
         ensures positions { OnOk result (length positions.old ≡ place_count (context_of self.now)
-            → AreReferencesOf (context_of self.now) pwd.now salt.now
-            (length out.old) positions.old positions.new) }
-        ensures work { OnOk result (work.new ≡ work.old + mixing_calls (context_of self.now)) }
+            → AreReferencesOf self.now pwd.now salt.now (length out.old) positions.old positions.new) }
 
         ensures same_output { OnErr result (out.new ≡ out.old) }
         ensures same_memory { OnErr result (memory.new ≡ memory.old) }
@@ -281,9 +273,10 @@ impl<'key> Argon2<'key> {
         self.check(out.len(), pwd, salt, memory)?;
         let instance = self.instance();
         let blocks = &mut memory[..instance.block_count()];
-        instance.fill_blocks(pwd, salt, out.len() as u32, blocks, positions, work);
+        let mut work = Work::new();
+        instance.fill_blocks(pwd, salt, out.len() as u32, blocks, positions, &mut work);
         instance.write_tag(blocks, out);
-        Ok(())
+        Ok(work)
     }
 
     // As many blocks as a hash fills, each of zeros, by one request.

@@ -33,8 +33,7 @@ impl Argon2<'_> {
             ≡ answer_unless (refusal_of self.now out_len pwd.now salt.now memory.old) tt }
 
         ensures valid { OnOk result (IsValid (context_of self.now)) }
-        ensures begun { OnOk result
-            (IsBegun (context_of self.now) pwd.now salt.now out_len memory.old memory.new) }
+        ensures begun { OnOk result (IsBegun self.now pwd.now salt.now out_len memory.old memory.new) }
         ensures same { OnErr result (memory.new ≡ memory.old) }
     {
         self.check(out_len, pwd, salt, memory)?;

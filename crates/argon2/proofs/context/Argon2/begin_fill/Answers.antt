@@ -1,5 +1,4 @@
 use Rattle.std.proofs.Common.{ap, ◌∙◌}
-use Rattle.argon2.specs.Argon2.{context_of}
 use Rattle.argon2.specs.Context.{block_count}
 use Rattle.argon2.proofs.LentMemory.{is_begun}
 use Rattle.argon2.proofs.context.Argon2.begin_fill.Goals as goal
@@ -8,5 +7,6 @@ pub returns-clause-begun : goal.returns-clause-begun
 returns-clause-begun c =
     let same = c.instance-instance.ensures.value in
     let count = c.block_count.ensures.value ∙ ap block_count same in
-    is_begun (context_of c.args.self.now) c.block_count.result count c.args.memory.now c.begin.new.blocks c.args.pwd.now c.args.salt.now c.args.out_len
+    is_begun c.args.self.now c.block_count.result count c.args.memory.now c.begin.new.blocks
+    c.args.pwd.now c.args.salt.now c.args.out_len
     (rw same at c.begin.ensures.begins) (rw same at c.begin.ensures.others)

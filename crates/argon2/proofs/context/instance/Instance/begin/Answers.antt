@@ -14,7 +14,8 @@ loop-lane-preserved c =
     let room : n * q + 1 < length c.loop-lane.blocks = (let r = c.requires in let l = c.loop-lane.auto.blocks in omega arith) in
     rw (c.lane_length-columns.ensures.value, c.block_after.ensures, c.block_after-in-loop-lane.ensures) (record {
       begun = begun_lanes q n two c.loop-lane.blocks (block_after c.initial_hash-hash.result) room c.loop-lane.invariant.begun;
-      others = λ k d h low high. begun_apart q n two c.loop-lane.blocks _ _ k d high (λ _. low) ∙ c.loop-lane.invariant.others k d h low high;
+      others = λ k d h low high. begun_apart q n two c.loop-lane.blocks _ _ k d high (λ _. low)
+          ∙ c.loop-lane.invariant.others k d h low high;
     })
 
 pub returns-clause-begins : goal.returns-clause-begins
