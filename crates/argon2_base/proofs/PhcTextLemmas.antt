@@ -13,8 +13,8 @@ use Rattle.argon2_base.specs.Base64.{IsBytes}
 use Rattle.argon2_base.specs.Names.{is_name, is_value, is_name_char, is_value_char}
 use Rattle.argon2_base.specs.Base64.{strict_base64}
 use Rattle.argon2_base.specs.ParamsText.{Pair, item, params_text, is_param, are_params, pair_of}
-use Rattle.argon2_base.specs.PhcFields.{field_output, fields_of, fields_left, NoVersionFirst, NoItemFirst}
-use Rattle.argon2_base.specs.PhcText.{Phc, field, list_field, version_text, fields, phc_text, HasBytes, IsPhc, PhcText}
+use Rattle.argon2_base.specs.PhcFields.{fields_of, fields_left, NoVersionFirst, NoItemFirst}
+use Rattle.argon2_base.specs.PhcText.{Phc, field, list_field, version_text, fields, fields_text, phc_text, HasBytes, IsPhc, PhcText}
 use Rattle.argon2_base.proofs.Characters.{both, lacks_by}
 use Rattle.argon2_base.proofs.Separators.{Lacks, Lacks-append, Lacks_not, cut_joined}
 use Rattle.argon2_base.proofs.ParamsTextLemmas.{all_params, name_lacks, item_lacks, pair_again, param_name}
@@ -205,13 +205,9 @@ gathered t first v f0 f1 f2 f3 f4 e a e1 e2 e3 e4 e5 =
 
 -- ---- printing
 
--- what a part of the fields prints as
-abbrev pub printed : List (List ℕ) → List ℕ
-printed fs = flat_map (λ f. 36 ∷ f) fs
-
 -- the text, part by part
-pub phc_text_parts : (v : Phc) → (36 ∷ v.algorithm) ++ (printed (field version_text v.version) ++ (printed (list_field v.params)
-    ++ (printed (field strict_base64 v.salt) ++ printed (field strict_base64 v.hash)))) ≡ phc_text v
+pub phc_text_parts : (v : Phc) → (36 ∷ v.algorithm) ++ (fields_text (field version_text v.version) ++ (fields_text (list_field v.params)
+    ++ (fields_text (field strict_base64 v.salt) ++ fields_text (field strict_base64 v.hash)))) ≡ phc_text v
 phc_text_parts v =
     let mark : List ℕ → List ℕ = λ f. 36 ∷ f in
     rw (
@@ -221,16 +217,11 @@ phc_text_parts v =
     ) refl
 
 -- parameters print as a field, and none as nothing
-pub list_printed : (ps : List Pair) (empty : Bool) → (IsTrue empty ↔ (ps ≡ [])) → empty ≡ false → printed (list_field ps) ≡ 36 ∷ params_text ps
+pub list_printed : (ps : List Pair) (empty : Bool) → (IsTrue empty ↔ (ps ≡ [])) → empty ≡ false → fields_text (list_field ps) ≡ 36 ∷ params_text ps
 list_printed [] empty is e = absurd (let f = is.1 refl in cc)
 list_printed (p ∷ ps) empty is e = ap (λ (t : List ℕ). 36 ∷ t) (append-nil (params_text (p ∷ ps)))
 
 -- no parameters print as nothing
-pub list_unprinted : (ps : List Pair) (empty : Bool) → (IsTrue empty ↔ (ps ≡ [])) → empty ≡ true → printed (list_field ps) ≡ []
+pub list_unprinted : (ps : List Pair) (empty : Bool) → (IsTrue empty ↔ (ps ≡ [])) → empty ≡ true → fields_text (list_field ps) ≡ []
 list_unprinted [] empty is e = refl
 list_unprinted (p ∷ ps) empty is e = absurd (let f = is.0 e in cc)
-
--- a field of bytes prints as its text
-pub bytes_printed : (o : Option (List ℕ)) → field_output (λ b. Some (strict_base64 b)) o ≡ Some (printed (field strict_base64 o))
-bytes_printed None = refl
-bytes_printed (Some b) = ap (λ (t : List ℕ). Some (36 ∷ t)) (sym (append-nil (strict_base64 b)))

@@ -1,7 +1,6 @@
 -- A PHC text, cut at its `$`.
 use Rattle.std.specs.Prelude.{◌≡◌, ◌==◌, ℕ, List, [], ◌∷◌, codes, Option, Some, None}
 use Rattle.std.specs.List.{slice_split}
-use Rattle.std.specs.Option.{option_map}
 use Rattle.std.specs.Borrow.{Bor}
 use Rattle.argon2_base.specs.ParamsText.{Pair, item}
 
@@ -21,8 +20,3 @@ NoVersionFirst fs = (d : List ℕ) (more : List (List ℕ)) → fs ≡ item (cod
 -- no item stands first
 abbrev pub NoItemFirst : List (List ℕ) → Type 0
 NoItemFirst fs = (p : Pair) (more : List (List ℕ)) → fs ≡ item p ∷ more → ⊥
-
--- what a field prints as, where `shown` is what stands in it prints as
-abbrev pub field_output : {X : Type 0} → (X → Option (List ℕ)) → Option X → Option (List ℕ)
-field_output shown None = Some []
-field_output shown (Some x) = option_map (λ text. 36 ∷ text) (shown x)

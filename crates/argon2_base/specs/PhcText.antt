@@ -50,8 +50,12 @@ fields v = v.algorithm ∷ (field version_text v.version ++ (list_field v.params
     ++ (field strict_base64 v.salt ++ field strict_base64 v.hash)))
 
 -- each field behind a `$`
+abbrev pub fields_text : List (List ℕ) → List ℕ
+fields_text fs = flat_map (λ f. 36 ∷ f) fs
+
+-- the text of a value
 abbrev pub phc_text : Phc → List ℕ
-phc_text v = flat_map (λ f. 36 ∷ f) (fields v)
+phc_text v = fields_text (fields v)
 
 -- bytes, at least low and at most high of them
 abbrev pub HasBytes : ℕ → ℕ → List ℕ → Type 0

@@ -1,6 +1,6 @@
 //! Salts and outputs, and the bytes of a strict Base64 text.
 
-ghost use Rattle.std.specs.Prelude.{◌≡◌, ◌≤◌, ℕ, List, Some, IfOk, IfSome, IsSomeAnd, MatchResult, length, nat_eq};
+ghost use Rattle.std.specs.Prelude.{◌≡◌, ◌<◌, ◌≤◌, ℕ, List, Some, IfOk, IfSome, IsSomeAnd, MatchOption, MatchResult, length, nat_eq};
 ghost use Rattle.std.specs.Cmp.{partial_equiv_from_equiv};
 ghost use Rattle.std.specs.Cmp.Lexicographic.{pointwise, nat_list_eq_equiv};
 ghost use Rattle.argon2_base.specs.Base64.{IsBytes, strict_base64};
@@ -8,12 +8,11 @@ ghost use Rattle.argon2_base.specs.declared.error.password_hash.Error.TheVariant
 
 use super::compare::are_equal;
 use crate::error::password_hash::{Error, Result};
-use arrayvec::ArrayVec;
-use base64::display::Base64Display;
+use arrayvec::{ArrayString, ArrayVec};
 use base64::engine::general_purpose::STANDARD_NO_PAD;
 use std::convert::AsSlice;
-use std::fmt;
 use std::marker::Model;
+use std::{fmt, str};
 
 /// A salt of 8 to 48 bytes.
 #[derive(Drop)]
@@ -75,6 +74,16 @@ impl Salt {
     {
         self.bytes.len()
     }
+
+    /// Its strict Base64.
+    pub fn text(&self) -> ArrayString<64>
+        ensures { result.bytes ≡ strict_base64 self.now }
+    {
+        let Some(text) = base64_text(self.as_bytes()) else {
+            unreachable!();
+        };
+        text
+    }
 }
 
 impl AsSlice<u8> for Salt {
@@ -89,7 +98,7 @@ impl fmt::Display for Salt {
     ghost output = { λ s. Some (strict_base64 s) };
 
     fn fmt<W: fmt::Write>(&self, f: &mut fmt::Formatter<W>) -> fmt::Result {
-        fmt::Display::fmt(&Base64Display::new(self.as_bytes(), &STANDARD_NO_PAD), f)
+        f.pad(self.text().as_str())
     }
 }
 
@@ -170,6 +179,16 @@ impl Output {
     {
         self.bytes.len()
     }
+
+    /// Its strict Base64.
+    pub fn text(&self) -> ArrayString<86>
+        ensures { result.bytes ≡ strict_base64 self.now }
+    {
+        let Some(text) = base64_text(self.as_bytes()) else {
+            unreachable!();
+        };
+        text
+    }
 }
 
 impl AsSlice<u8> for Output {
@@ -184,7 +203,7 @@ impl fmt::Display for Output {
     ghost output = { λ s. Some (strict_base64 s) };
 
     fn fmt<W: fmt::Write>(&self, f: &mut fmt::Formatter<W>) -> fmt::Result {
-        fmt::Display::fmt(&Base64Display::new(self.as_bytes(), &STANDARD_NO_PAD), f)
+        f.pad(self.text().as_str())
     }
 }
 
@@ -206,6 +225,23 @@ impl PartialEq for Output {
 
 impl Eq for Output {
     ghost laws = { nat_list_eq_equiv };
+}
+
+// The strict Base64 of bytes, where it has at most N characters.
+pub(super) fn base64_text<const N: usize>(bytes: &[u8]) -> Option<ArrayString<N>>
+    ensures { MatchOption result (N < length (strict_base64 bytes.now))
+        (λ text. text.bytes ≡ strict_base64 bytes.now) }
+{
+    let mut buffer = [0; N];
+    let Ok(len) = STANDARD_NO_PAD.encode_slice(bytes, &mut buffer) else {
+        return None;
+    };
+    let Ok(written) = str::from_utf8(&buffer[..len]) else {
+        unreachable!();
+    };
+    let mut text = ArrayString::new();
+    text.push_str(written);
+    Some(text)
 }
 
 // The bytes, at most 64, whose strict Base64 a text is.

@@ -1,15 +1,18 @@
 //! Whole PHC texts.
 
-ghost use Rattle.std.specs.Fmt.{DisplaysOnOk};
+ghost use Rattle.std.specs.Prelude.{◌≡◌, ◌<◌, ◌≤◌, ◌+◌, ◌++◌, ◌∷◌, length};
 ghost use Rattle.std.proofs.Props.{props};
-ghost use Rattle.argon2_base.specs.PhcFields.{field_output};
-ghost use Rattle.argon2_base.specs.PhcText.{IsPhc, phc_with};
+ghost use Rattle.arrayvec.specs.ArrayString.{array_string_len};
+ghost use Rattle.argon2_base.specs.Base64.{strict_base64};
+ghost use Rattle.argon2_base.specs.PhcText.{IsPhc, phc_with, field, fields_text, list_field, version_text};
 
 use super::bytes::{Output, Salt};
 use super::fields::{first_field, hash_field, params_field, salt_field, version_field};
 use super::ident::Ident;
 use super::list::ParamsString;
+use super::value::decimal_text;
 use crate::error::password_hash::{Error, Result};
+use arrayvec::ArrayString;
 use std::fmt;
 use std::str::FromStr;
 
@@ -60,6 +63,19 @@ impl PasswordHash {
             salt,
             hash,
         })
+    }
+
+    /// The text that says it, which [`PasswordHash::new`] reads as the same.
+    pub fn text(&self) -> ArrayString<326>
+        ensures { PhcText result.bytes (phc_of self.now) }
+    {
+        let mut text = ArrayString::new();
+        push_field(&mut text, self.algorithm.as_str());
+        push_version(&mut text, self.version);
+        push_params(&mut text, &self.params);
+        push_salt(&mut text, &self.salt);
+        push_hash(&mut text, &self.hash);
+        text
     }
 }
 
@@ -120,27 +136,61 @@ impl fmt::Display for PasswordHash {
     ghost output = { λ h. Some (phc_text (phc_of h)) };
 
     fn fmt<W: fmt::Write>(&self, f: &mut fmt::Formatter<W>) -> fmt::Result {
-        write!(f, "${}", self.algorithm)?;
-        if let Some(version) = self.version {
-            write!(f, "$v={version}")?;
-        }
-        if !self.params.is_empty() {
-            write!(f, "${}", self.params)?;
-        }
-        write_field(f, &self.salt)?;
-        write_field(f, &self.hash)
+        f.pad(self.text().as_str())
     }
 }
 
-// Writes a field behind its `$`, where there is one.
-fn write_field<W: fmt::Write, D: fmt::Display>(
-    f: &mut fmt::Formatter<W>,
-    field: &Option<D>,
-) -> fmt::Result
-    ensures { DisplaysOnOk W.write_str_gives f.old result (field_output D.output field.now) f.new }
+// Appends a field behind its `$`.
+fn push_field(text: &mut ArrayString<326>, field: &str)
+    requires { array_string_len text.old + length field.now < 326 }
+    ensures bytes { text.new.bytes ≡ text.old.bytes ++ 36 ∷ field.now }
+    ensures len { array_string_len text.new ≡ array_string_len text.old + length field.now + 1 }
 {
-    match field {
-        Some(value) => write!(f, "${value}"),
-        None => Ok(()),
+    text.push('$');
+    text.push_str(field);
+}
+
+// Appends the field of a version.
+fn push_version(text: &mut ArrayString<326>, version: Option<u32>)
+    requires { array_string_len text.old ≤ 313 }
+    ensures bytes { text.new.bytes ≡ text.old.bytes ++ fields_text (field version_text version) }
+    ensures max { array_string_len text.new ≤ array_string_len text.old + 13 }
+{
+    if let Some(version) = version {
+        text.push_str("$v=");
+        text.push_str(decimal_text(version).as_str());
+    }
+}
+
+// Appends the field of parameters.
+fn push_params(text: &mut ArrayString<326>, params: &ParamsString)
+    requires { array_string_len text.old ≤ 198 }
+    ensures bytes { text.new.bytes ≡ text.old.bytes ++ fields_text (list_field params.now) }
+    ensures max { array_string_len text.new ≤ array_string_len text.old + 128 }
+{
+    if !params.is_empty() {
+        push_field(text, params.as_str());
+    }
+}
+
+// Appends the field of a salt.
+fn push_salt(text: &mut ArrayString<326>, salt: &Option<Salt>)
+    requires { array_string_len text.old ≤ 261 }
+    ensures bytes { text.new.bytes ≡ text.old.bytes ++ fields_text (field strict_base64 salt.now) }
+    ensures max { array_string_len text.new ≤ array_string_len text.old + 65 }
+{
+    if let Some(salt) = salt {
+        push_field(text, salt.text().as_str());
+    }
+}
+
+// Appends the field of a hash.
+fn push_hash(text: &mut ArrayString<326>, hash: &Option<Output>)
+    requires { array_string_len text.old ≤ 239 }
+    ensures bytes { text.new.bytes ≡ text.old.bytes ++ fields_text (field strict_base64 hash.now) }
+    ensures max { array_string_len text.new ≤ array_string_len text.old + 87 }
+{
+    if let Some(hash) = hash {
+        push_field(text, hash.text().as_str());
     }
 }

@@ -7,14 +7,14 @@ ghost use Rattle.argon2_base.specs.Base64.{strict_base64};
 ghost use Rattle.argon2_base.specs.ParamsText.{Pair, item, params_text, value_of, is_param, are_params, ParamsText, pair_of, items_of, items_left, with_item, pairs_eq, pairs_eq_equiv};
 ghost use Rattle.argon2_base.specs.declared.error.password_hash.Error.TheVariants.{ParamsInvalid};
 
+use super::bytes::base64_text;
 use super::ident::{Ident, is_name_text};
 use super::value::{Value, decimal_text, is_value_text};
 use crate::error::password_hash::{Error, Result};
 use arrayvec::ArrayString;
-use base64::engine::general_purpose::STANDARD_NO_PAD;
+use std::fmt;
 use std::marker::Model;
 use std::str::FromStr;
-use std::{fmt, str};
 
 /// Parameters with distinct names, in the order of their text, which has at most 127 bytes.
 #[derive(Drop)]
@@ -119,14 +119,10 @@ impl ParamsString {
         ensures err { OnErr result (self.new ≡ self.old) }
         ensures invalid { IfErr result (λ e. e ≡ ParamsInvalid) }
     {
-        let mut buffer = [0u8; 64];
-        let Ok(len) = STANDARD_NO_PAD.encode_slice(bytes, &mut buffer) else {
+        let Some(text) = base64_text::<64>(bytes) else {
             return Err(Error::ParamsInvalid);
         };
-        let Ok(text) = str::from_utf8(&buffer[..len]) else {
-            unreachable!();
-        };
-        self.add(name, text)
+        self.add(name, text.as_str())
     }
 
     // The list whose text this is.

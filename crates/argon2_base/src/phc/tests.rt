@@ -16,6 +16,7 @@ fn is_read(rt: &impl Abort, alloc: Global, text: &str) -> Result<bool, Fail> {
         Ok(hash) => {
             let printed = hash.to_string(alloc)?;
             assert_eq!(rt; printed.as_str(), text);
+            assert_eq!(rt; hash.text().as_str(), text);
             assert!(rt; PasswordHash::new(printed.as_str())? == hash);
             Ok(true)
         }
@@ -106,6 +107,49 @@ fn longest(rt: HostRuntime) -> Result<(), Fail> {
 }
 
 #[test]
+fn lengths_of_salts_and_hashes(rt: HostRuntime) -> Result<(), Fail> {
+    for (salt, hash, read) in [
+        (10, 0, false),
+        (11, 0, true),
+        (64, 0, true),
+        (66, 0, false),
+        (11, 4, false),
+        (11, 6, true),
+        (11, 86, true),
+        (11, 87, false),
+    ] {
+        let mut text = joined(rt.alloc(), &[("$a$", 1), ("A", salt)])?;
+        if hash > 0 {
+            text.push_str(joined(rt.alloc(), &[("$", 1), ("A", hash)])?.as_str())?;
+        }
+        assert_eq!(rt; is_read(&rt, rt.alloc(), text.as_str())?, read);
+    }
+    Ok(())
+}
+
+#[test]
+fn made_of_parts(rt: HostRuntime) -> Result<(), Fail> {
+    let bare = PasswordHash {
+        algorithm: ARGON2D_IDENT,
+        version: None,
+        params: ParamsString::new(),
+        salt: None,
+        hash: None,
+    };
+    assert_eq!(rt; bare.text().as_str(), "$argon2d");
+    let whole = PasswordHash {
+        algorithm: ARGON2ID_IDENT,
+        version: Some(19),
+        params: "m=8,t=1,p=1".parse::<ParamsString>()?,
+        salt: Some(Salt::new(b"somesalt")?),
+        hash: Some(Output::new(&[0; 4])?),
+    };
+    assert_eq!(rt; whole.text().as_str(), TEXT);
+    assert!(rt; whole == PasswordHash::new(TEXT)? && whole != bare);
+    Ok(())
+}
+
+#[test]
 fn beginnings(rt: HostRuntime) -> Result<(), Fail> {
     let read = [2, 3, 4, 5, 6, 7, 8, 9, 13, 14, 18, 22, 26, 38, 45];
     for len in 0..46 {
@@ -169,10 +213,14 @@ fn lists(rt: HostRuntime) -> Result<(), Fail> {
     assert_eq!(rt; list.add_decimal("m", 8), Err(Error::ParamsInvalid));
     assert_eq!(rt; list.as_str(), "m=8");
     let bytes = [0u8; 49];
-    for (len, is_ok) in [(0, false), (48, true), (49, false)] {
+    for (len, answer) in [
+        (0, Err(Error::ParamsInvalid)),
+        (48, Ok(())),
+        (49, Err(Error::ParamsInvalid)),
+    ] {
         let mut list = ParamsString::new();
-        assert_eq!(rt; list.add_b64_bytes("x", &bytes[..len]).is_ok(), is_ok);
-        assert_eq!(rt; list.is_empty(), !is_ok);
+        assert_eq!(rt; list.add_b64_bytes("x", &bytes[..len]), answer);
+        assert_eq!(rt; list.is_empty(), answer.is_err());
     }
     for text in ["m=8,", ",m=8", "m==8"] {
         assert!(rt; text.parse::<ParamsString>() == Err(Error::ParamsInvalid));
@@ -205,12 +253,26 @@ fn values(rt: HostRuntime) -> Result<(), Fail> {
 #[test]
 fn parts(rt: HostRuntime) -> Result<(), Fail> {
     let bytes = [0u8; 65];
-    for (len, is_ok) in [(7, false), (8, true), (48, true), (49, false)] {
-        assert_eq!(rt; Salt::new(&bytes[..len]).is_ok(), is_ok);
+    for (len, answer) in [
+        (7, Err(Error::SaltInvalid)),
+        (8, Ok(8)),
+        (48, Ok(48)),
+        (49, Err(Error::SaltInvalid)),
+    ] {
+        assert_eq!(rt; Salt::new(&bytes[..len]).map(|salt| salt.len()), answer);
     }
-    for (len, is_ok) in [(3, false), (4, true), (64, true), (65, false)] {
-        assert_eq!(rt; Output::new(&bytes[..len]).is_ok(), is_ok);
+    for (len, answer) in [
+        (3, Err(Error::OutputSize)),
+        (4, Ok(4)),
+        (64, Ok(64)),
+        (65, Err(Error::OutputSize)),
+    ] {
+        assert_eq!(rt;
+            Output::new(&bytes[..len]).map(|output| output.len()),
+            answer
+        );
     }
+    assert_eq!(rt; Salt::RECOMMENDED_LENGTH, 16);
     let salt = Salt::new(b"somesalt")?;
     assert_eq!(rt; (salt.as_bytes(), salt.len()), (&b"somesalt"[..], 8));
     let printed = format!(in rt.alloc(); "{salt} {salt:?}")?;
