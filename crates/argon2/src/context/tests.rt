@@ -4,7 +4,6 @@ use argon2_base::blake2b::Blake2b;
 use std::convert::AsSlice;
 use std::test::Fail;
 
-mod counted;
 mod further_tags;
 mod lending;
 mod own_memory;

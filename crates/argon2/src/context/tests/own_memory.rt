@@ -1,8 +1,7 @@
-//! Hashing on memory of its own, out of heaps that count.
+//! Hashing on memory of its own.
 
-use super::counted::Counted;
 use super::{PWD, SALT, known, words};
-use crate::{Algorithm, Block, Error, Kdf, Version, kdf};
+use crate::{Algorithm, Error, Kdf, Version, kdf};
 use std::test::Fail;
 
 const KNOWN_TAG: [u64; 4] = [
@@ -12,38 +11,16 @@ const KNOWN_TAG: [u64; 4] = [
     0xb52520e96b01e659,
 ];
 
-// The heap has room for the 32 blocks alone.
 #[test]
-fn asks_once_and_gives_back_once(rt: HostRuntime) -> Result<(), Fail> {
-    let heap = Counted::new(rt.alloc(), 32 * Block::SIZE)?;
+fn hashes_on_memory_of_its_own(rt: HostRuntime) -> Result<(), Fail> {
     let argon2 = known(Algorithm::Argon2id, Version::V0x13)?;
     let mut tag = [7; 32];
-    argon2.hash_password_into(&heap, &PWD, &SALT, &mut tag)?;
+    argon2.hash_password_into(rt.alloc(), &PWD, &SALT, &mut tag)?;
     assert_eq!(rt; words(&tag), KNOWN_TAG);
-    assert_eq!(rt; heap.requests(), 1);
-    assert_eq!(rt; heap.releases(), 1);
     let mut tag = [7; 3];
-    let answer = argon2.hash_password_into(&heap, &PWD, &SALT, &mut tag);
+    let answer = argon2.hash_password_into(rt.alloc(), &PWD, &SALT, &mut tag);
     assert_eq!(rt; answer, Err(Error::OutputTooShort));
     assert_eq!(rt; tag, [7; 3]);
-    assert_eq!(rt; heap.requests(), 2);
-    assert_eq!(rt; heap.releases(), 2);
-    Ok(())
-}
-
-// The request comes before any check.
-#[test]
-fn tells_a_refused_request_first(rt: HostRuntime) -> Result<(), Fail> {
-    let argon2 = known(Algorithm::Argon2id, Version::V0x13)?;
-    for len in [3, 32] {
-        let heap = Counted::new(rt.alloc(), 32 * Block::SIZE - 16)?;
-        let mut tag = [7; 32];
-        let answer = argon2.hash_password_into(&heap, &PWD, &SALT, &mut tag[..len]);
-        assert_eq!(rt; answer, Err(Error::OutOfMemory), "{len}");
-        assert_eq!(rt; tag, [7; 32]);
-        assert_eq!(rt; heap.requests(), 1);
-        assert_eq!(rt; heap.releases(), 0);
-    }
     Ok(())
 }
 

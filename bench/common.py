@@ -1,0 +1,57 @@
+"""What the measurements share."""
+
+import os
+import re
+import subprocess
+import sys
+
+HERE = os.path.dirname(os.path.realpath(__file__))
+TOP = os.path.dirname(HERE)
+CPUS = ("x86-64-v2", "x86-64-v3")
+
+
+def processor():
+    """Returns the processor's name."""
+    with open("/proc/cpuinfo", encoding="utf-8") as it:
+        found = re.search(r"(?m)^model name\s*: (.*)$", it.read())
+    return found[1] if found else "an unknown processor"
+
+
+def run(*words, folder=None):
+    """Runs a command and returns what it prints, or ends with what it says of its failure."""
+    done = subprocess.run(words, cwd=folder, capture_output=True, text=True)
+    if done.returncode:
+        sys.exit(f"{' '.join(words)}: {done.stdout[-2000:]}{done.stderr[-2000:]}")
+    return done.stdout
+
+
+def read(path):
+    with open(path, encoding="utf-8") as it:
+        return it.read()
+
+
+def write(path, text):
+    os.makedirs(os.path.dirname(path), exist_ok=True)
+    with open(path, "w", encoding="utf-8") as it:
+        it.write(text)
+
+
+def built(top, name, libraries, sources, words=()):
+    """Builds a program over libraries of this repository, and of the kit, once for each processor.
+
+    Returns its paths by processor. `sources` are its files by their names, and `words` are the
+    arguments of the run that ends each build. All is written below `top`.
+    """
+    own = [line for line in read(f"{TOP}/crates.txt").splitlines() if line.startswith(("argon2:", "argon2_base:"))]
+    write(f"{top}/crates.txt", "\n".join([*own, f"{name}: {libraries}", ""]))
+    os.makedirs(f"{top}/crates")
+    for library in ("argon2", "argon2_base"):
+        run("cp", "-r", f"{TOP}/crates/{library}", f"{top}/crates")
+    folder, programs = f"{top}/crates/{name}", {}
+    for file, text in sources.items():
+        write(f"{folder}/src/{file}", text)
+    for cpu in CPUS:
+        run("rt", "run", f"--cpu={cpu}", "--", *words, folder=folder)
+        programs[cpu] = f"{top}/{cpu}"
+        run("cp", f"{folder}/out/{name}", programs[cpu])
+    return programs

@@ -1,0 +1,129 @@
+//! Shows what memory the calls of `argon2` ask for, a line a call. All but the last two take none; each
+//! of these makes one request. With a request refused, the line of the call that made it is another.
+#![tactic(auto)]
+
+use argon2::blake2b::Blake2b;
+use argon2::blake2b_long::blake2b_long;
+use argon2::{Algorithm, Argon2, Block, Kdf, KeyId, Params, ParamsBuilder, PasswordHash, Version};
+use std::fmt::Display;
+use std::io;
+use std::io::ErrorKind;
+
+const PASSWORD: &[u8] = b"password";
+
+const SALT: &[u8] = b"somesalt";
+
+const TEXT: &str = "$argon2id$v=19$m=8,t=1,p=1,keyid=a2V5$c29tZXNhbHQ$yctGGw";
+
+fn main(rt: HostRuntime) -> io::Result<()> {
+    digest(&rt)?;
+    texts(&rt)?;
+    let Ok(params) = Params::new(8, 1, 1, None) else {
+        return Err(io::Error::from(ErrorKind::InvalidInput));
+    };
+    let argon2 = Argon2::new(Algorithm::Argon2id, Version::V0x13, params);
+    lent(&rt, &argon2)?;
+    stepped(&rt, &argon2)?;
+
+    let mut out = [0; 4];
+    let answer = argon2.hash_password_into(rt.alloc(), PASSWORD, SALT, &mut out);
+    tell(&rt, "hash_password_into", answer, out)?;
+    let mut out = [0; 4];
+    let answer = argon2.derive_key(rt.alloc(), PASSWORD, SALT, &mut out);
+    tell(&rt, "derive_key", answer, out)
+}
+
+// A call's name, and the bytes that it wrote, or why it refused and what its output then holds.
+fn tell<E: Display + Drop>(
+    rt: &impl Print,
+    call: &str,
+    answer: Result<(), E>,
+    out: [u8; 4],
+) -> io::Result<()> {
+    let out = u32::from_be_bytes(out);
+    match answer {
+        Ok(()) => println!(rt; "{call}: {out:08x}"),
+        Err(e) => println!(rt; "{call}: {e}; the output is {out:08x}"),
+    }
+}
+
+fn digest(rt: &impl Print) -> io::Result<()> {
+    let mut out = [0; 4];
+    let mut hasher = Blake2b::new(4);
+    hasher.update(PASSWORD);
+    hasher.finalize_into(&mut out);
+    println!(rt; "Blake2b: {:08x}", u32::from_be_bytes(out))?;
+    let answer = blake2b_long(&[PASSWORD], &mut out);
+    tell(rt, "blake2b_long", answer, out)
+}
+
+// Reading and printing texts, and the builder.
+fn texts(rt: &impl Print) -> io::Result<()> {
+    match PasswordHash::new(TEXT) {
+        Ok(hash) => {
+            println!(rt; "PasswordHash::new: {hash}")?;
+            match Params::try_from(&hash) {
+                Ok(params) => println!(rt; "Params::try_from: {params}")?,
+                Err(e) => println!(rt; "Params::try_from: {e}")?,
+            }
+        }
+        Err(e) => println!(rt; "PasswordHash::new: {e}")?,
+    }
+    match KeyId::new(b"key") {
+        Ok(keyid) => match ParamsBuilder::new()
+            .m_cost(8)
+            .t_cost(1)
+            .p_cost(1)
+            .keyid(keyid)
+            .build()
+        {
+            Ok(params) => println!(rt; "ParamsBuilder::build: {params}"),
+            Err(e) => println!(rt; "ParamsBuilder::build: {e}"),
+        },
+        Err(e) => println!(rt; "KeyId::new: {e}"),
+    }
+}
+
+// The calls on lent memory.
+#[tactic(auto, unfolding(argon2::specs::Context::segment_length))]
+fn lent(rt: &impl Print, argon2: &Argon2<'_>) -> io::Result<()> {
+    let (mut memory, mut out) = ([Block::new(); 8], [0; 4]);
+    let answer = argon2.hash_password_into_with_memory(PASSWORD, SALT, &mut out, &mut memory);
+    tell(rt, "hash_password_into_with_memory", answer, out)?;
+
+    match argon2.fill_memory(PASSWORD, SALT, &mut memory) {
+        Ok(()) => println!(rt; "fill_memory: {} blocks", memory.len())?,
+        Err(e) => println!(rt; "fill_memory: {e}")?,
+    }
+
+    let (mut positions, params) = ([0; 8], argon2.params());
+    if params.t_cost() == 1 && params.block_count() == positions.len() {
+        let answer = argon2.hash_password_into_watched(
+            PASSWORD,
+            SALT,
+            &mut out,
+            &mut memory,
+            &mut positions,
+        );
+        match answer {
+            Ok(work) => println!(rt; "hash_password_into_watched: {} mixings", work.mixes())?,
+            Err(e) => println!(rt; "hash_password_into_watched: {e}")?,
+        }
+    }
+    Ok(())
+}
+
+// The same tag by single steps.
+#[tactic(auto, unfolding(argon2::specs::Context::segment_length))]
+fn stepped(rt: &impl Print, argon2: &Argon2<'_>) -> io::Result<()> {
+    let (mut memory, mut out) = ([Block::new(); 8], [0; 4]);
+    let answer = argon2.begin_fill(PASSWORD, SALT, out.len(), &mut memory);
+    let params = argon2.params();
+    if answer.is_ok() && params.block_count() <= memory.len() && params.output_len().is_none() {
+        for column in 2..params.lane_length() {
+            argon2.step_block(&mut memory, 0, 0, column);
+        }
+        argon2.finish_fill(&memory, &mut out);
+    }
+    tell(rt, "finish_fill", answer, out)
+}
