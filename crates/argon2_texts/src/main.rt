@@ -1,0 +1,36 @@
+//! `argon2-texts`: says what texts are read as. Each line of standard input is a text's bytes in hex;
+//! each line of the answer is the text printed again with its parameters or why it has none, or
+//! why it is refused. `ci/hostile-texts` compares the answers with those of a reader of its own.
+#![tactic(auto)]
+
+use argon2::{Params, PasswordHash};
+use std::alloc::{AllocError, Global};
+use std::io;
+use std::io::{BufWriter, Write};
+
+fn main(rt: HostRuntime) -> io::Result<()> {
+    let alloc = rt.alloc();
+    let mut output = BufWriter::new(alloc, rt.stdout())?;
+    for line in rt.lines(alloc) {
+        let said = answer(alloc, line?.as_str())?;
+        writeln!(output, "{said}")?;
+    }
+    output.flush()
+}
+
+// What the text is read as, whose bytes a line has in hex.
+fn answer(alloc: Global, line: &str) -> Result<String, AllocError> {
+    let Ok(bytes) = hex::decode(alloc, line) else {
+        return format!(in alloc; "no hex");
+    };
+    let Ok(text) = str::from_utf8(bytes.as_slice()) else {
+        return format!(in alloc; "no text");
+    };
+    match PasswordHash::new(text) {
+        Ok(hash) => match Params::try_from(&hash) {
+            Ok(params) => format!(in alloc; "{hash} {params}"),
+            Err(fault) => format!(in alloc; "{hash} {fault}"),
+        },
+        Err(fault) => format!(in alloc; "{fault}"),
+    }
+}
