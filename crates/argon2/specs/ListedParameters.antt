@@ -1,11 +1,10 @@
 -- Parameters as a parameter list, and the parameters that a list stands for.
-use Rattle.std.specs.Prelude.{ℕ, nat_le, List, [], ◌∷◌, ◌++◌, codes, length, if◌then◌else◌, Option, Some, None, Result, Ok, Err, unwrap_or, option_and_then}
+use Rattle.std.specs.Prelude.{ℕ, List, [], ◌∷◌, ◌++◌, codes, if◌then◌else◌, Option, Some, None, Result, Ok, Err, unwrap_or, option_and_then}
 use Rattle.std.specs.Fmt.{decimal}
 use Rattle.std.specs.Option.{option_or}
 use Rattle.std.specs.Str.{bytes_eq}
-use Rattle.base64.specs.Engines.{standard_no_pad}
-use Rattle.base64.specs.GeneralPurpose.{decoded_of}
 use Rattle.argon2_base.specs.Base64.{strict_base64}
+pub use Rattle.argon2_base.specs.Base64.{short_bytes}
 use Rattle.argon2_base.specs.Decimal.{number_of}
 use Rattle.argon2_base.specs.ParamsText.{Pair, value_of}
 use Rattle.argon2_base.specs.declared.error.Error.{Error}
@@ -28,11 +27,6 @@ abbrev pub list_of : Parameters → List Pair
 list_of v = listed v.m_cost v.t_cost v.p_cost v.keyid v.associated
 
 -- ---- reading
-
--- the bytes, at most so many, whose strict Base64 the text is
-abbrev pub short_bytes : ℕ → List ℕ → Option (List ℕ)
-short_bytes most text =
-    option_and_then (λ b. if nat_le (length b) most then Some b else None) (decoded_of standard_no_pad text)
 
 -- a value that can't be read is a fault of its parameter
 abbrev pub unless_read : {X : Type 0} → Option X → List ℕ → Option Fault

@@ -1,17 +1,18 @@
 -- The engine without padding reads and writes strict Base64, and nothing else.
-use Rattle.std.proofs.Common.{◌≡◌, ℕ, ◌+◌, ◌*◌, ◌/◌, ◌<◌, ◌≤◌, List, ◌++◌, length, take, drop, Ok, Err, codes, refl, sym, ◌∙◌, ap, Result}
+use Rattle.std.proofs.Common.{◌≡◌, ℕ, ◌+◌, ◌*◌, ◌/◌, ◌<◌, ◌≤◌, List, ◌++◌, length, take, drop, Ok, Err, codes, refl, sym, ◌∙◌, ap, Result, Some, None, inl, inr, leb}
+use Rattle.std.proofs.lemmas.Bool.{cases_Bool, le-leb, leb-true}
 use Rattle.std.proofs.lemmas.List.{append-nil}
 use Rattle.std.proofs.lemmas.Str.{IsUtf8-from_ascii}
 use Rattle.std.specs.Str.{IsUtf8}
 use Rattle.base64.specs.Engines.{standard_no_pad}
 use Rattle.base64.specs.Rfc4648.{encode_symbols}
-use Rattle.base64.specs.GeneralPurpose.{decode_of, encode_of, encoded_size_of}
+use Rattle.base64.specs.GeneralPurpose.{decode_of, decoded_of, encode_of, encoded_size_of}
 use Rattle.base64.specs.declared.decode.DecodeError.{DecodeError}
 use Rattle.base64.specs.declared.encode.EncodeSliceError.{EncodeSliceError}
 use Rattle.base64.specs.declared.encode.EncodeSliceError.TheVariants.{OutputSliceTooSmall}
 use Rattle.base64.proofs.EngineFacts.{decode_of_strict, decode_of-encode_of, encoded_prefix, IsAscii-encode_of}
 use Rattle.base64.proofs.RoundTrip.{length-encode_symbols}
-use Rattle.argon2_base.specs.Base64.{alphabet, strict_base64, IsBytes}
+use Rattle.argon2_base.specs.Base64.{alphabet, strict_base64, short_bytes, IsBytes}
 
 -- the engine's symbols are the alphabet of RFC 4648
 pub encode_table-alphabet : standard_no_pad.encode_table ≡ alphabet
@@ -29,6 +30,36 @@ strict_base64_decoded s b bytes ok = decode_of_strict standard_no_pad s b (refl,
 -- a strict text decodes to its bytes
 pub decode_of-strict_base64 : (b : List ℕ) → IsBytes b → decode_of standard_no_pad (strict_base64 b) ≡ Ok b
 decode_of-strict_base64 b bytes = ap (decode_of standard_no_pad) (sym (encode_of-strict b)) ∙ decode_of-encode_of standard_no_pad b refl bytes
+
+-- what `short_bytes` answers, by what decoding does
+short_by : (most : ℕ) (s b : List ℕ) (r : Result (List ℕ) DecodeError) → decode_of standard_no_pad s ≡ r → short_bytes most s ≡ Some b
+    → (r ≡ Ok b) × (length b ≤ most)
+unfolding decoded_of
+short_by most s b (Err e) is h = absurd (let f = rw is at h in cc)
+short_by most s b (Ok d) is h = elim (cases_Bool (leb (length d) most)) [
+  | inl short ↦
+      let f = rw (is, short) at h in
+      let same : d ≡ b = cc f in
+      (ap Ok same, rw (← same) (leb-true (length d) most short))
+  | inr long ↦ absurd (let f = rw (is, long) at h in cc)
+]
+
+-- `short_bytes` finds the bytes, at most so many, whose strict Base64 a text is
+pub short_bytes_found : (most : ℕ) (s b : List ℕ) → IsBytes s → short_bytes most s ≡ Some b → (length b ≤ most) × (s ≡ strict_base64 b)
+short_bytes_found most s b bytes h =
+    let found = short_by most s b (decode_of standard_no_pad s) refl h in
+    (found.1, strict_base64_decoded s b bytes found.0)
+
+-- and finds those of each such text
+pub short_bytes_again : (most : ℕ) (b : List ℕ) → IsBytes b → length b ≤ most → short_bytes most (strict_base64 b) ≡ Some b
+unfolding decoded_of
+short_bytes_again most b bytes short = rw (decode_of-strict_base64 b bytes, le-leb (length b) most short) refl
+
+-- where it finds none, there are none
+pub short_bytes_none : (most : ℕ) (s : List ℕ) → short_bytes most s ≡ None → (b : List ℕ) → IsBytes b → length b ≤ most → s ≡ strict_base64 b → ⊥
+short_bytes_none most s h b bytes short is =
+    let again : short_bytes most s ≡ Some b = rw is (short_bytes_again most b bytes short) in
+    absurd (let f = sym h ∙ again in cc)
 
 -- how long the text of so many bytes is
 pub length-strict_base64 : (b : List ℕ) → length (strict_base64 b) ≡ (4 * length b + 2) / 3

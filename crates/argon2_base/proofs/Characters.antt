@@ -1,7 +1,7 @@
 -- What follows from a test of each character.
-use Rattle.std.proofs.Common.{◌≡◌, ◌-◌, ◌∙◌, ap, ℕ, zero, suc, ◌<◌, Bool, true, false, ◌&&◌, List, [], ◌∷◌, ◌++◌, length, take, drop, replicate, refl, arith, inl, inr, eqb}
+use Rattle.std.proofs.Common.{◌≡◌, ◌-◌, ◌∙◌, ap, ℕ, zero, suc, ◌<◌, Bool, true, false, List, [], ◌∷◌, ◌++◌, length, take, drop, replicate, refl, arith, inl, inr, eqb}
 use Rattle.std.proofs.lemmas.Bool.Decides.{nat_tests}
-use Rattle.std.proofs.lemmas.Bool.{cases_Bool, eqb-true}
+use Rattle.std.proofs.lemmas.Bool.{cases_Bool, eqb-true, and_parts}
 use Rattle.std.proofs.lemmas.List.{drop-replicate, take_at}
 use Rattle.std.specs.List.{list_all, AllByRecursion}
 use Rattle.std.specs.Str.{IsAscii, IsUtf8}
@@ -9,15 +9,10 @@ use Rattle.std.proofs.lemmas.Str.{IsUtf8-from_ascii}
 use Rattle.std.proofs.lemmas.Slice.{drop-append-drop}
 use Rattle.argon2_base.specs.Names.{is_name_char, is_name}
 
--- both parts of a conjunction
-pub both : (a b : Bool) → (a && b) ≡ true → (a ≡ true) × (b ≡ true)
-both true b h = (refl, h)
-both false b h = absurd cc
-
 -- each element is what passing elements are
-pub each : (p : ℕ → Bool) (P : ℕ → Type 0) (gives : (c : ℕ) → p c ≡ true → P c) (s : List ℕ) → list_all p s ≡ true → AllByRecursion P s
-each p P gives [] h = tt
-each p P gives (x ∷ s) h = let b = both (p x) (list_all p s) h in (gives x b.0, each p P gives s b.1)
+pub tests_give : (p : ℕ → Bool) (P : ℕ → Type 0) (gives : (c : ℕ) → p c ≡ true → P c) (s : List ℕ) → list_all p s ≡ true → AllByRecursion P s
+tests_give p P gives [] h = tt
+tests_give p P gives (x ∷ s) h = let b = and_parts (p x) (list_all p s) h in (gives x b.0, tests_give p P gives s b.1)
 
 -- a character of names is ASCII
 pub name_char_small : (c : ℕ) → is_name_char c ≡ true → c < 128
@@ -26,12 +21,12 @@ name_char_small c h = grind (arith, nat_tests)
 -- characters that pass such a test are ASCII text
 ascii : (p : ℕ → Bool) (gives : (c : ℕ) → p c ≡ true → c < 128) (s : List ℕ) → list_all p s ≡ true → IsAscii s
 ascii p gives [] h i = omega arith
-ascii p gives (x ∷ s) h zero = gives x (both (p x) (list_all p s) h).0
-ascii p gives (x ∷ s) h (suc i) = ascii p gives s (both (p x) (list_all p s) h).1 i
+ascii p gives (x ∷ s) h zero = gives x (and_parts (p x) (list_all p s) h).0
+ascii p gives (x ∷ s) h (suc i) = ascii p gives s (and_parts (p x) (list_all p s) h).1 i
 
 -- the characters of a name
 pub name_chars : (s : List ℕ) → is_name s ≡ true → list_all is_name_char s ≡ true
-name_chars s h = (both _ (list_all is_name_char s) h).1
+name_chars s h = (and_parts _ (list_all is_name_char s) h).1
 
 -- a name is text
 pub IsUtf8-name : (s : List ℕ) → is_name s ≡ true → IsUtf8 s
@@ -39,7 +34,7 @@ IsUtf8-name s h = IsUtf8-from_ascii s (ascii is_name_char name_char_small s (nam
 
 -- a character that doesn't pass is in no list of those that do
 pub lacks_by : (p : ℕ → Bool) (c : ℕ) → p c ≡ false → (s : List ℕ) → list_all p s ≡ true → AllByRecursion (λ x. eqb x c ≡ false) s
-lacks_by p c fails s h = each p (λ x. eqb x c ≡ false) (λ x yes. elim (cases_Bool (eqb x c)) [
+lacks_by p c fails s h = tests_give p (λ x. eqb x c ≡ false) (λ x yes. elim (cases_Bool (eqb x c)) [
   | inl same ↦ let e : x ≡ c = eqb-true x c same in absurd (let y : p c ≡ true = rw (← e) yes in cc)
   | inr other ↦ other
 ]) s h

@@ -1,6 +1,6 @@
 -- Reading a list item by item.
 use Rattle.std.proofs.Common.{◌≡◌, ℕ, ◌<◌, ◌≤◌, true, false, ◌&&◌, List, [], ◌∷◌, ◌++◌, length, map, refl, sym, ap, ◌∙◌, arith, inl, inr, leb, length-append, append_assoc}
-use Rattle.std.proofs.lemmas.Bool.{cases_Bool, le-leb, leb-true}
+use Rattle.std.proofs.lemmas.Bool.{cases_Bool, le-leb, leb-true, and_parts}
 use Rattle.std.proofs.lemmas.List.{append-nil, map-append}
 use Rattle.std.proofs.lemmas.List.Folds.{list_all-append}
 use Rattle.std.proofs.lemmas.List.Splits.{join_with_byte-slice_split}
@@ -9,7 +9,6 @@ use Rattle.std.specs.Str.{bytes_eq}
 use Rattle.std.specs.Prelude.{is_none}
 use Rattle.argon2_base.specs.Names.{is_value}
 use Rattle.argon2_base.specs.ParamsText.{Pair, item, params_text, value_of, are_distinct, is_param, are_params, ParamsText, pair_of, items_of, pairs_of}
-use Rattle.argon2_base.proofs.Characters.{both}
 use Rattle.argon2_base.proofs.ParamsTextLemmas.{all_params, pairs_again, items_again_long, map_again, text_long, param_value}
 
 -- the list of the empty text
@@ -28,8 +27,8 @@ ends text done h e = (h, sym (join_with_byte-slice_split 44 text) ∙ ap (join_w
 -- ---- at an item
 
 -- the items of a list's text, where some were read
-pub here : (text : List ℕ) (done ps : List Pair) (x : List ℕ) (more : List (List ℕ)) → 0 < length text → ParamsText text ps → map item done ++ x ∷ more ≡ items_of text → map item done ++ x ∷ more ≡ map item ps
-here text done ps x more long h e = e ∙ ap items_of h.1 ∙ items_again_long ps (all_params ps h.0) (rw (← h.1) long)
+pub items_from_here : (text : List ℕ) (done ps : List Pair) (x : List ℕ) (more : List (List ℕ)) → 0 < length text → ParamsText text ps → map item done ++ x ∷ more ≡ items_of text → map item done ++ x ∷ more ≡ map item ps
+items_from_here text done ps x more long h e = e ∙ ap items_of h.1 ∙ items_again_long ps (all_params ps h.0) (rw (← h.1) long)
 
 -- what is next is an item
 pub is_item : (done ps : List Pair) (x : List ℕ) (more : List (List ℕ)) → map item done ++ x ∷ more ≡ map item ps → (p : Pair) × (x ≡ item p)
@@ -50,7 +49,7 @@ absent_front n (p ∷ a) b h = elim (cases_Bool (bytes_eq p.0 n)) [
 distinct_front : (a b : List Pair) → are_distinct (a ++ b) ≡ true → are_distinct a ≡ true
 distinct_front [] b h = refl
 distinct_front (p ∷ a) b h =
-    let d = both (is_none (value_of p.0 (a ++ b))) (are_distinct (a ++ b)) h in
+    let d = and_parts (is_none (value_of p.0 (a ++ b))) (are_distinct (a ++ b)) h in
     rw (absent_front p.0 a b d.0, distinct_front a b d.1) refl
 
 -- the text of a front is no longer
@@ -63,9 +62,9 @@ text_front (q ∷ r ∷ a) b = omega (arith, text_front (r ∷ a) b, length-appe
 -- the front of a list in the grammar is in the grammar
 pub params_front : (a b : List Pair) → are_params (a ++ b) ≡ true → are_params a ≡ true
 params_front a b h =
-    let t = both (list_all is_param (a ++ b) && are_distinct (a ++ b)) (leb (length (params_text (a ++ b))) 127) h in
-    let d = both (list_all is_param (a ++ b)) (are_distinct (a ++ b)) t.0 in
-    let l = both (list_all is_param a) (list_all is_param b) (sym (list_all-append is_param a b) ∙ d.0) in
+    let t = and_parts (list_all is_param (a ++ b) && are_distinct (a ++ b)) (leb (length (params_text (a ++ b))) 127) h in
+    let d = and_parts (list_all is_param (a ++ b)) (are_distinct (a ++ b)) t.0 in
+    let l = and_parts (list_all is_param a) (list_all is_param b) (sym (list_all-append is_param a b) ∙ d.0) in
     let short : length (params_text a) ≤ 127 = omega (arith, text_front a b, leb-true (length (params_text (a ++ b))) 127 t.1) in
     rw (l.0, distinct_front a b d.1, le-leb (length (params_text a)) 127 short) refl
 
@@ -82,7 +81,7 @@ fits_here done ps x more h k e =
 value_length : (n v : List ℕ) → is_param (n, v) ≡ true → length v ≤ 64
 value_length n v h =
     let value : is_value v ≡ true = param_value (n, v) h in
-    leb-true (length v) 64 (both (leb 1 (length v)) (leb (length v) 64) (both (leb 1 (length v) && leb (length v) 64) _ value).0).1
+    leb-true (length v) 64 (and_parts (leb 1 (length v)) (leb (length v) 64) (and_parts (leb 1 (length v) && leb (length v) 64) _ value).0).1
 
 -- what is longer is no value
 pub long_value : (n v : List ℕ) → 64 < length v → is_param (n, v) ≡ false

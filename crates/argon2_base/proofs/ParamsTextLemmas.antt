@@ -1,7 +1,7 @@
 -- What a list says, and what longer lists are.
 use Rattle.std.proofs.Common.{◌≡◌, ◌≢◌, ℕ, ◌<◌, Bool, true, false, not, ◌&&◌, List, [], ◌∷◌, ◌++◌, length, map, refl, sym, ap, ◌∙◌, arith, inl, inr, eqb, leb, Some, None, length-append, append_assoc, lit<}
 use Rattle.std.specs.Cmp.Lexicographic.{nat_list_eq_equiv}
-use Rattle.std.proofs.lemmas.Bool.{cases_Bool}
+use Rattle.std.proofs.lemmas.Bool.{cases_Bool, and_parts}
 use Rattle.std.specs.List.{list_all, AllByRecursion}
 use Rattle.std.proofs.lemmas.List.Folds.{list_all-append}
 use Rattle.std.proofs.lemmas.Str.Pattern.{IsSplitOnceResult, split_parts}
@@ -10,7 +10,7 @@ use Rattle.std.specs.Borrow.{Bor}
 use Rattle.std.specs.Prelude.{is_none, is_some, IfSome, IfNone, Option}
 use Rattle.argon2_base.specs.Names.{is_name, is_value, is_name_char, is_value_char}
 use Rattle.argon2_base.specs.ParamsText.{Pair, item, params_text, value_of, are_distinct, is_param, are_params, pair_of, items_of, pairs_of, with_item}
-use Rattle.argon2_base.proofs.Characters.{both, name_chars, lacks_by}
+use Rattle.argon2_base.proofs.Characters.{name_chars, lacks_by}
 use Rattle.argon2_base.proofs.Separators.{Lacks, Lacks-append, Lacks_from, Lacks_not, cut_joined}
 
 -- the parts of an item
@@ -22,15 +22,15 @@ pair_again (c ∷ n) v h = rw (h.0, pair_again n v h.1) refl
 
 -- its name
 pub param_name : (p : Pair) → is_param p ≡ true → is_name p.0 ≡ true
-param_name p h = (both (is_name p.0) _ (both _ (is_value p.1) h).0).0
+param_name p h = (and_parts (is_name p.0) _ (and_parts _ (is_value p.1) h).0).0
 
 -- its value
 pub param_value : (p : Pair) → is_param p ≡ true → is_value p.1 ≡ true
-param_value p h = (both _ (is_value p.1) h).1
+param_value p h = (and_parts _ (is_value p.1) h).1
 
 -- the characters of a value
 value_chars : (s : List ℕ) → is_value s ≡ true → list_all is_value_char s ≡ true
-value_chars s h = (both _ (list_all is_value_char s) h).1
+value_chars s h = (and_parts _ (list_all is_value_char s) h).1
 
 -- a name lacks what is no character of names
 pub name_lacks : (c : ℕ) → is_name_char c ≡ false → (s : List ℕ) → is_name s ≡ true → Lacks c s
@@ -51,18 +51,18 @@ item_lacks c a b d p h = Lacks-append c p.0 (61 ∷ p.1) (name_lacks c a p.0 (pa
 -- items have no `,`
 pub items_lack : (ps : List Pair) → list_all is_param ps ≡ true → AllByRecursion (Lacks 44) (map item ps)
 items_lack [] h = tt
-items_lack (p ∷ ps) h = let b = both (is_param p) (list_all is_param ps) h in (item_lacks 44 refl refl refl p b.0, items_lack ps b.1)
+items_lack (p ∷ ps) h = let b = and_parts (is_param p) (list_all is_param ps) h in (item_lacks 44 refl refl refl p b.0, items_lack ps b.1)
 
 -- items are read as their parameters
 pub map_again : (ps : List Pair) → list_all is_param ps ≡ true → map pair_of (map item ps) ≡ ps
 map_again [] h = refl
-map_again (p ∷ ps) h = let b = both (is_param p) (list_all is_param ps) h in rw (param_again p b.0, map_again ps b.1) refl
+map_again (p ∷ ps) h = let b = and_parts (is_param p) (list_all is_param ps) h in rw (param_again p b.0, map_again ps b.1) refl
 
 -- ---- the whole list
 
 -- each of a list is a parameter
 pub all_params : (ps : List Pair) → are_params ps ≡ true → list_all is_param ps ≡ true
-all_params ps h = (both (list_all is_param ps) _ (both _ (leb (length (params_text ps)) 127) h).0).0
+all_params ps h = (and_parts (list_all is_param ps) _ (and_parts _ (leb (length (params_text ps)) 127) h).0).0
 
 -- text that isn't empty
 pub pairs_of_items : (t : List ℕ) → 0 < length t → pairs_of t ≡ map pair_of (items_of t)
@@ -155,8 +155,8 @@ list_all-more ps p = list_all-append is_param ps (p ∷ []) ∙ ap (λ b. list_a
 -- when a list may get one more
 pub are_params-more : (ps : List Pair) (p : Pair) → are_params ps ≡ true → are_params (ps ++ p ∷ []) ≡ ((is_param p && is_none (value_of p.0 ps)) && leb (length (with_item (params_text ps) p)) 127)
 are_params-more ps p h =
-    let b = both (list_all is_param ps && are_distinct ps) _ h in
-    let d = both (list_all is_param ps) (are_distinct ps) b.0 in
+    let b = and_parts (list_all is_param ps && are_distinct ps) _ h in
+    let d = and_parts (list_all is_param ps) (are_distinct ps) b.0 in
     rw (list_all-more ps p, are_distinct-more ps p, params_text-more ps p, d.0, d.1) refl
 
 -- ---- where an item is cut

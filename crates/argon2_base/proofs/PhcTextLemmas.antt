@@ -1,7 +1,7 @@
 -- The fields of a text, and the text of the fields.
 use Rattle.std.proofs.Common.{◌≡◌, ◌≢◌, ◌↔◌, ℕ, ◌<◌, ◌^◌, Bool, true, false, IsTrue, List, [], ◌∷◌, ◌++◌, length, refl, sym, ap, ◌∙◌, subst, arith, Option, Some, None, append_assoc, codes, eqb}
 use Rattle.std.proofs.lemmas.List.{append-nil}
-use Rattle.std.proofs.lemmas.Bool.{not-true}
+use Rattle.std.proofs.lemmas.Bool.{not-true, and_parts}
 use Rattle.std.specs.Prelude.{IfSome, IsSome, IsNone, is_some}
 use Rattle.std.specs.Borrow.{Bor}
 use Rattle.std.proofs.lemmas.Grind.{flat_map-append}
@@ -15,7 +15,7 @@ use Rattle.argon2_base.specs.Base64.{strict_base64}
 use Rattle.argon2_base.specs.ParamsText.{Pair, item, params_text, is_param, are_params, pair_of}
 use Rattle.argon2_base.specs.PhcFields.{fields_of, fields_left, NoVersionFirst, NoItemFirst}
 use Rattle.argon2_base.specs.PhcText.{Phc, field, list_field, version_text, fields, fields_text, phc_text, HasBytes, IsPhc, PhcText}
-use Rattle.argon2_base.proofs.Characters.{both, lacks_by}
+use Rattle.argon2_base.proofs.Characters.{lacks_by}
 use Rattle.argon2_base.proofs.Separators.{Lacks, Lacks-append, Lacks_not, cut_joined}
 use Rattle.argon2_base.proofs.ParamsTextLemmas.{all_params, name_lacks, item_lacks, pair_again, param_name}
 use Rattle.argon2_base.proofs.ValueCharacters.{decimal_chars, base64_chars}
@@ -25,9 +25,9 @@ use Rattle.argon2_base.proofs.ValueCharacters.{decimal_chars, base64_chars}
 -- a list's text lacks what no item has, and is no `,`
 params_text_lacks : (c : ℕ) → is_name_char c ≡ false → is_value_char c ≡ false → eqb 61 c ≡ false → eqb 44 c ≡ false → (ps : List Pair) → list_all is_param ps ≡ true → Lacks c (params_text ps)
 params_text_lacks c a b d e [] h = tt
-params_text_lacks c a b d e (p ∷ []) h = item_lacks c a b d p (both (is_param p) true h).0
+params_text_lacks c a b d e (p ∷ []) h = item_lacks c a b d p (and_parts (is_param p) true h).0
 params_text_lacks c a b d e (p ∷ q ∷ ps) h =
-    let k = both (is_param p) (list_all is_param (q ∷ ps)) h in
+    let k = and_parts (is_param p) (list_all is_param (q ∷ ps)) h in
     Lacks-append c (item p) (44 ∷ params_text (q ∷ ps)) (item_lacks c a b d p k.0) (e, params_text_lacks c a b d e (q ∷ ps) k.1)
 
 -- strict Base64 lacks what is no character of values
@@ -83,8 +83,8 @@ abbrev pub from_salt : Phc → List (List ℕ)
 from_salt v = field strict_base64 v.salt ++ field strict_base64 v.hash
 
 -- what a text that is in the grammar begins with
-pub start : (text t first : List ℕ) (left : List (List ℕ)) (v : Phc) → PhcText text v → text ≡ 36 ∷ t → fields_of t ≡ first ∷ left → (first ≡ v.algorithm) × (left ≡ field version_text v.version ++ from_params v)
-start text t first left v h e f =
+pub first_and_left : (text t first : List ℕ) (left : List (List ℕ)) (v : Phc) → PhcText text v → text ≡ 36 ∷ t → fields_of t ≡ first ∷ left → (first ≡ v.algorithm) × (left ≡ field version_text v.version ++ from_params v)
+first_and_left text t first left v h e f =
     let same : 36 ∷ t ≡ 36 ∷ join_with_byte 36 (fields v) = sym e ∙ h.1 ∙ joined v.algorithm (field version_text v.version ++ from_params v) in
     let t-is : t ≡ join_with_byte 36 (fields v) = cc in
     let cut : fields_of t ≡ fields v = ap fields_of t-is ∙ cut_joined 36 v.algorithm (field version_text v.version ++ from_params v) (fields_lack v h.0) in
@@ -128,13 +128,13 @@ no_item v h = bytes_no_item v.salt v.hash h.salt h.hash
 
 -- no parameter is named `v`
 not_v : (p : Pair) → is_param p ≡ true → bytes_eq p.0 (codes "v") ≡ false
-not_v p h = not-true _ (both (is_name p.0) _ (both _ (is_value p.1) h).0).1
+not_v p h = not-true _ (and_parts (is_name p.0) _ (and_parts _ (is_value p.1) h).0).1
 
 -- a list is no version
 list_no_version : (ps : List Pair) (rest : List (List ℕ)) → are_params ps ≡ true → NoItemFirst rest → NoVersionFirst (list_field ps ++ rest)
 list_no_version [] rest h k d more e = k (codes "v", d) more e
 list_no_version (p ∷ ps) rest h k d more e =
-    let one = both (is_param p) (list_all is_param ps) (all_params (p ∷ ps) h) in
+    let one = and_parts (is_param p) (list_all is_param ps) (all_params (p ∷ ps) h) in
     let t = text_item p ps in
     let first : params_text (p ∷ ps) ≡ item (codes "v", d) = cc in
     let same : item (p.0, t.0) ≡ item (codes "v", d) = sym t.1 ∙ first in

@@ -1,5 +1,6 @@
 -- The characters of decimals and of strict Base64.
 use Rattle.std.proofs.Common.{◌≡◌, ℕ, zero, suc, ◌+◌, ◌*◌, ◌/◌, ◌%◌, ◌<◌, ◌^◌, Bool, true, List, [], ◌∷◌, length, get_or, refl, arith}
+use Rattle.std.proofs.lemmas.Bool.{and_parts}
 use Rattle.std.proofs.lemmas.Bool.Decides.{nat_tests}
 use Rattle.std.proofs.lemmas.List.Folds.{list_all-append}
 use Rattle.std.proofs.lemmas.Fmt.{decimal_by_steps}
@@ -8,7 +9,6 @@ use Rattle.std.specs.Fmt.{decimal}
 use Rattle.base64.specs.Rfc4648.{encode_symbols}
 use Rattle.argon2_base.specs.Names.{is_value_char}
 use Rattle.argon2_base.specs.Base64.{alphabet, strict_base64, IsBytes}
-use Rattle.argon2_base.proofs.Characters.{both}
 
 -- digits are characters of values
 digit_char : (n : ℕ) → n < 10 → is_value_char (48 + n) ≡ true
@@ -24,8 +24,8 @@ decimal_chars n small = decimal_by_steps (λ n ds. list_all is_value_char ds ≡
 -- what passes at each place
 list_all_get : (p : ℕ → Bool) (t : List ℕ) (i : ℕ) → list_all p t ≡ true → i < length t → p (get_or t i 0) ≡ true
 list_all_get p [] i h lt = absurd (omega arith)
-list_all_get p (x ∷ t) zero h lt = (both (p x) (list_all p t) h).0
-list_all_get p (x ∷ t) (suc i) h lt = list_all_get p t i (both (p x) (list_all p t) h).1 (omega arith)
+list_all_get p (x ∷ t) zero h lt = (and_parts (p x) (list_all p t) h).0
+list_all_get p (x ∷ t) (suc i) h lt = list_all_get p t i (and_parts (p x) (list_all p t) h).1 (omega arith)
 
 -- an encoding has characters of its alphabet alone
 encoded_chars : (p : ℕ → Bool) (t : List ℕ) (m : List ℕ) → list_all p t ≡ true → length t ≡ 64 → IsBytes m → list_all p (encode_symbols t m) ≡ true

@@ -1,5 +1,8 @@
 -- Base64 (RFC 4648, section 4) without padding.
-use Rattle.std.specs.Prelude.{ℕ, ◌<◌, List, codes, slice_index}
+use Rattle.std.specs.Prelude.{ℕ, nat_le, if◌then◌else◌, List, codes, length, Option, Some, None, option_and_then}
+use Rattle.base64.specs.Engines.{standard_no_pad}
+use Rattle.base64.specs.GeneralPurpose.{decoded_of}
+pub use Rattle.base64.specs.GeneralPurpose.{IsBytes}
 use Rattle.base64.specs.Rfc4648.{encode_symbols}
 
 -- the 64 symbols, in the order of their values (RFC 4648, table 1)
@@ -10,6 +13,8 @@ alphabet = codes "ABCDEFGHIJKLMNOPQRSTUVWXYZabcdefghijklmnopqrstuvwxyz0123456789
 unfoldable pub strict_base64 : List ℕ → List ℕ
 strict_base64 bytes = encode_symbols alphabet bytes
 
--- each is a byte
-abbrev pub IsBytes : List ℕ → Type 0
-IsBytes bytes = (i : ℕ) → slice_index bytes i < 256
+-- the bytes, at most so many, whose strict Base64 the text is (`short_bytes_says`). The library's
+-- decoder stands here so that it computes
+abbrev pub short_bytes : ℕ → List ℕ → Option (List ℕ)
+short_bytes most text =
+    option_and_then (λ b. if nat_le (length b) most then Some b else None) (decoded_of standard_no_pad text)
