@@ -70,7 +70,7 @@ impl<'key> Argon2<'key> {
     ghost use Rattle.argon2.specs.Tag.{tag_of};
 
     /// Hashing with these parameters and no secret. The key identifier of the parameters changes no
-    /// tag; their associated data is hashed.
+    /// hash, as [`key_identifier`](crate::laws::key_identifier) says; their associated data is hashed.
     pub fn new(algorithm: Algorithm, version: Version, params: Params) -> Argon2<'key>
         ensures settings { settings_of result
             ≡ record { algorithm = algorithm; version = version; parameters = parameters_of params } }
