@@ -1,6 +1,7 @@
 //! The known tags by single steps, whose lanes take turns in several orders.
 
-use super::{KNOWN_TAGS, PWD, SALT, are_ones, known, ones, words};
+use super::known_tags::KNOWN_TAGS;
+use super::{PWD, SALT, are_ones, known, ones, words};
 use crate::{Algorithm, Argon2, Block, Error, Version};
 use std::test::Fail;
 
@@ -68,8 +69,8 @@ const ORDERS: [[[u32; 8]; 4]; 3] = [
 #[test]
 fn gives_the_known_tags_however_lanes_take_turns(rt: HostRuntime) -> Result<(), Fail> {
     let mut memory = Vec::from_elem(rt.alloc(), Block::new(), 32)?;
-    for &(algorithm, version, expected) in &KNOWN_TAGS {
-        let argon2 = known(algorithm, version)?;
+    for row in &KNOWN_TAGS {
+        let argon2 = known(row.algorithm, row.version)?;
         for slices in &ORDERS {
             argon2.begin_fill(&PWD, &SALT, 32, memory.as_mut_slice())?;
             for step in 1..12u32 {
@@ -84,8 +85,10 @@ fn gives_the_known_tags_however_lanes_take_turns(rt: HostRuntime) -> Result<(), 
             }
             assert_eq!(rt;
                 words(&finish(&argon2, &memory)?),
-                expected,
-                "{algorithm} {version:?}"
+                row.tag,
+                "{} {:?}",
+                row.algorithm,
+                row.version
             );
         }
     }
