@@ -10,11 +10,14 @@ mod KnownTag
 mod LaneAfterLane
 mod LastColumn
 mod ListedLemmas
+mod MadeLemmas
 mod PermittedPlaces
 mod ReadAgain
 mod ReadBytes
+mod RunLemmas
 mod Schedules
 mod Sources
+mod Stores
 mod Validity
 mod Watched
 pub mod FirstColumns

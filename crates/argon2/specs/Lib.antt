@@ -7,6 +7,8 @@ pub mod Counting
 pub mod InitialHash
 pub mod Laws
 pub mod ListedParameters
+pub mod Login
+pub mod LoginTexts
 pub mod Made
 pub mod Parameters
 pub mod Params
@@ -15,6 +17,7 @@ pub mod ParamsBuilder
 pub mod Recurrence
 pub mod Reference
 pub mod Refusals
+pub mod Runs
 pub mod Settings
 pub mod Shape
 pub mod Steps
