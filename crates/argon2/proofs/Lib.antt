@@ -1,3 +1,4 @@
+mod Asked
 mod Counts
 mod DecodedSlices
 mod Filled
@@ -10,7 +11,8 @@ mod KnownTag
 mod LaneAfterLane
 mod LastColumn
 mod ListedLemmas
-mod MadeLemmas
+mod LoginLemmas
+mod MadeValues
 mod PermittedPlaces
 mod ReadAgain
 mod ReadBytes
@@ -18,7 +20,9 @@ mod RunLemmas
 mod Schedules
 mod Sources
 mod Stores
+mod TagBytes
 mod Validity
+mod Verified
 mod Watched
 pub mod FirstColumns
 pub mod InitialHashing

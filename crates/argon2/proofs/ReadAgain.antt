@@ -17,12 +17,12 @@ valid_without m t p o valid = grind (arith, nat_tests)
 bytes_again : (most : ℕ) (b : List ℕ) → IsBytes b → length b ≤ most → short_bytes most (strict_base64 b) ≡ Some b
 bytes_again most b bytes short = bytes_of_short most (strict_base64 b) b (decode_of-strict_base64 b bytes) short
 
--- the parameters that were listed
-pub read_again : (m t p : ℕ) (k d : List ℕ) → m < 2 ^ 32 → t < 2 ^ 32 → p < 2 ^ 32 → IsBytes k → IsBytes d → length k ≤ 8 → length d ≤ 32
-    → first_fault m t p None ≡ None → params_of None (listed m t p k d) ≡ Ok (unsized m t p k d)
-read_again m t p [] [] hm ht hp bk bd lk ld valid =
+-- the parameters that were listed, with an output length that is valid
+pub read_again : (m t p : ℕ) (k d : List ℕ) (o : Option ℕ) → m < 2 ^ 32 → t < 2 ^ 32 → p < 2 ^ 32 → IsBytes k → IsBytes d → length k ≤ 8 → length d ≤ 32
+    → first_fault m t p o ≡ None → params_of o (listed m t p k d) ≡ Ok (record (unsized m t p k d) { output_len = o })
+read_again m t p [] [] o hm ht hp bk bd lk ld valid =
     rw (number_again (decimal m) m hm refl, number_again (decimal t) t ht refl, number_again (decimal p) p hp refl, valid) refl
-read_again m t p (x ∷ k) [] hm ht hp bk bd lk ld valid =
+read_again m t p (x ∷ k) [] o hm ht hp bk bd lk ld valid =
     rw (
       number_again (decimal m) m hm refl,
       number_again (decimal t) t ht refl,
@@ -30,7 +30,7 @@ read_again m t p (x ∷ k) [] hm ht hp bk bd lk ld valid =
       bytes_again 8 (x ∷ k) bk lk,
       valid,
     ) refl
-read_again m t p [] (y ∷ d) hm ht hp bk bd lk ld valid =
+read_again m t p [] (y ∷ d) o hm ht hp bk bd lk ld valid =
     rw (
       number_again (decimal m) m hm refl,
       number_again (decimal t) t ht refl,
@@ -38,7 +38,7 @@ read_again m t p [] (y ∷ d) hm ht hp bk bd lk ld valid =
       bytes_again 32 (y ∷ d) bd ld,
       valid,
     ) refl
-read_again m t p (x ∷ k) (y ∷ d) hm ht hp bk bd lk ld valid =
+read_again m t p (x ∷ k) (y ∷ d) o hm ht hp bk bd lk ld valid =
     rw (
       number_again (decimal m) m hm refl,
       number_again (decimal t) t ht refl,

@@ -50,7 +50,7 @@ logged target name given did event older v o p s a is e accepts current known =
     rw (e, s, a, is) (old.0, old.1, (accepts, current))
 
 module _ (target : Target)
-    (made_phc : (password salt : List ℕ) → HasBytes 16 16 salt → IsPhc (made target password salt))
+    (made_phc : (password salt : List ℕ) → HasBytes 8 48 salt → IsPhc (made target password salt))
     (made_accepts : (password salt : List ℕ) → length password ≤ 4294967295 →
     AcceptsBy target.secret password (made target password salt))
     (made_current : (password salt : List ℕ) → IsCurrent target (made target password salt)) where

@@ -22,6 +22,7 @@ pub mod Settings
 pub mod Shape
 pub mod Steps
 pub mod Stored
+pub mod StoredHash
 pub mod Tag
 pub mod Version
 pub mod Watching

@@ -22,9 +22,13 @@ use Rattle.argon2.specs.Stored.{shown_settings}
 abbrev pub Store : Type 0
 Store = FinMap (slice_cmp nat_cmp) Phc
 
--- a tree of texts as such a map
+-- names with texts as what they say
+abbrev pub named_values : {Y : Type 0} → List (String Y × PasswordHash) → List (List ℕ × Phc)
+named_values texts = map (λ e. (string_bytes e.0, phc_of e.1)) texts
+
+-- a tree of them as such a map
 abbrev pub values_of : {Y : Type 0} → BTreeMap (String Y) PasswordHash → Store
-values_of texts = from_entries (map (λ e. (string_bytes e.0, phc_of e.1)) texts.entries)
+values_of texts = from_entries (named_values texts.entries)
 
 -- the texts that it has
 abbrev pub store_of : Login → Store
@@ -72,7 +76,7 @@ IsCurrent target v = shown_settings v ≡ Ok (sized target.settings)
 abbrev pub AcceptedStep : Target → Store → List ℕ → List ℕ → List ℕ → Phc → Accepted → Store → Type 0
 AcceptedStep target before name password drawn v Current after = IsCurrent target v × (after ≡ before)
 AcceptedStep target before name password drawn v Rehashed after = ¬ (IsCurrent target v)
-    × HasBytes 16 16 drawn × (after ≡ insert before name (made target password drawn))
+    × HasBytes 8 48 drawn × (after ≡ insert before name (made target password drawn))
 AcceptedStep target before name password drawn v Kept after = ¬ (IsCurrent target v) × (after ≡ before)
 
 -- what a login answers where the name has this text or none, and the store after it

@@ -7,6 +7,7 @@ pub mod kdf;
 pub mod laws;
 pub mod login;
 pub mod params;
+pub mod password_hash;
 pub mod version;
 
 pub use algorithm::Algorithm;
@@ -19,4 +20,5 @@ pub use context::{
 };
 pub use kdf::{Kdf, Pbkdf};
 pub use params::{AssociatedData, KeyId, Params, ParamsBuilder};
+pub use password_hash::{CustomizedPasswordHasher, PasswordHasher, PasswordVerifier};
 pub use version::Version;

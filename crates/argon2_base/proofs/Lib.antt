@@ -5,7 +5,6 @@ pub mod ByteLemmas
 pub mod Characters
 pub mod Compared
 pub mod DecimalLemmas
-pub mod DigestLengths
 pub mod HashBlocks
 pub mod HasherFields
 pub mod KnownDigests

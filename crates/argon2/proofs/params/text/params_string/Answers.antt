@@ -1,4 +1,4 @@
-use Rattle.std.proofs.Common.{arith}
+use Rattle.std.proofs.Common.{arith, None}
 use Rattle.argon2.proofs.ListedLemmas.{listed_fronts}
 use Rattle.argon2.proofs.ReadAgain.{read_again, valid_without}
 use Rattle.argon2.proofs.params.text.params_string.Goals as goal
@@ -40,6 +40,6 @@ add_bytes-requires-2 c =
     rw (c.add_bytes.ensures, c.in-Ok-add_decimal-2.ensures.ok, c.in-Ok-add_decimal.ensures.ok, c.in-Ok.ensures.ok, c.new-list.ensures) fronts.whole
 
 pub returns-clause-again : goal.returns-clause-again
-returns-clause-again c = λ o valid. read_again c.args.m c.args.t c.args.p c.args.keyid.now c.args.associated.now (omega arith) (omega arith) (omega arith)
+returns-clause-again c = λ o valid. read_again c.args.m c.args.t c.args.p c.args.keyid.now c.args.associated.now None (omega arith) (omega arith) (omega arith)
     (λ i. omega (arith, c.type_inv.keyid i)) (λ i. omega (arith, c.type_inv.associated i)) c.requires.keyid_fits c.requires.data_fits
     (valid_without c.args.m c.args.t c.args.p o valid)

@@ -1,0 +1,193 @@
+//! Hashing under the settings of an `Argon2`.
+
+ghost use Rattle.std.specs.Prelude.{◌≡◌, Some, None, MatchResult, option_copied};
+ghost use Rattle.argon2_base.specs.Base64.{IsBytes};
+ghost use Rattle.argon2_base.specs.Error.{fault_of, bad_version};
+ghost use Rattle.argon2_base.specs.declared.error.password_hash.Error.TheVariants.{Algorithm as NoAlgorithm};
+ghost use Rattle.argon2.specs.Made.{algorithm_asked, version_asked};
+
+use super::{CustomizedPasswordHasher, Error, PasswordHasher, Result};
+use crate::algorithm::Algorithm;
+use crate::context::Argon2;
+use crate::params::Params;
+use crate::version::Version;
+use argon2_base::phc::{Output, ParamsString, PasswordHash, Salt};
+use rand_core::Rng;
+use std::alloc::Global;
+
+impl<'key> Argon2<'key> {
+    ghost use Rattle.std.specs.Prelude.{◌≡◌, ◌≤◌, ◌<◌, ◌⊎◌, IfOk, MatchResult, length};
+    ghost use Rattle.argon2_base.specs.declared.error.password_hash.Error.TheVariants.{OutOfMemory, PasswordInvalid};
+    ghost use Rattle.argon2.specs.Argon2.{context_of, settings_of, secret_of};
+    ghost use Rattle.argon2.specs.Made.{tag_length, target_of, IsTarget};
+    ghost use Rattle.argon2.specs.Params.{parameters_of};
+    ghost use Rattle.argon2.specs.Tag.{tag_of};
+
+    // How many bytes a hash has.
+    fn tag_len(&self) -> usize
+        ensures { result ≡ tag_length (settings_of self.now) }
+    {
+        self.params()
+            .output_len()
+            .unwrap_or(Params::DEFAULT_OUTPUT_LEN)
+    }
+
+    // The tag of a password and a salt as a hash of that many bytes.
+    pub(super) fn tag(&self, alloc: Global, password: &[u8], salt: &[u8]) -> Result<Output>
+        requires fits { tag_length (settings_of self.now) ≤ 64 }
+        requires salt_least { 8 ≤ length salt.now }
+        requires salt_most { length salt.now ≤ 48 }
+        ensures tag { IfOk result (λ hash. hash
+            ≡ tag_of (context_of self.now) password.now salt.now (tag_length (settings_of self.now))) }
+        ensures exact { MatchResult result (λ _. length password.now ≤ 4294967295)
+            (λ e. (e ≡ OutOfMemory) ⊎ ((e ≡ PasswordInvalid) × (4294967295 < length password.now))) }
+    {
+        let mut buffer = [0u8; Output::MAX_LENGTH];
+        let tag = &mut buffer[..self.tag_len()];
+        self.hash_password_into(alloc, password, salt, tag)?;
+        Output::new(tag)
+    }
+
+    // Does nothing: its contract is that these settings are a target where their hashes fit into
+    // texts.
+    pub(crate) fn know_target(&self)
+        requires { tag_length (settings_of self.now) ≤ 64 }
+        ensures { IsTarget (target_of self.now) }
+    {
+        let params = self.params();
+        let _memory = params.m_cost();
+        let _passes = params.t_cost();
+        know_bytes(params.keyid());
+        know_bytes(params.data());
+    }
+
+    // Hashing with the same secret under other settings.
+    pub(super) fn with_settings(
+        &self,
+        algorithm: Algorithm,
+        version: Version,
+        params: Params,
+    ) -> Argon2<'key>
+        ensures settings { settings_of result
+            ≡ record { algorithm = algorithm; version = version; parameters = parameters_of params } }
+        ensures secret { secret_of result ≡ secret_of self.now }
+    {
+        let Ok(argon2) = Argon2::new_with_secret(self.secret(), algorithm, version, params) else {
+            unreachable!();
+        };
+        argon2
+    }
+}
+
+// Does nothing: its contract is that a slice of bytes has bytes.
+fn know_bytes(bytes: &[u8])
+    ensures { IsBytes bytes.now }
+{
+    let _len = bytes.len();
+}
+
+/// Hashes have the output length of the parameters, or 32 bytes where none is set.
+impl PasswordHasher<PasswordHash> for Argon2<'_> {
+    ghost use Rattle.std.specs.Prelude.{◌≡◌, Ok};
+    ghost use Rattle.argon2_base.specs.PasswordHash.{phc_of};
+    ghost use Rattle.argon2_base.specs.PhcText.{phc_text};
+    ghost use Rattle.argon2.specs.Accepts.{Accepts};
+    ghost use Rattle.argon2.specs.Argon2.{secret_of, settings_of};
+    ghost use Rattle.argon2.specs.Made.{target_of, sized, IsHashAnswer};
+    ghost use Rattle.argon2.specs.Stored.{shown_settings};
+
+    ghost hash_gives = { λ argon2. IsHashAnswer (target_of argon2) };
+
+    ghost accepts = { λ argon2 password hash.
+        Accepts (secret_of argon2) password (phc_text (phc_of hash)) };
+
+    ghost shows = { λ argon2 hash. shown_settings (phc_of hash) ≡ Ok (sized (settings_of argon2)) };
+
+    fn hash_password_with_salt(
+        &self,
+        alloc: Global,
+        password: &[u8],
+        salt: &[u8],
+    ) -> Result<PasswordHash> {
+        let salt = Salt::new(salt)?;
+        if self.tag_len() > Output::MAX_LENGTH {
+            return Err(Error::OutputSize);
+        }
+        self.know_target();
+        let hash = self.tag(alloc, password, salt.as_bytes())?;
+        Ok(PasswordHash {
+            algorithm: self.algorithm().ident(),
+            version: Some(u32::from(self.version())),
+            params: ParamsString::try_from(self.params())?,
+            salt: Some(salt),
+            hash: Some(hash),
+        })
+    }
+
+    fn hash_password<R: Rng>(
+        &self,
+        alloc: Global,
+        rng: &mut R,
+        password: &[u8],
+    ) -> Result<PasswordHash> {
+        let mut salt = [0u8; Salt::RECOMMENDED_LENGTH];
+        rng.fill_bytes(&mut salt);
+        self.hash_password_with_salt(alloc, password, &salt)
+    }
+}
+
+// The algorithm of a name, or Argon2id.
+fn asked_algorithm(name: Option<&str>) -> Result<Algorithm>
+    ensures { MatchResult result (λ algorithm. algorithm_asked (option_copied name.entry) ≡ Some algorithm)
+        (λ e. (e ≡ NoAlgorithm) × (algorithm_asked (option_copied name.entry) ≡ None)) }
+{
+    let Some(name) = name else {
+        return Ok(Algorithm::Argon2id);
+    };
+    Algorithm::try_from(name)
+}
+
+// The version of a number, or 0x13.
+fn asked_version(number: Option<u32>) -> Result<Version>
+    ensures { MatchResult result (λ version. version_asked number ≡ Some version)
+        (λ e. (fault_of e ≡ bad_version) × (version_asked number ≡ None)) }
+{
+    let Some(number) = number else {
+        return Ok(Version::V0x13);
+    };
+    Ok(Version::try_from(number)?)
+}
+
+impl CustomizedPasswordHasher<PasswordHash> for Argon2<'_> {
+    ghost use Rattle.argon2_base.specs.PasswordHash.{phc_of};
+    ghost use Rattle.argon2_base.specs.PhcText.{phc_text};
+    ghost use Rattle.argon2.specs.Accepts.{Accepts};
+    ghost use Rattle.argon2.specs.Argon2.{secret_of};
+    ghost use Rattle.argon2.specs.Made.{settings_asked, IsAskedAnswer};
+    ghost use Rattle.argon2.specs.Params.{parameters_of};
+
+    type Params = Params;
+
+    ghost customized_gives = { λ argon2 name number params.
+        IsAskedAnswer (settings_asked name number (parameters_of params)) (secret_of argon2) };
+
+    ghost accepts = { λ argon2 password hash.
+        Accepts (secret_of argon2) password (phc_text (phc_of hash)) };
+
+    /// Where no algorithm is given it is Argon2id, and where no version is, 0x13, whatever this
+    /// context's are. Its secret is used.
+    fn hash_password_customized(
+        &self,
+        alloc: Global,
+        password: &[u8],
+        salt: &[u8],
+        alg_id: Option<&str>,
+        version: Option<u32>,
+        params: Params,
+    ) -> Result<PasswordHash> {
+        let algorithm = asked_algorithm(alg_id)?;
+        let version = asked_version(version)?;
+        let argon2 = self.with_settings(algorithm, version, params);
+        argon2.hash_password_with_salt(alloc, password, salt)
+    }
+}
