@@ -8,6 +8,8 @@ pub mod Hashing
 pub mod InitialHash
 pub mod Laws
 pub mod ListedParameters
+pub mod Login
+pub mod LoginTexts
 pub mod Made
 pub mod Parameters
 pub mod Params
@@ -16,6 +18,7 @@ pub mod ParamsBuilder
 pub mod Recurrence
 pub mod Reference
 pub mod Refusals
+pub mod Runs
 pub mod Settings
 pub mod Shape
 pub mod Steps

@@ -5,6 +5,7 @@ pub mod algorithm;
 mod context;
 pub mod kdf;
 pub mod laws;
+pub mod login;
 pub mod params;
 pub mod password_hash;
 pub mod version;

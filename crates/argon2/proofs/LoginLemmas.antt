@@ -1,0 +1,40 @@
+-- One login as a step.
+use Rattle.std.proofs.Common.{◌≡◌, ℕ, List, Option, Some, None, Result, Ok, Err, inl, inr, refl}
+use Rattle.std.specs.Prelude.{MatchResult}
+use Rattle.std.specs.FinMap.{get}
+use Rattle.argon2_base.specs.Error.{Fault}
+use Rattle.argon2_base.specs.PasswordHash.{phc_of}
+use Rattle.argon2_base.specs.PhcText.{Phc, IsPhc, HasBytes}
+use Rattle.argon2_base.specs.declared.error.password_hash.Error.{Error}
+use Rattle.argon2_base.specs.declared.phc.hash.PasswordHash.{PasswordHash}
+use Rattle.argon2.specs.declared.login.answers.Accepted.{Accepted}
+use Rattle.argon2.specs.declared.login.answers.LoginError.{LoginError}
+use Rattle.argon2.specs.ListedParameters.{checked}
+use Rattle.argon2.specs.Login.{Store, LoginAnswer, LoginStep, logging_in}
+use Rattle.argon2.specs.Made.{Target, made, IsHashAnswer}
+
+-- from what the name has
+pub login_step : (target : Target) (before : Store) (name password drawn : List ℕ) (o : Option Phc) (answer : Result Accepted LoginError) (after : Store) →
+    get before name ≡ o → LoginAnswer target before name password drawn o answer after →
+    LoginStep target before (logging_in name password drawn answer) after
+login_step target before name password drawn o answer after e step = rw e step
+
+-- what holds of an answer that is no refusal
+pub not_refused : (P : Type 0) (Q : Error → Type 0) (r : Result (Unit {0}) Error) → ((e : Error) → r ≡ Err e → ⊥) →
+    MatchResult r (λ _. P) Q → P
+not_refused P Q (Ok x) never h = h
+not_refused P Q (Err e) never h = absurd (never e refl)
+
+unchecked : (f : Option Fault) (v w : Phc) → Ok v ≡ checked f (Ok w) → v ≡ w
+unchecked None v w e = cc
+unchecked (Some fault) v w e = absurd cc
+
+-- what a hash that was answered is
+pub hash_made : (target : Target) (password salt : List ℕ) (h : PasswordHash) →
+    IsHashAnswer target password salt (Ok h) → phc_of h ≡ made target password salt
+hash_made target password salt h (inl e) = unchecked _ (phc_of h) (made target password salt) e
+hash_made target password salt h (inr r) = let e = r.0 in absurd cc
+
+-- its salt has the length of one
+pub made_salt : (target : Target) (password salt : List ℕ) (v : Phc) → v ≡ made target password salt → IsPhc v → HasBytes 8 48 salt
+made_salt target password salt v e is = (rw e at is).salt

@@ -1,0 +1,47 @@
+use Rattle.std.proofs.Common.{rules, ap, sym, ◌∙◌, refl, string_bytes}
+use Rattle.std.proofs.lemmas.Map.Text.{btree_map_updates_text}
+use Rattle.std.specs.FinMap as finmap
+use Rattle.argon2_base.specs.PasswordHash.{phc_of}
+use Rattle.argon2.specs.Login.{store_of}
+use Rattle.argon2.proofs.Stores.{values_of-set, present, absent}
+use Rattle.argon2.proofs.login.Login.add.Goals as goal
+
+pub returns-then-contains_key-clause-step : goal.returns-then-contains_key-clause-step
+returns-then-contains_key-clause-step c = (
+  (
+    (phc_of c.in-Ok.parsed, c.in-Ok.ensures.found),
+    present c.args.self.now.texts c.args.name.now (sym c.contains_key.ensures ∙ c.if-contains_key.true),
+  ),
+  refl,
+)
+
+pub returns-in_default-from_str-clause-step : goal.returns-in_default-from_str-clause-step
+returns-in_default-from_str-clause-step c = (
+  (
+    (phc_of c.in-Ok.parsed, c.in-Ok.ensures.found),
+    absent c.args.self.now.texts c.args.name.now (sym c.contains_key.ensures ∙ c.if-contains_key.false),
+  ),
+  refl,
+)
+
+pub returns-in_default-insert-clause-step : goal.returns-in_default-insert-clause-step
+returns-in_default-insert-clause-step c = (
+  (
+    (phc_of c.in-Ok.parsed, c.in-Ok.ensures.found),
+    absent c.args.self.now.texts c.args.name.now (sym c.contains_key.ensures ∙ c.if-contains_key.false),
+  ),
+  search rules,
+)
+
+pub returns-clause-step : goal.returns-clause-step
+returns-clause-step c =
+    let key = c.in-Ok-from_str.key in
+    let parsed = c.in-Ok.parsed in
+    let sets = btree_map_updates_text (string_bytes key) c.args.self.now.texts c.insert.new.self _
+    c.in-Ok-insert.ensures.updates in (
+      absent c.args.self.now.texts c.args.name.now (sym c.contains_key.ensures ∙ c.if-contains_key.false),
+      phc_of parsed,
+      c.in-Ok.ensures.found,
+      values_of-set c.args.self.now.texts c.insert.new.self (string_bytes key) parsed sets
+          ∙ ap (λ name. finmap.insert (store_of c.args.self.now) name (phc_of parsed)) (search rules),
+    )

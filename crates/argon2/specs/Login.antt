@@ -1,0 +1,100 @@
+-- The login store: what callers see of it, and what each call does.
+use Rattle.std.specs.Prelude.{◌≡◌, ℕ, List, map, String, string_bytes, Option, Some, None, IsSome, Result, Ok, Err}
+use Rattle.std.specs.BTreeMap.{BTreeMap}
+use Rattle.std.specs.FinMap.{FinMap, from_entries, get, insert}
+use Rattle.std.specs.Ordering.{nat_cmp}
+use Rattle.std.specs.Cmp.Lexicographic.{slice_cmp}
+use Rattle.rand_core.specs.Stream.{Stream, fill_bytes}
+use Rattle.argon2_base.specs.PasswordHash.{phc_of}
+use Rattle.argon2_base.specs.PhcText.{Phc, PhcText, HasBytes}
+use Rattle.argon2_base.specs.declared.phc.hash.PasswordHash.{PasswordHash}
+use Rattle.argon2.specs.declared.login.Login.{Login}
+use Rattle.argon2.specs.declared.login.answers.Accepted.{Accepted}
+use Rattle.argon2.specs.declared.login.answers.Accepted.TheVariants.{Current, Rehashed, Kept}
+use Rattle.argon2.specs.declared.login.answers.LoginError.{LoginError}
+use Rattle.argon2.specs.declared.login.answers.LoginError.TheVariants.{Text, NameTaken, NameUnknown, OutOfMemory, Refused}
+use Rattle.argon2.specs.Accepts.{AcceptsBy, IsVerifyAnswer}
+use Rattle.argon2.specs.Made as made_under
+use Rattle.argon2.specs.Made.{Target, made, sized}
+use Rattle.argon2.specs.Stored.{shown_settings}
+
+-- what texts say, by the bytes of their names
+abbrev pub Store : Type 0
+Store = FinMap (slice_cmp nat_cmp) Phc
+
+-- names with texts as what they say
+abbrev pub named_values : {Y : Type 0} → List (String Y × PasswordHash) → List (List ℕ × Phc)
+named_values texts = map (λ e. (string_bytes e.0, phc_of e.1)) texts
+
+-- a tree of them as such a map
+abbrev pub values_of : {Y : Type 0} → BTreeMap (String Y) PasswordHash → Store
+values_of texts = from_entries (named_values texts.entries)
+
+-- the texts that it has
+abbrev pub store_of : Login → Store
+store_of login = values_of login.texts
+
+-- what it renews them by
+abbrev pub target_of : Login → Target
+target_of login = made_under.target_of login.target
+
+-- ---- a call and its answer
+
+-- A login stands with the 16 bytes that the generator would give.
+pub data Event : Type 0 where
+  adding : List ℕ → List ℕ → Result (Unit {0}) LoginError → Event
+  logging_in : List ℕ → List ℕ → List ℕ → Result Accepted LoginError → Event
+
+-- the text is one of the grammar
+abbrev pub IsText : List ℕ → Type 0
+IsText text = (v : Phc) × PhcText text v
+
+-- why `add` refuses
+abbrev pub AddRefusal : Store → List ℕ → List ℕ → LoginError → Type 0
+AddRefusal before name text Text = (v : Phc) → PhcText text v → ⊥
+AddRefusal before name text NameTaken = IsText text × IsSome (get before name)
+AddRefusal before name text OutOfMemory = IsText text × (get before name ≡ None)
+AddRefusal before name text _ = ⊥
+
+-- what `add` answers, and the store after it
+abbrev pub AddStep : Store → List ℕ → List ℕ → Result (Unit {0}) LoginError → Store → Type 0
+AddStep before name text (Ok _) after =
+    (get before name ≡ None) × (v : Phc) × PhcText text v × (after ≡ insert before name v)
+AddStep before name text (Err e) after = AddRefusal before name text e × (after ≡ before)
+
+-- why a login is refused, where the name has this text or none
+abbrev pub LoginRefusal : Target → List ℕ → Option Phc → LoginError → Type 0
+LoginRefusal target password None NameUnknown = Unit {0}
+LoginRefusal target password (Some v) (Refused e) = IsVerifyAnswer target.secret password v (Err e)
+LoginRefusal target password _ _ = ⊥
+
+-- the text was made under the target's settings, all but the secret
+abbrev pub IsCurrent : Target → Phc → Type 0
+IsCurrent target v = shown_settings v ≡ Ok (sized target.settings)
+
+-- what an accepted login does with the name's text
+abbrev pub AcceptedStep : Target → Store → List ℕ → List ℕ → List ℕ → Phc → Accepted → Store → Type 0
+AcceptedStep target before name password drawn v Current after = IsCurrent target v × (after ≡ before)
+AcceptedStep target before name password drawn v Rehashed after = ¬ (IsCurrent target v)
+    × HasBytes 8 48 drawn × (after ≡ insert before name (made target password drawn))
+AcceptedStep target before name password drawn v Kept after = ¬ (IsCurrent target v) × (after ≡ before)
+
+-- what a login answers where the name has this text or none, and the store after it
+abbrev pub LoginAnswer : Target → Store → List ℕ → List ℕ → List ℕ → Option Phc → Result Accepted LoginError → Store → Type 0
+LoginAnswer target before name password drawn None (Ok _) after = ⊥
+LoginAnswer target before name password drawn (Some v) (Ok accepted) after =
+    AcceptsBy target.secret password v × AcceptedStep target before name password drawn v accepted after
+LoginAnswer target before name password drawn found (Err e) after =
+    LoginRefusal target password found e × (after ≡ before)
+
+-- what a call answers, and the store after it
+abbrev pub LoginStep : Target → Store → Event → Store → Type 0
+LoginStep target before (adding name text answer) after = AddStep before name text answer after
+LoginStep target before (logging_in name password drawn answer) after =
+    LoginAnswer target before name password drawn (get before name) answer after
+
+-- what the generator has left: a text is made anew of 16 bytes, also where it is not kept
+abbrev pub stream_after : Result Accepted LoginError → Stream → Stream
+stream_after (Ok Rehashed) stream = (fill_bytes 16 stream).1
+stream_after (Ok Kept) stream = (fill_bytes 16 stream).1
+stream_after _ stream = stream

@@ -1,0 +1,153 @@
+//! A login store that renews old texts: names with PHC texts, and what new texts are made under.
+
+ghost use Rattle.std.specs.Prelude.{◌≡◌, ◌≤◌, ◌↔◌, IsOk, IfOk, IfErr};
+ghost use Rattle.std.specs.FinMap.{empty, entries, get};
+ghost use Rattle.std.specs.Option.{option_copied, option_map};
+ghost use Rattle.rand_core.specs.Stream.{fill_bytes};
+ghost use Rattle.argon2_base.specs.PasswordHash.{phc_of};
+ghost use Rattle.argon2_base.specs.declared.error.password_hash.Error.TheVariants.{OutputSize};
+ghost use Rattle.argon2.specs.Argon2.{settings_of};
+ghost use Rattle.argon2.specs.Login.{LoginStep, adding, logging_in, named_values, store_of, stream_after, target_of};
+ghost use Rattle.argon2.specs.Made as made_under;
+ghost use Rattle.argon2.specs.Made.{tag_length, IsTarget};
+
+use crate::context::Argon2;
+use crate::params::Params;
+use crate::password_hash::{Error, PasswordHasher, PasswordVerifier, Result};
+use argon2_base::phc::{Output, PasswordHash};
+use rand_core::Rng;
+use std::alloc::Global;
+use std::collections::BTreeMap;
+use std::collections::btree_map::Iter;
+use std::result::Result as Outcome;
+
+mod answers;
+mod current;
+mod runs;
+
+pub use answers::{Accepted, LoginError};
+use current::is_current;
+pub use runs::login_runs;
+
+/// Names with their texts, and a target: the settings and the secret that texts are verified and
+/// made anew under.
+#[derive(Drop)]
+pub struct Login<'key> {
+    alloc: Global,
+    target: Argon2<'key>,
+    texts: BTreeMap<String, PasswordHash>,
+}
+
+impl<'key> Login<'key> {
+    /// A store without names. What memory its calls take is asked of `alloc`; this one takes none.
+    ///
+    /// # Errors
+    /// [`Error::OutputSize`] where the target's output length is above 64, the most bytes that the
+    /// hash of a PHC text has.
+    pub fn new(alloc: Global, target: Argon2<'key>) -> Result<Login<'key>>
+        ensures fits { IsOk result ↔ (tag_length (settings_of target.entry) ≤ 64) }
+        ensures long { IfErr result (λ e. e ≡ OutputSize) }
+        ensures empty { IfOk result (λ login. store_of login ≡ empty) }
+        ensures target { IfOk result (λ login. target_of login ≡ made_under.target_of target.entry) }
+        ensures valid { IfOk result (λ login. IsTarget (target_of login)) }
+    {
+        let len = target.params().output_len();
+        if len.unwrap_or(Params::DEFAULT_OUTPUT_LEN) > Output::MAX_LENGTH {
+            return Err(Error::OutputSize);
+        }
+        target.know_target();
+        Ok(Login {
+            alloc,
+            target,
+            texts: BTreeMap::new(alloc),
+        })
+    }
+
+    /// Gives a new name its text.
+    ///
+    /// # Errors
+    /// The first of these that holds; the store is then as before:
+    /// - [`LoginError::Text`]: the text is outside the grammar of PHC texts.
+    /// - [`LoginError::NameTaken`]: the name has a text.
+    /// - [`LoginError::OutOfMemory`]: a request for memory was refused.
+    pub fn add(&mut self, name: &str, text: &str) -> Outcome<(), LoginError>
+        ensures step { LoginStep (target_of self.old) (store_of self.old)
+            (adding name.now text.now result) (store_of self.new) }
+        ensures target { target_of self.new ≡ target_of self.old }
+    {
+        let Ok(parsed) = PasswordHash::new(text) else {
+            return Err(LoginError::Text);
+        };
+        if self.texts.contains_key(name) {
+            return Err(LoginError::NameTaken);
+        }
+        let Ok(key) = String::from_str(self.alloc, name) else {
+            return Err(LoginError::OutOfMemory);
+        };
+        let Ok(_) = self.texts.insert(key, parsed) else {
+            return Err(LoginError::OutOfMemory);
+        };
+        Ok(())
+    }
+
+    /// Verifies a password against the text of a name, under the target's secret. Where the text
+    /// accepts the password and has other settings than the target, a fresh text is made of the
+    /// password under the target, with a salt of 16 bytes that are drawn from `rng`, and written
+    /// over the old one, which takes no memory. [`Accepted`] says what was done.
+    ///
+    /// Nothing is drawn but for a fresh text; then 16 bytes are, also where memory is refused to it.
+    ///
+    /// # Errors
+    /// The store is then as before:
+    /// - [`LoginError::NameUnknown`]: the name has no text.
+    /// - [`LoginError::Refused`]: verifying refuses, for the reason that it holds.
+    pub fn login<R: Rng>(
+        &mut self,
+        rng: &mut R,
+        name: &str,
+        password: &[u8],
+    ) -> Outcome<Accepted, LoginError>
+        ensures step { LoginStep (target_of self.old) (store_of self.old)
+            (logging_in name.now password.now (fill_bytes 16 (R.stream rng.old)).0 result)
+            (store_of self.new) }
+        ensures drawn { R.stream rng.new ≡ stream_after result (R.stream rng.old) }
+        ensures target { target_of self.new ≡ target_of self.old }
+    {
+        let Some(text) = self.texts.get(name) else {
+            return Err(LoginError::NameUnknown);
+        };
+        if let Err(e) = self.target.verify_password(self.alloc, password, text) {
+            return Err(LoginError::Refused(e));
+        }
+        if is_current(&self.target, text) {
+            return Ok(Accepted::Current);
+        }
+        let Ok(fresh) = self.target.hash_password(self.alloc, rng, password) else {
+            return Ok(Accepted::Kept);
+        };
+        fresh.is_grammatical();
+        let Some(text) = self.texts.get_mut(name) else {
+            return Ok(Accepted::Kept);
+        };
+        *text = fresh;
+        Ok(Accepted::Rehashed)
+    }
+
+    /// The text of a name, where it has one.
+    pub fn text_of(&self, name: &str) -> Option<&PasswordHash>
+        ensures { option_map phc_of (option_copied result) ≡ get (store_of self.now) name.now }
+    {
+        self.texts.get(name)
+    }
+
+    /// The names and their texts, in the order of the names' bytes. A store to which
+    /// [`add`](Login::add) gives all of them has the same texts.
+    pub fn texts(&self) -> Iter<'_, String, PasswordHash>
+        ensures { named_values result ≡ entries (store_of self.now) }
+    {
+        self.texts.iter()
+    }
+}
+
+#[cfg(test)]
+mod tests;

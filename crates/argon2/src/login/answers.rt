@@ -1,0 +1,62 @@
+//! What the calls of the login store answer.
+
+ghost use Rattle.std.specs.Prelude.{Some};
+ghost use Rattle.argon2.specs.LoginTexts.{accepted_text, login_error_text};
+
+use argon2_base::error::password_hash::Error;
+use std::fmt;
+
+/// What an accepted login did with the name's text.
+#[derive(Clone, Copy, Debug, PartialEq, Eq)]
+pub enum Accepted {
+    /// The text has the algorithm, the version, the parameters and the hash length of the store's
+    /// target, and stays.
+    Current,
+    /// The text had others. It is now one that was made of the password under the target.
+    Rehashed,
+    /// The text has others, and stays: memory for a new one was refused.
+    Kept,
+}
+
+impl fmt::Display for Accepted {
+    ghost output = { λ a. Some (accepted_text a) };
+
+    fn fmt<W: fmt::Write>(&self, f: &mut fmt::Formatter<W>) -> fmt::Result {
+        match self {
+            Accepted::Current => write!(f, "text is current"),
+            Accepted::Rehashed => write!(f, "text is renewed"),
+            Accepted::Kept => write!(f, "text is kept: out of memory"),
+        }
+    }
+}
+
+/// Why a call of the login store is refused.
+#[derive(Clone, Copy, Debug, PartialEq, Eq)]
+pub enum LoginError {
+    /// The text is outside the grammar of PHC texts.
+    Text,
+    /// The name has a text already.
+    NameTaken,
+    /// The name has no text.
+    NameUnknown,
+    /// A request for memory was refused.
+    OutOfMemory,
+    /// Verifying the name's text refuses with this.
+    Refused(Error),
+}
+
+impl fmt::Display for LoginError {
+    ghost output = { λ e. Some (login_error_text e) };
+
+    fn fmt<W: fmt::Write>(&self, f: &mut fmt::Formatter<W>) -> fmt::Result {
+        match self {
+            LoginError::Text => write!(f, "text is outside the grammar"),
+            LoginError::NameTaken => write!(f, "name is taken"),
+            LoginError::NameUnknown => write!(f, "name is unknown"),
+            LoginError::OutOfMemory => write!(f, "out of memory"),
+            LoginError::Refused(error) => write!(f, "{error}"),
+        }
+    }
+}
+
+impl std::error::Error for LoginError {}

@@ -1,0 +1,36 @@
+//! Whether a text shows the settings of a target.
+
+ghost use Rattle.std.specs.Prelude.{◌≡◌, ◌↔◌, IsTrue, Ok};
+ghost use Rattle.argon2_base.specs.PasswordHash.{phc_of};
+ghost use Rattle.argon2.specs.Login.{IsCurrent};
+ghost use Rattle.argon2.specs.Made.{target_of};
+
+use crate::context::Argon2;
+use crate::params::Params;
+use argon2_base::phc::PasswordHash;
+
+// Whether the hash shows the target's algorithm, version and parameters, and has the length of the
+// target's hashes.
+pub(super) fn is_current(target: &Argon2<'_>, hash: &PasswordHash) -> bool
+    ensures { IsTrue result ↔ IsCurrent (target_of target.now) (phc_of hash.now) }
+{
+    let Ok(stored) = target.stored(hash) else {
+        return false;
+    };
+    let shown = &stored.argon2;
+    if shown.algorithm() != target.algorithm() || shown.version() != target.version() {
+        return false;
+    }
+    let (shown, wanted) = (shown.params(), target.params());
+    if shown.m_cost() != wanted.m_cost() || shown.t_cost() != wanted.t_cost() {
+        return false;
+    }
+    if shown.p_cost() != wanted.p_cost() {
+        return false;
+    }
+    let len = wanted.output_len().unwrap_or(Params::DEFAULT_OUTPUT_LEN);
+    if shown.output_len() != Some(len) {
+        return false;
+    }
+    shown.keyid() == wanted.keyid() && shown.data() == wanted.data()
+}
