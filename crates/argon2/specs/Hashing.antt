@@ -9,7 +9,7 @@ use Rattle.argon2.specs.Laws.{Begins}
 use Rattle.argon2.specs.Refusals.{first_of, output_faults, input_faults, memory_faults}
 use Rattle.argon2.specs.Steps.{Memory}
 use Rattle.argon2.specs.Tag.{tag_of, matrix_of}
-use Rattle.argon2.specs.Watching.{AreReferencePlaces}
+use Rattle.argon2.specs.Positions.{AreReferencePlaces}
 
 -- ---- refusals
 

@@ -15,18 +15,7 @@ pub mod Parameters
 pub mod Params
 pub mod ParamsAnswers
 pub mod ParamsBuilder
-pub mod Recurrence
-pub mod Reference
-pub mod Refusals
-pub mod Runs
-pub mod Settings
-pub mod Shape
-pub mod Steps
-pub mod Stored
-pub mod StoredHash
-pub mod Tag
-pub mod Version
-pub mod Watching
+pub mod Positions
 pub use Rattle.argon2_base.specs.Base64
 pub use Rattle.argon2_base.specs.Blake2b
 pub use Rattle.argon2_base.specs.Block
@@ -39,4 +28,15 @@ pub use Rattle.argon2_base.specs.Names
 pub use Rattle.argon2_base.specs.ParamsText
 pub use Rattle.argon2_base.specs.PasswordHash
 pub use Rattle.argon2_base.specs.PhcText
+pub mod Recurrence
+pub mod Reference
+pub mod Refusals
+pub mod Runs
+pub mod Settings
+pub mod Shape
+pub mod Steps
+pub mod Stored
+pub mod StoredHash
+pub mod Tag
+pub mod Version
 pub use Rattle.argon2_base.specs.declared as base_declared

@@ -125,7 +125,6 @@ impl<'key> Login<'key> {
         let Ok(fresh) = self.target.hash_password(self.alloc, rng, password) else {
             return Ok(Accepted::Kept);
         };
-        fresh.is_grammatical();
         let Some(text) = self.texts.get_mut(name) else {
             return Ok(Accepted::Kept);
         };

@@ -4,7 +4,7 @@ ghost use Rattle.std.specs.Prelude.{◌≡◌, ◌+◌, ◌*◌, ◌^◌, ◌<�
 ghost use Rattle.argon2.specs.Context.{block_count};
 ghost use Rattle.argon2.specs.Recurrence.{FirstColumns, matrix};
 ghost use Rattle.argon2.specs.Steps.{run, run_slices, lanes_in_order};
-ghost use Rattle.argon2.specs.Watching.{positions_of_run, positions_of_slices, AreReferencePlaces};
+ghost use Rattle.argon2.specs.Positions.{positions_of_run, positions_of_slices, AreReferencePlaces};
 ghost use Rattle.argon2.specs.Counting.{segment_calls, slices_calls, mixing_calls};
 ghost use Rattle.argon2.specs.Laws.{Begins};
 

@@ -6,7 +6,7 @@ ghost use Rattle.argon2.specs.Counting.{mixing_calls};
 ghost use Rattle.argon2.specs.Hashing.{place_count};
 ghost use Rattle.argon2.specs.InitialHash.{first_block};
 ghost use Rattle.argon2.specs.Tag.{matrix_of};
-ghost use Rattle.argon2.specs.Watching.{AreReferencePlaces};
+ghost use Rattle.argon2.specs.Positions.{AreReferencePlaces};
 
 use super::instance::Instance;
 use crate::{Block, Work};

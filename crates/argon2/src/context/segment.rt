@@ -3,7 +3,7 @@
 ghost use Rattle.std.specs.Prelude.{◌≡◌, ◌+◌, ◌^◌, ◌<◌, ◌≤◌, length, slice_set};
 ghost use Rattle.argon2.specs.Context.{block_count};
 ghost use Rattle.argon2.specs.Steps.{IsStep, run, lane_turns};
-ghost use Rattle.argon2.specs.Watching.{position_index, positions_of_run};
+ghost use Rattle.argon2.specs.Positions.{position_index, positions_of_run};
 ghost use Rattle.argon2.specs.Counting.{segment_calls};
 
 use super::instance::Instance;

@@ -131,7 +131,7 @@ impl Params {
     ghost use Rattle.argon2.specs.Params.{parameters_of};
 
     // The parameters of a list, with this output length.
-    #[tactic(auto, using(crate::proofs::ListReading::list_reading))]
+    #[tactic(auto, using(crate::proofs::lists::ListReading::list_reading))]
     fn read(list: &ParamsString, output_len: Option<usize>) -> Result<Params>
         ensures { outcome_of parameters_of result ≡ params_of output_len list.now }
     {

@@ -1,5 +1,5 @@
-use Rattle.argon2.proofs.Validity.{Fits-valid}
-use Rattle.argon2.proofs.Independence.{positions_agree, argon2i_independent, argon2id_independent}
+use Rattle.argon2.proofs.recurrence.Validity.{Fits-valid}
+use Rattle.argon2.proofs.recurrence.Independence.{positions_agree, argon2i_independent, argon2id_independent}
 use Rattle.argon2.proofs.laws.independent_positions.Goals as goal
 
 pub returns-clause-argon2i : goal.returns-clause-argon2i

@@ -1,5 +1,5 @@
-use Rattle.argon2.proofs.Validity.{Fits-valid}
-use Rattle.argon2.proofs.History as h
+use Rattle.argon2.proofs.recurrence.Validity.{Fits-valid}
+use Rattle.argon2.proofs.recurrence.History as h
 use Rattle.argon2.proofs.laws.recurrence.Goals as goal
 
 pub returns-clause-follow : goal.returns-clause-follow

@@ -3,10 +3,10 @@ use Rattle.argon2_base.specs.Block.{bytes_of}
 use Rattle.argon2_base.specs.LongHash.{long_hash}
 use Rattle.argon2.specs.InitialHash.{first_block}
 use Rattle.argon2.specs.Tag.{tag_of}
-use Rattle.argon2.proofs.Validity.{Fits-valid, sizes-valid}
-use Rattle.argon2.proofs.Schedules.{schedules_agree}
-use Rattle.argon2.proofs.Filling.{schedules_fill}
-use Rattle.argon2.proofs.LastColumn.{steps_give_last}
+use Rattle.argon2.proofs.recurrence.Validity.{Fits-valid, sizes-valid}
+use Rattle.argon2.proofs.schedules.Schedules.{schedules_agree}
+use Rattle.argon2.proofs.schedules.Filling.{schedules_fill}
+use Rattle.argon2.proofs.schedules.LastColumn.{steps_give_last}
 use Rattle.argon2.proofs.laws.slice_interleaving.Goals as goal
 
 pub returns-clause-agree : goal.returns-clause-agree

@@ -2,7 +2,7 @@ use Rattle.std.proofs.Common.{length, ap, subst, ◌∙◌}
 use Rattle.argon2.specs.Argon2.{context_of}
 use Rattle.argon2.specs.Context.{block_count, Sizes}
 use Rattle.argon2.proofs.LentMemory.{is_hashed}
-use Rattle.argon2.proofs.TagOfMatrix.{tag_of_matrix}
+use Rattle.argon2.proofs.recurrence.TagOfMatrix.{tag_of_matrix}
 use Rattle.argon2.proofs.context.Argon2.hash.Goals as goal
 
 pub returns-clause-hashed : goal.returns-clause-hashed

@@ -1,6 +1,6 @@
 use Rattle.std.proofs.Common.{rules, ◌∙◌, ap}
 use Rattle.argon2.specs.Parameters.{Parameters}
-use Rattle.argon2.proofs.MadeValues.{at_most}
+use Rattle.argon2.proofs.stored.MadeValues.{at_most}
 use Rattle.argon2.proofs.context.Argon2.know_target.Goals as goal
 
 pub returns : goal.returns

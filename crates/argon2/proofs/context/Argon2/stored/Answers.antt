@@ -1,5 +1,5 @@
 use Rattle.std.proofs.Common.{rules}
-use Rattle.argon2.proofs.Named.{algorithm_named-no, version_numbered-no}
+use Rattle.argon2.proofs.lists.Named.{algorithm_named-no, version_numbered-no}
 use Rattle.argon2.proofs.context.Argon2.stored.Goals as goal
 
 pub returns-in_err-algorithm-clause-value : goal.returns-in_err-algorithm-clause-value

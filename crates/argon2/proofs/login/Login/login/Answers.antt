@@ -6,8 +6,8 @@ use Rattle.argon2_base.specs.PasswordHash.{phc_of}
 use Rattle.argon2.specs.declared.login.answers.Accepted.TheVariants.{Current, Rehashed, Kept}
 use Rattle.argon2.specs.declared.login.answers.LoginError.TheVariants.{NameUnknown, Refused}
 use Rattle.argon2.specs.Login.{store_of, target_of}
-use Rattle.argon2.proofs.LoginLemmas.{login_step, not_refused, hash_made, made_salt}
-use Rattle.argon2.proofs.Stores.{get-found, values_of-set}
+use Rattle.argon2.proofs.logins.LoginLemmas.{login_step, not_refused, hash_made, made_salt}
+use Rattle.argon2.proofs.logins.Stores.{get-found, values_of-set}
 use Rattle.argon2.proofs.login.Login.login.Goals as goal
 
 pub returns-in_default-clause-step : goal.returns-in_default-clause-step

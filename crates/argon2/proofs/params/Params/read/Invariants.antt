@@ -1,5 +1,5 @@
 use Rattle.argon2.specs.ByteLists.{keyid_bytes, data_bytes}
-use Rattle.argon2.proofs.ListReading.{Reading}
+use Rattle.argon2.proofs.lists.ListReading.{Reading}
 use Rattle.argon2.proofs.params.Params.read.Given as goal
 
 abbrev pub invariant-loop-name : goal.invariant-loop-name

@@ -1,6 +1,6 @@
 use Rattle.std.proofs.Common.{ℕ, ◌≤◌, Fits, List, None, arith, length, slice_index, w8, w32}
-use Rattle.argon2.proofs.ListedLemmas.{Fronts, listed_fronts}
-use Rattle.argon2.proofs.ReadAgain.{read_again, valid_without}
+use Rattle.argon2.proofs.lists.ListedLemmas.{Fronts, listed_fronts}
+use Rattle.argon2.proofs.lists.ReadAgain.{read_again, valid_without}
 use Rattle.argon2.proofs.params.text.params_string.Goals as goal
 
 -- the list as it grows, by what the arguments' types say

@@ -2,7 +2,7 @@ use Rattle.std.proofs.Common.{◌≡◌, ◌+◌, ◌*◌, ◌<◌, ◌≤◌, l
 use Rattle.std.proofs.lemmas.Nat.{mul-add-lt}
 use Rattle.argon2.specs.Context.{lane_length}
 use Rattle.argon2.specs.InitialHash.{block_after, first_block}
-use Rattle.argon2.proofs.FirstColumns.{begun_apart, begun_lanes}
+use Rattle.argon2.proofs.schedules.FirstColumns.{begun_apart, begun_lanes}
 use Rattle.argon2.proofs.context.instance.Instance.begin.Goals as goal
 
 pub loop-lane-preserved : goal.loop-lane-preserved

@@ -1,12 +1,12 @@
 use Rattle.std.proofs.Common.{◌≡◌, suc, refl, sym, ap, ◌∙◌, add-one, arith, subst}
 use Rattle.argon2.specs.Steps.{run_passes, lanes_in_order}
-use Rattle.argon2.specs.Watching.{positions_of_passes, AreReferencePlaces}
+use Rattle.argon2.specs.Positions.{positions_of_passes, AreReferencePlaces}
 use Rattle.argon2.specs.Counting.{passes_calls}
-use Rattle.argon2.proofs.Counts.{passes_calls-le, passes_calls-all, mixing_calls-few}
-use Rattle.argon2.proofs.Filling.{schedules_fill}
-use Rattle.argon2.proofs.LaneAfterLane.{ascending_schedule}
-use Rattle.argon2.proofs.Validity.{Fits-sizes}
-use Rattle.argon2.proofs.Watched.{positions_are_references}
+use Rattle.argon2.proofs.schedules.Counts.{passes_calls-le, passes_calls-all, mixing_calls-few}
+use Rattle.argon2.proofs.schedules.Filling.{schedules_fill}
+use Rattle.argon2.proofs.schedules.LaneAfterLane.{ascending_schedule}
+use Rattle.argon2.proofs.recurrence.Validity.{Fits-sizes}
+use Rattle.argon2.proofs.schedules.ReferencePlaces.{positions_are_references}
 use Rattle.argon2.proofs.context.instance.Instance.fill.Goals as goal
 
 pub loop-pass-init : goal.loop-pass-init

@@ -1,6 +1,6 @@
 use Rattle.std.proofs.Common.{◌≡◌, ◌+◌}
 use Rattle.argon2.specs.Steps.{run_passes, lanes_in_order}
-use Rattle.argon2.specs.Watching.{positions_of_passes}
+use Rattle.argon2.specs.Positions.{positions_of_passes}
 use Rattle.argon2.specs.Counting.{passes_calls}
 use Rattle.argon2.proofs.context.instance.Instance.fill.Given as goal
 

@@ -1,8 +1,8 @@
 use Rattle.std.proofs.Common.{suc, refl, add-one, arith}
 use Rattle.argon2.specs.Steps.{run_slices}
-use Rattle.argon2.specs.Watching.{positions_of_slices}
+use Rattle.argon2.specs.Positions.{positions_of_slices}
 use Rattle.argon2.specs.Counting.{slices_calls}
-use Rattle.argon2.proofs.Counts.{slices_calls-le}
+use Rattle.argon2.proofs.schedules.Counts.{slices_calls-le}
 use Rattle.argon2.proofs.context.instance.Instance.fill_pass.Goals as goal
 
 pub loop-slice-init : goal.loop-slice-init

@@ -3,10 +3,10 @@ use Rattle.std.proofs.lemmas.Bool.Decides.{nat_tests}
 use Rattle.argon2.specs.Context.{segment_length}
 use Rattle.argon2.specs.Recurrence.{addresses_of, is_independent}
 use Rattle.argon2.specs.Steps.{run, turn_count}
-use Rattle.argon2.specs.Watching.{positions_of_run}
+use Rattle.argon2.specs.Positions.{positions_of_run}
 use Rattle.argon2.specs.Counting.{segment_calls}
-use Rattle.argon2.proofs.Addresses.{same_addresses, address_mixings, mixings_more}
-use Rattle.argon2.proofs.LaneAfterLane.{run_turn, positions_of_turn}
+use Rattle.argon2.proofs.recurrence.Addresses.{same_addresses, address_mixings, mixings_more}
+use Rattle.argon2.proofs.schedules.LaneAfterLane.{run_turn, positions_of_turn}
 use Rattle.argon2.proofs.context.instance.Instance.fill_segment.Goals as goal
 use Rattle.argon2.proofs.context.instance.Instance.fill_segment.Goals.{then-index-gt0+then-index-eq0, else-index-gt0, else-index-gt0-via-then-index-gt0+else-index-eq0, else-index-gt0-via-else-index-gt0}
 

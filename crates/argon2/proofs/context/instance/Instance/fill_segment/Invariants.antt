@@ -2,7 +2,7 @@ use Rattle.std.proofs.Common.{◌≡◌, ◌+◌, ◌-◌, ◌*◌, ◌/◌, con
 use Rattle.argon2.specs.Context.{segment_length}
 use Rattle.argon2.specs.Recurrence.{is_independent, addresses_of}
 use Rattle.argon2.specs.Steps.{run, turn_count}
-use Rattle.argon2.specs.Watching.{positions_of_run}
+use Rattle.argon2.specs.Positions.{positions_of_run}
 use Rattle.argon2.proofs.context.instance.Instance.fill_segment.Given as goal
 
 -- the turns that are left do what all were to do; the address block at hand serves the index before

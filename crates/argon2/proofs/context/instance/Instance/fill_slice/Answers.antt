@@ -1,5 +1,5 @@
 use Rattle.std.proofs.Common.{◌≡◌, arith}
-use Rattle.argon2.proofs.LaneAfterLane.{run_lane, run_no_lane, positions_of_lane, positions_of_no_lane}
+use Rattle.argon2.proofs.schedules.LaneAfterLane.{run_lane, run_no_lane, positions_of_lane, positions_of_no_lane}
 use Rattle.argon2.proofs.context.instance.Instance.fill_slice.Goals as goal
 
 pub loop-lane-preserved : goal.loop-lane-preserved

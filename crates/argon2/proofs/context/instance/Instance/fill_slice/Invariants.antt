@@ -1,6 +1,6 @@
 use Rattle.std.proofs.Common.{◌≡◌, ◌+◌, ◌*◌}
 use Rattle.argon2.specs.Steps.{run, lane_after_lane}
-use Rattle.argon2.specs.Watching.{positions_of_run}
+use Rattle.argon2.specs.Positions.{positions_of_run}
 use Rattle.argon2.specs.Counting.{segment_calls}
 use Rattle.argon2.proofs.context.instance.Instance.fill_slice.Given as goal
 

@@ -1,6 +1,6 @@
 use Rattle.std.proofs.Common.{subst, rules}
 use Rattle.argon2.specs.Context.{Sizes}
-use Rattle.argon2.proofs.Validity.{sizes}
+use Rattle.argon2.proofs.recurrence.Validity.{sizes}
 use Rattle.argon2.proofs.context.instance.Instance.passes.Goals as goal
 
 pub returns-clause-sizes : goal.returns-clause-sizes

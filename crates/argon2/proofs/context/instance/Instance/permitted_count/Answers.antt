@@ -1,7 +1,7 @@
 use Rattle.std.proofs.Common.{arith}
 use Rattle.std.proofs.lemmas.Bool.Decides.{nat_tests}
-use Rattle.argon2.proofs.PermittedPlaces.{length-permitted}
-use Rattle.argon2.proofs.Validity.{Fits-sizes}
+use Rattle.argon2.proofs.recurrence.PermittedPlaces.{length-permitted}
+use Rattle.argon2.proofs.recurrence.Validity.{Fits-sizes}
 use Rattle.argon2.proofs.context.instance.Instance.permitted_count.Goals as goal
 
 pub returns-then-index-eq0-clause-value : goal.returns-then-index-eq0-clause-value

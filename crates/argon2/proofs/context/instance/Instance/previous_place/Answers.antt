@@ -1,5 +1,5 @@
 use Rattle.std.proofs.Common.{◌-◌, rules}
-use Rattle.argon2.proofs.InMemory.{place_below}
+use Rattle.argon2.proofs.schedules.InMemory.{place_below}
 use Rattle.argon2.proofs.context.instance.Instance.previous_place.Goals as goal
 
 pub returns-then-at-eq0-clause-within : goal.returns-then-at-eq0-clause-within

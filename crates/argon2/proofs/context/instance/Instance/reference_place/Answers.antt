@@ -1,6 +1,6 @@
 use Rattle.std.proofs.Common.{arith, rules}
 use Rattle.argon2.specs.Reference.{reference}
-use Rattle.argon2.proofs.InMemory.{place_below}
+use Rattle.argon2.proofs.schedules.InMemory.{place_below}
 use Rattle.argon2.proofs.context.instance.Instance.reference_place.Goals as goal
 
 pub returns-clause-value : goal.returns-clause-value

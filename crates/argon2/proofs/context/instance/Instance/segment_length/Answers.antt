@@ -1,7 +1,7 @@
 use Rattle.std.proofs.Common.{◌≡◌, subst, rules}
 use Rattle.argon2.specs.Context.{Context, Sizes}
 use Rattle.argon2.specs.Shape.{segment_length}
-use Rattle.argon2.proofs.Validity.{sizes}
+use Rattle.argon2.proofs.recurrence.Validity.{sizes}
 use Rattle.argon2.proofs.context.instance.Instance.segment_length.Goals as goal
 
 pub returns-clause-value : goal.returns-clause-value

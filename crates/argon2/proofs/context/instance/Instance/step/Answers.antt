@@ -4,7 +4,7 @@ use Rattle.std.proofs.lemmas.List.{get_or_read}
 use Rattle.argon2_base.proofs.MixingLaws.{xor_blocks-comm}
 use Rattle.argon2.specs.Context.{lane_length}
 use Rattle.argon2.specs.Steps.{step}
-use Rattle.argon2.proofs.InMemory.{made_by_places, place_by_word, place_below}
+use Rattle.argon2.proofs.schedules.InMemory.{made_by_places, place_by_word, place_below}
 use Rattle.argon2.proofs.context.instance.Instance.step.Goals as goal
 
 pub returns-then-xors-clause-step : goal.returns-then-xors-clause-step

@@ -1,6 +1,6 @@
 use Rattle.std.proofs.Common.{sym, ◌∙◌}
 use Rattle.argon2.specs.Steps.{in_memory}
-use Rattle.argon2.proofs.Addresses.{word_addressed, word_not_addressed}
+use Rattle.argon2.proofs.recurrence.Addresses.{word_addressed, word_not_addressed}
 use Rattle.argon2.proofs.context.instance.Instance.word.Goals as goal
 
 pub returns-in-Some : goal.returns-in-Some

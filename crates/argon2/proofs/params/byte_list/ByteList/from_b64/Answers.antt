@@ -1,6 +1,6 @@
 use Rattle.std.proofs.Common.{rules, arith, sym}
-use Rattle.argon2.proofs.DecodedSlices.{decoded_into_zeros, decode_slice_err}
-use Rattle.argon2.proofs.ReadBytes.{bytes_of_long, bytes_of_refused, bytes_of_slice}
+use Rattle.argon2.proofs.lists.DecodedSlices.{decoded_into_zeros, decode_slice_err}
+use Rattle.argon2.proofs.lists.ReadBytes.{bytes_of_long, bytes_of_refused, bytes_of_slice}
 use Rattle.argon2.proofs.params.byte_list.ByteList.from_b64.Goals as goal
 
 pub invariant_of-result-clause-fits : goal.invariant_of-result-clause-fits

@@ -2,7 +2,7 @@ use Rattle.std.proofs.Common.{rules, ◌≡◌, Some}
 use Rattle.argon2_base.specs.Ident.{ident_text}
 use Rattle.argon2_base.specs.PhcText.{Phc}
 use Rattle.argon2.specs.Made.{target_of, made}
-use Rattle.argon2.proofs.MadeValues.{made_accepted, made_shows}
+use Rattle.argon2.proofs.stored.MadeValues.{made_accepted, made_shows}
 use Rattle.argon2.proofs.password_hash.hashing.Argon2PasswordHasherPasswordHash.hash_password_with_salt.Goals as goal
 
 pub returns-clause-accepted : goal.returns-clause-accepted

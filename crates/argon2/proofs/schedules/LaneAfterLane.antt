@@ -4,8 +4,8 @@ use Rattle.std.specs.List.{AllByRecursion, flat_map, range_with_len}
 use Rattle.std.proofs.lemmas.Bool.{cases_eq}
 use Rattle.argon2.specs.Context.{Context, segment_length}
 use Rattle.argon2.specs.Steps.{step, reference_place, turns, turn_count, IsSchedule, run, lane_after_lane}
-use Rattle.argon2.specs.Watching.{position_index, positions_of_run}
-use Rattle.argon2.proofs.Schedules.{turns-same, turns-other, turns-append}
+use Rattle.argon2.specs.Positions.{position_index, positions_of_run}
+use Rattle.argon2.proofs.schedules.Schedules.{turns-same, turns-other, turns-append}
 
 -- a list of n turns of a lane has n of its turns
 turns-replicate : (lane n : ℕ) → turns lane (replicate n lane) ≡ n

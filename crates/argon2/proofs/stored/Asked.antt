@@ -6,7 +6,7 @@ use Rattle.argon2_base.specs.declared.error.password_hash.Error.TheVariants.{Alg
 use Rattle.argon2.specs.declared.algorithm.Algorithm.{Algorithm}
 use Rattle.argon2.specs.Algorithm.{IsNamedInText}
 use Rattle.argon2.specs.Made.{algorithm_asked}
-use Rattle.argon2.proofs.Named.{algorithm_named-text}
+use Rattle.argon2.proofs.lists.Named.{algorithm_named-text}
 
 pub named_asked : (name : List ℕ) (o : Option (List ℕ)) (r : Result Algorithm Error) → o ≡ Some name → IsNamedInText name r
     → MatchResult r (λ algorithm. algorithm_asked o ≡ Some algorithm) (λ e. (e ≡ NoAlgorithm) × (algorithm_asked o ≡ None))

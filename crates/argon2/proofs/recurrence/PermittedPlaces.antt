@@ -6,7 +6,7 @@ use Rattle.std.proofs.lemmas.List.FromFn.{get_or-map-range_with_len}
 use Rattle.std.proofs.lemmas.Bool.{cond_both, cond-true, cond-false, cases_lt, cases_Bool, ne_eqb, lt-ltb, le-ltb}
 use Rattle.argon2.specs.Context.{Context, segment_length, lane_length}
 use Rattle.argon2.specs.Reference.{columns, finished_segments, without_last, permitted}
-use Rattle.argon2.proofs.Sources.{Fits, InSlice, in_slice, length-columns}
+use Rattle.argon2.proofs.recurrence.Sources.{Fits, InSlice, in_slice, length-columns}
 
 -- the column at an index of a list of columns
 get_or-columns : (pass from to i : ℕ) → i < to - from →

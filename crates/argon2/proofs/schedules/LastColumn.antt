@@ -6,10 +6,10 @@ use Rattle.std.proofs.lemmas.Nat.{div-mul-add, mod-mul-add, mul-add-lt}
 use Rattle.argon2_base.specs.Block.{xor_blocks, zero_block}
 use Rattle.argon2.specs.Context.{Context, lane_length, block_count}
 use Rattle.argon2.specs.Recurrence.{FirstColumns, block_of, matrix, xor_lanes, last_block}
-use Rattle.argon2.proofs.Sources.{Fits}
+use Rattle.argon2.proofs.recurrence.Sources.{Fits}
 use Rattle.argon2.specs.Steps.{run_passes, last_column}
 use Rattle.argon2.specs.Laws.{Begins, AreSchedules}
-use Rattle.argon2.proofs.Filling.{schedules_fill}
+use Rattle.argon2.proofs.schedules.Filling.{schedules_fill}
 
 -- the matrix has the last pass's blocks at their places
 matrix_at : (ctx : Context) → Fits ctx → (first : FirstColumns) (lane column : ℕ) →

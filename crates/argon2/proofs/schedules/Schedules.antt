@@ -9,7 +9,7 @@ use Rattle.std.proofs.lemmas.Bool.{cond_both, cond-true, cond-false, cases_eq, e
 use Rattle.argon2.specs.Context.{Context, segment_length, lane_length}
 use Rattle.argon2.specs.Recurrence.{made_block}
 use Rattle.argon2.specs.Steps.{IsStep, in_memory, step, turns, turn_count, IsSchedule, run}
-use Rattle.argon2.proofs.Sources.{Fits, InSlice, made_cong}
+use Rattle.argon2.proofs.recurrence.Sources.{Fits, InSlice, made_cong}
 
 -- other lanes or columns stand at other places
 pub place_apart : (q l c m d : ℕ) → c < q → d < q → (l ≡ m → c ≡ d → ⊥) → l * q + c ≢ m * q + d

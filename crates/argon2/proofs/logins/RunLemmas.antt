@@ -15,7 +15,7 @@ use Rattle.argon2.specs.Accepts.{AcceptsBy, Accepts}
 use Rattle.argon2.specs.Login.{Store, Event, adding, logging_in, AddStep, LoginAnswer, LoginStep, IsCurrent}
 use Rattle.argon2.specs.Made.{Target, made}
 use Rattle.argon2.specs.Runs.{Run, newest, source, accepted, IsFrom}
-use Rattle.argon2.proofs.Stores.{get-set}
+use Rattle.argon2.proofs.logins.Stores.{get-set}
 
 -- what is known of the text of a name after an accepted login
 abbrev Reached : Target → Option (List ℕ × Accepted) → Option Phc → Type 0

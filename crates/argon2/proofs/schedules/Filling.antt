@@ -10,9 +10,9 @@ use Rattle.argon2.specs.Reference.{Reference}
 use Rattle.argon2.specs.Recurrence.{FirstColumns, made_block, block_of, reference_places, matrix}
 use Rattle.argon2.specs.Steps.{IsStep, in_memory, step, reference_place, turns, turn_count, IsSchedule, run, run_slices, run_passes}
 use Rattle.argon2.specs.Laws.{Begins, AreSchedules}
-use Rattle.argon2.proofs.Sources.{Fits, InSlice, AgreeOn, made_cong, reference_of_cong}
-use Rattle.argon2.proofs.Schedules.{turn_column, turns-same, turns-other, MayRun, MayRun-tail, MayRun-from, head_step, turn_count-le, place_apart}
-use Rattle.argon2.proofs.History.{first_columns, made_blocks}
+use Rattle.argon2.proofs.recurrence.Sources.{Fits, InSlice, AgreeOn, made_cong, reference_of_cong}
+use Rattle.argon2.proofs.schedules.Schedules.{turn_column, turns-same, turns-other, MayRun, MayRun-tail, MayRun-from, head_step, turn_count-le, place_apart}
+use Rattle.argon2.proofs.recurrence.History.{first_columns, made_blocks}
 
 -- In the pass at hand the first done(l) columns of each lane l are made. Each place has the block of
 -- the last pass that wrote it.

@@ -9,7 +9,7 @@ use Rattle.argon2.specs.Context.{Context, lane_length}
 use Rattle.argon2.specs.Recurrence.{FirstColumns, Blocks, made_block, rule, in_history, history, block_of}
 use Rattle.argon2.specs.Steps.{IsStep}
 use Rattle.argon2.specs.Laws.{IsRecurrence}
-use Rattle.argon2.proofs.Sources.{Fits, Reads, made_cong}
+use Rattle.argon2.proofs.recurrence.Sources.{Fits, Reads, made_cong}
 
 -- the moment of a pass's column: how many columns are made before it
 abbrev pub moment : Context → ℕ → ℕ → ℕ

@@ -7,7 +7,7 @@ use Rattle.argon2.specs.Context.{Context, segment_length, lane_length}
 use Rattle.argon2.specs.Reference.{reference_lane, permitted, finished_segments, reference}
 use Rattle.argon2.specs.Recurrence.{FirstColumns, is_independent, address_block, address_word, previous, reference_word, reference_of, block_of, reference_places}
 use Rattle.argon2.specs.Laws.{AreAlike}
-use Rattle.argon2.proofs.Sources.{Fits}
+use Rattle.argon2.proofs.recurrence.Sources.{Fits}
 
 -- the place of the block that the address word takes
 addressed_place : Context → ℕ → ℕ → ℕ → ℕ

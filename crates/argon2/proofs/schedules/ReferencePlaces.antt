@@ -6,11 +6,11 @@ use Rattle.std.proofs.lemmas.Bool.{cases_eq}
 use Rattle.argon2.specs.Context.{Context, segment_length, lane_length, block_count}
 use Rattle.argon2.specs.Recurrence.{FirstColumns, reference_places}
 use Rattle.argon2.specs.Steps.{IsStep, reference_place, step, turns, turn_count, IsSchedule, run_slices, run_passes}
-use Rattle.argon2.specs.Watching.{position_index, positions_of_run, positions_of_slices, positions_of_passes, AreReferencePlaces}
+use Rattle.argon2.specs.Positions.{position_index, positions_of_run, positions_of_slices, positions_of_passes, AreReferencePlaces}
 use Rattle.argon2.specs.Laws.{Begins, AreSchedules}
-use Rattle.argon2.proofs.Sources.{Fits}
-use Rattle.argon2.proofs.Schedules.{turn_column, turns-same, turns-other, MayRun, MayRun-tail, MayRun-from, head_step, turn_count-le}
-use Rattle.argon2.proofs.Filling.{FilledUpTo, FilledUpTo-like, step_fills, step_answers, done_before, begun, slices_fill, passes_fill, filled_at_first, turn_count-later_slice, turn_count-later_pass}
+use Rattle.argon2.proofs.recurrence.Sources.{Fits}
+use Rattle.argon2.proofs.schedules.Schedules.{turn_column, turns-same, turns-other, MayRun, MayRun-tail, MayRun-from, head_step, turn_count-le}
+use Rattle.argon2.proofs.schedules.Filling.{FilledUpTo, FilledUpTo-like, step_fills, step_answers, done_before, begun, slices_fill, passes_fill, filled_at_first, turn_count-later_slice, turn_count-later_pass}
 
 -- two blocks of one pass, lane and column
 record OneMark (pass lane column r l c : ℕ) : Type 0 where

@@ -6,8 +6,8 @@ use Rattle.argon2.specs.Context.{Context, Sizes}
 use Rattle.argon2.specs.InitialHash.{first_block}
 use Rattle.argon2.specs.Steps.{Memory, last_column}
 use Rattle.argon2.specs.Tag.{matrix_of, tag_of}
-use Rattle.argon2.proofs.LastColumn.{last_of_matrix}
-use Rattle.argon2.proofs.Validity.{Fits-sizes}
+use Rattle.argon2.proofs.schedules.LastColumn.{last_of_matrix}
+use Rattle.argon2.proofs.recurrence.Validity.{Fits-sizes}
 
 -- the hash of the matrix's last column is the tag
 pub tag_of_matrix : (ctx : Context) → Sizes ctx → (password salt : List ℕ) (n : ℕ) (memory : Memory) → memory

@@ -19,10 +19,10 @@ use Rattle.argon2.specs.Parameters.{Parameters, first_fault}
 use Rattle.argon2.specs.Stored.{shown_settings}
 use Rattle.argon2.specs.Tag.{tag_of}
 use Rattle.argon2.specs.Version.{version_number}
-use Rattle.argon2.proofs.ListedLemmas.{listed_good}
-use Rattle.argon2.proofs.Named.{algorithm_named-name, version_numbered-number}
-use Rattle.argon2.proofs.ReadAgain.{read_again}
-use Rattle.argon2.proofs.TagBytes.{tag_bytes}
+use Rattle.argon2.proofs.lists.ListedLemmas.{listed_good}
+use Rattle.argon2.proofs.lists.Named.{algorithm_named-name, version_numbered-number}
+use Rattle.argon2.proofs.lists.ReadAgain.{read_again}
+use Rattle.argon2.proofs.stored.TagBytes.{tag_bytes}
 
 none_of : {X : Type 0} (o : Option X) → IsNone o → o ≡ None
 none_of None h = refl

@@ -8,7 +8,7 @@ use Rattle.argon2_base.proofs.Base64Lemmas.{decode_of-strict_base64}
 use Rattle.argon2_base.proofs.DecimalLemmas.{number_again}
 use Rattle.argon2.specs.ListedParameters.{short_bytes, listed, params_of, unsized}
 use Rattle.argon2.specs.Parameters.{first_fault}
-use Rattle.argon2.proofs.ReadBytes.{bytes_of_short}
+use Rattle.argon2.proofs.lists.ReadBytes.{bytes_of_short}
 
 -- costs that are valid with an output length are valid without one
 pub valid_without : (m t p : ℕ) (o : Option ℕ) → IsNone (first_fault m t p o) → first_fault m t p None ≡ None

@@ -7,10 +7,10 @@ use Rattle.argon2.specs.Recurrence.{is_independent}
 use Rattle.argon2.specs.Counting.{independent_segments, mixing_calls}
 use Rattle.argon2.specs.Steps.{turn_count}
 use Rattle.argon2.specs.Counting.{segment_calls, slices_calls, passes_calls}
-use Rattle.argon2.proofs.Validity.{Fits-sizes}
-use Rattle.argon2.proofs.Sources.{Fits}
-use Rattle.argon2.proofs.Schedules.{turn_count-first}
-use Rattle.argon2.proofs.Filling.{turn_count-later_slice, turn_count-later_pass}
+use Rattle.argon2.proofs.recurrence.Validity.{Fits-sizes}
+use Rattle.argon2.proofs.recurrence.Sources.{Fits}
+use Rattle.argon2.proofs.schedules.Schedules.{turn_count-first}
+use Rattle.argon2.proofs.schedules.Filling.{turn_count-later_slice, turn_count-later_pass}
 
 module _ (ctx : Context) (fits : Fits ctx) where
   -- the address blocks of an independent segment

@@ -8,7 +8,7 @@ use Rattle.std.specs.Prelude.{IsNone}
 use Rattle.argon2.specs.Parameters.{first_fault}
 use Rattle.argon2.specs.Context.{Context, IsValid, Sizes}
 use Rattle.argon2.specs.Shape.{segment_length}
-use Rattle.argon2.proofs.Sources.{Fits}
+use Rattle.argon2.proofs.recurrence.Sources.{Fits}
 
 -- a test that would refuse is false
 not_refused : (b : Bool) (fault : Error) (rest : Option Error) → IsNone (cond b (Some fault) rest) →

@@ -10,7 +10,7 @@ use Rattle.argon2_base.specs.Base64.{IsBytes}
 use Rattle.argon2_base.proofs.Base64Lemmas.{strict_base64_decoded, length-strict_base64}
 use Rattle.argon2.specs.ByteLists.{base64_length}
 use Rattle.argon2.specs.ListedParameters.{short_bytes}
-use Rattle.argon2.proofs.DecodedSlices.{decode_slice_fits, decoded_slice}
+use Rattle.argon2.proofs.lists.DecodedSlices.{decode_slice_fits, decoded_slice}
 
 -- what decodes to so few bytes
 pub bytes_of_short : (most : ℕ) (s b : List ℕ) → decode_of standard_no_pad s ≡ Ok b → length b ≤ most

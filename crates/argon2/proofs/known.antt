@@ -1,0 +1,4 @@
+pub mod Computing
+pub mod KnownAnswers
+pub mod KnownInitialHash
+pub mod KnownTag

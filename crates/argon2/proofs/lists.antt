@@ -1,0 +1,6 @@
+pub mod DecodedSlices
+pub mod ListReading
+pub mod ListedLemmas
+pub mod Named
+pub mod ReadAgain
+pub mod ReadBytes

@@ -1,0 +1,3 @@
+pub mod LoginLemmas
+pub mod RunLemmas
+pub mod Stores

@@ -1,0 +1,7 @@
+pub mod Addresses
+pub mod History
+pub mod Independence
+pub mod PermittedPlaces
+pub mod Sources
+pub mod TagOfMatrix
+pub mod Validity

@@ -1,0 +1,8 @@
+pub mod Counts
+pub mod Filling
+pub mod FirstColumns
+pub mod InMemory
+pub mod LaneAfterLane
+pub mod LastColumn
+pub mod ReferencePlaces
+pub mod Schedules

@@ -1,0 +1,4 @@
+pub mod Asked
+pub mod MadeValues
+pub mod TagBytes
+pub mod Verified
