@@ -14,7 +14,7 @@ use Rattle.argon2.specs.Algorithm.{algorithm_name, algorithm_named}
 use Rattle.argon2.specs.Argon2.{secret_of, settings_of}
 use Rattle.argon2.specs.Context.{context_with}
 use Rattle.argon2.specs.ListedParameters.{checked, list_of}
-use Rattle.argon2.specs.Parameters.{Parameters, IsValid}
+use Rattle.argon2.specs.Parameters.{Parameters, AreValid}
 use Rattle.argon2.specs.Refusals.{first_of}
 use Rattle.argon2.specs.Settings.{Settings}
 use Rattle.argon2.specs.Stored.{found}
@@ -52,7 +52,7 @@ made target password salt = record {
 
 -- settings whose hashes fit into texts
 pub record IsTarget (target : Target) : Type 0 where
-  pub valid : IsValid target.settings.parameters
+  pub valid : AreValid target.settings.parameters
   pub m_cost : target.settings.parameters.m_cost < 2 ^ 32
   pub t_cost : target.settings.parameters.t_cost < 2 ^ 32
   pub keyid : HasBytes 0 8 target.settings.parameters.keyid

@@ -6,7 +6,7 @@ use Rattle.std.specs.Prelude.{unwrap_or, is_none, nat_le}
 use Rattle.argon2_base.specs.Decimal.{number_of}
 use Rattle.argon2_base.specs.Error.{Fault}
 use Rattle.argon2_base.specs.ParamsText.{Pair, are_distinct, are_params, is_param, params_text, value_of}
-use Rattle.argon2_base.proofs.Characters.{both}
+use Rattle.std.proofs.lemmas.Bool.{and_parts}
 use Rattle.argon2.specs.ListedParameters.{bytes_at, item_fault, items_fault, number_at, params_of, short_bytes, with_costs}
 
 -- What was read, where `rest` is left: a value of the rest would take the place of what was read.
@@ -26,9 +26,9 @@ or_none (Some x) = refl
 -- before the first item
 pub nothing_read : (list : List Pair) → are_params list ≡ true → Reading list list None None None [] []
 nothing_read list params =
-    let grammar = both (list_all is_param list && are_distinct list) (nat_le (length (params_text list)) 127) params in
+    let grammar = and_parts (list_all is_param list && are_distinct list) (nat_le (length (params_text list)) 127) params in
     record {
-      names = (both (list_all is_param list) (are_distinct list) grammar.0).1;
+      names = (and_parts (list_all is_param list) (are_distinct list) grammar.0).1;
       fault = refl;
       memory = or_none (number_at (codes "m") list);
       passes = or_none (number_at (codes "t") list);
@@ -45,7 +45,7 @@ no_value (Some x) e = absurd cc
 named_once : (p : Pair) (rest : List Pair) → are_distinct (p ∷ rest) ≡ true
     → (value_of p.0 rest ≡ None) × (are_distinct rest ≡ true)
 named_once p rest names =
-    let parts = both (is_none (value_of p.0 rest)) (are_distinct rest) names in
+    let parts = and_parts (is_none (value_of p.0 rest)) (are_distinct rest) names in
     (no_value (value_of p.0 rest) parts.0, parts.1)
 
 -- ---- an item of each name

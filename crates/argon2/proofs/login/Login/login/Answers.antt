@@ -53,7 +53,7 @@ returns-clause-step g c =
       not_refused _ _ _ c.in_default-verify_password.not-Err c.verify_password.ensures.accepted,
       (
         (λ e. let hit = c.is_current.ensures.1 e in let miss = c.if-is_current.false in absurd cc),
-        made_salt (target_of c.args.self.now) c.args.password.now drawn (phc_of fresh) made c.is_grammatical.ensures.0,
+        made_salt (target_of c.args.self.now) c.args.password.now drawn (phc_of fresh) made fresh.grammatical,
         values_of-set before after name fresh (btree_map_updates_text name before after _ ((c.get_mut.follows.holds fresh).3 (search rules)))
             ∙ ap (finmap.insert (store_of c.args.self.now) name) made,
       ),

@@ -1,0 +1,12 @@
+use Rattle.std.proofs.Common.{subst}
+use Rattle.std.specs.Prelude.{IfOk}
+use Rattle.argon2_base.specs.PasswordHash.{phc_of}
+use Rattle.argon2_base.specs.PhcText.{phc_text}
+use Rattle.argon2.specs.Accepts.{Accepts}
+use Rattle.argon2.proofs.password_hash.hashing.Argon2CustomizedPasswordHasherPasswordHash.hash_password_customized.Goals as goal
+
+pub returns-clause-accepted : goal.returns-clause-accepted
+returns-clause-accepted c =
+    let made = c.hash_password_with_salt.result in
+    subst (λ secret. IfOk made (λ hash. Accepts secret c.args.password.now (phc_text (phc_of hash))))
+    c.with_settings-argon2.ensures.secret c.hash_password_with_salt.ensures.accepted
