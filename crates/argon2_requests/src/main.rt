@@ -1,10 +1,15 @@
-//! Shows what memory the calls of `argon2` ask for, a line a call. All but the last two take none; each
-//! of these makes one request. With a request refused, the line of the call that made it is another.
+//! Shows what memory the calls of `argon2` ask for, a line a call. First those that take none, also where
+//! a stored text would take more than there is; then those that make one request, and last one that makes
+//! two. With a request refused, the line of the call that made it is another.
 #![tactic(auto)]
 
 use argon2::blake2b::Blake2b;
 use argon2::blake2b_long::blake2b_long;
-use argon2::{Algorithm, Argon2, Block, Kdf, KeyId, Params, ParamsBuilder, PasswordHash, Version};
+use argon2::login::Login;
+use argon2::{
+    Algorithm, Argon2, Block, Kdf, KeyId, Params, ParamsBuilder, PasswordHash, PasswordHasher,
+    PasswordVerifier, Version,
+};
 use std::fmt::Display;
 use std::io;
 use std::io::ErrorKind;
@@ -15,6 +20,10 @@ const SALT: &[u8] = b"somesalt";
 
 const TEXT: &str = "$argon2id$v=19$m=8,t=1,p=1,keyid=a2V5$c29tZXNhbHQ$yctGGw";
 
+const NO_ALGORITHM: &str = "$argon2$v=19$m=4294967295,t=1,p=1$c29tZXNhbHQ$AAAAAA";
+
+const NO_HASH: &str = "$argon2id$v=19$m=4294967295,t=1,p=1$c29tZXNhbHQ";
+
 fn main(rt: HostRuntime) -> io::Result<()> {
     digest(&rt)?;
     texts(&rt)?;
@@ -24,13 +33,47 @@ fn main(rt: HostRuntime) -> io::Result<()> {
     let argon2 = Argon2::new(Algorithm::Argon2id, Version::V0x13, params);
     lent(&rt, &argon2)?;
     stepped(&rt, &argon2)?;
+    verify(
+        &rt,
+        "verify_password of no algorithm",
+        &argon2,
+        NO_ALGORITHM,
+    )?;
+    verify(&rt, "verify_password of no hash", &argon2, NO_HASH)?;
 
     let mut out = [0; 4];
     let answer = argon2.hash_password_into(rt.alloc(), PASSWORD, SALT, &mut out);
     tell(&rt, "hash_password_into", answer, out)?;
     let mut out = [0; 4];
     let answer = argon2.derive_key(rt.alloc(), PASSWORD, SALT, &mut out);
-    tell(&rt, "derive_key", answer, out)
+    tell(&rt, "derive_key", answer, out)?;
+    match argon2.hash_password_with_salt(rt.alloc(), PASSWORD, SALT) {
+        Ok(hash) => println!(rt; "hash_password_with_salt: {hash}")?,
+        Err(e) => println!(rt; "hash_password_with_salt: {e}")?,
+    }
+    verify(&rt, "verify_password", &argon2, TEXT)?;
+    add(&rt, argon2)
+}
+
+// What verifying `abc` against a text answers.
+fn verify(rt: &HostRuntime, call: &str, argon2: &Argon2<'_>, text: &str) -> io::Result<()> {
+    match argon2.verify_password(rt.alloc(), b"abc", text) {
+        Ok(()) => println!(rt; "{call}: ok"),
+        Err(e) => println!(rt; "{call}: {e}"),
+    }
+}
+
+// What adding a name to a login store answers, and whether the name is there then.
+fn add(rt: &HostRuntime, target: Argon2<'_>) -> io::Result<()> {
+    let Ok(mut store) = Login::new(rt.alloc(), target) else {
+        return Err(io::Error::from(ErrorKind::InvalidInput));
+    };
+    let answer = store.add("name", TEXT);
+    let there = store.text_of("name").is_some();
+    match answer {
+        Ok(()) => println!(rt; "Login::add: ok, {there}"),
+        Err(e) => println!(rt; "Login::add: {e}, {there}"),
+    }
 }
 
 // A call's name, and the bytes that it wrote, or why it refused and what its output then holds.
@@ -85,7 +128,6 @@ fn texts(rt: &impl Print) -> io::Result<()> {
 }
 
 // The calls on lent memory.
-#[tactic(auto, unfolding(argon2::specs::Context::segment_length))]
 fn lent(rt: &impl Print, argon2: &Argon2<'_>) -> io::Result<()> {
     let (mut memory, mut out) = ([Block::new(); 8], [0; 4]);
     let answer = argon2.hash_password_into_with_memory(PASSWORD, SALT, &mut out, &mut memory);
@@ -114,7 +156,6 @@ fn lent(rt: &impl Print, argon2: &Argon2<'_>) -> io::Result<()> {
 }
 
 // The same tag by single steps.
-#[tactic(auto, unfolding(argon2::specs::Context::segment_length))]
 fn stepped(rt: &impl Print, argon2: &Argon2<'_>) -> io::Result<()> {
     let (mut memory, mut out) = ([Block::new(); 8], [0; 4]);
     let answer = argon2.begin_fill(PASSWORD, SALT, out.len(), &mut memory);
