@@ -68,7 +68,7 @@ LoginRefusal target password None NameUnknown = Unit {0}
 LoginRefusal target password (Some v) (Refused e) = IsVerifyAnswer target.secret password v (Err e)
 LoginRefusal target password _ _ = ⊥
 
--- the text was made under the target's settings, all but the secret
+-- the text shows the target's settings, with the length of the target's hashes
 abbrev pub IsCurrent : Target → Phc → Type 0
 IsCurrent target v = shown_settings v ≡ Ok (sized target.settings)
 
@@ -80,7 +80,8 @@ AcceptedStep target before name password drawn v Rehashed after = ¬ (IsCurrent 
 AcceptedStep target before name password drawn v Kept after = ¬ (IsCurrent target v) × (after ≡ before)
 
 -- what a login answers where the name has this text or none, and the store after it
-abbrev pub LoginAnswer : Target → Store → List ℕ → List ℕ → List ℕ → Option Phc → Result Accepted LoginError → Store → Type 0
+abbrev pub LoginAnswer :
+    Target → Store → List ℕ → List ℕ → List ℕ → Option Phc → Result Accepted LoginError → Store → Type 0
 LoginAnswer target before name password drawn None (Ok _) after = ⊥
 LoginAnswer target before name password drawn (Some v) (Ok accepted) after =
     AcceptsBy target.secret password v × AcceptedStep target before name password drawn v accepted after

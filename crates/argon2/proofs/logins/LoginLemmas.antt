@@ -14,7 +14,8 @@ use Rattle.argon2.specs.Login.{Store, LoginAnswer, LoginStep, logging_in}
 use Rattle.argon2.specs.Made.{Target, made, IsHashAnswer}
 
 -- from what the name has
-pub login_step : (target : Target) (before : Store) (name password drawn : List ℕ) (o : Option Phc) (answer : Result Accepted LoginError) (after : Store) →
+pub login_step : (target : Target) (before : Store) (name password drawn : List ℕ) (o : Option Phc)
+    (answer : Result Accepted LoginError) (after : Store) →
     get before name ≡ o → LoginAnswer target before name password drawn o answer after →
     LoginStep target before (logging_in name password drawn answer) after
 login_step target before name password drawn o answer after e step = rw e step
@@ -36,5 +37,6 @@ hash_made target password salt h (inl e) = unchecked _ (phc_of h) (made target p
 hash_made target password salt h (inr r) = let e = r.0 in absurd cc
 
 -- its salt has the length of one
-pub made_salt : (target : Target) (password salt : List ℕ) (v : Phc) → v ≡ made target password salt → IsPhc v → HasBytes 8 48 salt
+pub made_salt : (target : Target) (password salt : List ℕ) (v : Phc) → v ≡ made target password salt → IsPhc v →
+    HasBytes 8 48 salt
 made_salt target password salt v e is = (rw e at is).salt

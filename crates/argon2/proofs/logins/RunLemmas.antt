@@ -41,7 +41,8 @@ same : (target : Target) (name : List ℕ) (event : Event) (older : List Event) 
 same target name event older o p s a e known = rw (e, s, a) known
 
 -- an accepted login of the name that leaves its text
-logged : (target : Target) (name given : List ℕ) (did : Accepted) (event : Event) (older : List Event) (v : Phc) (o p : Option Phc) →
+logged : (target : Target) (name given : List ℕ) (did : Accepted) (event : Event) (older : List Event) (v : Phc)
+    (o p : Option Phc) →
     source name event ≡ None → accepted name event ≡ Some (given, did) → o ≡ Some v → p ≡ o →
     AcceptsBy target.secret given v → (did ≢ Kept → IsCurrent target v) →
     Known target name older o → Known target name (event ∷ older) p
@@ -71,7 +72,8 @@ module _ (target : Target)
             same target name (adding n added (Ok x)) older _ _ (rw miss refl) refl (set ∙ rw miss refl) (known name)
       ]
 
-  login_keeps : (before after : Store) (n given drawn : List ℕ) (o : Option Phc) (answer : Result Accepted LoginError) (older : List Event) →
+  login_keeps : (before after : Store) (n given drawn : List ℕ) (o : Option Phc)
+      (answer : Result Accepted LoginError) (older : List Event) →
       get before n ≡ o → LoginAnswer target before n given drawn o answer after →
       ((name : List ℕ) → Known target name older (get before name)) →
       (name : List ℕ) → Known target name (logging_in n given drawn answer ∷ older) (get after name)
@@ -83,16 +85,20 @@ module _ (target : Target)
   login_keeps before after n given drawn (Some v) (Ok Current) older is step known name = elim (cases_Bool (bytes_eq name n)) [
     | inl hit ↦
         logged target name given Current (logging_in n given drawn (Ok Current)) older v _ _ refl (rw hit refl)
-        (ap (get before) ((bytes_eq-Decides name n).0 hit) ∙ is) (ap (λ m. get m name) step.1.1) step.0 (λ _. step.1.0) (known name)
+        (ap (get before) ((bytes_eq-Decides name n).0 hit) ∙ is) (ap (λ m. get m name) step.1.1) step.0
+        (λ _. step.1.0) (known name)
     | inr miss ↦
-        same target name (logging_in n given drawn (Ok Current)) older _ _ refl (rw miss refl) (ap (λ m. get m name) step.1.1) (known name)
+        same target name (logging_in n given drawn (Ok Current)) older _ _ refl (rw miss refl)
+        (ap (λ m. get m name) step.1.1) (known name)
   ]
   login_keeps before after n given drawn (Some v) (Ok Kept) older is step known name = elim (cases_Bool (bytes_eq name n)) [
     | inl hit ↦
         logged target name given Kept (logging_in n given drawn (Ok Kept)) older v _ _ refl (rw hit refl)
-        (ap (get before) ((bytes_eq-Decides name n).0 hit) ∙ is) (ap (λ m. get m name) step.1.1) step.0 (λ other. absurd (other refl)) (known name)
+        (ap (get before) ((bytes_eq-Decides name n).0 hit) ∙ is) (ap (λ m. get m name) step.1.1) step.0
+        (λ other. absurd (other refl)) (known name)
     | inr miss ↦
-        same target name (logging_in n given drawn (Ok Kept)) older _ _ refl (rw miss refl) (ap (λ m. get m name) step.1.1) (known name)
+        same target name (logging_in n given drawn (Ok Kept)) older _ _ refl (rw miss refl)
+        (ap (λ m. get m name) step.1.1) (known name)
   ]
   login_keeps before after n given drawn (Some v) (Ok Rehashed) older is step known name =
       let set = ap (λ m. get m name) step.1.2 ∙ get-set before n (made target given drawn) name in
@@ -100,7 +106,8 @@ module _ (target : Target)
         | inl hit ↦
             rw (set, hit) (refl, made_phc given drawn step.1.1, (made_accepts given drawn step.0.short, λ _. made_current given drawn))
         | inr miss ↦
-            same target name (logging_in n given drawn (Ok Rehashed)) older _ _ (rw miss refl) (rw miss refl) (set ∙ rw miss refl) (known name)
+            same target name (logging_in n given drawn (Ok Rehashed)) older _ _ (rw miss refl) (rw miss refl)
+            (set ∙ rw miss refl) (known name)
       ]
 
   step_keeps : (before after : Store) (event : Event) (older : List Event) → LoginStep target before event after →

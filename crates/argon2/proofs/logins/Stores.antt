@@ -1,5 +1,5 @@
 -- Stores: one name set, and the tree that a store stands for.
-use Rattle.std.proofs.Common.{rules, ◌≡◌, ℕ, List, [], ◌∷◌, Option, Some, None, Bool, true, false, cond, map, string_bytes, refl, sym, ap, ◌∙◌}
+use Rattle.std.proofs.Common.{rules, ◌≡◌, ℕ, List, [], ◌∷◌, Option, Some, None, Bool, true, false, cond, string_bytes, refl, sym, ap, ◌∙◌}
 use Rattle.std.proofs.lemmas.Map.Text.{is_eq-slice_cmp}
 use Rattle.std.specs.Prelude.{String, IsSome}
 use Rattle.std.specs.BTreeMap.{BTreeMap, IsOrdered, is_at, get_by_text}

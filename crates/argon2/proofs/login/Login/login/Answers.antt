@@ -12,19 +12,22 @@ use Rattle.argon2.proofs.login.Login.login.Goals as goal
 
 pub returns-in_default-clause-step : goal.returns-in_default-clause-step
 returns-in_default-clause-step g c =
-    login_step (target_of c.args.self.now) _ c.args.name.now _ (fill_bytes 16 (g.R.Rng.stream c.args.rng.now)).0 None (Err NameUnknown) _ (get-found c.args.self.now.texts c.args.name.now None (search rules)) (tt, refl)
+    login_step (target_of c.args.self.now) _ c.args.name.now _ (fill_bytes 16 (g.R.Rng.stream c.args.rng.now)).0 None
+    (Err NameUnknown) _ (get-found c.args.self.now.texts c.args.name.now None (search rules)) (tt, refl)
 
 pub returns-in-Err-clause-step : goal.returns-in-Err-clause-step
 returns-in-Err-clause-step g c =
     let text = c.in-Some.text.now in
-    login_step (target_of c.args.self.now) _ c.args.name.now _ (fill_bytes 16 (g.R.Rng.stream c.args.rng.now)).0 (Some (phc_of text)) (Err (Refused c.in-Err.e)) _
+    login_step (target_of c.args.self.now) _ c.args.name.now _ (fill_bytes 16 (g.R.Rng.stream c.args.rng.now)).0
+    (Some (phc_of text)) (Err (Refused c.in-Err.e)) _
     (get-found c.args.self.now.texts c.args.name.now (Some text) (sym c.in-Some.ensures.value))
     (c.in-Err.ensures.answer, refl)
 
 pub returns-then-is_current-clause-step : goal.returns-then-is_current-clause-step
 returns-then-is_current-clause-step g c =
     let text = c.in-Some.text.now in
-    login_step (target_of c.args.self.now) _ c.args.name.now _ (fill_bytes 16 (g.R.Rng.stream c.args.rng.now)).0 (Some (phc_of text)) (Ok Current) _
+    login_step (target_of c.args.self.now) _ c.args.name.now _ (fill_bytes 16 (g.R.Rng.stream c.args.rng.now)).0
+    (Some (phc_of text)) (Ok Current) _
     (get-found c.args.self.now.texts c.args.name.now (Some text) (sym c.in-Some.ensures.value)) (
       not_refused _ _ _ c.in_default-verify_password.not-Err c.verify_password.ensures.accepted,
       (c.is_current.ensures.0 c.if-is_current.true, refl),
@@ -34,7 +37,8 @@ pub returns-in_default-hash_password-clause-step :
     goal.returns-in_default-hash_password-clause-step
 returns-in_default-hash_password-clause-step g c =
     let text = c.in-Some.text.now in
-    login_step (target_of c.args.self.now) _ c.args.name.now _ (fill_bytes 16 (g.R.Rng.stream c.args.rng.now)).0 (Some (phc_of text)) (Ok Kept) _
+    login_step (target_of c.args.self.now) _ c.args.name.now _ (fill_bytes 16 (g.R.Rng.stream c.args.rng.now)).0
+    (Some (phc_of text)) (Ok Kept) _
     (get-found c.args.self.now.texts c.args.name.now (Some text) (sym c.in-Some.ensures.value)) (
       not_refused _ _ _ c.in_default-verify_password.not-Err c.verify_password.ensures.accepted,
       ((λ e. let hit = c.is_current.ensures.1 e in let miss = c.if-is_current.false in absurd cc), refl),
@@ -49,12 +53,14 @@ returns-clause-step g c =
     let before = c.args.self.now.texts in
     let after = c.get_mut.follows.lender fresh in
     let made = hash_made (target_of c.args.self.now) c.args.password.now drawn fresh c.in-Ok.ensures.answer in
-    login_step (target_of c.args.self.now) _ name _ drawn (Some (phc_of text)) (Ok Rehashed) _ (get-found before name (Some text) (sym c.in-Some.ensures.value)) (
+    login_step (target_of c.args.self.now) _ name _ drawn (Some (phc_of text)) (Ok Rehashed) _ (get-found before name
+    (Some text) (sym c.in-Some.ensures.value)) (
       not_refused _ _ _ c.in_default-verify_password.not-Err c.verify_password.ensures.accepted,
       (
         (λ e. let hit = c.is_current.ensures.1 e in let miss = c.if-is_current.false in absurd cc),
         made_salt (target_of c.args.self.now) c.args.password.now drawn (phc_of fresh) made fresh.grammatical,
-        values_of-set before after name fresh (btree_map_updates_text name before after _ ((c.get_mut.follows.holds fresh).3 (search rules)))
+        values_of-set before after name fresh (btree_map_updates_text name before after _
+            ((c.get_mut.follows.holds fresh).3 (search rules)))
             ∙ ap (finmap.insert (store_of c.args.self.now) name) made,
       ),
     )
