@@ -15,6 +15,10 @@ pub enum Command<'a> {
     Long(u32),
     /// `tag ALG VER M T P LEN SALT`: the tag of LEN bytes, at most 1024, of a password.
     Tag(Request<'a>, u32, &'a str),
+    /// `phc ALG VER M T P SALT`: the PHC text of a password.
+    Phc(Request<'a>, &'a str),
+    /// `verify TEXT`: whether a PHC text accepts a password.
+    Verify(&'a str),
 }
 
 impl<'a> Command<'a> {
@@ -42,6 +46,17 @@ impl<'a> Command<'a> {
                     salt.as_str(),
                 )
             }
+            ("phc", [algorithm, version, m_cost, t_cost, p_cost, salt]) => {
+                Command::phc(
+                    algorithm.as_str(),
+                    version.as_str(),
+                    m_cost.as_str(),
+                    t_cost.as_str(),
+                    p_cost.as_str(),
+                    salt.as_str(),
+                )
+            }
+            ("verify", [text]) => Some(Command::Verify(text.as_str())),
             _ => None,
         }
     }
@@ -64,6 +79,24 @@ impl<'a> Command<'a> {
         let request = Request::parsed(algorithm, version, m_cost, t_cost, p_cost)?;
         let len = number_within(len, 0, 1024)?;
         Some(Command::Tag(request, len, salt))
+    }
+
+    // The command that `phc` and six words spell, if they spell one.
+    fn phc(
+        algorithm: &'a str,
+        version: &str,
+        m_cost: &str,
+        t_cost: &str,
+        p_cost: &str,
+        salt: &'a str,
+    ) -> Option<Command<'a>>
+        ensures found { IfSome result (Spells (codes "phc" ∷ algorithm.now ∷ version.now ∷ m_cost.now
+            ∷ t_cost.now ∷ p_cost.now ∷ salt.now ∷ [])) }
+        ensures only { (command : Command) → Spells (codes "phc" ∷ algorithm.now ∷ version.now ∷ m_cost.now
+            ∷ t_cost.now ∷ p_cost.now ∷ salt.now ∷ []) command → IsSome result }
+    {
+        let request = Request::parsed(algorithm, version, m_cost, t_cost, p_cost)?;
+        Some(Command::Phc(request, salt))
     }
 }
 

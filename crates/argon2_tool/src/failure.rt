@@ -2,8 +2,9 @@
 
 ghost use Rattle.std.specs.Prelude.{◌≡◌, ◌≢◌};
 ghost use Rattle.std.specs.IoError.{error_kind};
-ghost use Rattle.argon2_tool.specs.Failures.{IsOfReading, IsMemory, IsOfHashing};
+ghost use Rattle.argon2_tool.specs.Failures.{IsOfReading, IsMemory, IsOfHashing, IsOfText};
 
+use argon2::password_hash;
 use std::alloc::AllocError;
 use std::io;
 use std::io::ErrorKind;
@@ -24,6 +25,9 @@ pub enum Failure {
     /// The call that the command makes refuses.
     #[error(transparent)]
     Hashing(argon2::Error),
+    /// The call that makes or verifies a text refuses.
+    #[error(transparent)]
+    Text(password_hash::Error),
 }
 
 /// The failure of a read: want of memory is told as such.
@@ -55,6 +59,18 @@ impl From<argon2::Error> for Failure {
         match error {
             argon2::Error::OutOfMemory => Failure::Memory(AllocError),
             error => Failure::Hashing(error),
+        }
+    }
+}
+
+/// Want of memory is told as such, whoever met it.
+impl From<password_hash::Error> for Failure {
+    ghost from_gives = { IsOfText };
+
+    fn from(error: password_hash::Error) -> Failure {
+        match error {
+            password_hash::Error::OutOfMemory => Failure::Memory(AllocError),
+            error => Failure::Text(error),
         }
     }
 }

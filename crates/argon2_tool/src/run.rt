@@ -2,8 +2,8 @@
 
 ghost use Rattle.std.specs.Prelude.{◌≡◌, ◌↔◌, ◌⊎◌, ◌≤◌, [], ◌∷◌, ◌++◌, IfSome, IfOk, OnOk, IfErr, map, string_bytes};
 ghost use Rattle.std.specs.Io.KnownBytes.{Appends, Keeps};
-ghost use Rattle.argon2_tool.specs.Commands.{IsCommand, Spells, reply_of, IsAnswered, IsRefused};
-ghost use Rattle.argon2_tool.specs.Failures.{IsOfReading, IsBeforeWriting};
+ghost use Rattle.argon2_tool.specs.Commands.{IsCommand, Spells, Replies, IsAnswered, IsRefused};
+ghost use Rattle.argon2_tool.specs.Failures.{IsOfReading, IsBeforeReply};
 
 use crate::arguments::Command;
 use crate::failure::{Failure, of_reading};
@@ -14,6 +14,7 @@ mod digest;
 mod tag;
 #[cfg(test)]
 mod tests;
+mod texts;
 
 const USAGE: &str =
     "usage: argon2-tool digest N | long N | tag ALG VER M T P LEN SALT | phc ALG VER M T P SALT | verify TEXT";
@@ -71,15 +72,27 @@ fn answer<R: Read, W: Write>(
         (W.contents output.old) (W.contents output.new)) }
     ensures err { IfErr result (λ failure.
         ((failure ≡ Failure.Output) × ¬ IsRefused command.now (R.remaining input.old))
-        ⊎ (IsBeforeWriting (reply_of command.now) (R.remaining input.old) failure
+        ⊎ (IsBeforeReply (Replies command.now) (R.remaining input.old) failure
         × Keeps (W.contents output.old) (W.contents output.new))) }
 {
-    let text = match *command {
-        Command::Digest(len) => digest::digest(alloc, len as usize, input)?,
-        Command::Long(len) => digest::long(alloc, len as usize, input)?,
-        Command::Tag(request, len, salt) => tag::tag(alloc, &request, len as usize, salt, input)?,
-    };
+    let text = reply(alloc, command, input)?;
     write_line(output, text.as_str())
+}
+
+// What a command replies to the input.
+fn reply<R: Read>(alloc: Global, command: &Command<'_>, input: &mut R) -> Result<String, Failure>
+    requires { IsCommand command.now }
+    ensures ok { IfOk result (λ text. IfSome (R.remaining input.old)
+        (λ message. Replies command.now message (string_bytes text))) }
+    ensures err { IfErr result (IsBeforeReply (Replies command.now) (R.remaining input.old)) }
+{
+    match *command {
+        Command::Digest(len) => digest::digest(alloc, len as usize, input),
+        Command::Long(len) => digest::long(alloc, len as usize, input),
+        Command::Tag(request, len, salt) => tag::tag(alloc, &request, len as usize, salt, input),
+        Command::Phc(request, salt) => texts::phc(alloc, &request, salt, input),
+        Command::Verify(text) => texts::verify(alloc, text, input),
+    }
 }
 
 // Writes a text and a line feed.

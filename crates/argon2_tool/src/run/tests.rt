@@ -190,6 +190,88 @@ fn answers_a_tag_or_the_first_refusal(rt: HostRuntime) -> Result<(), Fail> {
     expect(&rt, rt.alloc(), words, &mut Failing::after(1), unread)
 }
 
+const PHC: &str =
+    "$argon2id$v=19$m=256,t=2,p=2$c29tZXNhbHQ$bQk8UB/VmZZF4Oo79iDXuL5/0ttZwg2f/5U52iv1cDc\n";
+
+const OF_VERSION_42: &str =
+    "$argon2i$v=42$m=65536,t=2,p=1$c29tZXNhbHQ$9sTbSlTio3Biev89thdrlKKiCaYsjjYVJxGAL3swxpQ";
+
+// The text, or the first refusal: of the arguments, the algorithm, the version, the parameters, the call.
+#[test]
+fn answers_a_text_or_the_first_refusal(rt: HostRuntime) -> Result<(), Fail> {
+    for (algorithm, version, m_cost, salt, status, text) in [
+        ("argon2x", "019", "7", "short", 2, USAGE),
+        (
+            "argon2",
+            "42",
+            "7",
+            "short",
+            1,
+            "argon2: algorithm identifier invalid\n",
+        ),
+        (
+            "argon2id",
+            "42",
+            "7",
+            "short",
+            1,
+            "argon2: invalid version\n",
+        ),
+        (
+            "argon2id",
+            "19",
+            "7",
+            "short",
+            1,
+            "argon2: memory cost is too small\n",
+        ),
+        (
+            "argon2id",
+            "19",
+            "256",
+            "short",
+            1,
+            "argon2: salt is invalid\n",
+        ),
+    ] {
+        let mut input: &[u8] = b"password";
+        let words = &["phc", algorithm, version, m_cost, "2", "1", salt];
+        expect(&rt, rt.alloc(), words, &mut input, (status, "", text))?;
+    }
+    let mut input: &[u8] = b"password";
+    let words = &["phc", "argon2id", "19", "256", "2", "2", "somesalt"];
+    expect(&rt, rt.alloc(), words, &mut input, (0, PHC, ""))?;
+    let unread = (1, "", "argon2: standard input can't be read\n");
+    let words = &["phc", "argon2x", "17", "0", "0", "0", ""];
+    expect(&rt, rt.alloc(), words, &mut Failing::after(1), unread)
+}
+
+#[test]
+fn verifies_a_text(rt: HostRuntime) -> Result<(), Fail> {
+    let phc = &PHC[..PHC.len() - 1];
+    for (text, password, answer) in [
+        (phc, "password", (0, "ok\n", "")),
+        (phc, "sassword", (1, "", "argon2: password is invalid\n")),
+        ("x", "password", (1, "", "argon2: encoding is invalid\n")),
+        (
+            OF_VERSION_42,
+            "password",
+            (1, "", "argon2: version is not supported\n"),
+        ),
+    ] {
+        let mut input = password.as_bytes();
+        expect(&rt, rt.alloc(), &["verify", text], &mut input, answer)?;
+    }
+    let unread = (1, "", "argon2: standard input can't be read\n");
+    expect(
+        &rt,
+        rt.alloc(),
+        &["verify", "x"],
+        &mut Failing::after(1),
+        unread,
+    )
+}
+
 #[test]
 fn tags_on_64_mebibytes(rt: HostRuntime) -> Result<(), Fail> {
     let mut input: &[u8] = b"password";
@@ -266,7 +348,7 @@ fn tells_its_usage_where_arguments_spell_no_command(rt: HostRuntime) -> Result<(
     expect(
         &rt,
         rt.alloc(),
-        &["verify", "$argon2id$"],
+        &["verify", "$argon2id$", "x"],
         &mut Failing::after(0),
         usage,
     )
