@@ -13,8 +13,8 @@ use Rattle.argon2_tool.specs.declared.failure.Failure.{Failure}
 use Rattle.argon2_tool.specs.declared.failure.Failure.TheVariants.{Input, Output, Memory, Hashing, Text}
 
 -- a message without a reply is the input, where that is known
-none_of_input : (replies : List ℕ → List ℕ → Type 0) (input : Option (List ℕ)) (message : List ℕ) → IfSome input (λ m. message ≡ m)
-    → HasNone (replies message) → IfSome input (λ m. HasNone (replies m))
+none_of_input : (replies : List ℕ → List ℕ → Type 0) (input : Option (List ℕ)) (message : List ℕ)
+    → IfSome input (λ m. message ≡ m) → HasNone (replies message) → IfSome input (λ m. HasNone (replies m))
 none_of_input replies None message is none = tt
 none_of_input replies (Some m) message is none = subst (λ x. HasNone (replies x)) is none
 
@@ -27,8 +27,8 @@ before_reply replies input message (Hashing refusal) is h = none_of_input replie
 before_reply replies input message (Text refusal) is h = none_of_input replies input message is h
 
 -- a call that refuses the input fails before a reply
-pub refused_before : {X : Type 0} → (replies : List ℕ → List ℕ → Type 0) (input : Option (List ℕ)) (message : List ℕ) (r : Result X Failure)
-    → IfSome input (λ m. message ≡ m) → IfErr r (IsRefusalOf (replies message)) → IfErr r (IsBeforeReply replies input)
+pub refused_before : {X : Type 0} → (replies : List ℕ → List ℕ → Type 0) (input : Option (List ℕ))
+    (message : List ℕ) (r : Result X Failure) → IfSome input (λ m. message ≡ m) → IfErr r (IsRefusalOf (replies message)) → IfErr r (IsBeforeReply replies input)
 refused_before replies input message (Ok x) is h = tt
 refused_before replies input message (Err f) is h = before_reply replies input message f is h
 
@@ -49,7 +49,8 @@ no_reply text password e (inr never) = inr (λ line reply. never reply.1)
 
 -- verifying a text under no secret refuses for want of memory, or what it does not accept
 pub refused_text : {X : Type 0} → (text password secret : List ℕ) (e : Error) (r : Result X Failure) → secret ≡ []
-    → (e ≡ OutOfMemory) ⊎ (Accepts secret password text → ⊥) → IsErrAnd r (IsOfText e) → IfErr r (IsRefusalOf (IsVerifyReply text password))
+    → (e ≡ OutOfMemory) ⊎ (Accepts secret password text → ⊥) → IsErrAnd r (IsOfText e)
+    → IfErr r (IsRefusalOf (IsVerifyReply text password))
 refused_text text password secret e (Ok x) none why h = tt
 refused_text text password secret e (Err f) none why h =
     let without = subst (λ s. (e ≡ OutOfMemory) ⊎ (Accepts s password text → ⊥)) none why in

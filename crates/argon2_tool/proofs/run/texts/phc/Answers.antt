@@ -13,5 +13,5 @@ returns-clause-err g c =
     let same : c.in_ok-password.password.items ≡ c.as_slice.result.now = cc in
     let read = subst (λ b. IfSome input (λ m. b ≡ m)) same c.in_ok-password.ensures.ok in
     subst (λ s. IfErr c.phc_text.result (IsBeforeReply (IsPhcReply s c.args.salt.now) input)) (sym c.in_ok-argon2.ensures.0)
-    (refused_before (IsPhcReply (Ok (settings_of c.in_ok-argon2.argon2)) c.args.salt.now) input c.as_slice.result.now c.phc_text.result
-    read c.phc_text.ensures.err)
+    (refused_before (IsPhcReply (Ok (settings_of c.in_ok-argon2.argon2)) c.args.salt.now) input c.as_slice.result.now
+    c.phc_text.result read c.phc_text.ensures.err)

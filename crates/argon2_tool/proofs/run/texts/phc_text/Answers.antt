@@ -10,10 +10,13 @@ returns-clause-ok c =
     let bytes = c.as_bytes.ensures.value in
     let salt : c.as_bytes.result.now ≡ c.args.salt.now = cc in
     let value = phc_of c.in_ok-hash.hash in
-    let made = made_value (target_of c.args.argon2.now) c.args.password.now c.as_bytes.result.now c.in_ok-hash.hash c.in_ok-hash.ensures.answer in
-    let here = subst (λ s. hashed (target_of c.args.argon2.now) c.args.password.now s ≡ Ok value) salt made in
+    let target = target_of c.args.argon2.now in
+    let password = c.args.password.now in
+    let made = made_value target password c.as_bytes.result.now c.in_ok-hash.hash c.in_ok-hash.ensures.answer in
+    let here = subst (λ s. hashed target password s ≡ Ok value) salt made in
     let text = c.text.ensures.1 in (
       value,
-      subst (λ s. hashed (record { settings = settings_of c.args.argon2.now; secret = s }) c.args.password.now c.args.salt.now ≡ Ok value) c.requires here,
+      subst (λ s. hashed (record { settings = settings_of c.args.argon2.now; secret = s }) password c.args.salt.now
+          ≡ Ok value) c.requires here,
       search (rules, text),
     )
