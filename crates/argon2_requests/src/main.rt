@@ -1,15 +1,18 @@
 //! Shows what memory the calls of `argon2` ask for, a line a call. First those that take none, also where
-//! a stored text would take more than there is; then those that make one request, and last one that makes
-//! two. With a request refused, the line of the call that made it is another.
+//! a stored text would take more than there is; then those that make one request, and last those of a login
+//! store, which make two and one more for each hash. With a request refused, the line of the call that made
+//! it is another. A line of a call that draws ends with the word that the generator gives next.
 #![tactic(auto)]
 
 use argon2::blake2b::Blake2b;
 use argon2::blake2b_long::blake2b_long;
 use argon2::login::Login;
 use argon2::{
-    Algorithm, Argon2, Block, Kdf, KeyId, Params, ParamsBuilder, PasswordHash, PasswordHasher,
-    PasswordVerifier, Version,
+    Algorithm, Argon2, Block, CustomizedPasswordHasher, Kdf, KeyId, Params, ParamsBuilder,
+    PasswordHash, PasswordHasher, PasswordVerifier, Version, password_hash,
 };
+use rand_chacha::ChaCha20Rng;
+use rand_core::{Rng, SeedableRng};
 use std::fmt::Display;
 use std::io;
 use std::io::ErrorKind;
@@ -47,12 +50,54 @@ fn main(rt: HostRuntime) -> io::Result<()> {
     let mut out = [0; 4];
     let answer = argon2.derive_key(rt.alloc(), PASSWORD, SALT, &mut out);
     tell(&rt, "derive_key", answer, out)?;
-    match argon2.hash_password_with_salt(rt.alloc(), PASSWORD, SALT) {
-        Ok(hash) => println!(rt; "hash_password_with_salt: {hash}")?,
-        Err(e) => println!(rt; "hash_password_with_salt: {e}")?,
-    }
+    let made = argon2.hash_password_with_salt(rt.alloc(), PASSWORD, SALT);
+    hashed(&rt, "hash_password_with_salt", made)?;
+    let made = argon2.hash_password_customized(
+        rt.alloc(),
+        PASSWORD,
+        SALT,
+        Some("argon2d"),
+        Some(16),
+        params,
+    );
+    hashed(&rt, "hash_password_customized", made)?;
+    drawn(&rt, &argon2)?;
     verify(&rt, "verify_password", &argon2, TEXT)?;
-    add(&rt, argon2)
+    match PasswordHash::new(TEXT) {
+        Ok(hash) => match argon2.verify_password(rt.alloc(), b"abc", &hash) {
+            Ok(()) => println!(rt; "verify_password of a value: ok")?,
+            Err(e) => println!(rt; "verify_password of a value: {e}")?,
+        },
+        Err(e) => println!(rt; "verify_password of a value: {e}")?,
+    }
+    add(
+        &rt,
+        Argon2::new(Algorithm::Argon2id, Version::V0x13, params),
+    )?;
+    log_in(&rt, argon2)
+}
+
+// The text that a call makes, or why it refuses.
+fn hashed(
+    rt: &impl Print,
+    call: &str,
+    answer: password_hash::Result<PasswordHash>,
+) -> io::Result<()> {
+    match answer {
+        Ok(hash) => println!(rt; "{call}: {hash}"),
+        Err(e) => println!(rt; "{call}: {e}"),
+    }
+}
+
+// The same where the salt is drawn.
+fn drawn(rt: &HostRuntime, argon2: &Argon2<'_>) -> io::Result<()> {
+    let mut rng = ChaCha20Rng::from_seed([7; 32]);
+    let answer = argon2.hash_password(rt.alloc(), &mut rng, PASSWORD);
+    let next = rng.next_u32();
+    match answer {
+        Ok(hash) => println!(rt; "hash_password: {hash}; next {next:08x}"),
+        Err(e) => println!(rt; "hash_password: {e}; next {next:08x}"),
+    }
 }
 
 // What verifying `abc` against a text answers.
@@ -167,4 +212,24 @@ fn stepped(rt: &impl Print, argon2: &Argon2<'_>) -> io::Result<()> {
         argon2.finish_fill(&memory, &mut out);
     }
     tell(rt, "finish_fill", answer, out)
+}
+
+// What a login answers whose text is to be renewed, and whether the text is the old one then.
+fn log_in(rt: &HostRuntime, target: Argon2<'_>) -> io::Result<()> {
+    let (Ok(mut store), Ok(old)) = (Login::new(rt.alloc(), target), PasswordHash::new(TEXT)) else {
+        return Err(io::Error::from(ErrorKind::InvalidInput));
+    };
+    let mut rng = ChaCha20Rng::from_seed([7; 32]);
+    let _ = store.add("name", TEXT);
+    let answer = store.login(&mut rng, "name", b"abc");
+    let next = rng.next_u32();
+    let text = match store.text_of("name") {
+        Some(text) if *text == old => "old",
+        Some(_) => "new",
+        None => "no",
+    };
+    match answer {
+        Ok(did) => println!(rt; "Login::login: {did}; {text} text; next {next:08x}"),
+        Err(e) => println!(rt; "Login::login: {e}; {text} text; next {next:08x}"),
+    }
 }
