@@ -279,15 +279,15 @@ impl<'key> Argon2<'key> {
         Ok(work)
     }
 
-    // As many blocks as a hash fills, each of zeros, by one request.
+    // As many blocks as a hash fills, each of zeros, by one request. `resize` makes each at its place, where `vec!`
+    // would copy it there.
     fn zeroed_blocks<A: Allocator>(&self, alloc: A) -> Result<Vec<Block, A>>
         ensures zeroed { IfOk result (λ blocks. blocks.items
             ≡ replicate (block_count (context_of self.now)) zero_block) }
         ensures refused { IfErr result (λ e. e ≡ OutOfMemory) }
     {
-        let Ok(blocks) = vec![in alloc; Block::new(); self.params.block_count()] else {
-            return Err(Error::OutOfMemory);
-        };
+        let mut blocks = Vec::new(alloc);
+        blocks.resize(self.params.block_count(), Block::new())?;
         Ok(blocks)
     }
 
