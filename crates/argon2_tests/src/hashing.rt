@@ -5,6 +5,7 @@ use std::test::Fail;
 
 mod constants;
 mod debug_texts;
+mod extreme_costs;
 mod further_tags;
 mod known_tags;
 mod lending;

@@ -17,35 +17,11 @@ fn refuses_the_first_fault(rt: HostRuntime) {
         Some(Error::ThreadsTooMany)
     );
     assert_eq!(rt;
-        fault_of(4294967295, 1, 4294967295, None),
-        Some(Error::ThreadsTooMany)
-    );
-    assert_eq!(rt;
         fault_of(134217719, 0, 16777215, None),
         Some(Error::MemoryTooLittle)
     );
     assert_eq!(rt; fault_of(16, 0, 2, Some(3)), Some(Error::TimeTooSmall));
     assert_eq!(rt; fault_of(16, 1, 2, Some(3)), Some(Error::OutputTooShort));
-    assert_eq!(rt;
-        fault_of(8, 1, 1, Some(4294967296)),
-        Some(Error::OutputTooLong)
-    );
-}
-
-#[test]
-fn counts_blocks(rt: HostRuntime) -> Result<(), Fail> {
-    let rows = [
-        (33, 1, 2, 16, 32),
-        (4294967295, 4294967295, 16777215, 256, 4294967040),
-        (4294967295, 1, 1, 4294967292, 4294967292),
-        (134217720, 1, 16777215, 8, 134217720),
-    ];
-    for (m, t, p, columns, blocks) in rows {
-        let params = Params::new(m, t, p, None)?;
-        assert_eq!(rt; params.lane_length(), columns, "{m} {t} {p}");
-        assert_eq!(rt; params.block_count(), blocks, "{m} {t} {p}");
-    }
-    Ok(())
 }
 
 #[test]
