@@ -19,7 +19,7 @@ def processor():
 
 def run(*words, folder=None):
     """Runs a command and returns what it prints, or ends with what it says of its failure."""
-    done = subprocess.run(words, cwd=folder, capture_output=True, text=True)
+    done = subprocess.run(words, cwd=folder, stdin=subprocess.DEVNULL, capture_output=True, text=True)
     if done.returncode:
         sys.exit(f"{' '.join(words)}: {done.stdout[-2000:]}{done.stderr[-2000:]}")
     return done.stdout

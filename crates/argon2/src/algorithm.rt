@@ -104,6 +104,3 @@ impl From<Algorithm> for Ident {
         algorithm.ident()
     }
 }
-
-#[cfg(test)]
-mod tests;

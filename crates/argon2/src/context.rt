@@ -371,6 +371,3 @@ impl fmt::Debug for Argon2<'_> {
             .finish_non_exhaustive()
     }
 }
-
-#[cfg(test)]
-mod tests;

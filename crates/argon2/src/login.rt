@@ -147,6 +147,3 @@ impl<'key> Login<'key> {
         self.texts.iter()
     }
 }
-
-#[cfg(test)]
-mod tests;

@@ -218,6 +218,3 @@ impl Default for Params {
         Params::DEFAULT
     }
 }
-
-#[cfg(test)]
-mod tests;

@@ -112,6 +112,3 @@ pub trait PasswordVerifier<H> {
         ensures accepted { MatchResult result (λ _. accepts self.now password.now hash)
             (λ e. (e ≡ OutOfMemory) ⊎ (accepts self.now password.now hash → ⊥)) };
 }
-
-#[cfg(test)]
-mod tests;

@@ -37,6 +37,3 @@ impl From<Version> for u32 {
         version as u32
     }
 }
-
-#[cfg(test)]
-mod tests;

@@ -202,6 +202,3 @@ impl FromStr for Params {
         Params::read(&list, None)
     }
 }
-
-#[cfg(test)]
-mod tests;

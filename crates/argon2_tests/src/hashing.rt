@@ -1,0 +1,100 @@
+use argon2::{Algorithm, Argon2, AssociatedData, Block, KeyId, Params, ParamsBuilder, Version};
+use argon2_base::blake2b::Blake2b;
+use std::convert::AsSlice;
+use std::test::Fail;
+
+mod constants;
+mod debug_texts;
+mod extreme_costs;
+mod further_tags;
+mod known_tags;
+mod lending;
+mod lent_memory;
+mod own_memory;
+mod steps;
+mod watched;
+
+use known_tags::PASSWORD_TAGS;
+
+// The BLAKE2b digest of 8 bytes, as a number whose high byte comes first.
+fn digest_of(bytes: &[u8]) -> u64 {
+    let mut digest = [0; 8];
+    let mut hasher = Blake2b::new(8);
+    hasher.update(bytes);
+    hasher.finalize_into(&mut digest);
+    u64::from_be_bytes(digest)
+}
+
+// The 32 bytes of a tag as numbers whose high byte comes first.
+fn words(tag: &[u8; 32]) -> [u64; 4] {
+    let (pieces, _) = tag.as_chunks::<8>();
+    [
+        u64::from_be_bytes(pieces[0]),
+        u64::from_be_bytes(pieces[1]),
+        u64::from_be_bytes(pieces[2]),
+        u64::from_be_bytes(pieces[3]),
+    ]
+}
+
+// A block of ones.
+fn ones() -> Block {
+    let mut block = Block::new();
+    block.as_mut_slice().fill(u64::MAX);
+    block
+}
+
+// Whether all words of all blocks are ones.
+fn are_ones(memory: &[Block]) -> bool {
+    memory.iter().all(|block| block.as_slice().iter().all(|&word| word == u64::MAX))
+}
+
+const PWD: [u8; 32] = [1; 32];
+
+const SALT: [u8; 16] = [2; 16];
+
+const SECRET: [u8; 8] = [3; 8];
+
+// What the vectors of RFC 9106, section 5, are made under, and those of version 0x10 in the same way. The key
+// identifier is no part of them, and changes no tag.
+fn known(algorithm: Algorithm, version: Version) -> argon2::Result<Argon2<'static>> {
+    known_with(KeyId::new(b"key")?, algorithm, version)
+}
+
+fn known_with(
+    keyid: KeyId,
+    algorithm: Algorithm,
+    version: Version,
+) -> argon2::Result<Argon2<'static>> {
+    let mut builder = ParamsBuilder::new();
+    builder
+        .m_cost(32)
+        .t_cost(3)
+        .p_cost(4)
+        .keyid(keyid)
+        .data(AssociatedData::new(&[4; 12])?);
+    Argon2::new_with_secret(&SECRET, algorithm, version, builder.build()?)
+}
+
+#[test]
+fn is_argon2id_by_default(rt: HostRuntime) -> Result<(), Fail> {
+    assert_eq!(rt; Argon2::default().params(), &Params::DEFAULT);
+    let params = Params::new(256, 2, 1, Some(32))?;
+    let mut memory = Vec::from_elem(rt.alloc(), Block::new(), 256)?;
+    for argon2 in [
+        Argon2::from(params),
+        Argon2::from(&params),
+        Argon2::new(Algorithm::Argon2id, Version::V0x13, params),
+    ] {
+        let mut tag = [0; 32];
+        argon2
+            .clone()?
+            .hash_password_into_with_memory(
+                b"password",
+                b"somesalt",
+                &mut tag,
+                memory.as_mut_slice(),
+            )?;
+        assert_eq!(rt; words(&tag), PASSWORD_TAGS[4].tag);
+    }
+    Ok(())
+}

@@ -1,0 +1,89 @@
+//! Known tags. Those of RFC 9106 stand in its section 5; the others come from an implementation apart from this one.
+
+use super::{PWD, SALT, known, known_with, words};
+use argon2::{Algorithm, Block, KeyId, ParamsBuilder, Version};
+use std::test::Fail;
+
+// A tag, as numbers whose high byte comes first, and what it is made under.
+pub(super) struct KnownTag {
+    pub(super) algorithm: Algorithm,
+    pub(super) version: Version,
+    pub(super) p_cost: u32,
+    pub(super) tag: [u64; 4],
+}
+
+// Rows of an algorithm, a version, lanes and a tag.
+macro_rules! known_tags {
+    ($($algorithm:ident $version:ident $p_cost:literal $a:literal $b:literal $c:literal $d:literal;)*) => {
+        [$(KnownTag {
+            algorithm: Algorithm::$algorithm,
+            version: Version::$version,
+            p_cost: $p_cost,
+            tag: [$a, $b, $c, $d],
+        }),*]
+    };
+}
+
+// The last three are those of RFC 9106, sections 5.1, 5.2 and 5.3.
+pub(super) const KNOWN_TAGS: [KnownTag; 6] = known_tags![
+    Argon2d V0x10 4 0x96a9d4e5a1734092 0xc85e29f410a45914 0xa5dd1f5cbf08b267 0x0da68a0285abf32b;
+    Argon2i V0x10 4 0x87aeedd6517ab830 0xcd9765cd8231abb2 0xe647a5dee08f7c05 0xe02fcb763335d0fd;
+    Argon2id V0x10 4 0xb64615f07789b66b 0x645b67ee9ed3b377 0xae350b6bfcbb0fc9 0x5141ea8f322613c0;
+    Argon2d V0x13 4 0x512b391b6f116297 0x5371d30919734294 0xf868e3be3984f3c1 0xa13a4db9fabe4acb;
+    Argon2i V0x13 4 0xc814d9d1dc7f37aa 0x13f0d77f2494bda1 0xc8de6b016dd388d2 0x9952a4c4672b6ce8;
+    Argon2id V0x13 4 0x0d640df58d78766c 0x08c037a34a8b53c9 0xd01ef0452d75b65e 0xb52520e96b01e659;
+];
+
+// Of `password` and `somesalt`, in two passes over 256 blocks.
+pub(super) const PASSWORD_TAGS: [KnownTag; 6] = known_tags![
+    Argon2i V0x10 1 0xfd4dd83d762c49bd 0xeaf57c47bdcd0c2f 0x1babf863fdeb490d 0xf63ede9975fccf06;
+    Argon2i V0x10 2 0xb6c11560a6a9d61e 0xac706b79a2f97d68 0xb4463aa3ad87e00c 0x07e2b01e90c564fb;
+    Argon2i V0x13 1 0x89e9029f4637b295 0xbeb027056a7336c4 0x14fadd43f6b20864 0x5281cb214a56452f;
+    Argon2i V0x13 2 0x4ff5ce2769a1d7f4 0xc8a491df09d41a9f 0xbe90e5eb02155a13 0xe4c01e20cd4eab61;
+    Argon2id V0x13 1 0x9dfeb910e80bad03 0x11fee20f9c0e2b12 0xc17987b4cac90c2e 0xf54d5b3021c68bfe;
+    Argon2id V0x13 2 0x6d093c501fd59996 0x45e0ea3bf620d7b8 0xbe7fd2db59c20d9f 0xff9539da2bf57037;
+];
+
+#[test]
+fn gives_the_tags_of_rfc_9106(rt: HostRuntime) -> Result<(), Fail> {
+    let mut memory = Vec::from_elem(rt.alloc(), Block::new(), 32)?;
+    for row in &KNOWN_TAGS[3..] {
+        let argon2 = known_with(KeyId::EMPTY, row.algorithm, row.version)?;
+        let mut tag = [0; 32];
+        argon2.hash_password_into_with_memory(&PWD, &SALT, &mut tag, memory.as_mut_slice())?;
+        assert_eq!(rt; words(&tag), row.tag, "{}", row.algorithm);
+    }
+    Ok(())
+}
+
+// One slice serves all, one after the other, and is never cleared.
+#[test]
+fn gives_the_known_tags_with_a_key_identifier(rt: HostRuntime) -> Result<(), Fail> {
+    let mut memory = Vec::from_elem(rt.alloc(), Block::new(), 40)?;
+    for row in &KNOWN_TAGS {
+        let argon2 = known(row.algorithm, row.version)?;
+        let mut tag = [0; 32];
+        argon2.hash_password_into_with_memory(&PWD, &SALT, &mut tag, memory.as_mut_slice())?;
+        assert_eq!(rt; words(&tag), row.tag, "{} {:?}", row.algorithm, row.version);
+    }
+    Ok(())
+}
+
+#[test]
+fn gives_the_tags_of_password(rt: HostRuntime) -> Result<(), Fail> {
+    let mut memory = Vec::from_elem(rt.alloc(), Block::new(), 256)?;
+    for row in &PASSWORD_TAGS {
+        let mut builder = ParamsBuilder::new();
+        builder.m_cost(256).t_cost(2).p_cost(row.p_cost);
+        let argon2 = builder.context(row.algorithm, row.version)?;
+        let mut tag = [0; 32];
+        argon2.hash_password_into_with_memory(
+            b"password",
+            b"somesalt",
+            &mut tag,
+            memory.as_mut_slice(),
+        )?;
+        assert_eq!(rt; words(&tag), row.tag, "{} {:?}", row.algorithm, row.version);
+    }
+    Ok(())
+}

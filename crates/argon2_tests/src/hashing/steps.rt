@@ -1,0 +1,106 @@
+//! The known tags by single steps, whose lanes take turns in several orders.
+
+use super::known_tags::KNOWN_TAGS;
+use super::{PWD, SALT, are_ones, known, ones, words};
+use argon2::{Algorithm, Argon2, Block, Error, Version};
+use std::test::Fail;
+
+// A step, where its conditions hold.
+fn step(
+    argon2: &Argon2<'_>,
+    memory: &mut [Block],
+    pass: u32,
+    lane: u32,
+    column: u32,
+) -> Result<(), Fail> {
+    let params = argon2.params();
+    let in_range = pass < params.t_cost()
+        && lane < params.p_cost()
+        && column < params.lane_length();
+    if in_range && (pass > 0 || column >= 2) && params.block_count() <= memory.len() {
+        argon2.step_block(memory, pass, lane, column);
+        return Ok(());
+    }
+    Err("no such step".into())
+}
+
+// The end of a filling, where its conditions hold.
+fn finish(argon2: &Argon2<'_>, memory: &[Block]) -> Result<[u8; 32], Fail> {
+    let params = argon2.params();
+    if params.output_len().is_some() || memory.len() < params.block_count() {
+        return Err("another output or too little memory".into());
+    }
+    let mut tag = [0; 32];
+    argon2.finish_fill(memory, &mut tag);
+    Ok(tag)
+}
+
+// Steps of some lanes in the order of their turns, each lane's from a first column on.
+fn take_turns(
+    argon2: &Argon2<'_>,
+    memory: &mut [Block],
+    pass: u32,
+    first: u32,
+    turns: &[u32],
+) -> Result<(), Fail> {
+    let mut columns = [first; 4];
+    for &lane in turns {
+        let Some(column) = columns.get_mut(lane as usize) else {
+            return Err("no such lane".into());
+        };
+        step(argon2, memory, pass, lane, *column)?;
+        *column = column.saturating_add(1);
+    }
+    Ok(())
+}
+
+// The turns in each slice of each pass.
+const ORDERS: [[[u32; 8]; 4]; 3] = [
+    [[0, 1, 2, 3, 0, 1, 2, 3]; 4],
+    [[3, 3, 0, 1, 2, 0, 1, 2]; 4],
+    [
+        [3, 3, 2, 2, 1, 1, 0, 0],
+        [1, 1, 0, 0, 3, 3, 2, 2],
+        [0, 0, 1, 1, 2, 2, 3, 3],
+        [2, 2, 3, 3, 0, 0, 1, 1],
+    ],
+];
+
+#[test]
+fn gives_the_known_tags_however_lanes_take_turns(rt: HostRuntime) -> Result<(), Fail> {
+    let mut memory = Vec::from_elem(rt.alloc(), Block::new(), 32)?;
+    for row in &KNOWN_TAGS {
+        let argon2 = known(row.algorithm, row.version)?;
+        for slices in &ORDERS {
+            argon2.begin_fill(&PWD, &SALT, 32, memory.as_mut_slice())?;
+            for step in 1..12u32 {
+                let slice = step % 4;
+                take_turns(
+                    &argon2,
+                    memory.as_mut_slice(),
+                    step / 4,
+                    2 * slice,
+                    &slices[slice as usize],
+                )?;
+            }
+            assert_eq!(rt;
+                words(&finish(&argon2, &memory)?),
+                row.tag,
+                "{} {:?}",
+                row.algorithm,
+                row.version
+            );
+        }
+    }
+    Ok(())
+}
+
+#[test]
+fn begins_no_output_of_three_bytes(rt: HostRuntime) -> Result<(), Fail> {
+    let mut memory = Vec::from_elem(rt.alloc(), ones(), 32)?;
+    let argon2 = known(Algorithm::Argon2id, Version::V0x13)?;
+    let answer = argon2.begin_fill(&PWD, &SALT, 3, memory.as_mut_slice());
+    assert_eq!(rt; answer, Err(Error::OutputTooShort));
+    assert!(rt; are_ones(&memory));
+    Ok(())
+}

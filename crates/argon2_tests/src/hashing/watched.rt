@@ -1,0 +1,248 @@
+//! The places of references and the counts of mixings, from an implementation of RFC 9106 apart
+//! from this one.
+
+ghost use Rattle.std.specs.Prelude.{◌≡◌, ◌*◌, IfOk};
+ghost use Rattle.argon2.specs.Argon2.{context_of};
+ghost use Rattle.argon2.specs.Context.{block_count};
+
+use super::known_tags::KNOWN_TAGS;
+use super::{PWD, SALT, are_ones, known, ones, words};
+use argon2::{Algorithm, Argon2, Block, Error, ParamsBuilder, Version};
+use std::test::Fail;
+
+// How many places there are for the references of all steps.
+fn place_count(argon2: &Argon2<'_>) -> Result<usize, Fail>
+    ensures { IfOk result (λ n. n ≡ (context_of argon2.now).t_cost * block_count (context_of argon2.now)) }
+{
+    let params = argon2.params();
+    match params.block_count().checked_mul(params.t_cost() as usize) {
+        Some(count) => Ok(count),
+        None => Err("too many blocks".into()),
+    }
+}
+
+// A number made of all places in their order, in the way of FNV-1a.
+fn hash_of(places: &[u32]) -> u64 {
+    let mut hash: u64 = 0xcbf29ce484222325;
+    for &place in places {
+        hash = (hash ^ place as u64).wrapping_mul(0x100000001b3);
+    }
+    hash
+}
+
+#[test]
+fn counts_the_mixings_of_the_known_tags(rt: HostRuntime) -> Result<(), Fail> {
+    let mut memory = Vec::from_elem(rt.alloc(), Block::new(), 32)?;
+    for row in &KNOWN_TAGS {
+        let argon2 = known(row.algorithm, row.version)?;
+        let mut places = Vec::from_elem(rt.alloc(), 0, place_count(&argon2)?)?;
+        let mut tag = [0; 32];
+        let work = argon2.hash_password_into_watched(
+            &PWD,
+            &SALT,
+            &mut tag,
+            memory.as_mut_slice(),
+            places.as_mut_slice(),
+        )?;
+        assert_eq!(rt; words(&tag), row.tag, "{} {:?}", row.algorithm, row.version);
+        let mixes = match row.algorithm {
+            Algorithm::Argon2d => 88,
+            Algorithm::Argon2i => 184,
+            Algorithm::Argon2id => 104,
+        };
+        assert_eq!(rt; work.mixes(), mixes, "{} {:?}", row.algorithm, row.version);
+    }
+    Ok(())
+}
+
+// What is hashed to a tag of 32 bytes of `password` and `somesalt`; how often blocks are mixed; and the hash of all
+// places, where those of the first two columns are 4294967295.
+#[derive(Debug)]
+struct Row {
+    algorithm: Algorithm,
+    version: Version,
+    m_cost: u32,
+    t_cost: u32,
+    p_cost: u32,
+    mixes: u128,
+    places: u64,
+}
+
+// Rows of an algorithm, a version, blocks, passes, lanes, mixings and the places' hash.
+macro_rules! rows {
+    ($($algorithm:ident $version:ident $m:literal $t:literal $p:literal $mixes:literal $places:literal,)*) => {
+        [$(Row {
+            algorithm: Algorithm::$algorithm,
+            version: Version::$version,
+            m_cost: $m,
+            t_cost: $t,
+            p_cost: $p,
+            mixes: $mixes,
+            places: $places,
+        }),*]
+    };
+}
+
+const ROWS: [Row; 27] = rows![
+    Argon2d V0x13 8 1 1 6 0xfcf9509d0b66e675,
+    Argon2id V0x13 8 1 1 10 0x544e5c94b0436334,
+    Argon2i V0x13 8 1 1 14 0x4bb94294ab6cb266,
+    Argon2d V0x10 16 1 2 12 0x21ffbff2f73a4c7c,
+    Argon2id V0x10 16 1 2 20 0xf76e2fe24f203a38,
+    Argon2i V0x10 16 1 2 28 0xad07d65250efbfd4,
+    Argon2d V0x13 24 1 2 20 0x13928f02f56c4b34,
+    Argon2id V0x13 24 1 2 28 0x06d898af850936b7,
+    Argon2i V0x13 24 1 2 36 0x0251ac420ed0ae39,
+    Argon2d V0x10 33 1 2 28 0x9131b215fa7742a5,
+    Argon2id V0x10 33 1 2 36 0x63d3c18207bf5113,
+    Argon2i V0x10 33 1 2 44 0x1514966d1cb34bd3,
+    Argon2d V0x13 40 3 1 118 0x09af18b2e51b7f75,
+    Argon2id V0x13 40 3 1 122 0x795497b9be045443,
+    Argon2i V0x13 40 3 1 142 0xba8bdb7ed3929780,
+    Argon2d V0x10 48 2 3 90 0x21e5942deb913fd2,
+    Argon2id V0x10 48 2 3 102 0x573e377d0556e772,
+    Argon2i V0x10 48 2 3 138 0x78e1811420150e91,
+    Argon2d V0x13 512 1 1 510 0x129eb807e62790f6,
+    Argon2id V0x13 512 1 1 514 0x51c90c2448e4c82e,
+    Argon2i V0x13 512 1 1 518 0x24a5f834c3e44a53,
+    Argon2d V0x10 516 1 1 514 0x2eb8cb09fe66d52b,
+    Argon2id V0x10 516 1 1 522 0x2843c12dffa59454,
+    Argon2i V0x10 516 1 1 530 0xc23e9593ef105499,
+    Argon2d V0x13 19456 2 1 38910 0x254da72ba4b98a54,
+    Argon2id V0x13 19456 2 1 39062 0x375d213df36cccc7,
+    Argon2i V0x13 19456 2 1 39518 0x3be9b9094b1a931e,
+];
+
+#[test]
+fn tells_all_places_under_small_costs(rt: HostRuntime) -> Result<(), Fail> {
+    let mut memory = Vec::from_elem(rt.alloc(), Block::new(), 19456)?;
+    for row in &ROWS {
+        let mut builder = ParamsBuilder::new();
+        builder
+            .m_cost(row.m_cost)
+            .t_cost(row.t_cost)
+            .p_cost(row.p_cost);
+        let argon2 = builder.context(row.algorithm, row.version)?;
+        let mut places = Vec::from_elem(rt.alloc(), u32::MAX, place_count(&argon2)?)?;
+        let work = argon2.hash_password_into_watched(
+            b"password",
+            b"somesalt",
+            &mut [0; 32],
+            memory.as_mut_slice(),
+            places.as_mut_slice(),
+        )?;
+        assert_eq!(rt; work.mixes(), row.mixes, "at {row:?}");
+        assert_eq!(rt; hash_of(&places), row.places, "at {row:?}");
+    }
+    Ok(())
+}
+
+// The places of the references in one pass for `password` and `somesalt`, lane after lane from column 2 on.
+struct Places {
+    algorithm: Algorithm,
+    version: Version,
+    m_cost: u32,
+    p_cost: u32,
+    places: &'static [u32],
+}
+
+// Rows of an algorithm, a version, blocks, lanes and places.
+macro_rules! places {
+    ($($algorithm:ident $version:ident $m:literal $p:literal: $($place:literal)*;)*) => {
+        [$(Places {
+            algorithm: Algorithm::$algorithm,
+            version: Version::$version,
+            m_cost: $m,
+            p_cost: $p,
+            places: &[$($place),*],
+        }),*]
+    };
+}
+
+const PLACES: [Places; 9] = places![
+    Argon2d V0x13 8 1: 0 1 2 3 1 5;
+    Argon2i V0x13 8 1: 0 1 1 3 3 3;
+    Argon2id V0x13 8 1: 0 1 1 2 3 4;
+    Argon2d V0x10 16 2: 0 9 2 11 4 5 0 0 1 3 12 10;
+    Argon2i V0x10 16 2: 0 9 2 11 12 1 8 1 0 0 11 10;
+    Argon2id V0x10 16 2: 0 9 0 0 2 5 0 1 0 11 11 10;
+    Argon2d V0x13 24 2: 0 1 0 13 15 3 6 2 8 20 12 13 2 2 13 13 12 1 8 3;
+    Argon2i V0x13 24 2: 0 1 12 1 4 17 6 0 17 7 12 1 14 15 4 1 18 14 5 1;
+    Argon2id V0x13 24 2: 0 1 13 14 13 4 15 17 8 20 12 12 12 2 4 17 12 7 6 3;
+];
+
+#[test]
+fn tells_each_place_of_a_pass(rt: HostRuntime) -> Result<(), Fail> {
+    let mut memory = Vec::from_elem(rt.alloc(), Block::new(), 24)?;
+    for row in &PLACES {
+        let mut builder = ParamsBuilder::new();
+        builder.m_cost(row.m_cost).t_cost(1).p_cost(row.p_cost);
+        let argon2 = builder.context(row.algorithm, row.version)?;
+        let mut places = Vec::from_elem(rt.alloc(), u32::MAX, place_count(&argon2)?)?;
+        argon2.hash_password_into_watched(
+            b"password",
+            b"somesalt",
+            &mut [0; 32],
+            memory.as_mut_slice(),
+            places.as_mut_slice(),
+        )?;
+        let columns = if row.m_cost == 24 { 12 } else { 8 };
+        let mut expected = row.places.iter();
+        for (n, &place) in places.iter().enumerate() {
+            if n % columns < 2 {
+                assert_eq!(rt; place, u32::MAX);
+            } else {
+                assert_eq!(rt; Some(&place), expected.next(), "{} {n}", row.algorithm);
+            }
+        }
+        assert_eq!(rt; expected.next(), None);
+    }
+    Ok(())
+}
+
+// The places of all references of a hash with the known inputs beside the password.
+fn known_places(argon2: &Argon2<'_>, pwd: &[u8], memory: &mut [Block]) -> Result<[u32; 96], Fail> {
+    let mut places = [0; 96];
+    if place_count(argon2)? != places.len() {
+        return Err("another number of places".into());
+    }
+    argon2.hash_password_into_watched(pwd, &SALT, &mut [0; 32], memory, &mut places)?;
+    Ok(places)
+}
+
+#[test]
+fn tells_the_same_places_for_other_passwords(rt: HostRuntime) -> Result<(), Fail> {
+    let mut memory = Vec::from_elem(rt.alloc(), Block::new(), 32)?;
+    for algorithm in [Algorithm::Argon2i, Algorithm::Argon2id] {
+        let argon2 = known(algorithm, Version::V0x13)?;
+        let one = known_places(&argon2, &PWD, memory.as_mut_slice())?;
+        let other = known_places(&argon2, b"password", memory.as_mut_slice())?;
+        for (n, (place, beside)) in one.iter().zip(other.iter()).enumerate() {
+            // in pass 0 columns 0 to 3 of each lane are slices 0 and 1
+            if algorithm == Algorithm::Argon2i || (n < 32 && n % 8 < 4) {
+                assert_eq!(rt; place, beside, "{algorithm} {n}");
+            }
+        }
+    }
+    Ok(())
+}
+
+#[test]
+fn leaves_places_where_memory_is_too_little(rt: HostRuntime) -> Result<(), Fail> {
+    let argon2 = known(Algorithm::Argon2id, Version::V0x13)?;
+    let mut memory = Vec::from_elem(rt.alloc(), ones(), 31)?;
+    let mut places = Vec::from_elem(rt.alloc(), 9, place_count(&argon2)?)?;
+    let mut tag = [7; 32];
+    let answer = argon2.hash_password_into_watched(
+        &PWD,
+        &SALT,
+        &mut tag,
+        memory.as_mut_slice(),
+        places.as_mut_slice(),
+    );
+    assert!(rt; matches!(answer, Err(Error::MemoryTooLittle)));
+    assert_eq!(rt; tag, [7; 32]);
+    assert!(rt; are_ones(&memory));
+    assert!(rt; places.iter().all(|&place| place == 9));
+    Ok(())
+}

@@ -1,0 +1,65 @@
+use argon2::{AssociatedData, KeyId, Params, ParamsBuilder};
+use argon2_base::error::password_hash::Error;
+use argon2_base::phc::{ParamsString, PasswordHash};
+use std::test::Fail;
+
+#[test]
+fn printed(rt: HostRuntime) -> Result<(), Fail> {
+    let text = Params::default().to_string(rt.alloc())?;
+    assert_eq!(rt; text.as_str(), "m=19456,t=2,p=1");
+    let text = "p=2,m=33,t=1".parse::<Params>()?.to_string(rt.alloc())?;
+    assert_eq!(rt; text.as_str(), "m=33,t=1,p=2");
+    let mut builder = ParamsBuilder::new();
+    builder.m_cost(32).t_cost(2).p_cost(3);
+    builder.keyid(KeyId::new(&[0xf0; 4])?);
+    builder.data(AssociatedData::new(&[0x0f; 6])?);
+    let list = ParamsString::try_from(builder.build()?)?;
+    assert_eq!(rt; list.as_str(), "m=32,t=2,p=3,keyid=8PDw8A,data=Dw8PDw8P");
+    assert!(rt; Params::try_from(&list)? == builder.build()?);
+    Ok(())
+}
+
+#[test]
+fn refused(rt: HostRuntime) -> Result<(), Fail> {
+    for (text, error) in [
+        ("", Error::ParamsInvalid),
+        ("t=0", Error::ParamsInvalid),
+        ("m=8,t=1", Error::ParamsInvalid),
+        ("m=8,", Error::ParamsInvalid),
+        ("x=1,m=x", Error::ParamsInvalid),
+        ("t=x", Error::ParamInvalid { name: "t" }),
+        ("m=08,t=2,p=1", Error::ParamInvalid { name: "m" }),
+        ("m=+8,t=1,p=1", Error::ParamInvalid { name: "m" }),
+        ("m=-8,t=1,p=1", Error::ParamInvalid { name: "m" }),
+        ("m=00,t=1,p=1", Error::ParamInvalid { name: "m" }),
+        (
+            "m=9999999999999999999999999999999999999999999999999999999999999999,t=1,p=1",
+            Error::ParamInvalid { name: "m" },
+        ),
+        ("m=4294967296,t=1,p=1", Error::ParamInvalid { name: "m" }),
+        ("m=7,t=1,p=1", Error::ParamInvalid { name: "m" }),
+        ("m=65536,t=2,p=0", Error::ParamInvalid { name: "p" }),
+        (
+            "m=65536,t=2,p=1,keyid=dummy",
+            Error::ParamInvalid { name: "keyid" },
+        ),
+        (
+            "m=65536,t=2,p=1,data=x",
+            Error::ParamInvalid { name: "data" },
+        ),
+        ("m=65536,t=2,p=1,x=1", Error::ParamsInvalid),
+    ] {
+        assert!(rt; text.parse::<Params>() == Err(error));
+    }
+    assert_eq!(rt; "m=65536,t=2,p=256".parse::<Params>()?.p_cost(), 256);
+    Ok(())
+}
+
+#[test]
+fn of_a_whole_text(rt: HostRuntime) -> Result<(), Fail> {
+    let hash = PasswordHash::new("$argon2id$v=19$m=8,t=1,p=1$c29tZXNhbHQ$AAAAAA")?;
+    assert_eq!(rt; Params::try_from(&hash)?.output_len(), Some(4));
+    let hash = PasswordHash::new("$argon2id$v=19$m=8,t=1,p=1$c29tZXNhbHQ")?;
+    assert_eq!(rt; Params::try_from(&hash)?.output_len(), None);
+    Ok(())
+}

@@ -1,0 +1,293 @@
+use argon2::password_hash::{
+    CustomizedPasswordHasher, Error, PasswordHasher, PasswordVerifier, Result,
+};
+use argon2::{Algorithm, Argon2, AssociatedData, KeyId, Params, ParamsBuilder, Version};
+use argon2_base::phc::PasswordHash;
+use rand_core::Rng;
+use std::alloc::Global;
+use std::test::Fail;
+
+mod counting_rng;
+
+use counting_rng::CountingRng;
+
+// Verifies by a context of other settings and no secret.
+fn verify(alloc: Global, password: &str, text: &str) -> Result<()> {
+    let context = Argon2::new(Algorithm::Argon2d, Version::V0x13, Params::DEFAULT);
+    context.verify_password(alloc, password.as_bytes(), text)
+}
+
+// ---- hashing
+
+// The tag is one of the RFC's reference code.
+const TEXT: &str =
+    "$argon2id$v=19$m=256,t=2,p=2$c29tZXNhbHQ$bQk8UB/VmZZF4Oo79iDXuL5/0ttZwg2f/5U52iv1cDc";
+
+#[test]
+fn hashes_to_a_text(rt: HostRuntime) -> std::result::Result<(), Fail> {
+    let params = Params::new(256, 2, 2, None)?;
+    let context = Argon2::from(params);
+    let hash = context.hash_password_with_salt(rt.alloc(), b"password", b"somesalt")?;
+    assert_eq!(rt; hash.to_string(rt.alloc())?.as_str(), TEXT);
+    context.verify_password(rt.alloc(), b"password", &hash)?;
+    context.verify_password(rt.alloc(), b"password", TEXT)?;
+    let other = Argon2::new(Algorithm::Argon2i, Version::V0x10, Params::DEFAULT);
+    let (password, salt) = (b"password", b"somesalt");
+    let hash = other.hash_password_customized(rt.alloc(), password, salt, None, None, params)?;
+    assert_eq!(rt; hash.to_string(rt.alloc())?.as_str(), TEXT);
+    Ok(())
+}
+
+#[test]
+fn hashes_to_a_text_with_all_parameters(rt: HostRuntime) -> std::result::Result<(), Fail> {
+    let mut builder = ParamsBuilder::new();
+    builder.m_cost(32).t_cost(2).p_cost(3);
+    builder.keyid(KeyId::new(&[0xf0; 4])?);
+    builder.data(AssociatedData::new(&[0x0f; 6])?);
+    let params = builder.build()?;
+    let (password, salt) = (b"password", [0; 8]);
+    let context = Argon2::new(Algorithm::Argon2d, Version::V0x10, params);
+    let hash = context.hash_password_with_salt(rt.alloc(), password, &salt)?;
+    let text = "$argon2d$v=16$m=32,t=2,p=3,keyid=8PDw8A,data=Dw8PDw8P$AAAAAAAAAAA$\
+        KnH4gniiaFnDvlA1xev3yovC4cnrrI6tnHOYtmja90o";
+    assert_eq!(rt; hash.to_string(rt.alloc())?.as_str(), text);
+    let (name, number) = (Some("argon2d"), Some(16));
+    let hash = Argon2::default().hash_password_customized(
+        rt.alloc(),
+        password,
+        &salt,
+        name,
+        number,
+        params,
+    )?;
+    assert_eq!(rt; hash.to_string(rt.alloc())?.as_str(), text);
+    Ok(())
+}
+
+#[test]
+fn draws_a_salt_also_for_a_refusal(rt: HostRuntime) -> std::result::Result<(), Fail> {
+    for (len, error) in [(32, None), (65, Some(Error::OutputSize))] {
+        let context = Argon2::from(Params::new(8, 1, 1, Some(len))?);
+        let mut rng = CountingRng::new();
+        match context.hash_password(rt.alloc(), &mut rng, b"password") {
+            Ok(hash) => {
+                let text = hash.to_string(rt.alloc())?;
+                assert!(rt; text.as_str().contains("$AAECAwQFBgcICQoLDA0ODw$"));
+                assert!(rt; error.is_none());
+            }
+            Err(e) => assert_eq!(rt; Some(e), error),
+        }
+        assert_eq!(rt; rng.next_u32(), 0x13121110);
+    }
+    Ok(())
+}
+
+#[test]
+fn refuses_to_hash(rt: HostRuntime) -> std::result::Result<(), Fail> {
+    for (salt, len, name, number, error) in [
+        ("weesalt", 65, Some("argon2"), Some(17), Error::Algorithm),
+        ("weesalt", 65, Some("argon2i"), Some(17), Error::Version),
+        ("weesalt", 65, None, None, Error::SaltInvalid),
+        (
+            "0123456789012345678901234567890123456789012345678",
+            32,
+            None,
+            None,
+            Error::SaltInvalid,
+        ),
+        ("somesalt", 65, None, None, Error::OutputSize),
+    ] {
+        let params = Params::new(8, 1, 1, Some(len))?;
+        let answer = Argon2::default().hash_password_customized(
+            rt.alloc(),
+            b"hunter42",
+            salt.as_bytes(),
+            name,
+            number,
+            params,
+        );
+        assert!(rt; answer == Err(error), "{salt}");
+    }
+    Ok(())
+}
+
+#[test]
+fn hashes_under_a_secret(rt: HostRuntime) -> std::result::Result<(), Fail> {
+    let params = Params::new(8, 1, 1, Some(16))?;
+    let (algorithm, version) = (Algorithm::Argon2id, Version::V0x13);
+    let plain = Argon2::new(algorithm, version, params);
+    let secret = Argon2::new_with_secret(b"pepper", algorithm, version, params)?;
+    let hash = plain.hash_password_with_salt(rt.alloc(), b"hunter42", b"example-salt")?;
+    Argon2::default().verify_password(rt.alloc(), b"hunter42", &hash)?;
+    let answer = secret.verify_password(rt.alloc(), b"hunter42", &hash);
+    assert_eq!(rt; answer, Err(Error::PasswordInvalid));
+    let (password, salt) = (b"hunter42", b"example-salt");
+    let hash = secret.hash_password_customized(rt.alloc(), password, salt, None, None, params)?;
+    secret.verify_password(rt.alloc(), b"hunter42", &hash)?;
+    let answer = plain.verify_password(rt.alloc(), b"hunter42", &hash);
+    assert_eq!(rt; answer, Err(Error::PasswordInvalid));
+    Ok(())
+}
+
+// ---- verifying
+
+// What `password` and `sassword` are answered.
+fn answers(alloc: Global, text: &str) -> [Result<()>; 2] {
+    [
+        verify(alloc, "password", text),
+        verify(alloc, "sassword", text),
+    ]
+}
+
+const ACCEPTED: [Result<()>; 2] = [Ok(()), Err(Error::PasswordInvalid)];
+
+#[test]
+fn accepts_one_password_for_argon2id(rt: HostRuntime) {
+    let text = "$argon2id$v=19$m=65536,t=2,p=1$c29tZXNhbHQ$\
+        CTFhFdXPJO1aFaMaO6Mm5c8y7cJHAph8ArZWb2GRPPc";
+    assert_eq!(rt; answers(rt.alloc(), text), ACCEPTED);
+}
+
+#[test]
+fn accepts_one_password_for_argon2i(rt: HostRuntime) {
+    let text = "$argon2i$v=19$m=65536,t=1,p=1$c29tZXNhbHQAAAAAAAAAAA$\
+        +r0d29hqEB0yasKr55ZgICsQGSkl0v0kgwhd+U3wyRo";
+    assert_eq!(rt; answers(rt.alloc(), text), ACCEPTED);
+}
+
+#[test]
+fn accepts_one_password_for_argon2d(rt: HostRuntime) {
+    let text = "$argon2d$v=19$m=65536,t=2,p=1$YzI5dFpYTmhiSFFBQUFBQUFBQUFBQQ$\
+        Jxy74cswY2mq9y+u+iJcJy8EqOp4t/C7DWDzGwGB3IM";
+    assert_eq!(rt; answers(rt.alloc(), text), ACCEPTED);
+}
+
+#[test]
+fn accepts_one_password_with_a_key_identifier(rt: HostRuntime) {
+    let text = "$argon2d$v=19$m=65536,t=2,p=1,keyid=8PDw8A$YzI5dFpYTmhiSFFBQUFBQUFBQUFBQQ$\
+        Jxy74cswY2mq9y+u+iJcJy8EqOp4t/C7DWDzGwGB3IM";
+    assert_eq!(rt; answers(rt.alloc(), text), ACCEPTED);
+}
+
+#[test]
+fn accepts_one_password_with_data(rt: HostRuntime) {
+    let text = "$argon2d$v=16$m=32,t=2,p=3,data=Dw8PDw8P$AAAAAAAAAAA$\
+        KnH4gniiaFnDvlA1xev3yovC4cnrrI6tnHOYtmja90o";
+    assert_eq!(rt; answers(rt.alloc(), text), ACCEPTED);
+}
+
+#[test]
+fn refuses_another_hash(rt: HostRuntime) {
+    let text = "$argon2i$v=19$m=65536,t=2,p=1$c29tZXNhbHQ$\
+        8iIuixkI73Js3G1uMbezQXD0b8LG4SXGsOwoQkdAQIM";
+    let answer = verify(rt.alloc(), "password", text);
+    assert_eq!(rt; answer, Err(Error::PasswordInvalid));
+}
+
+// Without a version it is 0x10.
+#[test]
+fn verifies_without_a_version(rt: HostRuntime) {
+    for text in [
+        "$argon2i$m=256,t=2,p=1$c29tZXNhbHQ$/U3YPXYsSb3q9XxHvc0MLxur+GP960kN9j7emXX8zwY",
+        "$argon2i$p=2,m=256,t=2$c29tZXNhbHQ$tsEVYKap1h6scGt5ovl9aLRGOqOth+AMB+KwHpDFZPs",
+    ] {
+        assert_eq!(rt; verify(rt.alloc(), "password", text), Ok(()), "{text}");
+    }
+}
+
+#[test]
+fn verifies_64_mebibytes_without_a_version(rt: HostRuntime) {
+    let text = "$argon2i$m=65536,t=2,p=1$c29tZXNhbHQ$9sTbSlTio3Biev89thdrlKKiCaYsjjYVJxGAL3swxpQ";
+    assert_eq!(rt; verify(rt.alloc(), "password", text), Ok(()));
+    let text = "$argon2i$m=65536,t=1,p=1$c29tZXNhbHQ$gWMFUrjzsfSM2xmSxMZ4ZD1JCytetP9sSzQ4tWIXJLI";
+    assert_eq!(rt; verify(rt.alloc(), "password", text), Ok(()));
+}
+
+#[test]
+fn verifies_another_password_without_a_version(rt: HostRuntime) {
+    let text = "$argon2i$m=65536,t=2,p=1$c29tZXNhbHQ$6ckCB0tnVFMaOgvlGeW69ASzDOabPwGsO/ISKZYBCaM";
+    assert_eq!(rt; verify(rt.alloc(), "differentpassword", text), Ok(()));
+    let text = "$argon2i$m=65536,t=2,p=1$c29tZXNhbHQ$b2G3seW+uPzerwQQC+/E1K50CLLO7YXy0JRcaTuswRo";
+    let answer = verify(rt.alloc(), "password", text);
+    assert_eq!(rt; answer, Err(Error::PasswordInvalid));
+}
+
+fn invalid(name: &'static str) -> Error {
+    Error::ParamInvalid { name }
+}
+
+#[test]
+fn refuses_to_verify(rt: HostRuntime) -> std::result::Result<(), Fail> {
+    for (text, error) in [
+        (
+            "$argon2id$v=19$m=8,t=1,p=1$c29tZXNhbHQ",
+            Error::PasswordInvalid,
+        ),
+        ("$argon2$v=42$m=7", Error::PasswordInvalid),
+        ("$argon2$v=42$m=7$c29tZXNhbHQ$AAAAAA", Error::ParamsInvalid),
+        ("$argon2$v=42$m=7,t=1,p=1$c29tZXNhbHQ$AAAAAA", invalid("m")),
+        (
+            "$argon2$v=42$m=8,t=1,p=1$c29tZXNhbHQ$AAAAAA",
+            Error::Algorithm,
+        ),
+        (
+            "$argon2$v=19$m=8,t=1,p=1$c29tZXNhbHQ$AAAAAA",
+            Error::Algorithm,
+        ),
+        (
+            "$argon2i$v=42$m=65536,t=2,p=1$c29tZXNhbHQ$9sTbSlTio3Biev89thdrlKKiCaYsjjYVJxGAL3swxpQ",
+            Error::Version,
+        ),
+        (
+            "$argon2i$m=4294967296,t=2,p=1$c29tZXNhbHQ$9sTbSlTio3Biev89thdrlKKiCaYsjjYVJxGAL3swxpQ",
+            invalid("m"),
+        ),
+        (
+            "$argon2i$m=08,t=2,p=1$c29tZXNhbHQ$9sTbSlTio3Biev89thdrlKKiCaYsjjYVJxGAL3swxpQ",
+            invalid("m"),
+        ),
+        (
+            "$argon2i$m=65536,t=2,p=0$c29tZXNhbHQ$9sTbSlTio3Biev89thdrlKKiCaYsjjYVJxGAL3swxpQ",
+            invalid("p"),
+        ),
+        (
+            "$argon2i$m=65536,t=2,p=1,keyid=dummy$c29tZXNhbHQ$9sTbSlTio3Biev89thdrlKKiCaYsjjYVJxGAL3swxpQ",
+            invalid("keyid"),
+        ),
+        (
+            "$argon2i$m=65536,t=2,p=1,x=1$c29tZXNhbHQ$9sTbSlTio3Biev89thdrlKKiCaYsjjYVJxGAL3swxpQ",
+            Error::ParamsInvalid,
+        ),
+        (
+            "$argon2i$m=65536,m=65536$c29tZXNhbHQ$9sTbSlTio3Biev89thdrlKKiCaYsjjYVJxGAL3swxpQ",
+            Error::EncodingInvalid,
+        ),
+        (
+            "$argon2i$m=$c29tZXNhbHQ$9sTbSlTio3Biev89thdrlKKiCaYsjjYVJxGAL3swxpQ",
+            Error::EncodingInvalid,
+        ),
+        (
+            "$argon2d$v=16$m=32,p=3$8PDw8PDw8PA$Xv5daH0zPuKO3c9tMBG/WOIUsDrPqq815/xyQTukNxY",
+            Error::ParamsInvalid,
+        ),
+        (
+            "$argon2d$v=16$m=32,t=2$8PDw8PDw8PA$Xv5daH0zPuKO3c9tMBG/WOIUsDrPqq815/xyQTukNxY",
+            Error::ParamsInvalid,
+        ),
+        (
+            "$argon2d$v=16$t=2,p=3$8PDw8PDw8PA$Xv5daH0zPuKO3c9tMBG/WOIUsDrPqq815/xyQTukNxY",
+            Error::ParamsInvalid,
+        ),
+        (LONGEST, Error::ParamsInvalid),
+    ] {
+        assert_eq!(rt; verify(rt.alloc(), "password", text), Err(error), "{text}");
+    }
+    Ok(())
+}
+
+// The longest text of the grammar, 326 bytes.
+const LONGEST: &str =
+    "$aaaaaaaaaaaaaaaaaaaaaaaaaaaaaaaa$v=4294967295$a=xxxxxxxxxxxxxxxxxxxxxxxxxxxxxxxxxxxxxxxxxxxxxxxxxxxxxxxxxxxxxxxx\
+    ,b=xxxxxxxxxxxxxxxxxxxxxxxxxxxxxxxxxxxxxxxxxxxxxxxxxxxxxxxxxx\
+    $AAAAAAAAAAAAAAAAAAAAAAAAAAAAAAAAAAAAAAAAAAAAAAAAAAAAAAAAAAAAAAAA\
+    $AAAAAAAAAAAAAAAAAAAAAAAAAAAAAAAAAAAAAAAAAAAAAAAAAAAAAAAAAAAAAAAAAAAAAAAAAAAAAAAAAAAAAA";
