@@ -1,4 +1,3 @@
-mod Filled
 pub mod InitialHashing
 mod LentMemory
 pub mod known

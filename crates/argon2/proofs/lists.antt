@@ -1,6 +1,5 @@
-pub mod DecodedSlices
 pub mod ListReading
 pub mod ListedLemmas
 pub mod Named
 pub mod ReadAgain
-pub mod ReadBytes
+pub mod ValuesRead

@@ -19,6 +19,7 @@ pub mod Positions
 pub use Rattle.argon2_base.specs.Base64
 pub use Rattle.argon2_base.specs.Blake2b
 pub use Rattle.argon2_base.specs.Block
+pub use Rattle.argon2_base.specs.ByteList
 pub use Rattle.argon2_base.specs.Decimal
 pub use Rattle.argon2_base.specs.Error
 pub use Rattle.argon2_base.specs.Ident

@@ -7,7 +7,6 @@ use argon2_base::error::{Error, Result};
 
 mod associated_data;
 mod builder;
-mod byte_list;
 mod key_id;
 mod text;
 

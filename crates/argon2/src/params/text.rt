@@ -105,23 +105,26 @@ fn number(name: &'static str, value: &Value<'_>) -> Result<u32>
     ensures { MatchResult result (λ n. number_of value.now ≡ Some n)
         (λ e. (number_of value.now ≡ None) × (fault_of e ≡ bad_param name.now)) }
 {
-    value.decimal().or(Err(Error::ParamInvalid { name }))
+    let Ok(n) = value.decimal() else {
+        return Err(Error::ParamInvalid { name });
+    };
+    Ok(n)
 }
 
-// The key identifier that the value is the Base64 of.
-fn key_id(value: &Value<'_>) -> Result<KeyId>
-    ensures { MatchResult result (λ keyid. short_bytes 8 value.now ≡ Some (keyid_bytes keyid))
-        (λ e. (short_bytes 8 value.now ≡ None) × (fault_of e ≡ bad_param (codes "keyid"))) }
+// The key identifier that the text is the Base64 of.
+fn key_id(text: &str) -> Result<KeyId>
+    ensures { MatchResult result (λ keyid. short_bytes 8 text.now ≡ Some (keyid_bytes keyid))
+        (λ e. (short_bytes 8 text.now ≡ None) × (fault_of e ≡ bad_param (codes "keyid"))) }
 {
-    KeyId::from_b64(value.as_str()).or(Err(Error::ParamInvalid { name: "keyid" }))
+    KeyId::from_b64(text).or(Err(Error::ParamInvalid { name: "keyid" }))
 }
 
-// The associated data that the value is the Base64 of.
-fn associated_data(value: &Value<'_>) -> Result<AssociatedData>
-    ensures { MatchResult result (λ bytes. short_bytes 32 value.now ≡ Some (data_bytes bytes))
-        (λ e. (short_bytes 32 value.now ≡ None) × (fault_of e ≡ bad_param (codes "data"))) }
+// The associated data that the text is the Base64 of.
+fn associated_data(text: &str) -> Result<AssociatedData>
+    ensures { MatchResult result (λ bytes. short_bytes 32 text.now ≡ Some (data_bytes bytes))
+        (λ e. (short_bytes 32 text.now ≡ None) × (fault_of e ≡ bad_param (codes "data"))) }
 {
-    AssociatedData::from_b64(value.as_str()).or(Err(Error::ParamInvalid { name: "data" }))
+    AssociatedData::from_b64(text).or(Err(Error::ParamInvalid { name: "data" }))
 }
 
 impl Params {
@@ -142,8 +145,8 @@ impl Params {
                 "m" => m = Some(number("m", &value)?),
                 "t" => t = Some(number("t", &value)?),
                 "p" => p = Some(number("p", &value)?),
-                "keyid" => keyid = key_id(&value)?,
-                "data" => associated = associated_data(&value)?,
+                "keyid" => keyid = key_id(value.as_str())?,
+                "data" => associated = associated_data(value.as_str())?,
                 _ => return Err(Error::ParamsInvalid),
             }
         }

@@ -3,8 +3,6 @@
 ghost use Rattle.std.specs.Prelude.{◌≡◌, ◌<◌, ◌+◌, ◌^◌, ◌++◌, ◌∷◌, [], ℕ, Some, Ok, IfSome, IfOk, IfErr, length};
 ghost use Rattle.std.specs.Fmt.{decimal};
 ghost use Rattle.std.specs.List.{list_all};
-ghost use Rattle.std.specs.Result.{result_ok};
-ghost use Rattle.argon2_base.specs.Decimal.{number_of};
 ghost use Rattle.argon2_base.specs.Names.{is_value, is_value_char};
 ghost use Rattle.argon2_base.specs.declared.error.password_hash.Error.TheVariants.{ParamsInvalid};
 
@@ -40,7 +38,6 @@ impl<'a> Value<'a> {
         ensures found { IfOk result (λ n. self.now ≡ decimal n) }
         ensures only { (n : ℕ) → n < 2 ^ 32 → self.now ≡ decimal n → result ≡ Ok n }
         ensures invalid { IfErr result (λ e. e ≡ ParamsInvalid) }
-        ensures value { result_ok result ≡ number_of self.now }
     {
         read_decimal(self.text).ok_or(Error::ParamsInvalid)
     }
@@ -71,7 +68,6 @@ fn with_digit(mut text: ArrayString<10>, digit: u32) -> ArrayString<10>
 pub fn read_decimal(text: &str) -> Option<u32>
     ensures found { IfSome result (λ n. text.now ≡ decimal n) }
     ensures only { (n : ℕ) → n < 2 ^ 32 → text.now ≡ decimal n → result ≡ Some n }
-    ensures value { result ≡ number_of text.now }
 {
     let Ok(number) = text.parse::<u32>() else {
         return None;

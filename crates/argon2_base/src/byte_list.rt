@@ -1,8 +1,8 @@
-//! Byte lists of a fixed capacity, which key identifiers and associated data are.
+//! Byte lists of a fixed capacity, which identifiers, key identifiers and associated data are.
 
 ghost use Rattle.std.specs.Prelude.{◌≡◌, ◌≤◌, ◌-◌, drop, length, replicate};
 
-use argon2_base::error::B64Error;
+use crate::error::B64Error;
 use base64::engine::general_purpose::STANDARD_NO_PAD;
 use std::cmp::Ordering;
 use std::fmt;
@@ -10,9 +10,9 @@ use std::hash::{Hash, Hasher};
 
 /// At most `N` bytes. Two are equal, ordered and hashed as the slices of their bytes are.
 #[derive(Clone, Copy)]
-pub(crate) struct ByteList<const N: usize> {
-    pub(crate) bytes: [u8; N],
-    pub(crate) len: usize,
+pub struct ByteList<const N: usize> {
+    pub bytes: [u8; N],
+    pub len: usize,
     ghost fits: { len ≤ N },
     // One list of bytes is one value.
     ghost zeros: { drop len bytes ≡ replicate (N - len) 0 },
@@ -20,13 +20,10 @@ pub(crate) struct ByteList<const N: usize> {
 
 impl<const N: usize> ByteList<N> {
     ghost use Rattle.std.specs.Prelude.{◌≡◌, ◌≤◌, ◌<◌, ◌+◌, ◌*◌, ◌^◌, length, MatchOption};
-    ghost use Rattle.argon2.specs.ByteLists.{IsListOfText, list_bytes};
-    ghost use Rattle.argon2.specs.ListedParameters.{short_bytes};
-    ghost use Rattle.std.specs.Option.{option_map};
-    ghost use Rattle.std.specs.Result.{result_ok};
+    ghost use Rattle.argon2_base.specs.ByteList.{IsListOfText, list_bytes};
 
-    /// The list of these bytes, if it fits.
-    pub(crate) fn new(source: &[u8]) -> Option<Self>
+    /// The list of these bytes, if they fit.
+    pub fn new(source: &[u8]) -> Option<Self>
         ensures { MatchOption result (N < length source.now) (λ list. list_bytes list ≡ source.now) }
     {
         if source.len() > N {
@@ -40,11 +37,11 @@ impl<const N: usize> ByteList<N> {
         })
     }
 
-    /// The list whose strict Base64 the text is, if there is one.
-    pub(crate) fn from_b64(text: &str) -> Result<Self, B64Error>
+    /// The list whose strict Base64 the text is. `InvalidLength` where the text is longer than that
+    /// of `N` bytes, else `InvalidEncoding` where it is the strict Base64 of no bytes.
+    pub fn from_b64(text: &str) -> Result<Self, B64Error>
         requires { 4 * N + 2 < 2 ^ 64 }
-        ensures text { IsListOfText text.now result }
-        ensures read { option_map list_bytes (result_ok result) ≡ short_bytes N text.now }
+        ensures { IsListOfText text.now result }
     {
         if text.len() > (4 * N + 2) / 3 {
             return Err(B64Error::InvalidLength);
@@ -57,7 +54,7 @@ impl<const N: usize> ByteList<N> {
     }
 
     /// The bytes.
-    pub(crate) fn as_bytes(&self) -> &[u8]
+    pub fn as_bytes(&self) -> &[u8]
         ensures value { result.now ≡ list_bytes self.now }
         ensures fits { length (list_bytes self.now) ≤ N }
     {
@@ -75,7 +72,7 @@ impl<const N: usize> PartialEq for ByteList<N> {
     ghost use Rattle.std.specs.Prelude.{nat_eq};
     ghost use Rattle.std.specs.Cmp.{on_per, partial_equiv_from_equiv};
     ghost use Rattle.std.specs.Cmp.Lexicographic.{pointwise, nat_list_eq_equiv};
-    ghost use Rattle.argon2.specs.ByteLists.{list_bytes};
+    ghost use Rattle.argon2_base.specs.ByteList.{list_bytes};
 
     ghost eq = { λ a b. pointwise nat_eq (list_bytes a) (list_bytes b) };
 
@@ -89,7 +86,7 @@ impl<const N: usize> PartialEq for ByteList<N> {
 impl<const N: usize> Eq for ByteList<N> {
     ghost use Rattle.std.specs.Cmp.{on_equiv};
     ghost use Rattle.std.specs.Cmp.Lexicographic.{nat_list_eq_equiv};
-    ghost use Rattle.argon2.specs.ByteLists.{list_bytes};
+    ghost use Rattle.argon2_base.specs.ByteList.{list_bytes};
 
     ghost laws = { on_equiv list_bytes nat_list_eq_equiv };
 }
@@ -99,7 +96,7 @@ impl<const N: usize> PartialOrd for ByteList<N> {
     ghost use Rattle.std.specs.Ordering.{nat_cmp};
     ghost use Rattle.std.specs.Cmp.{on_po};
     ghost use Rattle.std.specs.Cmp.Lexicographic.{slice_cmp, texts_po};
-    ghost use Rattle.argon2.specs.ByteLists.{list_bytes};
+    ghost use Rattle.argon2_base.specs.ByteList.{list_bytes};
 
     ghost partial_cmp = { λ a b. Some (slice_cmp nat_cmp (list_bytes a) (list_bytes b)) };
 
@@ -115,7 +112,7 @@ impl<const N: usize> Ord for ByteList<N> {
     ghost use Rattle.std.specs.Ordering.{nat_cmp};
     ghost use Rattle.std.specs.Cmp.{on_total};
     ghost use Rattle.std.specs.Cmp.Lexicographic.{slice_cmp, nat_list_cmp_total, texts_ties};
-    ghost use Rattle.argon2.specs.ByteLists.{list_bytes};
+    ghost use Rattle.argon2_base.specs.ByteList.{list_bytes};
 
     ghost cmp = { λ a b. slice_cmp nat_cmp (list_bytes a) (list_bytes b) };
 
@@ -134,7 +131,7 @@ impl<const N: usize> Hash for ByteList<N> {
     ghost use Rattle.std.specs.Cmp.Rules.{hashing};
     ghost use Rattle.std.specs.Hash as fed;
     ghost use Rattle.std.proofs.Common.{rules};
-    ghost use Rattle.argon2.specs.ByteLists.{list_bytes};
+    ghost use Rattle.argon2_base.specs.ByteList.{list_bytes};
 
     ghost hash_input = { λ list. fed.slice fed.u8 (list_bytes list) };
 

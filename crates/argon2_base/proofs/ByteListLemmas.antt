@@ -1,7 +1,8 @@
--- What the strict engine answers where it decodes into a slice.
+-- Byte lists with zeros behind their bytes: what copying and decoding into zeros leaves.
 use Rattle.std.proofs.Common.{◌≡◌, ℕ, ◌/◌, ◌-◌, ◌≤◌, Bool, true, false, List, ◌++◌, length, take, drop, replicate, if◌then◌else◌, nat_lt, Option, Some, None, Result, Ok, Err, refl, sym, ap, ◌∙◌, arith, inl, inr}
 use Rattle.std.proofs.lemmas.Bool.{cases_Bool, le-ltb, ltb-false}
-use Rattle.std.proofs.lemmas.List.{take_at}
+use Rattle.std.proofs.lemmas.List.{drop-replicate, take_at}
+use Rattle.std.proofs.lemmas.Slice.{drop-append-drop}
 use Rattle.base64.specs.Engines.{standard_no_pad}
 use Rattle.base64.specs.GeneralPurpose.{decode_of, decode_slice_of, decoded_bytes_of}
 use Rattle.base64.specs.Decode.{bytes_fit, decode_outcome, groups_before_last, or_else, or_error}
@@ -10,8 +11,11 @@ use Rattle.base64.specs.declared.decode.DecodeSliceError.{DecodeSliceError}
 use Rattle.base64.specs.declared.decode.DecodeSliceError.TheVariants.{OutputSliceTooSmall}
 use Rattle.argon2_base.specs.Base64.{IsBytes, strict_base64}
 use Rattle.argon2_base.proofs.Base64Lemmas.{decode_of-strict_base64, length-strict_base64, strict_base64_decoded}
-use Rattle.argon2.specs.ByteLists.{base64_length}
-use Rattle.argon2.proofs.Filled.{drop-filled}
+use Rattle.argon2_base.specs.ByteList.{base64_length}
+
+-- behind the k bytes ys that were copied, the rest of n zeros is left
+pub drop-filled : (n k : ℕ) (ys : List ℕ) → length ys ≡ k → drop k (ys ++ drop k (replicate n 0)) ≡ replicate (n - k) 0
+drop-filled n k ys e = drop-append-drop k (replicate n 0) ys k (omega arith) e ∙ drop-replicate k n 0
 
 -- the answer by the errors x and y, a test for room between them, and the bytes d
 abbrev answer : Option DecodeError → Bool → Option DecodeError → List ℕ → ℕ → Result ℕ DecodeSliceError
@@ -41,29 +45,33 @@ answer_err None None false d b room f ok fits wide h =
     let bad = rw no at h in
     cc bad
 
--- the text is of what was decoded into zeros, and zeros are left behind that
+-- What was decoded into zeros.
+pub record IsDecoded (s new : List ℕ) (room n : ℕ) : Type 0 where
+  pub bytes : IsBytes (take n new)
+  pub text : s ≡ strict_base64 (take n new)
+  pub zeros : drop n new ≡ replicate (room - n) 0
+  pub fits : n ≤ room
+
 pub decoded_into_zeros : (s new : List ℕ) (room n : ℕ) → IsBytes s → decode_slice_of standard_no_pad s room ≡ Ok n
+    → IsBytes (decoded_bytes_of standard_no_pad s)
     → new ≡ decoded_bytes_of standard_no_pad s ++ drop (length (decoded_bytes_of standard_no_pad s)) (replicate room 0)
-    → (s ≡ strict_base64 (take n new)) × (drop n new ≡ replicate (room - n) 0) × (n ≤ room)
-decoded_into_zeros s new room n bytes ok written =
+    → IsDecoded s new room n
+decoded_into_zeros s new room n text_bytes ok bytes written =
     let d : List ℕ = decoded_bytes_of standard_no_pad s in
     let parts = answer_ok _ _ _ d room n ok in
-    let text : s ≡ strict_base64 d = strict_base64_decoded s d bytes parts.0 in
     let front : take n new ≡ d = rw written (take_at d (drop (length d) (replicate room 0)) n (sym parts.1)) in
-    let rest : drop n new ≡ replicate (room - n) 0 = rw (written, parts.1) (drop-filled room (length d) d refl) in
-    (text ∙ ap strict_base64 (sym front), rest, omega (arith, parts.1, parts.2))
+    record {
+      bytes = rw front bytes;
+      text = strict_base64_decoded s d text_bytes parts.0 ∙ ap strict_base64 (sym front);
+      zeros = rw (written, parts.1) (drop-filled room (length d) d refl);
+      fits = omega (arith, parts.1, parts.2);
+    }
 
 -- what decodes to so few bytes is never refused
-pub decode_slice_fits : (s b : List ℕ) (room : ℕ) (f : DecodeSliceError) → decode_of standard_no_pad s ≡ Ok b → length b ≤ room
+decode_slice_fits : (s b : List ℕ) (room : ℕ) (f : DecodeSliceError) → decode_of standard_no_pad s ≡ Ok b → length b ≤ room
     → length s ≤ base64_length room → decode_slice_of standard_no_pad s room ≡ Err f → ⊥
 decode_slice_fits s b room f ok fits short err =
     answer_err _ _ _ _ b room f ok fits (le-ltb (room / 3) (groups_before_last (length s)) (omega arith)) err
-
--- what was decoded into a slice, and that it decodes to it
-pub decoded_slice : (s : List ℕ) (room n : ℕ) → decode_slice_of standard_no_pad s room ≡ Ok n
-    → (decode_of standard_no_pad s ≡ Ok (decoded_bytes_of standard_no_pad s)) × (n ≡ length (decoded_bytes_of standard_no_pad s))
-    × (length (decoded_bytes_of standard_no_pad s) ≤ room)
-decoded_slice s room n ok = answer_ok _ _ _ (decoded_bytes_of standard_no_pad s) room n ok
 
 -- no text of bytes is refused that is no longer than that of as many bytes as there is room for
 pub decode_slice_err : (s b : List ℕ) (room : ℕ) (f : DecodeSliceError) → IsBytes b → s ≡ strict_base64 b

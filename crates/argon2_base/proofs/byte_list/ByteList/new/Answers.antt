@@ -1,6 +1,6 @@
 use Rattle.std.proofs.Common.{rules}
-use Rattle.argon2.proofs.Filled.{drop-filled}
-use Rattle.argon2.proofs.params.byte_list.ByteList.new.Goals as goal
+use Rattle.argon2_base.proofs.ByteListLemmas.{drop-filled}
+use Rattle.argon2_base.proofs.byte_list.ByteList.new.Goals as goal
 
 pub invariant_of-result-clause-zeros : goal.invariant_of-result-clause-zeros
 invariant_of-result-clause-zeros g c = drop-filled g.row.N _ _ (search rules)
