@@ -1,4 +1,4 @@
-use Rattle.std.proofs.Common.{rules, ◌≤◌, ◌*◌, arith, sym}
+use Rattle.std.proofs.Common.{rules, arith, sym}
 use Rattle.argon2.specs.Params.{parameters_of}
 use Rattle.argon2_uses.specs.Bound.{IsWithin}
 use Rattle.argon2_uses.proofs.bound.Bound.admit.Goals as goal
