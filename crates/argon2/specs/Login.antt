@@ -1,5 +1,5 @@
 -- The login store: what callers see of it, and what each call does.
-use Rattle.std.specs.Prelude.{◌≡◌, ℕ, List, map, String, string_bytes, Option, Some, None, IsSome, Result, Ok, Err}
+use Rattle.std.specs.Prelude.{◌≡◌, ℕ, List, map, String, string_bytes, Option, Some, None, IsSome, IsSomeAnd, Result, Ok, Err}
 use Rattle.std.specs.BTreeMap.{BTreeMap}
 use Rattle.std.specs.FinMap.{FinMap, from_entries, get, insert}
 use Rattle.std.specs.Ordering.{nat_cmp}
@@ -37,6 +37,10 @@ store_of login = values_of login.texts
 -- what it renews them by
 abbrev pub target_of : Login → Target
 target_of login = made_under.target_of login.target
+
+-- the name has a text, and it accepts the password
+abbrev pub HasPassword : Target → Store → List ℕ → List ℕ → Type 0
+HasPassword target store name password = IsSomeAnd (get store name) (AcceptsBy target.secret password)
 
 -- ---- a call and its answer
 

@@ -1,13 +1,15 @@
 //! A login store that renews old texts: names with PHC texts, and what new texts are made under.
 
-ghost use Rattle.std.specs.Prelude.{◌≡◌, ◌≤◌, ◌↔◌, IsOk, IfOk, IfErr};
+ghost use Rattle.std.specs.Prelude.{◌≡◌, ◌≤◌, ◌↔◌, ◌⊎◌, Some, IsOk, IfOk, IfErr, OnOk, MatchResult};
 ghost use Rattle.std.specs.FinMap.{empty, entries, get};
 ghost use Rattle.std.specs.Option.{option_copied, option_map};
 ghost use Rattle.rand_core.specs.Stream.{fill_bytes};
 ghost use Rattle.argon2_base.specs.PasswordHash.{phc_of};
-ghost use Rattle.argon2_base.specs.declared.error.password_hash.Error.TheVariants.{OutputSize};
+ghost use Rattle.argon2_base.specs.PhcText.{Phc, PhcText};
+ghost use Rattle.argon2_base.specs.declared.error.password_hash.Error.TheVariants.{OutOfMemory as NoMemory, OutputSize};
 ghost use Rattle.argon2.specs.Argon2.{settings_of};
-ghost use Rattle.argon2.specs.Login.{LoginStep, adding, logging_in, named_values, store_of, stream_after, target_of};
+ghost use Rattle.argon2.specs.declared.login.answers.LoginError.TheVariants.{Refused};
+ghost use Rattle.argon2.specs.Login.{HasPassword, LoginStep, adding, logging_in, named_values, store_of, stream_after, target_of};
 ghost use Rattle.argon2.specs.Made as made_under;
 ghost use Rattle.argon2.specs.Made.{tag_length, IsTarget};
 
@@ -73,6 +75,8 @@ impl<'key> Login<'key> {
     pub fn add(&mut self, name: &str, text: &str) -> Outcome<(), LoginError>
         ensures step { LoginStep (target_of self.old) (store_of self.old)
             (adding name.now text.now result) (store_of self.new) }
+        ensures text { OnOk result ((v : Phc) → PhcText text.now v
+            → get (store_of self.new) name.now ≡ Some v) }
         ensures target { target_of self.new ≡ target_of self.old }
     {
         let Ok(parsed) = PasswordHash::new(text) else {
@@ -110,6 +114,10 @@ impl<'key> Login<'key> {
         ensures step { LoginStep (target_of self.old) (store_of self.old)
             (logging_in name.now password.now (fill_bytes 16 (R.stream rng.old)).0 result)
             (store_of self.new) }
+        ensures accepted { MatchResult result
+            (λ _. HasPassword (target_of self.old) (store_of self.new) name.now password.now)
+            (λ e. (e ≡ Refused NoMemory)
+            ⊎ (HasPassword (target_of self.old) (store_of self.old) name.now password.now → ⊥)) }
         ensures drawn { R.stream rng.new ≡ stream_after result (R.stream rng.old) }
         ensures target { target_of self.new ≡ target_of self.old }
     {
@@ -128,6 +136,7 @@ impl<'key> Login<'key> {
         let Some(text) = self.texts.get_mut(name) else {
             return Ok(Accepted::Kept);
         };
+        self.target.know_target();
         *text = fresh;
         Ok(Accepted::Rehashed)
     }

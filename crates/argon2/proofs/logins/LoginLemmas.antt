@@ -1,16 +1,19 @@
 -- One login as a step.
-use Rattle.std.proofs.Common.{◌≡◌, ℕ, List, Option, Some, None, Result, Ok, Err, inl, inr, refl}
+use Rattle.std.proofs.Common.{◌≡◌, ℕ, List, Option, Some, None, Result, Ok, Err, ◌⊎◌, inl, inr, refl, ap}
 use Rattle.std.specs.Prelude.{MatchResult}
 use Rattle.std.specs.FinMap.{get}
 use Rattle.argon2_base.specs.Error.{Fault}
 use Rattle.argon2_base.specs.PasswordHash.{phc_of}
 use Rattle.argon2_base.specs.PhcText.{Phc, IsPhc, HasBytes}
 use Rattle.argon2_base.specs.declared.error.password_hash.Error.{Error}
+use Rattle.argon2_base.specs.declared.error.password_hash.Error.TheVariants.{OutOfMemory}
 use Rattle.argon2_base.specs.declared.phc.hash.PasswordHash.{PasswordHash}
 use Rattle.argon2.specs.declared.login.answers.Accepted.{Accepted}
 use Rattle.argon2.specs.declared.login.answers.LoginError.{LoginError}
+use Rattle.argon2.specs.declared.login.answers.LoginError.TheVariants.{Refused}
+use Rattle.argon2.specs.Accepts.{AcceptsBy}
 use Rattle.argon2.specs.ListedParameters.{checked}
-use Rattle.argon2.specs.Login.{Store, LoginAnswer, LoginStep, logging_in}
+use Rattle.argon2.specs.Login.{Store, HasPassword, LoginAnswer, LoginStep, logging_in}
 use Rattle.argon2.specs.Made.{Target, made, IsHashAnswer}
 
 -- from what the name has
@@ -19,6 +22,23 @@ pub login_step : (target : Target) (before : Store) (name password drawn : List 
     get before name ≡ o → LoginAnswer target before name password drawn o answer after →
     LoginStep target before (logging_in name password drawn answer) after
 login_step target before name password drawn o answer after e step = rw e step
+
+-- a name whose text accepts the password
+pub has_password : (target : Target) (store : Store) (name password : List ℕ) (v : Phc) →
+    get store name ≡ Some v → AcceptsBy target.secret password v → HasPassword target store name password
+has_password target store name password v is accepts = rw is accepts
+
+-- a name without a text
+pub no_text : (target : Target) (store : Store) (name password : List ℕ) → get store name ≡ None →
+    HasPassword target store name password → ⊥
+no_text target store name password is h = absurd (rw is at h)
+
+-- a name whose text is refused
+pub refused_text : (target : Target) (store : Store) (name password : List ℕ) (v : Phc) (e : Error) →
+    get store name ≡ Some v → (e ≡ OutOfMemory) ⊎ (AcceptsBy target.secret password v → ⊥) →
+    (Refused e ≡ Refused OutOfMemory) ⊎ (HasPassword target store name password → ⊥)
+refused_text target store name password v e is (inl memory) = inl (ap Refused memory)
+refused_text target store name password v e is (inr never) = inr (λ h. never (rw is at h))
 
 -- what holds of an answer that is no refusal
 pub not_refused : (P : Type 0) (Q : Error → Type 0) (r : Result (Unit {0}) Error) → ((e : Error) → r ≡ Err e → ⊥) →

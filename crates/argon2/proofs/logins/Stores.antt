@@ -1,6 +1,7 @@
 -- Stores: one name set, and the tree that a store stands for.
 use Rattle.std.proofs.Common.{rules, ◌≡◌, ℕ, List, [], ◌∷◌, Option, Some, None, Bool, true, false, cond, string_bytes, refl, sym, ap, ◌∙◌}
 use Rattle.std.proofs.lemmas.Map.Text.{is_eq-slice_cmp}
+use Rattle.std.proofs.lemmas.Slice.Eq.{bytes_eq-Decides}
 use Rattle.std.specs.Prelude.{String, IsSome}
 use Rattle.std.specs.BTreeMap.{BTreeMap, IsOrdered, is_at, get_by_text}
 use Rattle.std.specs.Cmp.Lexicographic.{slice_cmp, nat_list_cmp_total, nat_list_eq_equiv}
@@ -24,6 +25,12 @@ pub get-set : (m : Store) (n : List ℕ) (v : Phc) (q : List ℕ) →
     get (insert m n v) q ≡ cond (bytes_eq q n) (Some v) (get m q)
 get-set m n v q =
     get-insert nat_list_cmp_total m n v q ∙ ap (λ b. cond b (Some v) (get m q)) (is_eq-slice_cmp q n)
+
+-- and that name
+pub get-same : (m : Store) (n : List ℕ) (v : Phc) → get (insert m n v) n ≡ Some v
+get-same m n v =
+    let same = (bytes_eq-Decides n n).1 refl in
+    get-set m n v n ∙ ap (λ b. cond b (Some v) (get m n)) same
 
 map_cond : (b : Bool) (h : PasswordHash) (o : Option PasswordHash) →
     cond b (Some (phc_of h)) (option_map phc_of o) ≡ option_map phc_of (cond b (Some h) o)

@@ -1,0 +1,42 @@
+-- A call of the login store leaves the texts of all other names.
+use Rattle.std.proofs.Common.{◌≡◌, ◌≢◌, ℕ, List, Option, Some, None, Result, Ok, Err, inl, inr, refl, ap, ◌∙◌}
+use Rattle.std.proofs.lemmas.Bool.{cases_Bool}
+use Rattle.std.proofs.lemmas.Slice.Eq.{bytes_eq-Decides}
+use Rattle.std.specs.FinMap.{get, insert}
+use Rattle.std.specs.Str.{bytes_eq}
+use Rattle.argon2.proofs.logins.Stores.{get-set}
+use Rattle.argon2.specs.Login.{Store, AddStep, LoginAnswer}
+use Rattle.argon2.specs.Made.{Target, made}
+use Rattle.argon2.specs.PhcText.{Phc}
+use Rattle.argon2.specs.declared.login.answers.Accepted.{Accepted}
+use Rattle.argon2.specs.declared.login.answers.Accepted.TheVariants.{Current, Kept, Rehashed}
+use Rattle.argon2.specs.declared.login.answers.LoginError.{LoginError}
+
+other_name : (store : Store) (name : List ℕ) (v : Phc) (other : List ℕ) → other ≢ name →
+    get (insert store name v) other ≡ get store other
+other_name store name v other differs = elim (cases_Bool (bytes_eq other name)) [
+  | inl hit ↦ absurd (differs ((bytes_eq-Decides other name).0 hit))
+  | inr miss ↦ get-set store name v other ∙ rw miss refl
+]
+
+-- after `add`
+pub add_keeps : (before : Store) (name text : List ℕ) (answer : Result (Unit {0}) LoginError) (after : Store) →
+    AddStep before name text answer after → (other : List ℕ) → other ≢ name → get after other ≡ get before other
+add_keeps before name text (Ok x) after step other differs =
+    ap (λ m. get m other) step.3 ∙ other_name before name step.1 other differs
+add_keeps before name text (Err e) after step other differs = ap (λ m. get m other) step.1
+
+-- after `login`
+pub login_keeps : (target : Target) (before : Store) (name password drawn : List ℕ) (found : Option Phc)
+    (answer : Result Accepted LoginError) (after : Store) →
+    LoginAnswer target before name password drawn found answer after →
+    (other : List ℕ) → other ≢ name → get after other ≡ get before other
+login_keeps target before name password drawn None (Ok did) after step other differs = absurd step
+login_keeps target before name password drawn None (Err e) after step other differs = ap (λ m. get m other) step.1
+login_keeps target before name password drawn (Some v) (Err e) after step other differs = ap (λ m. get m other) step.1
+login_keeps target before name password drawn (Some v) (Ok Current) after step other differs =
+    ap (λ m. get m other) step.1.1
+login_keeps target before name password drawn (Some v) (Ok Kept) after step other differs =
+    ap (λ m. get m other) step.1.1
+login_keeps target before name password drawn (Some v) (Ok Rehashed) after step other differs =
+    ap (λ m. get m other) step.1.2 ∙ other_name before name (made target password drawn) other differs

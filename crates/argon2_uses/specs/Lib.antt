@@ -1,0 +1,5 @@
+pub mod Arena
+pub mod Auditor
+pub mod Bound
+pub mod Login
+pub mod Vault

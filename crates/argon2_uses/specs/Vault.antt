@@ -1,0 +1,20 @@
+-- The key of a vault, and what opens it.
+use Rattle.std.specs.Prelude.{◌≡◌, ℕ, List, None, take, drop}
+use Rattle.argon2.specs.Argon2.{argon2id_with}
+use Rattle.argon2.specs.Context.{Context}
+use Rattle.argon2.specs.Parameters.{plain}
+use Rattle.argon2.specs.Settings.{Settings}
+use Rattle.argon2.specs.Tag.{tag_of}
+use Rattle.argon2_uses.specs.declared.vault.Header.{Header}
+
+-- the second recommended option (RFC 9106, section 4)
+abbrev pub recommended : Settings
+recommended = argon2id_with (plain 65536 3 4 None)
+
+-- the key of a passphrase and a salt: the first half of a tag of 64 bytes
+abbrev pub key_of : Context → List ℕ → List ℕ → List ℕ
+key_of ctx passphrase salt = take 32 (tag_of ctx passphrase salt 64)
+
+-- the header's tag is the passphrase's: the other half
+abbrev pub Opens : Context → List ℕ → Header → Type 0
+Opens ctx passphrase header = header.tag ≡ drop 32 (tag_of ctx passphrase header.salt 64)

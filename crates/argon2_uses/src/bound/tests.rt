@@ -1,0 +1,35 @@
+use super::{Bound, BoundError};
+use argon2::Argon2;
+use argon2::password_hash::Error;
+use std::test::Fail;
+
+// Of Debian's `argon2`, for the password `password`.
+const TEXT: &str =
+    "$argon2id$v=19$m=256,t=2,p=2$c29tZXNhbHQ$bQk8UB/VmZZF4Oo79iDXuL5/0ttZwg2f/5U52iv1cDc";
+
+#[test]
+fn accepts_what_asks_for_no_more(rt: HostRuntime) -> Result<(), Fail> {
+    let argon2 = Argon2::default();
+    for (m_cost, t_cost, p_cost, password, expected) in [
+        (256, 2, 2, "password", Ok(())),
+        (255, 2, 2, "password", Err(BoundError::TooDear)),
+        (256, 1, 2, "password", Err(BoundError::TooDear)),
+        (256, 2, 1, "password", Err(BoundError::TooDear)),
+        (
+            256,
+            2,
+            2,
+            "sassword",
+            Err(BoundError::Refused(Error::PasswordInvalid)),
+        ),
+    ] {
+        let bound = Bound {
+            m_cost,
+            t_cost,
+            p_cost,
+        };
+        let answer = bound.verify(rt.alloc(), &argon2, password.as_bytes(), TEXT);
+        assert_eq!(rt; answer, expected, "{bound:?}");
+    }
+    Ok(())
+}

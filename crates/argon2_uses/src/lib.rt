@@ -1,0 +1,8 @@
+//! Uses of `argon2` as callers write them, each proved from the contracts of public calls alone.
+#![tactic(auto)]
+
+pub mod arena;
+pub mod auditor;
+pub mod bound;
+pub mod login;
+pub mod vault;

@@ -1,0 +1,66 @@
+//! Logging in: names with passwords, over a store that renews old texts.
+
+ghost use Rattle.std.specs.Prelude.{◌≡◌, ◌≢◌, ◌↔◌, ℕ, List, None, IsTrue, IfOk, OnOk, OnErr};
+ghost use Rattle.std.specs.FinMap.{get};
+ghost use Rattle.argon2.specs.Argon2.{secret_of};
+ghost use Rattle.argon2.specs.Login.{store_of, target_of};
+ghost use Rattle.argon2_uses.specs.Login.{HasPassword, KeepsOthers};
+
+use argon2::login::{Login, LoginError};
+use argon2::password_hash::Error;
+use argon2::{Argon2, PasswordHasher};
+use rand_core::Rng;
+use std::alloc::Global;
+
+/// Gives a new name a text of its password, made with a salt from `rng` under `argon2`, which has
+/// the store's secret.
+///
+/// # Errors
+/// [`LoginError::Refused`] where no text can be made, and else those of [`Login::add`].
+pub fn register<R: Rng>(
+    store: &mut Login<'_>,
+    argon2: &Argon2<'_>,
+    alloc: Global,
+    rng: &mut R,
+    name: &str,
+    password: &[u8],
+) -> Result<(), LoginError>
+    requires { secret_of argon2.now ≡ (target_of store.old).secret }
+    ensures new_name { OnOk result (get (store_of store.old) name.now ≡ None) }
+    ensures registered { OnOk result (HasPassword store.new name.now password.now) }
+    ensures others { KeepsOthers name.now store.old store.new }
+    ensures refused { OnErr result (store_of store.new ≡ store_of store.old) }
+{
+    let hash = match argon2.hash_password(alloc, rng, password) {
+        Ok(hash) => hash,
+        Err(e) => return Err(LoginError::Refused(e)),
+    };
+    store.add(name, hash.text().as_str())
+}
+
+/// Whether a name has this password. Where it has, its text is renewed if it is old.
+///
+/// # Errors
+/// [`LoginError::Refused`] with the reason where the name's text can't be verified.
+pub fn log_in<R: Rng>(
+    store: &mut Login<'_>,
+    rng: &mut R,
+    name: &str,
+    password: &[u8],
+) -> Result<bool, LoginError>
+    ensures answer { IfOk result (λ yes.
+        IsTrue yes ↔ HasPassword store.old name.now password.now) }
+    ensures still { IfOk result (λ yes.
+        IsTrue yes → HasPassword store.new name.now password.now) }
+    ensures others { KeepsOthers name.now store.old store.new }
+    ensures refused { OnErr result (store_of store.new ≡ store_of store.old) }
+{
+    match store.login(rng, name, password) {
+        Ok(_) => Ok(true),
+        Err(LoginError::NameUnknown | LoginError::Refused(Error::PasswordInvalid)) => Ok(false),
+        Err(e) => Err(e),
+    }
+}
+
+#[cfg(test)]
+mod tests;
