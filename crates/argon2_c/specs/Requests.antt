@@ -1,5 +1,5 @@
 -- What a C caller asks for: what its hash depends on, and why it is refused.
-use Rattle.std.specs.Prelude.{◌≡◌, ◌⊎◌, ℕ, ◌*◌, ◌≤◌, ◌&&◌, not, nat_lt, ◌==◌, ◌||◌, Bool, false, ℤ, List, [], ◌∷◌}
+use Rattle.std.specs.Prelude.{◌≡◌, ◌⊎◌, ℕ, ◌*◌, ◌≤◌, ◌&&◌, not, nat_lt, ◌==◌, Bool, ℤ, List, [], ◌∷◌}
 use Rattle.argon2.specs.Context.{Context}
 use Rattle.argon2_c.specs.Codes.{output_ptr_null, output_too_short, output_too_long, pwd_too_long, salt_too_short, salt_too_long, ad_too_long, secret_too_long, time_too_small, memory_too_little, lanes_too_few, lanes_too_many, pwd_ptr_mismatch, salt_ptr_mismatch, secret_ptr_mismatch, ad_ptr_mismatch, free_memory_cbk_null, allocate_memory_cbk_null, incorrect_type, threads_too_few, threads_too_many}
 use Rattle.argon2_c.specs.declared.request.Request.{Request}

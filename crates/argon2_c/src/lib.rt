@@ -1,19 +1,21 @@
 //! Argon2 for C: what `capi/argon2.c` calls, under the codes of `argon2.h`.
 #![tactic(auto)]
 
-ghost use Rattle.std.specs.Prelude.{◌≡◌, ◌≢◌, ◌⊎◌, ◌++◌, ◌∷◌, ◌+◌, ◌<◌, ◌≤◌, ℕ, List, suc, drop, length, unwrap_or, if◌then◌else◌};
+ghost use Rattle.std.specs.Prelude.{◌≡◌, ◌≢◌, ◌⊎◌, ◌++◌, ◌∷◌, ◌+◌, ◌<◌, ◌≤◌, ℕ, ℤ, List, None, Some, suc, drop, length, unwrap_or, if◌then◌else◌};
 ghost use Rattle.std.specs.Str.{bytes_eq};
 ghost use Rattle.argon2.specs.Refusals.{first_of};
 ghost use Rattle.argon2.specs.Tag.{tag_of};
-ghost use Rattle.argon2_c.specs.Codes.{IsAnswer, memory_allocation_error, ok, verify_mismatch};
+ghost use Rattle.argon2_c.specs.Codes.{IsAnswer, decoding_fail, memory_allocation_error, ok, verify_mismatch};
 ghost use Rattle.argon2_c.specs.Requests.{asked, length_faults, request_faults};
-ghost use Rattle.argon2_c.specs.Texts.{encode_code, name_numbered, said_with, spelling};
+ghost use Rattle.argon2_c.specs.Texts.{Said, encode_code, name_numbered, said_with, spelling};
+ghost use Rattle.argon2_c.specs.Verifying.{Says, call_refusal, verify_code};
 
 mod code;
 mod decode;
 mod encode;
 mod hash;
 pub mod request;
+mod verify;
 
 use request::Request;
 use std::alloc::Global;
@@ -99,3 +101,36 @@ pub extern "C" fn argon2_c_encoded_length(
 {
     encode::encoded_length(algorithm, m_cost, t_cost, lanes, salt_len, tag_len)
 }
+
+/// Whether a password has the hash of a text. `absent` is how many bytes the password has behind a null
+/// pointer. Answers 0 where it has, and -35 where it has not; else the code of the call's first fault,
+/// or -32 where the text is in no such variant's grammar, or the code of the first fault of the request
+/// that the text stands for, or -22 where memory was refused.
+#[unsafe(no_mangle)]
+pub extern "C" fn argon2_c_verify(
+    alloc: Global,
+    algorithm: u32,
+    has_text: bool,
+    text: &[u8],
+    pwd: &[u8],
+    absent: usize,
+) -> i32
+    ensures refused { (e : ℤ)
+        → call_refusal algorithm has_text (length text.now) (length pwd.now) absent ≡ Some e → result ≡ e }
+
+    ensures said { (v : Said)
+        → call_refusal algorithm has_text (length text.now) (length pwd.now) absent ≡ None
+        → Says algorithm text.now v
+        → (result ≡ verify_code algorithm pwd.now absent v) ⊎ (result ≡ memory_allocation_error) }
+    ensures unsaid { call_refusal algorithm has_text (length text.now) (length pwd.now) absent ≡ None
+        → ((v : Said) → Says algorithm text.now v → ⊥)
+        → (result ≡ decoding_fail) ⊎ (result ≡ memory_allocation_error) }
+
+    ensures found { (result ≡ ok) ⊎ (result ≡ verify_mismatch)
+        → (v : Said) × Says algorithm text.now v }
+{
+    verify::verify(alloc, algorithm, has_text, text, pwd, absent)
+}
+
+#[cfg(test)]
+mod tests;
