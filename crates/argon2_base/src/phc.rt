@@ -26,6 +26,7 @@ mod list;
 mod value;
 
 pub use bytes::{Output, Salt};
+pub use compare::are_equal;
 pub use hash::PasswordHash;
 pub use ident::{ARGON2D_IDENT, ARGON2I_IDENT, ARGON2ID_IDENT, Ident};
 pub use list::{Iter, ParamsString};

@@ -3,8 +3,8 @@
 ghost use Rattle.std.specs.Prelude.{◌≡◌};
 ghost use Rattle.std.specs.Str.{bytes_eq};
 
-// Whether two slices are equal. Where they have one length, each byte of both is looked at.
-pub(super) fn are_equal(a: &[u8], b: &[u8]) -> bool
+/// Whether two slices are equal. Where they have one length, each byte of both is looked at.
+pub fn are_equal(a: &[u8], b: &[u8]) -> bool
     ensures { result ≡ bytes_eq a.now b.now }
 {
     if a.len() != b.len() {

@@ -1,0 +1,3 @@
+mod Lengths
+mod Marks
+mod Utf8

@@ -1,0 +1,4 @@
+pub mod Codes
+pub mod Requests
+pub mod Texts
+pub mod Verifying

@@ -1,0 +1,91 @@
+-- The texts of argon2.h's library: what they say, and the one spelling of each.
+use Rattle.std.specs.Prelude.{ℕ, ◌<◌, ◌^◌, ◌==◌, nat_le, nat_lt, ◌&&◌, ℤ, length, if◌then◌else◌, List, ◌∷◌, ◌++◌, codes, Option, Some, None, IfSome}
+use Rattle.std.specs.Fmt.{decimal}
+use Rattle.argon2_base.specs.Base64.{IsBytes, strict_base64}
+use Rattle.argon2_c.specs.Codes.{encoding_fail, ok}
+use Rattle.argon2_c.specs.declared.decode.Decoded.{Decoded}
+use Rattle.argon2_c.specs.declared.decode.Parts.{Parts}
+
+-- what a text says beside the name
+pub record Said : Type 0 where
+  pub version : Option ℕ
+  pub m_cost : ℕ
+  pub t_cost : ℕ
+  pub lanes : ℕ
+  pub salt : List ℕ
+  pub tag : List ℕ
+
+-- numbers of 32 bits, and bytes
+pub record IsSaid (v : Said) : Type 0 where
+  pub small_version : IfSome v.version (λ n. n < 2 ^ 32)
+  pub small_m_cost : v.m_cost < 2 ^ 32
+  pub small_t_cost : v.t_cost < 2 ^ 32
+  pub small_lanes : v.lanes < 2 ^ 32
+  pub salt_bytes : IsBytes v.salt
+  pub tag_bytes : IsBytes v.tag
+
+-- a value with a version
+abbrev pub said_with : ℕ → ℕ → ℕ → ℕ → List ℕ → List ℕ → Said
+said_with version m t p salt tag = record {
+  version = Some version;
+  m_cost = m;
+  t_cost = t;
+  lanes = p;
+  salt = salt;
+  tag = tag;
+}
+
+-- the name of the variant of a number up to 2
+abbrev pub name_numbered : ℕ → List ℕ
+name_numbered number = if number == 0 then codes "argon2d"
+    else if number == 1 then codes "argon2i" else codes "argon2id"
+
+-- the version, where there is one, and what follows
+abbrev pub version_part : Option ℕ → List ℕ → List ℕ
+version_part None more = more
+version_part (Some n) more = codes "v=" ++ (decimal n ++ 36 ∷ more)
+
+-- the costs, and what follows
+abbrev pub costs_part : ℕ → ℕ → ℕ → List ℕ → List ℕ
+costs_part m t p more =
+    codes "m=" ++ (decimal m ++ (codes ",t=" ++ (decimal t ++ (codes ",p=" ++ (decimal p ++ 36 ∷ more)))))
+
+-- `$NAME$v=V$m=M,t=T,p=P$SALT$TAG`, with salt and tag as they stand here
+abbrev pub joined : List ℕ → Said → List ℕ
+joined name v =
+    36 ∷ (name ++ 36 ∷ version_part v.version
+    (costs_part v.m_cost v.t_cost v.lanes (v.salt ++ 36 ∷ v.tag)))
+
+-- with salt and tag in Base64
+abbrev pub written : Said → Said
+written v = record v { salt = strict_base64 v.salt; tag = strict_base64 v.tag }
+
+-- the text of a value
+abbrev pub spelling : List ℕ → Said → List ℕ
+spelling name v = joined name (written v)
+
+-- the code of writing a text into so much room, memory aside: a zero byte has to fit too
+abbrev pub encode_code : ℕ → List ℕ → ℕ → ℤ
+encode_code algorithm text room = if nat_le algorithm 2 && nat_lt (length text) room then ok else encoding_fail
+
+-- what the code has read
+abbrev pub said : Decoded → Said
+said d = record {
+  version = d.version;
+  m_cost = d.m_cost;
+  t_cost = d.t_cost;
+  lanes = d.lanes;
+  salt = d.salt.items;
+  tag = d.tag.items;
+}
+
+-- the same before Base64 is read
+abbrev pub parts_of : Parts → Said
+parts_of p = record {
+  version = p.version;
+  m_cost = p.m_cost;
+  t_cost = p.t_cost;
+  lanes = p.lanes;
+  salt = p.salt.now;
+  tag = p.tag.now;
+}

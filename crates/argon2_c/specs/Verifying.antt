@@ -1,0 +1,56 @@
+-- What verifying a text answers.
+use Rattle.std.specs.Prelude.{◌≡◌, ℕ, ◌||◌, nat_lt, not, Bool, false, ℤ, Option, if◌then◌else◌, List, [], ◌∷◌, length, unwrap_or}
+use Rattle.std.specs.Str.{bytes_eq}
+use Rattle.argon2.specs.Refusals.{first_of}
+use Rattle.argon2.specs.Tag.{tag_of}
+use Rattle.argon2_c.specs.Codes.{ok, pwd_too_long, decoding_fail, incorrect_type, verify_mismatch}
+use Rattle.argon2_c.specs.Requests.{asked, request_faults}
+use Rattle.argon2_c.specs.Texts.{Said, IsSaid, name_numbered, spelling}
+use Rattle.argon2_c.specs.declared.request.Request.{Request}
+
+-- why a call is refused before the text is read; absent are the bytes of a password whose pointer is null
+abbrev pub call_refusal : ℕ → Bool → ℕ → ℕ → ℕ → Option ℤ
+call_refusal algorithm has_text text password absent = first_of (
+    (nat_lt 4294967295 password || nat_lt 4294967295 absent, pwd_too_long)
+    ∷ (not has_text, decoding_fail)
+    ∷ (nat_lt 4294967295 text, decoding_fail)
+    ∷ (nat_lt 2 algorithm, incorrect_type)
+    ∷ [])
+
+-- the request that a text stands for: version 16 where it has none, as many threads as lanes
+abbrev pub shown_request : ℕ → ℕ → Said → Request
+shown_request algorithm absent v = record {
+  algorithm = algorithm;
+  version = unwrap_or v.version 16;
+  m_cost = v.m_cost;
+  t_cost = v.t_cost;
+  lanes = v.lanes;
+  threads = v.lanes;
+  lacks_output = false;
+  lacks_pwd = nat_lt 0 absent;
+  lacks_salt = false;
+  lacks_secret = false;
+  lacks_associated = false;
+  has_allocate = false;
+  has_free = false;
+}
+
+-- the faults of that request
+abbrev pub shown_faults : ℕ → ℕ → ℕ → Said → List (Bool × ℤ)
+shown_faults algorithm password absent v =
+    request_faults (shown_request algorithm absent v) (length v.tag) password (length v.salt) 0 0
+
+-- the tag that the password has under what a text says
+abbrev pub shown_tag : ℕ → List ℕ → ℕ → Said → List ℕ
+shown_tag algorithm password absent v =
+    tag_of (asked (shown_request algorithm absent v) [] []) password v.salt (length v.tag)
+
+-- the code of the first fault, or whether the password has the hash
+abbrev pub verify_code : ℕ → List ℕ → ℕ → Said → ℤ
+verify_code algorithm password absent v =
+    unwrap_or (first_of (shown_faults algorithm (length password) absent v))
+    (if bytes_eq v.tag (shown_tag algorithm password absent v) then ok else verify_mismatch)
+
+-- the text is this variant's, and says this
+abbrev pub Says : ℕ → List ℕ → Said → Type 0
+Says algorithm text v = IsSaid v × (text ≡ spelling (name_numbered algorithm) v)

@@ -1,0 +1,112 @@
+//! Hashing, and comparing what was hashed.
+
+ghost use Rattle.std.specs.Prelude.{◌≡◌, ◌≢◌, ◌≤◌, ◌⊎◌, None, length, if◌then◌else◌};
+ghost use Rattle.std.specs.Str.{bytes_eq};
+ghost use Rattle.argon2.specs.Algorithm.{algorithm_number};
+ghost use Rattle.argon2.specs.Argon2.{context_of, own_parameters};
+ghost use Rattle.argon2.specs.Refusals.{first_of};
+ghost use Rattle.argon2.specs.Tag.{tag_of};
+ghost use Rattle.argon2.specs.Version.{version_number};
+ghost use Rattle.argon2_c.specs.Codes.{IsAnswer, ok, verify_mismatch};
+ghost use Rattle.argon2_c.specs.Requests.{IsFaultless, asked, request_faults};
+
+use crate::code::{MEMORY_ALLOCATION_ERROR, OK, VERIFY_MISMATCH};
+use crate::request::{Request, refusal};
+use argon2::{Algorithm, Argon2, AssociatedData, ParamsBuilder, Version};
+use argon2_base::phc::are_equal;
+use std::alloc::Global;
+
+/// Hashes on memory of its own.
+pub fn hash(
+    alloc: Global,
+    request: &Request,
+    pwd: &[u8],
+    salt: &[u8],
+    secret: &[u8],
+    associated: &[u8],
+    out: &mut [u8],
+) -> i32
+    ensures answer { IsAnswer (first_of (request_faults request.now (length out.old)
+        (length pwd.now) (length salt.now) (length secret.now) (length associated.now))) ok result }
+    ensures tag { result ≡ ok → out.new
+        ≡ tag_of (asked request.now secret.now associated.now) pwd.now salt.now (length out.old) }
+    ensures same { result ≢ ok → out.new ≡ out.old }
+{
+    let refusal = refusal(
+        request,
+        out.len(),
+        pwd.len(),
+        salt.len(),
+        secret.len(),
+        associated.len(),
+    );
+    if let Some(code) = refusal {
+        return code;
+    }
+    let argon2 = hashing(
+        request,
+        secret,
+        associated,
+        out.len(),
+        pwd.len(),
+        salt.len(),
+    );
+    match argon2.hash_password_into(alloc, pwd, salt, out) {
+        Ok(()) => OK,
+        Err(_) => MEMORY_ALLOCATION_ERROR,
+    }
+}
+
+// Hashing as asked for, where nothing is refused.
+fn hashing<'key>(
+    request: &Request,
+    secret: &'key [u8],
+    associated: &[u8],
+    output: usize,
+    pwd: usize,
+    salt: usize,
+) -> Argon2<'key>
+    requires { IsFaultless request.now output pwd salt (length secret.now) (length associated.now) }
+    ensures context { context_of result ≡ asked request.now secret.now associated.now }
+    ensures any_length { (own_parameters result).output_len ≡ None }
+{
+    let mut builder = ParamsBuilder::new();
+    builder.m_cost(request.m_cost);
+    builder.t_cost(request.t_cost);
+    builder.p_cost(request.lanes);
+    builder.data(AssociatedData::new(associated).unwrap());
+    let params = builder.build().unwrap();
+    let version = version(request.version);
+    Argon2::new_with_secret(secret, variant(request.algorithm), version, params).unwrap()
+}
+
+/// The variant of a number.
+pub fn variant(number: u32) -> Algorithm
+    requires { number ≤ 2 }
+    ensures { algorithm_number result ≡ number }
+{
+    match number {
+        0 => Algorithm::Argon2d,
+        1 => Algorithm::Argon2i,
+        _ => Algorithm::Argon2id,
+    }
+}
+
+// The version of a number.
+fn version(number: u32) -> Version
+    requires { (number ≡ 16) ⊎ (number ≡ 19) }
+    ensures { version_number result ≡ number }
+{
+    if number == 16 {
+        Version::V0x10
+    } else {
+        Version::V0x13
+    }
+}
+
+/// Whether two slices are equal. Where they have one length, each byte of both is looked at.
+pub fn compare(a: &[u8], b: &[u8]) -> i32
+    ensures { result ≡ (if bytes_eq a.now b.now then ok else verify_mismatch) }
+{
+    if are_equal(a, b) { OK } else { VERIFY_MISMATCH }
+}
