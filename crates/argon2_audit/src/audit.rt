@@ -1,0 +1,59 @@
+//! What is known of the lines so far.
+
+use crate::finding::Finding;
+use crate::policy::Policy;
+use crate::seen::Seen;
+use crate::tally::{Marks, Tally};
+use std::alloc::{AllocError, Global};
+
+/// The counts under a policy, and what texts there were.
+#[derive(Drop)]
+pub struct Audit {
+    pub policy: Policy,
+    pub tally: Tally,
+    pub seen: Seen,
+}
+
+impl Audit {
+    ghost use Rattle.std.specs.Prelude.{◌≡◌, ◌<◌, ◌^◌, ◌-◌, IfOk, OnErr};
+    ghost use Rattle.argon2_audit.specs.Finding.{class_of, has_short_salt};
+    ghost use Rattle.argon2_audit.specs.Tally.{Counts};
+
+    /// An audit of no lines.
+    pub fn new(alloc: Global, policy: Policy) -> Audit
+        ensures policy { result.policy ≡ policy }
+        ensures tally { result.tally.lines ≡ 0 }
+    {
+        Audit {
+            policy,
+            tally: Tally::EMPTY,
+            seen: Seen::new(alloc),
+        }
+    }
+
+    /// Counts a line that comes to this, and returns what it is counted as.
+    ///
+    /// # Errors
+    /// Memory may be refused, and the line is not counted then.
+    pub fn add(&mut self, finding: &Finding) -> Result<Marks, AllocError>
+        requires { self.old.tally.lines < 2 ^ 64 - 1 }
+        ensures policy { self.new.policy ≡ self.old.policy }
+        ensures counts { IfOk result (λ marks. Counts marks self.old.tally self.new.tally) }
+        ensures class { IfOk result (λ marks. marks.class ≡ class_of self.old.policy finding.now) }
+        ensures short { IfOk result
+            (λ marks. marks.short_salt ≡ has_short_salt self.old.policy finding.now) }
+        ensures refused { OnErr result (self.new.tally ≡ self.old.tally) }
+    {
+        let mut marks = Marks {
+            class: finding.class(&self.policy),
+            short_salt: false,
+            equal_salt: false,
+        };
+        if let Finding::Shown(entry) = finding {
+            marks.short_salt = self.policy.shortfalls(entry).salt;
+            marks.equal_salt = self.seen.add(entry)?;
+        }
+        self.tally.add(marks);
+        Ok(marks)
+    }
+}

@@ -1,0 +1,49 @@
+//! What texts there were so far.
+
+ghost use Rattle.std.specs.Prelude.{◌≡◌};
+
+use crate::entry::{Entry, Kind};
+use argon2::phc::Salt;
+use arrayvec::ArrayVec;
+use std::alloc::{AllocError, Global};
+use std::collections::{BTreeMap, BTreeSet};
+
+/// How many texts there were of each kind, and their salts. Its memory grows by a salt a text.
+#[derive(Drop)]
+pub struct Seen {
+    pub kinds: BTreeMap<Kind, u64>,
+    salts: BTreeSet<ArrayVec<u8, 48>>,
+}
+
+impl Seen {
+    /// No texts.
+    pub fn new(alloc: Global) -> Seen {
+        Seen {
+            kinds: BTreeMap::new(alloc),
+            salts: BTreeSet::new(alloc),
+        }
+    }
+
+    /// Counts a text, and returns whether its salt was there before.
+    ///
+    /// # Errors
+    /// Memory may be refused. The salt may be kept then, and the text is not counted.
+    pub fn add(&mut self, entry: &Entry) -> Result<bool, AllocError> {
+        let is_equal = match &entry.salt {
+            Some(salt) => !self.salts.insert(key(salt))?,
+            None => false,
+        };
+        let count = self.kinds.entry(entry.kind)?.or_insert(0);
+        *count = count.saturating_add(1);
+        Ok(is_equal)
+    }
+}
+
+// The bytes of a salt.
+fn key(salt: &Salt) -> ArrayVec<u8, 48>
+    ensures { result.items ≡ salt.now }
+{
+    let mut key = ArrayVec::new();
+    let _fits = key.try_extend_from_slice(salt.as_bytes());
+    key
+}
