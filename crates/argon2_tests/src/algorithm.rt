@@ -1,26 +1,53 @@
 use argon2::Algorithm;
 use argon2_base::error::{Error, password_hash};
 use argon2_base::phc::Ident;
-use std::test::Fail;
+use std::alloc::Global;
+
+const NAMES: [(Algorithm, &str); 3] = [
+    (Algorithm::Argon2d, "argon2d"),
+    (Algorithm::Argon2i, "argon2i"),
+    (Algorithm::Argon2id, "argon2id"),
+];
+
+// Whether the name is read as the algorithm by each call.
+fn is_read(algorithm: Algorithm, name: &str) -> bool {
+    Algorithm::new(name) == Ok(algorithm)
+        && name.parse() == Ok(algorithm)
+        && Algorithm::try_from(name) == Ok(algorithm)
+}
+
+// Whether the algorithm has the name by each call that takes no memory.
+fn is_named(algorithm: Algorithm, name: &str) -> bool {
+    algorithm.as_str() == name
+        && algorithm.ident().as_str() == name
+        && Ident::from(algorithm).as_str() == name
+}
+
+// Whether the algorithm prints as the name.
+fn is_printed(alloc: Global, algorithm: Algorithm, name: &str) -> bool {
+    match algorithm.to_string(alloc) {
+        Ok(text) => text.as_str() == name,
+        Err(_) => false,
+    }
+}
 
 #[test]
-fn names_go_both_ways(rt: HostRuntime) -> Result<(), Fail> {
-    for (algorithm, name) in [
-        (Algorithm::Argon2d, "argon2d"),
-        (Algorithm::Argon2i, "argon2i"),
-        (Algorithm::Argon2id, "argon2id"),
-    ] {
-        assert_eq!(rt; Algorithm::new(name)?, algorithm);
-        assert_eq!(rt; name.parse::<Algorithm>()?, algorithm);
-        assert_eq!(rt; algorithm.as_str(), name);
-        assert_eq!(rt; algorithm.ident().as_str(), name);
-        assert_eq!(rt; Algorithm::try_from(name)?, algorithm);
-        assert_eq!(rt; Ident::from(algorithm).as_str(), name);
-        assert_eq!(rt; algorithm.to_string(rt.alloc())?.as_str(), name);
+fn names_go_both_ways(rt: HostRuntime) {
+    for (algorithm, name) in NAMES {
+        assert!(rt; is_read(algorithm, name), "{name}");
+        assert!(rt; is_named(algorithm, name), "{name}");
+        assert!(rt; is_printed(rt.alloc(), algorithm, name), "{name}");
     }
-    assert_eq!(rt; Algorithm::new("argon2"), Err(Error::AlgorithmInvalid));
+}
+
+#[test]
+fn refuses_another_name(rt: HostRuntime) {
+    assert!(rt; Algorithm::new("argon2") == Err(Error::AlgorithmInvalid));
     assert!(rt; Algorithm::try_from("argon2") == Err(password_hash::Error::Algorithm));
-    assert_eq!(rt; Algorithm::default(), Algorithm::Argon2id);
+}
+
+#[test]
+fn is_argon2id_by_default(rt: HostRuntime) {
+    assert!(rt; Algorithm::default() == Algorithm::Argon2id);
     assert!(rt; Algorithm::Argon2d < Algorithm::Argon2i);
-    Ok(())
 }

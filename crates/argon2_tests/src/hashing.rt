@@ -75,26 +75,30 @@ fn known_with(
     Argon2::new_with_secret(&SECRET, algorithm, version, builder.build()?)
 }
 
+// The tag of 32 bytes of the known inputs.
+fn known_tag(argon2: &Argon2<'_>, memory: &mut [Block]) -> argon2::Result<[u64; 4]> {
+    let mut tag = [0; 32];
+    argon2.hash_password_into_with_memory(&PWD, &SALT, &mut tag, memory)?;
+    Ok(words(&tag))
+}
+
+// The tag of 32 bytes of `password` and `somesalt`.
+fn password_tag(argon2: &Argon2<'_>, memory: &mut [Block]) -> argon2::Result<[u64; 4]> {
+    let mut tag = [0; 32];
+    argon2.hash_password_into_with_memory(b"password", b"somesalt", &mut tag, memory)?;
+    Ok(words(&tag))
+}
+
 #[test]
 fn is_argon2id_by_default(rt: HostRuntime) -> Result<(), Fail> {
-    assert_eq!(rt; Argon2::default().params(), &Params::DEFAULT);
+    assert!(rt; Argon2::default().params() == &Params::DEFAULT);
     let params = Params::new(256, 2, 1, Some(32))?;
-    let mut memory = Vec::from_elem(rt.alloc(), Block::new(), 256)?;
-    for argon2 in [
-        Argon2::from(params),
-        Argon2::from(&params),
-        Argon2::new(Algorithm::Argon2id, Version::V0x13, params),
-    ] {
-        let mut tag = [0; 32];
-        argon2
-            .clone()?
-            .hash_password_into_with_memory(
-                b"password",
-                b"somesalt",
-                &mut tag,
-                memory.as_mut_slice(),
-            )?;
-        assert_eq!(rt; words(&tag), PASSWORD_TAGS[4].tag);
-    }
+    let argon2 = Argon2::new(Algorithm::Argon2id, Version::V0x13, params);
+    let wanted = Ok(PASSWORD_TAGS[4].tag);
+    let mut memory = [Block::new(); 256];
+    assert!(rt; password_tag(&argon2, &mut memory) == wanted);
+    assert!(rt; password_tag(&argon2.clone()?, &mut memory) == wanted);
+    assert!(rt; password_tag(&Argon2::from(params), &mut memory) == wanted);
+    assert!(rt; password_tag(&Argon2::from(&params), &mut memory) == wanted);
     Ok(())
 }

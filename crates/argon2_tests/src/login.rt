@@ -1,6 +1,9 @@
+ghost use Rattle.std.specs.Prelude.{◌<◌};
+
 use argon2::login::{Accepted, Login, LoginError};
 use argon2::password_hash::{Error, PasswordHasher};
 use argon2::{Algorithm, Argon2, AssociatedData, Params, ParamsBuilder, PasswordHash, Version};
+use std::alloc::Global;
 use std::test::Fail;
 
 mod drawn;
@@ -44,79 +47,85 @@ const NEW: &str = "$argon2id$v=19$m=32,t=3,p=4,data=BAQEBAQEBAQEBAQE$AgICAgICAgI
 const WITH_KEY_IDENTIFIER: &str = "$argon2id$v=19$m=32,t=3,p=4,keyid=8PDw8A,data=BAQEBAQEBAQEBAQE\
     $AgICAgICAgICAgICAgICAg$DWQN9Y14dmwIwDejSotTydAe8EUtdbZetSUg6WsB5lk";
 
+// A store with one name and its text.
+fn store(alloc: Global, name: &str, text: &str) -> Result<Login<'static>, Fail> {
+    let mut login = Login::new(alloc, target(None)?)?;
+    match login.add(name, text) {
+        Ok(()) => Ok(login),
+        Err(_) => Err("the text was not added".into()),
+    }
+}
+
+// Whether the name has this text.
+fn has(login: &Login<'_>, name: &str, text: &str) -> bool {
+    match PasswordHash::new(text) {
+        Ok(hash) => login.text_of(name) == Some(&hash),
+        Err(_) => false,
+    }
+}
+
 #[test]
 fn refuses_and_leaves_the_text(rt: HostRuntime) -> Result<(), Fail> {
     let mut rng = Drawn(0);
-    let mut login = Login::new(rt.alloc(), target(None)?)?;
-    assert_eq!(rt; login.add("ann", OLD), Ok(()));
-    assert_eq!(rt; login.add("ann", NEW), Err(LoginError::NameTaken));
-    assert_eq!(rt; login.add("ann", "x"), Err(LoginError::Text));
-    assert_eq!(rt;
-        login.login(&mut rng, "bob", &PWD),
-        Err(LoginError::NameUnknown)
-    );
+    let mut login = store(rt.alloc(), "ann", OLD)?;
+    assert!(rt; login.add("ann", NEW) == Err(LoginError::NameTaken));
+    assert!(rt; login.add("ann", "x") == Err(LoginError::Text));
+    assert!(rt; login.login(&mut rng, "bob", &PWD) == Err(LoginError::NameUnknown));
     let refused = Err(LoginError::Refused(Error::PasswordInvalid));
-    assert_eq!(rt; login.login(&mut rng, "ann", b"password"), refused);
-    assert_eq!(rt; login.text_of("ann"), Some(&PasswordHash::new(OLD)?));
-    assert_eq!(rt; rng.0, 0);
+    assert!(rt; login.login(&mut rng, "ann", b"password") == refused);
+    assert!(rt; has(&login, "ann", OLD));
+    assert!(rt; rng.0 == 0);
     Ok(())
+}
+
+// Whether a login does this and draws so many words, after which the name has the target's text.
+fn renews(login: &mut Login<'_>, name: &str, did: Accepted, words: u32) -> bool {
+    let mut rng = Drawn(0);
+    login.login(&mut rng, name, &PWD) == Ok(did) && rng.0 == words && has(login, name, NEW)
 }
 
 // Texts of one password: each is renewed at the first login, and then stays.
 #[test]
 fn renews_old_texts_once(rt: HostRuntime) -> Result<(), Fail> {
-    let mut rng = Drawn(0);
-    let mut login = Login::new(rt.alloc(), target(None)?)?;
-    for (name, text, drawn) in [
-        ("kim", WITH_KEY_IDENTIFIER, 4),
-        ("eve", OLDEST, 8),
-        ("ann", OLD, 12),
-    ] {
-        assert_eq!(rt; login.add(name, text), Ok(()), "{name}");
-        assert_eq!(rt;
-            login.text_of(name),
-            Some(&PasswordHash::new(text)?),
-            "{name}"
-        );
-        for did in [Accepted::Rehashed, Accepted::Current] {
-            assert_eq!(rt; login.login(&mut rng, name, &PWD), Ok(did), "{name}");
-            assert_eq!(rt;
-                login.text_of(name),
-                Some(&PasswordHash::new(NEW)?),
-                "{name}"
-            );
-            assert_eq!(rt; rng.0, drawn, "{name}");
-        }
+    for text in [WITH_KEY_IDENTIFIER, OLDEST, OLD] {
+        let mut login = store(rt.alloc(), "ann", text)?;
+        assert!(rt; has(&login, "ann", text), "{text}");
+        assert!(rt; renews(&mut login, "ann", Accepted::Rehashed, 4), "{text}");
+        assert!(rt; renews(&mut login, "ann", Accepted::Current, 0), "{text}");
     }
     Ok(())
+}
+
+// Whether these are a name and its text.
+fn is_entry(entry: Option<(&String, &PasswordHash)>, name: &str, text: &str) -> bool {
+    match (entry, PasswordHash::new(text)) {
+        (Some((found, hash)), Ok(wanted)) => found.as_str() == name && hash == &wanted,
+        _ => false,
+    }
 }
 
 #[test]
 fn tells_its_texts_in_order(rt: HostRuntime) -> Result<(), Fail> {
-    let mut login = Login::new(rt.alloc(), target(None)?)?;
-    for (name, text) in [("kim", NEW), ("ann", OLD), ("kimi", OLDEST)] {
-        assert_eq!(rt; login.add(name, text), Ok(()));
-    }
+    let mut login = store(rt.alloc(), "kim", NEW)?;
+    assert!(rt; login.add("ann", OLD) == Ok(()));
+    assert!(rt; login.add("kimi", OLDEST) == Ok(()));
     let mut texts = login.texts();
-    for (name, text) in [("ann", OLD), ("kim", NEW), ("kimi", OLDEST)] {
-        let Some((found, hash)) = texts.next() else {
-            return Err(Fail::from("too few texts"));
-        };
-        assert_eq!(rt; found.as_str(), name);
-        assert_eq!(rt; hash, &PasswordHash::new(text)?);
-    }
+    assert!(rt; is_entry(texts.next(), "ann", OLD));
+    assert!(rt; is_entry(texts.next(), "kim", NEW));
+    assert!(rt; is_entry(texts.next(), "kimi", OLDEST));
     assert!(rt; texts.next().is_none());
     Ok(())
 }
 
+// The fault of a target with this output length.
+fn fault_of(alloc: Global, len: usize) -> Result<Option<Error>, Fail> {
+    Ok(Login::new(alloc, target(Some(len))?).err())
+}
+
 #[test]
 fn takes_no_target_with_long_outputs(rt: HostRuntime) -> Result<(), Fail> {
-    for (len, fits) in [(64, true), (65, false)] {
-        match Login::new(rt.alloc(), target(Some(len))?) {
-            Ok(_) => assert!(rt; fits, "{len}"),
-            Err(e) => assert_eq!(rt; (e, fits), (Error::OutputSize, false), "{len}"),
-        }
-    }
+    assert!(rt; fault_of(rt.alloc(), 64)? == None);
+    assert!(rt; fault_of(rt.alloc(), 65)? == Some(Error::OutputSize));
     Ok(())
 }
 
@@ -127,82 +136,140 @@ const NAMES: [&str; 20] = [
 
 const PASSWORDS: [&[u8]; 3] = [b"", b"one", b"other"];
 
-// What is known of a name with a text: which password its text accepts, and whether the text is one
-// of the target's.
+// What is known of a name with a text: which password its text accepts, and whether the text is one of the target's.
 type Known = Option<(usize, bool)>;
 
-// What a login with this password answers.
-fn answer(known: Known, password: usize) -> Result<Accepted, LoginError> {
-    match known {
-        None => Err(LoginError::NameUnknown),
-        Some((own, _)) if own != password => Err(LoginError::Refused(Error::PasswordInvalid)),
-        Some((_, true)) => Ok(Accepted::Current),
-        Some((_, false)) => Ok(Accepted::Rehashed),
+// A call of the store: a name, a password, and to add a text of the password, of the target's or an old one, or to log
+// in.
+#[derive(Clone, Copy)]
+struct Call {
+    name: usize,
+    password: usize,
+    adds: Option<bool>,
+}
+
+// The call that a number stands for.
+fn call_of(number: u32) -> Call
+    ensures { (result.name < 20) × (result.password < 3) }
+{
+    let pick = (number >> 8) as usize;
+    let is_new = pick / 60 % 2 == 0;
+    Call {
+        name: pick % 20,
+        password: pick / 20 % 3,
+        adds: if pick / 120 % 4 == 0 {
+            Some(is_new)
+        } else {
+            None
+        },
     }
 }
 
-// The text, out of three old ones and three of the target's, one for each password.
-fn text(hashes: &[PasswordHash], known: Known) -> Option<&PasswordHash> {
-    match known {
-        None => None,
-        Some((password, false)) => hashes.get(password % 3),
-        Some((password, true)) => hashes.get(password % 3 + 3),
+// What a call answers.
+type Answer = Result<Option<Accepted>, LoginError>;
+
+// What the call answers by the model, and what is known of the name then.
+fn modelled(known: Known, call: &Call) -> (Answer, Known) {
+    match (call.adds, known) {
+        (Some(is_new), None) => (Ok(None), Some((call.password, is_new))),
+        (Some(_), Some(_)) => (Err(LoginError::NameTaken), known),
+        (None, None) => (Err(LoginError::NameUnknown), known),
+        (None, Some((own, _))) if own != call.password => {
+            (Err(LoginError::Refused(Error::PasswordInvalid)), known)
+        }
+        (None, Some((_, true))) => (Ok(Some(Accepted::Current)), known),
+        (None, Some((own, false))) => (Ok(Some(Accepted::Rehashed)), Some((own, true))),
     }
+}
+
+// The text of a password, an old one or the target's: there are three of each.
+fn text_of(hashes: &[PasswordHash], password: usize, is_new: bool) -> Option<&PasswordHash> {
+    hashes.get(if is_new {
+        password % 3 + 3
+    } else {
+        password % 3
+    })
+}
+
+// What the store answers to the call.
+fn answer_of(
+    alloc: Global,
+    login: &mut Login<'_>,
+    rng: &mut Drawn,
+    hashes: &[PasswordHash],
+    call: &Call,
+) -> Result<Answer, Fail> {
+    let name = NAMES[call.name % 20];
+    let Some(is_new) = call.adds else {
+        return Ok(
+            login
+                .login(rng, name, PASSWORDS[call.password % 3])
+                .map(Some),
+        );
+    };
+    let Some(hash) = text_of(hashes, call.password, is_new) else {
+        return Err(Fail::from("no such text"));
+    };
+    let text = hash.to_string(alloc)?;
+    Ok(login.add(name, text.as_str()).map(|()| None))
+}
+
+// Whether the name has the text that is known.
+fn has_known(login: &Login<'_>, hashes: &[PasswordHash], name: usize, known: Known) -> bool {
+    let wanted = match known {
+        Some((password, is_new)) => text_of(hashes, password, is_new),
+        None => None,
+    };
+    login.text_of(NAMES[name % 20]) == wanted
+}
+
+// Adds a hash of each password.
+fn push_hashes(
+    alloc: Global,
+    argon2: &Argon2<'_>,
+    hashes: &mut Vec<PasswordHash>,
+) -> Result<(), Fail> {
+    for password in PASSWORDS {
+        hashes.push(argon2.hash_password(alloc, &mut Drawn(0), password)?)?;
+    }
+    Ok(())
+}
+
+// Three old texts and three of the target's, one for each password.
+fn known_hashes(alloc: Global, target: &Argon2<'_>) -> Result<Vec<PasswordHash>, Fail> {
+    let old = Argon2::new(Algorithm::Argon2d, Version::V0x10, *target.params());
+    let mut hashes = Vec::new(alloc);
+    push_hashes(alloc, &old, &mut hashes)?;
+    push_hashes(alloc, target, &mut hashes)?;
+    Ok(hashes)
 }
 
 // The generator gives each text the same salt, so a password has just one text under the target.
 #[test]
 fn answers_as_a_plain_model_does(rt: HostRuntime) -> Result<(), Fail> {
-    let alloc = rt.alloc();
     let params = Params::new(8, 1, 1, None)?;
-    let old = Argon2::new(Algorithm::Argon2d, Version::V0x10, params);
     let target = Argon2::new(Algorithm::Argon2id, Version::V0x13, params);
-    let mut rng = Drawn(0);
-    let mut hashes = Vec::new(alloc);
-    for password in PASSWORDS {
-        hashes.push(old.hash_password(alloc, &mut rng, password)?)?;
-    }
-    for password in PASSWORDS {
-        hashes.push(target.hash_password(alloc, &mut rng, password)?)?;
-    }
-    let mut login = Login::new(alloc, target)?;
+    let hashes = known_hashes(rt.alloc(), &target)?;
+    let mut login = Login::new(rt.alloc(), target)?;
     let mut model: [Known; 20] = [None; 20];
-    let mut drawn = rng.0;
     let mut state = 1u32;
     for turn in 0..2000 {
         state = state.wrapping_mul(1664525).wrapping_add(1013904223);
-        let pick = (state >> 8) as usize;
-        let (name, password, is_new) = (pick % 20, pick / 20 % 3, pick / 60 % 2 == 0);
-        let known = model[name];
-        if pick / 120 % 4 == 0 {
-            let added = Some((password, is_new));
-            let Some(hash) = text(hashes.as_slice(), added) else {
-                return Err(Fail::from("no such text"));
-            };
-            let hash = hash.to_string(alloc)?;
-            let answer = login.add(NAMES[name], hash.as_str());
-            if known.is_some() {
-                assert_eq!(rt; answer, Err(LoginError::NameTaken), "{turn}");
-            } else {
-                assert_eq!(rt; answer, Ok(()), "{turn}");
-                model[name] = added;
-            }
+        let call = call_of(state);
+        let (wanted, known) = modelled(model[call.name], &call);
+        model[call.name] = known;
+        let mut rng = Drawn(0);
+        let told = answer_of(rt.alloc(), &mut login, &mut rng, &hashes, &call)?;
+        let words = if wanted == Ok(Some(Accepted::Rehashed)) {
+            4
         } else {
-            let wanted = answer(known, password);
-            let answer = login.login(&mut rng, NAMES[name], PASSWORDS[password]);
-            assert_eq!(rt; answer, wanted, "{turn}");
-            if wanted == Ok(Accepted::Rehashed) {
-                model[name] = Some((password, true));
-                drawn = drawn.wrapping_add(4);
-            }
-        }
-        let wanted = text(hashes.as_slice(), model[name]);
-        assert_eq!(rt; login.text_of(NAMES[name]), wanted, "{turn}");
-        assert_eq!(rt; rng.0, drawn, "{turn}");
+            0
+        };
+        assert!(rt; told == wanted && rng.0 == words, "{turn}");
+        assert!(rt; has_known(&login, &hashes, call.name, known), "{turn}");
     }
-    for name in 0..20 {
-        let wanted = text(hashes.as_slice(), model[name]);
-        assert_eq!(rt; login.text_of(NAMES[name]), wanted);
+    for (name, &known) in model.iter().enumerate() {
+        assert!(rt; has_known(&login, &hashes, name, known), "{name}");
     }
     Ok(())
 }

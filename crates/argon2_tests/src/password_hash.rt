@@ -23,63 +23,108 @@ fn verify(alloc: Global, password: &str, text: &str) -> Result<()> {
 const TEXT: &str =
     "$argon2id$v=19$m=256,t=2,p=2$c29tZXNhbHQ$bQk8UB/VmZZF4Oo79iDXuL5/0ttZwg2f/5U52iv1cDc";
 
+// Whether a hash prints as this text.
+fn is_printed(alloc: Global, hash: &PasswordHash, text: &str) -> bool {
+    match hash.to_string(alloc) {
+        Ok(printed) => printed.as_str() == text,
+        Err(_) => false,
+    }
+}
+
 #[test]
 fn hashes_to_a_text(rt: HostRuntime) -> std::result::Result<(), Fail> {
-    let params = Params::new(256, 2, 2, None)?;
-    let context = Argon2::from(params);
+    let context = Argon2::from(Params::new(256, 2, 2, None)?);
     let hash = context.hash_password_with_salt(rt.alloc(), b"password", b"somesalt")?;
-    assert_eq!(rt; hash.to_string(rt.alloc())?.as_str(), TEXT);
-    context.verify_password(rt.alloc(), b"password", &hash)?;
-    context.verify_password(rt.alloc(), b"password", TEXT)?;
-    let other = Argon2::new(Algorithm::Argon2i, Version::V0x10, Params::DEFAULT);
-    let (password, salt) = (b"password", b"somesalt");
-    let hash = other.hash_password_customized(rt.alloc(), password, salt, None, None, params)?;
-    assert_eq!(rt; hash.to_string(rt.alloc())?.as_str(), TEXT);
+    assert!(rt; is_printed(rt.alloc(), &hash, TEXT));
+    assert!(rt; context.verify_password(rt.alloc(), b"password", &hash) == Ok(()));
+    assert!(rt; context.verify_password(rt.alloc(), b"password", TEXT) == Ok(()));
     Ok(())
 }
 
 #[test]
-fn hashes_to_a_text_with_all_parameters(rt: HostRuntime) -> std::result::Result<(), Fail> {
+fn hashes_to_a_text_under_other_parameters(rt: HostRuntime) -> std::result::Result<(), Fail> {
+    let params = Params::new(256, 2, 2, None)?;
+    let other = Argon2::new(Algorithm::Argon2i, Version::V0x10, Params::DEFAULT);
+    let (password, salt) = (b"password", b"somesalt");
+    let hash = other.hash_password_customized(rt.alloc(), password, salt, None, None, params)?;
+    assert!(rt; is_printed(rt.alloc(), &hash, TEXT));
+    Ok(())
+}
+
+fn all_parameters() -> argon2::Result<Params> {
     let mut builder = ParamsBuilder::new();
     builder.m_cost(32).t_cost(2).p_cost(3);
     builder.keyid(KeyId::new(&[0xf0; 4])?);
     builder.data(AssociatedData::new(&[0x0f; 6])?);
-    let params = builder.build()?;
-    let (password, salt) = (b"password", [0; 8]);
-    let context = Argon2::new(Algorithm::Argon2d, Version::V0x10, params);
-    let hash = context.hash_password_with_salt(rt.alloc(), password, &salt)?;
-    let text = "$argon2d$v=16$m=32,t=2,p=3,keyid=8PDw8A,data=Dw8PDw8P$AAAAAAAAAAA$\
-        KnH4gniiaFnDvlA1xev3yovC4cnrrI6tnHOYtmja90o";
-    assert_eq!(rt; hash.to_string(rt.alloc())?.as_str(), text);
-    let (name, number) = (Some("argon2d"), Some(16));
-    let hash = Argon2::default().hash_password_customized(
-        rt.alloc(),
-        password,
-        &salt,
-        name,
-        number,
-        params,
-    )?;
-    assert_eq!(rt; hash.to_string(rt.alloc())?.as_str(), text);
+    builder.build()
+}
+
+const TEXT_OF_ALL: &str = "$argon2d$v=16$m=32,t=2,p=3,keyid=8PDw8A,data=Dw8PDw8P$AAAAAAAAAAA$\
+    KnH4gniiaFnDvlA1xev3yovC4cnrrI6tnHOYtmja90o";
+
+#[test]
+fn hashes_to_a_text_with_all_parameters(rt: HostRuntime) -> std::result::Result<(), Fail> {
+    let context = Argon2::new(Algorithm::Argon2d, Version::V0x10, all_parameters()?);
+    let hash = context.hash_password_with_salt(rt.alloc(), b"password", &[0; 8])?;
+    assert!(rt; is_printed(rt.alloc(), &hash, TEXT_OF_ALL));
     Ok(())
 }
 
 #[test]
-fn draws_a_salt_also_for_a_refusal(rt: HostRuntime) -> std::result::Result<(), Fail> {
-    for (len, error) in [(32, None), (65, Some(Error::OutputSize))] {
-        let context = Argon2::from(Params::new(8, 1, 1, Some(len))?);
-        let mut rng = CountingRng::new();
-        match context.hash_password(rt.alloc(), &mut rng, b"password") {
-            Ok(hash) => {
-                let text = hash.to_string(rt.alloc())?;
-                assert!(rt; text.as_str().contains("$AAECAwQFBgcICQoLDA0ODw$"));
-                assert!(rt; error.is_none());
-            }
-            Err(e) => assert_eq!(rt; Some(e), error),
-        }
-        assert_eq!(rt; rng.next_u32(), 0x13121110);
-    }
+fn hashes_to_a_text_with_all_settings_asked_for(rt: HostRuntime) -> std::result::Result<(), Fail> {
+    let (name, number) = (Some("argon2d"), Some(16));
+    let hash = Argon2::default().hash_password_customized(
+        rt.alloc(),
+        b"password",
+        &[0; 8],
+        name,
+        number,
+        all_parameters()?,
+    )?;
+    assert!(rt; is_printed(rt.alloc(), &hash, TEXT_OF_ALL));
     Ok(())
+}
+
+// The fault of hashing to this many bytes with a drawn salt; where there is none, whether the text has the salt.
+fn drawn(
+    alloc: Global,
+    rng: &mut CountingRng,
+    len: usize,
+) -> std::result::Result<Result<bool>, Fail> {
+    let context = Argon2::from(Params::new(8, 1, 1, Some(len))?);
+    match context.hash_password(alloc, rng, b"password") {
+        Ok(hash) => {
+            let text = hash.to_string(alloc)?;
+            Ok(Ok(text.as_str().contains("$AAECAwQFBgcICQoLDA0ODw$")))
+        }
+        Err(error) => Ok(Err(error)),
+    }
+}
+
+#[test]
+fn draws_a_salt_also_for_a_refusal(rt: HostRuntime) -> std::result::Result<(), Fail> {
+    let mut rng = CountingRng::new();
+    assert!(rt; drawn(rt.alloc(), &mut rng, 32)? == Ok(true));
+    assert!(rt; rng.next_u32() == 0x13121110);
+    let mut rng = CountingRng::new();
+    assert!(rt; drawn(rt.alloc(), &mut rng, 65)? == Err(Error::OutputSize));
+    assert!(rt; rng.next_u32() == 0x13121110);
+    Ok(())
+}
+
+// What hashing under asked settings answers, but for the value.
+fn refusal(
+    alloc: Global,
+    salt: &str,
+    len: usize,
+    name: Option<&str>,
+    number: Option<u32>,
+) -> std::result::Result<Option<Error>, Fail> {
+    let params = Params::new(8, 1, 1, Some(len))?;
+    let argon2 = Argon2::default();
+    let (password, salt) = (b"hunter42", salt.as_bytes());
+    let answer = argon2.hash_password_customized(alloc, password, salt, name, number, params);
+    Ok(answer.err())
 }
 
 #[test]
@@ -97,35 +142,38 @@ fn refuses_to_hash(rt: HostRuntime) -> std::result::Result<(), Fail> {
         ),
         ("somesalt", 65, None, None, Error::OutputSize),
     ] {
-        let params = Params::new(8, 1, 1, Some(len))?;
-        let answer = Argon2::default().hash_password_customized(
-            rt.alloc(),
-            b"hunter42",
-            salt.as_bytes(),
-            name,
-            number,
-            params,
-        );
-        assert!(rt; answer == Err(error), "{salt}");
+        let answer = refusal(rt.alloc(), salt, len, name, number)?;
+        assert!(rt; answer == Some(error), "{salt}");
     }
+    Ok(())
+}
+
+fn of_16_bytes() -> argon2::Result<Params> {
+    Params::new(8, 1, 1, Some(16))
+}
+
+const REFUSED: Result<()> = Err(Error::PasswordInvalid);
+
+#[test]
+fn hashes_under_no_secret(rt: HostRuntime) -> std::result::Result<(), Fail> {
+    let params = of_16_bytes()?;
+    let plain = Argon2::new(Algorithm::Argon2id, Version::V0x13, params);
+    let secret = Argon2::new_with_secret(b"pepper", Algorithm::Argon2id, Version::V0x13, params)?;
+    let hash = plain.hash_password_with_salt(rt.alloc(), b"hunter42", b"example-salt")?;
+    assert!(rt; Argon2::default().verify_password(rt.alloc(), b"hunter42", &hash) == Ok(()));
+    assert!(rt; secret.verify_password(rt.alloc(), b"hunter42", &hash) == REFUSED);
     Ok(())
 }
 
 #[test]
 fn hashes_under_a_secret(rt: HostRuntime) -> std::result::Result<(), Fail> {
-    let params = Params::new(8, 1, 1, Some(16))?;
-    let (algorithm, version) = (Algorithm::Argon2id, Version::V0x13);
-    let plain = Argon2::new(algorithm, version, params);
-    let secret = Argon2::new_with_secret(b"pepper", algorithm, version, params)?;
-    let hash = plain.hash_password_with_salt(rt.alloc(), b"hunter42", b"example-salt")?;
-    Argon2::default().verify_password(rt.alloc(), b"hunter42", &hash)?;
-    let answer = secret.verify_password(rt.alloc(), b"hunter42", &hash);
-    assert_eq!(rt; answer, Err(Error::PasswordInvalid));
+    let params = of_16_bytes()?;
+    let plain = Argon2::new(Algorithm::Argon2id, Version::V0x13, params);
+    let secret = Argon2::new_with_secret(b"pepper", Algorithm::Argon2id, Version::V0x13, params)?;
     let (password, salt) = (b"hunter42", b"example-salt");
     let hash = secret.hash_password_customized(rt.alloc(), password, salt, None, None, params)?;
-    secret.verify_password(rt.alloc(), b"hunter42", &hash)?;
-    let answer = plain.verify_password(rt.alloc(), b"hunter42", &hash);
-    assert_eq!(rt; answer, Err(Error::PasswordInvalid));
+    assert!(rt; secret.verify_password(rt.alloc(), b"hunter42", &hash) == Ok(()));
+    assert!(rt; plain.verify_password(rt.alloc(), b"hunter42", &hash) == REFUSED);
     Ok(())
 }
 
@@ -145,35 +193,35 @@ const ACCEPTED: [Result<()>; 2] = [Ok(()), Err(Error::PasswordInvalid)];
 fn accepts_one_password_for_argon2id(rt: HostRuntime) {
     let text = "$argon2id$v=19$m=65536,t=2,p=1$c29tZXNhbHQ$\
         CTFhFdXPJO1aFaMaO6Mm5c8y7cJHAph8ArZWb2GRPPc";
-    assert_eq!(rt; answers(rt.alloc(), text), ACCEPTED);
+    assert!(rt; answers(rt.alloc(), text) == ACCEPTED);
 }
 
 #[test]
 fn accepts_one_password_for_argon2i(rt: HostRuntime) {
     let text = "$argon2i$v=19$m=65536,t=1,p=1$c29tZXNhbHQAAAAAAAAAAA$\
         +r0d29hqEB0yasKr55ZgICsQGSkl0v0kgwhd+U3wyRo";
-    assert_eq!(rt; answers(rt.alloc(), text), ACCEPTED);
+    assert!(rt; answers(rt.alloc(), text) == ACCEPTED);
 }
 
 #[test]
 fn accepts_one_password_for_argon2d(rt: HostRuntime) {
     let text = "$argon2d$v=19$m=65536,t=2,p=1$YzI5dFpYTmhiSFFBQUFBQUFBQUFBQQ$\
         Jxy74cswY2mq9y+u+iJcJy8EqOp4t/C7DWDzGwGB3IM";
-    assert_eq!(rt; answers(rt.alloc(), text), ACCEPTED);
+    assert!(rt; answers(rt.alloc(), text) == ACCEPTED);
 }
 
 #[test]
 fn accepts_one_password_with_a_key_identifier(rt: HostRuntime) {
     let text = "$argon2d$v=19$m=65536,t=2,p=1,keyid=8PDw8A$YzI5dFpYTmhiSFFBQUFBQUFBQUFBQQ$\
         Jxy74cswY2mq9y+u+iJcJy8EqOp4t/C7DWDzGwGB3IM";
-    assert_eq!(rt; answers(rt.alloc(), text), ACCEPTED);
+    assert!(rt; answers(rt.alloc(), text) == ACCEPTED);
 }
 
 #[test]
 fn accepts_one_password_with_data(rt: HostRuntime) {
     let text = "$argon2d$v=16$m=32,t=2,p=3,data=Dw8PDw8P$AAAAAAAAAAA$\
         KnH4gniiaFnDvlA1xev3yovC4cnrrI6tnHOYtmja90o";
-    assert_eq!(rt; answers(rt.alloc(), text), ACCEPTED);
+    assert!(rt; answers(rt.alloc(), text) == ACCEPTED);
 }
 
 #[test]
@@ -181,7 +229,7 @@ fn refuses_another_hash(rt: HostRuntime) {
     let text = "$argon2i$v=19$m=65536,t=2,p=1$c29tZXNhbHQ$\
         8iIuixkI73Js3G1uMbezQXD0b8LG4SXGsOwoQkdAQIM";
     let answer = verify(rt.alloc(), "password", text);
-    assert_eq!(rt; answer, Err(Error::PasswordInvalid));
+    assert!(rt; answer == Err(Error::PasswordInvalid));
 }
 
 // Without a version it is 0x10.
@@ -191,25 +239,25 @@ fn verifies_without_a_version(rt: HostRuntime) {
         "$argon2i$m=256,t=2,p=1$c29tZXNhbHQ$/U3YPXYsSb3q9XxHvc0MLxur+GP960kN9j7emXX8zwY",
         "$argon2i$p=2,m=256,t=2$c29tZXNhbHQ$tsEVYKap1h6scGt5ovl9aLRGOqOth+AMB+KwHpDFZPs",
     ] {
-        assert_eq!(rt; verify(rt.alloc(), "password", text), Ok(()), "{text}");
+        assert!(rt; verify(rt.alloc(), "password", text) == Ok(()), "{text}");
     }
 }
 
 #[test]
 fn verifies_64_mebibytes_without_a_version(rt: HostRuntime) {
     let text = "$argon2i$m=65536,t=2,p=1$c29tZXNhbHQ$9sTbSlTio3Biev89thdrlKKiCaYsjjYVJxGAL3swxpQ";
-    assert_eq!(rt; verify(rt.alloc(), "password", text), Ok(()));
+    assert!(rt; verify(rt.alloc(), "password", text) == Ok(()));
     let text = "$argon2i$m=65536,t=1,p=1$c29tZXNhbHQ$gWMFUrjzsfSM2xmSxMZ4ZD1JCytetP9sSzQ4tWIXJLI";
-    assert_eq!(rt; verify(rt.alloc(), "password", text), Ok(()));
+    assert!(rt; verify(rt.alloc(), "password", text) == Ok(()));
 }
 
 #[test]
 fn verifies_another_password_without_a_version(rt: HostRuntime) {
     let text = "$argon2i$m=65536,t=2,p=1$c29tZXNhbHQ$6ckCB0tnVFMaOgvlGeW69ASzDOabPwGsO/ISKZYBCaM";
-    assert_eq!(rt; verify(rt.alloc(), "differentpassword", text), Ok(()));
+    assert!(rt; verify(rt.alloc(), "differentpassword", text) == Ok(()));
     let text = "$argon2i$m=65536,t=2,p=1$c29tZXNhbHQ$b2G3seW+uPzerwQQC+/E1K50CLLO7YXy0JRcaTuswRo";
     let answer = verify(rt.alloc(), "password", text);
-    assert_eq!(rt; answer, Err(Error::PasswordInvalid));
+    assert!(rt; answer == Err(Error::PasswordInvalid));
 }
 
 fn invalid(name: &'static str) -> Error {
@@ -217,7 +265,7 @@ fn invalid(name: &'static str) -> Error {
 }
 
 #[test]
-fn refuses_to_verify(rt: HostRuntime) -> std::result::Result<(), Fail> {
+fn refuses_to_verify(rt: HostRuntime) {
     for (text, error) in [
         (
             "$argon2id$v=19$m=8,t=1,p=1$c29tZXNhbHQ",
@@ -280,9 +328,11 @@ fn refuses_to_verify(rt: HostRuntime) -> std::result::Result<(), Fail> {
         ),
         (LONGEST, Error::ParamsInvalid),
     ] {
-        assert_eq!(rt; verify(rt.alloc(), "password", text), Err(error), "{text}");
+        assert!(rt;
+            verify(rt.alloc(), "password", text) == Err(error),
+            "{text}"
+        );
     }
-    Ok(())
 }
 
 // The longest text of the grammar, 326 bytes.

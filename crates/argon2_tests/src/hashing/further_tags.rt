@@ -6,7 +6,6 @@ use std::test::Fail;
 
 // What a tag is made of, where a password has bytes 1, a salt 2, a secret 3 and associated data 4, and the BLAKE2b
 // digest of 8 bytes of the tag.
-#[derive(Debug)]
 struct Row {
     algorithm: Algorithm,
     version: Version,
@@ -149,9 +148,9 @@ fn tag_digest(row: &Row, memory: &mut [Block]) -> Result<u64> {
 #[test]
 fn hashes_under_small_odd_costs(rt: HostRuntime) -> std::result::Result<(), Fail> {
     let mut memory = Vec::from_elem(rt.alloc(), Block::new(), 1056)?;
-    for row in &ROWS {
-        let digest = tag_digest(row, memory.as_mut_slice())?;
-        assert_eq!(rt; digest, row.digest, "at {row:?}");
+    for (n, row) in ROWS.iter().enumerate() {
+        let digest = tag_digest(row, memory.as_mut_slice());
+        assert!(rt; digest == Ok(row.digest), "row {n}");
     }
     Ok(())
 }

@@ -1,10 +1,11 @@
 //! Known tags. Those of RFC 9106 stand in its section 5; the others come from an implementation apart from this one.
 
-use super::{PWD, SALT, known, known_with, words};
-use argon2::{Algorithm, Block, KeyId, ParamsBuilder, Version};
+use super::{known_tag, known_with, password_tag};
+use argon2::{Algorithm, Block, KeyId, ParamsBuilder, Result, Version};
 use std::test::Fail;
 
 // A tag, as numbers whose high byte comes first, and what it is made under.
+#[derive(Clone, Copy)]
 pub(super) struct KnownTag {
     pub(super) algorithm: Algorithm,
     pub(super) version: Version,
@@ -44,46 +45,44 @@ pub(super) const PASSWORD_TAGS: [KnownTag; 6] = known_tags![
     Argon2id V0x13 2 0x6d093c501fd59996 0x45e0ea3bf620d7b8 0xbe7fd2db59c20d9f 0xff9539da2bf57037;
 ];
 
+// The known tag of a row under a key identifier.
+fn tag_with(keyid: KeyId, row: &KnownTag, memory: &mut [Block]) -> Result<[u64; 4]> {
+    known_tag(&known_with(keyid, row.algorithm, row.version)?, memory)
+}
+
 #[test]
-fn gives_the_tags_of_rfc_9106(rt: HostRuntime) -> Result<(), Fail> {
-    let mut memory = Vec::from_elem(rt.alloc(), Block::new(), 32)?;
+fn gives_the_tags_of_rfc_9106(rt: HostRuntime) {
+    let mut memory = [Block::new(); 32];
     for row in &KNOWN_TAGS[3..] {
-        let argon2 = known_with(KeyId::EMPTY, row.algorithm, row.version)?;
-        let mut tag = [0; 32];
-        argon2.hash_password_into_with_memory(&PWD, &SALT, &mut tag, memory.as_mut_slice())?;
-        assert_eq!(rt; words(&tag), row.tag, "{}", row.algorithm);
+        let tag = tag_with(KeyId::EMPTY, row, &mut memory);
+        assert!(rt; tag == Ok(row.tag), "{} {:?}", row.algorithm, row.version);
     }
-    Ok(())
 }
 
 // One slice serves all, one after the other, and is never cleared.
 #[test]
-fn gives_the_known_tags_with_a_key_identifier(rt: HostRuntime) -> Result<(), Fail> {
-    let mut memory = Vec::from_elem(rt.alloc(), Block::new(), 40)?;
+fn gives_the_known_tags_with_a_key_identifier(rt: HostRuntime) -> std::result::Result<(), Fail> {
+    let key = KeyId::new(b"key")?;
+    let mut memory = [Block::new(); 40];
     for row in &KNOWN_TAGS {
-        let argon2 = known(row.algorithm, row.version)?;
-        let mut tag = [0; 32];
-        argon2.hash_password_into_with_memory(&PWD, &SALT, &mut tag, memory.as_mut_slice())?;
-        assert_eq!(rt; words(&tag), row.tag, "{} {:?}", row.algorithm, row.version);
+        let tag = tag_with(key, row, &mut memory);
+        assert!(rt; tag == Ok(row.tag), "{} {:?}", row.algorithm, row.version);
     }
     Ok(())
 }
 
+// The tag of a row in two passes over 256 blocks.
+fn tag_of_password(row: &KnownTag, memory: &mut [Block]) -> Result<[u64; 4]> {
+    let mut builder = ParamsBuilder::new();
+    builder.m_cost(256).t_cost(2).p_cost(row.p_cost);
+    password_tag(&builder.context(row.algorithm, row.version)?, memory)
+}
+
 #[test]
-fn gives_the_tags_of_password(rt: HostRuntime) -> Result<(), Fail> {
-    let mut memory = Vec::from_elem(rt.alloc(), Block::new(), 256)?;
+fn gives_the_tags_of_password(rt: HostRuntime) {
+    let mut memory = [Block::new(); 256];
     for row in &PASSWORD_TAGS {
-        let mut builder = ParamsBuilder::new();
-        builder.m_cost(256).t_cost(2).p_cost(row.p_cost);
-        let argon2 = builder.context(row.algorithm, row.version)?;
-        let mut tag = [0; 32];
-        argon2.hash_password_into_with_memory(
-            b"password",
-            b"somesalt",
-            &mut tag,
-            memory.as_mut_slice(),
-        )?;
-        assert_eq!(rt; words(&tag), row.tag, "{} {:?}", row.algorithm, row.version);
+        let tag = tag_of_password(row, &mut memory);
+        assert!(rt; tag == Ok(row.tag), "{} {:?}", row.algorithm, row.version);
     }
-    Ok(())
 }

@@ -10,11 +10,11 @@ fn hashes_on_memory_of_its_own(rt: HostRuntime) -> Result<(), Fail> {
     let argon2 = known(Algorithm::Argon2id, Version::V0x13)?;
     let mut tag = [7; 32];
     argon2.hash_password_into(rt.alloc(), &PWD, &SALT, &mut tag)?;
-    assert_eq!(rt; words(&tag), KNOWN_TAGS[5].tag);
+    assert!(rt; words(&tag) == KNOWN_TAGS[5].tag);
     let mut tag = [7; 3];
     let answer = argon2.hash_password_into(rt.alloc(), &PWD, &SALT, &mut tag);
-    assert_eq!(rt; answer, Err(Error::OutputTooShort));
-    assert_eq!(rt; tag, [7; 3]);
+    assert!(rt; answer == Err(Error::OutputTooShort));
+    assert!(rt; tag == [7; 3]);
     Ok(())
 }
 
@@ -23,10 +23,10 @@ fn derives_the_tag_as_a_key(rt: HostRuntime) -> Result<(), Fail> {
     let argon2 = known(Algorithm::Argon2id, Version::V0x13)?;
     let mut key = [7; 32];
     argon2.derive_key(rt.alloc(), &PWD, &SALT, &mut key)?;
-    assert_eq!(rt; words(&key), KNOWN_TAGS[5].tag);
+    assert!(rt; words(&key) == KNOWN_TAGS[5].tag);
     let mut key = [7; 3];
     let answer = argon2.derive_key(rt.alloc(), &PWD, &SALT, &mut key);
-    assert_eq!(rt; answer, Err(kdf::Error));
-    assert_eq!(rt; key, [7; 3]);
+    assert!(rt; answer == Err(kdf::Error));
+    assert!(rt; key == [7; 3]);
     Ok(())
 }

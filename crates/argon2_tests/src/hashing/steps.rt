@@ -1,6 +1,6 @@
 //! The known tags by single steps, whose lanes take turns in several orders.
 
-use super::known_tags::KNOWN_TAGS;
+use super::known_tags::{KNOWN_TAGS, KnownTag};
 use super::{PWD, SALT, are_ones, known, ones, words};
 use argon2::{Algorithm, Argon2, Block, Error, Version};
 use std::test::Fail;
@@ -66,30 +66,30 @@ const ORDERS: [[[u32; 8]; 4]; 3] = [
     ],
 ];
 
+// The tag of a row, where lanes take turns in these orders.
+fn tag_by_turns(row: &KnownTag, slices: &[[u32; 8]; 4]) -> Result<[u64; 4], Fail> {
+    let argon2 = known(row.algorithm, row.version)?;
+    let mut memory = [Block::new(); 32];
+    argon2.begin_fill(&PWD, &SALT, 32, &mut memory)?;
+    for step in 1..12u32 {
+        let slice = step % 4;
+        take_turns(
+            &argon2,
+            &mut memory,
+            step / 4,
+            2 * slice,
+            &slices[slice as usize],
+        )?;
+    }
+    Ok(words(&finish(&argon2, &memory)?))
+}
+
 #[test]
 fn gives_the_known_tags_however_lanes_take_turns(rt: HostRuntime) -> Result<(), Fail> {
-    let mut memory = Vec::from_elem(rt.alloc(), Block::new(), 32)?;
     for row in &KNOWN_TAGS {
-        let argon2 = known(row.algorithm, row.version)?;
         for slices in &ORDERS {
-            argon2.begin_fill(&PWD, &SALT, 32, memory.as_mut_slice())?;
-            for step in 1..12u32 {
-                let slice = step % 4;
-                take_turns(
-                    &argon2,
-                    memory.as_mut_slice(),
-                    step / 4,
-                    2 * slice,
-                    &slices[slice as usize],
-                )?;
-            }
-            assert_eq!(rt;
-                words(&finish(&argon2, &memory)?),
-                row.tag,
-                "{} {:?}",
-                row.algorithm,
-                row.version
-            );
+            let tag = tag_by_turns(row, slices)?;
+            assert!(rt; tag == row.tag, "{} {:?}", row.algorithm, row.version);
         }
     }
     Ok(())
@@ -97,10 +97,10 @@ fn gives_the_known_tags_however_lanes_take_turns(rt: HostRuntime) -> Result<(), 
 
 #[test]
 fn begins_no_output_of_three_bytes(rt: HostRuntime) -> Result<(), Fail> {
-    let mut memory = Vec::from_elem(rt.alloc(), ones(), 32)?;
+    let mut memory = [ones(); 32];
     let argon2 = known(Algorithm::Argon2id, Version::V0x13)?;
-    let answer = argon2.begin_fill(&PWD, &SALT, 3, memory.as_mut_slice());
-    assert_eq!(rt; answer, Err(Error::OutputTooShort));
+    let answer = argon2.begin_fill(&PWD, &SALT, 3, &mut memory);
+    assert!(rt; answer == Err(Error::OutputTooShort));
     assert!(rt; are_ones(&memory));
     Ok(())
 }

@@ -8,6 +8,7 @@ ghost use Rattle.argon2.specs.Context.{block_count};
 use super::known_tags::KNOWN_TAGS;
 use super::{PWD, SALT, are_ones, known, ones, words};
 use argon2::{Algorithm, Argon2, Block, Error, ParamsBuilder, Version};
+use std::alloc::Global;
 use std::test::Fail;
 
 // How many places there are for the references of all steps.
@@ -30,34 +31,40 @@ fn hash_of(places: &[u32]) -> u64 {
     hash
 }
 
+// The tag, the count of mixings and all places of a hash with the known inputs beside the password.
+type Known = ([u64; 4], u128, [u32; 96]);
+
+fn watch_known(argon2: &Argon2<'_>, pwd: &[u8]) -> Result<Known, Fail> {
+    let (mut tag, mut places) = ([0; 32], [0; 96]);
+    if place_count(argon2)? != places.len() {
+        return Err("another number of places".into());
+    }
+    let mut memory = [Block::new(); 32];
+    let work = argon2.hash_password_into_watched(pwd, &SALT, &mut tag, &mut memory, &mut places)?;
+    Ok((words(&tag), work.mixes(), places))
+}
+
 #[test]
 fn counts_the_mixings_of_the_known_tags(rt: HostRuntime) -> Result<(), Fail> {
-    let mut memory = Vec::from_elem(rt.alloc(), Block::new(), 32)?;
     for row in &KNOWN_TAGS {
-        let argon2 = known(row.algorithm, row.version)?;
-        let mut places = Vec::from_elem(rt.alloc(), 0, place_count(&argon2)?)?;
-        let mut tag = [0; 32];
-        let work = argon2.hash_password_into_watched(
-            &PWD,
-            &SALT,
-            &mut tag,
-            memory.as_mut_slice(),
-            places.as_mut_slice(),
-        )?;
-        assert_eq!(rt; words(&tag), row.tag, "{} {:?}", row.algorithm, row.version);
-        let mixes = match row.algorithm {
+        let (tag, mixes, _) = watch_known(&known(row.algorithm, row.version)?, &PWD)?;
+        let wanted = match row.algorithm {
             Algorithm::Argon2d => 88,
             Algorithm::Argon2i => 184,
             Algorithm::Argon2id => 104,
         };
-        assert_eq!(rt; work.mixes(), mixes, "{} {:?}", row.algorithm, row.version);
+        assert!(rt;
+            (tag, mixes) == (row.tag, wanted),
+            "{} {:?}",
+            row.algorithm,
+            row.version
+        );
     }
     Ok(())
 }
 
 // What is hashed to a tag of 32 bytes of `password` and `somesalt`; how often blocks are mixed; and the hash of all
 // places, where those of the first two columns are 4294967295.
-#[derive(Debug)]
 struct Row {
     algorithm: Algorithm,
     version: Version,
@@ -113,26 +120,31 @@ const ROWS: [Row; 27] = rows![
     Argon2i V0x13 19456 2 1 39518 0x3be9b9094b1a931e,
 ];
 
+// How often is mixed for a row, and the hash of all places.
+fn watch(alloc: Global, row: &Row, memory: &mut [Block]) -> Result<(u128, u64), Fail> {
+    let mut builder = ParamsBuilder::new();
+    builder
+        .m_cost(row.m_cost)
+        .t_cost(row.t_cost)
+        .p_cost(row.p_cost);
+    let argon2 = builder.context(row.algorithm, row.version)?;
+    let mut places = Vec::from_elem(alloc, u32::MAX, place_count(&argon2)?)?;
+    let work = argon2.hash_password_into_watched(
+        b"password",
+        b"somesalt",
+        &mut [0; 32],
+        memory,
+        places.as_mut_slice(),
+    )?;
+    Ok((work.mixes(), hash_of(&places)))
+}
+
 #[test]
 fn tells_all_places_under_small_costs(rt: HostRuntime) -> Result<(), Fail> {
     let mut memory = Vec::from_elem(rt.alloc(), Block::new(), 19456)?;
-    for row in &ROWS {
-        let mut builder = ParamsBuilder::new();
-        builder
-            .m_cost(row.m_cost)
-            .t_cost(row.t_cost)
-            .p_cost(row.p_cost);
-        let argon2 = builder.context(row.algorithm, row.version)?;
-        let mut places = Vec::from_elem(rt.alloc(), u32::MAX, place_count(&argon2)?)?;
-        let work = argon2.hash_password_into_watched(
-            b"password",
-            b"somesalt",
-            &mut [0; 32],
-            memory.as_mut_slice(),
-            places.as_mut_slice(),
-        )?;
-        assert_eq!(rt; work.mixes(), row.mixes, "at {row:?}");
-        assert_eq!(rt; hash_of(&places), row.places, "at {row:?}");
+    for (n, row) in ROWS.iter().enumerate() {
+        let told = watch(rt.alloc(), row, memory.as_mut_slice())?;
+        assert!(rt; told == (row.mixes, row.places), "row {n}");
     }
     Ok(())
 }
@@ -171,78 +183,77 @@ const PLACES: [Places; 9] = places![
     Argon2id V0x13 24 2: 0 1 13 14 13 4 15 17 8 20 12 12 12 2 4 17 12 7 6 3;
 ];
 
+// Whether the references of these places are those of a row, and the first two columns of each lane have none.
+fn are_places(places: &[u32], row: &Places) -> bool {
+    let columns = if row.m_cost == 24 { 12 } else { 8 };
+    let mut expected = row.places.iter();
+    for (n, place) in places.iter().enumerate() {
+        if n % columns < 2 {
+            if *place != u32::MAX {
+                return false;
+            }
+        } else if expected.next() != Some(place) {
+            return false;
+        }
+    }
+    expected.next().is_none()
+}
+
+// Whether a pass tells the places of a row.
+fn tells_places(alloc: Global, row: &Places) -> Result<bool, Fail> {
+    let mut builder = ParamsBuilder::new();
+    builder.m_cost(row.m_cost).t_cost(1).p_cost(row.p_cost);
+    let argon2 = builder.context(row.algorithm, row.version)?;
+    let mut places = Vec::from_elem(alloc, u32::MAX, place_count(&argon2)?)?;
+    let mut memory = [Block::new(); 24];
+    argon2.hash_password_into_watched(
+        b"password",
+        b"somesalt",
+        &mut [0; 32],
+        &mut memory,
+        places.as_mut_slice(),
+    )?;
+    Ok(are_places(&places, row))
+}
+
 #[test]
 fn tells_each_place_of_a_pass(rt: HostRuntime) -> Result<(), Fail> {
-    let mut memory = Vec::from_elem(rt.alloc(), Block::new(), 24)?;
-    for row in &PLACES {
-        let mut builder = ParamsBuilder::new();
-        builder.m_cost(row.m_cost).t_cost(1).p_cost(row.p_cost);
-        let argon2 = builder.context(row.algorithm, row.version)?;
-        let mut places = Vec::from_elem(rt.alloc(), u32::MAX, place_count(&argon2)?)?;
-        argon2.hash_password_into_watched(
-            b"password",
-            b"somesalt",
-            &mut [0; 32],
-            memory.as_mut_slice(),
-            places.as_mut_slice(),
-        )?;
-        let columns = if row.m_cost == 24 { 12 } else { 8 };
-        let mut expected = row.places.iter();
-        for (n, &place) in places.iter().enumerate() {
-            if n % columns < 2 {
-                assert_eq!(rt; place, u32::MAX);
-            } else {
-                assert_eq!(rt; Some(&place), expected.next(), "{} {n}", row.algorithm);
-            }
-        }
-        assert_eq!(rt; expected.next(), None);
+    for (n, row) in PLACES.iter().enumerate() {
+        assert!(rt; tells_places(rt.alloc(), row)?, "row {n}");
     }
     Ok(())
 }
 
-// The places of all references of a hash with the known inputs beside the password.
-fn known_places(argon2: &Argon2<'_>, pwd: &[u8], memory: &mut [Block]) -> Result<[u32; 96], Fail> {
-    let mut places = [0; 96];
-    if place_count(argon2)? != places.len() {
-        return Err("another number of places".into());
+// Whether the places are the same for another password: all of Argon2i, and of Argon2id those of slices 0 and 1 of
+// pass 0, which are columns 0 to 3 of each lane.
+fn tells_the_same(algorithm: Algorithm) -> Result<bool, Fail> {
+    let argon2 = known(algorithm, Version::V0x13)?;
+    let (_, _, places) = watch_known(&argon2, &PWD)?;
+    let (_, _, others) = watch_known(&argon2, b"password")?;
+    for (n, (place, other)) in places.iter().zip(others.iter()).enumerate() {
+        if (algorithm == Algorithm::Argon2i || (n < 32 && n % 8 < 4)) && place != other {
+            return Ok(false);
+        }
     }
-    argon2.hash_password_into_watched(pwd, &SALT, &mut [0; 32], memory, &mut places)?;
-    Ok(places)
+    Ok(true)
 }
 
 #[test]
 fn tells_the_same_places_for_other_passwords(rt: HostRuntime) -> Result<(), Fail> {
-    let mut memory = Vec::from_elem(rt.alloc(), Block::new(), 32)?;
-    for algorithm in [Algorithm::Argon2i, Algorithm::Argon2id] {
-        let argon2 = known(algorithm, Version::V0x13)?;
-        let one = known_places(&argon2, &PWD, memory.as_mut_slice())?;
-        let other = known_places(&argon2, b"password", memory.as_mut_slice())?;
-        for (n, (place, beside)) in one.iter().zip(other.iter()).enumerate() {
-            // in pass 0 columns 0 to 3 of each lane are slices 0 and 1
-            if algorithm == Algorithm::Argon2i || (n < 32 && n % 8 < 4) {
-                assert_eq!(rt; place, beside, "{algorithm} {n}");
-            }
-        }
-    }
+    assert!(rt; tells_the_same(Algorithm::Argon2i)?);
+    assert!(rt; tells_the_same(Algorithm::Argon2id)?);
     Ok(())
 }
 
 #[test]
 fn leaves_places_where_memory_is_too_little(rt: HostRuntime) -> Result<(), Fail> {
     let argon2 = known(Algorithm::Argon2id, Version::V0x13)?;
-    let mut memory = Vec::from_elem(rt.alloc(), ones(), 31)?;
-    let mut places = Vec::from_elem(rt.alloc(), 9, place_count(&argon2)?)?;
-    let mut tag = [7; 32];
-    let answer = argon2.hash_password_into_watched(
-        &PWD,
-        &SALT,
-        &mut tag,
-        memory.as_mut_slice(),
-        places.as_mut_slice(),
-    );
+    let (mut tag, mut places, mut memory) = ([7; 32], [9; 96], [ones(); 31]);
+    assert!(rt; place_count(&argon2)? == places.len());
+    let answer = argon2.hash_password_into_watched(&PWD, &SALT, &mut tag, &mut memory, &mut places);
     assert!(rt; matches!(answer, Err(Error::MemoryTooLittle)));
-    assert_eq!(rt; tag, [7; 32]);
+    assert!(rt; tag == [7; 32]);
     assert!(rt; are_ones(&memory));
-    assert!(rt; places.iter().all(|&place| place == 9));
+    assert!(rt; places == [9; 96]);
     Ok(())
 }

@@ -1,26 +1,40 @@
 use argon2::{AssociatedData, KeyId, Params, ParamsBuilder};
 use argon2_base::error::password_hash::Error;
 use argon2_base::phc::{ParamsString, PasswordHash};
+use std::alloc::Global;
 use std::test::Fail;
+
+// Whether parameters print as this text.
+fn is_printed(alloc: Global, params: &Params, text: &str) -> bool {
+    match params.to_string(alloc) {
+        Ok(printed) => printed.as_str() == text,
+        Err(_) => false,
+    }
+}
 
 #[test]
 fn printed(rt: HostRuntime) -> Result<(), Fail> {
-    let text = Params::default().to_string(rt.alloc())?;
-    assert_eq!(rt; text.as_str(), "m=19456,t=2,p=1");
-    let text = "p=2,m=33,t=1".parse::<Params>()?.to_string(rt.alloc())?;
-    assert_eq!(rt; text.as_str(), "m=33,t=1,p=2");
-    let mut builder = ParamsBuilder::new();
-    builder.m_cost(32).t_cost(2).p_cost(3);
-    builder.keyid(KeyId::new(&[0xf0; 4])?);
-    builder.data(AssociatedData::new(&[0x0f; 6])?);
-    let list = ParamsString::try_from(builder.build()?)?;
-    assert_eq!(rt; list.as_str(), "m=32,t=2,p=3,keyid=8PDw8A,data=Dw8PDw8P");
-    assert!(rt; Params::try_from(&list)? == builder.build()?);
+    assert!(rt; is_printed(rt.alloc(), &Params::default(), "m=19456,t=2,p=1"));
+    let params = "p=2,m=33,t=1".parse()?;
+    assert!(rt; is_printed(rt.alloc(), &params, "m=33,t=1,p=2"));
     Ok(())
 }
 
 #[test]
-fn refused(rt: HostRuntime) -> Result<(), Fail> {
+fn printed_with_bytes(rt: HostRuntime) -> Result<(), Fail> {
+    let mut builder = ParamsBuilder::new();
+    builder.m_cost(32).t_cost(2).p_cost(3);
+    builder.keyid(KeyId::new(&[0xf0; 4])?);
+    builder.data(AssociatedData::new(&[0x0f; 6])?);
+    let params = builder.build()?;
+    let list = ParamsString::try_from(params)?;
+    assert!(rt; list.as_str() == "m=32,t=2,p=3,keyid=8PDw8A,data=Dw8PDw8P");
+    assert!(rt; Params::try_from(&list) == Ok(params));
+    Ok(())
+}
+
+#[test]
+fn refused(rt: HostRuntime) {
     for (text, error) in [
         ("", Error::ParamsInvalid),
         ("t=0", Error::ParamsInvalid),
@@ -49,17 +63,26 @@ fn refused(rt: HostRuntime) -> Result<(), Fail> {
         ),
         ("m=65536,t=2,p=1,x=1", Error::ParamsInvalid),
     ] {
-        assert!(rt; text.parse::<Params>() == Err(error));
+        assert!(rt; text.parse::<Params>() == Err(error), "{text}");
     }
-    assert_eq!(rt; "m=65536,t=2,p=256".parse::<Params>()?.p_cost(), 256);
-    Ok(())
 }
 
 #[test]
-fn of_a_whole_text(rt: HostRuntime) -> Result<(), Fail> {
-    let hash = PasswordHash::new("$argon2id$v=19$m=8,t=1,p=1$c29tZXNhbHQ$AAAAAA")?;
-    assert_eq!(rt; Params::try_from(&hash)?.output_len(), Some(4));
-    let hash = PasswordHash::new("$argon2id$v=19$m=8,t=1,p=1$c29tZXNhbHQ")?;
-    assert_eq!(rt; Params::try_from(&hash)?.output_len(), None);
+fn read(rt: HostRuntime) -> Result<(), Fail> {
+    assert!(rt; "m=65536,t=2,p=256".parse::<Params>()?.p_cost() == 256);
     Ok(())
+}
+
+// The output length of the parameters of a text.
+fn output_len(text: &str) -> Result<Option<usize>, Error> {
+    let hash = PasswordHash::new(text)?;
+    Ok(Params::try_from(&hash)?.output_len())
+}
+
+#[test]
+fn of_a_whole_text(rt: HostRuntime) {
+    let text = "$argon2id$v=19$m=8,t=1,p=1$c29tZXNhbHQ$AAAAAA";
+    assert!(rt; output_len(text) == Ok(Some(4)));
+    let text = "$argon2id$v=19$m=8,t=1,p=1$c29tZXNhbHQ";
+    assert!(rt; output_len(text) == Ok(None));
 }
