@@ -33,7 +33,8 @@ strict_base64_decoded s b bytes ok = decode_of_strict standard_no_pad s b (refl,
 
 -- a strict text decodes to its bytes
 pub decode_of-strict_base64 : (b : List ℕ) → IsBytes b → decode_of standard_no_pad (strict_base64 b) ≡ Ok b
-decode_of-strict_base64 b bytes = ap (decode_of standard_no_pad) (sym (encode_of-strict b)) ∙ decode_of-encode_of standard_no_pad b refl bytes
+decode_of-strict_base64 b bytes = ap (decode_of standard_no_pad) (sym (encode_of-strict b))
+    ∙ decode_of-encode_of standard_no_pad b refl bytes
 
 -- how long the text of so many bytes is
 pub length-strict_base64 : (b : List ℕ) → length (strict_base64 b) ≡ (4 * length b + 2) / 3
@@ -113,7 +114,8 @@ strict_base64_unique s b d bytes is ok =
     cc both
 
 -- a strict text is never refused
-pub strict_base64_never_refused : (s b : List ℕ) (e : DecodeError) → IsBytes b → s ≡ strict_base64 b → decode_of standard_no_pad s ≡ Err e → ⊥
+pub strict_base64_never_refused : (s b : List ℕ) (e : DecodeError) → IsBytes b → s ≡ strict_base64 b
+    → decode_of standard_no_pad s ≡ Err e → ⊥
 strict_base64_never_refused s b e bytes is err =
     let again : decode_of standard_no_pad s ≡ Ok b = rw is (decode_of-strict_base64 b bytes) in
     let both = sym again ∙ err in
@@ -129,12 +131,14 @@ pub strict_base64_written : (b old new : List ℕ) (len : ℕ) → length new �
     → new ≡ encode_of standard_no_pad b ++ drop (encoded_size_of standard_no_pad (length b)) old
     → take len new ≡ strict_base64 b
 strict_base64_written b old new len same fits small put =
-    encoded_prefix (encode_of standard_no_pad b) old new (encoded_size_of standard_no_pad (length b)) len (Ok len) OutputSliceTooSmall same fits small refl put
+    encoded_prefix (encode_of standard_no_pad b) old new (encoded_size_of standard_no_pad (length b)) len (Ok len)
+    OutputSliceTooSmall same fits small refl put
     ∙ encode_of-strict b
 
 -- a strict text is text
 pub IsUtf8-strict_base64 : (b : List ℕ) → IsUtf8 (strict_base64 b)
-IsUtf8-strict_base64 b = rw (encode_of-strict b) at (IsUtf8-from_ascii (encode_of standard_no_pad b) (IsAscii-encode_of standard_no_pad b))
+IsUtf8-strict_base64 b = rw (encode_of-strict b) at
+    (IsUtf8-from_ascii (encode_of standard_no_pad b) (IsAscii-encode_of standard_no_pad b))
 
 -- the values of RFC 4648, section 10, without their padding
 pub fooba : strict_base64 (codes "fooba") ≡ codes "Zm9vYmE"

@@ -8,7 +8,8 @@ use Rattle.std.proofs.lemmas.Str.{IsUtf8-from_ascii}
 use Rattle.argon2_base.specs.Names.{is_name_char, is_name}
 
 -- each element is what passing elements are
-pub tests_give : (p : ℕ → Bool) (P : ℕ → Type 0) (gives : (c : ℕ) → p c ≡ true → P c) (s : List ℕ) → list_all p s ≡ true → AllByRecursion P s
+pub tests_give : (p : ℕ → Bool) (P : ℕ → Type 0) (gives : (c : ℕ) → p c ≡ true → P c) (s : List ℕ)
+    → list_all p s ≡ true → AllByRecursion P s
 tests_give p P gives [] h = tt
 tests_give p P gives (x ∷ s) h = let b = and_parts (p x) (list_all p s) h in (gives x b.0, tests_give p P gives s b.1)
 

@@ -21,7 +21,8 @@ pub pairs_eq-Decides : (ps qs : List Pair) → Decides (pairs_eq ps qs) (ps ≡ 
 pairs_eq-Decides = pointwise_decides pair_eq-Decides
 
 -- two options are equal where what they hold is
-option_eq-Decides : {T : Type 0} {E : T → T → Bool} → ((x y : T) → Decides (E x y) (x ≡ y)) → (o r : Option T) → Decides (option_eq E o r) (o ≡ r)
+option_eq-Decides : {T : Type 0} {E : T → T → Bool} → ((x y : T) → Decides (E x y) (x ≡ y)) → (o r : Option T)
+    → Decides (option_eq E o r) (o ≡ r)
 option_eq-Decides decides None None = (λ e. refl, λ e. refl)
 option_eq-Decides decides None (Some y) = (λ e. absurd cc, λ e. absurd cc)
 option_eq-Decides decides (Some x) None = (λ e. absurd cc, λ e. absurd cc)
@@ -37,7 +38,13 @@ phc_eq-Decides v w =
     (option_eq-Decides bytes_eq-Decides v.salt w.salt))
     (option_eq-Decides bytes_eq-Decides v.hash w.hash) in (
       λ e. let same = parts.0 e in
-          λ i. record { algorithm = same.0.0.0.0 i; version = same.0.0.0.1 i; params = same.0.0.1 i; salt = same.0.1 i; hash = same.1 i },
+          λ i. record {
+            algorithm = same.0.0.0.0 i;
+            version = same.0.0.0.1 i;
+            params = same.0.0.1 i;
+            salt = same.0.1 i;
+            hash = same.1 i;
+          },
       λ e. parts.1 (
         (
           ((ap (λ (x : Phc). x.algorithm) e, ap (λ (x : Phc). x.version) e), ap (λ (x : Phc). x.params) e),

@@ -169,9 +169,11 @@ turned_lanes x v i same k h =
 abbrev Interleaved : List ℕ → List ℕ → Type 0
 Interleaved a b =
     ((j : ℕ) → j < 8
-    → slice_index (pick_l 0 (a ++ b) (0 ∷ 8 ∷ 1 ∷ 9 ∷ 2 ∷ 10 ∷ 3 ∷ 11 ∷ [])) j ≡ slice_index (if j % 2 == 0 then a else b) (j / 2))
+    → slice_index (pick_l 0 (a ++ b) (0 ∷ 8 ∷ 1 ∷ 9 ∷ 2 ∷ 10 ∷ 3 ∷ 11 ∷ [])) j
+    ≡ slice_index (if j % 2 == 0 then a else b) (j / 2))
     × ((j : ℕ) → j < 8
-    → slice_index (pick_l 0 (a ++ b) (4 ∷ 12 ∷ 5 ∷ 13 ∷ 6 ∷ 14 ∷ 7 ∷ 15 ∷ [])) j ≡ slice_index (if j % 2 == 0 then a else b) (4 + j / 2))
+    → slice_index (pick_l 0 (a ++ b) (4 ∷ 12 ∷ 5 ∷ 13 ∷ 6 ∷ 14 ∷ 7 ∷ 15 ∷ [])) j
+    ≡ slice_index (if j % 2 == 0 then a else b) (4 + j / 2))
 
 pub interleaved : (a : List ℕ) → length a ≡ 8 → (b : List ℕ) → length b ≡ 8 → Interleaved a b
 interleaved =
@@ -179,7 +181,8 @@ interleaved =
     (below_eight _ refl refl refl refl refl refl refl refl, below_eight _ refl refl refl refl refl refl refl refl))
 
 -- the words of a lane, given by number
-pub lane_is : (x : List (List ℕ)) (j : ℕ) (f : ℕ → ℕ) → ((k : ℕ) → k < 16 → lane_word x k j ≡ f k) → lane j x ≡ map f (range_with_len 0 16)
+pub lane_is : (x : List (List ℕ)) (j : ℕ) (f : ℕ → ℕ) → ((k : ℕ) → k < 16 → lane_word x k j ≡ f k)
+    → lane j x ≡ map f (range_with_len 0 16)
 lane_is x j f h =
     rw (
       h 0 (lit< tt),
@@ -203,7 +206,8 @@ lane_is x j f h =
 -- word k of a lane
 pub slice_index-lane : (x : List (List ℕ)) (j k : ℕ) → k < 16 → slice_index (lane j x) k ≡ lane_word x k j
 slice_index-lane x j =
-    below_sixteen (λ k. slice_index (lane j x) k ≡ lane_word x k j) refl refl refl refl refl refl refl refl refl refl refl refl refl refl refl refl
+    below_sixteen (λ k. slice_index (lane j x) k ≡ lane_word x k j) refl refl refl refl refl refl refl refl refl refl
+    refl refl refl refl refl refl
 
 -- vectors of y and of z in turn
 abbrev column_vectors : List (List ℕ) → List (List ℕ) → List (List ℕ)
@@ -216,8 +220,9 @@ column_vectors y z =
 -- the vectors of even or of odd numbers
 abbrev every_second : List (List ℕ) → ℕ → List (List ℕ)
 every_second x e =
-    slice_index_or x (0 + e) [] ∷ slice_index_or x (2 + e) [] ∷ slice_index_or x (4 + e) [] ∷ slice_index_or x (6 + e) []
-    ∷ slice_index_or x (8 + e) [] ∷ slice_index_or x (10 + e) [] ∷ slice_index_or x (12 + e) [] ∷ slice_index_or x (14 + e) [] ∷ []
+    slice_index_or x (0 + e) [] ∷ slice_index_or x (2 + e) [] ∷ slice_index_or x (4 + e) []
+    ∷ slice_index_or x (6 + e) [] ∷ slice_index_or x (8 + e) [] ∷ slice_index_or x (10 + e) []
+    ∷ slice_index_or x (12 + e) [] ∷ slice_index_or x (14 + e) [] ∷ []
 
 -- sixteen vectors turned by two transpositions, of the vectors of even and of odd numbers
 pub columns_from : (x y z : List (List ℕ))

@@ -15,7 +15,8 @@ lane-slice_set : (x : List (List ℕ)) (i n : ℕ) (y : List ℕ) → i < 16 →
     → lane n (slice_set x i y) ≡ slice_set (lane n x) i (slice_index y n)
 lane-slice_set x i n y below long =
     let there : i < length x = omega arith in
-    ext_get_or 0 (lane n (slice_set x i y)) (slice_set (lane n x) i (slice_index y n)) (sym (length-set (lane n x) i (slice_index y n))) (λ k h.
+    ext_get_or 0 (lane n (slice_set x i y)) (slice_set (lane n x) i (slice_index y n))
+    (sym (length-set (lane n x) i (slice_index y n))) (λ k h.
     slice_index-lane (slice_set x i y) n k h ∙ elim (cases_eq k i) [
       | inl same ↦
           ap (λ v. slice_index v n) (get_or-set_at x i k y [] same there)
@@ -29,7 +30,8 @@ lane-slice_set x i n y below long =
 -- a lane of the vectors once four of them are mixed
 pub lane-gb_at : (x : List (List ℕ)) (i j k l n : ℕ) → i < 16 → j < 16 → k < 16 → l < 16 → length x ≡ 16
     → (a b c d : List ℕ)
-    → (slice_index a n, slice_index b n, slice_index c n, slice_index d n) ≡ gb (lane_word x i n) (lane_word x j n) (lane_word x k n) (lane_word x l n)
+    → (slice_index a n, slice_index b n, slice_index c n, slice_index d n)
+    ≡ gb (lane_word x i n) (lane_word x j n) (lane_word x k n) (lane_word x l n)
     → lane n (slice_set (slice_set (slice_set (slice_set x i a) j b) k c) l d) ≡ gb_at i j k l (lane n x)
 lane-gb_at x i j k l n hi hj hk hl long a b c d mixed =
     let x1 = slice_set x i a in
@@ -101,7 +103,8 @@ row_stored x r out i left right w low high =
           let lane_of : 4 + k / 2 ≡ w % 16 / 2 = omega arith in
           ap (slice_index out) (sym place)
           ∙ right k (omega arith)
-          ∙ ap₂ bit_xor (picked x i (4 + k / 2) (k % 2) (omega arith) ∙ ap₂ (lane_word x) vector lane_of) (ap (slice_index r) place)
+          ∙ ap₂ bit_xor (picked x i (4 + k / 2) (k % 2) (omega arith) ∙ ap₂ (lane_word x) vector lane_of)
+          (ap (slice_index r) place)
     ]
 
 -- a word of the rows that P mixed
@@ -111,7 +114,8 @@ by_rows_word r i k hi hk =
     let at_row : (16 * i + k) / 16 ≡ i = omega arith in
     let at_word : (16 * i + k) % 16 ≡ k = omega arith in
     let at_start : 0 + (16 * i + k) ≡ 16 * i + k = omega arith in
-    get_or-map-range_with_len (λ w. slice_index (perm (row (w / 16) r)) (w % 16)) 0 128 (16 * i + k) (16 * i + k) 0 (omega arith) at_start
+    get_or-map-range_with_len (λ w. slice_index (perm (row (w / 16) r)) (w % 16)) 0 128 (16 * i + k) (16 * i + k) 0
+    (omega arith) at_start
     ∙ ap₂ (λ a b. slice_index (perm (row a r)) b) at_row at_word
 
 -- a word of the columns that P mixed
@@ -159,7 +163,8 @@ kernel_mixes r out rows across cols down long_r long_out rows_are across_are col
     ∙ ap (λ l. slice_index l k) (down_are j hj ∙ ap perm (column_is j hj))
     in
     let long : length (by_columns q) ≡ 128 = length-by_columns q in
-    let long_xor : length (xor_blocks (by_columns q) r) ≡ length (by_columns q) = length-zip2 bit_xor (by_columns q) r (long ∙ sym long_r) in
+    let long_xor : length (xor_blocks (by_columns q) r) ≡ length (by_columns q) =
+    length-zip2 bit_xor (by_columns q) r (long ∙ sym long_r) in
     ext_get_or 0 out (xor_blocks (by_columns q) r) (omega arith) (λ w h.
     let below : w < 128 = omega arith in
     let below_columns : w < length (by_columns q) = omega arith in

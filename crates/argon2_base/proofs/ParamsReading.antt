@@ -18,20 +18,24 @@ empty_list (p ∷ ps) h = absurd (omega (arith, text_long p ps))
 
 -- two lists with one text are one
 pub one_list : (text : List ℕ) (ps qs : List Pair) → ParamsText text ps → ParamsText text qs → ps ≡ qs
-one_list text ps qs h k = sym (pairs_again ps (all_params ps h.0)) ∙ ap pairs_of (sym h.1 ∙ k.1) ∙ pairs_again qs (all_params qs k.0)
+one_list text ps qs h k = sym (pairs_again ps (all_params ps h.0)) ∙ ap pairs_of (sym h.1 ∙ k.1)
+    ∙ pairs_again qs (all_params qs k.0)
 
 -- where all items were read
-pub ends : (text : List ℕ) (done : List Pair) → are_params done ≡ true → map item done ++ [] ≡ items_of text → ParamsText text done
+pub ends : (text : List ℕ) (done : List Pair) → are_params done ≡ true → map item done ++ [] ≡ items_of text
+    → ParamsText text done
 ends text done h e = (h, sym (join_with_byte-slice_split 44 text) ∙ ap (join_with_byte 44) (sym e ∙ append-nil (map item done)))
 
 -- ---- at an item
 
 -- the items of a list's text, where some were read
-pub items_from_here : (text : List ℕ) (done ps : List Pair) (x : List ℕ) (more : List (List ℕ)) → 0 < length text → ParamsText text ps → map item done ++ x ∷ more ≡ items_of text → map item done ++ x ∷ more ≡ map item ps
+pub items_from_here : (text : List ℕ) (done ps : List Pair) (x : List ℕ) (more : List (List ℕ)) → 0 < length text
+    → ParamsText text ps → map item done ++ x ∷ more ≡ items_of text → map item done ++ x ∷ more ≡ map item ps
 items_from_here text done ps x more long h e = e ∙ ap items_of h.1 ∙ items_again_long ps (all_params ps h.0) (rw (← h.1) long)
 
 -- what is next is an item
-pub is_item : (done ps : List Pair) (x : List ℕ) (more : List (List ℕ)) → map item done ++ x ∷ more ≡ map item ps → (p : Pair) × (x ≡ item p)
+pub is_item : (done ps : List Pair) (x : List ℕ) (more : List (List ℕ)) → map item done ++ x ∷ more ≡ map item ps
+    → (p : Pair) × (x ≡ item p)
 is_item [] [] x more e = absurd cc
 is_item [] (p ∷ ps) x more e = (p, cc)
 is_item (q ∷ done) [] x more e = absurd cc
@@ -57,7 +61,12 @@ text_front : (a b : List Pair) → length (params_text a) ≤ length (params_tex
 text_front [] b = omega arith
 text_front (q ∷ []) [] = omega arith
 text_front (q ∷ []) (r ∷ b) = omega (arith, length-append (item q) (44 ∷ params_text (r ∷ b)))
-text_front (q ∷ r ∷ a) b = omega (arith, text_front (r ∷ a) b, length-append (item q) (44 ∷ params_text (r ∷ a)), length-append (item q) (44 ∷ params_text ((r ∷ a) ++ b)))
+text_front (q ∷ r ∷ a) b = omega (
+  arith,
+  text_front (r ∷ a) b,
+  length-append (item q) (44 ∷ params_text (r ∷ a)),
+  length-append (item q) (44 ∷ params_text ((r ∷ a) ++ b)),
+)
 
 -- the front of a list in the grammar is in the grammar
 pub params_front : (a b : List Pair) → are_params (a ++ b) ≡ true → are_params a ≡ true
@@ -69,11 +78,15 @@ params_front a b h =
     rw (l.0, distinct_front a b d.1, le-leb (length (params_text a)) 127 short) refl
 
 -- the items read so far and the next are in the grammar
-pub fits_here : (done ps : List Pair) (x : List ℕ) (more : List (List ℕ)) → are_params done ≡ true → are_params ps ≡ true → map item done ++ x ∷ more ≡ map item ps → are_params (done ++ pair_of x ∷ []) ≡ true
+pub fits_here : (done ps : List Pair) (x : List ℕ) (more : List (List ℕ)) → are_params done ≡ true
+    → are_params ps ≡ true → map item done ++ x ∷ more ≡ map item ps → are_params (done ++ pair_of x ∷ []) ≡ true
 fits_here done ps x more h k e =
     let mapped : map pair_of (map item done ++ x ∷ more) ≡ ps = ap (map pair_of) e ∙ map_again ps (all_params ps k) in
-    let parts : map pair_of (map item done ++ x ∷ more) ≡ done ++ pair_of x ∷ map pair_of more = map-append pair_of (map item done) (x ∷ more) ∙ ap (λ (f : List Pair). f ++ pair_of x ∷ map pair_of more) (map_again done (all_params done h)) in
-    params_front (done ++ pair_of x ∷ []) (map pair_of more) (rw (append_assoc done (pair_of x ∷ []) (map pair_of more), ← parts, mapped) k)
+    let parts : map pair_of (map item done ++ x ∷ more) ≡ done ++ pair_of x ∷ map pair_of more =
+    map-append pair_of (map item done) (x ∷ more)
+    ∙ ap (λ (f : List Pair). f ++ pair_of x ∷ map pair_of more) (map_again done (all_params done h)) in
+    params_front (done ++ pair_of x ∷ []) (map pair_of more)
+    (rw (append_assoc done (pair_of x ∷ []) (map pair_of more), ← parts, mapped) k)
 
 -- ---- a value that is too long
 
@@ -81,7 +94,8 @@ fits_here done ps x more h k e =
 value_length : (n v : List ℕ) → is_param (n, v) ≡ true → length v ≤ 64
 value_length n v h =
     let value : is_value v ≡ true = param_value (n, v) h in
-    leb-true (length v) 64 (and_parts (leb 1 (length v)) (leb (length v) 64) (and_parts (leb 1 (length v) && leb (length v) 64) _ value).0).1
+    leb-true (length v) 64 (and_parts (leb 1 (length v)) (leb (length v) 64)
+    (and_parts (leb 1 (length v) && leb (length v) 64) _ value).0).1
 
 -- what is longer is no value
 pub long_value : (n v : List ℕ) → 64 < length v → is_param (n, v) ≡ false

@@ -45,13 +45,17 @@ pub param_again : (p : Pair) → is_param p ≡ true → pair_of (item p) ≡ p
 param_again p h = pair_again p.0 p.1 (name_lacks 61 refl p.0 (param_name p h))
 
 -- an item lacks what is in no name and no value, and is no `=`
-pub item_lacks : (c : ℕ) → is_name_char c ≡ false → is_value_char c ≡ false → eqb 61 c ≡ false → (p : Pair) → is_param p ≡ true → Lacks c (item p)
-item_lacks c a b d p h = Lacks-append c p.0 (61 ∷ p.1) (name_lacks c a p.0 (param_name p h)) (d, value_lacks c b p.1 (param_value p h))
+pub item_lacks : (c : ℕ) → is_name_char c ≡ false → is_value_char c ≡ false → eqb 61 c ≡ false → (p : Pair)
+    → is_param p ≡ true → Lacks c (item p)
+item_lacks c a b d p h = Lacks-append c p.0 (61 ∷ p.1) (name_lacks c a p.0 (param_name p h))
+    (d, value_lacks c b p.1 (param_value p h))
 
 -- items have no `,`
 pub items_lack : (ps : List Pair) → list_all is_param ps ≡ true → AllByRecursion (Lacks 44) (map item ps)
 items_lack [] h = tt
-items_lack (p ∷ ps) h = let b = and_parts (is_param p) (list_all is_param ps) h in (item_lacks 44 refl refl refl p b.0, items_lack ps b.1)
+items_lack (p ∷ ps) h =
+    let b = and_parts (is_param p) (list_all is_param ps) h in
+    (item_lacks 44 refl refl refl p b.0, items_lack ps b.1)
 
 -- items are read as their parameters
 pub map_again : (ps : List Pair) → list_all is_param ps ≡ true → map pair_of (map item ps) ≡ ps
@@ -79,11 +83,13 @@ text_long p [] = item_long p
 text_long p (q ∷ ps) = omega (arith, item_long p, length-append (item p) (44 ∷ params_text (q ∷ ps)))
 
 -- the items of a list's text
-pub items_again : (p : Pair) (ps : List Pair) → list_all is_param (p ∷ ps) ≡ true → items_of (params_text (p ∷ ps)) ≡ map item (p ∷ ps)
+pub items_again : (p : Pair) (ps : List Pair) → list_all is_param (p ∷ ps) ≡ true
+    → items_of (params_text (p ∷ ps)) ≡ map item (p ∷ ps)
 items_again p ps h = cut_joined 44 (item p) (map item ps) (items_lack (p ∷ ps) h)
 
 -- the same where the text is not empty
-pub items_again_long : (ps : List Pair) → list_all is_param ps ≡ true → 0 < length (params_text ps) → items_of (params_text ps) ≡ map item ps
+pub items_again_long : (ps : List Pair) → list_all is_param ps ≡ true → 0 < length (params_text ps)
+    → items_of (params_text ps) ≡ map item ps
 items_again_long [] h long = absurd (omega arith)
 items_again_long (p ∷ ps) h long = items_again p ps h
 
@@ -104,15 +110,18 @@ pub params_text-more : (ps : List Pair) (p : Pair) → params_text (ps ++ p ∷ 
 params_text-more [] p = refl
 params_text-more (q ∷ []) p = sym (with_item_some (item q) p (item_long q))
 params_text-more (q ∷ r ∷ ps) p =
-    let rest : params_text ((r ∷ ps) ++ p ∷ []) ≡ params_text (r ∷ ps) ++ 44 ∷ item p = params_text-more (r ∷ ps) p ∙ with_item_some (params_text (r ∷ ps)) p (text_long r ps) in
-    ap (λ (t : List ℕ). item q ++ 44 ∷ t) rest ∙ sym (append_assoc (item q) (44 ∷ params_text (r ∷ ps)) (44 ∷ item p)) ∙ sym (with_item_some (params_text (q ∷ r ∷ ps)) p (text_long q (r ∷ ps)))
+    let rest : params_text ((r ∷ ps) ++ p ∷ []) ≡ params_text (r ∷ ps) ++ 44 ∷ item p =
+    params_text-more (r ∷ ps) p ∙ with_item_some (params_text (r ∷ ps)) p (text_long r ps) in
+    ap (λ (t : List ℕ). item q ++ 44 ∷ t) rest ∙ sym (append_assoc (item q) (44 ∷ params_text (r ∷ ps)) (44 ∷ item p))
+    ∙ sym (with_item_some (params_text (q ∷ r ∷ ps)) p (text_long q (r ∷ ps)))
 
 -- texts are equal both ways
 bytes_eq_sym : (a b : List ℕ) → bytes_eq a b ≡ bytes_eq b a
 bytes_eq_sym a b = nat_list_eq_equiv.symm a b
 
 -- whether a name is there
-value_of-more : (n : List ℕ) (ps : List Pair) (p : Pair) → is_none (value_of n (ps ++ p ∷ [])) ≡ (is_none (value_of n ps) && not (bytes_eq p.0 n))
+value_of-more : (n : List ℕ) (ps : List Pair) (p : Pair)
+    → is_none (value_of n (ps ++ p ∷ [])) ≡ (is_none (value_of n ps) && not (bytes_eq p.0 n))
 value_of-more n [] p = elim (cases_Bool (bytes_eq p.0 n)) [
   | inl e ↦ rw e refl
   | inr e ↦ rw e refl
@@ -123,7 +132,8 @@ value_of-more n (q ∷ ps) p = elim (cases_Bool (bytes_eq q.0 n)) [
 ]
 
 -- whether a name is there, by the first parameter
-value_of-first : (n : List ℕ) (q : Pair) (ps : List Pair) → is_none (value_of n (q ∷ ps)) ≡ (not (bytes_eq q.0 n) && is_none (value_of n ps))
+value_of-first : (n : List ℕ) (q : Pair) (ps : List Pair)
+    → is_none (value_of n (q ∷ ps)) ≡ (not (bytes_eq q.0 n) && is_none (value_of n ps))
 value_of-first n q ps = elim (cases_Bool (bytes_eq q.0 n)) [
   | inl e ↦ rw e refl
   | inr e ↦ rw e refl
@@ -153,7 +163,8 @@ list_all-more : (ps : List Pair) (p : Pair) → list_all is_param (ps ++ p ∷ [
 list_all-more ps p = list_all-append is_param ps (p ∷ []) ∙ ap (λ b. list_all is_param ps && b) (and_true (is_param p))
 
 -- when a list may get one more
-pub are_params-more : (ps : List Pair) (p : Pair) → are_params ps ≡ true → are_params (ps ++ p ∷ []) ≡ ((is_param p && is_none (value_of p.0 ps)) && leb (length (with_item (params_text ps) p)) 127)
+pub are_params-more : (ps : List Pair) (p : Pair) → are_params ps ≡ true
+    → are_params (ps ++ p ∷ []) ≡ ((is_param p && is_none (value_of p.0 ps)) && leb (length (with_item (params_text ps) p)) 127)
 are_params-more ps p h =
     let b = and_parts (list_all is_param ps && are_distinct ps) _ h in
     let d = and_parts (list_all is_param ps) (are_distinct ps) b.0 in
@@ -162,14 +173,16 @@ are_params-more ps p h =
 -- ---- where an item is cut
 
 -- what was cut at the first `=`
-pub split_found : (bs : List ℕ) (r : Option (Bor (List ℕ) × Bor (List ℕ))) → IsSplitOnceResult 61 bs r → IfSome r (λ x. (pair_of bs ≡ (x.0.now, x.1.now)) × (bs ≡ item (x.0.now, x.1.now)))
+pub split_found : (bs : List ℕ) (r : Option (Bor (List ℕ) × Bor (List ℕ))) → IsSplitOnceResult 61 bs r
+    → IfSome r (λ x. (pair_of bs ≡ (x.0.now, x.1.now)) × (bs ≡ item (x.0.now, x.1.now)))
 split_found bs None h = tt
 split_found bs (Some x) h =
     let parts = split_parts 61 bs (Some x) h (lit< tt) in
     (ap pair_of parts.0 ∙ pair_again x.0.now x.1.now (Lacks_from 61 x.0.now parts.1), parts.0)
 
 -- what has no `=` is no item
-pub split_none : (bs : List ℕ) (r : Option (Bor (List ℕ) × Bor (List ℕ))) → IsSplitOnceResult 61 bs r → IfNone r ((p : Pair) → bs ≢ item p)
+pub split_none : (bs : List ℕ) (r : Option (Bor (List ℕ) × Bor (List ℕ))) → IsSplitOnceResult 61 bs r
+    → IfNone r ((p : Pair) → bs ≢ item p)
 split_none bs None h =
     let none = split_parts 61 bs None h (lit< tt) in
     λ p e. Lacks_not 61 p.0 p.1 (rw e at (Lacks_from 61 bs none))
@@ -177,11 +190,13 @@ split_none bs (Some x) h = tt
 
 -- what an iterator over a list's text starts with
 pub starts_ok : (text : List ℕ) → 0 < length text → are_params (pairs_of text) ≡ true → text ≡ params_text (pairs_of text)
-    → (list_all is_param (map pair_of (items_of text)) ≡ true) × (items_of text ≡ map item (map pair_of (items_of text))) × (map pair_of (items_of text) ≡ pairs_of text)
+    → (list_all is_param (map pair_of (items_of text)) ≡ true)
+    × (items_of text ≡ map item (map pair_of (items_of text))) × (map pair_of (items_of text) ≡ pairs_of text)
 starts_ok text long good is =
     let pairs = pairs_of_items text long in
     let all = all_params (pairs_of text) good in
-    let items : items_of text ≡ map item (pairs_of text) = ap items_of is ∙ items_again_long (pairs_of text) all (rw (← is) long) in
+    let items : items_of text ≡ map item (pairs_of text) =
+    ap items_of is ∙ items_again_long (pairs_of text) all (rw (← is) long) in
     (rw (← pairs) all, items ∙ ap (map item) pairs, sym pairs)
 
 -- ---- one more parameter, or a refusal
@@ -208,7 +223,8 @@ is_none-none (Some x) h = absurd cc
 -- a list with a name twice is refused
 pub refused_name : (ps : List Pair) (p : Pair) → is_some (value_of p.0 ps) ≡ true → false ≡ are_params (ps ++ p ∷ [])
 refused_name ps p h =
-    let one : are_distinct (ps ++ p ∷ []) ≡ false = are_distinct-more ps p ∙ rw (is_none-some (value_of p.0 ps) h) (and_false (are_distinct ps)) in
+    let one : are_distinct (ps ++ p ∷ []) ≡ false =
+    are_distinct-more ps p ∙ rw (is_none-some (value_of p.0 ps) h) (and_false (are_distinct ps)) in
     sym (rw (one, and_false (list_all is_param (ps ++ p ∷ []))) refl)
 
 -- what a list is after an item was appended, or didn't fit
@@ -218,16 +234,25 @@ pub record Grows (text new : List ℕ) (p : Pair) : Type 0 where
   pub spelled : new ≡ params_text (pairs_of text ++ p ∷ [])
 
 -- the list after an item was appended
-pub grown : (text new : List ℕ) (p : Pair) → are_params (pairs_of text) ≡ true → text ≡ params_text (pairs_of text) → is_param p ≡ true
-    → is_some (value_of p.0 (pairs_of text)) ≡ false → leb (length (with_item text p)) 127 ≡ true → new ≡ with_item text p → Grows text new p
+pub grown : (text new : List ℕ) (p : Pair) → are_params (pairs_of text) ≡ true → text ≡ params_text (pairs_of text)
+    → is_param p ≡ true
+    → is_some (value_of p.0 (pairs_of text)) ≡ false → leb (length (with_item text p)) 127 ≡ true
+    → new ≡ with_item text p → Grows text new p
 grown text new p h is param name fits e =
     let ps : List Pair = pairs_of text in
-    let good : are_params (ps ++ p ∷ []) ≡ true = rw (are_params-more ps p h, param, is_none-none (value_of p.0 ps) name, ← is) fits in
+    let good : are_params (ps ++ p ∷ []) ≡ true =
+    rw (are_params-more ps p h, param, is_none-none (value_of p.0 ps) name, ← is) fits in
     let whole : new ≡ params_text (ps ++ p ∷ []) = e ∙ ap (λ (t : List ℕ). with_item t p) is ∙ sym (params_text-more ps p) in
-    record { good = good; view = ap pairs_of whole ∙ pairs_again (ps ++ p ∷ []) (all_params (ps ++ p ∷ []) good); spelled = whole }
+    record {
+      good = good;
+      view = ap pairs_of whole
+          ∙ pairs_again (ps ++ p ∷ []) (all_params (ps ++ p ∷ []) good);
+      spelled = whole;
+    }
 
 -- a list that is too long is refused
-pub refused_long : (text : List ℕ) (p : Pair) → are_params (pairs_of text) ≡ true → text ≡ params_text (pairs_of text) → leb (length (with_item text p)) 127 ≡ false → false ≡ are_params (pairs_of text ++ p ∷ [])
+pub refused_long : (text : List ℕ) (p : Pair) → are_params (pairs_of text) ≡ true → text ≡ params_text (pairs_of text)
+    → leb (length (with_item text p)) 127 ≡ false → false ≡ are_params (pairs_of text ++ p ∷ [])
 refused_long text p h is long =
     let ps : List Pair = pairs_of text in
     sym (are_params-more ps p h ∙ rw (← is, long) (and_false (is_param p && is_none (value_of p.0 ps))))

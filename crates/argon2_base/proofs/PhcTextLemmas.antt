@@ -4,7 +4,6 @@ use Rattle.std.proofs.lemmas.List.{append-nil}
 use Rattle.std.proofs.lemmas.Bool.{not-true, and_parts}
 use Rattle.std.specs.Prelude.{IfSome, IsSome, IsNone, is_some}
 use Rattle.std.specs.Borrow.{Bor}
-use Rattle.std.proofs.lemmas.Grind.{flat_map-append}
 use Rattle.std.proofs.lemmas.List.Splits.{join_with_byte-slice_split, length-slice_split}
 use Rattle.std.specs.List.{list_all, flat_map, AllByRecursion, join_with_byte}
 use Rattle.std.specs.Fmt.{decimal}
@@ -23,7 +22,8 @@ use Rattle.argon2_base.proofs.ValueCharacters.{decimal_chars, base64_chars}
 -- ---- no field has a `$`
 
 -- a list's text lacks what no item has, and is no `,`
-params_text_lacks : (c : ℕ) → is_name_char c ≡ false → is_value_char c ≡ false → eqb 61 c ≡ false → eqb 44 c ≡ false → (ps : List Pair) → list_all is_param ps ≡ true → Lacks c (params_text ps)
+params_text_lacks : (c : ℕ) → is_name_char c ≡ false → is_value_char c ≡ false → eqb 61 c ≡ false → eqb 44 c ≡ false
+    → (ps : List Pair) → list_all is_param ps ≡ true → Lacks c (params_text ps)
 params_text_lacks c a b d e [] h = tt
 params_text_lacks c a b d e (p ∷ []) h = item_lacks c a b d p (and_parts (is_param p) true h).0
 params_text_lacks c a b d e (p ∷ q ∷ ps) h =
@@ -39,7 +39,8 @@ version_lacks : (n : ℕ) → n < 2 ^ 32 → Lacks 36 (version_text n)
 version_lacks n small = (refl, (refl, lacks_by is_value_char 36 refl (decimal n) (decimal_chars n (omega arith))))
 
 -- neither part has it
-and_then : (c : ℕ) (xs ys : List (List ℕ)) → AllByRecursion (Lacks c) xs → AllByRecursion (Lacks c) ys → AllByRecursion (Lacks c) (xs ++ ys)
+and_then : (c : ℕ) (xs ys : List (List ℕ)) → AllByRecursion (Lacks c) xs → AllByRecursion (Lacks c) ys
+    → AllByRecursion (Lacks c) (xs ++ ys)
 and_then c [] ys h k = k
 and_then c (x ∷ xs) ys h k = (h.0, and_then c xs ys h.1 k)
 
@@ -49,7 +50,8 @@ version_field_lacks None h = tt
 version_field_lacks (Some n) h = (version_lacks n h, tt)
 
 -- nor the field of bytes
-bytes_field_lacks : (low high : ℕ) (o : Option (List ℕ)) → IfSome o (HasBytes low high) → AllByRecursion (Lacks 36) (field strict_base64 o)
+bytes_field_lacks : (low high : ℕ) (o : Option (List ℕ)) → IfSome o (HasBytes low high)
+    → AllByRecursion (Lacks 36) (field strict_base64 o)
 bytes_field_lacks low high None h = tt
 bytes_field_lacks low high (Some b) h = (base64_lacks 36 refl b h.0, tt)
 
@@ -64,7 +66,8 @@ fields_lack v h = (
   name_lacks 36 refl v.algorithm h.algorithm,
   and_then 36 (field version_text v.version) _ (version_field_lacks v.version h.version)
       (and_then 36 (list_field v.params) _ (list_field_lacks v.params h.params)
-      (and_then 36 (field strict_base64 v.salt) (field strict_base64 v.hash) (bytes_field_lacks 8 48 v.salt h.salt) (bytes_field_lacks 4 64 v.hash h.hash))),
+      (and_then 36 (field strict_base64 v.salt) (field strict_base64 v.hash) (bytes_field_lacks 8 48 v.salt h.salt)
+      (bytes_field_lacks 4 64 v.hash h.hash))),
 )
 
 -- ---- the fields joined
@@ -83,11 +86,13 @@ abbrev pub from_salt : Phc → List (List ℕ)
 from_salt v = field strict_base64 v.salt ++ field strict_base64 v.hash
 
 -- what a text that is in the grammar begins with
-pub first_and_left : (text t first : List ℕ) (left : List (List ℕ)) (v : Phc) → PhcText text v → text ≡ 36 ∷ t → fields_of t ≡ first ∷ left → (first ≡ v.algorithm) × (left ≡ field version_text v.version ++ from_params v)
-first_and_left text t first left v h e f =
-    let same : 36 ∷ t ≡ 36 ∷ join_with_byte 36 (fields v) = sym e ∙ h.1 ∙ joined v.algorithm (field version_text v.version ++ from_params v) in
+pub first_and_left : {text t first : List ℕ} {left : List (List ℕ)} (v : Phc) → PhcText text v → text ≡ 36 ∷ t
+    → fields_of t ≡ first ∷ left → (first ≡ v.algorithm) × (left ≡ field version_text v.version ++ from_params v)
+first_and_left {text} {t} {first} {left} v h e f =
+    let behind : List (List ℕ) = field version_text v.version ++ from_params v in
+    let same : 36 ∷ t ≡ 36 ∷ join_with_byte 36 (fields v) = sym e ∙ h.1 ∙ joined v.algorithm behind in
     let t-is : t ≡ join_with_byte 36 (fields v) = cc in
-    let cut : fields_of t ≡ fields v = ap fields_of t-is ∙ cut_joined 36 v.algorithm (field version_text v.version ++ from_params v) (fields_lack v h.0) in
+    let cut : fields_of t ≡ fields v = ap fields_of t-is ∙ cut_joined 36 v.algorithm behind (fields_lack v h.0) in
     let parts : first ∷ left ≡ fields v = sym f ∙ cut in
     (cc parts, cc parts)
 
@@ -118,7 +123,8 @@ hash_no_item None h p more e = absurd cc
 hash_no_item (Some b) h p more e = base64_no_item b p h.0 cc
 
 -- nor a salt, or a hash in its place
-bytes_no_item : (o r : Option (List ℕ)) → IfSome o (HasBytes 8 48) → IfSome r (HasBytes 4 64) → NoItemFirst (field strict_base64 o ++ field strict_base64 r)
+bytes_no_item : (o r : Option (List ℕ)) → IfSome o (HasBytes 8 48) → IfSome r (HasBytes 4 64)
+    → NoItemFirst (field strict_base64 o ++ field strict_base64 r)
 bytes_no_item None r h k = hash_no_item r k
 bytes_no_item (Some b) r h k = λ p more e. base64_no_item b p h.0 cc
 
@@ -131,14 +137,16 @@ not_v : (p : Pair) → is_param p ≡ true → bytes_eq p.0 (codes "v") ≡ fals
 not_v p h = not-true _ (and_parts (is_name p.0) _ (and_parts _ (is_value p.1) h).0).1
 
 -- a list is no version
-list_no_version : (ps : List Pair) (rest : List (List ℕ)) → are_params ps ≡ true → NoItemFirst rest → NoVersionFirst (list_field ps ++ rest)
+list_no_version : (ps : List Pair) (rest : List (List ℕ)) → are_params ps ≡ true → NoItemFirst rest
+    → NoVersionFirst (list_field ps ++ rest)
 list_no_version [] rest h k d more e = k (codes "v", d) more e
 list_no_version (p ∷ ps) rest h k d more e =
     let one = and_parts (is_param p) (list_all is_param ps) (all_params (p ∷ ps) h) in
     let t = text_item p ps in
     let first : params_text (p ∷ ps) ≡ item (codes "v", d) = cc in
     let same : item (p.0, t.0) ≡ item (codes "v", d) = sym t.1 ∙ first in
-    let pairs : ◌≡◌ {A = Pair} (p.0, t.0) (codes "v", d) = sym (pair_again p.0 t.0 (name_lacks 61 refl p.0 (param_name p one.0))) ∙ ap pair_of same in
+    let pairs : ◌≡◌ {A = Pair} (p.0, t.0) (codes "v", d) =
+    sym (pair_again p.0 t.0 (name_lacks 61 refl p.0 (param_name p one.0))) ∙ ap pair_of same in
     let named : p.0 ≡ codes "v" = ap (λ (q : Pair). q.0) pairs in
     let differs : bytes_eq (codes "v") (codes "v") ≡ false = rw named at (not_v p one.0) in
     absurd cc
@@ -159,17 +167,22 @@ none_after v h none = go v.salt v.hash h.salted none
 -- ---- the field that is read
 
 -- what is no item is no version
-pub no_version_read : (f : List ℕ) (more rest : List (List ℕ)) (o : Option ℕ) → ((p : Pair) → f ≢ item p) → f ∷ more ≡ field version_text o ++ rest → (◌≡◌ {A = Option ℕ} None o) × (f ∷ more ≡ rest)
+pub no_version_read : (f : List ℕ) (more rest : List (List ℕ)) (o : Option ℕ) → ((p : Pair) → f ≢ item p)
+    → f ∷ more ≡ field version_text o ++ rest → (◌≡◌ {A = Option ℕ} None o) × (f ∷ more ≡ rest)
 no_version_read f more rest None h e = (refl, e)
 no_version_read f more rest (Some n) h e = absurd (h (codes "v", decimal n) cc)
 
 -- what is no item is no list
-pub no_list_read : (f : List ℕ) (more rest : List (List ℕ)) (ps : List Pair) → ((p : Pair) → f ≢ item p) → f ∷ more ≡ list_field ps ++ rest → (◌≡◌ {A = List Pair} [] ps) × (f ∷ more ≡ rest)
+pub no_list_read : (f : List ℕ) (more rest : List (List ℕ)) (ps : List Pair) → ((p : Pair) → f ≢ item p)
+    → f ∷ more ≡ list_field ps ++ rest → (◌≡◌ {A = List Pair} [] ps) × (f ∷ more ≡ rest)
 no_list_read f more rest [] h e = (refl, e)
-no_list_read f more rest (p ∷ ps) h e = let t = text_item p ps in absurd (let same : f ≡ params_text (p ∷ ps) = cc in h (p.0, t.0) (same ∙ t.1))
+no_list_read f more rest (p ∷ ps) h e =
+    let t = text_item p ps in
+    absurd (let same : f ≡ params_text (p ∷ ps) = cc in h (p.0, t.0) (same ∙ t.1))
 
 -- an item begins a list
-pub list_read : (f : List ℕ) (more rest : List (List ℕ)) (ps : List Pair) (p : Pair) → f ≡ item p → NoItemFirst rest → f ∷ more ≡ list_field ps ++ rest → (f ≡ params_text ps) × (more ≡ rest)
+pub list_read : (f : List ℕ) (more rest : List (List ℕ)) (ps : List Pair) (p : Pair) → f ≡ item p → NoItemFirst rest
+    → f ∷ more ≡ list_field ps ++ rest → (f ≡ params_text ps) × (more ≡ rest)
 list_read f more rest [] p is k e = absurd (k p more (sym e ∙ ap (λ (x : List ℕ). x ∷ more) is))
 list_read f more rest (q ∷ ps) p is k e = (cc e, cc e)
 
@@ -186,42 +199,41 @@ none_left None e = refl
 none_left (Some x) e = absurd cc
 
 -- a hash that was read has a salt before it
-pub salted_ok : (s o : Option (List ℕ)) (left left' : Option (Bor (List ℕ))) → (IsNone s → left ≡ None) → fields_left left ≡ field strict_base64 o ++ fields_left left' → is_some o ≡ true → is_some s ≡ true
-salted_ok (Some s) o left more h e some = refl
-salted_ok None None left more h e some = absurd cc
-salted_ok None (Some b) left more h e some = absurd (let n = sym (ap fields_left (h refl)) ∙ e in cc)
+pub salt_before_hash : (s o : Option (List ℕ)) (left left' : Option (Bor (List ℕ))) → (IsNone s → left ≡ None)
+    → fields_left left ≡ field strict_base64 o ++ fields_left left' → is_some o ≡ true → is_some s ≡ true
+salt_before_hash (Some s) o left more h e some = refl
+salt_before_hash None None left more h e some = absurd cc
+salt_before_hash None (Some b) left more h e some = absurd (let n = sym (ap fields_left (h refl)) ∙ e in cc)
 
 -- values with the same fields are one
-pub same_phc : (v : Phc) (a : List ℕ) (n : Option ℕ) (ps : List Pair) (s o : Option (List ℕ)) → a ≡ v.algorithm → n ≡ v.version → ps ≡ v.params → s ≡ v.salt → o ≡ v.hash
+pub same_phc : (v : Phc) (a : List ℕ) (n : Option ℕ) (ps : List Pair) (s o : Option (List ℕ)) → a ≡ v.algorithm
+    → n ≡ v.version → ps ≡ v.params → s ≡ v.salt → o ≡ v.hash
     → ◌≡◌ {A = Phc} (record { algorithm = a; version = n; params = ps; salt = s; hash = o }) v
 same_phc v a n ps s o e1 e2 e3 e4 e5 = λ i. record { algorithm = e1 i; version = e2 i; params = e3 i; salt = e4 i; hash = e5 i }
 
 -- the fields that were read one by one
-pub gathered : (t first : List ℕ) (v : Phc) (f0 f1 f2 f3 f4 : List (List ℕ)) → fields_of t ≡ first ∷ f0 → v.algorithm ≡ first → f0 ≡ field version_text v.version ++ f1 → f1 ≡ list_field v.params ++ f2 → f2 ≡ field strict_base64 v.salt ++ f3 → f3 ≡ field strict_base64 v.hash ++ f4 → f4 ≡ [] → fields_of t ≡ fields v
-gathered t first v f0 f1 f2 f3 f4 e a e1 e2 e3 e4 e5 =
-    let last : f3 ≡ field strict_base64 v.hash = e4 ∙ ap (λ (x : List (List ℕ)). field strict_base64 v.hash ++ x) e5 ∙ append-nil (field strict_base64 v.hash) in
-    let all : f0 ≡ field version_text v.version ++ (list_field v.params ++ (field strict_base64 v.salt ++ field strict_base64 v.hash)) = rw (e1, e2, e3, last) refl in
-    rw (e, all, a) refl
+pub gathered : (t : List ℕ) {first : List ℕ} (v : Phc) {f0 f1 f2 f3 f4 : List (List ℕ)}
+    → fields_of t ≡ first ∷ f0 → v.algorithm ≡ first
+    → f0 ≡ field version_text v.version ++ f1
+    → f1 ≡ list_field v.params ++ f2
+    → f2 ≡ field strict_base64 v.salt ++ f3
+    → f3 ≡ field strict_base64 v.hash ++ f4
+    → f4 ≡ [] → fields_of t ≡ fields v
+gathered t v {f3 = f3} e a e1 e2 e3 e4 e5 =
+    let hash : List (List ℕ) = field strict_base64 v.hash in
+    let last : f3 ≡ hash = e4 ∙ ap (λ (x : List (List ℕ)). hash ++ x) e5 ∙ append-nil hash in
+    rw (e, e1, e2, e3, last, a) refl
 
 -- ---- printing
 
--- the text, part by part
-pub phc_text_parts : (v : Phc) → (36 ∷ v.algorithm) ++ (fields_text (field version_text v.version) ++ (fields_text (list_field v.params)
-    ++ (fields_text (field strict_base64 v.salt) ++ fields_text (field strict_base64 v.hash)))) ≡ phc_text v
-phc_text_parts v =
-    let mark : List ℕ → List ℕ = λ f. 36 ∷ f in
-    rw (
-      flat_map-append mark (field version_text v.version) (from_params v),
-      flat_map-append mark (list_field v.params) (from_salt v),
-      flat_map-append mark (field strict_base64 v.salt) (field strict_base64 v.hash),
-    ) refl
-
 -- parameters print as a field, and none as nothing
-pub list_printed : (ps : List Pair) (empty : Bool) → (IsTrue empty ↔ (ps ≡ [])) → empty ≡ false → fields_text (list_field ps) ≡ 36 ∷ params_text ps
+pub list_printed : (ps : List Pair) (empty : Bool) → (IsTrue empty ↔ (ps ≡ [])) → empty ≡ false
+    → fields_text (list_field ps) ≡ 36 ∷ params_text ps
 list_printed [] empty is e = absurd (let f = is.1 refl in cc)
 list_printed (p ∷ ps) empty is e = ap (λ (t : List ℕ). 36 ∷ t) (append-nil (params_text (p ∷ ps)))
 
 -- no parameters print as nothing
-pub list_unprinted : (ps : List Pair) (empty : Bool) → (IsTrue empty ↔ (ps ≡ [])) → empty ≡ true → fields_text (list_field ps) ≡ []
+pub list_unprinted : (ps : List Pair) (empty : Bool) → (IsTrue empty ↔ (ps ≡ [])) → empty ≡ true
+    → fields_text (list_field ps) ≡ []
 list_unprinted [] empty is e = refl
 list_unprinted (p ∷ ps) empty is e = absurd (let f = is.0 e in cc)

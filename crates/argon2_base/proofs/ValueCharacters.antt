@@ -18,7 +18,9 @@ digit_char n h = grind (arith, nat_tests)
 pub decimal_chars : (n : ℕ) → n < 2 ^ 64 → list_all is_value_char (decimal n) ≡ true
 decimal_chars n small = decimal_by_steps (λ n ds. list_all is_value_char ds ≡ true)
     (λ n h. rw (digit_char n h) refl)
-    (λ n ds ten h. let last : n % 10 < 10 = omega arith in rw (list_all-append is_value_char ds ((48 + n % 10) ∷ []), h, digit_char (n % 10) last) refl)
+    (λ n ds ten h.
+    let last : n % 10 < 10 = omega arith in
+    rw (list_all-append is_value_char ds ((48 + n % 10) ∷ []), h, digit_char (n % 10) last) refl)
     n small
 
 -- what passes at each place
@@ -28,7 +30,8 @@ list_all_get p (x ∷ t) zero h lt = (and_parts (p x) (list_all p t) h).0
 list_all_get p (x ∷ t) (suc i) h lt = list_all_get p t i (and_parts (p x) (list_all p t) h).1 (omega arith)
 
 -- an encoding has characters of its alphabet alone
-encoded_chars : (p : ℕ → Bool) (t : List ℕ) (m : List ℕ) → list_all p t ≡ true → length t ≡ 64 → IsBytes m → list_all p (encode_symbols t m) ≡ true
+encoded_chars : (p : ℕ → Bool) (t : List ℕ) (m : List ℕ) → list_all p t ≡ true → length t ≡ 64 → IsBytes m
+    → list_all p (encode_symbols t m) ≡ true
 unfolding encode_symbols
 encoded_chars p t [] h len bytes = refl
 encoded_chars p t (a ∷ []) h len bytes =

@@ -46,7 +46,8 @@ abbrev pub pairs_eq : List Pair → List Pair → Bool
 pairs_eq = pointwise (λ p q. bytes_eq p.0 q.0 && bytes_eq p.1 q.1)
 
 pub pairs_eq_equiv : IsEquivalence pairs_eq
-pairs_eq_equiv = lists_equiv (and_equiv (on_equiv (λ (p : Pair). p.0) nat_list_eq_equiv) (on_equiv (λ (p : Pair). p.1) nat_list_eq_equiv))
+pairs_eq_equiv = lists_equiv (and_equiv (on_equiv (λ (p : Pair). p.0) nat_list_eq_equiv)
+    (on_equiv (λ (p : Pair). p.1) nat_list_eq_equiv))
 
 -- ---- what a text says
 

@@ -1,8 +1,12 @@
 -- A PHC text, cut at its `$`.
-use Rattle.std.specs.Prelude.{◌≡◌, ◌==◌, ℕ, List, [], ◌∷◌, codes, Option, Some, None}
+use Rattle.std.specs.Prelude.{◌≡◌, ◌==◌, ℕ, List, [], ◌∷◌, ◌++◌, codes, Option, Some, None, Result, IfOk, IfErr, IfSome, IsNone, IsOkAnd}
 use Rattle.std.specs.List.{slice_split}
 use Rattle.std.specs.Borrow.{Bor}
+use Rattle.argon2_base.specs.Base64.{strict_base64}
 use Rattle.argon2_base.specs.ParamsText.{Pair, item}
+use Rattle.argon2_base.specs.PhcText.{HasBytes, field}
+use Rattle.argon2_base.specs.declared.error.password_hash.Error.{Error}
+use Rattle.argon2_base.specs.declared.error.password_hash.Error.TheVariants.{EncodingInvalid}
 
 -- the parts between the `$`
 abbrev pub fields_of : List ℕ → List (List ℕ)
@@ -20,3 +24,15 @@ NoVersionFirst fs = (d : List ℕ) (more : List (List ℕ)) → fs ≡ item (cod
 -- no item stands first
 abbrev pub NoItemFirst : List (List ℕ) → Type 0
 NoItemFirst fs = (p : Pair) (more : List (List ℕ)) → fs ≡ item p ∷ more → ⊥
+
+-- The answer of a reader of bytes, at least low and at most high of them, where fields are left: the
+-- bytes where strict Base64 of so many stands first, none where nothing is left, else a refusal.
+pub record IsBytesField (low high : ℕ) (left : List (List ℕ))
+    (r : Result (Option (List ℕ) × Option (Bor (List ℕ))) Error) : Type 0
+  where
+    pub found : IfOk r (λ x. (left ≡ field strict_base64 x.0 ++ fields_left x.1) × IfSome x.0 (HasBytes low high))
+    pub end : IfOk r (λ x. IsNone x.0 → x.1 ≡ None)
+    pub only : (o : Option (List ℕ)) (rest : List (List ℕ)) →
+        IfSome o (HasBytes low high) → (IsNone o → rest ≡ []) → left ≡ field strict_base64 o ++ rest →
+        IsOkAnd r (λ x. (x.0 ≡ o) × (fields_left x.1 ≡ rest))
+    pub invalid : IfErr r (λ e. e ≡ EncodingInvalid)

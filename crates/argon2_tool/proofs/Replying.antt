@@ -28,7 +28,8 @@ before_reply replies input message (Text refusal) is h = none_of_input replies i
 
 -- a call that refuses the input fails before a reply
 pub refused_before : {X : Type 0} → (replies : List ℕ → List ℕ → Type 0) (input : Option (List ℕ))
-    (message : List ℕ) (r : Result X Failure) → IfSome input (λ m. message ≡ m) → IfErr r (IsRefusalOf (replies message)) → IfErr r (IsBeforeReply replies input)
+    (message : List ℕ) (r : Result X Failure) → IfSome input (λ m. message ≡ m)
+    → IfErr r (IsRefusalOf (replies message)) → IfErr r (IsBeforeReply replies input)
 refused_before replies input message (Ok x) is h = tt
 refused_before replies input message (Err f) is h = before_reply replies input message f is h
 

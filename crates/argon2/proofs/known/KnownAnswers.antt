@@ -80,7 +80,15 @@ address_value = refl
 -- of an algorithm and three costs
 calls : ℕ → ℕ → ℕ → ℕ → ℕ
 calls algorithm m t p =
-    mixing_calls (record { algorithm = algorithm; version = 19; m_cost = m; t_cost = t; p_cost = p; secret = []; associated = [] })
+    mixing_calls (record {
+      algorithm = algorithm;
+      version = 19;
+      m_cost = m;
+      t_cost = t;
+      p_cost = p;
+      secret = [];
+      associated = [];
+    })
 
 -- for Argon2d, Argon2id and Argon2i
 calls_values : (calls 0 32 3 4 ∷ calls 2 32 3 4 ∷ calls 1 32 3 4

@@ -6,7 +6,15 @@ use Rattle.argon2.specs.InitialHash.{initial_hash}
 use Rattle.argon2.proofs.known.Computing.{digests}
 
 ctx_rfc : Context
-ctx_rfc = record { algorithm = 2; version = 19; m_cost = 32; t_cost = 3; p_cost = 4; secret = replicate 8 3; associated = replicate 12 4 }
+ctx_rfc = record {
+  algorithm = 2;
+  version = 19;
+  m_cost = 32;
+  t_cost = 3;
+  p_cost = 4;
+  secret = replicate 8 3;
+  associated = replicate 12 4;
+}
 
 initial_hash_value : initial_hash ctx_rfc (replicate 32 1) (replicate 16 2) 32
     ≡ bytes_high_first 32 0x2889de487eb42ae500c0007ed9252f1069eadec40d5765b485de6dc2437a67b8

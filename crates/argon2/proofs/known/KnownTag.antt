@@ -45,7 +45,8 @@ made_once n m =
 tag_once : (ctx : Context) (password salt : List ℕ) (n : ℕ)
     → tag_of ctx password salt n ≡ (
     let hash = initial_hash ctx password salt n in
-    long_hash_once n (bytes_of (last_block ctx (λ lane column. words_of (long_hash_once 1024 (hash ++ number column ++ number lane))))))
+    long_hash_once n (bytes_of (last_block ctx
+    (λ lane column. words_of (long_hash_once 1024 (hash ++ number column ++ number lane))))))
 unfolding tag_of first_block block_after
 tag_once ctx password salt n =
     let hash = initial_hash ctx password salt n in
@@ -55,7 +56,15 @@ tag_once ctx password salt n =
 
 -- one lane, and one pass over eight blocks
 ctx_argon2id : Context
-ctx_argon2id = record { algorithm = 2; version = 19; m_cost = 8; t_cost = 1; p_cost = 1; secret = codes "secret"; associated = codes "data" }
+ctx_argon2id = record {
+  algorithm = 2;
+  version = 19;
+  m_cost = 8;
+  t_cost = 1;
+  p_cost = 1;
+  secret = codes "secret";
+  associated = codes "data";
+}
 
 known_tag : tag_of ctx_argon2id (codes "password") (codes "somesalt") 32
     ≡ bytes_high_first 32 0x018254e3c239eff6bebb81e68b5355ccf537386553d74828065728b9723a5b54

@@ -31,6 +31,7 @@ pub data_read : (s : List ℕ) (r : Result AssociatedData Error) (fault : HashEr
     → MatchResult (result_or r (Err fault)) (λ associated. short_bytes 32 s ≡ Some (data_bytes associated))
     (λ e. (short_bytes 32 s ≡ None) × (fault_of e ≡ fault_of fault))
 data_read s (Ok associated) fault bytes h =
-    let fits : length (data_bytes associated) ≤ 32 = omega (arith, length-take associated.bytes.len associated.bytes.bytes, associated.bytes.fits) in
+    let fits : length (data_bytes associated) ≤ 32 =
+    omega (arith, length-take associated.bytes.len associated.bytes.bytes, associated.bytes.fits) in
     short_bytes_again 32 s (data_bytes associated) h.0 fits h.1
 data_read s (Err e) fault bytes h = (fault_refused 32 s e bytes h, refl)

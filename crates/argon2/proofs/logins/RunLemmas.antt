@@ -104,7 +104,11 @@ module _ (target : Target)
       let set = ap (λ m. get m name) step.1.2 ∙ get-set before n (made target given drawn) name in
       elim (cases_Bool (bytes_eq name n)) [
         | inl hit ↦
-            rw (set, hit) (refl, made_phc given drawn step.1.1, (made_accepts given drawn step.0.short, λ _. made_current given drawn))
+            rw (set, hit) (
+              refl,
+              made_phc given drawn step.1.1,
+              (made_accepts given drawn step.0.short, λ _. made_current given drawn),
+            )
         | inr miss ↦
             same target name (logging_in n given drawn (Ok Rehashed)) older _ _ (rw miss refl) (rw miss refl)
             (set ∙ rw miss refl) (known name)

@@ -64,7 +64,8 @@ module _ (target : Target) (is : IsTarget target) (password salt : List ℕ) whe
   lanes : target.settings.parameters.p_cost < 2 ^ 32
   lanes = few_lanes target.settings.parameters target.settings.parameters.output_len valid
 
-  sized_valid : (fault_with target.settings.parameters (Some (tag_length target.settings)) ≡ None) × (4 ≤ tag_length target.settings)
+  sized_valid : (fault_with target.settings.parameters (Some (tag_length target.settings)) ≡ None)
+      × (4 ≤ tag_length target.settings)
   sized_valid = set_length target.settings.parameters target.settings.parameters.output_len valid
 
   abbrev hash : List ℕ
@@ -104,7 +105,12 @@ module _ (target : Target) (is : IsTarget target) (password salt : List ℕ) whe
 
   -- it shows the target's settings
   pub made_shows : (v : Phc) → v ≡ made target password salt → shown_settings v ≡ Ok (sized target.settings)
-  made_shows v e = rw (e, parameters_shown, algorithm_named-name target.settings.algorithm, version_numbered-number target.settings.version) refl
+  made_shows v e = rw (
+    e,
+    parameters_shown,
+    algorithm_named-name target.settings.algorithm,
+    version_numbered-number target.settings.version,
+  ) refl
 
   -- its text is accepted
   pub made_accepted : (v : Phc) → v ≡ made target password salt → HasBytes 8 48 salt → length password ≤ 4294967295

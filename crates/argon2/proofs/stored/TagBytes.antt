@@ -41,7 +41,8 @@ IsBytes-low_first i (suc k) n (suc j) = IsBytes-low_first (suc i) k n j
 -- the bytes of words
 IsBytes-words : (ws : List ℕ) → IsBytes (flat_map (to_le_bytes w64) ws)
 IsBytes-words [] i = omega arith
-IsBytes-words (w ∷ ws) i = IsBytes-append (to_le_bytes w64 w) (flat_map (to_le_bytes w64) ws) (IsBytes-low_first 0 8 w) (IsBytes-words ws) i
+IsBytes-words (w ∷ ws) i = IsBytes-append (to_le_bytes w64 w) (flat_map (to_le_bytes w64) ws)
+    (IsBytes-low_first 0 8 w) (IsBytes-words ws) i
 
 length-words : (ws : List ℕ) → length (flat_map (to_le_bytes w64) ws) ≡ 8 * length ws
 length-words [] = refl

@@ -43,7 +43,8 @@ both true b h = (refl, h)
 both false b h = absurd cc
 
 tag_again : (secret password : List ℕ) (stored : Stored) → is_tag secret password stored ≡ true
-    → (length password ≤ 4294967295) × (stored.hash ≡ tag_of (context_with stored.settings secret) password stored.salt (length stored.hash))
+    → (length password ≤ 4294967295) × (stored.hash
+    ≡ tag_of (context_with stored.settings secret) password stored.salt (length stored.hash))
 tag_again secret password stored h =
     let parts = both (leb (length password) 4294967295) _ h in
     (leb-true (length password) 4294967295 parts.0, (bytes_eq-Decides stored.hash _).0 parts.1)
@@ -73,7 +74,8 @@ stored_from v os oh =
 
 module _ (secret password : List ℕ) (v : Phc) where
   accepts_with : (salt hash : List ℕ) (rp : Result Parameters Fault) (oa : Option Variant) (ov : Option Numbered)
-      → v.salt ≡ Some salt → v.hash ≡ Some hash → params_of (Some (length hash)) v.params ≡ rp → algorithm_named v.algorithm ≡ oa → version_shown v.version ≡ ov
+      → v.salt ≡ Some salt → v.hash ≡ Some hash → params_of (Some (length hash)) v.params ≡ rp
+      → algorithm_named v.algorithm ≡ oa → version_shown v.version ≡ ov
       → outcome secret password (stored_with salt hash rp oa ov) ≡ Ok tt → AcceptsBy secret password v
   accepts_with salt hash (Err e) oa ov es eh ep ea ev h = absurd cc
   accepts_with salt hash (Ok parameters) None ov es eh ep ea ev h = absurd cc
@@ -95,7 +97,8 @@ module _ (secret password : List ℕ) (v : Phc) where
         same_tag = tag.1;
       }
 
-  accepts_from : (os oh : Option (List ℕ)) → v.salt ≡ os → v.hash ≡ oh → outcome secret password (stored_from v os oh) ≡ Ok tt → AcceptsBy secret password v
+  accepts_from : (os oh : Option (List ℕ)) → v.salt ≡ os → v.hash ≡ oh
+      → outcome secret password (stored_from v os oh) ≡ Ok tt → AcceptsBy secret password v
   accepts_from None oh es eh h = absurd cc
   accepts_from (Some salt) None es eh h = absurd cc
   accepts_from (Some salt) (Some hash) es eh h = accepts_with salt hash _ _ _ es eh refl refl refl h
@@ -107,8 +110,17 @@ module _ (secret password : List ℕ) (v : Phc) where
   -- and there it is
   verified_accepts : AcceptsBy secret password v → verified secret password v ≡ Ok tt
   verified_accepts a =
-      let same = (bytes_eq-Decides a.hash (tag_of (context_with a.settings secret) password a.salt (length a.hash))).1 a.same_tag in
-      rw (a.has_salt, a.has_hash, a.has_parameters, a.has_algorithm, a.has_version, le-leb (length password) 4294967295 a.short, same) refl
+      let same = (bytes_eq-Decides a.hash (tag_of (context_with a.settings secret) password a.salt (length a.hash))).1
+      a.same_tag in
+      rw (
+        a.has_salt,
+        a.has_hash,
+        a.has_parameters,
+        a.has_algorithm,
+        a.has_version,
+        le-leb (length password) 4294967295 a.short,
+        same,
+      ) refl
 
   -- what an answer says of the conditions
   pub exact : (r : Result (Unit {0}) Error) → IsVerifyAnswer secret password v r
@@ -119,7 +131,8 @@ module _ (secret password : List ℕ) (v : Phc) where
   exact (Err e) (inr is) = inl (want_of_memory e (let same = is.0 in cc))
 
 -- the same of a text that has this value and no other
-pub exact_text : (secret password text : List ℕ) (v : Phc) (r : Result (Unit {0}) Error) → PhcText text v → ((w : Phc) → PhcText text w → v ≡ w)
+pub exact_text : (secret password text : List ℕ) (v : Phc) (r : Result (Unit {0}) Error) → PhcText text v
+    → ((w : Phc) → PhcText text w → v ≡ w)
     → IsVerifyAnswer secret password v r
     → MatchResult r (λ _. Accepts secret password text) (λ e. (e ≡ OutOfMemory) ⊎ (Accepts secret password text → ⊥))
 exact_text secret password text v (Ok x) has only h = (v, has, exact secret password v (Ok x) h)

@@ -1,10 +1,9 @@
 //! The fields of a PHC text, read one by one.
 
-ghost use Rattle.std.specs.Prelude.{◌≡◌, ◌<◌, ◌^◌, ◌++◌, ◌∷◌, [], ℕ, List, None, Option, IfOk, IfErr, IfSome, IsOkAnd, IsNone, IsTrue};
-ghost use Rattle.argon2_base.specs.Base64.{strict_base64};
+ghost use Rattle.std.specs.Prelude.{◌≡◌, ◌<◌, ◌^◌, ◌++◌, ◌∷◌, ℕ, List, Option, IfOk, IfErr, IfSome, IsOkAnd, IsTrue};
 ghost use Rattle.argon2_base.specs.ParamsText.{Pair, are_params};
-ghost use Rattle.argon2_base.specs.PhcFields.{fields_of, fields_left, NoVersionFirst, NoItemFirst};
-ghost use Rattle.argon2_base.specs.PhcText.{HasBytes, field, list_field, version_text};
+ghost use Rattle.argon2_base.specs.PhcFields.{fields_of, fields_left, IsBytesField, NoVersionFirst, NoItemFirst};
+ghost use Rattle.argon2_base.specs.PhcText.{field, list_field, version_text};
 ghost use Rattle.argon2_base.specs.declared.error.password_hash.Error.TheVariants.{EncodingInvalid};
 
 use super::bytes::{Output, Salt, read_base64};
@@ -75,15 +74,7 @@ pub(super) fn params_field(left: Option<&str>) -> Result<(ParamsString, Option<&
 
 // The salt, where anything is left, and what is left.
 pub(super) fn salt_field(left: Option<&str>) -> Result<(Option<Salt>, Option<&str>)>
-    ensures found { IfOk result (λ x.
-        (fields_left left.entry ≡ field strict_base64 x.0 ++ fields_left x.1)
-        × IfSome x.0 (HasBytes 8 48)) }
-    ensures end { IfOk result (λ x. IsNone x.0 → x.1 ≡ None) }
-    ensures only { (o : Option (List ℕ)) (rest : List (List ℕ))
-        → IfSome o (HasBytes 8 48) → (IsNone o → rest ≡ [])
-        → fields_left left.entry ≡ field strict_base64 o ++ rest
-        → IsOkAnd result (λ x. (x.0 ≡ o) × (fields_left x.1 ≡ rest)) }
-    ensures invalid { IfErr result (λ e. e ≡ EncodingInvalid) }
+    ensures { IsBytesField 8 48 (fields_left left.entry) result }
 {
     let Some(text) = left else {
         return Ok((None, None));
@@ -100,15 +91,7 @@ pub(super) fn salt_field(left: Option<&str>) -> Result<(Option<Salt>, Option<&st
 
 // The hash, where anything is left, and what is left.
 pub(super) fn hash_field(left: Option<&str>) -> Result<(Option<Output>, Option<&str>)>
-    ensures found { IfOk result (λ x.
-        (fields_left left.entry ≡ field strict_base64 x.0 ++ fields_left x.1)
-        × IfSome x.0 (HasBytes 4 64)) }
-    ensures end { IfOk result (λ x. IsNone x.0 → x.1 ≡ None) }
-    ensures only { (o : Option (List ℕ)) (rest : List (List ℕ))
-        → IfSome o (HasBytes 4 64) → (IsNone o → rest ≡ [])
-        → fields_left left.entry ≡ field strict_base64 o ++ rest
-        → IsOkAnd result (λ x. (x.0 ≡ o) × (fields_left x.1 ≡ rest)) }
-    ensures invalid { IfErr result (λ e. e ≡ EncodingInvalid) }
+    ensures { IsBytesField 4 64 (fields_left left.entry) result }
 {
     let Some(text) = left else {
         return Ok((None, None));

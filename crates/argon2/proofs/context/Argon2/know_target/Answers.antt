@@ -11,7 +11,9 @@ returns c =
       valid = search rules;
       m_cost = search rules;
       t_cost = search rules;
-      keyid = at_most 8 c.keyid.result.now _ (c.keyid.ensures.value ∙ keyid) c.know_bytes.ensures (rw keyid at c.keyid.ensures.fits);
-      associated = at_most 32 c.«data».result.now _ (c.«data».ensures.value ∙ associated) c.know_bytes-2.ensures (rw associated at c.«data».ensures.fits);
+      keyid = at_most 8 c.keyid.result.now _ (c.keyid.ensures.value ∙ keyid) c.know_bytes.ensures
+          (rw keyid at c.keyid.ensures.fits);
+      associated = at_most 32 c.«data».result.now _ (c.«data».ensures.value ∙ associated) c.know_bytes-2.ensures
+          (rw associated at c.«data».ensures.fits);
       tag_length = c.requires;
     }

@@ -3,4 +3,5 @@ use Rattle.argon2.proofs.stored.Asked.{named_asked}
 use Rattle.argon2.proofs.password_hash.hashing.asked_algorithm.Goals as goal
 
 pub returns : goal.returns
-returns c = named_asked c.in-Some.name.now (option_copied c.args.name) c.try_from.result (ap option_copied c.in-Some.is) c.try_from.ensures
+returns c = named_asked c.in-Some.name.now (option_copied c.args.name) c.try_from.result
+    (ap option_copied c.in-Some.is) c.try_from.ensures

@@ -1,4 +1,5 @@
 use Rattle.std.proofs.Common.{length, map, ◌≡◌, ◌/◌, ap, sym, ◌∙◌, arith}
+use Rattle.std.proofs.lemmas.Grind.{common_steps}
 use Rattle.std.proofs.lemmas.List.{take_all}
 use Rattle.std.specs.Int.{w64, from_le_bytes}
 use Rattle.std.specs.Simd.{first_chunks}
@@ -14,3 +15,6 @@ returns c =
     let whole = take_all c.words.k pieces (omega arith) in
     let cut = c.as_chunks.ensures.front ∙ ap (λ n. first_chunks 8 (n / 8) c.args.block.now) c.requires in
     sym all ∙ c.words.invariant.done ∙ ap (map (from_le_bytes w64)) (whole ∙ cut)
+
+pub words-preserved : goal.words-preserved
+words-preserved c = grind (arith, common_steps)

@@ -25,8 +25,9 @@ returns c i k h l =
     let b7 = c.exchange_twos-4.ensures.right ∙ ap₂ twos_right a5 a7 in
     below_eight (λ i. (k : ℕ) → k < 8
     → lane_word (
-    c.exchange_fours.result.0 ∷ c.exchange_fours-2.result.0 ∷ c.exchange_fours-3.result.0 ∷ c.exchange_fours-4.result.0
-    ∷ c.exchange_fours.result.1 ∷ c.exchange_fours-2.result.1 ∷ c.exchange_fours-3.result.1 ∷ c.exchange_fours-4.result.1 ∷ []) i k ≡ lane_word x k i)
+    c.exchange_fours.result.0 ∷ c.exchange_fours-2.result.0 ∷ c.exchange_fours-3.result.0
+    ∷ c.exchange_fours-4.result.0 ∷ c.exchange_fours.result.1 ∷ c.exchange_fours-2.result.1
+    ∷ c.exchange_fours-3.result.1 ∷ c.exchange_fours-4.result.1 ∷ []) i k ≡ lane_word x k i)
     (turned_lanes x _ 0 (c.exchange_fours.ensures.left ∙ ap₂ fours_left b0 b4))
     (turned_lanes x _ 1 (c.exchange_fours-2.ensures.left ∙ ap₂ fours_left b1 b5))
     (turned_lanes x _ 2 (c.exchange_fours-3.ensures.left ∙ ap₂ fours_left b2 b6))

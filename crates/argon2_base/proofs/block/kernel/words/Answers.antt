@@ -13,7 +13,9 @@ rows-preserved c w h =
       | inl before ↦ c.store_row.ensures.below w before ∙ c.rows.invariant w before
       | inr here ↦
           row_stored c.args.columns.now (words_in_eights r) c.store_row.new.out i
-          (λ k l. c.store_row.ensures.left k l ∙ ap (bit_xor _) (sym (word_in_eights r (2 * i) k (16 * i + k) (omega arith) l (omega arith))))
-          (λ k l. c.store_row.ensures.right k l ∙ ap (bit_xor _) (sym (word_in_eights r (2 * i + 1) k (16 * i + 8 + k) (omega arith) l (omega arith))))
+          (λ k l. c.store_row.ensures.left k l
+          ∙ ap (bit_xor _) (sym (word_in_eights r (2 * i) k (16 * i + k) (omega arith) l (omega arith))))
+          (λ k l. c.store_row.ensures.right k l
+          ∙ ap (bit_xor _) (sym (word_in_eights r (2 * i + 1) k (16 * i + 8 + k) (omega arith) l (omega arith))))
           w here h
     ]

@@ -4,4 +4,5 @@ use Rattle.argon2_base.proofs.block.kernel.words.Given as goal
 
 abbrev pub invariant-rows : goal.invariant-rows
 invariant-rows l = (w : ℕ) → w < 16 * l.i
-    → slice_index l.out w ≡ bit_xor (lane_word l.columns (2 * (w / 16) + w % 2) (w % 16 / 2)) (slice_index (words_in_eights l.r) w)
+    → slice_index l.out w ≡ bit_xor (lane_word l.columns (2 * (w / 16) + w % 2) (w % 16 / 2))
+    (slice_index (words_in_eights l.r) w)

@@ -17,12 +17,14 @@ columns-preserved c =
             | inr now ↦
                 let this : w % 16 / 2 ≡ c.columns.j = omega arith in
                 c.put_column.ensures.here w below this
-                ∙ ap (λ v. slice_index v (2 * (w / 16) + w % 2)) (c.perm.ensures ∙ ap perm (c.column.ensures ∙ ap (λ n. column n c.args.x.now) (sym this)))
+                ∙ ap (λ v. slice_index v (2 * (w / 16) + w % 2))
+                (c.perm.ensures ∙ ap perm (c.column.ensures ∙ ap (λ n. column n c.args.x.now) (sym this)))
           ];
     }
 
 pub returns : goal.returns
 unfolding by_columns
 returns c =
-    counted_is (λ w. slice_index (perm (column (w % 16 / 2) c.args.x.now)) (2 * (w / 16) + w % 2)) 128 c.columns.out c.columns.invariant.long
+    counted_is (λ w. slice_index (perm (column (w % 16 / 2) c.args.x.now)) (2 * (w / 16) + w % 2)) 128 c.columns.out
+    c.columns.invariant.long
     (λ w h. c.columns.invariant.done w h (omega arith))

@@ -17,7 +17,8 @@ rows-preserved c =
             | inr now ↦
                 let this : w / 16 ≡ c.rows.i = omega arith in
                 c.put_row.ensures.here w below this
-                ∙ ap (λ v. slice_index v (w % 16)) (c.perm.ensures ∙ ap perm (c.row.ensures ∙ ap (λ n. row n c.args.x.now) (sym this)))
+                ∙ ap (λ v. slice_index v (w % 16))
+                (c.perm.ensures ∙ ap perm (c.row.ensures ∙ ap (λ n. row n c.args.x.now) (sym this)))
           ];
     }
 

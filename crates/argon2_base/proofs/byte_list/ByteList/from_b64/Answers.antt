@@ -25,5 +25,8 @@ returns-in-Ok g c =
     (decoded.bytes, decoded.text)
 
 pub returns-in-Err : goal.returns-in-Err
-returns-in-Err g c =
-    (search rules, λ bytes are is. decode_slice_err c.args.text.now bytes g.row.N c.in-Err.field-0 are is (search rules) (search rules))
+returns-in-Err g c = (
+  search rules,
+  λ bytes are is. decode_slice_err c.args.text.now bytes g.row.N c.in-Err.field-0 are is
+      (search rules) (search rules),
+)

@@ -12,10 +12,12 @@ returns-in_default g c = elim (cases_lt g.row.N (length (strict_base64 c.args.by
 
 pub unreachable-requires : goal.unreachable-requires
 unreachable-requires g c =
-    let text = strict_base64_written c.args.bytes.now _ c.encode_slice.new.output c.in-Ok.len c.encode_slice.auto.output c.in-Ok.ensures.fits c.in-Ok.ensures.too_small c.in-Ok.ensures.written in
+    let text = strict_base64_written c.args.bytes.now _ c.encode_slice.new.output c.in-Ok.len
+    c.encode_slice.auto.output c.in-Ok.ensures.fits c.in-Ok.ensures.too_small c.in-Ok.ensures.written in
     c.in_default-from_utf8.ensures.cases.0 (rw text (IsUtf8-strict_base64 c.args.bytes.now))
 
 pub returns : goal.returns
 returns g c =
-    let text = strict_base64_written c.args.bytes.now _ c.encode_slice.new.output c.in-Ok.len c.encode_slice.auto.output c.in-Ok.ensures.fits c.in-Ok.ensures.too_small c.in-Ok.ensures.written in
+    let text = strict_base64_written c.args.bytes.now _ c.encode_slice.new.output c.in-Ok.len
+    c.encode_slice.auto.output c.in-Ok.ensures.fits c.in-Ok.ensures.too_small c.in-Ok.ensures.written in
     c.push_str.ensures.bytes ∙ rw c.new-text.ensures (c.in-Ok-from_utf8.ensures.cases.0 ∙ text)

@@ -9,7 +9,8 @@ returns-then-text-gt86-clause-only c = λ b bytes short is. absurd (omega (arith
 
 pub returns-in_default-clause-only : goal.returns-in_default-clause-only
 returns-in_default-clause-only c = λ b bytes short is.
-    strict_base64_never_refused c.args.text.now b c.in_default.field-0 bytes is (rw c.as_bytes.ensures.value at c.in_default.ensures.err)
+    strict_base64_never_refused c.args.text.now b c.in_default.field-0 bytes is
+    (rw c.as_bytes.ensures.value at c.in_default.ensures.err)
 
 pub returns-then-len-gt64-clause-only : goal.returns-then-len-gt64-clause-only
 returns-then-len-gt64-clause-only c = λ b bytes short is.

@@ -4,7 +4,8 @@ use Rattle.argon2_base.proofs.phc.value.+decimal_text.Goals as goal
 
 pub returns-then-n-lt10 : goal.returns-then-n-lt10
 returns-then-n-lt10 t c =
-    c.with_digit.ensures ∙ ap (λ (s : List ℕ). s ++ (48 + c.args.n) ∷ []) c.new.ensures ∙ sym (decimal_digit c.args.n c.if-n-lt10.true)
+    c.with_digit.ensures ∙ ap (λ (s : List ℕ). s ++ (48 + c.args.n) ∷ []) c.new.ensures
+    ∙ sym (decimal_digit c.args.n c.if-n-lt10.true)
 
 pub with_digit-requires-2-clause-room : goal.with_digit-requires-2-clause-room
 with_digit-requires-2-clause-room t c =

@@ -15,7 +15,8 @@ returns-clause-accepted c =
       hash = Some c.in_ok-hash.hash;
     } in
     let is : v ≡ made (target_of c.args.self.now) c.args.password.now c.args.salt.now = search rules in
-    made_accepted (target_of c.args.self.now) c.know_target.ensures c.args.password.now c.args.salt.now v is (search rules) (search rules)
+    made_accepted (target_of c.args.self.now) c.know_target.ensures c.args.password.now c.args.salt.now v is
+    (search rules) (search rules)
 
 pub returns-clause-shown : goal.returns-clause-shown
 returns-clause-shown c =

@@ -4,4 +4,5 @@ use Rattle.argon2.proofs.stored.Verified.{exact}
 use Rattle.argon2.proofs.password_hash.verifying.Argon2PasswordVerifierRefPasswordHash.verify_password.Goals as goal
 
 pub returns-clause-accepted : goal.returns-clause-accepted
-returns-clause-accepted c = exact (secret_of c.args.self.now) c.args.password.now (phc_of c.args.hash.now) c.verify.result c.verify.ensures
+returns-clause-accepted c = exact (secret_of c.args.self.now) c.args.password.now (phc_of c.args.hash.now)
+    c.verify.result c.verify.ensures

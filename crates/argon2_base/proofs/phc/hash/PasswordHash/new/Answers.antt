@@ -3,9 +3,8 @@ use Rattle.std.proofs.lemmas.List.{append-nil}
 use Rattle.std.proofs.lemmas.Str.Pattern.{strip_prefix_char}
 use Rattle.argon2_base.specs.Names.{is_name}
 use Rattle.argon2_base.specs.Base64.{strict_base64}
-use Rattle.argon2_base.specs.PhcFields.{fields_left}
 use Rattle.argon2_base.specs.PhcText.{field}
-use Rattle.argon2_base.proofs.PhcTextLemmas.{first_and_left, begins, spelled, from_params, from_salt, no_version, no_item, none_after, left_none, none_left, salted_ok, same_phc, gathered}
+use Rattle.argon2_base.proofs.PhcTextLemmas.{first_and_left, begins, spelled, from_params, from_salt, no_version, no_item, none_after, left_none, none_left, salt_before_hash, same_phc, gathered}
 use Rattle.argon2_base.proofs.phc.hash.PasswordHash.new.Goals as goal
 
 pub returns-in_default-clause-only : goal.returns-in_default-clause-only
@@ -15,37 +14,37 @@ returns-in_default-clause-only c = λ v h.
 
 pub returns-in_err-algorithm-clause-only : goal.returns-in_err-algorithm-clause-only
 returns-in_err-algorithm-clause-only c = λ v h.
-    let e = strip_prefix_char 36 c.args.text.now (Some c.in-Some.text) c.in-Some.ensures.cases (lit< tt) in
-    let s = first_and_left c.args.text.now c.in-Some.text.now c.first_field.result.0.now (fields_left c.first_field.result.1) v h e c.first_field.ensures in
+    let s = first_and_left v h (strip_prefix_char 36 c.args.text.now (Some c.in-Some.text) c.in-Some.ensures.cases (lit< tt))
+    c.first_field.ensures in
     let no : is_name c.first_field.result.0.now ≡ false = c.in_err-algorithm.ensures.when.1 in
     let yes : is_name c.first_field.result.0.now ≡ true = rw s.0 h.0.algorithm in
     absurd cc
 
 pub returns-in_err-version-clause-only : goal.returns-in_err-version-clause-only
 returns-in_err-version-clause-only c = λ v h.
-    let e = strip_prefix_char 36 c.args.text.now (Some c.in-Some.text) c.in-Some.ensures.cases (lit< tt) in
-    let s = first_and_left c.args.text.now c.in-Some.text.now c.first_field.result.0.now (fields_left c.first_field.result.1) v h e c.first_field.ensures in
+    let s = first_and_left v h (strip_prefix_char 36 c.args.text.now (Some c.in-Some.text) c.in-Some.ensures.cases (lit< tt))
+    c.first_field.ensures in
     absurd (c.in_err-version.ensures.only v.version (from_params v) h.0.version (no_version v h.0) s.1)
 
 pub returns-in_err-params-clause-only : goal.returns-in_err-params-clause-only
 returns-in_err-params-clause-only c = λ v h.
-    let e = strip_prefix_char 36 c.args.text.now (Some c.in-Some.text) c.in-Some.ensures.cases (lit< tt) in
-    let s = first_and_left c.args.text.now c.in-Some.text.now c.first_field.result.0.now (fields_left c.first_field.result.1) v h e c.first_field.ensures in
+    let s = first_and_left v h (strip_prefix_char 36 c.args.text.now (Some c.in-Some.text) c.in-Some.ensures.cases (lit< tt))
+    c.first_field.ensures in
     let f1 = c.in_ok-version.ensures.only v.version (from_params v) h.0.version (no_version v h.0) s.1 in
     absurd (c.in_err-params.ensures.only v.params (from_salt v) h.0.params (no_item v h.0) f1.1)
 
 pub returns-in_err-salt-clause-only : goal.returns-in_err-salt-clause-only
 returns-in_err-salt-clause-only c = λ v h.
-    let e = strip_prefix_char 36 c.args.text.now (Some c.in-Some.text) c.in-Some.ensures.cases (lit< tt) in
-    let s = first_and_left c.args.text.now c.in-Some.text.now c.first_field.result.0.now (fields_left c.first_field.result.1) v h e c.first_field.ensures in
+    let s = first_and_left v h (strip_prefix_char 36 c.args.text.now (Some c.in-Some.text) c.in-Some.ensures.cases (lit< tt))
+    c.first_field.ensures in
     let f1 = c.in_ok-version.ensures.only v.version (from_params v) h.0.version (no_version v h.0) s.1 in
     let f2 = c.in_ok-params.ensures.only v.params (from_salt v) h.0.params (no_item v h.0) f1.1 in
     absurd (c.in_err-salt.ensures.only v.salt (field strict_base64 v.hash) h.0.salt (none_after v h.0) f2.1)
 
 pub returns-in_err-hash-clause-only : goal.returns-in_err-hash-clause-only
 returns-in_err-hash-clause-only c = λ v h.
-    let e = strip_prefix_char 36 c.args.text.now (Some c.in-Some.text) c.in-Some.ensures.cases (lit< tt) in
-    let s = first_and_left c.args.text.now c.in-Some.text.now c.first_field.result.0.now (fields_left c.first_field.result.1) v h e c.first_field.ensures in
+    let s = first_and_left v h (strip_prefix_char 36 c.args.text.now (Some c.in-Some.text) c.in-Some.ensures.cases (lit< tt))
+    c.first_field.ensures in
     let f1 = c.in_ok-version.ensures.only v.version (from_params v) h.0.version (no_version v h.0) s.1 in
     let f2 = c.in_ok-params.ensures.only v.params (from_salt v) h.0.params (no_item v h.0) f1.1 in
     let f3 = c.in_ok-salt.ensures.only v.salt (field strict_base64 v.hash) h.0.salt (none_after v h.0) f2.1 in
@@ -53,8 +52,8 @@ returns-in_err-hash-clause-only c = λ v h.
 
 pub returns-then-is_some-clause-only : goal.returns-then-is_some-clause-only
 returns-then-is_some-clause-only c = λ v h.
-    let e = strip_prefix_char 36 c.args.text.now (Some c.in-Some.text) c.in-Some.ensures.cases (lit< tt) in
-    let s = first_and_left c.args.text.now c.in-Some.text.now c.first_field.result.0.now (fields_left c.first_field.result.1) v h e c.first_field.ensures in
+    let s = first_and_left v h (strip_prefix_char 36 c.args.text.now (Some c.in-Some.text) c.in-Some.ensures.cases (lit< tt))
+    c.first_field.ensures in
     let f1 = c.in_ok-version.ensures.only v.version (from_params v) h.0.version (no_version v h.0) s.1 in
     let f2 = c.in_ok-params.ensures.only v.params (from_salt v) h.0.params (no_item v h.0) f1.1 in
     let f3 = c.in_ok-salt.ensures.only v.salt (field strict_base64 v.hash) h.0.salt (none_after v h.0) f2.1 in
@@ -71,14 +70,15 @@ invariant_of-result c = record {
     params = c.in_ok-params.ensures.found.1;
     salt = c.in_ok-salt.ensures.found.1;
     hash = c.in_ok-hash.ensures.found.1;
-    salted = salted_ok c.in_ok-salt.salt c.in_ok-hash.hash c.in_ok-salt.left c.in_ok-hash.left c.in_ok-salt.ensures.end c.in_ok-hash.ensures.found.0;
+    salted = salt_before_hash c.in_ok-salt.salt c.in_ok-hash.hash c.in_ok-salt.left c.in_ok-hash.left
+        c.in_ok-salt.ensures.end c.in_ok-hash.ensures.found.0;
   };
 }
 
 pub returns-clause-only : goal.returns-clause-only
 returns-clause-only c = λ v h.
-    let e = strip_prefix_char 36 c.args.text.now (Some c.in-Some.text) c.in-Some.ensures.cases (lit< tt) in
-    let s = first_and_left c.args.text.now c.in-Some.text.now c.first_field.result.0.now (fields_left c.first_field.result.1) v h e c.first_field.ensures in
+    let s = first_and_left v h (strip_prefix_char 36 c.args.text.now (Some c.in-Some.text) c.in-Some.ensures.cases (lit< tt))
+    c.first_field.ensures in
     let f1 = c.in_ok-version.ensures.only v.version (from_params v) h.0.version (no_version v h.0) s.1 in
     let f2 = c.in_ok-params.ensures.only v.params (from_salt v) h.0.params (no_item v h.0) f1.1 in
     let f3 = c.in_ok-salt.ensures.only v.salt (field strict_base64 v.hash) h.0.salt (none_after v h.0) f2.1 in
@@ -95,7 +95,11 @@ returns-clause-found c =
         params = c.in_ok-params.ensures.found.1;
         salt = c.in_ok-salt.ensures.found.1;
         hash = c.in_ok-hash.ensures.found.1;
-        salted = salted_ok c.in_ok-salt.salt c.in_ok-hash.hash c.in_ok-salt.left c.in_ok-hash.left c.in_ok-salt.ensures.end c.in_ok-hash.ensures.found.0;
+        salted = salt_before_hash c.in_ok-salt.salt c.in_ok-hash.hash c.in_ok-salt.left c.in_ok-hash.left
+            c.in_ok-salt.ensures.end c.in_ok-hash.ensures.found.0;
       },
-      spelled c.args.text.now c.in-Some.text.now _ e (gathered c.in-Some.text.now c.first_field.result.0.now _ _ _ _ _ _ c.first_field.ensures c.in_ok-algorithm.ensures.value c.in_ok-version.ensures.found.0 c.in_ok-params.ensures.found.0 c.in_ok-salt.ensures.found.0 c.in_ok-hash.ensures.found.0 none),
+      spelled c.args.text.now c.in-Some.text.now _ e (
+          gathered c.in-Some.text.now _ c.first_field.ensures c.in_ok-algorithm.ensures.value c.in_ok-version.ensures.found.0
+          c.in_ok-params.ensures.found.0 c.in_ok-salt.ensures.found.0 c.in_ok-hash.ensures.found.0 none
+          ),
     )

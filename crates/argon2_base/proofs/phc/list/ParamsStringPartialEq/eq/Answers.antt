@@ -11,7 +11,8 @@ pub returns : goal.returns
 returns c =
     let ps = c.args.self.now in
     let qs = c.args.other.now in
-    let texts : c.eq.result ≡ bytes_eq (params_text ps) (params_text qs) = rw (c.as_str.ensures.value, c.as_str-2.ensures.value) at c.eq.ensures in
+    let texts : c.eq.result ≡ bytes_eq (params_text ps) (params_text qs) =
+    rw (c.as_str.ensures.value, c.as_str-2.ensures.value) at c.eq.ensures in
     let same = bytes_eq-Decides (params_text ps) (params_text qs) in
     texts ∙ same_from_decides (bytes_eq (params_text ps) (params_text qs)) (pairs_eq ps qs) (
       λ e. one_list (params_text ps) ps qs (c.as_str.ensures.params, refl) (c.as_str-2.ensures.params, same.0 e),
