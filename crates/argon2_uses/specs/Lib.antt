@@ -2,4 +2,5 @@ pub mod Arena
 pub mod Auditor
 pub mod Bound
 pub mod Login
+pub mod Scheduler
 pub mod Vault

@@ -5,4 +5,5 @@ pub mod arena;
 pub mod auditor;
 pub mod bound;
 pub mod login;
+pub mod scheduler;
 pub mod vault;

@@ -1,0 +1,22 @@
+use Rattle.std.proofs.Common.{◌≡◌, ◌+◌, ◌-◌}
+use Rattle.argon2.specs.Argon2.{context_of}
+use Rattle.argon2.specs.Context.{segment_length}
+use Rattle.argon2.specs.Hashing.{blocks_of}
+use Rattle.argon2.specs.Steps.{run}
+use Rattle.argon2_uses.specs.Scheduler.{rounds, lanes_in_rounds}
+use Rattle.argon2_uses.proofs.Rounds.{left}
+use Rattle.argon2_uses.proofs.scheduler.fill_slice.Given as goal
+
+-- the rounds that are left do what all were to do
+abbrev pub invariant-loop-index : goal.invariant-loop-index
+invariant-loop-index l =
+    let ctx = context_of l.argon2 in
+    run ctx l.pass l.slice (rounds ctx.p_cost (segment_length ctx - l.index)) (blocks_of ctx l.memory)
+    ≡ run ctx l.pass l.slice (lanes_in_rounds ctx l.pass l.slice) (blocks_of ctx l.fn.memory)
+
+-- so do the turns that are left
+abbrev pub invariant-loop-lane : goal.invariant-loop-lane
+invariant-loop-lane l =
+    let ctx = context_of l.argon2 in
+    run ctx l.pass l.slice (left ctx l.lane (segment_length ctx - (l.index + 1))) (blocks_of ctx l.memory)
+    ≡ run ctx l.pass l.slice (lanes_in_rounds ctx l.pass l.slice) (blocks_of ctx l.fn.memory)
