@@ -1,0 +1,185 @@
+/*
+ * Compares two libraries of argon2.h, the first being another's and the second ours:
+ *
+ *   comparing OTHER OURS requests COUNT SEED    random contexts, a third with faults
+ *   comparing OTHER OURS texts COUNT SEED       texts, half of them damaged, and writing them
+ *   comparing OTHER OURS time ROUNDS            64 MiB, three passes, one lane and four, in turns
+ *
+ * The first two print a line of counts, after those in which the libraries differ; the last prints lines of
+ * lanes, library, least wall milliseconds and least processor milliseconds.
+ */
+#define _GNU_SOURCE
+#include <argon2.h>
+
+#include <dlfcn.h>
+#include <stdio.h>
+#include <stdlib.h>
+#include <string.h>
+#include <sys/resource.h>
+#include <time.h>
+
+static struct library {
+    int (*ctx)(argon2_context *, argon2_type);
+    int (*verify)(const char *, const void *, size_t, argon2_type);
+    int (*hash)(uint32_t, uint32_t, uint32_t, const void *, size_t, const void *, size_t, void *, size_t, char *,
+        size_t, argon2_type, uint32_t);
+    size_t (*encodedlen)(uint32_t, uint32_t, uint32_t, uint32_t, uint32_t, argon2_type);
+} both[2];
+
+static void load(struct library *library, const char *path) {
+    void *file = dlopen(path, RTLD_NOW | RTLD_LOCAL | RTLD_DEEPBIND);
+    if (!file) fprintf(stderr, "comparing: %s\n", dlerror()), exit(2);
+    *(void **)&library->ctx = dlsym(file, "argon2_ctx");
+    *(void **)&library->verify = dlsym(file, "argon2_verify");
+    *(void **)&library->hash = dlsym(file, "argon2_hash");
+    *(void **)&library->encodedlen = dlsym(file, "argon2_encodedlen");
+}
+
+static uint64_t state;
+
+/* A random number below a bound. */
+static uint32_t below(uint32_t bound) {
+    state ^= state << 13, state ^= state >> 7, state ^= state << 17;
+    return (uint32_t)(state >> 20) % bound;
+}
+
+static void fill(uint8_t *at, size_t n) { while (n--) *at++ = (uint8_t)below(256); }
+
+static size_t lent;
+static int take(uint8_t **at, size_t n) { *at = malloc(n), lent += n; return *at ? 0 : -1; }
+static void give(uint8_t *at, size_t n) { lent -= n, free(at); }
+
+static int requests(long count) {
+    long same = 0, hashed = 0, codes = 0, outputs = 0;
+    for (long i = 0; i < count; i++) {
+        uint8_t out[2][256], pwd[2][64], secret[2][64], salt[64], ad[32];
+        int bad = below(3) == 0, answers[2];
+        uint32_t lanes = bad ? below(4) : 1 + below(4);
+        argon2_type type = bad ? below(4) : below(3);
+        argon2_context contexts[2] = {{
+            .outlen = bad ? below(12) : 4 + below(200), .pwdlen = below(65), .salt = salt,
+            .saltlen = bad ? below(12) : 8 + below(50), .secretlen = below(65), .ad = ad, .adlen = below(33),
+            .t_cost = bad ? below(3) : 1 + below(3), .m_cost = bad ? below(40) : 8 * lanes + below(40),
+            .lanes = lanes, .threads = bad ? below(3) : lanes, .version = below(2) ? 0x10 : 0x13, .flags = below(4),
+        }};
+        fill(pwd[0], 64), fill(secret[0], 64), fill(salt, 64), fill(ad, 32);
+        memcpy(pwd[1], pwd[0], 64), memcpy(secret[1], secret[0], 64), memset(out, 7, sizeof out);
+        if (below(2)) contexts->allocate_cbk = take, contexts->free_cbk = give;
+        if (bad && !below(9)) contexts->free_cbk = NULL;
+        if (bad && !below(9)) contexts->allocate_cbk = NULL;
+        if (bad && !below(8)) contexts->salt = NULL;
+        if (bad && !below(8)) contexts->ad = NULL;
+        contexts[1] = contexts[0];
+        int no_out = bad && !below(8), no_pwd = bad && !below(8), no_secret = !below(8);
+        for (int k = 0; k < 2; k++) {
+            contexts[k].out = no_out ? NULL : out[k];
+            contexts[k].pwd = no_pwd ? NULL : pwd[k];
+            contexts[k].secret = no_secret ? NULL : secret[k];
+            if (no_secret && !bad) contexts[k].secretlen = 0;
+            answers[k] = both[k].ctx(&contexts[k], type);
+            if (lent) printf("not given back: %zu bytes\n", lent), exit(1);
+        }
+        if (answers[0] != answers[1]) codes++, printf("codes %d and %d\n", answers[0], answers[1]);
+        else if (memcmp(out[0], out[1], 256) || memcmp(pwd[0], pwd[1], 64) || memcmp(secret[0], secret[1], 64)
+            || contexts[0].pwdlen != contexts[1].pwdlen) outputs++;
+        else same++, hashed += answers[0] == 0;
+    }
+    printf("%ld requests alike, %ld of them hashed; %ld differ in the code, %ld in what is written\n", same, hashed,
+        codes, outputs);
+    return codes || outputs;
+}
+
+/* A text with one byte changed, cut off, taken out or put in. */
+static void damage(char *text) {
+    static const char marks[] = "$,=amptv0129A/+-";
+    size_t n = strlen(text), at = below(n);
+    char mark = marks[below(sizeof marks - 1)];
+    switch (below(4)) {
+        case 0: text[at] = mark; break;
+        case 1: text[at] = 0; break;
+        case 2: memmove(text + at, text + at + 1, n - at); break;
+        default: memmove(text + at + 1, text + at, n - at + 1), text[at] = mark;
+    }
+}
+
+/* Whether the reference would be asked for more than 100 MiB or hash under a version that there is not. */
+static int is_dear(const char *text) {
+    const char *m = strstr(text, "m="), *t = strstr(text, "t=");
+    return (m && strtoul(m + 2, NULL, 10) > 100000) || (t && strtoul(t + 2, NULL, 10) > 100);
+}
+
+static int texts(long count) {
+    long same = 0, right = 0, codes = 0, accepted = 0, written = 0;
+    for (long i = 0; i < count; i++) {
+        char text[2][600], damaged[601];
+        uint8_t pwd[16], salt[64], out[2][80];
+        argon2_type type = below(3);
+        uint32_t lanes = 1 + below(12), saltlen = 8 + below(41), outlen = 4 + below(61), m = 8 * lanes + below(9);
+        uint32_t t = 1 + below(2), version = below(2) ? 0x10 : 0x13, room = below(6) ? 600 : 1 + below(200);
+        int answers[2];
+        fill(pwd, 16), fill(salt, 64), memset(out, 0, sizeof out), memset(text, 1, sizeof text);
+        for (int k = 0; k < 2; k++)
+            answers[k] = both[k].hash(t, m, lanes, pwd, 16, salt, saltlen, out[k], outlen, text[k], room, type, version);
+        if (answers[0] != answers[1] || (!answers[0] && (strcmp(text[0], text[1]) || memcmp(out[0], out[1], 80)))
+            || both[0].encodedlen(t, m, lanes, saltlen, outlen, type)
+            != both[1].encodedlen(t, m, lanes, saltlen, outlen, type)) written++;
+        if (answers[0]) {
+            i--;
+            continue;
+        }
+        strcpy(damaged, text[0]);
+        if (i % 2) damage(damaged);
+        else if (below(2)) pwd[3] ^= 1;
+        if (is_dear(damaged)) {
+            i--;
+            continue;
+        }
+        for (int k = 0; k < 2; k++) answers[k] = both[k].verify(damaged, pwd, 16, type);
+        if (answers[0] == answers[1]) same++, right += answers[0] == 0;
+        else codes++, printf("codes %d and %d: %s\n", answers[0], answers[1], damaged);
+        accepted += (answers[0] == 0) != (answers[1] == 0);
+    }
+    printf("%ld texts alike, %ld of them accepted; %ld differ in the code, %ld in whether they are accepted; "
+        "%ld written differently\n", same, right, codes, accepted, written);
+    return accepted || written;
+}
+
+static double wall(void) {
+    struct timespec now;
+    clock_gettime(CLOCK_MONOTONIC, &now);
+    return now.tv_sec * 1e3 + now.tv_nsec / 1e6;
+}
+
+static double processor(void) {
+    struct rusage used;
+    getrusage(RUSAGE_SELF, &used);
+    return (used.ru_utime.tv_sec + used.ru_stime.tv_sec) * 1e3 + (used.ru_utime.tv_usec + used.ru_stime.tv_usec) / 1e3;
+}
+
+static int times(long rounds) {
+    for (uint32_t lanes = 1; lanes <= 4; lanes += 3) {
+        double least[2][2] = {{1e9, 1e9}, {1e9, 1e9}};
+        for (long i = 0; i < 2 * rounds; i++) {
+            int k = i % 2;
+            uint8_t out[32];
+            double begun = wall(), used = processor();
+            if (both[k].hash(3, 65536, lanes, "password", 8, "somesaltsomesalt", 16, out, 32, NULL, 0, Argon2_id, 0x13))
+                return 1;
+            begun = wall() - begun, used = processor() - used;
+            if (begun < least[k][0]) least[k][0] = begun;
+            if (used < least[k][1]) least[k][1] = used;
+        }
+        for (int k = 0; k < 2; k++)
+            printf("%u %s %.1f %.1f\n", lanes, k ? "ours" : "other", least[k][0], least[k][1]);
+    }
+    return 0;
+}
+
+int main(int argc, char **argv) {
+    if (argc < 5) return 2;
+    load(&both[0], argv[1]), load(&both[1], argv[2]);
+    state = argc > 5 ? strtoull(argv[5], NULL, 10) * 2654435761u + 88172645463325252ull : 1;
+    if (!strcmp(argv[3], "requests")) return requests(atol(argv[4]));
+    if (!strcmp(argv[3], "texts")) return texts(atol(argv[4]));
+    return times(atol(argv[4]));
+}
