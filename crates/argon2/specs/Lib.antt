@@ -21,6 +21,7 @@ pub use Rattle.argon2_base.specs.Blake2b
 pub use Rattle.argon2_base.specs.Block
 pub use Rattle.argon2_base.specs.Decimal
 pub use Rattle.argon2_base.specs.Error
+pub use Rattle.argon2_base.specs.Hasher
 pub use Rattle.argon2_base.specs.Ident
 pub use Rattle.argon2_base.specs.LongHash
 pub use Rattle.argon2_base.specs.Mixing
