@@ -22,6 +22,7 @@ pub use Rattle.argon2_base.specs.Block
 pub use Rattle.argon2_base.specs.ByteList
 pub use Rattle.argon2_base.specs.Decimal
 pub use Rattle.argon2_base.specs.Error
+pub use Rattle.argon2_base.specs.Hasher
 pub use Rattle.argon2_base.specs.Ident
 pub use Rattle.argon2_base.specs.LongHash
 pub use Rattle.argon2_base.specs.Mixing

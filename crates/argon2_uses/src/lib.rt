@@ -4,6 +4,8 @@
 pub mod arena;
 pub mod auditor;
 pub mod bound;
+pub mod digest;
 pub mod login;
+pub mod passwords;
 pub mod scheduler;
 pub mod vault;

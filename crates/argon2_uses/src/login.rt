@@ -4,7 +4,7 @@ ghost use Rattle.std.specs.Prelude.{◌≡◌, ◌≢◌, ◌↔◌, ℕ, List, 
 ghost use Rattle.std.specs.FinMap.{get};
 ghost use Rattle.argon2.specs.Argon2.{secret_of};
 ghost use Rattle.argon2.specs.Login.{store_of, target_of};
-ghost use Rattle.argon2_uses.specs.Login.{HasPassword, KeepsOthers};
+ghost use Rattle.argon2_uses.specs.Login.{HasPassword, HasPasswordUnder, KeepsOthers};
 
 use argon2::login::{Login, LoginError};
 use argon2::password_hash::Error;
@@ -12,8 +12,8 @@ use argon2::{Argon2, PasswordHasher};
 use rand_core::Rng;
 use std::alloc::Global;
 
-/// Gives a new name a text of its password, made with a salt from `rng` under `argon2`, which has
-/// the store's secret.
+/// Gives a new name a text of its password, made under `argon2` with a salt from `rng`. The secret
+/// of `argon2` is to be the store's.
 ///
 /// # Errors
 /// [`LoginError::Refused`] where no text can be made, and else those of [`Login::add`].
@@ -25,10 +25,11 @@ pub fn register<R: Rng>(
     name: &str,
     password: &[u8],
 ) -> Result<(), LoginError>
-    requires { secret_of argon2.now ≡ (target_of store.old).secret }
     ensures new_name { OnOk result (get (store_of store.old) name.now ≡ None) }
-    ensures registered { OnOk result (HasPassword store.new name.now password.now) }
+    ensures registered { OnOk result
+        (HasPasswordUnder (secret_of argon2.now) store.new name.now password.now) }
     ensures others { KeepsOthers name.now store.old store.new }
+    ensures target { target_of store.new ≡ target_of store.old }
     ensures refused { OnErr result (store_of store.new ≡ store_of store.old) }
 {
     let hash = match argon2.hash_password(alloc, rng, password) {
@@ -53,6 +54,7 @@ pub fn log_in<R: Rng>(
     ensures still { IfOk result (λ yes.
         IsTrue yes → HasPassword store.new name.now password.now) }
     ensures others { KeepsOthers name.now store.old store.new }
+    ensures target { target_of store.new ≡ target_of store.old }
     ensures refused { OnErr result (store_of store.new ≡ store_of store.old) }
 {
     match store.login(rng, name, password) {

@@ -3,8 +3,6 @@ use Rattle.argon2_uses.proofs.Stores.{add_keeps}
 use Rattle.argon2_uses.proofs.login.register.Goals as goal
 
 pub returns-clause-others : goal.returns-clause-others
-returns-clause-others g c = (
-  c.add.ensures.target,
-  add_keeps (store_of c.args.store.now) c.args.name.now c.as_str.result.now c.add.result (store_of c.add.new.self)
-      c.add.ensures.step,
-)
+returns-clause-others g c =
+    add_keeps (store_of c.args.store.now) c.args.name.now c.as_str.result.now c.add.result (store_of c.add.new.self)
+    c.add.ensures.step

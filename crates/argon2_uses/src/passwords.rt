@@ -1,0 +1,32 @@
+//! Passwords as stored texts, under the default settings and no secret.
+
+ghost use Rattle.std.specs.Prelude.{◌≡◌, ◌↔◌, [], IsTrue, IfOk};
+ghost use Rattle.argon2.specs.Accepts.{Accepts};
+ghost use Rattle.argon2.specs.PasswordHash.{phc_of};
+ghost use Rattle.argon2.specs.PhcText.{phc_text};
+
+use argon2::password_hash::{Error, Result};
+use argon2::{Argon2, PasswordHash, PasswordHasher, PasswordVerifier};
+use rand_core::Rng;
+use std::alloc::Global;
+
+/// What to store for a new password: it prints as the text.
+pub fn stored<R: Rng>(alloc: Global, rng: &mut R, password: &[u8]) -> Result<PasswordHash>
+    ensures { IfOk result (λ hash. Accepts [] password.now (phc_text (phc_of hash))) }
+{
+    Argon2::default().hash_password(alloc, rng, password)
+}
+
+/// Whether a stored text accepts a password.
+pub fn is_accepted(alloc: Global, password: &[u8], text: &str) -> Result<bool>
+    ensures { IfOk result (λ yes. IsTrue yes ↔ Accepts [] password.now text.now) }
+{
+    match Argon2::default().verify_password(alloc, password, text) {
+        Ok(()) => Ok(true),
+        Err(Error::PasswordInvalid) => Ok(false),
+        Err(e) => Err(e),
+    }
+}
+
+#[cfg(test)]
+mod tests;
