@@ -7,7 +7,7 @@ use Rattle.std.proofs.lemmas.Slice.{drop-append-drop}
 use Rattle.std.proofs.Math.Seq.{take-append_seam}
 use Rattle.argon2.specs.declared.context.Argon2.{Argon2}
 use Rattle.argon2.specs.Argon2.{context_of}
-use Rattle.argon2.specs.Context.{Context, lane_length, block_count}
+use Rattle.argon2.specs.Context.{Context, IsValid, lane_length, block_count}
 use Rattle.argon2.specs.Hashing.{blocks_of, KeepsOtherColumns, KeepsRest, IsBegun, IsFilled, IsHashed}
 use Rattle.argon2.specs.InitialHash.{first_block}
 use Rattle.argon2.specs.Laws.{Begins}
@@ -43,9 +43,10 @@ module _ (argon2 : Argon2) (count : ℕ) (all : count ≡ block_count (context_o
       ∙ same lane column l low high ∙ get_or-take count old place [] (omega (arith, below, all))
 
   -- the beginning of a fill
-  pub is_begun : (password salt : List ℕ) (n : ℕ) → Begins ctx (first_block ctx password salt n) blocks →
+  pub is_begun : IsValid ctx → (password salt : List ℕ) (n : ℕ) → Begins ctx (first_block ctx password salt n) blocks →
       KeepsOtherColumns ctx (take count old) blocks → IsBegun argon2 password salt n old (blocks ++ drop count old)
-  is_begun password salt n begins same = record {
+  is_begun valid password salt n begins same = record {
+    valid = valid;
     begins = subst (Begins ctx (first_block ctx password salt n)) (sym (front begins.size)) begins;
     others = others begins.size same;
     rest = rest begins.size;
@@ -59,12 +60,13 @@ module _ (argon2 : Argon2) (count : ℕ) (all : count ≡ block_count (context_o
       record { matrix = front size ∙ filled; rest = rest size }
 
   -- a whole hash
-  pub is_hashed : (password salt output : List ℕ) (n : ℕ) → length output ≡ n →
+  pub is_hashed : IsValid ctx → (password salt output : List ℕ) (n : ℕ) → length output ≡ n →
       output ≡ tag_of ctx password salt n →
       blocks ≡ matrix_of ctx password salt n → IsHashed argon2 password salt output old (blocks ++ drop count old)
-  is_hashed password salt output n size tag filled =
+  is_hashed valid password salt output n size tag filled =
       let left = is_filled password salt n filled in
       record {
+        valid = valid;
         tag = tag ∙ ap (tag_of ctx password salt) (sym size);
         matrix = left.matrix ∙ ap (matrix_of ctx password salt) (sym size);
         rest = left.rest;

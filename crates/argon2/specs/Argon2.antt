@@ -6,6 +6,7 @@ use Rattle.argon2.specs.declared.version.Version.{Version}
 use Rattle.argon2.specs.declared.version.Version.TheVariants.{V0x13}
 use Rattle.argon2.specs.declared.context.Secret.{Secret}
 use Rattle.argon2.specs.declared.context.Argon2.{Argon2}
+use Rattle.argon2.specs.declared.params.Params.{Params}
 use Rattle.argon2.specs.Context.{Context, context_with}
 use Rattle.argon2.specs.Parameters.{Parameters, AreValid, first_fault}
 use Rattle.argon2.specs.Settings.{Settings}
@@ -21,13 +22,14 @@ secret_bytes (Some secret) = secret.bytes.now
 abbrev pub secret_of : Argon2 → List ℕ
 secret_of argon2 = secret_bytes argon2.secret
 
+-- an algorithm and a version with parameters
+abbrev pub settings_with : Algorithm → Version → Params → Settings
+settings_with algorithm version params =
+    record { algorithm = algorithm; version = version; parameters = parameters_of params }
+
 -- all else that it has
 abbrev pub settings_of : Argon2 → Settings
-settings_of argon2 = record {
-  algorithm = argon2.algorithm;
-  version = argon2.version;
-  parameters = parameters_of argon2.params;
-}
+settings_of argon2 = settings_with argon2.algorithm argon2.version argon2.params
 
 -- its parameters
 abbrev pub own_parameters : Argon2 → Parameters

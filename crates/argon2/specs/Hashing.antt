@@ -3,7 +3,7 @@ use Rattle.std.specs.Prelude.{◌≡◌, ℕ, ◌+◌, ◌*◌, ◌<◌, ◌≤�
 use Rattle.argon2_base.specs.declared.error.Error.{Error}
 use Rattle.argon2.specs.declared.context.Argon2.{Argon2}
 use Rattle.argon2.specs.Argon2.{context_of, own_parameters}
-use Rattle.argon2.specs.Context.{Context, lane_length, block_count}
+use Rattle.argon2.specs.Context.{Context, IsValid, lane_length, block_count}
 use Rattle.argon2.specs.InitialHash.{first_block}
 use Rattle.argon2.specs.Laws.{Begins}
 use Rattle.argon2.specs.Refusals.{first_of, output_faults, input_faults, memory_faults}
@@ -49,9 +49,10 @@ KeepsOtherColumns ctx old new =
 
 -- ---- what a call leaves
 
--- the beginning for a tag of n bytes: columns 0 and 1 of each lane, and all other blocks as before
+-- the beginning under a valid context for a tag of n bytes: columns 0 and 1 of each lane, and all other blocks as before
 pub record IsBegun (argon2 : Argon2) (password salt : List ℕ) (n : ℕ) (old new : Memory) : Type 0
   where
+    pub valid : IsValid (context_of argon2)
     pub begins : let ctx = context_of argon2 in
         Begins ctx (first_block ctx password salt n) (blocks_of ctx new)
     pub others : KeepsOtherColumns (context_of argon2) old new
@@ -63,9 +64,10 @@ pub record IsFilled (argon2 : Argon2) (password salt : List ℕ) (n : ℕ) (old 
     pub matrix : let ctx = context_of argon2 in blocks_of ctx new ≡ matrix_of ctx password salt n
     pub rest : KeepsRest (context_of argon2) old new
 
--- an output that is the tag, the matrix that it was made of, and the rest as before
+-- a valid context, an output that is the tag, the matrix that it was made of, and the rest as before
 pub record IsHashed (argon2 : Argon2) (password salt output : List ℕ) (old new : Memory) : Type 0
   where
+    pub valid : IsValid (context_of argon2)
     pub tag : output ≡ tag_of (context_of argon2) password salt (length output)
     pub matrix : let ctx = context_of argon2 in
         blocks_of ctx new ≡ matrix_of ctx password salt (length output)

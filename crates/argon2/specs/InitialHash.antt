@@ -1,5 +1,5 @@
 -- The initial hash, and the first two columns, which are made of it (RFC 9106, section 3.2).
-use Rattle.std.specs.Prelude.{ℕ, List, ◌++◌, length}
+use Rattle.std.specs.Prelude.{ℕ, ◌^◌, ◌<◌, List, ◌++◌, length}
 use Rattle.std.specs.Int.{w32, to_le_bytes}
 use Rattle.argon2_base.specs.Blake2b.{blake2b}
 use Rattle.argon2_base.specs.Block.{words_of}
@@ -13,6 +13,10 @@ number n = to_le_bytes w32 n
 -- an input after its length
 abbrev pub with_length : List ℕ → List ℕ
 with_length bytes = number (length bytes) ++ bytes
+
+-- a password and a salt whose lengths fit in four bytes
+abbrev pub AreShort : List ℕ → List ℕ → Type 0
+AreShort password salt = (length password < 2 ^ 32) × (length salt < 2 ^ 32)
 
 -- Step 1: H0 for an output of n bytes. The memory cost enters it as it is, not as the count of blocks.
 unfoldable pub initial_hash : Context → List ℕ → List ℕ → ℕ → List ℕ

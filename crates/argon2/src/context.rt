@@ -61,7 +61,7 @@ impl<'key> Argon2<'key> {
     ghost use Rattle.std.specs.Prelude.{◌≡◌, ◌≤◌, ◌↔◌, ◌⊎◌, [], Some, None, IsOk, IfOk, IfErr, OnOk, OnErr, MatchResult, length, replicate};
     ghost use Rattle.argon2_base.specs.Block.{zero_block};
     ghost use Rattle.argon2_base.specs.declared.error.Error.TheVariants.{OutOfMemory, SecretTooLong};
-    ghost use Rattle.argon2.specs.Argon2.{context_of, own_parameters, secret_of, settings_of};
+    ghost use Rattle.argon2.specs.Argon2.{context_of, own_parameters, secret_of, settings_of, settings_with};
     ghost use Rattle.argon2.specs.Context.{block_count, IsValid};
     ghost use Rattle.argon2.specs.Counting.{mixing_calls};
     ghost use Rattle.argon2.specs.Hashing.{fill_refusal, place_count, refusal_of, AreReferencesOf, IsFilled, IsHashed};
@@ -72,8 +72,7 @@ impl<'key> Argon2<'key> {
     /// Hashing with these parameters and no secret. The key identifier of the parameters changes no
     /// hash, as [`key_identifier`](crate::laws::key_identifier) says; their associated data is hashed.
     pub fn new(algorithm: Algorithm, version: Version, params: Params) -> Argon2<'key>
-        ensures settings { settings_of result
-            ≡ record { algorithm = algorithm; version = version; parameters = parameters_of params } }
+        ensures settings { settings_of result ≡ settings_with algorithm version params }
         ensures no_secret { secret_of result ≡ [] }
     {
         Argon2 {
@@ -97,8 +96,7 @@ impl<'key> Argon2<'key> {
     ) -> Result<Argon2<'key>>
         ensures short { IsOk result ↔ (length secret.now ≤ MAX_SECRET_LEN) }
         ensures long { IfErr result (λ e. e ≡ SecretTooLong) }
-        ensures settings { IfOk result (λ a. settings_of a
-            ≡ record { algorithm = algorithm; version = version; parameters = parameters_of params }) }
+        ensures settings { IfOk result (λ a. settings_of a ≡ settings_with algorithm version params) }
         ensures secret { IfOk result (λ a. secret_of a ≡ secret.now) }
     {
         if secret.len() > MAX_SECRET_LEN {
@@ -145,11 +143,9 @@ impl<'key> Argon2<'key> {
         ensures answer { result
             ≡ answer_unless (refusal_of self.now (length out.old) pwd.now salt.now memory.old) tt }
 
-        ensures valid { OnOk result (IsValid (context_of self.now)) }
         ensures hashed { OnOk result (IsHashed self.now pwd.now salt.now out.new memory.old memory.new) }
 
-        ensures same_output { OnErr result (out.new ≡ out.old) }
-        ensures same_memory { OnErr result (memory.new ≡ memory.old) }
+        ensures same { OnErr result ((out.new ≡ out.old) × (memory.new ≡ memory.old)) }
     {
         self.hash(pwd, salt, out, memory, &mut [])?;
         Ok(())
@@ -211,13 +207,11 @@ impl<'key> Argon2<'key> {
             ≡ answer_unless (refusal_of self.now (length out.old) pwd.now salt.now memory.old)
             (mixing_calls (context_of self.now)) }
 
-        ensures valid { OnOk result (IsValid (context_of self.now)) }
         ensures hashed { OnOk result (IsHashed self.now pwd.now salt.now out.new memory.old memory.new) }
         ensures positions { OnOk result
             (AreReferencesOf self.now pwd.now salt.now (length out.old) positions.old positions.new) }
 
-        ensures same_output { OnErr result (out.new ≡ out.old) }
-        ensures same_memory { OnErr result (memory.new ≡ memory.old) }
+        ensures same { OnErr result ((out.new ≡ out.old) × (memory.new ≡ memory.old)) }
         ensures same_positions { OnErr result (positions.new ≡ positions.old) }
     {
         self.hash(pwd, salt, out, memory, positions)
@@ -261,13 +255,11 @@ impl<'key> Argon2<'key> {
             ≡ answer_unless (refusal_of self.now (length out.old) pwd.now salt.now memory.old)
             (mixing_calls (context_of self.now)) }
 
-        ensures valid { OnOk result (IsValid (context_of self.now)) }
         ensures hashed { OnOk result (IsHashed self.now pwd.now salt.now out.new memory.old memory.new) }
         ensures positions { OnOk result (length positions.old ≡ place_count (context_of self.now)
             → AreReferencesOf self.now pwd.now salt.now (length out.old) positions.old positions.new) }
 
-        ensures same_output { OnErr result (out.new ≡ out.old) }
-        ensures same_memory { OnErr result (memory.new ≡ memory.old) }
+        ensures same { OnErr result ((out.new ≡ out.old) × (memory.new ≡ memory.old)) }
         ensures same_positions { OnErr result (positions.new ≡ positions.old) }
     {
         self.check(out.len(), pwd, salt, memory)?;

@@ -4,7 +4,7 @@ ghost use Rattle.std.specs.Prelude.{◌≡◌, ◌+◌, ◌<◌, ◌^◌, length
 ghost use Rattle.argon2.specs.Context.{block_count};
 ghost use Rattle.argon2.specs.Counting.{mixing_calls};
 ghost use Rattle.argon2.specs.Hashing.{place_count};
-ghost use Rattle.argon2.specs.InitialHash.{first_block};
+ghost use Rattle.argon2.specs.InitialHash.{AreShort, first_block};
 ghost use Rattle.argon2.specs.Tag.{matrix_of};
 ghost use Rattle.argon2.specs.Positions.{AreReferencePlaces};
 
@@ -24,8 +24,7 @@ impl Instance<'_> {
         positions: &mut [u32],
         work: &mut Work,
     )
-        requires pwd { length pwd.now < 2 ^ 32 }
-        requires salt { length salt.now < 2 ^ 32 }
+        requires inputs { AreShort pwd.now salt.now }
         requires size { length blocks.old ≡ block_count self.now }
         requires count { work.old < 2 ^ 126 }
         ensures matrix { blocks.new ≡ matrix_of self.now pwd.now salt.now out_len }

@@ -4,7 +4,7 @@ ghost use Rattle.std.specs.Prelude.{◌≡◌, ℕ, ◌+◌, ◌<◌, ◌^◌, �
 ghost use Rattle.argon2_base.specs.Hasher.{Holds};
 ghost use Rattle.argon2.specs.Context.{block_count};
 ghost use Rattle.argon2.specs.Hashing.{KeepsOtherColumns};
-ghost use Rattle.argon2.specs.InitialHash.{block_after, first_block, initial_hash, number, with_length};
+ghost use Rattle.argon2.specs.InitialHash.{AreShort, block_after, first_block, initial_hash, number, with_length};
 ghost use Rattle.argon2.specs.Laws.{Begins};
 
 use super::instance::Instance;
@@ -53,8 +53,7 @@ fn block_after(hash: &[u8; 64], lane: u32, column: u32) -> Block
 impl Instance<'_> {
     /// The initial hash for an output of `out_len` bytes.
     fn initial_hash(&self, pwd: &[u8], salt: &[u8], out_len: u32) -> [u8; 64]
-        requires pwd { length pwd.now < 2 ^ 32 }
-        requires salt { length salt.now < 2 ^ 32 }
+        requires { AreShort pwd.now salt.now }
         ensures { result ≡ initial_hash self.now pwd.now salt.now out_len }
     {
         let mut hasher = Blake2b::new(64);
@@ -75,8 +74,7 @@ impl Instance<'_> {
 
     /// Writes columns 0 and 1 of each lane for an output of `out_len` bytes, and no other block.
     pub(super) fn begin(&self, pwd: &[u8], salt: &[u8], out_len: u32, blocks: &mut [Block])
-        requires pwd { length pwd.now < 2 ^ 32 }
-        requires salt { length salt.now < 2 ^ 32 }
+        requires inputs { AreShort pwd.now salt.now }
         requires size { length blocks.old ≡ block_count self.now }
         ensures begins { Begins self.now (first_block self.now pwd.now salt.now out_len) blocks.new }
         ensures others { KeepsOtherColumns self.now blocks.old blocks.new }

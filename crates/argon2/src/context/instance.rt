@@ -3,7 +3,7 @@
 ghost use Rattle.std.specs.Prelude.{◌≡◌, ◌^◌, ◌<◌, ◌≤◌, ◌&&◌, ◌==◌, length, nat_lt};
 ghost use Rattle.argon2.specs.Algorithm.{algorithm_number};
 ghost use Rattle.argon2.specs.Context.{context_with, segment_length, lane_length, block_count, Sizes};
-ghost use Rattle.argon2.specs.Params.{parameters_of};
+ghost use Rattle.argon2.specs.Argon2.{settings_with};
 
 use crate::{Algorithm, Params, Version};
 use std::marker::Model;
@@ -54,8 +54,7 @@ impl<'a> Instance<'a> {
         secret: &'a [u8],
     ) -> Instance<'a>
         requires { length secret.now < 2 ^ 32 }
-        ensures { let parameters = parameters_of params.now in result ≡ context_with
-            (record { algorithm = algorithm; version = version; parameters = parameters }) secret.now }
+        ensures { result ≡ context_with (settings_with algorithm version params.now) secret.now }
     {
         let m_cost = params.m_cost();
         let p_cost = params.p_cost();

@@ -10,7 +10,7 @@ impl Argon2<'_> {
     ghost use Rattle.argon2_base.specs.Block.{bytes_of};
     ghost use Rattle.argon2_base.specs.LongHash.{long_hash};
     ghost use Rattle.argon2.specs.Argon2.{context_of};
-    ghost use Rattle.argon2.specs.Context.{IsValid, lane_length, block_count};
+    ghost use Rattle.argon2.specs.Context.{lane_length, block_count};
     ghost use Rattle.argon2.specs.Hashing.{blocks_of, output_refusal, refusal_of, IsBegun, KeepsRest};
     ghost use Rattle.argon2.specs.Refusals.{answer_unless};
     ghost use Rattle.argon2.specs.Steps.{IsStep, step, reference_place, last_column};
@@ -32,7 +32,6 @@ impl Argon2<'_> {
         ensures answer { result
             ≡ answer_unless (refusal_of self.now out_len pwd.now salt.now memory.old) tt }
 
-        ensures valid { OnOk result (IsValid (context_of self.now)) }
         ensures begun { OnOk result (IsBegun self.now pwd.now salt.now out_len memory.old memory.new) }
         ensures same { OnErr result (memory.new ≡ memory.old) }
     {

@@ -18,9 +18,8 @@ use std::alloc::Global;
 impl<'key> Argon2<'key> {
     ghost use Rattle.std.specs.Prelude.{◌≡◌, ◌≤◌, ◌<◌, ◌⊎◌, IfOk, MatchResult, length};
     ghost use Rattle.argon2_base.specs.declared.error.password_hash.Error.TheVariants.{OutOfMemory, PasswordInvalid};
-    ghost use Rattle.argon2.specs.Argon2.{context_of, settings_of, secret_of};
+    ghost use Rattle.argon2.specs.Argon2.{context_of, settings_of, settings_with, secret_of};
     ghost use Rattle.argon2.specs.Made.{tag_length, target_of, IsTarget};
-    ghost use Rattle.argon2.specs.Params.{parameters_of};
     ghost use Rattle.argon2.specs.Tag.{tag_of};
 
     // How many bytes a hash has.
@@ -68,8 +67,7 @@ impl<'key> Argon2<'key> {
         version: Version,
         params: Params,
     ) -> Argon2<'key>
-        ensures settings { settings_of result
-            ≡ record { algorithm = algorithm; version = version; parameters = parameters_of params } }
+        ensures settings { settings_of result ≡ settings_with algorithm version params }
         ensures secret { secret_of result ≡ secret_of self.now }
     {
         let Ok(argon2) = Argon2::new_with_secret(self.secret(), algorithm, version, params) else {

@@ -8,5 +8,5 @@ returns-clause-begun c =
     let same = c.instance-instance.ensures.value in
     let count = c.block_count.ensures.value ∙ ap block_count same in
     is_begun c.args.self.now c.block_count.result count c.args.memory.now c.begin.new.blocks
-    c.args.pwd.now c.args.salt.now c.args.out_len
+    c.instance-instance.ensures.valid c.args.pwd.now c.args.salt.now c.args.out_len
     (rw same at c.begin.ensures.begins) (rw same at c.begin.ensures.others)

@@ -1,9 +1,9 @@
-use Rattle.std.proofs.Common.{refl, rules}
+use Rattle.std.proofs.Common.{arith, refl}
 use Rattle.argon2_base.proofs.DecimalLemmas.{number_again, number_none}
 use Rattle.argon2.proofs.params.text.number.Goals as goal
 
 pub returns : goal.returns
-returns c = number_again c.args.value.now c.in-Ok.n (search rules) c.in-Ok.ensures.found
+returns c = number_again c.args.value.now c.in-Ok.n (grind arith) c.in-Ok.ensures.found
 
 pub returns-in_default : goal.returns-in_default
 returns-in_default c =

@@ -1,4 +1,4 @@
-use Rattle.std.proofs.Common.{◌+◌, ◌*◌, [], ◌&&◌, eqb, ltb, get_or, sym, ◌∙◌, rules}
+use Rattle.std.proofs.Common.{◌+◌, ◌*◌, [], ◌&&◌, eqb, ltb, get_or, sym, ◌∙◌, arith}
 use Rattle.std.proofs.lemmas.Bool.{cond-true, cond-false}
 use Rattle.std.proofs.lemmas.List.{get_or_read}
 use Rattle.argon2_base.proofs.MixingLaws.{xor_blocks-comm}
@@ -19,7 +19,7 @@ returns-then-xors-clause-step c =
     let below = place_below ctx c.args.at.lane c.args.at.column c.requires.step.in_lanes c.requires.step.in_columns in
     let old =
     get_or_read m (c.args.at.lane * c.lane_length.result + c.args.at.column) c.index-memory-place.result
-    (search rules) c.index-memory-place.is [] in
+    (grind arith) c.index-memory-place.is [] in
     let x = c.bitxor_assign.ensures.after in
     let y = xor_blocks-comm (get_or m place []) c.mixed_block.result in
     let yes = sym c.xors.ensures ∙ c.if-xors.true in
