@@ -74,17 +74,15 @@ fn counted(step: u64) -> Block {
 fn mixes_and_counts(rt: HostRuntime) -> Result<(), Fail> {
     let mut work = Work::new();
     let mixed = Block::mix(&counted(1), &counted(1 << 32), &mut work);
-    assert_eq!(rt; mixed.as_slice()[0], 0x0b3c_0826_041b_1446);
-    assert_eq!(rt; mixed.as_slice()[64], 0xe97b_9a18_04bc_d112);
-    assert_eq!(rt; mixed.as_slice()[127], 0x0587_e8ff_1805_71f2);
-    assert_eq!(rt; work.mixes(), 1);
+    assert!(rt; mixed.as_slice()[0] == 0x0b3c_0826_041b_1446);
+    assert!(rt; mixed.as_slice()[64] == 0xe97b_9a18_04bc_d112);
+    assert!(rt; mixed.as_slice()[127] == 0x0587_e8ff_1805_71f2);
+    assert!(rt; work.mixes() == 1);
     let none = Block::mix(&mixed, &mixed, &mut work);
     assert!(rt; none.as_slice() == Block::new().as_slice());
-    assert_eq!(rt; work.mixes(), 2);
-    assert_eq!(rt;
-        format!(in rt.alloc(); "{work:?}")?.as_str(),
-        "Work { mixes: 2 }"
-    );
+    assert!(rt; work.mixes() == 2);
+    let text = format!(in rt.alloc(); "{work:?}")?;
+    assert!(rt; text.as_str() == "Work { mixes: 2 }");
     Ok(())
 }
 
@@ -95,13 +93,13 @@ fn reads_and_writes(rt: HostRuntime) -> Result<(), Fail> {
     bytes[1023] = 0x80;
     let mut block = Block::default();
     block.load(&bytes);
-    assert_eq!(rt; block.as_slice()[0], 1);
-    assert_eq!(rt; block.as_slice()[127], 1 << 63);
+    assert!(rt; block.as_slice()[0] == 1);
+    assert!(rt; block.as_slice()[127] == 1 << 63);
     assert!(rt; block.to_bytes() == bytes);
 
     let copy = block.clone()?;
     block ^= &counted(1);
-    assert_eq!(rt; block.as_slice()[1], 1);
+    assert!(rt; block.as_slice()[1] == 1);
     assert!(rt; (block ^ &copy).as_slice() == counted(1).as_slice());
     block.zeroize();
     assert!(rt; block.as_slice() == [0; 128].as_slice());

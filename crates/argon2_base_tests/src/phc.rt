@@ -15,13 +15,13 @@ fn is_read(rt: &impl Abort, alloc: Global, text: &str) -> Result<bool, Fail> {
     match text.parse::<PasswordHash>() {
         Ok(hash) => {
             let printed = hash.to_string(alloc)?;
-            assert_eq!(rt; printed.as_str(), text);
-            assert_eq!(rt; hash.text().as_str(), text);
+            assert!(rt; printed.as_str() == text, "{text}");
+            assert!(rt; hash.text().as_str() == text, "{text}");
             assert!(rt; PasswordHash::new(printed.as_str())? == hash);
             Ok(true)
         }
         Err(error) => {
-            assert_eq!(rt; error, Error::EncodingInvalid);
+            assert!(rt; error == Error::EncodingInvalid);
             Ok(false)
         }
     }
@@ -79,29 +79,60 @@ fn texts_that_are_refused(rt: HostRuntime) -> Result<(), Fail> {
     Ok(())
 }
 
-#[test]
-fn longest(rt: HostRuntime) -> Result<(), Fail> {
+// A text whose list ends in so many characters, and which has 268 bytes beside them.
+fn long_text(alloc: Global, xs: usize) -> Result<String, Fail> {
     let bytes = ("$", 1);
     let front = ("$v=4294967295$a=", 1);
-    let salt_and_hash = [bytes, ("A", 64), bytes, ("A", 86)];
-    for (xs, len, read) in [(58, 326, true), (59, 327, false)] {
-        let list = [bytes, ("a", 32), front, ("x", 64), (",b=", 1), ("x", xs)];
-        let mut text = joined(rt.alloc(), &list)?;
-        text.push_str(joined(rt.alloc(), &salt_and_hash)?.as_str())?;
-        assert_eq!(rt; text.len(), len);
-        assert_eq!(rt; is_read(&rt, rt.alloc(), text.as_str())?, read);
-    }
-    for (front, piece, most, end) in [
-        ("$", "a", 32, ""),
-        ("$a$", "n", 32, "=1"),
-        ("$a$n=", "9", 64, ""),
-        ("$a$", "AAAA", 16, ""),
-        ("$a$AAAAAAAAAAA$AA", "AAAA", 21, ""),
+    joined(
+        alloc,
+        &[
+            bytes,
+            ("a", 32),
+            front,
+            ("x", 64),
+            (",b=", 1),
+            ("x", xs),
+            bytes,
+            ("A", 64),
+            bytes,
+            ("A", 86),
+        ],
+    )
+}
+
+#[test]
+fn longest(rt: HostRuntime) -> Result<(), Fail> {
+    let text = long_text(rt.alloc(), 58)?;
+    assert!(rt; text.len() == 326);
+    assert!(rt; is_read(&rt, rt.alloc(), text.as_str())?);
+    let text = long_text(rt.alloc(), 59)?;
+    assert!(rt; text.len() == 327);
+    assert!(rt; !is_read(&rt, rt.alloc(), text.as_str())?);
+    Ok(())
+}
+
+// Whether a text is read in which a piece stands so many times.
+fn is_read_with(
+    rt: &impl Abort,
+    alloc: Global,
+    (front, piece, end): (&str, &str, &str),
+    times: usize,
+) -> Result<bool, Fail> {
+    let text = joined(alloc, &[(front, 1), (piece, times), (end, 1)])?;
+    is_read(rt, alloc, text.as_str())
+}
+
+#[test]
+fn longest_parts(rt: HostRuntime) -> Result<(), Fail> {
+    for (around, most) in [
+        (("$", "a", ""), 32),
+        (("$a$", "n", "=1"), 32),
+        (("$a$n=", "9", ""), 64),
+        (("$a$", "AAAA", ""), 16),
+        (("$a$AAAAAAAAAAA$AA", "AAAA", ""), 21),
     ] {
-        let text = joined(rt.alloc(), &[(front, 1), (piece, most), (end, 1)])?;
-        assert!(rt; is_read(&rt, rt.alloc(), text.as_str())?);
-        let text = joined(rt.alloc(), &[(front, 1), (piece, most + 1), (end, 1)])?;
-        assert!(rt; !is_read(&rt, rt.alloc(), text.as_str())?);
+        assert!(rt; is_read_with(&rt, rt.alloc(), around, most)?, "{most}");
+        assert!(rt; !is_read_with(&rt, rt.alloc(), around, most + 1)?, "{most}");
     }
     Ok(())
 }
@@ -122,13 +153,16 @@ fn lengths_of_salts_and_hashes(rt: HostRuntime) -> Result<(), Fail> {
         if hash > 0 {
             text.push_str(joined(rt.alloc(), &[("$", 1), ("A", hash)])?.as_str())?;
         }
-        assert_eq!(rt; is_read(&rt, rt.alloc(), text.as_str())?, read);
+        assert!(rt;
+            is_read(&rt, rt.alloc(), text.as_str())? == read,
+            "{salt} {hash}"
+        );
     }
     Ok(())
 }
 
 #[test]
-fn made_of_parts(rt: HostRuntime) -> Result<(), Fail> {
+fn made_of_an_identifier(rt: HostRuntime) {
     let bare = PasswordHash {
         algorithm: ARGON2D_IDENT,
         version: None,
@@ -136,7 +170,12 @@ fn made_of_parts(rt: HostRuntime) -> Result<(), Fail> {
         salt: None,
         hash: None,
     };
-    assert_eq!(rt; bare.text().as_str(), "$argon2d");
+    assert!(rt; bare.text().as_str() == "$argon2d");
+    assert!(rt; PasswordHash::new(TEXT) != Ok(bare));
+}
+
+#[test]
+fn made_of_parts(rt: HostRuntime) -> Result<(), Fail> {
     let whole = PasswordHash {
         algorithm: ARGON2ID_IDENT,
         version: Some(19),
@@ -144,8 +183,8 @@ fn made_of_parts(rt: HostRuntime) -> Result<(), Fail> {
         salt: Some(Salt::new(b"somesalt")?),
         hash: Some(Output::new(&[0; 4])?),
     };
-    assert_eq!(rt; whole.text().as_str(), TEXT);
-    assert!(rt; whole == PasswordHash::new(TEXT)? && whole != bare);
+    assert!(rt; whole.text().as_str() == TEXT);
+    assert!(rt; PasswordHash::new(TEXT) == Ok(whole));
     Ok(())
 }
 
@@ -202,31 +241,65 @@ fn characters_put_in(rt: HostRuntime) -> Result<(), Fail> {
     Ok(())
 }
 
-#[test]
-fn lists(rt: HostRuntime) -> Result<(), Fail> {
+// Whether a list refuses an item of this name and stays empty.
+fn refuses_name(name: &str) -> bool {
     let mut list = ParamsString::new();
+    list.add_decimal(name, 1) == Err(Error::ParamsInvalid) && list.is_empty()
+}
+
+#[test]
+fn lists_refuse_names(rt: HostRuntime) -> Result<(), Fail> {
     for name in ["v", "", "M"] {
-        assert_eq!(rt; list.add_decimal(name, 1), Err(Error::ParamsInvalid));
-        assert!(rt; list.is_empty());
+        assert!(rt; refuses_name(name), "{name}");
     }
+    let mut list = ParamsString::new();
     list.add_decimal("m", 8)?;
-    assert_eq!(rt; list.add_decimal("m", 8), Err(Error::ParamsInvalid));
-    assert_eq!(rt; list.as_str(), "m=8");
-    let bytes = [0u8; 49];
-    for (len, answer) in [
-        (0, Err(Error::ParamsInvalid)),
-        (48, Ok(())),
-        (49, Err(Error::ParamsInvalid)),
-    ] {
-        let mut list = ParamsString::new();
-        assert_eq!(rt; list.add_b64_bytes("x", &bytes[..len]), answer);
-        assert_eq!(rt; list.is_empty(), answer.is_err());
-    }
-    for text in ["m=8,", ",m=8", "m==8"] {
-        assert!(rt; text.parse::<ParamsString>() == Err(Error::ParamsInvalid));
-    }
-    assert!(rt; "".parse::<ParamsString>()? == ParamsString::new());
+    assert!(rt; list.add_decimal("m", 8) == Err(Error::ParamsInvalid));
+    assert!(rt; list.as_str() == "m=8");
     Ok(())
+}
+
+// Whether a list takes an item of so many bytes, and whether it is empty then.
+fn takes_bytes(len: usize) -> (Result<(), Error>, bool) {
+    let mut list = ParamsString::new();
+    (
+        list.add_b64_bytes("x", &[0; 49][..len.min(49)]),
+        list.is_empty(),
+    )
+}
+
+#[test]
+fn lists_take_bytes(rt: HostRuntime) {
+    assert!(rt; takes_bytes(0) == (Err(Error::ParamsInvalid), true));
+    assert!(rt; takes_bytes(48) == (Ok(()), false));
+    assert!(rt; takes_bytes(49) == (Err(Error::ParamsInvalid), true));
+}
+
+#[test]
+fn lists_are_read(rt: HostRuntime) {
+    for text in ["m=8,", ",m=8", "m==8"] {
+        assert!(rt;
+            text.parse::<ParamsString>() == Err(Error::ParamsInvalid),
+            "{text}"
+        );
+    }
+    assert!(rt; "".parse() == Ok(ParamsString::new()));
+}
+
+// Whether the list has this name with the decimal.
+fn has_number(list: &ParamsString, name: &str, number: Result<u32, Error>) -> bool {
+    match list.get(name) {
+        Some(value) => value.decimal() == number,
+        None => false,
+    }
+}
+
+// Whether the item has this name and the decimal.
+fn is_item(item: Option<(Ident, Value<'_>)>, name: &str, number: Result<u32, Error>) -> bool {
+    match item {
+        Some((key, value)) => key.as_str() == name && value.decimal() == number,
+        None => false,
+    }
 }
 
 #[test]
@@ -239,52 +312,67 @@ fn values(rt: HostRuntime) -> Result<(), Fail> {
         ("c", Ok(u32::MAX)),
         ("d", Err(Error::ParamsInvalid)),
     ] {
-        let (key, value) = items.next().expect(&rt, "an item is left");
-        assert_eq!(rt; key.as_str(), name);
-        assert_eq!(rt; value.decimal(), number);
-        assert_eq!(rt; list.get(name).map(|v| v.decimal()), Some(number));
+        assert!(rt; is_item(items.next(), name, number), "{name}");
+        assert!(rt; has_number(&list, name, number), "{name}");
     }
     assert!(rt; items.next().is_none());
     assert!(rt; list.get("e").is_none());
-    assert_eq!(rt; list.get("b").map(|v: Value| v.as_str()), Some("08"));
     Ok(())
 }
 
 #[test]
-fn parts(rt: HostRuntime) -> Result<(), Fail> {
-    let bytes = [0u8; 65];
-    for (len, answer) in [
-        (7, Err(Error::SaltInvalid)),
-        (8, Ok(8)),
-        (48, Ok(48)),
-        (49, Err(Error::SaltInvalid)),
-    ] {
-        assert_eq!(rt; Salt::new(&bytes[..len]).map(|salt| salt.len()), answer);
+fn values_as_written(rt: HostRuntime) -> Result<(), Fail> {
+    let list = "a=0,b=08".parse::<ParamsString>()?;
+    match list.get("b") {
+        Some(value) => assert!(rt; value.as_str() == "08"),
+        None => assert!(rt; false, "no value"),
     }
-    for (len, answer) in [
-        (3, Err(Error::OutputSize)),
-        (4, Ok(4)),
-        (64, Ok(64)),
-        (65, Err(Error::OutputSize)),
-    ] {
-        assert_eq!(rt;
-            Output::new(&bytes[..len]).map(|output| output.len()),
-            answer
-        );
-    }
-    assert_eq!(rt; Salt::RECOMMENDED_LENGTH, 16);
+    Ok(())
+}
+
+// How long a salt of so many bytes is.
+fn salt_len(len: usize) -> Result<usize, Error> {
+    Ok(Salt::new(&[0; 65][..len.min(65)])?.len())
+}
+
+// How long an output of so many bytes is.
+fn output_len(len: usize) -> Result<usize, Error> {
+    Ok(Output::new(&[0; 65][..len.min(65)])?.len())
+}
+
+#[test]
+fn lengths_of_parts(rt: HostRuntime) {
+    assert!(rt; salt_len(7) == Err(Error::SaltInvalid));
+    assert!(rt; salt_len(8) == Ok(8));
+    assert!(rt; salt_len(48) == Ok(48));
+    assert!(rt; salt_len(49) == Err(Error::SaltInvalid));
+    assert!(rt; output_len(3) == Err(Error::OutputSize));
+    assert!(rt; output_len(4) == Ok(4));
+    assert!(rt; output_len(64) == Ok(64));
+    assert!(rt; output_len(65) == Err(Error::OutputSize));
+    assert!(rt; Salt::RECOMMENDED_LENGTH == 16);
+}
+
+#[test]
+fn salts(rt: HostRuntime) -> Result<(), Fail> {
     let salt = Salt::new(b"somesalt")?;
-    assert_eq!(rt; (salt.as_bytes(), salt.len()), (&b"somesalt"[..], 8));
+    assert!(rt; salt.as_bytes() == b"somesalt".as_slice());
+    assert!(rt; salt.len() == 8);
     let printed = format!(in rt.alloc(); "{salt} {salt:?}")?;
-    assert_eq!(rt; printed.as_str(), "c29tZXNhbHQ Salt(c29tZXNhbHQ)");
+    assert!(rt; printed.as_str() == "c29tZXNhbHQ Salt(c29tZXNhbHQ)");
+    Ok(())
+}
+
+#[test]
+fn identifiers(rt: HostRuntime) {
     for (ident, name) in [
         (ARGON2D_IDENT, "argon2d"),
         (ARGON2I_IDENT, "argon2i"),
         (ARGON2ID_IDENT, "argon2id"),
     ] {
-        assert_eq!(rt; ident.as_str(), name);
-        assert!(rt; name.parse::<Ident>()? == ident);
+        assert!(rt; ident.as_str() == name);
+        assert!(rt; name.parse() == Ok(ident));
     }
-    assert!(rt; ARGON2D_IDENT < ARGON2I_IDENT && ARGON2I_IDENT < ARGON2ID_IDENT);
-    Ok(())
+    assert!(rt; ARGON2D_IDENT < ARGON2I_IDENT);
+    assert!(rt; ARGON2I_IDENT < ARGON2ID_IDENT);
 }
