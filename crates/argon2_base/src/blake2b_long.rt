@@ -4,9 +4,6 @@ ghost use Rattle.std.specs.Prelude.{◌≡◌, ℕ, ◌+◌, ◌^◌, ◌<◌, �
 ghost use Rattle.argon2_base.specs.Blake2b.{blake2b};
 ghost use Rattle.argon2_base.specs.LongHash.{chain, pieces, long_hash, long_answer, joined};
 
-#[cfg(test)]
-mod tests;
-
 use crate::blake2b::Blake2b;
 use crate::error::{Error, Result};
 

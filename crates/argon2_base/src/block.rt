@@ -11,10 +11,6 @@ use std::marker::Model;
 use std::ops::{BitXor, BitXorAssign};
 
 mod kernel;
-#[cfg(test)]
-mod plain;
-#[cfg(test)]
-mod tests;
 
 /// A block: 128 words of 64 bits (RFC 9106, section 3.2).
 ///

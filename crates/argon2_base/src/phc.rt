@@ -31,6 +31,3 @@ pub use hash::PasswordHash;
 pub use ident::{ARGON2D_IDENT, ARGON2I_IDENT, ARGON2ID_IDENT, Ident};
 pub use list::{Iter, ParamsString};
 pub use value::{Value, read_decimal};
-
-#[cfg(test)]
-mod tests;
