@@ -2,15 +2,19 @@
 use Rattle.std.proofs.Common.{◌≡◌, ◌≢◌, ℕ, List, Option, Some, None, Result, Ok, Err, inl, inr, refl, ap, ◌∙◌}
 use Rattle.std.proofs.lemmas.Bool.{cases_Bool}
 use Rattle.std.proofs.lemmas.Slice.Eq.{bytes_eq-Decides}
+use Rattle.std.specs.Prelude.{IfErr}
 use Rattle.std.specs.FinMap.{get, insert}
 use Rattle.std.specs.Str.{bytes_eq}
 use Rattle.argon2.proofs.logins.Stores.{get-set}
-use Rattle.argon2.specs.Login.{Store, AddStep, LoginAnswer}
+use Rattle.argon2.specs.Login.{Store, AddStep, LoginAnswer, store_of}
 use Rattle.argon2.specs.Made.{Target, made}
-use Rattle.argon2.specs.PhcText.{Phc}
+use Rattle.argon2.specs.PhcText.{Phc, PhcText}
 use Rattle.argon2.specs.declared.login.answers.Accepted.{Accepted}
 use Rattle.argon2.specs.declared.login.answers.Accepted.TheVariants.{Current, Kept, Rehashed}
+use Rattle.argon2.specs.declared.login.Login.{Login}
 use Rattle.argon2.specs.declared.login.answers.LoginError.{LoginError}
+use Rattle.argon2.specs.declared.login.answers.LoginError.TheVariants.{NameTaken, NameUnknown, OutOfMemory, Refused, Text}
+use Rattle.argon2_uses.specs.Login.{RegisterRefusal}
 
 other_name : (store : Store) (name : List ℕ) (v : Phc) (other : List ℕ) → other ≢ name →
     get (insert store name v) other ≡ get store other
@@ -40,3 +44,15 @@ login_keeps target before name password drawn (Some v) (Ok Kept) after step othe
     ap (λ m. get m other) step.1.1
 login_keeps target before name password drawn (Some v) (Ok Rehashed) after step other differs =
     ap (λ m. get m other) step.1.2 ∙ other_name before name (made target password drawn) other differs
+
+-- `add` refuses a text of the grammar where the name is taken, or for want of memory
+pub add_refuses : (target : Target) (login : Login) (name password salt text : List ℕ) (v : Phc)
+    (answer : Result (Unit {0}) LoginError) (after : Store) → PhcText text v →
+    AddStep (store_of login) name text answer after →
+    IfErr answer (RegisterRefusal target login name password salt)
+add_refuses target login name password salt text v (Ok x) after is step = tt
+add_refuses target login name password salt text v (Err Text) after is step = absurd (step.0 v is)
+add_refuses target login name password salt text v (Err NameTaken) after is step = step.0.1
+add_refuses target login name password salt text v (Err NameUnknown) after is step = absurd step.0
+add_refuses target login name password salt text v (Err OutOfMemory) after is step = tt
+add_refuses target login name password salt text v (Err (Refused e)) after is step = absurd step.0

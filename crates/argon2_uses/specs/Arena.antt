@@ -1,9 +1,18 @@
--- The tag of an input.
-use Rattle.std.specs.Prelude.{ℕ, List}
+-- The tag of an input, and why it is refused.
+use Rattle.std.specs.Prelude.{◌≡◌, ℕ, List, Some}
 use Rattle.argon2.specs.Context.{Context}
+use Rattle.argon2.specs.Hashing.{refusal_of}
+use Rattle.argon2.specs.Steps.{Memory}
+use Rattle.argon2.specs.base_declared.error.Error.{Error}
+use Rattle.argon2.specs.declared.context.Argon2.{Argon2}
 use Rattle.argon2.specs.Tag.{tag_of}
 use Rattle.argon2_uses.specs.declared.arena.Input.{Input}
 
 -- of 32 bytes
 abbrev pub input_tag : Context → Input → List ℕ
 input_tag ctx input = tag_of ctx input.password.now input.salt.now 32
+
+-- the input is refused on the arena for this reason
+abbrev pub IsRefused : Argon2 → Memory → Input → Error → Type 0
+IsRefused argon2 arena input e =
+    refusal_of argon2 32 input.password.now input.salt.now arena ≡ Some e

@@ -1,9 +1,10 @@
 -- What a stored text says of how it was made, and which texts a policy accepts.
-use Rattle.std.specs.Prelude.{◌≡◌, ℕ, ◌≤◌, List, length, Result, Ok, Err}
+use Rattle.std.specs.Prelude.{◌≡◌, ◌⊎◌, ℕ, ◌≤◌, List, length, Result, Ok, Err}
 use Rattle.argon2.specs.Error.{Fault, fault_of}
 use Rattle.argon2.specs.PhcText.{Phc, PhcText}
 use Rattle.argon2.specs.Stored.{Stored, read, stored_of}
 use Rattle.argon2.specs.base_declared.error.password_hash.Error.{Error}
+use Rattle.argon2.specs.base_declared.error.password_hash.Error.TheVariants.{EncodingInvalid}
 use Rattle.argon2.specs.declared.algorithm.Algorithm.TheVariants.{Argon2id}
 use Rattle.argon2.specs.declared.version.Version.TheVariants.{V0x13}
 use Rattle.argon2_uses.specs.declared.auditor.Finding.{Finding}
@@ -31,7 +32,8 @@ IsFindingOf text finding = (v : Phc) × PhcText text v × (audited v ≡ Ok find
 
 -- the text can't be audited for this reason
 abbrev pub IsUnaudited : List ℕ → Error → Type 0
-IsUnaudited text e = (v : Phc) → PhcText text v → audited v ≡ Err (fault_of e)
+IsUnaudited text e = ((v : Phc) × PhcText text v × (audited v ≡ Err (fault_of e)))
+    ⊎ (((v : Phc) → PhcText text v → ⊥) × (e ≡ EncodingInvalid))
 
 -- Argon2id of version 0x13, and nothing below the policy's least
 pub record Meets (policy : Policy) (finding : Finding) : Type 0 where

@@ -4,10 +4,11 @@ use Rattle.std.specs.Option.{option_map}
 use Rattle.argon2.specs.Accepts.{Accepts, AcceptsBy}
 use Rattle.argon2.specs.Error.{Fault, fault_of}
 use Rattle.argon2.specs.ListedParameters.{params_of}
+use Rattle.argon2.specs.Login.{IsText}
 use Rattle.argon2.specs.Parameters.{Parameters}
 use Rattle.argon2.specs.PhcText.{Phc, PhcText}
 use Rattle.argon2.specs.Shape.{block_count}
-use Rattle.argon2.specs.base_declared.error.password_hash.Error.TheVariants.{OutOfMemory}
+use Rattle.argon2.specs.base_declared.error.password_hash.Error.TheVariants.{EncodingInvalid, OutOfMemory}
 use Rattle.argon2_uses.specs.declared.bound.Bound.{Bound}
 use Rattle.argon2_uses.specs.declared.bound.BoundError.{BoundError}
 use Rattle.argon2_uses.specs.declared.bound.BoundError.TheVariants.{TooDear, Refused}
@@ -41,7 +42,8 @@ AsksBlocksWithin bound v blocks = (asks : AsksWithin bound v)
 abbrev pub BoundRefusal : Bound → List ℕ → BoundError → Type 0
 BoundRefusal bound text TooDear = (v : Phc) × (parameters : Parameters)
     × PhcText text v × (asked_of v ≡ Ok parameters) × (IsWithin bound parameters → ⊥)
-BoundRefusal bound text (Refused e) = (v : Phc) → PhcText text v → asked_of v ≡ Err (fault_of e)
+BoundRefusal bound text (Refused e) =
+    ((v : Phc) → PhcText text v → asked_of v ≡ Err (fault_of e)) × (IsText text ⊎ (e ≡ EncodingInvalid))
 
 -- what verifying within a bound says by Ok
 abbrev pub AcceptsWithin : Bound → List ℕ → List ℕ → List ℕ → Type 0

@@ -1,9 +1,12 @@
 -- What a service asks of its login store.
-use Rattle.std.specs.Prelude.{◌≡◌, ◌≢◌, ℕ, List, IsSomeAnd}
+use Rattle.std.specs.Prelude.{◌≡◌, ◌≢◌, ℕ, List, Err, IsSome, IsSomeAnd}
 use Rattle.std.specs.FinMap.{get}
 use Rattle.argon2.specs.Accepts.{AcceptsBy}
 use Rattle.argon2.specs.Login.{store_of, target_of}
+use Rattle.argon2.specs.Made.{Target, IsHashAnswer}
 use Rattle.argon2.specs.declared.login.Login.{Login}
+use Rattle.argon2.specs.declared.login.answers.LoginError.{LoginError}
+use Rattle.argon2.specs.declared.login.answers.LoginError.TheVariants.{NameTaken, OutOfMemory, Refused}
 
 -- under a secret, the name's text accepts the password
 abbrev pub HasPasswordUnder : List ℕ → Login → List ℕ → List ℕ → Type 0
@@ -18,3 +21,10 @@ HasPassword login name password = HasPasswordUnder (target_of login).secret logi
 abbrev pub KeepsOthers : List ℕ → Login → Login → Type 0
 KeepsOthers name old new =
     (other : List ℕ) → other ≢ name → get (store_of new) other ≡ get (store_of old) other
+
+-- why a name is not registered with a password and a salt
+abbrev pub RegisterRefusal : Target → Login → List ℕ → List ℕ → List ℕ → LoginError → Type 0
+RegisterRefusal target login name password salt NameTaken = IsSome (get (store_of login) name)
+RegisterRefusal target login name password salt OutOfMemory = Unit {0}
+RegisterRefusal target login name password salt (Refused e) = IsHashAnswer target password salt (Err e)
+RegisterRefusal target login name password salt _ = ⊥

@@ -1,10 +1,14 @@
 -- The key of a vault, and what opens it.
-use Rattle.std.specs.Prelude.{◌≡◌, ℕ, List, None, take, drop}
-use Rattle.argon2.specs.Argon2.{argon2id_with}
+use Rattle.std.specs.Prelude.{◌≡◌, ◌⊎◌, ℕ, List, None, Some, length, take, drop}
+use Rattle.argon2.specs.Argon2.{argon2id_with, own_parameters}
 use Rattle.argon2.specs.Context.{Context}
 use Rattle.argon2.specs.Parameters.{plain}
+use Rattle.argon2.specs.Refusals.{length_refusal}
 use Rattle.argon2.specs.Settings.{Settings}
 use Rattle.argon2.specs.Tag.{tag_of}
+use Rattle.argon2.specs.base_declared.error.Error.{Error}
+use Rattle.argon2.specs.base_declared.error.Error.TheVariants.{OutOfMemory}
+use Rattle.argon2.specs.declared.context.Argon2.{Argon2}
 use Rattle.argon2_uses.specs.declared.vault.Header.{Header}
 
 -- the second recommended option (RFC 9106, section 4)
@@ -18,3 +22,8 @@ key_of ctx passphrase salt = take 32 (tag_of ctx passphrase salt 64)
 -- the header's tag is the passphrase's: the other half
 abbrev pub Opens : Context → List ℕ → Header → Type 0
 Opens ctx passphrase header = header.tag ≡ drop 32 (tag_of ctx passphrase header.salt 64)
+
+-- memory was refused, or a length is: 64 bytes are derived
+abbrev pub VaultRefusal : Argon2 → List ℕ → List ℕ → Error → Type 0
+VaultRefusal argon2 passphrase salt e = (e ≡ OutOfMemory)
+    ⊎ (length_refusal (own_parameters argon2).output_len 64 (length passphrase) (length salt) ≡ Some e)

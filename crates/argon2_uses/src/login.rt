@@ -1,10 +1,14 @@
 //! Logging in: names with passwords, over a store that renews old texts.
 
-ghost use Rattle.std.specs.Prelude.{◌≡◌, ◌≢◌, ◌↔◌, ℕ, List, None, IsTrue, IfOk, OnOk, OnErr};
+ghost use Rattle.std.specs.Prelude.{◌≡◌, ◌↔◌, ◌⊎◌, None, IsTrue, IfOk, IfErr, OnOk, OnErr, MatchResult};
 ghost use Rattle.std.specs.FinMap.{get};
+ghost use Rattle.rand_core.specs.Stream.{fill_bytes};
 ghost use Rattle.argon2.specs.Argon2.{secret_of};
 ghost use Rattle.argon2.specs.Login.{store_of, target_of};
-ghost use Rattle.argon2_uses.specs.Login.{HasPassword, HasPasswordUnder, KeepsOthers};
+ghost use Rattle.argon2.specs.Made as made_under;
+ghost use Rattle.argon2.specs.base_declared.error.password_hash.Error.TheVariants.{OutOfMemory};
+ghost use Rattle.argon2.specs.declared.login.answers.LoginError.TheVariants.{Refused};
+ghost use Rattle.argon2_uses.specs.Login.{HasPassword, HasPasswordUnder, KeepsOthers, RegisterRefusal};
 
 use argon2::login::{Login, LoginError};
 use argon2::password_hash::Error;
@@ -30,7 +34,9 @@ pub fn register<R: Rng>(
         (HasPasswordUnder (secret_of argon2.now) store.new name.now password.now) }
     ensures others { KeepsOthers name.now store.old store.new }
     ensures target { target_of store.new ≡ target_of store.old }
-    ensures refused { OnErr result (store_of store.new ≡ store_of store.old) }
+    ensures refused { IfErr result (RegisterRefusal (made_under.target_of argon2.now) store.old
+        name.now password.now (fill_bytes 16 (R.stream rng.old)).0) }
+    ensures same { OnErr result (store_of store.new ≡ store_of store.old) }
 {
     let hash = match argon2.hash_password(alloc, rng, password) {
         Ok(hash) => hash,
@@ -49,13 +55,14 @@ pub fn log_in<R: Rng>(
     name: &str,
     password: &[u8],
 ) -> Result<bool, LoginError>
-    ensures answer { IfOk result (λ yes.
-        IsTrue yes ↔ HasPassword store.old name.now password.now) }
+    ensures answer { MatchResult result
+        (λ yes. IsTrue yes ↔ HasPassword store.old name.now password.now)
+        (λ e. (e ≡ Refused OutOfMemory) ⊎ (HasPassword store.old name.now password.now → ⊥)) }
     ensures still { IfOk result (λ yes.
         IsTrue yes → HasPassword store.new name.now password.now) }
     ensures others { KeepsOthers name.now store.old store.new }
     ensures target { target_of store.new ≡ target_of store.old }
-    ensures refused { OnErr result (store_of store.new ≡ store_of store.old) }
+    ensures same { OnErr result (store_of store.new ≡ store_of store.old) }
 {
     match store.login(rng, name, password) {
         Ok(_) => Ok(true),

@@ -1,9 +1,10 @@
 //! Passwords as stored texts, under the default settings and no secret.
 
-ghost use Rattle.std.specs.Prelude.{◌≡◌, ◌↔◌, [], IsTrue, IfOk};
+ghost use Rattle.std.specs.Prelude.{◌≡◌, ◌↔◌, ◌⊎◌, [], IsTrue, IfOk, MatchResult};
 ghost use Rattle.argon2.specs.Accepts.{Accepts};
 ghost use Rattle.argon2.specs.PasswordHash.{phc_of};
 ghost use Rattle.argon2.specs.PhcText.{phc_text};
+ghost use Rattle.argon2.specs.base_declared.error.password_hash.Error.TheVariants.{OutOfMemory};
 
 use argon2::password_hash::{Error, Result};
 use argon2::{Argon2, PasswordHash, PasswordHasher, PasswordVerifier};
@@ -19,7 +20,8 @@ pub fn stored<R: Rng>(alloc: Global, rng: &mut R, password: &[u8]) -> Result<Pas
 
 /// Whether a stored text accepts a password.
 pub fn is_accepted(alloc: Global, password: &[u8], text: &str) -> Result<bool>
-    ensures { IfOk result (λ yes. IsTrue yes ↔ Accepts [] password.now text.now) }
+    ensures { MatchResult result (λ yes. IsTrue yes ↔ Accepts [] password.now text.now)
+        (λ e. (e ≡ OutOfMemory) ⊎ (Accepts [] password.now text.now → ⊥)) }
 {
     match Argon2::default().verify_password(alloc, password, text) {
         Ok(()) => Ok(true),

@@ -3,14 +3,13 @@
 //! A passphrase and the salt of the vault's header come to 64 bytes. The first half of them is the
 //! key, which stands nowhere; the other half is the tag that the header has.
 
-ghost use Rattle.std.specs.Prelude.{◌≡◌, IfOk, MatchOption, take, drop};
+ghost use Rattle.std.specs.Prelude.{◌≡◌, ◌≤◌, ◌↔◌, IsOk, IfOk, IfErr, MatchOption, length, take, drop};
 ghost use Rattle.argon2.specs.Argon2.{context_of, secret_of, settings_of};
 ghost use Rattle.argon2.specs.Tag.{tag_of};
-ghost use Rattle.argon2_uses.specs.Vault.{recommended, key_of, Opens};
+ghost use Rattle.argon2_uses.specs.Vault.{recommended, key_of, Opens, VaultRefusal};
 
-use argon2::kdf::{Error, Kdf, Result};
 use argon2::phc::{Output, Salt};
-use argon2::{Algorithm, Argon2, Params, Version};
+use argon2::{Algorithm, Argon2, Params, Result, Version};
 use std::alloc::Global;
 
 /// What a vault shows.
@@ -25,6 +24,7 @@ pub struct Header {
 /// What vaults are sealed under: a secret, and the second of the options that RFC 9106, section 4,
 /// recommends, which takes 64 MiB.
 pub fn lock(secret: &[u8]) -> Result<Argon2<'_>>
+    ensures short { IsOk result ↔ (length secret.now ≤ 4294967295) }
     ensures settings { IfOk result (λ argon2. settings_of argon2 ≡ recommended) }
     ensures secret { IfOk result (λ argon2. secret_of argon2 ≡ secret.now) }
 {
@@ -40,6 +40,7 @@ pub fn seal(
     salt: Salt,
 ) -> Result<(Header, [u8; 32])>
     ensures salt { IfOk result (λ sealed. sealed.0.salt ≡ salt) }
+    ensures refused { IfErr result (VaultRefusal argon2.now passphrase.now salt) }
     ensures opens { IfOk result (λ sealed. Opens (context_of argon2.now) passphrase.now sealed.0) }
     ensures key { IfOk result (λ sealed.
         sealed.1 ≡ key_of (context_of argon2.now) passphrase.now salt) }
@@ -55,7 +56,8 @@ pub fn open(
     passphrase: &[u8],
     header: &Header,
 ) -> Result<Option<[u8; 32]>>
-    ensures { let ctx = context_of argon2.now in IfOk result (λ opened. MatchOption opened
+    ensures refused { IfErr result (VaultRefusal argon2.now passphrase.now header.now.salt) }
+    ensures opened { let ctx = context_of argon2.now in IfOk result (λ opened. MatchOption opened
         (Opens ctx passphrase.now header.now → ⊥)
         (λ key. Opens ctx passphrase.now header.now
         × (key ≡ key_of ctx passphrase.now header.now.salt))) }
@@ -74,14 +76,15 @@ fn derived(
     passphrase: &[u8],
     salt: &Salt,
 ) -> Result<([u8; 32], Output)>
-    ensures { let both = tag_of (context_of argon2.now) passphrase.now salt.now 64 in
+    ensures refused { IfErr result (VaultRefusal argon2.now passphrase.now salt.now) }
+    ensures made { let both = tag_of (context_of argon2.now) passphrase.now salt.now 64 in
         IfOk result (λ made. (made.0 ≡ take 32 both) × (made.1 ≡ drop 32 both)) }
 {
     let mut both = [0; 64];
-    argon2.derive_key(alloc, passphrase, salt.as_bytes(), &mut both)?;
+    argon2.hash_password_into(alloc, passphrase, salt.as_bytes(), &mut both)?;
     let (key, tag) = both.split_at(32);
     let (Ok(key), Ok(tag)) = (key.try_into(), Output::new(tag)) else {
-        return Err(Error);
+        unreachable!();
     };
     Ok((key, tag))
 }
