@@ -8,6 +8,8 @@ import sys
 HERE = os.path.dirname(os.path.realpath(__file__))
 TOP = os.path.dirname(HERE)
 CPUS = ("x86-64-v2", "x86-64-v3")
+# An environment in which the C library gives large memory in huge pages.
+HUGE_PAGES = {**os.environ, "GLIBC_TUNABLES": "glibc.malloc.hugetlb=1"}
 
 
 def processor():
@@ -17,9 +19,9 @@ def processor():
     return found[1] if found else "an unknown processor"
 
 
-def run(*words, folder=None):
+def run(*words, folder=None, env=None):
     """Runs a command and returns what it prints, or ends with what it says of its failure."""
-    done = subprocess.run(words, cwd=folder, stdin=subprocess.DEVNULL, capture_output=True, text=True)
+    done = subprocess.run(words, cwd=folder, env=env, stdin=subprocess.DEVNULL, capture_output=True, text=True)
     if done.returncode:
         sys.exit(f"{' '.join(words)}: {done.stdout[-2000:]}{done.stderr[-2000:]}")
     return done.stdout
