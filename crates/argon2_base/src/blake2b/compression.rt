@@ -1,7 +1,7 @@
 //! The compression function of BLAKE2b (RFC 7693, section 3.2).
 
-ghost use Rattle.std.specs.Prelude.{◌≡◌, ◌+◌, ◌≤◌, length};
-ghost use Rattle.argon2_base.specs.Compression.{mix, round, words, working_vector, compress};
+ghost use Rattle.std.specs.Prelude.{◌≡◌, ℕ, List, ◌+◌, ◌≤◌, length};
+ghost use Rattle.argon2_base.specs.Compression.{mix, round, rounds, words, working_vector, compress};
 
 pub(crate) const IV: [u64; 8] = [
     0x6a09_e667_f3bc_c908,
@@ -14,7 +14,7 @@ pub(crate) const IV: [u64; 8] = [
     0x5be0_cd19_137e_2179,
 ];
 
-// The words of m in the order of a row of SIGMA. Places that are literals make the rounds faster than a
+// The words of m in the order of a row of SIGMA, of which row 0 is m itself. Places that are literals make the rounds faster than a
 // table would, and their proof shorter.
 macro_rules! scheduled {
     ($m:ident: $($k:literal)*) => {
@@ -28,19 +28,14 @@ pub(crate) fn compress(h: &mut [u64; 8], block: &[u8], t: u128, last: bool)
     ensures { h.new ≡ compress h.old block.now t last }
 {
     let m = words(block);
+    let second = scheduled!(m: 14 10 4 8 9 15 13 6 1 12 0 2 11 7 5 3);
     let v = working_vector(h, t, last);
-    let v = round(v, scheduled!(m: 0 1 2 3 4 5 6 7 8 9 10 11 12 13 14 15));
-    let v = round(v, scheduled!(m: 14 10 4 8 9 15 13 6 1 12 0 2 11 7 5 3));
-    let v = round(v, scheduled!(m: 11 8 12 0 5 2 15 13 10 14 3 6 7 1 9 4));
-    let v = round(v, scheduled!(m: 7 9 3 1 13 12 11 14 2 6 5 10 4 0 15 8));
-    let v = round(v, scheduled!(m: 9 0 5 7 2 4 10 15 14 1 11 12 6 8 3 13));
-    let v = round(v, scheduled!(m: 2 12 6 10 0 11 8 3 4 13 7 5 15 14 1 9));
-    let v = round(v, scheduled!(m: 12 5 1 15 14 13 4 10 0 7 6 3 9 2 8 11));
-    let v = round(v, scheduled!(m: 13 11 7 14 12 1 3 9 5 0 15 4 8 6 2 10));
-    let v = round(v, scheduled!(m: 6 15 14 9 11 3 0 8 12 2 13 7 1 4 10 5));
-    let v = round(v, scheduled!(m: 10 2 8 4 7 6 1 5 15 11 9 14 3 12 13 0));
-    let v = round(v, scheduled!(m: 0 1 2 3 4 5 6 7 8 9 10 11 12 13 14 15));
-    let v = round(v, scheduled!(m: 14 10 4 8 9 15 13 6 1 12 0 2 11 7 5 3));
+    let v = round(v, m);
+    let v = round(v, second);
+    let v = rounds_2_to_5(v, &m);
+    let v = rounds_6_to_9(v, &m);
+    let v = round(v, m);
+    let v = round(v, second);
     *h = [
         h[0] ^ v[0] ^ v[8],
         h[1] ^ v[1] ^ v[9],
@@ -51,6 +46,28 @@ pub(crate) fn compress(h: &mut [u64; 8], block: &[u8], t: u128, last: bool)
         h[6] ^ v[6] ^ v[14],
         h[7] ^ v[7] ^ v[15],
     ];
+}
+
+// Rounds 2 to 5.
+#[inline(always)]
+fn rounds_2_to_5(v: [u64; 16], m: &[u64; 16]) -> [u64; 16]
+    ensures { (start : List ℕ) → v ≡ rounds start m.now 2 → result ≡ rounds start m.now 6 }
+{
+    let v = round(v, scheduled!(m: 11 8 12 0 5 2 15 13 10 14 3 6 7 1 9 4));
+    let v = round(v, scheduled!(m: 7 9 3 1 13 12 11 14 2 6 5 10 4 0 15 8));
+    let v = round(v, scheduled!(m: 9 0 5 7 2 4 10 15 14 1 11 12 6 8 3 13));
+    round(v, scheduled!(m: 2 12 6 10 0 11 8 3 4 13 7 5 15 14 1 9))
+}
+
+// Rounds 6 to 9.
+#[inline(always)]
+fn rounds_6_to_9(v: [u64; 16], m: &[u64; 16]) -> [u64; 16]
+    ensures { (start : List ℕ) → v ≡ rounds start m.now 6 → result ≡ rounds start m.now 10 }
+{
+    let v = round(v, scheduled!(m: 12 5 1 15 14 13 4 10 0 7 6 3 9 2 8 11));
+    let v = round(v, scheduled!(m: 13 11 7 14 12 1 3 9 5 0 15 4 8 6 2 10));
+    let v = round(v, scheduled!(m: 6 15 14 9 11 3 0 8 12 2 13 7 1 4 10 5));
+    round(v, scheduled!(m: 10 2 8 4 7 6 1 5 15 11 9 14 3 12 13 0))
 }
 
 // The words of a block, low byte first.

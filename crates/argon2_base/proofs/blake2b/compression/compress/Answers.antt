@@ -1,6 +1,6 @@
-use Rattle.std.proofs.Common.{List, ℕ, ap, ◌∙◌}
-use Rattle.argon2_base.specs.Compression.{compress, rounds, working_vector, xor_halves}
-use Rattle.argon2_base.proofs.Rounds.{one_more}
+use Rattle.std.proofs.Common.{List, ℕ, ap, sym, ◌∙◌, arith}
+use Rattle.argon2_base.specs.Compression.{compress, round, rounds, working_vector, xor_halves}
+use Rattle.argon2_base.proofs.Rounds.{one_more, unpermuted}
 use Rattle.argon2_base.proofs.blake2b.compression.compress.Goals as goal
 
 pub returns : goal.returns
@@ -8,17 +8,12 @@ unfolding compress rounds
 returns c =
     let v : List ℕ = working_vector c.args.h.now c.args.t c.args.last in
     let m : List ℕ = c.words-m.result in
-    let r1 = one_more v m 0 c.working_vector-v.ensures c.round-v.ensures in
+    let whole = sym (unpermuted m (omega arith)) in
+    let r1 = one_more v m 0 c.working_vector-v.ensures (c.round-v.ensures ∙ ap (round _) whole) in
     let r2 = one_more v m 1 r1 c.round-v-2.ensures in
-    let r3 = one_more v m 2 r2 c.round-v-3.ensures in
-    let r4 = one_more v m 3 r3 c.round-v-4.ensures in
-    let r5 = one_more v m 4 r4 c.round-v-5.ensures in
-    let r6 = one_more v m 5 r5 c.round-v-6.ensures in
-    let r7 = one_more v m 6 r6 c.round-v-7.ensures in
-    let r8 = one_more v m 7 r7 c.round-v-8.ensures in
-    let r9 = one_more v m 8 r8 c.round-v-9.ensures in
-    let r10 = one_more v m 9 r9 c.round-v-10.ensures in
-    let r11 = one_more v m 10 r10 c.round-v-11.ensures in
-    let r12 = one_more v m 11 r11 c.round-v-12.ensures in
+    let r6 = c.rounds_2_to_5-v.ensures v r2 in
+    let r10 = c.rounds_6_to_9-v.ensures v r6 in
+    let r11 = one_more v m 10 r10 (c.round-v-3.ensures ∙ ap (round _) whole) in
+    let r12 = one_more v m 11 r11 c.round-v-4.ensures in
     ap (xor_halves c.args.h.now) r12
     ∙ ap (λ m. xor_halves c.args.h.now (rounds v m 12)) c.words-m.ensures
