@@ -1,5 +1,5 @@
 -- The first byte that passes a test.
-use Rattle.std.proofs.Common.{arith, ◌≡◌, ℕ, ◌<◌, ◌≤◌, Bool, true, false, List, length, Option, Some, None, get_or, sym, refl}
+use Rattle.std.proofs.Common.{arith, ◌≡◌, ℕ, Bool, true, false, List, length, Option, Some, None, get_or, sym, refl}
 use Rattle.std.specs.Option.{unwrap_or}
 use Rattle.std.specs.List.{position_or_len}
 use Rattle.std.proofs.lemmas.List.Sums.{position_or_len_is}

@@ -1,7 +1,8 @@
 -- What a line comes to.
-use Rattle.std.specs.Prelude.{ℕ, ◌==◌, nat_lt, Bool, false, List, length, if◌then◌else◌, Ok, Err}
+use Rattle.std.specs.Prelude.{ℕ, ◌<◌, ◌≤◌, ◌==◌, nat_lt, Bool, false, List, length, if◌then◌else◌, Ok, Err}
 use Rattle.std.specs.List.{after_first, before_first, position_or_len}
 use Rattle.std.specs.Option.{is_none}
+use Rattle.std.specs.Io.BufRead.{strip_last}
 use Rattle.std.specs.Str.{IsUtf8}
 use Rattle.argon2_audit.specs.Entry.{IsEntryAnswer}
 use Rattle.argon2_audit.specs.Policy.{is_any, shortfalls_of}
@@ -16,16 +17,20 @@ abbrev pub is_colon : ℕ → Bool
 is_colon byte = byte == 58
 
 -- the second of the fields between colons, or all where there is no colon
-abbrev pub text_of : List ℕ → List ℕ
-text_of line = if nat_lt (position_or_len is_colon line) (length line)
+abbrev pub field_of : List ℕ → List ℕ
+field_of line = if nat_lt (position_or_len is_colon line) (length line)
     then before_first is_colon (after_first is_colon line) else line
 
--- what a line comes to that is not too long
+-- the field with the text, without a carriage return at the line's end
+abbrev pub text_of : List ℕ → List ℕ
+text_of line = field_of (strip_last 13 line)
+
+-- what a line comes to: it is too long, its text is no UTF-8, or what the text shows
 abbrev pub IsFinding : List ℕ → Finding → Type 0
-IsFinding line TooLong = ⊥
-IsFinding line NotUtf8 = ¬ IsUtf8 (text_of line)
-IsFinding line (Refused error) = IsUtf8 (text_of line) × IsEntryAnswer (text_of line) (Err error)
-IsFinding line (Shown entry) = IsUtf8 (text_of line) × IsEntryAnswer (text_of line) (Ok entry)
+IsFinding line TooLong = 4096 < length line
+IsFinding line NotUtf8 = (length line ≤ 4096) × ¬ IsUtf8 (text_of line)
+IsFinding line (Refused error) = (length line ≤ 4096) × IsUtf8 (text_of line) × IsEntryAnswer (text_of line) (Err error)
+IsFinding line (Shown entry) = (length line ≤ 4096) × IsUtf8 (text_of line) × IsEntryAnswer (text_of line) (Ok entry)
 
 -- without a hash, or else with something below the policy, or sound
 abbrev pub class_by : Policy → Entry → Class

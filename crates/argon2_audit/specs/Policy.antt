@@ -1,5 +1,5 @@
 -- What is below a policy.
-use Rattle.std.specs.Prelude.{ℕ, Bool, ◌||◌, nat_lt, [], length, unwrap_or}
+use Rattle.std.specs.Prelude.{Bool, ◌||◌, nat_lt, [], length, unwrap_or}
 use Rattle.argon2_audit.specs.declared.entry.Entry.{Entry}
 use Rattle.argon2_audit.specs.declared.policy.Policy.{Policy}
 use Rattle.argon2_audit.specs.declared.policy.Shortfalls.{Shortfalls}

@@ -1,8 +1,9 @@
 //! What a line comes to.
 
 ghost use Rattle.std.specs.Prelude.{◌≡◌, ◌≤◌, length};
+ghost use Rattle.std.specs.Io.BufRead.{strip_last};
 ghost use Rattle.std.specs.List.{position_or_len};
-ghost use Rattle.argon2_audit.specs.Finding.{IsFinding, is_colon, text_of, class_of};
+ghost use Rattle.argon2_audit.specs.Finding.{IsFinding, is_colon, field_of, class_of};
 
 use crate::entry::{Entry, shown};
 use crate::policy::Policy;
@@ -35,11 +36,12 @@ pub enum Class {
     Sound,
 }
 
-/// What a line comes to that is not too long.
+/// What a line comes to that is not too long. A carriage return at its end belongs to the end.
 pub fn found(line: &[u8]) -> Finding
+    requires { length line.now ≤ 4096 }
     ensures { IsFinding line.now result }
 {
-    let Ok(text) = str::from_utf8(stored_text(line)) else {
+    let Ok(text) = str::from_utf8(stored_text(without_return(line))) else {
         return Finding::NotUtf8;
     };
     match shown(text) {
@@ -48,9 +50,20 @@ pub fn found(line: &[u8]) -> Finding
     }
 }
 
+// The line without a carriage return at its end.
+fn without_return(line: &[u8]) -> &[u8]
+    ensures { result.now ≡ strip_last 13 line.now }
+{
+    if !line.is_empty() && line[line.len() - 1] == b'\r' {
+        &line[..line.len() - 1]
+    } else {
+        line
+    }
+}
+
 // The text of a line: the second of the fields between colons, or all where there is no colon.
 fn stored_text(line: &[u8]) -> &[u8]
-    ensures { result.now ≡ text_of line.now }
+    ensures { result.now ≡ field_of line.now }
 {
     let end = first_colon(line);
     if end == line.len() {

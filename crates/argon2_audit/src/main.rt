@@ -4,7 +4,7 @@
 use failure::Failure;
 use std::alloc::AllocError;
 use std::env;
-use std::io::{BufReader, BufWriter, ErrorKind, IsTerminal};
+use std::io::{BufWriter, ErrorKind, IsTerminal};
 use std::process::ExitCode;
 
 mod arguments;
@@ -12,11 +12,12 @@ mod audit;
 mod entry;
 mod failure;
 mod finding;
-mod lines;
+mod line;
 mod policy;
 mod report;
 mod run;
 mod seen;
+mod session;
 mod tally;
 
 pub use run::run;
@@ -25,15 +26,11 @@ fn main(rt: HostRuntime) -> ExitCode {
     let mut errors = rt.stderr();
     let shows_progress = errors.is_terminal();
     let alloc = rt.alloc();
-    let status = match (
-        words(&rt),
-        BufReader::new(alloc, rt.reader()),
-        BufWriter::new(alloc, rt.stdout()),
-    ) {
-        (Ok(args), Ok(mut input), Ok(mut output)) => run(
+    let status = match (words(&rt), BufWriter::new(alloc, rt.stdout())) {
+        (Ok(args), Ok(mut output)) => run(
             alloc,
             args.as_slice(),
-            &mut input,
+            &mut rt.reader(),
             &mut output,
             &mut errors,
             shows_progress,

@@ -4,7 +4,7 @@ use crate::audit::Audit;
 use crate::entry::Entry;
 use crate::failure::Failure;
 use crate::finding::Finding;
-use crate::lines::LONGEST;
+use crate::line::LONGEST;
 use crate::policy::Policy;
 use crate::tally::{Marks, Tally};
 use std::io;

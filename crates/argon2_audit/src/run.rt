@@ -1,18 +1,17 @@
 //! The program over any streams.
 
-ghost use Rattle.std.specs.Prelude.{◌≡◌, ◌↔◌, ◌≤◌, ◌++◌, None, Some, IfOk, OnOk, IsNone, IsTrue, map, string_bytes};
+ghost use Rattle.std.specs.Prelude.{◌≡◌, ◌↔◌, ◌≤◌, ◌++◌, None, Some, IfOk, IfSome, OnOk, IsNone, IsTrue, map, string_bytes};
 ghost use Rattle.std.specs.Io.KnownBytes.{Appends, Keeps};
 ghost use Rattle.argon2_audit.specs.Arguments.{command_of};
+ghost use Rattle.argon2_audit.specs.Session.{IsAudit, IsPassed, IsTallied};
 
 use crate::arguments::Command;
-use crate::audit::Audit;
 use crate::failure::{Failure, of_reading};
-use crate::finding::{Finding, found};
-use crate::lines::{Line, next_line};
 use crate::policy::Policy;
 use crate::report;
+use crate::session::Session;
 use std::alloc::Global;
-use std::io::{BufRead, Write};
+use std::io::{ErrorKind, Read, Write};
 
 #[cfg(test)]
 mod tests;
@@ -43,8 +42,14 @@ and where reading, writing or a request for memory fails, which standard error s
 the arguments are not these options, each with a decimal number.
 ";
 
-// How many lines are read between two lines of progress.
-const STRIDE: u64 = 100_000;
+// How many bytes are read at once.
+const PIECE: usize = 65536;
+
+// How often at the most, so that lines can be counted.
+const PIECES: u64 = 1 << 47;
+
+// How many pieces are read between two lines of progress.
+const STRIDE: u64 = 256;
 
 /// Audits the lines of `input`, and returns the exit status.
 ///
@@ -52,7 +57,7 @@ const STRIDE: u64 = 100_000;
 /// is written, and some line is not sound; or the failure's text is written to `errors`. Status 2: the
 /// arguments are no options, `errors` has the usage line, and neither `input` nor `output` is touched.
 /// Where `errors` can't be written, the status stays.
-pub fn run<R: BufRead, W: Write, E: Write>(
+pub fn run<R: Read, W: Write, E: Write>(
     alloc: Global,
     args: &[String],
     input: &mut R,
@@ -64,16 +69,14 @@ pub fn run<R: BufRead, W: Write, E: Write>(
     ensures usage { (result ≡ 2) ↔ IsNone (command_of (map string_bytes args.now)) }
     ensures unread { result ≡ 2 → Keeps (R.remaining input.old) (R.remaining input.new) }
     ensures unwritten { result ≡ 2 → Keeps (W.contents output.old) (W.contents output.new) }
+    ensures passed { result ≡ 0 → IfSome (command_of (map string_bytes args.now))
+        (λ command. IsPassed command (R.remaining input.old)) }
 {
     let Some(command) = Command::parsed(args) else {
         let _ = writeln!(errors, "{USAGE}");
         return 2;
     };
-    let is_sound = match command {
-        Command::Help => help(output),
-        Command::Audit(policy) => report_on(alloc, policy, input, output, errors, shows_progress),
-    };
-    match is_sound {
+    match answer(alloc, command, input, output, errors, shows_progress) {
         Ok(true) => 0,
         Ok(false) => 1,
         Err(failure) => fail(errors, failure),
@@ -88,6 +91,23 @@ pub fn fail<E: Write>(errors: &mut E, failure: Failure) -> u8
     1
 }
 
+// Answers a command, and returns whether its status is 0.
+fn answer<R: Read, W: Write, E: Write>(
+    alloc: Global,
+    command: Command,
+    input: &mut R,
+    output: &mut W,
+    errors: &mut E,
+    shows_progress: bool,
+) -> Result<bool, Failure>
+    ensures { IfOk result (λ yes. IsTrue yes → IsPassed command (R.remaining input.old)) }
+{
+    match command {
+        Command::Help => help(output),
+        Command::Audit(policy) => report_on(alloc, policy, input, output, errors, shows_progress),
+    }
+}
+
 // Writes the help.
 fn help<W: Write>(output: &mut W) -> Result<bool, Failure>
     ensures ok { IfOk result IsTrue }
@@ -99,29 +119,52 @@ fn help<W: Write>(output: &mut W) -> Result<bool, Failure>
 }
 
 // Reads all lines, writes the report, and returns whether each line is sound and no two salts are equal.
-fn report_on<R: BufRead, W: Write, E: Write>(
+fn report_on<R: Read, W: Write, E: Write>(
     alloc: Global,
     policy: Policy,
     input: &mut R,
     output: &mut W,
     errors: &mut E,
     shows_progress: bool,
-) -> Result<bool, Failure> {
-    let mut audit = Audit::new(alloc, policy);
-    let mut line = Vec::new(alloc);
-    for number in 1..u64::MAX {
-        let finding = match next_line(input, &mut line) {
-            Ok(Line::None) => break,
-            Ok(Line::TooLong) => Finding::TooLong,
-            Ok(Line::Whole) => found(line.as_slice()),
-            Err(error) => return Err(of_reading(&error)),
-        };
-        let marks = audit.add(&finding)?;
-        report::remarks(output, number, &finding, &policy, marks)?;
-        if shows_progress && number % STRIDE == 0 {
-            let _ = writeln!(errors, "argon2-audit: {number} lines");
+) -> Result<bool, Failure>
+    ensures { IfOk result (IsAudit policy (R.remaining input.old)) }
+{
+    let session = session_of(alloc, policy, input, output, errors, shows_progress)?;
+    report::table(output, &session.audit)?;
+    Ok(session.audit.tally.is_clean())
+}
+
+// The session after all that is left in `input`.
+fn session_of<R: Read, W: Write, E: Write>(
+    alloc: Global,
+    policy: Policy,
+    input: &mut R,
+    output: &mut W,
+    errors: &mut E,
+    shows_progress: bool,
+) -> Result<Session, Failure>
+    ensures { IfOk result (λ session. IfSome (R.remaining input.old)
+        (λ bytes. IsTallied policy bytes session.audit.tally)) }
+{
+    let mut session = Session::new(alloc, policy);
+    let mut piece = [0u8; PIECE];
+    'pieces: for turn in 0..PIECES {
+        match input.read(&mut piece) {
+            Ok(0) => {
+                session.finish(output)?;
+                return Ok(session);
+            }
+            Ok(count) => session.add(&piece[..count], output)?,
+            Err(e) => {
+                if e.kind() != ErrorKind::Interrupted {
+                    return Err(of_reading(&e));
+                }
+            }
+        }
+        if shows_progress && turn % STRIDE == STRIDE - 1 {
+            let lines = session.audit.tally.lines;
+            let _ = writeln!(errors, "argon2-audit: {lines} lines");
         }
     }
-    report::table(output, &audit)?;
-    Ok(audit.tally.is_clean())
+    Err(Failure::Input)
 }

@@ -1,5 +1,5 @@
 -- Why a calibration fails.
-use Rattle.std.specs.Prelude.{◌≡◌, ◌≢◌, ⊤}
+use Rattle.std.specs.Prelude.{◌≡◌, ◌≢◌}
 use Rattle.argon2_base.specs.declared.error.Error.{Error}
 use Rattle.argon2_base.specs.declared.error.Error.TheVariants.{OutOfMemory}
 use Rattle.argon2_calibrate.specs.declared.failure.Failure.{Failure}

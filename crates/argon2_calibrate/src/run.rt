@@ -1,7 +1,8 @@
 //! The program over any stopwatch and streams.
 
-ghost use Rattle.std.specs.Prelude.{◌≡◌, ◌↔◌, ◌≤◌, OnOk, IsNone, map, string_bytes};
+ghost use Rattle.std.specs.Prelude.{◌≡◌, ◌↔◌, ◌≤◌, IfSome, OnOk, IsNone, map, string_bytes};
 ghost use Rattle.std.specs.Io.KnownBytes.{Appends, Keeps};
+ghost use Rattle.argon2_calibrate.specs.Answer.{Grows, IsAnswered, call_text, list_text};
 ghost use Rattle.argon2_calibrate.specs.Arguments.{command_of};
 
 use crate::arguments::Command;
@@ -45,6 +46,8 @@ pub fn run<S: Stopwatch, W: Write, E: Write>(
     ensures status { result ≤ 2 }
     ensures usage { (result ≡ 2) ↔ IsNone (command_of (map string_bytes args.now)) }
     ensures unwritten { result ≡ 2 → Keeps (W.contents output.old) (W.contents output.new) }
+    ensures answered { result ≡ 0 → IfSome (command_of (map string_bytes args.now))
+        (λ command. IsAnswered S.may_take command (W.contents output.old) (W.contents output.new)) }
 {
     let Some(command) = Command::parsed(args) else {
         let _ = writeln!(errors, "{USAGE}");
@@ -89,14 +92,39 @@ fn calibrate<S: Stopwatch, W: Write, E: Write>(
 ) -> Result<(), Failure>
     requires some { 1 ≤ mebibytes }
     requires most { mebibytes ≤ 4194303 }
+    ensures { OnOk result (IsAnswered S.may_take (Command.Calibrate millis mebibytes)
+        (W.contents output.old) (W.contents output.new)) }
 {
     let target = 1000 * u64::from(millis);
     let choice = search(stopwatch, errors, target, 1024 * mebibytes)?;
     let (m, t) = (choice.m_cost, choice.t_cost);
     let time = timed(stopwatch, errors, m, t)?;
-    let (seconds, millis) = (time / 1_000_000, time / 1000 % 1000);
+    write_list(output, m, t)?;
+    write_call(output, m, t)?;
+    write_time(output, time)
+}
+
+// Writes costs as a list of parameters, a line.
+fn write_list<W: Write>(output: &mut W, m: u32, t: u32) -> Result<(), Failure>
+    ensures { OnOk result (Appends (W.contents output.old) (W.contents output.new) (list_text m t)) }
+{
     writeln!(output, "m={m},t={t},p=1")?;
+    Ok(())
+}
+
+// Writes costs as a call, a line.
+fn write_call<W: Write>(output: &mut W, m: u32, t: u32) -> Result<(), Failure>
+    ensures { OnOk result (Appends (W.contents output.old) (W.contents output.new) (call_text m t)) }
+{
     writeln!(output, "Params::new({m}, {t}, 1, None)")?;
+    Ok(())
+}
+
+// Writes so many microseconds as seconds, a line.
+fn write_time<W: Write>(output: &mut W, time: u64) -> Result<(), Failure>
+    ensures { OnOk result (Grows (W.contents output.old) (W.contents output.new)) }
+{
+    let (seconds, millis) = (time / 1_000_000, time / 1000 % 1000);
     writeln!(output, "{seconds}.{millis:03} seconds")?;
     output.flush()?;
     Ok(())

@@ -23,7 +23,7 @@ pub fn search<S: Stopwatch, E: Write>(
     most: u32,
 ) -> Result<Choice, Failure>
     requires { 8 ≤ most }
-    ensures { IfOk result (IsChoice target most) }
+    ensures { IfOk result (IsChoice S.may_take target most) }
 {
     let mut m_cost = most;
     let mut first = timed(stopwatch, errors, m_cost, 1)?;
@@ -47,7 +47,9 @@ pub fn timed<S: Stopwatch, E: Write>(
     errors: &mut E,
     m_cost: u32,
     t_cost: u32,
-) -> Result<u64, Failure> {
+) -> Result<u64, Failure>
+    ensures { IfOk result (S.may_take m_cost t_cost) }
+{
     let time = stopwatch.time(m_cost, t_cost)?;
     let (seconds, millis) = (time / 1_000_000, time / 1000 % 1000);
     let _ = writeln!(

@@ -1,7 +1,5 @@
 //! How long hashing takes.
 
-ghost use Rattle.std.specs.Prelude.{◌≤◌, ◌<◌, ◌^◌};
-
 use crate::failure::Failure;
 use argon2::{Algorithm, Argon2, Params, Version};
 use std::alloc::Global;
@@ -10,11 +8,17 @@ use std::time::Instant;
 
 /// What measures hashes by Argon2id with one lane.
 pub trait Stopwatch {
+    ghost use Rattle.std.specs.Prelude.{ℕ, ⊤, IfOk};
+
+    // So many blocks and passes may be found to take so many microseconds.
+    ghost may_take: { ℕ → ℕ → ℕ → Type 0 } = { λ _ _ _. ⊤ };
+
     /// How many microseconds a hash takes with so many blocks of 1024 bytes and so many passes.
     ///
     /// # Errors
     /// Memory may be refused, and the clock may not answer.
-    fn time(&mut self, m_cost: u32, t_cost: u32) -> Result<u64, Failure>;
+    fn time(&mut self, m_cost: u32, t_cost: u32) -> Result<u64, Failure>
+        ensures { IfOk result (may_take m_cost t_cost) };
 }
 
 /// The machine that the program runs on.

@@ -1,1 +1,204 @@
-// t
+use super::run;
+use crate::failure::Failure;
+use crate::stopwatch::{Machine, Stopwatch};
+use std::alloc::{AllocError, Global};
+use std::io;
+use std::io::{ErrorKind, Write};
+use std::process::Abort;
+use std::test::Fail;
+
+// A machine that takes so many nanoseconds a block and pass, and so many microseconds beside.
+#[derive(Drop)]
+struct Even {
+    a_block: u64,
+    once: u64,
+}
+
+impl Stopwatch for Even {
+    fn time(&mut self, m_cost: u32, t_cost: u32) -> Result<u64, Failure> {
+        let blocks = u64::from(m_cost).saturating_mul(u64::from(t_cost));
+        let taken = blocks.saturating_mul(self.a_block) / 1000;
+        Ok(taken.saturating_add(self.once))
+    }
+}
+
+// A machine without memory.
+#[derive(Drop)]
+struct Full;
+
+impl Stopwatch for Full {
+    fn time(&mut self, _m_cost: u32, _t_cost: u32) -> Result<u64, Failure> {
+        Err(Failure::Memory(AllocError))
+    }
+}
+
+// A stream that takes this many calls, and then fails each one.
+#[derive(Drop)]
+struct Failing(usize);
+
+impl Failing {
+    fn call(&mut self) -> io::Result<()> {
+        if self.0 == 0 {
+            return Err(io::Error::from(ErrorKind::Other));
+        }
+        self.0 -= 1;
+        Ok(())
+    }
+}
+
+impl Write for Failing {
+    fn write(&mut self, buf: &[u8]) -> io::Result<usize> {
+        self.call()?;
+        Ok(buf.len())
+    }
+
+    fn flush(&mut self) -> io::Result<()> {
+        self.call()
+    }
+}
+
+fn run_words<S: Stopwatch, W: Write, E: Write>(
+    alloc: Global,
+    words: &[&str],
+    stopwatch: &mut S,
+    output: &mut W,
+    errors: &mut E,
+) -> Result<u8, AllocError> {
+    let mut args = Vec::new(alloc);
+    for word in words {
+        args.push(String::from_str(alloc, word)?)?;
+    }
+    Ok(run(args.as_slice(), stopwatch, output, errors))
+}
+
+// 64 MiB take 65.5 ms a pass, and 1000 ms have room for 15 passes; 20 ms have room for 1 pass of 16 MiB,
+// as 16.4 ms and 1 ms beside are.
+#[test]
+fn takes_the_most_memory_and_then_the_most_passes(rt: HostRuntime) -> Result<(), Fail> {
+    for (words, once, answer) in [
+        (
+            ["1", "64"],
+            0,
+            "m=65536,t=15,p=1\nParams::new(65536, 15, 1, None)\n0.983 seconds\n",
+        ),
+        (
+            ["0.02", "64"],
+            1000,
+            "m=16384,t=1,p=1\nParams::new(16384, 1, 1, None)\n0.017 seconds\n",
+        ),
+        (
+            ["0.001", "1"],
+            2000,
+            "m=8,t=1,p=1\nParams::new(8, 1, 1, None)\n0.002 seconds\n",
+        ),
+    ] {
+        let mut stopwatch = Even {
+            a_block: 1000,
+            once,
+        };
+        let (mut output, mut errors) = (Vec::new(rt.alloc()), Vec::new(rt.alloc()));
+        let status = run_words(rt.alloc(), &words, &mut stopwatch, &mut output, &mut errors)?;
+        assert_eq!(rt; output.as_slice(), answer.as_bytes());
+        assert_eq!(rt; status, 0);
+    }
+    Ok(())
+}
+
+#[test]
+fn tells_each_time(rt: HostRuntime) -> Result<(), Fail> {
+    let mut stopwatch = Even {
+        a_block: 1000,
+        once: 0,
+    };
+    let (mut output, mut errors) = (Vec::new(rt.alloc()), Vec::new(rt.alloc()));
+    run_words(
+        rt.alloc(),
+        &["0.7", "1024"],
+        &mut stopwatch,
+        &mut output,
+        &mut errors,
+    )?;
+    let told = "argon2-calibrate: m=1048576,t=1,p=1 takes 1.048 seconds
+argon2-calibrate: m=524288,t=1,p=1 takes 0.524 seconds
+argon2-calibrate: m=524288,t=2,p=1 takes 1.048 seconds
+argon2-calibrate: m=524288,t=1,p=1 takes 0.524 seconds
+";
+    assert_eq!(rt; errors.as_slice(), told.as_bytes());
+    Ok(())
+}
+
+#[test]
+fn tells_its_usage_where_arguments_are_of_no_form(rt: HostRuntime) -> Result<(), Fail> {
+    for words in [
+        ["0", "64"],
+        ["0.000", "64"],
+        ["1.", "64"],
+        [".5", "64"],
+        ["1.0000", "64"],
+        ["1.x", "64"],
+        ["1e3", "64"],
+        ["-1", "64"],
+        ["3600.001", "64"],
+        ["1", "0"],
+        ["1", "064"],
+        ["1", "4194304"],
+        ["--help", "1"],
+    ] {
+        let (mut output, mut errors) = (Vec::new(rt.alloc()), Vec::new(rt.alloc()));
+        let status = run_words(rt.alloc(), &words, &mut Full, &mut output, &mut errors)?;
+        assert_eq!(rt;
+            errors.as_slice(),
+            b"usage: argon2-calibrate SECONDS [MEBIBYTES] | --help\n".as_slice()
+        );
+        assert_eq!(rt; output.len(), 0);
+        assert_eq!(rt; status, 2);
+    }
+    Ok(())
+}
+
+#[test]
+fn tells_what_fails(rt: HostRuntime) -> Result<(), Fail> {
+    let (mut output, mut errors) = (Vec::new(rt.alloc()), Vec::new(rt.alloc()));
+    let status = run_words(
+        rt.alloc(),
+        &["3600.000"],
+        &mut Full,
+        &mut output,
+        &mut errors,
+    )?;
+    assert_eq!(rt;
+        errors.as_slice(),
+        b"argon2-calibrate: out of memory\n".as_slice()
+    );
+    assert_eq!(rt; (output.len(), status), (0, 1));
+    for word in ["--help", "0.001"] {
+        let mut stopwatch = Even {
+            a_block: 0,
+            once: 1,
+        };
+        let mut errors = Vec::new(rt.alloc());
+        let status = run_words(
+            rt.alloc(),
+            &[word],
+            &mut stopwatch,
+            &mut Failing(0),
+            &mut errors,
+        )?;
+        assert!(rt;
+            errors
+                .as_slice()
+                .ends_with(b"argon2-calibrate: standard output can't be written\n")
+        );
+        assert_eq!(rt; status, 1);
+    }
+    Ok(())
+}
+
+// The least costs are measured, and others are refused.
+#[test]
+fn measures_this_machine(rt: HostRuntime) -> Result<(), Fail> {
+    let mut machine = Machine::new(rt.alloc(), &rt);
+    machine.time(8, 1)?;
+    assert!(rt; machine.time(7, 1).is_err());
+    Ok(())
+}

@@ -1,0 +1,128 @@
+-- What is known before the first byte, after a line, and after the last.
+use Rattle.std.proofs.Common.{arith, Option, Some, None, Result, Ok, Err, IfOk, ◌↔◌, ◌≡◌, ◌∙◌, ◌+◌, ◌<◌, ℕ, Bool, true, false, IsTrue, List, [], ◌∷◌, ◌++◌, length, ap, sym, subst, refl, inl, inr, append_assoc, append-nil}
+use Rattle.std.specs.Bool.{MatchBool}
+use Rattle.std.specs.Prelude.{IfSome}
+use Rattle.argon2_audit.specs.Finding.{IsFinding, class_of, has_short_salt}
+use Rattle.argon2_audit.specs.Line.{IsRead}
+use Rattle.argon2_audit.specs.Session.{IsAudit, IsBegun, IsJoined, IsPassed, IsTallied, IsTallyOf, how_many, joined}
+use Rattle.argon2_audit.specs.Tally.{Counts, IsClean, count_of, is_class, one_if}
+use Rattle.argon2_audit.specs.declared.arguments.Command.{Command}
+use Rattle.argon2_audit.specs.declared.arguments.Command.TheVariants.{Audit}
+use Rattle.argon2_audit.specs.declared.failure.Failure.{Failure}
+use Rattle.argon2_audit.specs.declared.finding.Class.{Class}
+use Rattle.argon2_audit.specs.declared.finding.Class.TheVariants.{Outside, NoHash, Below, Sound}
+use Rattle.argon2_audit.specs.declared.finding.Finding.{Finding}
+use Rattle.argon2_audit.specs.declared.line.Line.{Line}
+use Rattle.argon2_audit.specs.declared.policy.Policy.{Policy}
+use Rattle.argon2_audit.specs.declared.tally.Marks.{Marks}
+use Rattle.argon2_audit.specs.declared.tally.Tally.{Tally}
+
+-- ---- counts
+
+none_of : (tally : Tally) → tally.lines ≡ 0 → (class : Class) → count_of class tally ≡ 0
+none_of tally none Outside = let sum = tally.adds_up in omega arith
+none_of tally none NoHash = let sum = tally.adds_up in omega arith
+none_of tally none Below = let sum = tally.adds_up in omega arith
+none_of tally none Sound = let sum = tally.adds_up in omega arith
+
+no_findings : (policy : Policy) (tally : Tally) → tally.lines ≡ 0 → IsTallyOf policy [] tally
+no_findings policy tally none = record {
+  all = none;
+  classes = none_of tally none;
+  short_salts = let short = tally.short in omega arith;
+}
+
+finding_more : (policy : Policy) (findings : List Finding) (finding : Finding) (marks : Marks) (old new : Tally)
+    → IsTallyOf policy findings old → Counts marks old new → marks.class ≡ class_of policy finding
+    → marks.short_salt ≡ has_short_salt policy finding → IsTallyOf policy (finding ∷ findings) new
+finding_more policy findings finding marks old new of counts class_is short_is = record {
+  all = let all = of.all in let lines = counts.lines in omega arith;
+  classes = λ class. counts.classes class
+      ∙ ap (λ n. n + one_if (is_class marks.class class)) (of.classes class)
+      ∙ ap (λ k. how_many (λ f. is_class (class_of policy f) class) findings + one_if (is_class k class)) class_is;
+  short_salts = counts.short_salts ∙ ap (λ n. n + one_if marks.short_salt) of.short_salts
+      ∙ ap (λ b. how_many (has_short_salt policy) findings + one_if b) short_is;
+}
+
+-- ---- lines
+
+pub nothing_yet : (kept : Line) (policy : Policy) (tally : Tally) → IsRead kept [] → tally.lines ≡ 0 → IsBegun kept policy [] tally
+nothing_yet kept policy tally read none = record {
+  lines = [];
+  findings = [];
+  rest = [];
+  feeds = tt;
+  feed = refl;
+  split = refl;
+  found = tt;
+  tally = no_findings policy tally none;
+  read = read;
+}
+
+pub line_more : (kept next : Line) (policy : Policy) (old new : Tally) (bytes : List ℕ) (finding : Finding) (marks : Marks)
+    → ((line : List ℕ) → IsRead kept line → IsFinding line finding) → IsRead next [] → Counts marks old new
+    → marks.class ≡ class_of policy finding → marks.short_salt ≡ has_short_salt policy finding
+    → IsBegun kept policy bytes old → IsBegun next policy (bytes ++ 10 ∷ []) new
+line_more kept next policy old new bytes finding marks finds none counts class_is short_is b = record {
+  lines = b.rest ∷ b.lines;
+  findings = finding ∷ b.findings;
+  rest = [];
+  feeds = (b.feed, b.feeds);
+  feed = refl;
+  split = ap (λ l. l ++ 10 ∷ []) b.split ∙ append_assoc (joined b.lines) b.rest (10 ∷ []) ∙ sym (append-nil _);
+  found = (finds b.rest b.read, b.found);
+  tally = finding_more policy b.findings finding marks old new b.tally counts class_is short_is;
+  read = none;
+}
+
+pub line_last : (kept : Line) (policy : Policy) (old new : Tally) (bytes : List ℕ) (finding : Finding) (marks : Marks)
+    → ((line : List ℕ) → IsRead kept line → IsFinding line finding) → Counts marks old new
+    → marks.class ≡ class_of policy finding → marks.short_salt ≡ has_short_salt policy finding
+    → (IsRead kept [] → ⊥) → IsBegun kept policy bytes old → IsTallied policy bytes new
+line_last kept policy old new bytes finding marks finds counts class_is short_is some b = record {
+  lines = b.rest ∷ b.lines;
+  findings = finding ∷ b.findings;
+  feeds = (b.feed, b.feeds);
+  split = inr (b.split, λ none. some (subst (IsRead kept) none b.read));
+  found = (finds b.rest b.read, b.found);
+  tally = finding_more policy b.findings finding marks old new b.tally counts class_is short_is;
+}
+
+-- ---- the end
+
+nothing_left : (is_long : Bool) (bytes line : List ℕ)
+    → MatchBool is_long ((length bytes ≡ 4096) × (4096 < length line)) (bytes ≡ line)
+    → MatchBool is_long ((length bytes ≡ 4096) × (4096 < 0)) (bytes ≡ []) → line ≡ []
+nothing_left true bytes line read none = absurd (omega arith)
+nothing_left false bytes line read none = sym read ∙ none
+
+all_ended : (bytes rest : List ℕ) (lines : List (List ℕ)) → bytes ≡ joined lines ++ rest → rest ≡ [] → IsJoined bytes lines
+all_ended bytes rest [] split none = split ∙ none
+all_ended bytes rest (line ∷ lines) split none = inl (split ∙ ap (λ r. joined (line ∷ lines) ++ r) none ∙ append-nil _)
+
+pub no_line_more : (kept : Line) (policy : Policy) (tally : Tally) (bytes : List ℕ) → IsRead kept [] → IsBegun kept policy bytes tally
+    → IsTallied policy bytes tally
+no_line_more kept policy tally bytes none b = record {
+  lines = b.lines;
+  findings = b.findings;
+  feeds = b.feeds;
+  split = all_ended bytes b.rest b.lines b.split (nothing_left kept.is_long kept.bytes.items b.rest b.read none);
+  found = b.found;
+  tally = b.tally;
+}
+
+pub audit_of : (policy : Policy) (input : Option (List ℕ)) (tally : Tally) (clean : Bool)
+    → IfSome input (λ bytes. IsTallied policy bytes tally) → (IsTrue clean ↔ IsClean tally) → IsAudit policy input clean
+audit_of policy None tally clean tallied is = tt
+audit_of policy (Some bytes) tally clean tallied is = (tally, tallied, is)
+
+passed_of : (policy : Policy) (input : Option (List ℕ)) (clean : Bool) → IsAudit policy input clean → clean ≡ true
+    → IsPassed (Audit policy) input
+passed_of policy None clean audit is = tt
+passed_of policy (Some bytes) clean audit is = (audit.0, audit.1, audit.2.0 is)
+
+pub passed_by : (policy : Policy) (input : Option (List ℕ)) (command : Command) (r : Result Bool Failure) → command ≡ Audit policy
+    → IfOk r (IsAudit policy input) → IfOk r (λ yes. IsTrue yes → IsPassed command input)
+passed_by policy input command (Ok clean) is audit =
+    λ holds. subst (λ k. IsPassed k input) (sym is) (passed_of policy input clean audit holds)
+passed_by policy input command (Err failure) is audit = tt

@@ -1,0 +1,28 @@
+use Rattle.std.proofs.Common.{arith, rules, ◌∙◌, ◌++◌, take}
+use Rattle.std.proofs.KnownBytes.{Consumes-kept, Consumes-trans}
+use Rattle.argon2_audit.proofs.run.session_of.Goals.{in-Ok+in_ok-add-in-Ok, in-Err+else-ne}
+use Rattle.argon2_audit.proofs.run.session_of.Goals as goal
+
+pub pieces-preserved : goal.pieces-preserved
+pieces-preserved g c =
+    let before = c.pieces.invariant in
+    elim c.match-read.branch [
+      | in-Ok+in_ok-add-in-Ok w ↦
+          rw w.session-is (
+            search rules,
+            search rules,
+            w.in_ok-add-in-Ok.ensures.policy ∙ before.2,
+            (
+              before.3.0 ++ take w.in-Ok.count c.read.new.buf,
+              w.in_ok-add-in-Ok.ensures.after _ before.3.1,
+              Consumes-trans _ _ _ _ _ before.3.2 w.in-Ok.ensures.bytes.0,
+            ),
+          )
+      | in-Err+else-ne w ↦
+          rw w.session-is (
+            omega arith,
+            search rules,
+            before.2,
+            (before.3.0, before.3.1, Consumes-kept _ _ _ _ before.3.2 w.in-Err.ensures.bytes),
+          )
+    ]

@@ -1,0 +1,9 @@
+use Rattle.std.proofs.Common.{◌≡◌, ◌≤◌, ◌*◌, List, ℕ, length}
+use Rattle.std.specs.Io.KnownBytes.{Consumes}
+use Rattle.argon2_audit.specs.Session.{IsAfter}
+use Rattle.argon2_audit.proofs.run.session_of.Given as goal
+
+abbrev pub invariant-pieces : goal.invariant-pieces
+invariant-pieces g l = (l.session.audit.tally.lines ≤ 65536 * l.turn) × (length l.piece ≡ 65536)
+    × (l.session.audit.policy ≡ l.fn.policy)
+    × ((read : List ℕ) × IsAfter l.session read × Consumes (g.R.Read.remaining l.fn.input) (g.R.Read.remaining l.input) read)

@@ -1,0 +1,27 @@
+use Rattle.std.proofs.Common.{Result, Ok, Err, OnOk, [], ◌∷◌, ◌++◌, sym, subst}
+use Rattle.argon2_audit.specs.Session.{IsBegun}
+use Rattle.argon2_audit.proofs.Sessions.{line_last, line_more}
+use Rattle.argon2_audit.proofs.session.Session.end_line.Goals as goal
+
+always : {T E : Type 0} (r : Result T E) (P : Type 0) → P → OnOk r P
+always (Ok x) P is = is
+always (Err e) P is = tt
+
+pub returns-clause-after : goal.returns-clause-after
+returns-clause-after g c =
+    let old = c.args.self.now in
+    let marks = c.in_ok-marks.marks in
+    let ensured = c.in_ok-marks.ensures in
+    always c.remarks.result _ (λ before after.
+    subst (λ p. IsBegun c.end-finding.new.self p (before ++ 10 ∷ []) c.add.new.self.tally) (sym ensured.policy)
+    (line_more old.line c.end-finding.new.self old.audit.policy old.audit.tally c.add.new.self.tally before
+    c.end-finding.result marks c.end-finding.ensures.finding c.end-finding.ensures.next ensured.counts ensured.class
+    ensured.short after))
+
+pub returns-clause-whole : goal.returns-clause-whole
+returns-clause-whole g c =
+    let old = c.args.self.now in
+    let ensured = c.in_ok-marks.ensures in
+    always c.remarks.result _ (λ bytes after some.
+    line_last old.line old.audit.policy old.audit.tally c.add.new.self.tally bytes c.end-finding.result c.in_ok-marks.marks
+    c.end-finding.ensures.finding ensured.counts ensured.class ensured.short some after)

@@ -1,0 +1,86 @@
+-- What is known after so many bytes.
+use Rattle.std.specs.Prelude.{◌≡◌, ◌≢◌, ◌⊎◌, ◌↔◌, ⊤, ℕ, ◌+◌, ◌==◌, Bool, not, IsTrue, Option, IfSome, List, [], ◌∷◌, ◌++◌, length}
+use Rattle.std.specs.List.{AllZip, list_all}
+use Rattle.argon2_audit.specs.Finding.{IsFinding, class_of, has_short_salt}
+use Rattle.argon2_audit.specs.Line.{IsRead}
+use Rattle.argon2_audit.specs.Tally.{IsClean, count_of, is_class, one_if}
+use Rattle.argon2_audit.specs.declared.arguments.Command.{Command}
+use Rattle.argon2_audit.specs.declared.arguments.Command.TheVariants.{Help, Audit}
+use Rattle.argon2_audit.specs.declared.finding.Class.{Class}
+use Rattle.argon2_audit.specs.declared.finding.Finding.{Finding}
+use Rattle.argon2_audit.specs.declared.line.Line.{Line}
+use Rattle.argon2_audit.specs.declared.policy.Policy.{Policy}
+use Rattle.argon2_audit.specs.declared.session.Session.{Session}
+use Rattle.argon2_audit.specs.declared.tally.Tally.{Tally}
+
+-- ---- lines, the last first
+
+-- each element passes a test
+abbrev pub AllTrue : (List ℕ → Bool) → List (List ℕ) → Type 0
+AllTrue test [] = ⊤
+AllTrue test (line ∷ lines) = IsTrue (test line) × AllTrue test lines
+
+-- no line feed is in a line
+abbrev pub has_no_feed : List ℕ → Bool
+has_no_feed line = list_all (λ byte. not (byte == 10)) line
+
+-- lines one after another, each with a line feed
+abbrev pub joined : List (List ℕ) → List ℕ
+joined [] = []
+joined (line ∷ earlier) = joined earlier ++ (line ++ 10 ∷ [])
+
+-- each line ends with a line feed, but that the last may have none where it is not empty
+abbrev pub IsJoined : List ℕ → List (List ℕ) → Type 0
+IsJoined bytes [] = bytes ≡ []
+IsJoined bytes (last ∷ earlier) = (bytes ≡ joined (last ∷ earlier)) ⊎ ((bytes ≡ joined earlier ++ last) × (last ≢ []))
+
+-- ---- counts
+
+-- how many pass a test
+abbrev pub how_many : (Finding → Bool) → List Finding → ℕ
+how_many test [] = 0
+how_many test (finding ∷ earlier) = how_many test earlier + one_if (test finding)
+
+-- the counts are those of what lines come to
+pub record IsTallyOf (policy : Policy) (findings : List Finding) (tally : Tally) : Type 0 where
+  pub all : tally.lines ≡ length findings
+  pub classes : (class : Class)
+      → count_of class tally ≡ how_many (λ finding. is_class (class_of policy finding) class) findings
+  pub short_salts : tally.short_salts ≡ how_many (has_short_salt policy) findings
+
+-- the counts are those of the lines of a text
+pub record IsTallied (policy : Policy) (bytes : List ℕ) (counts : Tally) : Type 0 where
+  pub lines : List (List ℕ)
+  pub findings : List Finding
+  pub feeds : AllTrue has_no_feed lines
+  pub split : IsJoined bytes lines
+  pub found : AllZip IsFinding lines findings
+  pub tally : IsTallyOf policy findings counts
+
+-- the counts are those of the lines of a text but for its end, which is kept
+pub record IsBegun (kept : Line) (policy : Policy) (bytes : List ℕ) (counts : Tally) : Type 0 where
+  pub lines : List (List ℕ)
+  pub findings : List Finding
+  pub rest : List ℕ
+  pub feeds : AllTrue has_no_feed lines
+  pub feed : IsTrue (has_no_feed rest)
+  pub split : bytes ≡ joined lines ++ rest
+  pub found : AllZip IsFinding lines findings
+  pub tally : IsTallyOf policy findings counts
+  pub read : IsRead kept rest
+
+-- so many bytes were taken
+abbrev pub IsAfter : Session → List ℕ → Type 0
+IsAfter session bytes = IsBegun session.line session.audit.policy bytes session.audit.tally
+
+-- ---- what the program says
+
+-- where the input is known, its lines are counted, and are clean or not
+abbrev pub IsAudit : Policy → Option (List ℕ) → Bool → Type 0
+IsAudit policy input clean = IfSome input (λ bytes. (tally : Tally) × IsTallied policy bytes tally
+    × (IsTrue clean ↔ IsClean tally))
+
+-- the help was asked for, or the lines of a known input are clean
+abbrev pub IsPassed : Command → Option (List ℕ) → Type 0
+IsPassed Help input = ⊤
+IsPassed (Audit policy) input = IfSome input (λ bytes. (tally : Tally) × IsTallied policy bytes tally × IsClean tally)

@@ -1,0 +1,95 @@
+//! An audit of bytes as they come.
+
+use crate::audit::Audit;
+use crate::failure::Failure;
+use crate::line::Line;
+use crate::policy::Policy;
+use crate::report;
+use std::alloc::Global;
+use std::io::Write;
+
+/// The audit of the lines so far, and the line that is being read.
+#[derive(Drop)]
+pub struct Session {
+    pub audit: Audit,
+    line: Line,
+}
+
+impl Session {
+    ghost use Rattle.std.specs.Prelude.{◌≡◌, ◌<◌, ◌≤◌, ◌+◌, ◌^◌, ◌-◌, ℕ, List, [], ◌∷◌, ◌++◌, length, OnOk};
+    ghost use Rattle.argon2_audit.specs.Line.{IsRead};
+    ghost use Rattle.argon2_audit.specs.Session.{IsAfter, IsBegun, IsTallied};
+
+    /// An audit of no bytes.
+    pub fn new(alloc: Global, policy: Policy) -> Session
+        ensures policy { result.audit.policy ≡ policy }
+        ensures lines { result.audit.tally.lines ≡ 0 }
+        ensures after { IsAfter result [] }
+    {
+        Session {
+            audit: Audit::new(alloc, policy),
+            line: Line::new(alloc),
+        }
+    }
+
+    /// Takes account of more bytes, and writes remarks on the lines that end in them.
+    pub fn add<W: Write>(&mut self, bytes: &[u8], output: &mut W) -> Result<(), Failure>
+        requires { self.old.audit.tally.lines + length bytes.now < 2 ^ 64 }
+        ensures policy { OnOk result (self.new.audit.policy ≡ self.old.audit.policy) }
+        ensures lines { OnOk result
+            (self.new.audit.tally.lines ≤ self.old.audit.tally.lines + length bytes.now) }
+        ensures after { OnOk result ((before : List ℕ) → IsAfter self.old before
+            → IsAfter self.new (before ++ bytes.now)) }
+    {
+        for byte in bytes {
+            self.add_byte(*byte, output)?;
+        }
+        Ok(())
+    }
+
+    // Takes account of one more byte.
+    fn add_byte<W: Write>(&mut self, byte: u8, output: &mut W) -> Result<(), Failure>
+        requires { self.old.audit.tally.lines < 2 ^ 64 - 1 }
+        ensures policy { OnOk result (self.new.audit.policy ≡ self.old.audit.policy) }
+        ensures lines { OnOk result
+            (self.new.audit.tally.lines ≤ self.old.audit.tally.lines + 1) }
+        ensures after { OnOk result ((before : List ℕ) → IsAfter self.old before
+            → IsAfter self.new (before ++ byte ∷ [])) }
+    {
+        if byte == b'\n' {
+            self.end_line(output)
+        } else {
+            self.line.push(byte)?;
+            Ok(())
+        }
+    }
+
+    /// Ends the last line, where it has no line feed.
+    pub fn finish<W: Write>(&mut self, output: &mut W) -> Result<(), Failure>
+        requires { self.old.audit.tally.lines < 2 ^ 64 - 1 }
+        ensures { OnOk result ((bytes : List ℕ) → IsAfter self.old bytes
+            → IsTallied self.old.audit.policy bytes self.new.audit.tally) }
+    {
+        if !self.line.is_empty() {
+            self.end_line(output)?;
+        }
+        Ok(())
+    }
+
+    // Ends a line.
+    fn end_line<W: Write>(&mut self, output: &mut W) -> Result<(), Failure>
+        requires { self.old.audit.tally.lines < 2 ^ 64 - 1 }
+        ensures policy { OnOk result (self.new.audit.policy ≡ self.old.audit.policy) }
+        ensures lines { OnOk result
+            (self.new.audit.tally.lines ≡ self.old.audit.tally.lines + 1) }
+        ensures after { OnOk result ((before : List ℕ) → IsAfter self.old before
+            → IsAfter self.new (before ++ 10 ∷ [])) }
+        ensures whole { OnOk result ((bytes : List ℕ) → IsAfter self.old bytes
+            → ¬ IsRead self.old.line [] → IsTallied self.old.audit.policy bytes self.new.audit.tally) }
+    {
+        let finding = self.line.end();
+        let marks = self.audit.add(&finding)?;
+        let number = self.audit.tally.lines;
+        report::remarks(output, number, &finding, &self.audit.policy, marks)
+    }
+}
