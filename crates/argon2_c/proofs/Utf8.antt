@@ -44,7 +44,8 @@ versioned (Some n) t h k = behind (codes "v=") _ refl (numbered n (36 ∷ t) (om
 -- a spelling is text
 pub IsUtf8-spelling : (n : ℕ) (v : Said) → IsSaid v → IsUtf8 (spelling (name_numbered n) v)
 IsUtf8-spelling n v h =
-    behind (codes "$") _ refl (behind (name_numbered n) _ (ascii_name n) (behind (codes "$") _ refl (versioned v.version _ h.small_version
+    behind (codes "$") _ refl (behind (name_numbered n) _ (ascii_name n)
+    (behind (codes "$") _ refl (versioned v.version _ h.small_version
     (behind (codes "m=") _ refl (numbered v.m_cost _ (omega arith)
     (behind (codes ",t=") _ refl (numbered v.t_cost _ (omega arith)
     (behind (codes ",p=") _ refl (numbered v.lanes _ (omega arith)

@@ -64,6 +64,10 @@ written v = record v { salt = strict_base64 v.salt; tag = strict_base64 v.tag }
 abbrev pub spelling : List ℕ → Said → List ℕ
 spelling name v = joined name (written v)
 
+-- the text of these numbers, salt and hash
+abbrev pub text_of : ℕ → ℕ → ℕ → ℕ → ℕ → List ℕ → List ℕ → List ℕ
+text_of algorithm version m t p salt tag = spelling (name_numbered algorithm) (said_with version m t p salt tag)
+
 -- the code of writing a text into so much room, memory aside: a zero byte has to fit too
 abbrev pub encode_code : ℕ → List ℕ → ℕ → ℤ
 encode_code algorithm text room = if nat_le algorithm 2 && nat_lt (length text) room then ok else encoding_fail

@@ -5,7 +5,7 @@ ghost use Rattle.std.specs.Fmt.{decimal};
 ghost use Rattle.argon2.specs.Algorithm.{algorithm_name};
 ghost use Rattle.argon2_base.specs.Base64.{strict_base64};
 ghost use Rattle.argon2_c.specs.Codes.{memory_allocation_error, ok};
-ghost use Rattle.argon2_c.specs.Texts.{encode_code, name_numbered, said_with, spelling};
+ghost use Rattle.argon2_c.specs.Texts.{encode_code, name_numbered, said_with, spelling, text_of};
 
 use crate::code::{ENCODING_FAIL, MEMORY_ALLOCATION_ERROR, OK};
 use crate::hash::variant;
@@ -27,9 +27,9 @@ pub fn encode(
     tag: &[u8],
     out: &mut [u8],
 ) -> i32
-    ensures answer { let text = spelling (name_numbered algorithm) (said_with version m_cost t_cost lanes salt.now tag.now) in
+    ensures answer { let text = text_of algorithm version m_cost t_cost lanes salt.now tag.now in
         (result ≡ encode_code algorithm text (length out.old)) ⊎ (result ≡ memory_allocation_error) }
-    ensures written { let text = spelling (name_numbered algorithm) (said_with version m_cost t_cost lanes salt.now tag.now) in
+    ensures written { let text = text_of algorithm version m_cost t_cost lanes salt.now tag.now in
         result ≡ ok → out.new ≡ text ++ 0 ∷ drop (suc (length text)) out.old }
     ensures same { result ≢ ok → out.new ≡ out.old }
 {
@@ -109,7 +109,7 @@ pub fn encoded_length(
     tag_len: u32,
 ) -> usize
     ensures value { (salt tag : List ℕ) → algorithm ≤ 2 → length salt ≡ salt_len → length tag ≡ tag_len
-        → result ≡ length (spelling (name_numbered algorithm) (said_with 19 m_cost t_cost lanes salt tag)) + 1 }
+        → result ≡ length (text_of algorithm 19 m_cost t_cost lanes salt tag) + 1 }
     ensures none { 2 < algorithm → result ≡ 0 }
 {
     if algorithm > 2 {

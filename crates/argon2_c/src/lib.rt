@@ -7,7 +7,7 @@ ghost use Rattle.argon2.specs.Refusals.{first_of};
 ghost use Rattle.argon2.specs.Tag.{tag_of};
 ghost use Rattle.argon2_c.specs.Codes.{IsAnswer, decoding_fail, memory_allocation_error, ok, verify_mismatch};
 ghost use Rattle.argon2_c.specs.Requests.{asked, length_faults, request_faults};
-ghost use Rattle.argon2_c.specs.Texts.{Said, encode_code, name_numbered, said_with, spelling};
+ghost use Rattle.argon2_c.specs.Texts.{Said, encode_code, text_of};
 ghost use Rattle.argon2_c.specs.Verifying.{Says, call_refusal, verify_code};
 
 mod code;
@@ -72,10 +72,10 @@ pub extern "C" fn argon2_c_encode(
     tag: &[u8],
     out: &mut [u8],
 ) -> i32
-    ensures answer { let text = spelling (name_numbered algorithm) (said_with version m_cost t_cost lanes salt.now tag.now) in
+    ensures answer { let text = text_of algorithm version m_cost t_cost lanes salt.now tag.now in
         (result ≡ encode_code algorithm text (length out.old)) ⊎ (result ≡ memory_allocation_error) }
 
-    ensures written { let text = spelling (name_numbered algorithm) (said_with version m_cost t_cost lanes salt.now tag.now) in
+    ensures written { let text = text_of algorithm version m_cost t_cost lanes salt.now tag.now in
         result ≡ ok → out.new ≡ text ++ 0 ∷ drop (suc (length text)) out.old }
     ensures same { result ≢ ok → out.new ≡ out.old }
 {
@@ -96,7 +96,7 @@ pub extern "C" fn argon2_c_encoded_length(
     tag_len: u32,
 ) -> usize
     ensures value { (salt tag : List ℕ) → algorithm ≤ 2 → length salt ≡ salt_len → length tag ≡ tag_len
-        → result ≡ length (spelling (name_numbered algorithm) (said_with 19 m_cost t_cost lanes salt tag)) + 1 }
+        → result ≡ length (text_of algorithm 19 m_cost t_cost lanes salt tag) + 1 }
     ensures none { 2 < algorithm → result ≡ 0 }
 {
     encode::encoded_length(algorithm, m_cost, t_cost, lanes, salt_len, tag_len)

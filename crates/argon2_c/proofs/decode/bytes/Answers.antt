@@ -3,7 +3,11 @@ use Rattle.argon2_base.proofs.Base64Lemmas.{strict_base64_decoded, strict_base64
 use Rattle.argon2_c.proofs.decode.bytes.Goals as goal
 
 pub returns-in-Ok-clause-found : goal.returns-in-Ok-clause-found
-returns-in-Ok-clause-found c = (c.in-Ok.ensures.bytes, strict_base64_decoded c.args.text.now _ (λ i. omega (arith, c.type_inv.text i)) (rw c.as_bytes.ensures.value at c.in-Ok.ensures.ok))
+returns-in-Ok-clause-found c = (
+  c.in-Ok.ensures.bytes,
+  strict_base64_decoded c.args.text.now _ (λ i. omega (arith, c.type_inv.text i))
+      (rw c.as_bytes.ensures.value at c.in-Ok.ensures.ok),
+)
 
 pub returns-in-Ok-clause-only : goal.returns-in-Ok-clause-only
 returns-in-Ok-clause-only c = λ b bytes is.
@@ -12,4 +16,5 @@ returns-in-Ok-clause-only c = λ b bytes is.
 
 pub returns-in-Err-DecodeError-clause-only : goal.returns-in-Err-DecodeError-clause-only
 returns-in-Err-DecodeError-clause-only c = λ b bytes is.
-    absurd (strict_base64_never_refused c.args.text.now b c.in-Err-DecodeError.field-0-0 bytes is (rw (c.as_bytes.ensures.value, c.in-Err-DecodeError.field-0-is) at c.in-Err-DecodeError.ensures.err))
+    absurd (strict_base64_never_refused c.args.text.now b c.in-Err-DecodeError.field-0-0 bytes is
+    (rw (c.as_bytes.ensures.value, c.in-Err-DecodeError.field-0-is) at c.in-Err-DecodeError.ensures.err))

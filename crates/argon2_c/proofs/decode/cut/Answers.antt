@@ -6,4 +6,5 @@ use Rattle.argon2_c.proofs.decode.cut.Goals as goal
 
 pub returns-clause-only : goal.returns-clause-only
 returns-clause-only c = λ b left bytes is.
-    is_some_and _ c.split_once.result (split_after 36 c.args.text.now (strict_base64 b) left c.split_once.result c.split_once.ensures.cases (lit< tt) is (base64_no_dollar b bytes))
+    is_some_and _ c.split_once.result (split_after 36 c.args.text.now (strict_base64 b) left c.split_once.result
+    c.split_once.ensures.cases (lit< tt) is (base64_no_dollar b bytes))
