@@ -1,4 +1,4 @@
-//! Uses of `argon2` as callers write them, each proved from the contracts of public calls alone.
+//! Uses of `argon2` as callers write them, each proved from its public contracts and lemmas alone.
 #![tactic(auto)]
 
 pub mod arena;

@@ -1,6 +1,6 @@
 //! Logging in: names with passwords, over a store that renews old texts.
 
-ghost use Rattle.std.specs.Prelude.{◌≡◌, ◌↔◌, ◌⊎◌, None, IsTrue, IfOk, IfErr, OnOk, OnErr, MatchResult};
+ghost use Rattle.std.specs.Prelude.{◌≡◌, ◌↔◌, ◌⊎◌, None, IsSome, IfOk, IfErr, OnOk, OnErr, MatchResult};
 ghost use Rattle.std.specs.FinMap.{get};
 ghost use Rattle.rand_core.specs.Stream.{fill_bytes};
 ghost use Rattle.argon2.specs.Argon2.{secret_of};
@@ -8,9 +8,9 @@ ghost use Rattle.argon2.specs.Login.{store_of, target_of};
 ghost use Rattle.argon2.specs.Made as made_under;
 ghost use Rattle.argon2.specs.base_declared.error.password_hash.Error.TheVariants.{OutOfMemory};
 ghost use Rattle.argon2.specs.declared.login.answers.LoginError.TheVariants.{Refused};
-ghost use Rattle.argon2_uses.specs.Login.{HasPassword, HasPasswordUnder, KeepsOthers, RegisterRefusal};
+ghost use Rattle.argon2_uses.specs.Login.{HasPassword, HasPasswordUnder, KeepsOthers, Leaves, RegisterRefusal};
 
-use argon2::login::{Login, LoginError};
+use argon2::login::{Accepted, Login, LoginError};
 use argon2::password_hash::Error;
 use argon2::{Argon2, PasswordHasher};
 use rand_core::Rng;
@@ -45,7 +45,8 @@ pub fn register<R: Rng>(
     store.add(name, hash.text().as_str())
 }
 
-/// Whether a name has this password. Where it has, its text is renewed if it is old.
+/// None where the name has not this password, and else what was done with its text: where that is
+/// [`Accepted::Rehashed`], the text is a new one, which [`Login::text_of`] gives to write down.
 ///
 /// # Errors
 /// [`LoginError::Refused`] with the reason where the name's text can't be verified.
@@ -54,19 +55,19 @@ pub fn log_in<R: Rng>(
     rng: &mut R,
     name: &str,
     password: &[u8],
-) -> Result<bool, LoginError>
+) -> Result<Option<Accepted>, LoginError>
     ensures answer { MatchResult result
-        (λ yes. IsTrue yes ↔ HasPassword store.old name.now password.now)
+        (λ accepted. IsSome accepted ↔ HasPassword store.old name.now password.now)
         (λ e. (e ≡ Refused OutOfMemory) ⊎ (HasPassword store.old name.now password.now → ⊥)) }
-    ensures still { IfOk result (λ yes.
-        IsTrue yes → HasPassword store.new name.now password.now) }
-    ensures others { KeepsOthers name.now store.old store.new }
+    ensures still { IfOk result (λ accepted.
+        IsSome accepted → HasPassword store.new name.now password.now) }
+    ensures left { Leaves store.old name.now password.now (fill_bytes 16 (R.stream rng.old)).0
+        result store.new }
     ensures target { target_of store.new ≡ target_of store.old }
-    ensures same { OnErr result (store_of store.new ≡ store_of store.old) }
 {
     match store.login(rng, name, password) {
-        Ok(_) => Ok(true),
-        Err(LoginError::NameUnknown | LoginError::Refused(Error::PasswordInvalid)) => Ok(false),
+        Ok(accepted) => Ok(Some(accepted)),
+        Err(LoginError::NameUnknown | LoginError::Refused(Error::PasswordInvalid)) => Ok(None),
         Err(e) => Err(e),
     }
 }

@@ -1,7 +1,7 @@
 //! Passwords as stored texts, under the default settings and no secret.
 
-ghost use Rattle.std.specs.Prelude.{◌≡◌, ◌↔◌, ◌⊎◌, [], IsTrue, IfOk, MatchResult};
-ghost use Rattle.argon2.specs.Accepts.{Accepts};
+ghost use Rattle.std.specs.Prelude.{◌≡◌, ◌↔◌, ◌⊎◌, [], Err, IsTrue, IfOk, IfErr, MatchResult};
+ghost use Rattle.argon2.specs.Accepts.{Accepts, IsVerifyTextAnswer};
 ghost use Rattle.argon2.specs.PasswordHash.{phc_of};
 ghost use Rattle.argon2.specs.PhcText.{phc_text};
 ghost use Rattle.argon2.specs.base_declared.error.password_hash.Error.TheVariants.{OutOfMemory};
@@ -20,8 +20,9 @@ pub fn stored<R: Rng>(alloc: Global, rng: &mut R, password: &[u8]) -> Result<Pas
 
 /// Whether a stored text accepts a password.
 pub fn is_accepted(alloc: Global, password: &[u8], text: &str) -> Result<bool>
-    ensures { MatchResult result (λ yes. IsTrue yes ↔ Accepts [] password.now text.now)
+    ensures answer { MatchResult result (λ yes. IsTrue yes ↔ Accepts [] password.now text.now)
         (λ e. (e ≡ OutOfMemory) ⊎ (Accepts [] password.now text.now → ⊥)) }
+    ensures refused { IfErr result (λ e. IsVerifyTextAnswer [] password.now text.now (Err e)) }
 {
     match Argon2::default().verify_password(alloc, password, text) {
         Ok(()) => Ok(true),
