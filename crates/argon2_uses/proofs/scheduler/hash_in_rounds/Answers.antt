@@ -46,5 +46,5 @@ returns-clause-tag c =
     c.finish_fill.ensures
     ∙ ap (λ memory. long_hash n (bytes_of (last_column ctx memory)))
     (c.loop-pass.invariant ∙ ap (λ pass. run_passes ctx (lanes_in_rounds ctx) pass begun) all)
-    ∙ c.slice_interleaving.ensures.tag ctx c.in_ok-begin_fill.ensures.valid c.args.password.now c.args.salt.now n begun
+    ∙ c.slice_interleaving.ensures.tag ctx c.in_ok-begin_fill.ensures.begun.valid c.args.password.now c.args.salt.now n begun
     c.in_ok-begin_fill.ensures.begun.begins (lanes_in_rounds ctx) (λ pass slice _ _. rounds_schedule ctx pass slice)
