@@ -1,7 +1,6 @@
 mod Filled
 pub mod InitialHashing
 mod LentMemory
-pub mod known
 pub mod lists
 pub mod logins
 pub mod recurrence
