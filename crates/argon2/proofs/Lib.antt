@@ -1,6 +1,5 @@
 pub mod InitialHashing
 mod LentMemory
-pub mod known
 pub mod lists
 pub mod logins
 pub mod recurrence

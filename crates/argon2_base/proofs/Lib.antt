@@ -9,11 +9,9 @@ pub mod DecimalLemmas
 pub mod Equalities
 pub mod HashBlocks
 pub mod HasherFields
-pub mod KnownDigests
 pub mod LaneLemmas
 pub mod MixingLaws
 pub mod MixingLemmas
-pub mod MixingValues
 pub mod ParamsReading
 pub mod ParamsTextLemmas
 pub mod PhcTextLemmas

@@ -10,7 +10,7 @@ use Rattle.argon2.specs.Shape.{segment_length}
 use Rattle.argon2.specs.Reference.{place_of}
 use Rattle.argon2.specs.Counting.{independent_segments, mixing_calls}
 use Rattle.argon2.specs.Recurrence.{FirstColumns, address_word, reference_of, in_history, history, xor_lanes}
-use Rattle.argon2.proofs.known.Computing.{addresses, recurrence, last_blocks}
+use Rattle.argon2_values.proofs.Computing.{addresses, recurrence, last_blocks}
 
 -- first columns of words that are multiples of one number
 first : FirstColumns

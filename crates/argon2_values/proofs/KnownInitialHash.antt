@@ -3,7 +3,7 @@ use Rattle.std.proofs.Common.{◌≡◌, ◌++◌, replicate, refl}
 use Rattle.std.specs.Int.{bytes_high_first}
 use Rattle.argon2.specs.Context.{Context}
 use Rattle.argon2.specs.InitialHash.{initial_hash}
-use Rattle.argon2.proofs.known.Computing.{digests}
+use Rattle.argon2_values.proofs.Computing.{digests}
 
 ctx_rfc : Context
 ctx_rfc = record {

@@ -10,7 +10,7 @@ use Rattle.argon2.specs.Context.{Context}
 use Rattle.argon2.specs.InitialHash.{initial_hash, block_after, first_block, number}
 use Rattle.argon2.specs.Recurrence.{last_block}
 use Rattle.argon2.specs.Tag.{tag_of}
-use Rattle.argon2.proofs.known.Computing.{digests, last_blocks}
+use Rattle.argon2_values.proofs.Computing.{digests, last_blocks}
 
 -- the first halves of so many digests, each of the one before
 halves : ℕ → List ℕ → List ℕ
