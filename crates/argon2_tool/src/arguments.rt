@@ -32,33 +32,89 @@ impl<'a> Command<'a> {
         ensures only { (command : Command) → Spells (map string_bytes args.now) command → IsSome result }
     {
         let (name, values) = args.split_first()?;
-        match (name.as_str(), values) {
-            ("digest", [len]) => Some(Command::Digest(number_within(len.as_str(), 1, 64)?)),
-            ("long", [len]) => Some(Command::Long(number_within(len.as_str(), 0, 1024)?)),
-            ("tag", [algorithm, version, m_cost, t_cost, p_cost, len, salt]) => {
-                Command::tag(
-                    algorithm.as_str(),
-                    version.as_str(),
-                    m_cost.as_str(),
-                    t_cost.as_str(),
-                    p_cost.as_str(),
-                    len.as_str(),
-                    salt.as_str(),
-                )
-            }
-            ("phc", [algorithm, version, m_cost, t_cost, p_cost, salt]) => {
-                Command::phc(
-                    algorithm.as_str(),
-                    version.as_str(),
-                    m_cost.as_str(),
-                    t_cost.as_str(),
-                    p_cost.as_str(),
-                    salt.as_str(),
-                )
-            }
-            ("verify", [text]) => Some(Command::Verify(text.as_str())),
+        match name.as_str() {
+            "digest" => Command::digest_of(values),
+            "long" => Command::long_of(values),
+            "tag" => Command::tag_of(values),
+            "phc" => Command::phc_of(values),
+            "verify" => Command::verify_of(values),
             _ => None,
         }
+    }
+
+    // The command that `digest` and these words spell, if they spell one.
+    fn digest_of(values: &'a [String]) -> Option<Command<'a>>
+        ensures found { IfSome result (Spells (codes "digest" ∷ map string_bytes values.now)) }
+        ensures only { (command : Command) → Spells (codes "digest" ∷ map string_bytes values.now) command
+            → IsSome result }
+    {
+        let [len] = values else {
+            return None;
+        };
+        Some(Command::Digest(number_within(len.as_str(), 1, 64)?))
+    }
+
+    // The command that `long` and these words spell, if they spell one.
+    fn long_of(values: &'a [String]) -> Option<Command<'a>>
+        ensures found { IfSome result (Spells (codes "long" ∷ map string_bytes values.now)) }
+        ensures only { (command : Command) → Spells (codes "long" ∷ map string_bytes values.now) command
+            → IsSome result }
+    {
+        let [len] = values else {
+            return None;
+        };
+        Some(Command::Long(number_within(len.as_str(), 0, 1024)?))
+    }
+
+    // The command that `tag` and these words spell, if they spell one.
+    fn tag_of(values: &'a [String]) -> Option<Command<'a>>
+        ensures found { IfSome result (Spells (codes "tag" ∷ map string_bytes values.now)) }
+        ensures only { (command : Command) → Spells (codes "tag" ∷ map string_bytes values.now) command
+            → IsSome result }
+    {
+        let [algorithm, version, m_cost, t_cost, p_cost, len, salt] = values else {
+            return None;
+        };
+        Command::tag(
+            algorithm.as_str(),
+            version.as_str(),
+            m_cost.as_str(),
+            t_cost.as_str(),
+            p_cost.as_str(),
+            len.as_str(),
+            salt.as_str(),
+        )
+    }
+
+    // The command that `phc` and these words spell, if they spell one.
+    fn phc_of(values: &'a [String]) -> Option<Command<'a>>
+        ensures found { IfSome result (Spells (codes "phc" ∷ map string_bytes values.now)) }
+        ensures only { (command : Command) → Spells (codes "phc" ∷ map string_bytes values.now) command
+            → IsSome result }
+    {
+        let [algorithm, version, m_cost, t_cost, p_cost, salt] = values else {
+            return None;
+        };
+        Command::phc(
+            algorithm.as_str(),
+            version.as_str(),
+            m_cost.as_str(),
+            t_cost.as_str(),
+            p_cost.as_str(),
+            salt.as_str(),
+        )
+    }
+
+    // The command that `verify` and these words spell, if they spell one.
+    fn verify_of(values: &'a [String]) -> Option<Command<'a>>
+        ensures found { IfSome result (Spells (codes "verify" ∷ map string_bytes values.now)) }
+        ensures only { (command : Command) → Spells (codes "verify" ∷ map string_bytes values.now) command
+            → IsSome result }
+    {
+        let [text] = values else {
+            return None;
+        };
+        Some(Command::Verify(text.as_str()))
     }
 
     // The command that `tag` and seven words spell, if they spell one.

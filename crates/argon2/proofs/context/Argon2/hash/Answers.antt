@@ -14,4 +14,5 @@ returns-clause-hashed c =
     let tag = rw same at c.write_tag.ensures
     ∙ tag_of_matrix ctx (subst Sizes same c.block_count.ensures.sizes) c.args.pwd.now c.args.salt.now _ _ made in
     is_hashed c.args.self.now c.block_count.result count c.args.memory.now c.fill_blocks.new.blocks
-    c.instance-instance.ensures.valid c.args.pwd.now c.args.salt.now c.write_tag.new.out (length c.args.out.now) c.write_tag.auto.out tag made
+    c.instance-instance.ensures.valid c.args.pwd.now c.args.salt.now c.write_tag.new.out (length c.args.out.now)
+    c.write_tag.auto.out tag made
