@@ -1,10 +1,11 @@
 -- What is known before the first byte, after a line, and after the last.
-use Rattle.std.proofs.Common.{arith, Option, Some, None, Result, Ok, Err, IfOk, ◌↔◌, ◌≡◌, ◌∙◌, ◌+◌, ◌<◌, ℕ, Bool, true, false, IsTrue, List, [], ◌∷◌, ◌++◌, length, ap, sym, subst, refl, inl, inr, append_assoc, append-nil}
+use Rattle.std.proofs.Common.{arith, Option, Some, None, Result, Ok, Err, IfOk, ◌↔◌, ◌≡◌, ◌∙◌, ◌+◌, ◌<◌, ℕ, Bool, true, false, IsTrue, List, [], ◌∷◌, ◌++◌, length, ap, sym, subst, refl, inl, inr, append_assoc, append-nil, ◌||◌}
 use Rattle.std.specs.Bool.{MatchBool}
 use Rattle.std.specs.Prelude.{IfSome}
-use Rattle.argon2_audit.specs.Finding.{IsFinding, class_of, has_short_salt}
+use Rattle.argon2_audit.specs.Finding.{IsFinding, class_of, has_short_salt, salt_of}
 use Rattle.argon2_audit.specs.Line.{IsRead}
-use Rattle.argon2_audit.specs.Session.{IsAudit, IsBegun, IsJoined, IsPassed, IsTallied, IsTallyOf, how_many, joined}
+use Rattle.argon2_audit.specs.Seen.{has_any, has_salt, is_salt}
+use Rattle.argon2_audit.specs.Session.{IsAudit, IsBegun, IsJoined, IsPassed, IsTallied, IsTallyOf, how_many, joined, any_salt, is_repeated, repeated}
 use Rattle.argon2_audit.specs.Tally.{Counts, IsClean, count_of, is_class, one_if}
 use Rattle.argon2_audit.specs.declared.arguments.Command.{Command}
 use Rattle.argon2_audit.specs.declared.arguments.Command.TheVariants.{Audit}
@@ -14,6 +15,7 @@ use Rattle.argon2_audit.specs.declared.finding.Class.TheVariants.{Outside, NoHas
 use Rattle.argon2_audit.specs.declared.finding.Finding.{Finding}
 use Rattle.argon2_audit.specs.declared.line.Line.{Line}
 use Rattle.argon2_audit.specs.declared.policy.Policy.{Policy}
+use Rattle.argon2_audit.specs.declared.seen.Seen.{Seen}
 use Rattle.argon2_audit.specs.declared.tally.Marks.{Marks}
 use Rattle.argon2_audit.specs.declared.tally.Tally.{Tally}
 
@@ -30,24 +32,34 @@ no_findings policy tally none = record {
   all = none;
   classes = none_of tally none;
   short_salts = let short = tally.short in omega arith;
+  equal_salts = let equal = tally.equal in omega arith;
 }
 
-finding_more : (policy : Policy) (findings : List Finding) (finding : Finding) (marks : Marks) (old new : Tally)
+repeated_by : (seen : Seen) (findings : List Finding) (salt : Option (List ℕ))
+    → ((s : List ℕ) → has_salt seen s ≡ any_salt s findings) → has_any seen salt ≡ is_repeated salt findings
+repeated_by seen findings None known = refl
+repeated_by seen findings (Some salt) known = known salt
+
+finding_more : (seen : Seen) (policy : Policy) (findings : List Finding) (finding : Finding) (marks : Marks) (old new : Tally)
     → IsTallyOf policy findings old → Counts marks old new → marks.class ≡ class_of policy finding
-    → marks.short_salt ≡ has_short_salt policy finding → IsTallyOf policy (finding ∷ findings) new
-finding_more policy findings finding marks old new of counts class_is short_is = record {
+    → marks.short_salt ≡ has_short_salt policy finding → marks.equal_salt ≡ has_any seen (salt_of finding)
+    → ((s : List ℕ) → has_salt seen s ≡ any_salt s findings) → IsTallyOf policy (finding ∷ findings) new
+finding_more seen policy findings finding marks old new of counts class_is short_is equal_is known = record {
   all = let all = of.all in let lines = counts.lines in omega arith;
   classes = λ class. counts.classes class
       ∙ ap (λ n. n + one_if (is_class marks.class class)) (of.classes class)
       ∙ ap (λ k. how_many (λ f. is_class (class_of policy f) class) findings + one_if (is_class k class)) class_is;
   short_salts = counts.short_salts ∙ ap (λ n. n + one_if marks.short_salt) of.short_salts
       ∙ ap (λ b. how_many (has_short_salt policy) findings + one_if b) short_is;
+  equal_salts = counts.equal_salts ∙ ap (λ n. n + one_if marks.equal_salt) of.equal_salts
+      ∙ ap (λ b. repeated findings + one_if b) (equal_is ∙ repeated_by seen findings (salt_of finding) known);
 }
 
 -- ---- lines
 
-pub nothing_yet : (kept : Line) (policy : Policy) (tally : Tally) → IsRead kept [] → tally.lines ≡ 0 → IsBegun kept policy [] tally
-nothing_yet kept policy tally read none = record {
+pub nothing_yet : (kept : Line) (seen : Seen) (policy : Policy) (tally : Tally) → IsRead kept [] → tally.lines ≡ 0
+    → ((salt : List ℕ) → has_salt seen salt ≡ false) → IsBegun kept seen policy [] tally
+nothing_yet kept seen policy tally read none unknown = record {
   lines = [];
   findings = [];
   rest = [];
@@ -57,13 +69,16 @@ nothing_yet kept policy tally read none = record {
   found = tt;
   tally = no_findings policy tally none;
   read = read;
+  salts = unknown;
 }
 
-pub line_more : (kept next : Line) (policy : Policy) (old new : Tally) (bytes : List ℕ) (finding : Finding) (marks : Marks)
+pub line_more : (kept next : Line) (seen more : Seen) (policy : Policy) (old new : Tally) (bytes : List ℕ) (finding : Finding) (marks : Marks)
     → ((line : List ℕ) → IsRead kept line → IsFinding line finding) → IsRead next [] → Counts marks old new
     → marks.class ≡ class_of policy finding → marks.short_salt ≡ has_short_salt policy finding
-    → IsBegun kept policy bytes old → IsBegun next policy (bytes ++ 10 ∷ []) new
-line_more kept next policy old new bytes finding marks finds none counts class_is short_is b = record {
+    → marks.equal_salt ≡ has_any seen (salt_of finding)
+    → ((salt : List ℕ) → has_salt more salt ≡ (is_salt (salt_of finding) salt || has_salt seen salt))
+    → IsBegun kept seen policy bytes old → IsBegun next more policy (bytes ++ 10 ∷ []) new
+line_more kept next seen more policy old new bytes finding marks finds none counts class_is short_is equal_is kept_salts b = record {
   lines = b.rest ∷ b.lines;
   findings = finding ∷ b.findings;
   rest = [];
@@ -71,21 +86,23 @@ line_more kept next policy old new bytes finding marks finds none counts class_i
   feed = refl;
   split = ap (λ l. l ++ 10 ∷ []) b.split ∙ append_assoc (joined b.lines) b.rest (10 ∷ []) ∙ sym (append-nil _);
   found = (finds b.rest b.read, b.found);
-  tally = finding_more policy b.findings finding marks old new b.tally counts class_is short_is;
+  tally = finding_more seen policy b.findings finding marks old new b.tally counts class_is short_is equal_is b.salts;
   read = none;
+  salts = λ salt. kept_salts salt ∙ ap (λ known. is_salt (salt_of finding) salt || known) (b.salts salt);
 }
 
-pub line_last : (kept : Line) (policy : Policy) (old new : Tally) (bytes : List ℕ) (finding : Finding) (marks : Marks)
+pub line_last : (kept : Line) (seen : Seen) (policy : Policy) (old new : Tally) (bytes : List ℕ) (finding : Finding) (marks : Marks)
     → ((line : List ℕ) → IsRead kept line → IsFinding line finding) → Counts marks old new
     → marks.class ≡ class_of policy finding → marks.short_salt ≡ has_short_salt policy finding
-    → (IsRead kept [] → ⊥) → IsBegun kept policy bytes old → IsTallied policy bytes new
-line_last kept policy old new bytes finding marks finds counts class_is short_is some b = record {
+    → marks.equal_salt ≡ has_any seen (salt_of finding) → (IsRead kept [] → ⊥) → IsBegun kept seen policy bytes old
+    → IsTallied policy bytes new
+line_last kept seen policy old new bytes finding marks finds counts class_is short_is equal_is some b = record {
   lines = b.rest ∷ b.lines;
   findings = finding ∷ b.findings;
   feeds = (b.feed, b.feeds);
   split = inr (b.split, λ none. some (subst (IsRead kept) none b.read));
   found = (finds b.rest b.read, b.found);
-  tally = finding_more policy b.findings finding marks old new b.tally counts class_is short_is;
+  tally = finding_more seen policy b.findings finding marks old new b.tally counts class_is short_is equal_is b.salts;
 }
 
 -- ---- the end
@@ -100,9 +117,9 @@ all_ended : (bytes rest : List ℕ) (lines : List (List ℕ)) → bytes ≡ join
 all_ended bytes rest [] split none = split ∙ none
 all_ended bytes rest (line ∷ lines) split none = inl (split ∙ ap (λ r. joined (line ∷ lines) ++ r) none ∙ append-nil _)
 
-pub no_line_more : (kept : Line) (policy : Policy) (tally : Tally) (bytes : List ℕ) → IsRead kept [] → IsBegun kept policy bytes tally
-    → IsTallied policy bytes tally
-no_line_more kept policy tally bytes none b = record {
+pub no_line_more : (kept : Line) (seen : Seen) (policy : Policy) (tally : Tally) (bytes : List ℕ) → IsRead kept []
+    → IsBegun kept seen policy bytes tally → IsTallied policy bytes tally
+no_line_more kept seen policy tally bytes none b = record {
   lines = b.lines;
   findings = b.findings;
   feeds = b.feeds;

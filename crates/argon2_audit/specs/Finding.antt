@@ -1,5 +1,5 @@
 -- What a line comes to.
-use Rattle.std.specs.Prelude.{ℕ, ◌<◌, ◌≤◌, ◌==◌, nat_lt, Bool, false, List, length, if◌then◌else◌, Ok, Err}
+use Rattle.std.specs.Prelude.{ℕ, ◌<◌, ◌≤◌, ◌==◌, nat_lt, Bool, false, List, length, if◌then◌else◌, Option, None, Ok, Err}
 use Rattle.std.specs.List.{after_first, before_first, position_or_len}
 use Rattle.std.specs.Option.{is_none}
 use Rattle.std.specs.Io.BufRead.{strip_last}
@@ -49,3 +49,10 @@ has_short_salt policy TooLong = false
 has_short_salt policy NotUtf8 = false
 has_short_salt policy (Refused error) = false
 has_short_salt policy (Shown entry) = (shortfalls_of policy entry).salt
+
+-- the salt of the line's text, where there is one
+abbrev pub salt_of : Finding → Option (List ℕ)
+salt_of TooLong = None
+salt_of NotUtf8 = None
+salt_of (Refused error) = None
+salt_of (Shown entry) = entry.salt

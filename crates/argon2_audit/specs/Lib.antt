@@ -4,5 +4,6 @@ pub mod Failures
 pub mod Finding
 pub mod Line
 pub mod Policy
+pub mod Seen
 pub mod Session
 pub mod Tally

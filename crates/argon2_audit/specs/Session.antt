@@ -1,8 +1,9 @@
 -- What is known after so many bytes.
-use Rattle.std.specs.Prelude.{◌≡◌, ◌≢◌, ◌⊎◌, ◌↔◌, ⊤, ℕ, ◌+◌, ◌==◌, Bool, not, IsTrue, Option, IfSome, List, [], ◌∷◌, ◌++◌, length}
+use Rattle.std.specs.Prelude.{◌≡◌, ◌≢◌, ◌⊎◌, ◌↔◌, ⊤, ℕ, ◌+◌, ◌==◌, ◌||◌, Bool, false, not, IsTrue, Option, Some, None, IfSome, List, [], ◌∷◌, ◌++◌, length}
 use Rattle.std.specs.List.{AllZip, list_all}
-use Rattle.argon2_audit.specs.Finding.{IsFinding, class_of, has_short_salt}
+use Rattle.argon2_audit.specs.Finding.{IsFinding, class_of, has_short_salt, salt_of}
 use Rattle.argon2_audit.specs.Line.{IsRead}
+use Rattle.argon2_audit.specs.Seen.{has_salt, is_salt}
 use Rattle.argon2_audit.specs.Tally.{IsClean, count_of, is_class, one_if}
 use Rattle.argon2_audit.specs.declared.arguments.Command.{Command}
 use Rattle.argon2_audit.specs.declared.arguments.Command.TheVariants.{Help, Audit}
@@ -10,6 +11,7 @@ use Rattle.argon2_audit.specs.declared.finding.Class.{Class}
 use Rattle.argon2_audit.specs.declared.finding.Finding.{Finding}
 use Rattle.argon2_audit.specs.declared.line.Line.{Line}
 use Rattle.argon2_audit.specs.declared.policy.Policy.{Policy}
+use Rattle.argon2_audit.specs.declared.seen.Seen.{Seen}
 use Rattle.argon2_audit.specs.declared.session.Session.{Session}
 use Rattle.argon2_audit.specs.declared.tally.Tally.{Tally}
 
@@ -41,12 +43,28 @@ abbrev pub how_many : (Finding → Bool) → List Finding → ℕ
 how_many test [] = 0
 how_many test (finding ∷ earlier) = how_many test earlier + one_if (test finding)
 
+-- a text has this salt
+abbrev pub any_salt : List ℕ → List Finding → Bool
+any_salt salt [] = false
+any_salt salt (finding ∷ earlier) = is_salt (salt_of finding) salt || any_salt salt earlier
+
+-- an earlier text has the salt, where there is one
+abbrev pub is_repeated : Option (List ℕ) → List Finding → Bool
+is_repeated None earlier = false
+is_repeated (Some salt) earlier = any_salt salt earlier
+
+-- how many texts have the salt of an earlier one
+abbrev pub repeated : List Finding → ℕ
+repeated [] = 0
+repeated (finding ∷ earlier) = repeated earlier + one_if (is_repeated (salt_of finding) earlier)
+
 -- the counts are those of what lines come to
 pub record IsTallyOf (policy : Policy) (findings : List Finding) (tally : Tally) : Type 0 where
   pub all : tally.lines ≡ length findings
   pub classes : (class : Class)
       → count_of class tally ≡ how_many (λ finding. is_class (class_of policy finding) class) findings
   pub short_salts : tally.short_salts ≡ how_many (has_short_salt policy) findings
+  pub equal_salts : tally.equal_salts ≡ repeated findings
 
 -- the counts are those of the lines of a text
 pub record IsTallied (policy : Policy) (bytes : List ℕ) (counts : Tally) : Type 0 where
@@ -58,7 +76,7 @@ pub record IsTallied (policy : Policy) (bytes : List ℕ) (counts : Tally) : Typ
   pub tally : IsTallyOf policy findings counts
 
 -- the counts are those of the lines of a text but for its end, which is kept
-pub record IsBegun (kept : Line) (policy : Policy) (bytes : List ℕ) (counts : Tally) : Type 0 where
+pub record IsBegun (kept : Line) (seen : Seen) (policy : Policy) (bytes : List ℕ) (counts : Tally) : Type 0 where
   pub lines : List (List ℕ)
   pub findings : List Finding
   pub rest : List ℕ
@@ -68,10 +86,11 @@ pub record IsBegun (kept : Line) (policy : Policy) (bytes : List ℕ) (counts : 
   pub found : AllZip IsFinding lines findings
   pub tally : IsTallyOf policy findings counts
   pub read : IsRead kept rest
+  pub salts : (salt : List ℕ) → has_salt seen salt ≡ any_salt salt findings
 
 -- so many bytes were taken
 abbrev pub IsAfter : Session → List ℕ → Type 0
-IsAfter session bytes = IsBegun session.line session.audit.policy bytes session.audit.tally
+IsAfter session bytes = IsBegun session.line session.audit.seen session.audit.policy bytes session.audit.tally
 
 -- ---- what the program says
 

@@ -15,14 +15,16 @@ pub struct Audit {
 }
 
 impl Audit {
-    ghost use Rattle.std.specs.Prelude.{◌≡◌, ◌<◌, ◌^◌, ◌-◌, IfOk, OnErr};
-    ghost use Rattle.argon2_audit.specs.Finding.{class_of, has_short_salt};
+    ghost use Rattle.std.specs.Prelude.{◌≡◌, ◌<◌, ◌^◌, ◌-◌, ◌||◌, ℕ, List, false, IfOk, OnOk, OnErr};
+    ghost use Rattle.argon2_audit.specs.Finding.{class_of, has_short_salt, salt_of};
+    ghost use Rattle.argon2_audit.specs.Seen.{has_any, has_salt, is_salt};
     ghost use Rattle.argon2_audit.specs.Tally.{Counts};
 
     /// An audit of no lines.
     pub fn new(alloc: Global, policy: Policy) -> Audit
         ensures policy { result.policy ≡ policy }
         ensures tally { result.tally.lines ≡ 0 }
+        ensures seen { (salt : List ℕ) → has_salt result.seen salt ≡ false }
     {
         Audit {
             policy,
@@ -42,6 +44,10 @@ impl Audit {
         ensures class { IfOk result (λ marks. marks.class ≡ class_of self.old.policy finding.now) }
         ensures short { IfOk result
             (λ marks. marks.short_salt ≡ has_short_salt self.old.policy finding.now) }
+        ensures equal { IfOk result
+            (λ marks. marks.equal_salt ≡ has_any self.old.seen (salt_of finding.now)) }
+        ensures kept { OnOk result ((salt : List ℕ) → has_salt self.new.seen salt
+            ≡ (is_salt (salt_of finding.now) salt || has_salt self.old.seen salt)) }
         ensures refused { OnErr result (self.new.tally ≡ self.old.tally) }
     {
         let mut marks = Marks {

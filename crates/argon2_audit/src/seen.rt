@@ -16,8 +16,13 @@ pub struct Seen {
 }
 
 impl Seen {
+    ghost use Rattle.std.specs.Prelude.{◌≡◌, ◌||◌, ℕ, List, false, IfOk, OnOk};
+    ghost use Rattle.argon2_audit.specs.Seen.{has_any, has_salt, is_salt};
+
     /// No texts.
-    pub fn new(alloc: Global) -> Seen {
+    pub fn new(alloc: Global) -> Seen
+        ensures { (salt : List ℕ) → has_salt result salt ≡ false }
+    {
         Seen {
             kinds: BTreeMap::new(alloc),
             salts: BTreeSet::new(alloc),
@@ -28,7 +33,11 @@ impl Seen {
     ///
     /// # Errors
     /// Memory may be refused. The salt may be kept then, and the text is not counted.
-    pub fn add(&mut self, entry: &Entry) -> Result<bool, AllocError> {
+    pub fn add(&mut self, entry: &Entry) -> Result<bool, AllocError>
+        ensures equal { IfOk result (λ equal. equal ≡ has_any self.old entry.now.salt) }
+        ensures kept { OnOk result ((salt : List ℕ)
+            → has_salt self.new salt ≡ (is_salt entry.now.salt salt || has_salt self.old salt)) }
+    {
         let is_equal = match &entry.salt {
             Some(salt) => !self.salts.insert(key(salt))?,
             None => false,

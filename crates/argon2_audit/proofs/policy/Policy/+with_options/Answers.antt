@@ -1,6 +1,7 @@
 use Rattle.std.proofs.Common.{◌≡◌, ◌∙◌, ℕ, List, ◌∷◌, Option, Some, map, string_bytes, sym, ap}
 use Rattle.std.specs.Prelude.{option_and_then}
 use Rattle.argon2_base.specs.Decimal.{number_of}
+use Rattle.argon2_base.proofs.DecimalLemmas.{number_again}
 use Rattle.argon2_audit.specs.Arguments.{with_option_of, with_options_of}
 use Rattle.argon2_audit.specs.declared.policy.Policy.{Policy}
 use Rattle.argon2_audit.proofs.policy.Policy.+with_options.Goals as goal
@@ -21,7 +22,7 @@ returns t c =
     let value = string_bytes c.in_ok-value.value.now in
     let with_name : List ℕ → Option Policy = λ n. with_option_of n c.in_ok-least.least c.args.self in
     let number : number_of value ≡ Some c.in_ok-least.least =
-    ap number_of (sym c.as_str.ensures.value) ∙ sym c.read_decimal.ensures.value ∙ c.in_ok-least.was in
+    number_again value c.in_ok-least.least (grind arith) (sym c.as_str.ensures.value ∙ c.in_ok-least.ensures.found) in
     let option : with_name name ≡ Some c.in_ok-with_option.field-0 =
     ap with_name (sym c.as_str-2.ensures.value) ∙ sym c.with_option.ensures ∙ c.in_ok-with_option.was in
     let more = one_more c.args.self c.in_ok-with_option.field-0 name value (map string_bytes c.in_ok-value.rest.now)

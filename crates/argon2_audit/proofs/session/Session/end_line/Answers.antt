@@ -10,18 +10,19 @@ always (Err e) P is = tt
 pub returns-clause-after : goal.returns-clause-after
 returns-clause-after g c =
     let old = c.args.self.now in
-    let marks = c.in_ok-marks.marks in
+    let new = c.add.new.self in
+    let next = c.end-finding.new.self in
     let ensured = c.in_ok-marks.ensures in
     always c.remarks.result _ (λ before after.
-    subst (λ p. IsBegun c.end-finding.new.self p (before ++ 10 ∷ []) c.add.new.self.tally) (sym ensured.policy)
-    (line_more old.line c.end-finding.new.self old.audit.policy old.audit.tally c.add.new.self.tally before
-    c.end-finding.result marks c.end-finding.ensures.finding c.end-finding.ensures.next ensured.counts ensured.class
-    ensured.short after))
+    subst (λ p. IsBegun next new.seen p (before ++ 10 ∷ []) new.tally) (sym ensured.policy)
+    (line_more old.line next old.audit.seen new.seen old.audit.policy old.audit.tally new.tally before c.end-finding.result
+    c.in_ok-marks.marks c.end-finding.ensures.finding c.end-finding.ensures.next ensured.counts ensured.class ensured.short
+    ensured.equal ensured.kept after))
 
 pub returns-clause-whole : goal.returns-clause-whole
 returns-clause-whole g c =
     let old = c.args.self.now in
     let ensured = c.in_ok-marks.ensures in
     always c.remarks.result _ (λ bytes after some.
-    line_last old.line old.audit.policy old.audit.tally c.add.new.self.tally bytes c.end-finding.result c.in_ok-marks.marks
-    c.end-finding.ensures.finding ensured.counts ensured.class ensured.short some after)
+    line_last old.line old.audit.seen old.audit.policy old.audit.tally c.add.new.self.tally bytes c.end-finding.result
+    c.in_ok-marks.marks c.end-finding.ensures.finding ensured.counts ensured.class ensured.short ensured.equal some after)
