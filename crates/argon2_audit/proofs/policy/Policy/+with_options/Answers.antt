@@ -1,4 +1,4 @@
-use Rattle.std.proofs.Common.{◌≡◌, ◌∙◌, ℕ, List, ◌∷◌, Option, Some, map, string_bytes, sym, ap}
+use Rattle.std.proofs.Common.{◌≡◌, ◌∙◌, ℕ, List, ◌∷◌, Option, Some, map, string_bytes, sym, ap, arith}
 use Rattle.std.specs.Prelude.{option_and_then}
 use Rattle.argon2_base.specs.Decimal.{number_of}
 use Rattle.argon2_base.proofs.DecimalLemmas.{number_again}
