@@ -1,6 +1,5 @@
 pub mod Absorbing
 pub mod Base64Lemmas
-pub mod BlockLemmas
 pub mod ByteLemmas
 pub mod ByteListLemmas
 pub mod Characters

@@ -1,7 +1,7 @@
 use Rattle.std.proofs.Common.{◌≡◌, ◌≢◌, ◌+◌, ◌*◌, ◌/◌, ◌%◌, inl, inr, slice_index, arith, sym, ap, ◌∙◌}
 use Rattle.std.proofs.lemmas.Bool.{cases_lt}
 use Rattle.argon2_base.specs.Mixing.{perm, column, by_columns}
-use Rattle.argon2_base.proofs.BlockLemmas.{counted_is}
+use Rattle.argon2_base_tests.proofs.BlockLemmas.{counted_is}
 use Rattle.argon2_base_tests.proofs.block.plain.by_columns.Goals as goal
 
 pub columns-preserved : goal.columns-preserved

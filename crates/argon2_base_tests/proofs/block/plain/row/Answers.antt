@@ -1,6 +1,6 @@
 use Rattle.std.proofs.Common.{◌+◌, ◌*◌, slice_index, arith}
 use Rattle.argon2_base.specs.Mixing.{row}
-use Rattle.argon2_base.proofs.BlockLemmas.{counted_is}
+use Rattle.argon2_base_tests.proofs.BlockLemmas.{counted_is}
 use Rattle.argon2_base_tests.proofs.block.plain.row.Goals as goal
 
 pub returns : goal.returns
