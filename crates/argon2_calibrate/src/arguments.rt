@@ -1,6 +1,7 @@
 //! What the program's arguments ask for.
 
 ghost use Rattle.std.specs.Prelude.{◌≡◌, ◌≤◌, IfSome};
+ghost use Rattle.argon2_base.specs.Decimal.{number_of};
 ghost use Rattle.argon2_calibrate.specs.Arguments.{digit_of, milliseconds_of, thousandths_of, three_digits};
 
 use argon2::phc::read_decimal;
@@ -35,7 +36,7 @@ impl Command {
             }
             [seconds, mebibytes] => {
                 let time = milliseconds(seconds.as_str())?;
-                let most = read_decimal(mebibytes.as_str())?;
+                let most = number(mebibytes.as_str())?;
                 if most < 1 || most > 4_194_303 {
                     return None;
                 }
@@ -46,13 +47,23 @@ impl Command {
     }
 }
 
+// The number up to 4294967295 whose decimal a text is.
+fn number(text: &str) -> Option<u32>
+    ensures { result ≡ number_of text.now }
+{
+    let Some(n) = read_decimal(text) else {
+        return None;
+    };
+    Some(n)
+}
+
 // A time of 1 millisecond to an hour: a decimal, or one with a point and one to three digits.
 fn milliseconds(text: &str) -> Option<u32>
     ensures { result ≡ milliseconds_of text.now }
 {
     let (seconds, part) = match text.split_once('.') {
-        Some((whole, fraction)) => (read_decimal(whole)?, thousandths(fraction.as_bytes())?),
-        None => (read_decimal(text)?, 0),
+        Some((whole, fraction)) => (number(whole)?, thousandths(fraction.as_bytes())?),
+        None => (number(text)?, 0),
     };
     if seconds > 3600 {
         return None;
