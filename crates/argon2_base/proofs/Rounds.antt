@@ -21,7 +21,7 @@ round_by_mixing v x c0 c1 c2 c3 d0 d1 d2 d3 len e0 e1 e2 e3 f0 f1 f2 f3 =
     let whole = sym (pick_l_whole 0 v 16 len) in
     rw (whole, ← e0, ← e1, ← e2, ← e3, ← f0, ← f1, ← f2, ← f3) refl
 
--- row 0 of SIGMA leaves the message as it is
+-- the first row of SIGMA leaves the message as it is
 pub unpermuted : (m : List ℕ) → length m ≡ 16 → map (λ k. slice_index m k) (sigma 0) ≡ m
 unpermuted m len = pick_l_whole 0 m 16 len
 

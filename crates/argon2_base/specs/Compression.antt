@@ -30,7 +30,7 @@ sigma_rows =
     ∷ (10 ∷ 2 ∷ 8 ∷ 4 ∷ 7 ∷ 6 ∷ 1 ∷ 5 ∷ 15 ∷ 11 ∷ 9 ∷ 14 ∷ 3 ∷ 12 ∷ 13 ∷ 0 ∷ [])
     ∷ []
 
--- the row of round r: rounds 10 and 11 take rows 0 and 1 again
+-- the row of round r: the last two rounds take the first two rows again
 abbrev pub sigma : ℕ → List ℕ
 sigma r = slice_index_or sigma_rows (r % 10) []
 

@@ -14,8 +14,8 @@ pub(crate) const IV: [u64; 8] = [
     0x5be0_cd19_137e_2179,
 ];
 
-// The words of m in the order of a row of SIGMA, of which row 0 is m itself. Places that are literals make the rounds faster than a
-// table would, and their proof shorter.
+// The words of m in the order of a row of SIGMA, of which the first row is m itself. Places that are literals make the
+// rounds faster than a table would, and their proof shorter.
 macro_rules! scheduled {
     ($m:ident: $($k:literal)*) => {
         [$($m[$k]),*]
