@@ -29,12 +29,14 @@ IsHalved Takes target most m_cost = (times : ℕ) × (m_cost ≡ halved times mo
     × ((before : ℕ) → before < times → IsTooLong Takes target (halved before most))
 
 -- the parameters are valid with one lane; the memory was halved until one pass was within the target, or to
--- its least; the times were measured with one pass and with two; and the passes are the most within them
+-- its least; the times were measured with one pass and with two, of which a further pass takes a quarter at the least;
+-- and the passes are the most within them
 pub record IsChoice (Takes : ℕ → ℕ → ℕ → Type 0) (target most : ℕ) (choice : Choice) : Type 0 where
   pub valid : AreValid (plain choice.m_cost choice.t_cost 1 None)
   pub affordable : choice.m_cost ≤ most
   pub memory : IsHalved Takes target most choice.m_cost
   pub short : (choice.first ≤ target) ⊎ (choice.m_cost < 16)
   pub first : Takes choice.m_cost 1 choice.first
-  pub further : (both : ℕ) × Takes choice.m_cost 2 both × (choice.further ≡ max (both - choice.first) 1)
+  pub further : (both : ℕ) × Takes choice.m_cost 2 both
+      × (choice.further ≡ max (max (both - choice.first) (both / 4)) 1)
   pub passes : IsGreatest target choice.first choice.further choice.t_cost

@@ -32,7 +32,8 @@ pub fn search<S: Stopwatch, E: Write>(
         first = timed(stopwatch, errors, m_cost, 1)?;
     }
     let both = timed(stopwatch, errors, m_cost, 2)?;
-    let further = both.saturating_sub(first).max(1);
+    // (a first hash can be slower than the second)
+    let further = both.saturating_sub(first).max(both / 4).max(1);
     Ok(Choice {
         m_cost,
         t_cost: passes(target, first, further),
