@@ -1,5 +1,5 @@
 -- The engine without padding reads and writes strict Base64, and nothing else.
-use Rattle.std.proofs.Common.{◌≡◌, ℕ, zero, suc, ◌+◌, ◌*◌, ◌/◌, ◌<◌, ◌≤◌, Bool, true, ◌&&◌, nat_le, List, [], ◌∷◌, ◌++◌, length, take, drop, Ok, Err, codes, refl, sym, ◌∙◌, ap, arith, Result, Option, Some, None, inl, inr}
+use Rattle.std.proofs.Common.{◌≡◌, ◌≢◌, ℕ, zero, suc, ◌+◌, ◌*◌, ◌/◌, ◌<◌, ◌≤◌, Bool, true, ◌&&◌, nat_le, List, [], ◌∷◌, ◌++◌, length, take, drop, Ok, Err, codes, refl, sym, ◌∙◌, ap, arith, Result, Option, Some, None, inl, inr}
 use Rattle.std.proofs.lemmas.Bool.{and_parts, cases_Bool, le-leb, leb-true, lt-ltb, ltb-true}
 use Rattle.std.proofs.lemmas.List.{append-nil}
 use Rattle.std.proofs.lemmas.Str.{IsUtf8-from_ascii}
@@ -96,15 +96,18 @@ none_unless : (o : Option (List ℕ)) → ((b : List ℕ) → o ≡ Some b → �
 none_unless None h = refl
 none_unless (Some b) h = absurd (h b refl)
 
--- it finds none in a text that is refused
+-- a text that is refused is that of no bytes which would fit
+pub refused_text : (most : ℕ) (s : List ℕ) (cause : B64Error) → IsBase64Cause (base64_length most) s cause
+    → (b : List ℕ) → IsBytes b → length b ≤ most → s ≢ strict_base64 b
+refused_text most s InvalidLength long b bytes fits is = omega (arith, ap length is, length-strict_base64 b)
+refused_text most s InvalidEncoding refused b bytes fits is = refused.1 b bytes is
+
+-- and `short_bytes` finds none
 pub short_bytes_refused : (most : ℕ) (s : List ℕ) (cause : B64Error) → IsBytes s
     → IsBase64Cause (base64_length most) s cause → short_bytes most s ≡ None
-short_bytes_refused most s InvalidLength bytes long = none_unless (short_bytes most s) (λ b is.
+short_bytes_refused most s cause bytes refused = none_unless (short_bytes most s) (λ b is.
     let found = short_bytes_found most s b bytes is in
-    omega (arith, long, found.1, ap length found.2, length-strict_base64 b))
-short_bytes_refused most s InvalidEncoding bytes refused = none_unless (short_bytes most s) (λ b is.
-    let found = short_bytes_found most s b bytes is in
-    refused.1 b found.0 found.2)
+    refused_text most s cause refused b found.0 found.1 found.2)
 
 -- two byte lists with one text are one
 pub strict_base64_unique : (s b d : List ℕ) → IsBytes b → s ≡ strict_base64 b → decode_of standard_no_pad s ≡ Ok d → b ≡ d

@@ -1,5 +1,5 @@
 -- The fields of a text, and the text of the fields.
-use Rattle.std.proofs.Common.{◌≡◌, ◌≢◌, ◌↔◌, ℕ, ◌<◌, ◌^◌, Bool, true, false, IsTrue, List, [], ◌∷◌, ◌++◌, length, refl, sym, ap, ◌∙◌, subst, arith, Option, Some, None, append_assoc, codes, eqb}
+use Rattle.std.proofs.Common.{◌≡◌, ◌≢◌, ◌↔◌, ℕ, ◌<◌, ◌^◌, Bool, true, false, IsTrue, List, [], ◌∷◌, ◌++◌, length, refl, sym, ap, ◌∙◌, subst, arith, Option, Some, None, Ok, Err, append_assoc, codes, eqb}
 use Rattle.std.proofs.lemmas.List.{append-nil}
 use Rattle.std.proofs.lemmas.Bool.{not-true, and_parts}
 use Rattle.std.specs.Prelude.{IfSome, IsSome, IsNone, is_some}
@@ -12,8 +12,10 @@ use Rattle.argon2_base.specs.Base64.{IsBytes}
 use Rattle.argon2_base.specs.Names.{is_name, is_value, is_name_char, is_value_char}
 use Rattle.argon2_base.specs.Base64.{strict_base64}
 use Rattle.argon2_base.specs.ParamsText.{Pair, item, params_text, is_param, are_params, pair_of}
-use Rattle.argon2_base.specs.PhcFields.{fields_of, fields_left, NoVersionFirst, NoItemFirst}
+use Rattle.argon2_base.specs.PhcFields.{fields_of, fields_left, IsBytesField, NoVersionFirst, NoItemFirst}
 use Rattle.argon2_base.specs.PhcText.{Phc, field, list_field, version_text, fields, fields_text, phc_text, HasBytes, IsPhc, PhcText}
+use Rattle.argon2_base.specs.declared.error.password_hash.Error.TheVariants.{EncodingInvalid}
+use Rattle.argon2_base.proofs.Base64Lemmas.{decode_of-strict_base64, strict_base64_unique}
 use Rattle.argon2_base.proofs.Characters.{lacks_by}
 use Rattle.argon2_base.proofs.Separators.{Lacks, Lacks-append, Lacks_not, cut_joined}
 use Rattle.argon2_base.proofs.ParamsTextLemmas.{all_params, name_lacks, item_lacks, pair_again, param_name}
@@ -185,6 +187,40 @@ pub list_read : (f : List ℕ) (more rest : List (List ℕ)) (ps : List Pair) (p
     → f ∷ more ≡ list_field ps ++ rest → (f ≡ params_text ps) × (more ≡ rest)
 list_read f more rest [] p is k e = absurd (k p more (sym e ∙ ap (λ (x : List ℕ). x ∷ more) is))
 list_read f more rest (q ∷ ps) p is k e = (cc e, cc e)
+
+-- bytes, and bytes with the same strict Base64, are one
+base64_one : (b d : List ℕ) → IsBytes b → IsBytes d → strict_base64 b ≡ strict_base64 d → b ≡ d
+base64_one b d bytes others e = strict_base64_unique (strict_base64 d) b d bytes (sym e) (decode_of-strict_base64 d others)
+
+-- bytes whose strict Base64 is the first field are read
+pub bytes_read : (low high : ℕ) (b : List ℕ) (left : List (List ℕ)) (more : Option (Bor (List ℕ)))
+    → left ≡ strict_base64 b ∷ fields_left more → HasBytes low high b → IsBytesField low high left (Ok (Some b, more))
+bytes_read low high b left more e h = record {
+  found = (e, h);
+  end = λ none. absurd cc;
+  only = read;
+  invalid = tt;
+}
+  where
+    read : (o : Option (List ℕ)) (rest : List (List ℕ)) → IfSome o (HasBytes low high) → (IsNone o → rest ≡ [])
+        → left ≡ field strict_base64 o ++ rest → (◌≡◌ {A = Option (List ℕ)} (Some b) o) × (fields_left more ≡ rest)
+    read None rest has none is = absurd (let f = none refl in cc)
+    read (Some d) rest has none is = (ap Some (base64_one b d h.0 has.0 (cc)), cc)
+
+-- a field that is the strict Base64 of no such bytes is refused
+pub bytes_refused : (low high : ℕ) (f : List ℕ) (left more : List (List ℕ)) → left ≡ f ∷ more
+    → ((b : List ℕ) → HasBytes low high b → f ≢ strict_base64 b) → IsBytesField low high left (Err EncodingInvalid)
+bytes_refused low high f left more e h = record {
+  found = tt;
+  end = tt;
+  only = refused;
+  invalid = refl;
+}
+  where
+    refused : (o : Option (List ℕ)) (rest : List (List ℕ)) → IfSome o (HasBytes low high) → (IsNone o → rest ≡ [])
+        → left ≡ field strict_base64 o ++ rest → ⊥
+    refused None rest has none is = absurd (let f = none refl in cc)
+    refused (Some d) rest has none is = h d has (cc)
 
 -- ---- the whole text
 

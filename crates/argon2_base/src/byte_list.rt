@@ -1,4 +1,5 @@
-//! Byte lists of a fixed capacity, which identifiers, key identifiers and associated data are.
+//! Byte lists of a fixed capacity, which identifiers, salts, outputs, key identifiers and associated
+//! data are.
 
 ghost use Rattle.std.specs.Prelude.{◌≡◌, ◌≤◌, ◌-◌, drop, length, replicate};
 

@@ -1,14 +1,15 @@
-//! Salts and outputs, and the bytes of a strict Base64 text.
+//! Salts and outputs, and the strict Base64 of bytes.
 
-ghost use Rattle.std.specs.Prelude.{◌≡◌, ◌<◌, ◌≤◌, ℕ, List, Some, IfOk, IfSome, IsSomeAnd, MatchOption, MatchResult, length, nat_eq};
+ghost use Rattle.std.specs.Prelude.{◌≡◌, ◌≤◌, ◌*◌, Some, IfOk, MatchResult, length, nat_eq};
 ghost use Rattle.std.specs.Cmp.{partial_equiv_from_equiv};
 ghost use Rattle.std.specs.Cmp.Lexicographic.{pointwise, nat_list_eq_equiv};
 ghost use Rattle.argon2_base.specs.Base64.{IsBytes, strict_base64};
 ghost use Rattle.argon2_base.specs.declared.error.password_hash.Error.TheVariants.{SaltInvalid, OutputSize};
 
 use super::compare::are_equal;
+use crate::byte_list::ByteList;
 use crate::error::password_hash::{Error, Result};
-use arrayvec::{ArrayString, ArrayVec};
+use arrayvec::ArrayString;
 use base64::engine::general_purpose::STANDARD_NO_PAD;
 use std::convert::AsSlice;
 use std::marker::Model;
@@ -17,19 +18,19 @@ use std::{fmt, str};
 /// A salt of 8 to 48 bytes.
 #[derive(Drop)]
 pub struct Salt {
-    bytes: ArrayVec<u8, 48>,
+    bytes: ByteList<48>,
 }
 
 impl Model for Salt {
-    ghost use Rattle.std.specs.Prelude.{ℕ, List, ◌≤◌, length};
-    ghost use Rattle.argon2_base.specs.Base64.{IsBytes};
+    ghost use Rattle.std.specs.Prelude.{ℕ, List};
+    ghost use Rattle.argon2_base.specs.ByteList.{list_bytes};
+    ghost use Rattle.argon2_base.specs.PhcText.{HasBytes};
 
     ghost Value = { List ℕ };
 
-    ghost view = { λ s. s.bytes.items };
+    ghost view = { λ s. list_bytes s.bytes };
 
-    ghost invariant = { λ s. (8 ≤ length s.bytes.items) × (length s.bytes.items ≤ 48)
-        × IsBytes s.bytes.items };
+    ghost invariant = { λ s. HasBytes 8 48 (list_bytes s.bytes) };
 }
 
 impl Salt {
@@ -48,12 +49,10 @@ impl Salt {
         ensures when { MatchResult result (λ _. (8 ≤ length bytes.now) × (length bytes.now ≤ 48))
             (λ e. (e ≡ SaltInvalid) × (8 ≤ length bytes.now → length bytes.now ≤ 48 → ⊥)) }
     {
-        if bytes.len() < Self::MIN_LENGTH || bytes.len() > Self::MAX_LENGTH {
-            return Err(Error::SaltInvalid);
+        match ByteList::new(bytes) {
+            Some(bytes) if bytes.len >= Self::MIN_LENGTH => Ok(Salt { bytes }),
+            _ => Err(Error::SaltInvalid),
         }
-        let mut kept = ArrayVec::new();
-        let _fits = kept.try_extend_from_slice(bytes);
-        Ok(Salt { bytes: kept })
     }
 
     /// Its bytes.
@@ -63,7 +62,7 @@ impl Salt {
         ensures max { length self.now ≤ 48 }
         ensures bytes { IsBytes self.now }
     {
-        self.bytes.as_slice()
+        self.bytes.as_bytes()
     }
 
     /// How many bytes it has: 8 to 48.
@@ -72,17 +71,14 @@ impl Salt {
         ensures min { 8 ≤ result }
         ensures max { result ≤ 48 }
     {
-        self.bytes.len()
+        self.as_bytes().len()
     }
 
     /// Its strict Base64.
     pub fn text(&self) -> ArrayString<64>
         ensures { result.bytes ≡ strict_base64 self.now }
     {
-        let Some(text) = base64_text(self.as_bytes()) else {
-            unreachable!();
-        };
-        text
+        base64_text(self.as_bytes())
     }
 }
 
@@ -125,19 +121,19 @@ impl Eq for Salt {
 /// An output of 4 to 64 bytes: the hash of a password.
 #[derive(Drop)]
 pub struct Output {
-    bytes: ArrayVec<u8, 64>,
+    bytes: ByteList<64>,
 }
 
 impl Model for Output {
-    ghost use Rattle.std.specs.Prelude.{ℕ, List, ◌≤◌, length};
-    ghost use Rattle.argon2_base.specs.Base64.{IsBytes};
+    ghost use Rattle.std.specs.Prelude.{ℕ, List};
+    ghost use Rattle.argon2_base.specs.ByteList.{list_bytes};
+    ghost use Rattle.argon2_base.specs.PhcText.{HasBytes};
 
     ghost Value = { List ℕ };
 
-    ghost view = { λ s. s.bytes.items };
+    ghost view = { λ s. list_bytes s.bytes };
 
-    ghost invariant = { λ s. (4 ≤ length s.bytes.items) × (length s.bytes.items ≤ 64)
-        × IsBytes s.bytes.items };
+    ghost invariant = { λ s. HasBytes 4 64 (list_bytes s.bytes) };
 }
 
 impl Output {
@@ -153,12 +149,10 @@ impl Output {
         ensures when { MatchResult result (λ _. (4 ≤ length bytes.now) × (length bytes.now ≤ 64))
             (λ e. (e ≡ OutputSize) × (4 ≤ length bytes.now → length bytes.now ≤ 64 → ⊥)) }
     {
-        if bytes.len() < Self::MIN_LENGTH || bytes.len() > Self::MAX_LENGTH {
-            return Err(Error::OutputSize);
+        match ByteList::new(bytes) {
+            Some(bytes) if bytes.len >= Self::MIN_LENGTH => Ok(Output { bytes }),
+            _ => Err(Error::OutputSize),
         }
-        let mut kept = ArrayVec::new();
-        let _fits = kept.try_extend_from_slice(bytes);
-        Ok(Output { bytes: kept })
     }
 
     /// Its bytes.
@@ -168,7 +162,7 @@ impl Output {
         ensures max { length self.now ≤ 64 }
         ensures bytes { IsBytes self.now }
     {
-        self.bytes.as_slice()
+        self.bytes.as_bytes()
     }
 
     /// How many bytes it has: 4 to 64.
@@ -177,17 +171,14 @@ impl Output {
         ensures min { 4 ≤ result }
         ensures max { result ≤ 64 }
     {
-        self.bytes.len()
+        self.as_bytes().len()
     }
 
     /// Its strict Base64.
     pub fn text(&self) -> ArrayString<86>
         ensures { result.bytes ≡ strict_base64 self.now }
     {
-        let Some(text) = base64_text(self.as_bytes()) else {
-            unreachable!();
-        };
-        text
+        base64_text(self.as_bytes())
     }
 }
 
@@ -227,40 +218,19 @@ impl Eq for Output {
     ghost laws = { nat_list_eq_equiv };
 }
 
-// The strict Base64 of bytes, where it has at most N characters.
-pub(super) fn base64_text<const N: usize>(bytes: &[u8]) -> Option<ArrayString<N>>
-    ensures { MatchOption result (N < length (strict_base64 bytes.now))
-        (λ text. text.bytes ≡ strict_base64 bytes.now) }
+// The strict Base64 of bytes: at most 4 characters for 3 bytes.
+pub(super) fn base64_text<const N: usize>(bytes: &[u8]) -> ArrayString<N>
+    requires { 4 * length bytes.now ≤ 3 * N }
+    ensures { result.bytes ≡ strict_base64 bytes.now }
 {
     let mut buffer = [0; N];
     let Ok(len) = STANDARD_NO_PAD.encode_slice(bytes, &mut buffer) else {
-        return None;
+        unreachable!();
     };
     let Ok(written) = str::from_utf8(&buffer[..len]) else {
         unreachable!();
     };
     let mut text = ArrayString::new();
     text.push_str(written);
-    Some(text)
-}
-
-// The bytes, at most 64, whose strict Base64 a text is.
-pub(super) fn read_base64(text: &str) -> Option<ArrayVec<u8, 64>>
-    ensures found { IfSome result (λ v. text.now ≡ strict_base64 v.items) }
-    ensures only { (b : List ℕ) → IsBytes b → length b ≤ 64 → text.now ≡ strict_base64 b
-        → IsSomeAnd result (λ v. v.items ≡ b) }
-{
-    if text.len() > 86 {
-        return None;
-    }
-    let mut buffer = [0u8; 66];
-    let Ok(len) = STANDARD_NO_PAD.decode_slice_unchecked(text.as_bytes(), &mut buffer) else {
-        return None;
-    };
-    if len > 64 {
-        return None;
-    }
-    let mut bytes = ArrayVec::new();
-    let _fits = bytes.try_extend_from_slice(&buffer[..len]);
-    Some(bytes)
+    text
 }

@@ -2,13 +2,14 @@
 
 ghost use Rattle.std.specs.Prelude.{◌≡◌, ◌<◌, ◌^◌, ◌++◌, ◌∷◌, ℕ, List, Option, IfOk, IfErr, IfSome, IsOkAnd, IsTrue};
 ghost use Rattle.argon2_base.specs.ParamsText.{Pair, are_params};
-ghost use Rattle.argon2_base.specs.PhcFields.{fields_of, fields_left, IsBytesField, NoVersionFirst, NoItemFirst};
+ghost use Rattle.argon2_base.specs.PhcFields.{fields_of, fields_left, IsBytesField, with_bytes, NoVersionFirst, NoItemFirst};
 ghost use Rattle.argon2_base.specs.PhcText.{field, list_field, version_text};
 ghost use Rattle.argon2_base.specs.declared.error.password_hash.Error.TheVariants.{EncodingInvalid};
 
-use super::bytes::{Output, Salt, read_base64};
+use super::bytes::{Output, Salt};
 use super::list::{ParamsString, split_item};
 use super::value::read_decimal;
+use crate::byte_list::ByteList;
 use crate::error::password_hash::{Error, Result};
 
 // The text up to the first `$`, and what follows that.
@@ -72,36 +73,34 @@ pub(super) fn params_field(left: Option<&str>) -> Result<(ParamsString, Option<&
     Ok((params, more))
 }
 
-// The salt, where anything is left, and what is left.
-pub(super) fn salt_field(left: Option<&str>) -> Result<(Option<Salt>, Option<&str>)>
-    ensures { IsBytesField 8 48 (fields_left left.entry) result }
+// The bytes of strict Base64, at most 64, where anything is left, and what is left.
+fn bytes_field(left: Option<&str>) -> Result<(Option<ByteList<64>>, Option<&str>)>
+    ensures { IsBytesField 0 64 (fields_left left.entry) (with_bytes result) }
 {
     let Some(text) = left else {
         return Ok((None, None));
     };
     let (field, more) = first_field(text);
-    let Some(bytes) = read_base64(field) else {
-        return Err(Error::EncodingInvalid);
-    };
-    let Ok(salt) = Salt::new(bytes.as_slice()) else {
-        return Err(Error::EncodingInvalid);
-    };
-    Ok((Some(salt), more))
+    match ByteList::from_b64(field) {
+        Ok(bytes) => Ok((Some(bytes), more)),
+        Err(_) => Err(Error::EncodingInvalid),
+    }
+}
+
+// The salt, where anything is left, and what is left.
+pub(super) fn salt_field(left: Option<&str>) -> Result<(Option<Salt>, Option<&str>)>
+    ensures { IsBytesField 8 48 (fields_left left.entry) result }
+{
+    let (bytes, more) = bytes_field(left)?;
+    let salt = bytes.map(|bytes| Salt::new(bytes.as_bytes())).transpose();
+    Ok((salt.or(Err(Error::EncodingInvalid))?, more))
 }
 
 // The hash, where anything is left, and what is left.
 pub(super) fn hash_field(left: Option<&str>) -> Result<(Option<Output>, Option<&str>)>
     ensures { IsBytesField 4 64 (fields_left left.entry) result }
 {
-    let Some(text) = left else {
-        return Ok((None, None));
-    };
-    let (field, more) = first_field(text);
-    let Some(bytes) = read_base64(field) else {
-        return Err(Error::EncodingInvalid);
-    };
-    let Ok(hash) = Output::new(bytes.as_slice()) else {
-        return Err(Error::EncodingInvalid);
-    };
-    Ok((Some(hash), more))
+    let (bytes, more) = bytes_field(left)?;
+    let hash = bytes.map(|bytes| Output::new(bytes.as_bytes())).transpose();
+    Ok((hash.or(Err(Error::EncodingInvalid))?, more))
 }

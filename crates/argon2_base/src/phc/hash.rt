@@ -73,8 +73,8 @@ impl PasswordHash {
         push_field(&mut text, self.algorithm.as_str());
         push_version(&mut text, self.version);
         push_params(&mut text, &self.params);
-        push_salt(&mut text, &self.salt);
-        push_hash(&mut text, &self.hash);
+        push_base64(&mut text, self.salt.as_ref().map(Salt::text));
+        push_base64(&mut text, self.hash.as_ref().map(Output::text));
         text
     }
 }
@@ -173,24 +173,13 @@ fn push_params(text: &mut ArrayString<326>, params: &ParamsString)
     }
 }
 
-// Appends the field of a salt.
-fn push_salt(text: &mut ArrayString<326>, salt: &Option<Salt>)
-    requires { array_string_len text.old ≤ 261 }
-    ensures bytes { text.new.bytes ≡ text.old.bytes ++ fields_text (field strict_base64 salt.now) }
-    ensures max { array_string_len text.new ≤ array_string_len text.old + 65 }
+// Appends the field of bytes, given their Base64.
+fn push_base64<const N: usize>(text: &mut ArrayString<326>, base64: Option<ArrayString<N>>)
+    requires { array_string_len text.old + N < 326 }
+    ensures bytes { text.new.bytes ≡ text.old.bytes ++ fields_text (field (λ t. t.bytes) base64.entry) }
+    ensures max { array_string_len text.new ≤ array_string_len text.old + N + 1 }
 {
-    if let Some(salt) = salt {
-        push_field(text, salt.text().as_str());
-    }
-}
-
-// Appends the field of a hash.
-fn push_hash(text: &mut ArrayString<326>, hash: &Option<Output>)
-    requires { array_string_len text.old ≤ 239 }
-    ensures bytes { text.new.bytes ≡ text.old.bytes ++ fields_text (field strict_base64 hash.now) }
-    ensures max { array_string_len text.new ≤ array_string_len text.old + 87 }
-{
-    if let Some(hash) = hash {
-        push_field(text, hash.text().as_str());
+    if let Some(base64) = base64 {
+        push_field(text, base64.as_str());
     }
 }

@@ -16,6 +16,9 @@ use std::fmt;
 use std::marker::Model;
 use std::str::FromStr;
 
+// The most bytes whose Base64 a value holds.
+const MAX_VALUE_BYTES: usize = 48;
+
 /// Parameters with distinct names, in the order of their text, which has at most 127 bytes.
 #[derive(Drop)]
 pub struct ParamsString {
@@ -119,10 +122,10 @@ impl ParamsString {
         ensures err { OnErr result (self.new ≡ self.old) }
         ensures invalid { IfErr result (λ e. e ≡ ParamsInvalid) }
     {
-        let Some(text) = base64_text::<64>(bytes) else {
+        if bytes.len() > MAX_VALUE_BYTES {
             return Err(Error::ParamsInvalid);
-        };
-        self.add(name, text.as_str())
+        }
+        self.add(name, base64_text::<64>(bytes).as_str())
     }
 
     // The list whose text this is.

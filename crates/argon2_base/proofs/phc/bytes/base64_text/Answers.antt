@@ -1,17 +1,13 @@
-use Rattle.std.proofs.Common.{◌∙◌, length, arith, inl, inr}
-use Rattle.std.proofs.lemmas.Bool.{cases_lt}
-use Rattle.argon2_base.specs.Base64.{strict_base64}
+use Rattle.std.proofs.Common.{◌∙◌, arith}
 use Rattle.argon2_base.proofs.Base64Lemmas.{length-strict_base64, strict_base64_written, IsUtf8-strict_base64}
 use Rattle.argon2_base.proofs.phc.bytes.base64_text.Goals as goal
 
-pub returns-in_default : goal.returns-in_default
-returns-in_default g c = elim (cases_lt g.row.N (length (strict_base64 c.args.bytes.now))) [
-  | inl lt ↦ lt
-  | inr le ↦ absurd (let e = c.encode_slice.ensures.fits (omega (arith, length-strict_base64 c.args.bytes.now)) in cc)
-]
-
 pub unreachable-requires : goal.unreachable-requires
 unreachable-requires g c =
+    let fits = c.encode_slice.ensures.fits (omega (arith, length-strict_base64 c.args.bytes.now, c.requires)) in cc
+
+pub unreachable-requires-in_default-from_utf8 : goal.unreachable-requires-in_default-from_utf8
+unreachable-requires-in_default-from_utf8 g c =
     let text = strict_base64_written c.args.bytes.now _ c.encode_slice.new.output c.in-Ok.len
     c.encode_slice.auto.output c.in-Ok.ensures.fits c.in-Ok.ensures.too_small c.in-Ok.ensures.written in
     c.in_default-from_utf8.ensures.cases.0 (rw text (IsUtf8-strict_base64 c.args.bytes.now))

@@ -1,9 +1,11 @@
+use Rattle.std.proofs.Common.{arith}
 use Rattle.argon2_base.specs.Base64.{strict_base64}
+use Rattle.argon2_base.proofs.Base64Lemmas.{length-strict_base64}
 use Rattle.argon2_base.proofs.ParamsTextLemmas.{refused_param}
 use Rattle.argon2_base.proofs.ParamsReading.{long_value}
 use Rattle.argon2_base.proofs.phc.list.ParamsString.add_b64_bytes.Goals as goal
 
-pub returns-in_default-clause-when : goal.returns-in_default-clause-when
-returns-in_default-clause-when c =
+pub returns-then-bytes-gt-MAX_VALUE_BYTES-clause-when : goal.returns-then-bytes-gt-MAX_VALUE_BYTES-clause-when
+returns-then-bytes-gt-MAX_VALUE_BYTES-clause-when c =
     refused_param c.args.self.now (c.args.name.now, strict_base64 c.args.bytes.now)
-    (long_value c.args.name.now (strict_base64 c.args.bytes.now) c.in_default.ensures)
+    (long_value c.args.name.now (strict_base64 c.args.bytes.now) (omega (arith, length-strict_base64 c.args.bytes.now)))
