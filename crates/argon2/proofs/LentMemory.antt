@@ -1,6 +1,6 @@
 -- Lent memory after its first blocks were written.
-use Rattle.std.proofs.Common.{◌≡◌, ℕ, ◌+◌, ◌*◌, ◌++◌, List, [], length, take, drop, sym, ap, subst, ◌∙◌, arith}
-use Rattle.std.proofs.lemmas.List.{get_or_append_left, get_or-take}
+use Rattle.std.proofs.Common.{◌≡◌, ℕ, ◌+◌, ◌*◌, ◌++◌, ◌≤◌, List, [], length, take, drop, sym, ap, subst, ◌∙◌, arith}
+use Rattle.std.proofs.lemmas.List.{get_or_append_left, get_or-take, length-take-le}
 use Rattle.std.proofs.lemmas.List.FromFn.{length-map-range_with_len}
 use Rattle.std.proofs.lemmas.Nat.{mul-add-lt}
 use Rattle.std.proofs.lemmas.Slice.{drop-append-drop}
@@ -12,7 +12,7 @@ use Rattle.argon2.specs.Hashing.{blocks_of, KeepsOtherColumns, KeepsRest, IsBegu
 use Rattle.argon2.specs.InitialHash.{first_block}
 use Rattle.argon2.specs.Laws.{Begins}
 use Rattle.argon2.specs.Recurrence.{matrix}
-use Rattle.argon2.specs.Steps.{Memory}
+use Rattle.argon2.specs.Steps.{Memory, step}
 use Rattle.argon2.specs.Tag.{matrix_of, tag_of}
 
 -- the matrix has as many blocks as are filled
@@ -41,6 +41,15 @@ module _ (argon2 : Argon2) (count : ℕ) (all : count ≡ block_count (context_o
       let below = mul-add-lt lane (lane_length ctx) column ctx.p_cost l high in
       get_or_append_left blocks (drop count old) [] place (omega (arith, below, size))
       ∙ same lane column l low high ∙ get_or-take count old place [] (omega (arith, below, all))
+
+  -- a single step
+  pub is_stepped : block_count ctx ≤ length old → length blocks ≡ length (take count old) → (pass lane column : ℕ) →
+      blocks ≡ step ctx (take count old) pass lane column →
+      (blocks_of ctx (blocks ++ drop count old) ≡ step ctx (blocks_of ctx old) pass lane column)
+      × KeepsRest ctx old (blocks ++ drop count old)
+  is_stepped room long pass lane column made =
+      let size : length blocks ≡ block_count ctx = long ∙ length-take-le count old (omega (arith, room, all)) ∙ all in
+      (front size ∙ made ∙ ap (λ n. step ctx (take n old) pass lane column) all, rest size)
 
   -- the beginning of a fill
   pub is_begun : IsValid ctx → (password salt : List ℕ) (n : ℕ) → Begins ctx (first_block ctx password salt n) blocks →

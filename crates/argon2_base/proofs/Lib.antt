@@ -18,3 +18,4 @@ pub mod Pieces
 pub mod Rounds
 pub mod Separators
 pub mod ValueCharacters
+pub mod WordBytes

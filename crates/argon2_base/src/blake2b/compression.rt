@@ -1,7 +1,7 @@
 //! The compression function of BLAKE2b (RFC 7693, section 3.2).
 
-ghost use Rattle.std.specs.Prelude.{◌≡◌, ℕ, List, ◌+◌, ◌≤◌, length};
-ghost use Rattle.argon2_base.specs.Compression.{mix, round, rounds, words, working_vector, compress};
+ghost use Rattle.std.specs.Prelude.{◌≡◌, ℕ, List, ◌+◌, ◌<◌, ◌≤◌, length};
+ghost use Rattle.argon2_base.specs.Compression.{mix, mix_at, round, rounds, words, working_vector, xor_halves, compress};
 
 pub(crate) const IV: [u64; 8] = [
     0x6a09_e667_f3bc_c908,
@@ -14,60 +14,17 @@ pub(crate) const IV: [u64; 8] = [
     0x5be0_cd19_137e_2179,
 ];
 
-// The words of m in the order of a row of SIGMA, of which the first row is m itself. Places that are literals make the
-// rounds faster than a table would, and their proof shorter.
-macro_rules! scheduled {
-    ($m:ident: $($k:literal)*) => {
-        [$($m[$k]),*]
-    };
-}
-
 // Takes the block into h, where t counts the message's bytes up to the block's end: the function F.
 pub(crate) fn compress(h: &mut [u64; 8], block: &[u8], t: u128, last: bool)
     requires { length block.now ≡ 128 }
     ensures { h.new ≡ compress h.old block.now t last }
 {
     let m = words(block);
-    let second = scheduled!(m: 14 10 4 8 9 15 13 6 1 12 0 2 11 7 5 3);
     let v = working_vector(h, t, last);
-    let v = round(v, m);
-    let v = round(v, second);
-    let v = rounds_2_to_5(v, &m);
-    let v = rounds_6_to_9(v, &m);
-    let v = round(v, m);
-    let v = round(v, second);
-    *h = [
-        h[0] ^ v[0] ^ v[8],
-        h[1] ^ v[1] ^ v[9],
-        h[2] ^ v[2] ^ v[10],
-        h[3] ^ v[3] ^ v[11],
-        h[4] ^ v[4] ^ v[12],
-        h[5] ^ v[5] ^ v[13],
-        h[6] ^ v[6] ^ v[14],
-        h[7] ^ v[7] ^ v[15],
-    ];
-}
-
-// Rounds 2 to 5.
-#[inline(always)]
-fn rounds_2_to_5(v: [u64; 16], m: &[u64; 16]) -> [u64; 16]
-    ensures { (start : List ℕ) → v ≡ rounds start m.now 2 → result ≡ rounds start m.now 6 }
-{
-    let v = round(v, scheduled!(m: 11 8 12 0 5 2 15 13 10 14 3 6 7 1 9 4));
-    let v = round(v, scheduled!(m: 7 9 3 1 13 12 11 14 2 6 5 10 4 0 15 8));
-    let v = round(v, scheduled!(m: 9 0 5 7 2 4 10 15 14 1 11 12 6 8 3 13));
-    round(v, scheduled!(m: 2 12 6 10 0 11 8 3 4 13 7 5 15 14 1 9))
-}
-
-// Rounds 6 to 9.
-#[inline(always)]
-fn rounds_6_to_9(v: [u64; 16], m: &[u64; 16]) -> [u64; 16]
-    ensures { (start : List ℕ) → v ≡ rounds start m.now 6 → result ≡ rounds start m.now 10 }
-{
-    let v = round(v, scheduled!(m: 12 5 1 15 14 13 4 10 0 7 6 3 9 2 8 11));
-    let v = round(v, scheduled!(m: 13 11 7 14 12 1 3 9 5 0 15 4 8 6 2 10));
-    let v = round(v, scheduled!(m: 6 15 14 9 11 3 0 8 12 2 13 7 1 4 10 5));
-    round(v, scheduled!(m: 10 2 8 4 7 6 1 5 15 11 9 14 3 12 13 0))
+    let v = rounds_0_to_3(v, &m);
+    let v = rounds_4_to_7(v, &m);
+    let v = rounds_8_to_11(v, &m);
+    *h = xor_halves(h, &v);
 }
 
 // The words of a block, low byte first.
@@ -89,31 +46,81 @@ fn words(block: &[u8]) -> [u64; 16]
 fn working_vector(h: &[u64; 8], t: u128, last: bool) -> [u64; 16]
     ensures { result ≡ working_vector h.now t last }
 {
-    let v12 = IV[4] ^ (t % (1 << 64)) as u64;
-    let v13 = IV[5] ^ (t / (1 << 64)) as u64;
-    let v14 = IV[6] ^ if last { u64::MAX } else { 0 };
+    let [iv0, iv1, iv2, iv3, iv4, iv5, iv6, iv7] = IV;
+    let v12 = iv4 ^ (t % (1 << 64)) as u64;
+    let v13 = iv5 ^ (t / (1 << 64)) as u64;
+    let v14 = iv6 ^ if last { u64::MAX } else { 0 };
+    let [h0, h1, h2, h3, h4, h5, h6, h7] = *h;
     [
-        h[0], h[1], h[2], h[3], h[4], h[5], h[6], h[7], IV[0], IV[1], IV[2], IV[3], v12, v13, v14,
-        IV[7],
+        h0, h1, h2, h3, h4, h5, h6, h7, iv0, iv1, iv2, iv3, v12, v13, v14, iv7,
     ]
+}
+
+// In each round the words of the block stand in the order of its row of SIGMA. Places that are literals make the
+// rounds faster than a table would, and their proof shorter.
+
+// Rounds 0 to 3.
+#[rattlefmt::skip]
+#[inline(always)]
+fn rounds_0_to_3(v: [u64; 16], m: &[u64; 16]) -> [u64; 16]
+    ensures { (start : List ℕ) → v ≡ rounds start m.now 0 → result ≡ rounds start m.now 4 }
+{
+    let [m0, m1, m2, m3, m4, m5, m6, m7, m8, m9, m10, m11, m12, m13, m14, m15] = *m;
+    let v = round(v, [m0, m1, m2, m3, m4, m5, m6, m7, m8, m9, m10, m11, m12, m13, m14, m15]);
+    let v = round(v, [m14, m10, m4, m8, m9, m15, m13, m6, m1, m12, m0, m2, m11, m7, m5, m3]);
+    let v = round(v, [m11, m8, m12, m0, m5, m2, m15, m13, m10, m14, m3, m6, m7, m1, m9, m4]);
+    round(v, [m7, m9, m3, m1, m13, m12, m11, m14, m2, m6, m5, m10, m4, m0, m15, m8])
+}
+
+// Rounds 4 to 7.
+#[rattlefmt::skip]
+#[inline(always)]
+fn rounds_4_to_7(v: [u64; 16], m: &[u64; 16]) -> [u64; 16]
+    ensures { (start : List ℕ) → v ≡ rounds start m.now 4 → result ≡ rounds start m.now 8 }
+{
+    let [m0, m1, m2, m3, m4, m5, m6, m7, m8, m9, m10, m11, m12, m13, m14, m15] = *m;
+    let v = round(v, [m9, m0, m5, m7, m2, m4, m10, m15, m14, m1, m11, m12, m6, m8, m3, m13]);
+    let v = round(v, [m2, m12, m6, m10, m0, m11, m8, m3, m4, m13, m7, m5, m15, m14, m1, m9]);
+    let v = round(v, [m12, m5, m1, m15, m14, m13, m4, m10, m0, m7, m6, m3, m9, m2, m8, m11]);
+    round(v, [m13, m11, m7, m14, m12, m1, m3, m9, m5, m0, m15, m4, m8, m6, m2, m10])
+}
+
+// Rounds 8 to 11.
+#[rattlefmt::skip]
+#[inline(always)]
+fn rounds_8_to_11(v: [u64; 16], m: &[u64; 16]) -> [u64; 16]
+    ensures { (start : List ℕ) → v ≡ rounds start m.now 8 → result ≡ rounds start m.now 12 }
+{
+    let [m0, m1, m2, m3, m4, m5, m6, m7, m8, m9, m10, m11, m12, m13, m14, m15] = *m;
+    let v = round(v, [m6, m15, m14, m9, m11, m3, m0, m8, m12, m2, m13, m7, m1, m4, m10, m5]);
+    let v = round(v, [m10, m2, m8, m4, m7, m6, m1, m5, m15, m11, m9, m14, m3, m12, m13, m0]);
+    let v = round(v, [m0, m1, m2, m3, m4, m5, m6, m7, m8, m9, m10, m11, m12, m13, m14, m15]);
+    round(v, [m14, m10, m4, m8, m9, m15, m13, m6, m1, m12, m0, m2, m11, m7, m5, m3])
 }
 
 // One round on v, with the message words x in their order: the columns, and then the diagonals.
 #[inline(always)]
-fn round(v: [u64; 16], x: [u64; 16]) -> [u64; 16]
+fn round(mut v: [u64; 16], x: [u64; 16]) -> [u64; 16]
     ensures { result ≡ round v x }
 {
-    let [v0, v4, v8, v12] = mix(v[0], v[4], v[8], v[12], x[0], x[1]);
-    let [v1, v5, v9, v13] = mix(v[1], v[5], v[9], v[13], x[2], x[3]);
-    let [v2, v6, v10, v14] = mix(v[2], v[6], v[10], v[14], x[4], x[5]);
-    let [v3, v7, v11, v15] = mix(v[3], v[7], v[11], v[15], x[6], x[7]);
-    let [v0, v5, v10, v15] = mix(v0, v5, v10, v15, x[8], x[9]);
-    let [v1, v6, v11, v12] = mix(v1, v6, v11, v12, x[10], x[11]);
-    let [v2, v7, v8, v13] = mix(v2, v7, v8, v13, x[12], x[13]);
-    let [v3, v4, v9, v14] = mix(v3, v4, v9, v14, x[14], x[15]);
-    [
-        v0, v1, v2, v3, v4, v5, v6, v7, v8, v9, v10, v11, v12, v13, v14, v15,
-    ]
+    mix_at(&mut v, 0, 4, 8, 12, x[0], x[1]);
+    mix_at(&mut v, 1, 5, 9, 13, x[2], x[3]);
+    mix_at(&mut v, 2, 6, 10, 14, x[4], x[5]);
+    mix_at(&mut v, 3, 7, 11, 15, x[6], x[7]);
+    mix_at(&mut v, 0, 5, 10, 15, x[8], x[9]);
+    mix_at(&mut v, 1, 6, 11, 12, x[10], x[11]);
+    mix_at(&mut v, 2, 7, 8, 13, x[12], x[13]);
+    mix_at(&mut v, 3, 4, 9, 14, x[14], x[15]);
+    v
+}
+
+// The function G on the words at four places, with the message words x and y.
+#[inline(always)]
+fn mix_at(v: &mut [u64; 16], i: usize, j: usize, k: usize, l: usize, x: u64, y: u64)
+    requires { (i < 16) × (j < 16) × (k < 16) × (l < 16) }
+    ensures { v.new ≡ mix_at v.old i j k l x y }
+{
+    [v[i], v[j], v[k], v[l]] = mix(v[i], v[j], v[k], v[l], x, y);
 }
 
 // The function G on four words, with the message words x and y.
@@ -130,4 +137,21 @@ fn mix(a: u64, b: u64, c: u64, d: u64, x: u64, y: u64) -> [u64; 4]
     let c2 = c1.wrapping_add(d2);
     let b2 = (b1 ^ c2).rotate_right(63);
     [a2, b2, c2, d2]
+}
+
+// Each word of h with the two of v at its place in a half.
+#[inline(always)]
+fn xor_halves(h: &[u64; 8], v: &[u64; 16]) -> [u64; 8]
+    ensures { result ≡ xor_halves h.now v.now }
+{
+    [
+        h[0] ^ v[0] ^ v[8],
+        h[1] ^ v[1] ^ v[9],
+        h[2] ^ v[2] ^ v[10],
+        h[3] ^ v[3] ^ v[11],
+        h[4] ^ v[4] ^ v[12],
+        h[5] ^ v[5] ^ v[13],
+        h[6] ^ v[6] ^ v[14],
+        h[7] ^ v[7] ^ v[15],
+    ]
 }

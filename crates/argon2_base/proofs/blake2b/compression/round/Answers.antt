@@ -1,9 +1,16 @@
-use Rattle.std.proofs.Common.{arith, length, ◌≡◌}
-use Rattle.argon2_base.proofs.Rounds.{round_by_mixing}
+use Rattle.argon2_base.specs.Compression.{round}
 use Rattle.argon2_base.proofs.blake2b.compression.round.Goals as goal
 
 pub returns : goal.returns
+unfolding round
 returns c =
-    let long : length c.args.v ≡ 16 = omega arith in
-    round_by_mixing c.args.v c.args.x _ _ _ _ _ _ _ _ long c.mix.ensures c.mix-2.ensures
-    c.mix-3.ensures c.mix-4.ensures c.mix-5.ensures c.mix-6.ensures c.mix-7.ensures c.mix-8.ensures
+    rw (
+      c.mix_at-8.ensures,
+      c.mix_at-7.ensures,
+      c.mix_at-6.ensures,
+      c.mix_at-5.ensures,
+      c.mix_at-4.ensures,
+      c.mix_at-3.ensures,
+      c.mix_at-2.ensures,
+      c.mix_at.ensures,
+    )

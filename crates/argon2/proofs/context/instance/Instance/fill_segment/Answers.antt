@@ -1,5 +1,6 @@
-use Rattle.std.proofs.Common.{◌≡◌, ℕ, ◌+◌, ◌-◌, ◌*◌, ◌/◌, ◌%◌, ◌<◌, ◌≤◌, ◌≢◌, ◌⊎◌, inl, inr, cond, replicate, sym, ap, ◌∙◌, arith}
+use Rattle.std.proofs.Common.{◌≡◌, ℕ, zero, suc, refl, ◌+◌, ◌-◌, ◌*◌, ◌/◌, ◌%◌, ◌<◌, ◌≤◌, ◌≢◌, ◌⊎◌, inl, inr, cond, replicate, sym, ap, ◌∙◌, arith}
 use Rattle.std.proofs.lemmas.Bool.Decides.{nat_tests}
+use Rattle.std.proofs.lemmas.Nat.{mul-add-lt}
 use Rattle.argon2.specs.Context.{segment_length}
 use Rattle.argon2.specs.Recurrence.{addresses_of, is_independent}
 use Rattle.argon2.specs.Steps.{run, turn_count}
@@ -8,7 +9,7 @@ use Rattle.argon2.specs.Counting.{segment_calls}
 use Rattle.argon2.proofs.recurrence.Addresses.{same_addresses, address_mixings, mixings_more}
 use Rattle.argon2.proofs.schedules.LaneAfterLane.{run_turn, positions_of_turn}
 use Rattle.argon2.proofs.context.instance.Instance.fill_segment.Goals as goal
-use Rattle.argon2.proofs.context.instance.Instance.fill_segment.Goals.{then-index-gt0+then-index-eq0, else-index-gt0, else-index-gt0-via-then-index-gt0+else-index-eq0, else-index-gt0-via-else-index-gt0}
+use Rattle.argon2.proofs.context.instance.Instance.fill_segment.Goals.{then-pass-eq0+then-slice-eq0, else-pass-eq0, else-pass-eq0-via-then-pass-eq0+else-slice-eq0, else-pass-eq0-via-else-pass-eq0, then-index-gt0+then-index-eq0, else-index-gt0, else-index-gt0-via-then-index-gt0+else-index-eq0, else-index-gt0-via-else-index-gt0}
 
 -- at an index that begins no address block the one at hand serves on
 serves_on : (index : ℕ) → (index % 128 ≢ 0) ⊎ (index ≤ 0) → (index - 1) / 128 ≡ index / 128
@@ -18,6 +19,17 @@ serves_on index (inr e) = omega arith
 -- at any other the next begins
 serves_next : (index : ℕ) → 0 < index → index % 128 ≡ 0 → index / 128 + 1 ≡ (index - 1) / 128 + 1 + 1
 serves_next index some e = omega arith
+
+-- a column of a segment is one of its lane
+in_lane : (slice segment index n : ℕ) → slice < 4 → index < segment → segment ≡ n → slice * segment + index < 4 * n
+in_lane slice segment index n h k is =
+    let place = mul-add-lt slice segment index 4 h k in
+    omega arith
+
+-- a later slice begins at column 2 or above
+later_slice : (slice segment start : ℕ) → slice ≢ 0 → 2 ≤ segment → 2 ≤ slice * segment + start
+later_slice zero segment start some two = absurd (some refl)
+later_slice (suc s) segment start some two = omega arith
 
 pub loop-index-init : goal.loop-index-init
 loop-index-init c =
@@ -32,6 +44,14 @@ loop-index-init c =
     let mixings : ℕ → ℕ = λ x. cond (is_independent ctx c.args.pass (x / segment_length ctx)) 2 0 in
     let blocks : ℕ → ℕ = λ n. cond (is_independent ctx c.args.pass c.args.slice) (2 * (n + 1)) 0 in
     record {
+      later = λ first. elim c.if-pass-eq0.branch [
+        | then-pass-eq0+then-slice-eq0 w ↦ (let is = w.start-is in omega arith)
+        | else-pass-eq0 w ↦ elim w.else-pass-eq0.branch [
+          | else-pass-eq0-via-then-pass-eq0+else-slice-eq0 v ↦
+              later_slice c.args.slice _ _ v.if-slice-eq0.false (omega arith)
+          | else-pass-eq0-via-else-pass-eq0 v ↦ absurd (v.if-pass-eq0.false first)
+        ]
+      ];
       memory = ap (λ n. run ctx c.args.pass c.args.slice (replicate n c.args.lane) c.args.memory.now) turns;
       positions =
           ap (λ n. positions_of_run ctx c.args.pass c.args.slice (replicate n c.args.lane) c.args.memory.now c.args.positions.now)
@@ -62,6 +82,30 @@ word-word-requires-clause-addresses c =
           ∙ ap (λ s. addresses_of ctx c.args.pass c.args.lane (c.args.slice * s + i)) (sym s))
     ]
 
+pub word-word-requires-clause-step : goal.word-word-requires-clause-step
+word-word-requires-clause-step c = record {
+  in_lanes = c.requires.in_lanes;
+  in_columns = in_lane c.args.slice c.segment_length-segment.result c.loop-index.index (segment_length c.args.self.now)
+      c.requires.in_slices c.loop-index-test.true c.segment_length-segment.ensures.value;
+  later = c.loop-index.invariant.later;
+}
+
+pub step-reference-requires-clause-step : goal.step-reference-requires-clause-step
+step-reference-requires-clause-step c = record {
+  in_lanes = c.requires.in_lanes;
+  in_columns = in_lane c.args.slice c.segment_length-segment.result c.loop-index.index (segment_length c.args.self.now)
+      c.requires.in_slices c.loop-index-test.true c.segment_length-segment.ensures.value;
+  later = c.loop-index.invariant.later;
+}
+
+pub put_position-requires : goal.put_position-requires
+put_position-requires c = record {
+  in_lanes = c.requires.in_lanes;
+  in_columns = in_lane c.args.slice c.segment_length-segment.result c.loop-index.index (segment_length c.args.self.now)
+      c.requires.in_slices c.loop-index-test.true c.segment_length-segment.ensures.value;
+  later = c.loop-index.invariant.later;
+}
+
 pub loop-index-preserved : goal.loop-index-preserved
 loop-index-preserved c =
     let ctx = c.args.self.now in
@@ -83,6 +127,7 @@ loop-index-preserved c =
     let column' = ap (λ x. c.args.slice * x + i) s in
     let column = column' ∙ ap (λ n. c.args.slice * segment_length ctx + n) same in
     record {
+      later = λ first. (let before = c.loop-index.invariant.later first in omega arith);
       memory = cc;
       positions = cc;
       addresses = elim c.if-index-gt0.branch [

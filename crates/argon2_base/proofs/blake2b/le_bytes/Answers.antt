@@ -1,0 +1,20 @@
+use Rattle.std.proofs.Common.{◌∙◌, ◌*◌, ap, sym, arith}
+use Rattle.std.proofs.lemmas.List.{take_all}
+use Rattle.std.specs.Int.{w64, to_le_bytes}
+use Rattle.std.specs.List.{flat_map}
+use Rattle.argon2_base.proofs.WordBytes.{one_more_word}
+use Rattle.argon2_base.proofs.blake2b.le_bytes.Goals as goal
+use borrow.Rule.Slice.PartMut.{same_len_mid}
+
+pub words-preserved : goal.words-preserved
+words-preserved c = (
+  same_len_mid _ _ c.words.out _ c.copy_from_slice.ensures.len ∙ c.words.invariant.0,
+  one_more_word c.words.out c.args.words.now _ c.words.i (8 * c.words.i) _ _ (omega arith) (omega arith) (omega arith)
+      (c.copy_from_slice.ensures.after ∙ c.to_le_bytes.ensures) c.words.invariant.1,
+)
+
+pub returns : goal.returns
+returns c =
+    let all = take_all (8 * c.words.i) c.words.out (omega arith) in
+    let whole = take_all c.words.i c.args.words.now (omega arith) in
+    sym all ∙ c.words.invariant.1 ∙ ap (flat_map (to_le_bytes w64)) whole

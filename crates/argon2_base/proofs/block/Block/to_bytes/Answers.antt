@@ -1,0 +1,22 @@
+use Rattle.std.proofs.Common.{◌∙◌, ap, sym, refl, arith}
+use Rattle.std.proofs.lemmas.List.{take_all}
+use Rattle.argon2_base.specs.Block.{bytes_of}
+use Rattle.argon2_base.proofs.WordBytes.{one_more_word}
+use Rattle.argon2_base.proofs.block.Block.to_bytes.Goals as goal
+use borrow.Rule.Slice.PartMut.{same_len_mid}
+
+pub words-preserved : goal.words-preserved
+words-preserved c =
+    let words = c.self.inside.words in
+    record {
+      place = omega arith;
+      long = same_len_mid _ _ c.words.out _ c.copy_from_slice.ensures.len ∙ c.words.invariant.long;
+      done = one_more_word c.words.out words _ c.words.word-index c.words.at _ _ refl (omega arith) (omega arith)
+          (c.copy_from_slice.ensures.after ∙ c.to_le_bytes.ensures) c.words.invariant.done;
+    }
+
+pub returns : goal.returns
+returns c =
+    let all = take_all c.words.at c.words.out (omega arith) in
+    let whole = take_all c.words.word-index c.self.inside.words (omega arith) in
+    sym all ∙ c.words.invariant.done ∙ ap bytes_of (whole ∙ c.self.view_is)
