@@ -1,12 +1,14 @@
 -- Hashing by an `Argon2`: when a call is refused, and what it leaves.
-use Rattle.std.specs.Prelude.{◌≡◌, ℕ, ◌+◌, ◌*◌, ◌<◌, ◌≤◌, List, [], ◌++◌, Option, length, take, drop, slice_index_or}
+use Rattle.std.specs.Prelude.{◌≡◌, ℕ, ◌+◌, ◌*◌, ◌<◌, ◌≤◌, ◌⊎◌, List, [], ◌++◌, Option, Some, None, Result, Ok, Err, OnOk, OnErr, length, take, drop, slice_index_or}
 use Rattle.argon2_base.specs.declared.error.Error.{Error}
+use Rattle.argon2_base.specs.declared.error.Error.TheVariants.{OutOfMemory}
 use Rattle.argon2.specs.declared.context.Argon2.{Argon2}
 use Rattle.argon2.specs.Argon2.{context_of, own_parameters}
 use Rattle.argon2.specs.Context.{Context, IsValid, lane_length, block_count}
+use Rattle.argon2.specs.Counting.{mixing_calls}
 use Rattle.argon2.specs.InitialHash.{first_block}
 use Rattle.argon2.specs.Laws.{Begins}
-use Rattle.argon2.specs.Refusals.{first_of, output_faults, input_faults, memory_faults}
+use Rattle.argon2.specs.Refusals.{answer_unless, first_of, output_faults, input_faults, memory_faults}
 use Rattle.argon2.specs.Steps.{Memory}
 use Rattle.argon2.specs.Tag.{tag_of, matrix_of}
 use Rattle.argon2.specs.Positions.{AreReferencePlaces}
@@ -16,6 +18,14 @@ use Rattle.argon2.specs.Positions.{AreReferencePlaces}
 -- why an output of n bytes is refused
 abbrev pub output_refusal : Argon2 → ℕ → Option Error
 output_refusal argon2 n = first_of (output_faults (own_parameters argon2).output_len n)
+
+-- why a password or a salt is refused
+abbrev pub input_refusal : List ℕ → List ℕ → Option Error
+input_refusal password salt = first_of (input_faults (length password) (length salt))
+
+-- why lent memory is refused
+abbrev pub memory_refusal : Argon2 → Memory → Option Error
+memory_refusal argon2 memory = first_of (memory_faults (block_count (context_of argon2)) (length memory))
 
 -- why an output of n bytes, a password, a salt or lent memory is refused
 abbrev pub refusal_of : Argon2 → ℕ → List ℕ → List ℕ → Memory → Option Error
@@ -73,6 +83,11 @@ pub record IsHashed (argon2 : Argon2) (password salt output : List ℕ) (old new
         blocks_of ctx new ≡ matrix_of ctx password salt (length output)
     pub rest : KeepsRest (context_of argon2) old new
 
+-- what a call that takes memory of its own answers: a refusal, if there is one, or that there was no memory
+abbrev pub IsAnswer : Option Error → Result (Unit {0}) Error → Type 0
+IsAnswer refusal (Ok _) = refusal ≡ None
+IsAnswer refusal (Err e) = (e ≡ OutOfMemory) ⊎ (refusal ≡ Some e)
+
 -- ---- watching
 
 -- how many places there are for references: one for each pass and block
@@ -84,3 +99,14 @@ abbrev pub AreReferencesOf : Argon2 → List ℕ → List ℕ → ℕ → List �
 AreReferencesOf argon2 password salt n old new =
     let ctx = context_of argon2 in
     AreReferencePlaces ctx (first_block ctx password salt n) old new
+
+-- what a watched hash on lent memory answers, and leaves of an output, a memory and places for references
+pub record IsWatched (argon2 : Argon2) (password salt output output' : List ℕ) (memory memory' : Memory)
+    (places places' : List ℕ) (result : Result ℕ Error) : Type 0
+  where
+    pub answer : result ≡ answer_unless (refusal_of argon2 (length output) password salt memory)
+        (mixing_calls (context_of argon2))
+    pub hashed : OnOk result (IsHashed argon2 password salt output' memory memory')
+    pub positions : OnOk result (length places ≡ place_count (context_of argon2) →
+        AreReferencesOf argon2 password salt (length output) places places')
+    pub same : OnErr result ((output' ≡ output) × (memory' ≡ memory) × (places' ≡ places))
