@@ -9,9 +9,10 @@ use Rattle.argon2.specs.Counting.{mixing_calls}
 use Rattle.argon2.specs.InitialHash.{first_block}
 use Rattle.argon2.specs.Laws.{Begins}
 use Rattle.argon2.specs.Refusals.{answer_unless, first_of, output_faults, input_faults, memory_faults}
-use Rattle.argon2.specs.Steps.{Memory}
+use Rattle.argon2.specs.Steps.{Memory, reference_place, step}
 use Rattle.argon2.specs.Tag.{tag_of, matrix_of}
 use Rattle.argon2.specs.Positions.{AreReferencePlaces}
+pub use Rattle.argon2.specs.Positions.{place_count}
 
 -- ---- refusals
 
@@ -68,6 +69,15 @@ pub record IsBegun (argon2 : Argon2) (password salt : List ℕ) (n : ℕ) (old n
     pub others : KeepsOtherColumns (context_of argon2) old new
     pub rest : KeepsRest (context_of argon2) old new
 
+-- the block of a pass, a lane and a column, the rest as before, and the place of its reference
+pub record IsStepped (argon2 : Argon2) (pass lane column : ℕ) (old new : Memory) (referred : ℕ) : Type 0
+  where
+    pub step : let ctx = context_of argon2 in
+        blocks_of ctx new ≡ step ctx (blocks_of ctx old) pass lane column
+    pub rest : KeepsRest (context_of argon2) old new
+    pub place : let ctx = context_of argon2 in
+        referred ≡ reference_place ctx (blocks_of ctx old) pass lane column
+
 -- the matrix for a tag of n bytes, and the rest as before
 pub record IsFilled (argon2 : Argon2) (password salt : List ℕ) (n : ℕ) (old new : Memory) : Type 0
   where
@@ -89,10 +99,6 @@ IsAnswer refusal (Ok _) = refusal ≡ None
 IsAnswer refusal (Err e) = (e ≡ OutOfMemory) ⊎ (refusal ≡ Some e)
 
 -- ---- watching
-
--- how many places there are for references: one for each pass and block
-abbrev pub place_count : Context → ℕ
-place_count ctx = ctx.t_cost * block_count ctx
 
 -- each block's reference in a hash for a tag of n bytes
 abbrev pub AreReferencesOf : Argon2 → List ℕ → List ℕ → ℕ → List ℕ → List ℕ → Type 0

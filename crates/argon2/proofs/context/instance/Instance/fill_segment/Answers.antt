@@ -119,20 +119,19 @@ loop-index-preserved c =
           ];
     }
 
-pub returns-clause-memory : goal.returns-clause-memory
-unfolding run
-returns-clause-memory c =
+pub returns-clause-run : goal.returns-clause-run
+unfolding run positions_of_run
+returns-clause-run c =
     let e : segment_length c.args.self.now - c.loop-index.index ≡ 0 = omega arith in
-    sym (ap (λ n. run c.args.self.now c.args.pass c.args.slice (replicate n c.args.lane) c.loop-index.memory) e)
-    ∙ c.loop-index.invariant.memory
-
-pub returns-clause-positions : goal.returns-clause-positions
-unfolding positions_of_run
-returns-clause-positions c =
-    let e : segment_length c.args.self.now - c.loop-index.index ≡ 0 = omega arith in
-    sym (ap (λ n. positions_of_run c.args.self.now c.args.pass c.args.slice
-    (replicate n c.args.lane) c.loop-index.memory c.loop-index.positions) e)
-    ∙ c.loop-index.invariant.positions
+    record {
+      memory =
+          sym (ap (λ n. run c.args.self.now c.args.pass c.args.slice (replicate n c.args.lane) c.loop-index.memory) e)
+          ∙ c.loop-index.invariant.memory;
+      positions =
+          sym (ap (λ n. positions_of_run c.args.self.now c.args.pass c.args.slice
+          (replicate n c.args.lane) c.loop-index.memory c.loop-index.positions) e)
+          ∙ c.loop-index.invariant.positions;
+    }
 
 pub returns-clause-work : goal.returns-clause-work
 unfolding segment_calls
