@@ -93,10 +93,10 @@ pub record IsHashed (argon2 : Argon2) (password salt output : List ℕ) (old new
         blocks_of ctx new ≡ matrix_of ctx password salt (length output)
     pub rest : KeepsRest (context_of argon2) old new
 
--- what a call that takes memory of its own answers: a refusal, if there is one, or that there was no memory
-abbrev pub IsAnswer : Option Error → Result (Unit {0}) Error → Type 0
-IsAnswer refusal (Ok _) = refusal ≡ None
-IsAnswer refusal (Err e) = (e ≡ OutOfMemory) ⊎ (refusal ≡ Some e)
+-- what a call that asks for memory may answer: Ok without a refusal, else that refusal or that there is no memory
+abbrev pub MayAnswer : Option Error → Result (Unit {0}) Error → Type 0
+MayAnswer refusal (Ok _) = refusal ≡ None
+MayAnswer refusal (Err e) = (e ≡ OutOfMemory) ⊎ (refusal ≡ Some e)
 
 -- ---- watching
 

@@ -64,7 +64,7 @@ impl<'key> Argon2<'key> {
     ghost use Rattle.argon2.specs.Argon2.{context_of, own_parameters, secret_of, settings_of, settings_with, IsKeyed, IsWith};
     ghost use Rattle.argon2.specs.Context.{block_count, IsValid};
     ghost use Rattle.argon2.specs.Counting.{mixing_calls};
-    ghost use Rattle.argon2.specs.Hashing.{fill_refusal, place_count, refusal_of, AreReferencesOf, IsAnswer, IsFilled, IsHashed, IsWatched};
+    ghost use Rattle.argon2.specs.Hashing.{fill_refusal, place_count, refusal_of, AreReferencesOf, IsFilled, IsHashed, IsWatched, MayAnswer};
     ghost use Rattle.argon2.specs.Params.{parameters_of};
     ghost use Rattle.argon2.specs.Refusals.{answer_unless, length_refusal};
     ghost use Rattle.argon2.specs.Tag.{tag_of};
@@ -165,7 +165,7 @@ impl<'key> Argon2<'key> {
         salt: &[u8],
         out: &mut [u8],
     ) -> Result<()>
-        ensures answer { IsAnswer (length_refusal (own_parameters self.now).output_len
+        ensures answer { MayAnswer (length_refusal (own_parameters self.now).output_len
             (length out.old) (length pwd.now) (length salt.now)) result }
 
         ensures tag { OnOk result (out.new ≡ tag_of (context_of self.now) pwd.now salt.now (length out.old)) }
@@ -197,9 +197,8 @@ impl<'key> Argon2<'key> {
         positions: &mut [u32],
     ) -> Result<Work>
         requires { length positions.old ≡ place_count (context_of self.now) }
-        ensures answer { result
-            ≡ answer_unless (refusal_of self.now (length out.old) pwd.now salt.now memory.old)
-            (mixing_calls (context_of self.now)) }
+        ensures answer { result ≡ answer_unless
+            (refusal_of self.now (length out.old) pwd.now salt.now memory.old) (mixing_calls (context_of self.now)) }
 
         ensures hashed { OnOk result (IsHashed self.now pwd.now salt.now out.new memory.old memory.new) }
         ensures positions { OnOk result

@@ -27,7 +27,8 @@ pub struct Params {
 }
 
 impl Params {
-    ghost use Rattle.std.specs.Prelude.{◌≡◌, ◌<◌, ◌≤◌, ◌^◌, length};
+    ghost use Rattle.std.specs.Prelude.{◌≡◌, ◌<◌, ◌≤◌, ◌^◌};
+    ghost use Rattle.argon2.specs.ByteLists.{AreBytes};
     ghost use Rattle.argon2.specs.Parameters.{plain};
     ghost use Rattle.argon2.specs.Params.{parameters_of, IsParamsOf, IsSetting};
     ghost use Rattle.argon2.specs.Shape.{block_count, lane_length};
@@ -158,16 +159,14 @@ impl Params {
 
     /// The key identifier's bytes, 0 to 8.
     pub fn keyid(&self) -> &[u8]
-        ensures value { result.now ≡ (parameters_of self.now).keyid }
-        ensures fits { length (parameters_of self.now).keyid ≤ 8 }
+        ensures { AreBytes 8 (parameters_of self.now).keyid result.now }
     {
         self.keyid.as_bytes()
     }
 
     /// The associated data, 0 to 32 bytes.
     pub fn data(&self) -> &[u8]
-        ensures value { result.now ≡ (parameters_of self.now).associated }
-        ensures fits { length (parameters_of self.now).associated ≤ 32 }
+        ensures { AreBytes 32 (parameters_of self.now).associated result.now }
     {
         self.associated.as_bytes()
     }

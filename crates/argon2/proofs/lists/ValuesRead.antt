@@ -1,5 +1,5 @@
 -- What is read as a key identifier or as associated data.
-use Rattle.std.proofs.Common.{◌≡◌, ℕ, ◌≤◌, List, length, Result, Some, None, Ok, Err, refl, arith}
+use Rattle.std.proofs.Common.{◌≡◌, ℕ, ◌≤◌, List, length, Result, None, Ok, Err, refl, arith}
 use Rattle.std.proofs.lemmas.List.{length-take}
 use Rattle.std.specs.Result.{result_or}
 use Rattle.argon2_base.specs.Base64.{IsBytes, short_bytes}
