@@ -1,5 +1,5 @@
 -- What a contract sees of an `Argon2`.
-use Rattle.std.specs.Prelude.{◌≡◌, ℕ, List, [], Option, Some, None, Result, Ok, Err}
+use Rattle.std.specs.Prelude.{◌≡◌, ℕ, ◌<◌, ◌≤◌, List, [], length, Option, Some, None, Result, Ok, Err}
 use Rattle.argon2.specs.declared.algorithm.Algorithm.{Algorithm}
 use Rattle.argon2.specs.declared.algorithm.Algorithm.TheVariants.{Argon2id}
 use Rattle.argon2.specs.declared.version.Version.{Version}
@@ -11,6 +11,7 @@ use Rattle.argon2.specs.Context.{Context, context_with}
 use Rattle.argon2.specs.Parameters.{Parameters, AreValid, first_fault}
 use Rattle.argon2.specs.Settings.{Settings}
 use Rattle.argon2_base.specs.declared.error.Error.{Error}
+use Rattle.argon2_base.specs.declared.error.Error.TheVariants.{SecretTooLong}
 use Rattle.argon2.specs.Params.{parameters_of}
 
 -- the bytes of a secret, none where there is no secret
@@ -38,6 +39,16 @@ own_parameters argon2 = (settings_of argon2).parameters
 -- what its hashes depend on beside the password, the salt and the output's length
 abbrev pub context_of : Argon2 → Context
 context_of argon2 = context_with (settings_of argon2) (secret_of argon2)
+
+-- it has these settings and this secret
+pub record IsWith (own : Settings) (key : List ℕ) (argon2 : Argon2) : Type 0 where
+  pub settings : settings_of argon2 ≡ own
+  pub secret : secret_of argon2 ≡ key
+
+-- hashing under settings and a secret, or the refusal of a secret of more than 4294967295 bytes
+abbrev pub IsKeyed : Settings → List ℕ → Result Argon2 Error → Type 0
+IsKeyed own key (Ok argon2) = (length key ≤ 4294967295) × IsWith own key argon2
+IsKeyed own key (Err e) = (e ≡ SecretTooLong) × (4294967295 < length key)
 
 -- Argon2id of version 0x13 with these parameters
 abbrev pub argon2id_with : Parameters → Settings

@@ -1,5 +1,5 @@
 -- Key identifiers and associated data, and what makers of them answer.
-use Rattle.std.specs.Prelude.{◌≡◌, ℕ, ◌<◌, List, length, Result, Ok, Err}
+use Rattle.std.specs.Prelude.{◌≡◌, ℕ, ◌<◌, ◌≤◌, List, length, Result, Ok, Err}
 use Rattle.argon2.specs.declared.params.key_id.KeyId.{KeyId}
 use Rattle.argon2.specs.declared.params.associated_data.AssociatedData.{AssociatedData}
 use Rattle.argon2_base.specs.Base64.{IsBytes, strict_base64}
@@ -14,6 +14,11 @@ keyid_bytes keyid = list_bytes keyid.bytes
 -- the bytes of associated data
 abbrev pub data_bytes : AssociatedData → List ℕ
 data_bytes associated = list_bytes associated.bytes
+
+-- the bytes that a value shows, at most so many
+pub record AreBytes (most : ℕ) (own bytes : List ℕ) : Type 0 where
+  pub value : bytes ≡ own
+  pub fits : length own ≤ most
 
 -- the key identifier of these bytes, or the refusal of more than 8
 abbrev pub IsKeyIdOf : List ℕ → Result KeyId Error → Type 0

@@ -60,3 +60,8 @@ pub record Sizes (ctx : Context) : Type 0 where
   pub in_memory : ctx.p_cost * (4 * segment_length ctx) ≤ ctx.m_cost
   pub m_cost : ctx.m_cost < 2 ^ 32
   pub t_cost : ctx.t_cost < 2 ^ 32
+
+-- one of the sizes of a context whose costs are not refused
+pub record IsSize (of : Context → ℕ) (ctx : Context) (n : ℕ) : Type 0 where
+  pub value : n ≡ of ctx
+  pub sizes : Sizes ctx

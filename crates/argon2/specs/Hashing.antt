@@ -1,21 +1,32 @@
 -- Hashing by an `Argon2`: when a call is refused, and what it leaves.
-use Rattle.std.specs.Prelude.{◌≡◌, ℕ, ◌+◌, ◌*◌, ◌<◌, ◌≤◌, List, [], ◌++◌, Option, length, take, drop, slice_index_or}
+use Rattle.std.specs.Prelude.{◌≡◌, ℕ, ◌+◌, ◌*◌, ◌<◌, ◌≤◌, ◌⊎◌, List, [], ◌++◌, Option, Some, None, Result, Ok, Err, OnOk, OnErr, length, take, drop, slice_index_or}
 use Rattle.argon2_base.specs.declared.error.Error.{Error}
+use Rattle.argon2_base.specs.declared.error.Error.TheVariants.{OutOfMemory}
 use Rattle.argon2.specs.declared.context.Argon2.{Argon2}
 use Rattle.argon2.specs.Argon2.{context_of, own_parameters}
 use Rattle.argon2.specs.Context.{Context, IsValid, lane_length, block_count}
+use Rattle.argon2.specs.Counting.{mixing_calls}
 use Rattle.argon2.specs.InitialHash.{first_block}
 use Rattle.argon2.specs.Laws.{Begins}
-use Rattle.argon2.specs.Refusals.{first_of, output_faults, input_faults, memory_faults}
-use Rattle.argon2.specs.Steps.{Memory}
+use Rattle.argon2.specs.Refusals.{answer_unless, first_of, output_faults, input_faults, memory_faults}
+use Rattle.argon2.specs.Steps.{Memory, reference_place, step}
 use Rattle.argon2.specs.Tag.{tag_of, matrix_of}
 use Rattle.argon2.specs.Positions.{AreReferencePlaces}
+pub use Rattle.argon2.specs.Positions.{place_count}
 
 -- ---- refusals
 
 -- why an output of n bytes is refused
 abbrev pub output_refusal : Argon2 → ℕ → Option Error
 output_refusal argon2 n = first_of (output_faults (own_parameters argon2).output_len n)
+
+-- why a password or a salt is refused
+abbrev pub input_refusal : List ℕ → List ℕ → Option Error
+input_refusal password salt = first_of (input_faults (length password) (length salt))
+
+-- why lent memory is refused
+abbrev pub memory_refusal : Argon2 → Memory → Option Error
+memory_refusal argon2 memory = first_of (memory_faults (block_count (context_of argon2)) (length memory))
 
 -- why an output of n bytes, a password, a salt or lent memory is refused
 abbrev pub refusal_of : Argon2 → ℕ → List ℕ → List ℕ → Memory → Option Error
@@ -58,6 +69,15 @@ pub record IsBegun (argon2 : Argon2) (password salt : List ℕ) (n : ℕ) (old n
     pub others : KeepsOtherColumns (context_of argon2) old new
     pub rest : KeepsRest (context_of argon2) old new
 
+-- the block of a pass, a lane and a column, the rest as before, and the place of its reference
+pub record IsStepped (argon2 : Argon2) (pass lane column : ℕ) (old new : Memory) (referred : ℕ) : Type 0
+  where
+    pub step : let ctx = context_of argon2 in
+        blocks_of ctx new ≡ step ctx (blocks_of ctx old) pass lane column
+    pub rest : KeepsRest (context_of argon2) old new
+    pub place : let ctx = context_of argon2 in
+        referred ≡ reference_place ctx (blocks_of ctx old) pass lane column
+
 -- the matrix for a tag of n bytes, and the rest as before
 pub record IsFilled (argon2 : Argon2) (password salt : List ℕ) (n : ℕ) (old new : Memory) : Type 0
   where
@@ -73,14 +93,26 @@ pub record IsHashed (argon2 : Argon2) (password salt output : List ℕ) (old new
         blocks_of ctx new ≡ matrix_of ctx password salt (length output)
     pub rest : KeepsRest (context_of argon2) old new
 
--- ---- watching
+-- what a call that asks for memory may answer: Ok without a refusal, else that refusal or that there is no memory
+abbrev pub MayAnswer : Option Error → Result (Unit {0}) Error → Type 0
+MayAnswer refusal (Ok _) = refusal ≡ None
+MayAnswer refusal (Err e) = (e ≡ OutOfMemory) ⊎ (refusal ≡ Some e)
 
--- how many places there are for references: one for each pass and block
-abbrev pub place_count : Context → ℕ
-place_count ctx = ctx.t_cost * block_count ctx
+-- ---- watching
 
 -- each block's reference in a hash for a tag of n bytes
 abbrev pub AreReferencesOf : Argon2 → List ℕ → List ℕ → ℕ → List ℕ → List ℕ → Type 0
 AreReferencesOf argon2 password salt n old new =
     let ctx = context_of argon2 in
     AreReferencePlaces ctx (first_block ctx password salt n) old new
+
+-- what a watched hash on lent memory answers, and leaves of an output, a memory and places for references
+pub record IsWatched (argon2 : Argon2) (password salt output output' : List ℕ) (memory memory' : Memory)
+    (places places' : List ℕ) (result : Result ℕ Error) : Type 0
+  where
+    pub answer : result ≡ answer_unless (refusal_of argon2 (length output) password salt memory)
+        (mixing_calls (context_of argon2))
+    pub hashed : OnOk result (IsHashed argon2 password salt output' memory memory')
+    pub positions : OnOk result (length places ≡ place_count (context_of argon2) →
+        AreReferencesOf argon2 password salt (length output) places places')
+    pub same : OnErr result ((output' ≡ output) × (memory' ≡ memory) × (places' ≡ places))

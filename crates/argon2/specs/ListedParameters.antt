@@ -1,5 +1,5 @@
 -- Parameters as a parameter list, and the parameters that a list stands for.
-use Rattle.std.specs.Prelude.{ℕ, List, [], ◌∷◌, ◌++◌, codes, if◌then◌else◌, Option, Some, None, Result, Ok, Err, unwrap_or, option_and_then}
+use Rattle.std.specs.Prelude.{◌≡◌, ℕ, List, [], ◌∷◌, ◌++◌, codes, if◌then◌else◌, Option, Some, None, IsNone, Result, Ok, Err, unwrap_or, option_and_then}
 use Rattle.std.specs.Fmt.{decimal}
 use Rattle.std.specs.Option.{option_or}
 use Rattle.std.specs.Str.{bytes_eq}
@@ -8,7 +8,8 @@ pub use Rattle.argon2_base.specs.Base64.{short_bytes}
 use Rattle.argon2_base.specs.Decimal.{number_of}
 use Rattle.argon2_base.specs.ParamsText.{Pair, value_of}
 use Rattle.argon2_base.specs.declared.error.Error.{Error}
-use Rattle.argon2_base.specs.Error.{Fault, bad_param, bad_params, as_fault}
+use Rattle.argon2_base.specs.declared.error.password_hash.Error.{Error as HashError}
+use Rattle.argon2_base.specs.Error.{Fault, bad_param, bad_params, as_fault, fault_of}
 use Rattle.argon2.specs.Parameters.{Parameters, first_fault}
 
 -- bytes under a name, where there are any
@@ -32,6 +33,11 @@ list_of v = listed v.m_cost v.t_cost v.p_cost v.keyid v.associated
 abbrev pub unless_read : {X : Type 0} → Option X → List ℕ → Option Fault
 unless_read (Some x) name = None
 unless_read None name = Some (bad_param name)
+
+-- a value that was read, or the fault where there is none
+abbrev pub IsValueOr : {A X : Type 0} → Fault → (A → X) → Option X → Result A HashError → Type 0
+IsValueOr fault view value (Ok x) = value ≡ Some (view x)
+IsValueOr fault view value (Err e) = (value ≡ None) × (fault_of e ≡ fault)
 
 -- why an item is refused
 abbrev pub item_fault : Pair → Option Fault
@@ -97,3 +103,8 @@ unsized m t p keyid associated = record {
   associated = associated;
   output_len = None;
 }
+
+-- valid costs with bytes, listed, are read as the same with any length of output
+abbrev pub AreReadAgain : ℕ → ℕ → ℕ → List ℕ → List ℕ → Type 0
+AreReadAgain m t p keyid associated = (output_len : Option ℕ) → IsNone (first_fault m t p output_len) →
+    params_of None (listed m t p keyid associated) ≡ Ok (unsized m t p keyid associated)

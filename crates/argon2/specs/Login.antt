@@ -1,13 +1,15 @@
 -- The login store: what callers see of it, and what each call does.
-use Rattle.std.specs.Prelude.{◌≡◌, ℕ, List, map, String, string_bytes, Option, Some, None, IsSome, IsSomeAnd, Result, Ok, Err}
+use Rattle.std.specs.Prelude.{◌≡◌, ℕ, ◌<◌, List, map, String, string_bytes, Option, Some, None, IsSome, IsSomeAnd, Result, Ok, Err}
 use Rattle.std.specs.BTreeMap.{BTreeMap}
-use Rattle.std.specs.FinMap.{FinMap, from_entries, get, insert}
+use Rattle.std.specs.FinMap.{FinMap, empty, from_entries, get, insert}
 use Rattle.std.specs.Ordering.{nat_cmp}
 use Rattle.std.specs.Cmp.Lexicographic.{slice_cmp}
 use Rattle.rand_core.specs.Stream.{Stream, fill_bytes}
 use Rattle.argon2_base.specs.PasswordHash.{phc_of}
 use Rattle.argon2_base.specs.PhcText.{Phc, PhcText, HasBytes}
 use Rattle.argon2_base.specs.declared.phc.hash.PasswordHash.{PasswordHash}
+use Rattle.argon2_base.specs.declared.error.password_hash.Error.{Error as HashError}
+use Rattle.argon2_base.specs.declared.error.password_hash.Error.TheVariants.{OutputSize}
 use Rattle.argon2.specs.declared.login.Login.{Login}
 use Rattle.argon2.specs.declared.login.answers.Accepted.{Accepted}
 use Rattle.argon2.specs.declared.login.answers.Accepted.TheVariants.{Current, Rehashed, Kept}
@@ -15,7 +17,7 @@ use Rattle.argon2.specs.declared.login.answers.LoginError.{LoginError}
 use Rattle.argon2.specs.declared.login.answers.LoginError.TheVariants.{Text, NameTaken, NameUnknown, OutOfMemory, Refused}
 use Rattle.argon2.specs.Accepts.{AcceptsBy, IsVerifyAnswer}
 use Rattle.argon2.specs.Made as made_under
-use Rattle.argon2.specs.Made.{Target, made, sized}
+use Rattle.argon2.specs.Made.{Target, IsTarget, made, sized}
 use Rattle.argon2.specs.Stored.{shown_settings}
 
 -- what texts say, by the bytes of their names
@@ -37,6 +39,12 @@ store_of login = values_of login.texts
 -- what it renews them by
 abbrev pub target_of : Login → Target
 target_of login = made_under.target_of login.target
+
+-- a store without names, of a target whose hashes fit into texts, or the refusal of longer ones
+abbrev pub IsNew : Target → Result Login HashError → Type 0
+IsNew target (Ok login) =
+    IsTarget (target_of login) × (target_of login ≡ target) × (store_of login ≡ empty)
+IsNew target (Err e) = (e ≡ OutputSize) × (64 < made_under.tag_length target.settings)
 
 -- the name has a text, and it accepts the password
 abbrev pub HasPassword : Target → Store → List ℕ → List ℕ → Type 0
@@ -97,6 +105,10 @@ abbrev pub LoginStep : Target → Store → Event → Store → Type 0
 LoginStep target before (adding name text answer) after = AddStep before name text answer after
 LoginStep target before (logging_in name password drawn answer) after =
     LoginAnswer target before name password drawn (get before name) answer after
+
+-- a call takes the store from one state to another
+abbrev pub Steps : Event → Login → Login → Type 0
+Steps event old new = LoginStep (target_of old) (store_of old) event (store_of new)
 
 -- what the generator has left: a text is made anew of 16 bytes, also where it is not kept
 abbrev pub stream_after : Result Accepted LoginError → Stream → Stream

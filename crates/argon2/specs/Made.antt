@@ -4,6 +4,7 @@ use Rattle.argon2_base.specs.Error.{Fault, bad_algorithm, bad_output_size, bad_p
 use Rattle.argon2_base.specs.PasswordHash.{phc_of}
 use Rattle.argon2_base.specs.PhcText.{Phc, HasBytes}
 use Rattle.argon2_base.specs.declared.error.password_hash.Error.{Error}
+use Rattle.argon2_base.specs.declared.error.password_hash.Error.TheVariants.{OutOfMemory, PasswordInvalid}
 use Rattle.argon2_base.specs.declared.phc.hash.PasswordHash.{PasswordHash}
 use Rattle.argon2.specs.declared.algorithm.Algorithm.{Algorithm}
 use Rattle.argon2.specs.declared.algorithm.Algorithm.TheVariants.{Argon2id}
@@ -11,7 +12,7 @@ use Rattle.argon2.specs.declared.context.Argon2.{Argon2}
 use Rattle.argon2.specs.declared.version.Version.{Version}
 use Rattle.argon2.specs.declared.version.Version.TheVariants.{V0x13}
 use Rattle.argon2.specs.Algorithm.{algorithm_name, algorithm_named}
-use Rattle.argon2.specs.Argon2.{secret_of, settings_of}
+use Rattle.argon2.specs.Argon2.{context_of, secret_of, settings_of}
 use Rattle.argon2.specs.Context.{context_with}
 use Rattle.argon2.specs.ListedParameters.{checked, list_of}
 use Rattle.argon2.specs.Parameters.{Parameters, AreValid}
@@ -39,6 +40,13 @@ abbrev pub sized : Settings → Settings
 sized settings = record settings {
   parameters = record settings.parameters { output_len = Some (tag_length settings) };
 }
+
+-- the tag of that length, or the refusal: no memory, or a password of more than 4294967295 bytes
+abbrev pub IsTagAnswer : Argon2 → List ℕ → List ℕ → Result (List ℕ) Error → Type 0
+IsTagAnswer argon2 password salt (Ok hash) = (length password ≤ 4294967295)
+    × (hash ≡ tag_of (context_of argon2) password salt (tag_length (settings_of argon2)))
+IsTagAnswer argon2 password salt (Err e) =
+    (e ≡ OutOfMemory) ⊎ ((e ≡ PasswordInvalid) × (4294967295 < length password))
 
 -- the value that a password and a salt make
 abbrev pub made : Target → List ℕ → List ℕ → Phc

@@ -1,5 +1,6 @@
 -- What callers see of a builder of parameters.
-use Rattle.std.specs.Prelude.{ℕ, List, [], Option, None, unwrap_or}
+use Rattle.std.specs.Prelude.{◌≡◌, ℕ, List, [], Option, None, unwrap_or}
+use Rattle.std.specs.Borrow.{MutBor}
 use Rattle.std.specs.Option.{option_map}
 use Rattle.argon2.specs.declared.params.builder.ParamsBuilder.{ParamsBuilder}
 use Rattle.argon2.specs.ByteLists.{keyid_bytes, data_bytes}
@@ -24,6 +25,12 @@ builder_settings builder = record {
   associated = option_map data_bytes builder.associated;
   output_len = builder.output_len;
 }
+
+-- a setter's answer: the same reference, to a builder whose settings are changed
+pub record Sets (old new : MutBor ParamsBuilder) (change : BuilderSettings → BuilderSettings) : Type 0
+  where
+    pub same_reference : new.ghost_name ≡ old.ghost_name
+    pub value : builder_settings new.now ≡ change (builder_settings old.now)
 
 -- what a builder starts with: the costs by default
 abbrev pub default_settings : BuilderSettings

@@ -1,5 +1,5 @@
 -- Which blocks a block may refer to, and which of them a word takes (RFC 9106, section 3.4.2).
-use Rattle.std.specs.Prelude.{ℕ, zero, suc, ◌+◌, ◌-◌, ◌*◌, ◌/◌, ◌%◌, ◌^◌, ◌&&◌, List, [], ◌++◌, map, take, length, ◌==◌, slice_index_or, if◌then◌else◌}
+use Rattle.std.specs.Prelude.{◌≡◌, ℕ, zero, suc, ◌+◌, ◌-◌, ◌*◌, ◌/◌, ◌%◌, ◌^◌, ◌<◌, ◌&&◌, List, [], ◌++◌, map, take, length, ◌==◌, slice_index_or, if◌then◌else◌}
 use Rattle.std.specs.List.{range_with_len}
 use Rattle.argon2.specs.Context.{Context, segment_length, lane_length}
 
@@ -48,6 +48,11 @@ place_of ctx from = from.lane * lane_length ctx + from.column
 unfoldable pub reference_lane : Context → ℕ → ℕ → ℕ → ℕ → ℕ
 reference_lane ctx pass lane column word =
     if pass == 0 && (column / segment_length ctx == 0) then lane else (word / 2 ^ 32) % ctx.p_cost
+
+-- a lane that the block may refer to: in the first slice of all its own
+pub record MayReferTo (ctx : Context) (pass lane column other : ℕ) : Type 0 where
+  pub within : other < ctx.p_cost
+  pub alone : pass ≡ 0 → column / segment_length ctx ≡ 0 → other ≡ lane
 
 -- which of so many blocks the word's low half takes, the more often the nearer to the end
 unfoldable pub reference_index : ℕ → ℕ → ℕ

@@ -1,10 +1,10 @@
 -- The blocks in one memory, lane after lane, where a block overwrites that of the pass before; and
 -- the orders of the steps that write them.
-use Rattle.std.specs.Prelude.{◌≡◌, ℕ, zero, suc, ◌+◌, ◌-◌, ◌*◌, ◌<◌, ◌≤◌, ◌&&◌, List, [], ◌∷◌, ◌==◌, count_by, replicate, slice_index_or, slice_set, if◌then◌else◌}
+use Rattle.std.specs.Prelude.{◌≡◌, ℕ, zero, suc, ◌+◌, ◌-◌, ◌*◌, ◌<◌, ◌≤◌, ◌&&◌, List, [], ◌∷◌, ◌==◌, count_by, length, replicate, slice_index_or, slice_set, if◌then◌else◌}
 use Rattle.std.specs.List.{AllByRecursion, flat_map, range_with_len}
-use Rattle.argon2.specs.Context.{Context, segment_length, lane_length}
+use Rattle.argon2.specs.Context.{Context, segment_length, lane_length, block_count}
 use Rattle.argon2.specs.Reference.{place_of}
-use Rattle.argon2.specs.Recurrence.{reference_of, made_block, xor_lanes}
+use Rattle.argon2.specs.Recurrence.{reference_of, reference_word, made_block, xor_lanes}
 
 -- blocks, lane after lane
 abbrev pub Memory : Type 0
@@ -24,6 +24,15 @@ pub record IsStep (ctx : Context) (pass lane column : ℕ) : Type 0 where
   pub in_lanes : lane < ctx.p_cost
   pub in_columns : column < lane_length ctx
   pub later : pass ≡ 0 → 2 ≤ column
+
+-- a memory that has the place of such a block
+pub record IsStepIn (ctx : Context) (memory : Memory) (pass lane column : ℕ) : Type 0 where
+  pub step : IsStep ctx pass lane column
+  pub room : block_count ctx ≤ length memory
+
+-- the word that takes its reference
+abbrev pub word_in : Context → Memory → ℕ → ℕ → ℕ → ℕ
+word_in ctx memory pass lane column = reference_word ctx (in_memory ctx memory) pass lane column
 
 -- the memory after the block of a pass, a lane and a column is written
 unfoldable pub step : Context → Memory → ℕ → ℕ → ℕ → Memory

@@ -58,13 +58,13 @@ pub struct Argon2<'key> {
 }
 
 impl<'key> Argon2<'key> {
-    ghost use Rattle.std.specs.Prelude.{◌≡◌, ◌≤◌, ◌↔◌, ◌⊎◌, [], Some, None, IsOk, IfOk, IfErr, OnOk, OnErr, MatchResult, length, replicate};
+    ghost use Rattle.std.specs.Prelude.{◌≡◌, ◌≤◌, [], IfOk, IfErr, OnOk, OnErr, length, replicate};
     ghost use Rattle.argon2_base.specs.Block.{zero_block};
-    ghost use Rattle.argon2_base.specs.declared.error.Error.TheVariants.{OutOfMemory, SecretTooLong};
-    ghost use Rattle.argon2.specs.Argon2.{context_of, own_parameters, secret_of, settings_of, settings_with};
+    ghost use Rattle.argon2_base.specs.declared.error.Error.TheVariants.{OutOfMemory};
+    ghost use Rattle.argon2.specs.Argon2.{context_of, own_parameters, secret_of, settings_of, settings_with, IsKeyed, IsWith};
     ghost use Rattle.argon2.specs.Context.{block_count, IsValid};
     ghost use Rattle.argon2.specs.Counting.{mixing_calls};
-    ghost use Rattle.argon2.specs.Hashing.{fill_refusal, place_count, refusal_of, AreReferencesOf, IsFilled, IsHashed};
+    ghost use Rattle.argon2.specs.Hashing.{fill_refusal, place_count, refusal_of, AreReferencesOf, IsFilled, IsHashed, IsWatched, MayAnswer};
     ghost use Rattle.argon2.specs.Params.{parameters_of};
     ghost use Rattle.argon2.specs.Refusals.{answer_unless, length_refusal};
     ghost use Rattle.argon2.specs.Tag.{tag_of};
@@ -72,8 +72,7 @@ impl<'key> Argon2<'key> {
     /// Hashing with these parameters and no secret. The key identifier of the parameters changes no
     /// hash, as [`key_identifier`](crate::laws::key_identifier) says; their associated data is hashed.
     pub fn new(algorithm: Algorithm, version: Version, params: Params) -> Argon2<'key>
-        ensures settings { settings_of result ≡ settings_with algorithm version params }
-        ensures no_secret { secret_of result ≡ [] }
+        ensures { IsWith (settings_with algorithm version params) [] result }
     {
         Argon2 {
             algorithm,
@@ -94,10 +93,7 @@ impl<'key> Argon2<'key> {
         version: Version,
         params: Params,
     ) -> Result<Argon2<'key>>
-        ensures short { IsOk result ↔ (length secret.now ≤ MAX_SECRET_LEN) }
-        ensures long { IfErr result (λ e. e ≡ SecretTooLong) }
-        ensures settings { IfOk result (λ a. settings_of a ≡ settings_with algorithm version params) }
-        ensures secret { IfOk result (λ a. secret_of a ≡ secret.now) }
+        ensures { IsKeyed (settings_with algorithm version params) secret.now result }
     {
         if secret.len() > MAX_SECRET_LEN {
             return Err(Error::SecretTooLong);
@@ -169,12 +165,10 @@ impl<'key> Argon2<'key> {
         salt: &[u8],
         out: &mut [u8],
     ) -> Result<()>
-        ensures answer { let refusal = length_refusal (own_parameters self.now).output_len
-            (length out.old) (length pwd.now) (length salt.now) in
-            MatchResult result (λ _. refusal ≡ None) (λ e. (e ≡ OutOfMemory) ⊎ (refusal ≡ Some e)) }
+        ensures answer { MayAnswer (length_refusal (own_parameters self.now).output_len
+            (length out.old) (length pwd.now) (length salt.now)) result }
 
-        ensures tag { OnOk result (out.new
-            ≡ tag_of (context_of self.now) pwd.now salt.now (length out.old)) }
+        ensures tag { OnOk result (out.new ≡ tag_of (context_of self.now) pwd.now salt.now (length out.old)) }
         ensures same { OnErr result (out.new ≡ out.old) }
     {
         let mut memory = self.zeroed_blocks(alloc)?;
@@ -203,16 +197,14 @@ impl<'key> Argon2<'key> {
         positions: &mut [u32],
     ) -> Result<Work>
         requires { length positions.old ≡ place_count (context_of self.now) }
-        ensures answer { result
-            ≡ answer_unless (refusal_of self.now (length out.old) pwd.now salt.now memory.old)
-            (mixing_calls (context_of self.now)) }
+        ensures answer { result ≡ answer_unless
+            (refusal_of self.now (length out.old) pwd.now salt.now memory.old) (mixing_calls (context_of self.now)) }
 
         ensures hashed { OnOk result (IsHashed self.now pwd.now salt.now out.new memory.old memory.new) }
         ensures positions { OnOk result
             (AreReferencesOf self.now pwd.now salt.now (length out.old) positions.old positions.new) }
 
-        ensures same { OnErr result ((out.new ≡ out.old) × (memory.new ≡ memory.old)) }
-        ensures same_positions { OnErr result (positions.new ≡ positions.old) }
+        ensures same { OnErr result ((out.new ≡ out.old) × (memory.new ≡ memory.old) × (positions.new ≡ positions.old)) }
     {
         self.hash(pwd, salt, out, memory, positions)
     }
@@ -226,10 +218,9 @@ impl<'key> Argon2<'key> {
     /// - [`Error::SaltTooShort`]: the salt is shorter than 8 bytes.
     /// - [`Error::SaltTooLong`]: the salt is longer than 4294967295 bytes.
     /// - [`Error::MemoryTooLittle`]: `memory` has fewer blocks than are filled.
+    #[tactic(auto, unfolding(crate::specs::Tag::matrix_of))]
     pub fn fill_memory(&self, pwd: &[u8], salt: &[u8], memory: &mut [Block]) -> Result<()>
-        ensures answer { result
-            ≡ answer_unless (fill_refusal self.now pwd.now salt.now memory.old) tt }
-
+        ensures answer { result ≡ answer_unless (fill_refusal self.now pwd.now salt.now memory.old) tt }
         ensures filled { OnOk result (IsFilled self.now pwd.now salt.now 0 memory.old memory.new) }
         ensures same { OnErr result (memory.new ≡ memory.old) }
     {
@@ -251,16 +242,8 @@ impl<'key> Argon2<'key> {
         memory: &mut [Block],
         positions: &mut [u32],
     ) -> Result<Work>
-        ensures answer { result
-            ≡ answer_unless (refusal_of self.now (length out.old) pwd.now salt.now memory.old)
-            (mixing_calls (context_of self.now)) }
-
-        ensures hashed { OnOk result (IsHashed self.now pwd.now salt.now out.new memory.old memory.new) }
-        ensures positions { OnOk result (length positions.old ≡ place_count (context_of self.now)
-            → AreReferencesOf self.now pwd.now salt.now (length out.old) positions.old positions.new) }
-
-        ensures same { OnErr result ((out.new ≡ out.old) × (memory.new ≡ memory.old)) }
-        ensures same_positions { OnErr result (positions.new ≡ positions.old) }
+        ensures { IsWatched self.now pwd.now salt.now out.old out.new memory.old memory.new
+            positions.old positions.new result }
     {
         self.check(out.len(), pwd, salt, memory)?;
         let instance = self.instance();

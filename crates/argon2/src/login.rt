@@ -1,17 +1,15 @@
 //! A login store that renews old texts: names with PHC texts, and what new texts are made under.
 
-ghost use Rattle.std.specs.Prelude.{◌≡◌, ◌≤◌, ◌↔◌, ◌⊎◌, Some, IsOk, IfOk, IfErr, OnOk, MatchResult};
-ghost use Rattle.std.specs.FinMap.{empty, entries, get};
+ghost use Rattle.std.specs.Prelude.{◌≡◌, ◌⊎◌, Some, OnOk, MatchResult};
+ghost use Rattle.std.specs.FinMap.{entries, get};
 ghost use Rattle.std.specs.Option.{option_copied, option_map};
 ghost use Rattle.rand_core.specs.Stream.{fill_bytes};
 ghost use Rattle.argon2_base.specs.PasswordHash.{phc_of};
 ghost use Rattle.argon2_base.specs.PhcText.{Phc, PhcText};
-ghost use Rattle.argon2_base.specs.declared.error.password_hash.Error.TheVariants.{OutOfMemory as NoMemory, OutputSize};
-ghost use Rattle.argon2.specs.Argon2.{settings_of};
+ghost use Rattle.argon2_base.specs.declared.error.password_hash.Error.TheVariants.{OutOfMemory as NoMemory};
 ghost use Rattle.argon2.specs.declared.login.answers.LoginError.TheVariants.{Refused};
-ghost use Rattle.argon2.specs.Login.{HasPassword, LoginStep, adding, logging_in, named_values, store_of, stream_after, target_of};
+ghost use Rattle.argon2.specs.Login.{HasPassword, IsNew, Steps, adding, logging_in, named_values, store_of, stream_after, target_of};
 ghost use Rattle.argon2.specs.Made as made_under;
-ghost use Rattle.argon2.specs.Made.{tag_length, IsTarget};
 
 use crate::context::Argon2;
 use crate::params::Params;
@@ -47,11 +45,7 @@ impl<'key> Login<'key> {
     /// [`Error::OutputSize`] where the target's output length is above 64, the most bytes that the
     /// hash of a PHC text has.
     pub fn new(alloc: Global, target: Argon2<'key>) -> Result<Login<'key>>
-        ensures fits { IsOk result ↔ (tag_length (settings_of target.entry) ≤ 64) }
-        ensures long { IfErr result (λ e. e ≡ OutputSize) }
-        ensures empty { IfOk result (λ login. store_of login ≡ empty) }
-        ensures target { IfOk result (λ login. target_of login ≡ made_under.target_of target.entry) }
-        ensures valid { IfOk result (λ login. IsTarget (target_of login)) }
+        ensures { IsNew (made_under.target_of target.entry) result }
     {
         let len = target.params().output_len();
         if len.unwrap_or(Params::DEFAULT_OUTPUT_LEN) > Output::MAX_LENGTH {
@@ -73,10 +67,8 @@ impl<'key> Login<'key> {
     /// - [`LoginError::NameTaken`]: the name has a text.
     /// - [`LoginError::OutOfMemory`]: a request for memory was refused.
     pub fn add(&mut self, name: &str, text: &str) -> Outcome<(), LoginError>
-        ensures step { LoginStep (target_of self.old) (store_of self.old)
-            (adding name.now text.now result) (store_of self.new) }
-        ensures text { OnOk result ((v : Phc) → PhcText text.now v
-            → get (store_of self.new) name.now ≡ Some v) }
+        ensures step { Steps (adding name.now text.now result) self.old self.new }
+        ensures text { OnOk result ((v : Phc) → PhcText text.now v → get (store_of self.new) name.now ≡ Some v) }
         ensures target { target_of self.new ≡ target_of self.old }
     {
         let Ok(parsed) = PasswordHash::new(text) else {
@@ -111,9 +103,8 @@ impl<'key> Login<'key> {
         name: &str,
         password: &[u8],
     ) -> Outcome<Accepted, LoginError>
-        ensures step { LoginStep (target_of self.old) (store_of self.old)
-            (logging_in name.now password.now (fill_bytes 16 (R.stream rng.old)).0 result)
-            (store_of self.new) }
+        ensures step { Steps (logging_in name.now password.now (fill_bytes 16 (R.stream rng.old)).0 result)
+            self.old self.new }
         ensures accepted { MatchResult result
             (λ _. HasPassword (target_of self.old) (store_of self.new) name.now password.now)
             (λ e. (e ≡ Refused NoMemory)

@@ -27,9 +27,10 @@ pub struct Params {
 }
 
 impl Params {
-    ghost use Rattle.std.specs.Prelude.{◌≡◌, ◌<◌, ◌≤◌, ◌^◌, length};
-    ghost use Rattle.argon2.specs.Parameters.{AreValid, plain};
-    ghost use Rattle.argon2.specs.Params.{IsParamsOf, parameters_of};
+    ghost use Rattle.std.specs.Prelude.{◌≡◌, ◌<◌, ◌≤◌, ◌^◌};
+    ghost use Rattle.argon2.specs.ByteLists.{AreBytes};
+    ghost use Rattle.argon2.specs.Parameters.{plain};
+    ghost use Rattle.argon2.specs.Params.{parameters_of, IsParamsOf, IsSetting};
     ghost use Rattle.argon2.specs.Shape.{block_count, lane_length};
 
     /// The memory cost by default.
@@ -137,48 +138,42 @@ impl Params {
     /// The memory cost in blocks of 1024 bytes. As many are used as fill all segments evenly, which
     /// [`Params::block_count`] says.
     pub fn m_cost(&self) -> u32
-        ensures value { result ≡ (parameters_of self.now).m_cost }
-        ensures valid { AreValid (parameters_of self.now) }
+        ensures { IsSetting (λ v. v.m_cost) self.now result }
     {
         self.m_cost
     }
 
     /// The number of passes.
     pub fn t_cost(&self) -> u32
-        ensures value { result ≡ (parameters_of self.now).t_cost }
-        ensures valid { AreValid (parameters_of self.now) }
+        ensures { IsSetting (λ v. v.t_cost) self.now result }
     {
         self.t_cost
     }
 
     /// The number of lanes.
     pub fn p_cost(&self) -> u32
-        ensures value { result ≡ (parameters_of self.now).p_cost }
-        ensures valid { AreValid (parameters_of self.now) }
+        ensures { IsSetting (λ v. v.p_cost) self.now result }
     {
         self.p_cost
     }
 
     /// The key identifier's bytes, 0 to 8.
     pub fn keyid(&self) -> &[u8]
-        ensures value { result.now ≡ (parameters_of self.now).keyid }
-        ensures fits { length (parameters_of self.now).keyid ≤ 8 }
+        ensures { AreBytes 8 (parameters_of self.now).keyid result.now }
     {
         self.keyid.as_bytes()
     }
 
     /// The associated data, 0 to 32 bytes.
     pub fn data(&self) -> &[u8]
-        ensures value { result.now ≡ (parameters_of self.now).associated }
-        ensures fits { length (parameters_of self.now).associated ≤ 32 }
+        ensures { AreBytes 32 (parameters_of self.now).associated result.now }
     {
         self.associated.as_bytes()
     }
 
     /// The length that each output has, in bytes, where it is set.
     pub fn output_len(&self) -> Option<usize>
-        ensures value { result ≡ (parameters_of self.now).output_len }
-        ensures valid { AreValid (parameters_of self.now) }
+        ensures { IsSetting (λ v. v.output_len) self.now result }
     {
         self.output_len
     }
@@ -187,8 +182,7 @@ impl Params {
     /// that is at most the memory cost (RFC 9106, section 3.2).
     #[tactic(auto, unfolding(crate::specs::Shape::segment_length))]
     pub fn block_count(&self) -> usize
-        ensures value { result
-            ≡ block_count (parameters_of self.now).m_cost (parameters_of self.now).p_cost }
+        ensures value { result ≡ block_count (parameters_of self.now).m_cost (parameters_of self.now).p_cost }
         ensures in_memory { result ≤ (parameters_of self.now).m_cost }
         ensures small { result < 2 ^ 32 }
     {
@@ -199,8 +193,7 @@ impl Params {
     /// The number of columns of a lane: four segments (RFC 9106, section 3.2, where it is `q`).
     #[tactic(auto, unfolding(crate::specs::Shape::segment_length))]
     pub fn lane_length(&self) -> u32
-        ensures { result
-            ≡ lane_length (parameters_of self.now).m_cost (parameters_of self.now).p_cost }
+        ensures { result ≡ lane_length (parameters_of self.now).m_cost (parameters_of self.now).p_cost }
     {
         4 * (self.m_cost / (4 * self.p_cost))
     }

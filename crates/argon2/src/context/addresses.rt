@@ -2,9 +2,9 @@
 //! other block (RFC 9106, section 3.4.1).
 
 ghost use Rattle.std.specs.Prelude.{◌≡◌, ◌+◌, ◌-◌, ◌/◌, ◌^◌, ◌<◌, ◌≤◌, ◌++◌, length, replicate, if◌then◌else◌};
-ghost use Rattle.argon2.specs.Context.{segment_length, block_count};
-ghost use Rattle.argon2.specs.Recurrence.{is_independent, address_block, addresses_of, reference_word};
-ghost use Rattle.argon2.specs.Steps.{IsStep, in_memory};
+ghost use Rattle.argon2.specs.Context.{segment_length};
+ghost use Rattle.argon2.specs.Recurrence.{is_independent, address_block, addresses_of};
+ghost use Rattle.argon2.specs.Steps.{word_in, IsStepIn};
 
 use super::instance::Instance;
 use super::step::Step;
@@ -26,11 +26,9 @@ fn block_of_words(words: &[u64]) -> Block
 impl<'a> Instance<'a> {
     /// The word of a step: of its address block, or else the previous block's first.
     pub(super) fn word(&self, memory: &[Block], addresses: &Option<Block>, at: Step) -> u64
-        requires step { IsStep self.now at.pass at.lane at.column }
-        requires room { block_count self.now ≤ length memory.now }
+        requires place { IsStepIn self.now memory.now at.pass at.lane at.column }
         requires addresses { addresses.now ≡ addresses_of self.now at.pass at.lane at.column }
-        ensures { result
-            ≡ reference_word self.now (in_memory self.now memory.now) at.pass at.lane at.column }
+        ensures { result ≡ word_in self.now memory.now at.pass at.lane at.column }
     {
         match addresses {
             Some(block) => {

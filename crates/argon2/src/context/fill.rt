@@ -2,9 +2,9 @@
 
 ghost use Rattle.std.specs.Prelude.{◌≡◌, ◌+◌, ◌*◌, ◌^◌, ◌<◌, ◌≤◌, length};
 ghost use Rattle.argon2.specs.Context.{block_count};
-ghost use Rattle.argon2.specs.Recurrence.{FirstColumns, matrix};
-ghost use Rattle.argon2.specs.Steps.{run, run_slices, lanes_in_order};
-ghost use Rattle.argon2.specs.Positions.{positions_of_run, positions_of_slices, AreReferencePlaces};
+ghost use Rattle.argon2.specs.Recurrence.{FirstColumns};
+ghost use Rattle.argon2.specs.Steps.{run_slices, lanes_in_order};
+ghost use Rattle.argon2.specs.Positions.{positions_of_slices, IsFilledFrom, IsRun};
 ghost use Rattle.argon2.specs.Counting.{segment_calls, slices_calls, mixing_calls};
 ghost use Rattle.argon2.specs.Laws.{Begins};
 
@@ -17,11 +17,8 @@ impl<'a> Instance<'a> {
     pub(crate) fn fill(&self, memory: &mut [Block], positions: &mut [u32], work: &mut Work)
         requires room { length memory.old ≡ block_count self.now }
         requires count { work.old < 2 ^ 126 }
-        ensures matrix { (first : FirstColumns) → Begins self.now first memory.old
-            → memory.new ≡ matrix self.now first }
-        ensures positions { (first : FirstColumns) → Begins self.now first memory.old
-            → length positions.old ≡ self.now.t_cost * block_count self.now
-            → AreReferencePlaces self.now first positions.old positions.new }
+        ensures filled { (first : FirstColumns) → Begins self.now first memory.old
+            → IsFilledFrom self.now first memory.new positions.old positions.new }
         ensures work { work.new ≡ work.old + mixing_calls self.now }
     {
         for pass in 0..self.passes() {
@@ -33,8 +30,7 @@ impl<'a> Instance<'a> {
     fn fill_pass(&self, memory: &mut [Block], positions: &mut [u32], pass: u32, work: &mut Work)
         requires room { block_count self.now ≤ length memory.old }
         requires count { work.old + slices_calls self.now pass 4 < 2 ^ 127 }
-        ensures memory { memory.new
-            ≡ run_slices self.now (lanes_in_order self.now pass) pass 4 memory.old }
+        ensures memory { memory.new ≡ run_slices self.now (lanes_in_order self.now pass) pass 4 memory.old }
         ensures positions { positions.new
             ≡ positions_of_slices self.now (lanes_in_order self.now pass) pass 4 memory.old positions.old }
         ensures work { work.new ≡ work.old + slices_calls self.now pass 4 }
@@ -56,10 +52,8 @@ impl<'a> Instance<'a> {
         requires in_slices { slice < 4 }
         requires room { block_count self.now ≤ length memory.old }
         requires count { work.old + self.now.p_cost * segment_calls self.now pass slice < 2 ^ 127 }
-        ensures memory { memory.new
-            ≡ run self.now pass slice (lanes_in_order self.now pass slice) memory.old }
-        ensures positions { let schedule = lanes_in_order self.now pass slice in
-            positions.new ≡ positions_of_run self.now pass slice schedule memory.old positions.old }
+        ensures run { IsRun self.now pass slice (lanes_in_order self.now pass slice)
+            memory.old memory.new positions.old positions.new }
         ensures work { work.new ≡ work.old + self.now.p_cost * segment_calls self.now pass slice }
     {
         for lane in 0..self.lanes() {

@@ -3,10 +3,8 @@
 ghost use Rattle.std.specs.Prelude.{◌≡◌, ◌+◌, ◌<◌, ◌^◌, length};
 ghost use Rattle.argon2.specs.Context.{block_count};
 ghost use Rattle.argon2.specs.Counting.{mixing_calls};
-ghost use Rattle.argon2.specs.Hashing.{place_count};
 ghost use Rattle.argon2.specs.InitialHash.{AreShort, first_block};
-ghost use Rattle.argon2.specs.Tag.{matrix_of};
-ghost use Rattle.argon2.specs.Positions.{AreReferencePlaces};
+ghost use Rattle.argon2.specs.Positions.{IsFilledFrom};
 
 use super::instance::Instance;
 use crate::{Block, Work};
@@ -27,10 +25,8 @@ impl Instance<'_> {
         requires inputs { AreShort pwd.now salt.now }
         requires size { length blocks.old ≡ block_count self.now }
         requires count { work.old < 2 ^ 126 }
-        ensures matrix { blocks.new ≡ matrix_of self.now pwd.now salt.now out_len }
-        ensures positions { length positions.old ≡ place_count self.now
-            → AreReferencePlaces self.now (first_block self.now pwd.now salt.now out_len)
-            positions.old positions.new }
+        ensures filled { IsFilledFrom self.now (first_block self.now pwd.now salt.now out_len)
+            blocks.new positions.old positions.new }
         ensures work { work.new ≡ work.old + mixing_calls self.now }
     {
         self.begin(pwd, salt, out_len, blocks);

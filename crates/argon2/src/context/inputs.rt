@@ -1,7 +1,7 @@
 //! From the inputs of a hash to the first two columns (RFC 9106, section 3.2, steps 1 to 4).
 
-ghost use Rattle.std.specs.Prelude.{◌≡◌, ℕ, ◌+◌, ◌<◌, ◌^◌, ◌++◌, List, length};
-ghost use Rattle.argon2_base.specs.Hasher.{Holds};
+ghost use Rattle.std.specs.Prelude.{◌≡◌, ◌+◌, ◌<◌, ◌^◌, length};
+ghost use Rattle.argon2_base.specs.Hasher.{Appends};
 ghost use Rattle.argon2.specs.Context.{block_count};
 ghost use Rattle.argon2.specs.Hashing.{KeepsOtherColumns};
 ghost use Rattle.argon2.specs.InitialHash.{AreShort, block_after, first_block, initial_hash, number, with_length};
@@ -15,9 +15,7 @@ use argon2_base::block::Block;
 // Adds a number in four bytes.
 fn update_number(hasher: &mut Blake2b, n: u32)
     requires { hasher.old.message_len + 4 < 2 ^ 128 }
-    ensures holds { (m : List ℕ) → Holds hasher.old m → Holds hasher.new (m ++ number n) }
-    ensures digest_len { hasher.new.digest_len ≡ hasher.old.digest_len }
-    ensures message_len { hasher.new.message_len ≡ hasher.old.message_len + 4 }
+    ensures { Appends (number n) hasher.old hasher.new }
 {
     hasher.update(&n.to_le_bytes());
 }
@@ -26,9 +24,7 @@ fn update_number(hasher: &mut Blake2b, n: u32)
 fn update_input(hasher: &mut Blake2b, input: &[u8])
     requires short { length input.now < 2 ^ 32 }
     requires room { hasher.old.message_len + length input.now + 4 < 2 ^ 128 }
-    ensures holds { (m : List ℕ) → Holds hasher.old m → Holds hasher.new (m ++ with_length input.now) }
-    ensures digest_len { hasher.new.digest_len ≡ hasher.old.digest_len }
-    ensures message_len { hasher.new.message_len ≡ hasher.old.message_len + (4 + length input.now) }
+    ensures { Appends (with_length input.now) hasher.old hasher.new }
 {
     update_number(hasher, input.len() as u32);
     hasher.update(input);

@@ -2,7 +2,7 @@
 
 ghost use Rattle.std.specs.Prelude.{◌≡◌, ◌^◌, ◌<◌, ◌≤◌, ◌&&◌, ◌==◌, length, nat_lt};
 ghost use Rattle.argon2.specs.Algorithm.{algorithm_number};
-ghost use Rattle.argon2.specs.Context.{context_with, segment_length, lane_length, block_count, Sizes};
+ghost use Rattle.argon2.specs.Context.{context_with, segment_length, lane_length, block_count, IsSize};
 ghost use Rattle.argon2.specs.Argon2.{settings_with};
 
 use crate::{Algorithm, Params, Version};
@@ -79,32 +79,28 @@ impl<'a> Instance<'a> {
 
     /// The number of passes.
     pub(super) fn passes(&self) -> u32
-        ensures value { result ≡ self.now.t_cost }
-        ensures sizes { Sizes self.now }
+        ensures { IsSize (λ ctx. ctx.t_cost) self.now result }
     {
         self.t_cost
     }
 
     /// The columns of a segment.
     pub(super) fn segment_length(&self) -> u32
-        ensures value { result ≡ segment_length self.now }
-        ensures sizes { Sizes self.now }
+        ensures { IsSize segment_length self.now result }
     {
         self.segment_length
     }
 
     /// The columns of a lane.
     pub(super) fn lane_length(&self) -> u32
-        ensures value { result ≡ lane_length self.now }
-        ensures sizes { Sizes self.now }
+        ensures { IsSize lane_length self.now result }
     {
         4 * self.segment_length()
     }
 
     /// The blocks of all lanes.
     pub(crate) fn block_count(&self) -> usize
-        ensures value { result ≡ block_count self.now }
-        ensures sizes { Sizes self.now }
+        ensures { IsSize block_count self.now result }
     {
         (self.lanes() * self.lane_length()) as usize
     }

@@ -1,10 +1,8 @@
 //! Refusals by length: of an output, a password, a salt, or lent memory.
 
-ghost use Rattle.std.specs.Prelude.{◌≡◌, length};
-ghost use Rattle.argon2.specs.Argon2.{context_of};
-ghost use Rattle.argon2.specs.Context.{block_count};
-ghost use Rattle.argon2.specs.Hashing.{output_refusal, refusal_of};
-ghost use Rattle.argon2.specs.Refusals.{answer_unless, first_of, input_faults, memory_faults};
+ghost use Rattle.std.specs.Prelude.{◌≡◌};
+ghost use Rattle.argon2.specs.Hashing.{input_refusal, memory_refusal, output_refusal, refusal_of};
+ghost use Rattle.argon2.specs.Refusals.{answer_unless};
 
 use super::{Argon2, MAX_PWD_LEN, MAX_SALT_LEN, MIN_SALT_LEN};
 use crate::params::Params;
@@ -13,8 +11,7 @@ use argon2_base::error::{Error, Result};
 
 /// Refuses a password or a salt.
 pub(super) fn check_inputs(pwd: &[u8], salt: &[u8]) -> Result<()>
-    ensures { result
-        ≡ answer_unless (first_of (input_faults (length pwd.now) (length salt.now))) tt }
+    ensures { result ≡ answer_unless (input_refusal pwd.now salt.now) tt }
 {
     if pwd.len() > MAX_PWD_LEN {
         return Err(Error::PwdTooLong);
@@ -37,8 +34,7 @@ impl Argon2<'_> {
         salt: &[u8],
         memory: &[Block],
     ) -> Result<()>
-        ensures { result
-            ≡ answer_unless (refusal_of self.now out_len pwd.now salt.now memory.now) tt }
+        ensures { result ≡ answer_unless (refusal_of self.now out_len pwd.now salt.now memory.now) tt }
     {
         self.check_output(out_len)?;
         check_inputs(pwd, salt)?;
@@ -61,8 +57,7 @@ impl Argon2<'_> {
 
     /// Refuses lent memory.
     pub(super) fn check_memory(&self, memory: &[Block]) -> Result<()>
-        ensures { result ≡ answer_unless
-            (first_of (memory_faults (block_count (context_of self.now)) (length memory.now))) tt }
+        ensures { result ≡ answer_unless (memory_refusal self.now memory.now) tt }
     {
         if memory.len() < self.params.block_count() {
             return Err(Error::MemoryTooLittle);

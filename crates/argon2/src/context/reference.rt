@@ -3,7 +3,7 @@
 ghost use Rattle.std.specs.Prelude.{◌≡◌, ℕ, ◌+◌, ◌-◌, ◌*◌, ◌/◌, ◌<◌, ◌==◌, length, slice_index_or};
 ghost use Rattle.argon2.specs.Context.{segment_length, lane_length, block_count};
 ghost use Rattle.argon2.specs.Steps.{IsStep};
-ghost use Rattle.argon2.specs.Reference.{permitted, reference_lane, reference_index, reference, place_of};
+ghost use Rattle.argon2.specs.Reference.{permitted, reference_lane, reference_index, reference, place_of, MayReferTo};
 
 use super::instance::Instance;
 use super::step::Step;
@@ -38,8 +38,7 @@ impl<'a> Instance<'a> {
     fn reference_lane(&self, at: Step, word: u64) -> u32
         requires { IsStep self.now at.pass at.lane at.column }
         ensures value { result ≡ reference_lane self.now at.pass at.lane at.column word }
-        ensures within { result < self.now.p_cost }
-        ensures alone { at.pass ≡ 0 → at.column / segment_length self.now ≡ 0 → result ≡ at.lane }
+        ensures lane { MayReferTo self.now at.pass at.lane at.column result }
     {
         let slice = at.column / self.segment_length();
         let lanes = self.lanes();
@@ -53,8 +52,7 @@ impl<'a> Instance<'a> {
     /// How many blocks of a lane may be referred to.
     fn permitted_count(&self, at: Step, other: u32) -> u32
         requires step { IsStep self.now at.pass at.lane at.column }
-        requires within { other < self.now.p_cost }
-        requires alone { at.pass ≡ 0 → at.column / segment_length self.now ≡ 0 → other ≡ at.lane }
+        requires lane { MayReferTo self.now at.pass at.lane at.column other }
         ensures value { result ≡ length (permitted self.now at.pass at.lane at.column other) }
         ensures some { 0 < result }
         ensures short { result < lane_length self.now }

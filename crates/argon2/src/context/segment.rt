@@ -2,8 +2,8 @@
 
 ghost use Rattle.std.specs.Prelude.{◌≡◌, ◌+◌, ◌^◌, ◌<◌, ◌≤◌, length, slice_set};
 ghost use Rattle.argon2.specs.Context.{block_count};
-ghost use Rattle.argon2.specs.Steps.{IsStep, run, lane_turns};
-ghost use Rattle.argon2.specs.Positions.{position_index, positions_of_run};
+ghost use Rattle.argon2.specs.Steps.{IsStep, lane_turns};
+ghost use Rattle.argon2.specs.Positions.{position_index, IsRun};
 ghost use Rattle.argon2.specs.Counting.{segment_calls};
 
 use super::instance::Instance;
@@ -26,10 +26,8 @@ impl<'a> Instance<'a> {
         requires in_lanes { lane < self.now.p_cost }
         requires room { block_count self.now ≤ length memory.old }
         requires count { work.old < 2 ^ 127 }
-        ensures memory { memory.new
-            ≡ run self.now pass slice (lane_turns self.now pass slice lane) memory.old }
-        ensures positions { let schedule = lane_turns self.now pass slice lane in
-            positions.new ≡ positions_of_run self.now pass slice schedule memory.old positions.old }
+        ensures run { IsRun self.now pass slice (lane_turns self.now pass slice lane)
+            memory.old memory.new positions.old positions.new }
         ensures work { work.new ≡ work.old + segment_calls self.now pass slice }
     {
         let segment = self.segment_length();

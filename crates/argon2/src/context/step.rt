@@ -3,8 +3,8 @@
 ghost use Rattle.std.specs.Prelude.{◌≡◌, ◌+◌, ◌-◌, ◌^◌, ◌<◌, ◌≤◌, [], length, slice_index, slice_index_or};
 ghost use Rattle.argon2_base.specs.Mixing.{mixed};
 ghost use Rattle.argon2.specs.Context.{block_count};
-ghost use Rattle.argon2.specs.Recurrence.{previous, reference_word};
-ghost use Rattle.argon2.specs.Steps.{IsStep, in_memory, previous_place, step, reference_place};
+ghost use Rattle.argon2.specs.Recurrence.{previous};
+ghost use Rattle.argon2.specs.Steps.{in_memory, previous_place, reference_place, step, word_in, IsStep, IsStepIn};
 
 use super::instance::Instance;
 use crate::{Block, Work};
@@ -22,10 +22,8 @@ impl<'a> Instance<'a> {
     /// Writes the block of a step, by the word that takes its reference, and answers the
     /// reference's place.
     pub(super) fn step(&self, memory: &mut [Block], at: Step, word: u64, work: &mut Work) -> u32
-        requires step { IsStep self.now at.pass at.lane at.column }
-        requires room { block_count self.now ≤ length memory.old }
-        requires word { word
-            ≡ reference_word self.now (in_memory self.now memory.old) at.pass at.lane at.column }
+        requires place { IsStepIn self.now memory.old at.pass at.lane at.column }
+        requires word { word ≡ word_in self.now memory.old at.pass at.lane at.column }
         requires count { work.old < 2 ^ 128 - 1 }
         ensures step { memory.new ≡ step self.now memory.old at.pass at.lane at.column }
         ensures place { result ≡ reference_place self.now memory.old at.pass at.lane at.column }
@@ -45,9 +43,8 @@ impl<'a> Instance<'a> {
 
     /// The previous block mixed with that of a place.
     fn mixed_block(&self, memory: &[Block], at: Step, reference: u32, work: &mut Work) -> Block
-        requires step { IsStep self.now at.pass at.lane at.column }
+        requires place { IsStepIn self.now memory.now at.pass at.lane at.column }
         requires within { reference < block_count self.now }
-        requires room { block_count self.now ≤ length memory.now }
         requires count { work.old < 2 ^ 128 - 1 }
         ensures block { result ≡ mixed
             (slice_index_or memory.now (previous_place self.now at.lane at.column) [])
@@ -64,8 +61,7 @@ impl<'a> Instance<'a> {
 
     /// The previous block's first word.
     pub(super) fn previous_word(&self, memory: &[Block], at: Step) -> u64
-        requires step { IsStep self.now at.pass at.lane at.column }
-        requires room { block_count self.now ≤ length memory.now }
+        requires { IsStepIn self.now memory.now at.pass at.lane at.column }
         ensures { let blocks = in_memory self.now memory.now in
             result ≡ slice_index (previous self.now blocks at.pass at.lane at.column) 0 }
     {

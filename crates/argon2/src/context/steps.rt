@@ -10,10 +10,10 @@ impl Argon2<'_> {
     ghost use Rattle.argon2_base.specs.Block.{bytes_of};
     ghost use Rattle.argon2_base.specs.LongHash.{long_hash};
     ghost use Rattle.argon2.specs.Argon2.{context_of};
-    ghost use Rattle.argon2.specs.Context.{lane_length, block_count};
-    ghost use Rattle.argon2.specs.Hashing.{blocks_of, output_refusal, refusal_of, IsBegun, KeepsRest};
+    ghost use Rattle.argon2.specs.Context.{block_count};
+    ghost use Rattle.argon2.specs.Hashing.{blocks_of, output_refusal, refusal_of, IsBegun, IsStepped};
     ghost use Rattle.argon2.specs.Refusals.{answer_unless};
-    ghost use Rattle.argon2.specs.Steps.{IsStep, step, reference_place, last_column};
+    ghost use Rattle.argon2.specs.Steps.{last_column, IsStep};
 
     /// Writes columns 0 and 1 of each lane, and no other block, for a tag of `out_len` bytes
     /// (RFC 9106, section 3.2, steps 3 and 4). Lane by lane, the first
@@ -29,9 +29,7 @@ impl Argon2<'_> {
         out_len: usize,
         memory: &mut [Block],
     ) -> Result<()>
-        ensures answer { result
-            ≡ answer_unless (refusal_of self.now out_len pwd.now salt.now memory.old) tt }
-
+        ensures answer { result ≡ answer_unless (refusal_of self.now out_len pwd.now salt.now memory.old) tt }
         ensures begun { OnOk result (IsBegun self.now pwd.now salt.now out_len memory.old memory.new) }
         ensures same { OnErr result (memory.new ≡ memory.old) }
     {
@@ -57,11 +55,7 @@ impl Argon2<'_> {
         requires in_passes { pass < (context_of self.now).t_cost }
         requires step { IsStep (context_of self.now) pass lane column }
         requires room { block_count (context_of self.now) ≤ length memory.old }
-        ensures step { let ctx = context_of self.now in blocks_of ctx memory.new
-            ≡ step ctx (blocks_of ctx memory.old) pass lane column }
-        ensures rest { KeepsRest (context_of self.now) memory.old memory.new }
-        ensures place { let ctx = context_of self.now in result
-            ≡ reference_place ctx (blocks_of ctx memory.old) pass lane column }
+        ensures { IsStepped self.now pass lane column memory.old memory.new result }
     {
         let instance = self.instance();
         let blocks = &mut memory[..instance.block_count()];

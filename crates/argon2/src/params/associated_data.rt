@@ -1,6 +1,6 @@
 //! Associated data.
 
-ghost use Rattle.std.specs.Prelude.{◌≡◌, ◌≤◌, ◌↔◌, [], IsTrue, length};
+ghost use Rattle.std.specs.Prelude.{◌≡◌, ◌↔◌, [], IsTrue, length};
 
 use argon2_base::byte_list::ByteList;
 use argon2_base::error::{Error, Result};
@@ -15,7 +15,7 @@ pub struct AssociatedData {
 }
 
 impl AssociatedData {
-    ghost use Rattle.argon2.specs.ByteLists.{data_bytes, IsAssociatedDataOf, IsAssociatedDataOfText};
+    ghost use Rattle.argon2.specs.ByteLists.{data_bytes, AreBytes, IsAssociatedDataOf, IsAssociatedDataOfText};
 
     /// The most bytes of associated data.
     pub const MAX_LEN: usize = 32;
@@ -53,8 +53,7 @@ impl AssociatedData {
 
     /// The bytes.
     pub fn as_bytes(&self) -> &[u8]
-        ensures value { result.now ≡ data_bytes self.now }
-        ensures fits { length (data_bytes self.now) ≤ 32 }
+        ensures { AreBytes 32 (data_bytes self.now) result.now }
     {
         self.bytes.as_bytes()
     }

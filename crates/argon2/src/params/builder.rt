@@ -3,7 +3,7 @@
 ghost use Rattle.std.specs.Prelude.{◌≡◌, Some};
 ghost use Rattle.argon2.specs.Argon2.{IsContextOf};
 ghost use Rattle.argon2.specs.ByteLists.{keyid_bytes, data_bytes};
-ghost use Rattle.argon2.specs.ParamsBuilder.{builder_settings, built, default_settings};
+ghost use Rattle.argon2.specs.ParamsBuilder.{builder_settings, built, default_settings, Sets};
 ghost use Rattle.argon2.specs.Params.{IsParamsOf};
 
 use super::{AssociatedData, KeyId, Params};
@@ -44,8 +44,7 @@ impl ParamsBuilder {
 
     /// Sets the memory cost in blocks of 1024 bytes: from 8 times the number of lanes on.
     pub fn m_cost(&mut self, m_cost: u32) -> &mut Self
-        ensures same_reference { result.ghost_name ≡ self.entry.ghost_name }
-        ensures value { builder_settings result.now ≡ record (builder_settings self.old) { m_cost = m_cost } }
+        ensures { Sets self.entry result (λ s. record s { m_cost = m_cost }) }
     {
         self.m_cost = m_cost;
         self
@@ -53,8 +52,7 @@ impl ParamsBuilder {
 
     /// Sets the number of passes: from 1 on.
     pub fn t_cost(&mut self, t_cost: u32) -> &mut Self
-        ensures same_reference { result.ghost_name ≡ self.entry.ghost_name }
-        ensures value { builder_settings result.now ≡ record (builder_settings self.old) { t_cost = t_cost } }
+        ensures { Sets self.entry result (λ s. record s { t_cost = t_cost }) }
     {
         self.t_cost = t_cost;
         self
@@ -62,8 +60,7 @@ impl ParamsBuilder {
 
     /// Sets the number of lanes: 1 to 16777215.
     pub fn p_cost(&mut self, p_cost: u32) -> &mut Self
-        ensures same_reference { result.ghost_name ≡ self.entry.ghost_name }
-        ensures value { builder_settings result.now ≡ record (builder_settings self.old) { p_cost = p_cost } }
+        ensures { Sets self.entry result (λ s. record s { p_cost = p_cost }) }
     {
         self.p_cost = p_cost;
         self
@@ -71,9 +68,7 @@ impl ParamsBuilder {
 
     /// Sets the key identifier.
     pub fn keyid(&mut self, keyid: KeyId) -> &mut Self
-        ensures same_reference { result.ghost_name ≡ self.entry.ghost_name }
-        ensures value { builder_settings result.now
-            ≡ record (builder_settings self.old) { keyid = Some (keyid_bytes keyid) } }
+        ensures { Sets self.entry result (λ s. record s { keyid = Some (keyid_bytes keyid) }) }
     {
         self.keyid = Some(keyid);
         self
@@ -81,9 +76,7 @@ impl ParamsBuilder {
 
     /// Sets the associated data.
     pub fn data(&mut self, data: AssociatedData) -> &mut Self
-        ensures same_reference { result.ghost_name ≡ self.entry.ghost_name }
-        ensures value { builder_settings result.now
-            ≡ record (builder_settings self.old) { associated = Some (data_bytes «data») } }
+        ensures { Sets self.entry result (λ s. record s { associated = Some (data_bytes «data») }) }
     {
         self.associated = Some(data);
         self
@@ -91,9 +84,7 @@ impl ParamsBuilder {
 
     /// Sets the length of each output in bytes: 4 to 4294967295.
     pub fn output_len(&mut self, len: usize) -> &mut Self
-        ensures same_reference { result.ghost_name ≡ self.entry.ghost_name }
-        ensures value { builder_settings result.now
-            ≡ record (builder_settings self.old) { output_len = Some len } }
+        ensures { Sets self.entry result (λ s. record s { output_len = Some len }) }
     {
         self.output_len = Some(len);
         self

@@ -1,6 +1,6 @@
 //! Key identifiers.
 
-ghost use Rattle.std.specs.Prelude.{◌≡◌, ◌≤◌, ◌↔◌, [], IsTrue, length};
+ghost use Rattle.std.specs.Prelude.{◌≡◌, ◌↔◌, [], IsTrue, length};
 
 use argon2_base::byte_list::ByteList;
 use argon2_base::error::{Error, Result};
@@ -15,7 +15,7 @@ pub struct KeyId {
 }
 
 impl KeyId {
-    ghost use Rattle.argon2.specs.ByteLists.{keyid_bytes, IsKeyIdOf, IsKeyIdOfText};
+    ghost use Rattle.argon2.specs.ByteLists.{keyid_bytes, AreBytes, IsKeyIdOf, IsKeyIdOfText};
 
     /// The most bytes of a key identifier.
     pub const MAX_LEN: usize = 8;
@@ -53,8 +53,7 @@ impl KeyId {
 
     /// The bytes.
     pub fn as_bytes(&self) -> &[u8]
-        ensures value { result.now ≡ keyid_bytes self.now }
-        ensures fits { length (keyid_bytes self.now) ≤ 8 }
+        ensures { AreBytes 8 (keyid_bytes self.now) result.now }
     {
         self.bytes.as_bytes()
     }

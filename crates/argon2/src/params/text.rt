@@ -1,12 +1,11 @@
 //! Parameters as texts: printed as a parameter list, and read from one.
 
-ghost use Rattle.std.specs.Prelude.{◌≡◌, ◌≤◌, ◌++◌, ℕ, IsTrue, IsNone, Option, Some, None, Ok, MatchResult, codes, length};
+ghost use Rattle.std.specs.Prelude.{◌≡◌, ◌≤◌, ◌++◌, IsTrue, codes, length};
 ghost use Rattle.argon2_base.specs.Decimal.{number_of};
 ghost use Rattle.argon2_base.specs.ParamsText.{are_params};
-ghost use Rattle.argon2_base.specs.Error.{fault_of, bad_param};
+ghost use Rattle.argon2_base.specs.Error.{bad_param};
 ghost use Rattle.argon2.specs.ByteLists.{keyid_bytes, data_bytes};
-ghost use Rattle.argon2.specs.ListedParameters.{bytes_item, listed, params_of, short_bytes, unsized};
-ghost use Rattle.argon2.specs.Parameters.{first_fault};
+ghost use Rattle.argon2.specs.ListedParameters.{bytes_item, listed, short_bytes, AreReadAgain, IsValueOr};
 
 use super::{AssociatedData, KeyId, Params};
 use argon2_base::error::password_hash::{Error, Result};
@@ -19,9 +18,7 @@ fn params_string(m: u32, t: u32, p: u32, keyid: &[u8], associated: &[u8]) -> Par
     requires keyid_fits { length keyid.now ≤ 8 }
     requires data_fits { length associated.now ≤ 32 }
     ensures list { result ≡ listed m t p keyid.now associated.now }
-    ensures again { (o : Option ℕ) → IsNone (first_fault m t p o)
-        → params_of None (listed m t p keyid.now associated.now)
-        ≡ Ok (unsized m t p keyid.now associated.now) }
+    ensures again { AreReadAgain m t p keyid.now associated.now }
 {
     let mut list = ParamsString::new();
     let Ok(()) = list.add_decimal("m", m) else {
@@ -102,8 +99,7 @@ impl fmt::Display for Params {
 
 // The number that the value of this name is the decimal of.
 fn number(name: &'static str, value: &Value<'_>) -> Result<u32>
-    ensures { MatchResult result (λ n. number_of value.now ≡ Some n)
-        (λ e. (number_of value.now ≡ None) × (fault_of e ≡ bad_param name.now)) }
+    ensures { IsValueOr (bad_param name.now) (λ n. n) (number_of value.now) result }
 {
     let Ok(n) = value.decimal() else {
         return Err(Error::ParamInvalid { name });
@@ -113,16 +109,14 @@ fn number(name: &'static str, value: &Value<'_>) -> Result<u32>
 
 // The key identifier that the text is the Base64 of.
 fn key_id(text: &str) -> Result<KeyId>
-    ensures { MatchResult result (λ keyid. short_bytes 8 text.now ≡ Some (keyid_bytes keyid))
-        (λ e. (short_bytes 8 text.now ≡ None) × (fault_of e ≡ bad_param (codes "keyid"))) }
+    ensures { IsValueOr (bad_param (codes "keyid")) keyid_bytes (short_bytes 8 text.now) result }
 {
     KeyId::from_b64(text).or(Err(Error::ParamInvalid { name: "keyid" }))
 }
 
 // The associated data that the text is the Base64 of.
 fn associated_data(text: &str) -> Result<AssociatedData>
-    ensures { MatchResult result (λ bytes. short_bytes 32 text.now ≡ Some (data_bytes bytes))
-        (λ e. (short_bytes 32 text.now ≡ None) × (fault_of e ≡ bad_param (codes "data"))) }
+    ensures { IsValueOr (bad_param (codes "data")) data_bytes (short_bytes 32 text.now) result }
 {
     AssociatedData::from_b64(text).or(Err(Error::ParamInvalid { name: "data" }))
 }

@@ -1,9 +1,9 @@
 //! Hashing under the settings of an `Argon2`.
 
-ghost use Rattle.std.specs.Prelude.{◌≡◌, Some, None, MatchResult, option_copied};
+ghost use Rattle.std.specs.Prelude.{option_copied};
 ghost use Rattle.argon2_base.specs.Base64.{IsBytes};
-ghost use Rattle.argon2_base.specs.Error.{fault_of, bad_version};
-ghost use Rattle.argon2_base.specs.declared.error.password_hash.Error.TheVariants.{Algorithm as NoAlgorithm};
+ghost use Rattle.argon2_base.specs.Error.{bad_algorithm, bad_version};
+ghost use Rattle.argon2.specs.ListedParameters.{IsValueOr};
 ghost use Rattle.argon2.specs.Made.{algorithm_asked, version_asked};
 
 use super::{CustomizedPasswordHasher, Error, PasswordHasher, Result};
@@ -16,11 +16,9 @@ use rand_core::Rng;
 use std::alloc::Global;
 
 impl<'key> Argon2<'key> {
-    ghost use Rattle.std.specs.Prelude.{◌≡◌, ◌≤◌, ◌<◌, ◌⊎◌, IfOk, MatchResult, length};
-    ghost use Rattle.argon2_base.specs.declared.error.password_hash.Error.TheVariants.{OutOfMemory, PasswordInvalid};
-    ghost use Rattle.argon2.specs.Argon2.{context_of, settings_of, settings_with, secret_of};
-    ghost use Rattle.argon2.specs.Made.{tag_length, target_of, IsTarget};
-    ghost use Rattle.argon2.specs.Tag.{tag_of};
+    ghost use Rattle.std.specs.Prelude.{◌≡◌, ◌≤◌, length};
+    ghost use Rattle.argon2.specs.Argon2.{settings_of, settings_with, secret_of, IsWith};
+    ghost use Rattle.argon2.specs.Made.{tag_length, target_of, IsTagAnswer, IsTarget};
 
     // How many bytes a hash has.
     fn tag_len(&self) -> usize
@@ -36,10 +34,7 @@ impl<'key> Argon2<'key> {
         requires fits { tag_length (settings_of self.now) ≤ 64 }
         requires salt_least { 8 ≤ length salt.now }
         requires salt_most { length salt.now ≤ 48 }
-        ensures tag { IfOk result (λ hash. hash
-            ≡ tag_of (context_of self.now) password.now salt.now (tag_length (settings_of self.now))) }
-        ensures exact { MatchResult result (λ _. length password.now ≤ 4294967295)
-            (λ e. (e ≡ OutOfMemory) ⊎ ((e ≡ PasswordInvalid) × (4294967295 < length password.now))) }
+        ensures { IsTagAnswer self.now password.now salt.now result }
     {
         let mut buffer = [0u8; Output::MAX_LENGTH];
         let tag = &mut buffer[..self.tag_len()];
@@ -67,8 +62,7 @@ impl<'key> Argon2<'key> {
         version: Version,
         params: Params,
     ) -> Argon2<'key>
-        ensures settings { settings_of result ≡ settings_with algorithm version params }
-        ensures secret { secret_of result ≡ secret_of self.now }
+        ensures { IsWith (settings_with algorithm version params) (secret_of self.now) result }
     {
         let Ok(argon2) = Argon2::new_with_secret(self.secret(), algorithm, version, params) else {
             unreachable!();
@@ -136,8 +130,7 @@ impl PasswordHasher<PasswordHash> for Argon2<'_> {
 
 // The algorithm of a name, or Argon2id.
 fn asked_algorithm(name: Option<&str>) -> Result<Algorithm>
-    ensures { MatchResult result (λ algorithm. algorithm_asked (option_copied name.entry) ≡ Some algorithm)
-        (λ e. (e ≡ NoAlgorithm) × (algorithm_asked (option_copied name.entry) ≡ None)) }
+    ensures { IsValueOr bad_algorithm (λ a. a) (algorithm_asked (option_copied name.entry)) result }
 {
     let Some(name) = name else {
         return Ok(Algorithm::Argon2id);
@@ -147,8 +140,7 @@ fn asked_algorithm(name: Option<&str>) -> Result<Algorithm>
 
 // The version of a number, or 0x13.
 fn asked_version(number: Option<u32>) -> Result<Version>
-    ensures { MatchResult result (λ version. version_asked number ≡ Some version)
-        (λ e. (fault_of e ≡ bad_version) × (version_asked number ≡ None)) }
+    ensures { IsValueOr bad_version (λ v. v) (version_asked number) result }
 {
     let Some(number) = number else {
         return Ok(Version::V0x13);

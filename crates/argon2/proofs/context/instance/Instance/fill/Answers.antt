@@ -36,26 +36,22 @@ loop-pass-preserved c =
     let w = before.work in
     rw add-one (record { memory = cc; positions = cc; work = omega arith })
 
-pub returns-clause-matrix : goal.returns-clause-matrix
-returns-clause-matrix c = λ first begins.
-    let ctx = c.args.self.now in
-    let sizes = c.passes-pass-end.ensures.sizes in
-    let all : c.loop-pass.pass ≡ ctx.t_cost = omega arith in
-    c.loop-pass.invariant.memory
-    ∙ ap (λ passes. run_passes ctx (lanes_in_order ctx) passes c.args.memory.now) all
-    ∙ schedules_fill ctx (Fits-sizes ctx sizes) sizes.some_pass first _
-    (λ pass slice _ _. ascending_schedule ctx pass slice) c.args.memory.now begins
-
-pub returns-clause-positions : goal.returns-clause-positions
-returns-clause-positions c = λ first begins size.
+pub returns-clause-filled : goal.returns-clause-filled
+returns-clause-filled c = λ first begins.
     let ctx = c.args.self.now in
     let sizes = c.passes-pass-end.ensures.sizes in
     let all : c.loop-pass.pass ≡ ctx.t_cost = omega arith in
     let is = c.loop-pass.invariant.positions
     ∙ ap (λ passes. positions_of_passes ctx (lanes_in_order ctx) passes c.args.memory.now c.args.positions.now) all in
-    subst (AreReferencePlaces ctx first c.args.positions.now) (sym is)
-    (positions_are_references ctx (Fits-sizes ctx sizes) first _
-    (λ pass slice _ _. ascending_schedule ctx pass slice) c.args.memory.now c.args.positions.now begins size)
+    record {
+      matrix = c.loop-pass.invariant.memory
+          ∙ ap (λ passes. run_passes ctx (lanes_in_order ctx) passes c.args.memory.now) all
+          ∙ schedules_fill ctx (Fits-sizes ctx sizes) sizes.some_pass first _
+          (λ pass slice _ _. ascending_schedule ctx pass slice) c.args.memory.now begins;
+      positions = λ size. subst (AreReferencePlaces ctx first c.args.positions.now) (sym is)
+          (positions_are_references ctx (Fits-sizes ctx sizes) first _
+          (λ pass slice _ _. ascending_schedule ctx pass slice) c.args.memory.now c.args.positions.now begins size);
+    }
 
 pub returns-clause-work : goal.returns-clause-work
 returns-clause-work c =

@@ -19,8 +19,8 @@ fill_slice-requires-clause-count c =
 pub loop-slice-preserved : goal.loop-slice-preserved
 unfolding run_slices positions_of_slices slices_calls
 loop-slice-preserved c =
-    let memory = c.fill_slice.ensures.memory in
-    let positions = c.fill_slice.ensures.positions in
+    let memory = c.fill_slice.ensures.run.memory in
+    let positions = c.fill_slice.ensures.run.positions in
     let work = c.fill_slice.ensures.work in
     let before = c.loop-slice.invariant in
     let m = before.memory in

@@ -82,20 +82,26 @@ word-word-requires-clause-addresses c =
           ∙ ap (λ s. addresses_of ctx c.args.pass c.args.lane (c.args.slice * s + i)) (sym s))
     ]
 
-pub word-word-requires-clause-step : goal.word-word-requires-clause-step
-word-word-requires-clause-step c = record {
-  in_lanes = c.requires.in_lanes;
-  in_columns = in_lane c.args.slice c.segment_length-segment.result c.loop-index.index (segment_length c.args.self.now)
-      c.requires.in_slices c.loop-index-test.true c.segment_length-segment.ensures.value;
-  later = c.loop-index.invariant.later;
+pub word-word-requires-clause-place : goal.word-word-requires-clause-place
+word-word-requires-clause-place c = record {
+  step = record {
+    in_lanes = c.requires.in_lanes;
+    in_columns = in_lane c.args.slice c.segment_length-segment.result c.loop-index.index (segment_length c.args.self.now)
+        c.requires.in_slices c.loop-index-test.true c.segment_length-segment.ensures.value;
+    later = c.loop-index.invariant.later;
+  };
+  room = omega arith;
 }
 
-pub step-reference-requires-clause-step : goal.step-reference-requires-clause-step
-step-reference-requires-clause-step c = record {
-  in_lanes = c.requires.in_lanes;
-  in_columns = in_lane c.args.slice c.segment_length-segment.result c.loop-index.index (segment_length c.args.self.now)
-      c.requires.in_slices c.loop-index-test.true c.segment_length-segment.ensures.value;
-  later = c.loop-index.invariant.later;
+pub step-reference-requires-clause-place : goal.step-reference-requires-clause-place
+step-reference-requires-clause-place c = record {
+  step = record {
+    in_lanes = c.requires.in_lanes;
+    in_columns = in_lane c.args.slice c.segment_length-segment.result c.loop-index.index (segment_length c.args.self.now)
+        c.requires.in_slices c.loop-index-test.true c.segment_length-segment.ensures.value;
+    later = c.loop-index.invariant.later;
+  };
+  room = omega arith;
 }
 
 pub put_position-requires : goal.put_position-requires
@@ -164,20 +170,19 @@ loop-index-preserved c =
           ];
     }
 
-pub returns-clause-memory : goal.returns-clause-memory
-unfolding run
-returns-clause-memory c =
+pub returns-clause-run : goal.returns-clause-run
+unfolding run positions_of_run
+returns-clause-run c =
     let e : segment_length c.args.self.now - c.loop-index.index ≡ 0 = omega arith in
-    sym (ap (λ n. run c.args.self.now c.args.pass c.args.slice (replicate n c.args.lane) c.loop-index.memory) e)
-    ∙ c.loop-index.invariant.memory
-
-pub returns-clause-positions : goal.returns-clause-positions
-unfolding positions_of_run
-returns-clause-positions c =
-    let e : segment_length c.args.self.now - c.loop-index.index ≡ 0 = omega arith in
-    sym (ap (λ n. positions_of_run c.args.self.now c.args.pass c.args.slice
-    (replicate n c.args.lane) c.loop-index.memory c.loop-index.positions) e)
-    ∙ c.loop-index.invariant.positions
+    record {
+      memory =
+          sym (ap (λ n. run c.args.self.now c.args.pass c.args.slice (replicate n c.args.lane) c.loop-index.memory) e)
+          ∙ c.loop-index.invariant.memory;
+      positions =
+          sym (ap (λ n. positions_of_run c.args.self.now c.args.pass c.args.slice
+          (replicate n c.args.lane) c.loop-index.memory c.loop-index.positions) e)
+          ∙ c.loop-index.invariant.positions;
+    }
 
 pub returns-clause-work : goal.returns-clause-work
 unfolding segment_calls

@@ -7,8 +7,8 @@ loop-lane-preserved c =
     let t = run_lane c.args.self.now c.args.pass c.args.slice c.loop-lane.lane c.loop-lane.memory (omega arith) in
     let u = positions_of_lane c.args.self.now c.args.pass c.args.slice c.loop-lane.lane c.loop-lane.memory c.loop-lane.positions
     (omega arith) in
-    let memory = c.fill_segment.ensures.memory in
-    let positions = c.fill_segment.ensures.positions in
+    let memory = c.fill_segment.ensures.run.memory in
+    let positions = c.fill_segment.ensures.run.positions in
     let work = c.fill_segment.ensures.work in
     let before = c.loop-lane.invariant in
     let m = before.memory in
@@ -16,16 +16,11 @@ loop-lane-preserved c =
     let w = before.work in
     record { memory = cc; positions = cc; work = omega arith }
 
-pub returns-clause-memory : goal.returns-clause-memory
-returns-clause-memory c =
+pub returns-clause-run : goal.returns-clause-run
+returns-clause-run c =
     let all : c.loop-lane.lane ≡ c.args.self.now.p_cost = omega arith in
-    let none = run_no_lane c.args.self.now c.args.pass c.args.slice c.loop-lane.memory in
-    let left = c.loop-lane.invariant.memory in
-    cc
-
-pub returns-clause-positions : goal.returns-clause-positions
-returns-clause-positions c =
-    let all : c.loop-lane.lane ≡ c.args.self.now.p_cost = omega arith in
-    let none = positions_of_no_lane c.args.self.now c.args.pass c.args.slice c.loop-lane.memory c.loop-lane.positions in
-    let left = c.loop-lane.invariant.positions in
-    cc
+    let no_turn = run_no_lane c.args.self.now c.args.pass c.args.slice c.loop-lane.memory in
+    let no_place = positions_of_no_lane c.args.self.now c.args.pass c.args.slice c.loop-lane.memory c.loop-lane.positions in
+    let memory = c.loop-lane.invariant.memory in
+    let positions = c.loop-lane.invariant.positions in
+    record { memory = cc; positions = cc }

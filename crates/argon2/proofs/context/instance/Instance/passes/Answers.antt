@@ -3,5 +3,8 @@ use Rattle.argon2.specs.Context.{Sizes}
 use Rattle.argon2.proofs.recurrence.Validity.{sizes}
 use Rattle.argon2.proofs.context.instance.Instance.passes.Goals as goal
 
-pub returns-clause-sizes : goal.returns-clause-sizes
-returns-clause-sizes c = subst Sizes c.self.view_is (sizes _ (search rules) (search rules) c.self.invariant.0)
+pub returns : goal.returns
+returns c = record {
+  value = search rules;
+  sizes = subst Sizes c.self.view_is (sizes _ (search rules) (search rules) c.self.invariant.0);
+}

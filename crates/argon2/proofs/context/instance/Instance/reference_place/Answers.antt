@@ -17,5 +17,5 @@ returns-clause-value c =
 pub returns-clause-within : goal.returns-clause-within
 returns-clause-within c =
     let b = place_below c.args.self.now c.reference_lane-other.result c.permitted_column.result
-    c.reference_lane-other.ensures.within c.permitted_column.ensures.within in
+    c.reference_lane-other.ensures.lane.within c.permitted_column.ensures.within in
     search rules

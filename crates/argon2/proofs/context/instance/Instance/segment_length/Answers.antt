@@ -4,10 +4,10 @@ use Rattle.argon2.specs.Shape.{segment_length}
 use Rattle.argon2.proofs.recurrence.Validity.{sizes}
 use Rattle.argon2.proofs.context.instance.Instance.segment_length.Goals as goal
 
-pub returns-clause-value : goal.returns-clause-value
+pub returns : goal.returns
 unfolding segment_length
-returns-clause-value c =
-    subst (λ (x : Context). c.self.inside.segment_length ≡ segment_length x.m_cost x.p_cost) c.self.view_is c.self.invariant.1
-
-pub returns-clause-sizes : goal.returns-clause-sizes
-returns-clause-sizes c = subst Sizes c.self.view_is (sizes _ (search rules) (search rules) c.self.invariant.0)
+returns c = record {
+  value = subst (λ (x : Context). c.self.inside.segment_length ≡ segment_length x.m_cost x.p_cost) c.self.view_is
+      c.self.invariant.1;
+  sizes = subst Sizes c.self.view_is (sizes _ (search rules) (search rules) c.self.invariant.0);
+}

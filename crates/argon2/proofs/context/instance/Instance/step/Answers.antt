@@ -16,7 +16,7 @@ returns-then-xors-clause-step c =
     let q = c.lane_length.ensures.value in
     let r = c.reference_place-reference.ensures.value in
     let b = c.mixed_block.ensures.block in
-    let below = place_below ctx c.args.at.lane c.args.at.column c.requires.step.in_lanes c.requires.step.in_columns in
+    let below = place_below ctx c.args.at.lane c.args.at.column c.requires.place.step.in_lanes c.requires.place.step.in_columns in
     let old =
     get_or_read m (c.args.at.lane * c.lane_length.result + c.args.at.column) c.index-memory-place.result
     (grind arith) c.index-memory-place.is [] in
