@@ -41,6 +41,11 @@ fill_refusal argon2 password salt memory = first_of (
     input_faults (length password) (length salt)
     ++ memory_faults (block_count (context_of argon2)) (length memory))
 
+-- what a call that asks for memory may answer: Ok without a refusal, else that refusal or that there is no memory
+abbrev pub MayAnswer : Option Error → Result (Unit {0}) Error → Type 0
+MayAnswer refusal (Ok _) = refusal ≡ None
+MayAnswer refusal (Err e) = (e ≡ OutOfMemory) ⊎ (refusal ≡ Some e)
+
 -- ---- lent memory
 
 -- the blocks that are filled: the first of the memory, lane after lane
@@ -92,11 +97,6 @@ pub record IsHashed (argon2 : Argon2) (password salt output : List ℕ) (old new
     pub matrix : let ctx = context_of argon2 in
         blocks_of ctx new ≡ matrix_of ctx password salt (length output)
     pub rest : KeepsRest (context_of argon2) old new
-
--- what a call that asks for memory may answer: Ok without a refusal, else that refusal or that there is no memory
-abbrev pub MayAnswer : Option Error → Result (Unit {0}) Error → Type 0
-MayAnswer refusal (Ok _) = refusal ≡ None
-MayAnswer refusal (Err e) = (e ≡ OutOfMemory) ⊎ (refusal ≡ Some e)
 
 -- ---- watching
 
