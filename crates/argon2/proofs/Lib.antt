@@ -1,5 +1,6 @@
 pub mod InitialHashing
 mod LentMemory
+mod RefusalLemmas
 pub mod lists
 pub mod logins
 pub mod recurrence

@@ -218,7 +218,6 @@ impl<'key> Argon2<'key> {
     /// - [`Error::SaltTooShort`]: the salt is shorter than 8 bytes.
     /// - [`Error::SaltTooLong`]: the salt is longer than 4294967295 bytes.
     /// - [`Error::MemoryTooLittle`]: `memory` has fewer blocks than are filled.
-    #[tactic(auto, unfolding(crate::specs::Tag::matrix_of))]
     pub fn fill_memory(&self, pwd: &[u8], salt: &[u8], memory: &mut [Block]) -> Result<()>
         ensures answer { result ≡ answer_unless (fill_refusal self.now pwd.now salt.now memory.old) tt }
         ensures filled { OnOk result (IsFilled self.now pwd.now salt.now 0 memory.old memory.new) }

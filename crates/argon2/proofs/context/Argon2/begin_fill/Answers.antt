@@ -10,3 +10,9 @@ returns-clause-begun c =
     is_begun c.args.self.now c.block_count.result count c.args.memory.now c.begin.new.blocks
     c.instance-instance.ensures.valid c.args.pwd.now c.args.salt.now c.args.out_len
     (rw same at c.begin.ensures.begins) (rw same at c.begin.ensures.others)
+
+pub returns-clause-answer : goal.returns-clause-answer
+returns-clause-answer c = c.in_ok-check.ensures
+
+pub returns-clause-same : goal.returns-clause-same
+returns-clause-same c = tt

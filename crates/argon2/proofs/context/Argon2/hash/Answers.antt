@@ -1,19 +1,12 @@
-use Rattle.std.proofs.Common.{◌≡◌, ◌+◌, arith, length, ap, subst, ◌∙◌, Option, Some, None, Ok}
-use Rattle.argon2_base.specs.declared.error.Error.{Error}
+use Rattle.std.proofs.Common.{◌≡◌, ◌+◌, arith, length, ap, subst, ◌∙◌}
 use Rattle.argon2.specs.Argon2.{context_of}
 use Rattle.argon2.specs.Context.{block_count, Sizes}
 use Rattle.argon2.specs.Counting.{mixing_calls}
-use Rattle.argon2.specs.Refusals.{answer_unless}
 use Rattle.argon2.specs.Tag.{matrix_of}
 use Rattle.argon2.proofs.LentMemory.{is_hashed}
+use Rattle.argon2.proofs.RefusalLemmas.{answered}
 use Rattle.argon2.proofs.recurrence.TagOfMatrix.{tag_of_matrix}
 use Rattle.argon2.proofs.context.Argon2.hash.Goals as goal
-
--- what is not refused has another value as its answer too
-answered : {A B : Type 0} (refusal : Option Error) (a a' : A) (b b' : B) → Ok a ≡ answer_unless refusal a' → b ≡ b'
-    → Ok b ≡ answer_unless refusal b'
-answered None a a' b b' e same = ap Ok same
-answered (Some fault) a a' b b' e same = absurd cc
 
 pub returns : goal.returns
 unfolding matrix_of

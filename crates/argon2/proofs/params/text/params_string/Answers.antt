@@ -1,5 +1,8 @@
-use Rattle.std.proofs.Common.{ℕ, ◌≤◌, Fits, List, None, arith, length, slice_index, w8, w32}
-use Rattle.argon2.proofs.lists.ListedLemmas.{Fronts, listed_fronts}
+use Rattle.std.proofs.Common.{ℕ, ◌≤◌, Fits, ◌++◌, ◌≡◌, ◌∙◌, ◌∷◌, [], ap, List, None, arith, codes, length, slice_index, subst, sym, w8, w32}
+use Rattle.std.specs.Prelude.{IsTrue}
+use Rattle.argon2_base.specs.ParamsText.{Pair, are_params}
+use Rattle.argon2.specs.ListedParameters.{bytes_item}
+use Rattle.argon2.proofs.lists.ListedLemmas.{Fronts, cost_item, listed_fronts}
 use Rattle.argon2.proofs.lists.ReadAgain.{read_again, valid_without}
 use Rattle.argon2.proofs.params.text.params_string.Goals as goal
 
@@ -10,6 +13,21 @@ fronts : {m t p : ℕ} {k d : List ℕ} → Fits w32 m → Fits w32 t → Fits w
 fronts {m} {t} {p} {k} {d} hm ht hp bk bd lk ld =
     listed_fronts m t p k d (omega (arith, hm)) (omega (arith, ht)) (omega (arith, hp))
     (λ i. omega (arith, bk i)) (λ i. omega (arith, bd i)) lk ld
+
+-- the key identifier and the data after the costs
+with_keyid : (m t p : ℕ) (k d : List ℕ) (list : List Pair)
+    → list ≡ cost_item (codes "m") m ∷ cost_item (codes "t") t ∷ cost_item (codes "p") p ∷ []
+    → Fronts m t p k d → IsTrue (are_params (list ++ bytes_item (codes "keyid") k))
+with_keyid m t p k d list costs good =
+    subst (λ list. IsTrue (are_params (list ++ bytes_item (codes "keyid") k))) (sym costs) good.keyid
+
+with_data : (m t p : ℕ) (k d : List ℕ) (list more : List Pair)
+    → list ≡ cost_item (codes "m") m ∷ cost_item (codes "t") t ∷ cost_item (codes "p") p ∷ []
+    → more ≡ list ++ bytes_item (codes "keyid") k
+    → Fronts m t p k d → IsTrue (are_params (more ++ bytes_item (codes "data") d))
+with_data m t p k d list more costs keyid good =
+    subst (λ list. IsTrue (are_params (list ++ bytes_item (codes "data") d)))
+    (sym (keyid ∙ ap (λ list. list ++ bytes_item (codes "keyid") k) costs)) good.whole
 
 pub unreachable-requires : goal.unreachable-requires
 unreachable-requires c =
@@ -35,21 +53,19 @@ unreachable-requires-in_default-add_decimal-2 c =
 
 pub add_bytes-requires : goal.add_bytes-requires
 add_bytes-requires c =
-    rw (c.in-Ok-add_decimal-2.ensures.ok, c.in-Ok-add_decimal.ensures.ok, c.in-Ok.ensures.ok, c.new-list.ensures)
+    let costs = rw (c.in-Ok-add_decimal.ensures.ok, c.in-Ok.ensures.ok, c.new-list.ensures)
+    at c.in-Ok-add_decimal-2.ensures.ok in
+    with_keyid c.args.m c.args.t c.args.p c.args.keyid.now c.args.associated.now _ costs
     (fronts c.ranges.m c.ranges.t c.ranges.p c.type_inv.keyid c.type_inv.associated
-    c.requires.keyid_fits c.requires.data_fits).keyid
+    c.requires.keyid_fits c.requires.data_fits)
 
 pub add_bytes-requires-2 : goal.add_bytes-requires-2
 add_bytes-requires-2 c =
-    rw (
-      c.add_bytes.ensures,
-      c.in-Ok-add_decimal-2.ensures.ok,
-      c.in-Ok-add_decimal.ensures.ok,
-      c.in-Ok.ensures.ok,
-      c.new-list.ensures,
-    )
+    let costs = rw (c.in-Ok-add_decimal.ensures.ok, c.in-Ok.ensures.ok, c.new-list.ensures)
+    at c.in-Ok-add_decimal-2.ensures.ok in
+    with_data c.args.m c.args.t c.args.p c.args.keyid.now c.args.associated.now _ _ costs c.add_bytes.ensures
     (fronts c.ranges.m c.ranges.t c.ranges.p c.type_inv.keyid c.type_inv.associated
-    c.requires.keyid_fits c.requires.data_fits).whole
+    c.requires.keyid_fits c.requires.data_fits)
 
 pub returns-clause-again : goal.returns-clause-again
 returns-clause-again c = λ o valid.

@@ -3,7 +3,20 @@ use Rattle.std.proofs.lemmas.Nat.{mul-add-lt}
 use Rattle.argon2.specs.Context.{lane_length}
 use Rattle.argon2.specs.InitialHash.{block_after, first_block}
 use Rattle.argon2.proofs.schedules.FirstColumns.{begun_apart, begun_lanes}
+use Rattle.argon2.proofs.schedules.InMemory.{place_fits}
 use Rattle.argon2.proofs.context.instance.Instance.begin.Goals as goal
+
+pub overflow_mul-start : goal.overflow_mul-start
+overflow_mul-start c =
+    let fits = place_fits c.args.self.now c.loop-lane.lane c.lane_length-columns.result 1 c.lane_length-columns.ensures.sizes
+    c.lane_length-columns.ensures.value (omega arith) (let two = c.lane_length-columns.ensures.sizes.two_columns in omega arith) in
+    omega arith
+
+pub overflow_add-start : goal.overflow_add-start
+overflow_add-start c =
+    let fits = place_fits c.args.self.now c.loop-lane.lane c.lane_length-columns.result 1 c.lane_length-columns.ensures.sizes
+    c.lane_length-columns.ensures.value (omega arith) (let two = c.lane_length-columns.ensures.sizes.two_columns in omega arith) in
+    omega arith
 
 pub loop-lane-preserved : goal.loop-lane-preserved
 loop-lane-preserved c =

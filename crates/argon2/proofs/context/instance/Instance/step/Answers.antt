@@ -4,8 +4,20 @@ use Rattle.std.proofs.lemmas.List.{get_or_read}
 use Rattle.argon2_base.proofs.MixingLaws.{xor_blocks-comm}
 use Rattle.argon2.specs.Context.{lane_length}
 use Rattle.argon2.specs.Steps.{step}
-use Rattle.argon2.proofs.schedules.InMemory.{made_by_places, place_by_word, place_below}
+use Rattle.argon2.proofs.schedules.InMemory.{made_by_places, place_by_word, place_below, place_fits}
 use Rattle.argon2.proofs.context.instance.Instance.step.Goals as goal
+
+pub overflow_mul-place : goal.overflow_mul-place
+overflow_mul-place c =
+    let fits = place_fits c.args.self.now c.args.at.lane c.lane_length.result c.args.at.column c.lane_length.ensures.sizes
+    c.lane_length.ensures.value c.requires.place.step.in_lanes c.requires.place.step.in_columns in
+    omega arith
+
+pub overflow_add-place : goal.overflow_add-place
+overflow_add-place c =
+    let fits = place_fits c.args.self.now c.args.at.lane c.lane_length.result c.args.at.column c.lane_length.ensures.sizes
+    c.lane_length.ensures.value c.requires.place.step.in_lanes c.requires.place.step.in_columns in
+    omega arith
 
 pub returns-then-xors-clause-step : goal.returns-then-xors-clause-step
 unfolding step
