@@ -5,10 +5,10 @@ use Rattle.std.specs.Prelude.{IfSome}
 use Rattle.argon2_audit.specs.Finding.{IsFinding, class_of, has_short_salt, salt_of}
 use Rattle.argon2_audit.specs.Line.{IsRead}
 use Rattle.argon2_audit.specs.Seen.{has_any, has_salt, is_salt}
-use Rattle.argon2_audit.specs.Session.{IsAudit, IsBegun, IsJoined, IsPassed, IsTallied, IsTallyOf, how_many, joined, any_salt, is_repeated, repeated}
+use Rattle.argon2_audit.specs.Session.{IsAnswer, IsAudit, IsBegun, IsJoined, IsPassed, IsTallied, IsTallyOf, how_many, joined, any_salt, is_repeated, repeated}
 use Rattle.argon2_audit.specs.Tally.{Counts, IsClean, count_of, is_class, one_if}
 use Rattle.argon2_audit.specs.declared.arguments.Command.{Command}
-use Rattle.argon2_audit.specs.declared.arguments.Command.TheVariants.{Audit}
+use Rattle.argon2_audit.specs.declared.arguments.Command.TheVariants.{Help, Audit}
 use Rattle.argon2_audit.specs.declared.failure.Failure.{Failure}
 use Rattle.argon2_audit.specs.declared.finding.Class.{Class}
 use Rattle.argon2_audit.specs.declared.finding.Class.TheVariants.{Outside, NoHash, Below, Sound}
@@ -138,8 +138,11 @@ passed_of : (policy : Policy) (input : Option (List ℕ)) (clean : Bool) → IsA
 passed_of policy None clean audit is = tt
 passed_of policy (Some bytes) clean audit is = (audit.0, audit.1, audit.2.0 is)
 
-pub passed_by : (policy : Policy) (input : Option (List ℕ)) (command : Command) (r : Result Bool Failure) → command ≡ Audit policy
-    → IfOk r (IsAudit policy input) → IfOk r (λ yes. IsTrue yes → IsPassed command input)
-passed_by policy input command (Ok clean) is audit =
-    λ holds. subst (λ k. IsPassed k input) (sym is) (passed_of policy input clean audit holds)
-passed_by policy input command (Err failure) is audit = tt
+pub answer_passes : (command : Command) (input : Option (List ℕ)) → IsAnswer command input true → IsPassed command input
+answer_passes Help input clean = tt
+answer_passes (Audit policy) input audit = passed_of policy input true audit refl
+
+pub answered_by : (policy : Policy) (input : Option (List ℕ)) (command : Command) (r : Result Bool Failure)
+    → command ≡ Audit policy → IfOk r (IsAudit policy input) → IfOk r (IsAnswer command input)
+answered_by policy input command (Ok clean) is audit = subst (λ k. IsAnswer k input clean) (sym is) audit
+answered_by policy input command (Err failure) is audit = tt

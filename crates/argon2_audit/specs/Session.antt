@@ -99,6 +99,11 @@ abbrev pub IsAudit : Policy → Option (List ℕ) → Bool → Type 0
 IsAudit policy input clean = IfSome input (λ bytes. (tally : Tally) × IsTallied policy bytes tally
     × (IsTrue clean ↔ IsClean tally))
 
+-- the help was asked for; or whether the lines of a known input are clean
+abbrev pub IsAnswer : Command → Option (List ℕ) → Bool → Type 0
+IsAnswer Help input clean = IsTrue clean
+IsAnswer (Audit policy) input clean = IsAudit policy input clean
+
 -- the help was asked for, or the lines of a known input are clean
 abbrev pub IsPassed : Command → Option (List ℕ) → Type 0
 IsPassed Help input = ⊤

@@ -1,9 +1,9 @@
 //! The program over any streams.
 
-ghost use Rattle.std.specs.Prelude.{◌≡◌, ◌↔◌, ◌≤◌, ◌++◌, None, Some, IfOk, IfSome, OnOk, IsNone, IsTrue, map, string_bytes};
+ghost use Rattle.std.specs.Prelude.{◌≡◌, ◌↔◌, ◌≤◌, ◌++◌, None, Some, IfOk, IfSome, OnOk, IsNone, IsFalse, IsTrue, map, string_bytes};
 ghost use Rattle.std.specs.Io.KnownBytes.{Appends, Keeps};
 ghost use Rattle.argon2_audit.specs.Arguments.{command_of};
-ghost use Rattle.argon2_audit.specs.Session.{IsAudit, IsPassed, IsTallied};
+ghost use Rattle.argon2_audit.specs.Session.{IsAnswer, IsAudit, IsPassed, IsTallied};
 
 use crate::arguments::Command;
 use crate::failure::{Failure, of_reading};
@@ -56,7 +56,8 @@ const STRIDE: u64 = 256;
 /// Status 0: the report is written, and each line is sound, or the help was asked for. Status 1: the report
 /// is written, and some line is not sound; or the failure's text is written to `errors`. Status 2: the
 /// arguments are no options, `errors` has the usage line, and neither `input` nor `output` is touched.
-/// Where `errors` can't be written, the status stays.
+/// How many lines were read is told on `errors` meanwhile, where progress is to be shown. Where `errors`
+/// can't be written, the status stays.
 pub fn run<R: Read, W: Write, E: Write>(
     alloc: Global,
     args: &[String],
@@ -71,6 +72,8 @@ pub fn run<R: Read, W: Write, E: Write>(
     ensures unwritten { result ≡ 2 → Keeps (W.contents output.old) (W.contents output.new) }
     ensures passed { result ≡ 0 → IfSome (command_of (map string_bytes args.now))
         (λ command. IsPassed command (R.remaining input.old)) }
+    ensures quiet { IsFalse shows_progress → result ≡ 0
+        → Keeps (E.contents errors.old) (E.contents errors.new) }
 {
     let Some(command) = Command::parsed(args) else {
         let _ = writeln!(errors, "{USAGE}");
@@ -100,7 +103,8 @@ fn answer<R: Read, W: Write, E: Write>(
     errors: &mut E,
     shows_progress: bool,
 ) -> Result<bool, Failure>
-    ensures { IfOk result (λ yes. IsTrue yes → IsPassed command (R.remaining input.old)) }
+    ensures answer { IfOk result (IsAnswer command (R.remaining input.old)) }
+    ensures quiet { IsFalse shows_progress → Keeps (E.contents errors.old) (E.contents errors.new) }
 {
     match command {
         Command::Help => help(output),
@@ -127,7 +131,8 @@ fn report_on<R: Read, W: Write, E: Write>(
     errors: &mut E,
     shows_progress: bool,
 ) -> Result<bool, Failure>
-    ensures { IfOk result (IsAudit policy (R.remaining input.old)) }
+    ensures audit { IfOk result (IsAudit policy (R.remaining input.old)) }
+    ensures quiet { IsFalse shows_progress → Keeps (E.contents errors.old) (E.contents errors.new) }
 {
     let session = session_of(alloc, policy, input, output, errors, shows_progress)?;
     report::table(output, &session.audit)?;
@@ -143,8 +148,9 @@ fn session_of<R: Read, W: Write, E: Write>(
     errors: &mut E,
     shows_progress: bool,
 ) -> Result<Session, Failure>
-    ensures { IfOk result (λ session. IfSome (R.remaining input.old)
+    ensures session { IfOk result (λ session. IfSome (R.remaining input.old)
         (λ bytes. IsTallied policy bytes session.audit.tally)) }
+    ensures quiet { IsFalse shows_progress → Keeps (E.contents errors.old) (E.contents errors.new) }
 {
     let mut session = Session::new(alloc, policy);
     let mut piece = [0u8; PIECE];

@@ -1,9 +1,9 @@
 -- Memory that is halved once more.
-use Rattle.std.proofs.Common.{arith, below_more, ℕ, suc, ◌<◌, ◌/◌, ap, subst}
-use Rattle.argon2_calibrate.specs.Choice.{IsHalved, IsTooLong, halved}
+use Rattle.std.proofs.Common.{arith, below_more, ℕ, List, suc, ◌<◌, ◌/◌, ap, subst}
+use Rattle.argon2_calibrate.specs.Choice.{IsHalved, IsTime, IsTooLong, halved}
 
-pub halved_more : (Takes : ℕ → ℕ → ℕ → Type 0) (target most m time : ℕ) → IsHalved Takes target most m
-    → Takes m 1 time → target < time → IsHalved Takes target most (m / 2)
+pub halved_more : (Takes : ℕ → ℕ → List ℕ → Type 0) (target most m time : ℕ) → IsHalved Takes target most m
+    → IsTime Takes m 1 time → target < time → IsHalved Takes target most (m / 2)
 halved_more Takes target most m time so took long =
     let here : IsTooLong Takes target (halved so.0 most) = subst (IsTooLong Takes target) so.1 (time, took, long) in (
       suc so.0,

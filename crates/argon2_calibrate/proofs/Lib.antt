@@ -1,1 +1,3 @@
 mod Halving
+mod Places
+mod Trials

@@ -1,5 +1,5 @@
 -- What the program writes.
-use Rattle.std.specs.Prelude.{ℕ, ◌*◌, List, [], ◌∷◌, ◌++◌, codes, Option}
+use Rattle.std.specs.Prelude.{ℕ, ◌+◌, ◌*◌, ◌/◌, ◌%◌, List, [], ◌∷◌, ◌++◌, codes, Option}
 use Rattle.std.specs.Fmt.{decimal}
 use Rattle.std.specs.Io.KnownBytes.{Appends}
 use Rattle.argon2_calibrate.specs.Choice.{IsChoice}
@@ -17,14 +17,19 @@ abbrev pub call_text : ℕ → ℕ → List ℕ
 call_text m t =
     codes "Params::new(" ++ (decimal m ++ (codes ", " ++ (decimal t ++ (codes ", 1, None)" ++ 10 ∷ []))))
 
--- something is written
-abbrev pub Grows : Option (List ℕ) → Option (List ℕ) → Type 0
-Grows old new = (text : List ℕ) × Appends old new text
+-- three digits of a number below 1000
+abbrev pub three_places : ℕ → List ℕ
+three_places n = (48 + n / 100) ∷ (48 + n / 10 % 10) ∷ (48 + n % 10) ∷ []
+
+-- microseconds as seconds with three digits behind a point, a line
+abbrev pub time_text : ℕ → List ℕ
+time_text time = decimal (time / 1000000) ++ (codes "." ++ (three_places (time / 1000 % 1000)
+    ++ (codes " seconds" ++ 10 ∷ [])))
 
 -- the help; or costs that are chosen by measured times for so many microseconds, and how long they take
-abbrev pub IsAnswered : (ℕ → ℕ → ℕ → Type 0) → Command → Option (List ℕ) → Option (List ℕ) → Type 0
+abbrev pub IsAnswered : (ℕ → ℕ → List ℕ → Type 0) → Command → Option (List ℕ) → Option (List ℕ) → Type 0
 IsAnswered Takes Help old new = Appends old new HELP.now
 IsAnswered Takes (Calibrate millis mebibytes) old new = (choice : Choice)
     × IsChoice Takes (1000 * millis) (1024 * mebibytes) choice
-    × ((time : List ℕ) × Appends old new
-    (list_text choice.m_cost choice.t_cost ++ call_text choice.m_cost choice.t_cost ++ time))
+    × Appends old new
+    (list_text choice.m_cost choice.t_cost ++ call_text choice.m_cost choice.t_cost ++ time_text choice.time)

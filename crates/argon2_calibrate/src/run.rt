@@ -2,12 +2,12 @@
 
 ghost use Rattle.std.specs.Prelude.{◌≡◌, ◌↔◌, ◌≤◌, IfSome, OnOk, IsNone, map, string_bytes};
 ghost use Rattle.std.specs.Io.KnownBytes.{Appends, Keeps};
-ghost use Rattle.argon2_calibrate.specs.Answer.{Grows, IsAnswered, call_text, list_text};
+ghost use Rattle.argon2_calibrate.specs.Answer.{IsAnswered, call_text, list_text, time_text};
 ghost use Rattle.argon2_calibrate.specs.Arguments.{command_of};
 
 use crate::arguments::Command;
 use crate::failure::Failure;
-use crate::search::{search, timed};
+use crate::search::search;
 use crate::stopwatch::Stopwatch;
 use std::io::Write;
 
@@ -24,9 +24,10 @@ argon2-calibrate says which costs make a hash take a given time on this machine.
 SECONDS is a decimal number up to 3600, and may have a point with one to three digits. MEBIBYTES is
 the most memory that one hash may take, 64 where it is not given.
 
-It hashes by Argon2id with one lane, and says on standard error how long each hash took. First it
-halves the memory, from the most on, until one pass is within the time; then it takes the most
-passes that are. It writes the parameters as a list, as a call and with the time that was measured.
+It hashes by Argon2id with one lane, each time thrice, and says on standard error the least of the
+three times. First it halves the memory, from the most on, until one pass is within the time; then
+it takes the most passes that are, of up to four numbers that it tries. It writes the parameters as
+a list, as a call and with the time that was measured.
 
 The status is 0 where the costs are written. It is 1 where the clock, writing or a request for memory
 fails, which standard error says; and 2 where the arguments are not of this form.
@@ -98,10 +99,9 @@ fn calibrate<S: Stopwatch, W: Write, E: Write>(
     let target = 1000 * u64::from(millis);
     let choice = search(stopwatch, errors, target, 1024 * mebibytes)?;
     let (m, t) = (choice.m_cost, choice.t_cost);
-    let time = timed(stopwatch, errors, m, t)?;
     write_list(output, m, t)?;
     write_call(output, m, t)?;
-    write_time(output, time)
+    write_time(output, choice.time)
 }
 
 // Writes costs as a list of parameters, a line.
@@ -122,7 +122,7 @@ fn write_call<W: Write>(output: &mut W, m: u32, t: u32) -> Result<(), Failure>
 
 // Writes so many microseconds as seconds, a line.
 fn write_time<W: Write>(output: &mut W, time: u64) -> Result<(), Failure>
-    ensures { OnOk result (Grows (W.contents output.old) (W.contents output.new)) }
+    ensures { OnOk result (Appends (W.contents output.old) (W.contents output.new) (time_text time)) }
 {
     let (seconds, millis) = (time / 1_000_000, time / 1000 % 1000);
     writeln!(output, "{seconds}.{millis:03} seconds")?;

@@ -8,16 +8,16 @@ use std::time::Instant;
 
 /// What measures hashes by Argon2id with one lane.
 pub trait Stopwatch {
-    ghost use Rattle.std.specs.Prelude.{ℕ, ⊤, IfOk};
+    ghost use Rattle.std.specs.Prelude.{ℕ, ⊤, List, IfOk};
 
-    // So many blocks and passes may be found to take so many microseconds.
-    ghost may_take: { ℕ → ℕ → ℕ → Type 0 } = { λ _ _ _. ⊤ };
+    // Hashes with so many blocks and passes may be found to take so many microseconds.
+    ghost may_take: { ℕ → ℕ → List ℕ → Type 0 } = { λ _ _ _. ⊤ };
 
-    /// How many microseconds a hash takes with so many blocks of 1024 bytes and so many passes.
+    /// How many microseconds each of three hashes takes with so many blocks of 1024 bytes and so many passes.
     ///
     /// # Errors
     /// Memory may be refused, and the clock may not answer.
-    fn time(&mut self, m_cost: u32, t_cost: u32) -> Result<u64, Failure>
+    fn times(&mut self, m_cost: u32, t_cost: u32) -> Result<[u64; 3], Failure>
         ensures { IfOk result (may_take m_cost t_cost) };
 }
 
@@ -33,10 +33,9 @@ impl<'a, C: Clock> Machine<'a, C> {
     pub fn new(alloc: Global, clock: &'a C) -> Machine<'a, C> {
         Machine { alloc, clock }
     }
-}
 
-impl<C: Clock> Stopwatch for Machine<'_, C> {
-    fn time(&mut self, m_cost: u32, t_cost: u32) -> Result<u64, Failure> {
+    // How many microseconds one hash takes.
+    fn time(&self, m_cost: u32, t_cost: u32) -> Result<u64, Failure> {
         let params = Params::new(m_cost, t_cost, 1, None)?;
         let argon2 = Argon2::new(Algorithm::Argon2id, Version::V0x13, params);
         let mut tag = [0; Params::DEFAULT_OUTPUT_LEN];
@@ -44,5 +43,15 @@ impl<C: Clock> Stopwatch for Machine<'_, C> {
         argon2.hash_password_into(self.alloc, b"password", b"somesaltsomesalt", &mut tag)?;
         let taken = begun.elapsed(self.clock).or(Err(Failure::Clock))?;
         Ok(u64::try_from(taken.as_micros()).unwrap_or(u64::MAX))
+    }
+}
+
+impl<C: Clock> Stopwatch for Machine<'_, C> {
+    fn times(&mut self, m_cost: u32, t_cost: u32) -> Result<[u64; 3], Failure> {
+        Ok([
+            self.time(m_cost, t_cost)?,
+            self.time(m_cost, t_cost)?,
+            self.time(m_cost, t_cost)?,
+        ])
     }
 }

@@ -2,5 +2,6 @@ pub mod Arena
 pub mod Auditor
 pub mod Bound
 pub mod Login
+pub mod Passwords
 pub mod Scheduler
 pub mod Vault

@@ -1,10 +1,13 @@
 //! Passwords as stored texts, under the default settings and no secret.
 
 ghost use Rattle.std.specs.Prelude.{◌≡◌, ◌↔◌, ◌⊎◌, [], Err, IsTrue, IfOk, IfErr, MatchResult};
+ghost use Rattle.rand_core.specs.Stream.{fill_bytes};
 ghost use Rattle.argon2.specs.Accepts.{Accepts, IsVerifyTextAnswer};
+ghost use Rattle.argon2.specs.Made.{IsHashAnswer};
 ghost use Rattle.argon2.specs.PasswordHash.{phc_of};
 ghost use Rattle.argon2.specs.PhcText.{phc_text};
 ghost use Rattle.argon2.specs.base_declared.error.password_hash.Error.TheVariants.{OutOfMemory};
+ghost use Rattle.argon2_uses.specs.Passwords.{default_target};
 
 use argon2::password_hash::{Error, Result};
 use argon2::{Argon2, PasswordHash, PasswordHasher, PasswordVerifier};
@@ -13,7 +16,8 @@ use std::alloc::Global;
 
 /// What to store for a new password: it prints as the text.
 pub fn stored<R: Rng>(alloc: Global, rng: &mut R, password: &[u8]) -> Result<PasswordHash>
-    ensures { IfOk result (λ hash. Accepts [] password.now (phc_text (phc_of hash))) }
+    ensures accepted { IfOk result (λ hash. Accepts [] password.now (phc_text (phc_of hash))) }
+    ensures made { IsHashAnswer default_target password.now (fill_bytes 16 (R.stream rng.old)).0 result }
 {
     Argon2::default().hash_password(alloc, rng, password)
 }

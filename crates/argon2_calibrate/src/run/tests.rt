@@ -15,10 +15,25 @@ struct Even {
 }
 
 impl Stopwatch for Even {
-    fn time(&mut self, m_cost: u32, t_cost: u32) -> Result<u64, Failure> {
+    fn times(&mut self, m_cost: u32, t_cost: u32) -> Result<[u64; 3], Failure> {
         let blocks = u64::from(m_cost).saturating_mul(u64::from(t_cost));
-        let taken = blocks.saturating_mul(self.a_block) / 1000;
-        Ok(taken.saturating_add(self.once))
+        let taken = (blocks.saturating_mul(self.a_block) / 1000).saturating_add(self.once);
+        Ok([taken.saturating_mul(2), taken, taken.saturating_add(1)])
+    }
+}
+
+// A machine that takes 10 ms a pass, but so many microseconds for two passes.
+#[derive(Drop)]
+struct Uneven(u64);
+
+impl Stopwatch for Uneven {
+    fn times(&mut self, _m_cost: u32, t_cost: u32) -> Result<[u64; 3], Failure> {
+        let taken = if t_cost == 2 {
+            self.0
+        } else {
+            u64::from(t_cost).saturating_mul(10_000)
+        };
+        Ok([taken, taken, taken])
     }
 }
 
@@ -27,7 +42,7 @@ impl Stopwatch for Even {
 struct Full;
 
 impl Stopwatch for Full {
-    fn time(&mut self, _m_cost: u32, _t_cost: u32) -> Result<u64, Failure> {
+    fn times(&mut self, _m_cost: u32, _t_cost: u32) -> Result<[u64; 3], Failure> {
         Err(Failure::Memory(AllocError))
     }
 }
@@ -104,6 +119,28 @@ fn takes_the_most_memory_and_then_the_most_passes(rt: HostRuntime) -> Result<(),
     Ok(())
 }
 
+// By two passes alone it would be 10 of them, or 197; what they take is measured.
+#[test]
+fn corrects_the_passes_by_their_time(rt: HostRuntime) -> Result<(), Fail> {
+    for (both, tried) in [
+        (60_000, "t=10,p=1 takes 0.100 seconds"),
+        (10_000, "t=197,p=1 takes 1.970 seconds"),
+    ] {
+        let (mut output, mut errors) = (Vec::new(rt.alloc()), Vec::new(rt.alloc()));
+        run_words(
+            rt.alloc(),
+            &["0.5"],
+            &mut Uneven(both),
+            &mut output,
+            &mut errors,
+        )?;
+        let told = str::from_utf8(errors.as_slice()).unwrap_or("");
+        assert!(rt; told.contains(tried));
+        assert!(rt; output.as_slice().starts_with(b"m=65536,t=50,p=1\n"));
+    }
+    Ok(())
+}
+
 #[test]
 fn tells_each_time(rt: HostRuntime) -> Result<(), Fail> {
     let mut stopwatch = Even {
@@ -121,7 +158,6 @@ fn tells_each_time(rt: HostRuntime) -> Result<(), Fail> {
     let told = "argon2-calibrate: m=1048576,t=1,p=1 takes 1.048 seconds
 argon2-calibrate: m=524288,t=1,p=1 takes 0.524 seconds
 argon2-calibrate: m=524288,t=2,p=1 takes 1.048 seconds
-argon2-calibrate: m=524288,t=1,p=1 takes 0.524 seconds
 ";
     assert_eq!(rt; errors.as_slice(), told.as_bytes());
     Ok(())
@@ -198,7 +234,7 @@ fn tells_what_fails(rt: HostRuntime) -> Result<(), Fail> {
 #[test]
 fn measures_this_machine(rt: HostRuntime) -> Result<(), Fail> {
     let mut machine = Machine::new(rt.alloc(), &rt);
-    machine.time(8, 1)?;
-    assert!(rt; machine.time(7, 1).is_err());
+    machine.times(8, 1)?;
+    assert!(rt; machine.times(7, 1).is_err());
     Ok(())
 }

@@ -1,5 +1,5 @@
-use Rattle.std.proofs.Common.{◌≡◌, ◌≤◌, ◌*◌, List, ℕ, length}
-use Rattle.std.specs.Io.KnownBytes.{Consumes}
+use Rattle.std.proofs.Common.{◌≡◌, IsFalse, ◌≤◌, ◌*◌, List, ℕ, length}
+use Rattle.std.specs.Io.KnownBytes.{Consumes, Keeps}
 use Rattle.argon2_audit.specs.Session.{IsAfter}
 use Rattle.argon2_audit.proofs.run.session_of.Given as goal
 
@@ -7,3 +7,4 @@ abbrev pub invariant-pieces : goal.invariant-pieces
 invariant-pieces g l = (l.session.audit.tally.lines ≤ 65536 * l.turn) × (length l.piece ≡ 65536)
     × (l.session.audit.policy ≡ l.fn.policy)
     × ((read : List ℕ) × IsAfter l.session read × Consumes (g.R.Read.remaining l.fn.input) (g.R.Read.remaining l.input) read)
+    × (IsFalse l.shows_progress → Keeps (g.E.Write.contents l.fn.errors) (g.E.Write.contents l.errors))

@@ -14,5 +14,5 @@ returns g c =
     let is = subst (λ n. IsChoice g.S.Stopwatch.may_take (1000 * n) (1024 * c.args.mebibytes) choice) target
     c.in_ok-choice.ensures in
     let costs = Appends-trans _ _ _ _ _ c.in_ok-write_list.ensures c.in_ok-write_call.ensures in
-    on_ok c.write_time.result _ _ (λ grows. (choice, is, (grows.0, Appends-trans _ _ _ _ _ costs grows.1)))
+    on_ok c.write_time.result _ _ (λ written. (choice, is, Appends-trans _ _ _ _ _ costs written))
     c.write_time.ensures
