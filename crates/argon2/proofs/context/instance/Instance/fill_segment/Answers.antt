@@ -138,10 +138,12 @@ put_position-requires c =
     c.segment_length-segment.ensures.value c.loop-index.invariant.later
 
 pub word-word-requires-clause-room : goal.word-word-requires-clause-room
-word-word-requires-clause-room c = subst (λ n. block_count c.args.self.now ≤ n) (sym c.loop-index.auto.memory) c.requires.room
+word-word-requires-clause-room c =
+    subst (λ n. block_count c.args.self.now ≤ n) (sym c.loop-index.auto.memory) c.requires.room
 
 pub step-reference-requires-clause-room : goal.step-reference-requires-clause-room
-step-reference-requires-clause-room c = subst (λ n. block_count c.args.self.now ≤ n) (sym c.loop-index.auto.memory) c.requires.room
+step-reference-requires-clause-room c =
+    subst (λ n. block_count c.args.self.now ≤ n) (sym c.loop-index.auto.memory) c.requires.room
 
 pub loop-index-preserved : goal.loop-index-preserved
 loop-index-preserved c =
