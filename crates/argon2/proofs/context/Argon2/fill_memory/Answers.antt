@@ -19,7 +19,7 @@ unfolding matrix_of
 returns-clause-filled c =
     let same = c.instance-instance.ensures.value in
     is_filled c.args.self.now c.block_count.result (c.block_count.ensures.value ∙ ap block_count same) c.args.memory.now
-    c.fill_blocks.new.blocks c.args.pwd.now c.args.salt.now 0 (rw same at c.fill_blocks.ensures.filled.matrix)
+    _ c.args.pwd.now c.args.salt.now 0 (rw same at c.fill_blocks.ensures.filled.matrix)
 
 pub returns-clause-same : goal.returns-clause-same
 returns-clause-same c = tt

@@ -8,14 +8,18 @@ use Rattle.argon2.proofs.context.instance.Instance.begin.Goals as goal
 
 pub overflow_mul-start : goal.overflow_mul-start
 overflow_mul-start c =
-    let fits = place_fits c.args.self.now c.loop-lane.lane c.lane_length-columns.result 1 c.lane_length-columns.ensures.sizes
-    c.lane_length-columns.ensures.value (omega arith) (let two = c.lane_length-columns.ensures.sizes.two_columns in omega arith) in
+    let columns = c.lane_length-columns.ensures in
+    let two = columns.sizes.two_columns in
+    let fits = place_fits c.args.self.now c.loop-lane.lane c.lane_length-columns.result 1 columns.sizes columns.value
+    (omega arith) (omega arith) in
     omega arith
 
 pub overflow_add-start : goal.overflow_add-start
 overflow_add-start c =
-    let fits = place_fits c.args.self.now c.loop-lane.lane c.lane_length-columns.result 1 c.lane_length-columns.ensures.sizes
-    c.lane_length-columns.ensures.value (omega arith) (let two = c.lane_length-columns.ensures.sizes.two_columns in omega arith) in
+    let columns = c.lane_length-columns.ensures in
+    let two = columns.sizes.two_columns in
+    let fits = place_fits c.args.self.now c.loop-lane.lane c.lane_length-columns.result 1 columns.sizes columns.value
+    (omega arith) (omega arith) in
     omega arith
 
 pub loop-lane-preserved : goal.loop-lane-preserved

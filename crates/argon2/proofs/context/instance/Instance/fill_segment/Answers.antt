@@ -1,9 +1,9 @@
-use Rattle.std.proofs.Common.{◌≡◌, ℕ, zero, suc, refl, ◌+◌, ◌-◌, ◌*◌, ◌/◌, ◌%◌, ◌<◌, ◌≤◌, ◌≢◌, ◌⊎◌, inl, inr, cond, replicate, sym, ap, ◌∙◌, arith}
+use Rattle.std.proofs.Common.{◌≡◌, ℕ, zero, suc, refl, ◌+◌, ◌-◌, ◌*◌, ◌/◌, ◌%◌, ◌<◌, ◌≤◌, ◌≢◌, ◌⊎◌, inl, inr, cond, ◌^◌, replicate, subst, sym, ap, ◌∙◌, arith}
 use Rattle.std.proofs.lemmas.Bool.Decides.{nat_tests}
-use Rattle.std.proofs.lemmas.Nat.{mul-add-lt}
-use Rattle.argon2.specs.Context.{segment_length}
+use Rattle.std.proofs.lemmas.Nat.{mul-add-lt, mul-le}
+use Rattle.argon2.specs.Context.{Context, Sizes, block_count, segment_length}
 use Rattle.argon2.specs.Recurrence.{addresses_of, is_independent}
-use Rattle.argon2.specs.Steps.{run, turn_count}
+use Rattle.argon2.specs.Steps.{IsStep, run, turn_count}
 use Rattle.argon2.specs.Positions.{positions_of_run}
 use Rattle.argon2.specs.Counting.{segment_calls}
 use Rattle.argon2.proofs.recurrence.Addresses.{same_addresses, address_mixings, mixings_more}
@@ -26,10 +26,50 @@ in_lane slice segment index n h k is =
     let place = mul-add-lt slice segment index 4 h k in
     omega arith
 
+-- so the segment's columns are steps, from column 2 on in pass 0
+a_step : (ctx : Context) (pass lane slice segment index : ℕ) → lane < ctx.p_cost → slice < 4 → index < segment
+    → segment ≡ segment_length ctx → (pass ≡ 0 → 2 ≤ slice * segment + index)
+    → IsStep ctx pass lane (slice * segment + index)
+a_step ctx pass lane slice segment index l h k is later = record {
+  in_lanes = l;
+  in_columns = in_lane slice segment index (segment_length ctx) h k is;
+  later = later;
+}
+
+-- and numbers of 32 bits
+column_fits : (ctx : Context) (slice segment index : ℕ) → Sizes ctx → segment ≡ segment_length ctx → slice < 4 → index < segment
+    → slice * segment + index < 2 ^ 32
+column_fits ctx slice segment index sizes is h k =
+    let n : ℕ = 4 * segment_length ctx in
+    let lane : 1 * n ≤ ctx.p_cost * n = mul-le 1 n ctx.p_cost n sizes.some_lane (omega arith) in
+    let column = in_lane slice segment index (segment_length ctx) h k is in
+    let memory = sizes.in_memory in
+    let small = sizes.m_cost in
+    omega arith
+
 -- a later slice begins at column 2 or above
 later_slice : (slice segment start : ℕ) → slice ≢ 0 → 2 ≤ segment → 2 ≤ slice * segment + start
 later_slice zero segment start some two = absurd (some refl)
 later_slice (suc s) segment start some two = omega arith
+
+pub overflow_mul-column : goal.overflow_mul-column
+overflow_mul-column c =
+    let two = c.segment_length-segment.ensures.sizes.two_columns in
+    let fits = column_fits c.args.self.now c.args.slice c.segment_length-segment.result 0 c.segment_length-segment.ensures.sizes
+    c.segment_length-segment.ensures.value c.requires.in_slices (omega arith) in
+    omega arith
+
+pub overflow_mul-column-in-loop-index : goal.overflow_mul-column-in-loop-index
+overflow_mul-column-in-loop-index c =
+    let fits = column_fits c.args.self.now c.args.slice c.segment_length-segment.result c.loop-index.index
+    c.segment_length-segment.ensures.sizes c.segment_length-segment.ensures.value c.requires.in_slices c.loop-index-test.true in
+    omega arith
+
+pub overflow_add-column : goal.overflow_add-column
+overflow_add-column c =
+    let fits = column_fits c.args.self.now c.args.slice c.segment_length-segment.result c.loop-index.index
+    c.segment_length-segment.ensures.sizes c.segment_length-segment.ensures.value c.requires.in_slices c.loop-index-test.true in
+    omega arith
 
 pub loop-index-init : goal.loop-index-init
 loop-index-init c =
@@ -84,33 +124,22 @@ word-word-requires-clause-addresses c =
 
 pub word-word-requires-clause-place : goal.word-word-requires-clause-place
 word-word-requires-clause-place c = record {
-  step = record {
-    in_lanes = c.requires.in_lanes;
-    in_columns = in_lane c.args.slice c.segment_length-segment.result c.loop-index.index (segment_length c.args.self.now)
-        c.requires.in_slices c.loop-index-test.true c.segment_length-segment.ensures.value;
-    later = c.loop-index.invariant.later;
-  };
-  room = omega arith;
+  step = a_step _ _ _ _ _ _ c.requires.in_lanes c.requires.in_slices c.loop-index-test.true
+      c.segment_length-segment.ensures.value c.loop-index.invariant.later;
+  room = subst (λ n. block_count c.args.self.now ≤ n) (sym c.loop-index.auto.memory) c.requires.room;
 }
 
 pub step-reference-requires-clause-place : goal.step-reference-requires-clause-place
 step-reference-requires-clause-place c = record {
-  step = record {
-    in_lanes = c.requires.in_lanes;
-    in_columns = in_lane c.args.slice c.segment_length-segment.result c.loop-index.index (segment_length c.args.self.now)
-        c.requires.in_slices c.loop-index-test.true c.segment_length-segment.ensures.value;
-    later = c.loop-index.invariant.later;
-  };
-  room = omega arith;
+  step = a_step _ _ _ _ _ _ c.requires.in_lanes c.requires.in_slices c.loop-index-test.true
+      c.segment_length-segment.ensures.value c.loop-index.invariant.later;
+  room = subst (λ n. block_count c.args.self.now ≤ n) (sym c.loop-index.auto.memory) c.requires.room;
 }
 
 pub put_position-requires : goal.put_position-requires
-put_position-requires c = record {
-  in_lanes = c.requires.in_lanes;
-  in_columns = in_lane c.args.slice c.segment_length-segment.result c.loop-index.index (segment_length c.args.self.now)
-      c.requires.in_slices c.loop-index-test.true c.segment_length-segment.ensures.value;
-  later = c.loop-index.invariant.later;
-}
+put_position-requires c =
+    a_step _ _ _ _ _ _ c.requires.in_lanes c.requires.in_slices c.loop-index-test.true
+    c.segment_length-segment.ensures.value c.loop-index.invariant.later
 
 pub loop-index-preserved : goal.loop-index-preserved
 loop-index-preserved c =
