@@ -150,7 +150,11 @@ fn hashes_under_small_odd_costs(rt: HostRuntime) -> std::result::Result<(), Fail
     let mut memory = Vec::from_elem(rt.alloc(), Block::new(), 1056)?;
     for (n, row) in ROWS.iter().enumerate() {
         let digest = tag_digest(row, memory.as_mut_slice());
-        assert!(rt; digest == Ok(row.digest), "row {n}");
+        assert!(rt;
+            digest == Ok(row.digest),
+            "row {n}: {digest:?}, not {:?}",
+            row.digest
+        );
     }
     Ok(())
 }

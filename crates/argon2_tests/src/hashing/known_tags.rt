@@ -55,7 +55,13 @@ fn gives_the_tags_of_rfc_9106(rt: HostRuntime) {
     let mut memory = [Block::new(); 32];
     for row in &KNOWN_TAGS[3..] {
         let tag = tag_with(KeyId::EMPTY, row, &mut memory);
-        assert!(rt; tag == Ok(row.tag), "{} {:?}", row.algorithm, row.version);
+        assert!(rt;
+            tag == Ok(row.tag),
+            "{} {:?}: {tag:?}, not {:?}",
+            row.algorithm,
+            row.version,
+            row.tag
+        );
     }
 }
 
@@ -66,7 +72,13 @@ fn gives_the_known_tags_with_a_key_identifier(rt: HostRuntime) -> std::result::R
     let mut memory = [Block::new(); 40];
     for row in &KNOWN_TAGS {
         let tag = tag_with(key, row, &mut memory);
-        assert!(rt; tag == Ok(row.tag), "{} {:?}", row.algorithm, row.version);
+        assert!(rt;
+            tag == Ok(row.tag),
+            "{} {:?}: {tag:?}, not {:?}",
+            row.algorithm,
+            row.version,
+            row.tag
+        );
     }
     Ok(())
 }
@@ -83,6 +95,12 @@ fn gives_the_tags_of_password(rt: HostRuntime) {
     let mut memory = [Block::new(); 256];
     for row in &PASSWORD_TAGS {
         let tag = tag_of_password(row, &mut memory);
-        assert!(rt; tag == Ok(row.tag), "{} {:?}", row.algorithm, row.version);
+        assert!(rt;
+            tag == Ok(row.tag),
+            "{} {:?}: {tag:?}, not {:?}",
+            row.algorithm,
+            row.version,
+            row.tag
+        );
     }
 }

@@ -89,7 +89,13 @@ fn gives_the_known_tags_however_lanes_take_turns(rt: HostRuntime) -> Result<(), 
     for row in &KNOWN_TAGS {
         for slices in &ORDERS {
             let tag = tag_by_turns(row, slices)?;
-            assert!(rt; tag == row.tag, "{} {:?}", row.algorithm, row.version);
+            assert!(rt;
+                tag == row.tag,
+                "{} {:?}: {tag:?}, not {:?}",
+                row.algorithm,
+                row.version,
+                row.tag
+            );
         }
     }
     Ok(())
