@@ -72,26 +72,29 @@ nothing_yet kept seen policy tally read none unknown = record {
   salts = unknown;
 }
 
-pub line_more : (kept next : Line) (seen more : Seen) (policy : Policy) (old new : Tally) (bytes : List ℕ) (finding : Finding) (marks : Marks)
+pub line_more : (kept next : Line) (seen more : Seen) (policy : Policy) (old new : Tally) (bytes : List ℕ)
+    (finding : Finding) (marks : Marks)
     → ((line : List ℕ) → IsRead kept line → IsFinding line finding) → IsRead next [] → Counts marks old new
     → marks.class ≡ class_of policy finding → marks.short_salt ≡ has_short_salt policy finding
     → marks.equal_salt ≡ has_any seen (salt_of finding)
     → ((salt : List ℕ) → has_salt more salt ≡ (is_salt (salt_of finding) salt || has_salt seen salt))
     → IsBegun kept seen policy bytes old → IsBegun next more policy (bytes ++ 10 ∷ []) new
-line_more kept next seen more policy old new bytes finding marks finds none counts class_is short_is equal_is kept_salts b = record {
-  lines = b.rest ∷ b.lines;
-  findings = finding ∷ b.findings;
-  rest = [];
-  feeds = (b.feed, b.feeds);
-  feed = refl;
-  split = ap (λ l. l ++ 10 ∷ []) b.split ∙ append_assoc (joined b.lines) b.rest (10 ∷ []) ∙ sym (append-nil _);
-  found = (finds b.rest b.read, b.found);
-  tally = finding_more seen policy b.findings finding marks old new b.tally counts class_is short_is equal_is b.salts;
-  read = none;
-  salts = λ salt. kept_salts salt ∙ ap (λ known. is_salt (salt_of finding) salt || known) (b.salts salt);
-}
+line_more kept next seen more policy old new bytes finding marks finds none counts class_is short_is equal_is kept_salts
+    b = record {
+      lines = b.rest ∷ b.lines;
+      findings = finding ∷ b.findings;
+      rest = [];
+      feeds = (b.feed, b.feeds);
+      feed = refl;
+      split = ap (λ l. l ++ 10 ∷ []) b.split ∙ append_assoc (joined b.lines) b.rest (10 ∷ []) ∙ sym (append-nil _);
+      found = (finds b.rest b.read, b.found);
+      tally = finding_more seen policy b.findings finding marks old new b.tally counts class_is short_is equal_is b.salts;
+      read = none;
+      salts = λ salt. kept_salts salt ∙ ap (λ known. is_salt (salt_of finding) salt || known) (b.salts salt);
+    }
 
-pub line_last : (kept : Line) (seen : Seen) (policy : Policy) (old new : Tally) (bytes : List ℕ) (finding : Finding) (marks : Marks)
+pub line_last : (kept : Line) (seen : Seen) (policy : Policy) (old new : Tally) (bytes : List ℕ)
+    (finding : Finding) (marks : Marks)
     → ((line : List ℕ) → IsRead kept line → IsFinding line finding) → Counts marks old new
     → marks.class ≡ class_of policy finding → marks.short_salt ≡ has_short_salt policy finding
     → marks.equal_salt ≡ has_any seen (salt_of finding) → (IsRead kept [] → ⊥) → IsBegun kept seen policy bytes old

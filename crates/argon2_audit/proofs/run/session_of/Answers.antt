@@ -7,7 +7,8 @@ use Rattle.argon2_audit.proofs.run.session_of.Goals as goal
 pub pieces-preserved : goal.pieces-preserved
 pieces-preserved g c =
     let before = c.pieces.invariant in
-    let quiet : IsFalse c.args.shows_progress → Keeps (g.E.Write.contents c.args.errors.now) (g.E.Write.contents c.if-shows_progress.errors)
+    let quiet : IsFalse c.args.shows_progress
+    → Keeps (g.E.Write.contents c.args.errors.now) (g.E.Write.contents c.if-shows_progress.errors)
     = λ silent. elim c.if-shows_progress.branch [
       | then-shows_progress+then-turn w ↦ absurd (let clash : false ≡ true = sym silent ∙ w.if-shows_progress.true in cc)
       | else-shows_progress w ↦ rw w.errors-is (before.4 silent)

@@ -12,5 +12,6 @@ returns c =
     let stepped =
     is_stepped c.args.self.now c.block_count.result count c.args.memory.now c.step.new.memory c.requires.room
     c.step.auto.memory c.args.pass c.args.lane c.args.column (rw same at c.step.ensures.step) in
-    let place = λ (n : ℕ). reference_place (context_of c.args.self.now) (take n c.args.memory.now) c.args.pass c.args.lane c.args.column in
+    let place = λ (n : ℕ). reference_place (context_of c.args.self.now) (take n c.args.memory.now)
+    c.args.pass c.args.lane c.args.column in
     record { step = stepped.0; rest = stepped.1; place = (rw same at c.step.ensures.place) ∙ ap place count }
