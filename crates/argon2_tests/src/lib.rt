@@ -1,8 +1,15 @@
-//! The tests of `argon2`, all by its public calls: values that others have computed, printed texts, and each call once.
+//! The tests of `argon2_base` and `argon2`, all by their public calls: values that others have computed, printed texts,
+//! and each call once.
 #![tactic(auto)]
 
 #[cfg(test)]
 mod algorithm;
+#[cfg(test)]
+mod blake2b;
+#[cfg(test)]
+mod blake2b_long;
+#[cfg(test)]
+mod block;
 #[cfg(test)]
 mod hashing;
 #[cfg(test)]
@@ -11,5 +18,7 @@ mod login;
 mod params;
 #[cfg(test)]
 mod password_hash;
+#[cfg(test)]
+mod phc;
 #[cfg(test)]
 mod version;
