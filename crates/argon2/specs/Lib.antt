@@ -8,6 +8,7 @@ pub mod Hashing
 pub mod InitialHash
 pub mod Laws
 pub mod ListedParameters
+pub mod ListReading
 pub mod Login
 pub mod LoginTexts
 pub mod Made

@@ -1,7 +1,7 @@
 -- What follows from a test of each character.
-use Rattle.std.proofs.Common.{◌≡◌, ℕ, zero, suc, ◌<◌, Bool, true, false, List, [], ◌∷◌, arith, inl, inr, eqb}
+use Rattle.std.proofs.Common.{◌≡◌, ℕ, zero, suc, ◌<◌, ◌≤◌, Bool, true, false, ◌&&◌, List, [], ◌∷◌, length, arith, inl, inr, eqb, leb}
 use Rattle.std.proofs.lemmas.Bool.Decides.{nat_tests}
-use Rattle.std.proofs.lemmas.Bool.{cases_Bool, eqb-true, and_parts}
+use Rattle.std.proofs.lemmas.Bool.{cases_Bool, eqb-true, leb-true, and_parts}
 use Rattle.std.specs.List.{list_all, AllByRecursion}
 use Rattle.std.specs.Str.{IsAscii, IsUtf8}
 use Rattle.std.proofs.lemmas.Str.{IsUtf8-from_ascii}
@@ -26,6 +26,12 @@ ascii p gives (x ∷ s) h (suc i) = ascii p gives s (and_parts (p x) (list_all p
 -- the characters of a name
 pub name_chars : (s : List ℕ) → is_name s ≡ true → list_all is_name_char s ≡ true
 name_chars s h = (and_parts _ (list_all is_name_char s) h).1
+
+-- a text that is a name has at most 32 characters
+pub name_length : {text s : List ℕ} → text ≡ s → is_name s ≡ true → length text ≤ 32
+name_length {s = s} e h =
+    let lengths = and_parts (leb 1 (length s) && leb (length s) 32) (list_all is_name_char s) h in
+    rw e (leb-true (length s) 32 (and_parts (leb 1 (length s)) (leb (length s) 32) lengths.0).1)
 
 -- a name is text
 pub IsUtf8-name : (s : List ℕ) → is_name s ≡ true → IsUtf8 s

@@ -1,6 +1,6 @@
 -- How the output of the hash of any length grows piece by piece.
-use Rattle.std.proofs.Common.{◌≡◌, ℕ, zero, suc, ◌+◌, ◌-◌, ◌*◌, ◌<◌, ◌≤◌, List, [], ◌∷◌, ◌++◌, ◌^◌, length, take, slice_index_or, refl, sym, ap, ◌∙◌, arith, add-one, add-zero}
-use Rattle.std.proofs.lemmas.List.{append-nil, take_at}
+use Rattle.std.proofs.Common.{◌≡◌, ℕ, zero, suc, ◌+◌, ◌-◌, ◌*◌, ◌<◌, ◌≤◌, List, [], ◌∷◌, ◌++◌, ◌^◌, length, take, drop, slice_index_or, refl, sym, ap, ◌∙◌, arith, add-one, add-zero, length-drop}
+use Rattle.std.proofs.lemmas.List.{append-nil, drop_all, take_at}
 use Rattle.std.proofs.lemmas.Grind.{flat_map-append}
 use Rattle.std.proofs.lemmas.Slice.{take-put_mid}
 use Rattle.std.specs.List.{flat_map, range_with_len}
@@ -9,7 +9,7 @@ use Rattle.argon2_base.specs.LongHash.{chain, half, half_count, pieces, joined, 
 use Rattle.std.specs.Borrow.{Bor}
 use Rattle.std.specs.Int.{w32, to_le_bytes}
 use Rattle.std.proofs.lemmas.List.Folds.{length-flat_map-take}
-use borrow.Rule.Slice.PartMut.{put_mid}
+use borrow.Rule.Slice.PartMut.{put_mid, post_of}
 
 -- the first i halves
 abbrev pub first_halves : List ℕ → ℕ → List ℕ
@@ -59,6 +59,14 @@ next_piece first out before now ys i n k held fits eb en e64 ey len =
     take-put_mid (32 * i) k out ys (32 * (i + 1)) (omega arith) fits in
     let piece : ys ≡ half first (i + 1) = rw (ey, at) refl in
     (at, rw (front, held, piece) (sym (first_halves_more first i)))
+
+-- what stands in it after the last piece ys, the digest of V(i)
+pub last_piece : (first out now ys : List ℕ) (n i a k t : ℕ) → take (32 * i) out ≡ first_halves first i
+    → now ≡ chain first i → ys ≡ blake2b t now → length out ≡ n → a ≡ 32 * i → k ≡ length out - a
+    → t ≡ n - 32 * i → i ≡ half_count n → put_mid a k out ys ≡ pieces n first
+last_piece first out now ys n i a k t held en ey long ea ek et ei =
+    let rest : post_of a k out ≡ [] = drop_all k (drop a out) (omega (arith, length-drop a out)) in
+    rw (rest, append-nil, ey, en, et, ea, held, ei) refl
 
 -- one more input keeps the message's length in range
 pub input_fits : (inputs : List (Bor (List ℕ))) (i n : ℕ) (d : Bor (List ℕ)) → i < length inputs

@@ -1,7 +1,9 @@
 //! The variable-length hash function H' (RFC 9106, section 3.3).
 
-ghost use Rattle.std.specs.Prelude.{◌≡◌, ℕ, ◌+◌, ◌^◌, ◌<◌, ◌≤◌, List, length, take, OnOk, OnErr};
+ghost use Rattle.std.specs.Prelude.{◌≡◌, ℕ, ◌+◌, ◌^◌, ◌<◌, ◌≤◌, ◌++◌, List, length, min, take, OnOk, OnErr};
+ghost use Rattle.std.specs.Int.{w32, to_le_bytes};
 ghost use Rattle.argon2_base.specs.Blake2b.{blake2b};
+ghost use Rattle.argon2_base.specs.Hasher.{Holds};
 ghost use Rattle.argon2_base.specs.LongHash.{chain, pieces, long_hash, long_answer, joined};
 
 use crate::blake2b::Blake2b;
@@ -25,11 +27,7 @@ pub fn blake2b_long(inputs: &[&[u8]], out: &mut [u8]) -> Result<()>
     let Ok(len) = u32::try_from(out.len()) else {
         return Err(Error::OutputTooLong);
     };
-    let mut hasher = Blake2b::new(out.len().min(64));
-    hasher.update(&len.to_le_bytes());
-    'inputs: for input in inputs {
-        hasher.update(input);
-    }
+    let hasher = hasher_of(len, inputs);
     if out.len() <= 64 {
         hasher.finalize_into(out);
     } else {
@@ -38,6 +36,22 @@ pub fn blake2b_long(inputs: &[&[u8]], out: &mut [u8]) -> Result<()>
         write_pieces(&first, out);
     }
     Ok(())
+}
+
+// The hasher of an output's length and the inputs, whose digest has as many bytes as the output, but at
+// most 64.
+fn hasher_of(len: u32, inputs: &[&[u8]]) -> Blake2b
+    requires some { 1 ≤ len }
+    requires in_range { length (joined inputs.now) + 4 < 2 ^ 128 }
+    ensures digest_len { result.digest_len ≡ min len 64 }
+    ensures holds { Holds result (to_le_bytes w32 len ++ joined inputs.now) }
+{
+    let mut hasher = Blake2b::new(len.min(64) as usize);
+    hasher.update(&len.to_le_bytes());
+    'inputs: for input in inputs {
+        hasher.update(input);
+    }
+    hasher
 }
 
 // Writes an output of more than 64 bytes, whose V(1) is `start`.

@@ -14,14 +14,14 @@ use argon2_base::error::{Error, Result};
 
 /// Six settings that parameters are built of. Two builders are equal where all six are; a key
 /// identifier or associated data that is not set differs from an empty one that was set.
-#[derive(Clone, Debug, PartialEq, Eq, Drop)]
+#[derive(Clone, Copy, Debug, PartialEq, Eq)]
 pub struct ParamsBuilder {
-    m_cost: u32,
-    t_cost: u32,
-    p_cost: u32,
-    keyid: Option<KeyId>,
-    associated: Option<AssociatedData>,
-    output_len: Option<usize>,
+    pub(super) m_cost: u32,
+    pub(super) t_cost: u32,
+    pub(super) p_cost: u32,
+    pub(super) keyid: Option<KeyId>,
+    pub(super) associated: Option<AssociatedData>,
+    pub(super) output_len: Option<usize>,
 }
 
 impl ParamsBuilder {

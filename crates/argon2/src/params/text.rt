@@ -3,11 +3,13 @@
 ghost use Rattle.std.specs.Prelude.{◌≡◌, ◌≤◌, ◌++◌, IsTrue, codes, length};
 ghost use Rattle.argon2_base.specs.Decimal.{number_of};
 ghost use Rattle.argon2_base.specs.ParamsText.{are_params};
-ghost use Rattle.argon2_base.specs.Error.{bad_param};
+ghost use Rattle.argon2_base.specs.Error.{bad_param, outcome_of};
+ghost use Rattle.argon2.specs.ListReading.{value_taken};
+ghost use Rattle.std.specs.Option.{option_map};
 ghost use Rattle.argon2.specs.ByteLists.{keyid_bytes, data_bytes};
 ghost use Rattle.argon2.specs.ListedParameters.{bytes_item, listed, short_bytes, AreReadAgain, IsValueOr};
 
-use super::{AssociatedData, KeyId, Params};
+use super::{AssociatedData, KeyId, Params, ParamsBuilder};
 use argon2_base::error::password_hash::{Error, Result};
 use argon2_base::phc::{ParamsString, PasswordHash, Value};
 use std::fmt;
@@ -97,28 +99,87 @@ impl fmt::Display for Params {
 
 // ---- reading
 
-// The number that the value of this name is the decimal of.
-fn number(name: &'static str, value: &Value<'_>) -> Result<u32>
-    ensures { IsValueOr (bad_param name.now) (λ n. n) (number_of value.now) result }
+// Takes the number that the value of this name is the decimal of.
+fn take_number(found: &mut Option<u32>, name: &'static str, value: &Value<'_>) -> Result<()>
+    ensures { outcome_of (λ _. found.new) result ≡ value_taken (bad_param name.now) (number_of value.now) }
 {
     let Ok(n) = value.decimal() else {
         return Err(Error::ParamInvalid { name });
     };
-    Ok(n)
+    *found = Some(n);
+    Ok(())
 }
 
-// The key identifier that the text is the Base64 of.
-fn key_id(text: &str) -> Result<KeyId>
-    ensures { IsValueOr (bad_param (codes "keyid")) keyid_bytes (short_bytes 8 text.now) result }
+// Takes the key identifier that the text is the Base64 of.
+fn take_key_id(found: &mut Option<KeyId>, text: &str) -> Result<()>
+    ensures { outcome_of (λ _. option_map keyid_bytes found.new) result
+        ≡ value_taken (bad_param (codes "keyid")) (short_bytes 8 text.now) }
 {
-    KeyId::from_b64(text).or(Err(Error::ParamInvalid { name: "keyid" }))
+    let Ok(keyid) = KeyId::from_b64(text) else {
+        return Err(Error::ParamInvalid { name: "keyid" });
+    };
+    *found = Some(keyid);
+    Ok(())
 }
 
-// The associated data that the text is the Base64 of.
-fn associated_data(text: &str) -> Result<AssociatedData>
-    ensures { IsValueOr (bad_param (codes "data")) data_bytes (short_bytes 32 text.now) result }
+// Takes the associated data that the text is the Base64 of.
+fn take_data(found: &mut Option<AssociatedData>, text: &str) -> Result<()>
+    ensures { outcome_of (λ _. option_map data_bytes found.new) result
+        ≡ value_taken (bad_param (codes "data")) (short_bytes 32 text.now) }
 {
-    AssociatedData::from_b64(text).or(Err(Error::ParamInvalid { name: "data" }))
+    let Ok(associated) = AssociatedData::from_b64(text) else {
+        return Err(Error::ParamInvalid { name: "data" });
+    };
+    *found = Some(associated);
+    Ok(())
+}
+
+// What was found in a list under each name.
+#[derive(Clone, Copy)]
+struct Found {
+    m: Option<u32>,
+    t: Option<u32>,
+    p: Option<u32>,
+    keyid: Option<KeyId>,
+    associated: Option<AssociatedData>,
+}
+
+impl Found {
+    ghost use Rattle.std.specs.Prelude.{◌≡◌};
+    ghost use Rattle.argon2_base.specs.Error.{outcome_of};
+    ghost use Rattle.argon2.specs.ListReading.{found_of, item_taken, items_read};
+
+    // What a list says.
+    fn of(list: &ParamsString) -> Result<Found>
+        ensures { outcome_of found_of result ≡ items_read list.now }
+    {
+        let mut found = Found {
+            m: None,
+            t: None,
+            p: None,
+            keyid: None,
+            associated: None,
+        };
+        for (name, value) in list.iter() {
+            found.take(name.as_str(), &value)?;
+        }
+        Ok(found)
+    }
+
+    // Takes one item more.
+    fn take(&mut self, name: &str, value: &Value<'_>) -> Result<()>
+        ensures { outcome_of (λ _. found_of self.new) result
+            ≡ item_taken (name.now, value.now) (found_of self.old) }
+    {
+        match name {
+            "m" => take_number(&mut self.m, "m", value),
+            "t" => take_number(&mut self.t, "t", value),
+            "p" => take_number(&mut self.p, "p", value),
+            "keyid" => take_key_id(&mut self.keyid, value.as_str()),
+            "data" => take_data(&mut self.associated, value.as_str()),
+            _ => Err(Error::ParamsInvalid),
+        }
+    }
 }
 
 impl Params {
@@ -128,29 +189,22 @@ impl Params {
     ghost use Rattle.argon2.specs.Params.{parameters_of};
 
     // The parameters of a list, with this output length.
-    #[tactic(auto, using(crate::proofs::lists::ListReading::list_reading))]
     fn read(list: &ParamsString, output_len: Option<usize>) -> Result<Params>
         ensures { outcome_of parameters_of result ≡ params_of output_len list.now }
     {
-        let (mut m, mut t, mut p) = (None, None, None);
-        let (mut keyid, mut associated) = (KeyId::EMPTY, AssociatedData::EMPTY);
-        for (name, value) in list.iter() {
-            match name.as_str() {
-                "m" => m = Some(number("m", &value)?),
-                "t" => t = Some(number("t", &value)?),
-                "p" => p = Some(number("p", &value)?),
-                "keyid" => keyid = key_id(value.as_str())?,
-                "data" => associated = associated_data(value.as_str())?,
-                _ => return Err(Error::ParamsInvalid),
-            }
-        }
-        let (Some(m), Some(t), Some(p)) = (m, t, p) else {
+        let found = Found::of(list)?;
+        let (Some(m), Some(t), Some(p)) = (found.m, found.t, found.p) else {
             return Err(Error::ParamsInvalid);
         };
-        let mut params = Params::new(m, t, p, output_len)?;
-        params.keyid = keyid;
-        params.associated = associated;
-        Ok(params)
+        let builder = ParamsBuilder {
+            m_cost: m,
+            t_cost: t,
+            p_cost: p,
+            keyid: found.keyid,
+            associated: found.associated,
+            output_len,
+        };
+        Ok(builder.build()?)
     }
 }
 

@@ -144,14 +144,9 @@ fn mix(a: u64, b: u64, c: u64, d: u64, x: u64, y: u64) -> [u64; 4]
 fn xor_halves(h: &[u64; 8], v: &[u64; 16]) -> [u64; 8]
     ensures { result ≡ xor_halves h.now v.now }
 {
-    [
-        h[0] ^ v[0] ^ v[8],
-        h[1] ^ v[1] ^ v[9],
-        h[2] ^ v[2] ^ v[10],
-        h[3] ^ v[3] ^ v[11],
-        h[4] ^ v[4] ^ v[12],
-        h[5] ^ v[5] ^ v[13],
-        h[6] ^ v[6] ^ v[14],
-        h[7] ^ v[7] ^ v[15],
-    ]
+    let mut out = [0; 8];
+    'words: for i in 0..8 {
+        out[i] = h[i] ^ v[i] ^ v[i + 8];
+    }
+    out
 }

@@ -42,17 +42,18 @@ impl Error {
     pub fn text(&self) -> (&'static str, &'static str, &'static str)
         ensures { result.0.now ++ result.1.now ++ result.2.now ≡ hash_error_text self.now }
     {
-        match self {
-            Error::Algorithm => ("algorithm is not supported", "", ""),
-            Error::EncodingInvalid => ("encoding is invalid", "", ""),
-            Error::OutOfMemory => ("out of memory", "", ""),
-            Error::OutputSize => ("output size is invalid", "", ""),
-            Error::ParamInvalid { name } => ("parameter ", name, " is invalid"),
-            Error::ParamsInvalid => ("parameters are invalid", "", ""),
-            Error::PasswordInvalid => ("password is invalid", "", ""),
-            Error::SaltInvalid => ("salt is invalid", "", ""),
-            Error::Version => ("version is not supported", "", ""),
-        }
+        let sentence = match self {
+            Error::Algorithm => "algorithm is not supported",
+            Error::EncodingInvalid => "encoding is invalid",
+            Error::OutOfMemory => "out of memory",
+            Error::OutputSize => "output size is invalid",
+            Error::ParamInvalid { name } => return ("parameter ", name, " is invalid"),
+            Error::ParamsInvalid => "parameters are invalid",
+            Error::PasswordInvalid => "password is invalid",
+            Error::SaltInvalid => "salt is invalid",
+            Error::Version => "version is not supported",
+        };
+        (sentence, "", "")
     }
 }
 

@@ -37,16 +37,13 @@ pub(super) fn version_field(left: Option<&str>) -> Result<(Option<u32>, Option<&
         return Ok((None, None));
     };
     let (field, more) = first_field(text);
-    let Some((name, digits)) = split_item(field) else {
+    let Some(digits) = field.strip_prefix("v=") else {
         return Ok((None, left));
     };
-    if name != "v" {
-        return Ok((None, left));
+    match read_decimal(digits) {
+        Some(number) => Ok((Some(number), more)),
+        None => Err(Error::EncodingInvalid),
     }
-    let Some(number) = read_decimal(digits) else {
-        return Err(Error::EncodingInvalid);
-    };
-    Ok((Some(number), more))
 }
 
 // The parameters, where they are next, and what is left.
@@ -91,16 +88,24 @@ fn bytes_field(left: Option<&str>) -> Result<(Option<ByteList<64>>, Option<&str>
 pub(super) fn salt_field(left: Option<&str>) -> Result<(Option<Salt>, Option<&str>)>
     ensures { IsBytesField 8 48 (fields_left left.entry) result }
 {
-    let (bytes, more) = bytes_field(left)?;
-    let salt = bytes.map(|bytes| Salt::new(bytes.as_bytes())).transpose();
-    Ok((salt.or(Err(Error::EncodingInvalid))?, more))
+    let (Some(bytes), more) = bytes_field(left)? else {
+        return Ok((None, None));
+    };
+    match Salt::new(bytes.as_bytes()) {
+        Ok(salt) => Ok((Some(salt), more)),
+        Err(_) => Err(Error::EncodingInvalid),
+    }
 }
 
 // The hash, where anything is left, and what is left.
 pub(super) fn hash_field(left: Option<&str>) -> Result<(Option<Output>, Option<&str>)>
     ensures { IsBytesField 4 64 (fields_left left.entry) result }
 {
-    let (bytes, more) = bytes_field(left)?;
-    let hash = bytes.map(|bytes| Output::new(bytes.as_bytes())).transpose();
-    Ok((hash.or(Err(Error::EncodingInvalid))?, more))
+    let (Some(bytes), more) = bytes_field(left)? else {
+        return Ok((None, None));
+    };
+    match Output::new(bytes.as_bytes()) {
+        Ok(hash) => Ok((Some(hash), more)),
+        Err(_) => Err(Error::EncodingInvalid),
+    }
 }

@@ -1,6 +1,6 @@
 use Rattle.std.proofs.Common.{length, refl, ap, sym, ◌∙◌, arith}
 use Rattle.std.proofs.lemmas.List.{length-take-le}
-use Rattle.argon2_base.proofs.Pieces.{first_piece, next_piece}
+use Rattle.argon2_base.proofs.Pieces.{first_piece, next_piece, last_piece}
 use Rattle.argon2_base.proofs.blake2b_long.write_pieces.Goals as goal
 
 pub copy_from_slice-requires : goal.copy_from_slice-requires
@@ -28,3 +28,9 @@ pieces-preserved c =
           next_piece first c.pieces.out c.pieces.current _ _ c.pieces.i _ _ held.1 (omega arith) held.0
           c.write_digest.ensures c.pieces.invariant.0 (written ∙ front.value) (ap length written ∙ front.len),
     )
+
+pub returns : goal.returns
+returns c = λ first start.
+    let held = c.pieces.invariant.1 first start in
+    last_piece first c.pieces.out c.pieces.current _ (length c.args.out.now) c.pieces.i _ _ _ held.1 held.0
+    c.write_digest-2.ensures (omega arith) (omega arith) refl (omega arith) (omega arith)

@@ -1,0 +1,15 @@
+use Rattle.std.proofs.Common.{◌≡◌, take, arith}
+use Rattle.std.proofs.lemmas.List.{take_all}
+use Rattle.argon2_base.proofs.Pieces.{input_fits}
+use Rattle.argon2_base.proofs.blake2b_long.hasher_of.Goals as goal
+
+pub update-requires-in-inputs : goal.update-requires-in-inputs
+update-requires-in-inputs c =
+    input_fits c.args.inputs.now c.inputs.input-index _ _ c.inputs-test.true
+    c.inputs.invariant.message_len c.requires.in_range
+
+pub returns-clause-holds : goal.returns-clause-holds
+returns-clause-holds c =
+    let inputs = c.args.inputs.now in
+    let all : take c.inputs.input-index inputs ≡ inputs = take_all _ inputs (omega arith) in
+    rw all at c.inputs.invariant.holds
