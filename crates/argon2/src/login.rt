@@ -1,6 +1,6 @@
 //! A login store that renews old texts: names with PHC texts, and what new texts are made under.
 
-ghost use Rattle.std.specs.Prelude.{◌≡◌, ◌⊎◌, Some, OnOk, MatchResult};
+ghost use Rattle.std.specs.Prelude.{◌≡◌, ◌⊎◌, Some, Ok, OnOk, MatchResult};
 ghost use Rattle.std.specs.FinMap.{entries, get};
 ghost use Rattle.std.specs.Option.{option_copied, option_map};
 ghost use Rattle.rand_core.specs.Stream.{fill_bytes};
@@ -8,7 +8,7 @@ ghost use Rattle.argon2_base.specs.PasswordHash.{phc_of};
 ghost use Rattle.argon2_base.specs.PhcText.{Phc, PhcText};
 ghost use Rattle.argon2_base.specs.declared.error.password_hash.Error.TheVariants.{OutOfMemory as NoMemory};
 ghost use Rattle.argon2.specs.declared.login.answers.LoginError.TheVariants.{Refused};
-ghost use Rattle.argon2.specs.Login.{HasPassword, IsNew, Steps, adding, logging_in, named_values, store_of, stream_after, target_of};
+ghost use Rattle.argon2.specs.Login.{AcceptedStep, HasPassword, IsCurrent, IsNew, Steps, adding, logging_in, named_values, store_of, stream_after, target_of};
 ghost use Rattle.argon2.specs.Made as made_under;
 
 use crate::context::Argon2;
@@ -121,15 +121,28 @@ impl<'key> Login<'key> {
         if is_current(&self.target, text) {
             return Ok(Accepted::Current);
         }
+        Ok(self.renew(rng, name, password))
+    }
+
+    // Writes a fresh text over the one of a name.
+    fn renew<R: Rng>(&mut self, rng: &mut R, name: &str, password: &[u8]) -> Accepted
+        ensures step { (v : Phc) → ¬ (IsCurrent (target_of self.old) v) →
+            AcceptedStep (target_of self.old) (store_of self.old) name.now password.now
+                (fill_bytes 16 (R.stream rng.old)).0 v result (store_of self.new) }
+        ensures accepted { HasPassword (target_of self.old) (store_of self.old) name.now password.now →
+            HasPassword (target_of self.old) (store_of self.new) name.now password.now }
+        ensures drawn { R.stream rng.new ≡ stream_after (Ok result) (R.stream rng.old) }
+        ensures target { target_of self.new ≡ target_of self.old }
+    {
         let Ok(fresh) = self.target.hash_password(self.alloc, rng, password) else {
-            return Ok(Accepted::Kept);
+            return Accepted::Kept;
         };
         let Some(text) = self.texts.get_mut(name) else {
-            return Ok(Accepted::Kept);
+            return Accepted::Kept;
         };
         self.target.know_target();
         *text = fresh;
-        Ok(Accepted::Rehashed)
+        Accepted::Rehashed
     }
 
     /// The text of a name, where it has one.

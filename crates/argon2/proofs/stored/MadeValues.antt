@@ -1,10 +1,12 @@
 -- What is made is in the grammar, is accepted, and shows the settings.
-use Rattle.std.proofs.Common.{◌≡◌, ℕ, ◌^◌, ◌<◌, ◌≤◌, true, List, length, Option, Some, None, Ok, refl, sym, ap, arith}
+use Rattle.std.proofs.Common.{◌≡◌, ℕ, ◌^◌, ◌<◌, ◌≤◌, true, List, length, Option, Some, None, Result, Ok, refl, sym, ap, arith}
 use Rattle.std.specs.Prelude.{IsNone, unwrap_or}
 use Rattle.std.proofs.lemmas.Bool.Decides.{nat_tests}
 use Rattle.argon2_base.specs.Base64.{IsBytes}
 use Rattle.argon2_base.specs.Names.{is_name}
+use Rattle.argon2_base.specs.ParamsText.{Pair}
 use Rattle.argon2_base.specs.declared.error.Error.{Error}
+use Rattle.argon2_base.specs.declared.error.password_hash.Error.{Error as HashError}
 use Rattle.argon2_base.specs.PhcText.{Phc, IsPhc, HasBytes, phc_text}
 use Rattle.argon2.specs.declared.algorithm.Algorithm.{Algorithm}
 use Rattle.argon2.specs.declared.algorithm.Algorithm.TheVariants.{Argon2d, Argon2i, Argon2id}
@@ -116,3 +118,15 @@ module _ (target : Target) (is : IsTarget target) (password salt : List ℕ) whe
   pub made_accepted : (v : Phc) → v ≡ made target password salt → HasBytes 8 48 salt → length password ≤ 4294967295
       → Accepts target.secret password (phc_text v)
   made_accepted v e bytes short = (v, (rw e (made_is_phc bytes), refl), rw e (made_accepts short))
+
+-- what is made of its parts
+pub is_made : (target : Target) (password salt name : List ℕ) (number : ℕ) (ps : List Pair) (v : Parameters)
+    (own given tag : List ℕ)
+    → name ≡ algorithm_name target.settings.algorithm → number ≡ version_number target.settings.version
+    → ◌≡◌ {A = Result (List Pair) HashError} (Ok ps) (Ok (list_of v)) → v ≡ target.settings.parameters → own ≡ salt → given ≡ own
+    → tag ≡ tag_of (context_with target.settings target.secret) password given (tag_length target.settings)
+    → record { algorithm = name; version = Some number; params = ps; salt = Some own; hash = Some tag }
+    ≡ made target password salt
+is_made target password salt name number ps v own given tag named numbered listed of_target salted same tagged =
+    let list : ps ≡ list_of v = cc in
+    rw (named, numbered, list, of_target, tagged, same, salted) refl

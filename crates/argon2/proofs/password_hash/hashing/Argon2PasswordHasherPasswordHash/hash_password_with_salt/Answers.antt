@@ -1,31 +1,42 @@
-use Rattle.std.proofs.Common.{rules, ◌≡◌, Some}
+use Rattle.std.proofs.Common.{ap, ◌∙◌, inl}
 use Rattle.argon2_base.specs.Ident.{ident_text}
-use Rattle.argon2_base.specs.PhcText.{Phc}
-use Rattle.argon2.specs.Made.{target_of, made}
-use Rattle.argon2.proofs.stored.MadeValues.{made_accepted, made_shows}
+use Rattle.argon2.specs.Algorithm.{algorithm_name}
+use Rattle.argon2.specs.Made.{target_of}
+use Rattle.argon2.specs.Params.{parameters_of}
+use Rattle.argon2.specs.Version.{version_number}
+use Rattle.argon2.proofs.stored.Hashed.{unsalted, untagged, answered}
+use Rattle.argon2.proofs.stored.MadeValues.{is_made, made_accepted, made_shows}
 use Rattle.argon2.proofs.password_hash.hashing.Argon2PasswordHasherPasswordHash.hash_password_with_salt.Goals as goal
 
-pub returns-clause-accepted : goal.returns-clause-accepted
-returns-clause-accepted c =
-    let v : Phc = record {
-      algorithm = ident_text c.ident.result;
-      version = Some c.from.result;
-      params = c.in_ok-try_from.field-0;
-      salt = Some c.in_ok-salt.salt;
-      hash = Some c.in_ok-hash.hash;
-    } in
-    let is : v ≡ made (target_of c.args.self.now) c.args.password.now c.args.salt.now = search rules in
-    made_accepted (target_of c.args.self.now) c.know_target.ensures c.args.password.now c.args.salt.now v is
-    (search rules) (search rules)
+pub returns-in_err-salt-clause-answer : goal.returns-in_err-salt-clause-answer
+returns-in_err-salt-clause-answer c = unsalted (target_of c.args.self.now) c.args.password.now c.args.salt.now
+    c.in_err-salt.field-0.0 c.from_residual.result c.in_err-salt.ensures.when c.from_residual.ensures.1
 
-pub returns-clause-shown : goal.returns-clause-shown
-returns-clause-shown c =
-    let v : Phc = record {
-      algorithm = ident_text c.ident.result;
-      version = Some c.from.result;
-      params = c.in_ok-try_from.field-0;
-      salt = Some c.in_ok-salt.salt;
-      hash = Some c.in_ok-hash.hash;
-    } in
-    let is : v ≡ made (target_of c.args.self.now) c.args.password.now c.args.salt.now = search rules in
-    made_shows (target_of c.args.self.now) c.know_target.ensures c.args.password.now c.args.salt.now v is
+pub tag-requires-clause-fits : goal.tag-requires-clause-fits
+tag-requires-clause-fits c = c.know_target.ensures.tag_length
+
+pub returns-in_err-hash-clause-answer : goal.returns-in_err-hash-clause-answer
+returns-in_err-hash-clause-answer c = untagged (target_of c.args.self.now) c.args.password.now c.args.salt.now
+    c.in_ok-salt.ensures.when.0 c.in_ok-salt.ensures.when.1 c.know_target.ensures.tag_length
+    c.in_err-hash.field-0.0 c.from_residual-in_err-hash.result c.in_err-hash.ensures
+    c.from_residual-in_err-hash.ensures.1
+
+pub returns : goal.returns
+returns c =
+    let target = target_of c.args.self.now in
+    let password = c.args.password.now in
+    let salt = c.args.salt.now in
+    let is = is_made target password salt (ident_text c.ident.result) c.from.result c.in_ok-try_from.field-0
+    (parameters_of c.params.result.now) c.in_ok-salt.salt c.as_bytes.result.now c.in_ok-hash.hash
+    (c.ident.ensures ∙ ap algorithm_name c.algorithm.ensures) (c.from.ensures ∙ ap version_number c.version.ensures)
+    c.in_ok-try_from.ensures.0 c.params.ensures c.in_ok-salt.ensures.value c.as_bytes.ensures.value
+    c.in_ok-hash.ensures.1 in
+    let lengths = c.in_ok-salt.ensures.when in
+    let bytes = rw c.in_ok-salt.ensures.value at c.as_bytes.ensures.bytes in
+    record {
+      answer = inl (answered target password salt lengths.0 lengths.1 c.know_target.ensures.tag_length _ is
+          c.in_ok-hash.ensures.0);
+      accepted = made_accepted target c.know_target.ensures password salt _ is (bytes, lengths.0, lengths.1)
+          c.in_ok-hash.ensures.0;
+      shown = made_shows target c.know_target.ensures password salt _ is;
+    }

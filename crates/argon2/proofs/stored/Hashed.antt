@@ -1,0 +1,60 @@
+-- What hashing answers, by its steps.
+use Rattle.std.proofs.Common.{◌≡◌, ℕ, ◌<◌, ◌≤◌, Bool, List, [], ◌++◌, length, Option, Some, None, Result, Ok, Err, inl, inr, ◌⊎◌, refl, sym, ap, ◌∙◌, arith}
+use Rattle.std.proofs.lemmas.Bool.{le-ltb, lt-ltb}
+use Rattle.std.proofs.lemmas.Bool.Decides.{nat_tests}
+use Rattle.std.specs.Option.{is_some}
+use Rattle.std.specs.Result.{IsErrAnd}
+use Rattle.argon2_base.specs.Error.{Fault, bad_salt}
+use Rattle.argon2_base.specs.PhcText.{Phc}
+use Rattle.argon2_base.specs.declared.error.password_hash.Error.{Error}
+use Rattle.argon2_base.specs.declared.error.password_hash.Error.TheVariants.{OutOfMemory, PasswordInvalid, SaltInvalid}
+use Rattle.argon2_base.specs.declared.phc.hash.PasswordHash.{PasswordHash}
+use Rattle.argon2.specs.ListedParameters.{checked}
+use Rattle.argon2.specs.Made.{Target, tag_length, made, text_faults, password_faults, hashed, IsHashAnswer}
+use Rattle.argon2.specs.Refusals.{first_of}
+
+no_text_fault : (salt hash : ℕ) (rest : List (Bool × Fault)) → 8 ≤ salt → salt ≤ 48 → hash ≤ 64
+    → first_of (text_faults salt hash ++ rest) ≡ first_of rest
+no_text_fault salt hash rest least most fits = rw (le-ltb salt 8 least, le-ltb 48 salt most, le-ltb 64 hash fits) refl
+
+salt_fault : (salt hash : ℕ) (rest : List (Bool × Fault)) → (8 ≤ salt → salt ≤ 48 → ⊥)
+    → first_of (text_faults salt hash ++ rest) ≡ Some bad_salt
+salt_fault salt hash rest never = grind (arith, nat_tests)
+
+module _ (target : Target) (password salt : List ℕ) where
+  -- the first fault of the lengths
+  abbrev fault : Option Fault
+  fault = first_of (text_faults (length salt) (tag_length target.settings) ++ password_faults (length password))
+
+  refused : {f : Fault} → fault ≡ Some f → Err f ≡ hashed target password salt
+  refused is = sym (ap (λ o. checked o (Ok (made target password salt))) is)
+
+  unrefused : fault ≡ None → Ok (made target password salt) ≡ hashed target password salt
+  unrefused none = sym (ap (λ o. checked o (Ok (made target password salt))) none)
+
+  -- the salt was refused
+  pub unsalted : (e : Error) (r : Result PasswordHash Error)
+      → (e ≡ SaltInvalid) × (8 ≤ length salt → length salt ≤ 48 → ⊥) → IsErrAnd r (λ f. f ≡ e)
+      → IsHashAnswer target password salt r
+  unsalted e (Ok _) why h = absurd h
+  unsalted e (Err f) why h =
+      inl (rw (h, why.0) (refused (salt_fault _ _ (password_faults (length password)) why.1)))
+
+  module _ (least : 8 ≤ length salt) (most : length salt ≤ 48) (fits : tag_length target.settings ≤ 64) where
+    -- no tag was made
+    pub untagged : (e : Error) (r : Result PasswordHash Error)
+        → (e ≡ OutOfMemory) ⊎ ((e ≡ PasswordInvalid) × (4294967295 < length password)) → IsErrAnd r (λ f. f ≡ e)
+        → IsHashAnswer target password salt r
+    untagged e (Ok _) why h = absurd h
+    untagged e (Err f) (inl memory) h =
+        inr (rw (h, memory) refl, ap is_some (no_text_fault (length salt) (tag_length target.settings) [] least most fits))
+    untagged e (Err f) (inr why) h =
+        inl (rw (h, why.0) (refused (no_text_fault _ _ (password_faults (length password)) least most fits
+        ∙ rw (lt-ltb 4294967295 (length password) why.1) refl)))
+
+    -- a value was made
+    pub answered : (v : Phc) → v ≡ made target password salt → length password ≤ 4294967295
+        → Ok v ≡ hashed target password salt
+    answered v is short =
+        ap Ok is ∙ unrefused (no_text_fault _ _ (password_faults (length password)) least most fits
+        ∙ rw (le-ltb 4294967295 (length password) short) refl)
