@@ -24,9 +24,10 @@ pub fn digest<R: Read>(alloc: Global, len: usize, input: &mut R) -> Result<Strin
     ensures err { IfErr result IsOfReading }
 {
     let hasher = hasher_of(len, input)?;
-    let mut out = [0u8; 64];
-    hasher.finalize_into(&mut out[..len]);
-    Ok(hex::encode(alloc, &out[..len])?)
+    let mut digest = [0u8; 64];
+    let out = &mut digest[..len];
+    hasher.finalize_into(out);
+    Ok(hex::encode(alloc, out)?)
 }
 
 // A hasher for a digest of `len` bytes, which holds all that is left in `input`.

@@ -1,0 +1,194 @@
+-- What a call that refuses makes of a result.
+use Rattle.std.proofs.Common.{◌≡◌, ◌⊎◌, List, ℕ, Option, Some, None, Result, Ok, Err, inl, inr, length, [], take, ◌++◌, ◌∙◌, ap, subst, sym}
+use Rattle.std.proofs.Math.Seq.{take-append_seam}
+use Rattle.hex.specs.Hex.{encode_lower}
+use Rattle.std.specs.Prelude.{IfErr, IfOk, IfSome, IsErr, IsErrAnd}
+use Rattle.argon2_base.specs.declared.error.Error.{Error}
+use Rattle.argon2_base.specs.declared.error.Error.TheVariants.{OutOfMemory}
+use Rattle.argon2.specs.Refusals.{length_refusal}
+use Rattle.argon2.specs.Tag.{tag_of}
+use Rattle.argon2.specs.Context.{context_with}
+use Rattle.argon2.specs.Settings.{Settings}
+use Rattle.argon2_tool.specs.Commands.{tag_under}
+use Rattle.argon2_tool.specs.Request.{unless}
+use Rattle.argon2_tool.specs.Failures.{HasNone, IsBeforeReply, IsBeforeWriting, IsMemory, IsOfHashing, IsOfReading, IsRefusal}
+use Rattle.argon2_tool.specs.declared.failure.Failure.{Failure}
+use Rattle.argon2_tool.specs.declared.failure.Failure.TheVariants.{Input, Output, Memory, Hashing, Text}
+
+-- an error promises nothing of a value
+pub no_value : {X E : Type 0} → (P : X → Type 0) (r : Result X E) → IsErr r → IfOk r P
+no_value P (Ok x) e = absurd cc
+no_value P (Err y) e = tt
+
+by_memory : (reply : Result (List ℕ) Error) (f : Failure) → IsMemory f → IsRefusal reply f
+by_memory reply Input h = absurd h
+by_memory reply Output h = absurd h
+by_memory reply (Memory refused) h = tt
+by_memory reply (Hashing refusal) h = absurd h
+by_memory reply (Text refusal) h = absurd h
+
+-- want of memory is no reply
+pub refused_memory : {X : Type 0} → (reply : Result (List ℕ) Error) (r : Result X Failure) → IsErrAnd r IsMemory
+    → IfErr r (IsRefusal reply)
+refused_memory reply (Ok x) h = tt
+refused_memory reply (Err f) h = by_memory reply f h
+
+by_hashing : (reply : Result (List ℕ) Error) (e : Error) (f : Failure) → (e ≡ OutOfMemory) ⊎ (reply ≡ Err e)
+    → IsOfHashing e f → IsRefusal reply f
+by_hashing reply e Input why h = absurd h
+by_hashing reply e Output why h = absurd h
+by_hashing reply e (Memory refused) why h = tt
+by_hashing reply e (Hashing refusal) (inl memory) h = absurd (h.1 memory)
+by_hashing reply e (Hashing refusal) (inr is) h = cc
+by_hashing reply e (Text refusal) why h = absurd h
+
+-- a call refuses for want of memory, or what its reply is
+pub refused_hashing : {X : Type 0} → (reply : Result (List ℕ) Error) (e : Error) (r : Result X Failure)
+    → (e ≡ OutOfMemory) ⊎ (reply ≡ Err e) → IsErrAnd r (IsOfHashing e) → IfErr r (IsRefusal reply)
+refused_hashing reply e (Ok x) why h = tt
+refused_hashing reply e (Err f) why h = by_hashing reply e f why h
+
+unless_refused : {X : Type 0} → (fault : Option Error) (value : X) (e : Error) → fault ≡ Some e → unless fault value ≡ Err e
+unless_refused None value e is = absurd cc
+unless_refused (Some fault) value e is = cc
+
+unless_made : {X : Type 0} → (fault : Option Error) (value other : X) → fault ≡ None → other ≡ value
+    → unless fault value ≡ Ok other
+unless_made None value other is same = cc
+unless_made (Some fault) value other is same = absurd cc
+
+-- the call that makes a tag of n bytes refuses for want of memory, or what its reply is
+pub why_no_tag : (settings : Settings) (len n : ℕ) (salt password bytes : List ℕ) (e : Error) → n ≡ len → bytes ≡ salt
+    → (e ≡ OutOfMemory) ⊎ (length_refusal settings.parameters.output_len n (length password) (length bytes) ≡ Some e)
+    → (e ≡ OutOfMemory) ⊎ (tag_under settings len salt password ≡ Err e)
+why_no_tag settings len n salt password bytes e same bytes_are (inl memory) = inl memory
+why_no_tag settings len n salt password bytes e same bytes_are (inr fault) = inr (unless_refused _ _ e (rw (← same, ← bytes_are) fault))
+
+-- what a buffer begins with, where it has its length
+pub front : (out rest items : List ℕ) (n : ℕ) → rest ≡ take n (out ++ items) → length out ≡ n → rest ≡ out
+front out rest items n is long = is ∙ (ap (λ k. take k (out ++ items)) (sym long) ∙ take-append_seam out items)
+
+-- the tag of n bytes in hex is the reply
+pub tag_made : (settings : Settings) (len n : ℕ) (salt password bytes key out text : List ℕ) → n ≡ len → bytes ≡ salt
+    → length_refusal settings.parameters.output_len n (length password) (length bytes) ≡ None
+    → out ≡ tag_of (context_with settings key) password bytes n → key ≡ [] → text ≡ encode_lower out
+    → tag_under settings len salt password ≡ Ok text
+tag_made settings len n salt password bytes key out text same bytes_are fits is none hex =
+    rw (← same, ← bytes_are) (unless_made _ _ text fits (hex ∙ ap encode_lower (is
+    ∙ ap (λ k. tag_of (context_with settings k) password bytes n) none)))
+
+-- what is not there is not found
+pub nothing_found : {X : Type 0} → (P : X → Type 0) (o : Option X) → o ≡ None → IfSome o P
+nothing_found P None is = tt
+nothing_found P (Some x) is = absurd cc
+
+-- what a call makes of a message is made of the input, where that is known
+pub made_of_input : {X E : Type 0} → (P : X → List ℕ → Type 0) (input : Option (List ℕ)) (message : List ℕ) (r : Result X E)
+    → IfSome input (λ m. message ≡ m) → IfOk r (λ x. P x message) → IfOk r (λ x. IfSome input (P x))
+made_of_input P None message (Ok x) is h = tt
+made_of_input P (Some m) message (Ok x) is h = subst (P x) is h
+made_of_input P input message (Err e) is h = tt
+
+-- a read that fails comes before a reply
+before_by_reading : (replies : List ℕ → List ℕ → Type 0) (input : Option (List ℕ)) (f : Failure) → IsOfReading f
+    → IsBeforeReply replies input f
+before_by_reading replies input Input h = tt
+before_by_reading replies input Output h = absurd h
+before_by_reading replies input (Memory refused) h = tt
+before_by_reading replies input (Hashing refusal) h = absurd h
+before_by_reading replies input (Text refusal) h = absurd h
+
+pub unread_before : {X : Type 0} → (replies : List ℕ → List ℕ → Type 0) (input : Option (List ℕ)) (e : Failure) (r : Result X Failure)
+    → IsOfReading e → IsErrAnd r (λ f. f ≡ e) → IfErr r (IsBeforeReply replies input)
+unread_before replies input e (Ok x) h same = tt
+unread_before replies input e (Err f) h same = before_by_reading replies input f (subst IsOfReading (sym same) h)
+
+writing_by_reading : (reply : List ℕ → Result (List ℕ) Error) (input : Option (List ℕ)) (f : Failure) → IsOfReading f
+    → IsBeforeWriting reply input f
+writing_by_reading reply input Input h = tt
+writing_by_reading reply input Output h = absurd h
+writing_by_reading reply input (Memory refused) h = tt
+writing_by_reading reply input (Hashing refusal) h = absurd h
+writing_by_reading reply input (Text refusal) h = absurd h
+
+pub unread_writing : {X : Type 0} → (reply : List ℕ → Result (List ℕ) Error) (input : Option (List ℕ)) (e : Failure)
+    (r : Result X Failure) → IsOfReading e → IsErrAnd r (λ f. f ≡ e) → IfErr r (IsBeforeWriting reply input)
+unread_writing reply input e (Ok x) h same = tt
+unread_writing reply input e (Err f) h same = writing_by_reading reply input f (subst IsOfReading (sym same) h)
+
+-- the refusal of a message is that of the input, where that is known
+reply_to_input : (reply : List ℕ → Result (List ℕ) Error) (input : Option (List ℕ)) (message : List ℕ) (e : Error)
+    → IfSome input (λ m. message ≡ m) → reply message ≡ Err e → IfSome input (λ m. reply m ≡ Err e)
+reply_to_input reply None message e is h = tt
+reply_to_input reply (Some m) message e is h = subst (λ x. reply x ≡ Err e) is h
+
+before_writing : (reply : List ℕ → Result (List ℕ) Error) (input : Option (List ℕ)) (message : List ℕ) (f : Failure)
+    → IfSome input (λ m. message ≡ m) → IsRefusal (reply message) f → IsBeforeWriting reply input f
+before_writing reply input message Input is h = absurd h
+before_writing reply input message Output is h = absurd h
+before_writing reply input message (Memory refused) is h = tt
+before_writing reply input message (Hashing refusal) is h = reply_to_input reply input message refusal is h
+before_writing reply input message (Text refusal) is h = absurd h
+
+pub refused_writing : {X : Type 0} → (reply : List ℕ → Result (List ℕ) Error) (input : Option (List ℕ)) (message : List ℕ)
+    (r : Result X Failure) → IfSome input (λ m. message ≡ m) → IfErr r (IsRefusal (reply message))
+    → IfErr r (IsBeforeWriting reply input)
+refused_writing reply input message (Ok x) is h = tt
+refused_writing reply input message (Err f) is h = before_writing reply input message f is h
+
+-- settings that are refused have no reply
+always : (reply : List ℕ → Result (List ℕ) Error) (input : Option (List ℕ)) (e : Error) → ((m : List ℕ) → reply m ≡ Err e)
+    → IfSome input (λ m. reply m ≡ Err e)
+always reply None e h = tt
+always reply (Some m) e h = h m
+
+writing_by_settings : (reply : List ℕ → Result (List ℕ) Error) (input : Option (List ℕ)) (e : Error) (f : Failure)
+    → ((m : List ℕ) → reply m ≡ Err e) → IsOfHashing e f → IsBeforeWriting reply input f
+writing_by_settings reply input e Input why h = tt
+writing_by_settings reply input e Output why h = absurd h
+writing_by_settings reply input e (Memory refused) why h = tt
+writing_by_settings reply input e (Hashing refusal) why h = subst (λ x. IfSome input (λ m. reply m ≡ Err x)) (sym h.0)
+    (always reply input e why)
+writing_by_settings reply input e (Text refusal) why h = absurd h
+
+pub refused_settings_writing : {X : Type 0} → (reply : List ℕ → Result (List ℕ) Error) (input : Option (List ℕ)) (e : Error)
+    (r : Result X Failure) → ((m : List ℕ) → reply m ≡ Err e) → IsErrAnd r (IsOfHashing e) → IfErr r (IsBeforeWriting reply input)
+refused_settings_writing reply input e (Ok x) why h = tt
+refused_settings_writing reply input e (Err f) why h = writing_by_settings reply input e f why h
+
+none_ever : (replies : List ℕ → List ℕ → Type 0) (input : Option (List ℕ)) → ((m : List ℕ) → HasNone (replies m))
+    → IfSome input (λ m. HasNone (replies m))
+none_ever replies None h = tt
+none_ever replies (Some m) h = h m
+
+before_by_settings : (replies : List ℕ → List ℕ → Type 0) (input : Option (List ℕ)) (e : Error) (f : Failure)
+    → ((m : List ℕ) → HasNone (replies m)) → IsOfHashing e f → IsBeforeReply replies input f
+before_by_settings replies input e Input why h = tt
+before_by_settings replies input e Output why h = absurd h
+before_by_settings replies input e (Memory refused) why h = tt
+before_by_settings replies input e (Hashing refusal) why h = none_ever replies input why
+before_by_settings replies input e (Text refusal) why h = absurd h
+
+pub refused_settings_before : {X : Type 0} → (replies : List ℕ → List ℕ → Type 0) (input : Option (List ℕ)) (e : Error)
+    (r : Result X Failure) → ((m : List ℕ) → HasNone (replies m)) → IsErrAnd r (IsOfHashing e) → IfErr r (IsBeforeReply replies input)
+refused_settings_before replies input e (Ok x) why h = tt
+refused_settings_before replies input e (Err f) why h = before_by_settings replies input e f why h
+
+before_by_memory : (replies : List ℕ → List ℕ → Type 0) (input : Option (List ℕ)) (f : Failure) → IsMemory f
+    → IsBeforeReply replies input f
+before_by_memory replies input Input h = absurd h
+before_by_memory replies input Output h = absurd h
+before_by_memory replies input (Memory refused) h = tt
+before_by_memory replies input (Hashing refusal) h = absurd h
+before_by_memory replies input (Text refusal) h = absurd h
+
+pub memory_before : {X : Type 0} → (replies : List ℕ → List ℕ → Type 0) (input : Option (List ℕ)) (r : Result X Failure)
+    → IsErrAnd r IsMemory → IfErr r (IsBeforeReply replies input)
+memory_before replies input (Ok x) h = tt
+memory_before replies input (Err f) h = before_by_memory replies input f h
+
+-- where the input is known, it is the message
+pub of_input : (P : List ℕ → Type 0) (input : Option (List ℕ)) (message : List ℕ) → IfSome input (λ m. message ≡ m) → P message
+    → IfSome input P
+of_input P None message is h = tt
+of_input P (Some m) message is h = subst P is h
