@@ -52,13 +52,16 @@ pub record IsDecoded (s new : List ℕ) (room n : ℕ) : Type 0 where
   pub zeros : drop n new ≡ replicate (room - n) 0
   pub fits : n ≤ room
 
-pub decoded_into_zeros : (s new : List ℕ) (room n : ℕ) → IsBytes s → decode_slice_of standard_no_pad s room ≡ Ok n
-    → IsBytes (decoded_bytes_of standard_no_pad s)
-    → new ≡ decoded_bytes_of standard_no_pad s ++ drop (length (decoded_bytes_of standard_no_pad s)) (replicate room 0)
+pub decoded_into_zeros : (s t new : List ℕ) (room wide n : ℕ) → t ≡ s → wide ≡ room → IsBytes s
+    → Ok n ≡ decode_slice_of standard_no_pad t wide
+    → IsBytes (decoded_bytes_of standard_no_pad t)
+    → new ≡ decoded_bytes_of standard_no_pad t ++ drop (length (decoded_bytes_of standard_no_pad t)) (replicate room 0)
     → IsDecoded s new room n
-decoded_into_zeros s new room n text_bytes ok bytes written =
+decoded_into_zeros s t new room wide n same length_is text_bytes ok bytes' written' =
     let d : List ℕ = decoded_bytes_of standard_no_pad s in
-    let parts = answer_ok _ _ _ d room n ok in
+    let bytes : IsBytes d = rw same at bytes' in
+    let written : new ≡ d ++ drop (length d) (replicate room 0) = rw same at written' in
+    let parts = answer_ok _ _ _ d room n (rw (same, length_is) at (sym ok)) in
     let front : take n new ≡ d = rw written (take_at d (drop (length d) (replicate room 0)) n (sym parts.1)) in
     record {
       bytes = rw front bytes;
@@ -74,10 +77,11 @@ decode_slice_fits s b room f ok fits short err =
     answer_err _ _ _ _ b room f ok fits (le-ltb (room / 3) (groups_before_last (length s)) (omega arith)) err
 
 -- no text of bytes is refused that is no longer than that of as many bytes as there is room for
-pub decode_slice_err : (s b : List ℕ) (room : ℕ) (f : DecodeSliceError) → IsBytes b → s ≡ strict_base64 b
+pub decode_slice_err : (s t b : List ℕ) (room wide : ℕ) (f : DecodeSliceError) → t ≡ s → wide ≡ room → IsBytes b → s ≡ strict_base64 b
     → length s ≤ base64_length room
-    → decode_slice_of standard_no_pad s room ≡ Err f → ⊥
-decode_slice_err s b room f bytes is short err =
+    → Err f ≡ decode_slice_of standard_no_pad t wide → ⊥
+decode_slice_err s t b room wide f same length_is bytes is short err' =
+    let err : decode_slice_of standard_no_pad s room ≡ Err f = rw (same, length_is) at (sym err') in
     let ok : decode_of standard_no_pad s ≡ Ok b = rw is (decode_of-strict_base64 b bytes) in
     let fits : length b ≤ room = omega (arith, ap length is, length-strict_base64 b) in
     decode_slice_fits s b room f ok fits short err

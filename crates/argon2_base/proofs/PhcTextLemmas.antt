@@ -158,13 +158,10 @@ pub no_version : (v : Phc) → IsPhc v → NoVersionFirst (from_params v)
 no_version v h = list_no_version v.params (from_salt v) h.params (no_item v h)
 
 -- without a salt there is no hash
-pub none_after : (v : Phc) → IsPhc v → IsNone v.salt → field strict_base64 v.hash ≡ []
-none_after v h none = go v.salt v.hash h.salted none
-  where
-    go : (s o : Option (List ℕ)) → (IsSome o → IsSome s) → IsNone s → field strict_base64 o ≡ []
-    go s None k n = refl
-    go None (Some b) k n = absurd (let f = k refl in cc)
-    go (Some s) (Some b) k n = absurd cc
+pub none_after : (s o : Option (List ℕ)) → (IsSome o → IsSome s) → IsNone s → field strict_base64 o ≡ []
+none_after s None h n = refl
+none_after None (Some b) h n = absurd (let f = h refl in cc)
+none_after (Some s) (Some b) h n = absurd cc
 
 -- ---- the field that is read
 
@@ -247,18 +244,16 @@ pub same_phc : (v : Phc) (a : List ℕ) (n : Option ℕ) (ps : List Pair) (s o :
     → ◌≡◌ {A = Phc} (record { algorithm = a; version = n; params = ps; salt = s; hash = o }) v
 same_phc v a n ps s o e1 e2 e3 e4 e5 = λ i. record { algorithm = e1 i; version = e2 i; params = e3 i; salt = e4 i; hash = e5 i }
 
+-- a salt and a hash that were read one by one, with nothing behind them
+pub both_read : {f2 f3 f4 : List (List ℕ)} (s o : Option (List ℕ)) → f2 ≡ field strict_base64 s ++ f3
+    → f3 ≡ field strict_base64 o ++ f4 → f4 ≡ [] → f2 ≡ field strict_base64 s ++ field strict_base64 o
+both_read s o e1 e2 e3 = rw (e1, e2, e3, append-nil) refl
+
 -- the fields that were read one by one
-pub gathered : (t : List ℕ) {first : List ℕ} (v : Phc) {f0 f1 f2 f3 f4 : List (List ℕ)}
-    → fields_of t ≡ first ∷ f0 → v.algorithm ≡ first
-    → f0 ≡ field version_text v.version ++ f1
-    → f1 ≡ list_field v.params ++ f2
-    → f2 ≡ field strict_base64 v.salt ++ f3
-    → f3 ≡ field strict_base64 v.hash ++ f4
-    → f4 ≡ [] → fields_of t ≡ fields v
-gathered t v {f3 = f3} e a e1 e2 e3 e4 e5 =
-    let hash : List (List ℕ) = field strict_base64 v.hash in
-    let last : f3 ≡ hash = e4 ∙ ap (λ (x : List (List ℕ)). hash ++ x) e5 ∙ append-nil hash in
-    rw (e, e1, e2, e3, last, a) refl
+pub gathered : (t : List ℕ) {first : List ℕ} (v : Phc) {f0 f1 f2 : List (List ℕ)}
+    → fields_of t ≡ first ∷ f0 → v.algorithm ≡ first → f0 ≡ field version_text v.version ++ f1
+    → f1 ≡ list_field v.params ++ f2 → f2 ≡ from_salt v → fields_of t ≡ fields v
+gathered t v e a e1 e2 e3 = rw (e, e1, e2, e3, a) refl
 
 -- ---- printing
 

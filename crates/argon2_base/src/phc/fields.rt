@@ -1,9 +1,10 @@
 //! The fields of a PHC text, read one by one.
 
-ghost use Rattle.std.specs.Prelude.{◌≡◌, ◌<◌, ◌^◌, ◌++◌, ◌∷◌, ℕ, List, Option, IfOk, IfErr, IfSome, IsOkAnd, IsTrue};
+ghost use Rattle.std.specs.Prelude.{◌≡◌, ◌<◌, ◌^◌, ◌++◌, ◌∷◌, ℕ, List, Option, IfOk, IfErr, IfSome, IsSome, IsOkAnd, IsTrue};
+ghost use Rattle.argon2_base.specs.Base64.{strict_base64};
 ghost use Rattle.argon2_base.specs.ParamsText.{Pair, are_params};
 ghost use Rattle.argon2_base.specs.PhcFields.{fields_of, fields_left, IsBytesField, with_bytes, NoVersionFirst, NoItemFirst};
-ghost use Rattle.argon2_base.specs.PhcText.{field, list_field, version_text};
+ghost use Rattle.argon2_base.specs.PhcText.{HasBytes, field, list_field, version_text};
 ghost use Rattle.argon2_base.specs.declared.error.password_hash.Error.TheVariants.{EncodingInvalid};
 
 use super::bytes::{Output, Salt};
@@ -85,7 +86,7 @@ fn bytes_field(left: Option<&str>) -> Result<(Option<ByteList<64>>, Option<&str>
 }
 
 // The salt, where anything is left, and what is left.
-pub(super) fn salt_field(left: Option<&str>) -> Result<(Option<Salt>, Option<&str>)>
+fn salt_field(left: Option<&str>) -> Result<(Option<Salt>, Option<&str>)>
     ensures { IsBytesField 8 48 (fields_left left.entry) result }
 {
     let (Some(bytes), more) = bytes_field(left)? else {
@@ -98,7 +99,7 @@ pub(super) fn salt_field(left: Option<&str>) -> Result<(Option<Salt>, Option<&st
 }
 
 // The hash, where anything is left, and what is left.
-pub(super) fn hash_field(left: Option<&str>) -> Result<(Option<Output>, Option<&str>)>
+fn hash_field(left: Option<&str>) -> Result<(Option<Output>, Option<&str>)>
     ensures { IsBytesField 4 64 (fields_left left.entry) result }
 {
     let (Some(bytes), more) = bytes_field(left)? else {
@@ -108,4 +109,23 @@ pub(super) fn hash_field(left: Option<&str>) -> Result<(Option<Output>, Option<&
         Ok(hash) => Ok((Some(hash), more)),
         Err(_) => Err(Error::EncodingInvalid),
     }
+}
+
+// The salt and the hash, where they are next and nothing follows.
+pub(super) fn salt_and_hash(left: Option<&str>) -> Result<(Option<Salt>, Option<Output>)>
+    ensures found { IfOk result (λ x.
+        (fields_left left.entry ≡ field strict_base64 x.0 ++ field strict_base64 x.1)
+        × IfSome x.0 (HasBytes 8 48) × IfSome x.1 (HasBytes 4 64) × (IsSome x.1 → IsSome x.0)) }
+    ensures only { (s o : Option (List ℕ))
+        → IfSome s (HasBytes 8 48) → IfSome o (HasBytes 4 64) → (IsSome o → IsSome s)
+        → fields_left left.entry ≡ field strict_base64 s ++ field strict_base64 o
+        → IsOkAnd result (λ x. (x.0 ≡ s) × (x.1 ≡ o)) }
+    ensures invalid { IfErr result (λ e. e ≡ EncodingInvalid) }
+{
+    let (salt, left) = salt_field(left)?;
+    let (hash, left) = hash_field(left)?;
+    if left.is_some() {
+        return Err(Error::EncodingInvalid);
+    }
+    Ok((salt, hash))
 }

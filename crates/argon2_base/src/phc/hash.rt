@@ -7,7 +7,7 @@ ghost use Rattle.argon2_base.specs.Base64.{strict_base64};
 ghost use Rattle.argon2_base.specs.PhcText.{IsPhc, phc_with, field, fields_text, list_field, version_text};
 
 use super::bytes::{Output, Salt};
-use super::fields::{first_field, hash_field, params_field, salt_field, version_field};
+use super::fields::{first_field, params_field, salt_and_hash, version_field};
 use super::ident::Ident;
 use super::list::ParamsString;
 use super::value::decimal_text;
@@ -51,11 +51,7 @@ impl PasswordHash {
         let algorithm = Ident::new(first)?;
         let (version, left) = version_field(left)?;
         let (params, left) = params_field(left)?;
-        let (salt, left) = salt_field(left)?;
-        let (hash, left) = hash_field(left)?;
-        if left.is_some() {
-            return Err(Error::EncodingInvalid);
-        }
+        let (salt, hash) = salt_and_hash(left)?;
         Ok(PasswordHash {
             algorithm,
             version,

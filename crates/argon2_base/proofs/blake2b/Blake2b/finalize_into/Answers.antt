@@ -1,7 +1,21 @@
-use Rattle.std.proofs.Common.{◌≡◌, ℕ, length, refl, ap, sym, ◌∙◌}
+use Rattle.std.proofs.Common.{◌≡◌, ℕ, length, refl, ap, sym, ◌∙◌, arith, length-take-le}
 use Rattle.argon2_base.specs.Blake2b.{blake2b}
-use Rattle.argon2_base.proofs.HasherFields.{opened, digest_written}
+use Rattle.argon2_base.proofs.HasherFields.{opened, zeros_len, block_len, digest_written}
 use Rattle.argon2_base.proofs.blake2b.Blake2b.finalize_into.Goals as goal
+
+pub copy_from_slice-requires : goal.copy_from_slice-requires
+copy_from_slice-requires c =
+    zeros_len c.held_len-filled.result c.self.inside.total c.self.inside.buffer c.held_len-filled.ensures (omega arith)
+
+pub compress-requires : goal.compress-requires
+compress-requires c =
+    block_len c.held_len-filled.result c.self.inside.total _ c.self.inside.buffer c.held_len-filled.ensures
+    c.copy_from_slice.ensures.after (omega arith)
+
+pub copy_from_slice-requires-2 : goal.copy_from_slice-requires-2
+copy_from_slice-requires-2 c =
+    let len : c.self.inside.len ≡ length c.args.out.now = ap (λ r. r.digest_len) c.self.view_is ∙ sym c.requires in
+    sym (length-take-le c.self.inside.len c.le_bytes.result (omega arith) ∙ len)
 
 pub returns : goal.returns
 returns c = λ m held.

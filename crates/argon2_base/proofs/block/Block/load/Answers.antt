@@ -1,9 +1,13 @@
 use Rattle.std.proofs.Common.{◌≡◌, length, map, ◌/◌, ap, sym, ◌∙◌, arith}
 use Rattle.std.specs.Int.{w64, from_le_bytes}
 use Rattle.std.specs.Simd.{first_chunks}
+use Rattle.std.proofs.lemmas.Grind.{common_steps}
 use Rattle.std.proofs.lemmas.List.{take_all}
 use Rattle.argon2_base.specs.Block.{words_of}
 use Rattle.argon2_base.proofs.block.Block.load.Goals as goal
+
+pub words-preserved : goal.words-preserved
+words-preserved c = grind (arith, common_steps)
 
 pub returns : goal.returns
 unfolding words_of

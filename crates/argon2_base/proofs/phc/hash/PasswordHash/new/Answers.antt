@@ -1,10 +1,7 @@
-use Rattle.std.proofs.Common.{◌≡◌, ◌∙◌, sym, refl, lit<, Some, None, true, false, []}
-use Rattle.std.proofs.lemmas.List.{append-nil}
+use Rattle.std.proofs.Common.{◌≡◌, ◌∙◌, lit<, Some, None, true, false}
 use Rattle.std.proofs.lemmas.Str.Pattern.{strip_prefix_char}
 use Rattle.argon2_base.specs.Names.{is_name}
-use Rattle.argon2_base.specs.Base64.{strict_base64}
-use Rattle.argon2_base.specs.PhcText.{field}
-use Rattle.argon2_base.proofs.PhcTextLemmas.{first_and_left, begins, spelled, from_params, from_salt, no_version, no_item, none_after, left_none, none_left, salt_before_hash, same_phc, gathered}
+use Rattle.argon2_base.proofs.PhcTextLemmas.{first_and_left, begins, spelled, from_params, from_salt, no_version, no_item, same_phc, gathered}
 use Rattle.argon2_base.proofs.phc.hash.PasswordHash.new.Goals as goal
 
 pub returns-in_default-clause-only : goal.returns-in_default-clause-only
@@ -39,41 +36,20 @@ returns-in_err-salt-clause-only c = λ v h.
     c.first_field.ensures in
     let f1 = c.in_ok-version.ensures.only v.version (from_params v) h.0.version (no_version v h.0) s.1 in
     let f2 = c.in_ok-params.ensures.only v.params (from_salt v) h.0.params (no_item v h.0) f1.1 in
-    absurd (c.in_err-salt.ensures.only v.salt (field strict_base64 v.hash) h.0.salt (none_after v h.0) f2.1)
-
-pub returns-in_err-hash-clause-only : goal.returns-in_err-hash-clause-only
-returns-in_err-hash-clause-only c = λ v h.
-    let s = first_and_left v h (strip_prefix_char 36 c.args.text.now (Some c.in-Some.text) c.in-Some.ensures.cases (lit< tt))
-    c.first_field.ensures in
-    let f1 = c.in_ok-version.ensures.only v.version (from_params v) h.0.version (no_version v h.0) s.1 in
-    let f2 = c.in_ok-params.ensures.only v.params (from_salt v) h.0.params (no_item v h.0) f1.1 in
-    let f3 = c.in_ok-salt.ensures.only v.salt (field strict_base64 v.hash) h.0.salt (none_after v h.0) f2.1 in
-    absurd (c.in_err-hash.ensures.only v.hash [] h.0.hash (λ _. refl) (f3.1 ∙ sym (append-nil (field strict_base64 v.hash))))
-
-pub returns-then-is_some-clause-only : goal.returns-then-is_some-clause-only
-returns-then-is_some-clause-only c = λ v h.
-    let s = first_and_left v h (strip_prefix_char 36 c.args.text.now (Some c.in-Some.text) c.in-Some.ensures.cases (lit< tt))
-    c.first_field.ensures in
-    let f1 = c.in_ok-version.ensures.only v.version (from_params v) h.0.version (no_version v h.0) s.1 in
-    let f2 = c.in_ok-params.ensures.only v.params (from_salt v) h.0.params (no_item v h.0) f1.1 in
-    let f3 = c.in_ok-salt.ensures.only v.salt (field strict_base64 v.hash) h.0.salt (none_after v h.0) f2.1 in
-    let f4 = c.in_ok-hash.ensures.only v.hash [] h.0.hash (λ _. refl) (f3.1 ∙ sym (append-nil (field strict_base64 v.hash))) in
-    let none = left_none c.in_ok-hash.left f4.1 in
-    let some = c.if-is_some.ensures in
-    cc
+    absurd (c.in_err-salt.ensures.only v.salt v.hash h.0.salt h.0.hash h.0.salted f2.1)
 
 pub invariant_of-result : goal.invariant_of-result
-invariant_of-result c = record {
-  grammatical = record {
-    algorithm = rw c.in_ok-algorithm.ensures.value c.in_ok-algorithm.ensures.when;
-    version = c.in_ok-version.ensures.found.1;
-    params = c.in_ok-params.ensures.found.1;
-    salt = c.in_ok-salt.ensures.found.1;
-    hash = c.in_ok-hash.ensures.found.1;
-    salted = salt_before_hash c.in_ok-salt.salt c.in_ok-hash.hash c.in_ok-salt.left c.in_ok-hash.left
-        c.in_ok-salt.ensures.end c.in_ok-hash.ensures.found.0;
-  };
-}
+invariant_of-result c =
+    let last = c.in_ok-salt.ensures.found in record {
+      grammatical = record {
+        algorithm = rw c.in_ok-algorithm.ensures.value c.in_ok-algorithm.ensures.when;
+        version = c.in_ok-version.ensures.found.1;
+        params = c.in_ok-params.ensures.found.1;
+        salt = last.1;
+        hash = last.2;
+        salted = last.3;
+      };
+    }
 
 pub returns-clause-only : goal.returns-clause-only
 returns-clause-only c = λ v h.
@@ -81,25 +57,21 @@ returns-clause-only c = λ v h.
     c.first_field.ensures in
     let f1 = c.in_ok-version.ensures.only v.version (from_params v) h.0.version (no_version v h.0) s.1 in
     let f2 = c.in_ok-params.ensures.only v.params (from_salt v) h.0.params (no_item v h.0) f1.1 in
-    let f3 = c.in_ok-salt.ensures.only v.salt (field strict_base64 v.hash) h.0.salt (none_after v h.0) f2.1 in
-    let f4 = c.in_ok-hash.ensures.only v.hash [] h.0.hash (λ _. refl) (f3.1 ∙ sym (append-nil (field strict_base64 v.hash))) in
-    same_phc v _ _ _ _ _ (c.in_ok-algorithm.ensures.value ∙ s.0) f1.0 f2.0 f3.0 f4.0
+    let f3 = c.in_ok-salt.ensures.only v.salt v.hash h.0.salt h.0.hash h.0.salted f2.1 in
+    same_phc v _ _ _ _ _ (c.in_ok-algorithm.ensures.value ∙ s.0) f1.0 f2.0 f3.0 f3.1
 
 pub returns-clause-found : goal.returns-clause-found
 returns-clause-found c =
     let e = strip_prefix_char 36 c.args.text.now (Some c.in-Some.text) c.in-Some.ensures.cases (lit< tt) in
-    let none = none_left c.in_ok-hash.left (sym c.if-is_some.ensures) in (
+    let last = c.in_ok-salt.ensures.found in (
       record {
         algorithm = rw c.in_ok-algorithm.ensures.value c.in_ok-algorithm.ensures.when;
         version = c.in_ok-version.ensures.found.1;
         params = c.in_ok-params.ensures.found.1;
-        salt = c.in_ok-salt.ensures.found.1;
-        hash = c.in_ok-hash.ensures.found.1;
-        salted = salt_before_hash c.in_ok-salt.salt c.in_ok-hash.hash c.in_ok-salt.left c.in_ok-hash.left
-            c.in_ok-salt.ensures.end c.in_ok-hash.ensures.found.0;
+        salt = last.1;
+        hash = last.2;
+        salted = last.3;
       },
-      spelled c.args.text.now c.in-Some.text.now _ e (
-          gathered c.in-Some.text.now _ c.first_field.ensures c.in_ok-algorithm.ensures.value c.in_ok-version.ensures.found.0
-          c.in_ok-params.ensures.found.0 c.in_ok-salt.ensures.found.0 c.in_ok-hash.ensures.found.0 none
-          ),
+      spelled c.args.text.now c.in-Some.text.now _ e (gathered c.in-Some.text.now _ c.first_field.ensures
+          c.in_ok-algorithm.ensures.value c.in_ok-version.ensures.found.0 c.in_ok-params.ensures.found.0 last.0),
     )

@@ -1,0 +1,40 @@
+use Rattle.std.proofs.Common.{[], refl, sym, ◌∙◌}
+use Rattle.std.proofs.lemmas.List.{append-nil}
+use Rattle.argon2_base.specs.Base64.{strict_base64}
+use Rattle.argon2_base.specs.PhcText.{field}
+use Rattle.argon2_base.proofs.PhcTextLemmas.{none_after, left_none, none_left, salt_before_hash, both_read}
+use Rattle.argon2_base.proofs.phc.fields.salt_and_hash.Goals as goal
+
+pub returns-in_err-salt-clause-only : goal.returns-in_err-salt-clause-only
+returns-in_err-salt-clause-only c = λ s o hs ho salted e.
+    absurd (c.in_err-salt.ensures.only s (field strict_base64 o) hs (none_after s o salted) e)
+
+pub returns-in_err-hash-clause-only : goal.returns-in_err-hash-clause-only
+returns-in_err-hash-clause-only c = λ s o hs ho salted e.
+    let f = c.in_ok-salt.ensures.only s (field strict_base64 o) hs (none_after s o salted) e in
+    absurd (c.in_err-hash.ensures.only o [] ho (λ _. refl) (f.1 ∙ sym (append-nil (field strict_base64 o))))
+
+pub returns-then-is_some-clause-only : goal.returns-then-is_some-clause-only
+returns-then-is_some-clause-only c = λ s o hs ho salted e.
+    let f = c.in_ok-salt.ensures.only s (field strict_base64 o) hs (none_after s o salted) e in
+    let g = c.in_ok-hash.ensures.only o [] ho (λ _. refl) (f.1 ∙ sym (append-nil (field strict_base64 o))) in
+    let none = left_none c.in_ok-hash.left g.1 in
+    let some = c.if-is_some.ensures in
+    cc
+
+pub returns-clause-only : goal.returns-clause-only
+returns-clause-only c = λ s o hs ho salted e.
+    let f = c.in_ok-salt.ensures.only s (field strict_base64 o) hs (none_after s o salted) e in
+    let g = c.in_ok-hash.ensures.only o [] ho (λ _. refl) (f.1 ∙ sym (append-nil (field strict_base64 o))) in
+    (f.0, g.0)
+
+pub returns-clause-found : goal.returns-clause-found
+returns-clause-found c =
+    let salt = c.in_ok-salt.ensures in
+    let hash = c.in_ok-hash.ensures in
+    let none = none_left c.in_ok-hash.left (sym c.if-is_some.ensures) in (
+      both_read c.in_ok-salt.salt c.in_ok-hash.hash salt.found.0 hash.found.0 none,
+      salt.found.1,
+      hash.found.1,
+      salt_before_hash c.in_ok-salt.salt c.in_ok-hash.hash c.in_ok-salt.left c.in_ok-hash.left salt.end hash.found.0,
+    )
