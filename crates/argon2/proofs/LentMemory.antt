@@ -1,5 +1,7 @@
 -- Lent memory after its first blocks were written.
-use Rattle.std.proofs.Common.{◌≡◌, ℕ, ◌+◌, ◌*◌, ◌++◌, ◌≤◌, List, [], length, take, drop, sym, ap, subst, ◌∙◌, arith}
+use Rattle.std.proofs.Common.{◌≡◌, ℕ, ◌+◌, ◌*◌, ◌++◌, ◌≤◌, List, [], length, take, drop, sym, ap, Result, Ok, Err, subst, ◌∙◌, arith}
+use Rattle.std.specs.Prelude.{OnErr, OnOk}
+use Rattle.argon2_base.specs.declared.error.Error.{Error}
 use Rattle.std.proofs.lemmas.List.{get_or_append_left, get_or-take, length-take-le}
 use Rattle.std.proofs.lemmas.List.FromFn.{length-map-range_with_len}
 use Rattle.std.proofs.lemmas.Nat.{mul-add-lt}
@@ -20,6 +22,13 @@ length-matrix_of : (ctx : Context) (password salt : List ℕ) (n : ℕ) →
     length (matrix_of ctx password salt n) ≡ block_count ctx
 unfolding matrix_of matrix
 length-matrix_of ctx password salt n = length-map-range_with_len _ 0 (block_count ctx)
+
+-- the first blocks are there, as many as are filled
+pub lent : {ctx own : Context} {count : ℕ} (memory : Memory) → ctx ≡ own → count ≡ block_count ctx
+    → block_count own ≤ length memory → (count ≤ length memory) × (length (take count memory) ≡ block_count ctx)
+lent {ctx} {own} {count} memory same all room =
+    let fits : count ≤ length memory = rw (all, same) room in
+    (fits, length-take-le count memory fits ∙ all)
 
 module _ (argon2 : Argon2) (count : ℕ) (all : count ≡ block_count (context_of argon2)) (old blocks : Memory) where
   abbrev ctx : Context
@@ -80,3 +89,16 @@ module _ (argon2 : Argon2) (count : ℕ) (all : count ≡ block_count (context_o
         matrix = left.matrix ∙ ap (matrix_of ctx password salt) (sym size);
         rest = left.rest;
       }
+
+-- of a whole hash the tag
+pub only_tag : (argon2 : Argon2) (password salt output : List ℕ) (old new : Memory) (n : ℕ) (r : Result (Unit {0}) Error)
+    → OnOk r (IsHashed argon2 password salt output old new) → length output ≡ n
+    → OnOk r (output ≡ tag_of (context_of argon2) password salt n)
+only_tag argon2 password salt output old new n (Ok a) hashed size = hashed.tag ∙ ap (tag_of (context_of argon2) password salt) size
+only_tag argon2 password salt output old new n (Err e) hashed size = tt
+
+-- of what stays the output
+pub only_output : (output output' : List ℕ) (memory memory' : Memory) (r : Result (Unit {0}) Error)
+    → OnErr r ((output' ≡ output) × (memory' ≡ memory)) → OnErr r (output' ≡ output)
+only_output output output' memory memory' (Ok a) same = tt
+only_output output output' memory memory' (Err e) same = same.0

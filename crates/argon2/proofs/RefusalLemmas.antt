@@ -1,7 +1,11 @@
 -- Answers under refusals.
-use Rattle.std.proofs.Common.{◌≡◌, Bool, true, false, List, [], ◌∷◌, ◌++◌, refl, ap, Option, Some, None, Ok}
+use Rattle.std.proofs.Common.{◌≡◌, ℕ, ◌≤◌, Bool, true, false, List, [], ◌∷◌, ◌++◌, refl, ap, inr, Option, Some, None, Result, Ok, Err}
+use Rattle.std.specs.Prelude.{OnOk}
+use Rattle.std.proofs.lemmas.Bool.{le-ltb}
+use Rattle.std.specs.Result.{IsErr, IsErrAnd}
 use Rattle.argon2_base.specs.declared.error.Error.{Error}
-use Rattle.argon2.specs.Refusals.{answer_unless, first_of}
+use Rattle.argon2.specs.Hashing.{MayAnswer}
+use Rattle.argon2.specs.Refusals.{answer_unless, first_of, memory_faults}
 
 -- what is answered with a value is not refused
 pub not_refused : {A : Type 0} (refusal : Option Error) (a b : A) → Ok a ≡ answer_unless refusal b → refusal ≡ None
@@ -14,8 +18,45 @@ pub answered : {A B : Type 0} (refusal : Option Error) (a b : A) (x y : B) → O
 answered None a b x y e same = ap Ok same
 answered (Some fault) a b x y e same = absurd cc
 
+-- what is refused is refused with any value
+pub refused : {A B : Type 0} (refusal : Option Error) (a : A) (b : B) (e : Error) → Err e ≡ answer_unless refusal a
+    → Err e ≡ answer_unless refusal b
+refused None a b e h = absurd cc
+refused (Some fault) a b e h = cc
+
+-- an error that is passed on
+pub passed_on : {A : Type 0} (r : Result A Error) (e : Error) → IsErr r × IsErrAnd r (λ e'. e' ≡ e) → r ≡ Err e
+passed_on (Ok a) e h = absurd h.1
+passed_on (Err e') e h = ap Err h.1
+
 -- where the first tests don't hold, the rest decide
 pub first_of_rest : (rows rest : List (Bool × Error)) → first_of rows ≡ None → first_of (rows ++ rest) ≡ first_of rest
 first_of_rest [] rest none = refl
 first_of_rest ((true, fault) ∷ rows) rest none = absurd cc
 first_of_rest ((false, fault) ∷ rows) rest none = first_of_rest rows rest none
+
+-- a fault of the first tests decides
+pub first_refused : {A : Type 0} (rows rest : List (Bool × Error)) (a b : A) (e : Error) → Err e ≡ answer_unless (first_of rows) a
+    → Err e ≡ answer_unless (first_of (rows ++ rest)) b
+first_refused [] rest a b e h = absurd cc
+first_refused ((true, fault) ∷ rows) rest a b e h = cc
+first_refused ((false, fault) ∷ rows) rest a b e h = first_refused rows rest a b e h
+
+-- what holds holds where a call answers Ok
+pub on_ok : {A E P : Type 0} (r : Result A E) → P → OnOk r P
+on_ok (Ok a) holds = holds
+on_ok (Err e) holds = tt
+
+-- enough memory decides nothing
+pub room_enough : (rows : List (Bool × Error)) (count lent : ℕ) → count ≤ lent
+    → first_of (rows ++ memory_faults count lent) ≡ first_of rows
+room_enough [] count lent room = rw (le-ltb lent count room) refl
+room_enough ((true, fault) ∷ rows) count lent room = refl
+room_enough ((false, fault) ∷ rows) count lent room = room_enough rows count lent room
+
+-- an answer of a call that asked for memory
+pub may_answer : (refusal : Option Error) (r : Result (Unit {0}) Error) → r ≡ answer_unless refusal tt → MayAnswer refusal r
+may_answer None (Ok a) h = refl
+may_answer None (Err e) h = absurd cc
+may_answer (Some fault) (Ok a) h = absurd cc
+may_answer (Some fault) (Err e) h = inr cc

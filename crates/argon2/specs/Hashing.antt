@@ -1,5 +1,5 @@
 -- Hashing by an `Argon2`: when a call is refused, and what it leaves.
-use Rattle.std.specs.Prelude.{◌≡◌, ℕ, ◌+◌, ◌*◌, ◌<◌, ◌≤◌, ◌⊎◌, List, [], ◌++◌, Option, Some, None, Result, Ok, Err, OnOk, OnErr, length, take, drop, slice_index_or}
+use Rattle.std.specs.Prelude.{◌≡◌, ℕ, ◌+◌, ◌*◌, ◌^◌, ◌<◌, ◌≤◌, ◌⊎◌, List, [], ◌++◌, Option, Some, None, Result, Ok, Err, OnOk, OnErr, length, take, drop, slice_index_or}
 use Rattle.argon2_base.specs.declared.error.Error.{Error}
 use Rattle.argon2_base.specs.declared.error.Error.TheVariants.{OutOfMemory}
 use Rattle.argon2.specs.declared.context.Argon2.{Argon2}
@@ -45,6 +45,10 @@ fill_refusal argon2 password salt memory = first_of (
 abbrev pub MayAnswer : Option Error → Result (Unit {0}) Error → Type 0
 MayAnswer refusal (Ok _) = refusal ≡ None
 MayAnswer refusal (Err e) = (e ≡ OutOfMemory) ⊎ (refusal ≡ Some e)
+
+-- a length that an output may have where none is set
+abbrev pub IsOutputLength : ℕ → Type 0
+IsOutputLength n = (4 ≤ n) × (n < 2 ^ 32)
 
 -- ---- lent memory
 

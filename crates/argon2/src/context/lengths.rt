@@ -1,7 +1,10 @@
 //! Refusals by length: of an output, a password, a salt, or lent memory.
 
-ghost use Rattle.std.specs.Prelude.{◌≡◌};
-ghost use Rattle.argon2.specs.Hashing.{input_refusal, memory_refusal, output_refusal, refusal_of};
+ghost use Rattle.std.specs.Prelude.{◌≡◌, ◌≤◌, OnOk, length};
+ghost use Rattle.argon2.specs.Argon2.{context_of};
+ghost use Rattle.argon2.specs.Context.{block_count};
+ghost use Rattle.argon2.specs.Hashing.{input_refusal, memory_refusal, output_refusal, refusal_of, IsOutputLength};
+ghost use Rattle.argon2.specs.InitialHash.{AreShort};
 ghost use Rattle.argon2.specs.Refusals.{answer_unless};
 
 use super::{Argon2, MAX_PWD_LEN, MAX_SALT_LEN, MIN_SALT_LEN};
@@ -11,7 +14,8 @@ use argon2_base::error::{Error, Result};
 
 /// Refuses a password or a salt.
 pub(super) fn check_inputs(pwd: &[u8], salt: &[u8]) -> Result<()>
-    ensures { result ≡ answer_unless (input_refusal pwd.now salt.now) tt }
+    ensures answer { result ≡ answer_unless (input_refusal pwd.now salt.now) tt }
+    ensures short { OnOk result (AreShort pwd.now salt.now) }
 {
     if pwd.len() > MAX_PWD_LEN {
         return Err(Error::PwdTooLong);
@@ -34,7 +38,10 @@ impl Argon2<'_> {
         salt: &[u8],
         memory: &[Block],
     ) -> Result<()>
-        ensures { result ≡ answer_unless (refusal_of self.now out_len pwd.now salt.now memory.now) tt }
+        ensures answer { result ≡ answer_unless (refusal_of self.now out_len pwd.now salt.now memory.now) tt }
+        ensures output { OnOk result (IsOutputLength out_len) }
+        ensures short { OnOk result (AreShort pwd.now salt.now) }
+        ensures room { OnOk result (block_count (context_of self.now) ≤ length memory.now) }
     {
         self.check_output(out_len)?;
         check_inputs(pwd, salt)?;
@@ -43,7 +50,8 @@ impl Argon2<'_> {
 
     /// Refuses an output of `len` bytes.
     fn check_output(&self, len: usize) -> Result<()>
-        ensures { result ≡ answer_unless (output_refusal self.now len) tt }
+        ensures answer { result ≡ answer_unless (output_refusal self.now len) tt }
+        ensures fits { OnOk result (IsOutputLength len) }
     {
         let output_len = self.params.output_len();
         if len < output_len.unwrap_or(Params::MIN_OUTPUT_LEN) {
@@ -57,7 +65,8 @@ impl Argon2<'_> {
 
     /// Refuses lent memory.
     pub(super) fn check_memory(&self, memory: &[Block]) -> Result<()>
-        ensures { result ≡ answer_unless (memory_refusal self.now memory.now) tt }
+        ensures answer { result ≡ answer_unless (memory_refusal self.now memory.now) tt }
+        ensures room { OnOk result (block_count (context_of self.now) ≤ length memory.now) }
     {
         if memory.len() < self.params.block_count() {
             return Err(Error::MemoryTooLittle);

@@ -3,16 +3,16 @@ use Rattle.argon2.specs.Argon2.{context_of}
 use Rattle.argon2.specs.Context.{block_count}
 use Rattle.argon2.specs.Refusals.{answer_unless, input_faults, memory_faults}
 use Rattle.argon2.specs.Tag.{matrix_of}
-use Rattle.argon2.proofs.LentMemory.{is_filled}
-use Rattle.argon2.proofs.RefusalLemmas.{not_refused, first_of_rest}
+use Rattle.argon2.proofs.LentMemory.{is_filled, lent}
+use Rattle.argon2.proofs.RefusalLemmas.{not_refused, first_of_rest, first_refused, passed_on}
 use Rattle.argon2.proofs.context.Argon2.fill_memory.Goals as goal
 
 pub returns-clause-answer : goal.returns-clause-answer
 returns-clause-answer c =
     let inputs = input_faults (length c.args.pwd.now) (length c.args.salt.now) in
     let memory = memory_faults (block_count (context_of c.args.self.now)) (length c.args.memory.now) in
-    let left = first_of_rest inputs memory (not_refused _ _ _ c.in_ok-check_inputs.ensures) in
-    sym (ap (λ refusal. answer_unless refusal tt) (left ∙ not_refused _ _ _ c.in_ok-check_memory.ensures))
+    let left = first_of_rest inputs memory (not_refused _ _ _ c.in_ok-check_inputs.ensures.answer) in
+    sym (ap (λ refusal. answer_unless refusal tt) (left ∙ not_refused _ _ _ c.in_ok-check_memory.ensures.answer))
 
 pub returns-clause-filled : goal.returns-clause-filled
 unfolding matrix_of
@@ -23,3 +23,41 @@ returns-clause-filled c =
 
 pub returns-clause-same : goal.returns-clause-same
 returns-clause-same c = tt
+
+pub returns-in_err-check_inputs-clause-answer : goal.returns-in_err-check_inputs-clause-answer
+returns-in_err-check_inputs-clause-answer c =
+    let inputs = input_faults (length c.args.pwd.now) (length c.args.salt.now) in
+    let memory = memory_faults (block_count (context_of c.args.self.now)) (length c.args.memory.now) in
+    passed_on c.from_residual.result _ c.from_residual.ensures
+    ∙ first_refused inputs memory tt tt _ c.in_err-check_inputs.ensures.answer
+
+pub returns-in_err-check_inputs-clause-filled : goal.returns-in_err-check_inputs-clause-filled
+returns-in_err-check_inputs-clause-filled c = rw (passed_on c.from_residual.result _ c.from_residual.ensures) tt
+
+pub returns-in_err-check_memory-clause-answer : goal.returns-in_err-check_memory-clause-answer
+returns-in_err-check_memory-clause-answer c =
+    let inputs = input_faults (length c.args.pwd.now) (length c.args.salt.now) in
+    let memory = memory_faults (block_count (context_of c.args.self.now)) (length c.args.memory.now) in
+    let left = first_of_rest inputs memory (not_refused _ _ _ c.in_ok-check_inputs.ensures.answer) in
+    passed_on c.from_residual-in_err-check_memory.result _ c.from_residual-in_err-check_memory.ensures
+    ∙ c.in_err-check_memory.ensures.answer ∙ sym (ap (λ refusal. answer_unless refusal tt) left)
+
+pub returns-in_err-check_memory-clause-filled : goal.returns-in_err-check_memory-clause-filled
+returns-in_err-check_memory-clause-filled c =
+    rw (passed_on c.from_residual-in_err-check_memory.result _ c.from_residual-in_err-check_memory.ensures) tt
+
+pub slice_bounds-matrix-end : goal.slice_bounds-matrix-end
+slice_bounds-matrix-end c =
+    (lent c.args.memory.now c.instance-instance.ensures.value c.block_count.ensures.value c.in_ok-check_memory.ensures.room).0
+
+pub slice_bounds-matrix-end-2 : goal.slice_bounds-matrix-end-2
+slice_bounds-matrix-end-2 c =
+    let blocks = lent c.args.memory.now c.instance-instance.ensures.value c.block_count.ensures.value c.in_ok-check_memory.ensures.room in
+    c.block_count.ensures.value ∙ sym blocks.1
+
+pub fill_blocks-requires-clause-inputs : goal.fill_blocks-requires-clause-inputs
+fill_blocks-requires-clause-inputs c = c.in_ok-check_inputs.ensures.short
+
+pub fill_blocks-requires-clause-size : goal.fill_blocks-requires-clause-size
+fill_blocks-requires-clause-size c =
+    (lent c.args.memory.now c.instance-instance.ensures.value c.block_count.ensures.value c.in_ok-check_memory.ensures.room).1

@@ -1,12 +1,51 @@
-use Rattle.std.proofs.Common.{◌≡◌, ◌+◌, arith, length, ap, subst, ◌∙◌}
+use Rattle.std.proofs.Common.{◌≡◌, ◌+◌, arith, length, ap, refl, subst, sym, ◌∙◌}
 use Rattle.argon2.specs.Argon2.{context_of}
 use Rattle.argon2.specs.Context.{block_count, Sizes}
 use Rattle.argon2.specs.Counting.{mixing_calls}
 use Rattle.argon2.specs.Tag.{matrix_of}
-use Rattle.argon2.proofs.LentMemory.{is_hashed}
-use Rattle.argon2.proofs.RefusalLemmas.{answered}
+use Rattle.argon2.proofs.LentMemory.{is_hashed, lent}
+use Rattle.argon2.proofs.RefusalLemmas.{answered, passed_on, refused}
 use Rattle.argon2.proofs.recurrence.TagOfMatrix.{tag_of_matrix}
 use Rattle.argon2.proofs.context.Argon2.hash.Goals as goal
+
+pub returns-in_err-check : goal.returns-in_err-check
+returns-in_err-check c =
+    rw (passed_on c.from_residual.result _ c.from_residual.ensures) (record {
+      answer = refused _ _ _ _ c.in_err-check.ensures.answer;
+      hashed = tt;
+      positions = tt;
+      same = (refl, refl, refl);
+    })
+
+pub slice_bounds-blocks-end : goal.slice_bounds-blocks-end
+slice_bounds-blocks-end c =
+    (lent c.args.memory.now c.instance-instance.ensures.value c.block_count.ensures.value c.in_ok-check.ensures.room).0
+
+pub slice_bounds-blocks-end-2 : goal.slice_bounds-blocks-end-2
+slice_bounds-blocks-end-2 c =
+    let blocks = lent c.args.memory.now c.instance-instance.ensures.value c.block_count.ensures.value c.in_ok-check.ensures.room in
+    c.block_count.ensures.value ∙ sym blocks.1
+
+pub overflow_cast-out : goal.overflow_cast-out
+overflow_cast-out c = omega (arith, c.in_ok-check.ensures.output)
+
+pub fill_blocks-requires-clause-inputs : goal.fill_blocks-requires-clause-inputs
+fill_blocks-requires-clause-inputs c = c.in_ok-check.ensures.short
+
+pub fill_blocks-requires-clause-size : goal.fill_blocks-requires-clause-size
+fill_blocks-requires-clause-size c =
+    (lent c.args.memory.now c.instance-instance.ensures.value c.block_count.ensures.value c.in_ok-check.ensures.room).1
+
+pub write_tag-requires-clause-room : goal.write_tag-requires-clause-room
+write_tag-requires-clause-room c =
+    let blocks = lent c.args.memory.now c.instance-instance.ensures.value c.block_count.ensures.value c.in_ok-check.ensures.room in
+    rw (c.fill_blocks.auto.blocks, blocks.1) (omega arith)
+
+pub write_tag-requires-clause-some : goal.write_tag-requires-clause-some
+write_tag-requires-clause-some c = omega (arith, c.in_ok-check.ensures.output)
+
+pub write_tag-requires-clause-few : goal.write_tag-requires-clause-few
+write_tag-requires-clause-few c = c.in_ok-check.ensures.output.1
 
 pub returns : goal.returns
 unfolding matrix_of
@@ -20,7 +59,7 @@ returns c =
     ∙ tag_of_matrix ctx (subst Sizes same c.block_count.ensures.sizes) c.args.pwd.now c.args.salt.now _ _ made in
     record {
       answer =
-          answered _ _ _ _ _ c.in_ok-check.ensures
+          answered _ _ _ _ _ c.in_ok-check.ensures.answer
           ((rw (c.new-work.ensures, same) at c.fill_blocks.ensures.work) ∙ all);
       hashed =
           is_hashed c.args.self.now c.block_count.result count c.args.memory.now c.fill_blocks.new.blocks

@@ -1,5 +1,5 @@
-use Rattle.std.proofs.Common.{refl}
-use Rattle.argon2.proofs.RefusalLemmas.{answered}
+use Rattle.std.proofs.Common.{refl, ◌∙◌}
+use Rattle.argon2.proofs.RefusalLemmas.{answered, passed_on, refused}
 use Rattle.argon2.proofs.context.Argon2.hash_password_into_with_memory.Goals as goal
 
 pub returns-clause-answer : goal.returns-clause-answer
@@ -10,3 +10,15 @@ returns-clause-hashed c = c.in_ok-hash.ensures.hashed
 
 pub returns-clause-same : goal.returns-clause-same
 returns-clause-same c = tt
+
+pub returns-in_err-hash-clause-answer : goal.returns-in_err-hash-clause-answer
+returns-in_err-hash-clause-answer c =
+    passed_on c.from_residual.result _ c.from_residual.ensures ∙ refused _ _ _ _ c.in_err-hash.ensures.answer
+
+pub returns-in_err-hash-clause-hashed : goal.returns-in_err-hash-clause-hashed
+returns-in_err-hash-clause-hashed c = rw (passed_on c.from_residual.result _ c.from_residual.ensures) tt
+
+pub returns-in_err-hash-clause-same : goal.returns-in_err-hash-clause-same
+returns-in_err-hash-clause-same c =
+    let same = c.in_err-hash.ensures.same in
+    rw (passed_on c.from_residual.result _ c.from_residual.ensures) (same.0, same.1)
