@@ -128,7 +128,7 @@ impl<'key> Login<'key> {
     fn renew<R: Rng>(&mut self, rng: &mut R, name: &str, password: &[u8]) -> Accepted
         ensures step { (v : Phc) → ¬ (IsCurrent (target_of self.old) v) →
             AcceptedStep (target_of self.old) (store_of self.old) name.now password.now
-                (fill_bytes 16 (R.stream rng.old)).0 v result (store_of self.new) }
+            (fill_bytes 16 (R.stream rng.old)).0 v result (store_of self.new) }
         ensures accepted { HasPassword (target_of self.old) (store_of self.old) name.now password.now →
             HasPassword (target_of self.old) (store_of self.new) name.now password.now }
         ensures drawn { R.stream rng.new ≡ stream_after (Ok result) (R.stream rng.old) }

@@ -23,9 +23,9 @@ impl fmt::Display for Accepted {
 
     fn fmt<W: fmt::Write>(&self, f: &mut fmt::Formatter<W>) -> fmt::Result {
         match self {
-            Accepted::Current => write!(f, "text is current"),
-            Accepted::Rehashed => write!(f, "text is renewed"),
-            Accepted::Kept => write!(f, "text is kept: out of memory"),
+            Accepted::Current => f.write_str("text is current"),
+            Accepted::Rehashed => f.write_str("text is renewed"),
+            Accepted::Kept => f.write_str("text is kept: out of memory"),
         }
     }
 }
@@ -50,10 +50,10 @@ impl fmt::Display for LoginError {
 
     fn fmt<W: fmt::Write>(&self, f: &mut fmt::Formatter<W>) -> fmt::Result {
         match self {
-            LoginError::Text => write!(f, "text is outside the grammar"),
-            LoginError::NameTaken => write!(f, "name is taken"),
-            LoginError::NameUnknown => write!(f, "name is unknown"),
-            LoginError::OutOfMemory => write!(f, "out of memory"),
+            LoginError::Text => f.write_str("text is outside the grammar"),
+            LoginError::NameTaken => f.write_str("name is taken"),
+            LoginError::NameUnknown => f.write_str("name is unknown"),
+            LoginError::OutOfMemory => f.write_str("out of memory"),
             LoginError::Refused(error) => write!(f, "{error}"),
         }
     }

@@ -2,8 +2,9 @@
 
 ghost use Rattle.std.specs.Prelude.{◌≡◌, ◌↔◌, IsTrue, Ok};
 ghost use Rattle.argon2_base.specs.PasswordHash.{phc_of};
+ghost use Rattle.argon2.specs.Argon2.{settings_of};
 ghost use Rattle.argon2.specs.Login.{IsCurrent};
-ghost use Rattle.argon2.specs.Made.{target_of};
+ghost use Rattle.argon2.specs.Made.{sized, target_of};
 
 use crate::context::Argon2;
 use crate::params::Params;
@@ -17,7 +18,13 @@ pub(super) fn is_current(target: &Argon2<'_>, hash: &PasswordHash) -> bool
     let Ok(stored) = target.stored(hash) else {
         return false;
     };
-    let shown = &stored.argon2;
+    shows_settings(&stored.argon2, target)
+}
+
+// Whether the settings are the target's, with the length of its hashes.
+fn shows_settings(shown: &Argon2<'_>, target: &Argon2<'_>) -> bool
+    ensures { IsTrue result ↔ (settings_of shown.now ≡ sized (settings_of target.now)) }
+{
     if shown.algorithm() != target.algorithm() || shown.version() != target.version() {
         return false;
     }

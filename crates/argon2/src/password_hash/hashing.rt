@@ -16,9 +16,11 @@ use rand_core::Rng;
 use std::alloc::Global;
 
 impl<'key> Argon2<'key> {
-    ghost use Rattle.std.specs.Prelude.{◌≡◌, ◌≤◌, length};
+    ghost use Rattle.std.specs.Prelude.{◌≡◌, ◌≤◌, IfOk, length};
+    ghost use Rattle.argon2_base.specs.Error.{outcome_of};
     ghost use Rattle.argon2.specs.Argon2.{settings_of, settings_with, secret_of, IsWith};
-    ghost use Rattle.argon2.specs.Made.{tag_length, target_of, IsTagAnswer, IsTarget};
+    ghost use Rattle.argon2.specs.Made.{settings_asked, tag_length, target_of, IsTagAnswer, IsTarget};
+    ghost use Rattle.argon2.specs.Params.{parameters_of};
 
     // How many bytes a hash has.
     fn tag_len(&self) -> usize
@@ -68,6 +70,22 @@ impl<'key> Argon2<'key> {
             unreachable!();
         };
         argon2
+    }
+
+    // The same under an algorithm of this name and a version of this number.
+    fn with_asked(
+        &self,
+        alg_id: Option<&str>,
+        version: Option<u32>,
+        params: Params,
+    ) -> Result<Argon2<'key>>
+        ensures settings { outcome_of settings_of result
+            ≡ settings_asked (option_copied alg_id.entry) version (parameters_of params) }
+        ensures secret { IfOk result (λ argon2. secret_of argon2 ≡ secret_of self.now) }
+    {
+        let algorithm = asked_algorithm(alg_id)?;
+        let version = asked_version(version)?;
+        Ok(self.with_settings(algorithm, version, params))
     }
 }
 
@@ -175,9 +193,7 @@ impl CustomizedPasswordHasher<PasswordHash> for Argon2<'_> {
         version: Option<u32>,
         params: Params,
     ) -> Result<PasswordHash> {
-        let algorithm = asked_algorithm(alg_id)?;
-        let version = asked_version(version)?;
-        let argon2 = self.with_settings(algorithm, version, params);
-        argon2.hash_password_with_salt(alloc, password, salt)
+        self.with_asked(alg_id, version, params)?
+            .hash_password_with_salt(alloc, password, salt)
     }
 }

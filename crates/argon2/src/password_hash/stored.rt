@@ -1,5 +1,9 @@
 //! What stored hashes are verified by.
 
+ghost use Rattle.argon2_base.specs.Error.{bad_version};
+ghost use Rattle.argon2.specs.ListedParameters.{IsValueOr};
+ghost use Rattle.argon2.specs.Stored.{version_shown};
+
 use super::{Error, Result};
 use crate::algorithm::Algorithm;
 use crate::context::Argon2;
@@ -37,10 +41,7 @@ impl<'key> Argon2<'key> {
         };
         let params = Params::try_from(hash)?;
         let algorithm = Algorithm::try_from(hash.algorithm.as_str())?;
-        let version = match hash.version {
-            Some(number) => Version::try_from(number)?,
-            None => Version::V0x10,
-        };
+        let version = shown_version(hash.version)?;
         let _fits = expected.as_bytes();
         Ok(Stored {
             argon2: self.with_settings(algorithm, version, params),
@@ -48,4 +49,14 @@ impl<'key> Argon2<'key> {
             hash: expected,
         })
     }
+}
+
+// The version of a number, or 0x10.
+fn shown_version(number: Option<u32>) -> Result<Version>
+    ensures { IsValueOr bad_version (λ v. v) (version_shown number) result }
+{
+    let Some(number) = number else {
+        return Ok(Version::V0x10);
+    };
+    Ok(Version::try_from(number)?)
 }
