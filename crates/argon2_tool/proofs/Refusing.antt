@@ -69,12 +69,12 @@ pub front : (out rest items : List ℕ) (n : ℕ) → rest ≡ take n (out ++ it
 front out rest items n is long = is ∙ (ap (λ k. take k (out ++ items)) (sym long) ∙ take-append_seam out items)
 
 -- the tag of n bytes in hex is the reply
-pub tag_made : (settings : Settings) (len n : ℕ) (salt password bytes key out text : List ℕ) → n ≡ len → bytes ≡ salt
+pub tag_made : (settings : Settings) (len n : ℕ) (salt password bytes key out : List ℕ) → n ≡ len → bytes ≡ salt
     → length_refusal settings.parameters.output_len n (length password) (length bytes) ≡ None
-    → out ≡ tag_of (context_with settings key) password bytes n → key ≡ [] → text ≡ encode_lower out
-    → tag_under settings len salt password ≡ Ok text
-tag_made settings len n salt password bytes key out text same bytes_are fits is none hex =
-    rw (← same, ← bytes_are) (unless_made _ _ text fits (hex ∙ ap encode_lower (is
+    → out ≡ tag_of (context_with settings key) password bytes n → key ≡ []
+    → tag_under settings len salt password ≡ Ok (encode_lower out)
+tag_made settings len n salt password bytes key out same bytes_are fits is none =
+    rw (← same, ← bytes_are) (unless_made _ _ _ fits (ap encode_lower (is
     ∙ ap (λ k. tag_of (context_with settings k) password bytes n) none)))
 
 -- what is not there is not found
@@ -148,3 +148,14 @@ pub refused_settings : {X : Type 0} → (IsReply : List ℕ → Type 0) (e : Err
     → IsErrAnd r (IsOfHashing e) → IfErr r (IsRefusalOf IsReply)
 refused_settings IsReply e (Ok x) none h = tt
 refused_settings IsReply e (Err f) none h = by_settings IsReply e f none h
+
+-- what hex makes of a reply's bytes is the reply
+pub hex_made : {X E F : Type 0} → (spelled : X → List ℕ) (reply : Result (List ℕ) E) (bytes : List ℕ) (r : Result X F)
+    → reply ≡ Ok (encode_lower bytes) → IfOk r (λ x. spelled x ≡ encode_lower bytes) → IfOk r (λ x. reply ≡ Ok (spelled x))
+hex_made spelled reply bytes (Ok x) is hex = cc
+hex_made spelled reply bytes (Err f) is hex = tt
+
+pub hex_refused : {X : Type 0} → (reply : Result (List ℕ) Error) (r : Result X Failure) → IfErr r IsMemory
+    → IfErr r (IsRefusal reply)
+hex_refused reply (Ok x) h = tt
+hex_refused reply (Err f) h = by_memory reply f h
