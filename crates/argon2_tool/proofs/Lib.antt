@@ -1,2 +1,3 @@
 pub mod Replying
 pub mod Refusing
+pub mod Spelling

@@ -11,7 +11,7 @@ use Rattle.argon2.specs.Context.{context_with}
 use Rattle.argon2.specs.Settings.{Settings}
 use Rattle.argon2_tool.specs.Commands.{tag_under}
 use Rattle.argon2_tool.specs.Request.{unless}
-use Rattle.argon2_tool.specs.Failures.{HasNone, IsBeforeReply, IsBeforeWriting, IsMemory, IsOfHashing, IsOfReading, IsRefusal}
+use Rattle.argon2_tool.specs.Failures.{HasNone, IsBeforeReply, IsBeforeWriting, IsMemory, IsOfHashing, IsOfReading, IsRefusal, IsRefusalOf}
 use Rattle.argon2_tool.specs.declared.failure.Failure.{Failure}
 use Rattle.argon2_tool.specs.declared.failure.Failure.TheVariants.{Input, Output, Memory, Hashing, Text}
 
@@ -69,12 +69,12 @@ pub front : (out rest items : List ℕ) (n : ℕ) → rest ≡ take n (out ++ it
 front out rest items n is long = is ∙ (ap (λ k. take k (out ++ items)) (sym long) ∙ take-append_seam out items)
 
 -- the tag of n bytes in hex is the reply
-pub tag_made : (settings : Settings) (len n : ℕ) (salt password bytes key out text : List ℕ) → n ≡ len → bytes ≡ salt
+pub tag_made : (settings : Settings) (len n : ℕ) (salt password bytes key out : List ℕ) → n ≡ len → bytes ≡ salt
     → length_refusal settings.parameters.output_len n (length password) (length bytes) ≡ None
-    → out ≡ tag_of (context_with settings key) password bytes n → key ≡ [] → text ≡ encode_lower out
-    → tag_under settings len salt password ≡ Ok text
-tag_made settings len n salt password bytes key out text same bytes_are fits is none hex =
-    rw (← same, ← bytes_are) (unless_made _ _ text fits (hex ∙ ap encode_lower (is
+    → out ≡ tag_of (context_with settings key) password bytes n → key ≡ []
+    → tag_under settings len salt password ≡ Ok (encode_lower out)
+tag_made settings len n salt password bytes key out same bytes_are fits is none =
+    rw (← same, ← bytes_are) (unless_made _ _ _ fits (ap encode_lower (is
     ∙ ap (λ k. tag_of (context_with settings k) password bytes n) none)))
 
 -- what is not there is not found
@@ -136,59 +136,26 @@ pub refused_writing : {X : Type 0} → (reply : List ℕ → Result (List ℕ) E
 refused_writing reply input message (Ok x) is h = tt
 refused_writing reply input message (Err f) is h = before_writing reply input message f is h
 
+by_settings : (IsReply : List ℕ → Type 0) (e : Error) (f : Failure) → HasNone IsReply → IsOfHashing e f → IsRefusalOf IsReply f
+by_settings IsReply e Input none h = absurd h
+by_settings IsReply e Output none h = absurd h
+by_settings IsReply e (Memory refused) none h = tt
+by_settings IsReply e (Hashing refusal) none h = none
+by_settings IsReply e (Text refusal) none h = absurd h
+
 -- settings that are refused have no reply
-always : (reply : List ℕ → Result (List ℕ) Error) (input : Option (List ℕ)) (e : Error) → ((m : List ℕ) → reply m ≡ Err e)
-    → IfSome input (λ m. reply m ≡ Err e)
-always reply None e h = tt
-always reply (Some m) e h = h m
+pub refused_settings : {X : Type 0} → (IsReply : List ℕ → Type 0) (e : Error) (r : Result X Failure) → HasNone IsReply
+    → IsErrAnd r (IsOfHashing e) → IfErr r (IsRefusalOf IsReply)
+refused_settings IsReply e (Ok x) none h = tt
+refused_settings IsReply e (Err f) none h = by_settings IsReply e f none h
 
-writing_by_settings : (reply : List ℕ → Result (List ℕ) Error) (input : Option (List ℕ)) (e : Error) (f : Failure)
-    → ((m : List ℕ) → reply m ≡ Err e) → IsOfHashing e f → IsBeforeWriting reply input f
-writing_by_settings reply input e Input why h = tt
-writing_by_settings reply input e Output why h = absurd h
-writing_by_settings reply input e (Memory refused) why h = tt
-writing_by_settings reply input e (Hashing refusal) why h = subst (λ x. IfSome input (λ m. reply m ≡ Err x)) (sym h.0)
-    (always reply input e why)
-writing_by_settings reply input e (Text refusal) why h = absurd h
+-- what hex makes of a reply's bytes is the reply
+pub hex_made : {X E F : Type 0} → (spelled : X → List ℕ) (reply : Result (List ℕ) E) (bytes : List ℕ) (r : Result X F)
+    → reply ≡ Ok (encode_lower bytes) → IfOk r (λ x. spelled x ≡ encode_lower bytes) → IfOk r (λ x. reply ≡ Ok (spelled x))
+hex_made spelled reply bytes (Ok x) is hex = cc
+hex_made spelled reply bytes (Err f) is hex = tt
 
-pub refused_settings_writing : {X : Type 0} → (reply : List ℕ → Result (List ℕ) Error) (input : Option (List ℕ)) (e : Error)
-    (r : Result X Failure) → ((m : List ℕ) → reply m ≡ Err e) → IsErrAnd r (IsOfHashing e) → IfErr r (IsBeforeWriting reply input)
-refused_settings_writing reply input e (Ok x) why h = tt
-refused_settings_writing reply input e (Err f) why h = writing_by_settings reply input e f why h
-
-none_ever : (replies : List ℕ → List ℕ → Type 0) (input : Option (List ℕ)) → ((m : List ℕ) → HasNone (replies m))
-    → IfSome input (λ m. HasNone (replies m))
-none_ever replies None h = tt
-none_ever replies (Some m) h = h m
-
-before_by_settings : (replies : List ℕ → List ℕ → Type 0) (input : Option (List ℕ)) (e : Error) (f : Failure)
-    → ((m : List ℕ) → HasNone (replies m)) → IsOfHashing e f → IsBeforeReply replies input f
-before_by_settings replies input e Input why h = tt
-before_by_settings replies input e Output why h = absurd h
-before_by_settings replies input e (Memory refused) why h = tt
-before_by_settings replies input e (Hashing refusal) why h = none_ever replies input why
-before_by_settings replies input e (Text refusal) why h = absurd h
-
-pub refused_settings_before : {X : Type 0} → (replies : List ℕ → List ℕ → Type 0) (input : Option (List ℕ)) (e : Error)
-    (r : Result X Failure) → ((m : List ℕ) → HasNone (replies m)) → IsErrAnd r (IsOfHashing e) → IfErr r (IsBeforeReply replies input)
-refused_settings_before replies input e (Ok x) why h = tt
-refused_settings_before replies input e (Err f) why h = before_by_settings replies input e f why h
-
-before_by_memory : (replies : List ℕ → List ℕ → Type 0) (input : Option (List ℕ)) (f : Failure) → IsMemory f
-    → IsBeforeReply replies input f
-before_by_memory replies input Input h = absurd h
-before_by_memory replies input Output h = absurd h
-before_by_memory replies input (Memory refused) h = tt
-before_by_memory replies input (Hashing refusal) h = absurd h
-before_by_memory replies input (Text refusal) h = absurd h
-
-pub memory_before : {X : Type 0} → (replies : List ℕ → List ℕ → Type 0) (input : Option (List ℕ)) (r : Result X Failure)
-    → IsErrAnd r IsMemory → IfErr r (IsBeforeReply replies input)
-memory_before replies input (Ok x) h = tt
-memory_before replies input (Err f) h = before_by_memory replies input f h
-
--- where the input is known, it is the message
-pub of_input : (P : List ℕ → Type 0) (input : Option (List ℕ)) (message : List ℕ) → IfSome input (λ m. message ≡ m) → P message
-    → IfSome input P
-of_input P None message is h = tt
-of_input P (Some m) message is h = subst P is h
+pub hex_refused : {X : Type 0} → (reply : Result (List ℕ) Error) (r : Result X Failure) → IfErr r IsMemory
+    → IfErr r (IsRefusal reply)
+hex_refused reply (Ok x) h = tt
+hex_refused reply (Err f) h = by_memory reply f h

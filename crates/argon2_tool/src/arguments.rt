@@ -31,7 +31,9 @@ impl<'a> Command<'a> {
         ensures found { IfSome result (λ command. Spells (map string_bytes args.now) command) }
         ensures only { (command : Command) → Spells (map string_bytes args.now) command → IsSome result }
     {
-        let (name, values) = args.split_first()?;
+        let [name, values @ ..] = args else {
+            return None;
+        };
         match name.as_str() {
             "digest" => Command::digest_of(values),
             "long" => Command::long_of(values),

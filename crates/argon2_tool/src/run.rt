@@ -2,8 +2,9 @@
 
 ghost use Rattle.std.specs.Prelude.{◌≡◌, ◌↔◌, ◌⊎◌, ◌≤◌, [], ◌∷◌, ◌++◌, IfSome, IfOk, OnOk, IfErr, map, string_bytes};
 ghost use Rattle.std.specs.Io.KnownBytes.{Appends, Keeps};
+ghost use Rattle.hex.specs.Hex.{encode_lower};
 ghost use Rattle.argon2_tool.specs.Commands.{IsCommand, Spells, Replies, IsAnswered, IsRefused};
-ghost use Rattle.argon2_tool.specs.Failures.{IsOfReading, IsBeforeReply};
+ghost use Rattle.argon2_tool.specs.Failures.{IsOfReading, IsBeforeReply, IsMemory};
 
 use crate::arguments::Command;
 use crate::failure::{Failure, of_reading};
@@ -43,8 +44,7 @@ pub fn run<R: Read, W: Write, E: Write>(
         × (IsRefused c (R.remaining input.old) → Keeps (W.contents output.old) (W.contents output.new)) }
 {
     let Some(command) = Command::parsed(args) else {
-        let _ = writeln!(errors, "{USAGE}");
-        return 2;
+        return usage(errors);
     };
     match answer(alloc, &command, input, output) {
         Ok(()) => 0,
@@ -58,6 +58,14 @@ pub fn fail<E: Write>(errors: &mut E, failure: Failure) -> u8
 {
     let _ = writeln!(errors, "argon2: {failure}");
     1
+}
+
+// Says on `errors` how the program is called, and returns the exit status, 2.
+fn usage<E: Write>(errors: &mut E) -> u8
+    ensures { result ≡ 2 }
+{
+    let _ = writeln!(errors, "{USAGE}");
+    2
 }
 
 // Writes the answer of a command to `output`, as a line.
@@ -118,4 +126,12 @@ fn read_all<R: Read>(alloc: Global, input: &mut R) -> Result<Vec<u8>, Failure>
         Ok(_) => Ok(bytes),
         Err(e) => Err(of_reading(&e)),
     }
+}
+
+// The bytes in hex.
+fn hex_of(alloc: Global, bytes: &[u8]) -> Result<String, Failure>
+    ensures ok { IfOk result (λ text. string_bytes text ≡ encode_lower bytes.now) }
+    ensures err { IfErr result IsMemory }
+{
+    Ok(hex::encode(alloc, bytes)?)
 }

@@ -7,7 +7,7 @@ ghost use Rattle.argon2_base.specs.Hasher.{Holds};
 ghost use Rattle.argon2_tool.specs.Commands.{long_reply};
 ghost use Rattle.argon2_tool.specs.Failures.{IsOfReading, IsBeforeWriting, IsRefusal};
 
-use super::read_all;
+use super::{hex_of, read_all};
 use crate::failure::{Failure, of_reading};
 use argon2::blake2b::Blake2b;
 use argon2::blake2b_long::blake2b_long;
@@ -27,7 +27,7 @@ pub fn digest<R: Read>(alloc: Global, len: usize, input: &mut R) -> Result<Strin
     let mut digest = [0u8; 64];
     let out = &mut digest[..len];
     hasher.finalize_into(out);
-    Ok(hex::encode(alloc, out)?)
+    hex_of(alloc, out)
 }
 
 // A hasher for a digest of `len` bytes, which holds all that is left in `input`.
@@ -73,5 +73,5 @@ fn long_text(alloc: Global, len: usize, message: &[u8]) -> Result<String, Failur
 {
     let mut out = vec![in alloc; 0u8; len]?;
     blake2b_long(&[message], out.as_mut_slice())?;
-    Ok(hex::encode(alloc, out.as_slice())?)
+    hex_of(alloc, out.as_slice())
 }

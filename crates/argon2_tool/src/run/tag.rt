@@ -6,7 +6,7 @@ ghost use Rattle.argon2_tool.specs.Commands.{tag_reply, tag_under};
 ghost use Rattle.argon2_tool.specs.Failures.{IsBeforeWriting, IsRefusal};
 ghost use Rattle.argon2_tool.specs.Request.{settings_asked};
 
-use super::read_all;
+use super::{hex_of, read_all};
 use crate::failure::Failure;
 use crate::request::Request;
 use argon2::Argon2;
@@ -27,8 +27,24 @@ pub fn tag<R: Read>(
         (tag_reply (settings_asked request.now) len salt.now) (R.remaining input.old)) }
 {
     let password = read_all(alloc, input)?;
+    tag_asked(alloc, request, len, salt, password.as_slice())
+}
+
+// The tag of a password that a request asks for, of `len` bytes, in hex.
+fn tag_asked(
+    alloc: Global,
+    request: &Request<'_>,
+    len: usize,
+    salt: &str,
+    password: &[u8],
+) -> Result<String, Failure>
+    ensures ok { IfOk result (λ text.
+        tag_reply (settings_asked request.now) len salt.now password.now ≡ Ok (string_bytes text)) }
+    ensures err { IfErr result (IsRefusal
+        (tag_reply (settings_asked request.now) len salt.now password.now)) }
+{
     let argon2 = request.argon2()?;
-    tag_text(alloc, &argon2, len, salt, password.as_slice())
+    tag_text(alloc, &argon2, len, salt, password)
 }
 
 // The tag of a password, of `len` bytes, in hex.
@@ -47,5 +63,5 @@ fn tag_text(
 {
     let mut out = vec![in alloc; 0u8; len]?;
     argon2.hash_password_into(alloc, password, salt.as_bytes(), out.as_mut_slice())?;
-    Ok(hex::encode(alloc, out.as_slice())?)
+    hex_of(alloc, out.as_slice())
 }

@@ -1,7 +1,6 @@
 //! PHC texts of the input as a password.
 
 ghost use Rattle.std.specs.Prelude.{◌≡◌, [], IfSome, IfOk, IfErr, codes, string_bytes};
-ghost use Rattle.argon2.specs.Accepts.{Accepts};
 ghost use Rattle.argon2.specs.Argon2.{secret_of, settings_of};
 ghost use Rattle.argon2_tool.specs.Commands.{IsPhcUnder, IsPhcReply, IsVerifyReply};
 ghost use Rattle.argon2_tool.specs.Failures.{IsBeforeReply, IsRefusalOf};
@@ -27,8 +26,23 @@ pub fn phc<R: Read>(
         (IsPhcReply (settings_asked request.now) salt.now) (R.remaining input.old)) }
 {
     let password = read_all(alloc, input)?;
+    phc_asked(alloc, request, salt, password.as_slice())
+}
+
+// The PHC text of a password that a request asks for.
+fn phc_asked(
+    alloc: Global,
+    request: &Request<'_>,
+    salt: &str,
+    password: &[u8],
+) -> Result<String, Failure>
+    ensures ok { IfOk result (λ text.
+        IsPhcReply (settings_asked request.now) salt.now password.now (string_bytes text)) }
+    ensures err { IfErr result (IsRefusalOf
+        (IsPhcReply (settings_asked request.now) salt.now password.now)) }
+{
     let argon2 = request.argon2()?;
-    phc_text(alloc, &argon2, salt, password.as_slice())
+    phc_text(alloc, &argon2, salt, password)
 }
 
 // The PHC text of a password.
@@ -55,14 +69,14 @@ pub fn verify<R: Read>(alloc: Global, text: &str, input: &mut R) -> Result<Strin
     ensures err { IfErr result (IsBeforeReply (IsVerifyReply text.now) (R.remaining input.old)) }
 {
     let password = read_all(alloc, input)?;
-    accepted(alloc, text, password.as_slice())?;
-    Ok(String::from_str(alloc, "ok")?)
+    accepted(alloc, text, password.as_slice())
 }
 
-// Ok where a PHC text accepts a password.
-fn accepted(alloc: Global, text: &str, password: &[u8]) -> Result<(), Failure>
-    ensures ok { IfOk result (λ _. Accepts [] password.now text.now) }
+// `ok`, where a PHC text accepts a password.
+fn accepted(alloc: Global, text: &str, password: &[u8]) -> Result<String, Failure>
+    ensures ok { IfOk result (λ reply. IsVerifyReply text.now password.now (string_bytes reply)) }
     ensures err { IfErr result (IsRefusalOf (IsVerifyReply text.now password.now)) }
 {
-    Ok(Argon2::default().verify_password(alloc, password, text)?)
+    Argon2::default().verify_password(alloc, password, text)?;
+    Ok(String::from_str(alloc, "ok")?)
 }
