@@ -1,5 +1,5 @@
 -- What a step reads of a memory, by places.
-use Rattle.std.proofs.Common.{◌≡◌, ℕ, zero, suc, ◌+◌, ◌-◌, ◌*◌, ◌^◌, cond, ◌&&◌, eqb, ltb, List, [], get_or, refl, sym, ap, ◌∙◌, arith, ◌<◌}
+use Rattle.std.proofs.Common.{◌≡◌, ℕ, zero, suc, ◌+◌, ◌-◌, ◌*◌, ◌^◌, cond, ◌&&◌, eqb, ltb, List, [], get_or, refl, sym, ap, ◌∙◌, arith, ◌<◌, ◌≤◌, length}
 use Rattle.std.proofs.lemmas.Nat.{mul-add-lt}
 use Rattle.std.proofs.lemmas.Bool.{cond-false, ne_eqb}
 use Rattle.argon2_base.specs.Block.{xor_blocks}
@@ -22,6 +22,14 @@ place_fits ctx lane q column sizes is l c =
     let product = ap (λ n. lane * n) is in
     let memory = sizes.in_memory in
     let small = sizes.m_cost in
+    omega arith
+
+-- its block is there, also where the memory has more
+pub place_in : (ctx : Context) (lane q column : ℕ) (memory : List (List ℕ)) → q ≡ lane_length ctx → lane < ctx.p_cost
+    → column < lane_length ctx → block_count ctx ≤ length memory → lane * q + column < length memory
+place_in ctx lane q column memory is l c room =
+    let below = place_below ctx lane column l c in
+    let product = ap (λ n. lane * n) is in
     omega arith
 
 -- the previous block stands at the previous place

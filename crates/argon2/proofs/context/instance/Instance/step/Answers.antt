@@ -4,7 +4,7 @@ use Rattle.std.proofs.lemmas.List.{get_or_read}
 use Rattle.argon2_base.proofs.MixingLaws.{xor_blocks-comm}
 use Rattle.argon2.specs.Context.{lane_length}
 use Rattle.argon2.specs.Steps.{step}
-use Rattle.argon2.proofs.schedules.InMemory.{made_by_places, place_by_word, place_below, place_fits}
+use Rattle.argon2.proofs.schedules.InMemory.{made_by_places, place_by_word, place_below, place_fits, place_in}
 use Rattle.argon2.proofs.context.instance.Instance.step.Goals as goal
 
 pub overflow_mul-place : goal.overflow_mul-place
@@ -63,3 +63,46 @@ returns-else-xors-clause-place c =
     c.reference_place-reference.ensures.value
     ∙ sym (place_by_word c.args.self.now c.args.memory.now c.args.at.pass c.args.at.lane c.args.at.column c.args.word
     c.requires.word)
+
+pub overflow_cast-place : goal.overflow_cast-place
+overflow_cast-place c =
+    let fits = place_fits c.args.self.now c.args.at.lane c.lane_length.result c.args.at.column c.lane_length.ensures.sizes
+    c.lane_length.ensures.value c.requires.place.step.in_lanes c.requires.place.step.in_columns in
+    omega arith
+
+pub bounds-memory-place : goal.bounds-memory-place
+bounds-memory-place c =
+    place_in c.args.self.now c.args.at.lane c.lane_length.result c.args.at.column c.args.memory.now c.lane_length.ensures.value
+    c.requires.place.step.in_lanes c.requires.place.step.in_columns c.requires.place.room
+
+pub bounds-memory-place-else-xors : goal.bounds-memory-place-else-xors
+bounds-memory-place-else-xors c =
+    place_in c.args.self.now c.args.at.lane c.lane_length.result c.args.at.column c.args.memory.now c.lane_length.ensures.value
+    c.requires.place.step.in_lanes c.requires.place.step.in_columns c.requires.place.room
+
+pub mixed_block-requires-clause-within : goal.mixed_block-requires-clause-within
+mixed_block-requires-clause-within c = c.reference_place-reference.ensures.within
+
+pub mixed_block-requires-else-xors-clause-within : goal.mixed_block-requires-else-xors-clause-within
+mixed_block-requires-else-xors-clause-within c = c.reference_place-reference.ensures.within
+
+pub returns-then-xors-clause-work : goal.returns-then-xors-clause-work
+returns-then-xors-clause-work c = c.mixed_block.ensures.work
+
+pub returns-else-xors-clause-work : goal.returns-else-xors-clause-work
+returns-else-xors-clause-work c = c.mixed_block-else-xors.ensures.work
+
+pub reference_place-reference-requires : goal.reference_place-reference-requires
+reference_place-reference-requires c = c.requires.place.step
+
+pub mixed_block-requires-clause-place : goal.mixed_block-requires-clause-place
+mixed_block-requires-clause-place c = c.requires.place
+
+pub mixed_block-requires-else-xors-clause-place : goal.mixed_block-requires-else-xors-clause-place
+mixed_block-requires-else-xors-clause-place c = c.requires.place
+
+pub mixed_block-requires-clause-count : goal.mixed_block-requires-clause-count
+mixed_block-requires-clause-count c = c.requires.count
+
+pub mixed_block-requires-else-xors-clause-count : goal.mixed_block-requires-else-xors-clause-count
+mixed_block-requires-else-xors-clause-count c = c.requires.count
