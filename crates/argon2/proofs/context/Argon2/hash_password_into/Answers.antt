@@ -1,7 +1,7 @@
 use Rattle.std.proofs.Common.{◌≡◌, ◌++◌, ◌∙◌, ap, arith, inl, length, refl}
 use Rattle.argon2.specs.Argon2.{context_of, own_parameters}
 use Rattle.argon2.specs.Context.{block_count}
-use Rattle.argon2.specs.Refusals.{answer_unless, input_faults, output_faults}
+use Rattle.argon2.specs.Refusals.{input_faults, output_faults}
 use Rattle.std.proofs.lemmas.List.{length-replicate}
 use Rattle.argon2.proofs.LentMemory.{only_output, only_tag}
 use Rattle.argon2.proofs.RefusalLemmas.{may_answer, passed_on, room_enough}
