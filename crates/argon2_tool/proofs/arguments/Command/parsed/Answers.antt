@@ -1,4 +1,4 @@
-use Rattle.std.proofs.Common.{◌≡◌, ◌∙◌, subst, sym}
+use Rattle.std.proofs.Common.{◌∙◌, subst, sym}
 use Rattle.std.specs.Prelude.{IfSome, IsSome, string_bytes}
 use Rattle.argon2_tool.proofs.Spelling.{named}
 use Rattle.argon2_tool.specs.Commands.{Spells}
