@@ -51,8 +51,7 @@ pub fn run<S: Stopwatch, W: Write, E: Write>(
         (λ command. IsAnswered S.may_take command (W.contents output.old) (W.contents output.new)) }
 {
     let Some(command) = Command::parsed(args) else {
-        let _ = writeln!(errors, "{USAGE}");
-        return 2;
+        return usage(errors);
     };
     let answered = match command {
         Command::Help => help(output),
@@ -72,6 +71,14 @@ pub fn fail<E: Write>(errors: &mut E, failure: Failure) -> u8
 {
     let _ = writeln!(errors, "argon2-calibrate: {failure}");
     1
+}
+
+// Says on `errors` how the program is called, and returns the exit status, 2.
+fn usage<E: Write>(errors: &mut E) -> u8
+    ensures { result ≡ 2 }
+{
+    let _ = writeln!(errors, "{USAGE}");
+    2
 }
 
 // Writes the help.

@@ -62,7 +62,8 @@ pub why_no_tag : (settings : Settings) (len n : ℕ) (salt password bytes : List
     → (e ≡ OutOfMemory) ⊎ (length_refusal settings.parameters.output_len n (length password) (length bytes) ≡ Some e)
     → (e ≡ OutOfMemory) ⊎ (tag_under settings len salt password ≡ Err e)
 why_no_tag settings len n salt password bytes e same bytes_are (inl memory) = inl memory
-why_no_tag settings len n salt password bytes e same bytes_are (inr fault) = inr (unless_refused _ _ e (rw (← same, ← bytes_are) fault))
+why_no_tag settings len n salt password bytes e same bytes_are (inr fault) =
+    inr (unless_refused _ _ e (rw (← same, ← bytes_are) fault))
 
 -- what a buffer begins with, where it has its length
 pub front : (out rest items : List ℕ) (n : ℕ) → rest ≡ take n (out ++ items) → length out ≡ n → rest ≡ out
@@ -98,8 +99,8 @@ before_by_reading replies input (Memory refused) h = tt
 before_by_reading replies input (Hashing refusal) h = absurd h
 before_by_reading replies input (Text refusal) h = absurd h
 
-pub unread_before : {X : Type 0} → (replies : List ℕ → List ℕ → Type 0) (input : Option (List ℕ)) (e : Failure) (r : Result X Failure)
-    → IsOfReading e → IsErrAnd r (λ f. f ≡ e) → IfErr r (IsBeforeReply replies input)
+pub unread_before : {X : Type 0} → (replies : List ℕ → List ℕ → Type 0) (input : Option (List ℕ)) (e : Failure)
+    (r : Result X Failure) → IsOfReading e → IsErrAnd r (λ f. f ≡ e) → IfErr r (IsBeforeReply replies input)
 unread_before replies input e (Ok x) h same = tt
 unread_before replies input e (Err f) h same = before_by_reading replies input f (subst IsOfReading (sym same) h)
 

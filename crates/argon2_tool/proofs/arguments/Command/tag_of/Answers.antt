@@ -1,6 +1,6 @@
 use Rattle.std.proofs.Common.{arith, ◌≡◌, [], ◌∷◌, map, subst, sym}
 use Rattle.std.specs.Prelude.{IfSome, IsSome, codes, string_bytes}
-use Rattle.argon2_tool.proofs.Spelling.{seven_words}
+use Rattle.argon2_tool.proofs.Spelling.{ended, from_item}
 use Rattle.argon2_tool.specs.Commands.{Spells}
 use Rattle.argon2_tool.specs.declared.arguments.Command.{Command}
 use Rattle.argon2_tool.proofs.arguments.Command.tag_of.Goals.{After-tag}
@@ -27,10 +27,19 @@ bounds-values-5 c = omega arith
 pub bounds-values-6 : goal.bounds-values-6
 bounds-values-6 c = omega arith
 
-words : (c : After-tag) → map string_bytes c.args.values.now ≡ c.as_str.result.now ∷ c.as_str-2.result.now ∷ c.as_str-3.result.now ∷ c.as_str-4.result.now ∷ c.as_str-5.result.now ∷ c.as_str-6.result.now ∷ c.as_str-7.result.now ∷ []
+words : (c : After-tag) → map string_bytes c.args.values.now
+    ≡ c.as_str.result.now ∷ c.as_str-2.result.now ∷ c.as_str-3.result.now ∷ c.as_str-4.result.now
+    ∷ c.as_str-5.result.now ∷ c.as_str-6.result.now ∷ c.as_str-7.result.now ∷ []
 words c =
-    seven_words string_bytes _ c.algorithm-item.result c.version-item.result c.m_cost-item.result c.t_cost-item.result c.p_cost-item.result c.len-item.result c.salt-item.result _ _ _ _ _ _ _ (omega arith) (omega arith)
-    c.algorithm-item.is c.version-item.is c.m_cost-item.is c.t_cost-item.is c.p_cost-item.is c.len-item.is c.salt-item.is c.as_str.ensures.value c.as_str-2.ensures.value c.as_str-3.ensures.value c.as_str-4.ensures.value c.as_str-5.ensures.value c.as_str-6.ensures.value c.as_str-7.ensures.value
+    let items = c.args.values.now in
+    from_item string_bytes items 0 _ _ _ (omega arith) c.algorithm-item.is c.as_str.ensures.value
+    (from_item string_bytes items 1 _ _ _ (omega arith) c.version-item.is c.as_str-2.ensures.value
+    (from_item string_bytes items 2 _ _ _ (omega arith) c.m_cost-item.is c.as_str-3.ensures.value
+    (from_item string_bytes items 3 _ _ _ (omega arith) c.t_cost-item.is c.as_str-4.ensures.value
+    (from_item string_bytes items 4 _ _ _ (omega arith) c.p_cost-item.is c.as_str-5.ensures.value
+    (from_item string_bytes items 5 _ _ _ (omega arith) c.len-item.is c.as_str-6.ensures.value
+    (from_item string_bytes items 6 _ _ _ (omega arith) c.salt-item.is c.as_str-7.ensures.value
+    (ended string_bytes items 7 (omega arith))))))))
 
 pub returns-clause-found : goal.returns-clause-found
 returns-clause-found c = subst (λ w. IfSome c.tag.result (Spells (codes "tag" ∷ w))) (sym (words c)) c.tag.ensures.found

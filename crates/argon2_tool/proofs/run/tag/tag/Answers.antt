@@ -10,8 +10,8 @@ returns-in_err-password-clause-ok g c = no_value _ _ c.from_residual.ensures.0
 
 pub returns-in_err-password-clause-err : goal.returns-in_err-password-clause-err
 returns-in_err-password-clause-err g c =
-    unread_writing (tag_reply (settings_asked c.args.request.now) c.args.len c.args.salt.now) (g.R.Read.remaining c.args.input.now)
-    c.in_err-password.field-0.0 _ c.in_err-password.ensures.err c.from_residual.ensures.1
+    unread_writing (tag_reply (settings_asked c.args.request.now) c.args.len c.args.salt.now)
+    (g.R.Read.remaining c.args.input.now) c.in_err-password.field-0.0 _ c.in_err-password.ensures.err c.from_residual.ensures.1
 
 pub returns-clause-ok : goal.returns-clause-ok
 returns-clause-ok g c =

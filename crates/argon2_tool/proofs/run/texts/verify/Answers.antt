@@ -19,8 +19,8 @@ returns-clause-ok g c =
     let slice = c.as_slice.ensures.value in
     let same : c.in_ok-password.password.items ≡ c.as_slice.result.now = cc in
     let read = subst (λ b. IfSome input (λ m. b ≡ m)) same c.in_ok-password.ensures.ok in
-    made_of_input (λ text m. IsVerifyReply c.args.text.now m (string_bytes text)) input c.as_slice.result.now c.accepted.result read
-    c.accepted.ensures.ok
+    made_of_input (λ text m. IsVerifyReply c.args.text.now m (string_bytes text)) input c.as_slice.result.now
+    c.accepted.result read c.accepted.ensures.ok
 
 pub returns-clause-err : goal.returns-clause-err
 returns-clause-err g c =
