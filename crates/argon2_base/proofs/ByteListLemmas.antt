@@ -77,8 +77,8 @@ decode_slice_fits s b room f ok fits short err =
     answer_err _ _ _ _ b room f ok fits (le-ltb (room / 3) (groups_before_last (length s)) (omega arith)) err
 
 -- no text of bytes is refused that is no longer than that of as many bytes as there is room for
-pub decode_slice_err : (s t b : List ℕ) (room wide : ℕ) (f : DecodeSliceError) → t ≡ s → wide ≡ room → IsBytes b → s ≡ strict_base64 b
-    → length s ≤ base64_length room
+pub decode_slice_err : (s t b : List ℕ) (room wide : ℕ) (f : DecodeSliceError) → t ≡ s → wide ≡ room
+    → IsBytes b → s ≡ strict_base64 b → length s ≤ base64_length room
     → Err f ≡ decode_slice_of standard_no_pad t wide → ⊥
 decode_slice_err s t b room wide f same length_is bytes is short err' =
     let err : decode_slice_of standard_no_pad s room ≡ Err f = rw (same, length_is) at (sym err') in

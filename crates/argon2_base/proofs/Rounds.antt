@@ -11,14 +11,17 @@ pub one_more : {before after : List ℕ} (v m : List ℕ) (r : ℕ) → before �
 unfolding rounds
 one_more v m r e step = step ∙ ap (λ w. round w (map (λ k. slice_index m k) (sigma r))) e
 
--- the first i words of xor_halves
+-- a word of xor_halves
+abbrev pub xored_word : List ℕ → List ℕ → ℕ → ℕ
+xored_word h v i = bit_xor (bit_xor (slice_index h i) (slice_index v i)) (slice_index v (i + 8))
+
+-- its first i words
 abbrev pub first_words : List ℕ → List ℕ → ℕ → List ℕ
-first_words h v i =
-    map (λ i. bit_xor (bit_xor (slice_index h i) (slice_index v i)) (slice_index v (i + 8))) (range_with_len 0 i)
+first_words h v i = map (xored_word h v) (range_with_len 0 i)
 
 -- one more word
 pub first_words_more : (h v out : List ℕ) (i : ℕ) → i < length out → take i out ≡ first_words h v i
-    → take (i + 1) (slice_set out i (bit_xor (bit_xor (slice_index h i) (slice_index v i)) (slice_index v (i + 8))))
-    ≡ first_words h v (i + 1)
+    → take (i + 1) (slice_set out i (xored_word h v i)) ≡ first_words h v (i + 1)
 first_words_more h v out i more before =
-    take_more_set out i _ more ∙ ap (λ xs. xs ++ bit_xor (bit_xor (slice_index h i) (slice_index v i)) (slice_index v (i + 8)) ∷ []) before ∙ sym (map-range_with_len_more _ 0 i i (omega arith))
+    take_more_set out i (xored_word h v i) more ∙ ap (λ xs. xs ++ xored_word h v i ∷ []) before
+    ∙ sym (map-range_with_len_more (xored_word h v) 0 i i (omega arith))

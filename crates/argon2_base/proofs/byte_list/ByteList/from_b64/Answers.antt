@@ -7,7 +7,8 @@ use Rattle.argon2_base.proofs.byte_list.ByteList.from_b64.Goals as goal
 -- where decoding succeeded
 decoded : (g : Over) (c : goal.In-Ok g) → IsDecoded c.args.text.now c.decode_slice.new.output g.row.N c.in-Ok.len
 decoded g c = decoded_into_zeros c.args.text.now _ _ g.row.N _ c.in-Ok.len c.as_bytes.ensures.value
-    (length-replicate g.row.N 0) (λ i. omega (arith, c.type_inv.text i)) c.in-Ok.ensures.value c.in-Ok.ensures.bytes c.in-Ok.ensures.written
+    (length-replicate g.row.N 0) (λ i. omega (arith, c.type_inv.text i)) c.in-Ok.ensures.value
+    c.in-Ok.ensures.bytes c.in-Ok.ensures.written
 
 pub invariant_of-result-clause-fits : goal.invariant_of-result-clause-fits
 invariant_of-result-clause-fits g c = (decoded g c).fits
@@ -18,7 +19,8 @@ invariant_of-result-clause-zeros g c = (decoded g c).zeros
 pub returns-in-Ok : goal.returns-in-Ok
 returns-in-Ok g c =
     let decoded = decoded_into_zeros c.args.text.now _ _ g.row.N _ c.in-Ok.len c.as_bytes.ensures.value
-    (length-replicate g.row.N 0) (λ i. omega (arith, c.type_inv.text i)) c.in-Ok.ensures.value c.in-Ok.ensures.bytes c.in-Ok.ensures.written in
+    (length-replicate g.row.N 0) (λ i. omega (arith, c.type_inv.text i)) c.in-Ok.ensures.value
+    c.in-Ok.ensures.bytes c.in-Ok.ensures.written in
     (decoded.bytes, decoded.text)
 
 pub returns-in-Err : goal.returns-in-Err
