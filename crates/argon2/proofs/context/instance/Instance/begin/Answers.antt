@@ -1,9 +1,10 @@
-use Rattle.std.proofs.Common.{◌≡◌, ◌+◌, ◌*◌, ◌<◌, ◌≤◌, length, ap, ◌∙◌, arith}
+use Rattle.std.proofs.Common.{◌≡◌, ◌+◌, ◌*◌, ◌<◌, ◌≤◌, length, ap, refl, ◌∙◌, arith}
+use Rattle.std.proofs.Math.ListN.{length-set}
 use Rattle.std.proofs.lemmas.Nat.{mul-add-lt}
 use Rattle.argon2.specs.Context.{lane_length}
 use Rattle.argon2.specs.InitialHash.{block_after, first_block}
 use Rattle.argon2.proofs.schedules.FirstColumns.{begun_apart, begun_lanes}
-use Rattle.argon2.proofs.schedules.InMemory.{place_fits}
+use Rattle.argon2.proofs.schedules.InMemory.{place_fits, place_in}
 use Rattle.argon2.proofs.context.instance.Instance.begin.Goals as goal
 
 pub overflow_mul-start : goal.overflow_mul-start
@@ -21,6 +22,28 @@ overflow_add-start c =
     let fits = place_fits c.args.self.now c.loop-lane.lane c.lane_length-columns.result 1 columns.sizes columns.value
     (omega arith) (omega arith) in
     omega arith
+
+pub bounds-blocks-start : goal.bounds-blocks-start
+bounds-blocks-start c =
+    let columns = c.lane_length-columns.ensures in
+    let two = columns.sizes.two_columns in
+    let inside = place_in c.args.self.now c.loop-lane.lane c.lane_length-columns.result 1 c.loop-lane.blocks columns.value
+    (omega arith) (omega arith) (omega arith) in
+    omega arith
+
+pub bounds-blocks-start-in-loop-lane : goal.bounds-blocks-start-in-loop-lane
+bounds-blocks-start-in-loop-lane c =
+    let columns = c.lane_length-columns.ensures in
+    let two = columns.sizes.two_columns in
+    let inside = place_in c.args.self.now c.loop-lane.lane c.lane_length-columns.result 1 c.loop-lane.blocks columns.value
+    (omega arith) (omega arith) (omega arith) in
+    rw length-set inside
+
+pub returns-clause-others : goal.returns-clause-others
+returns-clause-others c = c.loop-lane.invariant.others
+
+pub loop-lane-init : goal.loop-lane-init
+loop-lane-init c = record { begun = λ k d low two. absurd (omega arith); others = λ k d l low high. refl }
 
 pub loop-lane-preserved : goal.loop-lane-preserved
 loop-lane-preserved c =
