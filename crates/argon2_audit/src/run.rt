@@ -76,7 +76,8 @@ pub fn run<R: Read, W: Write, E: Write>(
         → Keeps (E.contents errors.old) (E.contents errors.new) }
 {
     let Some(command) = Command::parsed(args) else {
-        return usage(errors);
+        let _ = writeln!(errors, "{USAGE}");
+        return 2;
     };
     match answer(alloc, command, input, output, errors, shows_progress) {
         Ok(true) => 0,
@@ -91,14 +92,6 @@ pub fn fail<E: Write>(errors: &mut E, failure: Failure) -> u8
 {
     let _ = writeln!(errors, "argon2-audit: {failure}");
     1
-}
-
-// Says on `errors` how the program is called, and returns the exit status, 2.
-fn usage<E: Write>(errors: &mut E) -> u8
-    ensures { result ≡ 2 }
-{
-    let _ = writeln!(errors, "{USAGE}");
-    2
 }
 
 // Answers a command, and returns whether its status is 0.

@@ -51,7 +51,8 @@ pub fn run<S: Stopwatch, W: Write, E: Write>(
         (λ command. IsAnswered S.may_take command (W.contents output.old) (W.contents output.new)) }
 {
     let Some(command) = Command::parsed(args) else {
-        return usage(errors);
+        let _ = writeln!(errors, "{USAGE}");
+        return 2;
     };
     let answered = match command {
         Command::Help => help(output),
@@ -71,14 +72,6 @@ pub fn fail<E: Write>(errors: &mut E, failure: Failure) -> u8
 {
     let _ = writeln!(errors, "argon2-calibrate: {failure}");
     1
-}
-
-// Says on `errors` how the program is called, and returns the exit status, 2.
-fn usage<E: Write>(errors: &mut E) -> u8
-    ensures { result ≡ 2 }
-{
-    let _ = writeln!(errors, "{USAGE}");
-    2
 }
 
 // Writes the help.

@@ -11,7 +11,7 @@ use Rattle.argon2.specs.Context.{context_with}
 use Rattle.argon2.specs.Settings.{Settings}
 use Rattle.argon2_tool.specs.Commands.{tag_under}
 use Rattle.argon2_tool.specs.Request.{unless}
-use Rattle.argon2_tool.specs.Failures.{HasNone, IsBeforeReply, IsBeforeWriting, IsMemory, IsOfHashing, IsOfReading, IsRefusal, IsRefusalOf}
+use Rattle.argon2_tool.specs.Failures.{IsBeforeReply, IsMemory, IsOfHashing, IsOfReading, IsRefusal}
 use Rattle.argon2_tool.specs.declared.failure.Failure.{Failure}
 use Rattle.argon2_tool.specs.declared.failure.Failure.TheVariants.{Input, Output, Memory, Hashing, Text}
 
@@ -78,11 +78,6 @@ tag_made settings len n salt password bytes key out same bytes_are fits is none 
     rw (← same, ← bytes_are) (unless_made _ _ _ fits (ap encode_lower (is
     ∙ ap (λ k. tag_of (context_with settings k) password bytes n) none)))
 
--- what is not there is not found
-pub nothing_found : {X : Type 0} → (P : X → Type 0) (o : Option X) → o ≡ None → IfSome o P
-nothing_found P None is = tt
-nothing_found P (Some x) is = absurd cc
-
 -- what a call makes of a message is made of the input, where that is known
 pub made_of_input : {X E : Type 0} → (P : X → List ℕ → Type 0) (input : Option (List ℕ)) (message : List ℕ) (r : Result X E)
     → IfSome input (λ m. message ≡ m) → IfOk r (λ x. P x message) → IfOk r (λ x. IfSome input (P x))
@@ -103,52 +98,6 @@ pub unread_before : {X : Type 0} → (replies : List ℕ → List ℕ → Type 0
     (r : Result X Failure) → IsOfReading e → IsErrAnd r (λ f. f ≡ e) → IfErr r (IsBeforeReply replies input)
 unread_before replies input e (Ok x) h same = tt
 unread_before replies input e (Err f) h same = before_by_reading replies input f (subst IsOfReading (sym same) h)
-
-writing_by_reading : (reply : List ℕ → Result (List ℕ) Error) (input : Option (List ℕ)) (f : Failure) → IsOfReading f
-    → IsBeforeWriting reply input f
-writing_by_reading reply input Input h = tt
-writing_by_reading reply input Output h = absurd h
-writing_by_reading reply input (Memory refused) h = tt
-writing_by_reading reply input (Hashing refusal) h = absurd h
-writing_by_reading reply input (Text refusal) h = absurd h
-
-pub unread_writing : {X : Type 0} → (reply : List ℕ → Result (List ℕ) Error) (input : Option (List ℕ)) (e : Failure)
-    (r : Result X Failure) → IsOfReading e → IsErrAnd r (λ f. f ≡ e) → IfErr r (IsBeforeWriting reply input)
-unread_writing reply input e (Ok x) h same = tt
-unread_writing reply input e (Err f) h same = writing_by_reading reply input f (subst IsOfReading (sym same) h)
-
--- the refusal of a message is that of the input, where that is known
-reply_to_input : (reply : List ℕ → Result (List ℕ) Error) (input : Option (List ℕ)) (message : List ℕ) (e : Error)
-    → IfSome input (λ m. message ≡ m) → reply message ≡ Err e → IfSome input (λ m. reply m ≡ Err e)
-reply_to_input reply None message e is h = tt
-reply_to_input reply (Some m) message e is h = subst (λ x. reply x ≡ Err e) is h
-
-before_writing : (reply : List ℕ → Result (List ℕ) Error) (input : Option (List ℕ)) (message : List ℕ) (f : Failure)
-    → IfSome input (λ m. message ≡ m) → IsRefusal (reply message) f → IsBeforeWriting reply input f
-before_writing reply input message Input is h = absurd h
-before_writing reply input message Output is h = absurd h
-before_writing reply input message (Memory refused) is h = tt
-before_writing reply input message (Hashing refusal) is h = reply_to_input reply input message refusal is h
-before_writing reply input message (Text refusal) is h = absurd h
-
-pub refused_writing : {X : Type 0} → (reply : List ℕ → Result (List ℕ) Error) (input : Option (List ℕ)) (message : List ℕ)
-    (r : Result X Failure) → IfSome input (λ m. message ≡ m) → IfErr r (IsRefusal (reply message))
-    → IfErr r (IsBeforeWriting reply input)
-refused_writing reply input message (Ok x) is h = tt
-refused_writing reply input message (Err f) is h = before_writing reply input message f is h
-
-by_settings : (IsReply : List ℕ → Type 0) (e : Error) (f : Failure) → HasNone IsReply → IsOfHashing e f → IsRefusalOf IsReply f
-by_settings IsReply e Input none h = absurd h
-by_settings IsReply e Output none h = absurd h
-by_settings IsReply e (Memory refused) none h = tt
-by_settings IsReply e (Hashing refusal) none h = none
-by_settings IsReply e (Text refusal) none h = absurd h
-
--- settings that are refused have no reply
-pub refused_settings : {X : Type 0} → (IsReply : List ℕ → Type 0) (e : Error) (r : Result X Failure) → HasNone IsReply
-    → IsErrAnd r (IsOfHashing e) → IfErr r (IsRefusalOf IsReply)
-refused_settings IsReply e (Ok x) none h = tt
-refused_settings IsReply e (Err f) none h = by_settings IsReply e f none h
 
 -- what hex makes of a reply's bytes is the reply
 pub hex_made : {X E F : Type 0} → (spelled : X → List ℕ) (reply : Result (List ℕ) E) (bytes : List ℕ) (r : Result X F)

@@ -2,9 +2,8 @@
 #![tactic(auto)]
 
 use failure::Failure;
-use std::alloc::{AllocError, Global};
+use std::alloc::AllocError;
 use std::env;
-use std::env::Args;
 use std::io::ErrorKind;
 use std::process::ExitCode;
 
@@ -32,18 +31,15 @@ fn main(rt: HostRuntime) -> ExitCode {
 
 // The arguments after the program's name; none where one is no text, as no command has such a one.
 fn words(rt: &HostRuntime) -> Result<Vec<String>, AllocError> {
+    let mut args = Vec::new(rt.alloc());
     match env::args(rt) {
-        Ok(words) => listed(rt.alloc(), words),
-        Err(e) if e.kind() == ErrorKind::OutOfMemory => Err(AllocError),
-        Err(_) => Ok(Vec::new(rt.alloc())),
+        Ok(words) => {
+            for word in words.skip(1) {
+                args.push(word)?;
+            }
+        }
+        Err(e) if e.kind() == ErrorKind::OutOfMemory => return Err(AllocError),
+        Err(_) => {}
     }
-}
-
-// The words after the first.
-fn listed(alloc: Global, words: Args) -> Result<Vec<String>, AllocError> {
-    let mut list = Vec::new(alloc);
-    for word in words.skip(1) {
-        list.push(word)?;
-    }
-    Ok(list)
+    Ok(args)
 }

@@ -44,7 +44,8 @@ pub fn run<R: Read, W: Write, E: Write>(
         × (IsRefused c (R.remaining input.old) → Keeps (W.contents output.old) (W.contents output.new)) }
 {
     let Some(command) = Command::parsed(args) else {
-        return usage(errors);
+        let _ = writeln!(errors, "{USAGE}");
+        return 2;
     };
     match answer(alloc, &command, input, output) {
         Ok(()) => 0,
@@ -58,14 +59,6 @@ pub fn fail<E: Write>(errors: &mut E, failure: Failure) -> u8
 {
     let _ = writeln!(errors, "argon2: {failure}");
     1
-}
-
-// Says on `errors` how the program is called, and returns the exit status, 2.
-fn usage<E: Write>(errors: &mut E) -> u8
-    ensures { result ≡ 2 }
-{
-    let _ = writeln!(errors, "{USAGE}");
-    2
 }
 
 // Writes the answer of a command to `output`, as a line.

@@ -27,24 +27,8 @@ pub fn tag<R: Read>(
         (tag_reply (settings_asked request.now) len salt.now) (R.remaining input.old)) }
 {
     let password = read_all(alloc, input)?;
-    tag_asked(alloc, request, len, salt, password.as_slice())
-}
-
-// The tag of a password that a request asks for, of `len` bytes, in hex.
-fn tag_asked(
-    alloc: Global,
-    request: &Request<'_>,
-    len: usize,
-    salt: &str,
-    password: &[u8],
-) -> Result<String, Failure>
-    ensures ok { IfOk result (λ text.
-        tag_reply (settings_asked request.now) len salt.now password.now ≡ Ok (string_bytes text)) }
-    ensures err { IfErr result (IsRefusal
-        (tag_reply (settings_asked request.now) len salt.now password.now)) }
-{
     let argon2 = request.argon2()?;
-    tag_text(alloc, &argon2, len, salt, password)
+    tag_text(alloc, &argon2, len, salt, password.as_slice())
 }
 
 // The tag of a password, of `len` bytes, in hex.

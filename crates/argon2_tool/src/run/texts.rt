@@ -26,23 +26,8 @@ pub fn phc<R: Read>(
         (IsPhcReply (settings_asked request.now) salt.now) (R.remaining input.old)) }
 {
     let password = read_all(alloc, input)?;
-    phc_asked(alloc, request, salt, password.as_slice())
-}
-
-// The PHC text of a password that a request asks for.
-fn phc_asked(
-    alloc: Global,
-    request: &Request<'_>,
-    salt: &str,
-    password: &[u8],
-) -> Result<String, Failure>
-    ensures ok { IfOk result (λ text.
-        IsPhcReply (settings_asked request.now) salt.now password.now (string_bytes text)) }
-    ensures err { IfErr result (IsRefusalOf
-        (IsPhcReply (settings_asked request.now) salt.now password.now)) }
-{
     let argon2 = request.argon2()?;
-    phc_text(alloc, &argon2, salt, password)
+    phc_text(alloc, &argon2, salt, password.as_slice())
 }
 
 // The PHC text of a password.

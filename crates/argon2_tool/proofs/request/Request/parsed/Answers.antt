@@ -1,7 +1,6 @@
-use Rattle.std.proofs.Common.{refl, rules, ◌≡◌, ℕ, List, [], ◌∷◌, Option, Some, None}
+use Rattle.std.proofs.Common.{rules, ◌≡◌, ℕ, List, [], ◌∷◌, Option, Some, None}
 use Rattle.std.specs.Fmt.{decimal}
 use Rattle.argon2_tool.specs.Request.{request_words}
-use Rattle.argon2_tool.proofs.Refusing.{nothing_found}
 use Rattle.argon2_tool.specs.declared.request.Request.{Request}
 use Rattle.argon2_tool.proofs.request.Request.parsed.Goals as goal
 
@@ -44,18 +43,3 @@ pub returns-in_err-read_decimal-4-clause-only : goal.returns-in_err-read_decimal
 returns-in_err-read_decimal-4-clause-only c = λ r fits words.
     absurd (missing _ _ c.in_err-read_decimal-4.was
     (c.read_decimal-4.ensures.only r.p_cost fits.3 (numbers r _ _ _ _ _ words).3))
-
-pub returns-in_err-read_decimal-clause-found : goal.returns-in_err-read_decimal-clause-found
-returns-in_err-read_decimal-clause-found c = nothing_found _ _ c.from_residual.ensures
-
-pub returns-in_err-read_decimal-2-clause-found : goal.returns-in_err-read_decimal-2-clause-found
-returns-in_err-read_decimal-2-clause-found c = nothing_found _ _ c.from_residual-in_err-read_decimal-2.ensures
-
-pub returns-in_err-read_decimal-3-clause-found : goal.returns-in_err-read_decimal-3-clause-found
-returns-in_err-read_decimal-3-clause-found c = nothing_found _ _ c.from_residual-in_err-read_decimal-3.ensures
-
-pub returns-in_err-read_decimal-4-clause-found : goal.returns-in_err-read_decimal-4-clause-found
-returns-in_err-read_decimal-4-clause-found c = nothing_found _ _ c.from_residual-in_err-read_decimal-4.ensures
-
-pub returns-clause-only : goal.returns-clause-only
-returns-clause-only c = λ r fits words. refl

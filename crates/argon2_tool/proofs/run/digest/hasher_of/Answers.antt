@@ -1,6 +1,6 @@
-use Rattle.std.proofs.Common.{arith, refl, rules, ◌∙◌, ◌≡◌, ℕ, ◌<◌, List, [], ◌++◌, Option, IfSome, length, take, subst, append-nil}
+use Rattle.std.proofs.Common.{arith, rules, ◌∙◌, ◌≡◌, ℕ, ◌<◌, List, [], ◌++◌, Option, IfSome, length, take, subst, append-nil}
 use Rattle.std.specs.Io.KnownBytes.{Consumes, IsAtEnd}
-use Rattle.std.proofs.KnownBytes.{Consumes-kept, Consumes-nil, Consumes-trans, Consumes-whole}
+use Rattle.std.proofs.KnownBytes.{Consumes-kept, Consumes-trans, Consumes-whole}
 use Rattle.argon2_base.specs.Hasher.{Holds}
 use Rattle.argon2_tool.proofs.run.digest.hasher_of.Goals.{in-Ok, in-Err+else-ne}
 use Rattle.argon2_tool.proofs.run.digest.hasher_of.Goals as goal
@@ -41,20 +41,3 @@ pieces-preserved g c =
             (before.3.0, before.3.1, Consumes-kept _ _ _ _ before.3.2 w.in-Err.ensures.bytes),
           )
     ]
-
-pub pieces-init : goal.pieces-init
-pieces-init g c =
-    let made = c.new-hasher.ensures in
-    (made.digest_len, omega arith, refl, ([], made.holds, Consumes-nil (g.R.Read.remaining c.args.input.now)))
-
-pub returns-in-Ok-eq0-clause-digest_len : goal.returns-in-Ok-eq0-clause-digest_len
-returns-in-Ok-eq0-clause-digest_len g c = c.pieces.invariant.0
-
-pub slice_bounds-piece-end : goal.slice_bounds-piece-end
-slice_bounds-piece-end g c = c.in-Ok.ensures.bound.0
-
-pub slice_bounds-update-end : goal.slice_bounds-update-end
-slice_bounds-update-end g c = c.in-Ok.ensures.bound.1
-
-pub returns-then-ne-clause-err : goal.returns-then-ne-clause-err
-returns-then-ne-clause-err g c = c.of_reading.ensures.reading
