@@ -1,6 +1,7 @@
 -- The fields of a text, and the text of the fields.
 use Rattle.std.proofs.Common.{◌≡◌, ◌≢◌, ◌↔◌, ℕ, ◌<◌, ◌^◌, Bool, true, false, IsTrue, List, [], ◌∷◌, ◌++◌, length, refl, sym, ap, ◌∙◌, subst, arith, Option, Some, None, Ok, Err, append_assoc, codes, eqb}
 use Rattle.std.proofs.lemmas.List.{append-nil}
+use Rattle.std.proofs.lemmas.Grind.{flat_map-append}
 use Rattle.std.proofs.lemmas.Bool.{not-true, and_parts}
 use Rattle.std.specs.Prelude.{IfSome, IsSome, IsNone, is_some}
 use Rattle.std.specs.Borrow.{Bor}
@@ -268,3 +269,22 @@ pub list_unprinted : (ps : List Pair) (empty : Bool) → (IsTrue empty ↔ (ps �
     → fields_text (list_field ps) ≡ []
 list_unprinted [] empty is e = refl
 list_unprinted (p ∷ ps) empty is e = absurd (let f = is.0 e in cc)
+
+-- the fields that were printed one after the other
+pub printed : (v : Phc) {t0 t1 t2 t3 t4 t5 first : List ℕ} {salt hash : List (List ℕ)} → t0 ≡ [] → t1 ≡ t0 ++ 36 ∷ first
+    → first ≡ v.algorithm → t2 ≡ t1 ++ fields_text (field version_text v.version)
+    → t3 ≡ t2 ++ fields_text (list_field v.params) → t4 ≡ t3 ++ fields_text salt → salt ≡ field strict_base64 v.salt
+    → t5 ≡ t4 ++ fields_text hash → hash ≡ field strict_base64 v.hash → t5 ≡ phc_text v
+printed v {first = first} e0 e1 ea e2 e3 e4 es e5 eh =
+    let f : List ℕ → List ℕ = λ x. 36 ∷ x in
+    let a : List (List ℕ) = field version_text v.version in
+    let b : List (List ℕ) = list_field v.params in
+    let s : List (List ℕ) = field strict_base64 v.salt in
+    let h : List (List ℕ) = field strict_base64 v.hash in
+    let p : List ℕ = 36 ∷ v.algorithm in
+    let whole : phc_text v ≡ p ++ (flat_map f a ++ (flat_map f b ++ (flat_map f s ++ flat_map f h))) =
+    rw (flat_map-append f a (b ++ (s ++ h)), flat_map-append f b (s ++ h), flat_map-append f s h) refl in
+    rw (e5, eh, e4, es, e3, e2, e1, e0, ea)
+    (append_assoc ((p ++ flat_map f a) ++ flat_map f b) (flat_map f s) (flat_map f h)
+    ∙ append_assoc (p ++ flat_map f a) (flat_map f b) (flat_map f s ++ flat_map f h)
+    ∙ append_assoc p (flat_map f a) (flat_map f b ++ (flat_map f s ++ flat_map f h)) ∙ sym whole)

@@ -1,4 +1,8 @@
-use Rattle.std.proofs.Common.{length, ap, arith}
+use Rattle.std.proofs.Common.{rules, ◌≡◌, length, ap, arith}
+use Rattle.argon2_base.specs.Base64.{strict_base64}
+use Rattle.argon2_base.specs.PasswordHash.{phc_of}
+use Rattle.argon2_base.specs.PhcText.{field}
+use Rattle.argon2_base.proofs.PhcTextLemmas.{printed}
 use Rattle.argon2_base.proofs.Characters.{name_length}
 use Rattle.argon2_base.proofs.phc.hash.PasswordHash.text.Goals as goal
 
@@ -21,3 +25,13 @@ push_base64-requires c =
 pub push_base64-requires-2 : goal.push_base64-requires-2
 push_base64-requires-2 c =
     (omega arith, omega (arith, ap length c.new-text.ensures, name_length c.as_str.ensures.value c.as_str.ensures.name))
+
+pub returns : goal.returns
+returns c =
+    let h = c.args.self.now in
+    let salt : field (λ t. t.bytes) c.map.result ≡ field strict_base64 h.salt = search rules in
+    let hash : field (λ t. t.bytes) c.map-2.result ≡ field strict_base64 h.hash = search rules in (
+      h.grammatical,
+      printed (phc_of h) c.new-text.ensures c.push_field.ensures.bytes c.as_str.ensures.value c.push_version.ensures.bytes
+          c.push_params.ensures.bytes c.push_base64.ensures.bytes salt c.push_base64-2.ensures.bytes hash,
+    )
