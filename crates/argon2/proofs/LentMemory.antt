@@ -94,7 +94,8 @@ module _ (argon2 : Argon2) (count : ℕ) (all : count ≡ block_count (context_o
 pub only_tag : (argon2 : Argon2) (password salt output : List ℕ) (old new : Memory) (n : ℕ) (r : Result (Unit {0}) Error)
     → OnOk r (IsHashed argon2 password salt output old new) → length output ≡ n
     → OnOk r (output ≡ tag_of (context_of argon2) password salt n)
-only_tag argon2 password salt output old new n (Ok a) hashed size = hashed.tag ∙ ap (tag_of (context_of argon2) password salt) size
+only_tag argon2 password salt output old new n (Ok a) hashed size =
+    hashed.tag ∙ ap (tag_of (context_of argon2) password salt) size
 only_tag argon2 password salt output old new n (Err e) hashed size = tt
 
 -- of what stays the output

@@ -1,13 +1,13 @@
 //! Parameters as texts: printed as a parameter list, and read from one.
 
 ghost use Rattle.std.specs.Prelude.{◌≡◌, ◌≤◌, ◌++◌, IsTrue, codes, length};
+ghost use Rattle.std.specs.Option.{option_map};
 ghost use Rattle.argon2_base.specs.Decimal.{number_of};
 ghost use Rattle.argon2_base.specs.ParamsText.{are_params};
 ghost use Rattle.argon2_base.specs.Error.{bad_param, outcome_of};
-ghost use Rattle.argon2.specs.ListReading.{value_taken};
-ghost use Rattle.std.specs.Option.{option_map};
 ghost use Rattle.argon2.specs.ByteLists.{keyid_bytes, data_bytes};
-ghost use Rattle.argon2.specs.ListedParameters.{bytes_item, listed, short_bytes, AreReadAgain, IsValueOr};
+ghost use Rattle.argon2.specs.ListedParameters.{bytes_item, listed, short_bytes, AreReadAgain};
+ghost use Rattle.argon2.specs.ListReading.{value_taken};
 
 use super::{AssociatedData, KeyId, Params, ParamsBuilder};
 use argon2_base::error::password_hash::{Error, Result};

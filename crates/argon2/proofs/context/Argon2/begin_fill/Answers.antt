@@ -31,7 +31,8 @@ slice_bounds-blocks-end c =
 
 pub slice_bounds-blocks-end-2 : goal.slice_bounds-blocks-end-2
 slice_bounds-blocks-end-2 c =
-    let blocks = lent c.args.memory.now c.instance-instance.ensures.value c.block_count.ensures.value c.in_ok-check.ensures.room in
+    let blocks = lent c.args.memory.now c.instance-instance.ensures.value c.block_count.ensures.value
+    c.in_ok-check.ensures.room in
     c.block_count.ensures.value ∙ sym blocks.1
 
 pub overflow_cast-out_len : goal.overflow_cast-out_len

@@ -52,7 +52,8 @@ slice_bounds-matrix-end c =
 
 pub slice_bounds-matrix-end-2 : goal.slice_bounds-matrix-end-2
 slice_bounds-matrix-end-2 c =
-    let blocks = lent c.args.memory.now c.instance-instance.ensures.value c.block_count.ensures.value c.in_ok-check_memory.ensures.room in
+    let blocks = lent c.args.memory.now c.instance-instance.ensures.value c.block_count.ensures.value
+    c.in_ok-check_memory.ensures.room in
     c.block_count.ensures.value ∙ sym blocks.1
 
 pub fill_blocks-requires-clause-inputs : goal.fill_blocks-requires-clause-inputs

@@ -23,7 +23,8 @@ slice_bounds-blocks-end c =
 
 pub slice_bounds-blocks-end-2 : goal.slice_bounds-blocks-end-2
 slice_bounds-blocks-end-2 c =
-    let blocks = lent c.args.memory.now c.instance-instance.ensures.value c.block_count.ensures.value c.in_ok-check.ensures.room in
+    let blocks = lent c.args.memory.now c.instance-instance.ensures.value c.block_count.ensures.value
+    c.in_ok-check.ensures.room in
     c.block_count.ensures.value ∙ sym blocks.1
 
 pub overflow_cast-out : goal.overflow_cast-out
@@ -38,7 +39,8 @@ fill_blocks-requires-clause-size c =
 
 pub write_tag-requires-clause-room : goal.write_tag-requires-clause-room
 write_tag-requires-clause-room c =
-    let blocks = lent c.args.memory.now c.instance-instance.ensures.value c.block_count.ensures.value c.in_ok-check.ensures.room in
+    let blocks = lent c.args.memory.now c.instance-instance.ensures.value c.block_count.ensures.value
+    c.in_ok-check.ensures.room in
     rw (c.fill_blocks.auto.blocks, blocks.1) (omega arith)
 
 pub write_tag-requires-clause-some : goal.write_tag-requires-clause-some

@@ -39,8 +39,9 @@ overflow_cast-place c =
 pub bounds-memory-place : goal.bounds-memory-place
 bounds-memory-place c =
     let length = c.lane_length-length.ensures in
-    place_in c.args.self.now c.loop-lane.lane c.lane_length-length.result (c.lane_length-length.result - 1) c.args.memory.now
-    length.value (rw c.lanes-lane-end.ensures at c.loop-lane-test.true) (last_below c.args.self.now c.lane_length-length.result length.sizes length.value) c.requires
+    place_in c.args.self.now c.loop-lane.lane c.lane_length-length.result (c.lane_length-length.result - 1)
+    c.args.memory.now length.value (rw c.lanes-lane-end.ensures at c.loop-lane-test.true)
+    (last_below c.args.self.now c.lane_length-length.result length.sizes length.value) c.requires
 
 pub loop-lane-preserved : goal.loop-lane-preserved
 loop-lane-preserved c =

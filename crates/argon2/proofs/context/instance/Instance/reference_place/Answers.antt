@@ -1,4 +1,4 @@
-use Rattle.std.proofs.Common.{arith, rules}
+use Rattle.std.proofs.Common.{arith}
 use Rattle.argon2.specs.Reference.{reference}
 use Rattle.argon2.proofs.schedules.InMemory.{place_below, place_fits}
 use Rattle.argon2.proofs.context.instance.Instance.reference_place.Goals as goal
