@@ -1,3 +1,1 @@
 pub mod Replying
-pub mod Refusing
-pub mod Spelling

@@ -31,9 +31,7 @@ impl<'a> Command<'a> {
         ensures found { IfSome result (λ command. Spells (map string_bytes args.now) command) }
         ensures only { (command : Command) → Spells (map string_bytes args.now) command → IsSome result }
     {
-        let [name, values @ ..] = args else {
-            return None;
-        };
+        let (name, values) = args.split_first()?;
         match name.as_str() {
             "digest" => Command::digest_of(values),
             "long" => Command::long_of(values),

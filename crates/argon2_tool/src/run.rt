@@ -2,9 +2,8 @@
 
 ghost use Rattle.std.specs.Prelude.{◌≡◌, ◌↔◌, ◌⊎◌, ◌≤◌, [], ◌∷◌, ◌++◌, IfSome, IfOk, OnOk, IfErr, map, string_bytes};
 ghost use Rattle.std.specs.Io.KnownBytes.{Appends, Keeps};
-ghost use Rattle.hex.specs.Hex.{encode_lower};
 ghost use Rattle.argon2_tool.specs.Commands.{IsCommand, Spells, Replies, IsAnswered, IsRefused};
-ghost use Rattle.argon2_tool.specs.Failures.{IsOfReading, IsBeforeReply, IsMemory};
+ghost use Rattle.argon2_tool.specs.Failures.{IsOfReading, IsBeforeReply};
 
 use crate::arguments::Command;
 use crate::failure::{Failure, of_reading};
@@ -119,12 +118,4 @@ fn read_all<R: Read>(alloc: Global, input: &mut R) -> Result<Vec<u8>, Failure>
         Ok(_) => Ok(bytes),
         Err(e) => Err(of_reading(&e)),
     }
-}
-
-// The bytes in hex.
-fn hex_of(alloc: Global, bytes: &[u8]) -> Result<String, Failure>
-    ensures ok { IfOk result (λ text. string_bytes text ≡ encode_lower bytes.now) }
-    ensures err { IfErr result IsMemory }
-{
-    Ok(hex::encode(alloc, bytes)?)
 }

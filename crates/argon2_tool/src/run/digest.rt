@@ -7,7 +7,7 @@ ghost use Rattle.argon2_base.specs.Hasher.{Holds};
 ghost use Rattle.argon2_tool.specs.Commands.{long_reply};
 ghost use Rattle.argon2_tool.specs.Failures.{IsOfReading, IsBeforeWriting, IsRefusal};
 
-use super::{hex_of, read_all};
+use super::read_all;
 use crate::failure::{Failure, of_reading};
 use argon2::blake2b::Blake2b;
 use argon2::blake2b_long::blake2b_long;
@@ -24,10 +24,9 @@ pub fn digest<R: Read>(alloc: Global, len: usize, input: &mut R) -> Result<Strin
     ensures err { IfErr result IsOfReading }
 {
     let hasher = hasher_of(len, input)?;
-    let mut digest = [0u8; 64];
-    let out = &mut digest[..len];
-    hasher.finalize_into(out);
-    hex_of(alloc, out)
+    let mut out = [0u8; 64];
+    hasher.finalize_into(&mut out[..len]);
+    Ok(hex::encode(alloc, &out[..len])?)
 }
 
 // A hasher for a digest of `len` bytes, which holds all that is left in `input`.
@@ -73,5 +72,5 @@ fn long_text(alloc: Global, len: usize, message: &[u8]) -> Result<String, Failur
 {
     let mut out = vec![in alloc; 0u8; len]?;
     blake2b_long(&[message], out.as_mut_slice())?;
-    hex_of(alloc, out.as_slice())
+    Ok(hex::encode(alloc, out.as_slice())?)
 }

@@ -6,7 +6,7 @@ ghost use Rattle.argon2_tool.specs.Commands.{tag_reply, tag_under};
 ghost use Rattle.argon2_tool.specs.Failures.{IsBeforeWriting, IsRefusal};
 ghost use Rattle.argon2_tool.specs.Request.{settings_asked};
 
-use super::{hex_of, read_all};
+use super::read_all;
 use crate::failure::Failure;
 use crate::request::Request;
 use argon2::Argon2;
@@ -47,5 +47,5 @@ fn tag_text(
 {
     let mut out = vec![in alloc; 0u8; len]?;
     argon2.hash_password_into(alloc, password, salt.as_bytes(), out.as_mut_slice())?;
-    hex_of(alloc, out.as_slice())
+    Ok(hex::encode(alloc, out.as_slice())?)
 }

@@ -1,6 +1,7 @@
 //! PHC texts of the input as a password.
 
 ghost use Rattle.std.specs.Prelude.{◌≡◌, [], IfSome, IfOk, IfErr, codes, string_bytes};
+ghost use Rattle.argon2.specs.Accepts.{Accepts};
 ghost use Rattle.argon2.specs.Argon2.{secret_of, settings_of};
 ghost use Rattle.argon2_tool.specs.Commands.{IsPhcUnder, IsPhcReply, IsVerifyReply};
 ghost use Rattle.argon2_tool.specs.Failures.{IsBeforeReply, IsRefusalOf};
@@ -54,14 +55,14 @@ pub fn verify<R: Read>(alloc: Global, text: &str, input: &mut R) -> Result<Strin
     ensures err { IfErr result (IsBeforeReply (IsVerifyReply text.now) (R.remaining input.old)) }
 {
     let password = read_all(alloc, input)?;
-    accepted(alloc, text, password.as_slice())
+    accepted(alloc, text, password.as_slice())?;
+    Ok(String::from_str(alloc, "ok")?)
 }
 
-// `ok`, where a PHC text accepts a password.
-fn accepted(alloc: Global, text: &str, password: &[u8]) -> Result<String, Failure>
-    ensures ok { IfOk result (λ reply. IsVerifyReply text.now password.now (string_bytes reply)) }
+// Ok where a PHC text accepts a password.
+fn accepted(alloc: Global, text: &str, password: &[u8]) -> Result<(), Failure>
+    ensures ok { IfOk result (λ _. Accepts [] password.now text.now) }
     ensures err { IfErr result (IsRefusalOf (IsVerifyReply text.now password.now)) }
 {
-    Argon2::default().verify_password(alloc, password, text)?;
-    Ok(String::from_str(alloc, "ok")?)
+    Ok(Argon2::default().verify_password(alloc, password, text)?)
 }
