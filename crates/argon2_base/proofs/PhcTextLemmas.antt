@@ -1,5 +1,5 @@
 -- The fields of a text, and the text of the fields.
-use Rattle.std.proofs.Common.{◌≡◌, ◌≢◌, ◌↔◌, ℕ, ◌<◌, ◌^◌, Bool, true, false, IsTrue, List, [], ◌∷◌, ◌++◌, length, refl, sym, ap, ◌∙◌, subst, arith, Option, Some, None, Ok, Err, append_assoc, codes, eqb}
+use Rattle.std.proofs.Common.{◌≡◌, ◌≢◌, ℕ, ◌<◌, ◌^◌, true, false, List, [], ◌∷◌, ◌++◌, length, refl, sym, ap, ◌∙◌, subst, arith, Option, Some, None, Ok, Err, append_assoc, codes, eqb}
 use Rattle.std.proofs.lemmas.List.{append-nil}
 use Rattle.std.proofs.lemmas.Grind.{flat_map-append}
 use Rattle.std.proofs.lemmas.Bool.{not-true, and_parts}
@@ -166,12 +166,6 @@ none_after (Some s) (Some b) h n = absurd cc
 
 -- ---- the field that is read
 
--- what is no item is no version
-pub no_version_read : (f : List ℕ) (more rest : List (List ℕ)) (o : Option ℕ) → ((p : Pair) → f ≢ item p)
-    → f ∷ more ≡ field version_text o ++ rest → (◌≡◌ {A = Option ℕ} None o) × (f ∷ more ≡ rest)
-no_version_read f more rest None h e = (refl, e)
-no_version_read f more rest (Some n) h e = absurd (h (codes "v", decimal n) cc)
-
 -- what is no item is no list
 pub no_list_read : (f : List ℕ) (more rest : List (List ℕ)) (ps : List Pair) → ((p : Pair) → f ≢ item p)
     → f ∷ more ≡ list_field ps ++ rest → (◌≡◌ {A = List Pair} [] ps) × (f ∷ more ≡ rest)
@@ -257,18 +251,6 @@ pub gathered : (t : List ℕ) {first : List ℕ} (v : Phc) {f0 f1 f2 : List (Lis
 gathered t v e a e1 e2 e3 = rw (e, e1, e2, e3, a) refl
 
 -- ---- printing
-
--- parameters print as a field, and none as nothing
-pub list_printed : (ps : List Pair) (empty : Bool) → (IsTrue empty ↔ (ps ≡ [])) → empty ≡ false
-    → fields_text (list_field ps) ≡ 36 ∷ params_text ps
-list_printed [] empty is e = absurd (let f = is.1 refl in cc)
-list_printed (p ∷ ps) empty is e = ap (λ (t : List ℕ). 36 ∷ t) (append-nil (params_text (p ∷ ps)))
-
--- no parameters print as nothing
-pub list_unprinted : (ps : List Pair) (empty : Bool) → (IsTrue empty ↔ (ps ≡ [])) → empty ≡ true
-    → fields_text (list_field ps) ≡ []
-list_unprinted [] empty is e = refl
-list_unprinted (p ∷ ps) empty is e = absurd (let f = is.0 e in cc)
 
 -- the fields that were printed one after the other
 pub printed : (v : Phc) {t0 t1 t2 t3 t4 t5 first : List ℕ} {salt hash : List (List ℕ)} → t0 ≡ [] → t1 ≡ t0 ++ 36 ∷ first

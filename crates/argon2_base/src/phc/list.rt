@@ -4,7 +4,6 @@ ghost use Rattle.std.specs.Prelude.{◌≡◌, ◌≢◌, ◌↔◌, ◌<◌, �
 ghost use Rattle.std.specs.Fmt.{decimal};
 ghost use Rattle.std.specs.Cmp.{partial_equiv_from_equiv};
 ghost use Rattle.argon2_base.specs.Base64.{strict_base64};
-ghost use Rattle.argon2_base.specs.Ident.{shown_pair};
 ghost use Rattle.argon2_base.specs.ParamsText.{Pair, item, params_text, value_of, is_param, are_params, ParamsText, pair_of, items_of, items_left, with_item, pairs_eq, pairs_eq_equiv};
 ghost use Rattle.argon2_base.specs.declared.error.password_hash.Error.TheVariants.{ParamsInvalid};
 
@@ -225,24 +224,15 @@ impl<'a> Iterator for Iter<'a> {
 
     fn next(&mut self) -> Option<(Ident, Value<'a>)> {
         let (item, rest) = first_item(self.rest?);
+        let Some((name, value)) = split_item(item) else {
+            unreachable!();
+        };
+        let Ok(name) = Ident::new(name) else {
+            unreachable!();
+        };
         self.rest = rest;
-        Some(read_item(item))
+        Some((name, Value { text: value }))
     }
-}
-
-// The parameter of an item.
-fn read_item(text: &str) -> (Ident, Value<'_>)
-    requires item { text.now ≡ item (pair_of text.now) }
-    requires param { IsTrue (is_param (pair_of text.now)) }
-    ensures { shown_pair result ≡ pair_of text.now }
-{
-    let Some((name, value)) = split_item(text) else {
-        unreachable!();
-    };
-    let Ok(name) = Ident::new(name) else {
-        unreachable!();
-    };
-    (name, Value { text: value })
 }
 
 fn is_param_text(name: &str, value: &str) -> bool
