@@ -10,17 +10,12 @@ use argon2_base::error::{Error, Result};
 use std::alloc::Allocator;
 use std::fmt;
 
-mod addresses;
+mod ends;
 mod fill;
-mod hash;
-mod inputs;
 mod instance;
 mod lengths;
 mod reference;
-mod segment;
-mod step;
-mod steps;
-mod tag;
+mod stepping;
 
 use instance::Instance;
 use lengths::check_inputs;

@@ -5,11 +5,11 @@ use Rattle.std.proofs.lemmas.List.{get_or_append_left, length_push, get_or_push}
 use Rattle.std.proofs.lemmas.List.FromFn.{get_or-map-range_with_len}
 use Rattle.std.proofs.lemmas.Nat.{div-mul-add, mod-mul-add}
 use Rattle.std.proofs.lemmas.Bool.{cond-true, cond-false, cases_lt, eqb-true, ltb-true, eq-eqb, lt-ltb, and_parts, and_from, false_from_ne_true}
-use Rattle.argon2.specs.Context.{Context, lane_length}
+use Rattle.argon2.specs.Context.{Context, Sizes, lane_length}
 use Rattle.argon2.specs.Recurrence.{FirstColumns, Blocks, made_block, rule, in_history, history, block_of}
 use Rattle.argon2.specs.Steps.{IsStep}
 use Rattle.argon2.specs.Laws.{IsRecurrence}
-use Rattle.argon2.proofs.recurrence.Sources.{Fits, Reads, made_cong}
+use Rattle.argon2.proofs.recurrence.Sources.{Reads, made_cong}
 
 -- the moment of a pass's column: how many columns are made before it
 abbrev pub moment : Context → ℕ → ℕ → ℕ
@@ -29,18 +29,18 @@ reads_earlier ctx pass lane column r l c reads =
     ]
 
 -- a rule reads earlier moments alone
-rule_cong : (ctx : Context) → Fits ctx → (first : FirstColumns) (pass lane column : ℕ) →
+rule_cong : (ctx : Context) → Sizes ctx → (first : FirstColumns) (pass lane column : ℕ) →
     lane < ctx.p_cost → column < lane_length ctx → (f g : Blocks) →
     ((r l c : ℕ) → l < ctx.p_cost → c < lane_length ctx → moment ctx r c < moment ctx pass column → f r l c ≡ g r l c) →
     rule ctx first f pass lane column ≡ rule ctx first g pass lane column
 unfolding rule
-rule_cong ctx fits first pass lane column in_lanes in_columns f g h = go ((eqb pass 0) && (ltb column 2)) refl
+rule_cong ctx sizes first pass lane column in_lanes in_columns f g h = go ((eqb pass 0) && (ltb column 2)) refl
   where
     go : (b : Bool) → ((eqb pass 0) && (ltb column 2)) ≡ b →
         cond b (first lane column) (made_block ctx f pass lane column)
         ≡ cond b (first lane column) (made_block ctx g pass lane column)
     go true e = refl
-    go false e = made_cong ctx fits pass lane column
+    go false e = made_cong ctx sizes pass lane column
         (record {
           in_lanes = in_lanes;
           in_columns = in_columns;
@@ -102,10 +102,10 @@ unfolding block_of in_history
 read_at_newest ctx first pass lane column = refl
 
 -- each block is as the rule says
-pub recurrence : (ctx : Context) → Fits ctx → (first : FirstColumns) (pass lane column : ℕ) →
+pub recurrence : (ctx : Context) → Sizes ctx → (first : FirstColumns) (pass lane column : ℕ) →
     lane < ctx.p_cost → column < lane_length ctx →
     block_of ctx first pass lane column ≡ rule ctx first (block_of ctx first) pass lane column
-recurrence ctx fits first pass lane column in_lanes in_columns =
+recurrence ctx sizes first pass lane column in_lanes in_columns =
     let q = lane_length ctx in
     let n = moment ctx pass column in
     let f = in_history ctx (history ctx first n) in
@@ -113,49 +113,49 @@ recurrence ctx fits first pass lane column in_lanes in_columns =
     ∙ newest_column ctx first n lane in_lanes
     ∙ ap (λ r. rule ctx first f r lane (n % q)) (div-mul-add pass q column in_columns)
     ∙ ap (λ c. rule ctx first f pass lane c) (mod-mul-add pass q column in_columns)
-    ∙ rule_cong ctx fits first pass lane column in_lanes in_columns f (block_of ctx first)
+    ∙ rule_cong ctx sizes first pass lane column in_lanes in_columns f (block_of ctx first)
     (λ r l c _ _ lt. in_history_is ctx first n r l c lt)
 
 -- two recurrences agree up to any moment
-recurrence_unique_up_to : (ctx : Context) → Fits ctx → (first : FirstColumns) (f g : Blocks) →
+recurrence_unique_up_to : (ctx : Context) → Sizes ctx → (first : FirstColumns) (f g : Blocks) →
     IsRecurrence ctx first f → IsRecurrence ctx first g → (n pass lane column : ℕ) →
     lane < ctx.p_cost → column < lane_length ctx → moment ctx pass column < n →
     f pass lane column ≡ g pass lane column
-recurrence_unique_up_to ctx fits first f g hf hg zero pass lane column a b lt = absurd (omega arith)
-recurrence_unique_up_to ctx fits first f g hf hg (suc n) pass lane column a b lt =
+recurrence_unique_up_to ctx sizes first f g hf hg zero pass lane column a b lt = absurd (omega arith)
+recurrence_unique_up_to ctx sizes first f g hf hg (suc n) pass lane column a b lt =
     hf pass lane column a b
-    ∙ rule_cong ctx fits first pass lane column a b f g
-    (λ r l c u v earlier. recurrence_unique_up_to ctx fits first f g hf hg n r l c u v (omega arith))
+    ∙ rule_cong ctx sizes first pass lane column a b f g
+    (λ r l c u v earlier. recurrence_unique_up_to ctx sizes first f g hf hg n r l c u v (omega arith))
     ∙ sym (hg pass lane column a b)
 
 -- no other blocks are as the rule says
-pub recurrence_unique : (ctx : Context) → Fits ctx → (first : FirstColumns) (f : Blocks) →
+pub recurrence_unique : (ctx : Context) → Sizes ctx → (first : FirstColumns) (f : Blocks) →
     IsRecurrence ctx first f → (pass lane column : ℕ) → lane < ctx.p_cost →
     column < lane_length ctx →
     f pass lane column ≡ block_of ctx first pass lane column
-recurrence_unique ctx fits first f h pass lane column a b =
-    recurrence_unique_up_to ctx fits first f (block_of ctx first) h (recurrence ctx fits first)
+recurrence_unique ctx sizes first f h pass lane column a b =
+    recurrence_unique_up_to ctx sizes first f (block_of ctx first) h (recurrence ctx sizes first)
     (suc (moment ctx pass column)) pass lane column a b (omega arith)
 
 -- ---- the rule's two cases
 
 -- the blocks of columns 0 and 1 of pass 0 are the first columns
-pub first_columns : (ctx : Context) → Fits ctx → (first : FirstColumns) (lane column : ℕ) →
+pub first_columns : (ctx : Context) → Sizes ctx → (first : FirstColumns) (lane column : ℕ) →
     lane < ctx.p_cost → column < 2 → block_of ctx first 0 lane column ≡ first lane column
 unfolding rule
-first_columns ctx fits first lane column a b =
-    let two = fits.two_columns in
-    recurrence ctx fits first 0 lane column a (omega arith)
+first_columns ctx sizes first lane column a b =
+    let two = sizes.two_columns in
+    recurrence ctx sizes first 0 lane column a (omega arith)
     ∙ cond-true ((eqb 0 0) && (ltb column 2)) (first lane column) (made_block ctx (block_of ctx first) 0 lane column)
     (and_from (eqb 0 0) (ltb column 2) refl (lt-ltb column 2 b))
 
 -- all other blocks are made of others
-pub made_blocks : (ctx : Context) → Fits ctx → (first : FirstColumns) (pass lane column : ℕ) →
+pub made_blocks : (ctx : Context) → Sizes ctx → (first : FirstColumns) (pass lane column : ℕ) →
     IsStep ctx pass lane column →
     block_of ctx first pass lane column ≡ made_block ctx (block_of ctx first) pass lane column
 unfolding rule
-made_blocks ctx fits first pass lane column st =
-    recurrence ctx fits first pass lane column st.in_lanes st.in_columns
+made_blocks ctx sizes first pass lane column st =
+    recurrence ctx sizes first pass lane column st.in_lanes st.in_columns
     ∙ cond-false ((eqb pass 0) && (ltb column 2)) (first lane column) (made_block ctx (block_of ctx first) pass lane column)
     (false_from_ne_true ((eqb pass 0) && (ltb column 2)) (λ e.
     let parts = and_parts (eqb pass 0) (ltb column 2) e in

@@ -3,11 +3,10 @@
 use Rattle.std.proofs.Common.{◌≡◌, ℕ, zero, suc, ◌+◌, ◌*◌, ◌/◌, ◌%◌, ◌<◌, true, eqb, ltb, get_or, refl, sym, ap, ◌∙◌, arith}
 use Rattle.std.proofs.lemmas.Bool.{cond-true, eq-eqb, lt-ltb, and_from, or_left, or_right}
 use Rattle.std.proofs.lemmas.Nat.{div_below}
-use Rattle.argon2.specs.Context.{Context, segment_length, lane_length}
+use Rattle.argon2.specs.Context.{Context, Sizes, segment_length, lane_length}
 use Rattle.argon2.specs.Reference.{reference_lane, permitted, finished_segments, reference}
 use Rattle.argon2.specs.Recurrence.{FirstColumns, is_independent, address_block, address_word, previous, reference_word, reference_of, block_of, reference_places}
 use Rattle.argon2.specs.Laws.{AreAlike}
-use Rattle.argon2.proofs.recurrence.Sources.{Fits}
 
 -- the place of the block that the address word takes
 addressed_place : Context → ℕ → ℕ → ℕ → ℕ
@@ -91,12 +90,12 @@ unfolding is_independent
 argon2i_independent ctx pass slice h = or_left (eqb ctx.algorithm 1) _ (eq-eqb ctx.algorithm 1 h)
 
 -- Argon2id's addressing is independent in the first half of pass 0
-pub argon2id_independent : (ctx : Context) → Fits ctx → (column : ℕ) → ctx.algorithm ≡ 2 →
+pub argon2id_independent : (ctx : Context) → Sizes ctx → (column : ℕ) → ctx.algorithm ≡ 2 →
     column < 2 * segment_length ctx →
     is_independent ctx 0 (column / segment_length ctx) ≡ true
 unfolding is_independent
-argon2id_independent ctx fits column h low =
+argon2id_independent ctx sizes column h low =
     let s = segment_length ctx in
-    let two = fits.two_columns in
+    let two = sizes.two_columns in
     or_right (eqb ctx.algorithm 1) _ (and_from (eqb ctx.algorithm 2) _ (eq-eqb ctx.algorithm 2 h)
     (and_from (eqb 0 0) (ltb (column / s) 2) refl (lt-ltb (column / s) 2 (div_below column s 2 (omega arith) low))))

@@ -4,9 +4,9 @@ use Rattle.std.proofs.Math.Nat.{div-add-mod'}
 use Rattle.std.proofs.lemmas.List.{length-append, length-take, length-take-le, get_or_append_left, get_or-append_right, get_or-take}
 use Rattle.std.proofs.lemmas.List.FromFn.{get_or-map-range_with_len}
 use Rattle.std.proofs.lemmas.Bool.{cond_both, cond-true, cond-false, cases_lt, cases_Bool, ne_eqb, lt-ltb, le-ltb}
-use Rattle.argon2.specs.Context.{Context, segment_length, lane_length}
+use Rattle.argon2.specs.Context.{Context, Sizes, segment_length, lane_length}
 use Rattle.argon2.specs.Reference.{columns, finished_segments, without_last, permitted}
-use Rattle.argon2.proofs.recurrence.Sources.{Fits, InSlice, in_slice, length-columns}
+use Rattle.argon2.proofs.recurrence.Sources.{InSlice, in_slice, length-columns}
 
 -- the column at an index of a list of columns
 get_or-columns : (pass from to i : ℕ) → i < to - from →
@@ -26,10 +26,10 @@ finished_column ctx pass slice i =
     (cond (ltb ((slice + 1) * segment_length ctx + i) (lane_length ctx)) ((slice + 1) * segment_length ctx + i)
     ((slice + 1) * segment_length ctx + i - lane_length ctx))
 
-module _ (ctx : Context) (fits : Fits ctx) (column : ℕ) (in_columns : column < lane_length ctx) where
+module _ (ctx : Context) (sizes : Sizes ctx) (column : ℕ) (in_columns : column < lane_length ctx) where
   -- the column's slice
   bounds : InSlice (segment_length ctx) column (column / segment_length ctx)
-  bounds = in_slice (segment_length ctx) column fits.two_columns in_columns
+  bounds = in_slice (segment_length ctx) column sizes.two_columns in_columns
 
   -- the finished segments have that count
   pub length-finished : (pass : ℕ) →

@@ -8,15 +8,10 @@ use Rattle.std.proofs.lemmas.List.Elements.{All-map, All-append, All-take, All-g
 use Rattle.std.proofs.lemmas.Bool.{cond_both, cond-true, cases_order, eq-eqb, eqb-true, ltb-true, and_parts, and_from}
 use Rattle.argon2_base.specs.Block.{xor_blocks}
 use Rattle.argon2_base.specs.Mixing.{mixed}
-use Rattle.argon2.specs.Context.{Context, segment_length, lane_length}
+use Rattle.argon2.specs.Context.{Context, Sizes, segment_length, lane_length}
 use Rattle.argon2.specs.Recurrence.{Blocks, is_independent, address_word, previous, reference_word, reference_of, made_block}
 use Rattle.argon2.specs.Steps.{IsStep}
 use Rattle.argon2.specs.Reference.{columns, finished_segments, without_last, permitted, Reference, reference_lane, reference_index, reference}
-
--- what the proofs need of the parameters
-pub record Fits (ctx : Context) : Type 0 where
-  pub some_lane : 0 < ctx.p_cost
-  pub two_columns : 2 ≤ segment_length ctx
 
 -- The block of pass, lane and column may be made of that of r, l and c: the newest block of lane l and
 -- column c at that moment, and in another lane none of the slice at hand.
@@ -59,7 +54,7 @@ length-columns pass from to = length-map (range_with_len from (to - from)) (λ c
 
 -- ---- what may be referred to is a source, and there is some
 
-module _ (ctx : Context) (fits : Fits ctx) (lane column other : ℕ) (in_lanes : other < ctx.p_cost)
+module _ (ctx : Context) (sizes : Sizes ctx) (lane column other : ℕ) (in_lanes : other < ctx.p_cost)
     (in_columns : column < lane_length ctx) where
   -- a pair that the block may be made of
   abbrev IsSource : ℕ → ℕ × ℕ → Type 0
@@ -67,7 +62,7 @@ module _ (ctx : Context) (fits : Fits ctx) (lane column other : ℕ) (in_lanes :
 
   -- the column's slice
   bounds : InSlice (segment_length ctx) column (column / segment_length ctx)
-  bounds = in_slice (segment_length ctx) column fits.two_columns in_columns
+  bounds = in_slice (segment_length ctx) column sizes.two_columns in_columns
 
   -- finished segments are sources
   finished_sources : (pass : ℕ) →
@@ -175,12 +170,12 @@ module _ (ctx : Context) (fits : Fits ctx) (lane column other : ℕ) (in_lanes :
 -- ---- each block is made of its sources alone
 
 -- the lane referred to is one of the lanes
-lane_below : (ctx : Context) → Fits ctx → (pass lane column w : ℕ) → lane < ctx.p_cost →
+lane_below : (ctx : Context) → Sizes ctx → (pass lane column w : ℕ) → lane < ctx.p_cost →
     reference_lane ctx pass lane column w < ctx.p_cost
 unfolding reference_lane
-lane_below ctx fits pass lane column w h =
+lane_below ctx sizes pass lane column w h =
     cond_both ((eqb pass 0) && (eqb (column / segment_length ctx) 0)) lane ((w / 2 ^ 32) % ctx.p_cost) (λ x. x < ctx.p_cost)
-    (λ _. h) (λ _. mod-lt (w / 2 ^ 32) fits.some_lane)
+    (λ _. h) (λ _. mod-lt (w / 2 ^ 32) sizes.some_lane)
 
 -- in the first slice of all the lane referred to is the block's own
 lane_alone : (ctx : Context) (pass lane column w : ℕ) → pass ≡ 0 →
@@ -196,66 +191,66 @@ unfolding reference_index
 index_below count w h = omega arith
 
 -- whatever the word, the block that it takes is a source
-reference_reads : (ctx : Context) → Fits ctx → (pass lane column w : ℕ) →
+reference_reads : (ctx : Context) → Sizes ctx → (pass lane column w : ℕ) →
     IsStep ctx pass lane column →
     Reads ctx pass lane column (reference ctx pass lane column w).pass (reference ctx pass lane column w).lane
     (reference ctx pass lane column w).column
 unfolding reference
-reference_reads ctx fits pass lane column w st =
+reference_reads ctx sizes pass lane column w st =
     let other = reference_lane ctx pass lane column w in
-    let below : other < ctx.p_cost = lane_below ctx fits pass lane column w st.in_lanes in
+    let below : other < ctx.p_cost = lane_below ctx sizes pass lane column w st.in_lanes in
     let blocks = permitted ctx pass lane column other in
     let some : 0 < length blocks =
-    some_permitted ctx fits lane column other below st.in_columns pass st.later (lane_alone ctx pass lane column w) in
+    some_permitted ctx sizes lane column other below st.in_columns pass st.later (lane_alone ctx pass lane column w) in
     All-get_or (λ (x : ℕ × ℕ). Reads ctx pass lane column x.0 other x.1) blocks (reference_index (length blocks) w) (0, 0)
     (index_below (length blocks) w some)
-    (permitted_sources ctx fits lane column other below st.in_columns pass)
+    (permitted_sources ctx sizes lane column other below st.in_columns pass)
 
 -- blocks f and g agree wherever the block of pass, lane and column may be made of them
 abbrev pub AgreeOn : (ctx : Context) (pass lane column : ℕ) → Blocks → Blocks → Type 0
 AgreeOn ctx pass lane column f g = (r l c : ℕ) → Reads ctx pass lane column r l c → f r l c ≡ g r l c
 
 -- such blocks have one previous block
-previous_cong : (ctx : Context) → Fits ctx → (pass lane column : ℕ) →
+previous_cong : (ctx : Context) → Sizes ctx → (pass lane column : ℕ) →
     IsStep ctx pass lane column → (f g : Blocks) → AgreeOn ctx pass lane column f g →
     previous ctx f pass lane column ≡ previous ctx g pass lane column
 unfolding previous
-previous_cong ctx fits zero lane zero st f g h = absurd (let two : 2 ≤ zero = st.later refl in omega arith)
-previous_cong ctx fits (suc pass) lane zero st f g h =
-    let two = fits.two_columns in
+previous_cong ctx sizes zero lane zero st f g h = absurd (let two : 2 ≤ zero = st.later refl in omega arith)
+previous_cong ctx sizes (suc pass) lane zero st f g h =
+    let two = sizes.two_columns in
     h (suc pass - 1) lane (lane_length ctx - 1)
     (record { in_lanes = st.in_lanes; in_columns = omega arith; newest = inr (omega arith, omega arith); apart = inl refl })
-previous_cong ctx fits pass lane (suc column) st f g h =
+previous_cong ctx sizes pass lane (suc column) st f g h =
     let below : suc column < lane_length ctx = st.in_columns in
     h pass lane column
     (record { in_lanes = st.in_lanes; in_columns = omega arith; newest = inl (refl, omega arith); apart = inl refl })
 
 -- such blocks have one word
-word_cong : (ctx : Context) → Fits ctx → (pass lane column : ℕ) → IsStep ctx pass lane column →
+word_cong : (ctx : Context) → Sizes ctx → (pass lane column : ℕ) → IsStep ctx pass lane column →
     (f g : Blocks) → AgreeOn ctx pass lane column f g →
     reference_word ctx f pass lane column ≡ reference_word ctx g pass lane column
 unfolding reference_word
-word_cong ctx fits pass lane column st f g h =
+word_cong ctx sizes pass lane column st f g h =
     ap (λ (b : List ℕ). cond (is_independent ctx pass (column / segment_length ctx))
     (address_word ctx pass lane (column / segment_length ctx) (column % segment_length ctx)) (get_or b 0 0))
-    (previous_cong ctx fits pass lane column st f g h)
+    (previous_cong ctx sizes pass lane column st f g h)
 
 -- such blocks have one reference
-pub reference_of_cong : (ctx : Context) → Fits ctx → (pass lane column : ℕ) →
+pub reference_of_cong : (ctx : Context) → Sizes ctx → (pass lane column : ℕ) →
     IsStep ctx pass lane column → (f g : Blocks) → AgreeOn ctx pass lane column f g →
     reference_of ctx f pass lane column ≡ reference_of ctx g pass lane column
 unfolding reference_of
-reference_of_cong ctx fits pass lane column st f g h =
-    ap (reference ctx pass lane column) (word_cong ctx fits pass lane column st f g h)
+reference_of_cong ctx sizes pass lane column st f g h =
+    ap (reference ctx pass lane column) (word_cong ctx sizes pass lane column st f g h)
 
 -- the reference is a source
-reference_of_reads : (ctx : Context) → Fits ctx → (pass lane column : ℕ) →
+reference_of_reads : (ctx : Context) → Sizes ctx → (pass lane column : ℕ) →
     IsStep ctx pass lane column → (f : Blocks) →
     Reads ctx pass lane column (reference_of ctx f pass lane column).pass (reference_of ctx f pass lane column).lane
     (reference_of ctx f pass lane column).column
 unfolding reference_of
-reference_of_reads ctx fits pass lane column st f =
-    reference_reads ctx fits pass lane column (reference_word ctx f pass lane column) st
+reference_of_reads ctx sizes pass lane column st f =
+    reference_reads ctx sizes pass lane column (reference_word ctx f pass lane column) st
 
 -- a branch that is taken may be changed for an equal one
 cond_same : {X : Type 0} (b : Bool) (x u y : X) → (b ≡ true → x ≡ u) → cond b x y ≡ cond b u y
@@ -263,17 +258,17 @@ cond_same true x u y h = h refl
 cond_same false x u y h = refl
 
 -- such blocks make one block
-pub made_cong : (ctx : Context) → Fits ctx → (pass lane column : ℕ) → IsStep ctx pass lane column →
+pub made_cong : (ctx : Context) → Sizes ctx → (pass lane column : ℕ) → IsStep ctx pass lane column →
     (f g : Blocks) → AgreeOn ctx pass lane column f g →
     made_block ctx f pass lane column ≡ made_block ctx g pass lane column
 unfolding made_block
-made_cong ctx fits pass lane column st f g h =
+made_cong ctx sizes pass lane column st f g h =
     let from = reference_of ctx f pass lane column in
     let to = reference_of ctx g pass lane column in
-    let e : from ≡ to = reference_of_cong ctx fits pass lane column st f g h in
-    let p = previous_cong ctx fits pass lane column st f g h in
+    let e : from ≡ to = reference_of_cong ctx sizes pass lane column st f g h in
+    let p = previous_cong ctx sizes pass lane column st f g h in
     let read : f from.pass from.lane from.column ≡ g to.pass to.lane to.column =
-    h from.pass from.lane from.column (reference_of_reads ctx fits pass lane column st f)
+    h from.pass from.lane from.column (reference_of_reads ctx sizes pass lane column st f)
     ∙ ap (λ (x : Reference). g x.pass x.lane x.column) e in
     let block = mixed (previous ctx f pass lane column) (f from.pass from.lane from.column) in
     let block' = mixed (previous ctx g pass lane column) (g to.pass to.lane to.column) in

@@ -7,7 +7,6 @@ use Rattle.argon2.specs.InitialHash.{first_block}
 use Rattle.argon2.specs.Steps.{Memory, last_column}
 use Rattle.argon2.specs.Tag.{matrix_of, tag_of}
 use Rattle.argon2.proofs.schedules.LastColumn.{last_of_matrix}
-use Rattle.argon2.proofs.recurrence.Validity.{Fits-sizes}
 
 -- the hash of the matrix's last column is the tag
 pub tag_of_matrix : (ctx : Context) → Sizes ctx → (password salt : List ℕ) (n : ℕ) (memory : Memory) → memory
@@ -16,4 +15,4 @@ pub tag_of_matrix : (ctx : Context) → Sizes ctx → (password salt : List ℕ)
 unfolding matrix_of tag_of
 tag_of_matrix ctx sizes password salt n memory e =
     ap (λ block. long_hash n (bytes_of block))
-    (last_of_matrix ctx (Fits-sizes ctx sizes) (first_block ctx password salt n) memory e)
+    (last_of_matrix ctx sizes (first_block ctx password salt n) memory e)

@@ -7,12 +7,10 @@ use Rattle.argon2.specs.Recurrence.{is_independent}
 use Rattle.argon2.specs.Counting.{independent_segments, mixing_calls}
 use Rattle.argon2.specs.Steps.{turn_count}
 use Rattle.argon2.specs.Counting.{segment_calls, slices_calls, passes_calls}
-use Rattle.argon2.proofs.recurrence.Validity.{Fits-sizes}
-use Rattle.argon2.proofs.recurrence.Sources.{Fits}
 use Rattle.argon2.proofs.schedules.Schedules.{turn_count-first}
 use Rattle.argon2.proofs.schedules.Filling.{turn_count-later_slice, turn_count-later_pass}
 
-module _ (ctx : Context) (fits : Fits ctx) where
+module _ (ctx : Context) (sizes : Sizes ctx) where
   -- the address blocks of an independent segment
   address_blocks : ℕ
   address_blocks = (segment_length ctx + 127) / 128
@@ -41,7 +39,7 @@ module _ (ctx : Context) (fits : Fits ctx) where
   pass_turns-first : (turn_count ctx 0 0 + turn_count ctx 0 1 + turn_count ctx 0 2 + turn_count ctx 0 3) + 2
       ≡ 4 * segment_length ctx
   pass_turns-first =
-      let two = fits.two_columns in
+      let two = sizes.two_columns in
       omega (
         arith,
         turn_count-first ctx 0 0 refl refl,
@@ -146,7 +144,7 @@ module _ (ctx : Context) (fits : Fits ctx) where
       passes_calls ctx ctx.t_cost ≡ mixing_calls ctx
   unfolding mixing_calls address_blocks pass_calls
   passes_calls-suc r t =
-      let two = fits.two_columns in
+      let two = sizes.two_columns in
       let w = pass_turns-first in
       let v = pass_turns-later in
       let p = ctx.p_cost in
@@ -266,4 +264,4 @@ mixing_calls-few ctx sizes =
 -- all passes' mixings are those of the formula
 pub passes_calls-all : (ctx : Context) → Sizes ctx → passes_calls ctx ctx.t_cost ≡ mixing_calls ctx
 passes_calls-all ctx sizes =
-    passes_calls-suc ctx (Fits-sizes ctx sizes) (ctx.t_cost - 1) (let some = sizes.some_pass in omega arith)
+    passes_calls-suc ctx sizes (ctx.t_cost - 1) (let some = sizes.some_pass in omega arith)

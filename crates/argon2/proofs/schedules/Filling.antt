@@ -5,12 +5,12 @@ use Rattle.std.proofs.lemmas.List.{length-set, get_or-set_same, get_or-set_other
 use Rattle.std.proofs.lemmas.List.FromFn.{fill_by_all}
 use Rattle.std.proofs.lemmas.Nat.{mul-add-lt, div_below}
 use Rattle.std.proofs.lemmas.Bool.{cond-false, cases_eq, and_left, and_right, ne_eqb}
-use Rattle.argon2.specs.Context.{Context, segment_length, lane_length, block_count}
+use Rattle.argon2.specs.Context.{Context, Sizes, segment_length, lane_length, block_count}
 use Rattle.argon2.specs.Reference.{Reference}
 use Rattle.argon2.specs.Recurrence.{FirstColumns, made_block, block_of, reference_places, matrix}
 use Rattle.argon2.specs.Steps.{IsStep, in_memory, step, reference_place, turns, turn_count, IsSchedule, run, run_slices, run_passes}
 use Rattle.argon2.specs.Laws.{Begins, AreSchedules}
-use Rattle.argon2.proofs.recurrence.Sources.{Fits, InSlice, AgreeOn, made_cong, reference_of_cong}
+use Rattle.argon2.proofs.recurrence.Sources.{InSlice, AgreeOn, made_cong, reference_of_cong}
 use Rattle.argon2.proofs.schedules.Schedules.{turn_column, turns-same, turns-other, MayRun, MayRun-tail, MayRun-from, head_step, turn_count-le, place_apart}
 use Rattle.argon2.proofs.recurrence.History.{first_columns, made_blocks}
 
@@ -75,20 +75,20 @@ step_reads ctx first pass lane column k done memory here now about h =
     ]
 
 -- a step's block is the recurrence's
-step_makes : (ctx : Context) → Fits ctx →
+step_makes : (ctx : Context) → Sizes ctx →
     (first : FirstColumns) (pass lane column k : ℕ) (done : ℕ → ℕ) (memory : List (List ℕ)) →
     IsStep ctx pass lane column → InSlice (segment_length ctx) column k →
     done lane ≡ column →
     ((l : ℕ) → l < ctx.p_cost → (k * segment_length ctx ≤ done l) × (done l ≤ (k + 1) * segment_length ctx)) →
     FilledUpTo ctx first pass done memory →
     made_block ctx (in_memory ctx memory) pass lane column ≡ block_of ctx first pass lane column
-step_makes ctx fits first pass lane column k done memory st here now about h =
-    made_cong ctx fits pass lane column st _ (block_of ctx first)
+step_makes ctx sizes first pass lane column k done memory st here now about h =
+    made_cong ctx sizes pass lane column st _ (block_of ctx first)
     (step_reads ctx first pass lane column k done memory here now about h)
-    ∙ sym (made_blocks ctx fits first pass lane column st)
+    ∙ sym (made_blocks ctx sizes first pass lane column st)
 
 -- the place of a step's reference is the recurrence's
-pub step_answers : (ctx : Context) → Fits ctx →
+pub step_answers : (ctx : Context) → Sizes ctx →
     (first : FirstColumns) (pass lane column k : ℕ) (done : ℕ → ℕ) (memory : List (List ℕ)) →
     IsStep ctx pass lane column → InSlice (segment_length ctx) column k →
     done lane ≡ column →
@@ -96,24 +96,24 @@ pub step_answers : (ctx : Context) → Fits ctx →
     FilledUpTo ctx first pass done memory →
     reference_place ctx memory pass lane column ≡ reference_places ctx first pass lane column
 unfolding reference_place reference_places
-step_answers ctx fits first pass lane column k done memory st here now about h =
+step_answers ctx sizes first pass lane column k done memory st here now about h =
     ap (λ (x : Reference). x.lane * lane_length ctx + x.column)
-    (reference_of_cong ctx fits pass lane column st _ (block_of ctx first)
+    (reference_of_cong ctx sizes pass lane column st _ (block_of ctx first)
     (step_reads ctx first pass lane column k done memory here now about h))
 
 -- a step adds a column to its lane
-pub step_fills : (ctx : Context) → Fits ctx →
+pub step_fills : (ctx : Context) → Sizes ctx →
     (first : FirstColumns) (pass lane column k : ℕ) (done done' : ℕ → ℕ) (memory : List (List ℕ)) →
     IsStep ctx pass lane column → InSlice (segment_length ctx) column k →
     done lane ≡ column → done' lane ≡ suc column → ((l : ℕ) → l ≢ lane → done' l ≡ done l) →
     ((l : ℕ) → l < ctx.p_cost → (k * segment_length ctx ≤ done l) × (done l ≤ (k + 1) * segment_length ctx)) →
     FilledUpTo ctx first pass done memory → FilledUpTo ctx first pass done' (step ctx memory pass lane column)
 unfolding step
-step_fills ctx fits first pass lane column k done done' memory st here now then' others about h =
+step_fills ctx sizes first pass lane column k done done' memory st here now then' others about h =
     let q = lane_length ctx in
     let i = lane * q + column in
     let b = made_block ctx (in_memory ctx memory) pass lane column in
-    let is = step_makes ctx fits first pass lane column k done memory st here now about h in
+    let is = step_makes ctx sizes first pass lane column k done memory st here now about h in
     let within : i < q * ctx.p_cost = mul-add-lt lane q column ctx.p_cost st.in_lanes st.in_columns in
     let size = h.size in
     let fit : i < length memory = omega arith in
@@ -157,23 +157,23 @@ abbrev pub done_before : Context → ℕ → List ℕ → ℕ → ℕ
 done_before ctx k schedule l = (k + 1) * segment_length ctx - turns l schedule
 
 -- what is left of a schedule finishes the slice
-run_fills : (ctx : Context) → Fits ctx → (first : FirstColumns) (pass k : ℕ) → k < 4 →
+run_fills : (ctx : Context) → Sizes ctx → (first : FirstColumns) (pass k : ℕ) → k < 4 →
     (schedule : List ℕ) (memory : List (List ℕ)) → MayRun ctx pass k schedule →
     FilledUpTo ctx first pass (done_before ctx k schedule) memory →
     FilledUpTo ctx first pass (done_before ctx k []) (run ctx pass k schedule memory)
 unfolding run
-run_fills ctx fits first pass k four [] memory m h = h
-run_fills ctx fits first pass k four (lane ∷ schedule) memory m h =
+run_fills ctx sizes first pass k four [] memory m h = h
+run_fills ctx sizes first pass k four (lane ∷ schedule) memory m h =
     let s = segment_length ctx in
-    let st = head_step ctx fits pass k lane schedule four m in
+    let st = head_step ctx sizes pass k lane schedule four m in
     let same = turns-same lane schedule in
     let room : turns lane (lane ∷ schedule) ≤ turn_count ctx pass k = m.few lane m.lanes.0 in
     let most : turn_count ctx pass k ≤ s = turn_count-le ctx pass k in
     let column = turn_column ctx k (turns lane schedule) in
     let now : done_before ctx k (lane ∷ schedule) lane ≡ column = ap (λ n. (k + 1) * s - n) same in
     let then' : done_before ctx k schedule lane ≡ suc column = omega arith in
-    run_fills ctx fits first pass k four schedule (step ctx memory pass lane column) (MayRun-tail ctx pass k lane schedule m)
-    (step_fills ctx fits first pass lane column k (done_before ctx k (lane ∷ schedule))
+    run_fills ctx sizes first pass k four schedule (step ctx memory pass lane column) (MayRun-tail ctx pass k lane schedule m)
+    (step_fills ctx sizes first pass lane column k (done_before ctx k (lane ∷ schedule))
     (done_before ctx k schedule) memory st.0 st.1 now then'
     (λ l ne. ap (λ n. (k + 1) * s - n) (sym (turns-other l lane schedule (λ e. ne (sym e)))))
     (λ l below. let few : turns l (lane ∷ schedule) ≤ turn_count ctx pass k = m.few l below in (omega arith, omega arith))
@@ -193,18 +193,18 @@ turn_count-later_slice ctx pass k =
     (and_right (eqb pass 0) (eqb (suc k) 0) (ne_eqb (suc k) 0 (λ e. omega arith)))
 
 -- the first slices of a pass fill it up to there, each by its schedule
-pub slices_fill : (ctx : Context) → Fits ctx →
+pub slices_fill : (ctx : Context) → Sizes ctx →
     (first : FirstColumns) (schedules : ℕ → List ℕ) (pass k : ℕ) → k ≤ 4 →
     ((j : ℕ) → j < 4 → IsSchedule ctx pass j (schedules j)) → (memory : List (List ℕ)) →
     FilledUpTo ctx first pass (λ _. begun ctx pass 0) memory →
     FilledUpTo ctx first pass (λ _. begun ctx pass k) (run_slices ctx schedules pass k memory)
 unfolding run_slices
-slices_fill ctx fits first schedules pass zero four is memory h = h
-slices_fill ctx fits first schedules pass (suc k) four is memory h =
+slices_fill ctx sizes first schedules pass zero four is memory h = h
+slices_fill ctx sizes first schedules pass (suc k) four is memory h =
     let s = segment_length ctx in
     let before = run_slices ctx schedules pass k memory in
     let i : FilledUpTo ctx first pass (λ _. begun ctx pass k) before =
-    slices_fill ctx fits first schedules pass k (omega arith) is memory h in
+    slices_fill ctx sizes first schedules pass k (omega arith) is memory h in
     let schedule = schedules k in
     let it : IsSchedule ctx pass k schedule = is k (omega arith) in
     let start : FilledUpTo ctx first pass (done_before ctx k schedule) before =
@@ -212,7 +212,7 @@ slices_fill ctx fits first schedules pass (suc k) four is memory h =
     (λ l below. ap (λ n. (k + 1) * s - n) (sym (it.turns l below))) i in
     FilledUpTo-like ctx first pass (done_before ctx k []) (λ _. begun ctx pass (suc k)) (run ctx pass k schedule before)
     (λ l below. let w = turn_count-later_slice ctx pass k in omega arith)
-    (run_fills ctx fits first pass k (omega arith) schedule before (MayRun-from ctx pass k schedule it) start)
+    (run_fills ctx sizes first pass k (omega arith) schedule before (MayRun-from ctx pass k schedule it) start)
 
 -- in later passes a lane has as many turns as its segment has columns
 pub turn_count-later_pass : (ctx : Context) (pass : ℕ) →
@@ -237,42 +237,42 @@ next_pass ctx first pass memory h =
     }
 
 -- the first passes fill the memory, each slice by its schedule
-pub passes_fill : (ctx : Context) → Fits ctx →
+pub passes_fill : (ctx : Context) → Sizes ctx →
     (first : FirstColumns) (schedules : ℕ → ℕ → List ℕ) (passes : ℕ) →
     ((r k : ℕ) → r < passes → k < 4 → IsSchedule ctx r k (schedules r k)) →
     (memory : List (List ℕ)) →
     FilledUpTo ctx first 0 (λ _. begun ctx 0 0) memory →
     FilledUpTo ctx first passes (λ _. begun ctx passes 0) (run_passes ctx schedules passes memory)
 unfolding run_passes
-passes_fill ctx fits first schedules zero is memory h = h
-passes_fill ctx fits first schedules (suc r) is memory h =
+passes_fill ctx sizes first schedules zero is memory h = h
+passes_fill ctx sizes first schedules (suc r) is memory h =
     let before = run_passes ctx schedules r memory in
     next_pass ctx first r (run_slices ctx (schedules r) r 4 before)
-    (slices_fill ctx fits first (schedules r) r 4 (omega arith) (λ k lt. is r k (omega arith) lt) before
-    (passes_fill ctx fits first schedules r (λ a k x y. is a k (omega arith) y) memory h))
+    (slices_fill ctx sizes first (schedules r) r 4 (omega arith) (λ k lt. is r k (omega arith) lt) before
+    (passes_fill ctx sizes first schedules r (λ a k x y. is a k (omega arith) y) memory h))
 
 -- a memory that begins with the first two columns is filled up to there
-pub filled_at_first : (ctx : Context) → Fits ctx → (first : FirstColumns) (memory : List (List ℕ)) →
+pub filled_at_first : (ctx : Context) → Sizes ctx → (first : FirstColumns) (memory : List (List ℕ)) →
     Begins ctx first memory → FilledUpTo ctx first 0 (λ _. begun ctx 0 0) memory
-filled_at_first ctx fits first memory start =
-    let two = fits.two_columns in
+filled_at_first ctx sizes first memory start =
+    let two = sizes.two_columns in
     let w : turn_count ctx 0 0 ≡ segment_length ctx - 2 = refl in
     record {
       size = start.size;
-      new = λ l c a b lt. let low : c < 2 = omega arith in start.columns l c a low ∙ sym (first_columns ctx fits first l c a low);
+      new = λ l c a b lt. let low : c < 2 = omega arith in start.columns l c a low ∙ sym (first_columns ctx sizes first l c a low);
       old = λ r l c p a b le. absurd (omega arith);
     }
 
 -- after the last pass the memory is the matrix
-filled_at_last : (ctx : Context) → Fits ctx →
+filled_at_last : (ctx : Context) → Sizes ctx →
     (first : FirstColumns) (passes : ℕ) (memory : List (List ℕ)) → passes ≡ ctx.t_cost →
     0 < passes →
     FilledUpTo ctx first passes (λ _. begun ctx passes 0) memory → memory ≡ matrix ctx first
 unfolding matrix
-filled_at_last ctx fits first zero memory t some h = absurd (omega arith)
-filled_at_last ctx fits first (suc r) memory t some h =
+filled_at_last ctx sizes first zero memory t some h = absurd (omega arith)
+filled_at_last ctx sizes first (suc r) memory t some h =
     let q = lane_length ctx in
-    let two = fits.two_columns in
+    let two = sizes.two_columns in
     let w = turn_count-later_pass ctx r in
     let p : r ≡ ctx.t_cost - 1 = omega arith in
     fill_by_all (λ place. block_of ctx first (ctx.t_cost - 1) (place / q) (place % q)) memory (block_count ctx) [] h.size (λ n lt.
@@ -283,10 +283,10 @@ filled_at_last ctx fits first (suc r) memory t some h =
     ∙ ap (λ x. block_of ctx first x (n / q) (n % q)) p)
 
 -- any schedules lead from the first two columns to the matrix
-pub schedules_fill : (ctx : Context) → Fits ctx → 0 < ctx.t_cost →
+pub schedules_fill : (ctx : Context) → Sizes ctx → 0 < ctx.t_cost →
     (first : FirstColumns) (schedules : ℕ → ℕ → List ℕ) → AreSchedules ctx schedules →
     (memory : List (List ℕ)) → Begins ctx first memory →
     run_passes ctx schedules ctx.t_cost memory ≡ matrix ctx first
-schedules_fill ctx fits some first schedules is memory start =
-    filled_at_last ctx fits first ctx.t_cost _ refl some
-    (passes_fill ctx fits first schedules ctx.t_cost is memory (filled_at_first ctx fits first memory start))
+schedules_fill ctx sizes some first schedules is memory start =
+    filled_at_last ctx sizes first ctx.t_cost _ refl some
+    (passes_fill ctx sizes first schedules ctx.t_cost is memory (filled_at_first ctx sizes first memory start))

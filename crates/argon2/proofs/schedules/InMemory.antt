@@ -1,10 +1,10 @@
 -- What a step reads of a memory, by places.
-use Rattle.std.proofs.Common.{◌≡◌, ℕ, zero, suc, ◌+◌, ◌-◌, ◌*◌, ◌^◌, cond, ◌&&◌, eqb, ltb, List, [], get_or, refl, sym, ap, ◌∙◌, arith, ◌<◌, ◌≤◌, length}
+use Rattle.std.proofs.Common.{◌≡◌, ℕ, zero, suc, ◌+◌, ◌-◌, ◌*◌, cond, ◌&&◌, eqb, ltb, List, [], get_or, refl, sym, ap, ◌∙◌, arith, ◌<◌}
 use Rattle.std.proofs.lemmas.Nat.{mul-add-lt}
 use Rattle.std.proofs.lemmas.Bool.{cond-false, ne_eqb}
 use Rattle.argon2_base.specs.Block.{xor_blocks}
 use Rattle.argon2_base.specs.Mixing.{mixed}
-use Rattle.argon2.specs.Context.{Context, Sizes, lane_length, block_count}
+use Rattle.argon2.specs.Context.{Context, lane_length, block_count}
 use Rattle.argon2.specs.Recurrence.{previous, reference_word, reference_of, made_block}
 use Rattle.argon2.specs.Reference.{reference}
 use Rattle.argon2.specs.Steps.{in_memory, previous_place, reference_place}
@@ -13,24 +13,6 @@ use Rattle.argon2.specs.Steps.{in_memory, previous_place, reference_place}
 pub place_below : (ctx : Context) (lane column : ℕ) → lane < ctx.p_cost → column < lane_length ctx →
     lane * lane_length ctx + column < block_count ctx
 place_below ctx lane column a b = let h = mul-add-lt lane (lane_length ctx) column ctx.p_cost a b in omega arith
-
--- it is a number of 32 bits, also where the columns of a lane are known as another number
-pub place_fits : (ctx : Context) (lane q column : ℕ) → Sizes ctx → q ≡ lane_length ctx → lane < ctx.p_cost
-    → column < lane_length ctx → lane * q + column < 2 ^ 32
-place_fits ctx lane q column sizes is l c =
-    let below = place_below ctx lane column l c in
-    let product = ap (λ n. lane * n) is in
-    let memory = sizes.in_memory in
-    let small = sizes.m_cost in
-    omega arith
-
--- its block is there, also where the memory has more
-pub place_in : (ctx : Context) (lane q column : ℕ) (memory : List (List ℕ)) → q ≡ lane_length ctx → lane < ctx.p_cost
-    → column < lane_length ctx → block_count ctx ≤ length memory → lane * q + column < length memory
-place_in ctx lane q column memory is l c room =
-    let below = place_below ctx lane column l c in
-    let product = ap (λ n. lane * n) is in
-    omega arith
 
 -- the previous block stands at the previous place
 pub previous_in_memory : (ctx : Context) (memory : List (List ℕ)) (pass lane column : ℕ) →

@@ -4,19 +4,18 @@ use Rattle.std.specs.List.{range_with_len}
 use Rattle.std.proofs.lemmas.List.FromFn.{get_or-map-range_with_len, length-map-range_with_len, fill_by_all}
 use Rattle.std.proofs.lemmas.Nat.{div-mul-add, mod-mul-add, mul-add-lt}
 use Rattle.argon2_base.specs.Block.{xor_blocks, zero_block}
-use Rattle.argon2.specs.Context.{Context, lane_length, block_count}
+use Rattle.argon2.specs.Context.{Context, Sizes, lane_length, block_count}
 use Rattle.argon2.specs.Recurrence.{FirstColumns, block_of, matrix, xor_lanes, last_block}
-use Rattle.argon2.proofs.recurrence.Sources.{Fits}
 use Rattle.argon2.specs.Steps.{run_passes, last_column}
 use Rattle.argon2.specs.Laws.{Begins, AreSchedules}
 use Rattle.argon2.proofs.schedules.Filling.{schedules_fill}
 
 -- the matrix has the last pass's blocks at their places
-matrix_at : (ctx : Context) → Fits ctx → (first : FirstColumns) (lane column : ℕ) →
+matrix_at : (ctx : Context) → Sizes ctx → (first : FirstColumns) (lane column : ℕ) →
     lane < ctx.p_cost → column < lane_length ctx →
     get_or (matrix ctx first) (lane * lane_length ctx + column) [] ≡ block_of ctx first (ctx.t_cost - 1) lane column
 unfolding matrix
-matrix_at ctx fits first lane column a b =
+matrix_at ctx sizes first lane column a b =
     let q = lane_length ctx in
     let n = lane * q + column in
     let below : n < q * ctx.p_cost = mul-add-lt lane q column ctx.p_cost a b in
@@ -35,21 +34,21 @@ xor_lanes_cong ctx f g h =
     (λ k lt. get_or-map-range_with_len f 0 ctx.p_cost k k [] lt (omega arith) ∙ h k lt))
 
 -- the exclusive or of the matrix's last column is the recurrence's
-pub last_of_matrix : (ctx : Context) → Fits ctx → (first : FirstColumns) (memory : List (List ℕ)) →
+pub last_of_matrix : (ctx : Context) → Sizes ctx → (first : FirstColumns) (memory : List (List ℕ)) →
     memory ≡ matrix ctx first →
     last_column ctx memory ≡ last_block ctx first
 unfolding last_block
-last_of_matrix ctx fits first memory e =
-    let two = fits.two_columns in
+last_of_matrix ctx sizes first memory e =
+    let two = sizes.two_columns in
     xor_lanes_cong ctx _ _
     (λ lane h. ap (λ (m : List (List ℕ)). get_or m (lane * lane_length ctx + (lane_length ctx - 1)) []) e
-    ∙ matrix_at ctx fits first lane (lane_length ctx - 1) h (omega arith))
+    ∙ matrix_at ctx sizes first lane (lane_length ctx - 1) h (omega arith))
 
 -- however the lanes take turns, the exclusive or of the last column is the recurrence's
-pub steps_give_last : (ctx : Context) → Fits ctx → 0 < ctx.t_cost →
+pub steps_give_last : (ctx : Context) → Sizes ctx → 0 < ctx.t_cost →
     (first : FirstColumns) (schedules : ℕ → ℕ → List ℕ) → AreSchedules ctx schedules →
     (memory : List (List ℕ)) → Begins ctx first memory →
     last_column ctx (run_passes ctx schedules ctx.t_cost memory) ≡ last_block ctx first
-steps_give_last ctx fits some first schedules are memory start =
-    last_of_matrix ctx fits first (run_passes ctx schedules ctx.t_cost memory)
-    (schedules_fill ctx fits some first schedules are memory start)
+steps_give_last ctx sizes some first schedules are memory start =
+    last_of_matrix ctx sizes first (run_passes ctx schedules ctx.t_cost memory)
+    (schedules_fill ctx sizes some first schedules are memory start)

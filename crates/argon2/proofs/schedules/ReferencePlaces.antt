@@ -3,12 +3,11 @@ use Rattle.std.proofs.Common.{◌≡◌, ℕ, zero, suc, ◌+◌, ◌-◌, ◌*�
 use Rattle.std.proofs.lemmas.List.{length-set, get_or-set_same, get_or-set_other}
 use Rattle.std.proofs.lemmas.Nat.{mul-add-lt, same_from_place}
 use Rattle.std.proofs.lemmas.Bool.{cases_eq}
-use Rattle.argon2.specs.Context.{Context, segment_length, lane_length, block_count}
+use Rattle.argon2.specs.Context.{Context, Sizes, segment_length, lane_length, block_count}
 use Rattle.argon2.specs.Recurrence.{FirstColumns, reference_places}
 use Rattle.argon2.specs.Steps.{IsStep, reference_place, step, turns, turn_count, IsSchedule, run_slices, run_passes}
 use Rattle.argon2.specs.Positions.{position_index, positions_of_run, positions_of_slices, positions_of_passes, AreReferencePlaces}
 use Rattle.argon2.specs.Laws.{Begins, AreSchedules}
-use Rattle.argon2.proofs.recurrence.Sources.{Fits}
 use Rattle.argon2.proofs.schedules.Schedules.{turn_column, turns-same, turns-other, MayRun, MayRun-tail, MayRun-from, head_step, turn_count-le}
 use Rattle.argon2.proofs.schedules.Filling.{FilledUpTo, FilledUpTo-like, step_fills, step_answers, done_before, begun, slices_fill, passes_fill, filled_at_first, turn_count-later_slice, turn_count-later_pass}
 
@@ -63,17 +62,17 @@ Marked-like ctx first pass done done' old new same m = record {
 }
 
 -- a step puts down its reference's place
-step_marked : (ctx : Context) → Fits ctx →
+step_marked : (ctx : Context) → Sizes ctx →
     (first : FirstColumns) (pass lane column : ℕ) (done done' : ℕ → ℕ) (old new : List ℕ) (place : ℕ) →
     IsStep ctx pass lane column → pass < ctx.t_cost →
     place ≡ reference_places ctx first pass lane column → done lane ≡ column →
     done' lane ≡ suc column → ((l : ℕ) → l ≢ lane → done' l ≡ done l) →
     Marked ctx first pass done old new →
     Marked ctx first pass done' old (set new (position_index ctx pass lane column) place)
-step_marked ctx fits first pass lane column done done' old new place st t is now then' others m =
+step_marked ctx sizes first pass lane column done done' old new place st t is now then' others m =
     let size = m.size in
     let fit = mark_within ctx pass lane column t st.in_lanes st.in_columns in
-    let two = fits.two_columns in
+    let two = sizes.two_columns in
     let i = position_index ctx pass lane column in
     record {
       size = length-set new i place ∙ m.size;
@@ -113,17 +112,17 @@ step_marked ctx fits first pass lane column done done' old new place st t is now
     }
 
 -- what is left of a schedule puts down the places of the slice
-run_marked : (ctx : Context) → Fits ctx → (first : FirstColumns) (pass k : ℕ) →
+run_marked : (ctx : Context) → Sizes ctx → (first : FirstColumns) (pass k : ℕ) →
     pass < ctx.t_cost → k < 4 → (schedule : List ℕ) (memory : List (List ℕ)) (old new : List ℕ) →
     MayRun ctx pass k schedule →
     FilledUpTo ctx first pass (done_before ctx k schedule) memory →
     Marked ctx first pass (done_before ctx k schedule) old new →
     Marked ctx first pass (done_before ctx k []) old (positions_of_run ctx pass k schedule memory new)
 unfolding positions_of_run
-run_marked ctx fits first pass k t four [] memory old new m h w = w
-run_marked ctx fits first pass k t four (lane ∷ schedule) memory old new m h w =
+run_marked ctx sizes first pass k t four [] memory old new m h w = w
+run_marked ctx sizes first pass k t four (lane ∷ schedule) memory old new m h w =
     let s = segment_length ctx in
-    let st = head_step ctx fits pass k lane schedule four m in
+    let st = head_step ctx sizes pass k lane schedule four m in
     let same = turns-same lane schedule in
     let room : turns lane (lane ∷ schedule) ≤ turn_count ctx pass k = m.few lane m.lanes.0 in
     let most : turn_count ctx pass k ≤ s = turn_count-le ctx pass k in
@@ -135,18 +134,18 @@ run_marked ctx fits first pass k t four (lane ∷ schedule) memory old new m h w
     let about : (l : ℕ) → l < ctx.p_cost →
     (k * s ≤ done_before ctx k (lane ∷ schedule) l) × (done_before ctx k (lane ∷ schedule) l ≤ (k + 1) * s) =
     λ l below. (let few : turns l (lane ∷ schedule) ≤ turn_count ctx pass k = m.few l below in (omega arith, omega arith)) in
-    run_marked ctx fits first pass k t four schedule (step ctx memory pass lane column) old
+    run_marked ctx sizes first pass k t four schedule (step ctx memory pass lane column) old
     (set new (position_index ctx pass lane column) (reference_place ctx memory pass lane column))
     (MayRun-tail ctx pass k lane schedule m)
-    (step_fills ctx fits first pass lane column k (done_before ctx k (lane ∷ schedule))
+    (step_fills ctx sizes first pass lane column k (done_before ctx k (lane ∷ schedule))
     (done_before ctx k schedule) memory st.0 st.1 now then' others about h)
-    (step_marked ctx fits first pass lane column (done_before ctx k (lane ∷ schedule)) (done_before ctx k schedule) old new
+    (step_marked ctx sizes first pass lane column (done_before ctx k (lane ∷ schedule)) (done_before ctx k schedule) old new
     (reference_place ctx memory pass lane column) st.0 t
-    (step_answers ctx fits first pass lane column k (done_before ctx k (lane ∷ schedule)) memory st.0 st.1 now about h) now then'
+    (step_answers ctx sizes first pass lane column k (done_before ctx k (lane ∷ schedule)) memory st.0 st.1 now about h) now then'
     others w)
 
 -- the first slices of a pass put down their places, each by its schedule
-slices_marked : (ctx : Context) → Fits ctx →
+slices_marked : (ctx : Context) → Sizes ctx →
     (first : FirstColumns) (schedules : ℕ → List ℕ) (pass k : ℕ) → pass < ctx.t_cost → k ≤ 4 →
     ((j : ℕ) → j < 4 → IsSchedule ctx pass j (schedules j)) →
     (memory : List (List ℕ)) (old new : List ℕ) →
@@ -154,15 +153,15 @@ slices_marked : (ctx : Context) → Fits ctx →
     Marked ctx first pass (λ _. begun ctx pass 0) old new →
     Marked ctx first pass (λ _. begun ctx pass k) old (positions_of_slices ctx schedules pass k memory new)
 unfolding positions_of_slices
-slices_marked ctx fits first schedules pass zero t four is memory old new h w = w
-slices_marked ctx fits first schedules pass (suc k) t four is memory old new h w =
+slices_marked ctx sizes first schedules pass zero t four is memory old new h w = w
+slices_marked ctx sizes first schedules pass (suc k) t four is memory old new h w =
     let s = segment_length ctx in
     let before = run_slices ctx schedules pass k memory in
     let marks = positions_of_slices ctx schedules pass k memory new in
     let i : FilledUpTo ctx first pass (λ _. begun ctx pass k) before =
-    slices_fill ctx fits first schedules pass k (omega arith) is memory h in
+    slices_fill ctx sizes first schedules pass k (omega arith) is memory h in
     let j : Marked ctx first pass (λ _. begun ctx pass k) old marks =
-    slices_marked ctx fits first schedules pass k t (omega arith) is memory old new h w in
+    slices_marked ctx sizes first schedules pass k t (omega arith) is memory old new h w in
     let schedule = schedules k in
     let it : IsSchedule ctx pass k schedule = is k (omega arith) in
     let start : (l : ℕ) → l < ctx.p_cost → begun ctx pass k ≡ done_before ctx k schedule l =
@@ -170,7 +169,7 @@ slices_marked ctx fits first schedules pass (suc k) t four is memory old new h w
     Marked-like ctx first pass (done_before ctx k []) (λ _. begun ctx pass (suc k)) old
     (positions_of_run ctx pass k schedule before marks)
     (λ l below. let w = turn_count-later_slice ctx pass k in omega arith)
-    (run_marked ctx fits first pass k t (omega arith) schedule before old marks (MayRun-from ctx pass k schedule it)
+    (run_marked ctx sizes first pass k t (omega arith) schedule before old marks (MayRun-from ctx pass k schedule it)
     (FilledUpTo-like ctx first pass (λ _. begun ctx pass k) (done_before ctx k schedule) before start i)
     (Marked-like ctx first pass (λ _. begun ctx pass k) (done_before ctx k schedule) old marks start j))
 
@@ -192,7 +191,7 @@ next_marked ctx first pass old new m =
     }
 
 -- the first passes put down their places, each slice by its schedule
-passes_marked : (ctx : Context) → Fits ctx →
+passes_marked : (ctx : Context) → Sizes ctx →
     (first : FirstColumns) (schedules : ℕ → ℕ → List ℕ) (passes : ℕ) → passes ≤ ctx.t_cost →
     ((r k : ℕ) → r < ctx.t_cost → k < 4 → IsSchedule ctx r k (schedules r k)) →
     (memory : List (List ℕ)) (old new : List ℕ) →
@@ -200,26 +199,26 @@ passes_marked : (ctx : Context) → Fits ctx →
     Marked ctx first 0 (λ _. begun ctx 0 0) old new →
     Marked ctx first passes (λ _. begun ctx passes 0) old (positions_of_passes ctx schedules passes memory new)
 unfolding positions_of_passes
-passes_marked ctx fits first schedules zero t is memory old new h w = w
-passes_marked ctx fits first schedules (suc r) t is memory old new h w =
+passes_marked ctx sizes first schedules zero t is memory old new h w = w
+passes_marked ctx sizes first schedules (suc r) t is memory old new h w =
     let before = run_passes ctx schedules r memory in
     let marks = positions_of_passes ctx schedules r memory new in
     next_marked ctx first r old (positions_of_slices ctx (schedules r) r 4 before marks)
-    (slices_marked ctx fits first (schedules r) r 4 (omega arith) (omega arith) (λ k lt. is r k (omega arith) lt) before old marks
-    (passes_fill ctx fits first schedules r (λ a k x y. is a k (omega arith) y) memory h)
-    (passes_marked ctx fits first schedules r (omega arith) is memory old new h w))
+    (slices_marked ctx sizes first (schedules r) r 4 (omega arith) (omega arith) (λ k lt. is r k (omega arith) lt) before old marks
+    (passes_fill ctx sizes first schedules r (λ a k x y. is a k (omega arith) y) memory h)
+    (passes_marked ctx sizes first schedules r (omega arith) is memory old new h w))
 
 -- after the last pass the list is that of the reference places
-pub positions_are_references : (ctx : Context) → Fits ctx → (first : FirstColumns) (schedules : ℕ → ℕ → List ℕ) →
+pub positions_are_references : (ctx : Context) → Sizes ctx → (first : FirstColumns) (schedules : ℕ → ℕ → List ℕ) →
     AreSchedules ctx schedules →
     (memory : List (List ℕ)) (old : List ℕ) → Begins ctx first memory →
     length old ≡ ctx.t_cost * block_count ctx →
     AreReferencePlaces ctx first old (positions_of_passes ctx schedules ctx.t_cost memory old)
-positions_are_references ctx fits first schedules is memory old start marks =
-    let two = fits.two_columns in
+positions_are_references ctx sizes first schedules is memory old start marks =
+    let two = sizes.two_columns in
     let w0 : turn_count ctx 0 0 ≡ segment_length ctx - 2 = refl in
-    let m = passes_marked ctx fits first schedules ctx.t_cost (omega arith) is memory old old
-    (filled_at_first ctx fits first memory start)
+    let m = passes_marked ctx sizes first schedules ctx.t_cost (omega arith) is memory old old
+    (filled_at_first ctx sizes first memory start)
     (record {
       size = marks;
       steps = λ r l c t a b g h. absurd

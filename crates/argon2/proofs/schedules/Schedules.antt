@@ -6,27 +6,27 @@ use Rattle.std.proofs.lemmas.List.{get_or-set_other, set_comm}
 use Rattle.std.proofs.lemmas.List.Sums.{sum_by-cons, sum_by-append}
 use Rattle.std.proofs.lemmas.Nat.{same_from_place}
 use Rattle.std.proofs.lemmas.Bool.{cond_both, cond-true, cond-false, cases_eq, eq-eqb, ne_eqb, and_from}
-use Rattle.argon2.specs.Context.{Context, segment_length, lane_length}
+use Rattle.argon2.specs.Context.{Context, Sizes, segment_length, lane_length}
 use Rattle.argon2.specs.Recurrence.{made_block}
 use Rattle.argon2.specs.Steps.{IsStep, in_memory, step, turns, turn_count, IsSchedule, run}
-use Rattle.argon2.proofs.recurrence.Sources.{Fits, InSlice, made_cong}
+use Rattle.argon2.proofs.recurrence.Sources.{InSlice, made_cong}
 
 -- other lanes or columns stand at other places
 pub place_apart : (q l c m d : ℕ) → c < q → d < q → (l ≡ m → c ≡ d → ⊥) → l * q + c ≢ m * q + d
 place_apart q l c m d hc hd ne e = let s = same_from_place l c m d q hc hd e in ne s.0 s.1
 
 -- what another lane writes in the slice leaves a step's block as it is
-made_kept : (ctx : Context) → Fits ctx → (pass lane column l c k : ℕ) →
+made_kept : (ctx : Context) → Sizes ctx → (pass lane column l c k : ℕ) →
     IsStep ctx pass lane column → InSlice (segment_length ctx) column k →
     l ≢ lane → c < lane_length ctx → InSlice (segment_length ctx) c k →
     (memory : List (List ℕ)) (b : List ℕ) →
     made_block ctx (in_memory ctx (set memory (l * lane_length ctx + c) b)) pass lane column
     ≡ made_block ctx (in_memory ctx memory) pass lane column
 unfolding in_memory
-made_kept ctx fits pass lane column l c k st here other below there memory b =
+made_kept ctx sizes pass lane column l c k st here other below there memory b =
     let s = segment_length ctx in
     let e : column / s ≡ k = div-eq_of_lt-le s here.above here.below in
-    made_cong ctx fits pass lane column st _ _ (λ r l' c' reads.
+    made_cong ctx sizes pass lane column st _ _ (λ r l' c' reads.
     get_or-set_other memory (l * lane_length ctx + c) (l' * lane_length ctx + c') b []
     (place_apart (lane_length ctx) l' c' l c reads.in_columns below (λ p q.
     elim reads.apart [
@@ -41,21 +41,21 @@ made_kept ctx fits pass lane column l c k st here other below there memory b =
     ])))
 
 -- two steps of different lanes in one slice may change places
-steps_commute : (ctx : Context) → Fits ctx → (pass k : ℕ) (l c m d : ℕ) → l ≢ m →
+steps_commute : (ctx : Context) → Sizes ctx → (pass k : ℕ) (l c m d : ℕ) → l ≢ m →
     IsStep ctx pass l c → InSlice (segment_length ctx) c k → IsStep ctx pass m d →
     InSlice (segment_length ctx) d k → (memory : List (List ℕ)) →
     step ctx (step ctx memory pass l c) pass m d ≡ step ctx (step ctx memory pass m d) pass l c
 unfolding step
-steps_commute ctx fits pass k l c m d ne sc ic sd id memory =
+steps_commute ctx sizes pass k l c m d ne sc ic sd id memory =
     let q = lane_length ctx in
     let i = l * q + c in
     let j = m * q + d in
     let b = made_block ctx (in_memory ctx memory) pass l c in
     let e = made_block ctx (in_memory ctx memory) pass m d in
     let apart : i ≢ j = place_apart q l c m d sc.in_columns sd.in_columns (λ p _. ne p) in
-    ap (set (set memory i b) j) (made_kept ctx fits pass m d l c k sd id ne sc.in_columns ic memory b)
+    ap (set (set memory i b) j) (made_kept ctx sizes pass m d l c k sd id ne sc.in_columns ic memory b)
     ∙ set_comm memory i j b e apart
-    ∙ sym (ap (set (set memory j e) i) (made_kept ctx fits pass l c m d k sc ic (λ p. ne (sym p)) sd.in_columns id memory e))
+    ∙ sym (ap (set (set memory j e) i) (made_kept ctx sizes pass l c m d k sc ic (λ p. ne (sym p)) sd.in_columns id memory e))
 
 -- ---- turns
 
@@ -112,12 +112,12 @@ abbrev pub turn_column : Context → ℕ → ℕ → ℕ
 turn_column ctx k n = (k + 1) * segment_length ctx - suc n
 
 -- a turn is a step, in its slice
-turn_step : (ctx : Context) → Fits ctx → (pass k lane n : ℕ) → k < 4 → lane < ctx.p_cost →
+turn_step : (ctx : Context) → Sizes ctx → (pass k lane n : ℕ) → k < 4 → lane < ctx.p_cost →
     suc n ≤ turn_count ctx pass k →
     IsStep ctx pass lane (turn_column ctx k n) × InSlice (segment_length ctx) (turn_column ctx k n) k
-turn_step ctx fits pass k lane n four below room =
+turn_step ctx sizes pass k lane n four below room =
     let s = segment_length ctx in
-    let two : 2 ≤ s = fits.two_columns in
+    let two : 2 ≤ s = sizes.two_columns in
     let le = turn_count-le ctx pass k in
     let whole : (k + 1) * s ≤ 4 * s = mul-le-mul_right s (omega arith) in (
       record {
@@ -149,12 +149,12 @@ MayRun-tail ctx pass k lane schedule m = record {
 }
 
 -- the first turn is a step
-pub head_step : (ctx : Context) → Fits ctx → (pass k lane : ℕ) (schedule : List ℕ) → k < 4 →
+pub head_step : (ctx : Context) → Sizes ctx → (pass k lane : ℕ) (schedule : List ℕ) → k < 4 →
     MayRun ctx pass k (lane ∷ schedule) →
     IsStep ctx pass lane (turn_column ctx k (turns lane schedule))
     × InSlice (segment_length ctx) (turn_column ctx k (turns lane schedule)) k
-head_step ctx fits pass k lane schedule four m =
-    turn_step ctx fits pass k lane (turns lane schedule) four m.lanes.0
+head_step ctx sizes pass k lane schedule four m =
+    turn_step ctx sizes pass k lane (turns lane schedule) four m.lanes.0
     (let a = m.few lane m.lanes.0 in let b = turns-same lane schedule in omega arith)
 
 -- the lanes of a list without one of them
@@ -169,12 +169,12 @@ lane_among p x [] ys h = h.0
 lane_among p x (y ∷ xs) ys h = lane_among p x xs ys h.1
 
 -- a lane's first turn may come before the turns of other lanes
-first_to_front : (ctx : Context) → Fits ctx → (pass k lane : ℕ) → k < 4 → (xs ys : List ℕ) →
+first_to_front : (ctx : Context) → Sizes ctx → (pass k lane : ℕ) → k < 4 → (xs ys : List ℕ) →
     turns lane xs ≡ 0 → MayRun ctx pass k (xs ++ lane ∷ ys) → (memory : List (List ℕ)) →
     run ctx pass k (xs ++ lane ∷ ys) memory ≡ run ctx pass k (lane ∷ (xs ++ ys)) memory
 unfolding run
-first_to_front ctx fits pass k lane four [] ys none m memory = refl
-first_to_front ctx fits pass k lane four (x ∷ xs) ys none m memory =
+first_to_front ctx sizes pass k lane four [] ys none m memory = refl
+first_to_front ctx sizes pass k lane four (x ∷ xs) ys none m memory =
     let ne : x ≢ lane = λ e. let s = turns-same lane xs in
     let t : turns lane (lane ∷ xs) ≡ 0 = subst (λ y. turns lane (y ∷ xs) ≡ 0) e none in omega arith in
     let rest : turns lane xs ≡ 0 = sym (turns-other lane x xs ne) ∙ none in
@@ -184,14 +184,14 @@ first_to_front ctx fits pass k lane four (x ∷ xs) ys none m memory =
     let tl : turns lane (x ∷ later) ≡ turns lane later = turns-other lane x later ne in
     let w : turns lane (xs ++ lane ∷ ys) ≡ suc (turns lane later) = turns-with lane xs ys in
     let lane_in : lane < ctx.p_cost = lane_among ctx.p_cost lane xs ys m.lanes.1 in
-    let px = turn_step ctx fits pass k x (turns x later) four m.lanes.0
+    let px = turn_step ctx sizes pass k x (turns x later) four m.lanes.0
     (let a = m.few x m.lanes.0 in let b = turns-same x (xs ++ lane ∷ ys) in omega arith) in
-    let pl = turn_step ctx fits pass k lane (turns lane later) four lane_in (let a = tail.few lane lane_in in omega arith) in
+    let pl = turn_step ctx sizes pass k lane (turns lane later) four lane_in (let a = tail.few lane lane_in in omega arith) in
     let cx = turn_column ctx k (turns x later) in
     let cl = turn_column ctx k (turns lane later) in
     ap (λ n. run ctx pass k (xs ++ lane ∷ ys) (step ctx memory pass x (turn_column ctx k n))) tx
-    ∙ first_to_front ctx fits pass k lane four xs ys rest tail (step ctx memory pass x cx)
-    ∙ ap (run ctx pass k later) (steps_commute ctx fits pass k x cx lane cl ne px.0 px.1 pl.0 pl.1 memory)
+    ∙ first_to_front ctx sizes pass k lane four xs ys rest tail (step ctx memory pass x cx)
+    ∙ ap (run ctx pass k later) (steps_commute ctx sizes pass k x cx lane cl ne px.0 px.1 pl.0 pl.1 memory)
     ∙ sym (ap (λ n. run ctx pass k later (step ctx (step ctx memory pass lane (turn_column ctx k n)) pass x cx)) tl)
 
 -- the first turn of a lane that has one
@@ -225,14 +225,14 @@ no_turns p [] h none = refl
 no_turns p (y ∷ ys) h none = absurd (let a = none y h.0 in let b = turns-same y ys in omega arith)
 
 -- schedules with the same turns give the same blocks
-same_turns : (ctx : Context) → Fits ctx → (pass k : ℕ) → k < 4 → (xs ys : List ℕ) →
+same_turns : (ctx : Context) → Sizes ctx → (pass k : ℕ) → k < 4 → (xs ys : List ℕ) →
     MayRun ctx pass k xs → MayRun ctx pass k ys →
     ((lane : ℕ) → lane < ctx.p_cost → turns lane xs ≡ turns lane ys) → (memory : List (List ℕ)) →
     run ctx pass k xs memory ≡ run ctx pass k ys memory
 unfolding run
-same_turns ctx fits pass k four [] ys mx my same memory =
+same_turns ctx sizes pass k four [] ys mx my same memory =
     ap (λ zs. run ctx pass k zs memory) (sym (no_turns ctx.p_cost ys my.lanes same))
-same_turns ctx fits pass k four (x ∷ xs) ys mx my same memory =
+same_turns ctx sizes pass k four (x ∷ xs) ys mx my same memory =
     let t = first_turn x ys (let a = same x mx.lanes.0 in let b = turns-same x xs in omega arith) in
     let later = t.before ++ t.after in
     let my' : MayRun ctx pass k (t.before ++ x ∷ t.after) = subst (MayRun ctx pass k) t.is my in
@@ -257,9 +257,9 @@ same_turns ctx fits pass k four (x ∷ xs) ys mx my same memory =
       few = λ lane h. let a = same' lane h in let b = (MayRun-tail ctx pass k x xs mx).few lane h in omega arith;
     } in
     ap (λ n. run ctx pass k xs (step ctx memory pass x (turn_column ctx k n))) (same' x mx.lanes.0)
-    ∙ same_turns ctx fits pass k four xs later (MayRun-tail ctx pass k x xs mx) mlater same'
+    ∙ same_turns ctx sizes pass k four xs later (MayRun-tail ctx pass k x xs mx) mlater same'
     (step ctx memory pass x (turn_column ctx k (turns x later)))
-    ∙ sym (ap (λ zs. run ctx pass k zs memory) t.is ∙ first_to_front ctx fits pass k x four t.before t.after t.none my' memory)
+    ∙ sym (ap (λ zs. run ctx pass k zs memory) t.is ∙ first_to_front ctx sizes pass k x four t.before t.after t.none my' memory)
 
 -- a whole schedule may run
 pub MayRun-from : (ctx : Context) (pass k : ℕ) (schedule : List ℕ) →
@@ -267,9 +267,9 @@ pub MayRun-from : (ctx : Context) (pass k : ℕ) (schedule : List ℕ) →
 MayRun-from ctx pass k schedule is = record { lanes = is.lanes; few = λ lane h. let e = is.turns lane h in omega arith }
 
 -- any two schedules of a slice give the same blocks, whatever the list holds
-pub schedules_agree : (ctx : Context) → Fits ctx → (pass k : ℕ) → k < 4 → (xs ys : List ℕ) →
+pub schedules_agree : (ctx : Context) → Sizes ctx → (pass k : ℕ) → k < 4 → (xs ys : List ℕ) →
     IsSchedule ctx pass k xs → IsSchedule ctx pass k ys →
     (memory : List (List ℕ)) → run ctx pass k xs memory ≡ run ctx pass k ys memory
-schedules_agree ctx fits pass k four xs ys ix iy memory =
-    same_turns ctx fits pass k four xs ys (MayRun-from ctx pass k xs ix) (MayRun-from ctx pass k ys iy)
+schedules_agree ctx sizes pass k four xs ys ix iy memory =
+    same_turns ctx sizes pass k four xs ys (MayRun-from ctx pass k xs ix) (MayRun-from ctx pass k ys iy)
     (λ lane h. ix.turns lane h ∙ sym (iy.turns lane h)) memory

@@ -1,17 +1,51 @@
-//! The way from the first two columns to the last.
+//! From the inputs of a hash to its matrix, step by step (RFC 9106, section 3.2, steps 1 to 6).
 
-ghost use Rattle.std.specs.Prelude.{◌≡◌, ◌+◌, ◌*◌, ◌^◌, ◌<◌, ◌≤◌, length};
+ghost use Rattle.std.specs.Prelude.{◌≡◌, ◌+◌, ◌-◌, ◌*◌, ◌^◌, ◌<◌, ◌≤◌, [], length, slice_index, slice_index_or, slice_set};
+ghost use Rattle.argon2_base.specs.Mixing.{mixed};
 ghost use Rattle.argon2.specs.Context.{block_count};
-ghost use Rattle.argon2.specs.Recurrence.{FirstColumns};
-ghost use Rattle.argon2.specs.Steps.{run_slices, lanes_in_order};
-ghost use Rattle.argon2.specs.Positions.{positions_of_slices, IsFilledFrom, IsRun};
 ghost use Rattle.argon2.specs.Counting.{segment_calls, slices_calls, mixing_calls};
+ghost use Rattle.argon2.specs.InitialHash.{AreShort, first_block};
 ghost use Rattle.argon2.specs.Laws.{Begins};
+ghost use Rattle.argon2.specs.Positions.{position_index, positions_of_slices, IsFilledFrom, IsRun};
+ghost use Rattle.argon2.specs.Recurrence.{previous, FirstColumns};
+ghost use Rattle.argon2.specs.Steps.{in_memory, lane_turns, lanes_in_order, previous_place, reference_place, run_slices, step, word_in, IsStep, IsStepIn};
 
 use super::instance::Instance;
 use crate::{Block, Work};
+use std::convert::AsSlice;
+
+/// Which block a step writes.
+#[derive(Clone, Copy)]
+pub(super) struct Step {
+    pub(super) pass: u32,
+    pub(super) lane: u32,
+    pub(super) column: u32,
+}
 
 impl<'a> Instance<'a> {
+    /// Makes the matrix for an output of `out_len` bytes, and counts each mixing. `positions` has a
+    /// place for each block of each pass, where the place of the block's reference is put down; or
+    /// it is empty.
+    pub(super) fn fill_blocks(
+        &self,
+        pwd: &[u8],
+        salt: &[u8],
+        out_len: u32,
+        blocks: &mut [Block],
+        positions: &mut [u32],
+        work: &mut Work,
+    )
+        requires inputs { AreShort pwd.now salt.now }
+        requires size { length blocks.old ≡ block_count self.now }
+        requires count { work.old < 2 ^ 126 }
+        ensures filled { IsFilledFrom self.now (first_block self.now pwd.now salt.now out_len)
+            blocks.new positions.old positions.new }
+        ensures work { work.new ≡ work.old + mixing_calls self.now }
+    {
+        self.begin(pwd, salt, out_len, blocks);
+        self.fill(blocks, positions, work);
+    }
+
     /// All passes. `positions` has a place for each block of each pass, where the place of the
     /// block's reference is put down; or it is empty.
     pub(crate) fn fill(&self, memory: &mut [Block], positions: &mut [u32], work: &mut Work)
@@ -58,6 +92,117 @@ impl<'a> Instance<'a> {
     {
         for lane in 0..self.lanes() {
             self.fill_segment(memory, positions, pass, slice, lane, work);
+        }
+    }
+
+    /// The steps of a lane in a slice. `positions` has a place for each block of each pass, where
+    /// the place of the block's reference is put down; or it is empty.
+    pub(super) fn fill_segment(
+        &self,
+        memory: &mut [Block],
+        positions: &mut [u32],
+        pass: u32,
+        slice: u32,
+        lane: u32,
+        work: &mut Work,
+    )
+        requires in_slices { slice < 4 }
+        requires in_lanes { lane < self.now.p_cost }
+        requires room { block_count self.now ≤ length memory.old }
+        requires count { work.old < 2 ^ 127 }
+        ensures run { IsRun self.now pass slice (lane_turns self.now pass slice lane)
+            memory.old memory.new positions.old positions.new }
+        ensures work { work.new ≡ work.old + segment_calls self.now pass slice }
+    {
+        let segment = self.segment_length();
+        let column = slice * segment;
+        let start = if pass == 0 && slice == 0 { 2 } else { 0 };
+        let mut addresses = self.addresses(Step { pass, lane, column }, work);
+        for index in start..segment {
+            let column = slice * segment + index;
+            let at = Step { pass, lane, column };
+            if index > 0 && index % 128 == 0 {
+                addresses = self.addresses(at, work);
+            }
+            let word = self.word(memory, &addresses, at);
+            let reference = self.step(memory, at, word, work);
+            self.put_position(positions, at, reference);
+        }
+    }
+
+    /// Puts down the place of a step's reference, if there is room for it.
+    fn put_position(&self, positions: &mut [u32], at: Step, reference: u32)
+        requires { IsStep self.now at.pass at.lane at.column }
+        ensures { positions.new
+            ≡ slice_set positions.old (position_index self.now at.pass at.lane at.column) reference }
+    {
+        let place = self.place(at.lane, at.column) as usize;
+        let index = at.pass as usize * self.block_count() + place;
+        if index < positions.len() {
+            positions[index] = reference;
+        }
+    }
+
+    /// Writes the block of a step, by the word that takes its reference, and answers the
+    /// reference's place.
+    pub(super) fn step(&self, memory: &mut [Block], at: Step, word: u64, work: &mut Work) -> u32
+        requires place { IsStepIn self.now memory.old at.pass at.lane at.column }
+        requires word { word ≡ word_in self.now memory.old at.pass at.lane at.column }
+        requires count { work.old < 2 ^ 128 - 1 }
+        ensures step { memory.new ≡ step self.now memory.old at.pass at.lane at.column }
+        ensures place { result ≡ reference_place self.now memory.old at.pass at.lane at.column }
+        ensures work { work.new ≡ work.old + 1 }
+    {
+        let reference = self.reference_place(at, word);
+        let place = self.place(at.lane, at.column) as usize;
+        // Each arm mixes for itself: a result that is used once is not copied.
+        if self.xors(at.pass) {
+            let block = &self.mixed_block(memory, at, reference, work);
+            memory[place] ^= block;
+        } else {
+            memory[place] = self.mixed_block(memory, at, reference, work);
+        }
+        reference
+    }
+
+    /// The previous block mixed with that of a place.
+    fn mixed_block(&self, memory: &[Block], at: Step, reference: u32, work: &mut Work) -> Block
+        requires place { IsStepIn self.now memory.now at.pass at.lane at.column }
+        requires within { reference < block_count self.now }
+        requires count { work.old < 2 ^ 128 - 1 }
+        ensures block { result ≡ mixed
+            (slice_index_or memory.now (previous_place self.now at.lane at.column) [])
+            (slice_index_or memory.now reference []) }
+        ensures work { work.new ≡ work.old + 1 }
+    {
+        let previous = self.previous_place(at);
+        Block::mix(
+            &memory[previous as usize],
+            &memory[reference as usize],
+            work,
+        )
+    }
+
+    /// The previous block's first word.
+    pub(super) fn previous_word(&self, memory: &[Block], at: Step) -> u64
+        requires { IsStepIn self.now memory.now at.pass at.lane at.column }
+        ensures { let blocks = in_memory self.now memory.now in
+            result ≡ slice_index (previous self.now blocks at.pass at.lane at.column) 0 }
+    {
+        let previous = self.previous_place(at);
+        memory[previous as usize].as_slice()[0]
+    }
+
+    /// The place of the previous block, which before column 0 is the lane's last.
+    fn previous_place(&self, at: Step) -> u32
+        requires { IsStep self.now at.pass at.lane at.column }
+        ensures value { result ≡ previous_place self.now at.lane at.column }
+        ensures within { result < block_count self.now }
+    {
+        if at.column == 0 {
+            self.place(at.lane, self.lane_length() - 1)
+        } else {
+            self.place(at.lane, at.column - 1)
         }
     }
 }

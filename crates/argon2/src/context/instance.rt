@@ -1,6 +1,6 @@
 //! What a hash depends on beside the password and the salt.
 
-ghost use Rattle.std.specs.Prelude.{◌≡◌, ◌^◌, ◌<◌, ◌≤◌, ◌&&◌, ◌==◌, length, nat_lt};
+ghost use Rattle.std.specs.Prelude.{◌≡◌, ◌+◌, ◌*◌, ◌^◌, ◌<◌, ◌≤◌, ◌&&◌, ◌==◌, length, nat_lt};
 ghost use Rattle.argon2.specs.Algorithm.{algorithm_number};
 ghost use Rattle.argon2.specs.Context.{context_with, segment_length, lane_length, block_count, IsSize};
 ghost use Rattle.argon2.specs.Argon2.{settings_with};
@@ -72,7 +72,7 @@ impl<'a> Instance<'a> {
 
     /// The number of lanes.
     pub(super) fn lanes(&self) -> u32
-        ensures { result ≡ self.now.p_cost }
+        ensures { IsSize (λ ctx. ctx.p_cost) self.now result }
     {
         self.p_cost
     }
@@ -103,6 +103,16 @@ impl<'a> Instance<'a> {
         ensures { IsSize block_count self.now result }
     {
         (self.lanes() * self.lane_length()) as usize
+    }
+
+    /// The place of a lane's column, where the lanes stand one after the other.
+    pub(super) fn place(&self, lane: u32, column: u32) -> u32
+        requires in_lanes { lane < self.now.p_cost }
+        requires in_columns { column < lane_length self.now }
+        ensures value { result ≡ lane * lane_length self.now + column }
+        ensures within { result < block_count self.now }
+    {
+        lane * self.lane_length() + column
     }
 
     /// The variant.

@@ -1,12 +1,28 @@
-//! Which block a block refers to (RFC 9106, section 3.4.2).
+//! Which block a block refers to: the word that takes it, of the previous block or of address blocks,
+//! which depend on no other block, and the block that it takes (RFC 9106, sections 3.4.1 and 3.4.2).
 
-ghost use Rattle.std.specs.Prelude.{◌≡◌, ℕ, ◌+◌, ◌-◌, ◌*◌, ◌/◌, ◌<◌, ◌==◌, length, slice_index_or};
+ghost use Rattle.std.specs.Prelude.{◌≡◌, ℕ, ◌+◌, ◌-◌, ◌*◌, ◌/◌, ◌^◌, ◌<◌, ◌≤◌, ◌==◌, ◌++◌, length, replicate, slice_index_or, if◌then◌else◌};
 ghost use Rattle.argon2.specs.Context.{segment_length, lane_length, block_count};
-ghost use Rattle.argon2.specs.Steps.{IsStep};
+ghost use Rattle.argon2.specs.Recurrence.{is_independent, address_block, addresses_of};
 ghost use Rattle.argon2.specs.Reference.{permitted, reference_lane, reference_index, reference, place_of, MayReferTo};
+ghost use Rattle.argon2.specs.Steps.{word_in, IsStep, IsStepIn};
 
+use super::fill::Step;
 use super::instance::Instance;
-use super::step::Step;
+use crate::{Algorithm, Block, Work};
+use std::convert::AsSlice;
+
+/// Some words, and zeros after them.
+fn block_of_words(words: &[u64]) -> Block
+    requires { length words.now ≤ 128 }
+    ensures { result ≡ words.now ++ replicate (128 - length words.now) 0 }
+{
+    let mut all = [0; 128];
+    all[..words.len()].copy_from_slice(words);
+    let mut block = Block::new();
+    block.as_mut_slice().copy_from_slice(&all);
+    block
+}
 
 /// Which of `count` blocks a word takes.
 #[tactic(auto, unfolding(crate::specs::Reference::reference_index))]
@@ -22,6 +38,77 @@ fn reference_index(count: u32, word: u64) -> u32
 }
 
 impl<'a> Instance<'a> {
+    /// The word of a step: of its address block, or else the previous block's first.
+    pub(super) fn word(&self, memory: &[Block], addresses: &Option<Block>, at: Step) -> u64
+        requires place { IsStepIn self.now memory.now at.pass at.lane at.column }
+        requires addresses { addresses.now ≡ addresses_of self.now at.pass at.lane at.column }
+        ensures { result ≡ word_in self.now memory.now at.pass at.lane at.column }
+    {
+        match addresses {
+            Some(block) => {
+                let index = at.column % self.segment_length();
+                block.as_slice()[(index % 128) as usize]
+            }
+            None => self.previous_word(memory, at),
+        }
+    }
+
+    /// The address block that has the word of a step, in a slice that has address blocks.
+    #[tactic(auto, unfolding(crate::specs::Recurrence::addresses_of))]
+    pub(super) fn addresses(&self, at: Step, work: &mut Work) -> Option<Block>
+        requires { work.old + 2 < 2 ^ 128 }
+        ensures block { result ≡ addresses_of self.now at.pass at.lane at.column }
+        ensures work { let slice = at.column / segment_length self.now in
+            work.new ≡ work.old + (if is_independent self.now at.pass slice then 2 else 0) }
+    {
+        let slice = at.column / self.segment_length();
+        let index = at.column % self.segment_length();
+        if self.is_independent(at.pass, slice) {
+            Some(self.address_block(at.pass, at.lane, slice, index / 128 + 1, work))
+        } else {
+            None
+        }
+    }
+
+    /// The address block of a counter (RFC 9106, section 3.4.1.2).
+    fn address_block(
+        &self,
+        pass: u32,
+        lane: u32,
+        slice: u32,
+        counter: u32,
+        work: &mut Work,
+    ) -> Block
+        requires { work.old + 2 < 2 ^ 128 }
+        ensures block { result ≡ address_block self.now pass lane slice counter }
+        ensures work { work.new ≡ work.old + 2 }
+    {
+        let input = block_of_words(&[
+            pass as u64,
+            lane as u64,
+            slice as u64,
+            self.block_count() as u64,
+            self.passes() as u64,
+            self.algorithm_number() as u64,
+            counter as u64,
+        ]);
+        let zero = Block::new();
+        let inner = Block::mix(&zero, &input, work);
+        Block::mix(&zero, &inner, work)
+    }
+
+    /// Whether a slice's references do not depend on blocks.
+    #[tactic(auto, unfolding(crate::specs::Recurrence::is_independent))]
+    fn is_independent(&self, pass: u32, slice: u32) -> bool
+        ensures { result ≡ is_independent self.now pass slice }
+    {
+        match self.algorithm() {
+            Algorithm::Argon2d => false,
+            Algorithm::Argon2i => true,
+            Algorithm::Argon2id => pass == 0 && slice < 2,
+        }
+    }
+
     /// The place of the block that a word takes for a step.
     pub(super) fn reference_place(&self, at: Step, word: u64) -> u32
         requires { IsStep self.now at.pass at.lane at.column }
@@ -31,7 +118,7 @@ impl<'a> Instance<'a> {
         let other = self.reference_lane(at, word);
         let count = self.permitted_count(at, other);
         let index = reference_index(count, word);
-        other * self.lane_length() + self.permitted_column(at, index)
+        self.place(other, self.permitted_column(at, index))
     }
 
     /// The lane that is referred to.

@@ -1,4 +1,4 @@
-use Rattle.argon2.proofs.recurrence.Validity.{Fits-valid}
+use Rattle.argon2.proofs.recurrence.Validity.{sizes-valid}
 use Rattle.argon2.proofs.recurrence.Independence.{positions_agree, argon2i_independent, argon2id_independent}
 use Rattle.argon2.proofs.laws.independent_positions.Goals as goal
 
@@ -8,4 +8,4 @@ returns-clause-argon2i c = λ one other v alike i first second pass lane column.
 
 pub returns-clause-argon2id : goal.returns-clause-argon2id
 returns-clause-argon2id c = λ one other v alike id first second lane column low.
-    positions_agree one other alike first second 0 lane column (argon2id_independent one (Fits-valid one v) column id low)
+    positions_agree one other alike first second 0 lane column (argon2id_independent one (sizes-valid one v) column id low)

@@ -1,10 +1,10 @@
-use Rattle.argon2.proofs.recurrence.Validity.{Fits-valid}
+use Rattle.argon2.proofs.recurrence.Validity.{sizes-valid}
 use Rattle.argon2.proofs.recurrence.History as h
 use Rattle.argon2.proofs.laws.recurrence.Goals as goal
 
 pub returns-clause-follow : goal.returns-clause-follow
-returns-clause-follow c = λ ctx v first pass lane column a b. h.recurrence ctx (Fits-valid ctx v) first pass lane column a b
+returns-clause-follow c = λ ctx v first pass lane column a b. h.recurrence ctx (sizes-valid ctx v) first pass lane column a b
 
 pub returns-clause-alone : goal.returns-clause-alone
 returns-clause-alone c =
-    λ ctx v first blocks is pass lane column a b. h.recurrence_unique ctx (Fits-valid ctx v) first blocks is pass lane column a b
+    λ ctx v first blocks is pass lane column a b. h.recurrence_unique ctx (sizes-valid ctx v) first blocks is pass lane column a b

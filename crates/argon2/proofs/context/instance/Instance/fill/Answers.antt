@@ -5,7 +5,6 @@ use Rattle.argon2.specs.Counting.{passes_calls}
 use Rattle.argon2.proofs.schedules.Counts.{passes_calls-le, passes_calls-all, mixing_calls-few}
 use Rattle.argon2.proofs.schedules.Filling.{schedules_fill}
 use Rattle.argon2.proofs.schedules.LaneAfterLane.{ascending_schedule}
-use Rattle.argon2.proofs.recurrence.Validity.{Fits-sizes}
 use Rattle.argon2.proofs.schedules.ReferencePlaces.{positions_are_references}
 use Rattle.argon2.proofs.context.instance.Instance.fill.Goals as goal
 
@@ -46,10 +45,10 @@ returns-clause-filled c = λ first begins.
     record {
       matrix = c.loop-pass.invariant.memory
           ∙ ap (λ passes. run_passes ctx (lanes_in_order ctx) passes c.args.memory.now) all
-          ∙ schedules_fill ctx (Fits-sizes ctx sizes) sizes.some_pass first _
+          ∙ schedules_fill ctx sizes sizes.some_pass first _
           (λ pass slice _ _. ascending_schedule ctx pass slice) c.args.memory.now begins;
       positions = λ size. subst (AreReferencePlaces ctx first c.args.positions.now) (sym is)
-          (positions_are_references ctx (Fits-sizes ctx sizes) first _
+          (positions_are_references ctx sizes first _
           (λ pass slice _ _. ascending_schedule ctx pass slice) c.args.memory.now c.args.positions.now begins size);
     }
 

@@ -11,7 +11,7 @@ returns c =
     let message = c.update_input-4.ensures.holds _ (c.update_input-3.ensures.holds _
     (c.update_input-2.ensures.holds _ (c.update_input.ensures.holds _ numbers))) in
     initial_hash_of_pieces c.args.self.now c.args.pwd.now c.args.salt.now c.args.out_len _ _ _ _ _ _ _ _ _
-    c.lanes.ensures (ap (λ (x : Context). x.m_cost) c.self.view_is) c.passes.ensures.value
+    c.lanes.ensures.value (ap (λ (x : Context). x.m_cost) c.self.view_is) c.passes.ensures.value
     (rw c.from.ensures (ap (λ (x : Context). x.version) c.self.view_is)) c.algorithm_number.ensures
     (ap (λ (x : Context). x.secret) c.self.view_is) (ap (λ (x : Context). x.associated) c.self.view_is)
     (c.finalize_into.ensures _ message) (omega arith)

@@ -4,20 +4,8 @@ use Rattle.std.proofs.lemmas.List.{get_or_read}
 use Rattle.argon2_base.proofs.MixingLaws.{xor_blocks-comm}
 use Rattle.argon2.specs.Context.{lane_length}
 use Rattle.argon2.specs.Steps.{step}
-use Rattle.argon2.proofs.schedules.InMemory.{made_by_places, place_by_word, place_below, place_fits, place_in}
+use Rattle.argon2.proofs.schedules.InMemory.{made_by_places, place_by_word}
 use Rattle.argon2.proofs.context.instance.Instance.step.Goals as goal
-
-pub overflow_mul-place : goal.overflow_mul-place
-overflow_mul-place c =
-    let fits = place_fits c.args.self.now c.args.at.lane c.lane_length.result c.args.at.column c.lane_length.ensures.sizes
-    c.lane_length.ensures.value c.requires.place.step.in_lanes c.requires.place.step.in_columns in
-    omega arith
-
-pub overflow_add-place : goal.overflow_add-place
-overflow_add-place c =
-    let fits = place_fits c.args.self.now c.args.at.lane c.lane_length.result c.args.at.column c.lane_length.ensures.sizes
-    c.lane_length.ensures.value c.requires.place.step.in_lanes c.requires.place.step.in_columns in
-    omega arith
 
 pub returns-then-xors-clause-step : goal.returns-then-xors-clause-step
 unfolding step
@@ -25,13 +13,10 @@ returns-then-xors-clause-step c =
     let ctx = c.args.self.now in
     let m = c.args.memory.now in
     let place = c.args.at.lane * lane_length ctx + c.args.at.column in
-    let q = c.lane_length.ensures.value in
+    let p = c.place-place.ensures.value in
     let r = c.reference_place-reference.ensures.value in
     let b = c.mixed_block.ensures.block in
-    let below = place_below ctx c.args.at.lane c.args.at.column c.requires.place.step.in_lanes c.requires.place.step.in_columns in
-    let old =
-    get_or_read m (c.args.at.lane * c.lane_length.result + c.args.at.column) c.index-memory-place.result
-    (grind arith) c.index-memory-place.is [] in
+    let old = get_or_read m c.place-place.result c.index-memory-place.result (grind arith) c.index-memory-place.is [] in
     let x = c.bitxor_assign.ensures.after in
     let y = xor_blocks-comm (get_or m place []) c.mixed_block.result in
     let yes = sym c.xors.ensures ∙ c.if-xors.true in
@@ -50,7 +35,7 @@ unfolding step
 returns-else-xors-clause-step c =
     let ctx = c.args.self.now in
     let m = c.args.memory.now in
-    let q = c.lane_length.ensures.value in
+    let p = c.place-place.ensures.value in
     let r = c.reference_place-reference.ensures.value in
     let b = c.mixed_block-else-xors.ensures.block in
     let no = sym c.xors.ensures ∙ c.if-xors.false in
@@ -63,22 +48,6 @@ returns-else-xors-clause-place c =
     c.reference_place-reference.ensures.value
     ∙ sym (place_by_word c.args.self.now c.args.memory.now c.args.at.pass c.args.at.lane c.args.at.column c.args.word
     c.requires.word)
-
-pub overflow_cast-place : goal.overflow_cast-place
-overflow_cast-place c =
-    let fits = place_fits c.args.self.now c.args.at.lane c.lane_length.result c.args.at.column c.lane_length.ensures.sizes
-    c.lane_length.ensures.value c.requires.place.step.in_lanes c.requires.place.step.in_columns in
-    omega arith
-
-pub bounds-memory-place : goal.bounds-memory-place
-bounds-memory-place c =
-    place_in c.args.self.now c.args.at.lane c.lane_length.result c.args.at.column c.args.memory.now c.lane_length.ensures.value
-    c.requires.place.step.in_lanes c.requires.place.step.in_columns c.requires.place.room
-
-pub bounds-memory-place-else-xors : goal.bounds-memory-place-else-xors
-bounds-memory-place-else-xors c =
-    place_in c.args.self.now c.args.at.lane c.lane_length.result c.args.at.column c.args.memory.now c.lane_length.ensures.value
-    c.requires.place.step.in_lanes c.requires.place.step.in_columns c.requires.place.room
 
 pub mixed_block-requires-clause-within : goal.mixed_block-requires-clause-within
 mixed_block-requires-clause-within c = c.reference_place-reference.ensures.within

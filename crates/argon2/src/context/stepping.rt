@@ -1,7 +1,7 @@
 //! Filling by single steps, whose order the caller chooses.
 
 use super::Argon2;
-use super::step::Step;
+use super::fill::Step;
 use crate::{Block, Work};
 use argon2_base::error::Result;
 

@@ -1,6 +1,6 @@
 use Rattle.std.proofs.Common.{◌++◌, length, drop, replicate, ap, ◌∙◌}
 use Rattle.std.proofs.lemmas.List.{drop-replicate}
-use Rattle.argon2.proofs.context.addresses.block_of_words.Goals as goal
+use Rattle.argon2.proofs.context.reference.block_of_words.Goals as goal
 
 pub returns : goal.returns
 returns c =

@@ -1,11 +1,15 @@
-//! From the inputs of a hash to the first two columns (RFC 9106, section 3.2, steps 1 to 4).
+//! The two ends of a hash: the first two columns, which are made of its inputs, and the tag, which
+//! is made of the last column (RFC 9106, section 3.2, steps 1 to 4, 7 and 8).
 
-ghost use Rattle.std.specs.Prelude.{◌≡◌, ◌+◌, ◌<◌, ◌^◌, length};
+ghost use Rattle.std.specs.Prelude.{◌≡◌, ◌+◌, ◌<◌, ◌≤◌, ◌^◌, length};
+ghost use Rattle.argon2_base.specs.Block.{bytes_of};
 ghost use Rattle.argon2_base.specs.Hasher.{Appends};
+ghost use Rattle.argon2_base.specs.LongHash.{long_hash};
 ghost use Rattle.argon2.specs.Context.{block_count};
 ghost use Rattle.argon2.specs.Hashing.{KeepsOtherColumns};
 ghost use Rattle.argon2.specs.InitialHash.{AreShort, block_after, first_block, initial_hash, number, with_length};
 ghost use Rattle.argon2.specs.Laws.{Begins};
+ghost use Rattle.argon2.specs.Steps.{last_column};
 
 use super::instance::Instance;
 use argon2_base::blake2b::Blake2b;
@@ -76,11 +80,33 @@ impl Instance<'_> {
         ensures others { KeepsOtherColumns self.now blocks.old blocks.new }
     {
         let hash = self.initial_hash(pwd, salt, out_len);
-        let columns = self.lane_length() as usize;
         for lane in 0..self.lanes() {
-            let start = lane as usize * columns;
-            blocks[start] = block_after(&hash, lane, 0);
-            blocks[start + 1] = block_after(&hash, lane, 1);
+            blocks[self.place(lane, 0) as usize] = block_after(&hash, lane, 0);
+            blocks[self.place(lane, 1) as usize] = block_after(&hash, lane, 1);
         }
+    }
+
+    /// Writes the hash of the last column's exclusive or, of as many bytes as `out` has.
+    pub(super) fn write_tag(&self, memory: &[Block], out: &mut [u8])
+        requires room { block_count self.now ≤ length memory.now }
+        requires some { 1 ≤ length out.old }
+        requires few { length out.old < 2 ^ 32 }
+        ensures { out.new ≡ long_hash (length out.old) (bytes_of (last_column self.now memory.now)) }
+    {
+        let last = self.last_column(memory);
+        blake2b_long(&[&last.to_bytes()], out).unwrap();
+    }
+
+    /// The exclusive or of the last column's blocks, whatever the memory holds.
+    fn last_column(&self, memory: &[Block]) -> Block
+        requires { block_count self.now ≤ length memory.now }
+        ensures { result ≡ last_column self.now memory.now }
+    {
+        let last = self.lane_length() - 1;
+        let mut all = Block::new();
+        for lane in 0..self.lanes() {
+            all ^= &memory[self.place(lane, last) as usize];
+        }
+        all
     }
 }
