@@ -2,7 +2,7 @@ pub mod Counts
 pub mod Filling
 pub mod FirstColumns
 pub mod InMemory
-pub mod LaneAfterLane
+pub mod InOrder
 pub mod LastColumn
 pub mod ReferencePlaces
 pub mod Schedules

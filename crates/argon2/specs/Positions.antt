@@ -1,8 +1,9 @@
--- The places of the references, in a list that has a place for each pass, lane and column.
-use Rattle.std.specs.Prelude.{◌≡◌, ℕ, zero, suc, ◌+◌, ◌-◌, ◌*◌, ◌<◌, List, [], ◌∷◌, length, slice_index, slice_set}
+-- The places of the references, in a list that has a place for each pass, lane and column; and how far
+-- a memory and such a list are filled.
+use Rattle.std.specs.Prelude.{◌≡◌, ℕ, suc, ◌+◌, ◌-◌, ◌*◌, ◌<◌, ◌≤◌, ◌⊎◌, ◌==◌, List, [], length, nat_lt, slice_index, slice_index_or, if◌then◌else◌}
 use Rattle.argon2.specs.Context.{Context, segment_length, lane_length, block_count}
-use Rattle.argon2.specs.Recurrence.{FirstColumns, matrix, reference_places}
-use Rattle.argon2.specs.Steps.{Memory, IsStep, step, reference_place, turns, run, run_slices, run_passes}
+use Rattle.argon2.specs.Recurrence.{FirstColumns, block_of, matrix, reference_places}
+use Rattle.argon2.specs.Steps.{Memory, IsStep, turn_count}
 
 -- how many places there are: one for each pass and block
 abbrev pub place_count : Context → ℕ
@@ -29,31 +30,50 @@ pub record IsFilledFrom (ctx : Context) (first : FirstColumns) (memory : Memory)
     pub matrix : memory ≡ matrix ctx first
     pub positions : length old ≡ place_count ctx → AreReferencePlaces ctx first old new
 
--- the list after the steps of a slice by a schedule, each of which puts down its reference's place
-unfoldable pub positions_of_run : Context → ℕ → ℕ → List ℕ → Memory → List ℕ → List ℕ
-positions_of_run ctx pass slice [] memory positions = positions
-positions_of_run ctx pass slice (lane ∷ schedule) memory positions =
-    let column = (slice + 1) * segment_length ctx - suc (turns lane schedule) in
-    positions_of_run ctx pass slice schedule (step ctx memory pass lane column)
-    (slice_set positions (position_index ctx pass lane column)
-    (reference_place ctx memory pass lane column))
+-- ---- in the midst of a pass
 
--- after the steps of a slice by a schedule: the memory, and the list
-pub record IsRun (ctx : Context) (pass slice : ℕ) (schedule : List ℕ) (old new : Memory) (places places' : List ℕ) : Type 0
+-- a memory where the first done(l) columns of each lane l are made: each place has the block of the
+-- last pass that wrote it
+pub record HasBlocksUpTo (ctx : Context) (first : FirstColumns) (pass : ℕ) (done : ℕ → ℕ) (memory : Memory) : Type 0
   where
-    pub memory : new ≡ run ctx pass slice schedule old
-    pub positions : places' ≡ positions_of_run ctx pass slice schedule old places
+    pub size : length memory ≡ block_count ctx
+    pub new : (lane column : ℕ) → lane < ctx.p_cost → column < lane_length ctx → column < done lane →
+        slice_index_or memory (lane * lane_length ctx + column) [] ≡ block_of ctx first pass lane column
+    pub old : (before lane column : ℕ) →
+        pass ≡ suc before → lane < ctx.p_cost → column < lane_length ctx → done lane ≤ column →
+        slice_index_or memory (lane * lane_length ctx + column) [] ≡ block_of ctx first before lane column
 
--- the list after the first slices of a pass
-unfoldable pub positions_of_slices : Context → (ℕ → List ℕ) → ℕ → ℕ → Memory → List ℕ → List ℕ
-positions_of_slices ctx schedules pass zero memory positions = positions
-positions_of_slices ctx schedules pass (suc slice) memory positions =
-    positions_of_run ctx pass slice (schedules slice) (run_slices ctx schedules pass slice memory)
-    (positions_of_slices ctx schedules pass slice memory positions)
+-- the list then: the references so far, and as before at columns 0 and 1 of pass 0
+pub record HasPositionsUpTo (ctx : Context) (first : FirstColumns) (pass : ℕ) (done : ℕ → ℕ) (old new : List ℕ) : Type 0
+  where
+    pub size : length new ≡ place_count ctx
+    pub of_steps : (r lane column : ℕ) → r < ctx.t_cost → IsStep ctx r lane column →
+        (r < pass) ⊎ ((r ≡ pass) × (column < done lane)) →
+        slice_index new (position_index ctx r lane column) ≡ reference_places ctx first r lane column
+    pub of_first_columns : (lane column : ℕ) → lane < ctx.p_cost → column < 2 →
+        slice_index new (position_index ctx 0 lane column)
+        ≡ slice_index old (position_index ctx 0 lane column)
 
--- the same of the first passes
-unfoldable pub positions_of_passes : Context → (ℕ → ℕ → List ℕ) → ℕ → Memory → List ℕ → List ℕ
-positions_of_passes ctx schedules zero memory positions = positions
-positions_of_passes ctx schedules (suc pass) memory positions =
-    positions_of_slices ctx (schedules pass) pass 4 (run_passes ctx schedules pass memory)
-    (positions_of_passes ctx schedules pass memory positions)
+-- both, the list where there is a place for each reference
+pub record IsFilledUpTo (ctx : Context) (first : FirstColumns) (pass : ℕ) (done : ℕ → ℕ) (memory : Memory)
+    (old new : List ℕ) : Type 0
+  where
+    pub blocks : HasBlocksUpTo ctx first pass done memory
+    pub positions : length old ≡ place_count ctx → HasPositionsUpTo ctx first pass done old new
+
+-- from one such moment of a pass to another
+abbrev pub Fills : Context → ℕ → (ℕ → ℕ) → (ℕ → ℕ) → Memory → Memory → List ℕ → List ℕ → Type 0
+Fills ctx pass done done' memory memory' places places' =
+    (first : FirstColumns) (old : List ℕ) →
+    IsFilledUpTo ctx first pass done memory old places → IsFilledUpTo ctx first pass done' memory' old places'
+
+-- how many columns of each lane are made when a slice begins
+abbrev pub begun : Context → ℕ → ℕ → ℕ
+begun ctx pass slice = (slice + 1) * segment_length ctx - turn_count ctx pass slice
+
+-- how many of each are made in a slice when the lanes before one are done, and that one has so many
+abbrev pub in_order : Context → ℕ → ℕ → ℕ → ℕ → ℕ → ℕ
+in_order ctx pass slice lane column other =
+    if nat_lt other lane then (slice + 1) * segment_length ctx
+    else if other == lane then column
+    else begun ctx pass slice

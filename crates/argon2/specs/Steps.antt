@@ -1,7 +1,7 @@
 -- The blocks in one memory, lane after lane, where a block overwrites that of the pass before; and
 -- the orders of the steps that write them.
-use Rattle.std.specs.Prelude.{◌≡◌, ℕ, zero, suc, ◌+◌, ◌-◌, ◌*◌, ◌<◌, ◌≤◌, ◌&&◌, List, [], ◌∷◌, ◌==◌, count_by, length, replicate, slice_index_or, slice_set, if◌then◌else◌}
-use Rattle.std.specs.List.{AllByRecursion, flat_map, range_with_len}
+use Rattle.std.specs.Prelude.{◌≡◌, ℕ, zero, suc, ◌+◌, ◌-◌, ◌*◌, ◌<◌, ◌≤◌, ◌&&◌, List, [], ◌∷◌, ◌==◌, count_by, length, slice_index_or, slice_set, if◌then◌else◌}
+use Rattle.std.specs.List.{AllByRecursion}
 use Rattle.argon2.specs.Context.{Context, segment_length, lane_length, block_count}
 use Rattle.argon2.specs.Reference.{place_of}
 use Rattle.argon2.specs.Recurrence.{reference_of, reference_word, made_block, xor_lanes}
@@ -86,17 +86,3 @@ unfoldable pub run_passes : Context → (ℕ → ℕ → List ℕ) → ℕ → M
 run_passes ctx schedules zero memory = memory
 run_passes ctx schedules (suc pass) memory =
     run_slices ctx (schedules pass) pass 4 (run_passes ctx schedules pass memory)
-
--- all turns of a lane
-abbrev pub lane_turns : Context → ℕ → ℕ → ℕ → List ℕ
-lane_turns ctx pass slice lane = replicate (turn_count ctx pass slice) lane
-
--- all turns of a lane at once, from one lane on
-unfoldable pub lane_after_lane : Context → ℕ → ℕ → ℕ → List ℕ
-lane_after_lane ctx pass slice from =
-    flat_map (λ lane. replicate (turn_count ctx pass slice) lane)
-    (range_with_len from (ctx.p_cost - from))
-
--- the same from lane 0 on
-abbrev pub lanes_in_order : Context → ℕ → ℕ → List ℕ
-lanes_in_order ctx pass slice = lane_after_lane ctx pass slice 0

@@ -9,25 +9,17 @@ use Rattle.argon2.specs.Context.{Context, Sizes, segment_length, lane_length, bl
 use Rattle.argon2.specs.Reference.{Reference}
 use Rattle.argon2.specs.Recurrence.{FirstColumns, made_block, block_of, reference_places, matrix}
 use Rattle.argon2.specs.Steps.{IsStep, in_memory, step, reference_place, turns, turn_count, IsSchedule, run, run_slices, run_passes}
+use Rattle.argon2.specs.Positions.{begun, HasBlocksUpTo}
 use Rattle.argon2.specs.Laws.{Begins, AreSchedules}
 use Rattle.argon2.proofs.recurrence.Sources.{InSlice, AgreeOn, made_cong, reference_of_cong}
 use Rattle.argon2.proofs.schedules.Schedules.{turn_column, turns-same, turns-other, MayRun, MayRun-tail, MayRun-from, head_step, turn_count-le, place_apart}
 use Rattle.argon2.proofs.recurrence.History.{first_columns, made_blocks}
 
--- In the pass at hand the first done(l) columns of each lane l are made. Each place has the block of
--- the last pass that wrote it.
-pub record FilledUpTo (ctx : Context) (first : FirstColumns) (pass : ℕ) (done : ℕ → ℕ) (memory : List (List ℕ)) : Type 0 where
-  pub size : length memory ≡ block_count ctx
-  pub new : (l c : ℕ) → l < ctx.p_cost → c < lane_length ctx → c < done l →
-      get_or memory (l * lane_length ctx + c) [] ≡ block_of ctx first pass l c
-  pub old : (r l c : ℕ) → pass ≡ suc r → l < ctx.p_cost → c < lane_length ctx → done l ≤ c →
-      get_or memory (l * lane_length ctx + c) [] ≡ block_of ctx first r l c
-
 -- equal counts of made columns say the same
-pub FilledUpTo-like : (ctx : Context) (first : FirstColumns) (pass : ℕ) (done done' : ℕ → ℕ) (memory : List (List ℕ)) →
+pub HasBlocksUpTo-like : (ctx : Context) (first : FirstColumns) (pass : ℕ) (done done' : ℕ → ℕ) (memory : List (List ℕ)) →
     ((l : ℕ) → l < ctx.p_cost → done l ≡ done' l) →
-    FilledUpTo ctx first pass done memory → FilledUpTo ctx first pass done' memory
-FilledUpTo-like ctx first pass done done' memory same h = record {
+    HasBlocksUpTo ctx first pass done memory → HasBlocksUpTo ctx first pass done' memory
+HasBlocksUpTo-like ctx first pass done done' memory same h = record {
   size = h.size;
   new = λ l c a b lt. let e = same l a in h.new l c a b (omega arith);
   old = λ r l c p a b le. let e = same l a in h.old r l c p a b (omega arith);
@@ -39,7 +31,7 @@ step_reads : (ctx : Context) →
     InSlice (segment_length ctx) column k →
     done lane ≡ column →
     ((l : ℕ) → l < ctx.p_cost → (k * segment_length ctx ≤ done l) × (done l ≤ (k + 1) * segment_length ctx)) →
-    FilledUpTo ctx first pass done memory →
+    HasBlocksUpTo ctx first pass done memory →
     AgreeOn ctx pass lane column (in_memory ctx memory) (block_of ctx first)
 unfolding in_memory
 step_reads ctx first pass lane column k done memory here now about h =
@@ -80,7 +72,7 @@ step_makes : (ctx : Context) → Sizes ctx →
     IsStep ctx pass lane column → InSlice (segment_length ctx) column k →
     done lane ≡ column →
     ((l : ℕ) → l < ctx.p_cost → (k * segment_length ctx ≤ done l) × (done l ≤ (k + 1) * segment_length ctx)) →
-    FilledUpTo ctx first pass done memory →
+    HasBlocksUpTo ctx first pass done memory →
     made_block ctx (in_memory ctx memory) pass lane column ≡ block_of ctx first pass lane column
 step_makes ctx sizes first pass lane column k done memory st here now about h =
     made_cong ctx sizes pass lane column st _ (block_of ctx first)
@@ -93,7 +85,7 @@ pub step_answers : (ctx : Context) → Sizes ctx →
     IsStep ctx pass lane column → InSlice (segment_length ctx) column k →
     done lane ≡ column →
     ((l : ℕ) → l < ctx.p_cost → (k * segment_length ctx ≤ done l) × (done l ≤ (k + 1) * segment_length ctx)) →
-    FilledUpTo ctx first pass done memory →
+    HasBlocksUpTo ctx first pass done memory →
     reference_place ctx memory pass lane column ≡ reference_places ctx first pass lane column
 unfolding reference_place reference_places
 step_answers ctx sizes first pass lane column k done memory st here now about h =
@@ -107,7 +99,7 @@ pub step_fills : (ctx : Context) → Sizes ctx →
     IsStep ctx pass lane column → InSlice (segment_length ctx) column k →
     done lane ≡ column → done' lane ≡ suc column → ((l : ℕ) → l ≢ lane → done' l ≡ done l) →
     ((l : ℕ) → l < ctx.p_cost → (k * segment_length ctx ≤ done l) × (done l ≤ (k + 1) * segment_length ctx)) →
-    FilledUpTo ctx first pass done memory → FilledUpTo ctx first pass done' (step ctx memory pass lane column)
+    HasBlocksUpTo ctx first pass done memory → HasBlocksUpTo ctx first pass done' (step ctx memory pass lane column)
 unfolding step
 step_fills ctx sizes first pass lane column k done done' memory st here now then' others about h =
     let q = lane_length ctx in
@@ -153,14 +145,14 @@ step_fills ctx sizes first pass lane column k done done' memory st here now then
 -- ---- a slice, by what is left of a schedule
 
 -- the columns that a lane has made when these turns are left in the slice
-abbrev pub done_before : Context → ℕ → List ℕ → ℕ → ℕ
+abbrev done_before : Context → ℕ → List ℕ → ℕ → ℕ
 done_before ctx k schedule l = (k + 1) * segment_length ctx - turns l schedule
 
 -- what is left of a schedule finishes the slice
 run_fills : (ctx : Context) → Sizes ctx → (first : FirstColumns) (pass k : ℕ) → k < 4 →
     (schedule : List ℕ) (memory : List (List ℕ)) → MayRun ctx pass k schedule →
-    FilledUpTo ctx first pass (done_before ctx k schedule) memory →
-    FilledUpTo ctx first pass (done_before ctx k []) (run ctx pass k schedule memory)
+    HasBlocksUpTo ctx first pass (done_before ctx k schedule) memory →
+    HasBlocksUpTo ctx first pass (done_before ctx k []) (run ctx pass k schedule memory)
 unfolding run
 run_fills ctx sizes first pass k four [] memory m h = h
 run_fills ctx sizes first pass k four (lane ∷ schedule) memory m h =
@@ -181,10 +173,6 @@ run_fills ctx sizes first pass k four (lane ∷ schedule) memory m h =
 
 -- ---- slices and passes
 
--- the columns that are made when a slice begins
-abbrev pub begun : Context → ℕ → ℕ → ℕ
-begun ctx pass k = (k + 1) * segment_length ctx - turn_count ctx pass k
-
 -- in later slices a lane has as many turns as its segment has columns
 pub turn_count-later_slice : (ctx : Context) (pass k : ℕ) →
     turn_count ctx pass (suc k) ≡ segment_length ctx
@@ -193,24 +181,24 @@ turn_count-later_slice ctx pass k =
     (and_right (eqb pass 0) (eqb (suc k) 0) (ne_eqb (suc k) 0 (λ e. omega arith)))
 
 -- the first slices of a pass fill it up to there, each by its schedule
-pub slices_fill : (ctx : Context) → Sizes ctx →
+slices_fill : (ctx : Context) → Sizes ctx →
     (first : FirstColumns) (schedules : ℕ → List ℕ) (pass k : ℕ) → k ≤ 4 →
     ((j : ℕ) → j < 4 → IsSchedule ctx pass j (schedules j)) → (memory : List (List ℕ)) →
-    FilledUpTo ctx first pass (λ _. begun ctx pass 0) memory →
-    FilledUpTo ctx first pass (λ _. begun ctx pass k) (run_slices ctx schedules pass k memory)
+    HasBlocksUpTo ctx first pass (λ _. begun ctx pass 0) memory →
+    HasBlocksUpTo ctx first pass (λ _. begun ctx pass k) (run_slices ctx schedules pass k memory)
 unfolding run_slices
 slices_fill ctx sizes first schedules pass zero four is memory h = h
 slices_fill ctx sizes first schedules pass (suc k) four is memory h =
     let s = segment_length ctx in
     let before = run_slices ctx schedules pass k memory in
-    let i : FilledUpTo ctx first pass (λ _. begun ctx pass k) before =
+    let i : HasBlocksUpTo ctx first pass (λ _. begun ctx pass k) before =
     slices_fill ctx sizes first schedules pass k (omega arith) is memory h in
     let schedule = schedules k in
     let it : IsSchedule ctx pass k schedule = is k (omega arith) in
-    let start : FilledUpTo ctx first pass (done_before ctx k schedule) before =
-    FilledUpTo-like ctx first pass (λ _. begun ctx pass k) (done_before ctx k schedule) before
+    let start : HasBlocksUpTo ctx first pass (done_before ctx k schedule) before =
+    HasBlocksUpTo-like ctx first pass (λ _. begun ctx pass k) (done_before ctx k schedule) before
     (λ l below. ap (λ n. (k + 1) * s - n) (sym (it.turns l below))) i in
-    FilledUpTo-like ctx first pass (done_before ctx k []) (λ _. begun ctx pass (suc k)) (run ctx pass k schedule before)
+    HasBlocksUpTo-like ctx first pass (done_before ctx k []) (λ _. begun ctx pass (suc k)) (run ctx pass k schedule before)
     (λ l below. let w = turn_count-later_slice ctx pass k in omega arith)
     (run_fills ctx sizes first pass k (omega arith) schedule before (MayRun-from ctx pass k schedule it) start)
 
@@ -222,9 +210,9 @@ turn_count-later_pass ctx pass =
     (and_left (eqb (suc pass) 0) (eqb 0 0) (ne_eqb (suc pass) 0 (λ e. omega arith)))
 
 -- the end of a pass is the start of the next
-next_pass : (ctx : Context) (first : FirstColumns) (pass : ℕ) (memory : List (List ℕ)) →
-    FilledUpTo ctx first pass (λ _. begun ctx pass 4) memory →
-    FilledUpTo ctx first (suc pass) (λ _. begun ctx (suc pass) 0) memory
+pub next_pass : (ctx : Context) (first : FirstColumns) (pass : ℕ) (memory : List (List ℕ)) →
+    HasBlocksUpTo ctx first pass (λ _. begun ctx pass 4) memory →
+    HasBlocksUpTo ctx first (suc pass) (λ _. begun ctx (suc pass) 0) memory
 next_pass ctx first pass memory h =
     let s = segment_length ctx in
     let w = turn_count-later_pass ctx pass in
@@ -237,12 +225,12 @@ next_pass ctx first pass memory h =
     }
 
 -- the first passes fill the memory, each slice by its schedule
-pub passes_fill : (ctx : Context) → Sizes ctx →
+passes_fill : (ctx : Context) → Sizes ctx →
     (first : FirstColumns) (schedules : ℕ → ℕ → List ℕ) (passes : ℕ) →
     ((r k : ℕ) → r < passes → k < 4 → IsSchedule ctx r k (schedules r k)) →
     (memory : List (List ℕ)) →
-    FilledUpTo ctx first 0 (λ _. begun ctx 0 0) memory →
-    FilledUpTo ctx first passes (λ _. begun ctx passes 0) (run_passes ctx schedules passes memory)
+    HasBlocksUpTo ctx first 0 (λ _. begun ctx 0 0) memory →
+    HasBlocksUpTo ctx first passes (λ _. begun ctx passes 0) (run_passes ctx schedules passes memory)
 unfolding run_passes
 passes_fill ctx sizes first schedules zero is memory h = h
 passes_fill ctx sizes first schedules (suc r) is memory h =
@@ -253,7 +241,7 @@ passes_fill ctx sizes first schedules (suc r) is memory h =
 
 -- a memory that begins with the first two columns is filled up to there
 pub filled_at_first : (ctx : Context) → Sizes ctx → (first : FirstColumns) (memory : List (List ℕ)) →
-    Begins ctx first memory → FilledUpTo ctx first 0 (λ _. begun ctx 0 0) memory
+    Begins ctx first memory → HasBlocksUpTo ctx first 0 (λ _. begun ctx 0 0) memory
 filled_at_first ctx sizes first memory start =
     let two = sizes.two_columns in
     let w : turn_count ctx 0 0 ≡ segment_length ctx - 2 = refl in
@@ -264,10 +252,10 @@ filled_at_first ctx sizes first memory start =
     }
 
 -- after the last pass the memory is the matrix
-filled_at_last : (ctx : Context) → Sizes ctx →
+pub filled_at_last : (ctx : Context) → Sizes ctx →
     (first : FirstColumns) (passes : ℕ) (memory : List (List ℕ)) → passes ≡ ctx.t_cost →
     0 < passes →
-    FilledUpTo ctx first passes (λ _. begun ctx passes 0) memory → memory ≡ matrix ctx first
+    HasBlocksUpTo ctx first passes (λ _. begun ctx passes 0) memory → memory ≡ matrix ctx first
 unfolding matrix
 filled_at_last ctx sizes first zero memory t some h = absurd (omega arith)
 filled_at_last ctx sizes first (suc r) memory t some h =

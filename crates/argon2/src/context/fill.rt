@@ -2,13 +2,13 @@
 
 ghost use Rattle.std.specs.Prelude.{◌≡◌, ◌+◌, ◌-◌, ◌*◌, ◌^◌, ◌<◌, ◌≤◌, [], length, slice_index, slice_index_or, slice_set};
 ghost use Rattle.argon2_base.specs.Mixing.{mixed};
-ghost use Rattle.argon2.specs.Context.{block_count};
+ghost use Rattle.argon2.specs.Context.{segment_length, block_count};
 ghost use Rattle.argon2.specs.Counting.{segment_calls, slices_calls, mixing_calls};
 ghost use Rattle.argon2.specs.InitialHash.{AreShort, first_block};
 ghost use Rattle.argon2.specs.Laws.{Begins};
-ghost use Rattle.argon2.specs.Positions.{position_index, positions_of_slices, IsFilledFrom, IsRun};
+ghost use Rattle.argon2.specs.Positions.{begun, in_order, position_index, Fills, IsFilledFrom};
 ghost use Rattle.argon2.specs.Recurrence.{previous, FirstColumns};
-ghost use Rattle.argon2.specs.Steps.{in_memory, lane_turns, lanes_in_order, previous_place, reference_place, run_slices, step, word_in, IsStep, IsStepIn};
+ghost use Rattle.argon2.specs.Steps.{in_memory, previous_place, reference_place, step, word_in, IsStep, IsStepIn};
 
 use super::instance::Instance;
 use crate::{Block, Work};
@@ -62,11 +62,11 @@ impl<'a> Instance<'a> {
 
     /// The four slices of a pass.
     fn fill_pass(&self, memory: &mut [Block], positions: &mut [u32], pass: u32, work: &mut Work)
+        requires in_passes { pass < self.now.t_cost }
         requires room { block_count self.now ≤ length memory.old }
         requires count { work.old + slices_calls self.now pass 4 < 2 ^ 127 }
-        ensures memory { memory.new ≡ run_slices self.now (lanes_in_order self.now pass) pass 4 memory.old }
-        ensures positions { positions.new
-            ≡ positions_of_slices self.now (lanes_in_order self.now pass) pass 4 memory.old positions.old }
+        ensures filled { Fills self.now pass (λ _. begun self.now pass 0) (λ _. begun self.now pass 4)
+            memory.old memory.new positions.old positions.new }
         ensures work { work.new ≡ work.old + slices_calls self.now pass 4 }
     {
         for slice in 0..4 {
@@ -83,10 +83,11 @@ impl<'a> Instance<'a> {
         slice: u32,
         work: &mut Work,
     )
+        requires in_passes { pass < self.now.t_cost }
         requires in_slices { slice < 4 }
         requires room { block_count self.now ≤ length memory.old }
         requires count { work.old + self.now.p_cost * segment_calls self.now pass slice < 2 ^ 127 }
-        ensures run { IsRun self.now pass slice (lanes_in_order self.now pass slice)
+        ensures filled { Fills self.now pass (λ _. begun self.now pass slice) (λ _. begun self.now pass (slice + 1))
             memory.old memory.new positions.old positions.new }
         ensures work { work.new ≡ work.old + self.now.p_cost * segment_calls self.now pass slice }
     {
@@ -106,11 +107,13 @@ impl<'a> Instance<'a> {
         lane: u32,
         work: &mut Work,
     )
+        requires in_passes { pass < self.now.t_cost }
         requires in_slices { slice < 4 }
         requires in_lanes { lane < self.now.p_cost }
         requires room { block_count self.now ≤ length memory.old }
         requires count { work.old < 2 ^ 127 }
-        ensures run { IsRun self.now pass slice (lane_turns self.now pass slice lane)
+        ensures filled { Fills self.now pass (in_order self.now pass slice lane (begun self.now pass slice))
+            (in_order self.now pass slice lane ((slice + 1) * segment_length self.now))
             memory.old memory.new positions.old positions.new }
         ensures work { work.new ≡ work.old + segment_calls self.now pass slice }
     {

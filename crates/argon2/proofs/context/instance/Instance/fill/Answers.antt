@@ -1,16 +1,15 @@
-use Rattle.std.proofs.Common.{◌≡◌, suc, refl, sym, ap, ◌∙◌, add-one, arith, subst}
-use Rattle.argon2.specs.Steps.{run_passes, lanes_in_order}
-use Rattle.argon2.specs.Positions.{positions_of_passes, AreReferencePlaces}
+use Rattle.std.proofs.Common.{◌≡◌, suc, ap, ◌∙◌, add-one, arith}
 use Rattle.argon2.specs.Counting.{passes_calls}
 use Rattle.argon2.proofs.schedules.Counts.{passes_calls-le, passes_calls-all, mixing_calls-few}
-use Rattle.argon2.proofs.schedules.Filling.{schedules_fill}
-use Rattle.argon2.proofs.schedules.LaneAfterLane.{ascending_schedule}
-use Rattle.argon2.proofs.schedules.ReferencePlaces.{positions_are_references}
+use Rattle.argon2.proofs.schedules.InOrder.{filled_first, filled_last, filled_next}
 use Rattle.argon2.proofs.context.instance.Instance.fill.Goals as goal
 
 pub loop-pass-init : goal.loop-pass-init
-unfolding run_passes positions_of_passes passes_calls
-loop-pass-init c = record { memory = refl; positions = refl; work = omega arith }
+unfolding passes_calls
+loop-pass-init c = record {
+  filled = λ first begins. filled_first _ c.passes-pass-end.ensures.sizes first _ _ begins;
+  work = omega arith;
+}
 
 pub fill_pass-requires-clause-count : goal.fill_pass-requires-clause-count
 unfolding passes_calls
@@ -24,33 +23,19 @@ fill_pass-requires-clause-count c =
     omega arith
 
 pub loop-pass-preserved : goal.loop-pass-preserved
-unfolding run_passes positions_of_passes passes_calls
+unfolding passes_calls
 loop-pass-preserved c =
-    let memory = c.fill_pass.ensures.memory in
-    let positions = c.fill_pass.ensures.positions in
     let work = c.fill_pass.ensures.work in
     let before = c.loop-pass.invariant in
-    let m = before.memory in
-    let p = before.positions in
-    let w = before.work in
-    rw add-one (record { memory = cc; positions = cc; work = omega arith })
+    let made = before.work in
+    record {
+      filled = λ first begins. filled_next _ first _ _ _ _ (c.fill_pass.ensures.filled first _ (before.filled first begins));
+      work = rw add-one (omega arith);
+    }
 
 pub returns-clause-filled : goal.returns-clause-filled
 returns-clause-filled c = λ first begins.
-    let ctx = c.args.self.now in
-    let sizes = c.passes-pass-end.ensures.sizes in
-    let all : c.loop-pass.pass ≡ ctx.t_cost = omega arith in
-    let is = c.loop-pass.invariant.positions
-    ∙ ap (λ passes. positions_of_passes ctx (lanes_in_order ctx) passes c.args.memory.now c.args.positions.now) all in
-    record {
-      matrix = c.loop-pass.invariant.memory
-          ∙ ap (λ passes. run_passes ctx (lanes_in_order ctx) passes c.args.memory.now) all
-          ∙ schedules_fill ctx sizes sizes.some_pass first _
-          (λ pass slice _ _. ascending_schedule ctx pass slice) c.args.memory.now begins;
-      positions = λ size. subst (AreReferencePlaces ctx first c.args.positions.now) (sym is)
-          (positions_are_references ctx sizes first _
-          (λ pass slice _ _. ascending_schedule ctx pass slice) c.args.memory.now c.args.positions.now begins size);
-    }
+    filled_last _ c.passes-pass-end.ensures.sizes first _ _ _ _ (omega arith) (c.loop-pass.invariant.filled first begins)
 
 pub returns-clause-work : goal.returns-clause-work
 returns-clause-work c =

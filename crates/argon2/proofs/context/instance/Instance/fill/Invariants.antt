@@ -1,12 +1,13 @@
 use Rattle.std.proofs.Common.{◌≡◌, ◌+◌}
-use Rattle.argon2.specs.Steps.{run_passes, lanes_in_order}
-use Rattle.argon2.specs.Positions.{positions_of_passes}
 use Rattle.argon2.specs.Counting.{passes_calls}
+use Rattle.argon2.specs.Laws.{Begins}
+use Rattle.argon2.specs.Positions.{begun, IsFilledUpTo}
+use Rattle.argon2.specs.Recurrence.{FirstColumns}
 use Rattle.argon2.proofs.context.instance.Instance.fill.Given as goal
 
 abbrev pub invariant-loop-pass : goal.invariant-loop-pass
 invariant-loop-pass l = record {
-  memory : l.memory ≡ run_passes l.self (lanes_in_order l.self) l.pass l.fn.memory;
-  positions : l.positions ≡ positions_of_passes l.self (lanes_in_order l.self) l.pass l.fn.memory l.fn.positions;
+  filled : (first : FirstColumns) → Begins l.self first l.fn.memory
+      → IsFilledUpTo l.self first l.pass (λ _. begun l.self l.pass 0) l.memory l.fn.positions l.positions;
   work : l.work ≡ l.fn.work + passes_calls l.self l.pass;
 }

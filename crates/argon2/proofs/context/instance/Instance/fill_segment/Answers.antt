@@ -1,13 +1,15 @@
-use Rattle.std.proofs.Common.{◌≡◌, ℕ, zero, suc, refl, ◌+◌, ◌-◌, ◌*◌, ◌/◌, ◌%◌, ◌<◌, ◌≤◌, ◌≢◌, ◌⊎◌, inl, inr, cond, ◌^◌, replicate, subst, sym, ap, ◌∙◌, arith}
+use Rattle.std.proofs.Common.{◌≡◌, ℕ, zero, suc, refl, ◌+◌, ◌-◌, ◌*◌, ◌/◌, ◌%◌, ◌<◌, ◌≤◌, ◌≢◌, ◌⊎◌, inl, inr, cond, ◌^◌, subst, sym, ap, ◌∙◌, arith}
 use Rattle.std.proofs.lemmas.Bool.Decides.{nat_tests}
+use Rattle.std.proofs.Math.Nat.{mul-le-mul_right}
 use Rattle.std.proofs.lemmas.Nat.{mul-add-lt, mul-le}
 use Rattle.argon2.specs.Context.{Context, Sizes, block_count, segment_length}
 use Rattle.argon2.specs.Recurrence.{addresses_of, is_independent}
-use Rattle.argon2.specs.Steps.{IsStep, run, turn_count}
-use Rattle.argon2.specs.Positions.{positions_of_run}
+use Rattle.argon2.specs.Steps.{IsStep, turn_count}
+use Rattle.argon2.specs.Positions.{begun, in_order, IsFilledUpTo}
 use Rattle.argon2.specs.Counting.{segment_calls}
 use Rattle.argon2.proofs.recurrence.Addresses.{same_addresses, address_mixings, mixings_more}
-use Rattle.argon2.proofs.schedules.LaneAfterLane.{run_turn, positions_of_turn}
+use Rattle.argon2.proofs.recurrence.Sources.{InSlice}
+use Rattle.argon2.proofs.schedules.InOrder.{filled_step}
 use Rattle.argon2.proofs.context.instance.Instance.fill_segment.Goals as goal
 use Rattle.argon2.proofs.context.instance.Instance.fill_segment.Goals.{then-pass-eq0+then-slice-eq0, else-pass-eq0, else-pass-eq0-via-then-pass-eq0+else-slice-eq0, else-pass-eq0-via-else-pass-eq0, then-index-gt0+then-index-eq0, else-index-gt0, else-index-gt0-via-then-index-gt0+else-index-eq0, else-index-gt0-via-else-index-gt0}
 
@@ -35,6 +37,12 @@ a_step ctx pass lane slice segment index l h k is later = record {
   in_columns = in_lane slice segment index (segment_length ctx) h k is;
   later = later;
 }
+
+-- they are of its slice
+a_column : (slice segment index n : ℕ) → slice < 4 → index < segment → segment ≡ n → InSlice n (slice * segment + index) slice
+a_column slice segment index n h k is =
+    let product = ap (λ x. slice * x) is in
+    record { above = omega arith; below = omega arith; whole = mul-le-mul_right n (omega arith); one_of_four = h }
 
 -- and numbers of 32 bits
 column_fits : (ctx : Context) (slice segment index : ℕ) → Sizes ctx → segment ≡ segment_length ctx → slice < 4 → index < segment
@@ -78,6 +86,8 @@ loop-index-init c =
     let two = c.segment_length-segment.ensures.sizes.two_columns in
     let small : c.if-pass-eq0.start ≤ 2 = grind (arith, nat_tests) in
     let turns : segment_length ctx - c.if-pass-eq0.start ≡ turn_count ctx c.args.pass c.args.slice = grind (arith, nat_tests) in
+    let begins : begun ctx c.args.pass c.args.slice ≡ c.args.slice * c.segment_length-segment.result + c.if-pass-eq0.start =
+    (let product = ap (λ x. c.args.slice * x) s in omega arith) in
     let first : (c.if-pass-eq0.start - 1) / 128 ≡ 0 = omega arith in
     let product = ap (λ x. c.args.slice * x) s in
     let column : c.args.slice * c.segment_length-segment.result ≡ c.args.slice * segment_length ctx + 0 = omega arith in
@@ -92,10 +102,9 @@ loop-index-init c =
           | else-pass-eq0-via-else-pass-eq0 v ↦ absurd (v.if-pass-eq0.false first)
         ]
       ];
-      memory = ap (λ n. run ctx c.args.pass c.args.slice (replicate n c.args.lane) c.args.memory.now) turns;
-      positions =
-          ap (λ n. positions_of_run ctx c.args.pass c.args.slice (replicate n c.args.lane) c.args.memory.now c.args.positions.now)
-          turns;
+      filled = λ first old.
+          subst (λ n. IsFilledUpTo ctx first c.args.pass (in_order ctx c.args.pass c.args.slice c.args.lane n)
+          c.args.memory.now old c.args.positions.now) begins;
       addresses = c.addresses-addresses.ensures.block ∙ ap (addresses_of ctx c.args.pass c.args.lane) column
           ∙ same_addresses ctx c.args.pass c.args.lane c.args.slice 0 (c.if-pass-eq0.start - 1) (omega arith) (omega arith)
           (sym first);
@@ -146,15 +155,9 @@ loop-index-preserved c =
     let ctx = c.args.self.now in
     let i = c.loop-index.index in
     let s = c.segment_length-segment.ensures.value in
-    let t = run_turn ctx c.args.pass c.args.slice c.args.lane i c.loop-index.memory (omega arith) in
-    let u = positions_of_turn ctx c.args.pass c.args.slice c.args.lane i c.loop-index.memory c.loop-index.positions
-    (omega arith) in
-    let stepped = c.step-reference.ensures.step in
-    let place = c.step-reference.ensures.place in
-    let put = c.put_position.ensures in
     let before = c.loop-index.invariant in
-    let memory = before.memory in
-    let positions = before.positions in
+    let end : c.args.slice * c.segment_length-segment.result + i + 1 ≡ c.args.slice * c.segment_length-segment.result + (i + 1) =
+    omega arith in
     let same : i ≡ i + 1 - 1 = omega arith in
     let block = addresses_of ctx c.args.pass c.args.lane in
     let mixings : ℕ → ℕ = λ x. cond (is_independent ctx c.args.pass (x / segment_length ctx)) 2 0 in
@@ -163,8 +166,12 @@ loop-index-preserved c =
     let column = column' ∙ ap (λ n. c.args.slice * segment_length ctx + n) same in
     record {
       later = λ first. (let before = c.loop-index.invariant.later first in omega arith);
-      memory = cc;
-      positions = cc;
+      filled = λ first old is.
+          rw (c.put_position.ensures, c.step-reference.ensures.place, c.step-reference.ensures.step, ← end)
+          (filled_step ctx c.segment_length-segment.ensures.sizes first c.args.pass c.args.slice c.args.lane _ _ old _
+          c.requires.in_passes
+          (a_step _ _ _ _ _ _ c.requires.in_lanes c.requires.in_slices c.loop-index-test.true s before.later)
+          (a_column _ _ _ _ c.requires.in_slices c.loop-index-test.true s) (before.filled first old is));
       addresses = elim c.if-index-gt0.branch [
         | then-index-gt0+then-index-eq0 w ↦
             (w.addresses-is ∙ w.addresses-addresses-then-index-eq0.ensures.block ∙ ap block column)
@@ -199,19 +206,15 @@ loop-index-preserved c =
           ];
     }
 
-pub returns-clause-run : goal.returns-clause-run
-unfolding run positions_of_run
-returns-clause-run c =
-    let e : segment_length c.args.self.now - c.loop-index.index ≡ 0 = omega arith in
-    record {
-      memory =
-          sym (ap (λ n. run c.args.self.now c.args.pass c.args.slice (replicate n c.args.lane) c.loop-index.memory) e)
-          ∙ c.loop-index.invariant.memory;
-      positions =
-          sym (ap (λ n. positions_of_run c.args.self.now c.args.pass c.args.slice
-          (replicate n c.args.lane) c.loop-index.memory c.loop-index.positions) e)
-          ∙ c.loop-index.invariant.positions;
-    }
+pub returns-clause-filled : goal.returns-clause-filled
+returns-clause-filled c =
+    let s = c.segment_length-segment.ensures.value in
+    let two = c.segment_length-segment.ensures.sizes.two_columns in
+    let small : c.if-pass-eq0.start ≤ 2 = grind (arith, nat_tests) in
+    let product = ap (λ x. c.args.slice * x) s in
+    let end : c.args.slice * c.segment_length-segment.result + c.loop-index.index
+    ≡ (c.args.slice + 1) * segment_length c.args.self.now = omega arith in
+    rw end at c.loop-index.invariant.filled
 
 pub returns-clause-work : goal.returns-clause-work
 unfolding segment_calls

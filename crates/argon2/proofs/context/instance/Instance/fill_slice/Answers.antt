@@ -1,26 +1,27 @@
-use Rattle.std.proofs.Common.{◌≡◌, arith}
-use Rattle.argon2.proofs.schedules.LaneAfterLane.{run_lane, run_no_lane, positions_of_lane, positions_of_no_lane}
+use Rattle.std.proofs.Common.{arith}
+use Rattle.argon2.proofs.schedules.InOrder.{in_order-first, in_order-last, in_order-next, IsFilledUpTo-like}
 use Rattle.argon2.proofs.context.instance.Instance.fill_slice.Goals as goal
+
+pub loop-lane-init : goal.loop-lane-init
+loop-lane-init c = record {
+  filled = λ first old. IsFilledUpTo-like _ first _ _ _ _ old _ (λ l _. in_order-first c.args.self.now c.args.pass c.args.slice l);
+  work = omega arith;
+}
 
 pub loop-lane-preserved : goal.loop-lane-preserved
 loop-lane-preserved c =
-    let t = run_lane c.args.self.now c.args.pass c.args.slice c.loop-lane.lane c.loop-lane.memory (omega arith) in
-    let u = positions_of_lane c.args.self.now c.args.pass c.args.slice c.loop-lane.lane c.loop-lane.memory c.loop-lane.positions
-    (omega arith) in
-    let memory = c.fill_segment.ensures.run.memory in
-    let positions = c.fill_segment.ensures.run.positions in
     let work = c.fill_segment.ensures.work in
     let before = c.loop-lane.invariant in
-    let m = before.memory in
-    let p = before.positions in
-    let w = before.work in
-    record { memory = cc; positions = cc; work = omega arith }
+    let made = before.work in
+    record {
+      filled = λ first old is.
+          IsFilledUpTo-like _ first _ _ _ _ old _ (λ l _. in_order-next c.args.self.now c.args.pass c.args.slice c.loop-lane.lane l)
+          (c.fill_segment.ensures.filled first old (before.filled first old is));
+      work = omega arith;
+    }
 
-pub returns-clause-run : goal.returns-clause-run
-returns-clause-run c =
-    let all : c.loop-lane.lane ≡ c.args.self.now.p_cost = omega arith in
-    let no_turn = run_no_lane c.args.self.now c.args.pass c.args.slice c.loop-lane.memory in
-    let no_place = positions_of_no_lane c.args.self.now c.args.pass c.args.slice c.loop-lane.memory c.loop-lane.positions in
-    let memory = c.loop-lane.invariant.memory in
-    let positions = c.loop-lane.invariant.positions in
-    record { memory = cc; positions = cc }
+pub returns-clause-filled : goal.returns-clause-filled
+returns-clause-filled c = λ first old is.
+    IsFilledUpTo-like _ first _ _ _ _ old _
+    (λ l below. in_order-last c.args.self.now c.args.pass c.args.slice c.loop-lane.lane l (omega arith))
+    (c.loop-lane.invariant.filled first old is)

@@ -1,0 +1,107 @@
+-- How far the memory and the positions are filled while the lanes of a slice come one after the other.
+use Rattle.std.proofs.Common.{◌≡◌, ℕ, suc, ◌+◌, ◌*◌, ◌<◌, ◌≤◌, ◌≢◌, inl, List, subst, sym, add-one, arith}
+use Rattle.std.specs.Prelude.{◌==◌, nat_lt, slice_set}
+use Rattle.std.proofs.lemmas.Bool.{cond_both}
+use Rattle.std.proofs.lemmas.Bool.Decides.{nat_tests}
+use Rattle.argon2.specs.Context.{Context, Sizes, segment_length}
+use Rattle.argon2.specs.Laws.{Begins}
+use Rattle.argon2.specs.Positions.{begun, in_order, position_index, IsFilledFrom, IsFilledUpTo}
+use Rattle.argon2.specs.Recurrence.{FirstColumns}
+use Rattle.argon2.specs.Steps.{Memory, IsStep, reference_place, step}
+use Rattle.argon2.proofs.recurrence.Sources.{InSlice}
+use Rattle.argon2.proofs.schedules.Filling.{filled_at_first, filled_at_last, next_pass, step_answers, step_fills, turn_count-later_slice, HasBlocksUpTo-like}
+use Rattle.argon2.proofs.schedules.ReferencePlaces.{first_positions, next_positions, step_positions, HasPositionsUpTo-like}
+use Rattle.argon2.proofs.schedules.Schedules.{turn_count-le}
+
+-- counts of made columns that agree say the same
+pub IsFilledUpTo-like : (ctx : Context) (first : FirstColumns) (pass : ℕ) (done done' : ℕ → ℕ) (memory : Memory)
+    (old new : List ℕ) → ((l : ℕ) → l < ctx.p_cost → done l ≡ done' l)
+    → IsFilledUpTo ctx first pass done memory old new → IsFilledUpTo ctx first pass done' memory old new
+IsFilledUpTo-like ctx first pass done done' memory old new same is = record {
+  blocks = HasBlocksUpTo-like ctx first pass done done' memory same is.blocks;
+  positions = λ size. HasPositionsUpTo-like ctx first pass done done' old new same (is.positions size);
+}
+
+-- a slice begins with its first lane
+pub in_order-first : (ctx : Context) (pass slice l : ℕ)
+    → begun ctx pass slice ≡ in_order ctx pass slice 0 (begun ctx pass slice) l
+in_order-first ctx pass slice l = grind (arith, nat_tests)
+
+-- a lane that is done is followed by the next
+pub in_order-next : (ctx : Context) (pass slice lane l : ℕ)
+    → in_order ctx pass slice lane ((slice + 1) * segment_length ctx) l
+    ≡ in_order ctx pass slice (lane + 1) (begun ctx pass slice) l
+in_order-next ctx pass slice lane l = grind (arith, nat_tests)
+
+-- a slice whose lanes are done is followed by the next
+pub in_order-last : (ctx : Context) (pass slice lane l : ℕ) → l < lane
+    → in_order ctx pass slice lane (begun ctx pass slice) l ≡ begun ctx pass (slice + 1)
+in_order-last ctx pass slice lane l below = let turns = turn_count-later_slice ctx pass slice in grind (arith, nat_tests)
+
+-- in a slice each lane has the columns before it, and none behind it
+in_order-within : (ctx : Context) (pass slice lane column l : ℕ) → InSlice (segment_length ctx) column slice
+    → (slice * segment_length ctx ≤ in_order ctx pass slice lane column l)
+    × (in_order ctx pass slice lane column l ≤ (slice + 1) * segment_length ctx)
+in_order-within ctx pass slice lane column l here =
+    let s = segment_length ctx in
+    let low = here.above in
+    let high = here.below in
+    let few = turn_count-le ctx pass slice in
+    let Within = λ (n : ℕ). (slice * s ≤ n) × (n ≤ (slice + 1) * s) in
+    cond_both (nat_lt l lane) _ _ Within (λ _. (omega arith, omega arith))
+    (λ _. cond_both (l == lane) _ _ Within (λ _. (omega arith, omega arith)) (λ _. (omega arith, omega arith)))
+
+-- a step fills a column more of its lane
+pub filled_step : (ctx : Context) → Sizes ctx → (first : FirstColumns) (pass slice lane column : ℕ) (memory : Memory)
+    (old new : List ℕ) → pass < ctx.t_cost → IsStep ctx pass lane column → InSlice (segment_length ctx) column slice
+    → IsFilledUpTo ctx first pass (in_order ctx pass slice lane column) memory old new
+    → IsFilledUpTo ctx first pass (in_order ctx pass slice lane (column + 1)) (step ctx memory pass lane column) old
+    (slice_set new (position_index ctx pass lane column) (reference_place ctx memory pass lane column))
+filled_step ctx sizes first pass slice lane column memory old new t st here is =
+    let done = in_order ctx pass slice lane column in
+    let done' = in_order ctx pass slice lane (column + 1) in
+    let now : done lane ≡ column = grind (arith, nat_tests) in
+    let then' : done' lane ≡ suc column = grind (arith, nat_tests) in
+    let others : (l : ℕ) → l ≢ lane → done' l ≡ done l = λ l ne. grind (arith, nat_tests) in
+    let within : (l : ℕ) → l < ctx.p_cost → (slice * segment_length ctx ≤ done l) × (done l ≤ (slice + 1) * segment_length ctx) =
+    λ l _. in_order-within ctx pass slice lane column l here in
+    let place = step_answers ctx sizes first pass lane column slice done memory st here now within is.blocks in
+    record {
+      blocks = step_fills ctx sizes first pass lane column slice done done' memory st here now then' others within is.blocks;
+      positions = λ size. step_positions ctx sizes first pass lane column done done' old new _ st t place now then' others
+          (is.positions size);
+    }
+
+-- ---- from the first columns to the matrix
+
+-- the first two columns are where pass 0 begins
+pub filled_first : (ctx : Context) → Sizes ctx → (first : FirstColumns) (memory : Memory) (positions : List ℕ)
+    → Begins ctx first memory → IsFilledUpTo ctx first 0 (λ _. begun ctx 0 0) memory positions positions
+filled_first ctx sizes first memory positions begins = record {
+  blocks = filled_at_first ctx sizes first memory begins;
+  positions = first_positions ctx sizes first positions;
+}
+
+-- the end of a pass is the start of the next
+pub filled_next : (ctx : Context) (first : FirstColumns) (pass : ℕ) (memory : Memory) (old new : List ℕ)
+    → IsFilledUpTo ctx first pass (λ _. begun ctx pass 4) memory old new
+    → IsFilledUpTo ctx first (pass + 1) (λ _. begun ctx (pass + 1) 0) memory old new
+filled_next ctx first pass memory old new is =
+    subst (λ n. IsFilledUpTo ctx first n (λ _. begun ctx n 0) memory old new) (sym (add-one pass)) (record {
+      blocks = next_pass ctx first pass memory is.blocks;
+      positions = λ size. next_positions ctx first pass old new (is.positions size);
+    })
+
+-- after all passes stand the matrix and all references
+pub filled_last : (ctx : Context) → Sizes ctx → (first : FirstColumns) (passes : ℕ) (memory : Memory) (old new : List ℕ)
+    → passes ≡ ctx.t_cost → IsFilledUpTo ctx first passes (λ _. begun ctx passes 0) memory old new
+    → IsFilledFrom ctx first memory old new
+filled_last ctx sizes first passes memory old new all is =
+    let some = sizes.some_pass in
+    record {
+      matrix = filled_at_last ctx sizes first passes memory all (omega arith) is.blocks;
+      positions = λ size. record {
+        of_steps = λ pass lane column t st. (is.positions size).of_steps pass lane column t st (inl (omega arith));
+        of_first_columns = (is.positions size).of_first_columns;
+      };
+    }
