@@ -39,7 +39,6 @@ pub mod Settings
 pub mod Shape
 pub mod Steps
 pub mod Stored
-pub mod StoredHash
 pub mod Tag
 pub mod Version
 pub use Rattle.argon2_base.specs.declared as base_declared

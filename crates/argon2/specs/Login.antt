@@ -1,5 +1,5 @@
 -- The login store: what callers see of it, and what each call does.
-use Rattle.std.specs.Prelude.{◌≡◌, ℕ, ◌<◌, List, map, String, string_bytes, Option, Some, None, IsSome, IsSomeAnd, Result, Ok, Err}
+use Rattle.std.specs.Prelude.{◌≡◌, ◌≢◌, ℕ, ◌<◌, List, [], ◌∷◌, map, String, string_bytes, Option, Some, None, IsSome, IsSomeAnd, Result, Ok, Err}
 use Rattle.std.specs.BTreeMap.{BTreeMap}
 use Rattle.std.specs.FinMap.{FinMap, empty, from_entries, get, insert}
 use Rattle.std.specs.Ordering.{nat_cmp}
@@ -38,7 +38,16 @@ store_of login = values_of login.texts
 
 -- what it renews them by
 abbrev pub target_of : Login → Target
-target_of login = made_under.target_of login.target
+target_of login = made_under.target_of login.target.argon2
+
+-- texts that are given to names, one after the other
+abbrev pub added : List (List ℕ × Phc) → Store → Store
+added [] store = store
+added (e ∷ es) store = added es (insert store e.0 e.1)
+
+-- the texts of all other names stay
+abbrev pub KeepsOthers : List ℕ → Store → Store → Type 0
+KeepsOthers name before after = (other : List ℕ) → other ≢ name → get after other ≡ get before other
 
 -- a store without names, of a target whose hashes fit into texts, or the refusal of longer ones
 abbrev pub IsNew : Target → Result Login HashError → Type 0

@@ -1,20 +1,20 @@
 //! A login store that renews old texts: names with PHC texts, and what new texts are made under.
 
-ghost use Rattle.std.specs.Prelude.{◌≡◌, ◌⊎◌, Some, Ok, OnOk, MatchResult};
-ghost use Rattle.std.specs.FinMap.{entries, get};
-ghost use Rattle.std.specs.Option.{option_copied, option_map};
+ghost use Rattle.std.specs.Prelude.{◌≡◌, ◌≢◌, ◌⊎◌, ℕ, List, Some, IfOk, OnOk, MatchResult};
+ghost use Rattle.std.specs.FinMap.{empty, entries, get};
+ghost use Rattle.std.specs.Option.{IsSomeAnd, option_copied, option_map};
 ghost use Rattle.rand_core.specs.Stream.{fill_bytes};
 ghost use Rattle.argon2_base.specs.PasswordHash.{phc_of};
 ghost use Rattle.argon2_base.specs.PhcText.{Phc, PhcText};
 ghost use Rattle.argon2_base.specs.declared.error.password_hash.Error.TheVariants.{OutOfMemory as NoMemory};
+ghost use Rattle.argon2.specs.declared.login.answers.Accepted.TheVariants.{Kept};
 ghost use Rattle.argon2.specs.declared.login.answers.LoginError.TheVariants.{Refused};
-ghost use Rattle.argon2.specs.Login.{AcceptedStep, HasPassword, IsCurrent, IsNew, Steps, adding, logging_in, named_values, store_of, stream_after, target_of};
+ghost use Rattle.argon2.specs.Login.{HasPassword, IsCurrent, IsNew, KeepsOthers, Steps, added, adding, logging_in, named_values, store_of, stream_after, target_of};
 ghost use Rattle.argon2.specs.Made as made_under;
 
 use crate::context::Argon2;
-use crate::params::Params;
-use crate::password_hash::{Error, PasswordHasher, PasswordVerifier, Result};
-use argon2_base::phc::{Output, PasswordHash};
+use crate::password_hash::Result;
+use argon2_base::phc::PasswordHash;
 use rand_core::Rng;
 use std::alloc::Global;
 use std::collections::BTreeMap;
@@ -22,19 +22,19 @@ use std::collections::btree_map::Iter;
 use std::result::Result as Outcome;
 
 mod answers;
-mod current;
 mod runs;
+mod target;
 
 pub use answers::{Accepted, LoginError};
-use current::is_current;
 pub use runs::login_runs;
+use target::Target;
 
 /// Names with their texts, and a target: the settings and the secret that texts are verified and
 /// made anew under.
 #[derive(Drop)]
 pub struct Login<'key> {
     alloc: Global,
-    target: Argon2<'key>,
+    target: Target<'key>,
     texts: BTreeMap<String, PasswordHash>,
 }
 
@@ -47,14 +47,9 @@ impl<'key> Login<'key> {
     pub fn new(alloc: Global, target: Argon2<'key>) -> Result<Login<'key>>
         ensures { IsNew (made_under.target_of target.entry) result }
     {
-        let len = target.params().output_len();
-        if len.unwrap_or(Params::DEFAULT_OUTPUT_LEN) > Output::MAX_LENGTH {
-            return Err(Error::OutputSize);
-        }
-        target.know_target();
         Ok(Login {
             alloc,
-            target,
+            target: Target::new(target)?,
             texts: BTreeMap::new(alloc),
         })
     }
@@ -69,6 +64,7 @@ impl<'key> Login<'key> {
     pub fn add(&mut self, name: &str, text: &str) -> Outcome<(), LoginError>
         ensures step { Steps (adding name.now text.now result) self.old self.new }
         ensures text { OnOk result ((v : Phc) → PhcText text.now v → get (store_of self.new) name.now ≡ Some v) }
+        ensures others { KeepsOthers name.now (store_of self.old) (store_of self.new) }
         ensures target { target_of self.new ≡ target_of self.old }
     {
         let Ok(parsed) = PasswordHash::new(text) else {
@@ -109,40 +105,16 @@ impl<'key> Login<'key> {
             (λ _. HasPassword (target_of self.old) (store_of self.new) name.now password.now)
             (λ e. (e ≡ Refused NoMemory)
             ⊎ (HasPassword (target_of self.old) (store_of self.old) name.now password.now → ⊥)) }
+        ensures current { IfOk result (λ accepted. accepted ≢ Kept →
+            IsSomeAnd (get (store_of self.new) name.now) (IsCurrent (target_of self.new))) }
+        ensures others { KeepsOthers name.now (store_of self.old) (store_of self.new) }
         ensures drawn { R.stream rng.new ≡ stream_after result (R.stream rng.old) }
         ensures target { target_of self.new ≡ target_of self.old }
     {
-        let Some(text) = self.texts.get(name) else {
+        let Some(text) = self.texts.get_mut(name) else {
             return Err(LoginError::NameUnknown);
         };
-        if let Err(e) = self.target.verify_password(self.alloc, password, text) {
-            return Err(LoginError::Refused(e));
-        }
-        if is_current(&self.target, text) {
-            return Ok(Accepted::Current);
-        }
-        Ok(self.renew(rng, name, password))
-    }
-
-    // Writes a fresh text over the one of a name.
-    fn renew<R: Rng>(&mut self, rng: &mut R, name: &str, password: &[u8]) -> Accepted
-        ensures step { (v : Phc) → ¬ (IsCurrent (target_of self.old) v) →
-            AcceptedStep (target_of self.old) (store_of self.old) name.now password.now
-            (fill_bytes 16 (R.stream rng.old)).0 v result (store_of self.new) }
-        ensures accepted { HasPassword (target_of self.old) (store_of self.old) name.now password.now →
-            HasPassword (target_of self.old) (store_of self.new) name.now password.now }
-        ensures drawn { R.stream rng.new ≡ stream_after (Ok result) (R.stream rng.old) }
-        ensures target { target_of self.new ≡ target_of self.old }
-    {
-        let Ok(fresh) = self.target.hash_password(self.alloc, rng, password) else {
-            return Accepted::Kept;
-        };
-        let Some(text) = self.texts.get_mut(name) else {
-            return Accepted::Kept;
-        };
-        self.target.know_target();
-        *text = fresh;
-        Accepted::Rehashed
+        self.target.log_in(self.alloc, rng, text, password)
     }
 
     /// The text of a name, where it has one.
@@ -155,7 +127,8 @@ impl<'key> Login<'key> {
     /// The names and their texts, in the order of the names' bytes. A store to which
     /// [`add`](Login::add) gives all of them has the same texts.
     pub fn texts(&self) -> Iter<'_, String, PasswordHash>
-        ensures { named_values result ≡ entries (store_of self.now) }
+        ensures texts { named_values result ≡ entries (store_of self.now) }
+        ensures again { added (named_values result) empty ≡ store_of self.now }
     {
         self.texts.iter()
     }

@@ -1,6 +1,6 @@
 //! Parameters of a hash (RFC 9106, section 3.1), and their builder.
 
-ghost use Rattle.std.specs.Prelude.{IsNone};
+ghost use Rattle.std.specs.Prelude.{◌<◌, ◌^◌, IsNone};
 ghost use Rattle.argon2.specs.Parameters.{first_fault};
 
 use argon2_base::error::{Error, Result};
@@ -24,10 +24,12 @@ pub struct Params {
     associated: AssociatedData,
     output_len: Option<usize>,
     ghost valid: { IsNone (first_fault m_cost t_cost p_cost output_len) },
+    ghost memory: { m_cost < 2 ^ 32 },
+    ghost passes: { t_cost < 2 ^ 32 },
 }
 
 impl Params {
-    ghost use Rattle.std.specs.Prelude.{◌≡◌, ◌<◌, ◌≤◌, ◌^◌};
+    ghost use Rattle.std.specs.Prelude.{◌≡◌, ◌≤◌};
     ghost use Rattle.argon2.specs.ByteLists.{AreBytes};
     ghost use Rattle.argon2.specs.Parameters.{plain};
     ghost use Rattle.argon2.specs.Params.{parameters_of, IsParamsOf, IsSetting};

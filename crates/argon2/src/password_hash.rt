@@ -1,6 +1,6 @@
 //! Hashing passwords to PHC texts, and verifying passwords against them.
 
-ghost use Rattle.std.specs.Prelude.{◌≡◌, ◌⊎◌, ℕ, List, Option, option_copied, MatchResult, IfOk, Result as Outcome};
+ghost use Rattle.std.specs.Prelude.{◌≡◌, ◌⊎◌, ℕ, List, length, Option, option_copied, MatchResult, IfOk, Result as Outcome};
 ghost use Rattle.argon2_base.specs.declared.error.password_hash.Error.{Error};
 ghost use Rattle.argon2_base.specs.declared.error.password_hash.Error.TheVariants.{OutOfMemory};
 ghost use Rattle.rand_core.specs.Stream.{fill_bytes};
@@ -12,6 +12,8 @@ use std::alloc::Global;
 mod hashing;
 mod stored;
 mod verifying;
+
+pub use stored::{Settings, Stored};
 
 /// Hashes passwords.
 pub trait PasswordHasher<H> {
@@ -47,7 +49,8 @@ pub trait PasswordHasher<H> {
         ensures answer { hash_gives self.now password.now (fill_bytes 16 (R.stream rng.old)).0 result }
         ensures accepted { IfOk result (accepts self.now password.now) }
         ensures shown { IfOk result (shows self.now) }
-        ensures drawn { R.stream rng.new ≡ (fill_bytes 16 (R.stream rng.old)).1 };
+        ensures drawn { R.stream rng.new ≡ (fill_bytes 16 (R.stream rng.old)).1 }
+        ensures salt { length (fill_bytes 16 (R.stream rng.old)).0 ≡ 16 };
 }
 
 /// Hashes passwords under an algorithm, a version and parameters of the caller's.

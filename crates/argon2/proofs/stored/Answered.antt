@@ -1,55 +1,19 @@
--- What verifying answers, by its steps.
-use Rattle.std.proofs.Common.{◌≡◌, ℕ, ◌<◌, ◌≤◌, Bool, List, length, Option, Some, None, Result, Ok, Err, inl, inr, ◌⊎◌, refl, sym, ap, ◌∙◌}
-use Rattle.std.proofs.lemmas.Bool.{le-leb, lt-leb}
-use Rattle.std.specs.Cmp.Lexicographic.{nat_list_eq_equiv}
+-- What reading a stored value gives.
+use Rattle.std.proofs.Common.{◌≡◌, ℕ, List, length, Option, Some, None, Result, Ok, Err, refl, sym, ap, ◌∙◌}
 use Rattle.std.specs.Option.{option_map}
-use Rattle.std.specs.Prelude.{codes, if◌then◌else◌}
+use Rattle.std.specs.Prelude.{codes}
 use Rattle.std.specs.Result.{IsErrAnd}
-use Rattle.std.specs.Str.{bytes_eq}
 use Rattle.argon2_base.specs.Error.{Fault, bad_algorithm, bad_password, bad_version, fault_of, outcome_of}
 use Rattle.argon2_base.specs.ParamsText.{Pair}
 use Rattle.argon2_base.specs.PhcText.{Phc}
 use Rattle.argon2_base.specs.declared.error.password_hash.Error.{Error}
-use Rattle.argon2_base.specs.declared.error.password_hash.Error.TheVariants.{OutOfMemory, PasswordInvalid}
-use Rattle.argon2.specs.Accepts.{IsVerifyAnswer}
 use Rattle.argon2.specs.declared.algorithm.Algorithm.{Algorithm}
 use Rattle.argon2.specs.declared.version.Version.{Version}
 use Rattle.argon2.specs.Algorithm.{algorithm_named}
-use Rattle.argon2.specs.Context.{context_with}
 use Rattle.argon2.specs.ListedParameters.{bytes_at, checked, items_fault, number_at, params_of, with_costs}
 use Rattle.argon2.specs.Parameters.{Parameters}
-use Rattle.argon2.specs.Stored.{Stored, stored_of, version_shown}
-use Rattle.argon2.specs.Tag.{tag_of}
-
-module _ (secret password : List ℕ) (v : Phc) where
-  -- a value that nothing can be verified by has its fault
-  pub unread : (e : Error) (r : Result (Unit {0}) Error) → Err (fault_of e) ≡ stored_of v → IsErrAnd r (λ f. f ≡ e)
-      → IsVerifyAnswer secret password v r
-  unread e (Ok _) is h = absurd h
-  unread e (Err f) is h = inl (rw (h, ← is) refl)
-
-  module _ (stored : Stored) (is : Ok stored ≡ stored_of v) where
-    -- no tag was made
-    pub untagged : (e : Error) (r : Result (Unit {0}) Error)
-        → (e ≡ OutOfMemory) ⊎ ((e ≡ PasswordInvalid) × (4294967295 < length password)) → IsErrAnd r (λ f. f ≡ e)
-        → IsVerifyAnswer secret password v r
-    untagged e (Ok _) why h = absurd h
-    untagged e (Err f) (inl memory) h = inr (rw (h, memory) refl, rw (← is) refl)
-    untagged e (Err f) (inr why) h =
-        inl (rw (h, why.0, ← is, lt-leb (length password) 4294967295 why.1) refl)
-
-    -- the tag was compared
-    pub compared : (key salt tag : List ℕ) (n : ℕ) (b : Bool) (r : Result (Unit {0}) Error)
-        → key ≡ secret → salt ≡ stored.salt → n ≡ length stored.hash
-        → (length password ≤ 4294967295) × (tag ≡ tag_of (context_with stored.settings key) password salt n)
-        → b ≡ bytes_eq tag stored.hash → outcome_of (λ x. x) r ≡ (if b then Ok tt else Err bad_password)
-        → IsVerifyAnswer secret password v r
-    compared key salt tag n b r same_key same_salt same_length made test answer =
-        let made_of = rw (same_key, same_salt, same_length) at made.1 in
-        let same = sym (test ∙ nat_list_eq_equiv.symm tag stored.hash) in
-        inl (answer ∙ rw (← is, le-leb (length password) 4294967295 made.0, ← made_of, same) refl)
-
--- ---- what a value is verified by
+use Rattle.argon2.specs.Settings.{Settings}
+use Rattle.argon2.specs.Stored.{Stored, found, read, shown_settings, stored_of, version_shown}
 
 -- a fault that was passed on
 pub passed_on : {A X : Type 0} (view : A → X) (e : Error) (r : Result A Error) → IsErrAnd r (λ f. f ≡ e)
@@ -70,28 +34,41 @@ costs_length None (Some m) (Some t) None keyid associated output_len q is = absu
 costs_length None (Some m) (Some t) (Some p) keyid associated output_len q is = checked_length _ _ q is
 
 -- parameters that are read have the length that is given
-pub read_length : (output_len : Option ℕ) (ps : List Pair) (q : Parameters) → Ok q ≡ params_of output_len ps
+read_length : (output_len : Option ℕ) (ps : List Pair) (q : Parameters) → Ok q ≡ params_of output_len ps
     → q.output_len ≡ output_len
 read_length output_len ps q is =
     costs_length (items_fault ps) (number_at (codes "m") ps) (number_at (codes "t") ps) (number_at (codes "p") ps)
     (bytes_at 8 (codes "keyid") ps) (bytes_at 32 (codes "data") ps) output_len q is
 
-module _ (v : Phc) (salt hash : List ℕ) (has_salt : v.salt ≡ Some salt) (has_hash : v.hash ≡ Some hash) where
-  pub no_parameters : (fault : Fault) → Err fault ≡ params_of (option_map length v.hash) v.params → Err fault ≡ stored_of v
-  no_parameters fault is = rw (has_salt, has_hash, ← (rw has_hash at is)) refl
+shown_length_with : (r : Result Parameters Fault) (algorithm : Option Algorithm) (version : Option Version)
+    (output_len : Option ℕ) (settings : Settings) → ((q : Parameters) → Ok q ≡ r → q.output_len ≡ output_len)
+    → Ok settings ≡ read r (λ parameters. found algorithm bad_algorithm (λ own. found version bad_version (λ number.
+    Ok (record { algorithm = own; version = number; parameters = parameters }))))
+    → settings.parameters.output_len ≡ output_len
+shown_length_with (Err fault) algorithm version output_len settings same is = absurd cc
+shown_length_with (Ok q) None version output_len settings same is = absurd cc
+shown_length_with (Ok q) (Some own) None output_len settings same is = absurd cc
+shown_length_with (Ok q) (Some own) (Some number) output_len settings same is =
+    let shown : settings ≡ record { algorithm = own; version = number; parameters = q } = cc in
+    ap (λ (s : Settings). s.parameters.output_len) shown ∙ same q refl
 
-  module _ (parameters : Parameters) (is : Ok parameters ≡ params_of (option_map length v.hash) v.params) where
-    pub no_algorithm : algorithm_named v.algorithm ≡ None → Err bad_algorithm ≡ stored_of v
-    no_algorithm none = rw (has_salt, has_hash, ← (rw has_hash at is), none) refl
+-- settings that a value shows have the length of its hash
+pub shown_length : (v : Phc) (settings : Settings) → Ok settings ≡ shown_settings v
+    → settings.parameters.output_len ≡ option_map length v.hash
+shown_length v settings is = shown_length_with (params_of (option_map length v.hash) v.params)
+    (algorithm_named v.algorithm) (version_shown v.version) (option_map length v.hash) settings
+    (read_length (option_map length v.hash) v.params) is
 
-    module _ (algorithm : Algorithm) (named : algorithm_named v.algorithm ≡ Some algorithm) where
-      pub no_version : version_shown v.version ≡ None → Err bad_version ≡ stored_of v
-      no_version none = rw (has_salt, has_hash, ← (rw has_hash at is), named, none) refl
-
-      pub found_whole : (version : Version) → version_shown v.version ≡ Some version
-          → Ok (record {
-            settings = record { algorithm = algorithm; version = version; parameters = parameters };
-            salt = salt;
-            hash = hash;
-          }) ≡ stored_of v
-      found_whole version shown = rw (has_salt, has_hash, ← (rw has_hash at is), named, shown) refl
+-- what a value is verified by has the settings that it shows
+pub stored_shows : (v : Phc) (stored : Stored) → Ok stored ≡ stored_of v → shown_settings v ≡ Ok stored.settings
+stored_shows v stored is = from v.salt v.hash (shown_settings v) is
+  where
+    from : (salt hash : Option (List ℕ)) (r : Result Settings Fault) → Ok stored ≡ found salt bad_password (λ s.
+        found hash bad_password (λ h. read r (λ settings. Ok (record { settings = settings; salt = s; hash = h }))))
+        → r ≡ Ok stored.settings
+    from None hash r e = absurd cc
+    from (Some s) None r e = absurd cc
+    from (Some s) (Some h) (Err fault) e = absurd cc
+    from (Some s) (Some h) (Ok own) e =
+        let same : stored ≡ record { settings = own; salt = s; hash = h } = cc in
+        ap (λ (it : Stored). Ok it.settings) (sym same)

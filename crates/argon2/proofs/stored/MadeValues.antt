@@ -2,7 +2,10 @@
 use Rattle.std.proofs.Common.{◌≡◌, ℕ, ◌^◌, ◌<◌, ◌≤◌, true, List, length, Option, Some, None, Result, Ok, refl, sym, ap, arith}
 use Rattle.std.specs.Prelude.{IsNone, unwrap_or}
 use Rattle.std.proofs.lemmas.Bool.Decides.{nat_tests}
+use Rattle.std.proofs.lemmas.List.{length-take}
 use Rattle.argon2_base.specs.Base64.{IsBytes}
+use Rattle.argon2_base.specs.ByteList.{list_bytes}
+use Rattle.argon2_base.specs.declared.byte_list.ByteList.{ByteList}
 use Rattle.argon2_base.specs.Names.{is_name}
 use Rattle.argon2_base.specs.ParamsText.{Pair}
 use Rattle.argon2_base.specs.declared.error.Error.{Error}
@@ -13,10 +16,12 @@ use Rattle.argon2.specs.declared.algorithm.Algorithm.TheVariants.{Argon2d, Argon
 use Rattle.argon2.specs.declared.version.Version.{Version}
 use Rattle.argon2.specs.declared.version.Version.TheVariants.{V0x10, V0x13}
 use Rattle.argon2.specs.Accepts.{Accepts, AcceptsBy}
+use Rattle.argon2.specs.declared.context.Argon2.{Argon2}
+use Rattle.argon2.specs.Argon2.{settings_of}
 use Rattle.argon2.specs.Algorithm.{algorithm_name}
 use Rattle.argon2.specs.Context.{context_with}
 use Rattle.argon2.specs.ListedParameters.{list_of, params_of}
-use Rattle.argon2.specs.Made.{Target, IsTarget, tag_length, sized, made}
+use Rattle.argon2.specs.Made.{Target, IsTarget, target_of, tag_length, sized, made}
 use Rattle.argon2.specs.Parameters.{Parameters, first_fault}
 use Rattle.argon2.specs.Stored.{shown_settings}
 use Rattle.argon2.specs.Tag.{tag_of}
@@ -30,9 +35,22 @@ none_of : {X : Type 0} (o : Option X) → IsNone o → o ≡ None
 none_of None h = refl
 none_of (Some x) h = absurd cc
 
--- bytes, and at most so many
-pub at_most : (most : ℕ) (a b : List ℕ) → a ≡ b → IsBytes a → length b ≤ most → HasBytes 0 most b
-at_most most a b e bytes fits = (rw e at bytes, omega arith, fits)
+kept : (n : ℕ) (list : ByteList n) → length (list_bytes list) ≤ n
+kept n list =
+    let is = length-take list.len list.bytes in
+    let fits = list.fits in
+    omega (arith, is)
+
+-- what an `Argon2` makes hashes under is a target where their length fits
+pub is_target : (argon2 : Argon2) → tag_length (settings_of argon2) ≤ 64 → IsTarget (target_of argon2)
+is_target argon2 fits = record {
+  valid = argon2.params.valid;
+  m_cost = argon2.params.memory;
+  t_cost = argon2.params.passes;
+  keyid = (argon2.params.keyid.are_bytes, omega arith, kept 8 argon2.params.keyid.bytes);
+  associated = (argon2.params.associated.are_bytes, omega arith, kept 32 argon2.params.associated.bytes);
+  tag_length = fits;
+}
 
 -- why parameters are refused with this output length
 abbrev fault_with : Parameters → Option ℕ → Option Error

@@ -2,6 +2,7 @@
 use Rattle.std.proofs.Common.{◌≡◌, ℕ, ◌≤◌, ◌&&◌, Bool, true, false, List, length, Option, Some, None, Result, Ok, Err, inl, inr, ◌⊎◌, refl, sym, subst, leb}
 use Rattle.std.proofs.lemmas.Bool.{le-leb, leb-true}
 use Rattle.std.proofs.lemmas.Slice.Eq.{bytes_eq-Decides}
+use Rattle.std.specs.Option.{option_map}
 use Rattle.std.specs.Prelude.{if◌then◌else◌, MatchResult}
 use Rattle.argon2_base.specs.Error.{Fault, bad_algorithm, bad_password, bad_version, fault_of, no_memory}
 use Rattle.argon2_base.specs.declared.error.password_hash.Error.{Error}
@@ -56,21 +57,18 @@ accepted_if false h = absurd cc
 -- what is stored with a salt and a hash, with what else it takes as arguments
 abbrev stored_with : List ℕ → List ℕ → Result Parameters Fault → Option Variant → Option Numbered → Result Stored Fault
 stored_with salt hash rp oa ov =
-    read rp (λ parameters.
+    read (read rp (λ parameters.
     found oa bad_algorithm (λ algorithm.
     found ov bad_version (λ version.
-    Ok (record {
-      settings = record { algorithm = algorithm; version = version; parameters = parameters };
-      salt = salt;
-      hash = hash;
-    }))))
+    Ok (record { algorithm = algorithm; version = version; parameters = parameters })))))
+    (λ settings. Ok (record { settings = settings; salt = salt; hash = hash }))
 
 -- the same of what may have neither
 abbrev stored_from : Phc → Option (List ℕ) → Option (List ℕ) → Result Stored Fault
 stored_from v os oh =
     found os bad_password (λ salt.
     found oh bad_password (λ hash.
-    stored_with salt hash (params_of (Some (length hash)) v.params) (algorithm_named v.algorithm) (version_shown v.version)))
+    stored_with salt hash (params_of (option_map length oh) v.params) (algorithm_named v.algorithm) (version_shown v.version)))
 
 module _ (secret password : List ℕ) (v : Phc) where
   accepts_with : (salt hash : List ℕ) (rp : Result Parameters Fault) (oa : Option Variant) (ov : Option Numbered)

@@ -1,6 +1,8 @@
 //! Associated data.
 
 ghost use Rattle.std.specs.Prelude.{◌≡◌, ◌↔◌, [], IsTrue, length};
+ghost use Rattle.argon2_base.specs.Base64.{IsBytes};
+ghost use Rattle.argon2_base.specs.ByteList.{list_bytes};
 
 use argon2_base::byte_list::ByteList;
 use argon2_base::error::{Error, Result};
@@ -12,6 +14,7 @@ use std::str::FromStr;
 #[derive(Clone, Copy, Debug, PartialEq, Eq, PartialOrd, Ord, Hash)]
 pub struct AssociatedData {
     bytes: ByteList<32>,
+    ghost are_bytes: { IsBytes (list_bytes bytes) },
 }
 
 impl AssociatedData {

@@ -1,12 +1,11 @@
 //! Hashing under the settings of an `Argon2`.
 
 ghost use Rattle.std.specs.Prelude.{option_copied};
-ghost use Rattle.argon2_base.specs.Base64.{IsBytes};
 ghost use Rattle.argon2_base.specs.Error.{bad_algorithm, bad_version};
 ghost use Rattle.argon2.specs.ListedParameters.{IsValueOr};
 ghost use Rattle.argon2.specs.Made.{algorithm_asked, version_asked};
 
-use super::{CustomizedPasswordHasher, Error, PasswordHasher, Result};
+use super::{CustomizedPasswordHasher, Error, PasswordHasher, Result, Settings};
 use crate::algorithm::Algorithm;
 use crate::context::Argon2;
 use crate::params::Params;
@@ -18,9 +17,10 @@ use std::alloc::Global;
 impl<'key> Argon2<'key> {
     ghost use Rattle.std.specs.Prelude.{◌≡◌, ◌≤◌, IfOk, length};
     ghost use Rattle.argon2_base.specs.Error.{outcome_of};
-    ghost use Rattle.argon2.specs.Argon2.{settings_of, settings_with, secret_of, IsWith};
-    ghost use Rattle.argon2.specs.Made.{settings_asked, tag_length, target_of, IsTagAnswer, IsTarget};
+    ghost use Rattle.argon2.specs.Argon2.{settings_of, secret_of, IsWith};
+    ghost use Rattle.argon2.specs.Made.{settings_asked, tag_length, IsTagAnswer};
     ghost use Rattle.argon2.specs.Params.{parameters_of};
+    ghost use Rattle.argon2.specs.Stored.{settings_value};
 
     // How many bytes a hash has.
     fn tag_len(&self) -> usize
@@ -44,29 +44,13 @@ impl<'key> Argon2<'key> {
         Output::new(tag)
     }
 
-    // Does nothing: its contract is that these settings are a target where their hashes fit into
-    // texts.
-    pub(crate) fn know_target(&self)
-        requires { tag_length (settings_of self.now) ≤ 64 }
-        ensures { IsTarget (target_of self.now) }
-    {
-        let params = self.params();
-        let _memory = params.m_cost();
-        let _passes = params.t_cost();
-        know_bytes(params.keyid());
-        know_bytes(params.data());
-    }
-
     // Hashing with the same secret under other settings.
-    pub(super) fn with_settings(
-        &self,
-        algorithm: Algorithm,
-        version: Version,
-        params: Params,
-    ) -> Argon2<'key>
-        ensures { IsWith (settings_with algorithm version params) (secret_of self.now) result }
+    pub(super) fn with_settings(&self, settings: Settings) -> Argon2<'key>
+        ensures { IsWith (settings_value settings) (secret_of self.now) result }
     {
-        let Ok(argon2) = Argon2::new_with_secret(self.secret(), algorithm, version, params) else {
+        let (algorithm, version) = (settings.algorithm, settings.version);
+        let argon2 = Argon2::new_with_secret(self.secret(), algorithm, version, settings.params);
+        let Ok(argon2) = argon2 else {
             unreachable!();
         };
         argon2
@@ -85,15 +69,12 @@ impl<'key> Argon2<'key> {
     {
         let algorithm = asked_algorithm(alg_id)?;
         let version = asked_version(version)?;
-        Ok(self.with_settings(algorithm, version, params))
+        Ok(self.with_settings(Settings {
+            algorithm,
+            version,
+            params,
+        }))
     }
-}
-
-// Does nothing: its contract is that a slice of bytes has bytes.
-fn know_bytes(bytes: &[u8])
-    ensures { IsBytes bytes.now }
-{
-    let _len = bytes.len();
 }
 
 /// Hashes have the output length of the parameters, or 32 bytes where none is set.
@@ -123,7 +104,6 @@ impl PasswordHasher<PasswordHash> for Argon2<'_> {
         if self.tag_len() > Output::MAX_LENGTH {
             return Err(Error::OutputSize);
         }
-        self.know_target();
         let hash = self.tag(alloc, password, salt.as_bytes())?;
         Ok(PasswordHash {
             algorithm: self.algorithm().ident(),

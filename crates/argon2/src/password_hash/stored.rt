@@ -1,62 +1,90 @@
-//! What stored hashes are verified by.
+//! What a stored hash shows: how it was made, its salt and the hash itself.
 
-ghost use Rattle.argon2_base.specs.Error.{bad_version};
-ghost use Rattle.argon2.specs.ListedParameters.{IsValueOr};
-ghost use Rattle.argon2.specs.Stored.{version_shown};
+ghost use Rattle.std.specs.Prelude.{◌≡◌, ◌≤◌, Some, length};
 
 use super::{Error, Result};
 use crate::algorithm::Algorithm;
-use crate::context::Argon2;
 use crate::params::Params;
 use crate::version::Version;
 use argon2_base::phc::{Output, PasswordHash, Salt};
 
-/// Hashing under the settings that a stored hash shows, its salt and the hash itself.
-#[derive(Drop)]
-pub(crate) struct Stored<'hash> {
-    pub(crate) argon2: Argon2<'hash>,
-    pub(crate) salt: &'hash Salt,
-    pub(crate) hash: &'hash Output,
+/// The settings that a PHC text shows.
+#[derive(Clone, Copy, Debug, PartialEq, Eq)]
+pub struct Settings {
+    /// The algorithm.
+    pub algorithm: Algorithm,
+    /// The version: 0x10 where the text has none.
+    pub version: Version,
+    /// The parameters. Their output length is the length of the hash, where the text has one.
+    pub params: Params,
 }
 
-impl<'key> Argon2<'key> {
-    ghost use Rattle.std.specs.Prelude.{◌≡◌, ◌≤◌, IfOk, length};
+/// Reads the settings of a PHC text, which may have no salt and no hash. Allocates nothing.
+///
+/// # Errors
+/// The first of these that holds:
+/// - [`Error::ParamInvalid`] and [`Error::ParamsInvalid`], as of reading the parameters.
+/// - [`Error::Algorithm`]: no algorithm has the identifier.
+/// - [`Error::Version`]: no version has the number.
+impl TryFrom<&PasswordHash> for Settings {
     ghost use Rattle.argon2_base.specs.Error.{outcome_of};
     ghost use Rattle.argon2_base.specs.PasswordHash.{phc_of};
-    ghost use Rattle.argon2.specs.Argon2.{secret_of, settings_of};
-    ghost use Rattle.argon2.specs.Made.{tag_length};
-    ghost use Rattle.argon2.specs.Stored.{stored_of};
-    ghost use Rattle.argon2.specs.StoredHash.{stored_value};
+    ghost use Rattle.argon2.specs.Stored.{settings_value, shown_settings};
 
-    /// What a stored hash is verified by, with this secret.
-    pub(crate) fn stored<'hash>(&'hash self, hash: &'hash PasswordHash) -> Result<Stored<'hash>>
-        ensures value { outcome_of stored_value result ≡ stored_of (phc_of hash.now) }
-        ensures secret { IfOk result (λ stored. secret_of stored.argon2 ≡ secret_of self.now) }
-        ensures length { IfOk result (λ stored. tag_length (settings_of stored.argon2)
-            ≡ length stored.hash.now) }
-        ensures fits { IfOk result (λ stored. length stored.hash.now ≤ 64) }
-    {
-        let (Some(salt), Some(expected)) = (&hash.salt, &hash.hash) else {
-            return Err(Error::PasswordInvalid);
-        };
+    type Error = Error;
+
+    ghost try_from_gives = { λ hash r. outcome_of settings_value r ≡ shown_settings (phc_of hash.now) };
+
+    fn try_from(hash: &PasswordHash) -> Result<Settings> {
         let params = Params::try_from(hash)?;
         let algorithm = Algorithm::try_from(hash.algorithm.as_str())?;
-        let version = shown_version(hash.version)?;
-        let _fits = expected.as_bytes();
-        Ok(Stored {
-            argon2: self.with_settings(algorithm, version, params),
-            salt,
-            hash: expected,
+        let version = match hash.version {
+            Some(number) => Version::try_from(number)?,
+            None => Version::V0x10,
+        };
+        Ok(Settings {
+            algorithm,
+            version,
+            params,
         })
     }
 }
 
-// The version of a number, or 0x10.
-fn shown_version(number: Option<u32>) -> Result<Version>
-    ensures { IsValueOr bad_version (λ v. v) (version_shown number) result }
-{
-    let Some(number) = number else {
-        return Ok(Version::V0x10);
-    };
-    Ok(Version::try_from(number)?)
+/// What a stored hash is verified by.
+#[derive(Clone, Copy, Debug, PartialEq, Eq)]
+pub struct Stored<'hash> {
+    /// The settings, whose output length is the length of the hash.
+    pub settings: Settings,
+    /// The salt.
+    pub salt: &'hash Salt,
+    /// The hash.
+    pub hash: &'hash Output,
+    ghost sized: { settings.params.output_len ≡ Some (length hash.now) },
+    ghost fits: { length hash.now ≤ 64 },
+}
+
+/// Reads a PHC text that has a salt and a hash. Allocates nothing.
+///
+/// # Errors
+/// [`Error::PasswordInvalid`] where there is no salt or no hash, else those of reading its
+/// [`Settings`].
+impl<'hash> TryFrom<&'hash PasswordHash> for Stored<'hash> {
+    ghost use Rattle.argon2_base.specs.Error.{outcome_of};
+    ghost use Rattle.argon2_base.specs.PasswordHash.{phc_of};
+    ghost use Rattle.argon2.specs.Stored.{stored_of, stored_value};
+
+    type Error = Error;
+
+    ghost try_from_gives = { λ hash r. outcome_of stored_value r ≡ stored_of (phc_of hash.now) };
+
+    fn try_from(hash: &'hash PasswordHash) -> Result<Stored<'hash>> {
+        let (Some(salt), Some(expected)) = (&hash.salt, &hash.hash) else {
+            return Err(Error::PasswordInvalid);
+        };
+        Ok(Stored {
+            settings: Settings::try_from(hash)?,
+            salt,
+            hash: expected,
+        })
+    }
 }

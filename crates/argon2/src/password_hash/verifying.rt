@@ -1,21 +1,29 @@
 //! Verifying passwords against stored hashes.
 
-use super::{Error, PasswordVerifier, Result};
+use super::{Error, PasswordVerifier, Result, Stored};
 use crate::context::Argon2;
 use argon2_base::phc::PasswordHash;
 use std::alloc::Global;
 
 impl Argon2<'_> {
-    ghost use Rattle.argon2_base.specs.PasswordHash.{phc_of};
+    ghost use Rattle.std.specs.Prelude.{◌≡◌, Ok};
+    ghost use Rattle.argon2_base.specs.PhcText.{Phc};
     ghost use Rattle.argon2.specs.Accepts.{IsVerifyAnswer};
     ghost use Rattle.argon2.specs.Argon2.{secret_of};
+    ghost use Rattle.argon2.specs.Stored.{stored_of, stored_value};
 
-    // Whether a stored hash is the tag of the password, with this secret.
-    fn verify(&self, alloc: Global, password: &[u8], hash: &PasswordHash) -> Result<()>
-        ensures { IsVerifyAnswer (secret_of self.now) password.now (phc_of hash.now) result }
+    // Whether what a hash shows is the tag of the password, with this secret.
+    pub(crate) fn verify_stored(
+        &self,
+        alloc: Global,
+        password: &[u8],
+        stored: &Stored<'_>,
+    ) -> Result<()>
+        ensures { (v : Phc) → stored_of v ≡ Ok (stored_value stored.now)
+            → IsVerifyAnswer (secret_of self.now) password.now v result }
     {
-        let stored = self.stored(hash)?;
-        let tag = stored.argon2.tag(alloc, password, stored.salt.as_bytes())?;
+        let argon2 = self.with_settings(stored.settings);
+        let tag = argon2.tag(alloc, password, stored.salt.as_bytes())?;
         if tag == *stored.hash {
             return Ok(());
         }
@@ -37,7 +45,7 @@ impl PasswordVerifier<&PasswordHash> for Argon2<'_> {
         AcceptsBy (secret_of argon2) password (phc_of hash.now) };
 
     fn verify_password(&self, alloc: Global, password: &[u8], hash: &PasswordHash) -> Result<()> {
-        self.verify(alloc, password, hash)
+        self.verify_stored(alloc, password, &Stored::try_from(hash)?)
     }
 }
 
@@ -53,6 +61,6 @@ impl PasswordVerifier<&str> for Argon2<'_> {
 
     fn verify_password(&self, alloc: Global, password: &[u8], text: &str) -> Result<()> {
         let hash = PasswordHash::new(text)?;
-        self.verify(alloc, password, &hash)
+        self.verify_password(alloc, password, &hash)
     }
 }

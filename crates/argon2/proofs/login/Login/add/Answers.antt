@@ -3,7 +3,7 @@ use Rattle.std.proofs.lemmas.Map.Text.{btree_map_updates_text}
 use Rattle.std.specs.FinMap as finmap
 use Rattle.argon2_base.specs.PasswordHash.{phc_of}
 use Rattle.argon2.specs.Login.{store_of}
-use Rattle.argon2.proofs.logins.Stores.{values_of-set, get-same, present, absent}
+use Rattle.argon2.proofs.logins.Stores.{values_of-set, get-other, get-same, present, absent}
 use Rattle.argon2.proofs.login.Login.add.Goals as goal
 
 pub returns-then-contains_key-clause-step : goal.returns-then-contains_key-clause-step
@@ -57,3 +57,14 @@ returns-clause-text c = λ v is.
     ∙ ap (λ n. finmap.insert (store_of c.args.self.now) n (phc_of parsed)) (search rules) in
     ap (λ m. finmap.get m name) set ∙ get-same (store_of c.args.self.now) name (phc_of parsed)
     ∙ ap Some (c.in-Ok.ensures.only v is)
+
+pub returns-clause-others : goal.returns-clause-others
+returns-clause-others c = λ other differs.
+    let name = c.args.name.now in
+    let key = c.in-Ok-from_str.key in
+    let parsed = c.in-Ok.parsed in
+    let sets = btree_map_updates_text (string_bytes key) c.args.self.now.texts c.insert.new.self _
+    c.in-Ok-insert.ensures.updates in
+    let set = values_of-set c.args.self.now.texts c.insert.new.self (string_bytes key) parsed sets
+    ∙ ap (λ n. finmap.insert (store_of c.args.self.now) n (phc_of parsed)) (search rules) in
+    ap (λ m. finmap.get m other) set ∙ get-other (store_of c.args.self.now) name (phc_of parsed) other differs

@@ -1,69 +1,72 @@
-use Rattle.std.proofs.Common.{refl, sym, Some, None, Ok, Err, inr}
+use Rattle.std.proofs.Common.{refl, subst, sym, ap, ◌∙◌, Some, None, Err, inr}
+use Rattle.std.proofs.lemmas.Map.Text.{btree_map_updates_text}
+use Rattle.std.specs.FinMap.{get}
 use Rattle.rand_core.specs.Stream.{fill_bytes}
 use Rattle.argon2_base.specs.PasswordHash.{phc_of}
-use Rattle.argon2.specs.declared.login.answers.Accepted.TheVariants.{Current}
-use Rattle.argon2.specs.declared.login.answers.LoginError.TheVariants.{NameUnknown, Refused}
-use Rattle.argon2.specs.Login.{store_of, target_of}
-use Rattle.argon2.proofs.logins.LoginLemmas.{has_password, no_text, refused_text, login_step, not_refused, untold}
-use Rattle.argon2.proofs.logins.Stores.{get-found}
+use Rattle.argon2.specs.declared.login.answers.LoginError.TheVariants.{NameUnknown}
+use Rattle.argon2.specs.Login.{LoginAnswer, store_of, target_of, values_of}
+use Rattle.argon2.proofs.logins.LoginLemmas.{has_accepted, has_current, no_text, login_step}
+use Rattle.argon2.proofs.logins.Stores.{get-found, get-other, get-same, values_of-set}
 use Rattle.argon2.proofs.login.Login.login.Goals as goal
 
 pub returns-in_default-clause-step : goal.returns-in_default-clause-step
 returns-in_default-clause-step g c =
-    login_step (target_of c.args.self.now) _ c.args.name.now _ (fill_bytes 16 (g.R.Rng.stream c.args.rng.now)).0 None
-    (Err NameUnknown) _ (get-found c.args.self.now.texts c.args.name.now None (sym c.in_default.ensures.value)) (tt, refl)
+    login_step (target_of c.args.self.now) _ c.args.name.now c.args.password.now
+    (fill_bytes 16 (g.R.Rng.stream c.args.rng.now)).0 None (Err NameUnknown) _
+    (get-found c.args.self.now.texts c.args.name.now None (sym c.in_default.ensures.value))
+    (tt, ap values_of c.get_mut.follows.holds-at-none)
 
 pub returns-in_default-clause-accepted : goal.returns-in_default-clause-accepted
-returns-in_default-clause-accepted g c = inr (no_text (target_of c.args.self.now) (store_of c.args.self.now) c.args.name.now
-    c.args.password.now (get-found c.args.self.now.texts c.args.name.now None (sym c.in_default.ensures.value)))
-
-pub returns-in-Err-clause-step : goal.returns-in-Err-clause-step
-returns-in-Err-clause-step g c =
-    let text = c.in-Some.text.now in
-    login_step (target_of c.args.self.now) _ c.args.name.now _ (fill_bytes 16 (g.R.Rng.stream c.args.rng.now)).0
-    (Some (phc_of text)) (Err (Refused c.in-Err.e)) _
-    (get-found c.args.self.now.texts c.args.name.now (Some text) (sym c.in-Some.ensures.value))
-    (c.in-Err.ensures.answer, refl)
-
-pub returns-in-Err-clause-accepted : goal.returns-in-Err-clause-accepted
-returns-in-Err-clause-accepted g c =
-    let text = c.in-Some.text.now in
-    refused_text (target_of c.args.self.now) (store_of c.args.self.now) c.args.name.now c.args.password.now (phc_of text)
-    c.in-Err.e (get-found c.args.self.now.texts c.args.name.now (Some text) (sym c.in-Some.ensures.value))
-    c.in-Err.ensures.accepted
-
-pub returns-then-is_current-clause-step : goal.returns-then-is_current-clause-step
-returns-then-is_current-clause-step g c =
-    let text = c.in-Some.text.now in
-    login_step (target_of c.args.self.now) _ c.args.name.now _ (fill_bytes 16 (g.R.Rng.stream c.args.rng.now)).0
-    (Some (phc_of text)) (Ok Current) _
-    (get-found c.args.self.now.texts c.args.name.now (Some text) (sym c.in-Some.ensures.value)) (
-      not_refused _ _ _ c.in_default-verify_password.not-Err c.verify_password.ensures.accepted,
-      (c.is_current.ensures.0 c.if-is_current.true, refl),
-    )
-
-pub returns-then-is_current-clause-accepted : goal.returns-then-is_current-clause-accepted
-returns-then-is_current-clause-accepted g c =
-    let text = c.in-Some.text.now in
-    has_password (target_of c.args.self.now) (store_of c.args.self.now) c.args.name.now c.args.password.now (phc_of text)
-    (get-found c.args.self.now.texts c.args.name.now (Some text) (sym c.in-Some.ensures.value))
-    (not_refused _ _ _ c.in_default-verify_password.not-Err c.verify_password.ensures.accepted)
+returns-in_default-clause-accepted g c =
+    inr (no_text (target_of c.args.self.now) (store_of c.args.self.now) c.args.name.now c.args.password.now
+    (get-found c.args.self.now.texts c.args.name.now None (sym c.in_default.ensures.value)))
 
 pub returns-clause-step : goal.returns-clause-step
 returns-clause-step g c =
+    let target = target_of c.args.self.now in
+    let before = c.args.self.now.texts in
     let text = c.in-Some.text.now in
-    login_step (target_of c.args.self.now) _ c.args.name.now _ (fill_bytes 16 (g.R.Rng.stream c.args.rng.now)).0
-    (Some (phc_of text)) (Ok c.renew.result) _
-    (get-found c.args.self.now.texts c.args.name.now (Some text) (sym c.in-Some.ensures.value)) (
-      not_refused _ _ _ c.in_default-verify_password.not-Err c.verify_password.ensures.accepted,
-      c.renew.ensures.step (phc_of text)
-          (untold c.is_current.result c.if-is_current.false c.is_current.ensures.1),
-    )
+    let fresh = c.log_in.new.text in
+    let after = c.get_mut.follows.lender fresh in
+    let drawn = (fill_bytes 16 (g.R.Rng.stream c.args.rng.now)).0 in
+    let had = get-found before c.args.name.now (Some text) (sym c.in-Some.ensures.value) in
+    let set = values_of-set before after c.args.name.now fresh (btree_map_updates_text c.args.name.now before after _
+    ((c.get_mut.follows.holds fresh).3 (rw (← c.in-Some.ensures.value) refl))) in
+    login_step target (values_of before) c.args.name.now c.args.password.now drawn (Some (phc_of text)) c.log_in.result
+    (values_of after) had
+    (subst (LoginAnswer target (values_of before) c.args.name.now c.args.password.now drawn (Some (phc_of text))
+    c.log_in.result) (sym set) (c.log_in.ensures.step (values_of before) c.args.name.now had))
 
 pub returns-clause-accepted : goal.returns-clause-accepted
 returns-clause-accepted g c =
+    let before = c.args.self.now.texts in
     let text = c.in-Some.text.now in
-    c.renew.ensures.accepted (has_password (target_of c.args.self.now) (store_of c.args.self.now) c.args.name.now
-    c.args.password.now (phc_of text)
-    (get-found c.args.self.now.texts c.args.name.now (Some text) (sym c.in-Some.ensures.value))
-    (not_refused _ _ _ c.in_default-verify_password.not-Err c.verify_password.ensures.accepted))
+    let fresh = c.log_in.new.text in
+    let after = c.get_mut.follows.lender fresh in
+    let set = values_of-set before after c.args.name.now fresh (btree_map_updates_text c.args.name.now before after _
+    ((c.get_mut.follows.holds fresh).3 (rw (← c.in-Some.ensures.value) refl))) in
+    has_accepted (target_of c.args.self.now) (values_of before) (values_of after) c.args.name.now c.args.password.now
+    (phc_of text) (phc_of fresh) c.log_in.result
+    (get-found before c.args.name.now (Some text) (sym c.in-Some.ensures.value))
+    (ap (λ m. get m c.args.name.now) set ∙ get-same (values_of before) c.args.name.now (phc_of fresh))
+    c.log_in.ensures.accepted
+
+pub returns-clause-current : goal.returns-clause-current
+returns-clause-current g c =
+    let before = c.args.self.now.texts in
+    let fresh = c.log_in.new.text in
+    let after = c.get_mut.follows.lender fresh in
+    let set = values_of-set before after c.args.name.now fresh (btree_map_updates_text c.args.name.now before after _
+    ((c.get_mut.follows.holds fresh).3 (rw (← c.in-Some.ensures.value) refl))) in
+    has_current (target_of c.args.self.now) (values_of after) c.args.name.now (phc_of fresh) c.log_in.result
+    (ap (λ m. get m c.args.name.now) set ∙ get-same (values_of before) c.args.name.now (phc_of fresh))
+    c.log_in.ensures.current
+
+pub returns-clause-others : goal.returns-clause-others
+returns-clause-others g c = λ other differs.
+    let before = c.args.self.now.texts in
+    let fresh = c.log_in.new.text in
+    let after = c.get_mut.follows.lender fresh in
+    let set = values_of-set before after c.args.name.now fresh (btree_map_updates_text c.args.name.now before after _
+    ((c.get_mut.follows.holds fresh).3 (rw (← c.in-Some.ensures.value) refl))) in
+    ap (λ m. get m other) set ∙ get-other (values_of before) c.args.name.now (phc_of fresh) other differs

@@ -1,11 +1,12 @@
-use Rattle.std.proofs.Common.{ap, ◌∙◌, inl}
+use Rattle.std.proofs.Common.{◌≤◌, ap, arith, ◌∙◌, inl}
 use Rattle.argon2_base.specs.Ident.{ident_text}
 use Rattle.argon2.specs.Algorithm.{algorithm_name}
-use Rattle.argon2.specs.Made.{target_of}
+use Rattle.argon2.specs.Argon2.{settings_of}
+use Rattle.argon2.specs.Made.{tag_length, target_of}
 use Rattle.argon2.specs.Params.{parameters_of}
 use Rattle.argon2.specs.Version.{version_number}
 use Rattle.argon2.proofs.stored.Hashed.{unsalted, untagged, answered}
-use Rattle.argon2.proofs.stored.MadeValues.{is_made, made_accepted, made_shows}
+use Rattle.argon2.proofs.stored.MadeValues.{is_made, is_target, made_accepted, made_shows}
 use Rattle.argon2.proofs.password_hash.hashing.Argon2PasswordHasherPasswordHash.hash_password_with_salt.Goals as goal
 
 pub returns-in_err-salt-clause-answer : goal.returns-in_err-salt-clause-answer
@@ -13,11 +14,12 @@ returns-in_err-salt-clause-answer c = unsalted (target_of c.args.self.now) c.arg
     c.in_err-salt.field-0.0 c.from_residual.result c.in_err-salt.ensures.when c.from_residual.ensures.1
 
 pub tag-requires-clause-fits : goal.tag-requires-clause-fits
-tag-requires-clause-fits c = c.know_target.ensures.tag_length
+tag-requires-clause-fits c = omega (arith, c.if-tag_len-gt-MAX_LENGTH.false, c.tag_len.ensures)
 
 pub returns-in_err-hash-clause-answer : goal.returns-in_err-hash-clause-answer
 returns-in_err-hash-clause-answer c = untagged (target_of c.args.self.now) c.args.password.now c.args.salt.now
-    c.in_ok-salt.ensures.when.0 c.in_ok-salt.ensures.when.1 c.know_target.ensures.tag_length
+    c.in_ok-salt.ensures.when.0 c.in_ok-salt.ensures.when.1
+    (omega (arith, c.if-tag_len-gt-MAX_LENGTH.false, c.tag_len.ensures))
     c.in_err-hash.field-0.0 c.from_residual-in_err-hash.result c.in_err-hash.ensures
     c.from_residual-in_err-hash.ensures.1
 
@@ -31,12 +33,15 @@ returns c =
     (c.ident.ensures ∙ ap algorithm_name c.algorithm.ensures) (c.from.ensures ∙ ap version_number c.version.ensures)
     c.in_ok-try_from.ensures.0 c.params.ensures c.in_ok-salt.ensures.value c.as_bytes.ensures.value
     c.in_ok-hash.ensures.1 in
+    let fits : tag_length (settings_of c.args.self.now) ≤ 64 =
+    omega (arith, c.if-tag_len-gt-MAX_LENGTH.false, c.tag_len.ensures) in
+    let target_fits = is_target c.args.self.now fits in
     let lengths = c.in_ok-salt.ensures.when in
     let bytes = rw c.in_ok-salt.ensures.value at c.as_bytes.ensures.bytes in
     record {
-      answer = inl (answered target password salt lengths.0 lengths.1 c.know_target.ensures.tag_length _ is
+      answer = inl (answered target password salt lengths.0 lengths.1 fits _ is
           c.in_ok-hash.ensures.0);
-      accepted = made_accepted target c.know_target.ensures password salt _ is (bytes, lengths.0, lengths.1)
+      accepted = made_accepted target target_fits password salt _ is (bytes, lengths.0, lengths.1)
           c.in_ok-hash.ensures.0;
-      shown = made_shows target c.know_target.ensures password salt _ is;
+      shown = made_shows target target_fits password salt _ is;
     }

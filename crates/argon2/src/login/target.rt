@@ -1,0 +1,107 @@
+//! What a login store verifies its texts under, and renews them by.
+
+ghost use Rattle.std.proofs.Props.{props};
+ghost use Rattle.argon2.specs.Made.{target_of, IsTarget};
+
+use super::{Accepted, LoginError};
+use crate::context::Argon2;
+use crate::params::Params;
+use crate::password_hash::{Error, PasswordHasher, Result, Settings, Stored};
+use argon2_base::phc::{Output, PasswordHash};
+use rand_core::Rng;
+use std::alloc::Global;
+use std::result::Result as Outcome;
+
+// Settings and a secret whose hashes fit into texts.
+#[derive(Drop)]
+pub(super) struct Target<'key> {
+    argon2: Argon2<'key>,
+    ghost fits: { IsTarget (target_of argon2) } by { Prim.hlevel props },
+}
+
+impl<'key> Target<'key> {
+    ghost use Rattle.std.specs.Prelude.{◌≡◌, ◌≢◌, ◌↔◌, ◌⊎◌, ◌<◌, ℕ, List, Some, IsTrue, IfOk, MatchResult};
+    ghost use Rattle.std.specs.FinMap.{get, insert};
+    ghost use Rattle.rand_core.specs.Stream.{fill_bytes};
+    ghost use Rattle.argon2_base.specs.PasswordHash.{phc_of};
+    ghost use Rattle.argon2_base.specs.declared.error.password_hash.Error.TheVariants.{OutOfMemory, OutputSize};
+    ghost use Rattle.argon2.specs.Accepts.{AcceptsBy};
+    ghost use Rattle.argon2.specs.Argon2.{settings_of};
+    ghost use Rattle.argon2.specs.Login.{Store, IsCurrent, LoginAnswer, stream_after};
+    ghost use Rattle.argon2.specs.Made.{sized, tag_length};
+    ghost use Rattle.argon2.specs.Stored.{settings_value};
+    ghost use Rattle.argon2.specs.declared.login.answers.Accepted.TheVariants.{Kept};
+    ghost use Rattle.argon2.specs.declared.login.answers.LoginError.TheVariants.{Refused};
+
+    // `OutputSize` where hashes are longer than those of texts.
+    pub(super) fn new(argon2: Argon2<'key>) -> Result<Target<'key>>
+        ensures { MatchResult result (λ target. target.argon2 ≡ argon2.entry)
+            (λ e. (e ≡ OutputSize) × (64 < tag_length (settings_of argon2.entry))) }
+    {
+        let len = argon2.params().output_len();
+        if len.unwrap_or(Params::DEFAULT_OUTPUT_LEN) > Output::MAX_LENGTH {
+            return Err(Error::OutputSize);
+        }
+        Ok(Target { argon2 })
+    }
+
+    // Verifies a password against a text. Where the text accepts the password and is not current, a
+    // fresh one is written over it.
+    pub(super) fn log_in<R: Rng>(
+        &self,
+        alloc: Global,
+        rng: &mut R,
+        text: &mut PasswordHash,
+        password: &[u8],
+    ) -> Outcome<Accepted, LoginError>
+        ensures step { (store : Store) (name : List ℕ) → get store name ≡ Some (phc_of text.old) →
+            LoginAnswer (target_of self.now.argon2) store name password.now
+            (fill_bytes 16 (R.stream rng.old)).0 (Some (phc_of text.old)) result
+            (insert store name (phc_of text.new)) }
+        ensures accepted { MatchResult result
+            (λ _. AcceptsBy (target_of self.now.argon2).secret password.now (phc_of text.new))
+            (λ e. (e ≡ Refused OutOfMemory)
+            ⊎ (AcceptsBy (target_of self.now.argon2).secret password.now (phc_of text.old) → ⊥)) }
+        ensures current { IfOk result (λ accepted. accepted ≢ Kept →
+            IsCurrent (target_of self.now.argon2) (phc_of text.new)) }
+        ensures drawn { R.stream rng.new ≡ stream_after result (R.stream rng.old) }
+    {
+        let stored = match Stored::try_from(&*text) {
+            Ok(stored) => stored,
+            Err(e) => return Err(LoginError::Refused(e)),
+        };
+        if let Err(e) = self.argon2.verify_stored(alloc, password, &stored) {
+            return Err(LoginError::Refused(e));
+        }
+        if self.is_shown_by(&stored.settings) {
+            return Ok(Accepted::Current);
+        }
+        let Ok(fresh) = self.argon2.hash_password(alloc, rng, password) else {
+            return Ok(Accepted::Kept);
+        };
+        *text = fresh;
+        Ok(Accepted::Rehashed)
+    }
+
+    // Whether the settings are these, with the length of the hashes.
+    fn is_shown_by(&self, shown: &Settings) -> bool
+        ensures { IsTrue result ↔ (settings_value shown.now ≡ sized (settings_of self.now.argon2)) }
+    {
+        let target = &self.argon2;
+        if shown.algorithm != target.algorithm() || shown.version != target.version() {
+            return false;
+        }
+        let (shown, wanted) = (&shown.params, target.params());
+        if shown.m_cost() != wanted.m_cost() || shown.t_cost() != wanted.t_cost() {
+            return false;
+        }
+        if shown.p_cost() != wanted.p_cost() {
+            return false;
+        }
+        let len = wanted.output_len().unwrap_or(Params::DEFAULT_OUTPUT_LEN);
+        if shown.output_len() != Some(len) {
+            return false;
+        }
+        shown.keyid() == wanted.keyid() && shown.data() == wanted.data()
+    }
+}
