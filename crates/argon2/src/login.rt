@@ -1,7 +1,7 @@
 //! A login store that renews old texts: names with PHC texts, and what new texts are made under.
 
 ghost use Rattle.std.specs.Prelude.{◌≡◌, ◌≢◌, ◌⊎◌, ℕ, List, Some, IfOk, OnOk, MatchResult};
-ghost use Rattle.std.specs.FinMap.{empty, entries, get};
+ghost use Rattle.std.specs.FinMap.{empty, entries, get, insert};
 ghost use Rattle.std.specs.Option.{IsSomeAnd, option_copied, option_map};
 ghost use Rattle.rand_core.specs.Stream.{fill_bytes};
 ghost use Rattle.argon2_base.specs.PasswordHash.{phc_of};
@@ -64,6 +64,8 @@ impl<'key> Login<'key> {
     pub fn add(&mut self, name: &str, text: &str) -> Outcome<(), LoginError>
         ensures step { Steps (adding name.now text.now result) self.old self.new }
         ensures text { OnOk result ((v : Phc) → PhcText text.now v → get (store_of self.new) name.now ≡ Some v) }
+        ensures inserted { OnOk result ((v : Phc) → PhcText text.now v →
+            store_of self.new ≡ insert (store_of self.old) name.now v) }
         ensures others { KeepsOthers name.now (store_of self.old) (store_of self.new) }
         ensures target { target_of self.new ≡ target_of self.old }
     {

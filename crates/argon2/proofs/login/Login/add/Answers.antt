@@ -33,38 +33,27 @@ returns-in_default-insert-clause-step c = (
   search rules,
 )
 
-pub returns-clause-step : goal.returns-clause-step
-returns-clause-step c =
-    let key = c.in-Ok-from_str.key in
-    let parsed = c.in-Ok.parsed in
-    let sets = btree_map_updates_text (string_bytes key) c.args.self.now.texts c.insert.new.self _
-    c.in-Ok-insert.ensures.updates in (
-      absent c.args.self.now.texts c.args.name.now (sym c.contains_key.ensures ∙ c.if-contains_key.false),
-      phc_of parsed,
-      c.in-Ok.ensures.found,
-      values_of-set c.args.self.now.texts c.insert.new.self (string_bytes key) parsed sets
-          ∙ ap (λ name. finmap.insert (store_of c.args.self.now) name (phc_of parsed)) (search rules),
-    )
-
-pub returns-clause-text : goal.returns-clause-text
-returns-clause-text c = λ v is.
+pub returns : goal.returns
+returns c =
     let name = c.args.name.now in
+    let before = store_of c.args.self.now in
     let key = c.in-Ok-from_str.key in
     let parsed = c.in-Ok.parsed in
     let sets = btree_map_updates_text (string_bytes key) c.args.self.now.texts c.insert.new.self _
     c.in-Ok-insert.ensures.updates in
     let set = values_of-set c.args.self.now.texts c.insert.new.self (string_bytes key) parsed sets
-    ∙ ap (λ n. finmap.insert (store_of c.args.self.now) n (phc_of parsed)) (search rules) in
-    ap (λ m. finmap.get m name) set ∙ get-same (store_of c.args.self.now) name (phc_of parsed)
-    ∙ ap Some (c.in-Ok.ensures.only v is)
-
-pub returns-clause-others : goal.returns-clause-others
-returns-clause-others c = λ other differs.
-    let name = c.args.name.now in
-    let key = c.in-Ok-from_str.key in
-    let parsed = c.in-Ok.parsed in
-    let sets = btree_map_updates_text (string_bytes key) c.args.self.now.texts c.insert.new.self _
-    c.in-Ok-insert.ensures.updates in
-    let set = values_of-set c.args.self.now.texts c.insert.new.self (string_bytes key) parsed sets
-    ∙ ap (λ n. finmap.insert (store_of c.args.self.now) n (phc_of parsed)) (search rules) in
-    ap (λ m. finmap.get m other) set ∙ get-other (store_of c.args.self.now) name (phc_of parsed) other differs
+    ∙ ap (λ n. finmap.insert before n (phc_of parsed)) (search rules) in
+    record {
+      step = (
+        absent c.args.self.now.texts name (sym c.contains_key.ensures ∙ c.if-contains_key.false),
+        phc_of parsed,
+        c.in-Ok.ensures.found,
+        set,
+      );
+      text = λ v is. ap (λ m. finmap.get m name) set ∙ get-same before name (phc_of parsed)
+          ∙ ap Some (c.in-Ok.ensures.only v is);
+      inserted = λ v is. set ∙ ap (finmap.insert before name) (c.in-Ok.ensures.only v is);
+      others = λ other differs. ap (λ m. finmap.get m other) set
+          ∙ get-other before name (phc_of parsed) other differs;
+      target = refl;
+    }

@@ -21,52 +21,30 @@ returns-in_default-clause-accepted g c =
     inr (no_text (target_of c.args.self.now) (store_of c.args.self.now) c.args.name.now c.args.password.now
     (get-found c.args.self.now.texts c.args.name.now None (sym c.in_default.ensures.value)))
 
-pub returns-clause-step : goal.returns-clause-step
-returns-clause-step g c =
+pub returns : goal.returns
+returns g c =
     let target = target_of c.args.self.now in
     let before = c.args.self.now.texts in
+    let name = c.args.name.now in
+    let password = c.args.password.now in
     let text = c.in-Some.text.now in
     let fresh = c.log_in.new.text in
     let after = c.get_mut.follows.lender fresh in
     let drawn = (fill_bytes 16 (g.R.Rng.stream c.args.rng.now)).0 in
-    let had = get-found before c.args.name.now (Some text) (sym c.in-Some.ensures.value) in
-    let set = values_of-set before after c.args.name.now fresh (btree_map_updates_text c.args.name.now before after _
+    let had = get-found before name (Some text) (sym c.in-Some.ensures.value) in
+    let set = values_of-set before after name fresh (btree_map_updates_text name before after _
     ((c.get_mut.follows.holds fresh).3 (rw (← c.in-Some.ensures.value) refl))) in
-    login_step target (values_of before) c.args.name.now c.args.password.now drawn (Some (phc_of text)) c.log_in.result
-    (values_of after) had
-    (subst (LoginAnswer target (values_of before) c.args.name.now c.args.password.now drawn (Some (phc_of text))
-    c.log_in.result) (sym set) (c.log_in.ensures.step (values_of before) c.args.name.now had))
-
-pub returns-clause-accepted : goal.returns-clause-accepted
-returns-clause-accepted g c =
-    let before = c.args.self.now.texts in
-    let text = c.in-Some.text.now in
-    let fresh = c.log_in.new.text in
-    let after = c.get_mut.follows.lender fresh in
-    let set = values_of-set before after c.args.name.now fresh (btree_map_updates_text c.args.name.now before after _
-    ((c.get_mut.follows.holds fresh).3 (rw (← c.in-Some.ensures.value) refl))) in
-    has_accepted (target_of c.args.self.now) (values_of before) (values_of after) c.args.name.now c.args.password.now
-    (phc_of text) (phc_of fresh) c.log_in.result
-    (get-found before c.args.name.now (Some text) (sym c.in-Some.ensures.value))
-    (ap (λ m. get m c.args.name.now) set ∙ get-same (values_of before) c.args.name.now (phc_of fresh))
-    c.log_in.ensures.accepted
-
-pub returns-clause-current : goal.returns-clause-current
-returns-clause-current g c =
-    let before = c.args.self.now.texts in
-    let fresh = c.log_in.new.text in
-    let after = c.get_mut.follows.lender fresh in
-    let set = values_of-set before after c.args.name.now fresh (btree_map_updates_text c.args.name.now before after _
-    ((c.get_mut.follows.holds fresh).3 (rw (← c.in-Some.ensures.value) refl))) in
-    has_current (target_of c.args.self.now) (values_of after) c.args.name.now (phc_of fresh) c.log_in.result
-    (ap (λ m. get m c.args.name.now) set ∙ get-same (values_of before) c.args.name.now (phc_of fresh))
-    c.log_in.ensures.current
-
-pub returns-clause-others : goal.returns-clause-others
-returns-clause-others g c = λ other differs.
-    let before = c.args.self.now.texts in
-    let fresh = c.log_in.new.text in
-    let after = c.get_mut.follows.lender fresh in
-    let set = values_of-set before after c.args.name.now fresh (btree_map_updates_text c.args.name.now before after _
-    ((c.get_mut.follows.holds fresh).3 (rw (← c.in-Some.ensures.value) refl))) in
-    ap (λ m. get m other) set ∙ get-other (values_of before) c.args.name.now (phc_of fresh) other differs
+    let has = ap (λ m. get m name) set ∙ get-same (values_of before) name (phc_of fresh) in
+    record {
+      step = login_step target (values_of before) name password drawn (Some (phc_of text)) c.log_in.result
+          (values_of after) had
+          (subst (LoginAnswer target (values_of before) name password drawn (Some (phc_of text)) c.log_in.result)
+          (sym set) (c.log_in.ensures.step (values_of before) name had));
+      accepted = has_accepted target (values_of before) (values_of after) name password (phc_of text) (phc_of fresh)
+          c.log_in.result had has c.log_in.ensures.accepted;
+      current = has_current target (values_of after) name (phc_of fresh) c.log_in.result has c.log_in.ensures.current;
+      others = λ other differs. ap (λ m. get m other) set
+          ∙ get-other (values_of before) name (phc_of fresh) other differs;
+      drawn = c.log_in.ensures.drawn;
+      target = refl;
+    }
