@@ -1,5 +1,11 @@
 //! How long hashing takes.
 
+ghost use Rattle.std.specs.Prelude.{None};
+ghost use Rattle.argon2.specs.Argon2.{IsContextOf};
+ghost use Rattle.argon2.specs.Parameters.{AreValid, plain};
+ghost use Rattle.argon2.specs.declared.algorithm.Algorithm.TheVariants.{Argon2id};
+ghost use Rattle.argon2.specs.declared.version.Version.TheVariants.{V0x13};
+
 use crate::failure::Failure;
 use argon2::{Algorithm, Argon2, Params, Version};
 use std::alloc::Global;
@@ -35,9 +41,7 @@ impl<'a, C: Clock> Machine<'a, C> {
     }
 
     // How many microseconds one hash takes.
-    fn time(&self, m_cost: u32, t_cost: u32) -> Result<u64, Failure> {
-        let params = Params::new(m_cost, t_cost, 1, None)?;
-        let argon2 = Argon2::new(Algorithm::Argon2id, Version::V0x13, params);
+    fn time(&self, argon2: &Argon2<'_>) -> Result<u64, Failure> {
         let mut tag = [0; Params::DEFAULT_OUTPUT_LEN];
         let begun = Instant::now(self.clock).or(Err(Failure::Clock))?;
         argon2.hash_password_into(self.alloc, b"password", b"somesaltsomesalt", &mut tag)?;
@@ -46,12 +50,24 @@ impl<'a, C: Clock> Machine<'a, C> {
     }
 }
 
+// What is timed: Argon2id with so many blocks and passes and one lane.
+fn argon2id(m_cost: u32, t_cost: u32) -> argon2::Result<Argon2<'static>>
+    ensures { IsContextOf Argon2id V0x13 (plain m_cost t_cost 1 None) result }
+{
+    let params = Params::new(m_cost, t_cost, 1, None)?;
+    Ok(Argon2::new(Algorithm::Argon2id, Version::V0x13, params))
+}
+
 impl<C: Clock> Stopwatch for Machine<'_, C> {
+    // Only valid costs have a time.
+    ghost may_take = { λ m_cost t_cost _. AreValid (plain m_cost t_cost 1 None) };
+
     fn times(&mut self, m_cost: u32, t_cost: u32) -> Result<[u64; 3], Failure> {
+        let argon2 = argon2id(m_cost, t_cost)?;
         Ok([
-            self.time(m_cost, t_cost)?,
-            self.time(m_cost, t_cost)?,
-            self.time(m_cost, t_cost)?,
+            self.time(&argon2)?,
+            self.time(&argon2)?,
+            self.time(&argon2)?,
         ])
     }
 }

@@ -230,11 +230,15 @@ fn tells_what_fails(rt: HostRuntime) -> Result<(), Fail> {
     Ok(())
 }
 
-// The least costs are measured, and others are refused.
+// Costs below the least are refused, and higher costs take longer.
 #[test]
 fn measures_this_machine(rt: HostRuntime) -> Result<(), Fail> {
     let mut machine = Machine::new(rt.alloc(), &rt);
-    machine.times(8, 1)?;
     assert!(rt; machine.times(7, 1).is_err());
+    let [short, long] = [machine.times(8, 1)?, machine.times(4096, 4)?];
+    assert!(rt;
+        long.iter().min() > short.iter().min(),
+        "{short:?} {long:?}"
+    );
     Ok(())
 }
