@@ -1,6 +1,6 @@
 //! Parameters of a hash (RFC 9106, section 3.1), and their builder.
 
-ghost use Rattle.std.specs.Prelude.{◌<◌, ◌^◌, IsNone};
+ghost use Rattle.std.specs.Prelude.{◌≡◌, ◌<◌, ◌^◌, IsNone};
 ghost use Rattle.argon2.specs.Parameters.{first_fault};
 
 use argon2_base::error::{Error, Result};
@@ -29,7 +29,7 @@ pub struct Params {
 }
 
 impl Params {
-    ghost use Rattle.std.specs.Prelude.{◌≡◌, ◌≤◌};
+    ghost use Rattle.std.specs.Prelude.{◌≤◌};
     ghost use Rattle.argon2.specs.ByteLists.{AreBytes};
     ghost use Rattle.argon2.specs.Parameters.{plain};
     ghost use Rattle.argon2.specs.Params.{parameters_of, IsParamsOf, IsSetting};
@@ -104,28 +104,8 @@ impl Params {
     pub fn new(m_cost: u32, t_cost: u32, p_cost: u32, output_len: Option<usize>) -> Result<Params>
         ensures { IsParamsOf (plain m_cost t_cost p_cost output_len) result }
     {
-        if m_cost < Params::MIN_M_COST {
-            return Err(Error::MemoryTooLittle);
-        }
-        if p_cost < Params::MIN_P_COST {
-            return Err(Error::ThreadsTooFew);
-        }
-        if p_cost > Params::MAX_P_COST {
-            return Err(Error::ThreadsTooMany);
-        }
-        if m_cost < 8 * p_cost {
-            return Err(Error::MemoryTooLittle);
-        }
-        if t_cost < Params::MIN_T_COST {
-            return Err(Error::TimeTooSmall);
-        }
-        if let Some(len) = output_len {
-            if len < Params::MIN_OUTPUT_LEN {
-                return Err(Error::OutputTooShort);
-            }
-            if len > Params::MAX_OUTPUT_LEN {
-                return Err(Error::OutputTooLong);
-            }
+        if let Some(fault) = fault(m_cost, t_cost, p_cost, output_len) {
+            return Err(fault);
         }
         Ok(Params {
             m_cost,
@@ -201,8 +181,31 @@ impl Params {
     }
 }
 
+// Why costs and an output length are refused.
+fn fault(m_cost: u32, t_cost: u32, p_cost: u32, output_len: Option<usize>) -> Option<Error>
+    ensures { result ≡ first_fault m_cost t_cost p_cost output_len }
+{
+    let len = output_len.unwrap_or(Params::MIN_OUTPUT_LEN);
+    if m_cost < Params::MIN_M_COST {
+        Some(Error::MemoryTooLittle)
+    } else if p_cost < Params::MIN_P_COST {
+        Some(Error::ThreadsTooFew)
+    } else if p_cost > Params::MAX_P_COST {
+        Some(Error::ThreadsTooMany)
+    } else if m_cost < 8 * p_cost {
+        Some(Error::MemoryTooLittle)
+    } else if t_cost < Params::MIN_T_COST {
+        Some(Error::TimeTooSmall)
+    } else if len < Params::MIN_OUTPUT_LEN {
+        Some(Error::OutputTooShort)
+    } else if len > Params::MAX_OUTPUT_LEN {
+        Some(Error::OutputTooLong)
+    } else {
+        None
+    }
+}
+
 impl Default for Params {
-    ghost use Rattle.std.specs.Prelude.{◌≡◌};
     ghost use Rattle.argon2.specs.Parameters.{default_parameters};
     ghost use Rattle.argon2.specs.Params.{parameters_of};
 

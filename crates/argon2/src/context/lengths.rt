@@ -18,15 +18,14 @@ pub(super) fn check_inputs(pwd: &[u8], salt: &[u8]) -> Result<()>
     ensures short { OnOk result (AreShort pwd.now salt.now) }
 {
     if pwd.len() > MAX_PWD_LEN {
-        return Err(Error::PwdTooLong);
+        Err(Error::PwdTooLong)
+    } else if salt.len() < MIN_SALT_LEN {
+        Err(Error::SaltTooShort)
+    } else if salt.len() > MAX_SALT_LEN {
+        Err(Error::SaltTooLong)
+    } else {
+        Ok(())
     }
-    if salt.len() < MIN_SALT_LEN {
-        return Err(Error::SaltTooShort);
-    }
-    if salt.len() > MAX_SALT_LEN {
-        return Err(Error::SaltTooLong);
-    }
-    Ok(())
 }
 
 impl Argon2<'_> {
@@ -55,12 +54,12 @@ impl Argon2<'_> {
     {
         let output_len = self.params.output_len();
         if len < output_len.unwrap_or(Params::MIN_OUTPUT_LEN) {
-            return Err(Error::OutputTooShort);
+            Err(Error::OutputTooShort)
+        } else if len > output_len.unwrap_or(Params::MAX_OUTPUT_LEN) {
+            Err(Error::OutputTooLong)
+        } else {
+            Ok(())
         }
-        if len > output_len.unwrap_or(Params::MAX_OUTPUT_LEN) {
-            return Err(Error::OutputTooLong);
-        }
-        Ok(())
     }
 
     /// Refuses lent memory.
