@@ -1,6 +1,6 @@
 -- What the laws of Argon2 say.
 use Rattle.std.specs.Prelude.{◌≡◌, ℕ, ◌+◌, ◌*◌, ◌<◌, List, [], length, slice_index_or}
-use Rattle.argon2_base.specs.Block.{bytes_of}
+use Rattle.argon2_base.specs.Block.{bytes_of, zero_block}
 use Rattle.argon2_base.specs.LongHash.{long_hash}
 use Rattle.argon2_base.specs.Mixing.{mixed}
 use Rattle.argon2.specs.Context.{Context, context_with, IsValid, segment_length, lane_length, block_count}
@@ -13,6 +13,10 @@ use Rattle.argon2.specs.Tag.{tag_of}
 -- mixing does not mind the order of the two blocks
 abbrev pub MixingIsSymmetric : Type 0
 MixingIsSymmetric = (x y : List ℕ) → mixed x y ≡ mixed y x
+
+-- mixing a block with itself gives the zero block
+abbrev pub MixingWithItselfIsZero : Type 0
+MixingWithItselfIsZero = (x : List ℕ) → length x ≡ 128 → mixed x x ≡ zero_block
 
 -- The key identifier enters no hash.
 abbrev pub KeyIdIsNotHashed : Type 0

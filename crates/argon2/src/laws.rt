@@ -1,10 +1,15 @@
 //! Laws of Argon2: each is the contract of a function without parameters, and calling it does nothing.
 
-ghost use Rattle.argon2.specs.Laws.{KeyIdIsNotHashed, MixingIsSymmetric, BlocksFollowRule, NoOthersDo, SchedulesAgree, SchedulesFill, SchedulesGiveTag, Argon2iIsIndependent, Argon2idIsIndependentAtFirst};
+ghost use Rattle.argon2.specs.Laws.{KeyIdIsNotHashed, MixingIsSymmetric, MixingWithItselfIsZero, BlocksFollowRule, NoOthersDo, SchedulesAgree, SchedulesFill, SchedulesGiveTag, Argon2iIsIndependent, Argon2idIsIndependentAtFirst};
 
 /// The mixing of two blocks (RFC 9106, section 3.5) is the same in either order.
 pub fn mixing_symmetric()
     ensures { MixingIsSymmetric }
+{}
+
+/// The mixing of a block with itself is the block of zeros.
+pub fn mixing_with_itself()
+    ensures { MixingWithItselfIsZero }
 {}
 
 /// The key identifier of the parameters changes no hash.

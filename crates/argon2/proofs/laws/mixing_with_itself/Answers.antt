@@ -1,0 +1,26 @@
+use Rattle.std.proofs.Common.{◌≡◌, ℕ, List, [], ◌∷◌, ◌∙◌, length, refl, ap, ap₂}
+use Rattle.std.specs.Prelude.{replicate}
+use Rattle.std.specs.Int.Bits.{xor_self}
+use Rattle.argon2_base.specs.Block.{xor_blocks, zero_block}
+use Rattle.argon2_base.specs.Mixing.{mixed, by_rows, by_columns, column, row, perm, mix_columns, mix_diagonals, gb, xor_rotate, add_mul}
+use Rattle.argon2.proofs.laws.mixing_with_itself.Goals as goal
+
+-- the exclusive or of words with themselves is zeros
+zeros : (x : List ℕ) → xor_blocks x x ≡ replicate (length x) 0
+unfolding xor_blocks
+zeros [] = refl
+zeros (w ∷ x) = ap₂ (λ h t. h ∷ t) (xor_self w) (zeros x)
+
+-- and of zeros nothing else is made
+mixed_zeros : xor_blocks (by_columns (by_rows zero_block)) zero_block ≡ zero_block
+unfolding xor_blocks zero_block by_columns by_rows column row perm mix_columns mix_diagonals gb xor_rotate add_mul
+mixed_zeros = refl
+
+from_zeros : (x r : List ℕ) → xor_blocks x x ≡ r → mixed x x ≡ xor_blocks (by_columns (by_rows r)) r
+unfolding mixed
+from_zeros x r e = ap (λ r. xor_blocks (by_columns (by_rows r)) r) e
+
+pub returns : goal.returns
+unfolding zero_block
+returns c = λ x size.
+    from_zeros x zero_block (zeros x ∙ ap (λ n. replicate n 0) size) ∙ mixed_zeros
