@@ -1,7 +1,5 @@
 -- Lent memory after its first blocks were written.
-use Rattle.std.proofs.Common.{◌≡◌, ℕ, ◌+◌, ◌*◌, ◌++◌, ◌≤◌, List, [], length, take, drop, sym, ap, Result, Ok, Err, subst, ◌∙◌, arith}
-use Rattle.std.specs.Prelude.{OnErr, OnOk}
-use Rattle.argon2_base.specs.declared.error.Error.{Error}
+use Rattle.std.proofs.Common.{◌≡◌, ℕ, ◌+◌, ◌*◌, ◌++◌, ◌≤◌, List, [], length, take, drop, sym, ap, subst, ◌∙◌, arith}
 use Rattle.std.proofs.lemmas.List.{get_or_append_left, get_or-take, length-take-le}
 use Rattle.std.proofs.lemmas.List.FromFn.{length-map-range_with_len}
 use Rattle.std.proofs.lemmas.Nat.{mul-add-lt}
@@ -89,17 +87,3 @@ module _ (argon2 : Argon2) (count : ℕ) (all : count ≡ block_count (context_o
         matrix = left.matrix ∙ ap (matrix_of ctx password salt) (sym size);
         rest = left.rest;
       }
-
--- of a whole hash the tag
-pub only_tag : (argon2 : Argon2) (password salt output : List ℕ) (old new : Memory) (n : ℕ) (r : Result (Unit {0}) Error)
-    → OnOk r (IsHashed argon2 password salt output old new) → length output ≡ n
-    → OnOk r (output ≡ tag_of (context_of argon2) password salt n)
-only_tag argon2 password salt output old new n (Ok a) hashed size =
-    hashed.tag ∙ ap (tag_of (context_of argon2) password salt) size
-only_tag argon2 password salt output old new n (Err e) hashed size = tt
-
--- of what stays the output
-pub only_output : (output output' : List ℕ) (memory memory' : Memory) (r : Result (Unit {0}) Error)
-    → OnErr r ((output' ≡ output) × (memory' ≡ memory)) → OnErr r (output' ≡ output)
-only_output output output' memory memory' (Ok a) same = tt
-only_output output output' memory memory' (Err e) same = same.0

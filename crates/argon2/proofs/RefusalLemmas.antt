@@ -1,11 +1,9 @@
 -- Answers under refusals.
-use Rattle.std.proofs.Common.{◌≡◌, ℕ, ◌≤◌, Bool, true, false, List, [], ◌∷◌, ◌++◌, refl, ap, inr, Option, Some, None, Result, Ok, Err}
+use Rattle.std.proofs.Common.{◌≡◌, Bool, true, false, List, [], ◌∷◌, ◌++◌, refl, ap, Option, Some, None, Result, Ok, Err}
 use Rattle.std.specs.Prelude.{OnOk}
-use Rattle.std.proofs.lemmas.Bool.{le-ltb}
 use Rattle.std.specs.Result.{IsErr, IsErrAnd}
 use Rattle.argon2_base.specs.declared.error.Error.{Error}
-use Rattle.argon2.specs.Hashing.{MayAnswer}
-use Rattle.argon2.specs.Refusals.{answer_unless, first_of, memory_faults}
+use Rattle.argon2.specs.Refusals.{answer_unless, first_of}
 
 -- what is answered with a value is not refused
 pub not_refused : {A : Type 0} (refusal : Option Error) (a b : A) → Ok a ≡ answer_unless refusal b → refusal ≡ None
@@ -46,17 +44,3 @@ first_refused ((false, fault) ∷ rows) rest a b e h = first_refused rows rest a
 pub on_ok : {A E P : Type 0} (r : Result A E) → P → OnOk r P
 on_ok (Ok a) holds = holds
 on_ok (Err e) holds = tt
-
--- enough memory decides nothing
-pub room_enough : (rows : List (Bool × Error)) (count lent : ℕ) → count ≤ lent
-    → first_of (rows ++ memory_faults count lent) ≡ first_of rows
-room_enough [] count lent room = rw (le-ltb lent count room) refl
-room_enough ((true, fault) ∷ rows) count lent room = refl
-room_enough ((false, fault) ∷ rows) count lent room = room_enough rows count lent room
-
--- an answer of a call that asked for memory
-pub may_answer : (refusal : Option Error) (r : Result (Unit {0}) Error) → r ≡ answer_unless refusal tt → MayAnswer refusal r
-may_answer None (Ok a) h = refl
-may_answer None (Err e) h = absurd cc
-may_answer (Some fault) (Ok a) h = absurd cc
-may_answer (Some fault) (Err e) h = inr cc

@@ -40,6 +40,10 @@ own_parameters argon2 = (settings_of argon2).parameters
 abbrev pub context_of : Argon2 → Context
 context_of argon2 = context_with (settings_of argon2) (secret_of argon2)
 
+-- the same under other associated data
+abbrev pub context_under : Argon2 → List ℕ → Context
+context_under argon2 associated = record (context_of argon2) { associated = associated }
+
 -- it has these settings and this secret
 pub record IsWith (own : Settings) (key : List ℕ) (argon2 : Argon2) : Type 0 where
   pub settings : settings_of argon2 ≡ own

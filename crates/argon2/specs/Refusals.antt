@@ -1,7 +1,7 @@
 -- Orders of refusal, as tables.
 use Rattle.std.specs.Prelude.{ℕ, Bool, List, [], ◌∷◌, ◌++◌, nat_lt, if◌then◌else◌, Option, Some, None, unwrap_or, Result, Ok, Err}
 use Rattle.argon2_base.specs.declared.error.Error.{Error}
-use Rattle.argon2_base.specs.declared.error.Error.TheVariants.{MemoryTooLittle, OutputTooLong, OutputTooShort, PwdTooLong, SaltTooLong, SaltTooShort}
+use Rattle.argon2_base.specs.declared.error.Error.TheVariants.{AdTooLong, MemoryTooLittle, OutputTooLong, OutputTooShort, PwdTooLong, SaltTooLong, SaltTooShort}
 
 -- the fault beside the first test that holds
 abbrev pub first_of : {E : Type 0} → List (Bool × E) → Option E
@@ -35,3 +35,8 @@ memory_faults wanted lent = (nat_lt lent wanted, MemoryTooLittle) ∷ []
 -- why a hash is refused, memory aside
 abbrev pub length_refusal : Option ℕ → ℕ → ℕ → ℕ → Option Error
 length_refusal n output password salt = first_of (output_faults n output ++ input_faults password salt)
+
+-- the same with so many bytes of associated data, which are looked at first
+abbrev pub data_refusal : ℕ → Option ℕ → ℕ → ℕ → ℕ → Option Error
+data_refusal associated n output password salt =
+    if nat_lt 4294967295 associated then Some AdTooLong else length_refusal n output password salt

@@ -35,6 +35,10 @@ pub const RECOMMENDED_SALT_LEN: usize = 16;
 /// The most bytes of a secret.
 pub const MAX_SECRET_LEN: usize = 4294967295;
 
+/// The most bytes of the associated data of
+/// [`hash_password_into_with_data`](Argon2::hash_password_into_with_data).
+pub const MAX_DATA_LEN: usize = 4294967295;
+
 // A secret of at most 4294967295 bytes.
 #[derive(Clone, Copy)]
 struct Secret<'key> {
@@ -56,12 +60,12 @@ impl<'key> Argon2<'key> {
     ghost use Rattle.std.specs.Prelude.{◌≡◌, ◌≤◌, [], IfOk, IfErr, OnOk, OnErr, length, replicate};
     ghost use Rattle.argon2_base.specs.Block.{zero_block};
     ghost use Rattle.argon2_base.specs.declared.error.Error.TheVariants.{OutOfMemory};
-    ghost use Rattle.argon2.specs.Argon2.{context_of, own_parameters, secret_of, settings_of, settings_with, IsKeyed, IsWith};
+    ghost use Rattle.argon2.specs.Argon2.{context_of, context_under, own_parameters, secret_of, settings_of, settings_with, IsKeyed, IsWith};
     ghost use Rattle.argon2.specs.Context.{block_count, IsValid};
     ghost use Rattle.argon2.specs.Counting.{mixing_calls};
     ghost use Rattle.argon2.specs.Hashing.{fill_refusal, place_count, refusal_of, AreReferencesOf, IsFilled, IsHashed, IsWatched, MayAnswer};
     ghost use Rattle.argon2.specs.Params.{parameters_of};
-    ghost use Rattle.argon2.specs.Refusals.{answer_unless, length_refusal};
+    ghost use Rattle.argon2.specs.Refusals.{answer_unless, data_refusal, length_refusal};
     ghost use Rattle.argon2.specs.Tag.{tag_of};
 
     /// Hashing with these parameters and no secret. The key identifier of the parameters changes no
@@ -166,8 +170,49 @@ impl<'key> Argon2<'key> {
         ensures tag { OnOk result (out.new ≡ tag_of (context_of self.now) pwd.now salt.now (length out.old)) }
         ensures same { OnErr result (out.new ≡ out.old) }
     {
+        self.hash_password_into_with_data(alloc, self.params.data(), pwd, salt, out)
+    }
+
+    /// Writes the tag as [`hash_password_into`](Argon2::hash_password_into) does, under this associated
+    /// data in place of the parameters': 0 to 4294967295 bytes, where theirs has at most 32. No text
+    /// carries such data, so the calls that make and read texts take the parameters'.
+    ///
+    /// # Errors
+    /// Those of [`hash_password_into`](Argon2::hash_password_into), and before them
+    /// [`Error::AdTooLong`] where the data is longer. `out` is then as before.
+    pub fn hash_password_into_with_data<A: Allocator>(
+        &self,
+        alloc: A,
+        associated: &[u8],
+        pwd: &[u8],
+        salt: &[u8],
+        out: &mut [u8],
+    ) -> Result<()>
+        ensures answer { MayAnswer (data_refusal (length associated.now) (own_parameters self.now).output_len
+            (length out.old) (length pwd.now) (length salt.now)) result }
+
+        ensures tag { OnOk result
+            (out.new ≡ tag_of (context_under self.now associated.now) pwd.now salt.now (length out.old)) }
+
+        ensures same { OnErr result (out.new ≡ out.old) }
+    {
+        if associated.len() > MAX_DATA_LEN {
+            return Err(Error::AdTooLong);
+        }
         let mut memory = self.zeroed_blocks(alloc)?;
-        self.hash_password_into_with_memory(pwd, salt, out, memory.as_mut_slice())
+        let blocks = memory.as_mut_slice();
+        self.check(out.len(), pwd, salt, blocks)?;
+        let instance = self.instance_under(associated);
+        instance.fill_blocks(
+            pwd,
+            salt,
+            out.len() as u32,
+            blocks,
+            &mut [],
+            &mut Work::new(),
+        );
+        instance.write_tag(blocks, out);
+        Ok(())
     }
 
     /// Writes the tag as [`hash_password_into_with_memory`](Argon2::hash_password_into_with_memory)
@@ -290,7 +335,22 @@ impl<'key> Argon2<'key> {
         ensures value { result ≡ context_of self.now }
         ensures valid { IsValid (context_of self.now) }
     {
-        Instance::new(self.algorithm, self.version, &self.params, self.secret())
+        self.instance_under(self.params.data())
+    }
+
+    // The same under other associated data.
+    fn instance_under<'a>(&'a self, associated: &'a [u8]) -> Instance<'a>
+        requires { length associated.now ≤ MAX_DATA_LEN }
+        ensures value { result ≡ context_under self.now associated.now }
+        ensures valid { IsValid (context_of self.now) }
+    {
+        Instance::new(
+            self.algorithm,
+            self.version,
+            &self.params,
+            self.secret(),
+            associated,
+        )
     }
 }
 

@@ -42,19 +42,22 @@ impl<'a> Model for Instance<'a> {
 
     ghost invariant = { λ a. IsNone (first_fault a.m_cost a.t_cost a.p_cost None)
         × (a.segment_length ≡ a.m_cost / (4 * a.p_cost))
-        × (length a.secret.now < 2 ^ 32) × (length a.associated.now ≤ 32) };
+        × (length a.secret.now < 2 ^ 32) × (length a.associated.now < 2 ^ 32) };
 }
 
 impl<'a> Instance<'a> {
-    /// The instance of valid parameters.
+    /// The instance of valid parameters, with this data in place of theirs.
     pub(crate) fn new(
         algorithm: Algorithm,
         version: Version,
         params: &'a Params,
         secret: &'a [u8],
+        associated: &'a [u8],
     ) -> Instance<'a>
-        requires { length secret.now < 2 ^ 32 }
-        ensures { result ≡ context_with (settings_with algorithm version params.now) secret.now }
+        requires secret { length secret.now < 2 ^ 32 }
+        requires associated { length associated.now < 2 ^ 32 }
+        ensures { let own = settings_with algorithm version params.now in
+            result ≡ record (context_with own secret.now) { associated = associated.now } }
     {
         let m_cost = params.m_cost();
         let p_cost = params.p_cost();
@@ -66,7 +69,7 @@ impl<'a> Instance<'a> {
             p_cost,
             segment_length: m_cost / (4 * p_cost),
             secret,
-            associated: params.data(),
+            associated,
         }
     }
 
