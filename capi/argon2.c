@@ -1,6 +1,7 @@
 /*
- * argon2.h over the proved crate argon2_c. What is here decides nothing: it turns null pointers, lengths of
- * C strings and contexts into what the crate takes, holds constant texts, and gives the crate its memory.
+ * argon2.h over the proved crate argon2_c. The crate decides what is refused and makes tags and texts. The C
+ * turns null pointers, lengths of C strings and contexts into what the crate takes, copies what overlaps, calls
+ * the callbacks, wipes, and holds constant texts.
  */
 #define _GNU_SOURCE
 #include "argon2.h"
@@ -19,6 +20,8 @@ struct request {
     bool lacks_output, lacks_pwd, lacks_salt, lacks_secret, lacks_associated, has_allocate, has_free;
 };
 
+int32_t argon2_c_refusal(const struct request *, size_t output, size_t pwd, size_t salt, size_t secret,
+    size_t associated);
 int32_t argon2_c_hash(const struct request *, bytes pwd, size_t, bytes salt, size_t, bytes secret, size_t,
     bytes associated, size_t, uint8_t *out, size_t);
 int32_t argon2_c_length_refusal(size_t output, size_t pwd, size_t salt);
@@ -36,18 +39,27 @@ static uint8_t *some(const void *at) { return at ? (uint8_t *)at : nothing; }
 static size_t length(const void *at, size_t n) { return at ? n : 0; }
 static size_t absent(const void *at, size_t n) { return at ? 0 : n; }
 
-/* ---- the memory that the crate asks for: of the context's functions or malloc, wiped before it goes back */
+/* ---- wiping */
 
 int FLAG_clear_internal_memory = 1;
 
+static void wipe(void *at, size_t n) {
+    if (FLAG_clear_internal_memory) explicit_bzero(at, n);
+}
+
+/* Wipes what the crate's functions left on the stack, of which they use some 10 KiB. */
+static __attribute__((noinline)) void wipe_stack(void) {
+    uint8_t below[12 << 10];
+    wipe(below, sizeof below);
+}
+
+/* ---- the memory that the crate asks for */
+
 enum { HUGE_PAGE = 2 << 20, LARGE = 4 << 20 };
 
-/* Stands in front of each block, whose alignment it keeps. */
+/* Stands in front of each block of malloc's, whose alignment it keeps. */
 union header {
-    struct {
-        size_t whole;
-        deallocate_fptr give_back;
-    };
+    size_t whole;
     uint8_t room[64];
 };
 
@@ -56,8 +68,21 @@ struct tried {
     void *at; /* not null */
 };
 
-/* The context whose call this thread is in. */
-static _Thread_local const argon2_context *lender;
+/* Memory that a callback gave. The first request for so many bytes takes it. */
+struct lent {
+    uint8_t *at;
+    size_t n; /* 0 once it is taken */
+};
+
+/* What this thread lends to the crate's call that it is in. No callback runs during such a call. */
+static _Thread_local struct lent lent;
+
+/* Lends from now on, and returns what was lent before. */
+static struct lent lend(struct lent next) {
+    const struct lent before = lent;
+    lent = next;
+    return before;
+}
 
 /* Large memory is asked for in huge pages, which saves most page faults; where there are none, nothing is lost. */
 static uint8_t *system_memory(size_t whole) {
@@ -70,27 +95,23 @@ static uint8_t *system_memory(size_t whole) {
 
 struct tried rattle_alloc(size_t n, size_t alignment) {
     size_t whole = n + sizeof(union header);
-    uint8_t *at = NULL;
+    uint8_t *at;
     (void)alignment; /* at most that of malloc */
-    if (n > PTRDIFF_MAX - HUGE_PAGE) {
-        at = NULL;
-    } else if (lender && lender->allocate_cbk) {
-        if (lender->allocate_cbk(&at, whole) != 0) at = NULL;
-    } else {
-        at = system_memory(whole);
+    if (lent.n && n == lent.n) {
+        lent.n = 0;
+        return (struct tried){true, lent.at};
     }
+    at = n > PTRDIFF_MAX - HUGE_PAGE ? NULL : system_memory(whole);
     if (!at) return (struct tried){false, nothing};
     ((union header *)at)->whole = whole;
-    ((union header *)at)->give_back = lender ? lender->free_cbk : NULL;
     return (struct tried){true, at + sizeof(union header)};
 }
 
 void rattle_dealloc(void *block) {
     uint8_t *at = (uint8_t *)block - sizeof(union header);
-    const union header header = *(union header *)at;
-    if (FLAG_clear_internal_memory) explicit_bzero(at, header.whole);
-    if (header.give_back) header.give_back(at, header.whole);
-    else free(at);
+    if (block == lent.at) return;
+    wipe(at, ((union header *)at)->whole);
+    free(at);
 }
 
 struct tried rattle_realloc(void *block, size_t kept, size_t n, size_t alignment) {
@@ -106,20 +127,25 @@ struct tried rattle_realloc(void *block, size_t kept, size_t n, size_t alignment
 static uint8_t *output_memory(size_t n) { return malloc(n ? n : 1); }
 
 static void wipe_output(uint8_t *out, size_t n) {
-    if (FLAG_clear_internal_memory) explicit_bzero(out, n);
+    if (out) wipe(out, n);
     free(out);
 }
 
 /* ---- hashing */
 
+/* Whether two ranges have a byte in common. */
 static bool meet(const void *a, size_t n, const void *b, size_t m) {
-    return a && b && (uintptr_t)a < (uintptr_t)b + m && (uintptr_t)b < (uintptr_t)a + n;
+    return a && b && n && m && ((uintptr_t)a - (uintptr_t)b < m || (uintptr_t)b - (uintptr_t)a < n);
 }
 
-/* Hashes as the context says into `out`, which has the context's length and lies apart from all inputs. */
-static int hash_into(const argon2_context *c, argon2_type type, uint8_t *out) {
-    const argon2_context *outer = lender;
-    const struct request request = {
+/* Whether a range has a byte in common with an input. */
+static bool meets_input(const argon2_context *c, const void *at, size_t n) {
+    return meet(at, n, c->pwd, c->pwdlen) || meet(at, n, c->salt, c->saltlen)
+        || meet(at, n, c->secret, c->secretlen) || meet(at, n, c->ad, c->adlen);
+}
+
+static struct request requested(const argon2_context *c, argon2_type type) {
+    return (struct request){
         .algorithm = type, .version = c->version,
         .m_cost = c->m_cost, .t_cost = c->t_cost, .lanes = c->lanes, .threads = c->threads,
         .lacks_output = !c->out,
@@ -129,12 +155,46 @@ static int hash_into(const argon2_context *c, argon2_type type, uint8_t *out) {
         .lacks_associated = absent(c->ad, c->adlen) != 0,
         .has_allocate = c->allocate_cbk != NULL, .has_free = c->free_cbk != NULL,
     };
-    int answer;
-    lender = c;
-    answer = argon2_c_hash(&request, some(c->pwd), length(c->pwd, c->pwdlen), some(c->salt),
+}
+
+static int refusal(const argon2_context *c, argon2_type type) {
+    const struct request request = requested(c, type);
+    return argon2_c_refusal(&request, c->outlen, c->pwdlen, c->saltlen, c->secretlen, c->adlen);
+}
+
+/* Hashes as the context says into `out`, which has the context's length and lies apart from all inputs and
+ * from what is lent. */
+static int hash_into(const argon2_context *c, argon2_type type, uint8_t *out, struct lent lends) {
+    const struct request request = requested(c, type);
+    const struct lent before = lend(lends);
+    const int answer = argon2_c_hash(&request, some(c->pwd), length(c->pwd, c->pwdlen), some(c->salt),
         length(c->salt, c->saltlen), some(c->secret), length(c->secret, c->secretlen), some(c->ad),
         length(c->ad, c->adlen), some(out), length(out, c->outlen));
-    lender = outer;
+    lend(before);
+    wipe_stack();
+    return answer;
+}
+
+/* The same where the output may lie on an input. */
+static int hash_apart(const argon2_context *c, argon2_type type, struct lent lends) {
+    uint8_t *apart;
+    int answer;
+    if (!meets_input(c, c->out, c->outlen) && !meet(c->out, c->outlen, lends.at, lends.n))
+        return hash_into(c, type, c->out, lends);
+    apart = output_memory(c->outlen);
+    if (!apart) return ARGON2_MEMORY_ALLOCATION_ERROR;
+    answer = hash_into(c, type, apart, lends);
+    if (answer == ARGON2_OK) memcpy(c->out, apart, c->outlen);
+    wipe_output(apart, c->outlen);
+    return answer;
+}
+
+static int encode(const argon2_context *c, argon2_type type, uint8_t *text, size_t room) {
+    const struct lent before = lend((struct lent){0});
+    const int answer = argon2_c_encode(type, c->version, c->m_cost, c->t_cost, c->lanes, some(c->salt),
+        length(c->salt, c->saltlen), c->out, c->outlen, text, room);
+    lend(before);
+    wipe_stack();
     return answer;
 }
 
@@ -144,21 +204,23 @@ static void wipe_input(uint8_t *at, uint32_t *n) {
 }
 
 int argon2_ctx(argon2_context *c, argon2_type type) {
-    uint8_t *out;
+    struct lent given = {0}, lends = {0};
     int answer;
     if (!c) return ARGON2_INCORRECT_PARAMETER;
-    out = c->out;
-    if (meet(out, c->outlen, c->pwd, c->pwdlen) || meet(out, c->outlen, c->salt, c->saltlen)
-        || meet(out, c->outlen, c->secret, c->secretlen) || meet(out, c->outlen, c->ad, c->adlen)) {
-        out = output_memory(c->outlen);
-        if (!out) return ARGON2_MEMORY_ALLOCATION_ERROR;
+    answer = refusal(c, type);
+    if (answer != ARGON2_OK) return answer;
+    if (c->allocate_cbk) {
+        given.n = (size_t)(c->m_cost / (4 * c->lanes)) * (4 * c->lanes) * 1024;
+        (void)c->allocate_cbk(&given.at, given.n);
+        if (!given.at) return ARGON2_MEMORY_ALLOCATION_ERROR;
+        if (!meets_input(c, given.at, given.n)) lends = given;
     }
-    answer = hash_into(c, type, out);
+    answer = hash_apart(c, type, lends);
     if (answer == ARGON2_OK && c->flags & ARGON2_FLAG_CLEAR_PASSWORD) wipe_input(c->pwd, &c->pwdlen);
     if (answer == ARGON2_OK && c->flags & ARGON2_FLAG_CLEAR_SECRET) wipe_input(c->secret, &c->secretlen);
-    if (out != c->out) {
-        if (answer == ARGON2_OK) memcpy(c->out, out, c->outlen);
-        wipe_output(out, c->outlen);
+    if (given.at) {
+        wipe(given.at, given.n);
+        c->free_cbk(given.at, given.n);
     }
     return answer;
 }
@@ -167,19 +229,27 @@ int argon2_hash(const uint32_t t_cost, const uint32_t m_cost, const uint32_t lan
     const size_t pwdlen, const void *salt, const size_t saltlen, void *hash, const size_t hashlen,
     char *encoded, const size_t encodedlen, argon2_type type, const uint32_t version) {
     argon2_context c = {
-        .outlen = hashlen, .pwd = (uint8_t *)pwd, .pwdlen = pwdlen, .salt = (uint8_t *)salt, .saltlen = saltlen,
-        .t_cost = t_cost, .m_cost = m_cost, .lanes = lanes, .threads = lanes, .version = version,
+        .out = nothing /* while it may be refused */, .outlen = hashlen, .pwd = (uint8_t *)pwd, .pwdlen = pwdlen,
+        .salt = (uint8_t *)salt, .saltlen = saltlen, .t_cost = t_cost, .m_cost = m_cost, .lanes = lanes,
+        .threads = lanes, .version = version,
     };
+    size_t room = 0; /* for the text, exactly */
+    uint8_t *text;
     int answer = argon2_c_length_refusal(hashlen, pwdlen, saltlen);
+    if (answer == ARGON2_OK) answer = refusal(&c, type);
     if (answer != ARGON2_OK) return answer;
+    if (encoded && encodedlen) {
+        room = argon2_encodedlen(t_cost, m_cost, lanes, saltlen, hashlen, type);
+        if (encodedlen < room) return ARGON2_ENCODING_FAIL;
+    }
     c.out = output_memory(hashlen);
-    if (!c.out) return ARGON2_MEMORY_ALLOCATION_ERROR;
-    answer = hash_into(&c, type, c.out);
-    if (answer == ARGON2_OK && encoded && encodedlen)
-        answer = argon2_c_encode(type, version, m_cost, t_cost, lanes, some(salt), length(salt, saltlen),
-            c.out, hashlen, (uint8_t *)encoded, encodedlen);
+    text = output_memory(room);
+    answer = c.out && text ? hash_into(&c, type, c.out, (struct lent){0}) : ARGON2_MEMORY_ALLOCATION_ERROR;
+    if (answer == ARGON2_OK && room) answer = encode(&c, type, text, room);
     if (answer == ARGON2_OK && hash) memcpy(hash, c.out, hashlen);
+    if (answer == ARGON2_OK && room) memcpy(encoded, text, room);
     wipe_output(c.out, hashlen);
+    wipe_output(text, room);
     return answer;
 }
 
@@ -191,8 +261,12 @@ size_t argon2_encodedlen(uint32_t t_cost, uint32_t m_cost, uint32_t lanes, uint3
 /* ---- verifying */
 
 int argon2_verify(const char *encoded, const void *pwd, const size_t pwdlen, argon2_type type) {
-    return argon2_c_verify(type, encoded != NULL, some(encoded), encoded ? strlen(encoded) : 0, some(pwd),
+    const struct lent before = lend((struct lent){0});
+    const int answer = argon2_c_verify(type, encoded != NULL, some(encoded), encoded ? strlen(encoded) : 0, some(pwd),
         length(pwd, pwdlen), absent(pwd, pwdlen));
+    lend(before);
+    wipe_stack();
+    return answer;
 }
 
 int argon2_verify_ctx(argon2_context *c, const char *hash, argon2_type type) {
@@ -236,42 +310,42 @@ const char *argon2_type2string(argon2_type type, int uppercase) {
 
 const char *argon2_error_message(int code) {
     static const char *const texts[] = {
-        "all went well",
-        "there is no output",
-        "the output is too short",
-        "the output is too long",
-        "the password is too short",
-        "the password is too long",
-        "the salt is too short",
-        "the salt is too long",
-        "the associated data is too short",
-        "the associated data is too long",
-        "the secret is too short",
-        "the secret is too long",
-        "the number of passes is too small",
-        "the number of passes is too large",
-        "the memory cost is too small",
-        "the memory cost is too large",
-        "there are too few lanes",
-        "there are too many lanes",
-        "the password has a length and a null pointer",
-        "the salt has a length and a null pointer",
-        "the secret has a length and a null pointer",
-        "the associated data has a length and a null pointer",
-        "a request for memory was refused",
-        "memory can be asked for but not given back",
-        "memory can be given back but not asked for",
-        "there is no context",
-        "there is no such variant or version",
-        "the output does not fit its pointer",
-        "there are too few threads",
-        "there are too many threads",
-        "an argument is missing",
-        "the text does not fit its room",
-        "the text is not a hash of this variant",
-        "a thread failed",
-        "a length in the text is out of range",
-        "the password does not have this hash",
+        "OK",
+        "Output pointer is NULL",
+        "Output is too short",
+        "Output is too long",
+        "Password is too short",
+        "Password is too long",
+        "Salt is too short",
+        "Salt is too long",
+        "Associated data is too short",
+        "Associated data is too long",
+        "Secret is too short",
+        "Secret is too long",
+        "Time cost is too small",
+        "Time cost is too large",
+        "Memory cost is too small",
+        "Memory cost is too large",
+        "Too few lanes",
+        "Too many lanes",
+        "Password pointer is NULL, but password length is not 0",
+        "Salt pointer is NULL, but salt length is not 0",
+        "Secret pointer is NULL, but secret length is not 0",
+        "Associated data pointer is NULL, but ad length is not 0",
+        "Memory allocation error",
+        "The free memory callback is NULL",
+        "The allocate memory callback is NULL",
+        "Argon2_Context context is NULL",
+        "There is no such version of Argon2",
+        "Output pointer mismatch",
+        "Not enough threads",
+        "Too many threads",
+        "Missing arguments",
+        "Encoding failed",
+        "Decoding failed",
+        "Threading failure",
+        "Some of encoded parameters are too long or too short",
+        "The password does not match the supplied hash",
     };
-    return code <= 0 && code >= ARGON2_VERIFY_MISMATCH ? texts[-code] : "unknown code";
+    return code <= 0 && code >= ARGON2_VERIFY_MISMATCH ? texts[-code] : "Unknown error code";
 }

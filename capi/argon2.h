@@ -3,7 +3,8 @@
  * so that a program that was written for the one runs on the other without a change.
  *
  * What each function answers is the contract of a function of the crate argon2_c; docs/DIFFERENCES.md
- * lists what differs from the reference. Where an answer is not ARGON2_OK, nothing was written.
+ * lists what differs from the reference. Where an answer is not ARGON2_OK, nothing was written, except that
+ * argon2_verify_ctx writes the tag of a password that does not match. Outputs may overlap inputs and each other.
  * All functions may be called by several threads at once.
  */
 #ifndef ARGON2_H
@@ -50,11 +51,11 @@ extern "C" {
 #define ARGON2_MIN_TIME UINT32_C(1)
 #define ARGON2_MAX_TIME UINT32_C(0xFFFFFFFF)
 
-/* Bytes of what goes in. Associated data is limited to 32, fewer than the reference takes. */
+/* Bytes of what goes in. */
 #define ARGON2_MIN_PWD_LENGTH UINT32_C(0)
 #define ARGON2_MAX_PWD_LENGTH UINT32_C(0xFFFFFFFF)
 #define ARGON2_MIN_AD_LENGTH UINT32_C(0)
-#define ARGON2_MAX_AD_LENGTH UINT32_C(32)
+#define ARGON2_MAX_AD_LENGTH UINT32_C(0xFFFFFFFF)
 #define ARGON2_MIN_SALT_LENGTH UINT32_C(8)
 #define ARGON2_MAX_SALT_LENGTH UINT32_C(0xFFFFFFFF)
 #define ARGON2_MIN_SECRET UINT32_C(0)
@@ -112,10 +113,12 @@ typedef enum Argon2_ErrorCodes {
 
 /* ---- what a hash is made of */
 
-/* Puts so many bytes of memory, aligned as malloc's, into the first argument, and answers 0. */
+/* Writes the address of so many bytes of memory, aligned as malloc's, into the first argument, or leaves NULL there.
+ * The result is ignored. A callback may call each function of this library, and may leave by longjmp or an
+ * exception. */
 typedef int (*allocate_fptr)(uint8_t **memory, size_t bytes_to_allocate);
 
-/* Takes memory back. */
+/* Takes the memory back, last of all that a call does. */
 typedef void (*deallocate_fptr)(uint8_t *memory, size_t bytes_to_allocate);
 
 typedef struct Argon2_Context {
@@ -208,7 +211,7 @@ ARGON2_PUBLIC int argon2d_verify_ctx(argon2_context *context, const char *hash);
 ARGON2_PUBLIC int argon2i_verify_ctx(argon2_context *context, const char *hash);
 ARGON2_PUBLIC int argon2id_verify_ctx(argon2_context *context, const char *hash);
 
-/* A text for people of what went wrong. */
+/* The reference's message for a code. */
 ARGON2_PUBLIC const char *argon2_error_message(int error_code);
 
 #ifdef __cplusplus

@@ -31,7 +31,7 @@ request_faults r output password salt secret associated =
     ∷ (r.lacks_secret, secret_ptr_mismatch)
     ∷ (nat_lt 4294967295 secret, secret_too_long)
     ∷ (r.lacks_associated, ad_ptr_mismatch)
-    ∷ (nat_lt 32 associated, ad_too_long)
+    ∷ (nat_lt 4294967295 associated, ad_too_long)
     ∷ (nat_lt r.m_cost 8, memory_too_little)
     ∷ (nat_lt r.m_cost (8 * r.lanes), memory_too_little)
     ∷ (nat_lt r.t_cost 1, time_too_small)
@@ -62,7 +62,7 @@ pub record IsFaultless (r : Request) (output password salt secret associated : �
   pub salt_least : 8 ≤ salt
   pub salt_most : salt ≤ 4294967295
   pub secret_most : secret ≤ 4294967295
-  pub associated_most : associated ≤ 32
+  pub associated_most : associated ≤ 4294967295
   pub memory_least : 8 * r.lanes ≤ r.m_cost
   pub some_pass : 1 ≤ r.t_cost
   pub some_lane : 1 ≤ r.lanes

@@ -14,7 +14,7 @@ pub const PWD_TOO_LONG: i32 = -5;
 pub const SALT_TOO_SHORT: i32 = -6;
 /// The salt is longer than 4294967295 bytes.
 pub const SALT_TOO_LONG: i32 = -7;
-/// The associated data is longer than 32 bytes.
+/// The associated data is longer than 4294967295 bytes.
 pub const AD_TOO_LONG: i32 = -9;
 /// The secret is longer than 4294967295 bytes.
 pub const SECRET_TOO_LONG: i32 = -11;

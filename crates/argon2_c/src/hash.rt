@@ -1,6 +1,6 @@
 //! Hashing, and comparing what was hashed.
 
-ghost use Rattle.std.specs.Prelude.{◌≡◌, ◌≢◌, ◌≤◌, ◌⊎◌, None, length, if◌then◌else◌};
+ghost use Rattle.std.specs.Prelude.{◌≡◌, ◌≢◌, ◌≤◌, ◌⊎◌, None, [], length, if◌then◌else◌};
 ghost use Rattle.std.specs.Str.{bytes_eq};
 ghost use Rattle.argon2.specs.Algorithm.{algorithm_number};
 ghost use Rattle.argon2.specs.Argon2.{context_of, own_parameters};
@@ -12,7 +12,7 @@ ghost use Rattle.argon2_c.specs.Requests.{IsFaultless, asked, request_faults};
 
 use crate::code::{MEMORY_ALLOCATION_ERROR, OK, VERIFY_MISMATCH};
 use crate::request::{Request, refusal};
-use argon2::{Algorithm, Argon2, AssociatedData, ParamsBuilder, Version};
+use argon2::{Algorithm, Argon2, ParamsBuilder, Version};
 use argon2_base::phc::are_equal;
 use std::alloc::Global;
 
@@ -46,35 +46,34 @@ pub fn hash(
     let argon2 = hashing(
         request,
         secret,
-        associated,
         out.len(),
         pwd.len(),
         salt.len(),
+        associated.len(),
     );
-    match argon2.hash_password_into(alloc, pwd, salt, out) {
+    match argon2.hash_password_into_with_data(alloc, associated, pwd, salt, out) {
         Ok(()) => OK,
         Err(_) => MEMORY_ALLOCATION_ERROR,
     }
 }
 
-// Hashing as asked for, where nothing is refused.
+// Hashing as asked for but for associated data, where nothing is refused.
 fn hashing<'key>(
     request: &Request,
     secret: &'key [u8],
-    associated: &[u8],
     output: usize,
     pwd: usize,
     salt: usize,
+    associated: usize,
 ) -> Argon2<'key>
-    requires { IsFaultless request.now output pwd salt (length secret.now) (length associated.now) }
-    ensures context { context_of result ≡ asked request.now secret.now associated.now }
+    requires { IsFaultless request.now output pwd salt (length secret.now) associated }
+    ensures context { context_of result ≡ asked request.now secret.now [] }
     ensures any_length { (own_parameters result).output_len ≡ None }
 {
     let mut builder = ParamsBuilder::new();
     builder.m_cost(request.m_cost);
     builder.t_cost(request.t_cost);
     builder.p_cost(request.lanes);
-    builder.data(AssociatedData::new(associated).unwrap());
     let params = builder.build().unwrap();
     let version = version(request.version);
     Argon2::new_with_secret(secret, variant(request.algorithm), version, params).unwrap()

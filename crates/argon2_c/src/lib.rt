@@ -42,6 +42,21 @@ pub extern "C" fn argon2_c_hash(
     hash::hash(alloc, request, pwd, salt, secret, associated, out)
 }
 
+/// The code of the first fault of a request for so many bytes, or 0.
+#[unsafe(no_mangle)]
+pub extern "C" fn argon2_c_refusal(
+    request: &Request,
+    output: usize,
+    pwd: usize,
+    salt: usize,
+    secret: usize,
+    associated: usize,
+) -> i32
+    ensures { result ≡ unwrap_or (first_of (request_faults request.now output pwd salt secret associated)) ok }
+{
+    request::refusal(request, output, pwd, salt, secret, associated).unwrap_or(code::OK)
+}
+
 /// The code by which `argon2_hash` refuses these lengths before all else, or 0.
 #[unsafe(no_mangle)]
 pub extern "C" fn argon2_c_length_refusal(output: usize, pwd: usize, salt: usize) -> i32

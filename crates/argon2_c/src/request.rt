@@ -5,6 +5,7 @@ ghost use Rattle.argon2.specs.Refusals.{first_of};
 ghost use Rattle.argon2_c.specs.Requests.{IsFaultless, length_faults, request_faults};
 
 use crate::code::*;
+use argon2::{MAX_DATA_LEN, MAX_PWD_LEN, MAX_SALT_LEN, MAX_SECRET_LEN, MIN_SALT_LEN, Params};
 
 /// What a C caller asks for beside its bytes.
 #[repr(C)]
@@ -53,37 +54,37 @@ pub fn refusal(
     if request.lacks_output {
         return Some(OUTPUT_PTR_NULL);
     }
-    if output < 4 {
+    if output < Params::MIN_OUTPUT_LEN {
         return Some(OUTPUT_TOO_SHORT);
     }
-    if output > 4294967295 {
+    if output > Params::MAX_OUTPUT_LEN {
         return Some(OUTPUT_TOO_LONG);
     }
     if request.lacks_pwd {
         return Some(PWD_PTR_MISMATCH);
     }
-    if pwd > 4294967295 {
+    if pwd > MAX_PWD_LEN {
         return Some(PWD_TOO_LONG);
     }
     if request.lacks_salt {
         return Some(SALT_PTR_MISMATCH);
     }
-    if salt < 8 {
+    if salt < MIN_SALT_LEN {
         return Some(SALT_TOO_SHORT);
     }
-    if salt > 4294967295 {
+    if salt > MAX_SALT_LEN {
         return Some(SALT_TOO_LONG);
     }
     if request.lacks_secret {
         return Some(SECRET_PTR_MISMATCH);
     }
-    if secret > 4294967295 {
+    if secret > MAX_SECRET_LEN {
         return Some(SECRET_TOO_LONG);
     }
     if request.lacks_associated {
         return Some(AD_PTR_MISMATCH);
     }
-    if associated > 32 {
+    if associated > MAX_DATA_LEN {
         return Some(AD_TOO_LONG);
     }
     if request.m_cost < 8 || (request.m_cost as u64) < 8 * request.lanes as u64 {
@@ -120,16 +121,16 @@ pub fn refusal(
 pub fn length_refusal(output: usize, pwd: usize, salt: usize) -> Option<i32>
     ensures { result ≡ first_of (length_faults output pwd salt) }
 {
-    if pwd > 4294967295 {
+    if pwd > MAX_PWD_LEN {
         return Some(PWD_TOO_LONG);
     }
-    if salt > 4294967295 {
+    if salt > MAX_SALT_LEN {
         return Some(SALT_TOO_LONG);
     }
-    if output > 4294967295 {
+    if output > Params::MAX_OUTPUT_LEN {
         return Some(OUTPUT_TOO_LONG);
     }
-    if output < 4 {
+    if output < Params::MIN_OUTPUT_LEN {
         return Some(OUTPUT_TOO_SHORT);
     }
     None
