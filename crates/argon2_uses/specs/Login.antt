@@ -1,12 +1,11 @@
 -- What a service asks of its login store.
-use Rattle.std.specs.Prelude.{◌≡◌, ◌≢◌, ℕ, List, Option, Some, Result, Ok, Err, IsSome, IsSomeAnd}
-use Rattle.std.specs.FinMap.{get, insert}
+use Rattle.std.specs.Prelude.{◌≡◌, ℕ, List, Option, Some, Result, Ok, Err, IsSome, IsSomeAnd}
+use Rattle.std.specs.FinMap.{get}
 use Rattle.argon2.specs.Accepts.{AcceptsBy}
-use Rattle.argon2.specs.Login.{store_of, target_of}
-use Rattle.argon2.specs.Made.{Target, made, IsHashAnswer}
+use Rattle.argon2.specs.Login.{AcceptedStep, store_of, target_of}
+use Rattle.argon2.specs.Made.{Target, IsHashAnswer}
 use Rattle.argon2.specs.declared.login.Login.{Login}
 use Rattle.argon2.specs.declared.login.answers.Accepted.{Accepted}
-use Rattle.argon2.specs.declared.login.answers.Accepted.TheVariants.{Rehashed}
 use Rattle.argon2.specs.declared.login.answers.LoginError.{LoginError}
 use Rattle.argon2.specs.declared.login.answers.LoginError.TheVariants.{NameTaken, OutOfMemory, Refused}
 
@@ -19,15 +18,11 @@ HasPasswordUnder secret login name password =
 abbrev pub HasPassword : Login → List ℕ → List ℕ → Type 0
 HasPassword login name password = HasPasswordUnder (target_of login).secret login name password
 
--- the texts of all other names stay
-abbrev pub KeepsOthers : List ℕ → Login → Login → Type 0
-KeepsOthers name old new =
-    (other : List ℕ) → other ≢ name → get (store_of new) other ≡ get (store_of old) other
-
--- what a login leaves: a text that was made anew, or all as it was
+-- what a login finds and leaves: a current text that stays, one that was not current and was made
+-- anew, or one that is not current and stays; else all is as it was
 abbrev pub Leaves : Login → List ℕ → List ℕ → List ℕ → Result (Option Accepted) LoginError → Login → Type 0
-Leaves old name password drawn (Ok (Some Rehashed)) new =
-    store_of new ≡ insert (store_of old) name (made (target_of old) password drawn)
+Leaves old name password drawn (Ok (Some did)) new = IsSomeAnd (get (store_of old) name) (λ v.
+    AcceptedStep (target_of old) (store_of old) name password drawn v did (store_of new))
 Leaves old name password drawn _ new = store_of new ≡ store_of old
 
 -- why a name is not registered with a password and a salt

@@ -2,7 +2,6 @@
 #![tactic(auto)]
 
 pub mod arena;
-pub mod auditor;
 pub mod bound;
 pub mod digest;
 pub mod login;

@@ -1,14 +1,16 @@
 //! Logging in: names with passwords, over a store that renews old texts.
 
-ghost use Rattle.std.specs.Prelude.{◌≡◌, ◌↔◌, ◌⊎◌, None, IsSome, IfOk, IfErr, OnOk, OnErr, MatchResult};
+ghost use Rattle.std.specs.Prelude.{◌≡◌, ◌≢◌, ◌↔◌, ◌⊎◌, Some, None, IsSome, IsSomeAnd, IfOk, IfErr, OnOk, OnErr, MatchResult};
 ghost use Rattle.std.specs.FinMap.{get};
 ghost use Rattle.rand_core.specs.Stream.{fill_bytes};
 ghost use Rattle.argon2.specs.Argon2.{secret_of};
-ghost use Rattle.argon2.specs.Login.{store_of, target_of};
+ghost use Rattle.argon2.specs.Login.{IsCurrent, KeepsOthers, store_of, target_of};
 ghost use Rattle.argon2.specs.Made as made_under;
+ghost use Rattle.argon2.specs.Made.{made};
 ghost use Rattle.argon2.specs.base_declared.error.password_hash.Error.TheVariants.{OutOfMemory};
+ghost use Rattle.argon2.specs.declared.login.answers.Accepted.TheVariants.{Kept};
 ghost use Rattle.argon2.specs.declared.login.answers.LoginError.TheVariants.{Refused};
-ghost use Rattle.argon2_uses.specs.Login.{HasPassword, HasPasswordUnder, KeepsOthers, Leaves, RegisterRefusal};
+ghost use Rattle.argon2_uses.specs.Login.{HasPassword, HasPasswordUnder, Leaves, RegisterRefusal};
 
 use argon2::login::{Accepted, Login, LoginError};
 use argon2::password_hash::Error;
@@ -32,7 +34,9 @@ pub fn register<R: Rng>(
     ensures new_name { OnOk result (get (store_of store.old) name.now ≡ None) }
     ensures registered { OnOk result
         (HasPasswordUnder (secret_of argon2.now) store.new name.now password.now) }
-    ensures others { KeepsOthers name.now store.old store.new }
+    ensures text { OnOk result (get (store_of store.new) name.now ≡ Some
+        (made (made_under.target_of argon2.now) password.now (fill_bytes 16 (R.stream rng.old)).0)) }
+    ensures others { KeepsOthers name.now (store_of store.old) (store_of store.new) }
     ensures target { target_of store.new ≡ target_of store.old }
     ensures refused { IfErr result (RegisterRefusal (made_under.target_of argon2.now) store.old
         name.now password.now (fill_bytes 16 (R.stream rng.old)).0) }
@@ -63,6 +67,7 @@ pub fn log_in<R: Rng>(
         IsSome accepted → HasPassword store.new name.now password.now) }
     ensures left { Leaves store.old name.now password.now (fill_bytes 16 (R.stream rng.old)).0
         result store.new }
+    ensures others { KeepsOthers name.now (store_of store.old) (store_of store.new) }
     ensures target { target_of store.new ≡ target_of store.old }
 {
     match store.login(rng, name, password) {
@@ -70,6 +75,49 @@ pub fn log_in<R: Rng>(
         Err(LoginError::NameUnknown | LoginError::Refused(Error::PasswordInvalid)) => Ok(None),
         Err(e) => Err(e),
     }
+}
+
+/// Takes a name over from elsewhere with its text, and logs it in. An error of [`Login::login`]
+/// leaves the name with that text.
+///
+/// # Errors
+/// Those of [`Login::add`], and else those of [`Login::login`].
+pub fn take_over<R: Rng>(
+    store: &mut Login<'_>,
+    rng: &mut R,
+    name: &str,
+    text: &str,
+    password: &[u8],
+) -> Result<Accepted, LoginError>
+    ensures current { IfOk result (λ did. did ≢ Kept →
+        IsSomeAnd (get (store_of store.new) name.now) (IsCurrent (target_of store.new))) }
+    ensures others { KeepsOthers name.now (store_of store.old) (store_of store.new) }
+{
+    store.add(name, text)?;
+    store.login(rng, name, password)
+}
+
+/// A store of the same names and texts that renews them under another target.
+///
+/// # Errors
+/// [`LoginError::Refused`] where the target's hashes don't fit into texts, and
+/// [`LoginError::OutOfMemory`].
+pub fn moved<'key>(
+    store: &Login<'_>,
+    alloc: Global,
+    target: Argon2<'key>,
+) -> Result<Login<'key>, LoginError>
+    ensures texts { IfOk result (λ new. store_of new ≡ store_of store.now) }
+    ensures target { IfOk result (λ new. target_of new ≡ made_under.target_of target.entry) }
+{
+    let mut new = match Login::new(alloc, target) {
+        Ok(new) => new,
+        Err(e) => return Err(LoginError::Refused(e)),
+    };
+    for (name, text) in store.texts() {
+        new.add(name, text.text().as_str())?;
+    }
+    Ok(new)
 }
 
 #[cfg(test)]

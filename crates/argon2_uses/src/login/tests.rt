@@ -1,4 +1,4 @@
-use super::{log_in, register};
+use super::{log_in, moved, register, take_over};
 use argon2::login::{Accepted, Login, LoginError};
 use argon2::{Argon2, Params};
 use rand_chacha::ChaCha20Rng;
@@ -38,5 +38,29 @@ fn registers_and_logs_in(rt: HostRuntime) -> Result<(), Fail> {
             "{name} {password}"
         );
     }
+    Ok(())
+}
+
+#[test]
+fn takes_over_and_moves(rt: HostRuntime) -> Result<(), Fail> {
+    let alloc = rt.alloc();
+    let mut rng = ChaCha20Rng::from_seed([7; 32]);
+    let low = Argon2::from(Params::new(8, 1, 1, None)?);
+    let high = Argon2::from(Params::new(16, 1, 1, None)?);
+    let mut store = Login::new(alloc, low)?;
+    assert_eq!(rt;
+        take_over(&mut store, &mut rng, "ann", OLD, b"password"),
+        Ok(Accepted::Rehashed)
+    );
+    store.add("bob", OLD)?;
+    let mut store = moved(&store, alloc, high)?;
+    for name in ["ann", "bob"] {
+        assert_eq!(rt;
+            log_in(&mut store, &mut rng, name, b"password"),
+            Ok(Some(Accepted::Rehashed)),
+            "{name}"
+        );
+    }
+    assert_eq!(rt; store.texts().count(), 2);
     Ok(())
 }

@@ -8,4 +8,4 @@ pub returns-in-Ok-clause-left : goal.returns-in-Ok-clause-left
 returns-in-Ok-clause-left g c =
     login_leaves c.args.store.now c.args.name.now c.args.password.now
     (fill_bytes 16 (g.R.Rng.stream c.args.rng.now)).0 (get (store_of c.args.store.now) c.args.name.now) c.in-Ok.accepted
-    c.login.new.self c.in-Ok.ensures.step
+    (store_of c.login.new.self) c.in-Ok.ensures.step
