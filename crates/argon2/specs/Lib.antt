@@ -1,6 +1,7 @@
 pub mod Accepts
 pub mod Algorithm
 pub mod Argon2
+pub mod Bound
 pub mod ByteLists
 pub mod Context
 pub mod Counting

@@ -2,6 +2,7 @@
 #![tactic(auto)]
 
 pub mod algorithm;
+pub mod bound;
 mod context;
 pub mod kdf;
 pub mod laws;

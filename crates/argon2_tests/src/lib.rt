@@ -11,6 +11,8 @@ mod blake2b_long;
 #[cfg(test)]
 mod block;
 #[cfg(test)]
+mod bound;
+#[cfg(test)]
 mod hashing;
 #[cfg(test)]
 mod login;

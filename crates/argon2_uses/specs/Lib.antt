@@ -1,5 +1,4 @@
 pub mod Arena
-pub mod Bound
 pub mod Login
 pub mod Passwords
 pub mod Scheduler

@@ -2,7 +2,6 @@
 #![tactic(auto)]
 
 pub mod arena;
-pub mod bound;
 pub mod digest;
 pub mod login;
 pub mod passwords;

@@ -1,14 +1,14 @@
 use Rattle.std.proofs.Common.{rules, arith, sym}
+use Rattle.argon2.specs.Bound.{IsWithin}
 use Rattle.argon2.specs.Params.{parameters_of}
-use Rattle.argon2_uses.specs.Bound.{IsWithin}
-use Rattle.argon2_uses.proofs.bound.Bound.admit.Goals as goal
+use Rattle.argon2.proofs.bound.Bound.admit_hash.Goals as goal
 
 pub returns-clause-within : goal.returns-clause-within
 returns-clause-within c =
     let asked = parameters_of c.in_ok-params.params in
     let within : IsWithin c.args.self.now asked = search rules in
-    let filled = c.block_count-blocks.ensures.value in
-    let least = c.block_count-blocks.ensures.in_memory in
+    let filled = c.block_count.ensures.value in
+    let least = c.block_count.ensures.in_memory in
     let most = within.0 in (
       record {
         parameters = asked;

@@ -1,0 +1,83 @@
+-- What a stored text asks for, and whether a bound admits it.
+use Rattle.std.specs.Prelude.{◌≡◌, ◌⊎◌, ℕ, ◌≤◌, ◌*◌, List, codes, length, Result, Ok, Err, IsErrAnd}
+use Rattle.std.specs.Option.{option_map}
+use Rattle.argon2_base.specs.Error.{Fault, fault_of, hash_error_text}
+use Rattle.argon2_base.specs.PhcText.{Phc, PhcText}
+use Rattle.argon2_base.specs.declared.error.password_hash.Error.{Error}
+use Rattle.argon2_base.specs.declared.error.password_hash.Error.TheVariants.{EncodingInvalid, OutOfMemory}
+use Rattle.argon2.specs.declared.bound.Bound.{Bound}
+use Rattle.argon2.specs.declared.bound.BoundError.{BoundError}
+use Rattle.argon2.specs.declared.bound.BoundError.TheVariants.{TooExpensive, Refused}
+use Rattle.argon2.specs.Accepts.{Accepts, AcceptsBy, IsVerifyAnswer}
+use Rattle.argon2.specs.ListedParameters.{params_of}
+use Rattle.argon2.specs.Login.{IsText}
+use Rattle.argon2.specs.Parameters.{Parameters}
+use Rattle.argon2.specs.Shape.{block_count}
+
+-- the parameters that a text's value asks for, or why it has none
+abbrev pub asked_of : Phc → Result Parameters Fault
+asked_of v = params_of (option_map length v.hash) v.params
+
+-- the bytes of the memory that is filled
+abbrev pub bytes_filled : Parameters → ℕ
+bytes_filled parameters = 1024 * block_count parameters.m_cost parameters.p_cost
+
+-- no cost is above the bound's
+abbrev pub IsWithin : Bound → Parameters → Type 0
+IsWithin bound parameters = (parameters.m_cost ≤ bound.m_cost)
+    × (parameters.t_cost ≤ bound.t_cost) × (parameters.p_cost ≤ bound.p_cost)
+
+-- the value asks for costs within the bound, and so for at most that much memory
+pub record AsksWithin (bound : Bound) (v : Phc) : Type 0 where
+  pub parameters : Parameters
+  pub asked : asked_of v ≡ Ok parameters
+  pub within : IsWithin bound parameters
+  pub memory : bytes_filled parameters ≤ 1024 * bound.m_cost
+
+-- the same, and so many blocks are what it asks for
+abbrev pub AsksBlocksWithin : Bound → Phc → ℕ → Type 0
+AsksBlocksWithin bound v blocks = (asks : AsksWithin bound v)
+    × (blocks ≡ block_count asks.parameters.m_cost asks.parameters.p_cost)
+
+-- why a value is not admitted
+abbrev pub HashRefusal : Bound → Phc → BoundError → Type 0
+HashRefusal bound v TooExpensive =
+    (parameters : Parameters) × (asked_of v ≡ Ok parameters) × (IsWithin bound parameters → ⊥)
+HashRefusal bound v (Refused e) = asked_of v ≡ Err (fault_of e)
+
+-- why a text is not: its value is not, or it is no value's
+abbrev pub BoundRefusal : Bound → List ℕ → BoundError → Type 0
+BoundRefusal bound text error = ((v : Phc) → PhcText text v → HashRefusal bound v error)
+    × (IsText text ⊎ (error ≡ Refused EncodingInvalid))
+
+-- ---- verifying
+
+-- an answer of verifying, with its error as a bound's
+abbrev pub as_bounds : Result (Unit {0}) Error → Result (Unit {0}) BoundError
+as_bounds (Ok x) = Ok x
+as_bounds (Err e) = Err (Refused e)
+
+-- what verifying within a bound answers: why the text is not admitted, or what verifying its value does
+abbrev pub IsBoundAnswer : Bound → List ℕ → List ℕ → List ℕ → Result (Unit {0}) BoundError → Type 0
+IsBoundAnswer bound secret password text r =
+    IsErrAnd r (BoundRefusal bound text)
+    ⊎ ((v : Phc) × PhcText text v × AsksWithin bound v
+    × (answer : Result (Unit {0}) Error) × IsVerifyAnswer secret password v answer × (r ≡ as_bounds answer))
+
+-- what it says by Ok
+abbrev pub AcceptsWithin : Bound → List ℕ → List ℕ → List ℕ → Type 0
+AcceptsWithin bound secret password text =
+    (v : Phc) × PhcText text v × AsksWithin bound v × AcceptsBy secret password v
+
+-- why it refuses: the text asks for more, or memory was refused, or the text does not accept
+abbrev pub VerifyRefusal : Bound → List ℕ → List ℕ → List ℕ → BoundError → Type 0
+VerifyRefusal bound secret password text TooExpensive = BoundRefusal bound text TooExpensive
+VerifyRefusal bound secret password text (Refused e) =
+    (e ≡ OutOfMemory) ⊎ (Accepts secret password text → ⊥)
+
+-- ---- texts
+
+-- what an error prints
+abbrev pub bound_error_text : BoundError → List ℕ
+bound_error_text TooExpensive = codes "text asks for more than the bound"
+bound_error_text (Refused e) = hash_error_text e

@@ -1,0 +1,142 @@
+//! A bound on what a stored text may ask for, checked before the text is verified.
+//!
+//! A text says which costs it is verified under, so whoever can write one can ask for up to 4 TiB.
+
+ghost use Rattle.std.specs.Prelude.{◌≡◌, ◌↔◌, Some, Err, IsTrue, IfOk, IfErr, MatchResult};
+ghost use Rattle.argon2_base.specs.PasswordHash.{phc_of};
+ghost use Rattle.argon2_base.specs.PhcText.{Phc, PhcText};
+ghost use Rattle.argon2.specs.Argon2.{secret_of};
+ghost use Rattle.argon2.specs.Bound.{AcceptsWithin, AsksBlocksWithin, BoundRefusal, HashRefusal, IsBoundAnswer, IsWithin, VerifyRefusal, bound_error_text};
+ghost use Rattle.argon2.specs.Params.{parameters_of};
+ghost use Rattle.argon2.specs.declared.bound.BoundError.TheVariants.{Refused, TooExpensive};
+
+use crate::context::Argon2;
+use crate::params::Params;
+use crate::password_hash::{Error, PasswordVerifier};
+use argon2_base::phc::PasswordHash;
+use std::alloc::Global;
+use std::fmt;
+
+/// The most that one stored text may ask for.
+#[derive(Clone, Copy, Debug, PartialEq, Eq)]
+pub struct Bound {
+    /// Blocks of 1024 bytes.
+    pub m_cost: u32,
+    /// Passes.
+    pub t_cost: u32,
+    /// Lanes.
+    pub p_cost: u32,
+}
+
+/// A stored text that asks for no more than a bound.
+#[derive(Debug, Drop)]
+pub struct Admitted {
+    /// What the text says.
+    pub hash: PasswordHash,
+    /// How many blocks of 1024 bytes are filled to verify it.
+    pub blocks: usize,
+}
+
+impl Bound {
+    /// Reads a stored text that asks for no more than this bound. Allocates nothing.
+    ///
+    /// # Errors
+    /// The first of these that holds:
+    /// - [`BoundError::Refused`] with [`Error::EncodingInvalid`]: the text is outside the grammar.
+    /// - those of [`Bound::admit_hash`].
+    pub fn admit(&self, text: &str) -> Result<Admitted, BoundError>
+        ensures text { IfOk result (λ admitted. PhcText text.now (phc_of admitted.hash)) }
+        ensures only { IfOk result (λ admitted.
+            (v : Phc) → PhcText text.now v → phc_of admitted.hash ≡ v) }
+        ensures within { IfOk result (λ admitted.
+            AsksBlocksWithin self.now (phc_of admitted.hash) admitted.blocks) }
+        ensures refused { IfErr result (BoundRefusal self.now text.now) }
+    {
+        let hash = PasswordHash::new(text)?;
+        let blocks = self.admit_hash(&hash)?;
+        Ok(Admitted { hash, blocks })
+    }
+
+    /// How many blocks of 1024 bytes are filled to verify a stored hash that asks for no more than
+    /// this bound. Allocates nothing.
+    ///
+    /// # Errors
+    /// The first of these that holds:
+    /// - [`BoundError::Refused`]: the parameters can't be read, with the error of `Params::try_from`.
+    /// - [`BoundError::TooExpensive`]: a cost is above the bound's.
+    pub fn admit_hash(&self, hash: &PasswordHash) -> Result<usize, BoundError>
+        ensures within { IfOk result (AsksBlocksWithin self.now (phc_of hash.now)) }
+        ensures refused { IfErr result (HashRefusal self.now (phc_of hash.now)) }
+    {
+        let params = Params::try_from(hash)?;
+        if !self.allows(&params) {
+            return Err(BoundError::TooExpensive);
+        }
+        Ok(params.block_count())
+    }
+
+    /// Ok where the text asks for no more than this bound, and accepts the password under the
+    /// secret of `argon2`.
+    ///
+    /// # Errors
+    /// The first of these that holds:
+    /// - those of [`Bound::admit`], before anything is allocated.
+    /// - [`BoundError::Refused`] with the error of [`PasswordVerifier::verify_password`].
+    pub fn verify(
+        &self,
+        alloc: Global,
+        argon2: &Argon2<'_>,
+        password: &[u8],
+        text: &str,
+    ) -> Result<(), BoundError>
+        ensures answer { IsBoundAnswer self.now (secret_of argon2.now) password.now text.now result }
+        ensures accepted { let secret = secret_of argon2.now in
+            MatchResult result (λ _. AcceptsWithin self.now secret password.now text.now)
+            (VerifyRefusal self.now secret password.now text.now) }
+        ensures expensive { (v : Phc) → PhcText text.now v → HashRefusal self.now v TooExpensive
+            → result ≡ Err TooExpensive }
+    {
+        let admitted = self.admit(text)?;
+        argon2.verify_password(alloc, password, &admitted.hash)?;
+        Ok(())
+    }
+
+    // Whether parameters ask for no more.
+    fn allows(&self, params: &Params) -> bool
+        ensures { IsTrue result ↔ IsWithin self.now (parameters_of params.now) }
+    {
+        params.m_cost() <= self.m_cost
+            && params.t_cost() <= self.t_cost
+            && params.p_cost() <= self.p_cost
+    }
+}
+
+/// Why a text is not admitted, or does not accept the password.
+#[derive(Clone, Copy, Debug, PartialEq, Eq)]
+pub enum BoundError {
+    /// The text asks for more than the bound.
+    TooExpensive,
+    /// Reading or verifying the text fails with this error.
+    Refused(Error),
+}
+
+impl fmt::Display for BoundError {
+    ghost output = { λ error. Some (bound_error_text error) };
+
+    fn fmt<W: fmt::Write>(&self, f: &mut fmt::Formatter<W>) -> fmt::Result {
+        match self {
+            BoundError::TooExpensive => f.write_str("text asks for more than the bound"),
+            BoundError::Refused(e) => write!(f, "{e}"),
+        }
+    }
+}
+
+impl std::error::Error for BoundError {}
+
+impl From<Error> for BoundError {
+    ghost from_gives = { λ e error. error ≡ Refused e };
+
+    fn from(e: Error) -> BoundError {
+        BoundError::Refused(e)
+    }
+}
