@@ -37,7 +37,7 @@ pub fn hash_in(argon2: &Argon2<'_>, arena: &mut [Block], input: Input<'_>) -> Re
 /// The tags of many inputs, one after another on the same blocks.
 ///
 /// # Errors
-/// Those of the first input that is refused.
+/// The error of an input that is refused.
 pub fn hash_all(
     argon2: &Argon2<'_>,
     arena: &mut [Block],
