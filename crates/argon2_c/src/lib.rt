@@ -73,8 +73,9 @@ pub extern "C" fn argon2_c_compare(a: &[u8], b: &[u8]) -> i32
     hash::compare(a, b)
 }
 
-/// Writes a hash as a text with a zero byte behind it. Answers 0, or -31 where there is no such variant
-/// or too little room, or -22 where memory was refused; `out` is then as before.
+/// Writes a hash as a text with a zero byte behind it, and returns 0. Returns -31 where there is no such
+/// variant or too little room, and may return -22 in any case, where memory was refused; `out` is then as
+/// before.
 #[unsafe(no_mangle)]
 pub extern "C" fn argon2_c_encode(
     alloc: Global,
