@@ -1,5 +1,7 @@
 //! Values from outside, and the vectors beside the plain body.
 
+use crate::hashing::{known, known_tag};
+use argon2::{Algorithm, Version};
 use argon2_base::block::{Block, Work};
 use std::convert::AsSlice;
 use std::test::Fail;
@@ -55,6 +57,26 @@ fn mixes_random_blocks_alike(rt: HostRuntime) -> Result<(), Fail> {
             *word = state;
         }
         assert!(rt; mixes_alike(&x, &y));
+    }
+    Ok(())
+}
+
+// The words of a block.
+fn words_of(block: &Block) -> [u64; 128] {
+    let mut words = [0; 128];
+    words.copy_from_slice(block.as_slice());
+    words
+}
+
+// The blocks of a known answer, each with each.
+#[test]
+fn mixes_a_known_matrix_alike(rt: HostRuntime) -> Result<(), Fail> {
+    let mut memory = [Block::new(); 32];
+    known_tag(&known(Algorithm::Argon2id, Version::V0x13)?, &mut memory)?;
+    for x in &memory {
+        for y in &memory {
+            assert!(rt; mixes_alike(&words_of(x), &words_of(y)));
+        }
     }
     Ok(())
 }

@@ -56,7 +56,7 @@ const SECRET: [u8; 8] = [3; 8];
 
 // What the vectors of RFC 9106, section 5, are made under, and those of version 0x10 in the same way. The key
 // identifier is no part of them, and changes no tag.
-fn known(algorithm: Algorithm, version: Version) -> argon2::Result<Argon2<'static>> {
+pub(super) fn known(algorithm: Algorithm, version: Version) -> argon2::Result<Argon2<'static>> {
     known_with(KeyId::new(b"key")?, algorithm, version)
 }
 
@@ -76,7 +76,7 @@ fn known_with(
 }
 
 // The tag of 32 bytes of the known inputs.
-fn known_tag(argon2: &Argon2<'_>, memory: &mut [Block]) -> argon2::Result<[u64; 4]> {
+pub(super) fn known_tag(argon2: &Argon2<'_>, memory: &mut [Block]) -> argon2::Result<[u64; 4]> {
     let mut tag = [0; 32];
     argon2.hash_password_into_with_memory(&PWD, &SALT, &mut tag, memory)?;
     Ok(words(&tag))

@@ -19,9 +19,37 @@ fn verify(alloc: Global, password: &str, text: &str) -> Result<()> {
 
 // ---- hashing
 
-// The tag is one of the RFC's reference code.
+// A text of `password` and `somesalt`, from the RFC's reference code.
 const TEXT: &str =
     "$argon2id$v=19$m=256,t=2,p=2$c29tZXNhbHQ$bQk8UB/VmZZF4Oo79iDXuL5/0ttZwg2f/5U52iv1cDc";
+
+// Further ones, of an algorithm and a version, with 1 and 2 lanes.
+const TEXTS: [(Algorithm, Version, [&str; 2]); 3] = [
+    (
+        Algorithm::Argon2i,
+        Version::V0x10,
+        [
+            "$argon2i$v=16$m=256,t=2,p=1$c29tZXNhbHQ$/U3YPXYsSb3q9XxHvc0MLxur+GP960kN9j7emXX8zwY",
+            "$argon2i$v=16$m=256,t=2,p=2$c29tZXNhbHQ$tsEVYKap1h6scGt5ovl9aLRGOqOth+AMB+KwHpDFZPs",
+        ],
+    ),
+    (
+        Algorithm::Argon2i,
+        Version::V0x13,
+        [
+            "$argon2i$v=19$m=256,t=2,p=1$c29tZXNhbHQ$iekCn0Y3spW+sCcFanM2xBT63UP2sghkUoHLIUpWRS8",
+            "$argon2i$v=19$m=256,t=2,p=2$c29tZXNhbHQ$T/XOJ2mh1/TIpJHfCdQan76Q5esCFVoT5MAeIM1Oq2E",
+        ],
+    ),
+    (
+        Algorithm::Argon2id,
+        Version::V0x13,
+        [
+            "$argon2id$v=19$m=256,t=2,p=1$c29tZXNhbHQ$nf65EOgLrQMR/uIPnA4rEsF5h7TKyQwu9U1bMCHGi/4",
+            TEXT,
+        ],
+    ),
+];
 
 // Whether a hash prints as this text.
 fn is_printed(alloc: Global, hash: &PasswordHash, text: &str) -> bool {
@@ -31,13 +59,29 @@ fn is_printed(alloc: Global, hash: &PasswordHash, text: &str) -> bool {
     }
 }
 
+// Whether hashing with so many lanes gives this text, and the value and the text accept the password.
+fn gives(
+    alloc: Global,
+    algorithm: Algorithm,
+    version: Version,
+    p_cost: u32,
+    text: &str,
+) -> std::result::Result<bool, Fail> {
+    let context = Argon2::new(algorithm, version, Params::new(256, 2, p_cost, None)?);
+    let hash = context.hash_password_with_salt(alloc, b"password", b"somesalt")?;
+    Ok(
+        is_printed(alloc, &hash, text)
+            && context.verify_password(alloc, b"password", &hash) == Ok(())
+            && verify(alloc, "password", text) == Ok(()),
+    )
+}
+
 #[test]
 fn hashes_to_a_text(rt: HostRuntime) -> std::result::Result<(), Fail> {
-    let context = Argon2::from(Params::new(256, 2, 2, None)?);
-    let hash = context.hash_password_with_salt(rt.alloc(), b"password", b"somesalt")?;
-    assert!(rt; is_printed(rt.alloc(), &hash, TEXT));
-    assert!(rt; context.verify_password(rt.alloc(), b"password", &hash) == Ok(()));
-    assert!(rt; context.verify_password(rt.alloc(), b"password", TEXT) == Ok(()));
+    for (algorithm, version, [one, two]) in TEXTS {
+        assert!(rt; gives(rt.alloc(), algorithm, version, 1, one)?, "{one}");
+        assert!(rt; gives(rt.alloc(), algorithm, version, 2, two)?, "{two}");
+    }
     Ok(())
 }
 
@@ -222,6 +266,7 @@ fn accepts_one_password_with_data(rt: HostRuntime) {
     let text = "$argon2d$v=16$m=32,t=2,p=3,data=Dw8PDw8P$AAAAAAAAAAA$\
         KnH4gniiaFnDvlA1xev3yovC4cnrrI6tnHOYtmja90o";
     assert!(rt; answers(rt.alloc(), text) == ACCEPTED);
+    assert!(rt; answers(rt.alloc(), TEXT_OF_ALL) == ACCEPTED);
 }
 
 #[test]
@@ -287,34 +332,6 @@ fn refuses_to_verify(rt: HostRuntime) {
             Error::Version,
         ),
         (
-            "$argon2i$m=4294967296,t=2,p=1$c29tZXNhbHQ$9sTbSlTio3Biev89thdrlKKiCaYsjjYVJxGAL3swxpQ",
-            invalid("m"),
-        ),
-        (
-            "$argon2i$m=08,t=2,p=1$c29tZXNhbHQ$9sTbSlTio3Biev89thdrlKKiCaYsjjYVJxGAL3swxpQ",
-            invalid("m"),
-        ),
-        (
-            "$argon2i$m=65536,t=2,p=0$c29tZXNhbHQ$9sTbSlTio3Biev89thdrlKKiCaYsjjYVJxGAL3swxpQ",
-            invalid("p"),
-        ),
-        (
-            "$argon2i$m=65536,t=2,p=1,keyid=dummy$c29tZXNhbHQ$9sTbSlTio3Biev89thdrlKKiCaYsjjYVJxGAL3swxpQ",
-            invalid("keyid"),
-        ),
-        (
-            "$argon2i$m=65536,t=2,p=1,x=1$c29tZXNhbHQ$9sTbSlTio3Biev89thdrlKKiCaYsjjYVJxGAL3swxpQ",
-            Error::ParamsInvalid,
-        ),
-        (
-            "$argon2i$m=65536,m=65536$c29tZXNhbHQ$9sTbSlTio3Biev89thdrlKKiCaYsjjYVJxGAL3swxpQ",
-            Error::EncodingInvalid,
-        ),
-        (
-            "$argon2i$m=$c29tZXNhbHQ$9sTbSlTio3Biev89thdrlKKiCaYsjjYVJxGAL3swxpQ",
-            Error::EncodingInvalid,
-        ),
-        (
             "$argon2d$v=16$m=32,p=3$8PDw8PDw8PA$Xv5daH0zPuKO3c9tMBG/WOIUsDrPqq815/xyQTukNxY",
             Error::ParamsInvalid,
         ),
@@ -333,6 +350,36 @@ fn refuses_to_verify(rt: HostRuntime) {
             "{text}"
         );
     }
+}
+
+// What a text with this parameter list answers.
+fn answer_to_list(alloc: Global, list: &str) -> std::result::Result<Result<()>, Fail> {
+    let (salt, hash) = ("c29tZXNhbHQ", "9sTbSlTio3Biev89thdrlKKiCaYsjjYVJxGAL3swxpQ");
+    let text = format!(in alloc; "$argon2i${list}${salt}${hash}")?;
+    Ok(verify(alloc, "password", text.as_str()))
+}
+
+#[test]
+fn refuses_parameters(rt: HostRuntime) -> std::result::Result<(), Fail> {
+    for (list, error) in [
+        ("m=dummy,t=2,p=1", invalid("m")),
+        ("m=0,t=2,p=1", invalid("m")),
+        ("m=08,t=2,p=1", invalid("m")),
+        ("m=4294967296,t=2,p=1", invalid("m")),
+        ("m=65536,t=dummy,p=1", invalid("t")),
+        ("m=65536,t=0,p=1", invalid("t")),
+        ("m=65536,t=4294967296,p=1", invalid("t")),
+        ("m=65536,t=2,p=dummy", invalid("p")),
+        ("m=65536,t=2,p=0", invalid("p")),
+        ("m=65536,t=2,p=1,keyid=dummy", invalid("keyid")),
+        ("m=65536,t=2,p=1,data=dummy", invalid("data")),
+        ("m=65536,t=2,p=1,x=1", Error::ParamsInvalid),
+        ("m=65536,m=65536", Error::EncodingInvalid),
+        ("m=", Error::EncodingInvalid),
+    ] {
+        assert!(rt; answer_to_list(rt.alloc(), list)? == Err(error), "{list}");
+    }
+    Ok(())
 }
 
 // The longest text of the grammar, 326 bytes.

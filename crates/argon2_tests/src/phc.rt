@@ -185,6 +185,10 @@ fn made_of_parts(rt: HostRuntime) -> Result<(), Fail> {
     };
     assert!(rt; whole.text().as_str() == TEXT);
     assert!(rt; PasswordHash::new(TEXT) == Ok(whole));
+    // the `$` before the hash as a character of the salt
+    let unhashed = PasswordHash::new("$argon2id$v=19$m=8,t=1,p=1$c29tZXNhbHQBAAAAAA")?;
+    assert!(rt; unhashed.salt == Some(Salt::new(b"somesalt\x01\0\0\0\0")?));
+    assert!(rt; unhashed.hash.is_none());
     Ok(())
 }
 

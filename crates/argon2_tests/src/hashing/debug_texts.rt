@@ -1,8 +1,11 @@
 //! What `{:?}` shows.
 
 use argon2::error::password_hash;
+use argon2::login::{Accepted, LoginError};
+use argon2::phc::Output;
 use argon2::{
-    Algorithm, Argon2, AssociatedData, B64Error, Error, KeyId, Params, ParamsBuilder, Version, kdf,
+    Algorithm, Argon2, AssociatedData, B64Error, Block, Error, KeyId, Params, ParamsBuilder,
+    PasswordHash, Version, kdf,
 };
 use std::alloc::Global;
 use std::fmt::Debug;
@@ -51,6 +54,26 @@ fn shows_byte_lists(rt: HostRuntime) -> Result<(), Fail> {
 }
 
 #[test]
+fn shows_texts_and_their_parts(rt: HostRuntime) -> Result<(), Fail> {
+    let hash = PasswordHash::new("$argon2id$v=19$m=8,t=1,p=1$c29tZXNhbHQ$AAAAAA")?;
+    assert!(rt; shows(rt.alloc(), &hash.algorithm, "\"argon2id\""));
+    assert!(rt; shows(rt.alloc(), &hash.params, "\"m=8,t=1,p=1\""));
+    let text =
+        "PasswordHash { algorithm: \"argon2id\", version: Some(19), params: \"m=8,t=1,p=1\", \
+        salt: Some(Salt(c29tZXNhbHQ)), hash: Some(Output(AAAAAA)) }";
+    assert!(rt; shows(rt.alloc(), &hash, text));
+    assert!(rt; shows(rt.alloc(), &Output::new(&[0; 4])?, "Output(AAAAAA)"));
+    Ok(())
+}
+
+#[test]
+fn shows_the_words_of_a_block(rt: HostRuntime) -> Result<(), Fail> {
+    let text = format!(in rt.alloc(); "Block {{ words: {:?} }}", [0u64; 128])?;
+    assert!(rt; shows(rt.alloc(), &Block::new(), text.as_str()));
+    Ok(())
+}
+
+#[test]
 fn shows_variants_by_their_names(rt: HostRuntime) {
     let alloc = rt.alloc();
     assert!(rt; shows(alloc, &Algorithm::Argon2id, "Argon2id"));
@@ -60,5 +83,8 @@ fn shows_variants_by_their_names(rt: HostRuntime) {
     assert!(rt; shows(alloc, &error, "B64Encoding(InvalidLength)"));
     let error = password_hash::Error::ParamInvalid { name: "m" };
     assert!(rt; shows(alloc, &error, "ParamInvalid { name: \"m\" }"));
+    let error = LoginError::Refused(password_hash::Error::Version);
+    assert!(rt; shows(alloc, &error, "Refused(Version)"));
+    assert!(rt; shows(alloc, &Accepted::Kept, "Kept"));
     assert!(rt; shows(alloc, &kdf::Error, "Error"));
 }

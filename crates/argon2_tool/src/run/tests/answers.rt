@@ -31,7 +31,9 @@ fn answers_the_digest_of_its_input(rt: HostRuntime) -> Result<(), Fail> {
         let mut input = message.as_bytes();
         expect(&rt, rt.alloc(), &[command, len], &mut input, (0, line, ""))?;
     }
-    Ok(())
+    let mut input: &[u8] = b"abc";
+    let too_short = (1, "", "argon2: output is too short\n");
+    expect(&rt, rt.alloc(), &["long", "0"], &mut input, too_short)
 }
 
 const TAG: &str = "9dfeb910e80bad0311fee20f9c0e2b12c17987b4cac90c2ef54d5b3021c68bfe\n";

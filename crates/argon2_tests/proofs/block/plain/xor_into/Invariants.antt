@@ -1,9 +1,0 @@
-use Rattle.std.proofs.Common.{◌≡◌, ℕ, ◌<◌, ◌≤◌, length, slice_index, bit_xor}
-use Rattle.argon2_tests.proofs.block.plain.xor_into.Given as goal
-
-abbrev pub invariant-words : goal.invariant-words
-invariant-words l = record {
-  long : length l.x ≡ 128;
-  done : (k : ℕ) → k < l.w → slice_index l.x k ≡ bit_xor (slice_index l.fn.x k) (slice_index l.y k);
-  left : (k : ℕ) → l.w ≤ k → slice_index l.x k ≡ slice_index l.fn.x k;
-}
