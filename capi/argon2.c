@@ -47,6 +47,11 @@ static void wipe(void *at, size_t n) {
     if (FLAG_clear_internal_memory) explicit_bzero(at, n);
 }
 
+static void wipe_and_free(uint8_t *at, size_t n) {
+    wipe(at, n);
+    free(at);
+}
+
 /* Wipes what the crate's functions left on the stack, of which they use some 10 KiB. */
 static __attribute__((noinline)) void wipe_stack(void) {
     uint8_t below[12 << 10];
@@ -68,7 +73,7 @@ struct tried {
     void *at; /* not null */
 };
 
-/* Memory that a callback gave. The first request for so many bytes takes it. */
+/* Memory that a callback gave. The first request for so many bytes takes it, if it is aligned. */
 struct lent {
     uint8_t *at;
     size_t n; /* 0 once it is taken */
@@ -96,12 +101,11 @@ static uint8_t *system_memory(size_t whole) {
 struct tried rattle_alloc(size_t n, size_t alignment) {
     size_t whole = n + sizeof(union header);
     uint8_t *at;
-    (void)alignment; /* at most that of malloc */
-    if (lent.n && n == lent.n) {
+    if (lent.n && n == lent.n && (uintptr_t)lent.at % alignment == 0) {
         lent.n = 0;
         return (struct tried){true, lent.at};
     }
-    at = n > PTRDIFF_MAX - HUGE_PAGE ? NULL : system_memory(whole);
+    at = n > PTRDIFF_MAX - HUGE_PAGE ? NULL : system_memory(whole); /* no alignment is above that of malloc */
     if (!at) return (struct tried){false, nothing};
     ((union header *)at)->whole = whole;
     return (struct tried){true, at + sizeof(union header)};
@@ -110,8 +114,7 @@ struct tried rattle_alloc(size_t n, size_t alignment) {
 void rattle_dealloc(void *block) {
     uint8_t *at = (uint8_t *)block - sizeof(union header);
     if (block == lent.at) return;
-    wipe(at, ((union header *)at)->whole);
-    free(at);
+    wipe_and_free(at, ((union header *)at)->whole);
 }
 
 struct tried rattle_realloc(void *block, size_t kept, size_t n, size_t alignment) {
@@ -121,14 +124,6 @@ struct tried rattle_realloc(void *block, size_t kept, size_t n, size_t alignment
         rattle_dealloc(block);
     }
     return grown;
-}
-
-/* Memory for an output, and its end. */
-static uint8_t *output_memory(size_t n) { return malloc(n ? n : 1); }
-
-static void wipe_output(uint8_t *out, size_t n) {
-    if (out) wipe(out, n);
-    free(out);
 }
 
 /* ---- hashing */
@@ -175,17 +170,17 @@ static int hash_into(const argon2_context *c, argon2_type type, uint8_t *out, st
     return answer;
 }
 
-/* The same where the output may lie on an input. */
+/* Hashes as the context says into its output, wherever that lies. */
 static int hash_apart(const argon2_context *c, argon2_type type, struct lent lends) {
     uint8_t *apart;
     int answer;
     if (!meets_input(c, c->out, c->outlen) && !meet(c->out, c->outlen, lends.at, lends.n))
         return hash_into(c, type, c->out, lends);
-    apart = output_memory(c->outlen);
+    apart = malloc(c->outlen);
     if (!apart) return ARGON2_MEMORY_ALLOCATION_ERROR;
     answer = hash_into(c, type, apart, lends);
     if (answer == ARGON2_OK) memcpy(c->out, apart, c->outlen);
-    wipe_output(apart, c->outlen);
+    wipe_and_free(apart, c->outlen);
     return answer;
 }
 
@@ -234,7 +229,6 @@ int argon2_hash(const uint32_t t_cost, const uint32_t m_cost, const uint32_t lan
         .threads = lanes, .version = version,
     };
     size_t room = 0; /* for the text, exactly */
-    uint8_t *text;
     int answer = argon2_c_length_refusal(hashlen, pwdlen, saltlen);
     if (answer == ARGON2_OK) answer = refusal(&c, type);
     if (answer != ARGON2_OK) return answer;
@@ -242,14 +236,13 @@ int argon2_hash(const uint32_t t_cost, const uint32_t m_cost, const uint32_t lan
         room = argon2_encodedlen(t_cost, m_cost, lanes, saltlen, hashlen, type);
         if (encodedlen < room) return ARGON2_ENCODING_FAIL;
     }
-    c.out = output_memory(hashlen);
-    text = output_memory(room);
-    answer = c.out && text ? hash_into(&c, type, c.out, (struct lent){0}) : ARGON2_MEMORY_ALLOCATION_ERROR;
-    if (answer == ARGON2_OK && room) answer = encode(&c, type, text, room);
+    c.out = malloc(hashlen + room);
+    if (!c.out) return ARGON2_MEMORY_ALLOCATION_ERROR;
+    answer = hash_into(&c, type, c.out, (struct lent){0});
+    if (answer == ARGON2_OK && room) answer = encode(&c, type, c.out + hashlen, room);
     if (answer == ARGON2_OK && hash) memcpy(hash, c.out, hashlen);
-    if (answer == ARGON2_OK && room) memcpy(encoded, text, room);
-    wipe_output(c.out, hashlen);
-    wipe_output(text, room);
+    if (answer == ARGON2_OK && room) memcpy(encoded, c.out + hashlen, room);
+    wipe_and_free(c.out, hashlen + room);
     return answer;
 }
 

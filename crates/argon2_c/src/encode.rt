@@ -15,8 +15,11 @@ use base64::engine::general_purpose::STANDARD_NO_PAD;
 use std::alloc::{AllocError, Global};
 use std::fmt;
 
-/// Writes a hash as a text with a zero byte behind it, or nothing.
-pub fn encode(
+/// Writes a hash as a text with a zero byte behind it, and returns 0. Returns -31 where there is no such
+/// variant or too little room, and may return -22 in any case, where memory was refused; `out` is then as
+/// before.
+#[unsafe(no_mangle)]
+pub extern "C" fn argon2_c_encode(
     alloc: Global,
     algorithm: u32,
     version: u32,
@@ -100,7 +103,8 @@ fn put(text: &[u8], out: &mut [u8]) -> bool
 
 /// How many bytes a text takes with the zero byte behind it, at version 19; 0 where there is no such
 /// variant.
-pub fn encoded_length(
+#[unsafe(no_mangle)]
+pub extern "C" fn argon2_c_encoded_length(
     algorithm: u32,
     m_cost: u32,
     t_cost: u32,

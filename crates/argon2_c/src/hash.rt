@@ -16,8 +16,10 @@ use argon2::{Algorithm, Argon2, ParamsBuilder, Version};
 use argon2_base::phc::are_equal;
 use std::alloc::Global;
 
-/// Hashes on memory of its own.
-pub fn hash(
+/// Hashes on memory of its own, and writes the tag into `out`. Answers 0, or the code of the
+/// request's first fault, or -22 where memory was refused; `out` is then as before.
+#[unsafe(no_mangle)]
+pub extern "C" fn argon2_c_hash(
     alloc: Global,
     request: &Request,
     pwd: &[u8],
@@ -103,8 +105,9 @@ fn version(number: u32) -> Version
     }
 }
 
-/// Whether two slices are equal. Where they have one length, each byte of both is looked at.
-pub fn compare(a: &[u8], b: &[u8]) -> i32
+/// Whether two slices are equal: 0, or -35. Where they have one length, each byte of both is looked at.
+#[unsafe(no_mangle)]
+pub extern "C" fn argon2_c_compare(a: &[u8], b: &[u8]) -> i32
     ensures { result ≡ (if bytes_eq a.now b.now then ok else verify_mismatch) }
 {
     if are_equal(a, b) { OK } else { VERIFY_MISMATCH }

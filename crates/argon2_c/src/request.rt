@@ -1,7 +1,8 @@
 //! What a C caller asks for, and why it is refused.
 
-ghost use Rattle.std.specs.Prelude.{◌≡◌, IsNone};
+ghost use Rattle.std.specs.Prelude.{◌≡◌, IsNone, unwrap_or};
 ghost use Rattle.argon2.specs.Refusals.{first_of};
+ghost use Rattle.argon2_c.specs.Codes.{ok};
 ghost use Rattle.argon2_c.specs.Requests.{IsFaultless, length_faults, request_faults};
 
 use crate::code::*;
@@ -117,21 +118,37 @@ pub fn refusal(
     None
 }
 
-/// Why such lengths are refused before all else.
-pub fn length_refusal(output: usize, pwd: usize, salt: usize) -> Option<i32>
-    ensures { result ≡ first_of (length_faults output pwd salt) }
+/// The code of the first fault of a request for so many bytes, or 0.
+#[unsafe(no_mangle)]
+pub extern "C" fn argon2_c_refusal(
+    request: &Request,
+    output: usize,
+    pwd: usize,
+    salt: usize,
+    secret: usize,
+    associated: usize,
+) -> i32
+    ensures { result ≡ unwrap_or (first_of (request_faults request.now output pwd salt secret associated)) ok }
+{
+    refusal(request, output, pwd, salt, secret, associated).unwrap_or(OK)
+}
+
+/// The code by which `argon2_hash` refuses these lengths before all else, or 0.
+#[unsafe(no_mangle)]
+pub extern "C" fn argon2_c_length_refusal(output: usize, pwd: usize, salt: usize) -> i32
+    ensures { result ≡ unwrap_or (first_of (length_faults output pwd salt)) ok }
 {
     if pwd > MAX_PWD_LEN {
-        return Some(PWD_TOO_LONG);
+        return PWD_TOO_LONG;
     }
     if salt > MAX_SALT_LEN {
-        return Some(SALT_TOO_LONG);
+        return SALT_TOO_LONG;
     }
     if output > Params::MAX_OUTPUT_LEN {
-        return Some(OUTPUT_TOO_LONG);
+        return OUTPUT_TOO_LONG;
     }
     if output < Params::MIN_OUTPUT_LEN {
-        return Some(OUTPUT_TOO_SHORT);
+        return OUTPUT_TOO_SHORT;
     }
-    None
+    OK
 }

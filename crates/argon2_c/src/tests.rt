@@ -1,10 +1,10 @@
 //! What is answered where no request for memory is refused, for a text of the reference's own tests.
 
 use crate::code::{ENCODING_FAIL, OK, VERIFY_MISMATCH};
-use crate::encode::{encode, encoded_length};
-use crate::hash::hash;
+use crate::encode::{argon2_c_encode, argon2_c_encoded_length};
+use crate::hash::argon2_c_hash;
 use crate::request::Request;
-use crate::verify::verify;
+use crate::verify::argon2_c_verify;
 use std::test::Fail;
 
 const TEXT: &[u8; 85] =
@@ -33,7 +33,7 @@ fn hashes(rt: HostRuntime) -> Result<(), Fail> {
         has_free: false,
     };
     let mut tag = [0; 32];
-    let code = hash(
+    let code = argon2_c_hash(
         rt.alloc(),
         &request,
         b"password",
@@ -49,9 +49,9 @@ fn hashes(rt: HostRuntime) -> Result<(), Fail> {
 
 #[test]
 fn writes_the_text(rt: HostRuntime) -> Result<(), Fail> {
-    assert_eq!(rt; encoded_length(2, 256, 2, 2, 8, 32), 85);
+    assert_eq!(rt; argon2_c_encoded_length(2, 256, 2, 2, 8, 32), 85);
     let mut text = [1; 85];
-    let code = encode(
+    let code = argon2_c_encode(
         rt.alloc(),
         2,
         19,
@@ -64,7 +64,7 @@ fn writes_the_text(rt: HostRuntime) -> Result<(), Fail> {
     );
     assert_eq!(rt; code, ENCODING_FAIL);
     assert_eq!(rt; text, [1; 85]);
-    let code = encode(rt.alloc(), 2, 19, 256, 2, 2, b"somesalt", &TAG, &mut text);
+    let code = argon2_c_encode(rt.alloc(), 2, 19, 256, 2, 2, b"somesalt", &TAG, &mut text);
     assert_eq!(rt; code, OK);
     assert_eq!(rt; &text, TEXT);
     Ok(())
@@ -73,11 +73,11 @@ fn writes_the_text(rt: HostRuntime) -> Result<(), Fail> {
 #[test]
 fn verifies(rt: HostRuntime) -> Result<(), Fail> {
     assert_eq!(rt;
-        verify(rt.alloc(), 2, true, &TEXT[..84], b"password", 0),
+        argon2_c_verify(rt.alloc(), 2, true, &TEXT[..84], b"password", 0),
         OK
     );
     assert_eq!(rt;
-        verify(rt.alloc(), 2, true, &TEXT[..84], b"passwore", 0),
+        argon2_c_verify(rt.alloc(), 2, true, &TEXT[..84], b"passwore", 0),
         VERIFY_MISMATCH
     );
     Ok(())

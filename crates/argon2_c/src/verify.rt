@@ -7,13 +7,17 @@ ghost use Rattle.argon2_c.specs.Verifying.{Says, call_refusal, shown_request, ve
 
 use crate::code::{DECODING_FAIL, INCORRECT_TYPE, MEMORY_ALLOCATION_ERROR, OK, PWD_TOO_LONG};
 use crate::decode::{Decoded, decode};
-use crate::hash::{compare, hash, variant};
+use crate::hash::{argon2_c_compare, argon2_c_hash, variant};
 use crate::request::Request;
+use argon2::MAX_PWD_LEN;
 use std::alloc::Global;
 
-/// Whether a password has the hash of a text. `absent` is how many bytes the password has behind a
-/// null pointer.
-pub fn verify(
+/// Whether a password has the hash of a text. `absent` is how many bytes the password has behind a null
+/// pointer. Answers 0 where it has, and -35 where it has not; else the code of the call's first fault,
+/// or -32 where the text is in no such variant's grammar, or the code of the first fault of the request
+/// that the text stands for, or -22 where memory was refused.
+#[unsafe(no_mangle)]
+pub extern "C" fn argon2_c_verify(
     alloc: Global,
     algorithm: u32,
     has_text: bool,
@@ -51,7 +55,7 @@ fn call_refusal(
     ensures first { result ≡ call_refusal algorithm has_text text pwd absent }
     ensures none { IsNone result → algorithm ≤ 2 }
 {
-    if pwd > 4294967295 || absent > 4294967295 {
+    if pwd > MAX_PWD_LEN || absent > MAX_PWD_LEN {
         return Some(PWD_TOO_LONG);
     }
     if !has_text || text > 4294967295 {
@@ -85,7 +89,7 @@ fn compared(alloc: Global, algorithm: u32, shown: &Decoded, pwd: &[u8], absent: 
         return MEMORY_ALLOCATION_ERROR;
     };
     let request = shown_request(algorithm, absent, shown);
-    let code = hash(
+    let code = argon2_c_hash(
         alloc,
         &request,
         pwd,
@@ -97,7 +101,7 @@ fn compared(alloc: Global, algorithm: u32, shown: &Decoded, pwd: &[u8], absent: 
     if code != OK {
         return code;
     }
-    compare(shown.tag.as_slice(), out.as_slice())
+    argon2_c_compare(shown.tag.as_slice(), out.as_slice())
 }
 
 // The request that a text stands for.

@@ -1,7 +1,7 @@
 use Rattle.std.proofs.Common.{arith}
 use Rattle.argon2_c.specs.Texts.{name_numbered}
 use Rattle.argon2_c.proofs.Lengths.{length-spelling}
-use Rattle.argon2_c.proofs.encode.encoded_length.Goals as goal
+use Rattle.argon2_c.proofs.encode.argon2_c_encoded_length.Goals as goal
 
 pub returns-clause-value : goal.returns-clause-value
 returns-clause-value c = λ salt tag variant s t.
