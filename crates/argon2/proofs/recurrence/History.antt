@@ -1,5 +1,6 @@
 -- The blocks satisfy the recurrence, and they alone do.
-use Rattle.std.proofs.Common.{◌≡◌, ℕ, zero, suc, ◌+◌, ◌*◌, ◌/◌, ◌%◌, ◌<◌, ◌≤◌, inl, inr, Bool, true, false, cond, ◌&&◌, eqb, ltb, List, [], map, length, get_or, refl, sym, ap, ◌∙◌, arith}
+use Rattle.std.proofs.Common.{◌≡◌, ℕ, zero, suc, ◌+◌, ◌*◌, ◌/◌, ◌%◌, ◌<◌, ◌≤◌, inl, inr, Bool, true, false, ◌&&◌, List, [], map, length, refl, sym, ap, ◌∙◌, arith}
+use Rattle.std.specs.Prelude.{slice_index_or, nat_lt, ◌==◌, if◌then◌else◌}
 use Rattle.std.specs.List.{range_with_len}
 use Rattle.std.proofs.lemmas.List.{get_or_append_left, length_push, get_or_push}
 use Rattle.std.proofs.lemmas.List.FromFn.{get_or-map-range_with_len}
@@ -34,11 +35,11 @@ rule_cong : (ctx : Context) → Sizes ctx → (first : FirstColumns) (pass lane 
     ((r l c : ℕ) → l < ctx.p_cost → c < lane_length ctx → moment ctx r c < moment ctx pass column → f r l c ≡ g r l c) →
     rule ctx first f pass lane column ≡ rule ctx first g pass lane column
 unfolding rule
-rule_cong ctx sizes first pass lane column in_lanes in_columns f g h = go ((eqb pass 0) && (ltb column 2)) refl
+rule_cong ctx sizes first pass lane column in_lanes in_columns f g h = go ((pass == 0) && nat_lt column 2) refl
   where
-    go : (b : Bool) → ((eqb pass 0) && (ltb column 2)) ≡ b →
-        cond b (first lane column) (made_block ctx f pass lane column)
-        ≡ cond b (first lane column) (made_block ctx g pass lane column)
+    go : (b : Bool) → ((pass == 0) && nat_lt column 2) ≡ b →
+        (if b then first lane column else made_block ctx f pass lane column)
+        ≡ (if b then first lane column else made_block ctx g pass lane column)
     go true e = refl
     go false e = made_cong ctx sizes pass lane column
         (record {
@@ -46,7 +47,7 @@ rule_cong ctx sizes first pass lane column in_lanes in_columns f g h = go ((eqb 
           in_columns = in_columns;
           later = λ z. elim (cases_lt column 2) [
             | inl lt ↦
-                absurd (let t : true ≡ false = sym (and_from (eqb pass 0) (ltb column 2) (eq-eqb pass 0 z) (lt-ltb column 2 lt))
+                absurd (let t : true ≡ false = sym (and_from (pass == 0) (nat_lt column 2) (eq-eqb pass 0 z) (lt-ltb column 2 lt))
                 ∙ e in cc)
             | inr le ↦ le
           ];
@@ -60,19 +61,19 @@ length-history ctx first (suc n) = length_push (history ctx first n) _ ∙ (let 
 
 -- one more column leaves those before
 history_grows : (ctx : Context) (first : FirstColumns) (n k : ℕ) → k < n →
-    get_or (history ctx first (suc n)) k [] ≡ get_or (history ctx first n) k []
+    slice_index_or (history ctx first (suc n)) k [] ≡ slice_index_or (history ctx first n) k []
 unfolding history
 history_grows ctx first n k lt =
     get_or_append_left (history ctx first n) _ [] k (let l = length-history ctx first n in omega arith)
 
 -- more columns leave those before
 history_stays : (ctx : Context) (first : FirstColumns) (n k : ℕ) → k < n →
-    get_or (history ctx first n) k [] ≡ get_or (history ctx first (suc k)) k []
+    slice_index_or (history ctx first n) k [] ≡ slice_index_or (history ctx first (suc k)) k []
 history_stays ctx first zero k h = absurd (omega arith)
 history_stays ctx first (suc n) k h =
     elim (cases_lt k n) [
       | inl lt ↦ (history_grows ctx first n k lt ∙ history_stays ctx first n k lt)
-      | inr le ↦ (let e : suc n ≡ suc k = omega arith in ap (λ m. get_or (history ctx first m) k []) e)
+      | inr le ↦ (let e : suc n ≡ suc k = omega arith in ap (λ m. slice_index_or (history ctx first m) k []) e)
     ]
 
 -- a history has the block of each moment before its end
@@ -80,24 +81,24 @@ in_history_is : (ctx : Context) (first : FirstColumns) (n r l c : ℕ) → momen
     in_history ctx (history ctx first n) r l c ≡ block_of ctx first r l c
 unfolding in_history block_of
 in_history_is ctx first n r l c h =
-    ap (λ (column : List (List ℕ)). get_or column l []) (history_stays ctx first n (moment ctx r c) h)
+    ap (λ (column : List (List ℕ)). slice_index_or column l []) (history_stays ctx first n (moment ctx r c) h)
 
 -- the newest column is made by the rule
 newest_column : (ctx : Context) (first : FirstColumns) (n lane : ℕ) → lane < ctx.p_cost →
-    get_or (get_or (history ctx first (suc n)) n []) lane []
+    slice_index_or (slice_index_or (history ctx first (suc n)) n []) lane []
     ≡ rule ctx first (in_history ctx (history ctx first n)) (n / lane_length ctx) lane (n % lane_length ctx)
 unfolding history
 newest_column ctx first n lane h =
     let f : ℕ → List ℕ =
     λ l. rule ctx first (in_history ctx (history ctx first n)) (n / lane_length ctx) l (n % lane_length ctx) in
-    ap (λ (column : List (List ℕ)). get_or column lane [])
+    ap (λ (column : List (List ℕ)). slice_index_or column lane [])
     (get_or_push (history ctx first n) (map f (range_with_len 0 ctx.p_cost)) [] n (length-history ctx first n))
     ∙ get_or-map-range_with_len f 0 ctx.p_cost lane lane [] h (omega arith)
 
 -- a block is read from the history that ends with its column
 read_at_newest : (ctx : Context) (first : FirstColumns) (pass lane column : ℕ) →
     block_of ctx first pass lane column
-    ≡ get_or (get_or (history ctx first (suc (moment ctx pass column))) (moment ctx pass column) []) lane []
+    ≡ slice_index_or (slice_index_or (history ctx first (suc (moment ctx pass column))) (moment ctx pass column) []) lane []
 unfolding block_of in_history
 read_at_newest ctx first pass lane column = refl
 
@@ -146,8 +147,8 @@ unfolding rule
 first_columns ctx sizes first lane column a b =
     let two = sizes.two_columns in
     recurrence ctx sizes first 0 lane column a (omega arith)
-    ∙ cond-true ((eqb 0 0) && (ltb column 2)) (first lane column) (made_block ctx (block_of ctx first) 0 lane column)
-    (and_from (eqb 0 0) (ltb column 2) refl (lt-ltb column 2 b))
+    ∙ cond-true ((0 == 0) && nat_lt column 2) (first lane column) (made_block ctx (block_of ctx first) 0 lane column)
+    (and_from (0 == 0) (nat_lt column 2) refl (lt-ltb column 2 b))
 
 -- all other blocks are made of others
 pub made_blocks : (ctx : Context) → Sizes ctx → (first : FirstColumns) (pass lane column : ℕ) →
@@ -156,9 +157,9 @@ pub made_blocks : (ctx : Context) → Sizes ctx → (first : FirstColumns) (pass
 unfolding rule
 made_blocks ctx sizes first pass lane column st =
     recurrence ctx sizes first pass lane column st.in_lanes st.in_columns
-    ∙ cond-false ((eqb pass 0) && (ltb column 2)) (first lane column) (made_block ctx (block_of ctx first) pass lane column)
-    (false_from_ne_true ((eqb pass 0) && (ltb column 2)) (λ e.
-    let parts = and_parts (eqb pass 0) (ltb column 2) e in
+    ∙ cond-false ((pass == 0) && nat_lt column 2) (first lane column) (made_block ctx (block_of ctx first) pass lane column)
+    (false_from_ne_true ((pass == 0) && nat_lt column 2) (λ e.
+    let parts = and_parts (pass == 0) (nat_lt column 2) e in
     let low : column < 2 = ltb-true column 2 parts.1 in
     let high : 2 ≤ column = st.later (eqb-true pass 0 parts.0) in
     omega arith))

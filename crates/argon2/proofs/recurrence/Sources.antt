@@ -1,16 +1,17 @@
 -- Which blocks a block is made of. All else rests on two laws, `reference_reads` and `made_cong`.
-use Rattle.std.proofs.Common.{◌≡◌, ℕ, zero, suc, ◌+◌, ◌-◌, ◌*◌, ◌/◌, ◌%◌, ◌^◌, ◌<◌, ◌≤◌, ◌⊎◌, inl, inr, Bool, true, false, cond, ◌&&◌, eqb, ltb, List, [], ◌++◌, length, get_or, refl, sym, ap, ◌∙◌, subst, arith}
-use Rattle.std.proofs.Math.Nat.{mod-lt, mul-le-mul_right, div-lt_iff_lt-mul, div-mul-le_self, lt-mul-div-succ, div-add-mod', zero-mul}
+use Rattle.std.proofs.Common.{◌≡◌, ℕ, zero, suc, ◌+◌, ◌-◌, ◌*◌, ◌/◌, ◌%◌, ◌^◌, ◌<◌, ◌≤◌, ◌⊎◌, inl, inr, Bool, true, false, ◌&&◌, List, [], length, refl, sym, ap, ◌∙◌, subst, arith}
+use Rattle.std.specs.Prelude.{slice_index_or, nat_lt, ◌==◌, if◌then◌else◌}
+use Rattle.std.proofs.Math.Nat.{mod-lt}
 use Rattle.std.specs.List.{range_with_len, All}
-use Rattle.std.proofs.lemmas.List.{length-append, length-take-le, length-map}
 use Rattle.std.proofs.lemmas.List.FromFn.{length-range_with_len, get_or-range_with_len}
 use Rattle.std.proofs.lemmas.List.Elements.{All-map, All-append, All-take, All-get_or, All-nil}
-use Rattle.std.proofs.lemmas.Bool.{cond_both, cond-true, cases_order, eq-eqb, eqb-true, ltb-true, and_parts, and_from}
+use Rattle.std.proofs.lemmas.Bool.{cond_both, cond-true, eq-eqb, eqb-true, ltb-true, and_parts, and_from}
 use Rattle.argon2_base.specs.Block.{xor_blocks}
 use Rattle.argon2_base.specs.Mixing.{mixed}
 use Rattle.argon2.specs.Context.{Context, Sizes, segment_length, lane_length}
 use Rattle.argon2.specs.Recurrence.{Blocks, is_independent, address_word, previous, reference_word, reference_of, made_block}
 use Rattle.argon2.specs.Steps.{IsStep}
+use Rattle.argon2.proofs.recurrence.PermittedPlaces.{InSlice, in_slice, some_permitted}
 use Rattle.argon2.specs.Reference.{columns, finished_segments, without_last, permitted, Reference, reference_lane, reference_index, reference}
 
 -- The block of pass, lane and column may be made of that of r, l and c: the newest block of lane l and
@@ -22,21 +23,6 @@ pub record Reads (ctx : Context) (pass lane column r l c : ℕ) : Type 0 where
   pub apart : (l ≡ lane)
       ⊎ ((c < column / segment_length ctx * segment_length ctx) ⊎ ((column / segment_length ctx + 1) * segment_length ctx ≤ c))
 
--- a column c of slice k, where a segment has s columns
-pub record InSlice (s c k : ℕ) : Type 0 where
-  pub above : k * s ≤ c
-  pub below : c < (k + 1) * s
-  pub whole : (k + 1) * s ≤ 4 * s
-  pub one_of_four : k < 4
-
--- each column of a lane is one of its slice
-pub in_slice : (s c : ℕ) → 2 ≤ s → c < 4 * s → InSlice s c (c / s)
-in_slice s c two h =
-    let k : c / s < 4 = (div-lt_iff_lt-mul {k = s} {x = c} {y = 4} (omega arith)).1 h in
-    let m : (c / s + 1) * s ≤ 4 * s = mul-le-mul_right s (omega arith) in
-    let e : c < s * (c / s + 1) = lt-mul-div-succ c (omega arith) in
-    record { above = div-mul-le_self c s; below = omega arith; whole = m; one_of_four = k }
-
 -- what holds of each column holds of the list
 All-columns : (P : ℕ × ℕ → Type 0) (pass from to : ℕ) →
     ((c : ℕ) → from ≤ c → c < to → P (pass, c)) → All P (columns pass from to)
@@ -45,12 +31,6 @@ All-columns P pass from to h =
     All-map P (λ c. (pass, c)) (range_with_len from (to - from)) (λ k d lt.
     let lt' : k < to - from = omega (arith, length-range_with_len from (to - from)) in
     subst (λ c. P (pass, c)) (sym (get_or-range_with_len from (to - from) k d lt')) (h (from + k) (omega arith) (omega arith)))
-
--- how many pairs a list of columns has
-pub length-columns : (pass from to : ℕ) → length (columns pass from to) ≡ to - from
-unfolding columns
-length-columns pass from to = length-map (range_with_len from (to - from)) (λ c. (pass, c))
-    ∙ length-range_with_len from (to - from)
 
 -- ---- what may be referred to is a source, and there is some
 
@@ -82,8 +62,8 @@ module _ (ctx : Context) (sizes : Sizes ctx) (lane column other : ℕ) (in_lanes
   -- the own segment's blocks so far, but for the previous one, are sources
   own_sources : (pass : ℕ) →
       All (IsSource pass)
-      (cond (eqb other lane) (columns pass (column / segment_length ctx * segment_length ctx) (column - 1)) [])
-  own_sources pass = cond_both (eqb other lane) _ [] (All (IsSource pass))
+      (if other == lane then columns pass (column / segment_length ctx * segment_length ctx) (column - 1) else [])
+  own_sources pass = cond_both (other == lane) _ [] (All (IsSource pass))
       (λ e. All-columns (IsSource pass) pass _ _ (λ c low high.
       record {
         in_lanes = in_lanes;
@@ -97,75 +77,9 @@ module _ (ctx : Context) (sizes : Sizes ctx) (lane column other : ℕ) (in_lanes
   -- all permitted blocks are sources
   permitted_sources : (pass : ℕ) → All (IsSource pass) (permitted ctx pass lane column other)
   unfolding permitted without_last
-  permitted_sources pass = cond_both (eqb (column % segment_length ctx) 0) _ _ (All (IsSource pass))
+  permitted_sources pass = cond_both (column % segment_length ctx == 0) _ _ (All (IsSource pass))
       (λ _. All-take (IsSource pass) _ _ (finished_sources pass))
       (λ _. All-append (IsSource pass) _ _ (finished_sources pass) (own_sources pass))
-
-  -- finished segments have three segments in later passes, and in pass 0 the slices before
-  length-finished : (pass : ℕ) →
-      (zero < pass → 3 * segment_length ctx ≤ length (finished_segments ctx pass (column / segment_length ctx)))
-      × (pass ≡ zero → length (finished_segments ctx pass (column / segment_length ctx))
-      ≡ column / segment_length ctx * segment_length ctx)
-  unfolding finished_segments
-  length-finished zero = (λ h. absurd (omega (arith, h)), λ _. length-columns 0 0 _ ∙ omega arith)
-  length-finished (suc pass) =
-      let b = bounds in
-      let s = segment_length ctx in
-      let k = column / s in (
-        λ _. omega (
-          arith,
-          length-append (columns pass ((k + 1) * s) (lane_length ctx))
-              (columns (suc pass) 0 (k * s)),
-          length-columns pass ((k + 1) * s) (lane_length ctx),
-          length-columns (suc pass) 0
-              (k * s),
-        ),
-        λ h. absurd (omega (arith, h)),
-      )
-
-  -- some block is permitted, where in the first slice of all the lane itself is asked
-  some_permitted : (pass : ℕ) → (pass ≡ 0 → 2 ≤ column) →
-      (pass ≡ 0 → column / segment_length ctx ≡ 0 → other ≡ lane) →
-      0 < length (permitted ctx pass lane column other)
-  unfolding permitted without_last
-  some_permitted pass later alone =
-      let s = segment_length ctx in
-      let k = column / s in
-      let f = finished_segments ctx pass k in
-      let n = length-finished pass in
-      let b = bounds in
-      let split : k * s + column % s ≡ column = div-add-mod' column s in
-      cond_both (eqb (column % s) 0) _ _ (λ (xs : List (ℕ × ℕ)). 0 < length xs)
-      (λ e.
-      let whole : column % s ≡ 0 = eqb-true (column % s) 0 e in
-      let two : 2 ≤ length f = elim (cases_order pass 0) [
-        | inl z ↦ (let l : length f ≡ k * s = n.1 z in let m : 2 ≤ column = later z in omega arith)
-        | inr r ↦ (elim r [ inl w ↦ absurd (omega arith) | inr w ↦ (let l : 3 * s ≤ length f = n.0 w in omega arith) ])
-      ] in
-      omega (arith, length-take-le (length f - 1) f (omega arith)))
-      (λ e.
-      let own = cond (eqb other lane) (columns pass (k * s) (column - 1)) [] in
-      let all : length (f ++ own) ≡ length f + length own = length-append f own in
-      elim (cases_order pass 0) [
-        | inl z ↦ (
-            let l : length f ≡ k * s = n.1 z in
-            let m : 2 ≤ column = later z in
-            elim (cases_order k 0) [
-              | inl none ↦ (
-                  let o : own ≡ columns pass (k * s) (column - 1) =
-                  cond-true (eqb other lane) (columns pass (k * s) (column - 1)) [] (eq-eqb other lane (alone z none)) in
-                  let lo : length own ≡ column - 1 - k * s = ap length o ∙ length-columns pass (k * s) (column - 1) in
-                  let zs : k * s ≡ 0 = ap (λ x. x * s) none ∙ zero-mul s in
-                  omega arith)
-              | inr r ↦
-                  (elim r [
-                    | inl w ↦ absurd (omega arith)
-                    | inr w ↦
-                        (let g : 1 * s ≤ k * s = mul-le-mul_right s w in omega arith)
-                  ])
-            ])
-        | inr r ↦ (elim r [ inl w ↦ absurd (omega arith) | inr w ↦ (let l : 3 * s ≤ length f = n.0 w in omega arith) ])
-      ])
 
 -- ---- each block is made of its sources alone
 
@@ -174,16 +88,16 @@ lane_below : (ctx : Context) → Sizes ctx → (pass lane column w : ℕ) → la
     reference_lane ctx pass lane column w < ctx.p_cost
 unfolding reference_lane
 lane_below ctx sizes pass lane column w h =
-    cond_both ((eqb pass 0) && (eqb (column / segment_length ctx) 0)) lane ((w / 2 ^ 32) % ctx.p_cost) (λ x. x < ctx.p_cost)
+    cond_both ((pass == 0) && (column / segment_length ctx == 0)) lane ((w / 2 ^ 32) % ctx.p_cost) (λ x. x < ctx.p_cost)
     (λ _. h) (λ _. mod-lt (w / 2 ^ 32) sizes.some_lane)
 
 -- in the first slice of all the lane referred to is the block's own
 lane_alone : (ctx : Context) (pass lane column w : ℕ) → pass ≡ 0 →
     column / segment_length ctx ≡ 0 → reference_lane ctx pass lane column w ≡ lane
 unfolding reference_lane
-lane_alone ctx pass lane column w p k =
-    cond-true ((eqb pass 0) && (eqb (column / segment_length ctx) 0)) lane ((w / 2 ^ 32) % ctx.p_cost)
-    (and_from (eqb pass 0) (eqb (column / segment_length ctx) 0) (eq-eqb pass 0 p) (eq-eqb (column / segment_length ctx) 0 k))
+lane_alone ctx pass lane column w p slice =
+    cond-true ((pass == 0) && (column / segment_length ctx == 0)) lane ((w / 2 ^ 32) % ctx.p_cost)
+    (and_from (pass == 0) (column / segment_length ctx == 0) (eq-eqb pass 0 p) (eq-eqb (column / segment_length ctx) 0 slice))
 
 -- the index that a word takes is below the count
 index_below : (count w : ℕ) → 0 < count → reference_index count w < count
@@ -201,7 +115,7 @@ reference_reads ctx sizes pass lane column w st =
     let below : other < ctx.p_cost = lane_below ctx sizes pass lane column w st.in_lanes in
     let blocks = permitted ctx pass lane column other in
     let some : 0 < length blocks =
-    some_permitted ctx sizes lane column other below st.in_columns pass st.later (lane_alone ctx pass lane column w) in
+    some_permitted ctx sizes column st.in_columns pass lane other st.later (lane_alone ctx pass lane column w) in
     All-get_or (λ (x : ℕ × ℕ). Reads ctx pass lane column x.0 other x.1) blocks (reference_index (length blocks) w) (0, 0)
     (index_below (length blocks) w some)
     (permitted_sources ctx sizes lane column other below st.in_columns pass)
@@ -231,8 +145,9 @@ word_cong : (ctx : Context) → Sizes ctx → (pass lane column : ℕ) → IsSte
     reference_word ctx f pass lane column ≡ reference_word ctx g pass lane column
 unfolding reference_word
 word_cong ctx sizes pass lane column st f g h =
-    ap (λ (b : List ℕ). cond (is_independent ctx pass (column / segment_length ctx))
-    (address_word ctx pass lane (column / segment_length ctx) (column % segment_length ctx)) (get_or b 0 0))
+    let slice = column / segment_length ctx in
+    ap (λ (b : List ℕ). if is_independent ctx pass slice
+    then address_word ctx pass lane slice (column % segment_length ctx) else slice_index_or b 0 0)
     (previous_cong ctx sizes pass lane column st f g h)
 
 -- such blocks have one reference
@@ -253,7 +168,7 @@ reference_of_reads ctx sizes pass lane column st f =
     reference_reads ctx sizes pass lane column (reference_word ctx f pass lane column) st
 
 -- a branch that is taken may be changed for an equal one
-cond_same : {X : Type 0} (b : Bool) (x u y : X) → (b ≡ true → x ≡ u) → cond b x y ≡ cond b u y
+cond_same : {X : Type 0} (b : Bool) (x u y : X) → (b ≡ true → x ≡ u) → (if b then x else y) ≡ (if b then u else y)
 cond_same true x u y h = h refl
 cond_same false x u y h = refl
 
@@ -274,10 +189,10 @@ made_cong ctx sizes pass lane column st f g h =
     let block' = mixed (previous ctx g pass lane column) (g to.pass to.lane to.column) in
     let m : block ≡ block' = ap (λ x. mixed x (f from.pass from.lane from.column)) p
     ∙ ap (mixed (previous ctx g pass lane column)) read in
-    cond_same ((eqb ctx.version 19) && (ltb 0 pass)) (xor_blocks block (f (pass - 1) lane column))
+    cond_same ((ctx.version == 19) && nat_lt 0 pass) (xor_blocks block (f (pass - 1) lane column))
     (xor_blocks block' (g (pass - 1) lane column)) block
     (λ b.
-    let pos : 0 < pass = ltb-true 0 pass (and_parts (eqb ctx.version 19) (ltb 0 pass) b).1 in
+    let pos : 0 < pass = ltb-true 0 pass (and_parts (ctx.version == 19) (nat_lt 0 pass) b).1 in
     ap (λ x. xor_blocks x (f (pass - 1) lane column)) m ∙ ap (xor_blocks block')
     (h (pass - 1) lane column
     (record {
@@ -287,4 +202,4 @@ made_cong ctx sizes pass lane column st f g h =
       apart =
           inl refl;
     })))
-    ∙ ap (cond ((eqb ctx.version 19) && (ltb 0 pass)) (xor_blocks block' (g (pass - 1) lane column))) m
+    ∙ ap (λ x. if (ctx.version == 19) && nat_lt 0 pass then xor_blocks block' (g (pass - 1) lane column) else x) m

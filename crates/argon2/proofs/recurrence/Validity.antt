@@ -1,16 +1,16 @@
 -- What costs that are not refused amount to.
-use Rattle.std.proofs.Common.{◌≡◌, ◌*◌, ◌/◌, ◌^◌, ◌<◌, ◌≤◌, Bool, true, false, cond, ltb, Option, Some, None, refl, arith}
+use Rattle.std.proofs.Common.{◌≡◌, ◌*◌, ◌/◌, ◌^◌, ◌<◌, ◌≤◌, Bool, true, false, Option, Some, None, refl, arith}
 use Rattle.std.proofs.lemmas.Bool.{ltb-false}
 use Rattle.std.proofs.lemmas.Nat.{le-div}
 use Rattle.std.proofs.Math.Nat.{div-mul-le_self}
 use Rattle.argon2_base.specs.declared.error.Error.{Error}
-use Rattle.std.specs.Prelude.{IsNone}
+use Rattle.std.specs.Prelude.{IsNone, nat_lt, if◌then◌else◌}
 use Rattle.argon2.specs.Parameters.{first_fault}
 use Rattle.argon2.specs.Context.{Context, IsValid, Sizes}
 use Rattle.argon2.specs.Shape.{segment_length}
 
 -- a test that would refuse is false
-not_refused : (b : Bool) (fault : Error) (rest : Option Error) → IsNone (cond b (Some fault) rest) →
+not_refused : (b : Bool) (fault : Error) (rest : Option Error) → IsNone (if b then Some fault else rest) →
     (b ≡ false) × IsNone rest
 not_refused true fault rest h = absurd (let x : true ≡ false = h in cc)
 not_refused false fault rest h = (refl, h)
@@ -22,11 +22,11 @@ unfolding segment_length
 sizes ctx small_m small_t none =
     let m = ctx.m_cost in
     let p = ctx.p_cost in
-    let a = not_refused (ltb m 8) _ _ none in
-    let b = not_refused (ltb p 1) _ _ a.1 in
-    let c = not_refused (ltb 16777215 p) _ _ b.1 in
-    let d = not_refused (ltb m (8 * p)) _ _ c.1 in
-    let f = not_refused (ltb ctx.t_cost 1) _ _ d.1 in
+    let a = not_refused (nat_lt m 8) _ _ none in
+    let b = not_refused (nat_lt p 1) _ _ a.1 in
+    let c = not_refused (nat_lt 16777215 p) _ _ b.1 in
+    let d = not_refused (nat_lt m (8 * p)) _ _ c.1 in
+    let f = not_refused (nat_lt ctx.t_cost 1) _ _ d.1 in
     let some = ltb-false p 1 b.0 in
     let most = ltb-false 16777215 p c.0 in
     let room = ltb-false m (8 * p) d.0 in

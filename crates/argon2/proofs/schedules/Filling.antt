@@ -1,5 +1,6 @@
 -- Running one schedule for each pass and slice in order fills a list with the matrix.
-use Rattle.std.proofs.Common.{◌≡◌, ℕ, zero, suc, ◌+◌, ◌-◌, ◌*◌, ◌/◌, ◌%◌, ◌<◌, ◌≤◌, ◌≢◌, inl, inr, ◌&&◌, eqb, List, [], ◌∷◌, length, get_or, set, refl, sym, ap, ◌∙◌, subst, arith}
+use Rattle.std.proofs.Common.{◌≡◌, ℕ, zero, suc, ◌+◌, ◌-◌, ◌*◌, ◌/◌, ◌%◌, ◌<◌, ◌≤◌, ◌≢◌, inl, inr, ◌&&◌, List, [], ◌∷◌, length, refl, sym, ap, ◌∙◌, subst, arith}
+use Rattle.std.specs.Prelude.{slice_index_or, slice_set, ◌==◌}
 use Rattle.std.proofs.Math.Nat.{div-eq_of_lt-le, mod-lt, div-add-mod'}
 use Rattle.std.proofs.lemmas.List.{length-set, get_or-set_same, get_or-set_other}
 use Rattle.std.proofs.lemmas.List.FromFn.{fill_by_all}
@@ -11,7 +12,8 @@ use Rattle.argon2.specs.Recurrence.{FirstColumns, made_block, block_of, referenc
 use Rattle.argon2.specs.Steps.{IsStep, in_memory, step, reference_place, turns, turn_count, IsSchedule, run, run_slices, run_passes}
 use Rattle.argon2.specs.Positions.{begun, HasBlocksUpTo}
 use Rattle.argon2.specs.Laws.{Begins, AreSchedules}
-use Rattle.argon2.proofs.recurrence.Sources.{InSlice, AgreeOn, made_cong, reference_of_cong}
+use Rattle.argon2.proofs.recurrence.PermittedPlaces.{InSlice}
+use Rattle.argon2.proofs.recurrence.Sources.{AgreeOn, made_cong, reference_of_cong}
 use Rattle.argon2.proofs.schedules.Schedules.{turn_column, turns-same, turns-other, MayRun, MayRun-tail, MayRun-from, head_step, turn_count-le, place_apart}
 use Rattle.argon2.proofs.recurrence.History.{first_columns, made_blocks}
 
@@ -27,16 +29,16 @@ HasBlocksUpTo-like ctx first pass done done' memory same h = record {
 
 -- what a step reads are the recurrence's blocks
 step_reads : (ctx : Context) →
-    (first : FirstColumns) (pass lane column k : ℕ) (done : ℕ → ℕ) (memory : List (List ℕ)) →
-    InSlice (segment_length ctx) column k →
+    (first : FirstColumns) (pass lane column slice : ℕ) (done : ℕ → ℕ) (memory : List (List ℕ)) →
+    InSlice (segment_length ctx) column slice →
     done lane ≡ column →
-    ((l : ℕ) → l < ctx.p_cost → (k * segment_length ctx ≤ done l) × (done l ≤ (k + 1) * segment_length ctx)) →
+    ((l : ℕ) → l < ctx.p_cost → (slice * segment_length ctx ≤ done l) × (done l ≤ (slice + 1) * segment_length ctx)) →
     HasBlocksUpTo ctx first pass done memory →
     AgreeOn ctx pass lane column (in_memory ctx memory) (block_of ctx first)
 unfolding in_memory
-step_reads ctx first pass lane column k done memory here now about h =
+step_reads ctx first pass lane column slice done memory here now about h =
     let s = segment_length ctx in
-    let is : column / s ≡ k = div-eq_of_lt-le s here.above here.below in
+    let is : column / s ≡ slice = div-eq_of_lt-le s here.above here.below in
     λ r l c reads.
     let a = about l reads.in_lanes in
     elim reads.newest [
@@ -45,10 +47,10 @@ step_reads ctx first pass lane column k done memory here now about h =
           let u : c < done l = elim reads.apart [
             | inl e ↦ (let d : done l ≡ done lane = ap done e in omega arith)
             | inr o ↦ (elim o [
-              | inl before ↦ (let before' : c < k * s = subst (λ x. c < x * s) is before in omega arith)
+              | inl before ↦ (let before' : c < slice * s = subst (λ x. c < x * s) is before in omega arith)
               | inr after ↦
-                  absurd (let after' : (k + 1) * s ≤ c = subst (λ x. (x + 1) * s ≤ c) is after in
-                  let high : column < (k + 1) * s = here.below in omega arith)
+                  absurd (let after' : (slice + 1) * s ≤ c = subst (λ x. (x + 1) * s ≤ c) is after in
+                  let high : column < (slice + 1) * s = here.below in omega arith)
             ])
           ] in
           h.new l c reads.in_lanes reads.in_columns u ∙ ap (λ p. block_of ctx first p l c) (sym n.0))
@@ -58,9 +60,9 @@ step_reads ctx first pass lane column k done memory here now about h =
             | inl e ↦ (let d : done l ≡ done lane = ap done e in omega arith)
             | inr o ↦ (elim o [
               | inl before ↦
-                  absurd (let before' : c < k * s = subst (λ x. c < x * s) is before in let low : k * s ≤ column = here.above in
-                  omega arith)
-              | inr after ↦ (let after' : (k + 1) * s ≤ c = subst (λ x. (x + 1) * s ≤ c) is after in omega arith)
+                  absurd (let before' : c < slice * s = subst (λ x. c < x * s) is before in
+                  let low : slice * s ≤ column = here.above in omega arith)
+              | inr after ↦ (let after' : (slice + 1) * s ≤ c = subst (λ x. (x + 1) * s ≤ c) is after in omega arith)
             ])
           ] in
           h.old r l c n.0 reads.in_lanes reads.in_columns u)
@@ -68,44 +70,44 @@ step_reads ctx first pass lane column k done memory here now about h =
 
 -- a step's block is the recurrence's
 step_makes : (ctx : Context) → Sizes ctx →
-    (first : FirstColumns) (pass lane column k : ℕ) (done : ℕ → ℕ) (memory : List (List ℕ)) →
-    IsStep ctx pass lane column → InSlice (segment_length ctx) column k →
+    (first : FirstColumns) (pass lane column slice : ℕ) (done : ℕ → ℕ) (memory : List (List ℕ)) →
+    IsStep ctx pass lane column → InSlice (segment_length ctx) column slice →
     done lane ≡ column →
-    ((l : ℕ) → l < ctx.p_cost → (k * segment_length ctx ≤ done l) × (done l ≤ (k + 1) * segment_length ctx)) →
+    ((l : ℕ) → l < ctx.p_cost → (slice * segment_length ctx ≤ done l) × (done l ≤ (slice + 1) * segment_length ctx)) →
     HasBlocksUpTo ctx first pass done memory →
     made_block ctx (in_memory ctx memory) pass lane column ≡ block_of ctx first pass lane column
-step_makes ctx sizes first pass lane column k done memory st here now about h =
+step_makes ctx sizes first pass lane column slice done memory st here now about h =
     made_cong ctx sizes pass lane column st _ (block_of ctx first)
-    (step_reads ctx first pass lane column k done memory here now about h)
+    (step_reads ctx first pass lane column slice done memory here now about h)
     ∙ sym (made_blocks ctx sizes first pass lane column st)
 
 -- the place of a step's reference is the recurrence's
 pub step_answers : (ctx : Context) → Sizes ctx →
-    (first : FirstColumns) (pass lane column k : ℕ) (done : ℕ → ℕ) (memory : List (List ℕ)) →
-    IsStep ctx pass lane column → InSlice (segment_length ctx) column k →
+    (first : FirstColumns) (pass lane column slice : ℕ) (done : ℕ → ℕ) (memory : List (List ℕ)) →
+    IsStep ctx pass lane column → InSlice (segment_length ctx) column slice →
     done lane ≡ column →
-    ((l : ℕ) → l < ctx.p_cost → (k * segment_length ctx ≤ done l) × (done l ≤ (k + 1) * segment_length ctx)) →
+    ((l : ℕ) → l < ctx.p_cost → (slice * segment_length ctx ≤ done l) × (done l ≤ (slice + 1) * segment_length ctx)) →
     HasBlocksUpTo ctx first pass done memory →
     reference_place ctx memory pass lane column ≡ reference_places ctx first pass lane column
 unfolding reference_place reference_places
-step_answers ctx sizes first pass lane column k done memory st here now about h =
+step_answers ctx sizes first pass lane column slice done memory st here now about h =
     ap (λ (x : Reference). x.lane * lane_length ctx + x.column)
     (reference_of_cong ctx sizes pass lane column st _ (block_of ctx first)
-    (step_reads ctx first pass lane column k done memory here now about h))
+    (step_reads ctx first pass lane column slice done memory here now about h))
 
 -- a step adds a column to its lane
 pub step_fills : (ctx : Context) → Sizes ctx →
-    (first : FirstColumns) (pass lane column k : ℕ) (done done' : ℕ → ℕ) (memory : List (List ℕ)) →
-    IsStep ctx pass lane column → InSlice (segment_length ctx) column k →
+    (first : FirstColumns) (pass lane column slice : ℕ) (done done' : ℕ → ℕ) (memory : List (List ℕ)) →
+    IsStep ctx pass lane column → InSlice (segment_length ctx) column slice →
     done lane ≡ column → done' lane ≡ suc column → ((l : ℕ) → l ≢ lane → done' l ≡ done l) →
-    ((l : ℕ) → l < ctx.p_cost → (k * segment_length ctx ≤ done l) × (done l ≤ (k + 1) * segment_length ctx)) →
+    ((l : ℕ) → l < ctx.p_cost → (slice * segment_length ctx ≤ done l) × (done l ≤ (slice + 1) * segment_length ctx)) →
     HasBlocksUpTo ctx first pass done memory → HasBlocksUpTo ctx first pass done' (step ctx memory pass lane column)
 unfolding step
-step_fills ctx sizes first pass lane column k done done' memory st here now then' others about h =
+step_fills ctx sizes first pass lane column slice done done' memory st here now then' others about h =
     let q = lane_length ctx in
     let i = lane * q + column in
     let b = made_block ctx (in_memory ctx memory) pass lane column in
-    let is = step_makes ctx sizes first pass lane column k done memory st here now about h in
+    let is = step_makes ctx sizes first pass lane column slice done memory st here now about h in
     let within : i < q * ctx.p_cost = mul-add-lt lane q column ctx.p_cost st.in_lanes st.in_columns in
     let size = h.size in
     let fit : i < length memory = omega arith in
@@ -114,7 +116,7 @@ step_fills ctx sizes first pass lane column k done done' memory st here now then
       new = λ l c a below lt. elim (cases_eq l lane) [
         | inl e ↦ (elim (cases_eq c column) [
           | inl f ↦
-              (ap (λ n. get_or (set memory i b) n []) (ap (λ x. x * q + c) e ∙ ap (λ x. lane * q + x) f)
+              (ap (λ n. slice_index_or (slice_set memory i b) n []) (ap (λ x. x * q + c) e ∙ ap (λ x. lane * q + x) f)
               ∙ get_or-set_same memory i b [] fit ∙ is ∙ ap (λ x. block_of ctx first pass x column) (sym e)
               ∙ ap (block_of ctx first pass l) (sym f))
           | inr f ↦ (
@@ -146,68 +148,70 @@ step_fills ctx sizes first pass lane column k done done' memory st here now then
 
 -- the columns that a lane has made when these turns are left in the slice
 abbrev done_before : Context → ℕ → List ℕ → ℕ → ℕ
-done_before ctx k schedule l = (k + 1) * segment_length ctx - turns l schedule
+done_before ctx slice schedule l = (slice + 1) * segment_length ctx - turns l schedule
 
 -- what is left of a schedule finishes the slice
-run_fills : (ctx : Context) → Sizes ctx → (first : FirstColumns) (pass k : ℕ) → k < 4 →
-    (schedule : List ℕ) (memory : List (List ℕ)) → MayRun ctx pass k schedule →
-    HasBlocksUpTo ctx first pass (done_before ctx k schedule) memory →
-    HasBlocksUpTo ctx first pass (done_before ctx k []) (run ctx pass k schedule memory)
+run_fills : (ctx : Context) → Sizes ctx → (first : FirstColumns) (pass slice : ℕ) → slice < 4 →
+    (schedule : List ℕ) (memory : List (List ℕ)) → MayRun ctx pass slice schedule →
+    HasBlocksUpTo ctx first pass (done_before ctx slice schedule) memory →
+    HasBlocksUpTo ctx first pass (done_before ctx slice []) (run ctx pass slice schedule memory)
 unfolding run
-run_fills ctx sizes first pass k four [] memory m h = h
-run_fills ctx sizes first pass k four (lane ∷ schedule) memory m h =
+run_fills ctx sizes first pass slice four [] memory m h = h
+run_fills ctx sizes first pass slice four (lane ∷ schedule) memory m h =
     let s = segment_length ctx in
-    let st = head_step ctx sizes pass k lane schedule four m in
+    let st = head_step ctx sizes pass slice lane schedule four m in
     let same = turns-same lane schedule in
-    let room : turns lane (lane ∷ schedule) ≤ turn_count ctx pass k = m.few lane m.lanes.0 in
-    let most : turn_count ctx pass k ≤ s = turn_count-le ctx pass k in
-    let column = turn_column ctx k (turns lane schedule) in
-    let now : done_before ctx k (lane ∷ schedule) lane ≡ column = ap (λ n. (k + 1) * s - n) same in
-    let then' : done_before ctx k schedule lane ≡ suc column = omega arith in
-    run_fills ctx sizes first pass k four schedule (step ctx memory pass lane column) (MayRun-tail ctx pass k lane schedule m)
-    (step_fills ctx sizes first pass lane column k (done_before ctx k (lane ∷ schedule))
-    (done_before ctx k schedule) memory st.0 st.1 now then'
-    (λ l ne. ap (λ n. (k + 1) * s - n) (sym (turns-other l lane schedule (λ e. ne (sym e)))))
-    (λ l below. let few : turns l (lane ∷ schedule) ≤ turn_count ctx pass k = m.few l below in (omega arith, omega arith))
+    let room : turns lane (lane ∷ schedule) ≤ turn_count ctx pass slice = m.few lane m.lanes.0 in
+    let most : turn_count ctx pass slice ≤ s = turn_count-le ctx pass slice in
+    let column = turn_column ctx slice (turns lane schedule) in
+    let now : done_before ctx slice (lane ∷ schedule) lane ≡ column = ap (λ n. (slice + 1) * s - n) same in
+    let then' : done_before ctx slice schedule lane ≡ suc column = omega arith in
+    run_fills ctx sizes first pass slice four schedule (step ctx memory pass lane column)
+    (MayRun-tail ctx pass slice lane schedule m)
+    (step_fills ctx sizes first pass lane column slice (done_before ctx slice (lane ∷ schedule))
+    (done_before ctx slice schedule) memory st.0 st.1 now then'
+    (λ l ne. ap (λ n. (slice + 1) * s - n) (sym (turns-other l lane schedule (λ e. ne (sym e)))))
+    (λ l below. let few : turns l (lane ∷ schedule) ≤ turn_count ctx pass slice = m.few l below in (omega arith, omega arith))
     h)
 
 -- ---- slices and passes
 
 -- in later slices a lane has as many turns as its segment has columns
-pub turn_count-later_slice : (ctx : Context) (pass k : ℕ) →
-    turn_count ctx pass (suc k) ≡ segment_length ctx
-turn_count-later_slice ctx pass k =
-    cond-false ((eqb pass 0) && (eqb (suc k) 0)) _ _
-    (and_right (eqb pass 0) (eqb (suc k) 0) (ne_eqb (suc k) 0 (λ e. omega arith)))
+pub turn_count-later_slice : (ctx : Context) (pass slice : ℕ) →
+    turn_count ctx pass (suc slice) ≡ segment_length ctx
+turn_count-later_slice ctx pass slice =
+    cond-false ((pass == 0) && (suc slice == 0)) _ _
+    (and_right (pass == 0) (suc slice == 0) (ne_eqb (suc slice) 0 (λ e. omega arith)))
 
 -- the first slices of a pass fill it up to there, each by its schedule
 slices_fill : (ctx : Context) → Sizes ctx →
-    (first : FirstColumns) (schedules : ℕ → List ℕ) (pass k : ℕ) → k ≤ 4 →
+    (first : FirstColumns) (schedules : ℕ → List ℕ) (pass slice : ℕ) → slice ≤ 4 →
     ((j : ℕ) → j < 4 → IsSchedule ctx pass j (schedules j)) → (memory : List (List ℕ)) →
     HasBlocksUpTo ctx first pass (λ _. begun ctx pass 0) memory →
-    HasBlocksUpTo ctx first pass (λ _. begun ctx pass k) (run_slices ctx schedules pass k memory)
+    HasBlocksUpTo ctx first pass (λ _. begun ctx pass slice) (run_slices ctx schedules pass slice memory)
 unfolding run_slices
 slices_fill ctx sizes first schedules pass zero four is memory h = h
-slices_fill ctx sizes first schedules pass (suc k) four is memory h =
+slices_fill ctx sizes first schedules pass (suc slice) four is memory h =
     let s = segment_length ctx in
-    let before = run_slices ctx schedules pass k memory in
-    let i : HasBlocksUpTo ctx first pass (λ _. begun ctx pass k) before =
-    slices_fill ctx sizes first schedules pass k (omega arith) is memory h in
-    let schedule = schedules k in
-    let it : IsSchedule ctx pass k schedule = is k (omega arith) in
-    let start : HasBlocksUpTo ctx first pass (done_before ctx k schedule) before =
-    HasBlocksUpTo-like ctx first pass (λ _. begun ctx pass k) (done_before ctx k schedule) before
-    (λ l below. ap (λ n. (k + 1) * s - n) (sym (it.turns l below))) i in
-    HasBlocksUpTo-like ctx first pass (done_before ctx k []) (λ _. begun ctx pass (suc k)) (run ctx pass k schedule before)
-    (λ l below. let w = turn_count-later_slice ctx pass k in omega arith)
-    (run_fills ctx sizes first pass k (omega arith) schedule before (MayRun-from ctx pass k schedule it) start)
+    let before = run_slices ctx schedules pass slice memory in
+    let i : HasBlocksUpTo ctx first pass (λ _. begun ctx pass slice) before =
+    slices_fill ctx sizes first schedules pass slice (omega arith) is memory h in
+    let schedule = schedules slice in
+    let it : IsSchedule ctx pass slice schedule = is slice (omega arith) in
+    let start : HasBlocksUpTo ctx first pass (done_before ctx slice schedule) before =
+    HasBlocksUpTo-like ctx first pass (λ _. begun ctx pass slice) (done_before ctx slice schedule) before
+    (λ l below. ap (λ n. (slice + 1) * s - n) (sym (it.turns l below))) i in
+    HasBlocksUpTo-like ctx first pass (done_before ctx slice []) (λ _. begun ctx pass (suc slice))
+    (run ctx pass slice schedule before)
+    (λ l below. let w = turn_count-later_slice ctx pass slice in omega arith)
+    (run_fills ctx sizes first pass slice (omega arith) schedule before (MayRun-from ctx pass slice schedule it) start)
 
 -- in later passes a lane has as many turns as its segment has columns
 pub turn_count-later_pass : (ctx : Context) (pass : ℕ) →
     turn_count ctx (suc pass) 0 ≡ segment_length ctx
 turn_count-later_pass ctx pass =
-    cond-false ((eqb (suc pass) 0) && (eqb 0 0)) _ _
-    (and_left (eqb (suc pass) 0) (eqb 0 0) (ne_eqb (suc pass) 0 (λ e. omega arith)))
+    cond-false ((suc pass == 0) && (0 == 0)) _ _
+    (and_left (suc pass == 0) (0 == 0) (ne_eqb (suc pass) 0 (λ e. omega arith)))
 
 -- the end of a pass is the start of the next
 pub next_pass : (ctx : Context) (first : FirstColumns) (pass : ℕ) (memory : List (List ℕ)) →
@@ -227,7 +231,7 @@ next_pass ctx first pass memory h =
 -- the first passes fill the memory, each slice by its schedule
 passes_fill : (ctx : Context) → Sizes ctx →
     (first : FirstColumns) (schedules : ℕ → ℕ → List ℕ) (passes : ℕ) →
-    ((r k : ℕ) → r < passes → k < 4 → IsSchedule ctx r k (schedules r k)) →
+    ((r slice : ℕ) → r < passes → slice < 4 → IsSchedule ctx r slice (schedules r slice)) →
     (memory : List (List ℕ)) →
     HasBlocksUpTo ctx first 0 (λ _. begun ctx 0 0) memory →
     HasBlocksUpTo ctx first passes (λ _. begun ctx passes 0) (run_passes ctx schedules passes memory)
@@ -236,8 +240,8 @@ passes_fill ctx sizes first schedules zero is memory h = h
 passes_fill ctx sizes first schedules (suc r) is memory h =
     let before = run_passes ctx schedules r memory in
     next_pass ctx first r (run_slices ctx (schedules r) r 4 before)
-    (slices_fill ctx sizes first (schedules r) r 4 (omega arith) (λ k lt. is r k (omega arith) lt) before
-    (passes_fill ctx sizes first schedules r (λ a k x y. is a k (omega arith) y) memory h))
+    (slices_fill ctx sizes first (schedules r) r 4 (omega arith) (λ slice lt. is r slice (omega arith) lt) before
+    (passes_fill ctx sizes first schedules r (λ a slice x y. is a slice (omega arith) y) memory h))
 
 -- a memory that begins with the first two columns is filled up to there
 pub filled_at_first : (ctx : Context) → Sizes ctx → (first : FirstColumns) (memory : List (List ℕ)) →
@@ -247,7 +251,8 @@ filled_at_first ctx sizes first memory start =
     let w : turn_count ctx 0 0 ≡ segment_length ctx - 2 = refl in
     record {
       size = start.size;
-      new = λ l c a b lt. let low : c < 2 = omega arith in start.columns l c a low ∙ sym (first_columns ctx sizes first l c a low);
+      new = λ l c a b lt. let low : c < 2 = omega arith in
+          start.columns l c a low ∙ sym (first_columns ctx sizes first l c a low);
       old = λ r l c p a b le. absurd (omega arith);
     }
 
@@ -266,7 +271,7 @@ filled_at_last ctx sizes first (suc r) memory t some h =
     fill_by_all (λ place. block_of ctx first (ctx.t_cost - 1) (place / q) (place % q)) memory (block_count ctx) [] h.size (λ n lt.
     let lane : n / q < ctx.p_cost = div_below n q ctx.p_cost (omega arith) lt in
     let column : n % q < q = mod-lt n (omega arith) in
-    ap (λ x. get_or memory x []) (sym (div-add-mod' n q))
+    ap (λ x. slice_index_or memory x []) (sym (div-add-mod' n q))
     ∙ h.old r (n / q) (n % q) refl lane column (omega arith)
     ∙ ap (λ x. block_of ctx first x (n / q) (n % q)) p)
 

@@ -1,40 +1,41 @@
 -- Writing the first two columns of a lane after those of the lanes before.
-use Rattle.std.proofs.Common.{◌≡◌, ℕ, ◌+◌, ◌*◌, ◌<◌, ◌≤◌, ◌≢◌, inl, inr, List, [], length, get_or, set, ◌∙◌, arith}
+use Rattle.std.proofs.Common.{◌≡◌, ℕ, ◌+◌, ◌*◌, ◌<◌, ◌≤◌, ◌≢◌, inl, inr, List, [], length, ◌∙◌, arith}
+use Rattle.std.specs.Prelude.{slice_index_or, slice_set}
 use Rattle.std.proofs.lemmas.Bool.{cases_eq}
 use Rattle.std.proofs.lemmas.List.{get_or-set_other, get_or-set_same, length-set}
 use Rattle.std.proofs.lemmas.Nat.{same_from_place}
 
 -- a memory with two blocks written at the start of a lane of q columns
 abbrev pub with_pair : ℕ → ℕ → List (List ℕ) → (ℕ → List ℕ) → List (List ℕ)
-with_pair q lane memory f = set (set memory (lane * q + 0) (f 0)) (lane * q + 1) (f 1)
+with_pair q lane memory f = slice_set (slice_set memory (lane * q + 0) (f 0)) (lane * q + 1) (f 1)
 
 module _ (q lane : ℕ) (two : 2 ≤ q) (memory : List (List ℕ)) (f : ℕ → List ℕ) where
   -- all other places stay
   pub with_pair-other : (k c : ℕ) → c < q → (k ≡ lane → 2 ≤ c)
-      → get_or (with_pair q lane memory f) (k * q + c) [] ≡ get_or memory (k * q + c) []
+      → slice_index_or (with_pair q lane memory f) (k * q + c) [] ≡ slice_index_or memory (k * q + c) []
   with_pair-other k c below apart =
       let other : (d : ℕ) → d < 2 → k * q + c ≢ lane * q + d =
       λ d small e. (let s = same_from_place k c lane d q below (omega arith) e in let high = apart s.0 in let z : c ≡ d = s.1 in
       omega arith) in
-      get_or-set_other (set memory (lane * q + 0) (f 0)) (lane * q + 1) (k * q + c) (f 1) [] (other 1 (omega arith))
+      get_or-set_other (slice_set memory (lane * q + 0) (f 0)) (lane * q + 1) (k * q + c) (f 1) [] (other 1 (omega arith))
       ∙ get_or-set_other memory (lane * q + 0) (k * q + c) (f 0) [] (other 0 (omega arith))
 
   -- the lane has the two blocks
   with_pair-same : lane * q + 1 < length memory → (c : ℕ) → c < 2
-      → get_or (with_pair q lane memory f) (lane * q + c) [] ≡ f c
+      → slice_index_or (with_pair q lane memory f) (lane * q + c) [] ≡ f c
   with_pair-same room c small = elim (cases_eq c 0) [
     | inl e ↦ rw e
-        (get_or-set_other (set memory (lane * q + 0) (f 0)) (lane * q + 1) (lane * q + 0) (f 1) [] (λ e. omega arith)
+        (get_or-set_other (slice_set memory (lane * q + 0) (f 0)) (lane * q + 1) (lane * q + 0) (f 1) [] (λ e. omega arith)
         ∙ get_or-set_same memory (lane * q + 0) (f 0) [] (omega arith))
     | inr ne ↦ (let one : c ≡ 1 = omega arith in rw one
-        (get_or-set_same (set memory (lane * q + 0) (f 0)) (lane * q + 1) (f 1) []
+        (get_or-set_same (slice_set memory (lane * q + 0) (f 0)) (lane * q + 1) (f 1) []
         (omega (arith, length-set memory (lane * q + 0) (f 0)))))
   ]
 
 -- where the lanes before have their blocks, one lane more has
 pub with_pair-lanes : (q lane : ℕ) → 2 ≤ q → (memory : List (List ℕ)) (f : ℕ → ℕ → List ℕ) → lane * q + 1 < length memory
-    → ((k c : ℕ) → k < lane → c < 2 → get_or memory (k * q + c) [] ≡ f k c)
-    → (k c : ℕ) → k < lane + 1 → c < 2 → get_or (with_pair q lane memory (f lane)) (k * q + c) [] ≡ f k c
+    → ((k c : ℕ) → k < lane → c < 2 → slice_index_or memory (k * q + c) [] ≡ f k c)
+    → (k c : ℕ) → k < lane + 1 → c < 2 → slice_index_or (with_pair q lane memory (f lane)) (k * q + c) [] ≡ f k c
 with_pair-lanes q lane two memory f room before k c below small = elim (cases_eq k lane) [
   | inl e ↦ rw e (with_pair-same q lane two memory (f lane) room c small)
   | inr ne ↦

@@ -8,7 +8,7 @@ use Rattle.argon2.specs.Laws.{Begins}
 use Rattle.argon2.specs.Positions.{begun, in_order, position_index, IsFilledFrom, IsFilledUpTo}
 use Rattle.argon2.specs.Recurrence.{FirstColumns}
 use Rattle.argon2.specs.Steps.{Memory, IsStep, reference_place, step}
-use Rattle.argon2.proofs.recurrence.Sources.{InSlice}
+use Rattle.argon2.proofs.recurrence.PermittedPlaces.{InSlice}
 use Rattle.argon2.proofs.schedules.Filling.{filled_at_first, filled_at_last, next_pass, step_answers, step_fills, turn_count-later_slice, HasBlocksUpTo-like}
 use Rattle.argon2.proofs.schedules.ReferencePlaces.{first_positions, next_positions, step_positions, HasPositionsUpTo-like}
 use Rattle.argon2.proofs.schedules.Schedules.{turn_count-le}

@@ -1,5 +1,6 @@
 -- The last column of a memory that is the matrix.
-use Rattle.std.proofs.Common.{◌≡◌, ℕ, ◌+◌, ◌-◌, ◌*◌, ◌/◌, ◌%◌, ◌<◌, List, [], map, get_or, fold, ap, ◌∙◌, arith}
+use Rattle.std.proofs.Common.{◌≡◌, ℕ, ◌+◌, ◌-◌, ◌*◌, ◌/◌, ◌%◌, ◌<◌, List, [], map, fold, ap, ◌∙◌, arith}
+use Rattle.std.specs.Prelude.{slice_index_or}
 use Rattle.std.specs.List.{range_with_len}
 use Rattle.std.proofs.lemmas.List.FromFn.{get_or-map-range_with_len, length-map-range_with_len, fill_by_all}
 use Rattle.std.proofs.lemmas.Nat.{div-mul-add, mod-mul-add, mul-add-lt}
@@ -13,7 +14,7 @@ use Rattle.argon2.proofs.schedules.Filling.{schedules_fill}
 -- the matrix has the last pass's blocks at their places
 matrix_at : (ctx : Context) → Sizes ctx → (first : FirstColumns) (lane column : ℕ) →
     lane < ctx.p_cost → column < lane_length ctx →
-    get_or (matrix ctx first) (lane * lane_length ctx + column) [] ≡ block_of ctx first (ctx.t_cost - 1) lane column
+    slice_index_or (matrix ctx first) (lane * lane_length ctx + column) [] ≡ block_of ctx first (ctx.t_cost - 1) lane column
 unfolding matrix
 matrix_at ctx sizes first lane column a b =
     let q = lane_length ctx in
@@ -41,7 +42,7 @@ unfolding last_block
 last_of_matrix ctx sizes first memory e =
     let two = sizes.two_columns in
     xor_lanes_cong ctx _ _
-    (λ lane h. ap (λ (m : List (List ℕ)). get_or m (lane * lane_length ctx + (lane_length ctx - 1)) []) e
+    (λ lane h. ap (λ (m : List (List ℕ)). slice_index_or m (lane * lane_length ctx + (lane_length ctx - 1)) []) e
     ∙ matrix_at ctx sizes first lane (lane_length ctx - 1) h (omega arith))
 
 -- however the lanes take turns, the exclusive or of the last column is the recurrence's

@@ -25,7 +25,8 @@ position_index-same ctx pass lane column r l c a b x y e =
 position_index-below : (ctx : Context) (pass lane column : ℕ) → pass < ctx.t_cost → lane < ctx.p_cost
     → column < lane_length ctx → position_index ctx pass lane column < place_count ctx
 position_index-below ctx pass lane column t a b =
-    let below = mul-add-lt pass (block_count ctx) (lane * lane_length ctx + column) ctx.t_cost t (place_below ctx lane column a b) in
+    let place = place_below ctx lane column a b in
+    let below = mul-add-lt pass (block_count ctx) (lane * lane_length ctx + column) ctx.t_cost t place in
     omega arith
 
 -- counts of made columns that agree say the same

@@ -1,5 +1,6 @@
 -- Two steps of different lanes in one slice commute, so all schedules of a slice give the same blocks.
-use Rattle.std.proofs.Common.{◌≡◌, ℕ, suc, ◌+◌, ◌-◌, ◌*◌, ◌/◌, ◌<◌, ◌≤◌, ◌≢◌, inl, inr, cond, ◌&&◌, eqb, List, [], ◌∷◌, ◌++◌, set, refl, sym, ap, ◌∙◌, subst, arith}
+use Rattle.std.proofs.Common.{◌≡◌, ℕ, suc, ◌+◌, ◌-◌, ◌*◌, ◌/◌, ◌<◌, ◌≤◌, ◌≢◌, inl, inr, ◌&&◌, List, [], ◌∷◌, ◌++◌, refl, sym, ap, ◌∙◌, subst, arith}
+use Rattle.std.specs.Prelude.{slice_set, ◌==◌, if◌then◌else◌}
 use Rattle.std.proofs.Math.Nat.{mul-le-mul_right, div-eq_of_lt-le}
 use Rattle.std.specs.List.{AllByRecursion}
 use Rattle.std.proofs.lemmas.List.{get_or-set_other, set_comm}
@@ -9,23 +10,24 @@ use Rattle.std.proofs.lemmas.Bool.{cond_both, cond-true, cond-false, cases_eq, e
 use Rattle.argon2.specs.Context.{Context, Sizes, segment_length, lane_length}
 use Rattle.argon2.specs.Recurrence.{made_block}
 use Rattle.argon2.specs.Steps.{IsStep, in_memory, step, turns, turn_count, IsSchedule, run}
-use Rattle.argon2.proofs.recurrence.Sources.{InSlice, made_cong}
+use Rattle.argon2.proofs.recurrence.PermittedPlaces.{InSlice}
+use Rattle.argon2.proofs.recurrence.Sources.{made_cong}
 
 -- other lanes or columns stand at other places
 pub place_apart : (q l c m d : ℕ) → c < q → d < q → (l ≡ m → c ≡ d → ⊥) → l * q + c ≢ m * q + d
 place_apart q l c m d hc hd ne e = let s = same_from_place l c m d q hc hd e in ne s.0 s.1
 
 -- what another lane writes in the slice leaves a step's block as it is
-made_kept : (ctx : Context) → Sizes ctx → (pass lane column l c k : ℕ) →
-    IsStep ctx pass lane column → InSlice (segment_length ctx) column k →
-    l ≢ lane → c < lane_length ctx → InSlice (segment_length ctx) c k →
+made_kept : (ctx : Context) → Sizes ctx → (pass lane column l c slice : ℕ) →
+    IsStep ctx pass lane column → InSlice (segment_length ctx) column slice →
+    l ≢ lane → c < lane_length ctx → InSlice (segment_length ctx) c slice →
     (memory : List (List ℕ)) (b : List ℕ) →
-    made_block ctx (in_memory ctx (set memory (l * lane_length ctx + c) b)) pass lane column
+    made_block ctx (in_memory ctx (slice_set memory (l * lane_length ctx + c) b)) pass lane column
     ≡ made_block ctx (in_memory ctx memory) pass lane column
 unfolding in_memory
-made_kept ctx sizes pass lane column l c k st here other below there memory b =
+made_kept ctx sizes pass lane column l c slice st here other below there memory b =
     let s = segment_length ctx in
-    let e : column / s ≡ k = div-eq_of_lt-le s here.above here.below in
+    let e : column / s ≡ slice = div-eq_of_lt-le s here.above here.below in
     made_cong ctx sizes pass lane column st _ _ (λ r l' c' reads.
     get_or-set_other memory (l * lane_length ctx + c) (l' * lane_length ctx + c') b []
     (place_apart (lane_length ctx) l' c' l c reads.in_columns below (λ p q.
@@ -33,51 +35,53 @@ made_kept ctx sizes pass lane column l c k st here other below there memory b =
       | inl o ↦ other (sym p ∙ o)
       | inr o ↦ (elim o [
         | inl before ↦
-            (let before' : c' < k * s = subst (λ x. c' < x * s) e before in let low : k * s ≤ c = there.above in omega arith)
+            (let before' : c' < slice * s = subst (λ x. c' < x * s) e before in
+            let low : slice * s ≤ c = there.above in omega arith)
         | inr after ↦
-            (let after' : (k + 1) * s ≤ c' = subst (λ x. (x + 1) * s ≤ c') e after in let high : c < (k + 1) * s = there.below in
-            omega arith)
+            (let after' : (slice + 1) * s ≤ c' = subst (λ x. (x + 1) * s ≤ c') e after in
+            let high : c < (slice + 1) * s = there.below in omega arith)
       ])
     ])))
 
 -- two steps of different lanes in one slice may change places
-steps_commute : (ctx : Context) → Sizes ctx → (pass k : ℕ) (l c m d : ℕ) → l ≢ m →
-    IsStep ctx pass l c → InSlice (segment_length ctx) c k → IsStep ctx pass m d →
-    InSlice (segment_length ctx) d k → (memory : List (List ℕ)) →
+steps_commute : (ctx : Context) → Sizes ctx → (pass slice : ℕ) (l c m d : ℕ) → l ≢ m →
+    IsStep ctx pass l c → InSlice (segment_length ctx) c slice → IsStep ctx pass m d →
+    InSlice (segment_length ctx) d slice → (memory : List (List ℕ)) →
     step ctx (step ctx memory pass l c) pass m d ≡ step ctx (step ctx memory pass m d) pass l c
 unfolding step
-steps_commute ctx sizes pass k l c m d ne sc ic sd id memory =
+steps_commute ctx sizes pass slice l c m d ne sc ic sd id memory =
     let q = lane_length ctx in
     let i = l * q + c in
     let j = m * q + d in
     let b = made_block ctx (in_memory ctx memory) pass l c in
     let e = made_block ctx (in_memory ctx memory) pass m d in
     let apart : i ≢ j = place_apart q l c m d sc.in_columns sd.in_columns (λ p _. ne p) in
-    ap (set (set memory i b) j) (made_kept ctx sizes pass m d l c k sd id ne sc.in_columns ic memory b)
+    ap (slice_set (slice_set memory i b) j) (made_kept ctx sizes pass m d l c slice sd id ne sc.in_columns ic memory b)
     ∙ set_comm memory i j b e apart
-    ∙ sym (ap (set (set memory j e) i) (made_kept ctx sizes pass l c m d k sc ic (λ p. ne (sym p)) sd.in_columns id memory e))
+    ∙ sym (ap (slice_set (slice_set memory j e) i)
+    (made_kept ctx sizes pass l c m d slice sc ic (λ p. ne (sym p)) sd.in_columns id memory e))
 
 -- ---- turns
 
 -- turns are counted one by one
 turns-cons : (lane x : ℕ) (xs : List ℕ) →
-    turns lane (x ∷ xs) ≡ cond (eqb x lane) 1 0 + turns lane xs
-turns-cons lane x xs = sum_by-cons (λ y. cond (eqb y lane) 1 0) x xs
+    turns lane (x ∷ xs) ≡ (if x == lane then 1 else 0) + turns lane xs
+turns-cons lane x xs = sum_by-cons (λ y. (if y == lane then 1 else 0)) x xs
 
 -- a lane's own turn counts
 pub turns-same : (lane : ℕ) (xs : List ℕ) → turns lane (lane ∷ xs) ≡ suc (turns lane xs)
-turns-same lane xs = turns-cons lane lane xs ∙ ap (λ n. n + turns lane xs) (cond-true (eqb lane lane) 1 0 (eq-eqb lane lane refl))
+turns-same lane xs = turns-cons lane lane xs ∙ ap (λ n. n + turns lane xs) (cond-true (lane == lane) 1 0 (eq-eqb lane lane refl))
     ∙ omega arith
 
 -- another lane's turn does not count
 pub turns-other : (lane x : ℕ) (xs : List ℕ) → x ≢ lane → turns lane (x ∷ xs) ≡ turns lane xs
-turns-other lane x xs ne = turns-cons lane x xs ∙ ap (λ n. n + turns lane xs) (cond-false (eqb x lane) 1 0 (ne_eqb x lane ne))
+turns-other lane x xs ne = turns-cons lane x xs ∙ ap (λ n. n + turns lane xs) (cond-false (x == lane) 1 0 (ne_eqb x lane ne))
     ∙ omega arith
 
 -- the turns of two lists add up
 pub turns-append : (lane : ℕ) (xs ys : List ℕ) →
     turns lane (xs ++ ys) ≡ turns lane xs + turns lane ys
-turns-append lane xs ys = sum_by-append (λ y. cond (eqb y lane) 1 0) xs ys
+turns-append lane xs ys = sum_by-append (λ y. (if y == lane then 1 else 0)) xs ys
 
 -- a tail has no more turns
 turns-tail : (lane x : ℕ) (xs : List ℕ) → turns lane xs ≤ turns lane (x ∷ xs)
@@ -96,38 +100,38 @@ turns-with lane xs ys = omega (arith, turns-append lane xs (lane ∷ ys), turns-
 -- ---- the step of a turn
 
 -- no lane has more turns than its segment has columns
-pub turn_count-le : (ctx : Context) (pass k : ℕ) → turn_count ctx pass k ≤ segment_length ctx
-turn_count-le ctx pass k =
-    cond_both ((eqb pass 0) && (eqb k 0)) _ _ (λ x. x ≤ segment_length ctx) (λ _. omega arith) (λ _. omega arith)
+pub turn_count-le : (ctx : Context) (pass slice : ℕ) → turn_count ctx pass slice ≤ segment_length ctx
+turn_count-le ctx pass slice =
+    cond_both ((pass == 0) && (slice == 0)) _ _ (λ x. x ≤ segment_length ctx) (λ _. omega arith) (λ _. omega arith)
 
 -- in the first slice of all a lane has two turns fewer than columns
-pub turn_count-first : (ctx : Context) (pass k : ℕ) → pass ≡ 0 → k ≡ 0 →
-    turn_count ctx pass k ≡ segment_length ctx - 2
-turn_count-first ctx pass k p e =
-    cond-true ((eqb pass 0) && (eqb k 0)) (segment_length ctx - 2) (segment_length ctx)
-    (and_from (eqb pass 0) (eqb k 0) (eq-eqb pass 0 p) (eq-eqb k 0 e))
+pub turn_count-first : (ctx : Context) (pass slice : ℕ) → pass ≡ 0 → slice ≡ 0 →
+    turn_count ctx pass slice ≡ segment_length ctx - 2
+turn_count-first ctx pass slice p e =
+    cond-true ((pass == 0) && (slice == 0)) (segment_length ctx - 2) (segment_length ctx)
+    (and_from (pass == 0) (slice == 0) (eq-eqb pass 0 p) (eq-eqb slice 0 e))
 
 -- the column of a lane's turn with n more after it
 abbrev pub turn_column : Context → ℕ → ℕ → ℕ
-turn_column ctx k n = (k + 1) * segment_length ctx - suc n
+turn_column ctx slice n = (slice + 1) * segment_length ctx - suc n
 
 -- a turn is a step, in its slice
-turn_step : (ctx : Context) → Sizes ctx → (pass k lane n : ℕ) → k < 4 → lane < ctx.p_cost →
-    suc n ≤ turn_count ctx pass k →
-    IsStep ctx pass lane (turn_column ctx k n) × InSlice (segment_length ctx) (turn_column ctx k n) k
-turn_step ctx sizes pass k lane n four below room =
+turn_step : (ctx : Context) → Sizes ctx → (pass slice lane n : ℕ) → slice < 4 → lane < ctx.p_cost →
+    suc n ≤ turn_count ctx pass slice →
+    IsStep ctx pass lane (turn_column ctx slice n) × InSlice (segment_length ctx) (turn_column ctx slice n) slice
+turn_step ctx sizes pass slice lane n four below room =
     let s = segment_length ctx in
     let two : 2 ≤ s = sizes.two_columns in
-    let le = turn_count-le ctx pass k in
-    let whole : (k + 1) * s ≤ 4 * s = mul-le-mul_right s (omega arith) in (
+    let le = turn_count-le ctx pass slice in
+    let whole : (slice + 1) * s ≤ 4 * s = mul-le-mul_right s (omega arith) in (
       record {
         in_lanes = below;
         in_columns = omega arith;
-        later = λ first. elim (cases_eq k 0) [
+        later = λ first. elim (cases_eq slice 0) [
           | inl z ↦
-              (let w : turn_count ctx pass k ≡ s - 2 = turn_count-first ctx pass k first z in
-              let m : 1 * s ≤ (k + 1) * s = mul-le-mul_right s (omega arith) in omega arith)
-          | inr some ↦ (let m : 1 * s ≤ k * s = mul-le-mul_right s (omega arith) in omega arith)
+              (let w : turn_count ctx pass slice ≡ s - 2 = turn_count-first ctx pass slice first z in
+              let m : 1 * s ≤ (slice + 1) * s = mul-le-mul_right s (omega arith) in omega arith)
+          | inr some ↦ (let m : 1 * s ≤ slice * s = mul-le-mul_right s (omega arith) in omega arith)
         ];
       },
       record { above = omega arith; below = omega arith; whole = whole; one_of_four = four },
@@ -136,25 +140,25 @@ turn_step ctx sizes pass k lane n four below room =
 -- ---- schedules, whole or what is left of them
 
 -- lanes in any order, none with too many turns
-pub record MayRun (ctx : Context) (pass k : ℕ) (schedule : List ℕ) : Type 0 where
+pub record MayRun (ctx : Context) (pass slice : ℕ) (schedule : List ℕ) : Type 0 where
   pub lanes : AllByRecursion (λ lane. lane < ctx.p_cost) schedule
-  pub few : (lane : ℕ) → lane < ctx.p_cost → turns lane schedule ≤ turn_count ctx pass k
+  pub few : (lane : ℕ) → lane < ctx.p_cost → turns lane schedule ≤ turn_count ctx pass slice
 
 -- what is left after the first turn may run too
-pub MayRun-tail : (ctx : Context) (pass k lane : ℕ) (schedule : List ℕ) →
-    MayRun ctx pass k (lane ∷ schedule) → MayRun ctx pass k schedule
-MayRun-tail ctx pass k lane schedule m = record {
+pub MayRun-tail : (ctx : Context) (pass slice lane : ℕ) (schedule : List ℕ) →
+    MayRun ctx pass slice (lane ∷ schedule) → MayRun ctx pass slice schedule
+MayRun-tail ctx pass slice lane schedule m = record {
   lanes = m.lanes.1;
   few = λ l h. let a = m.few l h in let b = turns-tail l lane schedule in omega arith;
 }
 
 -- the first turn is a step
-pub head_step : (ctx : Context) → Sizes ctx → (pass k lane : ℕ) (schedule : List ℕ) → k < 4 →
-    MayRun ctx pass k (lane ∷ schedule) →
-    IsStep ctx pass lane (turn_column ctx k (turns lane schedule))
-    × InSlice (segment_length ctx) (turn_column ctx k (turns lane schedule)) k
-head_step ctx sizes pass k lane schedule four m =
-    turn_step ctx sizes pass k lane (turns lane schedule) four m.lanes.0
+pub head_step : (ctx : Context) → Sizes ctx → (pass slice lane : ℕ) (schedule : List ℕ) → slice < 4 →
+    MayRun ctx pass slice (lane ∷ schedule) →
+    IsStep ctx pass lane (turn_column ctx slice (turns lane schedule))
+    × InSlice (segment_length ctx) (turn_column ctx slice (turns lane schedule)) slice
+head_step ctx sizes pass slice lane schedule four m =
+    turn_step ctx sizes pass slice lane (turns lane schedule) four m.lanes.0
     (let a = m.few lane m.lanes.0 in let b = turns-same lane schedule in omega arith)
 
 -- the lanes of a list without one of them
@@ -169,30 +173,30 @@ lane_among p x [] ys h = h.0
 lane_among p x (y ∷ xs) ys h = lane_among p x xs ys h.1
 
 -- a lane's first turn may come before the turns of other lanes
-first_to_front : (ctx : Context) → Sizes ctx → (pass k lane : ℕ) → k < 4 → (xs ys : List ℕ) →
-    turns lane xs ≡ 0 → MayRun ctx pass k (xs ++ lane ∷ ys) → (memory : List (List ℕ)) →
-    run ctx pass k (xs ++ lane ∷ ys) memory ≡ run ctx pass k (lane ∷ (xs ++ ys)) memory
+first_to_front : (ctx : Context) → Sizes ctx → (pass slice lane : ℕ) → slice < 4 → (xs ys : List ℕ) →
+    turns lane xs ≡ 0 → MayRun ctx pass slice (xs ++ lane ∷ ys) → (memory : List (List ℕ)) →
+    run ctx pass slice (xs ++ lane ∷ ys) memory ≡ run ctx pass slice (lane ∷ (xs ++ ys)) memory
 unfolding run
-first_to_front ctx sizes pass k lane four [] ys none m memory = refl
-first_to_front ctx sizes pass k lane four (x ∷ xs) ys none m memory =
+first_to_front ctx sizes pass slice lane four [] ys none m memory = refl
+first_to_front ctx sizes pass slice lane four (x ∷ xs) ys none m memory =
     let ne : x ≢ lane = λ e. let s = turns-same lane xs in
     let t : turns lane (lane ∷ xs) ≡ 0 = subst (λ y. turns lane (y ∷ xs) ≡ 0) e none in omega arith in
     let rest : turns lane xs ≡ 0 = sym (turns-other lane x xs ne) ∙ none in
     let later = xs ++ ys in
-    let tail : MayRun ctx pass k (xs ++ lane ∷ ys) = MayRun-tail ctx pass k x (xs ++ lane ∷ ys) m in
+    let tail : MayRun ctx pass slice (xs ++ lane ∷ ys) = MayRun-tail ctx pass slice x (xs ++ lane ∷ ys) m in
     let tx : turns x (xs ++ lane ∷ ys) ≡ turns x later = turns-without x lane xs ys (λ e. ne (sym e)) in
     let tl : turns lane (x ∷ later) ≡ turns lane later = turns-other lane x later ne in
     let w : turns lane (xs ++ lane ∷ ys) ≡ suc (turns lane later) = turns-with lane xs ys in
     let lane_in : lane < ctx.p_cost = lane_among ctx.p_cost lane xs ys m.lanes.1 in
-    let px = turn_step ctx sizes pass k x (turns x later) four m.lanes.0
+    let px = turn_step ctx sizes pass slice x (turns x later) four m.lanes.0
     (let a = m.few x m.lanes.0 in let b = turns-same x (xs ++ lane ∷ ys) in omega arith) in
-    let pl = turn_step ctx sizes pass k lane (turns lane later) four lane_in (let a = tail.few lane lane_in in omega arith) in
-    let cx = turn_column ctx k (turns x later) in
-    let cl = turn_column ctx k (turns lane later) in
-    ap (λ n. run ctx pass k (xs ++ lane ∷ ys) (step ctx memory pass x (turn_column ctx k n))) tx
-    ∙ first_to_front ctx sizes pass k lane four xs ys rest tail (step ctx memory pass x cx)
-    ∙ ap (run ctx pass k later) (steps_commute ctx sizes pass k x cx lane cl ne px.0 px.1 pl.0 pl.1 memory)
-    ∙ sym (ap (λ n. run ctx pass k later (step ctx (step ctx memory pass lane (turn_column ctx k n)) pass x cx)) tl)
+    let pl = turn_step ctx sizes pass slice lane (turns lane later) four lane_in (let a = tail.few lane lane_in in omega arith) in
+    let cx = turn_column ctx slice (turns x later) in
+    let cl = turn_column ctx slice (turns lane later) in
+    ap (λ n. run ctx pass slice (xs ++ lane ∷ ys) (step ctx memory pass x (turn_column ctx slice n))) tx
+    ∙ first_to_front ctx sizes pass slice lane four xs ys rest tail (step ctx memory pass x cx)
+    ∙ ap (run ctx pass slice later) (steps_commute ctx sizes pass slice x cx lane cl ne px.0 px.1 pl.0 pl.1 memory)
+    ∙ sym (ap (λ n. run ctx pass slice later (step ctx (step ctx memory pass lane (turn_column ctx slice n)) pass x cx)) tl)
 
 -- the first turn of a lane that has one
 record FirstTurn (lane : ℕ) (ys : List ℕ) : Type 0 where
@@ -225,17 +229,17 @@ no_turns p [] h none = refl
 no_turns p (y ∷ ys) h none = absurd (let a = none y h.0 in let b = turns-same y ys in omega arith)
 
 -- schedules with the same turns give the same blocks
-same_turns : (ctx : Context) → Sizes ctx → (pass k : ℕ) → k < 4 → (xs ys : List ℕ) →
-    MayRun ctx pass k xs → MayRun ctx pass k ys →
+same_turns : (ctx : Context) → Sizes ctx → (pass slice : ℕ) → slice < 4 → (xs ys : List ℕ) →
+    MayRun ctx pass slice xs → MayRun ctx pass slice ys →
     ((lane : ℕ) → lane < ctx.p_cost → turns lane xs ≡ turns lane ys) → (memory : List (List ℕ)) →
-    run ctx pass k xs memory ≡ run ctx pass k ys memory
+    run ctx pass slice xs memory ≡ run ctx pass slice ys memory
 unfolding run
-same_turns ctx sizes pass k four [] ys mx my same memory =
-    ap (λ zs. run ctx pass k zs memory) (sym (no_turns ctx.p_cost ys my.lanes same))
-same_turns ctx sizes pass k four (x ∷ xs) ys mx my same memory =
+same_turns ctx sizes pass slice four [] ys mx my same memory =
+    ap (λ zs. run ctx pass slice zs memory) (sym (no_turns ctx.p_cost ys my.lanes same))
+same_turns ctx sizes pass slice four (x ∷ xs) ys mx my same memory =
     let t = first_turn x ys (let a = same x mx.lanes.0 in let b = turns-same x xs in omega arith) in
     let later = t.before ++ t.after in
-    let my' : MayRun ctx pass k (t.before ++ x ∷ t.after) = subst (MayRun ctx pass k) t.is my in
+    let my' : MayRun ctx pass slice (t.before ++ x ∷ t.after) = subst (MayRun ctx pass slice) t.is my in
     let same' : (lane : ℕ) → lane < ctx.p_cost → turns lane xs ≡ turns lane later = λ lane h.
     (let a = same lane h in
     let b : turns lane ys ≡ turns lane (t.before ++ x ∷ t.after) = ap (turns lane) t.is in
@@ -252,24 +256,25 @@ same_turns ctx sizes pass k four (x ∷ xs) ys mx my same memory =
           let d = turns-without lane x t.before t.after ne in
           omega arith)
     ]) in
-    let mlater : MayRun ctx pass k later = record {
+    let mlater : MayRun ctx pass slice later = record {
       lanes = lanes_without ctx.p_cost x t.before t.after my'.lanes;
-      few = λ lane h. let a = same' lane h in let b = (MayRun-tail ctx pass k x xs mx).few lane h in omega arith;
+      few = λ lane h. let a = same' lane h in let b = (MayRun-tail ctx pass slice x xs mx).few lane h in omega arith;
     } in
-    ap (λ n. run ctx pass k xs (step ctx memory pass x (turn_column ctx k n))) (same' x mx.lanes.0)
-    ∙ same_turns ctx sizes pass k four xs later (MayRun-tail ctx pass k x xs mx) mlater same'
-    (step ctx memory pass x (turn_column ctx k (turns x later)))
-    ∙ sym (ap (λ zs. run ctx pass k zs memory) t.is ∙ first_to_front ctx sizes pass k x four t.before t.after t.none my' memory)
+    ap (λ n. run ctx pass slice xs (step ctx memory pass x (turn_column ctx slice n))) (same' x mx.lanes.0)
+    ∙ same_turns ctx sizes pass slice four xs later (MayRun-tail ctx pass slice x xs mx) mlater same'
+    (step ctx memory pass x (turn_column ctx slice (turns x later)))
+    ∙ sym (ap (λ zs. run ctx pass slice zs memory) t.is
+    ∙ first_to_front ctx sizes pass slice x four t.before t.after t.none my' memory)
 
 -- a whole schedule may run
-pub MayRun-from : (ctx : Context) (pass k : ℕ) (schedule : List ℕ) →
-    IsSchedule ctx pass k schedule → MayRun ctx pass k schedule
-MayRun-from ctx pass k schedule is = record { lanes = is.lanes; few = λ lane h. let e = is.turns lane h in omega arith }
+pub MayRun-from : (ctx : Context) (pass slice : ℕ) (schedule : List ℕ) →
+    IsSchedule ctx pass slice schedule → MayRun ctx pass slice schedule
+MayRun-from ctx pass slice schedule is = record { lanes = is.lanes; few = λ lane h. let e = is.turns lane h in omega arith }
 
 -- any two schedules of a slice give the same blocks, whatever the list holds
-pub schedules_agree : (ctx : Context) → Sizes ctx → (pass k : ℕ) → k < 4 → (xs ys : List ℕ) →
-    IsSchedule ctx pass k xs → IsSchedule ctx pass k ys →
-    (memory : List (List ℕ)) → run ctx pass k xs memory ≡ run ctx pass k ys memory
-schedules_agree ctx sizes pass k four xs ys ix iy memory =
-    same_turns ctx sizes pass k four xs ys (MayRun-from ctx pass k xs ix) (MayRun-from ctx pass k ys iy)
+pub schedules_agree : (ctx : Context) → Sizes ctx → (pass slice : ℕ) → slice < 4 → (xs ys : List ℕ) →
+    IsSchedule ctx pass slice xs → IsSchedule ctx pass slice ys →
+    (memory : List (List ℕ)) → run ctx pass slice xs memory ≡ run ctx pass slice ys memory
+schedules_agree ctx sizes pass slice four xs ys ix iy memory =
+    same_turns ctx sizes pass slice four xs ys (MayRun-from ctx pass slice xs ix) (MayRun-from ctx pass slice ys iy)
     (λ lane h. ix.turns lane h ∙ sym (iy.turns lane h)) memory

@@ -1,6 +1,6 @@
-use Rattle.std.proofs.Common.{ap, arith, sym, ◌∙◌}
+use Rattle.std.proofs.Common.{ap, arith, ◌∙◌}
 use Rattle.argon2.specs.Context.{block_count}
-use Rattle.argon2.proofs.LentMemory.{is_begun, lent}
+use Rattle.argon2.proofs.LentMemory.{is_begun}
 use Rattle.argon2.proofs.RefusalLemmas.{passed_on}
 use Rattle.argon2.proofs.context.Argon2.begin_fill.Goals as goal
 
@@ -12,12 +12,6 @@ returns-clause-begun c =
     c.instance-instance.ensures.valid c.args.pwd.now c.args.salt.now c.args.out_len
     (rw same at c.begin.ensures.begins) (rw same at c.begin.ensures.others)
 
-pub returns-clause-answer : goal.returns-clause-answer
-returns-clause-answer c = c.in_ok-check.ensures.answer
-
-pub returns-clause-same : goal.returns-clause-same
-returns-clause-same c = tt
-
 pub returns-in_err-check-clause-answer : goal.returns-in_err-check-clause-answer
 returns-in_err-check-clause-answer c =
     passed_on c.from_residual.result _ c.from_residual.ensures ∙ c.in_err-check.ensures.answer
@@ -25,22 +19,5 @@ returns-in_err-check-clause-answer c =
 pub returns-in_err-check-clause-begun : goal.returns-in_err-check-clause-begun
 returns-in_err-check-clause-begun c = rw (passed_on c.from_residual.result _ c.from_residual.ensures) tt
 
-pub slice_bounds-blocks-end : goal.slice_bounds-blocks-end
-slice_bounds-blocks-end c =
-    (lent c.args.memory.now c.instance-instance.ensures.value c.block_count.ensures.value c.in_ok-check.ensures.room).0
-
-pub slice_bounds-blocks-end-2 : goal.slice_bounds-blocks-end-2
-slice_bounds-blocks-end-2 c =
-    let blocks = lent c.args.memory.now c.instance-instance.ensures.value c.block_count.ensures.value
-    c.in_ok-check.ensures.room in
-    c.block_count.ensures.value ∙ sym blocks.1
-
 pub overflow_cast-out_len : goal.overflow_cast-out_len
 overflow_cast-out_len c = omega (arith, c.in_ok-check.ensures.output)
-
-pub begin-requires-clause-inputs : goal.begin-requires-clause-inputs
-begin-requires-clause-inputs c = c.in_ok-check.ensures.short
-
-pub begin-requires-clause-size : goal.begin-requires-clause-size
-begin-requires-clause-size c =
-    (lent c.args.memory.now c.instance-instance.ensures.value c.block_count.ensures.value c.in_ok-check.ensures.room).1

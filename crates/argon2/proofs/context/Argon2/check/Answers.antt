@@ -37,6 +37,3 @@ returns-clause-output c = on_ok c.check_memory.result c.in_ok-check_output.ensur
 
 pub returns-clause-short : goal.returns-clause-short
 returns-clause-short c = on_ok c.check_memory.result c.in_ok-check_inputs.ensures.short
-
-pub returns-clause-room : goal.returns-clause-room
-returns-clause-room c = c.check_memory.ensures.room

@@ -3,7 +3,7 @@ use Rattle.argon2.specs.Argon2.{context_of}
 use Rattle.argon2.specs.Context.{block_count}
 use Rattle.argon2.specs.Refusals.{answer_unless, input_faults, memory_faults}
 use Rattle.argon2.specs.Tag.{matrix_of}
-use Rattle.argon2.proofs.LentMemory.{is_filled, lent}
+use Rattle.argon2.proofs.LentMemory.{is_filled}
 use Rattle.argon2.proofs.RefusalLemmas.{not_refused, first_of_rest, first_refused, passed_on}
 use Rattle.argon2.proofs.context.Argon2.fill_memory.Goals as goal
 
@@ -20,9 +20,6 @@ returns-clause-filled c =
     let same = c.instance-instance.ensures.value in
     is_filled c.args.self.now c.block_count.result (c.block_count.ensures.value ∙ ap block_count same) c.args.memory.now
     _ c.args.pwd.now c.args.salt.now 0 (rw same at c.fill_blocks.ensures.filled.matrix)
-
-pub returns-clause-same : goal.returns-clause-same
-returns-clause-same c = tt
 
 pub returns-in_err-check_inputs-clause-answer : goal.returns-in_err-check_inputs-clause-answer
 returns-in_err-check_inputs-clause-answer c =
@@ -45,20 +42,3 @@ returns-in_err-check_memory-clause-answer c =
 pub returns-in_err-check_memory-clause-filled : goal.returns-in_err-check_memory-clause-filled
 returns-in_err-check_memory-clause-filled c =
     rw (passed_on c.from_residual-in_err-check_memory.result _ c.from_residual-in_err-check_memory.ensures) tt
-
-pub slice_bounds-matrix-end : goal.slice_bounds-matrix-end
-slice_bounds-matrix-end c =
-    (lent c.args.memory.now c.instance-instance.ensures.value c.block_count.ensures.value c.in_ok-check_memory.ensures.room).0
-
-pub slice_bounds-matrix-end-2 : goal.slice_bounds-matrix-end-2
-slice_bounds-matrix-end-2 c =
-    let blocks = lent c.args.memory.now c.instance-instance.ensures.value c.block_count.ensures.value
-    c.in_ok-check_memory.ensures.room in
-    c.block_count.ensures.value ∙ sym blocks.1
-
-pub fill_blocks-requires-clause-inputs : goal.fill_blocks-requires-clause-inputs
-fill_blocks-requires-clause-inputs c = c.in_ok-check_inputs.ensures.short
-
-pub fill_blocks-requires-clause-size : goal.fill_blocks-requires-clause-size
-fill_blocks-requires-clause-size c =
-    (lent c.args.memory.now c.instance-instance.ensures.value c.block_count.ensures.value c.in_ok-check_memory.ensures.room).1

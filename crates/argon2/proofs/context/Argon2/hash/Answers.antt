@@ -1,4 +1,4 @@
-use Rattle.std.proofs.Common.{◌≡◌, ◌+◌, arith, length, ap, refl, subst, sym, ◌∙◌}
+use Rattle.std.proofs.Common.{◌≡◌, ◌+◌, arith, length, ap, refl, subst, ◌∙◌}
 use Rattle.argon2.specs.Argon2.{context_of}
 use Rattle.argon2.specs.Context.{block_count, Sizes}
 use Rattle.argon2.specs.Counting.{mixing_calls}
@@ -17,25 +17,8 @@ returns-in_err-check c =
       same = (refl, refl, refl);
     })
 
-pub slice_bounds-blocks-end : goal.slice_bounds-blocks-end
-slice_bounds-blocks-end c =
-    (lent c.args.memory.now c.instance-instance.ensures.value c.block_count.ensures.value c.in_ok-check.ensures.room).0
-
-pub slice_bounds-blocks-end-2 : goal.slice_bounds-blocks-end-2
-slice_bounds-blocks-end-2 c =
-    let blocks = lent c.args.memory.now c.instance-instance.ensures.value c.block_count.ensures.value
-    c.in_ok-check.ensures.room in
-    c.block_count.ensures.value ∙ sym blocks.1
-
 pub overflow_cast-out : goal.overflow_cast-out
 overflow_cast-out c = omega (arith, c.in_ok-check.ensures.output)
-
-pub fill_blocks-requires-clause-inputs : goal.fill_blocks-requires-clause-inputs
-fill_blocks-requires-clause-inputs c = c.in_ok-check.ensures.short
-
-pub fill_blocks-requires-clause-size : goal.fill_blocks-requires-clause-size
-fill_blocks-requires-clause-size c =
-    (lent c.args.memory.now c.instance-instance.ensures.value c.block_count.ensures.value c.in_ok-check.ensures.room).1
 
 pub write_tag-requires-clause-room : goal.write_tag-requires-clause-room
 write_tag-requires-clause-room c =
@@ -45,9 +28,6 @@ write_tag-requires-clause-room c =
 
 pub write_tag-requires-clause-some : goal.write_tag-requires-clause-some
 write_tag-requires-clause-some c = omega (arith, c.in_ok-check.ensures.output)
-
-pub write_tag-requires-clause-few : goal.write_tag-requires-clause-few
-write_tag-requires-clause-few c = c.in_ok-check.ensures.output.1
 
 pub returns : goal.returns
 unfolding matrix_of

@@ -5,12 +5,6 @@ use Rattle.argon2.proofs.context.Argon2.hash_password_into_with_memory.Goals as 
 pub returns-clause-answer : goal.returns-clause-answer
 returns-clause-answer c = answered _ _ _ _ _ c.in_ok-hash.ensures.answer refl
 
-pub returns-clause-hashed : goal.returns-clause-hashed
-returns-clause-hashed c = c.in_ok-hash.ensures.hashed
-
-pub returns-clause-same : goal.returns-clause-same
-returns-clause-same c = tt
-
 pub returns-in_err-hash-clause-answer : goal.returns-in_err-hash-clause-answer
 returns-in_err-hash-clause-answer c =
     passed_on c.from_residual.result _ c.from_residual.ensures ∙ refused _ _ _ _ c.in_err-hash.ensures.answer

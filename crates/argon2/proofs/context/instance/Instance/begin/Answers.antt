@@ -4,9 +4,6 @@ use Rattle.argon2.specs.InitialHash.{block_after, first_block}
 use Rattle.argon2.proofs.schedules.FirstColumns.{with_pair-lanes, with_pair-other}
 use Rattle.argon2.proofs.context.instance.Instance.begin.Goals as goal
 
-pub returns-clause-others : goal.returns-clause-others
-returns-clause-others c = c.loop-lane.invariant.others
-
 pub loop-lane-init : goal.loop-lane-init
 loop-lane-init c = record { begun = λ k d low two. absurd (omega arith); others = λ k d l low high. refl }
 
@@ -19,7 +16,7 @@ loop-lane-preserved c =
     let size = c.requires.size in
     let same = c.loop-lane.auto.blocks in
     let room : n * q + 1 < length c.loop-lane.blocks = omega arith in
-    rw (c.place.ensures.value, c.place-in-loop-lane.ensures.value, c.block_after.ensures, c.block_after-in-loop-lane.ensures) (record {
+    rw (c.place.ensures.value, second.value, c.block_after.ensures, c.block_after-in-loop-lane.ensures) (record {
       begun =
           with_pair-lanes q n two c.loop-lane.blocks (block_after c.initial_hash-hash.result) room c.loop-lane.invariant.begun;
       others = λ k d h low high.

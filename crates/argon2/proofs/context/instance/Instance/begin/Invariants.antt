@@ -1,4 +1,5 @@
-use Rattle.std.proofs.Common.{◌≡◌, ℕ, ◌+◌, ◌*◌, ◌<◌, [], get_or}
+use Rattle.std.proofs.Common.{◌≡◌, ℕ, ◌+◌, ◌*◌, ◌<◌, []}
+use Rattle.std.specs.Prelude.{slice_index_or}
 use Rattle.argon2.specs.Context.{lane_length}
 use Rattle.argon2.specs.Hashing.{KeepsOtherColumns}
 use Rattle.argon2.specs.InitialHash.{block_after}
@@ -6,6 +7,6 @@ use Rattle.argon2.proofs.context.instance.Instance.begin.Given as goal
 
 abbrev pub invariant-loop-lane : goal.invariant-loop-lane
 invariant-loop-lane l = record {
-  begun : (k c : ℕ) → k < l.lane → c < 2 → get_or l.blocks (k * lane_length l.self + c) [] ≡ block_after l.hash k c;
+  begun : (k c : ℕ) → k < l.lane → c < 2 → slice_index_or l.blocks (k * lane_length l.self + c) [] ≡ block_after l.hash k c;
   others : KeepsOtherColumns l.self l.fn.blocks l.blocks;
 }

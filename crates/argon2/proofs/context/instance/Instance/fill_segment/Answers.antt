@@ -1,4 +1,5 @@
-use Rattle.std.proofs.Common.{◌≡◌, ℕ, zero, suc, refl, ◌+◌, ◌-◌, ◌*◌, ◌/◌, ◌%◌, ◌<◌, ◌≤◌, ◌≢◌, ◌⊎◌, inl, inr, cond, ◌^◌, subst, sym, ap, ◌∙◌, arith}
+use Rattle.std.proofs.Common.{◌≡◌, ℕ, zero, suc, refl, ◌+◌, ◌-◌, ◌*◌, ◌/◌, ◌%◌, ◌<◌, ◌≤◌, ◌≢◌, ◌⊎◌, inl, inr, ◌^◌, subst, sym, ap, ◌∙◌, arith}
+use Rattle.std.specs.Prelude.{if◌then◌else◌}
 use Rattle.std.proofs.lemmas.Bool.Decides.{nat_tests}
 use Rattle.std.proofs.Math.Nat.{mul-le-mul_right}
 use Rattle.std.proofs.lemmas.Nat.{mul-add-lt, mul-le}
@@ -8,7 +9,7 @@ use Rattle.argon2.specs.Steps.{IsStep, turn_count}
 use Rattle.argon2.specs.Positions.{begun, in_order, IsFilledUpTo}
 use Rattle.argon2.specs.Counting.{segment_calls}
 use Rattle.argon2.proofs.recurrence.Addresses.{same_addresses, address_mixings, mixings_more}
-use Rattle.argon2.proofs.recurrence.Sources.{InSlice}
+use Rattle.argon2.proofs.recurrence.PermittedPlaces.{InSlice}
 use Rattle.argon2.proofs.schedules.InOrder.{filled_step}
 use Rattle.argon2.proofs.context.instance.Instance.fill_segment.Goals as goal
 use Rattle.argon2.proofs.context.instance.Instance.fill_segment.Goals.{then-pass-eq0+then-slice-eq0, else-pass-eq0, else-pass-eq0-via-then-pass-eq0+else-slice-eq0, else-pass-eq0-via-else-pass-eq0, then-index-gt0+then-index-eq0, else-index-gt0, else-index-gt0-via-then-index-gt0+else-index-eq0, else-index-gt0-via-else-index-gt0}
@@ -91,8 +92,8 @@ loop-index-init c =
     let first : (c.if-pass-eq0.start - 1) / 128 ≡ 0 = omega arith in
     let product = ap (λ x. c.args.slice * x) s in
     let column : c.args.slice * c.segment_length-segment.result ≡ c.args.slice * segment_length ctx + 0 = omega arith in
-    let mixings : ℕ → ℕ = λ x. cond (is_independent ctx c.args.pass (x / segment_length ctx)) 2 0 in
-    let blocks : ℕ → ℕ = λ n. cond (is_independent ctx c.args.pass c.args.slice) (2 * (n + 1)) 0 in
+    let mixings : ℕ → ℕ = λ x. (if is_independent ctx c.args.pass (x / segment_length ctx) then 2 else 0) in
+    let blocks : ℕ → ℕ = λ n. (if is_independent ctx c.args.pass c.args.slice then 2 * (n + 1) else 0) in
     record {
       later = λ first. elim c.if-pass-eq0.branch [
         | then-pass-eq0+then-slice-eq0 w ↦ (let is = w.start-is in omega arith)
@@ -160,8 +161,8 @@ loop-index-preserved c =
     omega arith in
     let same : i ≡ i + 1 - 1 = omega arith in
     let block = addresses_of ctx c.args.pass c.args.lane in
-    let mixings : ℕ → ℕ = λ x. cond (is_independent ctx c.args.pass (x / segment_length ctx)) 2 0 in
-    let blocks : ℕ → ℕ = λ n. cond (is_independent ctx c.args.pass c.args.slice) (2 * n) 0 in
+    let mixings : ℕ → ℕ = λ x. (if is_independent ctx c.args.pass (x / segment_length ctx) then 2 else 0) in
+    let blocks : ℕ → ℕ = λ n. (if is_independent ctx c.args.pass c.args.slice then 2 * n else 0) in
     let column' = ap (λ x. c.args.slice * x + i) s in
     let column = column' ∙ ap (λ n. c.args.slice * segment_length ctx + n) same in
     record {
@@ -227,7 +228,7 @@ returns-clause-work c =
     let turns : s - c.if-pass-eq0.start ≡ turn_count c.args.self.now c.args.pass c.args.slice = grind (arith, nat_tests) in
     let end : n ≡ s = omega arith in
     let up : (n - 1) / 128 + 1 ≡ (s + 127) / 128 = omega arith in
-    let blocks : ℕ → ℕ = λ k. cond (is_independent c.args.self.now c.args.pass c.args.slice) (2 * k) 0 in
+    let blocks : ℕ → ℕ = λ k. (if is_independent c.args.self.now c.args.pass c.args.slice then 2 * k else 0) in
     let all = ap blocks up in
     let k = c.loop-index.invariant.work in
     omega arith

@@ -1,4 +1,5 @@
-use Rattle.std.proofs.Common.{◌≡◌, ◌≤◌, ◌+◌, ◌-◌, ◌*◌, ◌/◌, cond}
+use Rattle.std.proofs.Common.{◌≡◌, ◌≤◌, ◌+◌, ◌-◌, ◌*◌, ◌/◌}
+use Rattle.std.specs.Prelude.{if◌then◌else◌}
 use Rattle.argon2.specs.Context.{segment_length}
 use Rattle.argon2.specs.Recurrence.{is_independent, addresses_of}
 use Rattle.argon2.specs.Positions.{begun, in_order, Fills}
@@ -11,5 +12,6 @@ invariant-loop-index l = record {
   filled : Fills l.self l.pass (in_order l.self l.pass l.slice l.lane (begun l.self l.pass l.slice))
       (in_order l.self l.pass l.slice l.lane (l.slice * l.segment + l.index)) l.fn.memory l.memory l.fn.positions l.positions;
   addresses : l.addresses ≡ addresses_of l.self l.pass l.lane (l.slice * segment_length l.self + (l.index - 1));
-  work : l.work ≡ l.fn.work + cond (is_independent l.self l.pass l.slice) (2 * ((l.index - 1) / 128 + 1)) 0 + (l.index - l.start);
+  work : l.work
+      ≡ l.fn.work + (if is_independent l.self l.pass l.slice then 2 * ((l.index - 1) / 128 + 1) else 0) + (l.index - l.start);
 }

@@ -4,7 +4,8 @@ use Rattle.argon2.proofs.context.instance.Instance.fill_slice.Goals as goal
 
 pub loop-lane-init : goal.loop-lane-init
 loop-lane-init c = record {
-  filled = λ first old. IsFilledUpTo-like _ first _ _ _ _ old _ (λ l _. in_order-first c.args.self.now c.args.pass c.args.slice l);
+  filled = λ first old.
+      IsFilledUpTo-like _ first _ _ _ _ old _ (λ l _. in_order-first c.args.self.now c.args.pass c.args.slice l);
   work = omega arith;
 }
 
@@ -15,7 +16,8 @@ loop-lane-preserved c =
     let made = before.work in
     record {
       filled = λ first old is.
-          IsFilledUpTo-like _ first _ _ _ _ old _ (λ l _. in_order-next c.args.self.now c.args.pass c.args.slice c.loop-lane.lane l)
+          IsFilledUpTo-like _ first _ _ _ _ old _
+          (λ l _. in_order-next c.args.self.now c.args.pass c.args.slice c.loop-lane.lane l)
           (c.fill_segment.ensures.filled first old (before.filled first old is));
       work = omega arith;
     }

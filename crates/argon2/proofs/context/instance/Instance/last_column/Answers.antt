@@ -1,4 +1,5 @@
-use Rattle.std.proofs.Common.{◌≡◌, ℕ, ◌+◌, ◌-◌, ◌*◌, List, [], map, get_or, arith, rules}
+use Rattle.std.proofs.Common.{◌≡◌, ℕ, ◌+◌, ◌-◌, ◌*◌, List, [], map, arith, rules}
+use Rattle.std.specs.Prelude.{slice_index_or}
 use Rattle.std.specs.List.{range_with_len}
 use Rattle.std.proofs.lemmas.List.{get_or_read}
 use Rattle.std.proofs.lemmas.List.FromFn.{map-range_with_len_more}
@@ -12,7 +13,7 @@ pub loop-lane-preserved : goal.loop-lane-preserved
 loop-lane-preserved c =
     let n = c.loop-lane.lane in
     let at : ℕ → List ℕ =
-    λ lane. get_or c.args.memory.now (lane * lane_length c.args.self.now + (lane_length c.args.self.now - 1)) [] in
+    λ lane. slice_index_or c.args.memory.now (lane * lane_length c.args.self.now + (lane_length c.args.self.now - 1)) [] in
     let last = c.lane_length-last.ensures.value in
     let place = c.place.ensures.value in
     let more = map-range_with_len_more at 0 n n (omega arith) in

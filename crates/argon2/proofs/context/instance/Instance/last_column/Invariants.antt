@@ -1,4 +1,5 @@
-use Rattle.std.proofs.Common.{◌≡◌, ℕ, ◌+◌, ◌-◌, ◌*◌, [], map, fold, get_or}
+use Rattle.std.proofs.Common.{◌≡◌, ℕ, ◌+◌, ◌-◌, ◌*◌, [], map, fold}
+use Rattle.std.specs.Prelude.{slice_index_or}
 use Rattle.std.specs.List.{range_with_len}
 use Rattle.argon2_base.specs.Block.{xor_blocks, zero_block}
 use Rattle.argon2.specs.Context.{lane_length}
@@ -8,4 +9,5 @@ use Rattle.argon2.proofs.context.instance.Instance.last_column.Given as goal
 abbrev pub invariant-loop-lane : goal.invariant-loop-lane
 invariant-loop-lane l =
     l.all ≡ fold xor_blocks zero_block
-    (map (λ (lane : ℕ). get_or l.memory (lane * lane_length l.self + (lane_length l.self - 1)) []) (range_with_len 0 l.lane))
+    (map (λ (lane : ℕ). slice_index_or l.memory (lane * lane_length l.self + (lane_length l.self - 1)) [])
+    (range_with_len 0 l.lane))

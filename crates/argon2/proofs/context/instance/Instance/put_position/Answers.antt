@@ -15,10 +15,12 @@ index_fits ctx pass count place size p below =
 
 pub overflow_mul-index : goal.overflow_mul-index
 overflow_mul-index c =
-    let fits = index_fits _ c.args.at.pass _ c.place-place.result c.block_count.ensures (omega arith) c.place-place.ensures.within in
+    let place = c.place-place.ensures.within in
+    let fits = index_fits _ c.args.at.pass _ c.place-place.result c.block_count.ensures (omega arith) place in
     omega arith
 
 pub overflow_add-index : goal.overflow_add-index
 overflow_add-index c =
-    let fits = index_fits _ c.args.at.pass _ c.place-place.result c.block_count.ensures (omega arith) c.place-place.ensures.within in
+    let place = c.place-place.ensures.within in
+    let fits = index_fits _ c.args.at.pass _ c.place-place.result c.block_count.ensures (omega arith) place in
     omega arith

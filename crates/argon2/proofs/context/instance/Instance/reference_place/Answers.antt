@@ -13,9 +13,6 @@ returns-clause-value c =
     (let w = c.reference_index-index.ensures.within in omega arith) in
     cc
 
-pub permitted_count-count-requires-clause-lane : goal.permitted_count-count-requires-clause-lane
-permitted_count-count-requires-clause-lane c = c.reference_lane-other.ensures.lane
-
 pub permitted_column-requires-clause-few : goal.permitted_column-requires-clause-few
 permitted_column-requires-clause-few c =
     let within = c.reference_index-index.ensures.within in

@@ -1,4 +1,5 @@
-use Rattle.std.proofs.Common.{◌+◌, ◌*◌, [], ◌&&◌, eqb, ltb, get_or, sym, ◌∙◌, arith}
+use Rattle.std.proofs.Common.{◌+◌, ◌*◌, [], ◌&&◌, sym, ◌∙◌, arith}
+use Rattle.std.specs.Prelude.{slice_index_or, nat_lt, ◌==◌}
 use Rattle.std.proofs.lemmas.Bool.{cond-true, cond-false}
 use Rattle.std.proofs.lemmas.List.{get_or_read}
 use Rattle.argon2_base.proofs.MixingLaws.{xor_blocks-comm}
@@ -18,10 +19,10 @@ returns-then-xors-clause-step c =
     let b = c.mixed_block.ensures.block in
     let old = get_or_read m c.place-place.result c.index-memory-place.result (grind arith) c.index-memory-place.is [] in
     let x = c.bitxor_assign.ensures.after in
-    let y = xor_blocks-comm (get_or m place []) c.mixed_block.result in
+    let y = xor_blocks-comm (slice_index_or m place []) c.mixed_block.result in
     let yes = sym c.xors.ensures ∙ c.if-xors.true in
     let by = made_by_places ctx m c.args.at.pass c.args.at.lane c.args.at.column c.args.word c.requires.word
-    ∙ cond-true ((eqb ctx.version 19) && (ltb 0 c.args.at.pass)) _ _ yes in
+    ∙ cond-true ((ctx.version == 19) && (nat_lt 0 c.args.at.pass)) _ _ yes in
     cc
 
 pub returns-then-xors-clause-place : goal.returns-then-xors-clause-place
@@ -40,7 +41,7 @@ returns-else-xors-clause-step c =
     let b = c.mixed_block-else-xors.ensures.block in
     let no = sym c.xors.ensures ∙ c.if-xors.false in
     let by = made_by_places ctx m c.args.at.pass c.args.at.lane c.args.at.column c.args.word c.requires.word
-    ∙ cond-false ((eqb ctx.version 19) && (ltb 0 c.args.at.pass)) _ _ no in
+    ∙ cond-false ((ctx.version == 19) && (nat_lt 0 c.args.at.pass)) _ _ no in
     cc
 
 pub returns-else-xors-clause-place : goal.returns-else-xors-clause-place
@@ -48,30 +49,3 @@ returns-else-xors-clause-place c =
     c.reference_place-reference.ensures.value
     ∙ sym (place_by_word c.args.self.now c.args.memory.now c.args.at.pass c.args.at.lane c.args.at.column c.args.word
     c.requires.word)
-
-pub mixed_block-requires-clause-within : goal.mixed_block-requires-clause-within
-mixed_block-requires-clause-within c = c.reference_place-reference.ensures.within
-
-pub mixed_block-requires-else-xors-clause-within : goal.mixed_block-requires-else-xors-clause-within
-mixed_block-requires-else-xors-clause-within c = c.reference_place-reference.ensures.within
-
-pub returns-then-xors-clause-work : goal.returns-then-xors-clause-work
-returns-then-xors-clause-work c = c.mixed_block.ensures.work
-
-pub returns-else-xors-clause-work : goal.returns-else-xors-clause-work
-returns-else-xors-clause-work c = c.mixed_block-else-xors.ensures.work
-
-pub reference_place-reference-requires : goal.reference_place-reference-requires
-reference_place-reference-requires c = c.requires.place.step
-
-pub mixed_block-requires-clause-place : goal.mixed_block-requires-clause-place
-mixed_block-requires-clause-place c = c.requires.place
-
-pub mixed_block-requires-else-xors-clause-place : goal.mixed_block-requires-else-xors-clause-place
-mixed_block-requires-else-xors-clause-place c = c.requires.place
-
-pub mixed_block-requires-clause-count : goal.mixed_block-requires-clause-count
-mixed_block-requires-clause-count c = c.requires.count
-
-pub mixed_block-requires-else-xors-clause-count : goal.mixed_block-requires-else-xors-clause-count
-mixed_block-requires-else-xors-clause-count c = c.requires.count
