@@ -21,13 +21,6 @@ length-matrix_of : (ctx : Context) (password salt : List ℕ) (n : ℕ) →
 unfolding matrix_of matrix
 length-matrix_of ctx password salt n = length-map-range_with_len _ 0 (block_count ctx)
 
--- the first blocks are there, as many as are filled
-pub lent : {ctx own : Context} {count : ℕ} (memory : Memory) → ctx ≡ own → count ≡ block_count ctx
-    → block_count own ≤ length memory → (count ≤ length memory) × (length (take count memory) ≡ block_count ctx)
-lent {ctx} {own} {count} memory same all room =
-    let fits : count ≤ length memory = rw (all, same) room in
-    (fits, length-take-le count memory fits ∙ all)
-
 module _ (argon2 : Argon2) (count : ℕ) (all : count ≡ block_count (context_of argon2)) (old blocks : Memory) where
   abbrev ctx : Context
   ctx = context_of argon2

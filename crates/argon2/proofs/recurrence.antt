@@ -3,5 +3,4 @@ pub mod History
 pub mod Independence
 pub mod PermittedPlaces
 pub mod Sources
-pub mod TagOfMatrix
 pub mod Validity

@@ -54,29 +54,21 @@ module _ (ctx : Context) (sizes : Sizes ctx) (column : ℕ) (in_columns : column
   bounds = in_slice (segment_length ctx) column sizes.two_columns in_columns
 
   -- the finished segments have that count
-  pub length-finished : (pass : ℕ) →
+  length-finished : (pass : ℕ) →
       length (finished_segments ctx pass (column / segment_length ctx)) ≡ finished_count ctx pass (column / segment_length ctx)
   unfolding finished_segments
   length-finished zero = length-columns 0 0 _ ∙ omega arith
   length-finished (suc pass) =
-      let b = bounds in
-      let s = segment_length ctx in
-      let slice = column / s in
-      let e : length (columns pass ((slice + 1) * s) (lane_length ctx) ++ columns (suc pass) 0 (slice * s))
-      ≡ lane_length ctx - s =
-      omega (
-        arith,
-        length-append (columns pass ((slice + 1) * s) (lane_length ctx))
-            (columns (suc pass) 0 (slice * s)),
-        length-columns pass ((slice + 1) * s) (lane_length ctx),
-        length-columns (suc pass) 0
-            (slice * s),
-      ) in
-      e ∙ sym (cond-false (suc pass == 0) (slice * s) (lane_length ctx - s) (ne_eqb (suc pass) 0 (λ z. omega arith)))
+      let here = bounds in
+      let from = (column / segment_length ctx + 1) * segment_length ctx in
+      let to = column / segment_length ctx * segment_length ctx in
+      let both = length-append (columns pass from (lane_length ctx)) (columns (suc pass) 0 to) in
+      let old = length-columns pass from (lane_length ctx) in
+      let new = length-columns (suc pass) 0 to in
+      grind (arith, nat_tests)
 
   -- the one at an index has that column
-  get_or-finished : (pass i : ℕ) →
-      i < length (finished_segments ctx pass (column / segment_length ctx)) →
+  get_or-finished : (pass i : ℕ) → i < length (finished_segments ctx pass (column / segment_length ctx)) →
       (slice_index_or (finished_segments ctx pass (column / segment_length ctx)) i (0, 0)).1
       ≡ finished_column ctx pass (column / segment_length ctx) i
   unfolding finished_segments
@@ -84,32 +76,24 @@ module _ (ctx : Context) (sizes : Sizes ctx) (column : ℕ) (in_columns : column
       let l = length-columns 0 0 (column / segment_length ctx * segment_length ctx) in
       get_or-columns 0 0 _ i (omega arith) ∙ omega arith
   get_or-finished (suc pass) i h =
-      let s = segment_length ctx in
-      let slice = column / s in
+      let here = bounds in
+      let from = (column / segment_length ctx + 1) * segment_length ctx in
+      let to = column / segment_length ctx * segment_length ctx in
       let q = lane_length ctx in
-      let b = bounds in
-      let xs = columns pass ((slice + 1) * s) q in
-      let ys = columns (suc pass) 0 (slice * s) in
-      let lx : length xs ≡ q - (slice + 1) * s = length-columns pass ((slice + 1) * s) q in
-      let ly : length ys ≡ slice * s - 0 = length-columns (suc pass) 0 (slice * s) in
-      let all : length (xs ++ ys) ≡ length xs + length ys = length-append xs ys in
-      let later : finished_column ctx (suc pass) slice i
-      ≡ (if nat_lt ((slice + 1) * s + i) q then (slice + 1) * s + i else (slice + 1) * s + i - q) =
-      cond-false (suc pass == 0) i (if nat_lt ((slice + 1) * s + i) q then (slice + 1) * s + i else (slice + 1) * s + i - q)
-      (ne_eqb (suc pass) 0 (λ z. omega arith)) in
+      let xs = columns pass from q in
+      let ys = columns (suc pass) 0 to in
+      let old : length xs ≡ q - from = length-columns pass from q in
+      let new : length ys ≡ to - 0 = length-columns (suc pass) 0 to in
+      let both : length (xs ++ ys) ≡ length xs + length ys = length-append xs ys in
       elim (cases_lt i (length xs)) [
         | inl lt ↦ (
-            ap (λ (x : ℕ × ℕ). x.1) (get_or_append_left xs ys (0, 0) i lt) ∙ get_or-columns pass ((slice + 1) * s) q i (omega arith)
-            ∙ sym (later
-            ∙ cond-true (nat_lt ((slice + 1) * s + i) q) ((slice + 1) * s + i) ((slice + 1) * s + i - q)
-            (lt-ltb ((slice + 1) * s + i) q (omega arith))))
+            let is : finished_column ctx (suc pass) (column / segment_length ctx) i ≡ from + i = grind (arith, nat_tests) in
+            ap (λ (x : ℕ × ℕ). x.1) (get_or_append_left xs ys (0, 0) i lt) ∙ get_or-columns pass from q i (omega arith) ∙ sym is)
         | inr le ↦ (
+            let is : finished_column ctx (suc pass) (column / segment_length ctx) i ≡ 0 + (i - length xs) =
+            grind (arith, nat_tests) in
             ap (λ (x : ℕ × ℕ). x.1) (get_or-append_right xs ys (length xs) i (0, 0) refl le)
-            ∙ get_or-columns (suc pass) 0 (slice * s) (i - length xs) (omega arith)
-            ∙ (let e : 0 + (i - length xs) ≡ (slice + 1) * s + i - q = omega arith in e)
-            ∙ sym (later
-            ∙ cond-false (nat_lt ((slice + 1) * s + i) q) ((slice + 1) * s + i) ((slice + 1) * s + i - q)
-            (le-ltb ((slice + 1) * s + i) q (omega arith))))
+            ∙ get_or-columns (suc pass) 0 to (i - length xs) (omega arith) ∙ sym is)
       ]
 
   -- how many permitted blocks there are
@@ -125,26 +109,18 @@ module _ (ctx : Context) (sizes : Sizes ctx) (column : ℕ) (in_columns : column
       let f = finished_segments ctx pass slice in
       let n = length-finished pass in
       let split : slice * s + column % s ≡ column = div-add-mod' column s in
-      elim (cases_Bool (column % s == 0)) [
-        | inl e ↦ (
-            ap (λ (xs : List (ℕ × ℕ)). length xs) (cond-true (column % s == 0) (take (length f - 1) f) _ e)
-            ∙ length-take-le (length f - 1) f (omega arith) ∙ ap (λ x. x - 1) n ∙ sym (cond-true (column % s == 0) _ _ e))
-        | inr e ↦ (
-            let own = (if other == lane then columns pass (slice * s) (column - 1) else []) in
-            let lo : length own ≡ (if other == lane then column % s - 1 else 0) = elim (cases_Bool (other == lane)) [
-              | inl o ↦
-                  (ap (λ (xs : List (ℕ × ℕ)). length xs) (cond-true (other == lane) (columns pass (slice * s) (column - 1)) [] o)
-                  ∙ length-columns pass (slice * s) (column - 1)
-                  ∙ (let m : column - 1 - slice * s ≡ column % s - 1 = omega arith in m)
-                  ∙ sym (cond-true (other == lane) (column % s - 1) 0 o))
-              | inr o ↦
-                  (ap (λ (xs : List (ℕ × ℕ)). length xs) (cond-false (other == lane) (columns pass (slice * s) (column - 1)) [] o)
-                  ∙ sym (cond-false (other == lane) (column % s - 1) 0 o))
-            ] in
-            ap (λ (xs : List (ℕ × ℕ)). length xs) (cond-false (column % s == 0) (take (length f - 1) f) (f ++ own) e)
-            ∙ length-append f own ∙ ap (λ x. x + length own) n ∙ ap (λ x. finished_count ctx pass slice + x) lo
-            ∙ sym (cond-false (column % s == 0) _ _ e))
-      ]
+      let Counts = λ (xs : List (ℕ × ℕ)). length xs
+      ≡ (let finished = finished_count ctx pass slice in
+      let index = column % s in
+      if index == 0 then finished - 1 else finished + (if other == lane then index - 1 else 0)) in
+      cond_both (column % s == 0) _ _ Counts
+      (λ e. let l = length-take-le (length f - 1) f (omega arith) in grind (arith, nat_tests))
+      (λ e. cond_both (other == lane) _ _ (λ own. Counts (f ++ own))
+      (λ o.
+      let all = length-append f (columns pass (slice * s) (column - 1)) in
+      let own = length-columns pass (slice * s) (column - 1) in
+      grind (arith, nat_tests))
+      (λ o. let all = length-append f [] in grind (arith, nat_tests)))
 
   -- some block is permitted, where in the first slice of all the lane itself is asked
   pub some_permitted : (pass lane other : ℕ) → (pass ≡ 0 → 2 ≤ column)
@@ -165,21 +141,10 @@ module _ (ctx : Context) (sizes : Sizes ctx) (column : ℕ) (in_columns : column
       ]
 
   -- behind the finished segments the own one goes on
-  wraps : (pass i : ℕ) → length (finished_segments ctx pass (column / segment_length ctx)) ≤ i →
-      column / segment_length ctx * segment_length ctx + (i - length (finished_segments ctx pass (column / segment_length ctx)))
+  wraps : (pass i : ℕ) → finished_count ctx pass (column / segment_length ctx) ≤ i →
+      column / segment_length ctx * segment_length ctx + (i - finished_count ctx pass (column / segment_length ctx))
       ≡ finished_column ctx pass (column / segment_length ctx) i
-  wraps zero i le = let n = length-finished zero in omega arith
-  wraps (suc pass) i le =
-      let s = segment_length ctx in
-      let slice = column / s in
-      let q = lane_length ctx in
-      let b = bounds in
-      let z : (suc pass == 0) ≡ false = ne_eqb (suc pass) 0 (λ z. omega arith) in
-      let n : length (finished_segments ctx (suc pass) slice) ≡ q - s = length-finished (suc pass)
-      ∙ cond-false (suc pass == 0) (slice * s) (q - s) z in
-      let e : slice * s + (i - length (finished_segments ctx (suc pass) slice)) ≡ (slice + 1) * s + i - q = omega arith in
-      e ∙ sym (cond-false (suc pass == 0) i (if nat_lt ((slice + 1) * s + i) q then (slice + 1) * s + i else (slice + 1) * s + i - q) z
-      ∙ cond-false (nat_lt ((slice + 1) * s + i) q) ((slice + 1) * s + i) ((slice + 1) * s + i - q) (le-ltb ((slice + 1) * s + i) q (omega arith)))
+  wraps pass i le = let here = bounds in grind (arith, nat_tests)
 
   -- the column of the permitted block at an index
   pub get_or-permitted : (pass lane other i : ℕ) →
@@ -189,27 +154,25 @@ module _ (ctx : Context) (sizes : Sizes ctx) (column : ℕ) (in_columns : column
   get_or-permitted pass lane other i =
       let s = segment_length ctx in
       let slice = column / s in
-      let q = lane_length ctx in
       let f = finished_segments ctx pass slice in
       let n = length-finished pass in
-      let b = bounds in
-      cond_both (column % s == 0) _ _
-      (λ (xs : List (ℕ × ℕ)). i < length xs → (slice_index_or xs i (0, 0)).1 ≡ finished_column ctx pass slice i)
+      let here = bounds in
+      let Stands = λ (xs : List (ℕ × ℕ)). i < length xs → (slice_index_or xs i (0, 0)).1 ≡ finished_column ctx pass slice i in
+      cond_both (column % s == 0) _ _ Stands
       (λ e (h : i < length (take (length f - 1) f)).
       let room : i < length f - 1 = omega (arith, length-take (length f - 1) f) in
       ap (λ (x : ℕ × ℕ). x.1) (get_or-take (length f - 1) f i (0, 0) room) ∙ get_or-finished pass i (omega arith))
-      (λ e. cond_both (other == lane) _ _
-      (λ (own : List (ℕ × ℕ)). i < length (f ++ own) → (slice_index_or (f ++ own) i (0, 0)).1 ≡ finished_column ctx pass slice i)
+      (λ e. cond_both (other == lane) _ _ (λ own. Stands (f ++ own))
       (λ o h.
       let own = columns pass (slice * s) (column - 1) in
       let all : length (f ++ own) ≡ length f + length own = length-append f own in
-      let lo : length own ≡ column - 1 - slice * s = length-columns pass (slice * s) (column - 1) in
+      let size : length own ≡ column - 1 - slice * s = length-columns pass (slice * s) (column - 1) in
       elim (cases_lt i (length f)) [
         | inl lt ↦ (ap (λ (x : ℕ × ℕ). x.1) (get_or_append_left f own (0, 0) i lt) ∙ get_or-finished pass i lt)
         | inr le ↦ (
             ap (λ (x : ℕ × ℕ). x.1) (get_or-append_right f own (length f) i (0, 0) refl le)
             ∙ get_or-columns pass (slice * s) (column - 1) (i - length f) (omega arith)
-            ∙ wraps pass i le)
+            ∙ ap (λ n. slice * s + (i - n)) n ∙ wraps pass i (omega arith))
       ])
       (λ o h.
       let nil : List (ℕ × ℕ) = [] in

@@ -1,13 +1,16 @@
--- The last column of a memory that is the matrix.
+-- The last column of a memory that is the matrix, and the tag.
 use Rattle.std.proofs.Common.{◌≡◌, ℕ, ◌+◌, ◌-◌, ◌*◌, ◌/◌, ◌%◌, ◌<◌, List, [], map, fold, ap, ◌∙◌, arith}
 use Rattle.std.specs.Prelude.{slice_index_or}
 use Rattle.std.specs.List.{range_with_len}
 use Rattle.std.proofs.lemmas.List.FromFn.{get_or-map-range_with_len, length-map-range_with_len, fill_by_all}
 use Rattle.std.proofs.lemmas.Nat.{div-mul-add, mod-mul-add, mul-add-lt}
-use Rattle.argon2_base.specs.Block.{xor_blocks, zero_block}
+use Rattle.argon2_base.specs.LongHash.{long_hash}
+use Rattle.argon2.specs.InitialHash.{first_block}
+use Rattle.argon2.specs.Tag.{matrix_of, tag_of}
+use Rattle.argon2_base.specs.Block.{bytes_of, xor_blocks, zero_block}
 use Rattle.argon2.specs.Context.{Context, Sizes, lane_length, block_count}
 use Rattle.argon2.specs.Recurrence.{FirstColumns, block_of, matrix, xor_lanes, last_block}
-use Rattle.argon2.specs.Steps.{run_passes, last_column}
+use Rattle.argon2.specs.Steps.{Memory, run_passes, last_column}
 use Rattle.argon2.specs.Laws.{Begins, AreSchedules}
 use Rattle.argon2.proofs.schedules.Filling.{schedules_fill}
 
@@ -53,3 +56,12 @@ pub steps_give_last : (ctx : Context) → Sizes ctx → 0 < ctx.t_cost →
 steps_give_last ctx sizes some first schedules are memory start =
     last_of_matrix ctx sizes first (run_passes ctx schedules ctx.t_cost memory)
     (schedules_fill ctx sizes some first schedules are memory start)
+
+-- the hash of the matrix's last column is the tag
+pub tag_of_matrix : (ctx : Context) → Sizes ctx → (password salt : List ℕ) (n : ℕ) (memory : Memory) → memory
+    ≡ matrix_of ctx password salt n →
+    long_hash n (bytes_of (last_column ctx memory)) ≡ tag_of ctx password salt n
+unfolding matrix_of tag_of
+tag_of_matrix ctx sizes password salt n memory e =
+    ap (λ block. long_hash n (bytes_of block))
+    (last_of_matrix ctx sizes (first_block ctx password salt n) memory e)

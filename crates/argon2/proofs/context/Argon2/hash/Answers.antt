@@ -3,9 +3,9 @@ use Rattle.argon2.specs.Argon2.{context_of}
 use Rattle.argon2.specs.Context.{block_count, Sizes}
 use Rattle.argon2.specs.Counting.{mixing_calls}
 use Rattle.argon2.specs.Tag.{matrix_of}
-use Rattle.argon2.proofs.LentMemory.{is_hashed, lent}
+use Rattle.argon2.proofs.LentMemory.{is_hashed}
 use Rattle.argon2.proofs.RefusalLemmas.{answered, passed_on, refused}
-use Rattle.argon2.proofs.recurrence.TagOfMatrix.{tag_of_matrix}
+use Rattle.argon2.proofs.schedules.LastColumn.{tag_of_matrix}
 use Rattle.argon2.proofs.context.Argon2.hash.Goals as goal
 
 pub returns-in_err-check : goal.returns-in_err-check
@@ -19,12 +19,6 @@ returns-in_err-check c =
 
 pub overflow_cast-out : goal.overflow_cast-out
 overflow_cast-out c = omega (arith, c.in_ok-check.ensures.output)
-
-pub write_tag-requires-clause-room : goal.write_tag-requires-clause-room
-write_tag-requires-clause-room c =
-    let blocks = lent c.args.memory.now c.instance-instance.ensures.value c.block_count.ensures.value
-    c.in_ok-check.ensures.room in
-    rw (c.fill_blocks.auto.blocks, blocks.1) (omega arith)
 
 pub write_tag-requires-clause-some : goal.write_tag-requires-clause-some
 write_tag-requires-clause-some c = omega (arith, c.in_ok-check.ensures.output)
