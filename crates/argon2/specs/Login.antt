@@ -40,7 +40,7 @@ store_of login = values_of login.texts
 abbrev pub target_of : Login → Target
 target_of login = made_under.target_of login.target.argon2
 
--- texts that are given to names, one after the other
+-- the store after these names are added with their texts, one after the other
 abbrev pub added : List (List ℕ × Phc) → Store → Store
 added [] store = store
 added (e ∷ es) store = added es (insert store e.0 e.1)

@@ -63,7 +63,8 @@ impl<'key> Login<'key> {
     /// - [`LoginError::OutOfMemory`]: a request for memory was refused.
     pub fn add(&mut self, name: &str, text: &str) -> Outcome<(), LoginError>
         ensures step { Steps (adding name.now text.now result) self.old self.new }
-        ensures text { OnOk result ((v : Phc) → PhcText text.now v → get (store_of self.new) name.now ≡ Some v) }
+        ensures text { OnOk result ((v : Phc) → PhcText text.now v →
+            get (store_of self.new) name.now ≡ Some v) }
         ensures inserted { OnOk result ((v : Phc) → PhcText text.now v →
             store_of self.new ≡ insert (store_of self.old) name.now v) }
         ensures others { KeepsOthers name.now (store_of self.old) (store_of self.new) }
@@ -89,7 +90,7 @@ impl<'key> Login<'key> {
     /// password under the target, with a salt of 16 bytes that are drawn from `rng`, and written
     /// over the old one, which takes no memory. [`Accepted`] says what was done.
     ///
-    /// Nothing is drawn but for a fresh text; then 16 bytes are, also where memory is refused to it.
+    /// Nothing is drawn but for a fresh text; then 16 bytes are, even if there is no memory for it.
     ///
     /// # Errors
     /// The store is then as before:
@@ -101,8 +102,8 @@ impl<'key> Login<'key> {
         name: &str,
         password: &[u8],
     ) -> Outcome<Accepted, LoginError>
-        ensures step { Steps (logging_in name.now password.now (fill_bytes 16 (R.stream rng.old)).0 result)
-            self.old self.new }
+        ensures step { Steps (logging_in name.now password.now
+            (fill_bytes 16 (R.stream rng.old)).0 result) self.old self.new }
         ensures accepted { MatchResult result
             (λ _. HasPassword (target_of self.old) (store_of self.new) name.now password.now)
             (λ e. (e ≡ Refused NoMemory)

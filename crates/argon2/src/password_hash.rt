@@ -46,7 +46,8 @@ pub trait PasswordHasher<H> {
     /// # Errors
     /// As [`hash_password_with_salt`](PasswordHasher::hash_password_with_salt), but for the salt.
     fn hash_password<R: Rng>(&self, alloc: Global, rng: &mut R, password: &[u8]) -> Result<H>
-        ensures answer { hash_gives self.now password.now (fill_bytes 16 (R.stream rng.old)).0 result }
+        ensures answer { hash_gives self.now password.now (fill_bytes 16 (R.stream rng.old)).0
+            result }
         ensures accepted { IfOk result (accepts self.now password.now) }
         ensures shown { IfOk result (shows self.now) }
         ensures drawn { R.stream rng.new ≡ (fill_bytes 16 (R.stream rng.old)).1 }

@@ -34,8 +34,8 @@ pub fn register<R: Rng>(
     ensures new_name { OnOk result (get (store_of store.old) name.now ≡ None) }
     ensures registered { OnOk result
         (HasPasswordUnder (secret_of argon2.now) store.new name.now password.now) }
-    ensures text { OnOk result (get (store_of store.new) name.now ≡ Some
-        (made (made_under.target_of argon2.now) password.now (fill_bytes 16 (R.stream rng.old)).0)) }
+    ensures text { OnOk result (get (store_of store.new) name.now ≡ Some (made
+        (made_under.target_of argon2.now) password.now (fill_bytes 16 (R.stream rng.old)).0)) }
     ensures others { KeepsOthers name.now (store_of store.old) (store_of store.new) }
     ensures target { target_of store.new ≡ target_of store.old }
     ensures refused { IfErr result (RegisterRefusal (made_under.target_of argon2.now) store.old

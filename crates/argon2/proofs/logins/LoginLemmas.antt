@@ -32,7 +32,7 @@ pub no_text : (target : Target) (store : Store) (name password : List ℕ) → g
     HasPassword target store name password → ⊥
 no_text target store name password is h = absurd (rw is at h)
 
--- where the name's text was one and is another
+-- what an answer says of the name's text before and after
 pub has_accepted : (target : Target) (before after : Store) (name password : List ℕ) (v w : Phc)
     (answer : Result Accepted LoginError) → get before name ≡ Some v → get after name ≡ Some w →
     MatchResult answer (λ _. AcceptsBy target.secret password w)
@@ -41,12 +41,13 @@ pub has_accepted : (target : Target) (before after : Store) (name password : Lis
     (λ e. (e ≡ Refused OutOfMemory) ⊎ (HasPassword target before name password → ⊥))
 has_accepted target before after name password v w answer had has h = rw (had, has) h
 
+-- whether the name's text is current after an answer
 pub has_current : (target : Target) (after : Store) (name : List ℕ) (w : Phc) (answer : Result Accepted LoginError) →
     get after name ≡ Some w → IfOk answer (λ did. did ≢ Kept → IsCurrent target w) →
     IfOk answer (λ did. did ≢ Kept → IsSomeAnd (get after name) (IsCurrent target))
 has_current target after name w answer has h = rw has h
 
--- why a text is refused, as the store's refusal
+-- a refusal of a text as the store's
 pub refused_text : {P : Type 0} (e : Error) → (e ≡ OutOfMemory) ⊎ (P → ⊥) → (Refused e ≡ Refused OutOfMemory) ⊎ (P → ⊥)
 refused_text e (inl memory) = inl (ap Refused memory)
 refused_text e (inr never) = inr never

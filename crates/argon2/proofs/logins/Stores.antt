@@ -1,4 +1,4 @@
--- Stores: one name set, and the tree that a store stands for.
+-- Stores: one name set, names added, and the tree that a store stands for.
 use Rattle.std.proofs.Common.{rules, ◌≡◌, ℕ, List, [], ◌∷◌, Option, Some, None, Bool, true, false, cond, string_bytes, inl, inr, refl, sym, ap, ◌∙◌}
 use Rattle.std.proofs.lemmas.Bool.{and_parts, cases_Bool}
 use Rattle.std.proofs.lemmas.Map.Text.{is_eq-slice_cmp}
@@ -35,14 +35,14 @@ get-same m n v =
     let same = (bytes_eq-Decides n n).1 refl in
     get-set m n v n ∙ ap (λ b. cond b (Some v) (get m n)) same
 
--- and any other
+-- what it has under any other name stays
 pub get-other : (m : Store) (n : List ℕ) (v : Phc) → KeepsOthers n m (insert m n v)
 get-other m n v q differs = elim (cases_Bool (bytes_eq q n)) [
   | inl hit ↦ absurd (differs ((bytes_eq-Decides q n).0 hit))
   | inr miss ↦ get-set m n v q ∙ rw miss refl
 ]
 
--- to set what a name has changes nothing
+-- setting the text that a name has changes nothing
 pub insert-same : (m : Store) (n : List ℕ) (v : Phc) → get m n ≡ Some v → insert m n v ≡ m
 insert-same m n v has =
     same_map nat_list_cmp_total (slice_cmp-IsAntisymmetric nat_cmp-IsAntisymmetric) _ _ (λ q.
@@ -51,7 +51,7 @@ insert-same m n v has =
       | inr miss ↦ rw miss refl
     ])
 
--- ---- names with texts, one after the other
+-- ---- names that are added
 
 unequal : (r s : Ordering) → r ≡ s → is_lt s ≡ true → is_eq r ≡ false
 unequal r Less e h = ap is_eq e
@@ -70,6 +70,7 @@ or_none : (o : Option Phc) → option_or o None ≡ o
 or_none None = refl
 or_none (Some v) = refl
 
+-- what a store has after names in order are added
 get-added : (es : List (List ℕ × Phc)) (m : Store) (q : List ℕ) → is_sorted (slice_cmp nat_cmp) es ≡ true →
     get (added es m) q ≡ option_or (find (slice_cmp nat_cmp) q es) (get m q)
 get-added [] m q h = refl
@@ -162,7 +163,7 @@ module _ {Y : Type 0} where
       (λ q. get-from_entries nat_list_cmp_total es q ∙ sym (get-from_sorted (slice_cmp nat_cmp) es q (rw sorted tt))) in
       ap entries same ∙ entries-from_sorted (slice_cmp nat_cmp) es (rw sorted tt)
 
-  -- and added to a store without names they make it again
+  -- adding them to a store without names gives the store again
   pub added-values_of : (m : BTreeMap (String Y) PasswordHash) → IsOrdered string_cmp m →
       added (named_values m.entries) empty ≡ values_of m
   added-values_of m ordered =

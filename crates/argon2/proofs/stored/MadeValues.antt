@@ -35,20 +35,21 @@ none_of : {X : Type 0} (o : Option X) → IsNone o → o ≡ None
 none_of None h = refl
 none_of (Some x) h = absurd cc
 
-kept : (n : ℕ) (list : ByteList n) → length (list_bytes list) ≤ n
-kept n list =
+-- a list has no more bytes than its capacity
+list_fits : (n : ℕ) (list : ByteList n) → length (list_bytes list) ≤ n
+list_fits n list =
     let is = length-take list.len list.bytes in
     let fits = list.fits in
     omega (arith, is)
 
--- what an `Argon2` makes hashes under is a target where their length fits
+-- an `Argon2` is a target where its hashes fit into texts
 pub is_target : (argon2 : Argon2) → tag_length (settings_of argon2) ≤ 64 → IsTarget (target_of argon2)
 is_target argon2 fits = record {
   valid = argon2.params.valid;
   m_cost = argon2.params.memory;
   t_cost = argon2.params.passes;
-  keyid = (argon2.params.keyid.are_bytes, omega arith, kept 8 argon2.params.keyid.bytes);
-  associated = (argon2.params.associated.are_bytes, omega arith, kept 32 argon2.params.associated.bytes);
+  keyid = (argon2.params.keyid.are_bytes, omega arith, list_fits 8 argon2.params.keyid.bytes);
+  associated = (argon2.params.associated.are_bytes, omega arith, list_fits 32 argon2.params.associated.bytes);
   tag_length = fits;
 }
 

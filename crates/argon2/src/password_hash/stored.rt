@@ -1,6 +1,7 @@
 //! What a stored hash shows: how it was made, its salt and the hash itself.
 
 ghost use Rattle.std.specs.Prelude.{◌≡◌, ◌≤◌, Some, length};
+ghost use Rattle.argon2.specs.Params.{parameters_of};
 
 use super::{Error, Result};
 use crate::algorithm::Algorithm;
@@ -33,7 +34,8 @@ impl TryFrom<&PasswordHash> for Settings {
 
     type Error = Error;
 
-    ghost try_from_gives = { λ hash r. outcome_of settings_value r ≡ shown_settings (phc_of hash.now) };
+    ghost try_from_gives = { λ hash r.
+        outcome_of settings_value r ≡ shown_settings (phc_of hash.now) };
 
     fn try_from(hash: &PasswordHash) -> Result<Settings> {
         let params = Params::try_from(hash)?;
@@ -59,11 +61,11 @@ pub struct Stored<'hash> {
     pub salt: &'hash Salt,
     /// The hash.
     pub hash: &'hash Output,
-    ghost sized: { settings.params.output_len ≡ Some (length hash.now) },
+    ghost sized: { (parameters_of settings.params).output_len ≡ Some (length hash.now) },
     ghost fits: { length hash.now ≤ 64 },
 }
 
-/// Reads a PHC text that has a salt and a hash. Allocates nothing.
+/// Reads what a PHC text is verified by. Allocates nothing.
 ///
 /// # Errors
 /// [`Error::PasswordInvalid`] where there is no salt or no hash, else those of reading its
