@@ -16,8 +16,8 @@ use Rattle.argon2.specs.Steps.{Memory, step}
 use Rattle.argon2.specs.Tag.{matrix_of, tag_of}
 
 -- the matrix has as many blocks as are filled
-length-matrix_of : (ctx : Context) (password salt : List ℕ) (n : ℕ) →
-    length (matrix_of ctx password salt n) ≡ block_count ctx
+length-matrix_of : (ctx : Context) (password salt : List ℕ) (n : ℕ)
+    → length (matrix_of ctx password salt n) ≡ block_count ctx
 unfolding matrix_of matrix
 length-matrix_of ctx password salt n = length-map-range_with_len _ 0 (block_count ctx)
 
@@ -25,53 +25,53 @@ module _ (argon2 : Argon2) (count : ℕ) (all : count ≡ block_count (context_o
   abbrev ctx : Context
   ctx = context_of argon2
 
-  -- they are the first blocks
-  front : length blocks ≡ block_count ctx → blocks_of ctx (blocks ++ drop count old) ≡ blocks
-  front size = ap (λ n. take n (blocks ++ drop count old)) (sym size) ∙ take-append_seam blocks (drop count old)
+  -- the blocks that are filled come first
+  blocks_of-front : length blocks ≡ block_count ctx → blocks_of ctx (blocks ++ drop count old) ≡ blocks
+  blocks_of-front size = ap (λ n. take n (blocks ++ drop count old)) (sym size) ∙ take-append_seam blocks (drop count old)
 
-  -- those behind them stay
-  rest : length blocks ≡ block_count ctx → KeepsRest ctx old (blocks ++ drop count old)
-  rest size = drop-append-drop count old blocks (block_count ctx) (omega (arith, all)) (size ∙ sym all)
+  -- the blocks behind them stay
+  KeepsRest-behind : length blocks ≡ block_count ctx → KeepsRest ctx old (blocks ++ drop count old)
+  KeepsRest-behind size = drop-append-drop count old blocks (block_count ctx) (omega (arith, all)) (size ∙ sym all)
 
-  -- so do all columns but the first two
-  others : length blocks ≡ block_count ctx → KeepsOtherColumns ctx (take count old) blocks →
-      KeepsOtherColumns ctx old (blocks ++ drop count old)
-  others size same lane column l low high =
+  -- all columns but the first two stay
+  KeepsOtherColumns-front : length blocks ≡ block_count ctx → KeepsOtherColumns ctx (take count old) blocks
+      → KeepsOtherColumns ctx old (blocks ++ drop count old)
+  KeepsOtherColumns-front size same lane column l low high =
       let place = lane * lane_length ctx + column in
       let below = mul-add-lt lane (lane_length ctx) column ctx.p_cost l high in
       get_or_append_left blocks (drop count old) [] place (omega (arith, below, size))
       ∙ same lane column l low high ∙ get_or-take count old place [] (omega (arith, below, all))
 
-  -- a single step
-  pub is_stepped : block_count ctx ≤ length old → length blocks ≡ length (take count old) → (pass lane column : ℕ) →
-      blocks ≡ step ctx (take count old) pass lane column →
-      (blocks_of ctx (blocks ++ drop count old) ≡ step ctx (blocks_of ctx old) pass lane column)
+  -- a step that writes one of the first blocks leaves the others
+  pub is_stepped : block_count ctx ≤ length old → length blocks ≡ length (take count old) → (pass lane column : ℕ)
+      → blocks ≡ step ctx (take count old) pass lane column
+      → (blocks_of ctx (blocks ++ drop count old) ≡ step ctx (blocks_of ctx old) pass lane column)
       × KeepsRest ctx old (blocks ++ drop count old)
   is_stepped room long pass lane column made =
       let size : length blocks ≡ block_count ctx = long ∙ length-take-le count old (omega (arith, room, all)) ∙ all in
-      (front size ∙ made ∙ ap (λ n. step ctx (take n old) pass lane column) all, rest size)
+      (blocks_of-front size ∙ made ∙ ap (λ n. step ctx (take n old) pass lane column) all, KeepsRest-behind size)
 
-  -- the beginning of a fill
-  pub is_begun : IsValid ctx → (password salt : List ℕ) (n : ℕ) → Begins ctx (first_block ctx password salt n) blocks →
-      KeepsOtherColumns ctx (take count old) blocks → IsBegun argon2 password salt n old (blocks ++ drop count old)
+  -- a fill that begins in the first blocks begins in the memory
+  pub is_begun : IsValid ctx → (password salt : List ℕ) (n : ℕ) → Begins ctx (first_block ctx password salt n) blocks
+      → KeepsOtherColumns ctx (take count old) blocks → IsBegun argon2 password salt n old (blocks ++ drop count old)
   is_begun valid password salt n begins same = record {
     valid = valid;
-    begins = subst (Begins ctx (first_block ctx password salt n)) (sym (front begins.size)) begins;
-    others = others begins.size same;
-    rest = rest begins.size;
+    begins = subst (Begins ctx (first_block ctx password salt n)) (sym (blocks_of-front begins.size)) begins;
+    others = KeepsOtherColumns-front begins.size same;
+    rest = KeepsRest-behind begins.size;
   }
 
-  -- its end
-  pub is_filled : (password salt : List ℕ) (n : ℕ) → blocks ≡ matrix_of ctx password salt n →
-      IsFilled argon2 password salt n old (blocks ++ drop count old)
+  -- where the first blocks are the matrix, the memory is filled
+  pub is_filled : (password salt : List ℕ) (n : ℕ) → blocks ≡ matrix_of ctx password salt n
+      → IsFilled argon2 password salt n old (blocks ++ drop count old)
   is_filled password salt n filled =
       let size : length blocks ≡ block_count ctx = ap length filled ∙ length-matrix_of ctx password salt n in
-      record { matrix = front size ∙ filled; rest = rest size }
+      record { matrix = blocks_of-front size ∙ filled; rest = KeepsRest-behind size }
 
-  -- a whole hash
-  pub is_hashed : IsValid ctx → (password salt output : List ℕ) (n : ℕ) → length output ≡ n →
-      output ≡ tag_of ctx password salt n →
-      blocks ≡ matrix_of ctx password salt n → IsHashed argon2 password salt output old (blocks ++ drop count old)
+  -- where the first blocks are the matrix and the output is the tag, a password is hashed
+  pub is_hashed : IsValid ctx → (password salt output : List ℕ) (n : ℕ) → length output ≡ n
+      → output ≡ tag_of ctx password salt n
+      → blocks ≡ matrix_of ctx password salt n → IsHashed argon2 password salt output old (blocks ++ drop count old)
   is_hashed valid password salt output n size tag filled =
       let left = is_filled password salt n filled in
       record {

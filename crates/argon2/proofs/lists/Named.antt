@@ -45,19 +45,8 @@ version_numbered-no number other =
     let new = fails _ (Decides-eqb number 19) (other V0x13) in
     rw (old, new) refl
 
--- what a name is answered is what is found by it
-pub algorithm_named-answer : (name : List ℕ) (r : Result Algorithm Error) → IsNamed name r → algorithm_named name ≡ result_ok r
-algorithm_named-answer name (Ok algorithm) is = rw is (algorithm_named-name algorithm)
-algorithm_named-answer name (Err e) not = algorithm_named-no name not.1
-
--- the same for a caller that asked for a text
+-- what a name in a text is answered is what is found by it
 pub algorithm_named-text : (name : List ℕ) (r : Result Algorithm HashError) → IsNamedInText name r
     → algorithm_named name ≡ result_ok r
 algorithm_named-text name (Ok algorithm) is = rw is (algorithm_named-name algorithm)
 algorithm_named-text name (Err e) not = algorithm_named-no name not.1
-
--- what a number is answered is what is found by it
-pub version_numbered-answer : (number : ℕ) (r : Result Version Error) → IsNumbered number r
-    → version_numbered number ≡ result_ok r
-version_numbered-answer number (Ok version) is = rw is (version_numbered-number version)
-version_numbered-answer number (Err e) not = version_numbered-no number not.1

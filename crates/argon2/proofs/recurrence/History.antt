@@ -17,8 +17,8 @@ abbrev pub moment : Context → ℕ → ℕ → ℕ
 moment ctx pass column = pass * lane_length ctx + column
 
 -- sources are made earlier
-reads_earlier : (ctx : Context) (pass lane column r l c : ℕ) →
-    Reads ctx pass lane column r l c → moment ctx r c < moment ctx pass column
+reads_earlier : (ctx : Context) (pass lane column r l c : ℕ)
+    → Reads ctx pass lane column r l c → moment ctx r c < moment ctx pass column
 reads_earlier ctx pass lane column r l c reads =
     let q = lane_length ctx in
     let below : c < q = reads.in_columns in
@@ -30,15 +30,15 @@ reads_earlier ctx pass lane column r l c reads =
     ]
 
 -- a rule reads earlier moments alone
-rule_cong : (ctx : Context) → Sizes ctx → (first : FirstColumns) (pass lane column : ℕ) →
-    lane < ctx.p_cost → column < lane_length ctx → (f g : Blocks) →
-    ((r l c : ℕ) → l < ctx.p_cost → c < lane_length ctx → moment ctx r c < moment ctx pass column → f r l c ≡ g r l c) →
-    rule ctx first f pass lane column ≡ rule ctx first g pass lane column
+rule_cong : (ctx : Context) → Sizes ctx → (first : FirstColumns) (pass lane column : ℕ)
+    → lane < ctx.p_cost → column < lane_length ctx → (f g : Blocks)
+    → ((r l c : ℕ) → l < ctx.p_cost → c < lane_length ctx → moment ctx r c < moment ctx pass column → f r l c ≡ g r l c)
+    → rule ctx first f pass lane column ≡ rule ctx first g pass lane column
 unfolding rule
 rule_cong ctx sizes first pass lane column in_lanes in_columns f g h = go ((pass == 0) && nat_lt column 2) refl
   where
-    go : (b : Bool) → ((pass == 0) && nat_lt column 2) ≡ b →
-        (if b then first lane column else made_block ctx f pass lane column)
+    go : (b : Bool) → ((pass == 0) && nat_lt column 2) ≡ b
+        → (if b then first lane column else made_block ctx f pass lane column)
         ≡ (if b then first lane column else made_block ctx g pass lane column)
     go true e = refl
     go false e = made_cong ctx sizes pass lane column
@@ -60,15 +60,15 @@ length-history ctx first zero = refl
 length-history ctx first (suc n) = length_push (history ctx first n) _ ∙ (let i = length-history ctx first n in omega arith)
 
 -- one more column leaves those before
-history_grows : (ctx : Context) (first : FirstColumns) (n k : ℕ) → k < n →
-    slice_index_or (history ctx first (suc n)) k [] ≡ slice_index_or (history ctx first n) k []
+history_grows : (ctx : Context) (first : FirstColumns) (n k : ℕ) → k < n
+    → slice_index_or (history ctx first (suc n)) k [] ≡ slice_index_or (history ctx first n) k []
 unfolding history
 history_grows ctx first n k lt =
     get_or_append_left (history ctx first n) _ [] k (let l = length-history ctx first n in omega arith)
 
 -- more columns leave those before
-history_stays : (ctx : Context) (first : FirstColumns) (n k : ℕ) → k < n →
-    slice_index_or (history ctx first n) k [] ≡ slice_index_or (history ctx first (suc k)) k []
+history_stays : (ctx : Context) (first : FirstColumns) (n k : ℕ) → k < n
+    → slice_index_or (history ctx first n) k [] ≡ slice_index_or (history ctx first (suc k)) k []
 history_stays ctx first zero k h = absurd (omega arith)
 history_stays ctx first (suc n) k h =
     elim (cases_lt k n) [
@@ -77,15 +77,15 @@ history_stays ctx first (suc n) k h =
     ]
 
 -- a history has the block of each moment before its end
-in_history_is : (ctx : Context) (first : FirstColumns) (n r l c : ℕ) → moment ctx r c < n →
-    in_history ctx (history ctx first n) r l c ≡ block_of ctx first r l c
+in_history_is : (ctx : Context) (first : FirstColumns) (n r l c : ℕ) → moment ctx r c < n
+    → in_history ctx (history ctx first n) r l c ≡ block_of ctx first r l c
 unfolding in_history block_of
 in_history_is ctx first n r l c h =
     ap (λ (column : List (List ℕ)). slice_index_or column l []) (history_stays ctx first n (moment ctx r c) h)
 
 -- the newest column is made by the rule
-newest_column : (ctx : Context) (first : FirstColumns) (n lane : ℕ) → lane < ctx.p_cost →
-    slice_index_or (slice_index_or (history ctx first (suc n)) n []) lane []
+newest_column : (ctx : Context) (first : FirstColumns) (n lane : ℕ) → lane < ctx.p_cost
+    → slice_index_or (slice_index_or (history ctx first (suc n)) n []) lane []
     ≡ rule ctx first (in_history ctx (history ctx first n)) (n / lane_length ctx) lane (n % lane_length ctx)
 unfolding history
 newest_column ctx first n lane h =
@@ -96,16 +96,16 @@ newest_column ctx first n lane h =
     ∙ get_or-map-range_with_len f 0 ctx.p_cost lane lane [] h (omega arith)
 
 -- a block is read from the history that ends with its column
-read_at_newest : (ctx : Context) (first : FirstColumns) (pass lane column : ℕ) →
-    block_of ctx first pass lane column
+read_at_newest : (ctx : Context) (first : FirstColumns) (pass lane column : ℕ)
+    → block_of ctx first pass lane column
     ≡ slice_index_or (slice_index_or (history ctx first (suc (moment ctx pass column))) (moment ctx pass column) []) lane []
 unfolding block_of in_history
 read_at_newest ctx first pass lane column = refl
 
 -- each block is as the rule says
-pub recurrence : (ctx : Context) → Sizes ctx → (first : FirstColumns) (pass lane column : ℕ) →
-    lane < ctx.p_cost → column < lane_length ctx →
-    block_of ctx first pass lane column ≡ rule ctx first (block_of ctx first) pass lane column
+pub recurrence : (ctx : Context) → Sizes ctx → (first : FirstColumns) (pass lane column : ℕ)
+    → lane < ctx.p_cost → column < lane_length ctx
+    → block_of ctx first pass lane column ≡ rule ctx first (block_of ctx first) pass lane column
 recurrence ctx sizes first pass lane column in_lanes in_columns =
     let q = lane_length ctx in
     let n = moment ctx pass column in
@@ -118,10 +118,10 @@ recurrence ctx sizes first pass lane column in_lanes in_columns =
     (λ r l c _ _ lt. in_history_is ctx first n r l c lt)
 
 -- two recurrences agree up to any moment
-recurrence_unique_up_to : (ctx : Context) → Sizes ctx → (first : FirstColumns) (f g : Blocks) →
-    IsRecurrence ctx first f → IsRecurrence ctx first g → (n pass lane column : ℕ) →
-    lane < ctx.p_cost → column < lane_length ctx → moment ctx pass column < n →
-    f pass lane column ≡ g pass lane column
+recurrence_unique_up_to : (ctx : Context) → Sizes ctx → (first : FirstColumns) (f g : Blocks)
+    → IsRecurrence ctx first f → IsRecurrence ctx first g → (n pass lane column : ℕ)
+    → lane < ctx.p_cost → column < lane_length ctx → moment ctx pass column < n
+    → f pass lane column ≡ g pass lane column
 recurrence_unique_up_to ctx sizes first f g hf hg zero pass lane column a b lt = absurd (omega arith)
 recurrence_unique_up_to ctx sizes first f g hf hg (suc n) pass lane column a b lt =
     hf pass lane column a b
@@ -130,10 +130,10 @@ recurrence_unique_up_to ctx sizes first f g hf hg (suc n) pass lane column a b l
     ∙ sym (hg pass lane column a b)
 
 -- no other blocks are as the rule says
-pub recurrence_unique : (ctx : Context) → Sizes ctx → (first : FirstColumns) (f : Blocks) →
-    IsRecurrence ctx first f → (pass lane column : ℕ) → lane < ctx.p_cost →
-    column < lane_length ctx →
-    f pass lane column ≡ block_of ctx first pass lane column
+pub recurrence_unique : (ctx : Context) → Sizes ctx → (first : FirstColumns) (f : Blocks)
+    → IsRecurrence ctx first f → (pass lane column : ℕ) → lane < ctx.p_cost
+    → column < lane_length ctx
+    → f pass lane column ≡ block_of ctx first pass lane column
 recurrence_unique ctx sizes first f h pass lane column a b =
     recurrence_unique_up_to ctx sizes first f (block_of ctx first) h (recurrence ctx sizes first)
     (suc (moment ctx pass column)) pass lane column a b (omega arith)
@@ -141,8 +141,8 @@ recurrence_unique ctx sizes first f h pass lane column a b =
 -- ---- the rule's two cases
 
 -- the blocks of columns 0 and 1 of pass 0 are the first columns
-pub first_columns : (ctx : Context) → Sizes ctx → (first : FirstColumns) (lane column : ℕ) →
-    lane < ctx.p_cost → column < 2 → block_of ctx first 0 lane column ≡ first lane column
+pub first_columns : (ctx : Context) → Sizes ctx → (first : FirstColumns) (lane column : ℕ)
+    → lane < ctx.p_cost → column < 2 → block_of ctx first 0 lane column ≡ first lane column
 unfolding rule
 first_columns ctx sizes first lane column a b =
     let two = sizes.two_columns in
@@ -151,9 +151,9 @@ first_columns ctx sizes first lane column a b =
     (and_from (0 == 0) (nat_lt column 2) refl (lt-ltb column 2 b))
 
 -- all other blocks are made of others
-pub made_blocks : (ctx : Context) → Sizes ctx → (first : FirstColumns) (pass lane column : ℕ) →
-    IsStep ctx pass lane column →
-    block_of ctx first pass lane column ≡ made_block ctx (block_of ctx first) pass lane column
+pub made_blocks : (ctx : Context) → Sizes ctx → (first : FirstColumns) (pass lane column : ℕ)
+    → IsStep ctx pass lane column
+    → block_of ctx first pass lane column ≡ made_block ctx (block_of ctx first) pass lane column
 unfolding rule
 made_blocks ctx sizes first pass lane column st =
     recurrence ctx sizes first pass lane column st.in_lanes st.in_columns

@@ -17,9 +17,9 @@ addressed_place ctx pass lane column =
     from.lane * lane_length ctx + from.column
 
 -- where addressing is independent, that is the place of the reference
-reference_place-addressed : (ctx : Context) (first : FirstColumns) (pass lane column : ℕ) →
-    is_independent ctx pass (column / segment_length ctx) ≡ true →
-    reference_places ctx first pass lane column ≡ addressed_place ctx pass lane column
+reference_place-addressed : (ctx : Context) (first : FirstColumns) (pass lane column : ℕ)
+    → is_independent ctx pass (column / segment_length ctx) ≡ true
+    → reference_places ctx first pass lane column ≡ addressed_place ctx pass lane column
 unfolding reference_places reference_of reference_word addressed_place
 reference_place-addressed ctx first pass lane column e =
     ap (λ w. (reference ctx pass lane column w).lane * lane_length ctx + (reference ctx pass lane column w).column)
@@ -57,24 +57,24 @@ rest_is a b h =
     }
 
 -- the place by the address word does not depend on version, secret and data
-addressed_place-rest : (a b : Context) (pass lane column : ℕ) →
-    addressed_place (with_rest a b) pass lane column ≡ addressed_place b pass lane column
+addressed_place-rest : (a b : Context) (pass lane column : ℕ)
+    → addressed_place (with_rest a b) pass lane column ≡ addressed_place b pass lane column
 unfolding with_rest addressed_place reference reference_lane permitted finished_segments address_word address_block
 addressed_place-rest a b zero lane column = refl
 addressed_place-rest a b (suc pass) lane column = refl
 
 -- which addressing is independent does not depend on version, secret and data
-independent_rest : (a b : Context) (pass column : ℕ) →
-    is_independent (with_rest a b) pass (column / segment_length (with_rest a b))
+independent_rest : (a b : Context) (pass column : ℕ)
+    → is_independent (with_rest a b) pass (column / segment_length (with_rest a b))
     ≡ is_independent b pass (column / segment_length b)
 unfolding with_rest is_independent
 independent_rest a b pass column = refl
 
 -- where addressing is independent, alike contexts have alike reference places
-pub positions_agree : (a b : Context) → AreAlike a b →
-    (first second : FirstColumns) (pass lane column : ℕ) →
-    is_independent a pass (column / segment_length a) ≡ true →
-    reference_places a first pass lane column ≡ reference_places b second pass lane column
+pub positions_agree : (a b : Context) → AreAlike a b
+    → (first second : FirstColumns) (pass lane column : ℕ)
+    → is_independent a pass (column / segment_length a) ≡ true
+    → reference_places a first pass lane column ≡ reference_places b second pass lane column
 positions_agree a b h first second pass lane column e =
     let r = rest_is a b h in
     let e' : is_independent b pass (column / segment_length b) ≡ true =
@@ -85,15 +85,15 @@ positions_agree a b h first second pass lane column e =
     ∙ sym (reference_place-addressed b second pass lane column e')
 
 -- Argon2i's addressing is independent everywhere
-pub argon2i_independent : (ctx : Context) (pass slice : ℕ) → ctx.algorithm ≡ 1 →
-    is_independent ctx pass slice ≡ true
+pub argon2i_independent : (ctx : Context) (pass slice : ℕ) → ctx.algorithm ≡ 1
+    → is_independent ctx pass slice ≡ true
 unfolding is_independent
 argon2i_independent ctx pass slice h = or_left (ctx.algorithm == 1) _ (eq-eqb ctx.algorithm 1 h)
 
 -- Argon2id's addressing is independent in the first half of pass 0
-pub argon2id_independent : (ctx : Context) → Sizes ctx → (column : ℕ) → ctx.algorithm ≡ 2 →
-    column < 2 * segment_length ctx →
-    is_independent ctx 0 (column / segment_length ctx) ≡ true
+pub argon2id_independent : (ctx : Context) → Sizes ctx → (column : ℕ) → ctx.algorithm ≡ 2
+    → column < 2 * segment_length ctx
+    → is_independent ctx 0 (column / segment_length ctx) ≡ true
 unfolding is_independent
 argon2id_independent ctx sizes column h low =
     let s = segment_length ctx in

@@ -32,8 +32,8 @@ length-columns pass from to = length-map (range_with_len from (to - from)) (λ c
     ∙ length-range_with_len from (to - from)
 
 -- the column at an index of a list of columns
-get_or-columns : (pass from to i : ℕ) → i < to - from →
-    (slice_index_or (columns pass from to) i (0, 0)).1 ≡ from + i
+get_or-columns : (pass from to i : ℕ) → i < to - from
+    → (slice_index_or (columns pass from to) i (0, 0)).1 ≡ from + i
 unfolding columns
 get_or-columns pass from to i h =
     ap (λ (x : ℕ × ℕ). x.1) (get_or-map-range_with_len (λ c. (pass, c)) from (to - from) i (from + i) (0, 0) h refl)
@@ -54,8 +54,8 @@ module _ (ctx : Context) (sizes : Sizes ctx) (column : ℕ) (in_columns : column
   bounds = in_slice (segment_length ctx) column sizes.two_columns in_columns
 
   -- the finished segments have that count
-  length-finished : (pass : ℕ) →
-      length (finished_segments ctx pass (column / segment_length ctx)) ≡ finished_count ctx pass (column / segment_length ctx)
+  length-finished : (pass : ℕ)
+      → length (finished_segments ctx pass (column / segment_length ctx)) ≡ finished_count ctx pass (column / segment_length ctx)
   unfolding finished_segments
   length-finished zero = length-columns 0 0 _ ∙ omega arith
   length-finished (suc pass) =
@@ -68,8 +68,8 @@ module _ (ctx : Context) (sizes : Sizes ctx) (column : ℕ) (in_columns : column
       grind (arith, nat_tests)
 
   -- the one at an index has that column
-  get_or-finished : (pass i : ℕ) → i < length (finished_segments ctx pass (column / segment_length ctx)) →
-      (slice_index_or (finished_segments ctx pass (column / segment_length ctx)) i (0, 0)).1
+  get_or-finished : (pass i : ℕ) → i < length (finished_segments ctx pass (column / segment_length ctx))
+      → (slice_index_or (finished_segments ctx pass (column / segment_length ctx)) i (0, 0)).1
       ≡ finished_column ctx pass (column / segment_length ctx) i
   unfolding finished_segments
   get_or-finished zero i h =
@@ -97,8 +97,8 @@ module _ (ctx : Context) (sizes : Sizes ctx) (column : ℕ) (in_columns : column
       ]
 
   -- how many permitted blocks there are
-  pub length-permitted : (pass lane other : ℕ) → (pass ≡ 0 → 2 ≤ column) →
-      length (permitted ctx pass lane column other)
+  pub length-permitted : (pass lane other : ℕ) → (pass ≡ 0 → 2 ≤ column)
+      → length (permitted ctx pass lane column other)
       ≡ (let finished = finished_count ctx pass (column / segment_length ctx) in
       let index = column % segment_length ctx in
       if index == 0 then finished - 1 else finished + (if other == lane then index - 1 else 0))
@@ -141,15 +141,16 @@ module _ (ctx : Context) (sizes : Sizes ctx) (column : ℕ) (in_columns : column
       ]
 
   -- behind the finished segments the own one goes on
-  wraps : (pass i : ℕ) → finished_count ctx pass (column / segment_length ctx) ≤ i →
-      column / segment_length ctx * segment_length ctx + (i - finished_count ctx pass (column / segment_length ctx))
+  wraps : (pass i : ℕ) → finished_count ctx pass (column / segment_length ctx) ≤ i
+      → column / segment_length ctx * segment_length ctx + (i - finished_count ctx pass (column / segment_length ctx))
       ≡ finished_column ctx pass (column / segment_length ctx) i
   wraps pass i le = let here = bounds in grind (arith, nat_tests)
 
   -- the column of the permitted block at an index
-  pub get_or-permitted : (pass lane other i : ℕ) →
-      i < length (permitted ctx pass lane column other) →
-      (slice_index_or (permitted ctx pass lane column other) i (0, 0)).1 ≡ finished_column ctx pass (column / segment_length ctx) i
+  pub get_or-permitted : (pass lane other i : ℕ)
+      → i < length (permitted ctx pass lane column other)
+      → (slice_index_or (permitted ctx pass lane column other) i (0, 0)).1
+      ≡ finished_column ctx pass (column / segment_length ctx) i
   unfolding permitted without_last
   get_or-permitted pass lane other i =
       let s = segment_length ctx in

@@ -24,8 +24,8 @@ pub record Reads (ctx : Context) (pass lane column r l c : ℕ) : Type 0 where
       ⊎ ((c < column / segment_length ctx * segment_length ctx) ⊎ ((column / segment_length ctx + 1) * segment_length ctx ≤ c))
 
 -- what holds of each column holds of the list
-All-columns : (P : ℕ × ℕ → Type 0) (pass from to : ℕ) →
-    ((c : ℕ) → from ≤ c → c < to → P (pass, c)) → All P (columns pass from to)
+All-columns : (P : ℕ × ℕ → Type 0) (pass from to : ℕ)
+    → ((c : ℕ) → from ≤ c → c < to → P (pass, c)) → All P (columns pass from to)
 unfolding columns
 All-columns P pass from to h =
     All-map P (λ c. (pass, c)) (range_with_len from (to - from)) (λ k d lt.
@@ -45,8 +45,8 @@ module _ (ctx : Context) (sizes : Sizes ctx) (lane column other : ℕ) (in_lanes
   bounds = in_slice (segment_length ctx) column sizes.two_columns in_columns
 
   -- finished segments are sources
-  finished_sources : (pass : ℕ) →
-      All (IsSource pass) (finished_segments ctx pass (column / segment_length ctx))
+  finished_sources : (pass : ℕ)
+      → All (IsSource pass) (finished_segments ctx pass (column / segment_length ctx))
   unfolding finished_segments
   finished_sources zero = All-columns (IsSource zero) 0 0 _ (λ c low high.
       let b = bounds in
@@ -60,8 +60,8 @@ module _ (ctx : Context) (sizes : Sizes ctx) (lane column other : ℕ) (in_lanes
       record { in_lanes = in_lanes; in_columns = omega arith; newest = inl (refl, omega arith); apart = inr (inl high) }))
 
   -- the own segment's blocks so far, but for the previous one, are sources
-  own_sources : (pass : ℕ) →
-      All (IsSource pass)
+  own_sources : (pass : ℕ)
+      → All (IsSource pass)
       (if other == lane then columns pass (column / segment_length ctx * segment_length ctx) (column - 1) else [])
   own_sources pass = cond_both (other == lane) _ [] (All (IsSource pass))
       (λ e. All-columns (IsSource pass) pass _ _ (λ c low high.
@@ -84,16 +84,16 @@ module _ (ctx : Context) (sizes : Sizes ctx) (lane column other : ℕ) (in_lanes
 -- ---- each block is made of its sources alone
 
 -- the lane referred to is one of the lanes
-lane_below : (ctx : Context) → Sizes ctx → (pass lane column w : ℕ) → lane < ctx.p_cost →
-    reference_lane ctx pass lane column w < ctx.p_cost
+lane_below : (ctx : Context) → Sizes ctx → (pass lane column w : ℕ) → lane < ctx.p_cost
+    → reference_lane ctx pass lane column w < ctx.p_cost
 unfolding reference_lane
 lane_below ctx sizes pass lane column w h =
     cond_both ((pass == 0) && (column / segment_length ctx == 0)) lane ((w / 2 ^ 32) % ctx.p_cost) (λ x. x < ctx.p_cost)
     (λ _. h) (λ _. mod-lt (w / 2 ^ 32) sizes.some_lane)
 
 -- in the first slice of all the lane referred to is the block's own
-lane_alone : (ctx : Context) (pass lane column w : ℕ) → pass ≡ 0 →
-    column / segment_length ctx ≡ 0 → reference_lane ctx pass lane column w ≡ lane
+lane_alone : (ctx : Context) (pass lane column w : ℕ) → pass ≡ 0
+    → column / segment_length ctx ≡ 0 → reference_lane ctx pass lane column w ≡ lane
 unfolding reference_lane
 lane_alone ctx pass lane column w p slice =
     cond-true ((pass == 0) && (column / segment_length ctx == 0)) lane ((w / 2 ^ 32) % ctx.p_cost)
@@ -105,9 +105,9 @@ unfolding reference_index
 index_below count w h = omega arith
 
 -- whatever the word, the block that it takes is a source
-reference_reads : (ctx : Context) → Sizes ctx → (pass lane column w : ℕ) →
-    IsStep ctx pass lane column →
-    Reads ctx pass lane column (reference ctx pass lane column w).pass (reference ctx pass lane column w).lane
+reference_reads : (ctx : Context) → Sizes ctx → (pass lane column w : ℕ)
+    → IsStep ctx pass lane column
+    → Reads ctx pass lane column (reference ctx pass lane column w).pass (reference ctx pass lane column w).lane
     (reference ctx pass lane column w).column
 unfolding reference
 reference_reads ctx sizes pass lane column w st =
@@ -125,9 +125,9 @@ abbrev pub AgreeOn : (ctx : Context) (pass lane column : ℕ) → Blocks → Blo
 AgreeOn ctx pass lane column f g = (r l c : ℕ) → Reads ctx pass lane column r l c → f r l c ≡ g r l c
 
 -- such blocks have one previous block
-previous_cong : (ctx : Context) → Sizes ctx → (pass lane column : ℕ) →
-    IsStep ctx pass lane column → (f g : Blocks) → AgreeOn ctx pass lane column f g →
-    previous ctx f pass lane column ≡ previous ctx g pass lane column
+previous_cong : (ctx : Context) → Sizes ctx → (pass lane column : ℕ)
+    → IsStep ctx pass lane column → (f g : Blocks) → AgreeOn ctx pass lane column f g
+    → previous ctx f pass lane column ≡ previous ctx g pass lane column
 unfolding previous
 previous_cong ctx sizes zero lane zero st f g h = absurd (let two : 2 ≤ zero = st.later refl in omega arith)
 previous_cong ctx sizes (suc pass) lane zero st f g h =
@@ -140,9 +140,9 @@ previous_cong ctx sizes pass lane (suc column) st f g h =
     (record { in_lanes = st.in_lanes; in_columns = omega arith; newest = inl (refl, omega arith); apart = inl refl })
 
 -- such blocks have one word
-word_cong : (ctx : Context) → Sizes ctx → (pass lane column : ℕ) → IsStep ctx pass lane column →
-    (f g : Blocks) → AgreeOn ctx pass lane column f g →
-    reference_word ctx f pass lane column ≡ reference_word ctx g pass lane column
+word_cong : (ctx : Context) → Sizes ctx → (pass lane column : ℕ) → IsStep ctx pass lane column
+    → (f g : Blocks) → AgreeOn ctx pass lane column f g
+    → reference_word ctx f pass lane column ≡ reference_word ctx g pass lane column
 unfolding reference_word
 word_cong ctx sizes pass lane column st f g h =
     let slice = column / segment_length ctx in
@@ -151,17 +151,17 @@ word_cong ctx sizes pass lane column st f g h =
     (previous_cong ctx sizes pass lane column st f g h)
 
 -- such blocks have one reference
-pub reference_of_cong : (ctx : Context) → Sizes ctx → (pass lane column : ℕ) →
-    IsStep ctx pass lane column → (f g : Blocks) → AgreeOn ctx pass lane column f g →
-    reference_of ctx f pass lane column ≡ reference_of ctx g pass lane column
+pub reference_of_cong : (ctx : Context) → Sizes ctx → (pass lane column : ℕ)
+    → IsStep ctx pass lane column → (f g : Blocks) → AgreeOn ctx pass lane column f g
+    → reference_of ctx f pass lane column ≡ reference_of ctx g pass lane column
 unfolding reference_of
 reference_of_cong ctx sizes pass lane column st f g h =
     ap (reference ctx pass lane column) (word_cong ctx sizes pass lane column st f g h)
 
 -- the reference is a source
-reference_of_reads : (ctx : Context) → Sizes ctx → (pass lane column : ℕ) →
-    IsStep ctx pass lane column → (f : Blocks) →
-    Reads ctx pass lane column (reference_of ctx f pass lane column).pass (reference_of ctx f pass lane column).lane
+reference_of_reads : (ctx : Context) → Sizes ctx → (pass lane column : ℕ)
+    → IsStep ctx pass lane column → (f : Blocks)
+    → Reads ctx pass lane column (reference_of ctx f pass lane column).pass (reference_of ctx f pass lane column).lane
     (reference_of ctx f pass lane column).column
 unfolding reference_of
 reference_of_reads ctx sizes pass lane column st f =
@@ -173,9 +173,9 @@ cond_same true x u y h = h refl
 cond_same false x u y h = refl
 
 -- such blocks make one block
-pub made_cong : (ctx : Context) → Sizes ctx → (pass lane column : ℕ) → IsStep ctx pass lane column →
-    (f g : Blocks) → AgreeOn ctx pass lane column f g →
-    made_block ctx f pass lane column ≡ made_block ctx g pass lane column
+pub made_cong : (ctx : Context) → Sizes ctx → (pass lane column : ℕ) → IsStep ctx pass lane column
+    → (f g : Blocks) → AgreeOn ctx pass lane column f g
+    → made_block ctx f pass lane column ≡ made_block ctx g pass lane column
 unfolding made_block
 made_cong ctx sizes pass lane column st f g h =
     let from = reference_of ctx f pass lane column in

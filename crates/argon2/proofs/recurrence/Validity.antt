@@ -10,8 +10,8 @@ use Rattle.argon2.specs.Context.{Context, IsValid, Sizes}
 use Rattle.argon2.specs.Shape.{segment_length}
 
 -- a test that would refuse is false
-not_refused : (b : Bool) (fault : Error) (rest : Option Error) → IsNone (if b then Some fault else rest) →
-    (b ≡ false) × IsNone rest
+not_refused : (b : Bool) (fault : Error) (rest : Option Error) → IsNone (if b then Some fault else rest)
+    → (b ≡ false) × IsNone rest
 not_refused true fault rest h = absurd (let x : true ≡ false = h in cc)
 not_refused false fault rest h = (refl, h)
 
@@ -41,6 +41,6 @@ sizes ctx small_m small_t none =
       t_cost = small_t;
     }
 
--- so has a valid context
+-- a valid context has these sizes
 pub sizes-valid : (ctx : Context) → IsValid ctx → Sizes ctx
 sizes-valid ctx valid = sizes ctx valid.m_cost valid.t_cost valid.costs

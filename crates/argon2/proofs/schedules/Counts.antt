@@ -24,12 +24,12 @@ module _ (ctx : Context) (sizes : Sizes ctx) where
   pass_calls : ℕ → ℕ
   pass_calls pass = segment_calls ctx pass 0 + segment_calls ctx pass 1 + segment_calls ctx pass 2 + segment_calls ctx pass 3
 
-  -- those of pass 0
+  -- the mixings of a lane in pass 0
   pass_calls-first : pass_calls 0 + 2 ≡ 4 * segment_length ctx + address_calls * independent_first
   unfolding pass_calls segment_calls is_independent address_calls independent_first
   pass_calls-first = let two = sizes.two_columns in grind (arith, nat_tests)
 
-  -- those of a later pass
+  -- the mixings of a lane in a later pass
   pass_calls-later : (pass : ℕ) → pass_calls (suc pass) ≡ 4 * segment_length ctx + address_calls * independent_later
   unfolding pass_calls segment_calls is_independent address_calls independent_later
   pass_calls-later pass = grind (arith, nat_tests)
@@ -57,8 +57,8 @@ module _ (ctx : Context) (sizes : Sizes ctx) where
       omega arith
 
   -- how many segments have address blocks
-  independent_segments-sum : (r : ℕ) → ctx.t_cost ≡ suc r →
-      ctx.p_cost * independent_first + r * (ctx.p_cost * independent_later) ≡ independent_segments ctx
+  independent_segments-sum : (r : ℕ) → ctx.t_cost ≡ suc r
+      → ctx.p_cost * independent_first + r * (ctx.p_cost * independent_later) ≡ independent_segments ctx
   unfolding independent_segments independent_first independent_later
   independent_segments-sum r t =
       let p = ctx.p_cost in
@@ -83,7 +83,7 @@ module _ (ctx : Context) (sizes : Sizes ctx) where
             ])
       ]
 
-  -- they are the formula's, where there is some pass
+  -- the mixings of all passes are the formula's, where there is some pass
   passes_calls-suc : (r : ℕ) → ctx.t_cost ≡ suc r → passes_calls ctx ctx.t_cost ≡ mixing_calls ctx
   unfolding mixing_calls address_calls
   passes_calls-suc r t =
@@ -97,8 +97,8 @@ module _ (ctx : Context) (sizes : Sizes ctx) where
       omega arith
 
 -- a pass's first slices are not more than more of them
-pub slices_calls-le : (ctx : Context) (pass slice n : ℕ) → slice ≤ n →
-    slices_calls ctx pass slice ≤ slices_calls ctx pass n
+pub slices_calls-le : (ctx : Context) (pass slice n : ℕ) → slice ≤ n
+    → slices_calls ctx pass slice ≤ slices_calls ctx pass n
 unfolding slices_calls
 slices_calls-le ctx pass slice zero le = let e : slice ≡ 0 = omega arith in omega (arith, ap (slices_calls ctx pass) e)
 slices_calls-le ctx pass slice (suc n) le = elim (cases_lt slice (suc n)) [

@@ -18,9 +18,9 @@ use Rattle.argon2.proofs.schedules.Schedules.{turn_column, turns-same, turns-oth
 use Rattle.argon2.proofs.recurrence.History.{first_columns, made_blocks}
 
 -- equal counts of made columns say the same
-pub HasBlocksUpTo-like : (ctx : Context) (first : FirstColumns) (pass : ℕ) (done done' : ℕ → ℕ) (memory : List (List ℕ)) →
-    ((l : ℕ) → l < ctx.p_cost → done l ≡ done' l) →
-    HasBlocksUpTo ctx first pass done memory → HasBlocksUpTo ctx first pass done' memory
+pub HasBlocksUpTo-like : (ctx : Context) (first : FirstColumns) (pass : ℕ) (done done' : ℕ → ℕ) (memory : List (List ℕ))
+    → ((l : ℕ) → l < ctx.p_cost → done l ≡ done' l)
+    → HasBlocksUpTo ctx first pass done memory → HasBlocksUpTo ctx first pass done' memory
 HasBlocksUpTo-like ctx first pass done done' memory same h = record {
   size = h.size;
   new = λ l c a b lt. let e = same l a in h.new l c a b (omega arith);
@@ -28,13 +28,13 @@ HasBlocksUpTo-like ctx first pass done done' memory same h = record {
 }
 
 -- what a step reads are the recurrence's blocks
-step_reads : (ctx : Context) →
-    (first : FirstColumns) (pass lane column slice : ℕ) (done : ℕ → ℕ) (memory : List (List ℕ)) →
-    InSlice (segment_length ctx) column slice →
-    done lane ≡ column →
-    ((l : ℕ) → l < ctx.p_cost → (slice * segment_length ctx ≤ done l) × (done l ≤ (slice + 1) * segment_length ctx)) →
-    HasBlocksUpTo ctx first pass done memory →
-    AgreeOn ctx pass lane column (in_memory ctx memory) (block_of ctx first)
+step_reads : (ctx : Context)
+    → (first : FirstColumns) (pass lane column slice : ℕ) (done : ℕ → ℕ) (memory : List (List ℕ))
+    → InSlice (segment_length ctx) column slice
+    → done lane ≡ column
+    → ((l : ℕ) → l < ctx.p_cost → (slice * segment_length ctx ≤ done l) × (done l ≤ (slice + 1) * segment_length ctx))
+    → HasBlocksUpTo ctx first pass done memory
+    → AgreeOn ctx pass lane column (in_memory ctx memory) (block_of ctx first)
 unfolding in_memory
 step_reads ctx first pass lane column slice done memory here now about h =
     let s = segment_length ctx in
@@ -69,26 +69,26 @@ step_reads ctx first pass lane column slice done memory here now about h =
     ]
 
 -- a step's block is the recurrence's
-step_makes : (ctx : Context) → Sizes ctx →
-    (first : FirstColumns) (pass lane column slice : ℕ) (done : ℕ → ℕ) (memory : List (List ℕ)) →
-    IsStep ctx pass lane column → InSlice (segment_length ctx) column slice →
-    done lane ≡ column →
-    ((l : ℕ) → l < ctx.p_cost → (slice * segment_length ctx ≤ done l) × (done l ≤ (slice + 1) * segment_length ctx)) →
-    HasBlocksUpTo ctx first pass done memory →
-    made_block ctx (in_memory ctx memory) pass lane column ≡ block_of ctx first pass lane column
+step_makes : (ctx : Context) → Sizes ctx
+    → (first : FirstColumns) (pass lane column slice : ℕ) (done : ℕ → ℕ) (memory : List (List ℕ))
+    → IsStep ctx pass lane column → InSlice (segment_length ctx) column slice
+    → done lane ≡ column
+    → ((l : ℕ) → l < ctx.p_cost → (slice * segment_length ctx ≤ done l) × (done l ≤ (slice + 1) * segment_length ctx))
+    → HasBlocksUpTo ctx first pass done memory
+    → made_block ctx (in_memory ctx memory) pass lane column ≡ block_of ctx first pass lane column
 step_makes ctx sizes first pass lane column slice done memory st here now about h =
     made_cong ctx sizes pass lane column st _ (block_of ctx first)
     (step_reads ctx first pass lane column slice done memory here now about h)
     ∙ sym (made_blocks ctx sizes first pass lane column st)
 
 -- the place of a step's reference is the recurrence's
-pub step_answers : (ctx : Context) → Sizes ctx →
-    (first : FirstColumns) (pass lane column slice : ℕ) (done : ℕ → ℕ) (memory : List (List ℕ)) →
-    IsStep ctx pass lane column → InSlice (segment_length ctx) column slice →
-    done lane ≡ column →
-    ((l : ℕ) → l < ctx.p_cost → (slice * segment_length ctx ≤ done l) × (done l ≤ (slice + 1) * segment_length ctx)) →
-    HasBlocksUpTo ctx first pass done memory →
-    reference_place ctx memory pass lane column ≡ reference_places ctx first pass lane column
+pub step_answers : (ctx : Context) → Sizes ctx
+    → (first : FirstColumns) (pass lane column slice : ℕ) (done : ℕ → ℕ) (memory : List (List ℕ))
+    → IsStep ctx pass lane column → InSlice (segment_length ctx) column slice
+    → done lane ≡ column
+    → ((l : ℕ) → l < ctx.p_cost → (slice * segment_length ctx ≤ done l) × (done l ≤ (slice + 1) * segment_length ctx))
+    → HasBlocksUpTo ctx first pass done memory
+    → reference_place ctx memory pass lane column ≡ reference_places ctx first pass lane column
 unfolding reference_place reference_places
 step_answers ctx sizes first pass lane column slice done memory st here now about h =
     ap (λ (x : Reference). x.lane * lane_length ctx + x.column)
@@ -96,12 +96,12 @@ step_answers ctx sizes first pass lane column slice done memory st here now abou
     (step_reads ctx first pass lane column slice done memory here now about h))
 
 -- a step adds a column to its lane
-pub step_fills : (ctx : Context) → Sizes ctx →
-    (first : FirstColumns) (pass lane column slice : ℕ) (done done' : ℕ → ℕ) (memory : List (List ℕ)) →
-    IsStep ctx pass lane column → InSlice (segment_length ctx) column slice →
-    done lane ≡ column → done' lane ≡ suc column → ((l : ℕ) → l ≢ lane → done' l ≡ done l) →
-    ((l : ℕ) → l < ctx.p_cost → (slice * segment_length ctx ≤ done l) × (done l ≤ (slice + 1) * segment_length ctx)) →
-    HasBlocksUpTo ctx first pass done memory → HasBlocksUpTo ctx first pass done' (step ctx memory pass lane column)
+pub step_fills : (ctx : Context) → Sizes ctx
+    → (first : FirstColumns) (pass lane column slice : ℕ) (done done' : ℕ → ℕ) (memory : List (List ℕ))
+    → IsStep ctx pass lane column → InSlice (segment_length ctx) column slice
+    → done lane ≡ column → done' lane ≡ suc column → ((l : ℕ) → l ≢ lane → done' l ≡ done l)
+    → ((l : ℕ) → l < ctx.p_cost → (slice * segment_length ctx ≤ done l) × (done l ≤ (slice + 1) * segment_length ctx))
+    → HasBlocksUpTo ctx first pass done memory → HasBlocksUpTo ctx first pass done' (step ctx memory pass lane column)
 unfolding step
 step_fills ctx sizes first pass lane column slice done done' memory st here now then' others about h =
     let q = lane_length ctx in
@@ -151,10 +151,10 @@ abbrev done_before : Context → ℕ → List ℕ → ℕ → ℕ
 done_before ctx slice schedule l = (slice + 1) * segment_length ctx - turns l schedule
 
 -- what is left of a schedule finishes the slice
-run_fills : (ctx : Context) → Sizes ctx → (first : FirstColumns) (pass slice : ℕ) → slice < 4 →
-    (schedule : List ℕ) (memory : List (List ℕ)) → MayRun ctx pass slice schedule →
-    HasBlocksUpTo ctx first pass (done_before ctx slice schedule) memory →
-    HasBlocksUpTo ctx first pass (done_before ctx slice []) (run ctx pass slice schedule memory)
+run_fills : (ctx : Context) → Sizes ctx → (first : FirstColumns) (pass slice : ℕ) → slice < 4
+    → (schedule : List ℕ) (memory : List (List ℕ)) → MayRun ctx pass slice schedule
+    → HasBlocksUpTo ctx first pass (done_before ctx slice schedule) memory
+    → HasBlocksUpTo ctx first pass (done_before ctx slice []) (run ctx pass slice schedule memory)
 unfolding run
 run_fills ctx sizes first pass slice four [] memory m h = h
 run_fills ctx sizes first pass slice four (lane ∷ schedule) memory m h =
@@ -177,18 +177,18 @@ run_fills ctx sizes first pass slice four (lane ∷ schedule) memory m h =
 -- ---- slices and passes
 
 -- in later slices a lane has as many turns as its segment has columns
-pub turn_count-later_slice : (ctx : Context) (pass slice : ℕ) →
-    turn_count ctx pass (suc slice) ≡ segment_length ctx
+pub turn_count-later_slice : (ctx : Context) (pass slice : ℕ)
+    → turn_count ctx pass (suc slice) ≡ segment_length ctx
 turn_count-later_slice ctx pass slice =
     cond-false ((pass == 0) && (suc slice == 0)) _ _
     (and_right (pass == 0) (suc slice == 0) (ne_eqb (suc slice) 0 (λ e. omega arith)))
 
 -- the first slices of a pass fill it up to there, each by its schedule
-slices_fill : (ctx : Context) → Sizes ctx →
-    (first : FirstColumns) (schedules : ℕ → List ℕ) (pass slice : ℕ) → slice ≤ 4 →
-    ((j : ℕ) → j < 4 → IsSchedule ctx pass j (schedules j)) → (memory : List (List ℕ)) →
-    HasBlocksUpTo ctx first pass (λ _. begun ctx pass 0) memory →
-    HasBlocksUpTo ctx first pass (λ _. begun ctx pass slice) (run_slices ctx schedules pass slice memory)
+slices_fill : (ctx : Context) → Sizes ctx
+    → (first : FirstColumns) (schedules : ℕ → List ℕ) (pass slice : ℕ) → slice ≤ 4
+    → ((j : ℕ) → j < 4 → IsSchedule ctx pass j (schedules j)) → (memory : List (List ℕ))
+    → HasBlocksUpTo ctx first pass (λ _. begun ctx pass 0) memory
+    → HasBlocksUpTo ctx first pass (λ _. begun ctx pass slice) (run_slices ctx schedules pass slice memory)
 unfolding run_slices
 slices_fill ctx sizes first schedules pass zero four is memory h = h
 slices_fill ctx sizes first schedules pass (suc slice) four is memory h =
@@ -207,16 +207,16 @@ slices_fill ctx sizes first schedules pass (suc slice) four is memory h =
     (run_fills ctx sizes first pass slice (omega arith) schedule before (MayRun-from ctx pass slice schedule it) start)
 
 -- in later passes a lane has as many turns as its segment has columns
-pub turn_count-later_pass : (ctx : Context) (pass : ℕ) →
-    turn_count ctx (suc pass) 0 ≡ segment_length ctx
+pub turn_count-later_pass : (ctx : Context) (pass : ℕ)
+    → turn_count ctx (suc pass) 0 ≡ segment_length ctx
 turn_count-later_pass ctx pass =
     cond-false ((suc pass == 0) && (0 == 0)) _ _
     (and_left (suc pass == 0) (0 == 0) (ne_eqb (suc pass) 0 (λ e. omega arith)))
 
 -- the end of a pass is the start of the next
-pub next_pass : (ctx : Context) (first : FirstColumns) (pass : ℕ) (memory : List (List ℕ)) →
-    HasBlocksUpTo ctx first pass (λ _. begun ctx pass 4) memory →
-    HasBlocksUpTo ctx first (suc pass) (λ _. begun ctx (suc pass) 0) memory
+pub next_pass : (ctx : Context) (first : FirstColumns) (pass : ℕ) (memory : List (List ℕ))
+    → HasBlocksUpTo ctx first pass (λ _. begun ctx pass 4) memory
+    → HasBlocksUpTo ctx first (suc pass) (λ _. begun ctx (suc pass) 0) memory
 next_pass ctx first pass memory h =
     let s = segment_length ctx in
     let w = turn_count-later_pass ctx pass in
@@ -229,12 +229,12 @@ next_pass ctx first pass memory h =
     }
 
 -- the first passes fill the memory, each slice by its schedule
-passes_fill : (ctx : Context) → Sizes ctx →
-    (first : FirstColumns) (schedules : ℕ → ℕ → List ℕ) (passes : ℕ) →
-    ((r slice : ℕ) → r < passes → slice < 4 → IsSchedule ctx r slice (schedules r slice)) →
-    (memory : List (List ℕ)) →
-    HasBlocksUpTo ctx first 0 (λ _. begun ctx 0 0) memory →
-    HasBlocksUpTo ctx first passes (λ _. begun ctx passes 0) (run_passes ctx schedules passes memory)
+passes_fill : (ctx : Context) → Sizes ctx
+    → (first : FirstColumns) (schedules : ℕ → ℕ → List ℕ) (passes : ℕ)
+    → ((r slice : ℕ) → r < passes → slice < 4 → IsSchedule ctx r slice (schedules r slice))
+    → (memory : List (List ℕ))
+    → HasBlocksUpTo ctx first 0 (λ _. begun ctx 0 0) memory
+    → HasBlocksUpTo ctx first passes (λ _. begun ctx passes 0) (run_passes ctx schedules passes memory)
 unfolding run_passes
 passes_fill ctx sizes first schedules zero is memory h = h
 passes_fill ctx sizes first schedules (suc r) is memory h =
@@ -244,8 +244,8 @@ passes_fill ctx sizes first schedules (suc r) is memory h =
     (passes_fill ctx sizes first schedules r (λ a slice x y. is a slice (omega arith) y) memory h))
 
 -- a memory that begins with the first two columns is filled up to there
-pub filled_at_first : (ctx : Context) → Sizes ctx → (first : FirstColumns) (memory : List (List ℕ)) →
-    Begins ctx first memory → HasBlocksUpTo ctx first 0 (λ _. begun ctx 0 0) memory
+pub filled_at_first : (ctx : Context) → Sizes ctx → (first : FirstColumns) (memory : List (List ℕ))
+    → Begins ctx first memory → HasBlocksUpTo ctx first 0 (λ _. begun ctx 0 0) memory
 filled_at_first ctx sizes first memory start =
     let two = sizes.two_columns in
     let w : turn_count ctx 0 0 ≡ segment_length ctx - 2 = refl in
@@ -257,10 +257,10 @@ filled_at_first ctx sizes first memory start =
     }
 
 -- after the last pass the memory is the matrix
-pub filled_at_last : (ctx : Context) → Sizes ctx →
-    (first : FirstColumns) (passes : ℕ) (memory : List (List ℕ)) → passes ≡ ctx.t_cost →
-    0 < passes →
-    HasBlocksUpTo ctx first passes (λ _. begun ctx passes 0) memory → memory ≡ matrix ctx first
+pub filled_at_last : (ctx : Context) → Sizes ctx
+    → (first : FirstColumns) (passes : ℕ) (memory : List (List ℕ)) → passes ≡ ctx.t_cost
+    → 0 < passes
+    → HasBlocksUpTo ctx first passes (λ _. begun ctx passes 0) memory → memory ≡ matrix ctx first
 unfolding matrix
 filled_at_last ctx sizes first zero memory t some h = absurd (omega arith)
 filled_at_last ctx sizes first (suc r) memory t some h =
@@ -276,10 +276,10 @@ filled_at_last ctx sizes first (suc r) memory t some h =
     ∙ ap (λ x. block_of ctx first x (n / q) (n % q)) p)
 
 -- any schedules lead from the first two columns to the matrix
-pub schedules_fill : (ctx : Context) → Sizes ctx → 0 < ctx.t_cost →
-    (first : FirstColumns) (schedules : ℕ → ℕ → List ℕ) → AreSchedules ctx schedules →
-    (memory : List (List ℕ)) → Begins ctx first memory →
-    run_passes ctx schedules ctx.t_cost memory ≡ matrix ctx first
+pub schedules_fill : (ctx : Context) → Sizes ctx → 0 < ctx.t_cost
+    → (first : FirstColumns) (schedules : ℕ → ℕ → List ℕ) → AreSchedules ctx schedules
+    → (memory : List (List ℕ)) → Begins ctx first memory
+    → run_passes ctx schedules ctx.t_cost memory ≡ matrix ctx first
 schedules_fill ctx sizes some first schedules is memory start =
     filled_at_last ctx sizes first ctx.t_cost _ refl some
     (passes_fill ctx sizes first schedules ctx.t_cost is memory (filled_at_first ctx sizes first memory start))

@@ -11,13 +11,13 @@ use Rattle.argon2.specs.Reference.{place_of, reference}
 use Rattle.argon2.specs.Steps.{in_memory, previous_place, reference_place, word_in, Memory}
 
 -- the place of a lane and a column is within the memory
-pub place_below : (ctx : Context) (lane column : ℕ) → lane < ctx.p_cost → column < lane_length ctx →
-    lane * lane_length ctx + column < block_count ctx
+pub place_below : (ctx : Context) (lane column : ℕ) → lane < ctx.p_cost → column < lane_length ctx
+    → lane * lane_length ctx + column < block_count ctx
 place_below ctx lane column a b = let h = mul-add-lt lane (lane_length ctx) column ctx.p_cost a b in omega arith
 
 -- the previous block stands at the previous place
-pub previous_in_memory : (ctx : Context) (memory : Memory) (pass lane column : ℕ) →
-    previous ctx (in_memory ctx memory) pass lane column ≡ slice_index_or memory (previous_place ctx lane column) []
+pub previous_in_memory : (ctx : Context) (memory : Memory) (pass lane column : ℕ)
+    → previous ctx (in_memory ctx memory) pass lane column ≡ slice_index_or memory (previous_place ctx lane column) []
 unfolding previous in_memory
 previous_in_memory ctx memory pass lane zero = refl
 previous_in_memory ctx memory pass lane (suc column) =

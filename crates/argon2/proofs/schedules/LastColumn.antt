@@ -15,9 +15,9 @@ use Rattle.argon2.specs.Laws.{Begins, AreSchedules}
 use Rattle.argon2.proofs.schedules.Filling.{schedules_fill}
 
 -- the matrix has the last pass's blocks at their places
-matrix_at : (ctx : Context) → Sizes ctx → (first : FirstColumns) (lane column : ℕ) →
-    lane < ctx.p_cost → column < lane_length ctx →
-    slice_index_or (matrix ctx first) (lane * lane_length ctx + column) [] ≡ block_of ctx first (ctx.t_cost - 1) lane column
+matrix_at : (ctx : Context) → Sizes ctx → (first : FirstColumns) (lane column : ℕ)
+    → lane < ctx.p_cost → column < lane_length ctx
+    → slice_index_or (matrix ctx first) (lane * lane_length ctx + column) [] ≡ block_of ctx first (ctx.t_cost - 1) lane column
 unfolding matrix
 matrix_at ctx sizes first lane column a b =
     let q = lane_length ctx in
@@ -29,8 +29,8 @@ matrix_at ctx sizes first lane column a b =
     ∙ ap (block_of ctx first (ctx.t_cost - 1) lane) (mod-mul-add lane q column b)
 
 -- equal blocks of each lane have one exclusive or
-xor_lanes_cong : (ctx : Context) (f g : ℕ → List ℕ) →
-    ((lane : ℕ) → lane < ctx.p_cost → f lane ≡ g lane) → xor_lanes ctx f ≡ xor_lanes ctx g
+xor_lanes_cong : (ctx : Context) (f g : ℕ → List ℕ)
+    → ((lane : ℕ) → lane < ctx.p_cost → f lane ≡ g lane) → xor_lanes ctx f ≡ xor_lanes ctx g
 unfolding xor_lanes
 xor_lanes_cong ctx f g h =
     ap (fold xor_blocks zero_block)
@@ -38,9 +38,9 @@ xor_lanes_cong ctx f g h =
     (λ k lt. get_or-map-range_with_len f 0 ctx.p_cost k k [] lt (omega arith) ∙ h k lt))
 
 -- the exclusive or of the matrix's last column is the recurrence's
-pub last_of_matrix : (ctx : Context) → Sizes ctx → (first : FirstColumns) (memory : List (List ℕ)) →
-    memory ≡ matrix ctx first →
-    last_column ctx memory ≡ last_block ctx first
+pub last_of_matrix : (ctx : Context) → Sizes ctx → (first : FirstColumns) (memory : List (List ℕ))
+    → memory ≡ matrix ctx first
+    → last_column ctx memory ≡ last_block ctx first
 unfolding last_block
 last_of_matrix ctx sizes first memory e =
     let two = sizes.two_columns in
@@ -49,18 +49,18 @@ last_of_matrix ctx sizes first memory e =
     ∙ matrix_at ctx sizes first lane (lane_length ctx - 1) h (omega arith))
 
 -- however the lanes take turns, the exclusive or of the last column is the recurrence's
-pub steps_give_last : (ctx : Context) → Sizes ctx → 0 < ctx.t_cost →
-    (first : FirstColumns) (schedules : ℕ → ℕ → List ℕ) → AreSchedules ctx schedules →
-    (memory : List (List ℕ)) → Begins ctx first memory →
-    last_column ctx (run_passes ctx schedules ctx.t_cost memory) ≡ last_block ctx first
+pub steps_give_last : (ctx : Context) → Sizes ctx → 0 < ctx.t_cost
+    → (first : FirstColumns) (schedules : ℕ → ℕ → List ℕ) → AreSchedules ctx schedules
+    → (memory : List (List ℕ)) → Begins ctx first memory
+    → last_column ctx (run_passes ctx schedules ctx.t_cost memory) ≡ last_block ctx first
 steps_give_last ctx sizes some first schedules are memory start =
     last_of_matrix ctx sizes first (run_passes ctx schedules ctx.t_cost memory)
     (schedules_fill ctx sizes some first schedules are memory start)
 
 -- the hash of the matrix's last column is the tag
 pub tag_of_matrix : (ctx : Context) → Sizes ctx → (password salt : List ℕ) (n : ℕ) (memory : Memory) → memory
-    ≡ matrix_of ctx password salt n →
-    long_hash n (bytes_of (last_column ctx memory)) ≡ tag_of ctx password salt n
+    ≡ matrix_of ctx password salt n
+    → long_hash n (bytes_of (last_column ctx memory)) ≡ tag_of ctx password salt n
 unfolding matrix_of tag_of
 tag_of_matrix ctx sizes password salt n memory e =
     ap (λ block. long_hash n (bytes_of block))

@@ -18,11 +18,11 @@ pub place_apart : (q l c m d : ℕ) → c < q → d < q → (l ≡ m → c ≡ d
 place_apart q l c m d hc hd ne e = let s = same_from_place l c m d q hc hd e in ne s.0 s.1
 
 -- what another lane writes in the slice leaves a step's block as it is
-made_kept : (ctx : Context) → Sizes ctx → (pass lane column l c slice : ℕ) →
-    IsStep ctx pass lane column → InSlice (segment_length ctx) column slice →
-    l ≢ lane → c < lane_length ctx → InSlice (segment_length ctx) c slice →
-    (memory : List (List ℕ)) (b : List ℕ) →
-    made_block ctx (in_memory ctx (slice_set memory (l * lane_length ctx + c) b)) pass lane column
+made_kept : (ctx : Context) → Sizes ctx → (pass lane column l c slice : ℕ)
+    → IsStep ctx pass lane column → InSlice (segment_length ctx) column slice
+    → l ≢ lane → c < lane_length ctx → InSlice (segment_length ctx) c slice
+    → (memory : List (List ℕ)) (b : List ℕ)
+    → made_block ctx (in_memory ctx (slice_set memory (l * lane_length ctx + c) b)) pass lane column
     ≡ made_block ctx (in_memory ctx memory) pass lane column
 unfolding in_memory
 made_kept ctx sizes pass lane column l c slice st here other below there memory b =
@@ -44,10 +44,10 @@ made_kept ctx sizes pass lane column l c slice st here other below there memory 
     ])))
 
 -- two steps of different lanes in one slice may change places
-steps_commute : (ctx : Context) → Sizes ctx → (pass slice : ℕ) (l c m d : ℕ) → l ≢ m →
-    IsStep ctx pass l c → InSlice (segment_length ctx) c slice → IsStep ctx pass m d →
-    InSlice (segment_length ctx) d slice → (memory : List (List ℕ)) →
-    step ctx (step ctx memory pass l c) pass m d ≡ step ctx (step ctx memory pass m d) pass l c
+steps_commute : (ctx : Context) → Sizes ctx → (pass slice : ℕ) (l c m d : ℕ) → l ≢ m
+    → IsStep ctx pass l c → InSlice (segment_length ctx) c slice → IsStep ctx pass m d
+    → InSlice (segment_length ctx) d slice → (memory : List (List ℕ))
+    → step ctx (step ctx memory pass l c) pass m d ≡ step ctx (step ctx memory pass m d) pass l c
 unfolding step
 steps_commute ctx sizes pass slice l c m d ne sc ic sd id memory =
     let q = lane_length ctx in
@@ -64,8 +64,8 @@ steps_commute ctx sizes pass slice l c m d ne sc ic sd id memory =
 -- ---- turns
 
 -- turns are counted one by one
-turns-cons : (lane x : ℕ) (xs : List ℕ) →
-    turns lane (x ∷ xs) ≡ (if x == lane then 1 else 0) + turns lane xs
+turns-cons : (lane x : ℕ) (xs : List ℕ)
+    → turns lane (x ∷ xs) ≡ (if x == lane then 1 else 0) + turns lane xs
 turns-cons lane x xs = sum_by-cons (λ y. (if y == lane then 1 else 0)) x xs
 
 -- a lane's own turn counts
@@ -79,8 +79,8 @@ turns-other lane x xs ne = turns-cons lane x xs ∙ ap (λ n. n + turns lane xs)
     ∙ omega arith
 
 -- the turns of two lists add up
-pub turns-append : (lane : ℕ) (xs ys : List ℕ) →
-    turns lane (xs ++ ys) ≡ turns lane xs + turns lane ys
+pub turns-append : (lane : ℕ) (xs ys : List ℕ)
+    → turns lane (xs ++ ys) ≡ turns lane xs + turns lane ys
 turns-append lane xs ys = sum_by-append (λ y. (if y == lane then 1 else 0)) xs ys
 
 -- a tail has no more turns
@@ -88,13 +88,13 @@ turns-tail : (lane x : ℕ) (xs : List ℕ) → turns lane xs ≤ turns lane (x 
 turns-tail lane x xs = omega (arith, turns-cons lane x xs)
 
 -- another lane's turn may be left out of the count
-turns-without : (lane x : ℕ) (xs ys : List ℕ) → x ≢ lane →
-    turns lane (xs ++ x ∷ ys) ≡ turns lane (xs ++ ys)
+turns-without : (lane x : ℕ) (xs ys : List ℕ) → x ≢ lane
+    → turns lane (xs ++ x ∷ ys) ≡ turns lane (xs ++ ys)
 turns-without lane x xs ys ne = omega (arith, turns-append lane xs (x ∷ ys), turns-append lane xs ys, turns-other lane x ys ne)
 
 -- a lane's own turn counts wherever it stands
-turns-with : (lane : ℕ) (xs ys : List ℕ) →
-    turns lane (xs ++ lane ∷ ys) ≡ suc (turns lane (xs ++ ys))
+turns-with : (lane : ℕ) (xs ys : List ℕ)
+    → turns lane (xs ++ lane ∷ ys) ≡ suc (turns lane (xs ++ ys))
 turns-with lane xs ys = omega (arith, turns-append lane xs (lane ∷ ys), turns-append lane xs ys, turns-same lane ys)
 
 -- ---- the step of a turn
@@ -105,8 +105,8 @@ turn_count-le ctx pass slice =
     cond_both ((pass == 0) && (slice == 0)) _ _ (λ x. x ≤ segment_length ctx) (λ _. omega arith) (λ _. omega arith)
 
 -- in the first slice of all a lane has two turns fewer than columns
-pub turn_count-first : (ctx : Context) (pass slice : ℕ) → pass ≡ 0 → slice ≡ 0 →
-    turn_count ctx pass slice ≡ segment_length ctx - 2
+pub turn_count-first : (ctx : Context) (pass slice : ℕ) → pass ≡ 0 → slice ≡ 0
+    → turn_count ctx pass slice ≡ segment_length ctx - 2
 turn_count-first ctx pass slice p e =
     cond-true ((pass == 0) && (slice == 0)) (segment_length ctx - 2) (segment_length ctx)
     (and_from (pass == 0) (slice == 0) (eq-eqb pass 0 p) (eq-eqb slice 0 e))
@@ -116,9 +116,9 @@ abbrev pub turn_column : Context → ℕ → ℕ → ℕ
 turn_column ctx slice n = (slice + 1) * segment_length ctx - suc n
 
 -- a turn is a step, in its slice
-turn_step : (ctx : Context) → Sizes ctx → (pass slice lane n : ℕ) → slice < 4 → lane < ctx.p_cost →
-    suc n ≤ turn_count ctx pass slice →
-    IsStep ctx pass lane (turn_column ctx slice n) × InSlice (segment_length ctx) (turn_column ctx slice n) slice
+turn_step : (ctx : Context) → Sizes ctx → (pass slice lane n : ℕ) → slice < 4 → lane < ctx.p_cost
+    → suc n ≤ turn_count ctx pass slice
+    → IsStep ctx pass lane (turn_column ctx slice n) × InSlice (segment_length ctx) (turn_column ctx slice n) slice
 turn_step ctx sizes pass slice lane n four below room =
     let s = segment_length ctx in
     let two : 2 ≤ s = sizes.two_columns in
@@ -145,25 +145,25 @@ pub record MayRun (ctx : Context) (pass slice : ℕ) (schedule : List ℕ) : Typ
   pub few : (lane : ℕ) → lane < ctx.p_cost → turns lane schedule ≤ turn_count ctx pass slice
 
 -- what is left after the first turn may run too
-pub MayRun-tail : (ctx : Context) (pass slice lane : ℕ) (schedule : List ℕ) →
-    MayRun ctx pass slice (lane ∷ schedule) → MayRun ctx pass slice schedule
+pub MayRun-tail : (ctx : Context) (pass slice lane : ℕ) (schedule : List ℕ)
+    → MayRun ctx pass slice (lane ∷ schedule) → MayRun ctx pass slice schedule
 MayRun-tail ctx pass slice lane schedule m = record {
   lanes = m.lanes.1;
   few = λ l h. let a = m.few l h in let b = turns-tail l lane schedule in omega arith;
 }
 
 -- the first turn is a step
-pub head_step : (ctx : Context) → Sizes ctx → (pass slice lane : ℕ) (schedule : List ℕ) → slice < 4 →
-    MayRun ctx pass slice (lane ∷ schedule) →
-    IsStep ctx pass lane (turn_column ctx slice (turns lane schedule))
+pub head_step : (ctx : Context) → Sizes ctx → (pass slice lane : ℕ) (schedule : List ℕ) → slice < 4
+    → MayRun ctx pass slice (lane ∷ schedule)
+    → IsStep ctx pass lane (turn_column ctx slice (turns lane schedule))
     × InSlice (segment_length ctx) (turn_column ctx slice (turns lane schedule)) slice
 head_step ctx sizes pass slice lane schedule four m =
     turn_step ctx sizes pass slice lane (turns lane schedule) four m.lanes.0
     (let a = m.few lane m.lanes.0 in let b = turns-same lane schedule in omega arith)
 
 -- the lanes of a list without one of them
-lanes_without : (p x : ℕ) (xs ys : List ℕ) → AllByRecursion (λ lane. lane < p) (xs ++ x ∷ ys) →
-    AllByRecursion (λ lane. lane < p) (xs ++ ys)
+lanes_without : (p x : ℕ) (xs ys : List ℕ) → AllByRecursion (λ lane. lane < p) (xs ++ x ∷ ys)
+    → AllByRecursion (λ lane. lane < p) (xs ++ ys)
 lanes_without p x [] ys h = h.1
 lanes_without p x (y ∷ xs) ys h = (h.0, lanes_without p x xs ys h.1)
 
@@ -173,9 +173,9 @@ lane_among p x [] ys h = h.0
 lane_among p x (y ∷ xs) ys h = lane_among p x xs ys h.1
 
 -- a lane's first turn may come before the turns of other lanes
-first_to_front : (ctx : Context) → Sizes ctx → (pass slice lane : ℕ) → slice < 4 → (xs ys : List ℕ) →
-    turns lane xs ≡ 0 → MayRun ctx pass slice (xs ++ lane ∷ ys) → (memory : List (List ℕ)) →
-    run ctx pass slice (xs ++ lane ∷ ys) memory ≡ run ctx pass slice (lane ∷ (xs ++ ys)) memory
+first_to_front : (ctx : Context) → Sizes ctx → (pass slice lane : ℕ) → slice < 4 → (xs ys : List ℕ)
+    → turns lane xs ≡ 0 → MayRun ctx pass slice (xs ++ lane ∷ ys) → (memory : List (List ℕ))
+    → run ctx pass slice (xs ++ lane ∷ ys) memory ≡ run ctx pass slice (lane ∷ (xs ++ ys)) memory
 unfolding run
 first_to_front ctx sizes pass slice lane four [] ys none m memory = refl
 first_to_front ctx sizes pass slice lane four (x ∷ xs) ys none m memory =
@@ -223,16 +223,16 @@ first_turn lane (y ∷ ys) h =
     ]
 
 -- a list without turns is empty
-no_turns : (p : ℕ) (ys : List ℕ) → AllByRecursion (λ lane. lane < p) ys →
-    ((lane : ℕ) → lane < p → 0 ≡ turns lane ys) → ys ≡ []
+no_turns : (p : ℕ) (ys : List ℕ) → AllByRecursion (λ lane. lane < p) ys
+    → ((lane : ℕ) → lane < p → 0 ≡ turns lane ys) → ys ≡ []
 no_turns p [] h none = refl
 no_turns p (y ∷ ys) h none = absurd (let a = none y h.0 in let b = turns-same y ys in omega arith)
 
 -- schedules with the same turns give the same blocks
-same_turns : (ctx : Context) → Sizes ctx → (pass slice : ℕ) → slice < 4 → (xs ys : List ℕ) →
-    MayRun ctx pass slice xs → MayRun ctx pass slice ys →
-    ((lane : ℕ) → lane < ctx.p_cost → turns lane xs ≡ turns lane ys) → (memory : List (List ℕ)) →
-    run ctx pass slice xs memory ≡ run ctx pass slice ys memory
+same_turns : (ctx : Context) → Sizes ctx → (pass slice : ℕ) → slice < 4 → (xs ys : List ℕ)
+    → MayRun ctx pass slice xs → MayRun ctx pass slice ys
+    → ((lane : ℕ) → lane < ctx.p_cost → turns lane xs ≡ turns lane ys) → (memory : List (List ℕ))
+    → run ctx pass slice xs memory ≡ run ctx pass slice ys memory
 unfolding run
 same_turns ctx sizes pass slice four [] ys mx my same memory =
     ap (λ zs. run ctx pass slice zs memory) (sym (no_turns ctx.p_cost ys my.lanes same))
@@ -267,14 +267,14 @@ same_turns ctx sizes pass slice four (x ∷ xs) ys mx my same memory =
     ∙ first_to_front ctx sizes pass slice x four t.before t.after t.none my' memory)
 
 -- a whole schedule may run
-pub MayRun-from : (ctx : Context) (pass slice : ℕ) (schedule : List ℕ) →
-    IsSchedule ctx pass slice schedule → MayRun ctx pass slice schedule
+pub MayRun-from : (ctx : Context) (pass slice : ℕ) (schedule : List ℕ)
+    → IsSchedule ctx pass slice schedule → MayRun ctx pass slice schedule
 MayRun-from ctx pass slice schedule is = record { lanes = is.lanes; few = λ lane h. let e = is.turns lane h in omega arith }
 
 -- any two schedules of a slice give the same blocks, whatever the list holds
-pub schedules_agree : (ctx : Context) → Sizes ctx → (pass slice : ℕ) → slice < 4 → (xs ys : List ℕ) →
-    IsSchedule ctx pass slice xs → IsSchedule ctx pass slice ys →
-    (memory : List (List ℕ)) → run ctx pass slice xs memory ≡ run ctx pass slice ys memory
+pub schedules_agree : (ctx : Context) → Sizes ctx → (pass slice : ℕ) → slice < 4 → (xs ys : List ℕ)
+    → IsSchedule ctx pass slice xs → IsSchedule ctx pass slice ys
+    → (memory : List (List ℕ)) → run ctx pass slice xs memory ≡ run ctx pass slice ys memory
 schedules_agree ctx sizes pass slice four xs ys ix iy memory =
     same_turns ctx sizes pass slice four xs ys (MayRun-from ctx pass slice xs ix) (MayRun-from ctx pass slice ys iy)
     (λ lane h. ix.turns lane h ∙ sym (iy.turns lane h)) memory

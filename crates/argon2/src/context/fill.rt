@@ -148,6 +148,7 @@ impl<'a> Instance<'a> {
 
     /// Writes the block of a step, by the word that takes its reference, and answers the
     /// reference's place.
+    #[tactic(auto, using(crate::proofs::schedules::InMemory::place_by_word))]
     pub(super) fn step(&self, memory: &mut [Block], at: Step, word: u64, work: &mut Work) -> u32
         requires place { IsStepIn self.now memory.old at.pass at.lane at.column }
         requires word { word ≡ word_in self.now memory.old at.pass at.lane at.column }

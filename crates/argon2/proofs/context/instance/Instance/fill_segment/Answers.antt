@@ -29,7 +29,7 @@ in_lane slice segment index n h k is =
     let place = mul-add-lt slice segment index 4 h k in
     omega arith
 
--- so the segment's columns are steps, from column 2 on in pass 0
+-- a segment's columns are steps, from column 2 on in pass 0
 a_step : (ctx : Context) (pass lane slice segment index : ℕ) → lane < ctx.p_cost → slice < 4 → index < segment
     → segment ≡ segment_length ctx → (pass ≡ 0 → 2 ≤ slice * segment + index)
     → IsStep ctx pass lane (slice * segment + index)
@@ -39,13 +39,13 @@ a_step ctx pass lane slice segment index l h k is later = record {
   later = later;
 }
 
--- they are of its slice
+-- a segment's columns are columns of its slice
 a_column : (slice segment index n : ℕ) → slice < 4 → index < segment → segment ≡ n → InSlice n (slice * segment + index) slice
 a_column slice segment index n h k is =
     let product = ap (λ x. slice * x) is in
     record { above = omega arith; below = omega arith; whole = mul-le-mul_right n (omega arith); one_of_four = h }
 
--- and numbers of 32 bits
+-- a segment's columns are numbers of 32 bits
 column_fits : (ctx : Context) (slice segment index : ℕ) → Sizes ctx → segment ≡ segment_length ctx → slice < 4 → index < segment
     → slice * segment + index < 2 ^ 32
 column_fits ctx slice segment index sizes is h k =

@@ -5,7 +5,7 @@ use Rattle.std.proofs.lemmas.List.{get_or_read}
 use Rattle.argon2_base.proofs.MixingLaws.{xor_blocks-comm}
 use Rattle.argon2.specs.Context.{lane_length}
 use Rattle.argon2.specs.Steps.{step}
-use Rattle.argon2.proofs.schedules.InMemory.{made_by_places, place_by_word}
+use Rattle.argon2.proofs.schedules.InMemory.{made_by_places}
 use Rattle.argon2.proofs.context.instance.Instance.step.Goals as goal
 
 pub returns-then-xors-clause-step : goal.returns-then-xors-clause-step
@@ -25,12 +25,6 @@ returns-then-xors-clause-step c =
     ∙ cond-true ((ctx.version == 19) && (nat_lt 0 c.args.at.pass)) _ _ yes in
     cc
 
-pub returns-then-xors-clause-place : goal.returns-then-xors-clause-place
-returns-then-xors-clause-place c =
-    c.reference_place-reference.ensures.value
-    ∙ sym (place_by_word c.args.self.now c.args.memory.now c.args.at.pass c.args.at.lane c.args.at.column c.args.word
-    c.requires.word)
-
 pub returns-else-xors-clause-step : goal.returns-else-xors-clause-step
 unfolding step
 returns-else-xors-clause-step c =
@@ -43,9 +37,3 @@ returns-else-xors-clause-step c =
     let by = made_by_places ctx m c.args.at.pass c.args.at.lane c.args.at.column c.args.word c.requires.word
     ∙ cond-false ((ctx.version == 19) && (nat_lt 0 c.args.at.pass)) _ _ no in
     cc
-
-pub returns-else-xors-clause-place : goal.returns-else-xors-clause-place
-returns-else-xors-clause-place c =
-    c.reference_place-reference.ensures.value
-    ∙ sym (place_by_word c.args.self.now c.args.memory.now c.args.at.pass c.args.at.lane c.args.at.column c.args.word
-    c.requires.word)
