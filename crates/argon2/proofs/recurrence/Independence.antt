@@ -30,31 +30,13 @@ reference_place-addressed ctx first pass lane column e =
 -- the same context with another version, secret and data
 with_rest : Context → Context → Context
 with_rest a b =
-    record {
-      algorithm = b.algorithm;
-      version = a.version;
-      m_cost = b.m_cost;
-      t_cost = b.t_cost;
-      p_cost = b.p_cost;
-      secret =
-          a.secret;
-      associated = a.associated;
-    }
+    record a { algorithm = b.algorithm; m_cost = b.m_cost; t_cost = b.t_cost; p_cost = b.p_cost }
 
 -- alike contexts differ in nothing else
 rest_is : (a b : Context) → AreAlike a b → a ≡ with_rest a b
 unfolding with_rest
 rest_is a b h =
-    λ i. record {
-      algorithm = h.algorithm i;
-      version = a.version;
-      m_cost = h.m_cost i;
-      t_cost = h.t_cost i;
-      p_cost =
-          h.p_cost i;
-      secret = a.secret;
-      associated = a.associated;
-    }
+    λ i. record a { algorithm = h.algorithm i; m_cost = h.m_cost i; t_cost = h.t_cost i; p_cost = h.p_cost i }
 
 -- the place by the address word does not depend on version, secret and data
 addressed_place-rest : (a b : Context) (pass lane column : ℕ)
