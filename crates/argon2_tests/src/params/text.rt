@@ -42,7 +42,6 @@ fn refused(rt: HostRuntime) {
         ("m=8,", Error::ParamsInvalid),
         ("x=1,m=x", Error::ParamsInvalid),
         ("t=x", Error::ParamInvalid { name: "t" }),
-        ("m=08,t=2,p=1", Error::ParamInvalid { name: "m" }),
         ("m=+8,t=1,p=1", Error::ParamInvalid { name: "m" }),
         ("m=-8,t=1,p=1", Error::ParamInvalid { name: "m" }),
         ("m=00,t=1,p=1", Error::ParamInvalid { name: "m" }),
@@ -50,18 +49,7 @@ fn refused(rt: HostRuntime) {
             "m=9999999999999999999999999999999999999999999999999999999999999999,t=1,p=1",
             Error::ParamInvalid { name: "m" },
         ),
-        ("m=4294967296,t=1,p=1", Error::ParamInvalid { name: "m" }),
         ("m=7,t=1,p=1", Error::ParamInvalid { name: "m" }),
-        ("m=65536,t=2,p=0", Error::ParamInvalid { name: "p" }),
-        (
-            "m=65536,t=2,p=1,keyid=dummy",
-            Error::ParamInvalid { name: "keyid" },
-        ),
-        (
-            "m=65536,t=2,p=1,data=x",
-            Error::ParamInvalid { name: "data" },
-        ),
-        ("m=65536,t=2,p=1,x=1", Error::ParamsInvalid),
     ] {
         assert!(rt; text.parse::<Params>() == Err(error), "{text}");
     }
