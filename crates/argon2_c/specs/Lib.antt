@@ -1,4 +1,3 @@
-pub mod Codes
 pub mod Requests
 pub mod Texts
 pub mod Verifying

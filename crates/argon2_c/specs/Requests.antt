@@ -1,7 +1,7 @@
 -- What a C caller asks for: what its hash depends on, and why it is refused.
-use Rattle.std.specs.Prelude.{◌≡◌, ◌⊎◌, ℕ, ◌*◌, ◌≤◌, ◌&&◌, not, nat_lt, ◌==◌, Bool, ℤ, List, [], ◌∷◌}
+use Rattle.std.specs.Prelude.{◌≡◌, ◌⊎◌, ℕ, ◌*◌, ◌≤◌, ◌&&◌, not, nat_lt, ◌==◌, Bool, ℤ, List, [], ◌∷◌, Option, Some, None}
 use Rattle.argon2.specs.Context.{Context}
-use Rattle.argon2_c.specs.Codes.{output_ptr_null, output_too_short, output_too_long, pwd_too_long, salt_too_short, salt_too_long, ad_too_long, secret_too_long, time_too_small, memory_too_little, lanes_too_few, lanes_too_many, pwd_ptr_mismatch, salt_ptr_mismatch, secret_ptr_mismatch, ad_ptr_mismatch, free_memory_cbk_null, allocate_memory_cbk_null, incorrect_type, threads_too_few, threads_too_many}
+use Rattle.argon2_c.specs.declared.code.TheConstants.{OUTPUT_PTR_NULL, OUTPUT_TOO_SHORT, OUTPUT_TOO_LONG, PWD_TOO_LONG, SALT_TOO_SHORT, SALT_TOO_LONG, AD_TOO_LONG, SECRET_TOO_LONG, TIME_TOO_SMALL, MEMORY_TOO_LITTLE, LANES_TOO_FEW, LANES_TOO_MANY, MEMORY_ALLOCATION_ERROR, PWD_PTR_MISMATCH, SALT_PTR_MISMATCH, SECRET_PTR_MISMATCH, AD_PTR_MISMATCH, FREE_MEMORY_CBK_NULL, ALLOCATE_MEMORY_CBK_NULL, INCORRECT_TYPE, THREADS_TOO_FEW, THREADS_TOO_MANY}
 use Rattle.argon2_c.specs.declared.request.Request.{Request}
 
 -- what the hash depends on beside the password, the salt and the output's length
@@ -20,38 +20,38 @@ asked request secret associated = record {
 -- in the order of argon2.h's library; a variant and a version that there are not come last
 abbrev pub request_faults : Request → ℕ → ℕ → ℕ → ℕ → ℕ → List (Bool × ℤ)
 request_faults r output password salt secret associated =
-    (r.lacks_output, output_ptr_null)
-    ∷ (nat_lt output 4, output_too_short)
-    ∷ (nat_lt 4294967295 output, output_too_long)
-    ∷ (r.lacks_pwd, pwd_ptr_mismatch)
-    ∷ (nat_lt 4294967295 password, pwd_too_long)
-    ∷ (r.lacks_salt, salt_ptr_mismatch)
-    ∷ (nat_lt salt 8, salt_too_short)
-    ∷ (nat_lt 4294967295 salt, salt_too_long)
-    ∷ (r.lacks_secret, secret_ptr_mismatch)
-    ∷ (nat_lt 4294967295 secret, secret_too_long)
-    ∷ (r.lacks_associated, ad_ptr_mismatch)
-    ∷ (nat_lt 4294967295 associated, ad_too_long)
-    ∷ (nat_lt r.m_cost 8, memory_too_little)
-    ∷ (nat_lt r.m_cost (8 * r.lanes), memory_too_little)
-    ∷ (nat_lt r.t_cost 1, time_too_small)
-    ∷ (nat_lt r.lanes 1, lanes_too_few)
-    ∷ (nat_lt 16777215 r.lanes, lanes_too_many)
-    ∷ (nat_lt r.threads 1, threads_too_few)
-    ∷ (nat_lt 16777215 r.threads, threads_too_many)
-    ∷ (r.has_allocate && not r.has_free, free_memory_cbk_null)
-    ∷ (not r.has_allocate && r.has_free, allocate_memory_cbk_null)
-    ∷ (nat_lt 2 r.algorithm, incorrect_type)
-    ∷ (not (r.version == 16) && not (r.version == 19), incorrect_type)
+    (r.lacks_output, OUTPUT_PTR_NULL)
+    ∷ (nat_lt output 4, OUTPUT_TOO_SHORT)
+    ∷ (nat_lt 4294967295 output, OUTPUT_TOO_LONG)
+    ∷ (r.lacks_pwd, PWD_PTR_MISMATCH)
+    ∷ (nat_lt 4294967295 password, PWD_TOO_LONG)
+    ∷ (r.lacks_salt, SALT_PTR_MISMATCH)
+    ∷ (nat_lt salt 8, SALT_TOO_SHORT)
+    ∷ (nat_lt 4294967295 salt, SALT_TOO_LONG)
+    ∷ (r.lacks_secret, SECRET_PTR_MISMATCH)
+    ∷ (nat_lt 4294967295 secret, SECRET_TOO_LONG)
+    ∷ (r.lacks_associated, AD_PTR_MISMATCH)
+    ∷ (nat_lt 4294967295 associated, AD_TOO_LONG)
+    ∷ (nat_lt r.m_cost 8, MEMORY_TOO_LITTLE)
+    ∷ (nat_lt r.m_cost (8 * r.lanes), MEMORY_TOO_LITTLE)
+    ∷ (nat_lt r.t_cost 1, TIME_TOO_SMALL)
+    ∷ (nat_lt r.lanes 1, LANES_TOO_FEW)
+    ∷ (nat_lt 16777215 r.lanes, LANES_TOO_MANY)
+    ∷ (nat_lt r.threads 1, THREADS_TOO_FEW)
+    ∷ (nat_lt 16777215 r.threads, THREADS_TOO_MANY)
+    ∷ (r.has_allocate && not r.has_free, FREE_MEMORY_CBK_NULL)
+    ∷ (not r.has_allocate && r.has_free, ALLOCATE_MEMORY_CBK_NULL)
+    ∷ (nat_lt 2 r.algorithm, INCORRECT_TYPE)
+    ∷ (not (r.version == 16) && not (r.version == 19), INCORRECT_TYPE)
     ∷ []
 
 -- why lengths that argon2_hash was given are refused before all else
 abbrev pub length_faults : ℕ → ℕ → ℕ → List (Bool × ℤ)
 length_faults output password salt =
-    (nat_lt 4294967295 password, pwd_too_long)
-    ∷ (nat_lt 4294967295 salt, salt_too_long)
-    ∷ (nat_lt 4294967295 output, output_too_long)
-    ∷ (nat_lt output 4, output_too_short)
+    (nat_lt 4294967295 password, PWD_TOO_LONG)
+    ∷ (nat_lt 4294967295 salt, SALT_TOO_LONG)
+    ∷ (nat_lt 4294967295 output, OUTPUT_TOO_LONG)
+    ∷ (nat_lt output 4, OUTPUT_TOO_SHORT)
     ∷ []
 
 -- what is known of a request that is not refused
@@ -69,3 +69,8 @@ pub record IsFaultless (r : Request) (output password salt secret associated : �
   pub lanes_most : r.lanes ≤ 16777215
   pub is_variant : r.algorithm ≤ 2
   pub is_version : (r.version ≡ 16) ⊎ (r.version ≡ 19)
+
+-- the code of the fault, or else this answer or that memory was refused
+abbrev pub IsAnswer : Option ℤ → ℤ → ℤ → Type 0
+IsAnswer (Some fault) answer result = result ≡ fault
+IsAnswer None answer result = (result ≡ answer) ⊎ (result ≡ MEMORY_ALLOCATION_ERROR)

@@ -2,7 +2,7 @@
 use Rattle.std.specs.Prelude.{ℕ, ◌<◌, ◌^◌, ◌==◌, nat_le, nat_lt, ◌&&◌, ℤ, length, if◌then◌else◌, List, ◌∷◌, ◌++◌, codes, Option, Some, None, IfSome}
 use Rattle.std.specs.Fmt.{decimal}
 use Rattle.argon2_base.specs.Base64.{IsBytes, strict_base64}
-use Rattle.argon2_c.specs.Codes.{encoding_fail, ok}
+use Rattle.argon2_c.specs.declared.code.TheConstants.{ENCODING_FAIL, OK}
 use Rattle.argon2_c.specs.declared.decode.Decoded.{Decoded}
 use Rattle.argon2_c.specs.declared.decode.Parts.{Parts}
 
@@ -70,7 +70,7 @@ text_of algorithm version m t p salt tag = spelling (name_numbered algorithm) (s
 
 -- the code of writing a text into so much room, memory aside: a zero byte has to fit too
 abbrev pub encode_code : ℕ → List ℕ → ℕ → ℤ
-encode_code algorithm text room = if nat_le algorithm 2 && nat_lt (length text) room then ok else encoding_fail
+encode_code algorithm text room = if nat_le algorithm 2 && nat_lt (length text) room then OK else ENCODING_FAIL
 
 -- what the code has read
 abbrev pub said : Decoded → Said

@@ -3,7 +3,7 @@ use Rattle.std.specs.Prelude.{◌≡◌, ℕ, ◌||◌, nat_lt, not, Bool, false
 use Rattle.std.specs.Str.{bytes_eq}
 use Rattle.argon2.specs.Refusals.{first_of}
 use Rattle.argon2.specs.Tag.{tag_of}
-use Rattle.argon2_c.specs.Codes.{ok, pwd_too_long, decoding_fail, incorrect_type, verify_mismatch}
+use Rattle.argon2_c.specs.declared.code.TheConstants.{OK, PWD_TOO_LONG, DECODING_FAIL, INCORRECT_TYPE, VERIFY_MISMATCH}
 use Rattle.argon2_c.specs.Requests.{asked, request_faults}
 use Rattle.argon2_c.specs.Texts.{Said, IsSaid, name_numbered, spelling}
 use Rattle.argon2_c.specs.declared.request.Request.{Request}
@@ -11,10 +11,10 @@ use Rattle.argon2_c.specs.declared.request.Request.{Request}
 -- why a call is refused before the text is read; absent are the bytes of a password whose pointer is null
 abbrev pub call_refusal : ℕ → Bool → ℕ → ℕ → ℕ → Option ℤ
 call_refusal algorithm has_text text password absent = first_of (
-    (nat_lt 4294967295 password || nat_lt 4294967295 absent, pwd_too_long)
-    ∷ (not has_text, decoding_fail)
-    ∷ (nat_lt 4294967295 text, decoding_fail)
-    ∷ (nat_lt 2 algorithm, incorrect_type)
+    (nat_lt 4294967295 password || nat_lt 4294967295 absent, PWD_TOO_LONG)
+    ∷ (not has_text, DECODING_FAIL)
+    ∷ (nat_lt 4294967295 text, DECODING_FAIL)
+    ∷ (nat_lt 2 algorithm, INCORRECT_TYPE)
     ∷ [])
 
 -- the request that a text stands for: version 16 where it has none, as many threads as lanes
@@ -49,7 +49,7 @@ shown_tag algorithm password absent v =
 abbrev pub verify_code : ℕ → List ℕ → ℕ → Said → ℤ
 verify_code algorithm password absent v =
     unwrap_or (first_of (shown_faults algorithm (length password) absent v))
-    (if bytes_eq v.tag (shown_tag algorithm password absent v) then ok else verify_mismatch)
+    (if bytes_eq v.tag (shown_tag algorithm password absent v) then OK else VERIFY_MISMATCH)
 
 -- the text is this variant's, and says this
 abbrev pub Says : ℕ → List ℕ → Said → Type 0

@@ -4,7 +4,6 @@ ghost use Rattle.std.specs.Prelude.{◌≡◌, ◌⊎◌, ◌∷◌, ◌++◌, �
 ghost use Rattle.std.specs.Fmt.{decimal};
 ghost use Rattle.argon2.specs.Algorithm.{algorithm_name};
 ghost use Rattle.argon2_base.specs.Base64.{IsBytes, strict_base64};
-ghost use Rattle.argon2_c.specs.Codes.{decoding_fail, memory_allocation_error};
 ghost use Rattle.argon2_c.specs.Texts.{Said, IsSaid, costs_part, joined, parts_of, said, spelling, version_part, written};
 
 use crate::code::{DECODING_FAIL, MEMORY_ALLOCATION_ERROR};
@@ -35,8 +34,8 @@ pub struct Decoded {
 pub fn decode(alloc: Global, algorithm: Algorithm, text: &str) -> Result<Decoded, i32>
     ensures found { IfOk result (λ d. IsSaid (said d) × (text.now ≡ spelling (algorithm_name algorithm) (said d))) }
     ensures only { (v : Said) → IsSaid v → text.now ≡ spelling (algorithm_name algorithm) v
-        → MatchResult result (λ d. said d ≡ v) (λ e. e ≡ memory_allocation_error) }
-    ensures codes { IfErr result (λ e. (e ≡ decoding_fail) ⊎ (e ≡ memory_allocation_error)) }
+        → MatchResult result (λ d. said d ≡ v) (λ e. e ≡ MEMORY_ALLOCATION_ERROR) }
+    ensures codes { IfErr result (λ e. (e ≡ DECODING_FAIL) ⊎ (e ≡ MEMORY_ALLOCATION_ERROR)) }
 {
     let Some(parts) = split(algorithm, text) else {
         return Err(DECODING_FAIL);
@@ -172,8 +171,8 @@ fn cut(text: &str) -> Option<(&str, &str)>
 fn bytes(alloc: Global, text: &str) -> Result<Vec<u8>, i32>
     ensures found { IfOk result (λ v. IsBytes v.items × (text.now ≡ strict_base64 v.items)) }
     ensures only { (b : List ℕ) → IsBytes b → text.now ≡ strict_base64 b
-        → MatchResult result (λ v. v.items ≡ b) (λ e. e ≡ memory_allocation_error) }
-    ensures codes { IfErr result (λ e. (e ≡ decoding_fail) ⊎ (e ≡ memory_allocation_error)) }
+        → MatchResult result (λ v. v.items ≡ b) (λ e. e ≡ MEMORY_ALLOCATION_ERROR) }
+    ensures codes { IfErr result (λ e. (e ≡ DECODING_FAIL) ⊎ (e ≡ MEMORY_ALLOCATION_ERROR)) }
 {
     match STANDARD_NO_PAD.decode(alloc, text.as_bytes()) {
         Ok(bytes) => Ok(bytes),

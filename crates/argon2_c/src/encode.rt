@@ -4,7 +4,6 @@ ghost use Rattle.std.specs.Prelude.{◌≡◌, ◌≢◌, ◌↔◌, ◌⊎◌, 
 ghost use Rattle.std.specs.Fmt.{decimal};
 ghost use Rattle.argon2.specs.Algorithm.{algorithm_name};
 ghost use Rattle.argon2_base.specs.Base64.{strict_base64};
-ghost use Rattle.argon2_c.specs.Codes.{memory_allocation_error, ok};
 ghost use Rattle.argon2_c.specs.Texts.{encode_code, name_numbered, said_with, spelling, text_of};
 
 use crate::code::{ENCODING_FAIL, MEMORY_ALLOCATION_ERROR, OK};
@@ -31,10 +30,10 @@ pub extern "C" fn argon2_c_encode(
     out: &mut [u8],
 ) -> i32
     ensures answer { let text = text_of algorithm version m_cost t_cost lanes salt.now tag.now in
-        (result ≡ encode_code algorithm text (length out.old)) ⊎ (result ≡ memory_allocation_error) }
+        (result ≡ encode_code algorithm text (length out.old)) ⊎ (result ≡ MEMORY_ALLOCATION_ERROR) }
     ensures written { let text = text_of algorithm version m_cost t_cost lanes salt.now tag.now in
-        result ≡ ok → out.new ≡ text ++ 0 ∷ drop (suc (length text)) out.old }
-    ensures same { result ≢ ok → out.new ≡ out.old }
+        result ≡ OK → out.new ≡ text ++ 0 ∷ drop (suc (length text)) out.old }
+    ensures same { result ≢ OK → out.new ≡ out.old }
 {
     if algorithm > 2 {
         return ENCODING_FAIL;

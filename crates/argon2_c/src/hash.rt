@@ -7,8 +7,7 @@ ghost use Rattle.argon2.specs.Argon2.{context_of, own_parameters};
 ghost use Rattle.argon2.specs.Refusals.{first_of};
 ghost use Rattle.argon2.specs.Tag.{tag_of};
 ghost use Rattle.argon2.specs.Version.{version_number};
-ghost use Rattle.argon2_c.specs.Codes.{IsAnswer, ok, verify_mismatch};
-ghost use Rattle.argon2_c.specs.Requests.{IsFaultless, asked, request_faults};
+ghost use Rattle.argon2_c.specs.Requests.{IsAnswer, IsFaultless, asked, request_faults};
 
 use crate::code::{MEMORY_ALLOCATION_ERROR, OK, VERIFY_MISMATCH};
 use crate::request::{Request, refusal};
@@ -29,10 +28,10 @@ pub extern "C" fn argon2_c_hash(
     out: &mut [u8],
 ) -> i32
     ensures answer { IsAnswer (first_of (request_faults request.now (length out.old)
-        (length pwd.now) (length salt.now) (length secret.now) (length associated.now))) ok result }
-    ensures tag { result ≡ ok → out.new
+        (length pwd.now) (length salt.now) (length secret.now) (length associated.now))) OK result }
+    ensures tag { result ≡ OK → out.new
         ≡ tag_of (asked request.now secret.now associated.now) pwd.now salt.now (length out.old) }
-    ensures same { result ≢ ok → out.new ≡ out.old }
+    ensures same { result ≢ OK → out.new ≡ out.old }
 {
     let refusal = refusal(
         request,
@@ -108,7 +107,7 @@ fn version(number: u32) -> Version
 /// Whether two slices are equal: 0, or -35. Where they have one length, each byte of both is looked at.
 #[unsafe(no_mangle)]
 pub extern "C" fn argon2_c_compare(a: &[u8], b: &[u8]) -> i32
-    ensures { result ≡ (if bytes_eq a.now b.now then ok else verify_mismatch) }
+    ensures { result ≡ (if bytes_eq a.now b.now then OK else VERIFY_MISMATCH) }
 {
     if are_equal(a, b) { OK } else { VERIFY_MISMATCH }
 }

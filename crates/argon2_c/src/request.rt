@@ -2,7 +2,6 @@
 
 ghost use Rattle.std.specs.Prelude.{◌≡◌, IsNone, unwrap_or};
 ghost use Rattle.argon2.specs.Refusals.{first_of};
-ghost use Rattle.argon2_c.specs.Codes.{ok};
 ghost use Rattle.argon2_c.specs.Requests.{IsFaultless, length_faults, request_faults};
 
 use crate::code::*;
@@ -128,7 +127,7 @@ pub extern "C" fn argon2_c_refusal(
     secret: usize,
     associated: usize,
 ) -> i32
-    ensures { result ≡ unwrap_or (first_of (request_faults request.now output pwd salt secret associated)) ok }
+    ensures { result ≡ unwrap_or (first_of (request_faults request.now output pwd salt secret associated)) OK }
 {
     refusal(request, output, pwd, salt, secret, associated).unwrap_or(OK)
 }
@@ -136,7 +135,7 @@ pub extern "C" fn argon2_c_refusal(
 /// The code by which `argon2_hash` refuses these lengths before all else, or 0.
 #[unsafe(no_mangle)]
 pub extern "C" fn argon2_c_length_refusal(output: usize, pwd: usize, salt: usize) -> i32
-    ensures { result ≡ unwrap_or (first_of (length_faults output pwd salt)) ok }
+    ensures { result ≡ unwrap_or (first_of (length_faults output pwd salt)) OK }
 {
     if pwd > MAX_PWD_LEN {
         return PWD_TOO_LONG;

@@ -1,7 +1,7 @@
 //! Whether a password has the hash of a text.
 
 ghost use Rattle.std.specs.Prelude.{◌≡◌, ◌⊎◌, ◌≤◌, ℤ, None, Some, IsNone, IfOk, IfErr, MatchResult, length};
-ghost use Rattle.argon2_c.specs.Codes.{decoding_fail, memory_allocation_error, ok, verify_mismatch};
+ghost use Rattle.argon2_c.specs.declared.code.TheConstants.{VERIFY_MISMATCH};
 ghost use Rattle.argon2_c.specs.Texts.{Said, said};
 ghost use Rattle.argon2_c.specs.Verifying.{Says, call_refusal, shown_request, verify_code};
 
@@ -29,11 +29,11 @@ pub extern "C" fn argon2_c_verify(
         → call_refusal algorithm has_text (length text.now) (length pwd.now) absent ≡ Some e → result ≡ e }
     ensures said { (v : Said) → call_refusal algorithm has_text (length text.now) (length pwd.now) absent ≡ None
         → Says algorithm text.now v
-        → (result ≡ verify_code algorithm pwd.now absent v) ⊎ (result ≡ memory_allocation_error) }
+        → (result ≡ verify_code algorithm pwd.now absent v) ⊎ (result ≡ MEMORY_ALLOCATION_ERROR) }
     ensures unsaid { call_refusal algorithm has_text (length text.now) (length pwd.now) absent ≡ None
         → ((v : Said) → Says algorithm text.now v → ⊥)
-        → (result ≡ decoding_fail) ⊎ (result ≡ memory_allocation_error) }
-    ensures found { (result ≡ ok) ⊎ (result ≡ verify_mismatch) → (v : Said) × Says algorithm text.now v }
+        → (result ≡ DECODING_FAIL) ⊎ (result ≡ MEMORY_ALLOCATION_ERROR) }
+    ensures found { (result ≡ OK) ⊎ (result ≡ VERIFY_MISMATCH) → (v : Said) × Says algorithm text.now v }
 {
     if let Some(code) = call_refusal(algorithm, has_text, text.len(), pwd.len(), absent) {
         return code;
@@ -72,8 +72,8 @@ fn decoded(alloc: Global, algorithm: u32, text: &[u8]) -> Result<Decoded, i32>
     requires { algorithm ≤ 2 }
     ensures found { IfOk result (λ d. Says algorithm text.now (said d)) }
     ensures only { (v : Said) → Says algorithm text.now v
-        → MatchResult result (λ d. said d ≡ v) (λ e. e ≡ memory_allocation_error) }
-    ensures codes { IfErr result (λ e. (e ≡ decoding_fail) ⊎ (e ≡ memory_allocation_error)) }
+        → MatchResult result (λ d. said d ≡ v) (λ e. e ≡ MEMORY_ALLOCATION_ERROR) }
+    ensures codes { IfErr result (λ e. (e ≡ DECODING_FAIL) ⊎ (e ≡ MEMORY_ALLOCATION_ERROR)) }
 {
     let Ok(text) = std::str::from_utf8(text) else {
         return Err(DECODING_FAIL);
@@ -83,7 +83,7 @@ fn decoded(alloc: Global, algorithm: u32, text: &[u8]) -> Result<Decoded, i32>
 
 // Whether a password has this hash.
 fn compared(alloc: Global, algorithm: u32, shown: &Decoded, pwd: &[u8], absent: usize) -> i32
-    ensures { (result ≡ verify_code algorithm pwd.now absent (said shown.now)) ⊎ (result ≡ memory_allocation_error) }
+    ensures { (result ≡ verify_code algorithm pwd.now absent (said shown.now)) ⊎ (result ≡ MEMORY_ALLOCATION_ERROR) }
 {
     let Ok(mut out) = vec![in alloc; 0u8; shown.tag.len()] else {
         return MEMORY_ALLOCATION_ERROR;
