@@ -37,7 +37,7 @@ pub const MAX_SECRET_LEN: usize = 4294967295;
 
 /// The most bytes of the associated data of
 /// [`hash_password_into_with_data`](Argon2::hash_password_into_with_data).
-pub const MAX_DATA_LEN: usize = 4294967295;
+pub const MAX_AD_LEN: usize = 4294967295;
 
 // A secret of at most 4294967295 bytes.
 #[derive(Clone, Copy)]
@@ -196,7 +196,7 @@ impl<'key> Argon2<'key> {
 
         ensures same { OnErr result (out.new ≡ out.old) }
     {
-        if associated.len() > MAX_DATA_LEN {
+        if associated.len() > MAX_AD_LEN {
             return Err(Error::AdTooLong);
         }
         let mut memory = self.zeroed_blocks(alloc)?;
@@ -340,7 +340,7 @@ impl<'key> Argon2<'key> {
 
     // The same under other associated data.
     fn instance_under<'a>(&'a self, associated: &'a [u8]) -> Instance<'a>
-        requires { length associated.now ≤ MAX_DATA_LEN }
+        requires { length associated.now ≤ MAX_AD_LEN }
         ensures value { result ≡ context_under self.now associated.now }
         ensures valid { IsValid (context_of self.now) }
     {

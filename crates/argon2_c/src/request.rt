@@ -5,7 +5,7 @@ ghost use Rattle.argon2.specs.Refusals.{first_of};
 ghost use Rattle.argon2_c.specs.Requests.{IsFaultless, length_faults, request_faults};
 
 use crate::code::*;
-use argon2::{MAX_DATA_LEN, MAX_PWD_LEN, MAX_SALT_LEN, MAX_SECRET_LEN, MIN_SALT_LEN, Params};
+use argon2::{MAX_AD_LEN, MAX_PWD_LEN, MAX_SALT_LEN, MAX_SECRET_LEN, MIN_SALT_LEN, Params};
 
 /// What a C caller asks for beside its bytes.
 #[repr(C)]
@@ -84,7 +84,7 @@ pub fn refusal(
     if request.lacks_associated {
         return Some(AD_PTR_MISMATCH);
     }
-    if associated > MAX_DATA_LEN {
+    if associated > MAX_AD_LEN {
         return Some(AD_TOO_LONG);
     }
     if request.m_cost < 8 || (request.m_cost as u64) < 8 * request.lanes as u64 {
