@@ -1,2 +1,3 @@
+mod Classes
 mod First
 mod Sessions

@@ -8,13 +8,13 @@ use Rattle.argon2_audit.specs.Seen.{has_any, has_salt, is_salt}
 use Rattle.argon2_audit.specs.Session.{IsAnswer, IsAudit, IsBegun, IsJoined, IsPassed, IsTallied, IsTallyOf, how_many, joined, any_salt, is_repeated, repeated}
 use Rattle.argon2_audit.specs.Tally.{Counts, IsClean, count_of, is_class, one_if}
 use Rattle.argon2_audit.specs.declared.arguments.Command.{Command}
-use Rattle.argon2_audit.specs.declared.arguments.Command.TheVariants.{Help, Audit}
+use Rattle.argon2_audit.specs.declared.arguments.Command.TheVariants.{Help, Version, Audit}
 use Rattle.argon2_audit.specs.declared.failure.Failure.{Failure}
 use Rattle.argon2_audit.specs.declared.finding.Class.{Class}
-use Rattle.argon2_audit.specs.declared.finding.Class.TheVariants.{Outside, NoHash, Below, Sound}
+use Rattle.argon2_audit.specs.declared.finding.Class.TheVariants.{Outside, NoHash, Below, Sound, Other, Locked, Empty, Blank, Comment, Unknown}
 use Rattle.argon2_audit.specs.declared.finding.Finding.{Finding}
 use Rattle.argon2_audit.specs.declared.line.Line.{Line}
-use Rattle.argon2_audit.specs.declared.policy.Policy.{Policy}
+use Rattle.argon2_audit.specs.declared.options.Options.{Options}
 use Rattle.argon2_audit.specs.declared.seen.Seen.{Seen}
 use Rattle.argon2_audit.specs.declared.tally.Marks.{Marks}
 use Rattle.argon2_audit.specs.declared.tally.Tally.{Tally}
@@ -26,9 +26,15 @@ none_of tally none Outside = let sum = tally.adds_up in omega arith
 none_of tally none NoHash = let sum = tally.adds_up in omega arith
 none_of tally none Below = let sum = tally.adds_up in omega arith
 none_of tally none Sound = let sum = tally.adds_up in omega arith
+none_of tally none Other = let sum = tally.adds_up in omega arith
+none_of tally none Locked = let sum = tally.adds_up in omega arith
+none_of tally none Empty = let sum = tally.adds_up in omega arith
+none_of tally none Blank = let sum = tally.adds_up in omega arith
+none_of tally none Comment = let sum = tally.adds_up in omega arith
+none_of tally none Unknown = let sum = tally.adds_up in omega arith
 
-no_findings : (policy : Policy) (tally : Tally) → tally.lines ≡ 0 → IsTallyOf policy [] tally
-no_findings policy tally none = record {
+no_findings : (options : Options) (tally : Tally) → tally.lines ≡ 0 → IsTallyOf options [] tally
+no_findings options tally none = record {
   all = none;
   classes = none_of tally none;
   short_salts = let short = tally.short in omega arith;
@@ -40,26 +46,26 @@ repeated_by : (seen : Seen) (findings : List Finding) (salt : Option (List ℕ))
 repeated_by seen findings None known = refl
 repeated_by seen findings (Some salt) known = known salt
 
-finding_more : (seen : Seen) (policy : Policy) (findings : List Finding) (finding : Finding) (marks : Marks) (old new : Tally)
-    → IsTallyOf policy findings old → Counts marks old new → marks.class ≡ class_of policy finding
-    → marks.short_salt ≡ has_short_salt policy finding → marks.equal_salt ≡ has_any seen (salt_of finding)
-    → ((s : List ℕ) → has_salt seen s ≡ any_salt s findings) → IsTallyOf policy (finding ∷ findings) new
-finding_more seen policy findings finding marks old new of counts class_is short_is equal_is known = record {
+finding_more : (seen : Seen) (options : Options) (findings : List Finding) (finding : Finding) (marks : Marks) (old new : Tally)
+    → IsTallyOf options findings old → Counts marks old new → marks.class ≡ class_of options.policy finding
+    → marks.short_salt ≡ has_short_salt options.policy finding → marks.equal_salt ≡ has_any seen (salt_of finding)
+    → ((s : List ℕ) → has_salt seen s ≡ any_salt s findings) → IsTallyOf options (finding ∷ findings) new
+finding_more seen options findings finding marks old new of counts class_is short_is equal_is known = record {
   all = let all = of.all in let lines = counts.lines in omega arith;
   classes = λ class. counts.classes class
       ∙ ap (λ n. n + one_if (is_class marks.class class)) (of.classes class)
-      ∙ ap (λ k. how_many (λ f. is_class (class_of policy f) class) findings + one_if (is_class k class)) class_is;
+      ∙ ap (λ k. how_many (λ f. is_class (class_of options.policy f) class) findings + one_if (is_class k class)) class_is;
   short_salts = counts.short_salts ∙ ap (λ n. n + one_if marks.short_salt) of.short_salts
-      ∙ ap (λ b. how_many (has_short_salt policy) findings + one_if b) short_is;
+      ∙ ap (λ b. how_many (has_short_salt options.policy) findings + one_if b) short_is;
   equal_salts = counts.equal_salts ∙ ap (λ n. n + one_if marks.equal_salt) of.equal_salts
       ∙ ap (λ b. repeated findings + one_if b) (equal_is ∙ repeated_by seen findings (salt_of finding) known);
 }
 
 -- ---- lines
 
-pub nothing_yet : (kept : Line) (seen : Seen) (policy : Policy) (tally : Tally) → IsRead kept [] → tally.lines ≡ 0
-    → ((salt : List ℕ) → has_salt seen salt ≡ false) → IsBegun kept seen policy [] tally
-nothing_yet kept seen policy tally read none unknown = record {
+pub nothing_yet : (kept : Line) (seen : Seen) (options : Options) (tally : Tally) → IsRead kept [] → tally.lines ≡ 0
+    → ((salt : List ℕ) → has_salt seen salt ≡ false) → IsBegun kept seen options [] tally
+nothing_yet kept seen options tally read none unknown = record {
   lines = [];
   findings = [];
   rest = [];
@@ -67,19 +73,19 @@ nothing_yet kept seen policy tally read none unknown = record {
   feed = refl;
   split = refl;
   found = tt;
-  tally = no_findings policy tally none;
+  tally = no_findings options tally none;
   read = read;
   salts = unknown;
 }
 
-pub line_more : (kept next : Line) (seen more : Seen) (policy : Policy) (old new : Tally) (bytes : List ℕ)
+pub line_more : (kept next : Line) (seen more : Seen) (options : Options) (old new : Tally) (bytes : List ℕ)
     (finding : Finding) (marks : Marks)
-    → ((line : List ℕ) → IsRead kept line → IsFinding line finding) → IsRead next [] → Counts marks old new
-    → marks.class ≡ class_of policy finding → marks.short_salt ≡ has_short_salt policy finding
+    → ((line : List ℕ) → IsRead kept line → IsFinding options.place line finding) → IsRead next [] → Counts marks old new
+    → marks.class ≡ class_of options.policy finding → marks.short_salt ≡ has_short_salt options.policy finding
     → marks.equal_salt ≡ has_any seen (salt_of finding)
     → ((salt : List ℕ) → has_salt more salt ≡ (is_salt (salt_of finding) salt || has_salt seen salt))
-    → IsBegun kept seen policy bytes old → IsBegun next more policy (bytes ++ 10 ∷ []) new
-line_more kept next seen more policy old new bytes finding marks finds none counts class_is short_is equal_is kept_salts
+    → IsBegun kept seen options bytes old → IsBegun next more options (bytes ++ 10 ∷ []) new
+line_more kept next seen more options old new bytes finding marks finds none counts class_is short_is equal_is kept_salts
     b = record {
       lines = b.rest ∷ b.lines;
       findings = finding ∷ b.findings;
@@ -88,24 +94,24 @@ line_more kept next seen more policy old new bytes finding marks finds none coun
       feed = refl;
       split = ap (λ l. l ++ 10 ∷ []) b.split ∙ append_assoc (joined b.lines) b.rest (10 ∷ []) ∙ sym (append-nil _);
       found = (finds b.rest b.read, b.found);
-      tally = finding_more seen policy b.findings finding marks old new b.tally counts class_is short_is equal_is b.salts;
+      tally = finding_more seen options b.findings finding marks old new b.tally counts class_is short_is equal_is b.salts;
       read = none;
       salts = λ salt. kept_salts salt ∙ ap (λ known. is_salt (salt_of finding) salt || known) (b.salts salt);
     }
 
-pub line_last : (kept : Line) (seen : Seen) (policy : Policy) (old new : Tally) (bytes : List ℕ)
+pub line_last : (kept : Line) (seen : Seen) (options : Options) (old new : Tally) (bytes : List ℕ)
     (finding : Finding) (marks : Marks)
-    → ((line : List ℕ) → IsRead kept line → IsFinding line finding) → Counts marks old new
-    → marks.class ≡ class_of policy finding → marks.short_salt ≡ has_short_salt policy finding
-    → marks.equal_salt ≡ has_any seen (salt_of finding) → (IsRead kept [] → ⊥) → IsBegun kept seen policy bytes old
-    → IsTallied policy bytes new
-line_last kept seen policy old new bytes finding marks finds counts class_is short_is equal_is some b = record {
+    → ((line : List ℕ) → IsRead kept line → IsFinding options.place line finding) → Counts marks old new
+    → marks.class ≡ class_of options.policy finding → marks.short_salt ≡ has_short_salt options.policy finding
+    → marks.equal_salt ≡ has_any seen (salt_of finding) → (IsRead kept [] → ⊥) → IsBegun kept seen options bytes old
+    → IsTallied options bytes new
+line_last kept seen options old new bytes finding marks finds counts class_is short_is equal_is some b = record {
   lines = b.rest ∷ b.lines;
   findings = finding ∷ b.findings;
   feeds = (b.feed, b.feeds);
   split = inr (b.split, λ none. some (subst (IsRead kept) none b.read));
   found = (finds b.rest b.read, b.found);
-  tally = finding_more seen policy b.findings finding marks old new b.tally counts class_is short_is equal_is b.salts;
+  tally = finding_more seen options b.findings finding marks old new b.tally counts class_is short_is equal_is b.salts;
 }
 
 -- ---- the end
@@ -120,9 +126,9 @@ all_ended : (bytes rest : List ℕ) (lines : List (List ℕ)) → bytes ≡ join
 all_ended bytes rest [] split none = split ∙ none
 all_ended bytes rest (line ∷ lines) split none = inl (split ∙ ap (λ r. joined (line ∷ lines) ++ r) none ∙ append-nil _)
 
-pub no_line_more : (kept : Line) (seen : Seen) (policy : Policy) (tally : Tally) (bytes : List ℕ) → IsRead kept []
-    → IsBegun kept seen policy bytes tally → IsTallied policy bytes tally
-no_line_more kept seen policy tally bytes none b = record {
+pub no_line_more : (kept : Line) (seen : Seen) (options : Options) (tally : Tally) (bytes : List ℕ) → IsRead kept []
+    → IsBegun kept seen options bytes tally → IsTallied options bytes tally
+no_line_more kept seen options tally bytes none b = record {
   lines = b.lines;
   findings = b.findings;
   feeds = b.feeds;
@@ -131,21 +137,22 @@ no_line_more kept seen policy tally bytes none b = record {
   tally = b.tally;
 }
 
-pub audit_of : (policy : Policy) (input : Option (List ℕ)) (tally : Tally) (clean : Bool)
-    → IfSome input (λ bytes. IsTallied policy bytes tally) → (IsTrue clean ↔ IsClean tally) → IsAudit policy input clean
-audit_of policy None tally clean tallied is = tt
-audit_of policy (Some bytes) tally clean tallied is = (tally, tallied, is)
+pub audit_of : (options : Options) (input : Option (List ℕ)) (tally : Tally) (clean : Bool)
+    → IfSome input (λ bytes. IsTallied options bytes tally) → (IsTrue clean ↔ IsClean options.policy tally) → IsAudit options input clean
+audit_of options None tally clean tallied is = tt
+audit_of options (Some bytes) tally clean tallied is = (tally, tallied, is)
 
-passed_of : (policy : Policy) (input : Option (List ℕ)) (clean : Bool) → IsAudit policy input clean → clean ≡ true
-    → IsPassed (Audit policy) input
-passed_of policy None clean audit is = tt
-passed_of policy (Some bytes) clean audit is = (audit.0, audit.1, audit.2.0 is)
+passed_of : (options : Options) (input : Option (List ℕ)) (clean : Bool) → IsAudit options input clean → clean ≡ true
+    → IsPassed (Audit options) input
+passed_of options None clean audit is = tt
+passed_of options (Some bytes) clean audit is = (audit.0, audit.1, audit.2.0 is)
 
 pub answer_passes : (command : Command) (input : Option (List ℕ)) → IsAnswer command input true → IsPassed command input
 answer_passes Help input clean = tt
-answer_passes (Audit policy) input audit = passed_of policy input true audit refl
+answer_passes Version input clean = tt
+answer_passes (Audit options) input audit = passed_of options input true audit refl
 
-pub answered_by : (policy : Policy) (input : Option (List ℕ)) (command : Command) (r : Result Bool Failure)
-    → command ≡ Audit policy → IfOk r (IsAudit policy input) → IfOk r (IsAnswer command input)
-answered_by policy input command (Ok clean) is audit = subst (λ k. IsAnswer k input clean) (sym is) audit
-answered_by policy input command (Err failure) is audit = tt
+pub answered_by : (options : Options) (input : Option (List ℕ)) (command : Command) (r : Result Bool Failure)
+    → command ≡ Audit options → IfOk r (IsAudit options input) → IfOk r (IsAnswer command input)
+answered_by options input command (Ok clean) is audit = subst (λ k. IsAnswer k input clean) (sym is) audit
+answered_by options input command (Err failure) is audit = tt

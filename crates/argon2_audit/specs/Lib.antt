@@ -1,8 +1,10 @@
 pub mod Arguments
+pub mod Claim
 pub mod Entry
 pub mod Failures
 pub mod Finding
 pub mod Line
+pub mod Place
 pub mod Policy
 pub mod Seen
 pub mod Session

@@ -1,12 +1,29 @@
 -- What is below a policy.
-use Rattle.std.specs.Prelude.{Bool, ◌||◌, nat_lt, [], length, unwrap_or}
+use Rattle.std.specs.Prelude.{Bool, false, not, ◌==◌, ◌||◌, nat_lt, [], length, unwrap_or, Option, Some, None}
+use Rattle.argon2.specs.Algorithm.{algorithm_number}
+use Rattle.argon2.specs.Version.{version_number}
+use Rattle.argon2.specs.declared.algorithm.Algorithm.{Algorithm}
 use Rattle.argon2_audit.specs.declared.entry.Entry.{Entry}
 use Rattle.argon2_audit.specs.declared.policy.Policy.{Policy}
 use Rattle.argon2_audit.specs.declared.policy.Shortfalls.{Shortfalls}
 
 -- the library's own parameters, and lengths of a salt and a hash
 abbrev pub default_policy : Policy
-default_policy = record { m_cost = 19456; t_cost = 2; p_cost = 1; salt_len = 16; hash_len = 32 }
+default_policy = record {
+  m_cost = 19456;
+  t_cost = 2;
+  p_cost = 1;
+  salt_len = 16;
+  hash_len = 32;
+  version = 0;
+  algorithm = None;
+  allows_other = false;
+}
+
+-- another algorithm is required
+abbrev pub is_refused : Option Algorithm → Algorithm → Bool
+is_refused None algorithm = false
+is_refused (Some required) algorithm = not (algorithm_number required == algorithm_number algorithm)
 
 -- what a policy asks for more of than there is; what is missing has no bytes
 abbrev pub shortfalls_of : Policy → Entry → Shortfalls
@@ -16,7 +33,9 @@ shortfalls_of policy entry = record {
   lanes = nat_lt entry.kind.p_cost policy.p_cost;
   salt = nat_lt (length (unwrap_or entry.salt [])) policy.salt_len;
   hash = nat_lt (unwrap_or entry.hash_len 0) policy.hash_len;
+  version = nat_lt (version_number entry.kind.version) policy.version;
+  algorithm = is_refused policy.algorithm entry.kind.algorithm;
 }
 
 abbrev pub is_any : Shortfalls → Bool
-is_any s = s.memory || s.passes || s.lanes || s.salt || s.hash
+is_any s = s.memory || s.passes || s.lanes || s.salt || s.hash || s.version || s.algorithm

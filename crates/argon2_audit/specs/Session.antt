@@ -6,11 +6,11 @@ use Rattle.argon2_audit.specs.Line.{IsRead}
 use Rattle.argon2_audit.specs.Seen.{has_salt, is_salt}
 use Rattle.argon2_audit.specs.Tally.{IsClean, count_of, is_class, one_if}
 use Rattle.argon2_audit.specs.declared.arguments.Command.{Command}
-use Rattle.argon2_audit.specs.declared.arguments.Command.TheVariants.{Help, Audit}
+use Rattle.argon2_audit.specs.declared.arguments.Command.TheVariants.{Help, Version, Audit}
 use Rattle.argon2_audit.specs.declared.finding.Class.{Class}
 use Rattle.argon2_audit.specs.declared.finding.Finding.{Finding}
 use Rattle.argon2_audit.specs.declared.line.Line.{Line}
-use Rattle.argon2_audit.specs.declared.policy.Policy.{Policy}
+use Rattle.argon2_audit.specs.declared.options.Options.{Options}
 use Rattle.argon2_audit.specs.declared.seen.Seen.{Seen}
 use Rattle.argon2_audit.specs.declared.session.Session.{Session}
 use Rattle.argon2_audit.specs.declared.tally.Tally.{Tally}
@@ -59,52 +59,54 @@ repeated [] = 0
 repeated (finding ∷ earlier) = repeated earlier + one_if (is_repeated (salt_of finding) earlier)
 
 -- the counts are those of what lines come to
-pub record IsTallyOf (policy : Policy) (findings : List Finding) (tally : Tally) : Type 0 where
+pub record IsTallyOf (options : Options) (findings : List Finding) (tally : Tally) : Type 0 where
   pub all : tally.lines ≡ length findings
   pub classes : (class : Class)
-      → count_of class tally ≡ how_many (λ finding. is_class (class_of policy finding) class) findings
-  pub short_salts : tally.short_salts ≡ how_many (has_short_salt policy) findings
+      → count_of class tally ≡ how_many (λ finding. is_class (class_of options.policy finding) class) findings
+  pub short_salts : tally.short_salts ≡ how_many (has_short_salt options.policy) findings
   pub equal_salts : tally.equal_salts ≡ repeated findings
 
 -- the counts are those of the lines of a text
-pub record IsTallied (policy : Policy) (bytes : List ℕ) (counts : Tally) : Type 0 where
+pub record IsTallied (options : Options) (bytes : List ℕ) (counts : Tally) : Type 0 where
   pub lines : List (List ℕ)
   pub findings : List Finding
   pub feeds : AllTrue has_no_feed lines
   pub split : IsJoined bytes lines
-  pub found : AllZip IsFinding lines findings
-  pub tally : IsTallyOf policy findings counts
+  pub found : AllZip (IsFinding options.place) lines findings
+  pub tally : IsTallyOf options findings counts
 
 -- the counts are those of the lines of a text but for its end, which is kept
-pub record IsBegun (kept : Line) (seen : Seen) (policy : Policy) (bytes : List ℕ) (counts : Tally) : Type 0 where
+pub record IsBegun (kept : Line) (seen : Seen) (options : Options) (bytes : List ℕ) (counts : Tally) : Type 0 where
   pub lines : List (List ℕ)
   pub findings : List Finding
   pub rest : List ℕ
   pub feeds : AllTrue has_no_feed lines
   pub feed : IsTrue (has_no_feed rest)
   pub split : bytes ≡ joined lines ++ rest
-  pub found : AllZip IsFinding lines findings
-  pub tally : IsTallyOf policy findings counts
+  pub found : AllZip (IsFinding options.place) lines findings
+  pub tally : IsTallyOf options findings counts
   pub read : IsRead kept rest
   pub salts : (salt : List ℕ) → has_salt seen salt ≡ any_salt salt findings
 
 -- so many bytes were taken
 abbrev pub IsAfter : Session → List ℕ → Type 0
-IsAfter session bytes = IsBegun session.line session.audit.seen session.audit.policy bytes session.audit.tally
+IsAfter session bytes = IsBegun session.line session.audit.seen session.audit.options bytes session.audit.tally
 
 -- ---- what the program says
 
 -- where the input is known, its lines are counted, and are clean or not
-abbrev pub IsAudit : Policy → Option (List ℕ) → Bool → Type 0
-IsAudit policy input clean = IfSome input (λ bytes. (tally : Tally) × IsTallied policy bytes tally
-    × (IsTrue clean ↔ IsClean tally))
+abbrev pub IsAudit : Options → Option (List ℕ) → Bool → Type 0
+IsAudit options input clean = IfSome input (λ bytes. (tally : Tally) × IsTallied options bytes tally
+    × (IsTrue clean ↔ IsClean options.policy tally))
 
--- the help was asked for; or whether the lines of a known input are clean
+-- the help or the version was asked for; or whether the lines of a known input are clean
 abbrev pub IsAnswer : Command → Option (List ℕ) → Bool → Type 0
 IsAnswer Help input clean = IsTrue clean
-IsAnswer (Audit policy) input clean = IsAudit policy input clean
+IsAnswer Version input clean = IsTrue clean
+IsAnswer (Audit options) input clean = IsAudit options input clean
 
--- the help was asked for, or the lines of a known input are clean
+-- the help or the version was asked for, or the lines of a known input are clean
 abbrev pub IsPassed : Command → Option (List ℕ) → Type 0
 IsPassed Help input = ⊤
-IsPassed (Audit policy) input = IfSome input (λ bytes. (tally : Tally) × IsTallied policy bytes tally × IsClean tally)
+IsPassed Version input = ⊤
+IsPassed (Audit options) input = IfSome input (λ bytes. (tally : Tally) × IsTallied options bytes tally × IsClean options.policy tally)

@@ -1,7 +1,8 @@
 -- Counts of lines.
-use Rattle.std.specs.Prelude.{◌≡◌, ℕ, ◌+◌, Bool, true, false, if◌then◌else◌}
+use Rattle.std.specs.Prelude.{◌≡◌, ℕ, ◌+◌, ◌==◌, Bool, if◌then◌else◌}
 use Rattle.argon2_audit.specs.declared.finding.Class.{Class}
-use Rattle.argon2_audit.specs.declared.finding.Class.TheVariants.{Outside, NoHash, Below, Sound}
+use Rattle.argon2_audit.specs.declared.finding.Class.TheVariants.{Outside, NoHash, Below, Sound, Other, Locked, Empty, Blank, Comment, Unknown}
+use Rattle.argon2_audit.specs.declared.policy.Policy.{Policy}
 use Rattle.argon2_audit.specs.declared.tally.Marks.{Marks}
 use Rattle.argon2_audit.specs.declared.tally.Tally.{Tally}
 
@@ -14,13 +15,27 @@ count_of Outside tally = tally.outside
 count_of NoHash tally = tally.no_hash
 count_of Below tally = tally.below
 count_of Sound tally = tally.sound
+count_of Other tally = tally.other
+count_of Locked tally = tally.locked
+count_of Empty tally = tally.empty
+count_of Blank tally = tally.blank
+count_of Comment tally = tally.comment
+count_of Unknown tally = tally.unknown
+
+abbrev pub class_number : Class → ℕ
+class_number Outside = 0
+class_number NoHash = 1
+class_number Below = 2
+class_number Sound = 3
+class_number Other = 4
+class_number Locked = 5
+class_number Empty = 6
+class_number Blank = 7
+class_number Comment = 8
+class_number Unknown = 9
 
 abbrev pub is_class : Class → Class → Bool
-is_class Outside Outside = true
-is_class NoHash NoHash = true
-is_class Below Below = true
-is_class Sound Sound = true
-is_class _ _ = false
+is_class class other = class_number class == class_number other
 
 -- one line more, in its class and in no other
 pub record Counts (marks : Marks) (old new : Tally) : Type 0 where
@@ -29,6 +44,11 @@ pub record Counts (marks : Marks) (old new : Tally) : Type 0 where
   pub short_salts : new.short_salts ≡ old.short_salts + one_if marks.short_salt
   pub equal_salts : new.equal_salts ≡ old.equal_salts + one_if marks.equal_salt
 
--- each line is sound, and no salt was there before
-abbrev pub IsClean : Tally → Type 0
-IsClean tally = (tally.sound ≡ tally.lines) × (tally.equal_salts ≡ 0)
+-- how many lines count as sound: of other schemes and with no password too where a policy allows them
+abbrev pub accepted : Policy → Tally → ℕ
+accepted policy tally = tally.sound
+    + (if policy.allows_other then tally.other + tally.locked + tally.blank + tally.comment else 0)
+
+-- each line counts as sound, and no salt was there before
+abbrev pub IsClean : Policy → Tally → Type 0
+IsClean policy tally = (accepted policy tally ≡ tally.lines) × (tally.equal_salts ≡ 0)

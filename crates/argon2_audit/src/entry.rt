@@ -7,7 +7,7 @@ use argon2::phc::Salt;
 use argon2::{Algorithm, Params, PasswordHash, Version};
 
 /// What texts are counted by.
-#[derive(Clone, Copy, Debug, PartialEq, Eq, PartialOrd, Ord)]
+#[derive(Clone, Copy, PartialEq, Eq, PartialOrd, Ord)]
 pub struct Kind {
     pub algorithm: Algorithm,
     /// Version 0x10 where the text has none.

@@ -1,6 +1,6 @@
 //! Why an audit fails.
 
-ghost use Rattle.std.specs.Prelude.{◌≡◌, ◌≢◌};
+ghost use Rattle.std.specs.Prelude.{◌≡◌, ◌≢◌, if◌then◌else◌};
 ghost use Rattle.std.specs.IoError.{error_kind};
 ghost use Rattle.argon2_audit.specs.Failures.{IsMemory};
 
@@ -15,6 +15,12 @@ pub enum Failure {
     /// Standard input fails before its end.
     #[error("standard input can't be read")]
     Input,
+    /// A file that the arguments name fails before its end.
+    #[error("a file can't be read")]
+    File,
+    /// Nobody reads standard output any more, which the program does not tell.
+    #[error("nobody reads standard output")]
+    Closed,
     /// Standard output does not take the report.
     #[error("standard output can't be written")]
     Output,
@@ -23,13 +29,16 @@ pub enum Failure {
     Memory(AllocError),
 }
 
-/// The failure of a read: want of memory is told as such.
-pub fn of_reading(error: &io::Error) -> Failure
+/// The failure of a read, of files or of standard input.
+pub fn of_reading(error: &io::Error, is_file: bool) -> Failure
     ensures memory { error_kind error.now ≡ ErrorKind.OutOfMemory → IsMemory result }
-    ensures input { error_kind error.now ≢ ErrorKind.OutOfMemory → result ≡ Failure.Input }
+    ensures input { error_kind error.now ≢ ErrorKind.OutOfMemory
+        → result ≡ (if is_file then Failure.File else Failure.Input) }
 {
     if error.kind() == ErrorKind::OutOfMemory {
         Failure::Memory(AllocError)
+    } else if is_file {
+        Failure::File
     } else {
         Failure::Input
     }
@@ -45,11 +54,15 @@ impl From<AllocError> for Failure {
 
 /// The failure of a write.
 impl From<io::Error> for Failure {
-    ghost use Rattle.argon2_audit.specs.declared.failure.Failure.TheVariants.{Output};
+    ghost use Rattle.argon2_audit.specs.Failures.{IsOfWriting};
 
-    ghost from_gives = { λ _ failure. failure ≡ Output };
+    ghost from_gives = { IsOfWriting };
 
-    fn from(_error: io::Error) -> Failure {
-        Failure::Output
+    fn from(error: io::Error) -> Failure {
+        if error.kind() == ErrorKind::BrokenPipe {
+            Failure::Closed
+        } else {
+            Failure::Output
+        }
     }
 }

@@ -1,32 +1,33 @@
 //! What a line comes to.
 
-ghost use Rattle.std.specs.Prelude.{◌≡◌, ◌≤◌, length};
-ghost use Rattle.std.specs.Io.BufRead.{strip_last};
-ghost use Rattle.std.specs.List.{position_or_len};
-ghost use Rattle.argon2_audit.specs.Finding.{IsFinding, is_colon, field_of, class_of};
+ghost use Rattle.std.specs.Prelude.{◌≤◌, length};
+ghost use Rattle.argon2_audit.specs.Finding.{IsFinding, IsTextFinding};
 
+use crate::claim::{Claim, claim_of, stored};
 use crate::entry::{Entry, shown};
+use crate::place::Place;
 use crate::policy::Policy;
 use argon2::password_hash::Error;
-use memchr::memchr;
 
 /// What a line comes to.
 #[derive(Drop)]
 pub enum Finding {
     /// The line has more bytes than any line may have.
     TooLong,
-    /// The text is not UTF-8.
+    /// The line claims to store something else than a text of Argon2.
+    Claimed(Claim),
+    /// The text claims to be Argon2's, and is not UTF-8.
     NotUtf8,
-    /// The text is outside the grammar, or not Argon2's.
+    /// The text claims to be Argon2's, and is outside the grammar, or shows what Argon2 does not have.
     Refused(Error),
     /// What the text shows.
     Shown(Entry),
 }
 
 /// What a line counts as.
-#[derive(Clone, Copy, Debug, PartialEq, Eq)]
+#[derive(Clone, Copy)]
 pub enum Class {
-    /// It stores no text of Argon2.
+    /// It is too long, or its text claims to be Argon2's and is not.
     Outside,
     /// Its text has no hash.
     NoHash,
@@ -34,14 +35,36 @@ pub enum Class {
     Below,
     /// Nothing of its text is.
     Sound,
+    /// Its text is of another scheme.
+    Other,
+    /// It is locked.
+    Locked,
+    /// Its text is empty.
+    Empty,
+    /// It is blank.
+    Blank,
+    /// It is a comment.
+    Comment,
+    /// Its text is of no known scheme, or it lacks the field.
+    Unknown,
 }
 
-/// What a line comes to that is not too long. A carriage return at its end belongs to the end.
-pub fn found(line: &[u8]) -> Finding
+/// What a line comes to that is not too long.
+pub fn found(line: &[u8], place: Place) -> Finding
     requires { length line.now ≤ 4096 }
-    ensures { IsFinding line.now result }
+    ensures { IsFinding place line.now result }
 {
-    let Ok(text) = str::from_utf8(stored_text(without_return(line))) else {
+    match claim_of(line, place) {
+        Claim::Argon2 => found_text(stored(line, place)),
+        claim => Finding::Claimed(claim),
+    }
+}
+
+// What a text comes to that claims to be Argon2's.
+fn found_text(text: &[u8]) -> Finding
+    ensures { IsTextFinding text.now result }
+{
+    let Ok(text) = str::from_utf8(text) else {
         return Finding::NotUtf8;
     };
     match shown(text) {
@@ -50,43 +73,16 @@ pub fn found(line: &[u8]) -> Finding
     }
 }
 
-// The line without a carriage return at its end.
-fn without_return(line: &[u8]) -> &[u8]
-    ensures { result.now ≡ strip_last 13 line.now }
-{
-    if !line.is_empty() && line[line.len() - 1] == b'\r' {
-        &line[..line.len() - 1]
-    } else {
-        line
-    }
-}
-
-// The text of a line: the second of the fields between colons, or all where there is no colon.
-fn stored_text(line: &[u8]) -> &[u8]
-    ensures { result.now ≡ field_of line.now }
-{
-    let end = first_colon(line);
-    if end == line.len() {
-        return line;
-    }
-    let rest = &line[end + 1..];
-    &rest[..first_colon(rest)]
-}
-
-// Where the first colon stands, or the length where there is none.
-fn first_colon(bytes: &[u8]) -> usize
-    ensures value { result ≡ position_or_len is_colon bytes.now }
-    ensures max { result ≤ length bytes.now }
-{
-    memchr(b':', bytes).unwrap_or(bytes.len())
-}
-
 impl Finding {
+    ghost use Rattle.std.specs.Prelude.{◌≡◌};
+    ghost use Rattle.argon2_audit.specs.Finding.{class_of};
+
     /// What a line of this finding counts as.
     pub fn class(&self, policy: &Policy) -> Class
         ensures { result ≡ class_of policy.now self.now }
     {
         match self {
+            Finding::Claimed(claim) => claim.class(),
             Finding::Shown(entry) => {
                 if entry.hash_len.is_none() {
                     Class::NoHash
@@ -97,6 +93,57 @@ impl Finding {
                 }
             }
             _ => Class::Outside,
+        }
+    }
+}
+
+impl Class {
+    ghost use Rattle.std.specs.Prelude.{◌≡◌, ◌≤◌};
+    ghost use Rattle.argon2_audit.specs.Tally.{class_number, is_class, one_if};
+
+    /// 1 where this is the other class, and 0 where it is not.
+    pub fn one_if(self, other: Class) -> u64
+        ensures value { result ≡ one_if (is_class self other) }
+        ensures max { result ≤ 1 }
+    {
+        u64::from(self.number() == other.number())
+    }
+
+    // A number that no other class has.
+    fn number(self) -> u8
+        ensures { result ≡ class_number self }
+    {
+        match self {
+            Class::Outside => 0,
+            Class::NoHash => 1,
+            Class::Below => 2,
+            Class::Sound => 3,
+            Class::Other => 4,
+            Class::Locked => 5,
+            Class::Empty => 6,
+            Class::Blank => 7,
+            Class::Comment => 8,
+            Class::Unknown => 9,
+        }
+    }
+}
+
+impl Claim {
+    ghost use Rattle.std.specs.Prelude.{◌≡◌};
+    ghost use Rattle.argon2_audit.specs.Finding.{class_of_claim};
+
+    // What a line with this claim counts as.
+    fn class(self) -> Class
+        ensures { result ≡ class_of_claim self }
+    {
+        match self {
+            Claim::Argon2 => Class::Outside,
+            Claim::Other(_) => Class::Other,
+            Claim::Locked => Class::Locked,
+            Claim::Empty => Class::Empty,
+            Claim::Blank => Class::Blank,
+            Claim::Comment => Class::Comment,
+            Claim::NoField | Claim::Unknown => Class::Unknown,
         }
     }
 }

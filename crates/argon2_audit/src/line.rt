@@ -4,6 +4,7 @@ ghost use Rattle.std.specs.Prelude.{◌≡◌, ◌≤◌, IsTrue, vec_len};
 ghost use Rattle.argon2_audit.specs.declared.line.TheConstants.{LONGEST};
 
 use crate::finding::{Finding, found};
+use crate::place::Place;
 use std::alloc::{AllocError, Global};
 
 /// The most bytes that a line may have, without its line feed.
@@ -46,15 +47,15 @@ impl Line {
         Ok(())
     }
 
-    /// What the line comes to, after which nothing is read of the next one.
-    pub fn end(&mut self) -> Finding
-        ensures finding { (line : List ℕ) → IsRead self.old line → IsFinding line result }
+    /// What the line comes to, whose text stands at this place, after which nothing is read of the next one.
+    pub fn end(&mut self, place: Place) -> Finding
+        ensures finding { (line : List ℕ) → IsRead self.old line → IsFinding place line result }
         ensures next { IsRead self.new [] }
     {
         let finding = if self.is_long {
             Finding::TooLong
         } else {
-            found(self.bytes.as_slice())
+            found(self.bytes.as_slice(), place)
         };
         self.bytes.clear();
         self.is_long = false;

@@ -1,13 +1,13 @@
-//! What a stored text has to have at the least.
+//! What a stored text has to have.
 
 ghost use Rattle.std.specs.Prelude.{◌≡◌};
 
 use crate::entry::Entry;
-use argon2::Params;
 use argon2::phc::Salt;
+use argon2::{Algorithm, Params};
 
-/// The least costs, and the least lengths of a salt and of a hash in bytes.
-#[derive(Clone, Copy, Debug, PartialEq, Eq)]
+/// The least costs, lengths and version, the algorithm, and whether other schemes count as sound.
+#[derive(Clone, Copy)]
 pub struct Policy {
     /// Memory in blocks of 1024 bytes.
     pub m_cost: u32,
@@ -19,16 +19,24 @@ pub struct Policy {
     pub salt_len: u32,
     /// Bytes of the hash.
     pub hash_len: u32,
+    /// The number of the version.
+    pub version: u32,
+    /// The one algorithm that is sound, where only one is.
+    pub algorithm: Option<Algorithm>,
+    /// Texts of other schemes count as sound, and so do locked and blank lines and comments.
+    pub allows_other: bool,
 }
 
 /// What of a text is below a policy.
-#[derive(Clone, Copy, Debug, PartialEq, Eq)]
+#[derive(Clone, Copy)]
 pub struct Shortfalls {
     pub memory: bool,
     pub passes: bool,
     pub lanes: bool,
     pub salt: bool,
     pub hash: bool,
+    pub version: bool,
+    pub algorithm: bool,
 }
 
 impl Policy {
@@ -41,6 +49,9 @@ impl Policy {
         p_cost: Params::DEFAULT_P_COST,
         salt_len: Salt::RECOMMENDED_LENGTH as u32,
         hash_len: Params::DEFAULT_OUTPUT_LEN as u32,
+        version: 0,
+        algorithm: None,
+        allows_other: false,
     };
 
     /// What of a text is below the policy. A salt or a hash that is missing has no bytes.
@@ -55,6 +66,22 @@ impl Policy {
             lanes: entry.kind.p_cost < self.p_cost,
             salt: salt_len < self.salt_len,
             hash: hash_len < self.hash_len,
+            version: u32::from(entry.kind.version) < self.version,
+            algorithm: self.refuses(entry.kind.algorithm),
+        }
+    }
+}
+
+impl Policy {
+    ghost use Rattle.argon2_audit.specs.Policy.{is_refused};
+
+    // Whether another algorithm is required.
+    fn refuses(&self, algorithm: Algorithm) -> bool
+        ensures { result ≡ is_refused self.now.algorithm algorithm }
+    {
+        match self.algorithm {
+            Some(required) => required != algorithm,
+            None => false,
         }
     }
 }
@@ -66,6 +93,12 @@ impl Shortfalls {
     pub fn any(&self) -> bool
         ensures { result ≡ is_any self.now }
     {
-        self.memory || self.passes || self.lanes || self.salt || self.hash
+        self.memory
+            || self.passes
+            || self.lanes
+            || self.salt
+            || self.hash
+            || self.version
+            || self.algorithm
     }
 }

@@ -7,8 +7,7 @@ ghost use Rattle.argon2_audit.specs.Session.{IsAnswer, IsAudit, IsPassed, IsTall
 
 use crate::arguments::Command;
 use crate::failure::{Failure, of_reading};
-use crate::policy::Policy;
-use crate::report;
+use crate::options::Options;
 use crate::session::Session;
 use std::alloc::Global;
 use std::io::{ErrorKind, Read, Write};
@@ -16,30 +15,51 @@ use std::io::{ErrorKind, Read, Write};
 #[cfg(test)]
 mod tests;
 
-const USAGE: &str =
-    "usage: argon2-audit [--min-m M] [--min-t T] [--min-p P] [--min-salt N] [--min-hash N] | --help";
+const USAGE: &str = "\
+usage: argon2-audit [--min-m M] [--min-t T] [--min-p P] [--min-salt N] [--min-hash N] [--min-version V]
+           [--require ALGORITHM] [--allow-other] [--field N] [--separator C] [--json | --quiet] [FILE]..
+       argon2-audit -h | --help | --version";
+
+const VERSION: &str = "argon2-audit 0.6.0\n";
 
 const HELP: &str = "\
 argon2-audit says which stored texts of passwords are below a policy.
 
-It reads standard input to its end, a text a line; of a line with colons, as a password file has
-them, the text is the second field. It writes a remark for each thing that keeps a line from being
-sound, then how many lines there are of each class, and how many of each algorithm, version and
-costs. Lines are named by their numbers, and nothing of their names, salts and hashes is written.
+    argon2-audit [OPTION].. [FILE]..
 
-    --min-m M       the least memory, in blocks of 1024 bytes (19456)
-    --min-t T       the least number of passes (2)
-    --min-p P       the least number of lanes (1)
-    --min-salt N    the fewest bytes of a salt (16)
-    --min-hash N    the fewest bytes of a hash (32)
+It reads the files one after another, or standard input where none is named or one is `-`, a text a
+line; of a line with colons, as a password file has them, the text is the second field. It writes a
+remark for each thing that keeps a line from being sound, then how many lines there are of each
+class, and how many of each algorithm, version and costs. Lines are named by their numbers, counted
+through all files, and nothing of their names, salts and hashes is written.
+
+    --min-m M            the least memory, in blocks of 1024 bytes (19456)
+    --min-t T            the least number of passes (2)
+    --min-p P            the least number of lanes (1)
+    --min-salt N         the fewest bytes of a salt (16)
+    --min-hash N         the fewest bytes of a hash (32)
+    --min-version V      the least version, 16 or 19 (any)
+    --require ALGORITHM  the one sound algorithm: argon2d, argon2i or argon2id (any)
+    --allow-other        other schemes, locked and blank lines and comments count as sound
+    --field N            the text is field N, and a line without it is not sound
+    --separator C        the one byte between two fields (:)
+    --json               write one JSON object: findings by line, counts, table
+    --quiet              write nothing; the status says all
+    -h, --help           write this
+    --version            write the version
 
 A line is sound where its text is in the grammar, names an algorithm and a version of Argon2, has
 valid parameters, a salt and a hash, and has nothing below the policy. A line may have 4096 bytes.
+A byte order mark at the start of a line and a carriage return at its end are passed over, and so is
+what Django, Dovecot and LDAP servers put before a text: argon2, {argon2}, {ARGON2}, {ARGON2I},
+{ARGON2ID} and {CRYPT}. Texts of other schemes are named by how they begin: bcrypt, scrypt, PBKDF2,
+yescrypt, sha256crypt, sha512crypt, md5crypt, and digests of Django and LDAP. A text that begins
+with ! or * is locked. An empty text is never sound: some systems take any password for it.
 The salts of all lines are kept, to find equal ones: about 100 bytes of memory a line.
 
 The status is 0 where each line is sound and no two salts are equal. It is 1 where that is not so,
 and where reading, writing or a request for memory fails, which standard error says; and 2 where
-the arguments are not these options, each with a decimal number.
+the arguments are not of this form.
 ";
 
 // How many bytes are read at once.
@@ -53,11 +73,14 @@ const STRIDE: u64 = 256;
 
 /// Audits the lines of `input`, and returns the exit status.
 ///
-/// Status 0: the report is written, and each line is sound, or the help was asked for. Status 1: the report
-/// is written, and some line is not sound; or the failure's text is written to `errors`. Status 2: the
-/// arguments are no options, `errors` has the usage line, and neither `input` nor `output` is touched.
-/// How many lines were read is told on `errors` meanwhile, where progress is to be shown. Where `errors`
-/// can't be written, the status stays.
+/// Status 0: the report is written, each line counts as sound and no two salts are equal, or a page was asked
+/// for. A text of another scheme, a locked line, a blank one and a comment count as sound only where the policy
+/// allows other schemes. Status 1: the report is written, and some line does not count as sound; or the failure's
+/// text is written to `errors`, which gets none where nobody reads `output` any more. Status 2: the arguments are
+/// not of the form of the usage lines, which `errors` gets, and neither `input` nor `output` is touched.
+/// `input` is read whatever files the arguments name: the caller opens those. Where progress is to be shown,
+/// `errors` gets the number of lines read so far from time to time. Where `errors` can't be written, the status
+/// stays.
 pub fn run<R: Read, W: Write, E: Write>(
     alloc: Global,
     args: &[String],
@@ -82,6 +105,7 @@ pub fn run<R: Read, W: Write, E: Write>(
     match answer(alloc, command, input, output, errors, shows_progress) {
         Ok(true) => 0,
         Ok(false) => 1,
+        Err(Failure::Closed) => 1,
         Err(failure) => fail(errors, failure),
     }
 }
@@ -107,17 +131,18 @@ fn answer<R: Read, W: Write, E: Write>(
     ensures quiet { IsFalse shows_progress → Keeps (E.contents errors.old) (E.contents errors.new) }
 {
     match command {
-        Command::Help => help(output),
-        Command::Audit(policy) => report_on(alloc, policy, input, output, errors, shows_progress),
+        Command::Help => page(output, HELP),
+        Command::Version => page(output, VERSION),
+        Command::Audit(options) => report_on(alloc, options, input, output, errors, shows_progress),
     }
 }
 
-// Writes the help.
-fn help<W: Write>(output: &mut W) -> Result<bool, Failure>
+// Writes a page.
+fn page<W: Write>(output: &mut W, text: &str) -> Result<bool, Failure>
     ensures ok { IfOk result IsTrue }
-    ensures written { OnOk result (Appends (W.contents output.old) (W.contents output.new) HELP.now) }
+    ensures written { OnOk result (Appends (W.contents output.old) (W.contents output.new) text.now) }
 {
-    output.write_all(HELP.as_bytes())?;
+    output.write_all(text.as_bytes())?;
     output.flush()?;
     Ok(true)
 }
@@ -125,34 +150,34 @@ fn help<W: Write>(output: &mut W) -> Result<bool, Failure>
 // Reads all lines, writes the report, and returns whether each line is sound and no two salts are equal.
 fn report_on<R: Read, W: Write, E: Write>(
     alloc: Global,
-    policy: Policy,
+    options: Options,
     input: &mut R,
     output: &mut W,
     errors: &mut E,
     shows_progress: bool,
 ) -> Result<bool, Failure>
-    ensures audit { IfOk result (IsAudit policy (R.remaining input.old)) }
+    ensures audit { IfOk result (IsAudit options (R.remaining input.old)) }
     ensures quiet { IsFalse shows_progress → Keeps (E.contents errors.old) (E.contents errors.new) }
 {
-    let session = session_of(alloc, policy, input, output, errors, shows_progress)?;
-    report::table(output, &session.audit)?;
-    Ok(session.audit.tally.is_clean())
+    let session = session_of(alloc, options, input, output, errors, shows_progress)?;
+    session.end_report(output)?;
+    Ok(session.audit.tally.is_clean(&options.policy))
 }
 
 // The session after all that is left in `input`.
 fn session_of<R: Read, W: Write, E: Write>(
     alloc: Global,
-    policy: Policy,
+    options: Options,
     input: &mut R,
     output: &mut W,
     errors: &mut E,
     shows_progress: bool,
 ) -> Result<Session, Failure>
     ensures session { IfOk result (λ session. IfSome (R.remaining input.old)
-        (λ bytes. IsTallied policy bytes session.audit.tally)) }
+        (λ bytes. IsTallied options bytes session.audit.tally)) }
     ensures quiet { IsFalse shows_progress → Keeps (E.contents errors.old) (E.contents errors.new) }
 {
-    let mut session = Session::new(alloc, policy);
+    let mut session = Session::new(alloc, options);
     let mut piece = [0u8; PIECE];
     'pieces: for turn in 0..PIECES {
         match input.read(&mut piece) {
@@ -163,7 +188,7 @@ fn session_of<R: Read, W: Write, E: Write>(
             Ok(count) => session.add(&piece[..count], output)?,
             Err(e) => {
                 if e.kind() != ErrorKind::Interrupted {
-                    return Err(of_reading(&e));
+                    return Err(of_reading(&e, options.files > 0));
                 }
             }
         }

@@ -2,6 +2,7 @@
 
 ghost use Rattle.std.specs.Prelude.{◌≡◌};
 
+use crate::claim::Scheme;
 use crate::entry::{Entry, Kind};
 use argon2::phc::Salt;
 use arrayvec::ArrayVec;
@@ -12,6 +13,8 @@ use std::collections::{BTreeMap, BTreeSet};
 #[derive(Drop)]
 pub struct Seen {
     pub kinds: BTreeMap<Kind, u64>,
+    /// How many texts there were of each other scheme.
+    pub schemes: BTreeMap<Scheme, u64>,
     salts: BTreeSet<ArrayVec<u8, 48>>,
 }
 
@@ -25,6 +28,7 @@ impl Seen {
     {
         Seen {
             kinds: BTreeMap::new(alloc),
+            schemes: BTreeMap::new(alloc),
             salts: BTreeSet::new(alloc),
         }
     }
@@ -45,6 +49,18 @@ impl Seen {
         let count = self.kinds.entry(entry.kind)?.or_insert(0);
         *count = count.saturating_add(1);
         Ok(is_equal)
+    }
+
+    /// Counts a text of another scheme.
+    ///
+    /// # Errors
+    /// Memory may be refused, and the text is not counted then.
+    pub fn add_other(&mut self, scheme: Scheme) -> Result<(), AllocError>
+        ensures { (salt : List ℕ) → has_salt self.new salt ≡ has_salt self.old salt }
+    {
+        let count = self.schemes.entry(scheme)?.or_insert(0);
+        *count = count.saturating_add(1);
+        Ok(())
     }
 }
 

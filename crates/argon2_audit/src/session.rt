@@ -3,8 +3,8 @@
 use crate::audit::Audit;
 use crate::failure::Failure;
 use crate::line::Line;
-use crate::policy::Policy;
-use crate::report;
+use crate::options::Options;
+use crate::report::Report;
 use std::alloc::Global;
 use std::io::Write;
 
@@ -13,6 +13,7 @@ use std::io::Write;
 pub struct Session {
     pub audit: Audit,
     line: Line,
+    report: Report,
 }
 
 impl Session {
@@ -21,21 +22,22 @@ impl Session {
     ghost use Rattle.argon2_audit.specs.Session.{IsAfter, IsBegun, IsTallied};
 
     /// An audit of no bytes.
-    pub fn new(alloc: Global, policy: Policy) -> Session
-        ensures policy { result.audit.policy ≡ policy }
+    pub fn new(alloc: Global, options: Options) -> Session
+        ensures options { result.audit.options ≡ options }
         ensures lines { result.audit.tally.lines ≡ 0 }
         ensures after { IsAfter result [] }
     {
         Session {
-            audit: Audit::new(alloc, policy),
+            audit: Audit::new(alloc, options),
             line: Line::new(alloc),
+            report: Report::new(options.form),
         }
     }
 
     /// Takes account of more bytes, and writes remarks on the lines that end in them.
     pub fn add<W: Write>(&mut self, bytes: &[u8], output: &mut W) -> Result<(), Failure>
         requires { self.old.audit.tally.lines + length bytes.now < 2 ^ 64 }
-        ensures policy { OnOk result (self.new.audit.policy ≡ self.old.audit.policy) }
+        ensures options { OnOk result (self.new.audit.options ≡ self.old.audit.options) }
         ensures lines { OnOk result
             (self.new.audit.tally.lines ≤ self.old.audit.tally.lines + length bytes.now) }
         ensures after { OnOk result ((before : List ℕ) → IsAfter self.old before
@@ -50,7 +52,7 @@ impl Session {
     // Takes account of one more byte.
     fn add_byte<W: Write>(&mut self, byte: u8, output: &mut W) -> Result<(), Failure>
         requires { self.old.audit.tally.lines < 2 ^ 64 - 1 }
-        ensures policy { OnOk result (self.new.audit.policy ≡ self.old.audit.policy) }
+        ensures options { OnOk result (self.new.audit.options ≡ self.old.audit.options) }
         ensures lines { OnOk result
             (self.new.audit.tally.lines ≤ self.old.audit.tally.lines + 1) }
         ensures after { OnOk result ((before : List ℕ) → IsAfter self.old before
@@ -68,7 +70,7 @@ impl Session {
     pub fn finish<W: Write>(&mut self, output: &mut W) -> Result<(), Failure>
         requires { self.old.audit.tally.lines < 2 ^ 64 - 1 }
         ensures { OnOk result ((bytes : List ℕ) → IsAfter self.old bytes
-            → IsTallied self.old.audit.policy bytes self.new.audit.tally) }
+            → IsTallied self.old.audit.options bytes self.new.audit.tally) }
     {
         if !self.line.is_empty() {
             self.end_line(output)?;
@@ -76,20 +78,25 @@ impl Session {
         Ok(())
     }
 
+    /// Writes what the lines come to, after the last.
+    pub fn end_report<W: Write>(&self, output: &mut W) -> Result<(), Failure> {
+        self.report.table(output, &self.audit)
+    }
+
     // Ends a line.
     fn end_line<W: Write>(&mut self, output: &mut W) -> Result<(), Failure>
         requires { self.old.audit.tally.lines < 2 ^ 64 - 1 }
-        ensures policy { OnOk result (self.new.audit.policy ≡ self.old.audit.policy) }
+        ensures options { OnOk result (self.new.audit.options ≡ self.old.audit.options) }
         ensures lines { OnOk result
             (self.new.audit.tally.lines ≡ self.old.audit.tally.lines + 1) }
         ensures after { OnOk result ((before : List ℕ) → IsAfter self.old before
             → IsAfter self.new (before ++ 10 ∷ [])) }
         ensures whole { OnOk result ((bytes : List ℕ) → IsAfter self.old bytes
-            → ¬ IsRead self.old.line [] → IsTallied self.old.audit.policy bytes self.new.audit.tally) }
+            → ¬ IsRead self.old.line [] → IsTallied self.old.audit.options bytes self.new.audit.tally) }
     {
-        let finding = self.line.end();
+        let finding = self.line.end(self.audit.options.place);
         let marks = self.audit.add(&finding)?;
         let number = self.audit.tally.lines;
-        report::remarks(output, number, &finding, &self.audit.policy, marks)
+        self.report.remarks(output, number, &finding, &self.audit.options.policy, marks)
     }
 }

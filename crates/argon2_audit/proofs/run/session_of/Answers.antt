@@ -18,7 +18,7 @@ pieces-preserved g c =
           rw w.session-is (
             search rules,
             search rules,
-            w.in_ok-add-in-Ok.ensures.policy ∙ before.2,
+            w.in_ok-add-in-Ok.ensures.options ∙ before.2,
             (
               before.3.0 ++ take w.in-Ok.count c.read.new.buf,
               w.in_ok-add-in-Ok.ensures.after _ before.3.1,

@@ -14,8 +14,8 @@ returns-clause-after g c =
     let next = c.end-finding.new.self in
     let ensured = c.in_ok-marks.ensures in
     always c.remarks.result _ (λ before after.
-    subst (λ p. IsBegun next new.seen p (before ++ 10 ∷ []) new.tally) (sym ensured.policy)
-    (line_more old.line next old.audit.seen new.seen old.audit.policy old.audit.tally new.tally before c.end-finding.result
+    subst (λ p. IsBegun next new.seen p (before ++ 10 ∷ []) new.tally) (sym ensured.options)
+    (line_more old.line next old.audit.seen new.seen old.audit.options old.audit.tally new.tally before c.end-finding.result
     c.in_ok-marks.marks c.end-finding.ensures.finding c.end-finding.ensures.next ensured.counts ensured.class ensured.short
     ensured.equal ensured.kept after))
 
@@ -24,5 +24,5 @@ returns-clause-whole g c =
     let old = c.args.self.now in
     let ensured = c.in_ok-marks.ensures in
     always c.remarks.result _ (λ bytes after some.
-    line_last old.line old.audit.seen old.audit.policy old.audit.tally c.add.new.self.tally bytes c.end-finding.result
+    line_last old.line old.audit.seen old.audit.options old.audit.tally c.add.new.self.tally bytes c.end-finding.result
     c.in_ok-marks.marks c.end-finding.ensures.finding ensured.counts ensured.class ensured.short ensured.equal some after)

@@ -1,0 +1,72 @@
+//! Where the text stands in a line.
+
+ghost use Rattle.std.specs.Prelude.{◌≡◌, ◌==◌, ◌≤◌, length};
+ghost use Rattle.std.specs.Option.{option_copied};
+ghost use Rattle.std.specs.List.{position_or_len};
+ghost use Rattle.argon2_audit.specs.Place.{field_numbered, second_or_all};
+
+use memchr::memchr;
+
+/// Which of a line's fields is its text.
+#[derive(Clone, Copy)]
+pub struct Place {
+    /// How many fields stand before it; none where it is the second, or all of a line with one field.
+    pub before: Option<u32>,
+    /// The byte between two fields.
+    pub separator: u8,
+}
+
+impl Place {
+    ghost use Rattle.argon2_audit.specs.Place.{field_in};
+
+    /// The second of the fields between colons, or all of a line without a colon.
+    pub const DEFAULT: Place = Place {
+        before: None,
+        separator: b':',
+    };
+
+    /// The field with the text, where the line has it.
+    pub fn field<'a>(self, line: &'a [u8]) -> Option<&'a [u8]>
+        ensures { option_copied result ≡ field_in self line.now }
+    {
+        match self.before {
+            None => Some(second_or_all(line, self.separator)),
+            Some(before) => field_numbered(line, before, self.separator),
+        }
+    }
+}
+
+// The second of the fields, or all where there is no separator.
+fn second_or_all(line: &[u8], separator: u8) -> &[u8]
+    ensures { result.now ≡ second_or_all separator line.now }
+{
+    let end = first(line, separator);
+    if end == line.len() {
+        return line;
+    }
+    let rest = &line[end + 1..];
+    &rest[..first(rest, separator)]
+}
+
+// The field with so many before it.
+fn field_numbered(line: &[u8], before: u32, separator: u8) -> Option<&[u8]>
+    ensures { option_copied result ≡ field_numbered before separator line.now }
+{
+    let end = first(line, separator);
+    if before == 0 {
+        return Some(&line[..end]);
+    }
+    if end == line.len() {
+        return None;
+    }
+    let (_, rest) = line.split_at(end + 1);
+    field_numbered(rest, before - 1, separator)
+}
+
+// Where the first separator stands, or the length where there is none.
+fn first(bytes: &[u8], separator: u8) -> usize
+    ensures value { result ≡ position_or_len (λ byte. byte == separator) bytes.now }
+    ensures max { result ≤ length bytes.now }
+{
+    memchr(separator, bytes).unwrap_or(bytes.len())
+}
