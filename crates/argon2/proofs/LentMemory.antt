@@ -7,13 +7,10 @@ use Rattle.std.proofs.lemmas.Slice.{drop-append-drop}
 use Rattle.std.proofs.Math.Seq.{take-append_seam}
 use Rattle.argon2.specs.declared.context.Argon2.{Argon2}
 use Rattle.argon2.specs.Argon2.{context_of}
-use Rattle.argon2.specs.Context.{Context, IsValid, lane_length, block_count}
+use Rattle.argon2.specs.Rfc9106.{Context, IsValid, Memory, block_count, first_block, lane_length, matrix, matrix_of, tag_of}
 use Rattle.argon2.specs.Hashing.{blocks_of, KeepsOtherColumns, KeepsRest, IsBegun, IsFilled, IsHashed}
-use Rattle.argon2.specs.InitialHash.{first_block}
 use Rattle.argon2.specs.Laws.{Begins}
-use Rattle.argon2.specs.Recurrence.{matrix}
-use Rattle.argon2.specs.Steps.{Memory, step}
-use Rattle.argon2.specs.Tag.{matrix_of, tag_of}
+use Rattle.argon2.specs.Steps.{step}
 
 -- the matrix has as many blocks as are filled
 length-matrix_of : (ctx : Context) (password salt : List ℕ) (n : ℕ)

@@ -2,7 +2,7 @@ pub mod InitialHashing
 mod LentMemory
 mod RefusalLemmas
 pub mod lists
-pub mod logins
+pub mod login_store
 pub mod recurrence
 pub mod schedules
-pub mod stored
+pub mod stored_hashes

@@ -7,9 +7,8 @@ use Rattle.argon2.specs.declared.version.Version.TheVariants.{V0x13}
 use Rattle.argon2.specs.declared.context.Secret.{Secret}
 use Rattle.argon2.specs.declared.context.Argon2.{Argon2}
 use Rattle.argon2.specs.declared.params.Params.{Params}
-use Rattle.argon2.specs.Context.{Context, context_with}
-use Rattle.argon2.specs.Parameters.{Parameters, AreValid, first_fault}
-use Rattle.argon2.specs.Settings.{Settings}
+use Rattle.argon2.specs.Rfc9106.{Context, context_with}
+use Rattle.argon2.specs.Settings.{AreValid, Parameters, Settings, first_fault}
 use Rattle.argon2_base.specs.declared.error.Error.{Error}
 use Rattle.argon2_base.specs.declared.error.Error.TheVariants.{SecretTooLong}
 use Rattle.argon2.specs.Params.{parameters_of}

@@ -8,11 +8,11 @@ use Rattle.argon2_base.specs.declared.error.password_hash.Error.TheVariants.{Enc
 use Rattle.argon2.specs.declared.bound.Bound.{Bound}
 use Rattle.argon2.specs.declared.bound.BoundError.{BoundError}
 use Rattle.argon2.specs.declared.bound.BoundError.TheVariants.{TooExpensive, Refused}
-use Rattle.argon2.specs.Accepts.{Accepts, AcceptsBy, IsVerifyAnswer}
+use Rattle.argon2.specs.Stored.{Accepts, AcceptsBy, IsVerifyAnswer}
 use Rattle.argon2.specs.ListedParameters.{params_of}
 use Rattle.argon2.specs.Login.{IsText}
-use Rattle.argon2.specs.Parameters.{Parameters}
-use Rattle.argon2.specs.Shape.{block_count}
+use Rattle.argon2.specs.Settings.{Parameters}
+use Rattle.argon2.specs.Rfc9106.{block_count_for}
 
 -- the parameters that a text's value asks for, or why it has none
 abbrev pub asked_of : Phc → Result Parameters Fault
@@ -20,7 +20,7 @@ asked_of v = params_of (option_map length v.hash) v.params
 
 -- the bytes of the memory that is filled
 abbrev pub bytes_filled : Parameters → ℕ
-bytes_filled parameters = 1024 * block_count parameters.m_cost parameters.p_cost
+bytes_filled parameters = 1024 * block_count_for parameters.m_cost parameters.p_cost
 
 -- no cost is above the bound's
 abbrev pub IsWithin : Bound → Parameters → Type 0
@@ -37,7 +37,7 @@ pub record AsksWithin (bound : Bound) (v : Phc) : Type 0 where
 -- the same, and so many blocks are what it asks for
 abbrev pub AsksBlocksWithin : Bound → Phc → ℕ → Type 0
 AsksBlocksWithin bound v blocks = (asks : AsksWithin bound v)
-    × (blocks ≡ block_count asks.parameters.m_cost asks.parameters.p_cost)
+    × (blocks ≡ block_count_for asks.parameters.m_cost asks.parameters.p_cost)
 
 -- why a value is not admitted
 abbrev pub HashRefusal : Bound → Phc → BoundError → Type 0

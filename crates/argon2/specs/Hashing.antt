@@ -4,15 +4,12 @@ use Rattle.argon2_base.specs.declared.error.Error.{Error}
 use Rattle.argon2_base.specs.declared.error.Error.TheVariants.{OutOfMemory}
 use Rattle.argon2.specs.declared.context.Argon2.{Argon2}
 use Rattle.argon2.specs.Argon2.{context_of, own_parameters}
-use Rattle.argon2.specs.Context.{Context, IsValid, lane_length, block_count}
-use Rattle.argon2.specs.Counting.{mixing_calls}
-use Rattle.argon2.specs.InitialHash.{first_block}
+use Rattle.argon2.specs.Rfc9106.{Context, IsValid, Memory, block_count, first_block, lane_length, matrix_of, tag_of}
+use Rattle.argon2.specs.Watching.{AreReferencePlaces, mixing_calls}
 use Rattle.argon2.specs.Laws.{Begins}
 use Rattle.argon2.specs.Refusals.{answer_unless, first_of, output_faults, input_faults, memory_faults}
-use Rattle.argon2.specs.Steps.{Memory, reference_place, step}
-use Rattle.argon2.specs.Tag.{tag_of, matrix_of}
-use Rattle.argon2.specs.Positions.{AreReferencePlaces}
-pub use Rattle.argon2.specs.Positions.{place_count}
+use Rattle.argon2.specs.Steps.{reference_place, step}
+pub use Rattle.argon2.specs.Watching.{place_count}
 
 -- ---- refusals
 

@@ -1,14 +1,10 @@
 -- What the laws of Argon2 say.
 use Rattle.std.specs.Prelude.{◌≡◌, ℕ, ◌+◌, ◌*◌, ◌<◌, List, [], length, slice_index_or}
-use Rattle.argon2_base.specs.Block.{bytes_of, zero_block}
+use Rattle.argon2_base.specs.Block.{bytes_of, mixed, zero_block}
 use Rattle.argon2_base.specs.LongHash.{long_hash}
-use Rattle.argon2_base.specs.Mixing.{mixed}
-use Rattle.argon2.specs.Context.{Context, context_with, IsValid, segment_length, lane_length, block_count}
-use Rattle.argon2.specs.InitialHash.{first_block}
-use Rattle.argon2.specs.Recurrence.{FirstColumns, Blocks, rule, block_of, reference_places, matrix}
+use Rattle.argon2.specs.Rfc9106.{Blocks, Context, FirstColumns, IsValid, Memory, block_count, block_of, context_with, first_block, lane_length, matrix, reference_places, rule, segment_length, tag_of}
 use Rattle.argon2.specs.Settings.{Settings}
-use Rattle.argon2.specs.Steps.{Memory, IsSchedule, run, run_passes, last_column}
-use Rattle.argon2.specs.Tag.{tag_of}
+use Rattle.argon2.specs.Steps.{IsSchedule, run, run_passes, last_column}
 
 -- mixing does not mind the order of the two blocks
 abbrev pub MixingIsSymmetric : Type 0

@@ -1,16 +1,20 @@
--- Parameters as a parameter list, and the parameters that a list stands for.
-use Rattle.std.specs.Prelude.{◌≡◌, ℕ, List, [], ◌∷◌, ◌++◌, codes, if◌then◌else◌, Option, Some, None, IsNone, Result, Ok, Err, unwrap_or, option_and_then}
+-- What a list of parameters stands for, item after item, and how parameters print.
+use Rattle.std.specs.Prelude.{◌≡◌, ℕ, List, [], ◌∷◌, ◌++◌, codes, if◌then◌else◌, Option, Some, None, IsNone, Result, Ok, Err, unwrap_or, option_and_then, ◌⊎◌, length}
 use Rattle.std.specs.Fmt.{decimal}
-use Rattle.std.specs.Option.{option_or}
+use Rattle.std.specs.Option.{option_or, option_and_then, option_map}
 use Rattle.std.specs.Str.{bytes_eq}
-use Rattle.argon2_base.specs.Base64.{strict_base64}
-pub use Rattle.argon2_base.specs.Base64.{short_bytes}
-use Rattle.argon2_base.specs.Decimal.{number_of}
-use Rattle.argon2_base.specs.ParamsText.{Pair, value_of}
+use Rattle.argon2_base.specs.Texts.{number_of, strict_base64}
+pub use Rattle.argon2_base.specs.Texts.{short_bytes}
+use Rattle.argon2_base.specs.PhcText.{Pair, ParamsText, Phc, value_of}
 use Rattle.argon2_base.specs.declared.error.Error.{Error}
 use Rattle.argon2_base.specs.declared.error.password_hash.Error.{Error as HashError}
-use Rattle.argon2_base.specs.Error.{Fault, bad_param, bad_params, as_fault, fault_of}
-use Rattle.argon2.specs.Parameters.{Parameters, first_fault}
+use Rattle.argon2_base.specs.Error.{Fault, as_fault, bad_param, bad_params, fault_of, outcome_of}
+use Rattle.argon2.specs.Settings.{Parameters, first_fault}
+use Rattle.argon2.specs.declared.params.text.Found.{Found}
+use Rattle.argon2.specs.Params.{data_bytes, keyid_bytes, parameters_of}
+use Rattle.argon2.specs.declared.params.Params.{Params}
+
+-- ---- the parameters of a list
 
 -- bytes under a name, where there are any
 abbrev pub bytes_item : List ℕ → List ℕ → List Pair
@@ -108,3 +112,77 @@ unsized m t p keyid associated = record {
 abbrev pub AreReadAgain : ℕ → ℕ → ℕ → List ℕ → List ℕ → Type 0
 AreReadAgain m t p keyid associated = (output_len : Option ℕ) → IsNone (first_fault m t p output_len) →
     params_of None (listed m t p keyid associated) ≡ Ok (unsized m t p keyid associated)
+
+-- ---- what has been read of a list, item after item
+
+-- what was found under each name
+pub record Items : Type 0 where
+  pub m : Option ℕ
+  pub t : Option ℕ
+  pub p : Option ℕ
+  pub keyid : Option (List ℕ)
+  pub associated : Option (List ℕ)
+
+abbrev pub found_of : Found → Items
+found_of found = record {
+  m = found.m;
+  t = found.t;
+  p = found.p;
+  keyid = option_map keyid_bytes found.keyid;
+  associated = option_map data_bytes found.associated;
+}
+
+-- what items say
+abbrev pub items_of : List Pair → Items
+items_of ps = record {
+  m = number_at (codes "m") ps;
+  t = number_at (codes "t") ps;
+  p = number_at (codes "p") ps;
+  keyid = option_and_then (short_bytes 8) (value_of (codes "keyid") ps);
+  associated = option_and_then (short_bytes 32) (value_of (codes "data") ps);
+}
+
+-- the same, and under a name that they don't have what was found before
+abbrev pub items_over : List Pair → Items → Items
+items_over ps before = record {
+  m = option_or (items_of ps).m before.m;
+  t = option_or (items_of ps).t before.t;
+  p = option_or (items_of ps).p before.p;
+  keyid = option_or (items_of ps).keyid before.keyid;
+  associated = option_or (items_of ps).associated before.associated;
+}
+
+-- a value that was read, or the fault where there is none
+abbrev pub value_taken : {X : Type 0} → Fault → Option X → Result (Option X) Fault
+value_taken fault (Some x) = Ok (Some x)
+value_taken fault None = Err fault
+
+-- one item more, or why it is refused
+abbrev pub item_taken : Pair → Items → Result Items Fault
+item_taken item before = checked (item_fault item) (Ok (items_over (item ∷ []) before))
+
+-- what a list says, or why it is refused
+abbrev pub items_read : List Pair → Result Items Fault
+items_read ps = checked (items_fault ps) (Ok (items_of ps))
+
+-- ---- what reading and listing answer
+
+-- the answer for a list
+abbrev pub IsListAnswer : List Pair → Result Params HashError → Type 0
+IsListAnswer ps r = outcome_of parameters_of r ≡ params_of None ps
+
+-- the answer for what a PHC text says: the output length is the hash's
+abbrev pub IsPhcAnswer : Phc → Result Params HashError → Type 0
+IsPhcAnswer v r = outcome_of parameters_of r ≡ params_of (option_map length v.hash) v.params
+
+-- the answer for a text: that of its list, or `ParamsInvalid` where it is no list's
+abbrev pub IsTextAnswer : List ℕ → Result Params HashError → Type 0
+IsTextAnswer text r =
+    ((ps : List Pair) → ParamsText text ps → IsListAnswer ps r)
+    × (((ps : List Pair) × ParamsText text ps)
+    ⊎ (((ps : List Pair) → ParamsText text ps → ⊥) × (outcome_of parameters_of r ≡ Err bad_params)))
+
+-- the list of parameters, which is read as the same with any length of output
+abbrev pub IsListOf : Parameters → Result (List Pair) HashError → Type 0
+IsListOf v r =
+    (r ≡ Ok (list_of v)) × (params_of None (list_of v) ≡ Ok (record v { output_len = None }))

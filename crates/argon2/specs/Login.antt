@@ -1,24 +1,24 @@
 -- The login store: what callers see of it, and what each call does.
-use Rattle.std.specs.Prelude.{◌≡◌, ◌≢◌, ℕ, ◌<◌, List, [], ◌∷◌, map, String, string_bytes, Option, Some, None, IsSome, IsSomeAnd, Result, Ok, Err}
+use Rattle.std.specs.Prelude.{◌≡◌, ◌≢◌, ℕ, ◌<◌, List, [], ◌∷◌, map, String, string_bytes, Option, Some, None, IsSome, IsSomeAnd, Result, Ok, Err, codes}
 use Rattle.std.specs.BTreeMap.{BTreeMap}
 use Rattle.std.specs.FinMap.{FinMap, empty, from_entries, get, insert}
 use Rattle.std.specs.Ordering.{nat_cmp}
 use Rattle.std.specs.Cmp.Lexicographic.{slice_cmp}
 use Rattle.rand_core.specs.Stream.{Stream, fill_bytes}
-use Rattle.argon2_base.specs.PasswordHash.{phc_of}
+use Rattle.argon2_base.specs.PhcFields.{phc_of}
 use Rattle.argon2_base.specs.PhcText.{Phc, PhcText, HasBytes}
 use Rattle.argon2_base.specs.declared.phc.hash.PasswordHash.{PasswordHash}
 use Rattle.argon2_base.specs.declared.error.password_hash.Error.{Error as HashError}
 use Rattle.argon2_base.specs.declared.error.password_hash.Error.TheVariants.{OutputSize}
 use Rattle.argon2.specs.declared.login.Login.{Login}
 use Rattle.argon2.specs.declared.login.answers.Accepted.{Accepted}
-use Rattle.argon2.specs.declared.login.answers.Accepted.TheVariants.{Current, Rehashed, Kept}
+use Rattle.argon2.specs.declared.login.answers.Accepted.TheVariants.{Current, Kept, Rehashed}
 use Rattle.argon2.specs.declared.login.answers.LoginError.{LoginError}
-use Rattle.argon2.specs.declared.login.answers.LoginError.TheVariants.{Text, NameTaken, NameUnknown, OutOfMemory, Refused}
-use Rattle.argon2.specs.Accepts.{AcceptsBy, IsVerifyAnswer}
+use Rattle.argon2.specs.declared.login.answers.LoginError.TheVariants.{NameTaken, NameUnknown, OutOfMemory, Refused, Text}
+use Rattle.argon2.specs.Stored.{AcceptsBy, IsVerifyAnswer, shown_settings}
 use Rattle.argon2.specs.Made as made_under
 use Rattle.argon2.specs.Made.{Target, IsTarget, made, sized}
-use Rattle.argon2.specs.Stored.{shown_settings}
+use Rattle.argon2_base.specs.Error.{hash_error_text}
 
 -- what texts say, by the bytes of their names
 abbrev pub Store : Type 0
@@ -124,3 +124,19 @@ abbrev pub stream_after : Result Accepted LoginError → Stream → Stream
 stream_after (Ok Rehashed) stream = (fill_bytes 16 stream).1
 stream_after (Ok Kept) stream = (fill_bytes 16 stream).1
 stream_after _ stream = stream
+
+-- ---- texts
+
+-- what an accepted login prints
+abbrev pub accepted_text : Accepted → List ℕ
+accepted_text Current = codes "text is current"
+accepted_text Rehashed = codes "text is renewed"
+accepted_text Kept = codes "text is kept: out of memory"
+
+-- what a refusal prints
+abbrev pub login_error_text : LoginError → List ℕ
+login_error_text Text = codes "text is outside the grammar"
+login_error_text NameTaken = codes "name is taken"
+login_error_text NameUnknown = codes "name is unknown"
+login_error_text OutOfMemory = codes "out of memory"
+login_error_text (Refused e) = hash_error_text e

@@ -1,7 +1,7 @@
 -- The value that hashing makes, and what hashing to a text answers.
 use Rattle.std.specs.Prelude.{◌≡◌, ◌≤◌, ◌<◌, ◌^◌, ◌⊎◌, ℕ, Bool, List, [], ◌∷◌, ◌++◌, length, nat_lt, Option, Some, None, IsNone, Result, Ok, Err, unwrap_or}
 use Rattle.argon2_base.specs.Error.{Fault, bad_algorithm, bad_output_size, bad_password, bad_salt, bad_version, no_memory, outcome_of}
-use Rattle.argon2_base.specs.PasswordHash.{phc_of}
+use Rattle.argon2_base.specs.PhcFields.{phc_of}
 use Rattle.argon2_base.specs.PhcText.{Phc, HasBytes}
 use Rattle.argon2_base.specs.declared.error.password_hash.Error.{Error}
 use Rattle.argon2_base.specs.declared.error.password_hash.Error.TheVariants.{OutOfMemory, PasswordInvalid}
@@ -11,16 +11,12 @@ use Rattle.argon2.specs.declared.algorithm.Algorithm.TheVariants.{Argon2id}
 use Rattle.argon2.specs.declared.context.Argon2.{Argon2}
 use Rattle.argon2.specs.declared.version.Version.{Version}
 use Rattle.argon2.specs.declared.version.Version.TheVariants.{V0x13}
-use Rattle.argon2.specs.Algorithm.{algorithm_name, algorithm_named}
+use Rattle.argon2.specs.Settings.{AreValid, Parameters, Settings, algorithm_name, algorithm_named, version_number, version_numbered}
 use Rattle.argon2.specs.Argon2.{context_of, secret_of, settings_of}
-use Rattle.argon2.specs.Context.{context_with}
+use Rattle.argon2.specs.Rfc9106.{context_with, tag_of}
 use Rattle.argon2.specs.ListedParameters.{checked, list_of}
-use Rattle.argon2.specs.Parameters.{Parameters, AreValid}
 use Rattle.argon2.specs.Refusals.{first_of}
-use Rattle.argon2.specs.Settings.{Settings}
 use Rattle.argon2.specs.Stored.{found}
-use Rattle.argon2.specs.Tag.{tag_of}
-use Rattle.argon2.specs.Version.{version_number, version_numbered}
 
 -- what hashes are made under
 pub record Target : Type 0 where

@@ -1,9 +1,59 @@
--- What callers see of the code's parameters.
-use Rattle.std.specs.Prelude.{◌≡◌, Some, Result, Ok, Err}
-use Rattle.argon2.specs.declared.params.Params.{Params}
-use Rattle.argon2.specs.ByteLists.{keyid_bytes, data_bytes}
-use Rattle.argon2.specs.Parameters.{Parameters, AreValid, first_fault}
+-- What callers see of parameters, their builder and their byte lists.
+use Rattle.std.specs.Prelude.{◌≡◌, ℕ, ◌<◌, ◌≤◌, List, length, Result, Ok, Err, Some, [], Option, None, unwrap_or}
+use Rattle.std.specs.Borrow.{MutBor}
+use Rattle.std.specs.Option.{option_map}
+use Rattle.argon2.specs.declared.params.key_id.KeyId.{KeyId}
+use Rattle.argon2.specs.declared.params.associated_data.AssociatedData.{AssociatedData}
+use Rattle.argon2_base.specs.Texts.{IsBytes, strict_base64}
+use Rattle.argon2_base.specs.ByteList.{list_bytes, IsBase64Cause}
 use Rattle.argon2_base.specs.declared.error.Error.{Error}
+use Rattle.argon2_base.specs.declared.error.Error.TheVariants.{AdTooLong, B64Encoding, KeyIdTooLong}
+use Rattle.argon2.specs.declared.params.Params.{Params}
+use Rattle.argon2.specs.Settings.{AreValid, Parameters, default_parameters, first_fault}
+use Rattle.argon2.specs.declared.params.builder.ParamsBuilder.{ParamsBuilder}
+
+-- ---- key identifiers and associated data
+
+-- the bytes of a key identifier
+abbrev pub keyid_bytes : KeyId → List ℕ
+keyid_bytes keyid = list_bytes keyid.bytes
+
+-- the bytes of associated data
+abbrev pub data_bytes : AssociatedData → List ℕ
+data_bytes associated = list_bytes associated.bytes
+
+-- the bytes that a value shows, at most so many
+pub record AreBytes (most : ℕ) (own bytes : List ℕ) : Type 0 where
+  pub value : bytes ≡ own
+  pub fits : length own ≤ most
+
+-- the key identifier of these bytes, or the refusal of more than 8
+abbrev pub IsKeyIdOf : List ℕ → Result KeyId Error → Type 0
+IsKeyIdOf bytes (Ok keyid) = keyid_bytes keyid ≡ bytes
+IsKeyIdOf bytes (Err e) = (e ≡ KeyIdTooLong) × (8 < length bytes)
+
+-- the associated data of these bytes, or the refusal of more than 32
+abbrev pub IsAssociatedDataOf : List ℕ → Result AssociatedData Error → Type 0
+IsAssociatedDataOf bytes (Ok associated) = data_bytes associated ≡ bytes
+IsAssociatedDataOf bytes (Err e) = (e ≡ AdTooLong) × (32 < length bytes)
+
+-- why a text whose greatest length is given is refused, as a fault of hashing
+abbrev pub IsBase64Fault : ℕ → List ℕ → Error → Type 0
+IsBase64Fault longest text (B64Encoding cause) = IsBase64Cause longest text cause
+IsBase64Fault longest text _ = ⊥
+
+-- the key identifier that the text is of, or why there is none
+abbrev pub IsKeyIdOfText : List ℕ → Result KeyId Error → Type 0
+IsKeyIdOfText text (Ok keyid) = IsBytes (keyid_bytes keyid) × (text ≡ strict_base64 (keyid_bytes keyid))
+IsKeyIdOfText text (Err e) = IsBase64Fault 11 text e
+
+-- the associated data that the text is of, or why there is none
+abbrev pub IsAssociatedDataOfText : List ℕ → Result AssociatedData Error → Type 0
+IsAssociatedDataOfText text (Ok associated) =
+    IsBytes (data_bytes associated) × (text ≡ strict_base64 (data_bytes associated))
+IsAssociatedDataOfText text (Err e) = IsBase64Fault 43 text e
+
+-- ---- parameters
 
 -- costs, bytes and output length, in place of the fields
 abbrev pub parameters_of : Params → Parameters
@@ -25,3 +75,53 @@ pub record IsSetting {X : Type 0} (of : Parameters → X) (params : Params) (x :
 abbrev pub IsParamsOf : Parameters → Result Params Error → Type 0
 IsParamsOf v (Ok params) = AreValid v × (parameters_of params ≡ v)
 IsParamsOf v (Err e) = first_fault v.m_cost v.t_cost v.p_cost v.output_len ≡ Some e
+
+-- ---- the builder
+
+-- the six settings; bytes that are not set differ from the empty list
+pub record BuilderSettings : Type 0 where
+  pub m_cost : ℕ
+  pub t_cost : ℕ
+  pub p_cost : ℕ
+  pub keyid : Option (List ℕ)
+  pub associated : Option (List ℕ)
+  pub output_len : Option ℕ
+
+-- the settings, in place of the fields
+abbrev pub builder_settings : ParamsBuilder → BuilderSettings
+builder_settings builder = record {
+  m_cost = builder.m_cost;
+  t_cost = builder.t_cost;
+  p_cost = builder.p_cost;
+  keyid = option_map keyid_bytes builder.keyid;
+  associated = option_map data_bytes builder.associated;
+  output_len = builder.output_len;
+}
+
+-- a setter's answer: the same reference, to a builder whose settings are changed
+pub record Sets (old new : MutBor ParamsBuilder) (change : BuilderSettings → BuilderSettings) : Type 0
+  where
+    pub same_reference : new.ghost_name ≡ old.ghost_name
+    pub value : builder_settings new.now ≡ change (builder_settings old.now)
+
+-- what a builder starts with: the costs by default
+abbrev pub default_settings : BuilderSettings
+default_settings = record {
+  m_cost = default_parameters.m_cost;
+  t_cost = default_parameters.t_cost;
+  p_cost = default_parameters.p_cost;
+  keyid = None;
+  associated = None;
+  output_len = None;
+}
+
+-- the parameters of settings, where bytes that are not set are none
+abbrev pub built : BuilderSettings → Parameters
+built s = record {
+  m_cost = s.m_cost;
+  t_cost = s.t_cost;
+  p_cost = s.p_cost;
+  keyid = unwrap_or s.keyid [];
+  associated = unwrap_or s.associated [];
+  output_len = s.output_len;
+}

@@ -6,7 +6,7 @@ use Rattle.std.specs.FinMap.{empty, get}
 use Rattle.argon2_base.specs.PhcText.{Phc, PhcText, phc_text}
 use Rattle.argon2.specs.declared.login.answers.Accepted.{Accepted}
 use Rattle.argon2.specs.declared.login.answers.Accepted.TheVariants.{Rehashed, Kept}
-use Rattle.argon2.specs.Accepts.{Accepts}
+use Rattle.argon2.specs.Stored.{Accepts}
 use Rattle.argon2.specs.Login.{Store, Event, adding, logging_in, LoginStep, IsCurrent}
 use Rattle.argon2.specs.Made.{Target, IsTarget, made}
 

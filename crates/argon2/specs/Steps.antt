@@ -1,14 +1,8 @@
 -- The blocks in one memory, lane after lane, where a block overwrites that of the pass before; and
 -- the orders of the steps that write them.
+use Rattle.argon2.specs.Rfc9106.{Context, Memory, block_count, lane_length, made_block, place_of, reference_of, reference_word, segment_length, xor_lanes}
 use Rattle.std.specs.Prelude.{◌≡◌, ℕ, zero, suc, ◌+◌, ◌-◌, ◌*◌, ◌<◌, ◌≤◌, ◌&&◌, List, [], ◌∷◌, ◌==◌, count_by, length, slice_index_or, slice_set, if◌then◌else◌}
 use Rattle.std.specs.List.{AllByRecursion}
-use Rattle.argon2.specs.Context.{Context, segment_length, lane_length, block_count}
-use Rattle.argon2.specs.Reference.{place_of}
-use Rattle.argon2.specs.Recurrence.{reference_of, reference_word, made_block, xor_lanes}
-
--- blocks, lane after lane
-abbrev pub Memory : Type 0
-Memory = List (List ℕ)
 
 -- the block at a lane's and a column's place, whatever the pass
 unfoldable pub in_memory : Context → Memory → ℕ → ℕ → ℕ → List ℕ

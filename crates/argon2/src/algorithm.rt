@@ -1,8 +1,8 @@
 //! The variants of Argon2 (RFC 9106, section 3.1).
 
 ghost use Rattle.std.specs.Prelude.{◌≡◌, Some};
-ghost use Rattle.argon2_base.specs.Ident.{ident_text};
-ghost use Rattle.argon2.specs.Algorithm.{algorithm_name, IsNamed, IsNamedInText};
+ghost use Rattle.argon2_base.specs.PhcText.{ident_text};
+ghost use Rattle.argon2.specs.Settings.{algorithm_name, IsNamed, IsNamedInText};
 
 use argon2_base::error::{Error, Result, password_hash};
 use argon2_base::phc::Ident;

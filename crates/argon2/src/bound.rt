@@ -3,7 +3,7 @@
 //! A text says which costs it is verified under, so whoever can write one can ask for up to 4 TiB.
 
 ghost use Rattle.std.specs.Prelude.{◌≡◌, ◌↔◌, Some, Err, IsTrue, IfOk, IfErr, MatchResult};
-ghost use Rattle.argon2_base.specs.PasswordHash.{phc_of};
+ghost use Rattle.argon2_base.specs.PhcFields.{phc_of};
 ghost use Rattle.argon2_base.specs.PhcText.{Phc, PhcText};
 ghost use Rattle.argon2.specs.Argon2.{secret_of};
 ghost use Rattle.argon2.specs.Bound.{AcceptsWithin, AsksBlocksWithin, BoundRefusal, HashRefusal, IsBoundAnswer, IsWithin, VerifyRefusal, bound_error_text};

@@ -61,12 +61,11 @@ impl<'key> Argon2<'key> {
     ghost use Rattle.argon2_base.specs.Block.{zero_block};
     ghost use Rattle.argon2_base.specs.declared.error.Error.TheVariants.{OutOfMemory};
     ghost use Rattle.argon2.specs.Argon2.{context_of, context_under, own_parameters, secret_of, settings_of, settings_with, IsKeyed, IsWith};
-    ghost use Rattle.argon2.specs.Context.{block_count, IsValid};
-    ghost use Rattle.argon2.specs.Counting.{mixing_calls};
+    ghost use Rattle.argon2.specs.Rfc9106.{IsValid, block_count, tag_of};
+    ghost use Rattle.argon2.specs.Watching.{mixing_calls};
     ghost use Rattle.argon2.specs.Hashing.{fill_refusal, place_count, refusal_of, AreReferencesOf, IsFilled, IsHashed, IsWatched, MayAnswer};
     ghost use Rattle.argon2.specs.Params.{parameters_of};
     ghost use Rattle.argon2.specs.Refusals.{answer_unless, data_refusal, length_refusal};
-    ghost use Rattle.argon2.specs.Tag.{tag_of};
 
     /// Hashing with these parameters and no secret. The key identifier of the parameters changes no
     /// hash, as [`key_identifier`](crate::laws::key_identifier) says; their associated data is hashed.
@@ -356,7 +355,7 @@ impl<'key> Argon2<'key> {
 
 impl Default for Argon2<'_> {
     ghost use Rattle.argon2.specs.Argon2.{IsArgon2idWith};
-    ghost use Rattle.argon2.specs.Parameters.{default_parameters};
+    ghost use Rattle.argon2.specs.Settings.{default_parameters};
 
     ghost is_default = { IsArgon2idWith default_parameters };
 

@@ -35,7 +35,7 @@ impl Kdf for Argon2<'_> {
     ghost use Rattle.std.specs.Prelude.{◌≡◌, None};
     ghost use Rattle.argon2.specs.Argon2.{context_of, own_parameters};
     ghost use Rattle.argon2.specs.Refusals.{length_refusal};
-    ghost use Rattle.argon2.specs.Tag.{tag_of};
+    ghost use Rattle.argon2.specs.Rfc9106.{tag_of};
 
     ghost takes = { λ argon2 password salt key.
         length_refusal (own_parameters argon2).output_len key password salt ≡ None };

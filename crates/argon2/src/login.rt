@@ -4,7 +4,7 @@ ghost use Rattle.std.specs.Prelude.{◌≡◌, ◌≢◌, ◌⊎◌, ℕ, List, 
 ghost use Rattle.std.specs.FinMap.{empty, entries, get, insert};
 ghost use Rattle.std.specs.Option.{IsSomeAnd, option_copied, option_map};
 ghost use Rattle.rand_core.specs.Stream.{fill_bytes};
-ghost use Rattle.argon2_base.specs.PasswordHash.{phc_of};
+ghost use Rattle.argon2_base.specs.PhcFields.{phc_of};
 ghost use Rattle.argon2_base.specs.PhcText.{Phc, PhcText};
 ghost use Rattle.argon2_base.specs.declared.error.password_hash.Error.TheVariants.{OutOfMemory as NoMemory};
 ghost use Rattle.argon2.specs.declared.login.answers.Accepted.TheVariants.{Kept};

@@ -1,7 +1,7 @@
 //! Parameters of a hash (RFC 9106, section 3.1), and their builder.
 
 ghost use Rattle.std.specs.Prelude.{◌≡◌, ◌<◌, ◌^◌, IsNone};
-ghost use Rattle.argon2.specs.Parameters.{first_fault};
+ghost use Rattle.argon2.specs.Settings.{first_fault};
 
 use argon2_base::error::{Error, Result};
 
@@ -30,10 +30,9 @@ pub struct Params {
 
 impl Params {
     ghost use Rattle.std.specs.Prelude.{◌≤◌};
-    ghost use Rattle.argon2.specs.ByteLists.{AreBytes};
-    ghost use Rattle.argon2.specs.Parameters.{plain};
-    ghost use Rattle.argon2.specs.Params.{parameters_of, IsParamsOf, IsSetting};
-    ghost use Rattle.argon2.specs.Shape.{block_count, lane_length};
+    ghost use Rattle.argon2.specs.Params.{AreBytes, IsParamsOf, IsSetting, parameters_of};
+    ghost use Rattle.argon2.specs.Settings.{plain};
+    ghost use Rattle.argon2.specs.Rfc9106.{block_count_for, lane_length_for};
 
     /// The memory cost by default.
     pub const DEFAULT_M_COST: u32 = 19456;
@@ -162,9 +161,9 @@ impl Params {
 
     /// The number of blocks that a hash fills: the greatest multiple of 4 times the number of lanes
     /// that is at most the memory cost (RFC 9106, section 3.2).
-    #[tactic(auto, unfolding(crate::specs::Shape::segment_length))]
+    #[tactic(auto, unfolding(crate::specs::Rfc9106::segment_length_for))]
     pub fn block_count(&self) -> usize
-        ensures value { result ≡ block_count (parameters_of self.now).m_cost (parameters_of self.now).p_cost }
+        ensures value { result ≡ block_count_for (parameters_of self.now).m_cost (parameters_of self.now).p_cost }
         ensures in_memory { result ≤ (parameters_of self.now).m_cost }
         ensures small { result < 2 ^ 32 }
     {
@@ -173,9 +172,9 @@ impl Params {
     }
 
     /// The number of columns of a lane: four segments (RFC 9106, section 3.2, where it is `q`).
-    #[tactic(auto, unfolding(crate::specs::Shape::segment_length))]
+    #[tactic(auto, unfolding(crate::specs::Rfc9106::segment_length_for))]
     pub fn lane_length(&self) -> u32
-        ensures { result ≡ lane_length (parameters_of self.now).m_cost (parameters_of self.now).p_cost }
+        ensures { result ≡ lane_length_for (parameters_of self.now).m_cost (parameters_of self.now).p_cost }
     {
         4 * (self.m_cost / (4 * self.p_cost))
     }
@@ -206,7 +205,7 @@ fn fault(m_cost: u32, t_cost: u32, p_cost: u32, output_len: Option<usize>) -> Op
 }
 
 impl Default for Params {
-    ghost use Rattle.argon2.specs.Parameters.{default_parameters};
+    ghost use Rattle.argon2.specs.Settings.{default_parameters};
     ghost use Rattle.argon2.specs.Params.{parameters_of};
 
     ghost is_default = { λ params. parameters_of params ≡ default_parameters };

@@ -1,7 +1,7 @@
 //! The versions of Argon2.
 
 ghost use Rattle.std.specs.Prelude.{◌≡◌};
-ghost use Rattle.argon2.specs.Version.{version_number, IsNumbered};
+ghost use Rattle.argon2.specs.Settings.{version_number, IsNumbered};
 
 use argon2_base::error::{Error, Result};
 

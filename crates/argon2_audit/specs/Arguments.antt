@@ -3,8 +3,8 @@ use Rattle.std.specs.Prelude.{ℕ, ◌-◌, ◌==◌, ◌||◌, not, Bool, true,
 use Rattle.std.specs.List.{list_all}
 use Rattle.std.specs.Option.{option_map}
 use Rattle.std.specs.Str.{bytes_eq}
-use Rattle.argon2.specs.Algorithm.{algorithm_named}
-use Rattle.argon2_base.specs.Decimal.{number_of}
+use Rattle.argon2.specs.Settings.{algorithm_named}
+use Rattle.argon2_base.specs.Texts.{number_of}
 use Rattle.argon2_audit.specs.Claim.{begins}
 use Rattle.argon2_audit.specs.declared.arguments.Command.{Command}
 use Rattle.argon2_audit.specs.declared.arguments.Command.TheVariants.{Help, Version, Audit}

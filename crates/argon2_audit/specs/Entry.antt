@@ -4,7 +4,7 @@ use Rattle.std.specs.Option.{option_map}
 use Rattle.argon2_base.specs.Error.{Fault, bad_algorithm, bad_encoding, bad_version, outcome_of}
 use Rattle.argon2_base.specs.PhcText.{Phc, PhcText}
 use Rattle.argon2_base.specs.declared.error.password_hash.Error.{Error}
-use Rattle.argon2.specs.Algorithm.{algorithm_named}
+use Rattle.argon2.specs.Settings.{algorithm_named}
 use Rattle.argon2.specs.ListedParameters.{params_of}
 use Rattle.argon2.specs.Stored.{found, read, version_shown}
 use Rattle.argon2_audit.specs.declared.entry.Entry.{Entry}

@@ -1,7 +1,6 @@
 -- What is below a policy.
 use Rattle.std.specs.Prelude.{Bool, false, not, ◌==◌, ◌||◌, nat_lt, [], length, unwrap_or, Option, Some, None}
-use Rattle.argon2.specs.Algorithm.{algorithm_number}
-use Rattle.argon2.specs.Version.{version_number}
+use Rattle.argon2.specs.Settings.{algorithm_number, version_number}
 use Rattle.argon2.specs.declared.algorithm.Algorithm.{Algorithm}
 use Rattle.argon2_audit.specs.declared.entry.Entry.{Entry}
 use Rattle.argon2_audit.specs.declared.policy.Policy.{Policy}

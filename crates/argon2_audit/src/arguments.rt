@@ -2,7 +2,7 @@
 
 ghost use Rattle.std.specs.Prelude.{◌≡◌, ◌-◌, drop, length, map, string_bytes};
 ghost use Rattle.std.specs.List.{list_all};
-ghost use Rattle.argon2_base.specs.Decimal.{number_of};
+ghost use Rattle.argon2_base.specs.Texts.{number_of};
 ghost use Rattle.argon2_audit.specs.Arguments.{alone_of, command_of, file_count, is_file, page_of};
 
 use crate::options::{Form, Options};

@@ -1,7 +1,7 @@
 -- Byte lists of a fixed capacity, and the strict Base64 of their bytes.
 use Rattle.std.specs.Prelude.{◌≡◌, ◌≢◌, ℕ, ◌+◌, ◌*◌, ◌/◌, ◌<◌, ◌≤◌, List, take, length, Result, Ok, Err}
 use Rattle.argon2_base.specs.declared.byte_list.ByteList.{ByteList}
-use Rattle.argon2_base.specs.Base64.{IsBytes, strict_base64}
+use Rattle.argon2_base.specs.Texts.{IsBytes, strict_base64}
 use Rattle.argon2_base.specs.declared.error.B64Error.{B64Error}
 use Rattle.argon2_base.specs.declared.error.B64Error.TheVariants.{InvalidEncoding, InvalidLength}
 

@@ -2,13 +2,13 @@
 use Rattle.std.specs.Prelude.{◌≡◌, ◌==◌, ℕ, List, [], ◌∷◌, ◌++◌, codes, Option, Some, None, Result, Ok, Err, IfOk, IfErr, IfSome, IsNone, IsOkAnd}
 use Rattle.std.specs.List.{slice_split}
 use Rattle.std.specs.Borrow.{Bor}
-use Rattle.argon2_base.specs.Base64.{strict_base64}
+use Rattle.argon2_base.specs.Texts.{strict_base64}
 use Rattle.argon2_base.specs.ByteList.{list_bytes}
-use Rattle.argon2_base.specs.ParamsText.{Pair, item}
-use Rattle.argon2_base.specs.PhcText.{HasBytes, field}
+use Rattle.argon2_base.specs.PhcText.{HasBytes, Pair, Phc, field, item, phc_with}
 use Rattle.argon2_base.specs.declared.byte_list.ByteList.{ByteList}
 use Rattle.argon2_base.specs.declared.error.password_hash.Error.{Error}
 use Rattle.argon2_base.specs.declared.error.password_hash.Error.TheVariants.{EncodingInvalid}
+use Rattle.argon2_base.specs.declared.phc.hash.PasswordHash.{PasswordHash}
 
 -- the parts between the `$`
 abbrev pub fields_of : List ℕ → List (List ℕ)
@@ -45,3 +45,9 @@ pub record IsBytesField (low high : ℕ) (left : List (List ℕ))
         IfSome o (HasBytes low high) → (IsNone o → rest ≡ []) → left ≡ field strict_base64 o ++ rest →
         IsOkAnd r (λ x. (x.0 ≡ o) × (fields_left x.1 ≡ rest))
     pub invalid : IfErr r (λ e. e ≡ EncodingInvalid)
+
+-- ---- the value of the code
+
+-- its fields, as its text has them
+abbrev pub phc_of : PasswordHash → Phc
+phc_of h = phc_with h.algorithm h.version h.params h.salt h.hash

@@ -2,8 +2,7 @@
 
 ghost use Rattle.std.specs.Prelude.{◌≡◌, ℕ, ◌+◌, ◌-◌, ◌<◌, ◌^◌, List, length, ⊤};
 ghost use Rattle.std.specs.Borrow.{sem};
-ghost use Rattle.argon2_base.specs.Block.{zero_block, xor_blocks, words_of, bytes_of};
-ghost use Rattle.argon2_base.specs.Mixing.{mixed};
+ghost use Rattle.argon2_base.specs.Block.{bytes_of, mixed, words_of, xor_blocks, zero_block};
 
 use std::alloc::AllocError;
 use std::convert::AsSlice;

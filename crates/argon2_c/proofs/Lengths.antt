@@ -1,7 +1,7 @@
 -- How long a spelling is.
 use Rattle.std.proofs.Common.{◌≡◌, ℕ, ◌+◌, ◌*◌, ◌/◌, List, length, refl, arith, length-append}
 use Rattle.std.specs.Fmt.{decimal, digits}
-use Rattle.argon2_base.proofs.Base64Lemmas.{length-strict_base64}
+use Rattle.argon2_base.proofs.texts.Base64Lemmas.{length-strict_base64}
 use Rattle.argon2_c.specs.Texts.{spelling, said_with}
 
 length_19 : length (decimal 19) ≡ 2

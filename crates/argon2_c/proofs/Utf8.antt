@@ -7,8 +7,8 @@ use Rattle.std.specs.Fmt.{decimal}
 use Rattle.std.proofs.lemmas.Bool.{and_parts, ltb-true}
 use Rattle.std.proofs.lemmas.Fmt.{IsAscii-decimal}
 use Rattle.std.proofs.lemmas.Str.{IsUtf8-append, IsUtf8-from_ascii}
-use Rattle.argon2_base.specs.Base64.{strict_base64}
-use Rattle.argon2_base.proofs.Base64Lemmas.{IsUtf8-strict_base64}
+use Rattle.argon2_base.specs.Texts.{strict_base64}
+use Rattle.argon2_base.proofs.texts.Base64Lemmas.{IsUtf8-strict_base64}
 use Rattle.argon2_c.specs.Texts.{Said, IsSaid, name_numbered, spelling, version_part}
 
 ascii : (s : List ℕ) → list_all (λ x. ltb x 128) s ≡ true → IsAscii s

@@ -1,7 +1,7 @@
 -- The texts of argon2.h's library: what they say, and the one spelling of each.
 use Rattle.std.specs.Prelude.{ℕ, ◌<◌, ◌^◌, ◌==◌, nat_le, nat_lt, ◌&&◌, ℤ, length, if◌then◌else◌, List, ◌∷◌, ◌++◌, codes, Option, Some, None, IfSome}
 use Rattle.std.specs.Fmt.{decimal}
-use Rattle.argon2_base.specs.Base64.{IsBytes, strict_base64}
+use Rattle.argon2_base.specs.Texts.{IsBytes, strict_base64}
 use Rattle.argon2_c.specs.declared.code.TheConstants.{ENCODING_FAIL, OK}
 use Rattle.argon2_c.specs.declared.decode.Decoded.{Decoded}
 use Rattle.argon2_c.specs.declared.decode.Parts.{Parts}

@@ -2,7 +2,7 @@
 use Rattle.std.specs.Prelude.{◌≡◌, ℕ, ◌||◌, nat_lt, not, Bool, false, ℤ, Option, if◌then◌else◌, List, [], ◌∷◌, length, unwrap_or}
 use Rattle.std.specs.Str.{bytes_eq}
 use Rattle.argon2.specs.Refusals.{first_of}
-use Rattle.argon2.specs.Tag.{tag_of}
+use Rattle.argon2.specs.Rfc9106.{tag_of}
 use Rattle.argon2_c.specs.declared.code.TheConstants.{OK, PWD_TOO_LONG, DECODING_FAIL, INCORRECT_TYPE, VERIFY_MISMATCH}
 use Rattle.argon2_c.specs.Requests.{asked, request_faults}
 use Rattle.argon2_c.specs.Texts.{Said, IsSaid, name_numbered, spelling}

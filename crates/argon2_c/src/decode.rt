@@ -2,8 +2,8 @@
 
 ghost use Rattle.std.specs.Prelude.{◌≡◌, ◌⊎◌, ◌∷◌, ◌++◌, ◌<◌, ◌^◌, ℕ, List, Option, codes, IfSome, IfOk, IfErr, IsSomeAnd, MatchResult};
 ghost use Rattle.std.specs.Fmt.{decimal};
-ghost use Rattle.argon2.specs.Algorithm.{algorithm_name};
-ghost use Rattle.argon2_base.specs.Base64.{IsBytes, strict_base64};
+ghost use Rattle.argon2.specs.Settings.{algorithm_name};
+ghost use Rattle.argon2_base.specs.Texts.{IsBytes, strict_base64};
 ghost use Rattle.argon2_c.specs.Texts.{Said, IsSaid, costs_part, joined, parts_of, said, spelling, version_part, written};
 
 use crate::code::{DECODING_FAIL, MEMORY_ALLOCATION_ERROR};

@@ -2,8 +2,8 @@
 
 ghost use Rattle.std.specs.Prelude.{◌≡◌, ◌≢◌, ◌↔◌, ◌⊎◌, ◌++◌, ◌∷◌, ◌+◌, ◌*◌, ◌/◌, ◌<◌, ◌≤◌, ◌^◌, ℕ, List, Some, suc, length, drop, IfOk, IsTrue, IsFalse};
 ghost use Rattle.std.specs.Fmt.{decimal};
-ghost use Rattle.argon2.specs.Algorithm.{algorithm_name};
-ghost use Rattle.argon2_base.specs.Base64.{strict_base64};
+ghost use Rattle.argon2.specs.Settings.{algorithm_name};
+ghost use Rattle.argon2_base.specs.Texts.{strict_base64};
 ghost use Rattle.argon2_c.specs.Texts.{encode_code, name_numbered, said_with, spelling, text_of};
 
 use crate::code::{ENCODING_FAIL, MEMORY_ALLOCATION_ERROR, OK};

@@ -2,11 +2,10 @@
 
 ghost use Rattle.std.specs.Prelude.{◌≡◌, ◌≢◌, ◌≤◌, ◌⊎◌, None, [], length, if◌then◌else◌};
 ghost use Rattle.std.specs.Str.{bytes_eq};
-ghost use Rattle.argon2.specs.Algorithm.{algorithm_number};
+ghost use Rattle.argon2.specs.Settings.{algorithm_number, version_number};
 ghost use Rattle.argon2.specs.Argon2.{context_of, own_parameters};
 ghost use Rattle.argon2.specs.Refusals.{first_of};
-ghost use Rattle.argon2.specs.Tag.{tag_of};
-ghost use Rattle.argon2.specs.Version.{version_number};
+ghost use Rattle.argon2.specs.Rfc9106.{tag_of};
 ghost use Rattle.argon2_c.specs.Requests.{IsAnswer, IsFaultless, asked, request_faults};
 
 use crate::code::{MEMORY_ALLOCATION_ERROR, OK, VERIFY_MISMATCH};

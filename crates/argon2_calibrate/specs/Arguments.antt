@@ -2,7 +2,7 @@
 use Rattle.std.specs.Prelude.{ℕ, ◌+◌, ◌-◌, ◌*◌, ◌&&◌, ◌==◌, nat_le, nat_lt, Bool, List, [], ◌∷◌, length, codes, if◌then◌else◌, Option, Some, None, option_and_then}
 use Rattle.std.specs.List.{after_first, before_first, position_or_len}
 use Rattle.std.specs.Str.{bytes_eq}
-use Rattle.argon2_base.specs.Decimal.{number_of}
+use Rattle.argon2_base.specs.Texts.{number_of}
 use Rattle.argon2_calibrate.specs.declared.arguments.Command.{Command}
 use Rattle.argon2_calibrate.specs.declared.arguments.Command.TheVariants.{Help, Calibrate}
 

@@ -1,6 +1,6 @@
 -- Costs that are chosen by measured times.
 use Rattle.std.specs.Prelude.{◌≡◌, ◌⊎◌, ⊤, ℕ, ◌+◌, ◌-◌, ◌*◌, ◌<◌, ◌≤◌, ◌/◌, zero, suc, max, min, nat_le, if◌then◌else◌, List, [], ◌∷◌, length, None}
-use Rattle.argon2.specs.Parameters.{AreValid, plain}
+use Rattle.argon2.specs.Settings.{AreValid, plain}
 use Rattle.argon2_calibrate.specs.declared.choice.Choice.{Choice}
 
 -- how long so many passes take

@@ -1,7 +1,7 @@
 //! What the program's arguments ask for.
 
 ghost use Rattle.std.specs.Prelude.{◌≡◌, ◌≤◌, IfSome};
-ghost use Rattle.argon2_base.specs.Decimal.{number_of};
+ghost use Rattle.argon2_base.specs.Texts.{number_of};
 ghost use Rattle.argon2_calibrate.specs.Arguments.{digit_of, milliseconds_of, thousandths_of, three_digits};
 
 use argon2::phc::read_decimal;

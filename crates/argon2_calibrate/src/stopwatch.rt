@@ -2,7 +2,7 @@
 
 ghost use Rattle.std.specs.Prelude.{None};
 ghost use Rattle.argon2.specs.Argon2.{IsContextOf};
-ghost use Rattle.argon2.specs.Parameters.{AreValid, plain};
+ghost use Rattle.argon2.specs.Settings.{AreValid, plain};
 ghost use Rattle.argon2.specs.declared.algorithm.Algorithm.TheVariants.{Argon2id};
 ghost use Rattle.argon2.specs.declared.version.Version.TheVariants.{V0x13};
 

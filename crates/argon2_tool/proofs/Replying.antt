@@ -1,11 +1,11 @@
 -- Failures before a reply, by the refusals of the calls that make it.
 use Rattle.std.proofs.Common.{◌≡◌, ◌⊎◌, sym, subst, List, [], ℕ, Option, Some, None, Result, Ok, Err, inl, inr}
 use Rattle.std.specs.Prelude.{IfErr, IfSome, IsErrAnd}
-use Rattle.argon2_base.specs.PasswordHash.{phc_of}
+use Rattle.argon2_base.specs.PhcFields.{phc_of}
 use Rattle.argon2_base.specs.declared.error.password_hash.Error.{Error}
 use Rattle.argon2_base.specs.declared.error.password_hash.Error.TheVariants.{OutOfMemory}
 use Rattle.argon2_base.specs.declared.phc.hash.PasswordHash.{PasswordHash}
-use Rattle.argon2.specs.Accepts.{Accepts}
+use Rattle.argon2.specs.Stored.{Accepts}
 use Rattle.argon2.specs.Made.{Target, hashed, IsHashAnswer}
 use Rattle.argon2_tool.specs.Commands.{IsVerifyReply}
 use Rattle.argon2_tool.specs.Failures.{HasNone, IsBeforeReply, IsOfText, IsRefusalOf}

@@ -8,12 +8,11 @@ use Rattle.argon2_base.specs.LongHash.{long_hash}
 use Rattle.argon2_base.specs.declared.error.Error.{Error}
 use Rattle.argon2_base.specs.declared.error.Error.TheVariants.{OutputTooShort}
 use Rattle.argon2_base.specs.PhcText.{Phc, phc_text}
-use Rattle.argon2.specs.Accepts.{Accepts}
-use Rattle.argon2.specs.Context.{context_with}
+use Rattle.argon2.specs.Stored.{Accepts}
+use Rattle.argon2.specs.Rfc9106.{context_with, tag_of}
 use Rattle.argon2.specs.Made.{hashed}
 use Rattle.argon2.specs.Refusals.{length_refusal}
 use Rattle.argon2.specs.Settings.{Settings}
-use Rattle.argon2.specs.Tag.{tag_of}
 use Rattle.argon2_tool.specs.Failures.{HasNone}
 use Rattle.argon2_tool.specs.Request.{IsRequest, request_words, settings_asked, unless}
 use Rattle.argon2_tool.specs.declared.arguments.Command.{Command}

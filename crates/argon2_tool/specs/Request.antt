@@ -6,11 +6,8 @@ use Rattle.argon2_base.specs.declared.error.Error.TheVariants.{AlgorithmInvalid,
 use Rattle.argon2.specs.declared.algorithm.Algorithm.{Algorithm}
 use Rattle.argon2.specs.declared.context.Argon2.{Argon2}
 use Rattle.argon2.specs.declared.version.Version.{Version}
-use Rattle.argon2.specs.Algorithm.{algorithm_named}
+use Rattle.argon2.specs.Settings.{Settings, algorithm_named, first_fault, plain, version_numbered}
 use Rattle.argon2.specs.Argon2.{secret_of, settings_of}
-use Rattle.argon2.specs.Parameters.{first_fault, plain}
-use Rattle.argon2.specs.Settings.{Settings}
-use Rattle.argon2.specs.Version.{version_numbered}
 use Rattle.argon2_tool.specs.declared.request.Request.{Request}
 
 -- the numbers of a request are in range

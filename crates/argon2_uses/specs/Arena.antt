@@ -1,11 +1,9 @@
 -- The tag of an input, and why it is refused.
 use Rattle.std.specs.Prelude.{◌≡◌, ℕ, List, Some}
-use Rattle.argon2.specs.Context.{Context}
+use Rattle.argon2.specs.Rfc9106.{Context, Memory, tag_of}
 use Rattle.argon2.specs.Hashing.{refusal_of}
-use Rattle.argon2.specs.Steps.{Memory}
 use Rattle.argon2.specs.base_declared.error.Error.{Error}
 use Rattle.argon2.specs.declared.context.Argon2.{Argon2}
-use Rattle.argon2.specs.Tag.{tag_of}
 use Rattle.argon2_uses.specs.declared.arena.Input.{Input}
 
 -- of 32 bytes

@@ -1,7 +1,7 @@
 -- What a service asks of its login store.
 use Rattle.std.specs.Prelude.{◌≡◌, ℕ, List, Option, Some, Result, Ok, Err, IsSome, IsSomeAnd}
 use Rattle.std.specs.FinMap.{get}
-use Rattle.argon2.specs.Accepts.{AcceptsBy}
+use Rattle.argon2.specs.Stored.{AcceptsBy}
 use Rattle.argon2.specs.Login.{AcceptedStep, store_of, target_of}
 use Rattle.argon2.specs.Made.{Target, IsHashAnswer}
 use Rattle.argon2.specs.declared.login.Login.{Login}

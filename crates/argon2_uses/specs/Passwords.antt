@@ -2,7 +2,7 @@
 use Rattle.std.specs.Prelude.{[]}
 use Rattle.argon2.specs.Argon2.{argon2id_with}
 use Rattle.argon2.specs.Made.{Target}
-use Rattle.argon2.specs.Parameters.{default_parameters}
+use Rattle.argon2.specs.Settings.{default_parameters}
 
 -- Argon2id of version 0x13 with the default parameters and no secret
 abbrev pub default_target : Target

@@ -1,7 +1,7 @@
 -- A schedule of rounds: each lane takes a turn, and so on, until the slice is filled.
 use Rattle.std.specs.Prelude.{ℕ, zero, suc, List, [], ◌++◌}
 use Rattle.std.specs.List.{range_with_len}
-use Rattle.argon2.specs.Context.{Context}
+use Rattle.argon2.specs.Rfc9106.{Context}
 use Rattle.argon2.specs.Steps.{turn_count}
 
 -- so many lanes in order, so many times

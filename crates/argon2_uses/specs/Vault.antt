@@ -1,11 +1,9 @@
 -- The key of a vault, and what opens it.
 use Rattle.std.specs.Prelude.{◌≡◌, ◌⊎◌, ℕ, List, None, Some, length, take, drop}
 use Rattle.argon2.specs.Argon2.{argon2id_with, own_parameters}
-use Rattle.argon2.specs.Context.{Context}
-use Rattle.argon2.specs.Parameters.{plain}
+use Rattle.argon2.specs.Rfc9106.{Context, tag_of}
+use Rattle.argon2.specs.Settings.{Settings, plain}
 use Rattle.argon2.specs.Refusals.{length_refusal}
-use Rattle.argon2.specs.Settings.{Settings}
-use Rattle.argon2.specs.Tag.{tag_of}
 use Rattle.argon2.specs.base_declared.error.Error.{Error}
 use Rattle.argon2.specs.base_declared.error.Error.TheVariants.{OutOfMemory}
 use Rattle.argon2.specs.declared.context.Argon2.{Argon2}

@@ -2,9 +2,9 @@
 
 ghost use Rattle.std.specs.Prelude.{◌≡◌, ◌↔◌, ◌⊎◌, [], Err, IsTrue, IfOk, IfErr, MatchResult};
 ghost use Rattle.rand_core.specs.Stream.{fill_bytes};
-ghost use Rattle.argon2.specs.Accepts.{Accepts, IsVerifyTextAnswer};
+ghost use Rattle.argon2.specs.Stored.{Accepts, IsVerifyTextAnswer};
 ghost use Rattle.argon2.specs.Made.{IsHashAnswer};
-ghost use Rattle.argon2.specs.PasswordHash.{phc_of};
+ghost use Rattle.argon2.specs.PhcFields.{phc_of};
 ghost use Rattle.argon2.specs.PhcText.{phc_text};
 ghost use Rattle.argon2.specs.base_declared.error.password_hash.Error.TheVariants.{OutOfMemory};
 ghost use Rattle.argon2_uses.specs.Passwords.{default_target};

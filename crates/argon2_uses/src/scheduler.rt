@@ -6,11 +6,10 @@
 
 ghost use Rattle.std.specs.Prelude.{◌≡◌, ◌<◌, ◌≤◌, OnOk, OnErr, length};
 ghost use Rattle.argon2.specs.Argon2.{context_of};
-ghost use Rattle.argon2.specs.Context.{block_count, IsValid};
+ghost use Rattle.argon2.specs.Rfc9106.{IsValid, block_count, tag_of};
 ghost use Rattle.argon2.specs.Hashing.{blocks_of, refusal_of};
 ghost use Rattle.argon2.specs.Refusals.{answer_unless};
 ghost use Rattle.argon2.specs.Steps.{run};
-ghost use Rattle.argon2.specs.Tag.{tag_of};
 ghost use Rattle.argon2_uses.specs.Scheduler.{lanes_in_rounds};
 
 use argon2::laws::slice_interleaving;

@@ -5,7 +5,7 @@
 
 ghost use Rattle.std.specs.Prelude.{◌≡◌, ◌≤◌, ◌↔◌, IsOk, IfOk, IfErr, MatchOption, length, take, drop};
 ghost use Rattle.argon2.specs.Argon2.{context_of, secret_of, settings_of};
-ghost use Rattle.argon2.specs.Tag.{tag_of};
+ghost use Rattle.argon2.specs.Rfc9106.{tag_of};
 ghost use Rattle.argon2_uses.specs.Vault.{recommended, key_of, Opens, VaultRefusal};
 
 use argon2::phc::{Output, Salt};

@@ -1,13 +1,8 @@
 -- What known values are computed with: a line `unfolding recurrence` opens all that the line below
 -- `recurrence` names.
-use Rattle.argon2_base.specs.Block.{xor_blocks, zero_block}
-use Rattle.argon2_base.specs.Blake2b.{hash_blocks, blake2b}
-use Rattle.argon2_base.specs.Compression.{mix, round, rounds, words, compress}
-use Rattle.argon2_base.specs.Mixing.{mixed, by_rows, by_columns, column, row, perm, mix_columns, mix_diagonals, gb, xor_rotate, add_mul}
-use Rattle.argon2.specs.InitialHash.{initial_hash}
-use Rattle.argon2.specs.Reference.{columns, finished_segments, without_last, permitted, reference_lane, reference_index, reference}
-use Rattle.argon2.specs.Recurrence.{is_independent, address_block, address_word, previous, reference_word, reference_of, made_block, rule, in_history, history, block_of, xor_lanes, last_block}
-use Rattle.argon2.specs.Shape.{segment_length}
+use Rattle.argon2_base.specs.Block.{add_mul, by_columns, by_rows, column, gb, mix_columns, mix_diagonals, mixed, perm, row, xor_blocks, xor_rotate, zero_block}
+use Rattle.argon2_base.specs.Blake2b.{blake2b, compress, hash_blocks, mix, round, rounds, words}
+use Rattle.argon2.specs.Rfc9106.{address_block, address_word, block_of, columns, finished_segments, history, in_history, initial_hash, is_independent, last_block, made_block, permitted, previous, reference, reference_index, reference_lane, reference_of, reference_word, rule, segment_length_for, without_last, xor_lanes}
 
 -- the mixing of two blocks
 unfoldable pub mixing : Unit {0}
@@ -16,7 +11,7 @@ mixing = tt
 
 -- the word of an address block
 unfoldable pub addresses : Unit {0}
-unfolding mixing address_word address_block segment_length
+unfolding mixing address_word address_block segment_length_for
 addresses = tt
 
 -- the blocks

@@ -5,11 +5,8 @@
 use Rattle.std.proofs.Common.{◌≡◌, ℕ, ◌+◌, ◌-◌, ◌*◌, ◌/◌, ◌%◌, ◌^◌, List, [], ◌∷◌, ◌++◌, fold, get_or, map, take, refl}
 use Rattle.std.specs.List.{range_with_len}
 use Rattle.argon2_base.specs.Block.{zero_block, xor_blocks}
-use Rattle.argon2.specs.Context.{Context, lane_length, block_count}
-use Rattle.argon2.specs.Shape.{segment_length}
-use Rattle.argon2.specs.Reference.{place_of}
-use Rattle.argon2.specs.Counting.{independent_segments, mixing_calls}
-use Rattle.argon2.specs.Recurrence.{FirstColumns, address_word, reference_of, in_history, history, xor_lanes}
+use Rattle.argon2.specs.Rfc9106.{Context, FirstColumns, address_word, block_count, history, in_history, lane_length, place_of, reference_of, segment_length_for, xor_lanes}
+use Rattle.argon2.specs.Watching.{independent_segments, mixing_calls}
 use Rattle.argon2_values.proofs.Computing.{addresses, recurrence, last_blocks}
 
 -- first columns of words that are multiples of one number
@@ -98,5 +95,5 @@ calls_values : (calls 0 32 3 4 ∷ calls 2 32 3 4 ∷ calls 1 32 3 4
     ∷ calls 0 516 1 1 ∷ calls 2 516 1 1 ∷ calls 1 516 1 1
     ∷ calls 0 19456 2 1 ∷ calls 2 19456 2 1 ∷ calls 1 19456 2 1 ∷ [])
     ≡ 88 ∷ 104 ∷ 184 ∷ 6 ∷ 10 ∷ 14 ∷ 28 ∷ 36 ∷ 44 ∷ 510 ∷ 514 ∷ 518 ∷ 514 ∷ 522 ∷ 530 ∷ 38910 ∷ 39062 ∷ 39518 ∷ []
-unfolding calls mixing_calls independent_segments segment_length
+unfolding calls mixing_calls independent_segments segment_length_for
 calls_values = refl

@@ -3,8 +3,7 @@
 use Rattle.std.proofs.Common.{◌≡◌, [], ◌++◌, codes, refl}
 use Rattle.std.specs.Int.{bytes_high_first}
 use Rattle.std.specs.List.{range_with_len}
-use Rattle.argon2_base.specs.Compression.{mix, round, rounds, words, compress}
-use Rattle.argon2_base.specs.Blake2b.{hash_blocks, blake2b}
+use Rattle.argon2_base.specs.Blake2b.{blake2b, compress, hash_blocks, mix, round, rounds, words}
 use Rattle.argon2_base.specs.LongHash.{chain, long_hash}
 
 -- RFC 7693, appendix A

@@ -1,8 +1,7 @@
 -- The initial hash of the known answers of RFC 9106, section 5.3, which gives it in full.
 use Rattle.std.proofs.Common.{◌≡◌, ◌++◌, replicate, refl}
 use Rattle.std.specs.Int.{bytes_high_first}
-use Rattle.argon2.specs.Context.{Context}
-use Rattle.argon2.specs.InitialHash.{initial_hash}
+use Rattle.argon2.specs.Rfc9106.{Context, initial_hash}
 use Rattle.argon2_values.proofs.Computing.{digests}
 
 ctx_rfc : Context

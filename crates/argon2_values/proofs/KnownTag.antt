@@ -6,10 +6,7 @@ use Rattle.std.specs.List.{flat_map, range_with_len}
 use Rattle.argon2_base.specs.Block.{bytes_of, words_of}
 use Rattle.argon2_base.specs.Blake2b.{blake2b}
 use Rattle.argon2_base.specs.LongHash.{chain, half, half_count, long_hash}
-use Rattle.argon2.specs.Context.{Context}
-use Rattle.argon2.specs.InitialHash.{initial_hash, block_after, first_block, number}
-use Rattle.argon2.specs.Recurrence.{last_block}
-use Rattle.argon2.specs.Tag.{tag_of}
+use Rattle.argon2.specs.Rfc9106.{Context, block_after, first_block, initial_hash, last_block, number, tag_of}
 use Rattle.argon2_values.proofs.Computing.{digests, last_blocks}
 
 -- the first halves of so many digests, each of the one before

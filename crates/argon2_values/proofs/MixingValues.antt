@@ -2,8 +2,7 @@
 -- or a wrong step does not check.
 use Rattle.std.proofs.Common.{◌≡◌, ◌*◌, ◌^◌, List, ℕ, [], ◌∷◌, map, refl}
 use Rattle.std.specs.List.{range_with_len}
-use Rattle.argon2_base.specs.Block.{xor_blocks}
-use Rattle.argon2_base.specs.Mixing.{add_mul, xor_rotate, gb, mix_columns, mix_diagonals, perm, row, column, by_rows, by_columns, mixed}
+use Rattle.argon2_base.specs.Block.{add_mul, by_columns, by_rows, column, gb, mix_columns, mix_diagonals, mixed, perm, row, xor_blocks, xor_rotate}
 
 -- GB of the words 1, 2, 3 and 4
 pub gb_value : gb 1 2 3 4

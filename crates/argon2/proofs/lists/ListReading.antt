@@ -1,21 +1,19 @@
 -- Reading the items of a parameter list one after another.
 use Rattle.std.proofs.Common.{◌≡◌, ℕ, ◌&&◌, Bool, true, false, List, [], ◌∷◌, codes, length, Option, Some, None, Result, Ok, Err, ap, refl, sym, ◌∙◌}
-use Rattle.std.specs.Option.{option_or, option_and_then}
+use Rattle.std.specs.Option.{option_or, option_and_then, IsNone}
 use Rattle.std.specs.List.{list_all}
 use Rattle.std.specs.Prelude.{if◌then◌else◌, is_none, nat_le, unwrap_or}
-use Rattle.argon2_base.specs.Decimal.{number_of}
+use Rattle.argon2_base.specs.Texts.{number_of}
 use Rattle.std.specs.Str.{bytes_eq}
 use Rattle.std.proofs.lemmas.Bool.{and_parts}
 use Rattle.std.proofs.lemmas.Slice.Eq.{bytes_eq-Decides}
 use Rattle.std.specs.Result.{IsErr, IsErrAnd}
 use Rattle.argon2_base.specs.Error.{Fault, as_fault, fault_of, outcome_of}
 use Rattle.argon2_base.specs.declared.error.Error.{Error}
-use Rattle.argon2.specs.Parameters.{Parameters, first_fault}
-use Rattle.std.specs.Option.{IsNone}
+use Rattle.argon2.specs.Settings.{Parameters, first_fault}
 use Rattle.argon2_base.specs.declared.error.password_hash.Error.{Error as HashError}
-use Rattle.argon2_base.specs.ParamsText.{Pair, are_distinct, are_params, is_param, params_text, value_of}
-use Rattle.argon2.specs.ListedParameters.{checked, cost_fault, item_fault, items_fault, number_at, params_of, short_bytes, with_costs}
-use Rattle.argon2.specs.ListReading.{Items, items_of, items_over, items_read, item_taken}
+use Rattle.argon2_base.specs.PhcText.{Pair, are_distinct, are_params, is_param, params_text, value_of}
+use Rattle.argon2.specs.ListedParameters.{Items, checked, cost_fault, item_fault, item_taken, items_fault, items_of, items_over, items_read, number_at, params_of, short_bytes, with_costs}
 
 -- What was read, where `rest` is left.
 pub record Reading (list rest : List Pair) (found : Items) : Type 0 where

@@ -5,14 +5,12 @@ use Rattle.std.proofs.lemmas.Fmt.{decimal_nonempty, length-decimal-le}
 use Rattle.std.specs.Fmt.{decimal}
 use Rattle.std.specs.List.{list_all, sum_by}
 use Rattle.std.proofs.lemmas.List.Sums.{sum_by-cons}
-use Rattle.argon2_base.specs.Base64.{IsBytes}
-use Rattle.argon2_base.specs.Names.{is_value, is_value_char}
-use Rattle.argon2_base.specs.Base64.{strict_base64}
-use Rattle.argon2_base.specs.ParamsText.{Pair, are_params, params_text, is_param, are_distinct, item}
+use Rattle.argon2_base.specs.Texts.{IsBytes, is_value, is_value_char, strict_base64}
+use Rattle.argon2_base.specs.PhcText.{Pair, are_params, params_text, is_param, are_distinct, item}
 use Rattle.argon2.specs.ListedParameters.{bytes_item, listed}
-use Rattle.argon2_base.proofs.Base64Lemmas.{length-strict_base64}
-use Rattle.argon2_base.proofs.ParamsReading.{params_front}
-use Rattle.argon2_base.proofs.ValueCharacters.{decimal_chars, base64_chars}
+use Rattle.argon2_base.proofs.texts.Base64Lemmas.{length-strict_base64}
+use Rattle.argon2_base.proofs.texts.ParamsReading.{params_front}
+use Rattle.argon2_base.proofs.texts.ValueCharacters.{decimal_chars, base64_chars}
 
 -- a cost under its name
 abbrev pub cost_item : List ℕ → ℕ → Pair

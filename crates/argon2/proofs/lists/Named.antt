@@ -8,8 +8,7 @@ use Rattle.argon2.specs.declared.algorithm.Algorithm.{Algorithm}
 use Rattle.argon2.specs.declared.algorithm.Algorithm.TheVariants.{Argon2d, Argon2i, Argon2id}
 use Rattle.argon2.specs.declared.version.Version.{Version}
 use Rattle.argon2.specs.declared.version.Version.TheVariants.{V0x10, V0x13}
-use Rattle.argon2.specs.Algorithm.{algorithm_name, algorithm_named, IsNamedInText}
-use Rattle.argon2.specs.Version.{version_number, version_numbered}
+use Rattle.argon2.specs.Settings.{IsNamedInText, algorithm_name, algorithm_named, version_number, version_numbered}
 use Rattle.argon2_base.specs.declared.error.password_hash.Error.{Error as HashError}
 
 -- a test of what does not hold fails

@@ -3,11 +3,11 @@ use Rattle.std.proofs.Common.{◌≡◌, ℕ, ◌^◌, ◌<◌, ◌≤◌, List,
 use Rattle.std.proofs.lemmas.Bool.Decides.{nat_tests}
 use Rattle.std.specs.Prelude.{IsNone}
 use Rattle.std.specs.Fmt.{decimal}
-use Rattle.argon2_base.specs.Base64.{IsBytes}
-use Rattle.argon2_base.proofs.Base64Lemmas.{short_bytes_again}
-use Rattle.argon2_base.proofs.DecimalLemmas.{number_again}
+use Rattle.argon2_base.specs.Texts.{IsBytes}
+use Rattle.argon2_base.proofs.texts.Base64Lemmas.{short_bytes_again}
+use Rattle.argon2_base.proofs.texts.DecimalLemmas.{number_again}
 use Rattle.argon2.specs.ListedParameters.{listed, params_of, unsized}
-use Rattle.argon2.specs.Parameters.{first_fault}
+use Rattle.argon2.specs.Settings.{first_fault}
 
 -- costs that are valid with an output length are valid without one
 pub valid_without : (m t p : ℕ) (o : Option ℕ) → IsNone (first_fault m t p o) → first_fault m t p None ≡ None

@@ -1,14 +1,14 @@
 -- What is read as a key identifier or as associated data.
 use Rattle.std.proofs.Common.{◌≡◌, ℕ, ◌≤◌, List, length, None, Some, Ok, arith}
 use Rattle.std.proofs.lemmas.List.{length-take}
-use Rattle.argon2_base.specs.Base64.{IsBytes, short_bytes}
+use Rattle.argon2_base.specs.Texts.{IsBytes, short_bytes}
 use Rattle.argon2_base.specs.ByteList.{base64_length}
 use Rattle.argon2_base.specs.declared.error.Error.{Error}
 use Rattle.argon2_base.specs.declared.error.Error.TheVariants.{B64Encoding}
-use Rattle.argon2_base.proofs.Base64Lemmas.{short_bytes_again, short_bytes_refused}
+use Rattle.argon2_base.proofs.texts.Base64Lemmas.{short_bytes_again, short_bytes_refused}
 use Rattle.argon2.specs.declared.params.key_id.KeyId.{KeyId}
 use Rattle.argon2.specs.declared.params.associated_data.AssociatedData.{AssociatedData}
-use Rattle.argon2.specs.ByteLists.{keyid_bytes, data_bytes, IsBase64Fault, IsKeyIdOfText, IsAssociatedDataOfText}
+use Rattle.argon2.specs.Params.{keyid_bytes, data_bytes, IsBase64Fault, IsKeyIdOfText, IsAssociatedDataOfText}
 
 -- a refused text is the Base64 of no bytes
 pub text_refused : (most : ℕ) (s : List ℕ) (e : Error) → IsBytes s → IsBase64Fault (base64_length most) s e

@@ -2,8 +2,7 @@
 use Rattle.std.proofs.Common.{◌≡◌, ℕ, ◌+◌, ◌*◌, ◌/◌, ◌%◌, ◌<◌, Bool, true, false, List, Option, Some, None, refl, sym, ap, ◌∙◌, arith}
 use Rattle.std.specs.Prelude.{slice_index_or, if◌then◌else◌}
 use Rattle.std.proofs.lemmas.Nat.{div-mul-add, mod-mul-add}
-use Rattle.argon2.specs.Context.{Context, segment_length}
-use Rattle.argon2.specs.Recurrence.{Blocks, is_independent, address_block, address_word, addresses_of, previous, reference_word}
+use Rattle.argon2.specs.Rfc9106.{Blocks, Context, address_block, address_word, addresses_of, is_independent, previous, reference_word, segment_length}
 
 -- an optional block has a word, or there is another
 word_of_option : (b : Bool) (a x : List ℕ) (i other : ℕ) → (if b then Some a else None) ≡ Some x

@@ -6,8 +6,7 @@ use Rattle.std.proofs.lemmas.List.{get_or_append_left, length_push, get_or_push}
 use Rattle.std.proofs.lemmas.List.FromFn.{get_or-map-range_with_len}
 use Rattle.std.proofs.lemmas.Nat.{div-mul-add, mod-mul-add}
 use Rattle.std.proofs.lemmas.Bool.{cond-true, cond-false, cases_lt, eqb-true, ltb-true, eq-eqb, lt-ltb, and_parts, and_from, false_from_ne_true}
-use Rattle.argon2.specs.Context.{Context, Sizes, lane_length}
-use Rattle.argon2.specs.Recurrence.{FirstColumns, Blocks, made_block, rule, in_history, history, block_of}
+use Rattle.argon2.specs.Rfc9106.{Blocks, Context, FirstColumns, Sizes, block_of, history, in_history, lane_length, made_block, rule}
 use Rattle.argon2.specs.Steps.{IsStep}
 use Rattle.argon2.specs.Laws.{IsRecurrence}
 use Rattle.argon2.proofs.recurrence.Sources.{Reads, made_cong}

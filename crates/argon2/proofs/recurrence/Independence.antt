@@ -4,9 +4,7 @@ use Rattle.std.proofs.Common.{◌≡◌, ℕ, zero, suc, ◌+◌, ◌*◌, ◌/�
 use Rattle.std.specs.Prelude.{slice_index_or, nat_lt, ◌==◌}
 use Rattle.std.proofs.lemmas.Bool.{cond-true, eq-eqb, lt-ltb, and_from, or_left, or_right}
 use Rattle.std.proofs.lemmas.Nat.{div_below}
-use Rattle.argon2.specs.Context.{Context, Sizes, segment_length, lane_length}
-use Rattle.argon2.specs.Reference.{reference_lane, permitted, finished_segments, reference}
-use Rattle.argon2.specs.Recurrence.{FirstColumns, is_independent, address_block, address_word, previous, reference_word, reference_of, block_of, reference_places}
+use Rattle.argon2.specs.Rfc9106.{Context, FirstColumns, Sizes, address_block, address_word, block_of, finished_segments, is_independent, lane_length, permitted, previous, reference, reference_lane, reference_of, reference_places, reference_word, segment_length}
 use Rattle.argon2.specs.Laws.{AreAlike}
 
 -- the place of the block that the address word takes

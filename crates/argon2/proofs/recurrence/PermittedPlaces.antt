@@ -7,8 +7,7 @@ use Rattle.std.proofs.lemmas.List.{length-append, length-map, length-take, lengt
 use Rattle.std.proofs.lemmas.List.FromFn.{get_or-map-range_with_len, length-range_with_len}
 use Rattle.std.proofs.lemmas.Bool.Decides.{nat_tests}
 use Rattle.std.proofs.lemmas.Bool.{cond_both, cases_eq, cases_lt}
-use Rattle.argon2.specs.Context.{Context, Sizes, segment_length, lane_length}
-use Rattle.argon2.specs.Reference.{columns, finished_segments, without_last, permitted}
+use Rattle.argon2.specs.Rfc9106.{Context, Sizes, columns, finished_segments, lane_length, permitted, segment_length, without_last}
 
 -- a column c of a slice, where a segment has s columns
 pub record InSlice (s c slice : ℕ) : Type 0 where

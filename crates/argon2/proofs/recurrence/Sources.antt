@@ -6,13 +6,10 @@ use Rattle.std.specs.List.{range_with_len, All}
 use Rattle.std.proofs.lemmas.List.FromFn.{length-range_with_len, get_or-range_with_len}
 use Rattle.std.proofs.lemmas.List.Elements.{All-map, All-append, All-take, All-get_or, All-nil}
 use Rattle.std.proofs.lemmas.Bool.{cond_both, cond-true, eq-eqb, eqb-true, ltb-true, and_parts, and_from}
-use Rattle.argon2_base.specs.Block.{xor_blocks}
-use Rattle.argon2_base.specs.Mixing.{mixed}
-use Rattle.argon2.specs.Context.{Context, Sizes, segment_length, lane_length}
-use Rattle.argon2.specs.Recurrence.{Blocks, is_independent, address_word, previous, reference_word, reference_of, made_block}
+use Rattle.argon2_base.specs.Block.{mixed, xor_blocks}
+use Rattle.argon2.specs.Rfc9106.{Blocks, Context, Reference, Sizes, address_word, columns, finished_segments, is_independent, lane_length, made_block, permitted, previous, reference, reference_index, reference_lane, reference_of, reference_word, segment_length, without_last}
 use Rattle.argon2.specs.Steps.{IsStep}
 use Rattle.argon2.proofs.recurrence.PermittedPlaces.{InSlice, in_slice, some_permitted}
-use Rattle.argon2.specs.Reference.{columns, finished_segments, without_last, permitted, Reference, reference_lane, reference_index, reference}
 
 -- The block of pass, lane and column may be made of that of r, l and c: the newest block of lane l and
 -- column c at that moment, and in another lane none of the slice at hand.

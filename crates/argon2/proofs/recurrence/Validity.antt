@@ -5,9 +5,8 @@ use Rattle.std.proofs.lemmas.Nat.{le-div}
 use Rattle.std.proofs.Math.Nat.{div-mul-le_self}
 use Rattle.argon2_base.specs.declared.error.Error.{Error}
 use Rattle.std.specs.Prelude.{IsNone, nat_lt, if◌then◌else◌}
-use Rattle.argon2.specs.Parameters.{first_fault}
-use Rattle.argon2.specs.Context.{Context, IsValid, Sizes}
-use Rattle.argon2.specs.Shape.{segment_length}
+use Rattle.argon2.specs.Settings.{first_fault}
+use Rattle.argon2.specs.Rfc9106.{Context, IsValid, Sizes, segment_length_for}
 
 -- a test that would refuse is false
 not_refused : (b : Bool) (fault : Error) (rest : Option Error) → IsNone (if b then Some fault else rest)
@@ -18,7 +17,7 @@ not_refused false fault rest h = (refl, h)
 -- costs that are not refused have these sizes
 pub sizes : (ctx : Context) → ctx.m_cost < 2 ^ 32 → ctx.t_cost < 2 ^ 32
     → IsNone (first_fault ctx.m_cost ctx.t_cost ctx.p_cost None) → Sizes ctx
-unfolding segment_length
+unfolding segment_length_for
 sizes ctx small_m small_t none =
     let m = ctx.m_cost in
     let p = ctx.p_cost in

@@ -4,9 +4,8 @@ use Rattle.std.specs.Prelude.{◌==◌, if◌then◌else◌}
 use Rattle.std.proofs.Math.Nat.{mul-le-mul, mul-le-mul_left, mul-le-mul_right}
 use Rattle.std.proofs.lemmas.Bool.{cases_eq, cases_lt, cond_both}
 use Rattle.std.proofs.lemmas.Bool.Decides.{nat_tests}
-use Rattle.argon2.specs.Context.{Context, Sizes, segment_length, lane_length, block_count}
-use Rattle.argon2.specs.Recurrence.{is_independent}
-use Rattle.argon2.specs.Counting.{independent_segments, mixing_calls, segment_calls, slices_calls, passes_calls}
+use Rattle.argon2.specs.Rfc9106.{Context, Sizes, block_count, is_independent, lane_length, segment_length}
+use Rattle.argon2.specs.Watching.{independent_segments, mixing_calls, segment_calls, slices_calls, passes_calls}
 
 module _ (ctx : Context) (sizes : Sizes ctx) where
   -- the mixings of the address blocks of a segment that has them

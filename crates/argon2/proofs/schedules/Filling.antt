@@ -6,11 +6,9 @@ use Rattle.std.proofs.lemmas.List.{length-set, get_or-set_same, get_or-set_other
 use Rattle.std.proofs.lemmas.List.FromFn.{fill_by_all}
 use Rattle.std.proofs.lemmas.Nat.{mul-add-lt, div_below}
 use Rattle.std.proofs.lemmas.Bool.{cond-false, cases_eq, and_left, and_right, ne_eqb}
-use Rattle.argon2.specs.Context.{Context, Sizes, segment_length, lane_length, block_count}
-use Rattle.argon2.specs.Reference.{Reference}
-use Rattle.argon2.specs.Recurrence.{FirstColumns, made_block, block_of, reference_places, matrix}
+use Rattle.argon2.specs.Rfc9106.{Context, FirstColumns, Reference, Sizes, block_count, block_of, lane_length, made_block, matrix, reference_places, segment_length}
 use Rattle.argon2.specs.Steps.{IsStep, in_memory, step, reference_place, turns, turn_count, IsSchedule, run, run_slices, run_passes}
-use Rattle.argon2.specs.Positions.{begun, HasBlocksUpTo}
+use Rattle.argon2.specs.Watching.{begun, HasBlocksUpTo}
 use Rattle.argon2.specs.Laws.{Begins, AreSchedules}
 use Rattle.argon2.proofs.recurrence.PermittedPlaces.{InSlice}
 use Rattle.argon2.proofs.recurrence.Sources.{AgreeOn, made_cong, reference_of_cong}

@@ -3,12 +3,9 @@ use Rattle.std.proofs.Common.{◌≡◌, ℕ, zero, suc, ◌+◌, ◌-◌, ◌*�
 use Rattle.std.specs.Prelude.{slice_index_or, nat_lt, ◌==◌, if◌then◌else◌}
 use Rattle.std.proofs.lemmas.Nat.{mul-add-lt}
 use Rattle.std.proofs.lemmas.Bool.{cond-false, ne_eqb}
-use Rattle.argon2_base.specs.Block.{xor_blocks}
-use Rattle.argon2_base.specs.Mixing.{mixed}
-use Rattle.argon2.specs.Context.{Context, lane_length, block_count}
-use Rattle.argon2.specs.Recurrence.{previous, reference_of, made_block}
-use Rattle.argon2.specs.Reference.{place_of, reference}
-use Rattle.argon2.specs.Steps.{in_memory, previous_place, reference_place, word_in, Memory}
+use Rattle.argon2_base.specs.Block.{mixed, xor_blocks}
+use Rattle.argon2.specs.Rfc9106.{Context, Memory, block_count, lane_length, made_block, place_of, previous, reference, reference_of}
+use Rattle.argon2.specs.Steps.{in_memory, previous_place, reference_place, word_in}
 
 -- the place of a lane and a column is within the memory
 pub place_below : (ctx : Context) (lane column : ℕ) → lane < ctx.p_cost → column < lane_length ctx

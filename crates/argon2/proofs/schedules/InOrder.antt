@@ -3,11 +3,10 @@ use Rattle.std.proofs.Common.{◌≡◌, ℕ, suc, ◌+◌, ◌*◌, ◌<◌, �
 use Rattle.std.specs.Prelude.{◌==◌, nat_lt, slice_set}
 use Rattle.std.proofs.lemmas.Bool.{cond_both}
 use Rattle.std.proofs.lemmas.Bool.Decides.{nat_tests}
-use Rattle.argon2.specs.Context.{Context, Sizes, segment_length}
+use Rattle.argon2.specs.Rfc9106.{Context, FirstColumns, Memory, Sizes, segment_length}
 use Rattle.argon2.specs.Laws.{Begins}
-use Rattle.argon2.specs.Positions.{begun, in_order, position_index, IsFilledFrom, IsFilledUpTo}
-use Rattle.argon2.specs.Recurrence.{FirstColumns}
-use Rattle.argon2.specs.Steps.{Memory, IsStep, reference_place, step}
+use Rattle.argon2.specs.Watching.{begun, in_order, position_index, IsFilledFrom, IsFilledUpTo}
+use Rattle.argon2.specs.Steps.{IsStep, reference_place, step}
 use Rattle.argon2.proofs.recurrence.PermittedPlaces.{InSlice}
 use Rattle.argon2.proofs.schedules.Filling.{filled_at_first, filled_at_last, next_pass, step_answers, step_fills, turn_count-later_slice, HasBlocksUpTo-like}
 use Rattle.argon2.proofs.schedules.ReferencePlaces.{first_positions, next_positions, step_positions, HasPositionsUpTo-like}

@@ -5,12 +5,9 @@ use Rattle.std.specs.List.{range_with_len}
 use Rattle.std.proofs.lemmas.List.FromFn.{get_or-map-range_with_len, length-map-range_with_len, fill_by_all}
 use Rattle.std.proofs.lemmas.Nat.{div-mul-add, mod-mul-add, mul-add-lt}
 use Rattle.argon2_base.specs.LongHash.{long_hash}
-use Rattle.argon2.specs.InitialHash.{first_block}
-use Rattle.argon2.specs.Tag.{matrix_of, tag_of}
+use Rattle.argon2.specs.Rfc9106.{Context, FirstColumns, Memory, Sizes, block_count, block_of, first_block, lane_length, last_block, matrix, matrix_of, tag_of, xor_lanes}
 use Rattle.argon2_base.specs.Block.{bytes_of, xor_blocks, zero_block}
-use Rattle.argon2.specs.Context.{Context, Sizes, lane_length, block_count}
-use Rattle.argon2.specs.Recurrence.{FirstColumns, block_of, matrix, xor_lanes, last_block}
-use Rattle.argon2.specs.Steps.{Memory, run_passes, last_column}
+use Rattle.argon2.specs.Steps.{run_passes, last_column}
 use Rattle.argon2.specs.Laws.{Begins, AreSchedules}
 use Rattle.argon2.proofs.schedules.Filling.{schedules_fill}
 

@@ -7,8 +7,7 @@ use Rattle.std.proofs.lemmas.List.{get_or-set_other, set_comm}
 use Rattle.std.proofs.lemmas.List.Sums.{sum_by-cons, sum_by-append}
 use Rattle.std.proofs.lemmas.Nat.{same_from_place}
 use Rattle.std.proofs.lemmas.Bool.{cond_both, cond-true, cond-false, cases_eq, eq-eqb, ne_eqb, and_from}
-use Rattle.argon2.specs.Context.{Context, Sizes, segment_length, lane_length}
-use Rattle.argon2.specs.Recurrence.{made_block}
+use Rattle.argon2.specs.Rfc9106.{Context, Sizes, lane_length, made_block, segment_length}
 use Rattle.argon2.specs.Steps.{IsStep, in_memory, step, turns, turn_count, IsSchedule, run}
 use Rattle.argon2.proofs.recurrence.PermittedPlaces.{InSlice}
 use Rattle.argon2.proofs.recurrence.Sources.{made_cong}

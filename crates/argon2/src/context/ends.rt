@@ -5,9 +5,8 @@ ghost use Rattle.std.specs.Prelude.{◌≡◌, ◌+◌, ◌<◌, ◌≤◌, ◌^
 ghost use Rattle.argon2_base.specs.Block.{bytes_of};
 ghost use Rattle.argon2_base.specs.Hasher.{Appends};
 ghost use Rattle.argon2_base.specs.LongHash.{long_hash};
-ghost use Rattle.argon2.specs.Context.{block_count};
+ghost use Rattle.argon2.specs.Rfc9106.{AreShort, block_after, block_count, first_block, initial_hash, number, with_length};
 ghost use Rattle.argon2.specs.Hashing.{KeepsOtherColumns};
-ghost use Rattle.argon2.specs.InitialHash.{AreShort, block_after, first_block, initial_hash, number, with_length};
 ghost use Rattle.argon2.specs.Laws.{Begins};
 ghost use Rattle.argon2.specs.Steps.{last_column};
 
@@ -35,7 +34,7 @@ fn update_input(hasher: &mut Blake2b, input: &[u8])
 }
 
 // The block of a lane and a column that an initial hash makes.
-#[tactic(auto, unfolding(crate::specs::InitialHash::block_after))]
+#[tactic(auto, unfolding(crate::specs::Rfc9106::block_after))]
 fn block_after(hash: &[u8; 64], lane: u32, column: u32) -> Block
     ensures { result ≡ block_after hash.now lane column }
 {

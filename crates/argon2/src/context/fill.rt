@@ -1,13 +1,10 @@
 //! From the inputs of a hash to its matrix, step by step (RFC 9106, section 3.2, steps 1 to 6).
 
 ghost use Rattle.std.specs.Prelude.{◌≡◌, ◌+◌, ◌-◌, ◌*◌, ◌^◌, ◌<◌, ◌≤◌, [], length, slice_index, slice_index_or, slice_set};
-ghost use Rattle.argon2_base.specs.Mixing.{mixed};
-ghost use Rattle.argon2.specs.Context.{segment_length, block_count};
-ghost use Rattle.argon2.specs.Counting.{segment_calls, slices_calls, mixing_calls};
-ghost use Rattle.argon2.specs.InitialHash.{AreShort, first_block};
+ghost use Rattle.argon2_base.specs.Block.{mixed};
+ghost use Rattle.argon2.specs.Rfc9106.{AreShort, FirstColumns, block_count, first_block, previous, segment_length};
+ghost use Rattle.argon2.specs.Watching.{Fills, IsFilledFrom, begun, in_order, mixing_calls, position_index, segment_calls, slices_calls};
 ghost use Rattle.argon2.specs.Laws.{Begins};
-ghost use Rattle.argon2.specs.Positions.{begun, in_order, position_index, Fills, IsFilledFrom};
-ghost use Rattle.argon2.specs.Recurrence.{previous, FirstColumns};
 ghost use Rattle.argon2.specs.Steps.{in_memory, previous_place, reference_place, step, word_in, IsStep, IsStepIn};
 
 use super::instance::Instance;

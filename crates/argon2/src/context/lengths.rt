@@ -2,9 +2,8 @@
 
 ghost use Rattle.std.specs.Prelude.{◌≡◌, ◌≤◌, OnOk, length};
 ghost use Rattle.argon2.specs.Argon2.{context_of};
-ghost use Rattle.argon2.specs.Context.{block_count};
+ghost use Rattle.argon2.specs.Rfc9106.{AreShort, block_count};
 ghost use Rattle.argon2.specs.Hashing.{input_refusal, memory_refusal, output_refusal, refusal_of, IsOutputLength};
-ghost use Rattle.argon2.specs.InitialHash.{AreShort};
 ghost use Rattle.argon2.specs.Refusals.{answer_unless};
 
 use super::{Argon2, MAX_PWD_LEN, MAX_SALT_LEN, MIN_SALT_LEN};

@@ -2,9 +2,7 @@
 //! which depend on no other block, and the block that it takes (RFC 9106, sections 3.4.1 and 3.4.2).
 
 ghost use Rattle.std.specs.Prelude.{◌≡◌, ℕ, ◌+◌, ◌-◌, ◌*◌, ◌/◌, ◌^◌, ◌<◌, ◌≤◌, ◌==◌, ◌++◌, length, replicate, slice_index_or, if◌then◌else◌};
-ghost use Rattle.argon2.specs.Context.{segment_length, lane_length, block_count};
-ghost use Rattle.argon2.specs.Recurrence.{is_independent, address_block, addresses_of};
-ghost use Rattle.argon2.specs.Reference.{permitted, reference_lane, reference_index, reference, place_of, MayReferTo};
+ghost use Rattle.argon2.specs.Rfc9106.{MayReferTo, address_block, addresses_of, block_count, is_independent, lane_length, permitted, place_of, reference, reference_index, reference_lane, segment_length};
 ghost use Rattle.argon2.specs.Steps.{word_in, IsStep, IsStepIn};
 
 use super::fill::Step;
@@ -25,7 +23,7 @@ fn block_of_words(words: &[u64]) -> Block
 }
 
 /// Which of `count` blocks a word takes.
-#[tactic(auto, unfolding(crate::specs::Reference::reference_index))]
+#[tactic(auto, unfolding(crate::specs::Rfc9106::reference_index))]
 fn reference_index(count: u32, word: u64) -> u32
     requires some { 0 < count }
     ensures value { result ≡ reference_index count word }
@@ -54,7 +52,7 @@ impl<'a> Instance<'a> {
     }
 
     /// The address block that has the word of a step, in a slice that has address blocks.
-    #[tactic(auto, unfolding(crate::specs::Recurrence::addresses_of))]
+    #[tactic(auto, unfolding(crate::specs::Rfc9106::addresses_of))]
     pub(super) fn addresses(&self, at: Step, work: &mut Work) -> Option<Block>
         requires { work.old + 2 < 2 ^ 128 }
         ensures block { result ≡ addresses_of self.now at.pass at.lane at.column }
@@ -98,7 +96,7 @@ impl<'a> Instance<'a> {
     }
 
     /// Whether a slice's references do not depend on blocks.
-    #[tactic(auto, unfolding(crate::specs::Recurrence::is_independent))]
+    #[tactic(auto, unfolding(crate::specs::Rfc9106::is_independent))]
     fn is_independent(&self, pass: u32, slice: u32) -> bool
         ensures { result ≡ is_independent self.now pass slice }
     {

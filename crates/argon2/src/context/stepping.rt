@@ -10,7 +10,7 @@ impl Argon2<'_> {
     ghost use Rattle.argon2_base.specs.Block.{bytes_of};
     ghost use Rattle.argon2_base.specs.LongHash.{long_hash};
     ghost use Rattle.argon2.specs.Argon2.{context_of};
-    ghost use Rattle.argon2.specs.Context.{block_count};
+    ghost use Rattle.argon2.specs.Rfc9106.{block_count};
     ghost use Rattle.argon2.specs.Hashing.{blocks_of, output_refusal, refusal_of, IsBegun, IsStepped};
     ghost use Rattle.argon2.specs.Refusals.{answer_unless};
     ghost use Rattle.argon2.specs.Steps.{last_column, IsStep};

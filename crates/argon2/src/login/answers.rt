@@ -1,7 +1,7 @@
 //! What the calls of the login store answer.
 
 ghost use Rattle.std.specs.Prelude.{Some};
-ghost use Rattle.argon2.specs.LoginTexts.{accepted_text, login_error_text};
+ghost use Rattle.argon2.specs.Login.{accepted_text, login_error_text};
 
 use argon2_base::error::password_hash::Error;
 use std::fmt;

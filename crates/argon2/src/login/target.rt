@@ -23,13 +23,12 @@ impl<'key> Target<'key> {
     ghost use Rattle.std.specs.Prelude.{◌≡◌, ◌≢◌, ◌↔◌, ◌⊎◌, ◌<◌, ℕ, List, Some, IsTrue, IfOk, MatchResult};
     ghost use Rattle.std.specs.FinMap.{get, insert};
     ghost use Rattle.rand_core.specs.Stream.{fill_bytes};
-    ghost use Rattle.argon2_base.specs.PasswordHash.{phc_of};
+    ghost use Rattle.argon2_base.specs.PhcFields.{phc_of};
     ghost use Rattle.argon2_base.specs.declared.error.password_hash.Error.TheVariants.{OutOfMemory, OutputSize};
-    ghost use Rattle.argon2.specs.Accepts.{AcceptsBy};
+    ghost use Rattle.argon2.specs.Stored.{AcceptsBy, settings_value};
     ghost use Rattle.argon2.specs.Argon2.{settings_of};
     ghost use Rattle.argon2.specs.Login.{Store, IsCurrent, LoginAnswer, stream_after};
     ghost use Rattle.argon2.specs.Made.{sized, tag_length};
-    ghost use Rattle.argon2.specs.Stored.{settings_value};
     ghost use Rattle.argon2.specs.declared.login.answers.Accepted.TheVariants.{Kept};
     ghost use Rattle.argon2.specs.declared.login.answers.LoginError.TheVariants.{Refused};
 

@@ -1,7 +1,7 @@
 //! Associated data.
 
 ghost use Rattle.std.specs.Prelude.{◌≡◌, ◌↔◌, [], IsTrue, length};
-ghost use Rattle.argon2_base.specs.Base64.{IsBytes};
+ghost use Rattle.argon2_base.specs.Texts.{IsBytes};
 ghost use Rattle.argon2_base.specs.ByteList.{list_bytes};
 
 use argon2_base::byte_list::ByteList;
@@ -18,7 +18,7 @@ pub struct AssociatedData {
 }
 
 impl AssociatedData {
-    ghost use Rattle.argon2.specs.ByteLists.{data_bytes, AreBytes, IsAssociatedDataOf, IsAssociatedDataOfText};
+    ghost use Rattle.argon2.specs.Params.{data_bytes, AreBytes, IsAssociatedDataOf, IsAssociatedDataOfText};
 
     /// The most bytes of associated data.
     pub const MAX_LEN: usize = 32;
@@ -78,7 +78,7 @@ impl AssociatedData {
 
 impl Default for AssociatedData {
     ghost use Rattle.std.specs.Prelude.{◌≡◌, []};
-    ghost use Rattle.argon2.specs.ByteLists.{data_bytes};
+    ghost use Rattle.argon2.specs.Params.{data_bytes};
 
     ghost is_default = { λ associated. data_bytes associated ≡ [] };
 
@@ -88,7 +88,7 @@ impl Default for AssociatedData {
 }
 
 impl AsSlice<u8> for AssociatedData {
-    ghost use Rattle.argon2.specs.ByteLists.{data_bytes};
+    ghost use Rattle.argon2.specs.Params.{data_bytes};
 
     ghost items = { data_bytes };
 
@@ -98,7 +98,7 @@ impl AsSlice<u8> for AssociatedData {
 }
 
 impl FromStr for AssociatedData {
-    ghost use Rattle.argon2.specs.ByteLists.{IsAssociatedDataOfText};
+    ghost use Rattle.argon2.specs.Params.{IsAssociatedDataOfText};
 
     type Err = Error;
 
@@ -110,7 +110,7 @@ impl FromStr for AssociatedData {
 }
 
 impl TryFrom<&[u8]> for AssociatedData {
-    ghost use Rattle.argon2.specs.ByteLists.{IsAssociatedDataOf};
+    ghost use Rattle.argon2.specs.Params.{IsAssociatedDataOf};
 
     type Error = Error;
 

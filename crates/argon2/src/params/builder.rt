@@ -2,9 +2,7 @@
 
 ghost use Rattle.std.specs.Prelude.{◌≡◌, Some};
 ghost use Rattle.argon2.specs.Argon2.{IsContextOf};
-ghost use Rattle.argon2.specs.ByteLists.{keyid_bytes, data_bytes};
-ghost use Rattle.argon2.specs.ParamsBuilder.{builder_settings, built, default_settings, Sets};
-ghost use Rattle.argon2.specs.Params.{IsParamsOf};
+ghost use Rattle.argon2.specs.Params.{IsParamsOf, Sets, builder_settings, built, data_bytes, default_settings, keyid_bytes};
 
 use super::{AssociatedData, KeyId, Params};
 use crate::algorithm::Algorithm;

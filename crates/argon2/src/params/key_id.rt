@@ -1,7 +1,7 @@
 //! Key identifiers.
 
 ghost use Rattle.std.specs.Prelude.{◌≡◌, ◌↔◌, [], IsTrue, length};
-ghost use Rattle.argon2_base.specs.Base64.{IsBytes};
+ghost use Rattle.argon2_base.specs.Texts.{IsBytes};
 ghost use Rattle.argon2_base.specs.ByteList.{list_bytes};
 
 use argon2_base::byte_list::ByteList;
@@ -18,7 +18,7 @@ pub struct KeyId {
 }
 
 impl KeyId {
-    ghost use Rattle.argon2.specs.ByteLists.{keyid_bytes, AreBytes, IsKeyIdOf, IsKeyIdOfText};
+    ghost use Rattle.argon2.specs.Params.{keyid_bytes, AreBytes, IsKeyIdOf, IsKeyIdOfText};
 
     /// The most bytes of a key identifier.
     pub const MAX_LEN: usize = 8;
@@ -78,7 +78,7 @@ impl KeyId {
 
 impl Default for KeyId {
     ghost use Rattle.std.specs.Prelude.{◌≡◌, []};
-    ghost use Rattle.argon2.specs.ByteLists.{keyid_bytes};
+    ghost use Rattle.argon2.specs.Params.{keyid_bytes};
 
     ghost is_default = { λ keyid. keyid_bytes keyid ≡ [] };
 
@@ -88,7 +88,7 @@ impl Default for KeyId {
 }
 
 impl AsSlice<u8> for KeyId {
-    ghost use Rattle.argon2.specs.ByteLists.{keyid_bytes};
+    ghost use Rattle.argon2.specs.Params.{keyid_bytes};
 
     ghost items = { keyid_bytes };
 
@@ -98,7 +98,7 @@ impl AsSlice<u8> for KeyId {
 }
 
 impl FromStr for KeyId {
-    ghost use Rattle.argon2.specs.ByteLists.{IsKeyIdOfText};
+    ghost use Rattle.argon2.specs.Params.{IsKeyIdOfText};
 
     type Err = Error;
 
@@ -110,7 +110,7 @@ impl FromStr for KeyId {
 }
 
 impl TryFrom<&[u8]> for KeyId {
-    ghost use Rattle.argon2.specs.ByteLists.{IsKeyIdOf};
+    ghost use Rattle.argon2.specs.Params.{IsKeyIdOf};
 
     type Error = Error;
 

@@ -2,12 +2,11 @@
 
 ghost use Rattle.std.specs.Prelude.{◌≡◌, ◌≤◌, ◌++◌, IsTrue, codes, length};
 ghost use Rattle.std.specs.Option.{option_map};
-ghost use Rattle.argon2_base.specs.Decimal.{number_of};
-ghost use Rattle.argon2_base.specs.ParamsText.{are_params};
+ghost use Rattle.argon2_base.specs.Texts.{number_of};
+ghost use Rattle.argon2_base.specs.PhcText.{are_params};
 ghost use Rattle.argon2_base.specs.Error.{bad_param, outcome_of};
-ghost use Rattle.argon2.specs.ByteLists.{keyid_bytes, data_bytes};
-ghost use Rattle.argon2.specs.ListedParameters.{bytes_item, listed, short_bytes, AreReadAgain};
-ghost use Rattle.argon2.specs.ListReading.{value_taken};
+ghost use Rattle.argon2.specs.Params.{keyid_bytes, data_bytes};
+ghost use Rattle.argon2.specs.ListedParameters.{AreReadAgain, bytes_item, listed, short_bytes, value_taken};
 
 use super::{AssociatedData, KeyId, Params, ParamsBuilder};
 use argon2_base::error::password_hash::{Error, Result};
@@ -54,7 +53,7 @@ fn add_bytes(list: &mut ParamsString, name: &str, bytes: &[u8])
 /// output.
 impl TryFrom<&Params> for ParamsString {
     ghost use Rattle.argon2.specs.Params.{parameters_of};
-    ghost use Rattle.argon2.specs.ParamsAnswers.{IsListOf};
+    ghost use Rattle.argon2.specs.ListedParameters.{IsListOf};
 
     type Error = Error;
 
@@ -69,7 +68,7 @@ impl TryFrom<&Params> for ParamsString {
 /// The same of parameters by value.
 impl TryFrom<Params> for ParamsString {
     ghost use Rattle.argon2.specs.Params.{parameters_of};
-    ghost use Rattle.argon2.specs.ParamsAnswers.{IsListOf};
+    ghost use Rattle.argon2.specs.ListedParameters.{IsListOf};
 
     type Error = Error;
 
@@ -84,7 +83,7 @@ impl TryFrom<Params> for ParamsString {
 /// joined by `,`.
 impl fmt::Display for Params {
     ghost use Rattle.std.specs.Prelude.{Some};
-    ghost use Rattle.argon2_base.specs.ParamsText.{params_text};
+    ghost use Rattle.argon2_base.specs.PhcText.{params_text};
     ghost use Rattle.argon2.specs.ListedParameters.{list_of};
     ghost use Rattle.argon2.specs.Params.{parameters_of};
 
@@ -147,7 +146,7 @@ struct Found {
 impl Found {
     ghost use Rattle.std.specs.Prelude.{◌≡◌};
     ghost use Rattle.argon2_base.specs.Error.{outcome_of};
-    ghost use Rattle.argon2.specs.ListReading.{found_of, item_taken, items_read};
+    ghost use Rattle.argon2.specs.ListedParameters.{found_of, item_taken, items_read};
 
     // What a list says.
     fn of(list: &ParamsString) -> Result<Found>
@@ -214,7 +213,7 @@ impl Params {
 /// `ParamsInvalid`. Then `ParamsInvalid` where `m`, `t` or `p` is missing, and then the fault of
 /// [`Params::new`].
 impl TryFrom<&ParamsString> for Params {
-    ghost use Rattle.argon2.specs.ParamsAnswers.{IsListAnswer};
+    ghost use Rattle.argon2.specs.ListedParameters.{IsListAnswer};
 
     type Error = Error;
 
@@ -227,8 +226,8 @@ impl TryFrom<&ParamsString> for Params {
 
 /// The same of a whole PHC text, whose hash has the length of the output.
 impl TryFrom<&PasswordHash> for Params {
-    ghost use Rattle.argon2_base.specs.PasswordHash.{phc_of};
-    ghost use Rattle.argon2.specs.ParamsAnswers.{IsPhcAnswer};
+    ghost use Rattle.argon2_base.specs.PhcFields.{phc_of};
+    ghost use Rattle.argon2.specs.ListedParameters.{IsPhcAnswer};
 
     type Error = Error;
 
@@ -242,7 +241,7 @@ impl TryFrom<&PasswordHash> for Params {
 
 /// The same of a list's text, or `ParamsInvalid` where it is no list's.
 impl FromStr for Params {
-    ghost use Rattle.argon2.specs.ParamsAnswers.{IsTextAnswer};
+    ghost use Rattle.argon2.specs.ListedParameters.{IsTextAnswer};
 
     type Err = Error;
 

@@ -80,12 +80,11 @@ impl<'key> Argon2<'key> {
 /// Hashes have the output length of the parameters, or 32 bytes where none is set.
 impl PasswordHasher<PasswordHash> for Argon2<'_> {
     ghost use Rattle.std.specs.Prelude.{◌≡◌, Ok};
-    ghost use Rattle.argon2_base.specs.PasswordHash.{phc_of};
+    ghost use Rattle.argon2_base.specs.PhcFields.{phc_of};
     ghost use Rattle.argon2_base.specs.PhcText.{phc_text};
-    ghost use Rattle.argon2.specs.Accepts.{Accepts};
+    ghost use Rattle.argon2.specs.Stored.{Accepts, shown_settings};
     ghost use Rattle.argon2.specs.Argon2.{secret_of, settings_of};
     ghost use Rattle.argon2.specs.Made.{target_of, sized, IsHashAnswer};
-    ghost use Rattle.argon2.specs.Stored.{shown_settings};
 
     ghost hash_gives = { λ argon2. IsHashAnswer (target_of argon2) };
 
@@ -147,9 +146,9 @@ fn asked_version(number: Option<u32>) -> Result<Version>
 }
 
 impl CustomizedPasswordHasher<PasswordHash> for Argon2<'_> {
-    ghost use Rattle.argon2_base.specs.PasswordHash.{phc_of};
+    ghost use Rattle.argon2_base.specs.PhcFields.{phc_of};
     ghost use Rattle.argon2_base.specs.PhcText.{phc_text};
-    ghost use Rattle.argon2.specs.Accepts.{Accepts};
+    ghost use Rattle.argon2.specs.Stored.{Accepts};
     ghost use Rattle.argon2.specs.Argon2.{secret_of};
     ghost use Rattle.argon2.specs.Made.{settings_asked, IsAskedAnswer};
     ghost use Rattle.argon2.specs.Params.{parameters_of};

@@ -29,7 +29,7 @@ pub struct Settings {
 /// - [`Error::Version`]: no version has the number.
 impl TryFrom<&PasswordHash> for Settings {
     ghost use Rattle.argon2_base.specs.Error.{outcome_of};
-    ghost use Rattle.argon2_base.specs.PasswordHash.{phc_of};
+    ghost use Rattle.argon2_base.specs.PhcFields.{phc_of};
     ghost use Rattle.argon2.specs.Stored.{settings_value, shown_settings};
 
     type Error = Error;
@@ -72,7 +72,7 @@ pub struct Stored<'hash> {
 /// [`Settings`].
 impl<'hash> TryFrom<&'hash PasswordHash> for Stored<'hash> {
     ghost use Rattle.argon2_base.specs.Error.{outcome_of};
-    ghost use Rattle.argon2_base.specs.PasswordHash.{phc_of};
+    ghost use Rattle.argon2_base.specs.PhcFields.{phc_of};
     ghost use Rattle.argon2.specs.Stored.{stored_of, stored_value};
 
     type Error = Error;

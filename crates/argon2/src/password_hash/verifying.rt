@@ -8,9 +8,8 @@ use std::alloc::Global;
 impl Argon2<'_> {
     ghost use Rattle.std.specs.Prelude.{◌≡◌, Ok};
     ghost use Rattle.argon2_base.specs.PhcText.{Phc};
-    ghost use Rattle.argon2.specs.Accepts.{IsVerifyAnswer};
+    ghost use Rattle.argon2.specs.Stored.{IsVerifyAnswer, stored_of, stored_value};
     ghost use Rattle.argon2.specs.Argon2.{secret_of};
-    ghost use Rattle.argon2.specs.Stored.{stored_of, stored_value};
 
     // Whether what a hash shows is the tag of the password, with this secret.
     pub(crate) fn verify_stored(
@@ -34,8 +33,8 @@ impl Argon2<'_> {
 /// Hashes under the algorithm, the version and the parameters of the stored hash, where no version
 /// is version 0x10, and with this context's secret. Nothing else of the context occurs.
 impl PasswordVerifier<&PasswordHash> for Argon2<'_> {
-    ghost use Rattle.argon2_base.specs.PasswordHash.{phc_of};
-    ghost use Rattle.argon2.specs.Accepts.{AcceptsBy, IsVerifyAnswer};
+    ghost use Rattle.argon2_base.specs.PhcFields.{phc_of};
+    ghost use Rattle.argon2.specs.Stored.{AcceptsBy, IsVerifyAnswer};
     ghost use Rattle.argon2.specs.Argon2.{secret_of};
 
     ghost verify_gives = { λ argon2 password hash.
@@ -51,7 +50,7 @@ impl PasswordVerifier<&PasswordHash> for Argon2<'_> {
 
 /// The same of a PHC text.
 impl PasswordVerifier<&str> for Argon2<'_> {
-    ghost use Rattle.argon2.specs.Accepts.{Accepts, IsVerifyTextAnswer};
+    ghost use Rattle.argon2.specs.Stored.{Accepts, IsVerifyTextAnswer};
     ghost use Rattle.argon2.specs.Argon2.{secret_of};
 
     ghost verify_gives = { λ argon2 password text.

@@ -2,8 +2,7 @@
 //! and then word k of column i, so that P goes on eight rows and on eight columns at once.
 
 ghost use Rattle.std.specs.Prelude.{◌≡◌, ℕ, ◌+◌, ◌*◌, ◌/◌, ◌%◌, ◌^◌, ◌<◌, ◌≤◌, length, slice_index, bit_xor, ◌==◌, if◌then◌else◌};
-ghost use Rattle.argon2_base.specs.Block.{xor_blocks};
-ghost use Rattle.argon2_base.specs.Mixing.{add_mul, xor_rotate, gb, gb_at, perm, row, column, mixed};
+ghost use Rattle.argon2_base.specs.Block.{add_mul, column, gb, gb_at, mixed, perm, row, xor_blocks, xor_rotate};
 ghost use Rattle.argon2_base.specs.Lanes.{lane, lane_word, ones_left, ones_right, twos_left, twos_right, fours_left, fours_right, word_from, words_in_eights};
 
 use std::simd::{u8x64, u64x8};

@@ -1,10 +1,9 @@
 //! The fields of a PHC text, read one by one.
 
 ghost use Rattle.std.specs.Prelude.{◌≡◌, ◌<◌, ◌^◌, ◌++◌, ◌∷◌, ℕ, List, Option, IfOk, IfErr, IfSome, IsSome, IsOkAnd, IsTrue};
-ghost use Rattle.argon2_base.specs.Base64.{strict_base64};
-ghost use Rattle.argon2_base.specs.ParamsText.{Pair, are_params};
+ghost use Rattle.argon2_base.specs.Texts.{strict_base64};
+ghost use Rattle.argon2_base.specs.PhcText.{HasBytes, Pair, are_params, field, list_field, version_text};
 ghost use Rattle.argon2_base.specs.PhcFields.{fields_of, fields_left, IsBytesField, with_bytes, NoVersionFirst, NoItemFirst};
-ghost use Rattle.argon2_base.specs.PhcText.{HasBytes, field, list_field, version_text};
 ghost use Rattle.argon2_base.specs.declared.error.password_hash.Error.TheVariants.{EncodingInvalid};
 
 use super::bytes::{Output, Salt};

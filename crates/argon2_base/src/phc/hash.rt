@@ -3,7 +3,7 @@
 ghost use Rattle.std.specs.Prelude.{◌≡◌, ◌<◌, ◌≤◌, ◌+◌, ◌++◌, ◌∷◌, length};
 ghost use Rattle.std.proofs.Props.{props};
 ghost use Rattle.arrayvec.specs.ArrayString.{array_string_len};
-ghost use Rattle.argon2_base.specs.Base64.{strict_base64};
+ghost use Rattle.argon2_base.specs.Texts.{strict_base64};
 ghost use Rattle.argon2_base.specs.PhcText.{IsPhc, phc_with, field, fields_text, list_field, version_text};
 
 use super::bytes::{Output, Salt};
@@ -34,7 +34,7 @@ pub struct PasswordHash {
 
 impl PasswordHash {
     ghost use Rattle.std.specs.Prelude.{◌≡◌, IfOk, IfErr, IsOkAnd};
-    ghost use Rattle.argon2_base.specs.PasswordHash.{phc_of};
+    ghost use Rattle.argon2_base.specs.PhcFields.{phc_of};
     ghost use Rattle.argon2_base.specs.PhcText.{Phc, PhcText};
     ghost use Rattle.argon2_base.specs.declared.error.password_hash.Error.TheVariants.{EncodingInvalid};
 
@@ -78,7 +78,7 @@ impl PasswordHash {
 /// What [`PasswordHash::new`] answers.
 impl FromStr for PasswordHash {
     ghost use Rattle.std.specs.Prelude.{◌≡◌, IsOkAnd, MatchResult};
-    ghost use Rattle.argon2_base.specs.PasswordHash.{phc_of};
+    ghost use Rattle.argon2_base.specs.PhcFields.{phc_of};
     ghost use Rattle.argon2_base.specs.PhcText.{Phc, PhcText};
     ghost use Rattle.argon2_base.specs.declared.error.password_hash.Error.TheVariants.{EncodingInvalid};
 
@@ -97,7 +97,7 @@ impl FromStr for PasswordHash {
 impl PartialEq for PasswordHash {
     ghost use Rattle.std.specs.Prelude.{◌≡◌, ◌↔◌, IsTrue};
     ghost use Rattle.std.specs.Cmp.{on_per, partial_equiv_from_equiv};
-    ghost use Rattle.argon2_base.specs.PasswordHash.{phc_of};
+    ghost use Rattle.argon2_base.specs.PhcFields.{phc_of};
     ghost use Rattle.argon2_base.specs.PhcText.{phc_eq, phc_eq_equiv};
 
     ghost eq = { λ a b. phc_eq (phc_of a) (phc_of b) };
@@ -118,7 +118,7 @@ impl PartialEq for PasswordHash {
 
 impl Eq for PasswordHash {
     ghost use Rattle.std.specs.Cmp.{on_equiv};
-    ghost use Rattle.argon2_base.specs.PasswordHash.{phc_of};
+    ghost use Rattle.argon2_base.specs.PhcFields.{phc_of};
     ghost use Rattle.argon2_base.specs.PhcText.{phc_eq_equiv};
 
     ghost laws = { on_equiv phc_of phc_eq_equiv };
@@ -126,7 +126,7 @@ impl Eq for PasswordHash {
 
 impl fmt::Display for PasswordHash {
     ghost use Rattle.std.specs.Prelude.{Some};
-    ghost use Rattle.argon2_base.specs.PasswordHash.{phc_of};
+    ghost use Rattle.argon2_base.specs.PhcFields.{phc_of};
     ghost use Rattle.argon2_base.specs.PhcText.{phc_text};
 
     ghost output = { λ h. Some (phc_text (phc_of h)) };

@@ -3,7 +3,7 @@
 ghost use Rattle.std.specs.Prelude.{◌≡◌, IsTrue};
 ghost use Rattle.std.specs.List.{list_all};
 ghost use Rattle.argon2_base.specs.ByteList.{list_bytes};
-ghost use Rattle.argon2_base.specs.Names.{is_name, is_name_char};
+ghost use Rattle.argon2_base.specs.Texts.{is_name, is_name_char};
 
 use crate::byte_list::ByteList;
 use crate::error::password_hash::{Error, Result};
@@ -64,8 +64,8 @@ pub(super) fn is_name_text(text: &str) -> bool
 
 impl Ident {
     ghost use Rattle.std.specs.Prelude.{◌≡◌, IsTrue, false, IfOk, MatchResult};
-    ghost use Rattle.argon2_base.specs.Ident.{ident_text};
-    ghost use Rattle.argon2_base.specs.Names.{is_name};
+    ghost use Rattle.argon2_base.specs.PhcText.{ident_text};
+    ghost use Rattle.argon2_base.specs.Texts.{is_name};
     ghost use Rattle.argon2_base.specs.declared.error.password_hash.Error.TheVariants.{EncodingInvalid};
 
     /// The identifier with this text, or `EncodingInvalid` where it is none.
@@ -93,7 +93,7 @@ impl Ident {
 }
 
 impl AsStr for Ident {
-    ghost use Rattle.argon2_base.specs.Ident.{ident_text};
+    ghost use Rattle.argon2_base.specs.PhcText.{ident_text};
 
     ghost text = { ident_text };
 
@@ -104,7 +104,7 @@ impl AsStr for Ident {
 
 impl fmt::Display for Ident {
     ghost use Rattle.std.specs.Prelude.{Some};
-    ghost use Rattle.argon2_base.specs.Ident.{ident_text};
+    ghost use Rattle.argon2_base.specs.PhcText.{ident_text};
 
     ghost output = { λ i. Some (ident_text i) };
 
@@ -121,8 +121,8 @@ impl fmt::Debug for Ident {
 
 impl FromStr for Ident {
     ghost use Rattle.std.specs.Prelude.{◌≡◌, IsTrue, false, MatchResult};
-    ghost use Rattle.argon2_base.specs.Ident.{ident_text};
-    ghost use Rattle.argon2_base.specs.Names.{is_name};
+    ghost use Rattle.argon2_base.specs.PhcText.{ident_text};
+    ghost use Rattle.argon2_base.specs.Texts.{is_name};
     ghost use Rattle.argon2_base.specs.declared.error.password_hash.Error.TheVariants.{EncodingInvalid};
 
     type Err = Error;
@@ -140,7 +140,7 @@ impl Hash for Ident {
     ghost use Rattle.std.specs.Cmp.Rules.{hashing};
     ghost use Rattle.std.specs.Hash as fed;
     ghost use Rattle.std.proofs.Common.{rules};
-    ghost use Rattle.argon2_base.specs.Ident.{ident_text};
+    ghost use Rattle.argon2_base.specs.PhcText.{ident_text};
 
     ghost hash_input = { λ i. fed.str (ident_text i) };
 

@@ -3,8 +3,8 @@
 ghost use Rattle.std.specs.Prelude.{◌≡◌, ◌≢◌, ◌↔◌, ◌<◌, ◌≤◌, ◌++◌, ◌∷◌, [], ℕ, List, false, Some, Ok, is_ok, IfOk, IfErr, IfSome, IfNone, OnOk, OnErr, MatchResult, IsTrue, length, nat_le};
 ghost use Rattle.std.specs.Fmt.{decimal};
 ghost use Rattle.std.specs.Cmp.{partial_equiv_from_equiv};
-ghost use Rattle.argon2_base.specs.Base64.{strict_base64};
-ghost use Rattle.argon2_base.specs.ParamsText.{Pair, item, params_text, value_of, is_param, are_params, ParamsText, pair_of, items_of, items_left, with_item, pairs_eq, pairs_eq_equiv};
+ghost use Rattle.argon2_base.specs.Texts.{strict_base64};
+ghost use Rattle.argon2_base.specs.PhcText.{Pair, item, params_text, value_of, is_param, are_params, ParamsText, pair_of, items_of, items_left, with_item, pairs_eq, pairs_eq_equiv};
 ghost use Rattle.argon2_base.specs.declared.error.password_hash.Error.TheVariants.{ParamsInvalid};
 
 use super::bytes::base64_text;
@@ -27,7 +27,7 @@ pub struct ParamsString {
 
 impl Model for ParamsString {
     ghost use Rattle.std.specs.Prelude.{◌≡◌, ℕ, List, IsTrue};
-    ghost use Rattle.argon2_base.specs.ParamsText.{pairs_of, are_params, params_text};
+    ghost use Rattle.argon2_base.specs.PhcText.{pairs_of, are_params, params_text};
 
     ghost Value = { List (List ℕ × List ℕ) };
 
@@ -202,7 +202,7 @@ pub struct Iter<'a> {
 impl<'a> Model for Iter<'a> {
     ghost use Rattle.std.specs.Prelude.{◌≡◌, ℕ, List, map, IsTrue};
     ghost use Rattle.std.specs.List.{list_all};
-    ghost use Rattle.argon2_base.specs.ParamsText.{pair_of, item, items_left, is_param};
+    ghost use Rattle.argon2_base.specs.PhcText.{pair_of, item, items_left, is_param};
 
     ghost Value = { List (List ℕ × List ℕ) };
 
@@ -214,7 +214,7 @@ impl<'a> Model for Iter<'a> {
 
 impl<'a> Iterator for Iter<'a> {
     ghost use Rattle.std.specs.Iterator.{YieldsFirstBy, item_count};
-    ghost use Rattle.argon2_base.specs.Ident.{shown_pair};
+    ghost use Rattle.argon2_base.specs.PhcText.{shown_pair};
 
     type Item = (Ident, Value<'a>);
 

@@ -3,7 +3,7 @@
 ghost use Rattle.std.specs.Prelude.{◌≡◌, ◌<◌, ◌+◌, ◌^◌, ◌++◌, ◌∷◌, [], ℕ, Some, Ok, IfSome, IfOk, IfErr, length};
 ghost use Rattle.std.specs.Fmt.{decimal};
 ghost use Rattle.std.specs.List.{list_all};
-ghost use Rattle.argon2_base.specs.Names.{is_value, is_value_char};
+ghost use Rattle.argon2_base.specs.Texts.{is_value, is_value_char};
 ghost use Rattle.argon2_base.specs.declared.error.password_hash.Error.TheVariants.{ParamsInvalid};
 
 use crate::error::password_hash::{Error, Result};

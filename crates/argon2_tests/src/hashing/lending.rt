@@ -2,9 +2,8 @@
 
 ghost use Rattle.std.specs.Prelude.{◌≡◌, ◌<◌, ◌^◌, [], IfOk, None, length};
 ghost use Rattle.argon2.specs.Argon2.{argon2id_with};
-ghost use Rattle.argon2.specs.Context.{context_with};
+ghost use Rattle.argon2.specs.Rfc9106.{context_with, tag_of};
 ghost use Rattle.argon2.specs.Params.{parameters_of};
-ghost use Rattle.argon2.specs.Tag.{tag_of};
 
 use argon2::{Argon2, Block, Params};
 use std::alloc::{AllocError, Allocator};

@@ -3,7 +3,7 @@
 
 ghost use Rattle.std.specs.Prelude.{◌≡◌, ◌*◌, IfOk};
 ghost use Rattle.argon2.specs.Argon2.{context_of};
-ghost use Rattle.argon2.specs.Context.{block_count};
+ghost use Rattle.argon2.specs.Rfc9106.{block_count};
 
 use super::known_tags::KNOWN_TAGS;
 use super::{PWD, SALT, are_ones, known, ones, words};

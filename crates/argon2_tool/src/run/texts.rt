@@ -1,7 +1,7 @@
 //! PHC texts of the input as a password.
 
 ghost use Rattle.std.specs.Prelude.{◌≡◌, [], IfSome, IfOk, IfErr, codes, string_bytes};
-ghost use Rattle.argon2.specs.Accepts.{Accepts};
+ghost use Rattle.argon2.specs.Stored.{Accepts};
 ghost use Rattle.argon2.specs.Argon2.{secret_of, settings_of};
 ghost use Rattle.argon2_tool.specs.Commands.{IsPhcUnder, IsPhcReply, IsVerifyReply};
 ghost use Rattle.argon2_tool.specs.Failures.{IsBeforeReply, IsRefusalOf};

@@ -1,8 +1,7 @@
 use Rattle.std.proofs.Common.{ap}
 use Rattle.argon2_base.specs.Block.{bytes_of}
 use Rattle.argon2_base.specs.LongHash.{long_hash}
-use Rattle.argon2.specs.InitialHash.{first_block}
-use Rattle.argon2.specs.Tag.{tag_of}
+use Rattle.argon2.specs.Rfc9106.{first_block, tag_of}
 use Rattle.argon2.proofs.recurrence.Validity.{sizes-valid}
 use Rattle.argon2.proofs.schedules.Schedules.{schedules_agree}
 use Rattle.argon2.proofs.schedules.Filling.{schedules_fill}

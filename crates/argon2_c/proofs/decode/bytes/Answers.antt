@@ -1,5 +1,5 @@
 use Rattle.std.proofs.Common.{arith}
-use Rattle.argon2_base.proofs.Base64Lemmas.{strict_base64_decoded, strict_base64_unique, strict_base64_never_refused}
+use Rattle.argon2_base.proofs.texts.Base64Lemmas.{strict_base64_decoded, strict_base64_unique, strict_base64_never_refused}
 use Rattle.argon2_c.proofs.decode.bytes.Goals as goal
 
 pub returns-in-Ok-clause-found : goal.returns-in-Ok-clause-found

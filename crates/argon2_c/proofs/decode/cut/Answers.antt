@@ -1,6 +1,6 @@
 use Rattle.std.proofs.Common.{lit<}
 use Rattle.std.proofs.lemmas.Str.Pattern.{split_after}
-use Rattle.argon2_base.specs.Base64.{strict_base64}
+use Rattle.argon2_base.specs.Texts.{strict_base64}
 use Rattle.argon2_c.proofs.Marks.{base64_no_dollar, is_some_and}
 use Rattle.argon2_c.proofs.decode.cut.Goals as goal
 

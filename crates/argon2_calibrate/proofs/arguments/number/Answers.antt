@@ -1,5 +1,5 @@
 use Rattle.std.proofs.Common.{arith, sym}
-use Rattle.argon2_base.proofs.DecimalLemmas.{number_again, number_none}
+use Rattle.argon2_base.proofs.texts.DecimalLemmas.{number_again, number_none}
 use Rattle.argon2_calibrate.proofs.arguments.number.Goals as goal
 
 pub returns : goal.returns

@@ -1,9 +1,9 @@
 use Rattle.std.proofs.Common.{rules}
 use Rattle.rand_core.specs.Stream.{fill_bytes}
 use Rattle.argon2.specs.Made as made_under
-use Rattle.argon2.specs.PasswordHash.{phc_of}
+use Rattle.argon2.specs.PhcFields.{phc_of}
 use Rattle.argon2.specs.Login.{store_of}
-use Rattle.argon2.proofs.logins.LoginLemmas.{hash_made}
+use Rattle.argon2.proofs.login_store.LoginLemmas.{hash_made}
 use Rattle.argon2_uses.proofs.Stores.{add_gives, add_refuses}
 use Rattle.argon2_uses.proofs.login.register.Goals as goal
 

@@ -1,9 +1,9 @@
 use Rattle.std.proofs.Common.{◌≡◌, ℕ, List, subst}
 use Rattle.std.specs.Prelude.{IfOk}
 use Rattle.rand_core.specs.Stream.{fill_bytes}
-use Rattle.argon2.specs.Accepts.{Accepts}
+use Rattle.argon2.specs.Stored.{Accepts}
 use Rattle.argon2.specs.Made.{IsHashAnswer, Target}
-use Rattle.argon2.specs.PasswordHash.{phc_of}
+use Rattle.argon2.specs.PhcFields.{phc_of}
 use Rattle.argon2.specs.PhcText.{phc_text}
 use Rattle.argon2.specs.Settings.{Settings}
 use Rattle.argon2_uses.proofs.passwords.stored.Goals as goal

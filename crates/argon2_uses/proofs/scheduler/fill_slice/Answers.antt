@@ -1,9 +1,8 @@
 use Rattle.std.proofs.Common.{◌≡◌, ◌+◌, ◌-◌, ◌*◌, ◌/◌, sym, ap, ◌∙◌, arith}
 use Rattle.argon2.proofs.recurrence.Validity.{sizes-valid}
 use Rattle.argon2.specs.Argon2.{context_of}
-use Rattle.argon2.specs.Context.{segment_length}
+use Rattle.argon2.specs.Rfc9106.{lane_length_for, segment_length}
 use Rattle.argon2.specs.Hashing.{blocks_of}
-use Rattle.argon2.specs.Shape as shape
 use Rattle.argon2.specs.Steps.{run, step}
 use Rattle.argon2_uses.proofs.Rounds.{left, run_turn, run_begin, run_end, run_no_round, column_below, column_late}
 use Rattle.argon2_uses.proofs.scheduler.fill_slice.Goals as goal
@@ -13,7 +12,7 @@ pub loop-lane-init : goal.loop-lane-init
 loop-lane-init c =
     let ctx = context_of c.args.argon2.now in
     let columns = c.lane_length-segment.ensures
-    ∙ ap (λ v. shape.lane_length v.m_cost v.p_cost) c.params-params.ensures in
+    ∙ ap (λ v. lane_length_for v.m_cost v.p_cost) c.params-params.ensures in
     sym (run_begin ctx c.args.pass c.args.slice c.loop-index.index (blocks_of ctx c.loop-index.memory) (omega arith))
     ∙ c.loop-index.invariant
 
@@ -24,7 +23,7 @@ step_block-requires-clause-step c =
     let i = c.loop-index.index in
     let sizes = sizes-valid ctx c.requires.valid in
     let columns = c.lane_length-segment.ensures
-    ∙ ap (λ v. shape.lane_length v.m_cost v.p_cost) c.params-params.ensures in
+    ∙ ap (λ v. lane_length_for v.m_cost v.p_cost) c.params-params.ensures in
     let lanes = c.p_cost-lane-end.ensures.value ∙ ap (λ v. v.p_cost) c.params-params.ensures in
     let quarter : c.lane_length-segment.result / 4 ≡ s = omega arith in
     let product = ap (λ x. c.args.slice * x) quarter in
@@ -52,7 +51,7 @@ loop-lane-preserved c =
     let lane = c.loop-lane.lane in
     let memory = blocks_of ctx c.loop-lane.memory in
     let columns = c.lane_length-segment.ensures
-    ∙ ap (λ v. shape.lane_length v.m_cost v.p_cost) c.params-params.ensures in
+    ∙ ap (λ v. lane_length_for v.m_cost v.p_cost) c.params-params.ensures in
     let lanes = c.p_cost-lane-end.ensures.value ∙ ap (λ v. v.p_cost) c.params-params.ensures in
     let quarter : c.lane_length-segment.result / 4 ≡ s = omega arith in
     let stepped = c.step_block.ensures.step ∙ ap (λ x. step ctx memory c.args.pass lane (c.args.slice * x + i)) quarter in
@@ -74,6 +73,6 @@ pub returns : goal.returns
 returns c =
     let ctx = context_of c.args.argon2.now in
     let columns = c.lane_length-segment.ensures
-    ∙ ap (λ v. shape.lane_length v.m_cost v.p_cost) c.params-params.ensures in
+    ∙ ap (λ v. lane_length_for v.m_cost v.p_cost) c.params-params.ensures in
     sym (run_no_round ctx c.args.pass c.args.slice c.loop-index.index (blocks_of ctx c.loop-index.memory) (omega arith))
     ∙ c.loop-index.invariant

@@ -1,6 +1,6 @@
 use Rattle.std.proofs.Common.{◌≡◌, ◌+◌, ◌-◌}
 use Rattle.argon2.specs.Argon2.{context_of}
-use Rattle.argon2.specs.Context.{segment_length}
+use Rattle.argon2.specs.Rfc9106.{segment_length}
 use Rattle.argon2.specs.Hashing.{blocks_of}
 use Rattle.argon2.specs.Steps.{run}
 use Rattle.argon2_uses.specs.Scheduler.{rounds, lanes_in_rounds}

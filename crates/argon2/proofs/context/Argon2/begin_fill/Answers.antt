@@ -1,5 +1,5 @@
 use Rattle.std.proofs.Common.{ap, arith, ◌∙◌}
-use Rattle.argon2.specs.Context.{block_count}
+use Rattle.argon2.specs.Rfc9106.{block_count}
 use Rattle.argon2.proofs.LentMemory.{is_begun}
 use Rattle.argon2.proofs.RefusalLemmas.{passed_on}
 use Rattle.argon2.proofs.context.Argon2.begin_fill.Goals as goal

@@ -1,6 +1,6 @@
 use Rattle.std.proofs.Common.{◌++◌, length, ap, sym, ◌∙◌}
 use Rattle.argon2.specs.Argon2.{context_of, own_parameters}
-use Rattle.argon2.specs.Context.{block_count}
+use Rattle.argon2.specs.Rfc9106.{block_count}
 use Rattle.argon2.specs.Refusals.{answer_unless, output_faults, input_faults, memory_faults}
 use Rattle.argon2.proofs.RefusalLemmas.{not_refused, first_of_rest, first_refused, on_ok, passed_on}
 use Rattle.argon2.proofs.context.Argon2.check.Goals as goal

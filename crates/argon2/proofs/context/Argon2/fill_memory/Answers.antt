@@ -1,8 +1,7 @@
 use Rattle.std.proofs.Common.{length, ap, sym, ◌∙◌}
 use Rattle.argon2.specs.Argon2.{context_of}
-use Rattle.argon2.specs.Context.{block_count}
+use Rattle.argon2.specs.Rfc9106.{block_count, matrix_of}
 use Rattle.argon2.specs.Refusals.{answer_unless, input_faults, memory_faults}
-use Rattle.argon2.specs.Tag.{matrix_of}
 use Rattle.argon2.proofs.LentMemory.{is_filled}
 use Rattle.argon2.proofs.RefusalLemmas.{not_refused, first_of_rest, first_refused, passed_on}
 use Rattle.argon2.proofs.context.Argon2.fill_memory.Goals as goal

@@ -1,8 +1,7 @@
 use Rattle.std.proofs.Common.{◌≡◌, ◌+◌, arith, length, ap, refl, subst, ◌∙◌}
 use Rattle.argon2.specs.Argon2.{context_of}
-use Rattle.argon2.specs.Context.{block_count, Sizes}
-use Rattle.argon2.specs.Counting.{mixing_calls}
-use Rattle.argon2.specs.Tag.{matrix_of}
+use Rattle.argon2.specs.Rfc9106.{Sizes, block_count, matrix_of}
+use Rattle.argon2.specs.Watching.{mixing_calls}
 use Rattle.argon2.proofs.LentMemory.{is_hashed}
 use Rattle.argon2.proofs.RefusalLemmas.{answered, passed_on, refused}
 use Rattle.argon2.proofs.schedules.LastColumn.{tag_of_matrix}

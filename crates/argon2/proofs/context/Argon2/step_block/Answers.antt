@@ -1,6 +1,6 @@
 use Rattle.std.proofs.Common.{ℕ, ap, take, ◌∙◌}
 use Rattle.argon2.specs.Argon2.{context_of}
-use Rattle.argon2.specs.Context.{block_count}
+use Rattle.argon2.specs.Rfc9106.{block_count}
 use Rattle.argon2.specs.Steps.{reference_place}
 use Rattle.argon2.proofs.LentMemory.{is_stepped}
 use Rattle.argon2.proofs.context.Argon2.step_block.Goals as goal

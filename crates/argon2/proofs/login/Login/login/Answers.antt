@@ -2,11 +2,11 @@ use Rattle.std.proofs.Common.{refl, subst, sym, ap, ◌∙◌, Some, None, Err, 
 use Rattle.std.proofs.lemmas.Map.Text.{btree_map_updates_text}
 use Rattle.std.specs.FinMap.{get}
 use Rattle.rand_core.specs.Stream.{fill_bytes}
-use Rattle.argon2_base.specs.PasswordHash.{phc_of}
+use Rattle.argon2_base.specs.PhcFields.{phc_of}
 use Rattle.argon2.specs.declared.login.answers.LoginError.TheVariants.{NameUnknown}
 use Rattle.argon2.specs.Login.{LoginAnswer, store_of, target_of, values_of}
-use Rattle.argon2.proofs.logins.LoginLemmas.{has_accepted, has_current, no_text, login_step}
-use Rattle.argon2.proofs.logins.Stores.{get-found, get-other, get-same, values_of-set}
+use Rattle.argon2.proofs.login_store.LoginLemmas.{has_accepted, has_current, no_text, login_step}
+use Rattle.argon2.proofs.login_store.Stores.{get-found, get-other, get-same, values_of-set}
 use Rattle.argon2.proofs.login.Login.login.Goals as goal
 
 pub returns-in_default-clause-step : goal.returns-in_default-clause-step

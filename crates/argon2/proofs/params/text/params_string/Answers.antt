@@ -1,6 +1,6 @@
 use Rattle.std.proofs.Common.{ℕ, ◌≤◌, Fits, ◌++◌, ◌≡◌, ◌∙◌, ◌∷◌, [], ap, List, None, arith, codes, length, slice_index, subst, sym, w8, w32}
 use Rattle.std.specs.Prelude.{IsTrue}
-use Rattle.argon2_base.specs.ParamsText.{Pair, are_params}
+use Rattle.argon2_base.specs.PhcText.{Pair, are_params}
 use Rattle.argon2.specs.ListedParameters.{bytes_item}
 use Rattle.argon2.proofs.lists.ListedLemmas.{Fronts, cost_item, listed_fronts}
 use Rattle.argon2.proofs.lists.ReadAgain.{read_again, valid_without}

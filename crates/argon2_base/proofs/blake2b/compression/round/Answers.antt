@@ -1,4 +1,4 @@
-use Rattle.argon2_base.specs.Compression.{round}
+use Rattle.argon2_base.specs.Blake2b.{round}
 use Rattle.argon2_base.proofs.blake2b.compression.round.Goals as goal
 
 pub returns : goal.returns

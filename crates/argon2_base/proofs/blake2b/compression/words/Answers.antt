@@ -3,7 +3,7 @@ use Rattle.std.proofs.lemmas.Grind.{common_steps}
 use Rattle.std.proofs.lemmas.List.{take_all}
 use Rattle.std.specs.Int.{w64, from_le_bytes}
 use Rattle.std.specs.Simd.{first_chunks}
-use Rattle.argon2_base.specs.Compression.{words}
+use Rattle.argon2_base.specs.Blake2b.{words}
 use Rattle.argon2_base.proofs.blake2b.compression.words.Goals as goal
 
 pub returns : goal.returns

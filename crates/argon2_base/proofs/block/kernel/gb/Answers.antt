@@ -1,5 +1,5 @@
 use Rattle.std.proofs.Common.{refl}
-use Rattle.argon2_base.specs.Mixing.{gb}
+use Rattle.argon2_base.specs.Block.{gb}
 use Rattle.argon2_base.proofs.block.kernel.gb.Goals as goal
 
 pub returns : goal.returns

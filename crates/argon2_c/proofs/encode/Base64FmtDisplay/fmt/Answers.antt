@@ -1,5 +1,5 @@
 use Rattle.std.proofs.Common.{◌∙◌}
-use Rattle.argon2_base.proofs.Base64Lemmas.{encode_of-strict}
+use Rattle.argon2_base.proofs.texts.Base64Lemmas.{encode_of-strict}
 use Rattle.argon2_c.proofs.encode.Base64FmtDisplay.fmt.Goals as goal
 
 pub returns-clause-writes : goal.returns-clause-writes

@@ -1,5 +1,5 @@
 use Rattle.std.proofs.Common.{rules, ◌≡◌, subst, Ok}
-use Rattle.argon2_base.specs.PasswordHash.{phc_of}
+use Rattle.argon2_base.specs.PhcFields.{phc_of}
 use Rattle.argon2.specs.Argon2.{settings_of}
 use Rattle.argon2.specs.Made.{target_of, hashed}
 use Rattle.argon2_tool.proofs.Replying.{made_value}

@@ -1,8 +1,7 @@
 use Rattle.std.proofs.Common.{◌≡◌, ℕ, ◌+◌, ◌*◌, ◌<◌, []}
 use Rattle.std.specs.Prelude.{slice_index_or}
-use Rattle.argon2.specs.Context.{lane_length}
+use Rattle.argon2.specs.Rfc9106.{block_after, lane_length}
 use Rattle.argon2.specs.Hashing.{KeepsOtherColumns}
-use Rattle.argon2.specs.InitialHash.{block_after}
 use Rattle.argon2.proofs.context.instance.Instance.begin.Given as goal
 
 abbrev pub invariant-loop-lane : goal.invariant-loop-lane

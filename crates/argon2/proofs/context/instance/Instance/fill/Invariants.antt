@@ -1,8 +1,7 @@
 use Rattle.std.proofs.Common.{◌≡◌, ◌+◌}
-use Rattle.argon2.specs.Counting.{passes_calls}
+use Rattle.argon2.specs.Watching.{IsFilledUpTo, begun, passes_calls}
 use Rattle.argon2.specs.Laws.{Begins}
-use Rattle.argon2.specs.Positions.{begun, IsFilledUpTo}
-use Rattle.argon2.specs.Recurrence.{FirstColumns}
+use Rattle.argon2.specs.Rfc9106.{FirstColumns}
 use Rattle.argon2.proofs.context.instance.Instance.fill.Given as goal
 
 abbrev pub invariant-loop-pass : goal.invariant-loop-pass

@@ -1,4 +1,4 @@
-use Rattle.argon2.specs.InitialHash.{first_block}
+use Rattle.argon2.specs.Rfc9106.{first_block}
 use Rattle.argon2.proofs.context.instance.Instance.fill_blocks.Goals as goal
 
 pub returns-clause-filled : goal.returns-clause-filled

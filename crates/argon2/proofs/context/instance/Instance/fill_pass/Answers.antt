@@ -1,5 +1,5 @@
 use Rattle.std.proofs.Common.{◌≡◌, suc, add-one, arith}
-use Rattle.argon2.specs.Counting.{slices_calls}
+use Rattle.argon2.specs.Watching.{slices_calls}
 use Rattle.argon2.proofs.schedules.Counts.{slices_calls-le}
 use Rattle.argon2.proofs.context.instance.Instance.fill_pass.Goals as goal
 

@@ -3,11 +3,9 @@ use Rattle.std.specs.Prelude.{if◌then◌else◌}
 use Rattle.std.proofs.lemmas.Bool.Decides.{nat_tests}
 use Rattle.std.proofs.Math.Nat.{mul-le-mul_right}
 use Rattle.std.proofs.lemmas.Nat.{mul-add-lt, mul-le}
-use Rattle.argon2.specs.Context.{Context, Sizes, block_count, segment_length}
-use Rattle.argon2.specs.Recurrence.{addresses_of, is_independent}
+use Rattle.argon2.specs.Rfc9106.{Context, Sizes, addresses_of, block_count, is_independent, segment_length}
 use Rattle.argon2.specs.Steps.{IsStep, turn_count}
-use Rattle.argon2.specs.Positions.{begun, in_order, IsFilledUpTo}
-use Rattle.argon2.specs.Counting.{segment_calls}
+use Rattle.argon2.specs.Watching.{IsFilledUpTo, begun, in_order, segment_calls}
 use Rattle.argon2.proofs.recurrence.Addresses.{same_addresses, address_mixings, mixings_more}
 use Rattle.argon2.proofs.recurrence.PermittedPlaces.{InSlice}
 use Rattle.argon2.proofs.schedules.InOrder.{filled_step}

@@ -1,8 +1,7 @@
 use Rattle.std.proofs.Common.{◌≡◌, ◌≤◌, ◌+◌, ◌-◌, ◌*◌, ◌/◌}
 use Rattle.std.specs.Prelude.{if◌then◌else◌}
-use Rattle.argon2.specs.Context.{segment_length}
-use Rattle.argon2.specs.Recurrence.{is_independent, addresses_of}
-use Rattle.argon2.specs.Positions.{begun, in_order, Fills}
+use Rattle.argon2.specs.Rfc9106.{addresses_of, is_independent, segment_length}
+use Rattle.argon2.specs.Watching.{begun, in_order, Fills}
 use Rattle.argon2.proofs.context.instance.Instance.fill_segment.Given as goal
 
 -- the address block at hand serves the index before

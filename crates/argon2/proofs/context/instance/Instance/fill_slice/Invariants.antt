@@ -1,6 +1,5 @@
 use Rattle.std.proofs.Common.{◌≡◌, ◌+◌, ◌*◌}
-use Rattle.argon2.specs.Counting.{segment_calls}
-use Rattle.argon2.specs.Positions.{begun, in_order, Fills}
+use Rattle.argon2.specs.Watching.{Fills, begun, in_order, segment_calls}
 use Rattle.argon2.proofs.context.instance.Instance.fill_slice.Given as goal
 
 abbrev pub invariant-loop-lane : goal.invariant-loop-lane

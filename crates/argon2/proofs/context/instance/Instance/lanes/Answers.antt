@@ -1,5 +1,5 @@
 use Rattle.std.proofs.Common.{subst, rules}
-use Rattle.argon2.specs.Context.{Sizes}
+use Rattle.argon2.specs.Rfc9106.{Sizes}
 use Rattle.argon2.proofs.recurrence.Validity.{sizes}
 use Rattle.argon2.proofs.context.instance.Instance.lanes.Goals as goal
 

@@ -5,8 +5,7 @@ use Rattle.std.proofs.lemmas.List.{get_or_read}
 use Rattle.std.proofs.lemmas.List.FromFn.{map-range_with_len_more}
 use Rattle.std.proofs.lemmas.List.Sums.{fold_push}
 use Rattle.argon2_base.specs.Block.{xor_blocks, zero_block}
-use Rattle.argon2.specs.Context.{lane_length}
-use Rattle.argon2.specs.Recurrence.{xor_lanes}
+use Rattle.argon2.specs.Rfc9106.{lane_length, xor_lanes}
 use Rattle.argon2.proofs.context.instance.Instance.last_column.Goals as goal
 
 pub loop-lane-preserved : goal.loop-lane-preserved

@@ -2,7 +2,7 @@ use Rattle.std.proofs.Common.{◌≡◌, ℕ, ◌+◌, ◌-◌, ◌*◌, [], map
 use Rattle.std.specs.Prelude.{slice_index_or}
 use Rattle.std.specs.List.{range_with_len}
 use Rattle.argon2_base.specs.Block.{xor_blocks, zero_block}
-use Rattle.argon2.specs.Context.{lane_length}
+use Rattle.argon2.specs.Rfc9106.{lane_length}
 use Rattle.argon2.proofs.context.instance.Instance.last_column.Given as goal
 
 -- the lanes so far

@@ -1,7 +1,7 @@
 use Rattle.std.proofs.Common.{arith}
 use Rattle.std.proofs.lemmas.Bool.Decides.{nat_tests}
 use Rattle.argon2.proofs.recurrence.PermittedPlaces.{get_or-permitted, in_slice}
-use Rattle.argon2.specs.Context.{segment_length}
+use Rattle.argon2.specs.Rfc9106.{segment_length}
 use Rattle.argon2.proofs.context.instance.Instance.permitted_column.Goals as goal
 
 pub returns-then-at-eq0-clause-value : goal.returns-then-at-eq0-clause-value

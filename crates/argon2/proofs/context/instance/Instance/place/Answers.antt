@@ -1,5 +1,5 @@
 use Rattle.std.proofs.Common.{ℕ, ◌+◌, ◌*◌, ◌^◌, ◌<◌, ap, arith}
-use Rattle.argon2.specs.Context.{Context, IsSize, lane_length}
+use Rattle.argon2.specs.Rfc9106.{Context, IsSize, lane_length}
 use Rattle.argon2.proofs.schedules.InMemory.{place_below}
 use Rattle.argon2.proofs.context.instance.Instance.place.Goals as goal
 

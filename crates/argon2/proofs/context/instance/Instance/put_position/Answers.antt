@@ -1,6 +1,6 @@
 use Rattle.std.proofs.Common.{ℕ, ◌+◌, ◌*◌, ◌^◌, ◌<◌, arith}
 use Rattle.std.proofs.lemmas.Nat.{mul-add-lt}
-use Rattle.argon2.specs.Context.{Context, IsSize, block_count}
+use Rattle.argon2.specs.Rfc9106.{Context, IsSize, block_count}
 use Rattle.argon2.proofs.context.instance.Instance.put_position.Goals as goal
 
 -- the index of a pass's place is a number of 64 bits

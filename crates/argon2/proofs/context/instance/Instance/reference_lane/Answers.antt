@@ -1,6 +1,6 @@
 use Rattle.std.proofs.Common.{arith}
 use Rattle.std.proofs.lemmas.Bool.Decides.{nat_tests}
-use Rattle.argon2.specs.Reference.{reference_lane}
+use Rattle.argon2.specs.Rfc9106.{reference_lane}
 use Rattle.argon2.proofs.context.instance.Instance.reference_lane.Goals as goal
 
 pub returns-then-slice-eq0-clause-value : goal.returns-then-slice-eq0-clause-value

@@ -1,5 +1,5 @@
 use Rattle.std.proofs.Common.{arith}
-use Rattle.argon2.specs.Reference.{reference}
+use Rattle.argon2.specs.Rfc9106.{reference}
 use Rattle.argon2.proofs.context.instance.Instance.reference_place.Goals as goal
 
 pub returns-clause-value : goal.returns-clause-value

@@ -2,8 +2,8 @@ use Rattle.std.proofs.Common.{◌+◌, ◌*◌, [], ◌&&◌, sym, ◌∙◌, ar
 use Rattle.std.specs.Prelude.{slice_index_or, nat_lt, ◌==◌}
 use Rattle.std.proofs.lemmas.Bool.{cond-true, cond-false}
 use Rattle.std.proofs.lemmas.List.{get_or_read}
-use Rattle.argon2_base.proofs.MixingLaws.{xor_blocks-comm}
-use Rattle.argon2.specs.Context.{lane_length}
+use Rattle.argon2_base.proofs.mixing.MixingLaws.{xor_blocks-comm}
+use Rattle.argon2.specs.Rfc9106.{lane_length}
 use Rattle.argon2.specs.Steps.{step}
 use Rattle.argon2.proofs.schedules.InMemory.{made_by_places}
 use Rattle.argon2.proofs.context.instance.Instance.step.Goals as goal

@@ -1,15 +1,15 @@
 use Rattle.std.proofs.Common.{ap, inl, refl, sym, ◌∙◌, Ok, Err}
 use Rattle.rand_core.specs.Stream.{fill_bytes}
 use Rattle.std.specs.FinMap.{insert}
-use Rattle.argon2_base.specs.PasswordHash.{phc_of}
+use Rattle.argon2_base.specs.PhcFields.{phc_of}
 use Rattle.argon2.specs.Argon2.{secret_of}
 use Rattle.argon2.specs.Made.{target_of}
 use Rattle.argon2.specs.Stored.{stored_value}
-use Rattle.argon2.proofs.logins.LoginLemmas.{hash_made, hash_short, made_salt, not_refused, refused_text, shown_once, untold}
-use Rattle.argon2.proofs.logins.Stores.{insert-same}
-use Rattle.argon2.proofs.stored.Answered.{stored_shows}
-use Rattle.argon2.proofs.stored.MadeValues.{made_accepts}
-use Rattle.argon2.proofs.stored.Verified.{exact}
+use Rattle.argon2.proofs.login_store.LoginLemmas.{hash_made, hash_short, made_salt, not_refused, refused_text, shown_once, untold}
+use Rattle.argon2.proofs.login_store.Stores.{insert-same}
+use Rattle.argon2.proofs.stored_hashes.Answered.{stored_shows}
+use Rattle.argon2.proofs.stored_hashes.MadeValues.{made_accepts}
+use Rattle.argon2.proofs.stored_hashes.Verified.{exact}
 use Rattle.argon2.proofs.login.target.Target.log_in.Goals as goal
 
 pub returns-in-Err-clause-step : goal.returns-in-Err-clause-step

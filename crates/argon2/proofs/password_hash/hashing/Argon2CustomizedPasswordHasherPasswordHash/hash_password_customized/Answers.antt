@@ -1,12 +1,12 @@
 use Rattle.std.proofs.Common.{option_copied, subst}
 use Rattle.std.specs.Prelude.{IfOk}
-use Rattle.argon2_base.specs.PasswordHash.{phc_of}
+use Rattle.argon2_base.specs.PhcFields.{phc_of}
 use Rattle.argon2_base.specs.PhcText.{phc_text}
-use Rattle.argon2.specs.Accepts.{Accepts}
+use Rattle.argon2.specs.Stored.{Accepts}
 use Rattle.argon2.specs.Argon2.{secret_of, settings_of}
 use Rattle.argon2.specs.Made.{settings_asked}
 use Rattle.argon2.specs.Params.{parameters_of}
-use Rattle.argon2.proofs.stored.Asked.{unasked, hashed_asked}
+use Rattle.argon2.proofs.stored_hashes.Asked.{unasked, hashed_asked}
 use Rattle.argon2.proofs.password_hash.hashing.Argon2CustomizedPasswordHasherPasswordHash.hash_password_customized.Goals as goal
 
 pub returns-in_err-with_asked-clause-answer : goal.returns-in_err-with_asked-clause-answer

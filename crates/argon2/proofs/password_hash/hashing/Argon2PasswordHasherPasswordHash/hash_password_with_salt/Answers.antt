@@ -1,12 +1,11 @@
 use Rattle.std.proofs.Common.{◌≤◌, ap, arith, ◌∙◌, inl}
-use Rattle.argon2_base.specs.Ident.{ident_text}
-use Rattle.argon2.specs.Algorithm.{algorithm_name}
+use Rattle.argon2_base.specs.PhcText.{ident_text}
+use Rattle.argon2.specs.Settings.{algorithm_name, version_number}
 use Rattle.argon2.specs.Argon2.{settings_of}
 use Rattle.argon2.specs.Made.{tag_length, target_of}
 use Rattle.argon2.specs.Params.{parameters_of}
-use Rattle.argon2.specs.Version.{version_number}
-use Rattle.argon2.proofs.stored.Hashed.{unsalted, untagged, answered}
-use Rattle.argon2.proofs.stored.MadeValues.{is_made, is_target, made_accepted, made_shows}
+use Rattle.argon2.proofs.stored_hashes.Hashed.{unsalted, untagged, answered}
+use Rattle.argon2.proofs.stored_hashes.MadeValues.{is_made, is_target, made_accepted, made_shows}
 use Rattle.argon2.proofs.password_hash.hashing.Argon2PasswordHasherPasswordHash.hash_password_with_salt.Goals as goal
 
 pub returns-in_err-salt-clause-answer : goal.returns-in_err-salt-clause-answer

@@ -1,5 +1,5 @@
 use Rattle.std.proofs.Common.{◌≡◌}
-use Rattle.argon2_base.specs.ParamsText.{value_of}
+use Rattle.argon2_base.specs.PhcText.{value_of}
 use Rattle.argon2_base.proofs.phc.list.ParamsString.get.Given as goal
 
 abbrev pub invariant-loop-key : goal.invariant-loop-key

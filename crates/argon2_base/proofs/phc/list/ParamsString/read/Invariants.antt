@@ -1,5 +1,5 @@
 use Rattle.std.proofs.Common.{◌≡◌, ◌++◌, map, length, IsTrue}
-use Rattle.argon2_base.specs.ParamsText.{item, items_of, items_left, are_params}
+use Rattle.argon2_base.specs.PhcText.{item, items_of, items_left, are_params}
 use Rattle.argon2_base.proofs.phc.list.ParamsString.read.Given as goal
 
 abbrev pub invariant-items : goal.invariant-items

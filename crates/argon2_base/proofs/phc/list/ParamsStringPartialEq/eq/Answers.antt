@@ -2,9 +2,9 @@ use Rattle.std.proofs.Common.{◌≡◌, ◌∙◌, refl, ap}
 use Rattle.std.proofs.lemmas.Bool.Decides.{same_from_decides}
 use Rattle.std.proofs.lemmas.Slice.Eq.{bytes_eq-Decides}
 use Rattle.std.specs.Str.{bytes_eq}
-use Rattle.argon2_base.specs.ParamsText.{params_text, pairs_eq}
-use Rattle.argon2_base.proofs.Equalities.{pairs_eq-Decides}
-use Rattle.argon2_base.proofs.ParamsReading.{one_list}
+use Rattle.argon2_base.specs.PhcText.{params_text, pairs_eq}
+use Rattle.argon2_base.proofs.texts.Equalities.{pairs_eq-Decides}
+use Rattle.argon2_base.proofs.texts.ParamsReading.{one_list}
 use Rattle.argon2_base.proofs.phc.list.ParamsStringPartialEq.eq.Goals as goal
 
 pub returns : goal.returns

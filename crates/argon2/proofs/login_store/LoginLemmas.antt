@@ -1,0 +1,96 @@
+-- One login as a step.
+use Rattle.std.proofs.Common.{◌≡◌, ℕ, ◌≤◌, Bool, true, false, List, ◌++◌, length, Option, Some, None, Result, Ok, Err, ◌⊎◌, inl, inr, refl, ap, arith}
+use Rattle.std.proofs.lemmas.Bool.Decides.{nat_tests}
+use Rattle.std.specs.Prelude.{◌≢◌, IfOk, IsSomeAnd, MatchResult}
+use Rattle.std.specs.FinMap.{get}
+use Rattle.argon2_base.specs.Error.{Fault}
+use Rattle.argon2_base.specs.PhcFields.{phc_of}
+use Rattle.argon2_base.specs.PhcText.{Phc, IsPhc, HasBytes}
+use Rattle.argon2_base.specs.declared.error.password_hash.Error.{Error}
+use Rattle.argon2_base.specs.declared.error.password_hash.Error.TheVariants.{OutOfMemory}
+use Rattle.argon2_base.specs.declared.phc.hash.PasswordHash.{PasswordHash}
+use Rattle.argon2.specs.declared.login.answers.Accepted.{Accepted}
+use Rattle.argon2.specs.declared.login.answers.Accepted.TheVariants.{Kept}
+use Rattle.argon2.specs.declared.login.answers.LoginError.{LoginError}
+use Rattle.argon2.specs.declared.login.answers.LoginError.TheVariants.{Refused}
+use Rattle.argon2.specs.Stored.{AcceptsBy}
+use Rattle.argon2.specs.ListedParameters.{checked}
+use Rattle.argon2.specs.Login.{Store, HasPassword, IsCurrent, LoginAnswer, LoginStep, logging_in}
+use Rattle.argon2.specs.Made.{Target, made, tag_length, text_faults, password_faults, IsHashAnswer}
+use Rattle.argon2.specs.Refusals.{first_of}
+use Rattle.argon2.specs.Settings.{Settings}
+
+-- from what the name has
+pub login_step : (target : Target) (before : Store) (name password drawn : List ℕ) (o : Option Phc)
+    (answer : Result Accepted LoginError) (after : Store) →
+    get before name ≡ o → LoginAnswer target before name password drawn o answer after →
+    LoginStep target before (logging_in name password drawn answer) after
+login_step target before name password drawn o answer after e step = rw e step
+
+-- a name without a text
+pub no_text : (target : Target) (store : Store) (name password : List ℕ) → get store name ≡ None →
+    HasPassword target store name password → ⊥
+no_text target store name password is h = absurd (rw is at h)
+
+-- what an answer says of the name's text before and after
+pub has_accepted : (target : Target) (before after : Store) (name password : List ℕ) (v w : Phc)
+    (answer : Result Accepted LoginError) → get before name ≡ Some v → get after name ≡ Some w →
+    MatchResult answer (λ _. AcceptsBy target.secret password w)
+    (λ e. (e ≡ Refused OutOfMemory) ⊎ (AcceptsBy target.secret password v → ⊥)) →
+    MatchResult answer (λ _. HasPassword target after name password)
+    (λ e. (e ≡ Refused OutOfMemory) ⊎ (HasPassword target before name password → ⊥))
+has_accepted target before after name password v w answer had has h = rw (had, has) h
+
+-- whether the name's text is current after an answer
+pub has_current : (target : Target) (after : Store) (name : List ℕ) (w : Phc) (answer : Result Accepted LoginError) →
+    get after name ≡ Some w → IfOk answer (λ did. did ≢ Kept → IsCurrent target w) →
+    IfOk answer (λ did. did ≢ Kept → IsSomeAnd (get after name) (IsCurrent target))
+has_current target after name w answer has h = rw has h
+
+-- a refusal of a text as the store's
+pub refused_text : {P : Type 0} (e : Error) → (e ≡ OutOfMemory) ⊎ (P → ⊥) → (Refused e ≡ Refused OutOfMemory) ⊎ (P → ⊥)
+refused_text e (inl memory) = inl (ap Refused memory)
+refused_text e (inr never) = inr never
+
+-- what holds of an answer that is no refusal
+pub not_refused : (P : Type 0) (Q : Error → Type 0) (r : Result (Unit {0}) Error) → ((e : Error) → r ≡ Err e → ⊥) →
+    MatchResult r (λ _. P) Q → P
+not_refused P Q (Ok x) never h = h
+not_refused P Q (Err e) never h = absurd (never e refl)
+
+-- what a test that fails would tell doesn't hold
+pub untold : {P : Type 0} (b : Bool) → b ≡ false → (P → b ≡ true) → ¬ P
+untold true fails tells holds = absurd cc
+untold false fails tells holds = let told = tells holds in absurd cc
+
+unchecked : (f : Option Fault) (v w : Phc) → Ok v ≡ checked f (Ok w) → (v ≡ w) × (f ≡ None)
+unchecked None v w e = (cc, refl)
+unchecked (Some fault) v w e = absurd cc
+
+-- what a hash that was answered is
+pub hash_made : (target : Target) (password salt : List ℕ) (h : PasswordHash) →
+    IsHashAnswer target password salt (Ok h) → phc_of h ≡ made target password salt
+hash_made target password salt h (inl e) = (unchecked _ (phc_of h) (made target password salt) e).0
+hash_made target password salt h (inr r) = let e = r.0 in absurd cc
+
+few_bytes : (salt hash password : ℕ) → first_of (text_faults salt hash ++ password_faults password) ≡ None
+    → password ≤ 4294967295
+few_bytes salt hash password none = grind (arith, nat_tests)
+
+-- how long the password is
+pub hash_short : (target : Target) (password salt : List ℕ) (h : PasswordHash) →
+    IsHashAnswer target password salt (Ok h) → length password ≤ 4294967295
+hash_short target password salt h (inl e) =
+    few_bytes (length salt) (tag_length target.settings) (length password)
+    (unchecked _ (phc_of h) (made target password salt) e).1
+hash_short target password salt h (inr r) = let e = r.0 in absurd cc
+
+-- its salt has the length of one
+pub made_salt : (target : Target) (password salt : List ℕ) (v : Phc) → v ≡ made target password salt → IsPhc v →
+    HasBytes 8 48 salt
+made_salt target password salt v e is = (rw e at is).salt
+
+-- a value shows its settings once
+pub shown_once : (r : Result Settings Fault) (a b : Settings) → r ≡ Ok a → r ≡ Ok b → a ≡ b
+shown_once (Ok own) a b first second = cc
+shown_once (Err fault) a b first second = absurd cc

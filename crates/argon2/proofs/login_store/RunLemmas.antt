@@ -1,0 +1,147 @@
+-- What each call keeps of a name, and so every list of calls.
+use Rattle.std.proofs.Common.{◌≡◌, ◌≢◌, ℕ, ◌≤◌, List, [], ◌∷◌, length, Option, Some, None, Result, Ok, Err, inl, inr, refl, ap, ◌∙◌}
+use Rattle.std.proofs.lemmas.Bool.{cases_Bool}
+use Rattle.std.proofs.lemmas.Slice.Eq.{bytes_eq-Decides}
+use Rattle.std.specs.Prelude.{IfSome, IsSomeAnd}
+use Rattle.std.specs.FinMap.{get, get-empty}
+use Rattle.std.specs.Cmp.Lexicographic.{slice_cmp}
+use Rattle.std.specs.Ordering.{nat_cmp}
+use Rattle.std.specs.Str.{bytes_eq}
+use Rattle.argon2_base.specs.PhcText.{Phc, IsPhc, HasBytes, phc_text}
+use Rattle.argon2.specs.declared.login.answers.Accepted.{Accepted}
+use Rattle.argon2.specs.declared.login.answers.Accepted.TheVariants.{Current, Rehashed, Kept}
+use Rattle.argon2.specs.declared.login.answers.LoginError.{LoginError}
+use Rattle.argon2.specs.Stored.{AcceptsBy, Accepts}
+use Rattle.argon2.specs.Login.{Store, Event, adding, logging_in, AddStep, LoginAnswer, LoginStep, IsCurrent}
+use Rattle.argon2.specs.Made.{Target, made}
+use Rattle.argon2.specs.Runs.{Run, newest, source, accepted, IsFrom}
+use Rattle.argon2.proofs.login_store.Stores.{get-set}
+
+-- what is known of the text of a name after an accepted login
+abbrev Reached : Target → Option (List ℕ × Accepted) → Option Phc → Type 0
+Reached target None o = Unit {0}
+Reached target (Some last) o =
+    IsSomeAnd o (λ v. AcceptsBy target.secret last.0 v × (last.1 ≢ Kept → IsCurrent target v))
+
+-- what is known of the text of a name
+abbrev Known : Target → List ℕ → List Event → Option Phc → Type 0
+Known target name events o = IsFrom target (newest (source name) events) o × IfSome o IsPhc
+    × Reached target (newest (accepted name) events) o
+
+-- a name without a text had no accepted login
+reached_none : (target : Target) (last : Option (List ℕ × Accepted)) (o : Option Phc) →
+    Reached target last None → Reached target last o
+reached_none target None o h = tt
+reached_none target (Some last) o h = absurd h
+
+-- a call that neither gives the name a text nor logs it in
+same : (target : Target) (name : List ℕ) (event : Event) (older : List Event) (o p : Option Phc) →
+    source name event ≡ None → accepted name event ≡ None → p ≡ o →
+    Known target name older o → Known target name (event ∷ older) p
+same target name event older o p s a e known = rw (e, s, a) known
+
+-- an accepted login of the name that leaves its text
+logged : (target : Target) (name given : List ℕ) (did : Accepted) (event : Event) (older : List Event) (v : Phc)
+    (o p : Option Phc) →
+    source name event ≡ None → accepted name event ≡ Some (given, did) → o ≡ Some v → p ≡ o →
+    AcceptsBy target.secret given v → (did ≢ Kept → IsCurrent target v) →
+    Known target name older o → Known target name (event ∷ older) p
+logged target name given did event older v o p s a is e accepts current known =
+    let old = rw is at known in
+    rw (e, s, a, is) (old.0, old.1, (accepts, current))
+
+module _ (target : Target)
+    (made_phc : (password salt : List ℕ) → HasBytes 8 48 salt → IsPhc (made target password salt))
+    (made_accepts : (password salt : List ℕ) → length password ≤ 4294967295 →
+    AcceptsBy target.secret password (made target password salt))
+    (made_current : (password salt : List ℕ) → IsCurrent target (made target password salt)) where
+  add_keeps : (before after : Store) (n added : List ℕ) (answer : Result (Unit {0}) LoginError) (older : List Event) →
+      AddStep before n added answer after → ((name : List ℕ) → Known target name older (get before name)) →
+      (name : List ℕ) → Known target name (adding n added answer ∷ older) (get after name)
+  add_keeps before after n added (Err e) older step known name =
+      same target name (adding n added (Err e)) older _ _ refl refl (ap (λ m. get m name) step.1) (known name)
+  add_keeps before after n added (Ok x) older step known name =
+      let v = step.1 in
+      let set = ap (λ m. get m name) step.3 ∙ get-set before n v name in
+      elim (cases_Bool (bytes_eq name n)) [
+        | inl hit ↦
+            let none : get before name ≡ None = ap (get before) ((bytes_eq-Decides name n).0 hit) ∙ step.0 in
+            let reached = reached_none target (newest (accepted name) older) (Some v) (rw none at (known name).2) in
+            rw (set, hit) (step.2, step.2.0, reached)
+        | inr miss ↦
+            same target name (adding n added (Ok x)) older _ _ (rw miss refl) refl (set ∙ rw miss refl) (known name)
+      ]
+
+  login_keeps : (before after : Store) (n given drawn : List ℕ) (o : Option Phc)
+      (answer : Result Accepted LoginError) (older : List Event) →
+      get before n ≡ o → LoginAnswer target before n given drawn o answer after →
+      ((name : List ℕ) → Known target name older (get before name)) →
+      (name : List ℕ) → Known target name (logging_in n given drawn answer ∷ older) (get after name)
+  login_keeps before after n given drawn None (Err e) older is step known name =
+      same target name (logging_in n given drawn (Err e)) older _ _ refl refl (ap (λ m. get m name) step.1) (known name)
+  login_keeps before after n given drawn (Some v) (Err e) older is step known name =
+      same target name (logging_in n given drawn (Err e)) older _ _ refl refl (ap (λ m. get m name) step.1) (known name)
+  login_keeps before after n given drawn None (Ok did) older is step known name = absurd step
+  login_keeps before after n given drawn (Some v) (Ok Current) older is step known name = elim (cases_Bool (bytes_eq name n)) [
+    | inl hit ↦
+        logged target name given Current (logging_in n given drawn (Ok Current)) older v _ _ refl (rw hit refl)
+        (ap (get before) ((bytes_eq-Decides name n).0 hit) ∙ is) (ap (λ m. get m name) step.1.1) step.0
+        (λ _. step.1.0) (known name)
+    | inr miss ↦
+        same target name (logging_in n given drawn (Ok Current)) older _ _ refl (rw miss refl)
+        (ap (λ m. get m name) step.1.1) (known name)
+  ]
+  login_keeps before after n given drawn (Some v) (Ok Kept) older is step known name = elim (cases_Bool (bytes_eq name n)) [
+    | inl hit ↦
+        logged target name given Kept (logging_in n given drawn (Ok Kept)) older v _ _ refl (rw hit refl)
+        (ap (get before) ((bytes_eq-Decides name n).0 hit) ∙ is) (ap (λ m. get m name) step.1.1) step.0
+        (λ other. absurd (other refl)) (known name)
+    | inr miss ↦
+        same target name (logging_in n given drawn (Ok Kept)) older _ _ refl (rw miss refl)
+        (ap (λ m. get m name) step.1.1) (known name)
+  ]
+  login_keeps before after n given drawn (Some v) (Ok Rehashed) older is step known name =
+      let set = ap (λ m. get m name) step.1.2 ∙ get-set before n (made target given drawn) name in
+      elim (cases_Bool (bytes_eq name n)) [
+        | inl hit ↦
+            rw (set, hit) (
+              refl,
+              made_phc given drawn step.1.1,
+              (made_accepts given drawn step.0.short, λ _. made_current given drawn),
+            )
+        | inr miss ↦
+            same target name (logging_in n given drawn (Ok Rehashed)) older _ _ (rw miss refl) (rw miss refl)
+            (set ∙ rw miss refl) (known name)
+      ]
+
+  step_keeps : (before after : Store) (event : Event) (older : List Event) → LoginStep target before event after →
+      ((name : List ℕ) → Known target name older (get before name)) →
+      (name : List ℕ) → Known target name (event ∷ older) (get after name)
+  step_keeps before after (adding n added answer) older step = add_keeps before after n added answer older step
+  step_keeps before after (logging_in n given drawn answer) older step =
+      login_keeps before after n given drawn (get before n) answer older refl step
+
+  all_known : (events : List Event) (store : Store) → Run target events store →
+      (name : List ℕ) → Known target name events (get store name)
+  all_known [] store run name = rw (run, get-empty (slice_cmp nat_cmp) name) (tt, tt, tt)
+  all_known (event ∷ older) store run name =
+      step_keeps run.0 store event older run.2 (all_known older run.0 run.1) name
+
+  -- where the text is from
+  pub texts_from : (events : List Event) (store : Store) → Run target events store →
+      (name : List ℕ) → IsFrom target (newest (source name) events) (get store name)
+  texts_from events store run name = (all_known events store run name).0
+
+  after_last : (o : Option Phc) (given : List ℕ) (did : Accepted) → IfSome o IsPhc → Reached target (Some (given, did)) o →
+      IsSomeAnd o (λ v. Accepts target.secret given (phc_text v)) × (did ≢ Kept → IsSomeAnd o (IsCurrent target))
+  after_last None given did fits h = absurd h
+  after_last (Some v) given did fits h = ((v, (fits, refl), h.0), h.1)
+
+  -- what holds after the last accepted login
+  pub last_holds : (events : List Event) (store : Store) → Run target events store →
+      (name given : List ℕ) (did : Accepted) → newest (accepted name) events ≡ Some (given, did) →
+      IsSomeAnd (get store name) (λ v. Accepts target.secret given (phc_text v))
+      × (did ≢ Kept → IsSomeAnd (get store name) (IsCurrent target))
+  last_holds events store run name given did e =
+      let known = all_known events store run name in
+      after_last (get store name) given did known.1 (rw e at known.2)

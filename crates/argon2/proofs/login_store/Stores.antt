@@ -1,0 +1,174 @@
+-- Stores: one name set, names added, and the tree that a store stands for.
+use Rattle.std.proofs.Common.{rules, ◌≡◌, ℕ, List, [], ◌∷◌, Option, Some, None, Bool, true, false, cond, string_bytes, inl, inr, refl, sym, ap, ◌∙◌}
+use Rattle.std.proofs.lemmas.Bool.{and_parts, cases_Bool}
+use Rattle.std.proofs.lemmas.Map.Text.{is_eq-slice_cmp}
+use Rattle.std.proofs.lemmas.Slice.Eq.{bytes_eq-Decides}
+use Rattle.std.specs.Prelude.{String, IsSome}
+use Rattle.std.specs.BTreeMap.{BTreeMap, IsOrdered, is_at, get_by_text}
+use Rattle.std.specs.Cmp.Lexicographic.{slice_cmp, nat_list_cmp_total, nat_list_eq_equiv}
+use Rattle.std.specs.FinMap.Entries.{below_all}
+use Rattle.std.specs.FinMap.{empty, get, insert, entries, entries-from_sorted, find, from_sorted, get-from_sorted, is_sorted, get-empty, get-from_entries, get-insert, same_map, slice_cmp-IsAntisymmetric, nat_cmp-IsAntisymmetric}
+use Rattle.std.specs.List.{AllByRecursion}
+use Rattle.std.specs.List.Sorted.{IsStrictlySortedBy}
+use Rattle.std.specs.Map.{update, lookup, keys_of}
+use Rattle.std.specs.Option.{is_some, option_map, option_or}
+use Rattle.std.specs.Cmp.{Equal-is}
+use Rattle.std.specs.Ordering.{eq_by_cmp, is_eq, is_lt, nat_cmp}
+use Rattle.std.specs.declared.cmp.Ordering.{Ordering}
+use Rattle.std.specs.declared.cmp.Ordering.TheVariants.{Equal, Greater, Less}
+use Rattle.std.specs.String.{string_cmp}
+use Rattle.std.specs.Str.{bytes_eq}
+use Rattle.argon2_base.specs.PhcFields.{phc_of}
+use Rattle.argon2_base.specs.PhcText.{Phc}
+use Rattle.argon2_base.specs.declared.phc.hash.PasswordHash.{PasswordHash}
+use Rattle.argon2.specs.Login.{Store, KeepsOthers, added, named_values, values_of}
+
+-- what a store with one name set has
+pub get-set : (m : Store) (n : List ℕ) (v : Phc) (q : List ℕ) →
+    get (insert m n v) q ≡ cond (bytes_eq q n) (Some v) (get m q)
+get-set m n v q =
+    get-insert nat_list_cmp_total m n v q ∙ ap (λ b. cond b (Some v) (get m q)) (is_eq-slice_cmp q n)
+
+-- and that name
+pub get-same : (m : Store) (n : List ℕ) (v : Phc) → get (insert m n v) n ≡ Some v
+get-same m n v =
+    let same = (bytes_eq-Decides n n).1 refl in
+    get-set m n v n ∙ ap (λ b. cond b (Some v) (get m n)) same
+
+-- what it has under any other name stays
+pub get-other : (m : Store) (n : List ℕ) (v : Phc) → KeepsOthers n m (insert m n v)
+get-other m n v q differs = elim (cases_Bool (bytes_eq q n)) [
+  | inl hit ↦ absurd (differs ((bytes_eq-Decides q n).0 hit))
+  | inr miss ↦ get-set m n v q ∙ rw miss refl
+]
+
+-- setting the text that a name has changes nothing
+pub insert-same : (m : Store) (n : List ℕ) (v : Phc) → get m n ≡ Some v → insert m n v ≡ m
+insert-same m n v has =
+    same_map nat_list_cmp_total (slice_cmp-IsAntisymmetric nat_cmp-IsAntisymmetric) _ _ (λ q.
+    get-set m n v q ∙ elim (cases_Bool (bytes_eq q n)) [
+      | inl hit ↦ rw hit (sym has ∙ ap (get m) (sym ((bytes_eq-Decides q n).0 hit)))
+      | inr miss ↦ rw miss refl
+    ])
+
+-- ---- names that are added
+
+unequal : (r s : Ordering) → r ≡ s → is_lt s ≡ true → is_eq r ≡ false
+unequal r Less e h = ap is_eq e
+unequal r Equal e h = absurd cc
+unequal r Greater e h = absurd cc
+
+-- a name that stands before all others is not among them
+none_below : (n q : List ℕ) (es : List (List ℕ × Phc)) → slice_cmp nat_cmp q n ≡ Equal →
+    below_all (slice_cmp nat_cmp) n es ≡ true → find (slice_cmp nat_cmp) q es ≡ None
+none_below n q [] e h = refl
+none_below n q (x ∷ es) e h =
+    let parts = and_parts (is_lt (slice_cmp nat_cmp n x.0)) _ h in
+    rw (unequal _ _ (nat_list_cmp_total.congr q n x.0 e) parts.0) (none_below n q es e parts.1)
+
+or_none : (o : Option Phc) → option_or o None ≡ o
+or_none None = refl
+or_none (Some v) = refl
+
+-- what a store has after names in order are added
+get-added : (es : List (List ℕ × Phc)) (m : Store) (q : List ℕ) → is_sorted (slice_cmp nat_cmp) es ≡ true →
+    get (added es m) q ≡ option_or (find (slice_cmp nat_cmp) q es) (get m q)
+get-added [] m q h = refl
+get-added (x ∷ es) m q h =
+    let parts = and_parts (below_all (slice_cmp nat_cmp) x.0 es) _ h in
+    let rest = get-added es (insert m x.0 x.1) q parts.1
+    ∙ ap (option_or (find (slice_cmp nat_cmp) q es)) (get-insert nat_list_cmp_total m x.0 x.1 q) in
+    elim (cases_Bool (eq_by_cmp (slice_cmp nat_cmp) q x.0)) [
+      | inl hit ↦
+          let none = none_below x.0 q es ((Equal-is (slice_cmp nat_cmp q x.0)).0 hit) parts.0 in
+          rest ∙ rw (hit, none) refl
+      | inr miss ↦ rest ∙ rw miss refl
+    ]
+
+map_cond : (b : Bool) (h : PasswordHash) (o : Option PasswordHash) →
+    cond b (Some (phc_of h)) (option_map phc_of o) ≡ option_map phc_of (cond b (Some h) o)
+map_cond true h o = refl
+map_cond false h o = refl
+
+module _ {Y : Type 0} where
+  find_named : (es : List (String Y × PasswordHash)) (q : List ℕ) →
+      find (slice_cmp nat_cmp) q (named_values es)
+      ≡ option_map phc_of (lookup (is_at (λ k. slice_cmp nat_cmp q (string_bytes k))) es)
+  find_named [] q = refl
+  find_named (e ∷ es) q =
+      ap (cond (is_at (λ k. slice_cmp nat_cmp q (string_bytes k)) e.0) (Some (phc_of e.1))) (find_named es q)
+      ∙ map_cond (is_at (λ k. slice_cmp nat_cmp q (string_bytes k)) e.0) e.1 _
+
+  -- the store has what the tree has
+  pub get-values_of : (m : BTreeMap (String Y) PasswordHash) (q : List ℕ) →
+      get (values_of m) q ≡ option_map phc_of (get_by_text m q)
+  get-values_of m q =
+      get-from_entries nat_list_cmp_total (named_values m.entries) q
+      ∙ find_named m.entries q
+
+  -- the same of what is known of the tree
+  pub get-found : (m : BTreeMap (String Y) PasswordHash) (q : List ℕ) (o : Option PasswordHash) →
+      get_by_text m q ≡ o → get (values_of m) q ≡ option_map phc_of o
+  get-found m q o e = get-values_of m q ∙ ap (option_map phc_of) e
+
+  -- trees that differ at one name are stores that differ there
+  pub values_of-set : (m n : BTreeMap (String Y) PasswordHash) (name : List ℕ) (h : PasswordHash) →
+      ((q : List ℕ) → get_by_text n q ≡ update bytes_eq (get_by_text m) name (Some h) q) →
+      values_of n ≡ insert (values_of m) name (phc_of h)
+  values_of-set m n name h e =
+      same_map nat_list_cmp_total (slice_cmp-IsAntisymmetric nat_cmp-IsAntisymmetric) _ _ (λ q.
+      get-values_of n q ∙ ap (option_map phc_of) (e q) ∙ sym (map_cond (bytes_eq name q) h (get_by_text m q))
+      ∙ ap (λ b. cond b (Some (phc_of h)) (option_map phc_of (get_by_text m q))) (nat_list_eq_equiv.symm name q)
+      ∙ sym (get-set (values_of m) name (phc_of h) q
+      ∙ ap (cond (bytes_eq q name) (Some (phc_of h))) (get-values_of m q)))
+
+  -- a name that the tree has, and one that it has not
+  pub present : (m : BTreeMap (String Y) PasswordHash) (q : List ℕ) → is_some (get_by_text m q) ≡ true →
+      IsSome (get (values_of m) q)
+  present m q h = rw (get-values_of m q) (kept (get_by_text m q) h)
+    where
+      kept : (o : Option PasswordHash) → is_some o ≡ true → IsSome (option_map phc_of o)
+      kept None h = absurd cc
+      kept (Some v) h = search rules
+
+  pub absent : (m : BTreeMap (String Y) PasswordHash) (q : List ℕ) → is_some (get_by_text m q) ≡ false →
+      get (values_of m) q ≡ None
+  absent m q h = get-values_of m q ∙ kept (get_by_text m q) h
+    where
+      kept : (o : Option PasswordHash) → is_some o ≡ false → option_map phc_of o ≡ None
+      kept None h = refl
+      kept (Some v) h = absurd cc
+
+  -- ---- the texts in order
+
+  below_named : (k : String Y) (es : List (String Y × PasswordHash)) →
+      AllByRecursion (λ other. string_cmp k other ≡ Less) (keys_of es) →
+      below_all (slice_cmp nat_cmp) (string_bytes k) (named_values es) ≡ true
+  below_named k [] h = refl
+  below_named k (e ∷ es) h = rw (h.0, below_named k es h.1) refl
+
+  sorted_named : (es : List (String Y × PasswordHash)) → IsStrictlySortedBy string_cmp (keys_of es) →
+      is_sorted (slice_cmp nat_cmp) (named_values es) ≡ true
+  unfolding IsStrictlySortedBy
+  sorted_named [] h = refl
+  sorted_named (e ∷ es) h = rw (below_named e.0 es h.0, sorted_named es h.1) refl
+
+  -- the store's entries are the tree's
+  pub entries-values_of : (m : BTreeMap (String Y) PasswordHash) → IsOrdered string_cmp m →
+      entries (values_of m) ≡ named_values m.entries
+  entries-values_of m ordered =
+      let sorted = sorted_named m.entries ordered in
+      let es = named_values m.entries in
+      let same = same_map nat_list_cmp_total (slice_cmp-IsAntisymmetric nat_cmp-IsAntisymmetric) (values_of m) (from_sorted es)
+      (λ q. get-from_entries nat_list_cmp_total es q ∙ sym (get-from_sorted (slice_cmp nat_cmp) es q (rw sorted tt))) in
+      ap entries same ∙ entries-from_sorted (slice_cmp nat_cmp) es (rw sorted tt)
+
+  -- adding them to a store without names gives the store again
+  pub added-values_of : (m : BTreeMap (String Y) PasswordHash) → IsOrdered string_cmp m →
+      added (named_values m.entries) empty ≡ values_of m
+  added-values_of m ordered =
+      let es = named_values m.entries in
+      same_map nat_list_cmp_total (slice_cmp-IsAntisymmetric nat_cmp-IsAntisymmetric) _ _ (λ q.
+      get-added es empty q (sorted_named m.entries ordered)
+      ∙ ap (option_or (find (slice_cmp nat_cmp) q es)) (get-empty (slice_cmp nat_cmp) q)
+      ∙ or_none _ ∙ sym (get-from_entries nat_list_cmp_total es q))

@@ -1,0 +1,145 @@
+-- What is made is in the grammar, is accepted, and shows the settings.
+use Rattle.std.proofs.Common.{◌≡◌, ℕ, ◌^◌, ◌<◌, ◌≤◌, true, List, length, Option, Some, None, Result, Ok, refl, sym, ap, arith}
+use Rattle.std.specs.Prelude.{IsNone, unwrap_or}
+use Rattle.std.proofs.lemmas.Bool.Decides.{nat_tests}
+use Rattle.std.proofs.lemmas.List.{length-take}
+use Rattle.argon2_base.specs.Texts.{IsBytes, is_name}
+use Rattle.argon2_base.specs.ByteList.{list_bytes}
+use Rattle.argon2_base.specs.declared.byte_list.ByteList.{ByteList}
+use Rattle.argon2_base.specs.PhcText.{HasBytes, IsPhc, Pair, Phc, phc_text}
+use Rattle.argon2_base.specs.declared.error.Error.{Error}
+use Rattle.argon2_base.specs.declared.error.password_hash.Error.{Error as HashError}
+use Rattle.argon2.specs.declared.algorithm.Algorithm.{Algorithm}
+use Rattle.argon2.specs.declared.algorithm.Algorithm.TheVariants.{Argon2d, Argon2i, Argon2id}
+use Rattle.argon2.specs.declared.version.Version.{Version}
+use Rattle.argon2.specs.declared.version.Version.TheVariants.{V0x10, V0x13}
+use Rattle.argon2.specs.Stored.{Accepts, AcceptsBy, shown_settings}
+use Rattle.argon2.specs.declared.context.Argon2.{Argon2}
+use Rattle.argon2.specs.Argon2.{settings_of}
+use Rattle.argon2.specs.Settings.{Parameters, algorithm_name, first_fault, version_number}
+use Rattle.argon2.specs.Rfc9106.{context_with, tag_of}
+use Rattle.argon2.specs.ListedParameters.{list_of, params_of}
+use Rattle.argon2.specs.Made.{Target, IsTarget, target_of, tag_length, sized, made}
+use Rattle.argon2.proofs.lists.ListedLemmas.{listed_good}
+use Rattle.argon2.proofs.lists.Named.{algorithm_named-name, version_numbered-number}
+use Rattle.argon2.proofs.lists.ReadAgain.{read_again}
+use Rattle.argon2.proofs.stored_hashes.TagBytes.{tag_bytes}
+
+none_of : {X : Type 0} (o : Option X) → IsNone o → o ≡ None
+none_of None h = refl
+none_of (Some x) h = absurd cc
+
+-- a list has no more bytes than its capacity
+list_fits : (n : ℕ) (list : ByteList n) → length (list_bytes list) ≤ n
+list_fits n list =
+    let is = length-take list.len list.bytes in
+    let fits = list.fits in
+    omega (arith, is)
+
+-- an `Argon2` is a target where its hashes fit into texts
+pub is_target : (argon2 : Argon2) → tag_length (settings_of argon2) ≤ 64 → IsTarget (target_of argon2)
+is_target argon2 fits = record {
+  valid = argon2.params.valid;
+  m_cost = argon2.params.memory;
+  t_cost = argon2.params.passes;
+  keyid = (argon2.params.keyid.are_bytes, omega arith, list_fits 8 argon2.params.keyid.bytes);
+  associated = (argon2.params.associated.are_bytes, omega arith, list_fits 32 argon2.params.associated.bytes);
+  tag_length = fits;
+}
+
+-- why parameters are refused with this output length
+abbrev fault_with : Parameters → Option ℕ → Option Error
+fault_with v o = first_fault v.m_cost v.t_cost v.p_cost o
+
+few_lanes : (v : Parameters) (o : Option ℕ) → fault_with v o ≡ None → v.p_cost < 2 ^ 32
+few_lanes v o h = grind (arith, nat_tests)
+
+least_output : (v : Parameters) (n : ℕ) → fault_with v (Some n) ≡ None → 4 ≤ n
+least_output v n h = grind (arith, nat_tests)
+
+-- an output length is at least 4, and so is the one of a hash where none is set
+set_length : (v : Parameters) (o : Option ℕ) → fault_with v o ≡ None
+    → (fault_with v (Some (unwrap_or o 32)) ≡ None) × (4 ≤ unwrap_or o 32)
+set_length v None h = (h, omega arith)
+set_length v (Some n) h = (h, least_output v n h)
+
+is_name-name : (algorithm : Algorithm) → is_name (algorithm_name algorithm) ≡ true
+is_name-name Argon2d = refl
+is_name-name Argon2i = refl
+is_name-name Argon2id = refl
+
+version_small : (version : Version) → version_number version < 2 ^ 32
+version_small V0x10 = omega arith
+version_small V0x13 = omega arith
+
+module _ (target : Target) (is : IsTarget target) (password salt : List ℕ) where
+  valid : fault_with target.settings.parameters target.settings.parameters.output_len ≡ None
+  valid = none_of (fault_with target.settings.parameters target.settings.parameters.output_len) is.valid
+
+  lanes : target.settings.parameters.p_cost < 2 ^ 32
+  lanes = few_lanes target.settings.parameters target.settings.parameters.output_len valid
+
+  sized_valid : (fault_with target.settings.parameters (Some (tag_length target.settings)) ≡ None)
+      × (4 ≤ tag_length target.settings)
+  sized_valid = set_length target.settings.parameters target.settings.parameters.output_len valid
+
+  abbrev hash : List ℕ
+  hash = tag_of (context_with target.settings target.secret) password salt (tag_length target.settings)
+
+  hash_bytes : IsBytes hash × (length hash ≡ tag_length target.settings)
+  hash_bytes = tag_bytes (context_with target.settings target.secret) password salt (tag_length target.settings) is.tag_length
+
+  -- its parameters are read again
+  parameters_shown : params_of (Some (length hash)) (list_of target.settings.parameters) ≡ Ok (sized target.settings).parameters
+  parameters_shown = rw hash_bytes.1 (read_again _ _ _ _ _ (Some (tag_length target.settings)) is.m_cost is.t_cost (lanes)
+      is.keyid.0 is.associated.0 is.keyid.2 is.associated.2 sized_valid.0)
+
+  pub made_is_phc : HasBytes 8 48 salt → IsPhc (made target password salt)
+  made_is_phc h = record {
+    algorithm = is_name-name target.settings.algorithm;
+    version = version_small target.settings.version;
+    params = listed_good _ _ _ _ _ is.m_cost is.t_cost (lanes) is.keyid.0 is.associated.0 is.keyid.2 is.associated.2;
+    salt = h;
+    hash = (hash_bytes.0, rw hash_bytes.1 sized_valid.1, rw hash_bytes.1 is.tag_length);
+    salted = λ _. refl;
+  }
+
+  pub made_accepts : length password ≤ 4294967295 → AcceptsBy target.secret password (made target password salt)
+  made_accepts short = record {
+    salt = salt;
+    hash = hash;
+    settings = sized target.settings;
+    has_salt = refl;
+    has_hash = refl;
+    has_parameters = parameters_shown;
+    has_algorithm = algorithm_named-name target.settings.algorithm;
+    has_version = version_numbered-number target.settings.version;
+    short = short;
+    same_tag = ap (tag_of (context_with target.settings target.secret) password salt) (sym hash_bytes.1);
+  }
+
+  -- it shows the target's settings
+  pub made_shows : (v : Phc) → v ≡ made target password salt → shown_settings v ≡ Ok (sized target.settings)
+  made_shows v e = rw (
+    e,
+    parameters_shown,
+    algorithm_named-name target.settings.algorithm,
+    version_numbered-number target.settings.version,
+  ) refl
+
+  -- its text is accepted
+  pub made_accepted : (v : Phc) → v ≡ made target password salt → HasBytes 8 48 salt → length password ≤ 4294967295
+      → Accepts target.secret password (phc_text v)
+  made_accepted v e bytes short = (v, (rw e (made_is_phc bytes), refl), rw e (made_accepts short))
+
+-- what is made of its parts
+pub is_made : (target : Target) (password salt name : List ℕ) (number : ℕ) (ps : List Pair) (v : Parameters)
+    (own given tag : List ℕ)
+    → name ≡ algorithm_name target.settings.algorithm → number ≡ version_number target.settings.version
+    → ◌≡◌ {A = Result (List Pair) HashError} (Ok ps) (Ok (list_of v)) → v ≡ target.settings.parameters → own ≡ salt → given ≡ own
+    → tag ≡ tag_of (context_with target.settings target.secret) password given (tag_length target.settings)
+    → record { algorithm = name; version = Some number; params = ps; salt = Some own; hash = Some tag }
+    ≡ made target password salt
+is_made target password salt name number ps v own given tag named numbered listed of_target salted same tagged =
+    let list : ps ≡ list_of v = cc in
+    rw (named, numbered, list, of_target, tagged, same, salted) refl

@@ -1,0 +1,73 @@
+-- How long a tag is that fits into a text, and that it is of bytes.
+use Rattle.std.proofs.Common.{◌≡◌, ℕ, zero, suc, ◌+◌, ◌*◌, ◌<◌, ◌≤◌, List, [], ◌∷◌, ◌++◌, length, take, refl, arith, length-append}
+use Rattle.std.proofs.lemmas.List.{length-take}
+use Rattle.std.specs.Int.{w32, w64, to_le_bytes, byte_at, bytes_low_first}
+use Rattle.std.specs.List.{flat_map}
+use Rattle.argon2_base.specs.Texts.{IsBytes}
+use Rattle.argon2_base.specs.Blake2b.{blake2b, blocks, compress, hash_blocks, initial_state}
+use Rattle.argon2_base.specs.Block.{bytes_of}
+use Rattle.argon2_base.specs.LongHash.{long_hash}
+use Rattle.argon2_base.proofs.hashing.Pieces.{long_hash_short}
+use Rattle.argon2.specs.Rfc9106.{Context, first_block, last_block, tag_of}
+
+-- ---- lists of bytes
+
+IsBytes-append : (a b : List ℕ) → IsBytes a → IsBytes b → IsBytes (a ++ b)
+IsBytes-append [] b ha hb i = hb i
+IsBytes-append (x ∷ a) b ha hb zero = ha 0
+IsBytes-append (x ∷ a) b ha hb (suc i) = IsBytes-append a b (λ j. ha (suc j)) hb i
+
+IsBytes-take : (n : ℕ) (a : List ℕ) → IsBytes a → IsBytes (take n a)
+IsBytes-take zero a h i = omega arith
+IsBytes-take (suc n) [] h i = omega arith
+IsBytes-take (suc n) (x ∷ a) h zero = h 0
+IsBytes-take (suc n) (x ∷ a) h (suc i) = IsBytes-take n a (λ j. h (suc j)) i
+
+byte_small : (i n : ℕ) → byte_at i n < 256
+byte_small zero n = omega arith
+byte_small (suc i) n = omega arith
+
+IsBytes-low_first : (i k n : ℕ) → IsBytes (bytes_low_first i k n)
+IsBytes-low_first i zero n j = omega arith
+IsBytes-low_first i (suc k) n zero = byte_small i n
+IsBytes-low_first i (suc k) n (suc j) = IsBytes-low_first (suc i) k n j
+
+-- ---- digests
+
+-- the bytes of words
+IsBytes-words : (ws : List ℕ) → IsBytes (flat_map (to_le_bytes w64) ws)
+IsBytes-words [] i = omega arith
+IsBytes-words (w ∷ ws) i = IsBytes-append (to_le_bytes w64 w) (flat_map (to_le_bytes w64) ws)
+    (IsBytes-low_first 0 8 w) (IsBytes-words ws) i
+
+length-words : (ws : List ℕ) → length (flat_map (to_le_bytes w64) ws) ≡ 8 * length ws
+length-words [] = refl
+length-words (w ∷ ws) = omega (arith, length-append (to_le_bytes w64 w) (flat_map (to_le_bytes w64) ws), length-words ws)
+
+-- a hash value has 8 words
+length-hash_blocks : (l t : ℕ) (h : List ℕ) (bs : List (List ℕ)) → length h ≡ 8 → length (hash_blocks l t h bs) ≡ 8
+unfolding hash_blocks compress
+length-hash_blocks l t h [] e = e
+length-hash_blocks l t h (b ∷ bs) e = length-hash_blocks l (t + 128) _ bs refl
+
+HasBytes-digest : (n : ℕ) (m : List ℕ) → n ≤ 64 → IsBytes (blake2b n m) × (length (blake2b n m) ≡ n)
+unfolding blake2b
+HasBytes-digest n m h =
+    let value : List ℕ = hash_blocks (length m) 0 (initial_state n) (blocks m) in
+    let words : length value ≡ 8 = length-hash_blocks (length m) 0 (initial_state n) (blocks m) refl in
+    let bytes : List ℕ = flat_map (to_le_bytes w64) value in
+    (IsBytes-take n bytes (IsBytes-words value), omega (arith, length-take n bytes, length-words value, words, h))
+
+-- ---- tags
+
+hashed_short : (n : ℕ) (m : List ℕ) → n ≤ 64 → IsBytes (long_hash n m) × (length (long_hash n m) ≡ n)
+hashed_short n m h =
+    let prefixed : List ℕ = to_le_bytes w32 n ++ m in
+    let is : blake2b n prefixed ≡ long_hash n m = long_hash_short n m (blake2b n prefixed) h refl in
+    rw is at (HasBytes-digest n prefixed h)
+
+-- a tag of at most 64 bytes
+pub tag_bytes : (ctx : Context) (password salt : List ℕ) (n : ℕ) → n ≤ 64
+    → IsBytes (tag_of ctx password salt n) × (length (tag_of ctx password salt n) ≡ n)
+unfolding tag_of
+tag_bytes ctx password salt n h = hashed_short n (bytes_of (last_block ctx (first_block ctx password salt n))) h

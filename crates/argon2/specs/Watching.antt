@@ -1,0 +1,112 @@
+-- Which references a watched hash records, and how often it mixes.
+use Rattle.std.specs.Prelude.{◌≡◌, ℕ, suc, ◌+◌, ◌-◌, ◌*◌, ◌<◌, ◌≤◌, ◌⊎◌, ◌==◌, List, [], length, nat_lt, slice_index, slice_index_or, if◌then◌else◌, zero, ◌/◌}
+use Rattle.argon2.specs.Rfc9106.{Context, FirstColumns, Memory, block_count, block_of, is_independent, lane_length, matrix, reference_places, segment_length}
+use Rattle.argon2.specs.Steps.{IsStep, turn_count}
+
+-- ---- the references
+
+-- how many places there are: one for each pass and block
+abbrev pub place_count : Context → ℕ
+place_count ctx = ctx.t_cost * block_count ctx
+
+-- where the list has the place of a block's reference
+abbrev pub position_index : Context → ℕ → ℕ → ℕ → ℕ
+position_index ctx pass lane column = pass * block_count ctx + (lane * lane_length ctx + column)
+
+-- The list after all steps: each block's reference, and as before at columns 0 and 1 of pass 0.
+pub record AreReferencePlaces (ctx : Context) (first : FirstColumns) (old new : List ℕ) : Type 0
+  where
+    pub of_steps : (pass lane column : ℕ) →
+        pass < ctx.t_cost → IsStep ctx pass lane column →
+        slice_index new (position_index ctx pass lane column)
+        ≡ reference_places ctx first pass lane column
+    pub of_first_columns : (lane column : ℕ) → lane < ctx.p_cost → column < 2 →
+        slice_index new (position_index ctx 0 lane column)
+        ≡ slice_index old (position_index ctx 0 lane column)
+
+-- after all steps: the matrix, and where there is a place for each reference the list of them
+pub record IsFilledFrom (ctx : Context) (first : FirstColumns) (memory : Memory) (old new : List ℕ) : Type 0
+  where
+    pub matrix : memory ≡ matrix ctx first
+    pub positions : length old ≡ place_count ctx → AreReferencePlaces ctx first old new
+
+-- ---- in the midst of a pass
+
+-- a memory where the first done(l) columns of each lane l are made: each place has the block of the
+-- last pass that wrote it
+pub record HasBlocksUpTo (ctx : Context) (first : FirstColumns) (pass : ℕ) (done : ℕ → ℕ) (memory : Memory) : Type 0
+  where
+    pub size : length memory ≡ block_count ctx
+    pub new : (lane column : ℕ) → lane < ctx.p_cost → column < lane_length ctx → column < done lane →
+        slice_index_or memory (lane * lane_length ctx + column) [] ≡ block_of ctx first pass lane column
+    pub old : (before lane column : ℕ) →
+        pass ≡ suc before → lane < ctx.p_cost → column < lane_length ctx → done lane ≤ column →
+        slice_index_or memory (lane * lane_length ctx + column) [] ≡ block_of ctx first before lane column
+
+-- the list then: the references so far, and as before at columns 0 and 1 of pass 0
+pub record HasPositionsUpTo (ctx : Context) (first : FirstColumns) (pass : ℕ) (done : ℕ → ℕ) (old new : List ℕ) : Type 0
+  where
+    pub size : length new ≡ place_count ctx
+    pub of_steps : (r lane column : ℕ) → r < ctx.t_cost → IsStep ctx r lane column →
+        (r < pass) ⊎ ((r ≡ pass) × (column < done lane)) →
+        slice_index new (position_index ctx r lane column) ≡ reference_places ctx first r lane column
+    pub of_first_columns : (lane column : ℕ) → lane < ctx.p_cost → column < 2 →
+        slice_index new (position_index ctx 0 lane column)
+        ≡ slice_index old (position_index ctx 0 lane column)
+
+-- both, the list where there is a place for each reference
+pub record IsFilledUpTo (ctx : Context) (first : FirstColumns) (pass : ℕ) (done : ℕ → ℕ) (memory : Memory)
+    (old new : List ℕ) : Type 0
+  where
+    pub blocks : HasBlocksUpTo ctx first pass done memory
+    pub positions : length old ≡ place_count ctx → HasPositionsUpTo ctx first pass done old new
+
+-- from one such moment of a pass to another
+abbrev pub Fills : Context → ℕ → (ℕ → ℕ) → (ℕ → ℕ) → Memory → Memory → List ℕ → List ℕ → Type 0
+Fills ctx pass done done' memory memory' places places' =
+    (first : FirstColumns) (old : List ℕ) →
+    IsFilledUpTo ctx first pass done memory old places → IsFilledUpTo ctx first pass done' memory' old places'
+
+-- how many columns of each lane are made when a slice begins
+abbrev pub begun : Context → ℕ → ℕ → ℕ
+begun ctx pass slice = (slice + 1) * segment_length ctx - turn_count ctx pass slice
+
+-- how many of each are made in a slice when the lanes before one are done, and that one has so many
+abbrev pub in_order : Context → ℕ → ℕ → ℕ → ℕ → ℕ → ℕ
+in_order ctx pass slice lane column other =
+    if nat_lt other lane then (slice + 1) * segment_length ctx
+    else if other == lane then column
+    else begun ctx pass slice
+
+-- ---- the mixings
+
+-- how many segments have address blocks: all of Argon2i's, Argon2id's in slices 0 and 1 of pass 0
+unfoldable pub independent_segments : Context → ℕ
+independent_segments ctx =
+    if ctx.algorithm == 1 then 4 * ctx.t_cost * ctx.p_cost
+    else if ctx.algorithm == 2 then 2 * ctx.p_cost
+    else 0
+
+-- once for each block but the first two columns, and twice for each address block
+unfoldable pub mixing_calls : Context → ℕ
+mixing_calls ctx =
+    ctx.t_cost * block_count ctx - 2 * ctx.p_cost
+    + 2 * ((segment_length ctx + 127) / 128) * independent_segments ctx
+
+-- the same of one segment
+unfoldable pub segment_calls : Context → ℕ → ℕ → ℕ
+segment_calls ctx pass slice =
+    let of_addresses = 2 * ((segment_length ctx + 127) / 128) in
+    (if is_independent ctx pass slice then of_addresses else 0)
+    + turn_count ctx pass slice
+
+-- of the first slices of a pass
+unfoldable pub slices_calls : Context → ℕ → ℕ → ℕ
+slices_calls ctx pass zero = 0
+slices_calls ctx pass (suc slice) =
+    slices_calls ctx pass slice + ctx.p_cost * segment_calls ctx pass slice
+
+-- of the first passes
+unfoldable pub passes_calls : Context → ℕ → ℕ
+passes_calls ctx zero = 0
+passes_calls ctx (suc pass) = passes_calls ctx pass + slices_calls ctx pass 4

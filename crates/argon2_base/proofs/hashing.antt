@@ -1,0 +1,5 @@
+pub mod Absorbing
+pub mod HashBlocks
+pub mod HasherFields
+pub mod Pieces
+pub mod Rounds

@@ -1,0 +1,68 @@
+-- The fold over all blocks of a message: the blocks before the last, and then the last.
+use Rattle.std.proofs.Common.{◌≡◌, ℕ, zero, suc, ◌+◌, ◌-◌, ◌*◌, ◌≤◌, min, true, false, List, [], ◌∷◌, ◌++◌, length, take, drop, replicate, refl, sym, ap, ◌∙◌, arith, length-append, length-drop, add-zero, zero-add}
+use Rattle.std.proofs.lemmas.List.{drop-append-le, take_all, drop-drop, length-replicate}
+use Rattle.std.specs.Simd.{first_chunks}
+use Rattle.argon2_base.specs.Blake2b.{block_count, blocks, compress, hash_blocks}
+use Rattle.argon2_base.specs.Hasher.{hash_after, blocks_before}
+use Rattle.argon2_base.proofs.hashing.Absorbing.{held, IsAbsorbed, hash_after-append, hash_after_next}
+
+-- one block is the last
+hash_blocks_one : (l t : ℕ) (h b : List ℕ)
+    → hash_blocks l t h (b ∷ []) ≡ compress h b (min (t + 128) l) true
+unfolding hash_blocks
+hash_blocks_one l t h b = refl
+
+-- the first of more is not
+hash_blocks_more : (l t : ℕ) (h b c : List ℕ) (bs : List (List ℕ)) → hash_blocks l t h (b ∷ c ∷ bs)
+    ≡ hash_blocks l (t + 128) (compress h b (min (t + 128) l) false) (c ∷ bs)
+unfolding hash_blocks
+hash_blocks_more l t h b c bs = refl
+
+-- after k blocks of p, where j stand between them and the last
+hash_blocks_from : (l : ℕ) (i p : List ℕ) (k j : ℕ) → (k + j) * 128 ≤ l
+    → hash_blocks l (k * 128) (hash_after i p k) (first_chunks 128 (suc j) (drop (k * 128) p))
+    ≡ compress (hash_after i p (k + j)) (take 128 (drop ((k + j) * 128) p)) (min ((k + j) * 128 + 128) l) true
+hash_blocks_from l i p k zero h =
+    hash_blocks_one l (k * 128) (hash_after i p k) (take 128 (drop (k * 128) p)) ∙ rw add-zero refl
+hash_blocks_from l i p k (suc j) h =
+    let clock : min (k * 128 + 128) l ≡ k * 128 + 128 = omega arith in
+    let along : k + suc j ≡ (k + 1) + j = omega arith in
+    let on : (k + 1) * 128 ≡ k * 128 + 128 = omega arith in
+    let hash : List ℕ = hash_after i p k in
+    let b : List ℕ = take 128 (drop (k * 128) p) in
+    let after : List ℕ = drop 128 (drop (k * 128) p) in
+    let step : hash_blocks l (k * 128) hash (first_chunks 128 (suc (suc j)) (drop (k * 128) p))
+    ≡ hash_blocks l (k * 128 + 128) (compress hash b (min (k * 128 + 128) l) false)
+    (first_chunks 128 (suc j) after) =
+    hash_blocks_more l (k * 128) hash b (take 128 after) (first_chunks 128 j (drop 128 after)) in
+    let rest = rw (on, hash_after_next i p k) at (hash_blocks_from l i p (k + 1) j (omega arith)) in
+    step ∙ rw (clock, drop-drop 128 (k * 128) p, along) rest
+
+-- the last block x is the bytes that are held, and zeros
+pub hash_blocks_whole : (i m b x h : List ℕ) → IsAbsorbed i h b m
+    → x ≡ take (held m) b ++ replicate (128 - held m) 0
+    → compress h x (length m) true ≡ hash_blocks (length m) 0 i (blocks m)
+unfolding hash_after
+hash_blocks_whole i m b x h a ex =
+    let l : ℕ = length m in
+    let q : ℕ = blocks_before l in
+    let n : block_count l ≡ suc q = omega arith in
+    let zeros : List ℕ = replicate (128 * suc q - l) 0 in
+    let p : List ℕ = m ++ zeros in
+    let room : 128 * suc q - l ≡ 128 - held m = omega arith in
+    let lp : length p ≡ l + (128 * suc q - l) =
+    length-append m zeros ∙ ap (λ (k : ℕ). l + k) (length-replicate (128 * suc q - l) 0) in
+    let tail : drop (q * 128) p ≡ x =
+    drop-append-le (q * 128) m zeros (omega arith) ∙ rw (room, ← a.1) (sym ex) in
+    let lx : length x ≡ 128 = omega (arith, ap length tail, length-drop (q * 128) p) in
+    let clock : min (q * 128 + 128) l ≡ l = omega arith in
+    let whole : hash_blocks l 0 i (first_chunks 128 (suc q) p)
+    ≡ compress (hash_after i p q) (take 128 (drop (q * 128) p)) (min (q * 128 + 128) l) true =
+    rw (zero-add q) at (hash_blocks_from l i p 0 q (omega arith)) in
+    rw n (sym (rw (
+      hash_after-append i m zeros q (omega arith),
+      tail,
+      take_all 128 x (omega arith),
+      clock,
+      ← a.0,
+    ) at whole))

@@ -1,0 +1,4 @@
+pub mod LaneLemmas
+pub mod MixingLaws
+pub mod MixingLemmas
+pub mod WordBytes

@@ -1,0 +1,301 @@
+-- Vectors of eight lanes, and what the steps of the mixing do in each lane.
+use Rattle.std.proofs.Common.{◌≡◌, ℕ, zero, suc, ◌<◌, ◌+◌, ◌-◌, ◌*◌, ◌/◌, ◌%◌, ◌^◌, List, [], ◌∷◌, ◌++◌, length, slice_index, ◌==◌, if◌then◌else◌, bit_and, bit_or, bit_xor, slice_index_or, map, arith, refl, ap, subst, ◌∙◌, lit<, sym, ap₂}
+use Rattle.std.specs.List.{range_with_len}
+use Rattle.std.proofs.lemmas.Nat.{and_mask}
+use Rattle.std.proofs.lemmas.List.{ext_get_or}
+use Rattle.std.proofs.lemmas.List.FromFn.{get_or-map-range_with_len, length-map-range_with_len}
+use Rattle.std.specs.Simd.Lanes.{zip2, pick_l}
+use Rattle.argon2_base.specs.Block.{add_mul, xor_rotate, row}
+use Rattle.argon2_base.specs.Lanes.{lane, lane_word, words_in_eights, ones_left, ones_right, twos_left, twos_right, fours_left, fours_right}
+
+-- what holds of 0 and 1
+pub below_two : (P : ℕ → Type 0) → P 0 → P 1 → (e : ℕ) → e < 2 → P e
+below_two P p0 p1 zero h = p0
+below_two P p0 p1 (suc zero) h = p1
+below_two P p0 p1 (suc (suc n)) h = absurd (omega arith)
+
+-- what holds of each of eight lanes
+pub below_eight : (P : ℕ → Type 0) → P 0 → P 1 → P 2 → P 3 → P 4 → P 5 → P 6 → P 7 → (j : ℕ) → j < 8 → P j
+below_eight P p0 p1 p2 p3 p4 p5 p6 p7 zero h = p0
+below_eight P p0 p1 p2 p3 p4 p5 p6 p7 (suc zero) h = p1
+below_eight P p0 p1 p2 p3 p4 p5 p6 p7 (suc (suc zero)) h = p2
+below_eight P p0 p1 p2 p3 p4 p5 p6 p7 (suc (suc (suc zero))) h = p3
+below_eight P p0 p1 p2 p3 p4 p5 p6 p7 (suc (suc (suc (suc zero)))) h = p4
+below_eight P p0 p1 p2 p3 p4 p5 p6 p7 (suc (suc (suc (suc (suc zero))))) h = p5
+below_eight P p0 p1 p2 p3 p4 p5 p6 p7 (suc (suc (suc (suc (suc (suc zero)))))) h = p6
+below_eight P p0 p1 p2 p3 p4 p5 p6 p7 (suc (suc (suc (suc (suc (suc (suc zero))))))) h = p7
+below_eight P p0 p1 p2 p3 p4 p5 p6 p7 (suc (suc (suc (suc (suc (suc (suc (suc n)))))))) h = absurd (omega arith)
+
+-- what holds of each of sixteen words
+pub below_sixteen : (P : ℕ → Type 0) → P 0 → P 1 → P 2 → P 3 → P 4 → P 5 → P 6 → P 7
+    → P 8 → P 9 → P 10 → P 11 → P 12 → P 13 → P 14 → P 15 → (k : ℕ) → k < 16 → P k
+below_sixteen P a0 a1 a2 a3 a4 a5 a6 a7 b0 b1 b2 b3 b4 b5 b6 b7 k h =
+    let place : 2 * (k / 2) + k % 2 ≡ k = omega arith in
+    subst P place (below_eight (λ i. (e : ℕ) → e < 2 → P (2 * i + e))
+    (below_two _ a0 a1) (below_two _ a2 a3) (below_two _ a4 a5) (below_two _ a6 a7)
+    (below_two _ b0 b1) (below_two _ b2 b3) (below_two _ b4 b5) (below_two _ b6 b7)
+    (k / 2) (omega arith) (k % 2) (omega arith))
+
+-- what holds of each list of eight elements
+pub eight_lanes : (P : List ℕ → Type 0)
+    → ((a b c d e f g h : ℕ) → P (a ∷ b ∷ c ∷ d ∷ e ∷ f ∷ g ∷ h ∷ [])) → (xs : List ℕ) → length xs ≡ 8 → P xs
+eight_lanes P p (a ∷ b ∷ c ∷ d ∷ e ∷ f ∷ g ∷ h ∷ []) l = p a b c d e f g h
+eight_lanes P p [] l = absurd (omega arith)
+eight_lanes P p (a ∷ []) l = absurd (omega arith)
+eight_lanes P p (a ∷ b ∷ []) l = absurd (omega arith)
+eight_lanes P p (a ∷ b ∷ c ∷ []) l = absurd (omega arith)
+eight_lanes P p (a ∷ b ∷ c ∷ d ∷ []) l = absurd (omega arith)
+eight_lanes P p (a ∷ b ∷ c ∷ d ∷ e ∷ []) l = absurd (omega arith)
+eight_lanes P p (a ∷ b ∷ c ∷ d ∷ e ∷ f ∷ []) l = absurd (omega arith)
+eight_lanes P p (a ∷ b ∷ c ∷ d ∷ e ∷ f ∷ g ∷ []) l = absurd (omega arith)
+eight_lanes P p (a ∷ b ∷ c ∷ d ∷ e ∷ f ∷ g ∷ h ∷ i ∷ xs) l = absurd (omega arith)
+
+-- what holds of any two lists of eight elements
+two_vectors : (P : List ℕ → List ℕ → Type 0)
+    → ((a b c d e f g h i j k l m n o p : ℕ) → P (a ∷ b ∷ c ∷ d ∷ e ∷ f ∷ g ∷ h ∷ []) (i ∷ j ∷ k ∷ l ∷ m ∷ n ∷ o ∷ p ∷ []))
+    → (x : List ℕ) → length x ≡ 8 → (y : List ℕ) → length y ≡ 8 → P x y
+two_vectors P t =
+    eight_lanes (λ x. (y : List ℕ) → length y ≡ 8 → P x y) (λ a b c d e f g h.
+    eight_lanes (P (a ∷ b ∷ c ∷ d ∷ e ∷ f ∷ g ∷ h ∷ [])) (t a b c d e f g h))
+
+-- a sum and twice a product, each kept below 2 ^ 64
+wrapped_sum : (s x : ℕ) → (s % 2 ^ 64 + (x % 2 ^ 64 + x % 2 ^ 64) % 2 ^ 64) % 2 ^ 64 ≡ (s + 2 * x) % 2 ^ 64
+wrapped_sum s x = omega arith
+
+-- the same where the product is doubled by a factor
+wrapped_twice : (s x : ℕ) → (s % 2 ^ 64 + x * 2 % 2 ^ 64) % 2 ^ 64 ≡ (s + x * 2) % 2 ^ 64
+wrapped_twice s x = omega arith
+
+-- the steps of one word
+abbrev add_mul_steps : ℕ → ℕ → ℕ
+add_mul_steps a b =
+    let p = bit_and a 0xffffffff * bit_and b 0xffffffff % 2 ^ 64 in
+    ((a + b) % 2 ^ 64 + (p + p) % 2 ^ 64) % 2 ^ 64
+
+-- these steps give u + v + 2 * low32(u) * low32(v)
+add_mul_word : (a b : ℕ) → add_mul_steps a b ≡ add_mul a b
+unfolding add_mul
+add_mul_word a b =
+    let low_a : bit_and a 0xffffffff ≡ a % 2 ^ 32 = and_mask a 32 in
+    let low_b : bit_and b 0xffffffff ≡ b % 2 ^ 32 = and_mask b 32 in
+    let product : 2 * (a % 2 ^ 32) * (b % 2 ^ 32) ≡ 2 * (a % 2 ^ 32 * (b % 2 ^ 32)) = omega arith in
+    rw (low_a, low_b, product) (wrapped_sum (a + b) (a % 2 ^ 32 * (b % 2 ^ 32)))
+
+-- the same, as written for one word
+pub add_mul_plain : (a b : ℕ)
+    → ((a + b) % 2 ^ 64 + bit_and a 0xffffffff * bit_and b 0xffffffff * 2 % 2 ^ 64) % 2 ^ 64 ≡ add_mul a b
+unfolding add_mul
+add_mul_plain a b =
+    let low_a : bit_and a 0xffffffff ≡ a % 2 ^ 32 = and_mask a 32 in
+    let low_b : bit_and b 0xffffffff ≡ b % 2 ^ 32 = and_mask b 32 in
+    let product : 2 * (a % 2 ^ 32) * (b % 2 ^ 32) ≡ a % 2 ^ 32 * (b % 2 ^ 32) * 2 = omega arith in
+    rw (low_a, low_b, product) (wrapped_twice (a + b) (a % 2 ^ 32 * (b % 2 ^ 32)))
+
+-- eight words at once
+abbrev wrapped_add : List ℕ → List ℕ → List ℕ
+wrapped_add = zip2 (λ x y. (x + y) % 2 ^ 64)
+
+abbrev masked : List ℕ → List ℕ
+masked a =
+    zip2 bit_and a
+    (0xffffffff ∷ 0xffffffff ∷ 0xffffffff ∷ 0xffffffff ∷ 0xffffffff ∷ 0xffffffff ∷ 0xffffffff ∷ 0xffffffff ∷ [])
+
+abbrev AddsMul : List ℕ → List ℕ → Type 0
+AddsMul a b = (j : ℕ) → j < 8
+    → slice_index (wrapped_add (wrapped_add a b)
+    (wrapped_add (zip2 (λ x y. x * y % 2 ^ 64) (masked a) (masked b)) (zip2 (λ x y. x * y % 2 ^ 64) (masked a) (masked b)))) j
+    ≡ add_mul (slice_index a j) (slice_index b j)
+
+pub add_mul_lanes : (a : List ℕ) → length a ≡ 8 → (b : List ℕ) → length b ≡ 8 → AddsMul a b
+add_mul_lanes =
+    two_vectors AddsMul (λ a0 a1 a2 a3 a4 a5 a6 a7 b0 b1 b2 b3 b4 b5 b6 b7.
+    below_eight _ (add_mul_word a0 b0) (add_mul_word a1 b1) (add_mul_word a2 b2) (add_mul_word a3 b3)
+    (add_mul_word a4 b4) (add_mul_word a5 b5) (add_mul_word a6 b6) (add_mul_word a7 b7))
+
+-- two shifts of each lane and an or are a rotation
+abbrev Rotates : ℕ → List ℕ → List ℕ → Type 0
+Rotates k a b = (j : ℕ) → j < 8
+    → slice_index (zip2 bit_or
+    (zip2 (λ x n. x / 2 ^ n) (zip2 bit_xor a b) (k ∷ k ∷ k ∷ k ∷ k ∷ k ∷ k ∷ k ∷ []))
+    (zip2 (λ x n. x * 2 ^ n % 2 ^ 64) (zip2 bit_xor a b)
+    ((64 - k) ∷ (64 - k) ∷ (64 - k) ∷ (64 - k) ∷ (64 - k) ∷ (64 - k) ∷ (64 - k) ∷ (64 - k) ∷ []))) j
+    ≡ xor_rotate (slice_index a j) (slice_index b j) k
+
+pub shifts_rotate : (k : ℕ) → 0 < k → k < 64 → (a : List ℕ) → length a ≡ 8 → (b : List ℕ) → length b ≡ 8 → Rotates k a b
+unfolding xor_rotate
+shifts_rotate k low high =
+    let left : (64 - k) % 64 ≡ 64 - k = omega arith in
+    let right : k % 64 ≡ k = omega arith in
+    two_vectors (Rotates k) (λ a0 a1 a2 a3 a4 a5 a6 a7 b0 b1 b2 b3 b4 b5 b6 b7.
+    below_eight _ (rw (right, left) refl) (rw (right, left) refl) (rw (right, left) refl) (rw (right, left) refl)
+    (rw (right, left) refl) (rw (right, left) refl) (rw (right, left) refl) (rw (right, left) refl))
+
+-- what two shuffles of two vectors are
+abbrev Shuffled : List ℕ → List ℕ → (List ℕ → List ℕ → List ℕ) → (List ℕ → List ℕ → List ℕ) → List ℕ → List ℕ → Type 0
+Shuffled lefts rights left right a b =
+    (pick_l 0 (a ++ b) lefts ≡ left a b) × (pick_l 0 (a ++ b) rights ≡ right a b)
+
+pub exchanged_ones : (a : List ℕ) → length a ≡ 8 → (b : List ℕ) → length b ≡ 8
+    → Shuffled (0 ∷ 8 ∷ 2 ∷ 10 ∷ 4 ∷ 12 ∷ 6 ∷ 14 ∷ []) (1 ∷ 9 ∷ 3 ∷ 11 ∷ 5 ∷ 13 ∷ 7 ∷ 15 ∷ []) ones_left ones_right a b
+exchanged_ones =
+    two_vectors (Shuffled (0 ∷ 8 ∷ 2 ∷ 10 ∷ 4 ∷ 12 ∷ 6 ∷ 14 ∷ []) (1 ∷ 9 ∷ 3 ∷ 11 ∷ 5 ∷ 13 ∷ 7 ∷ 15 ∷ []) ones_left ones_right)
+    (λ a0 a1 a2 a3 a4 a5 a6 a7 b0 b1 b2 b3 b4 b5 b6 b7. (refl, refl))
+
+pub exchanged_twos : (a : List ℕ) → length a ≡ 8 → (b : List ℕ) → length b ≡ 8
+    → Shuffled (0 ∷ 1 ∷ 8 ∷ 9 ∷ 4 ∷ 5 ∷ 12 ∷ 13 ∷ []) (2 ∷ 3 ∷ 10 ∷ 11 ∷ 6 ∷ 7 ∷ 14 ∷ 15 ∷ []) twos_left twos_right a b
+exchanged_twos =
+    two_vectors (Shuffled (0 ∷ 1 ∷ 8 ∷ 9 ∷ 4 ∷ 5 ∷ 12 ∷ 13 ∷ []) (2 ∷ 3 ∷ 10 ∷ 11 ∷ 6 ∷ 7 ∷ 14 ∷ 15 ∷ []) twos_left twos_right)
+    (λ a0 a1 a2 a3 a4 a5 a6 a7 b0 b1 b2 b3 b4 b5 b6 b7. (refl, refl))
+
+pub exchanged_fours : (a : List ℕ) → length a ≡ 8 → (b : List ℕ) → length b ≡ 8
+    → Shuffled (0 ∷ 1 ∷ 2 ∷ 3 ∷ 8 ∷ 9 ∷ 10 ∷ 11 ∷ []) (4 ∷ 5 ∷ 6 ∷ 7 ∷ 12 ∷ 13 ∷ 14 ∷ 15 ∷ []) fours_left fours_right a b
+exchanged_fours =
+    two_vectors (Shuffled (0 ∷ 1 ∷ 2 ∷ 3 ∷ 8 ∷ 9 ∷ 10 ∷ 11 ∷ []) (4 ∷ 5 ∷ 6 ∷ 7 ∷ 12 ∷ 13 ∷ 14 ∷ 15 ∷ []) fours_left fours_right)
+    (λ a0 a1 a2 a3 a4 a5 a6 a7 b0 b1 b2 b3 b4 b5 b6 b7. (refl, refl))
+
+-- lane i of each of eight vectors
+abbrev lanes : List (List ℕ) → ℕ → List ℕ
+lanes x i =
+    lane_word x 0 i ∷ lane_word x 1 i ∷ lane_word x 2 i ∷ lane_word x 3 i
+    ∷ lane_word x 4 i ∷ lane_word x 5 i ∷ lane_word x 6 i ∷ lane_word x 7 i ∷ []
+
+-- a vector of these, lane by lane
+pub turned_lanes : (x : List (List ℕ)) (v : List ℕ) (i : ℕ) → v ≡ lanes x i → (k : ℕ) → k < 8 → slice_index v k ≡ lane_word x k i
+turned_lanes x v i same k h =
+    ap (λ v. slice_index v k) same
+    ∙ below_eight (λ k. slice_index (lanes x i) k ≡ lane_word x k i) refl refl refl refl refl refl refl refl k h
+
+-- the lanes of two vectors in turn
+abbrev Interleaved : List ℕ → List ℕ → Type 0
+Interleaved a b =
+    ((j : ℕ) → j < 8
+    → slice_index (pick_l 0 (a ++ b) (0 ∷ 8 ∷ 1 ∷ 9 ∷ 2 ∷ 10 ∷ 3 ∷ 11 ∷ [])) j
+    ≡ slice_index (if j % 2 == 0 then a else b) (j / 2))
+    × ((j : ℕ) → j < 8
+    → slice_index (pick_l 0 (a ++ b) (4 ∷ 12 ∷ 5 ∷ 13 ∷ 6 ∷ 14 ∷ 7 ∷ 15 ∷ [])) j
+    ≡ slice_index (if j % 2 == 0 then a else b) (4 + j / 2))
+
+pub interleaved : (a : List ℕ) → length a ≡ 8 → (b : List ℕ) → length b ≡ 8 → Interleaved a b
+interleaved =
+    two_vectors Interleaved (λ a0 a1 a2 a3 a4 a5 a6 a7 b0 b1 b2 b3 b4 b5 b6 b7.
+    (below_eight _ refl refl refl refl refl refl refl refl, below_eight _ refl refl refl refl refl refl refl refl))
+
+-- the words of a lane, given by number
+pub lane_is : (x : List (List ℕ)) (j : ℕ) (f : ℕ → ℕ) → ((k : ℕ) → k < 16 → lane_word x k j ≡ f k)
+    → lane j x ≡ map f (range_with_len 0 16)
+lane_is x j f h =
+    rw (
+      h 0 (lit< tt),
+      h 1 (lit< tt),
+      h 2 (lit< tt),
+      h 3 (lit< tt),
+      h 4 (lit< tt),
+      h 5 (lit< tt),
+      h 6 (lit< tt),
+      h 7 (lit< tt),
+      h 8 (lit< tt),
+      h 9 (lit< tt),
+      h 10 (lit< tt),
+      h 11 (lit< tt),
+      h 12 (lit< tt),
+      h 13 (lit< tt),
+      h 14 (lit< tt),
+      h 15 (lit< tt),
+    ) refl
+
+-- word k of a lane
+pub slice_index-lane : (x : List (List ℕ)) (j k : ℕ) → k < 16 → slice_index (lane j x) k ≡ lane_word x k j
+slice_index-lane x j =
+    below_sixteen (λ k. slice_index (lane j x) k ≡ lane_word x k j) refl refl refl refl refl refl refl refl refl refl
+    refl refl refl refl refl refl
+
+-- vectors of y and of z in turn
+abbrev column_vectors : List (List ℕ) → List (List ℕ) → List (List ℕ)
+column_vectors y z =
+    slice_index_or y 0 [] ∷ slice_index_or z 0 [] ∷ slice_index_or y 1 [] ∷ slice_index_or z 1 []
+    ∷ slice_index_or y 2 [] ∷ slice_index_or z 2 [] ∷ slice_index_or y 3 [] ∷ slice_index_or z 3 []
+    ∷ slice_index_or y 4 [] ∷ slice_index_or z 4 [] ∷ slice_index_or y 5 [] ∷ slice_index_or z 5 []
+    ∷ slice_index_or y 6 [] ∷ slice_index_or z 6 [] ∷ slice_index_or y 7 [] ∷ slice_index_or z 7 [] ∷ []
+
+-- the vectors of even or of odd numbers
+abbrev every_second : List (List ℕ) → ℕ → List (List ℕ)
+every_second x e =
+    slice_index_or x (0 + e) [] ∷ slice_index_or x (2 + e) [] ∷ slice_index_or x (4 + e) []
+    ∷ slice_index_or x (6 + e) [] ∷ slice_index_or x (8 + e) [] ∷ slice_index_or x (10 + e) []
+    ∷ slice_index_or x (12 + e) [] ∷ slice_index_or x (14 + e) [] ∷ []
+
+-- sixteen vectors turned by two transpositions, of the vectors of even and of odd numbers
+pub columns_from : (x y z : List (List ℕ))
+    → ((i k : ℕ) → i < 8 → k < 8 → lane_word y i k ≡ lane_word (every_second x 0) k i)
+    → ((i k : ℕ) → i < 8 → k < 8 → lane_word z i k ≡ lane_word (every_second x 1) k i)
+    → (i j e : ℕ) → i < 8 → j < 8 → e < 2 → lane_word (column_vectors y z) (2 * i + e) j ≡ lane_word x (2 * j + e) i
+columns_from x y z even odd i j zero hi hj he =
+    below_eight (λ i. lane_word (column_vectors y z) (2 * i + 0) j ≡ lane_word y i j) refl refl refl refl refl refl refl refl i hi
+    ∙ even i j hi hj
+    ∙ below_eight (λ j. lane_word (every_second x 0) j i ≡ lane_word x (2 * j + 0) i) refl refl refl refl refl refl refl refl j hj
+columns_from x y z even odd i j (suc zero) hi hj he =
+    below_eight (λ i. lane_word (column_vectors y z) (2 * i + 1) j ≡ lane_word z i j) refl refl refl refl refl refl refl refl i hi
+    ∙ odd i j hi hj
+    ∙ below_eight (λ j. lane_word (every_second x 1) j i ≡ lane_word x (2 * j + 1) i) refl refl refl refl refl refl refl refl j hj
+columns_from x y z even odd i j (suc (suc e)) hi hj he = absurd (omega arith)
+
+-- a word of the vectors read one after the other
+pub word_in_eights : (x : List (List ℕ)) (k j w : ℕ) → k < 16 → j < 8 → 8 * k + j ≡ w
+    → slice_index (words_in_eights x) w ≡ lane_word x k j
+unfolding words_in_eights
+word_in_eights x k j w hk hj place =
+    let vector : w / 8 ≡ k = omega arith in
+    let in_vector : w % 8 ≡ j = omega arith in
+    let at_start : 0 + w ≡ w = omega arith in
+    get_or-map-range_with_len (λ w. lane_word x (w / 8) (w % 8)) 0 128 w w 0 (omega arith) at_start
+    ∙ ap₂ (lane_word x) vector in_vector
+
+-- such vectors hold the words of a list, if each holds its eight
+pub in_eights : (x : List (List ℕ)) (words : List ℕ) → length words ≡ 128
+    → ((k : ℕ) → k < 16 → (j : ℕ) → j < 8 → lane_word x k j ≡ slice_index words (8 * k + j))
+    → words_in_eights x ≡ words
+unfolding words_in_eights
+in_eights x words long same =
+    let long_x : length (words_in_eights x) ≡ 128 = length-map-range_with_len (λ w. lane_word x (w / 8) (w % 8)) 0 128 in
+    ext_get_or 0 (words_in_eights x) words (long_x ∙ sym long) (λ w h.
+    let place : 8 * (w / 8) + w % 8 ≡ w = omega arith in
+    word_in_eights x (w / 8) (w % 8) w (omega arith) (omega arith) place
+    ∙ same (w / 8) (omega arith) (w % 8) (omega arith)
+    ∙ ap (slice_index words) place)
+
+-- the left and the right halves of the rows are vectors of even and of odd numbers
+pub half_row : (x : List (List ℕ)) (i k e : ℕ) → i < 8 → k < 8 → e < 2
+    → lane_word (every_second x e) i k ≡ slice_index (words_in_eights x) (16 * i + (8 * e + k))
+half_row x i k e hi hk he =
+    below_eight (λ i. lane_word (every_second x e) i k ≡ lane_word x (2 * i + e) k) refl refl refl refl refl refl refl refl i hi
+    ∙ sym (word_in_eights x (2 * i + e) k (16 * i + (8 * e + k)) (omega arith) hk (omega arith))
+
+-- sixteen vectors of two transpositions, of the left and of the right halves of the rows
+pub rows_from : (y z : List (List ℕ)) (words : List ℕ) (i : ℕ)
+    → ((k : ℕ) → k < 8 → lane_word y k i ≡ slice_index words (16 * i + (0 + k)))
+    → ((k : ℕ) → k < 8 → lane_word z k i ≡ slice_index words (16 * i + (8 + k)))
+    → lane i (
+    slice_index_or y 0 [] ∷ slice_index_or y 1 [] ∷ slice_index_or y 2 [] ∷ slice_index_or y 3 []
+    ∷ slice_index_or y 4 [] ∷ slice_index_or y 5 [] ∷ slice_index_or y 6 [] ∷ slice_index_or y 7 []
+    ∷ slice_index_or z 0 [] ∷ slice_index_or z 1 [] ∷ slice_index_or z 2 [] ∷ slice_index_or z 3 []
+    ∷ slice_index_or z 4 [] ∷ slice_index_or z 5 [] ∷ slice_index_or z 6 [] ∷ slice_index_or z 7 [] ∷ []) ≡ row i words
+unfolding row
+rows_from y z words i left right =
+    rw (
+      left 0 (lit< tt),
+      left 1 (lit< tt),
+      left 2 (lit< tt),
+      left 3 (lit< tt),
+      left 4 (lit< tt),
+      left 5 (lit< tt),
+      left 6 (lit< tt),
+      left 7 (lit< tt),
+      right 0 (lit< tt),
+      right 1 (lit< tt),
+      right 2 (lit< tt),
+      right 3 (lit< tt),
+      right 4 (lit< tt),
+      right 5 (lit< tt),
+      right 6 (lit< tt),
+      right 7 (lit< tt),
+    ) refl

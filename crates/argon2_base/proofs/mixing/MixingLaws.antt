@@ -1,0 +1,17 @@
+-- Laws of the mixing of two blocks.
+use Rattle.std.proofs.Common.{◌≡◌, ℕ, List, [], ◌∷◌, refl, ap, ap₂}
+use Rattle.std.proofs.lemmas.Nat.{xor_comm}
+use Rattle.argon2_base.specs.Block.{by_columns, by_rows, mixed, xor_blocks}
+
+-- the exclusive or of two blocks does not mind their order
+pub xor_blocks-comm : (x y : List ℕ) → xor_blocks x y ≡ xor_blocks y x
+unfolding xor_blocks
+xor_blocks-comm [] [] = refl
+xor_blocks-comm [] (b ∷ y) = refl
+xor_blocks-comm (a ∷ x) [] = refl
+xor_blocks-comm (a ∷ x) (b ∷ y) = ap₂ (λ h t. h ∷ t) (xor_comm a b) (xor_blocks-comm x y)
+
+-- nor does their mixing
+pub mixed-comm : (x y : List ℕ) → mixed x y ≡ mixed y x
+unfolding mixed
+mixed-comm x y = ap (λ r. xor_blocks (by_columns (by_rows r)) r) (xor_blocks-comm x y)

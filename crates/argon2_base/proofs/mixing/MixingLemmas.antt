@@ -1,0 +1,174 @@
+-- From the vectors of the kernel to the mixing that the standard defines.
+use Rattle.std.proofs.Common.{◌≡◌, ℕ, ◌<◌, ◌≤◌, ◌+◌, ◌-◌, ◌*◌, ◌/◌, ◌%◌, List, [], inl, inr, length, slice_index, slice_index_or, slice_set, ◌==◌, if◌then◌else◌, bit_xor, arith, refl, sym, ap, ap₂, ◌∙◌}
+use Rattle.std.proofs.lemmas.Bool.{cases_eq, cases_lt}
+use Rattle.std.proofs.lemmas.List.{ext_get_or, get_or-set_other, length-set}
+use Rattle.std.proofs.lemmas.Grind.{get_or-set_at}
+use Rattle.std.proofs.lemmas.List.FromFn.{get_or-map-range_with_len, length-map-range_with_len}
+use Rattle.std.proofs.lemmas.Simd.{get_or-zip2, length-zip2}
+use Rattle.argon2_base.specs.Block.{by_columns, by_rows, column, gb, gb_at, mix_columns, mix_diagonals, perm, row, xor_blocks}
+use Rattle.argon2_base.specs.Lanes.{lane, lane_word}
+use Rattle.argon2_base.proofs.mixing.LaneLemmas.{below_two, lane_is, slice_index-lane}
+
+-- a lane of the vectors once one of them is replaced
+lane-slice_set : (x : List (List ℕ)) (i n : ℕ) (y : List ℕ) → i < 16 → length x ≡ 16
+    → lane n (slice_set x i y) ≡ slice_set (lane n x) i (slice_index y n)
+lane-slice_set x i n y below long =
+    let there : i < length x = omega arith in
+    ext_get_or 0 (lane n (slice_set x i y)) (slice_set (lane n x) i (slice_index y n))
+    (sym (length-set (lane n x) i (slice_index y n))) (λ k h.
+    slice_index-lane (slice_set x i y) n k h ∙ elim (cases_eq k i) [
+      | inl same ↦
+          ap (λ v. slice_index v n) (get_or-set_at x i k y [] same there)
+          ∙ sym (get_or-set_at (lane n x) i k (slice_index y n) 0 same below)
+      | inr other ↦
+          ap (λ v. slice_index v n) (get_or-set_other x i k y [] other)
+          ∙ sym (slice_index-lane x n k h)
+          ∙ sym (get_or-set_other (lane n x) i k (slice_index y n) 0 other)
+    ])
+
+-- a lane of the vectors once four of them are mixed
+pub lane-gb_at : (x : List (List ℕ)) (i j k l n : ℕ) → i < 16 → j < 16 → k < 16 → l < 16 → length x ≡ 16
+    → (a b c d : List ℕ)
+    → (slice_index a n, slice_index b n, slice_index c n, slice_index d n)
+    ≡ gb (lane_word x i n) (lane_word x j n) (lane_word x k n) (lane_word x l n)
+    → lane n (slice_set (slice_set (slice_set (slice_set x i a) j b) k c) l d) ≡ gb_at i j k l (lane n x)
+lane-gb_at x i j k l n hi hj hk hl long a b c d mixed =
+    let x1 = slice_set x i a in
+    let x2 = slice_set x1 j b in
+    let x3 = slice_set x2 k c in
+    let long1 : length x1 ≡ 16 = length-set x i a ∙ long in
+    let long2 : length x2 ≡ 16 = length-set x1 j b ∙ long1 in
+    let long3 : length x3 ≡ 16 = length-set x2 k c ∙ long2 in
+    let word : (k : ℕ) → k < 16 → lane_word x k n ≡ slice_index (lane n x) k = λ k h. sym (slice_index-lane x n k h) in
+    lane-slice_set x3 l n d hl long3
+    ∙ ap (λ v. slice_set v l (slice_index d n)) (lane-slice_set x2 k n c hk long2
+    ∙ ap (λ v. slice_set v k (slice_index c n)) (lane-slice_set x1 j n b hj long1
+    ∙ ap (λ v. slice_set v j (slice_index b n)) (lane-slice_set x i n a hi long)))
+    ∙ ap (λ (m : ℕ × ℕ × ℕ × ℕ). slice_set (slice_set (slice_set (slice_set (lane n x) i m.0) j m.1) k m.2) l m.3)
+    (mixed ∙ (λ p. gb (word i hi p) (word j hj p) (word k hk p) (word l hl p)))
+
+-- P in its eight steps
+pub perm_steps : (v : List ℕ) {a b c d e f g h : List ℕ}
+    → a ≡ gb_at 0 4 8 12 v → b ≡ gb_at 1 5 9 13 a → c ≡ gb_at 2 6 10 14 b → d ≡ gb_at 3 7 11 15 c
+    → e ≡ gb_at 0 5 10 15 d → f ≡ gb_at 1 6 11 12 e → g ≡ gb_at 2 7 8 13 f → h ≡ gb_at 3 4 9 14 g
+    → h ≡ perm v
+unfolding mix_columns mix_diagonals perm
+perm_steps v s1 s2 s3 s4 s5 s6 s7 s8 =
+    s8 ∙ ap (gb_at 3 4 9 14)
+    (s7 ∙ ap (gb_at 2 7 8 13)
+    (s6 ∙ ap (gb_at 1 6 11 12)
+    (s5 ∙ ap (gb_at 0 5 10 15)
+    (s4 ∙ ap (gb_at 3 7 11 15)
+    (s3 ∙ ap (gb_at 2 6 10 14)
+    (s2 ∙ ap (gb_at 1 5 9 13) s1))))))
+
+-- lane q of the vector of an even or an odd number, of two neighbours
+abbrev one_of : List (List ℕ) → ℕ → ℕ → ℕ → ℕ
+one_of x i e q =
+    slice_index (if e == 0 then slice_index_or x (2 * i) [] else slice_index_or x (2 * i + 1) []) q
+
+-- which is the lane of the vector of that number
+picked : (x : List (List ℕ)) (i q e : ℕ) → e < 2 → one_of x i e q ≡ lane_word x (2 * i + e) q
+picked x i q =
+    let first : 2 * i ≡ 2 * i + 0 = omega arith in
+    below_two _ (ap (λ k. lane_word x k q) first) refl
+
+-- word w of the columns, xored with the word of r
+abbrev Stored : List (List ℕ) → List ℕ → List ℕ → ℕ → Type 0
+Stored x r out w =
+    slice_index out w ≡ bit_xor (lane_word x (2 * (w / 16) + w % 2) (w % 16 / 2)) (slice_index r w)
+
+-- the words of a row that is stored by halves
+pub row_stored : (x : List (List ℕ)) (r out : List ℕ) (i : ℕ)
+    → ((k : ℕ) → k < 8 → slice_index out (16 * i + k)
+    ≡ bit_xor (one_of x i (k % 2) (k / 2)) (slice_index r (16 * i + k)))
+    → ((k : ℕ) → k < 8 → slice_index out (16 * i + 8 + k)
+    ≡ bit_xor (one_of x i (k % 2) (4 + k / 2)) (slice_index r (16 * i + 8 + k)))
+    → (w : ℕ) → 16 * i ≤ w → w < 16 * (i + 1) → Stored x r out w
+row_stored x r out i left right w low high =
+    elim (cases_lt w (16 * i + 8)) [
+      | inl in_left ↦
+          let k = w - 16 * i in
+          let place : 16 * i + k ≡ w = omega arith in
+          let vector : 2 * i + k % 2 ≡ 2 * (w / 16) + w % 2 = omega arith in
+          let lane_of : k / 2 ≡ w % 16 / 2 = omega arith in
+          ap (slice_index out) (sym place)
+          ∙ left k (omega arith)
+          ∙ ap₂ bit_xor (picked x i (k / 2) (k % 2) (omega arith) ∙ ap₂ (lane_word x) vector lane_of) (ap (slice_index r) place)
+      | inr in_right ↦
+          let k = w - (16 * i + 8) in
+          let place : 16 * i + 8 + k ≡ w = omega arith in
+          let vector : 2 * i + k % 2 ≡ 2 * (w / 16) + w % 2 = omega arith in
+          let lane_of : 4 + k / 2 ≡ w % 16 / 2 = omega arith in
+          ap (slice_index out) (sym place)
+          ∙ right k (omega arith)
+          ∙ ap₂ bit_xor (picked x i (4 + k / 2) (k % 2) (omega arith) ∙ ap₂ (lane_word x) vector lane_of)
+          (ap (slice_index r) place)
+    ]
+
+-- a word of the rows that P mixed
+by_rows_word : (r : List ℕ) (i k : ℕ) → i < 8 → k < 16 → slice_index (by_rows r) (16 * i + k) ≡ slice_index (perm (row i r)) k
+unfolding by_rows
+by_rows_word r i k hi hk =
+    let at_row : (16 * i + k) / 16 ≡ i = omega arith in
+    let at_word : (16 * i + k) % 16 ≡ k = omega arith in
+    let at_start : 0 + (16 * i + k) ≡ 16 * i + k = omega arith in
+    get_or-map-range_with_len (λ w. slice_index (perm (row (w / 16) r)) (w % 16)) 0 128 (16 * i + k) (16 * i + k) 0
+    (omega arith) at_start
+    ∙ ap₂ (λ a b. slice_index (perm (row a r)) b) at_row at_word
+
+-- a word of the columns that P mixed
+by_columns_word : (q : List ℕ) (w : ℕ) → w < 128
+    → slice_index (by_columns q) w ≡ slice_index (perm (column (w % 16 / 2) q)) (2 * (w / 16) + w % 2)
+unfolding by_columns
+by_columns_word q w h =
+    let at_start : 0 + w ≡ w = omega arith in
+    get_or-map-range_with_len (λ w. slice_index (perm (column (w % 16 / 2) q)) (2 * (w / 16) + w % 2)) 0 128 w w 0 h at_start
+
+-- the columns are a block again
+length-by_columns : (q : List ℕ) → length (by_columns q) ≡ 128
+unfolding by_columns
+length-by_columns q = length-map-range_with_len (λ w. slice_index (perm (column (w % 16 / 2) q)) (2 * (w / 16) + w % 2)) 0 128
+
+-- the vectors of the rows, mixed, turned, mixed and stored, are G
+pub kernel_mixes : (r out : List ℕ) (rows across cols down : List (List ℕ)) → length r ≡ 128 → length out ≡ 128
+    → ((i : ℕ) → i < 8 → lane i rows ≡ row i r)
+    → ((i : ℕ) → i < 8 → lane i across ≡ perm (lane i rows))
+    → ((i j e : ℕ) → i < 8 → j < 8 → e < 2 → lane_word cols (2 * i + e) j ≡ lane_word across (2 * j + e) i)
+    → ((j : ℕ) → j < 8 → lane j down ≡ perm (lane j cols))
+    → ((w : ℕ) → w < 128 → Stored down r out w)
+    → out ≡ xor_blocks (by_columns (by_rows r)) r
+unfolding column xor_blocks
+kernel_mixes r out rows across cols down long_r long_out rows_are across_are cols_are down_are stored =
+    let q = by_rows r in
+    let across_word : (i k : ℕ) → i < 8 → k < 16 → lane_word across k i ≡ slice_index q (16 * i + k) =
+    λ i k hi hk.
+    sym (slice_index-lane across i k hk)
+    ∙ ap (λ l. slice_index l k) (across_are i hi ∙ ap perm (rows_are i hi))
+    ∙ sym (by_rows_word r i k hi hk)
+    in
+    let column_is : (j : ℕ) → j < 8 → lane j cols ≡ column j q =
+    λ j hj. lane_is cols j (λ k. slice_index q (16 * (k / 2) + 2 * j + k % 2)) (λ k hk.
+    let halves : k ≡ 2 * (k / 2) + k % 2 = omega arith in
+    let place : 16 * (k / 2) + (2 * j + k % 2) ≡ 16 * (k / 2) + 2 * j + k % 2 = omega arith in
+    ap (λ n. lane_word cols n j) halves
+    ∙ cols_are (k / 2) j (k % 2) (omega arith) hj (omega arith)
+    ∙ across_word (k / 2) (2 * j + k % 2) (omega arith) (omega arith)
+    ∙ ap (slice_index q) place)
+    in
+    let down_word : (j k : ℕ) → j < 8 → k < 16 → lane_word down k j ≡ slice_index (perm (column j q)) k =
+    λ j k hj hk.
+    sym (slice_index-lane down j k hk)
+    ∙ ap (λ l. slice_index l k) (down_are j hj ∙ ap perm (column_is j hj))
+    in
+    let long : length (by_columns q) ≡ 128 = length-by_columns q in
+    let long_xor : length (xor_blocks (by_columns q) r) ≡ length (by_columns q) =
+    length-zip2 bit_xor (by_columns q) r (long ∙ sym long_r) in
+    ext_get_or 0 out (xor_blocks (by_columns q) r) (omega arith) (λ w h.
+    let below : w < 128 = omega arith in
+    let below_columns : w < length (by_columns q) = omega arith in
+    let below_r : w < length r = omega arith in
+    stored w below
+    ∙ ap (λ a. bit_xor a (slice_index r w))
+    (down_word (w % 16 / 2) (2 * (w / 16) + w % 2) (omega arith) (omega arith) ∙ sym (by_columns_word q w below))
+    ∙ sym (get_or-zip2 bit_xor (by_columns q) r w 0 0 0 below_columns below_r))

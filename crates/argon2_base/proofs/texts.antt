@@ -1,0 +1,12 @@
+pub mod Base64Lemmas
+pub mod ByteLemmas
+pub mod ByteListLemmas
+pub mod Characters
+pub mod Compared
+pub mod DecimalLemmas
+pub mod Equalities
+pub mod ParamsReading
+pub mod ParamsTextLemmas
+pub mod PhcTextLemmas
+pub mod Separators
+pub mod ValueCharacters

@@ -1,0 +1,157 @@
+-- The engine without padding reads and writes strict Base64, and nothing else.
+use Rattle.std.proofs.Common.{◌≡◌, ◌≢◌, ℕ, zero, suc, ◌+◌, ◌*◌, ◌/◌, ◌<◌, ◌≤◌, Bool, true, ◌&&◌, nat_le, List, [], ◌∷◌, ◌++◌, length, take, drop, Ok, Err, codes, refl, sym, ◌∙◌, ap, arith, Result, Option, Some, None, inl, inr}
+use Rattle.std.proofs.lemmas.Bool.{and_parts, cases_Bool, le-leb, leb-true, lt-ltb, ltb-true}
+use Rattle.std.proofs.lemmas.List.{append-nil}
+use Rattle.std.proofs.lemmas.Str.{IsUtf8-from_ascii}
+use Rattle.std.specs.List.{list_all}
+use Rattle.std.specs.Str.{IsUtf8}
+use Rattle.base64.specs.Engines.{standard_no_pad}
+use Rattle.base64.specs.Rfc4648.{encode_symbols}
+use Rattle.base64.specs.GeneralPurpose.{decode_of, decoded_of, encode_of, encoded_size_of}
+use Rattle.base64.specs.declared.decode.DecodeError.{DecodeError}
+use Rattle.base64.specs.declared.encode.EncodeSliceError.{EncodeSliceError}
+use Rattle.base64.specs.declared.encode.EncodeSliceError.TheVariants.{OutputSliceTooSmall}
+use Rattle.base64.proofs.EngineFacts.{decode_of_strict, decode_of-encode_of, encoded_prefix, IsAscii-encode_of}
+use Rattle.base64.proofs.RoundTrip.{length-encode_symbols}
+use Rattle.argon2_base.specs.Texts.{alphabet, strict_base64, short_bytes, is_byte, IsBytes}
+use Rattle.argon2_base.specs.ByteList.{base64_length, IsBase64Cause}
+use Rattle.argon2_base.specs.declared.error.B64Error.{B64Error}
+use Rattle.argon2_base.specs.declared.error.B64Error.TheVariants.{InvalidEncoding, InvalidLength}
+
+-- the engine's symbols are the alphabet of RFC 4648
+pub encode_table-alphabet : standard_no_pad.encode_table ≡ alphabet
+encode_table-alphabet = refl
+
+-- what the engine writes
+pub encode_of-strict : (b : List ℕ) → encode_of standard_no_pad b ≡ strict_base64 b
+unfolding strict_base64
+encode_of-strict b = append-nil (encode_symbols alphabet b)
+
+-- what decodes is the text of what it decodes to
+pub strict_base64_decoded : (s b : List ℕ) → IsBytes s → decode_of standard_no_pad s ≡ Ok b → s ≡ strict_base64 b
+strict_base64_decoded s b bytes ok = decode_of_strict standard_no_pad s b (refl, refl) bytes ok ∙ encode_of-strict b
+
+-- a strict text decodes to its bytes
+pub decode_of-strict_base64 : (b : List ℕ) → IsBytes b → decode_of standard_no_pad (strict_base64 b) ≡ Ok b
+decode_of-strict_base64 b bytes = ap (decode_of standard_no_pad) (sym (encode_of-strict b))
+    ∙ decode_of-encode_of standard_no_pad b refl bytes
+
+-- how long the text of so many bytes is
+pub length-strict_base64 : (b : List ℕ) → length (strict_base64 b) ≡ (4 * length b + 2) / 3
+unfolding strict_base64
+length-strict_base64 b = length-encode_symbols alphabet b
+
+-- ---- `short_bytes`
+
+-- bytes pass the test of each
+bytes_pass : (b : List ℕ) → IsBytes b → list_all is_byte b ≡ true
+bytes_pass [] h = refl
+bytes_pass (x ∷ b) h = rw (lt-ltb x 256 (h 0)) (bytes_pass b (λ i. h (suc i)))
+
+-- what passes is bytes
+passing_bytes : (b : List ℕ) → list_all is_byte b ≡ true → IsBytes b
+passing_bytes [] h i = omega arith
+passing_bytes (x ∷ b) h zero = ltb-true x 256 (and_parts (is_byte x) (list_all is_byte b) h).0
+passing_bytes (x ∷ b) h (suc i) = passing_bytes b (and_parts (is_byte x) (list_all is_byte b) h).1 i
+
+abbrev passes : ℕ → List ℕ → Bool
+passes most b = nat_le (length b) most && list_all is_byte b
+
+-- what `short_bytes` answers, by what decoding does
+short_by : (most : ℕ) (s b : List ℕ) (r : Result (List ℕ) DecodeError) → decode_of standard_no_pad s ≡ r
+    → short_bytes most s ≡ Some b → (r ≡ Ok b) × (passes most b ≡ true)
+unfolding decoded_of
+short_by most s b (Err e) is h = absurd (let f = rw is at h in cc)
+short_by most s b (Ok d) is h = elim (cases_Bool (passes most d)) [
+  | inl passed ↦
+      let f = rw (is, passed) at h in
+      let same : d ≡ b = cc f in
+      (ap Ok same, rw (← same) passed)
+  | inr failed ↦ absurd (let f = rw (is, failed) at h in cc)
+]
+
+-- `short_bytes` finds the bytes, at most so many, whose strict Base64 a text is
+pub short_bytes_found : (most : ℕ) (s b : List ℕ) → IsBytes s → short_bytes most s ≡ Some b
+    → IsBytes b × (length b ≤ most) × (s ≡ strict_base64 b)
+short_bytes_found most s b bytes h =
+    let found = short_by most s b (decode_of standard_no_pad s) refl h in
+    let parts = and_parts (nat_le (length b) most) (list_all is_byte b) found.1 in
+    (passing_bytes b parts.1, leb-true (length b) most parts.0, strict_base64_decoded s b bytes found.0)
+
+-- and finds those of each such text
+pub short_bytes_again : (most : ℕ) (s b : List ℕ) → IsBytes b → length b ≤ most → s ≡ strict_base64 b
+    → short_bytes most s ≡ Some b
+unfolding decoded_of
+short_bytes_again most s b bytes short is =
+    rw (is, decode_of-strict_base64 b bytes, le-leb (length b) most short, bytes_pass b bytes) refl
+
+-- where it finds none, there are none
+pub short_bytes_none : (most : ℕ) (s : List ℕ) → short_bytes most s ≡ None
+    → (b : List ℕ) → IsBytes b → length b ≤ most → s ≡ strict_base64 b → ⊥
+short_bytes_none most s h b bytes short is =
+    let again = sym h ∙ short_bytes_again most s b bytes short is in
+    cc again
+
+none_unless : (o : Option (List ℕ)) → ((b : List ℕ) → o ≡ Some b → ⊥) → o ≡ None
+none_unless None h = refl
+none_unless (Some b) h = absurd (h b refl)
+
+-- a text that is refused is that of no bytes which would fit
+pub refused_text : (most : ℕ) (s : List ℕ) (cause : B64Error) → IsBase64Cause (base64_length most) s cause
+    → (b : List ℕ) → IsBytes b → length b ≤ most → s ≢ strict_base64 b
+refused_text most s InvalidLength long b bytes fits is = omega (arith, ap length is, length-strict_base64 b)
+refused_text most s InvalidEncoding refused b bytes fits is = refused.1 b bytes is
+
+-- and `short_bytes` finds none
+pub short_bytes_refused : (most : ℕ) (s : List ℕ) (cause : B64Error) → IsBytes s
+    → IsBase64Cause (base64_length most) s cause → short_bytes most s ≡ None
+short_bytes_refused most s cause bytes refused = none_unless (short_bytes most s) (λ b is.
+    let found = short_bytes_found most s b bytes is in
+    refused_text most s cause refused b found.0 found.1 found.2)
+
+-- two byte lists with one text are one
+pub strict_base64_unique : (s b d : List ℕ) → IsBytes b → s ≡ strict_base64 b → decode_of standard_no_pad s ≡ Ok d → b ≡ d
+strict_base64_unique s b d bytes is ok =
+    let again : decode_of standard_no_pad s ≡ Ok b = rw is (decode_of-strict_base64 b bytes) in
+    let both = sym again ∙ ok in
+    cc both
+
+-- a strict text is never refused
+pub strict_base64_never_refused : (s b : List ℕ) (e : DecodeError) → IsBytes b → s ≡ strict_base64 b
+    → decode_of standard_no_pad s ≡ Err e → ⊥
+strict_base64_never_refused s b e bytes is err =
+    let again : decode_of standard_no_pad s ≡ Ok b = rw is (decode_of-strict_base64 b bytes) in
+    let both = sym again ∙ err in
+    cc both
+
+abbrev written : ℕ → Result ℕ EncodeSliceError
+written n = Ok n
+
+-- what encoding into a slice wrote, where it said Ok
+pub strict_base64_written : (b old new : List ℕ) (len : ℕ) → length new ≡ length old
+    → (encoded_size_of standard_no_pad (length b) ≤ length old → written len ≡ Ok (encoded_size_of standard_no_pad (length b)))
+    → (length old < encoded_size_of standard_no_pad (length b) → written len ≡ Err OutputSliceTooSmall)
+    → new ≡ encode_of standard_no_pad b ++ drop (encoded_size_of standard_no_pad (length b)) old
+    → take len new ≡ strict_base64 b
+strict_base64_written b old new len same fits small put =
+    encoded_prefix (encode_of standard_no_pad b) old new (encoded_size_of standard_no_pad (length b)) len (Ok len)
+    OutputSliceTooSmall same fits small refl put
+    ∙ encode_of-strict b
+
+-- a strict text is text
+pub IsUtf8-strict_base64 : (b : List ℕ) → IsUtf8 (strict_base64 b)
+IsUtf8-strict_base64 b = rw (encode_of-strict b) at
+    (IsUtf8-from_ascii (encode_of standard_no_pad b) (IsAscii-encode_of standard_no_pad b))
+
+-- the values of RFC 4648, section 10, without their padding
+pub fooba : strict_base64 (codes "fooba") ≡ codes "Zm9vYmE"
+unfolding encode_symbols strict_base64
+fooba = refl
+
+pub foob : strict_base64 (codes "foob") ≡ codes "Zm9vYg"
+unfolding encode_symbols strict_base64
+foob = refl
+
+pub foobar : strict_base64 (codes "foobar") ≡ codes "Zm9vYmFy"
+unfolding encode_symbols strict_base64
+foobar = refl

@@ -1,0 +1,87 @@
+-- Byte lists with zeros behind their bytes: what copying and decoding into zeros leaves.
+use Rattle.std.proofs.Common.{◌≡◌, ℕ, ◌/◌, ◌-◌, ◌≤◌, Bool, true, false, List, ◌++◌, length, take, drop, replicate, if◌then◌else◌, nat_lt, Option, Some, None, Result, Ok, Err, refl, sym, ap, ◌∙◌, arith, inl, inr}
+use Rattle.std.proofs.lemmas.Bool.{cases_Bool, le-ltb, ltb-false}
+use Rattle.std.proofs.lemmas.List.{drop-replicate, take_at}
+use Rattle.std.proofs.lemmas.Slice.{drop-append-drop}
+use Rattle.base64.specs.Engines.{standard_no_pad}
+use Rattle.base64.specs.GeneralPurpose.{decode_of, decode_slice_of, decoded_bytes_of}
+use Rattle.base64.specs.Decode.{bytes_fit, decode_outcome, groups_before_last, or_else, or_error}
+use Rattle.base64.specs.declared.decode.DecodeError.{DecodeError}
+use Rattle.base64.specs.declared.decode.DecodeSliceError.{DecodeSliceError}
+use Rattle.base64.specs.declared.decode.DecodeSliceError.TheVariants.{OutputSliceTooSmall}
+use Rattle.argon2_base.specs.Texts.{IsBytes, strict_base64}
+use Rattle.argon2_base.proofs.texts.Base64Lemmas.{decode_of-strict_base64, length-strict_base64, strict_base64_decoded}
+use Rattle.argon2_base.specs.ByteList.{base64_length}
+
+-- behind the k bytes ys that were copied, the rest of n zeros is left
+pub drop-filled : (n k : ℕ) (ys : List ℕ) → length ys ≡ k → drop k (ys ++ drop k (replicate n 0)) ≡ replicate (n - k) 0
+drop-filled n k ys e = drop-append-drop k (replicate n 0) ys k (omega arith) e ∙ drop-replicate k n 0
+
+-- the answer by the errors x and y, a test for room between them, and the bytes d
+abbrev answer : Option DecodeError → Bool → Option DecodeError → List ℕ → ℕ → Result ℕ DecodeSliceError
+answer x small y d room = or_error x (if small then Err OutputSliceTooSmall else or_error y (bytes_fit (length d) room))
+
+-- an answer that counts bytes comes of no error, and they fit
+answer_ok : (x y : Option DecodeError) (small : Bool) (d : List ℕ) (room n : ℕ) → answer x small y d room ≡ Ok n
+    → (decode_outcome (or_else x y) d ≡ Ok d) × (n ≡ length d) × (length d ≤ room)
+answer_ok (Some e) y small d room n h = cc h
+answer_ok None y true d room n h = cc h
+answer_ok None (Some e) false d room n h = cc h
+answer_ok None None false d room n h = elim (cases_Bool (nat_lt room (length d))) [
+  | inl small ↦ absurd (let f = rw small at h in cc)
+  | inr wide ↦ (refl, (let f = rw wide at h in cc), ltb-false room (length d) wide)
+]
+
+-- where there is no error and room for the bytes, nothing is refused
+answer_err : (x y : Option DecodeError) (small : Bool) (d b : List ℕ) (room : ℕ) (f : DecodeSliceError)
+    → decode_outcome (or_else x y) d ≡ Ok b
+    → length b ≤ room → small ≡ false → answer x small y d room ≡ Err f → ⊥
+answer_err (Some e) y small d b room f ok fits wide h = cc ok
+answer_err None y true d b room f ok fits wide h = cc wide
+answer_err None (Some e) false d b room f ok fits wide h = cc ok
+answer_err None None false d b room f ok fits wide h =
+    let same : d ≡ b = cc ok in
+    let no : nat_lt room (length d) ≡ false = le-ltb room (length d) (rw same fits) in
+    let bad = rw no at h in
+    cc bad
+
+-- What was decoded into zeros.
+pub record IsDecoded (s new : List ℕ) (room n : ℕ) : Type 0 where
+  pub bytes : IsBytes (take n new)
+  pub text : s ≡ strict_base64 (take n new)
+  pub zeros : drop n new ≡ replicate (room - n) 0
+  pub fits : n ≤ room
+
+pub decoded_into_zeros : (s t new : List ℕ) (room wide n : ℕ) → t ≡ s → wide ≡ room → IsBytes s
+    → Ok n ≡ decode_slice_of standard_no_pad t wide
+    → IsBytes (decoded_bytes_of standard_no_pad t)
+    → new ≡ decoded_bytes_of standard_no_pad t ++ drop (length (decoded_bytes_of standard_no_pad t)) (replicate room 0)
+    → IsDecoded s new room n
+decoded_into_zeros s t new room wide n same length_is text_bytes ok bytes' written' =
+    let d : List ℕ = decoded_bytes_of standard_no_pad s in
+    let bytes : IsBytes d = rw same at bytes' in
+    let written : new ≡ d ++ drop (length d) (replicate room 0) = rw same at written' in
+    let parts = answer_ok _ _ _ d room n (rw (same, length_is) at (sym ok)) in
+    let front : take n new ≡ d = rw written (take_at d (drop (length d) (replicate room 0)) n (sym parts.1)) in
+    record {
+      bytes = rw front bytes;
+      text = strict_base64_decoded s d text_bytes parts.0 ∙ ap strict_base64 (sym front);
+      zeros = rw (written, parts.1) (drop-filled room (length d) d refl);
+      fits = omega (arith, parts.1, parts.2);
+    }
+
+-- what decodes to so few bytes is never refused
+decode_slice_fits : (s b : List ℕ) (room : ℕ) (f : DecodeSliceError) → decode_of standard_no_pad s ≡ Ok b → length b ≤ room
+    → length s ≤ base64_length room → decode_slice_of standard_no_pad s room ≡ Err f → ⊥
+decode_slice_fits s b room f ok fits short err =
+    answer_err _ _ _ _ b room f ok fits (le-ltb (room / 3) (groups_before_last (length s)) (omega arith)) err
+
+-- no text of bytes is refused that is no longer than that of as many bytes as there is room for
+pub decode_slice_err : (s t b : List ℕ) (room wide : ℕ) (f : DecodeSliceError) → t ≡ s → wide ≡ room
+    → IsBytes b → s ≡ strict_base64 b → length s ≤ base64_length room
+    → Err f ≡ decode_slice_of standard_no_pad t wide → ⊥
+decode_slice_err s t b room wide f same length_is bytes is short err' =
+    let err : decode_slice_of standard_no_pad s room ≡ Err f = rw (same, length_is) at (sym err') in
+    let ok : decode_of standard_no_pad s ≡ Ok b = rw is (decode_of-strict_base64 b bytes) in
+    let fits : length b ≤ room = omega (arith, ap length is, length-strict_base64 b) in
+    decode_slice_fits s b room f ok fits short err

@@ -1,0 +1,258 @@
+-- What a list says, and what longer lists are.
+use Rattle.std.proofs.Common.{◌≡◌, ◌≢◌, ℕ, ◌<◌, Bool, true, false, not, ◌&&◌, List, [], ◌∷◌, ◌++◌, length, map, refl, sym, ap, ◌∙◌, arith, inl, inr, eqb, leb, Some, None, length-append, append_assoc, lit<}
+use Rattle.std.specs.Cmp.Lexicographic.{nat_list_eq_equiv}
+use Rattle.std.proofs.lemmas.Bool.{cases_Bool, and_parts}
+use Rattle.std.specs.List.{list_all, AllByRecursion}
+use Rattle.std.proofs.lemmas.List.Folds.{list_all-append}
+use Rattle.std.proofs.lemmas.Str.Pattern.{IsSplitOnceResult, split_parts}
+use Rattle.std.specs.Str.{bytes_eq}
+use Rattle.std.specs.Borrow.{Bor}
+use Rattle.std.specs.Prelude.{is_none, is_some, IfSome, IfNone, Option}
+use Rattle.argon2_base.specs.Texts.{is_name, is_value, is_name_char, is_value_char}
+use Rattle.argon2_base.specs.PhcText.{Pair, item, params_text, value_of, are_distinct, is_param, are_params, pair_of, items_of, pairs_of, with_item}
+use Rattle.argon2_base.proofs.texts.Characters.{name_chars, lacks_by}
+use Rattle.argon2_base.proofs.texts.Separators.{Lacks, Lacks-append, Lacks_from, Lacks_not, cut_joined}
+
+-- the parts of an item
+pub pair_again : (n v : List ℕ) → Lacks 61 n → pair_of (n ++ 61 ∷ v) ≡ (n, v)
+pair_again [] v h = refl
+pair_again (c ∷ n) v h = rw (h.0, pair_again n v h.1) refl
+
+-- ---- the parts of one parameter
+
+-- its name
+pub param_name : (p : Pair) → is_param p ≡ true → is_name p.0 ≡ true
+param_name p h = (and_parts (is_name p.0) _ (and_parts _ (is_value p.1) h).0).0
+
+-- its value
+pub param_value : (p : Pair) → is_param p ≡ true → is_value p.1 ≡ true
+param_value p h = (and_parts _ (is_value p.1) h).1
+
+-- the characters of a value
+value_chars : (s : List ℕ) → is_value s ≡ true → list_all is_value_char s ≡ true
+value_chars s h = (and_parts _ (list_all is_value_char s) h).1
+
+-- a name lacks what is no character of names
+pub name_lacks : (c : ℕ) → is_name_char c ≡ false → (s : List ℕ) → is_name s ≡ true → Lacks c s
+name_lacks c fails s h = lacks_by is_name_char c fails s (name_chars s h)
+
+-- a value lacks what is no character of values
+pub value_lacks : (c : ℕ) → is_value_char c ≡ false → (s : List ℕ) → is_value s ≡ true → Lacks c s
+value_lacks c fails s h = lacks_by is_value_char c fails s (value_chars s h)
+
+-- an item is read as its parameter
+pub param_again : (p : Pair) → is_param p ≡ true → pair_of (item p) ≡ p
+param_again p h = pair_again p.0 p.1 (name_lacks 61 refl p.0 (param_name p h))
+
+-- an item lacks what is in no name and no value, and is no `=`
+pub item_lacks : (c : ℕ) → is_name_char c ≡ false → is_value_char c ≡ false → eqb 61 c ≡ false → (p : Pair)
+    → is_param p ≡ true → Lacks c (item p)
+item_lacks c a b d p h = Lacks-append c p.0 (61 ∷ p.1) (name_lacks c a p.0 (param_name p h))
+    (d, value_lacks c b p.1 (param_value p h))
+
+-- items have no `,`
+pub items_lack : (ps : List Pair) → list_all is_param ps ≡ true → AllByRecursion (Lacks 44) (map item ps)
+items_lack [] h = tt
+items_lack (p ∷ ps) h =
+    let b = and_parts (is_param p) (list_all is_param ps) h in
+    (item_lacks 44 refl refl refl p b.0, items_lack ps b.1)
+
+-- items are read as their parameters
+pub map_again : (ps : List Pair) → list_all is_param ps ≡ true → map pair_of (map item ps) ≡ ps
+map_again [] h = refl
+map_again (p ∷ ps) h = let b = and_parts (is_param p) (list_all is_param ps) h in rw (param_again p b.0, map_again ps b.1) refl
+
+-- ---- the whole list
+
+-- each of a list is a parameter
+pub all_params : (ps : List Pair) → are_params ps ≡ true → list_all is_param ps ≡ true
+all_params ps h = (and_parts (list_all is_param ps) _ (and_parts _ (leb (length (params_text ps)) 127) h).0).0
+
+-- text that isn't empty
+pub pairs_of_items : (t : List ℕ) → 0 < length t → pairs_of t ≡ map pair_of (items_of t)
+pairs_of_items [] h = absurd (omega arith)
+pairs_of_items (c ∷ t) h = refl
+
+-- an item is not empty
+item_long : (p : Pair) → 0 < length (item p)
+item_long p = omega (arith, length-append p.0 (61 ∷ p.1))
+
+-- the text of a list with a parameter is not empty
+pub text_long : (p : Pair) (ps : List Pair) → 0 < length (params_text (p ∷ ps))
+text_long p [] = item_long p
+text_long p (q ∷ ps) = omega (arith, item_long p, length-append (item p) (44 ∷ params_text (q ∷ ps)))
+
+-- the items of a list's text
+pub items_again : (p : Pair) (ps : List Pair) → list_all is_param (p ∷ ps) ≡ true
+    → items_of (params_text (p ∷ ps)) ≡ map item (p ∷ ps)
+items_again p ps h = cut_joined 44 (item p) (map item ps) (items_lack (p ∷ ps) h)
+
+-- the same where the text is not empty
+pub items_again_long : (ps : List Pair) → list_all is_param ps ≡ true → 0 < length (params_text ps)
+    → items_of (params_text ps) ≡ map item ps
+items_again_long [] h long = absurd (omega arith)
+items_again_long (p ∷ ps) h long = items_again p ps h
+
+-- what a list's text says is the list
+pub pairs_again : (ps : List Pair) → list_all is_param ps ≡ true → pairs_of (params_text ps) ≡ ps
+pairs_again [] h = refl
+pairs_again (p ∷ ps) h = pairs_of_items _ (text_long p ps) ∙ ap (map pair_of) (items_again p ps h) ∙ map_again (p ∷ ps) h
+
+-- ---- a list with one more
+
+-- an item behind other text
+with_item_some : (t : List ℕ) (p : Pair) → 0 < length t → with_item t p ≡ t ++ 44 ∷ item p
+with_item_some [] p h = absurd (omega arith)
+with_item_some (c ∷ t) p h = refl
+
+-- the text of a list with one more parameter
+pub params_text-more : (ps : List Pair) (p : Pair) → params_text (ps ++ p ∷ []) ≡ with_item (params_text ps) p
+params_text-more [] p = refl
+params_text-more (q ∷ []) p = sym (with_item_some (item q) p (item_long q))
+params_text-more (q ∷ r ∷ ps) p =
+    let rest : params_text ((r ∷ ps) ++ p ∷ []) ≡ params_text (r ∷ ps) ++ 44 ∷ item p =
+    params_text-more (r ∷ ps) p ∙ with_item_some (params_text (r ∷ ps)) p (text_long r ps) in
+    ap (λ (t : List ℕ). item q ++ 44 ∷ t) rest ∙ sym (append_assoc (item q) (44 ∷ params_text (r ∷ ps)) (44 ∷ item p))
+    ∙ sym (with_item_some (params_text (q ∷ r ∷ ps)) p (text_long q (r ∷ ps)))
+
+-- texts are equal both ways
+bytes_eq_sym : (a b : List ℕ) → bytes_eq a b ≡ bytes_eq b a
+bytes_eq_sym a b = nat_list_eq_equiv.symm a b
+
+-- whether a name is there
+value_of-more : (n : List ℕ) (ps : List Pair) (p : Pair)
+    → is_none (value_of n (ps ++ p ∷ [])) ≡ (is_none (value_of n ps) && not (bytes_eq p.0 n))
+value_of-more n [] p = elim (cases_Bool (bytes_eq p.0 n)) [
+  | inl e ↦ rw e refl
+  | inr e ↦ rw e refl
+]
+value_of-more n (q ∷ ps) p = elim (cases_Bool (bytes_eq q.0 n)) [
+  | inl e ↦ rw e refl
+  | inr e ↦ rw e (value_of-more n ps p)
+]
+
+-- whether a name is there, by the first parameter
+value_of-first : (n : List ℕ) (q : Pair) (ps : List Pair)
+    → is_none (value_of n (q ∷ ps)) ≡ (not (bytes_eq q.0 n) && is_none (value_of n ps))
+value_of-first n q ps = elim (cases_Bool (bytes_eq q.0 n)) [
+  | inl e ↦ rw e refl
+  | inr e ↦ rw e refl
+]
+
+-- two pairs of tests, the other way
+shuffle : (a b c d : Bool) → ((a && b) && (c && d)) ≡ ((a && c) && (b && d))
+shuffle true true c d = refl
+shuffle true false true d = refl
+shuffle true false false d = refl
+shuffle false b c d = refl
+
+-- whether names are distinct with one more
+pub are_distinct-more : (ps : List Pair) (p : Pair) → are_distinct (ps ++ p ∷ []) ≡ (are_distinct ps && is_none (value_of p.0 ps))
+are_distinct-more [] p = refl
+are_distinct-more (q ∷ ps) p =
+    rw (value_of-more q.0 ps p, are_distinct-more ps p, value_of-first p.0 q ps, bytes_eq_sym p.0 q.0)
+    (shuffle (is_none (value_of q.0 ps)) (not (bytes_eq q.0 p.0)) (are_distinct ps) (is_none (value_of p.0 ps)))
+
+-- a test and true
+and_true : (b : Bool) → (b && true) ≡ b
+and_true true = refl
+and_true false = refl
+
+-- whether all are parameters with one more
+list_all-more : (ps : List Pair) (p : Pair) → list_all is_param (ps ++ p ∷ []) ≡ (list_all is_param ps && is_param p)
+list_all-more ps p = list_all-append is_param ps (p ∷ []) ∙ ap (λ b. list_all is_param ps && b) (and_true (is_param p))
+
+-- when a list may get one more
+pub are_params-more : (ps : List Pair) (p : Pair) → are_params ps ≡ true
+    → are_params (ps ++ p ∷ []) ≡ ((is_param p && is_none (value_of p.0 ps)) && leb (length (with_item (params_text ps) p)) 127)
+are_params-more ps p h =
+    let b = and_parts (list_all is_param ps && are_distinct ps) _ h in
+    let d = and_parts (list_all is_param ps) (are_distinct ps) b.0 in
+    rw (list_all-more ps p, are_distinct-more ps p, params_text-more ps p, d.0, d.1) refl
+
+-- ---- where an item is cut
+
+-- what was cut at the first `=`
+pub split_found : (bs : List ℕ) (r : Option (Bor (List ℕ) × Bor (List ℕ))) → IsSplitOnceResult 61 bs r
+    → IfSome r (λ x. (pair_of bs ≡ (x.0.now, x.1.now)) × (bs ≡ item (x.0.now, x.1.now)))
+split_found bs None h = tt
+split_found bs (Some x) h =
+    let parts = split_parts 61 bs (Some x) h (lit< tt) in
+    (ap pair_of parts.0 ∙ pair_again x.0.now x.1.now (Lacks_from 61 x.0.now parts.1), parts.0)
+
+-- what has no `=` is no item
+pub split_none : (bs : List ℕ) (r : Option (Bor (List ℕ) × Bor (List ℕ))) → IsSplitOnceResult 61 bs r
+    → IfNone r ((p : Pair) → bs ≢ item p)
+split_none bs None h =
+    let none = split_parts 61 bs None h (lit< tt) in
+    λ p e. Lacks_not 61 p.0 p.1 (rw e at (Lacks_from 61 bs none))
+split_none bs (Some x) h = tt
+
+-- what an iterator over a list's text starts with
+pub starts_ok : (text : List ℕ) → 0 < length text → are_params (pairs_of text) ≡ true → text ≡ params_text (pairs_of text)
+    → (list_all is_param (map pair_of (items_of text)) ≡ true)
+    × (items_of text ≡ map item (map pair_of (items_of text))) × (map pair_of (items_of text) ≡ pairs_of text)
+starts_ok text long good is =
+    let pairs = pairs_of_items text long in
+    let all = all_params (pairs_of text) good in
+    let items : items_of text ≡ map item (pairs_of text) =
+    ap items_of is ∙ items_again_long (pairs_of text) all (rw (← is) long) in
+    (rw (← pairs) all, items ∙ ap (map item) pairs, sym pairs)
+
+-- ---- one more parameter, or a refusal
+
+-- a test and false
+and_false : (b : Bool) → (b && false) ≡ false
+and_false true = refl
+and_false false = refl
+
+-- a list with what is no parameter is refused
+pub refused_param : (ps : List Pair) (p : Pair) → is_param p ≡ false → false ≡ are_params (ps ++ p ∷ [])
+refused_param ps p h = sym (rw (list_all-more ps p, h, and_false (list_all is_param ps)) refl)
+
+-- something is there
+is_none-some : (o : Option (List ℕ)) → is_some o ≡ true → is_none o ≡ false
+is_none-some None h = absurd cc
+is_none-some (Some x) h = refl
+
+-- nothing is there
+is_none-none : (o : Option (List ℕ)) → is_some o ≡ false → is_none o ≡ true
+is_none-none None h = refl
+is_none-none (Some x) h = absurd cc
+
+-- a list with a name twice is refused
+pub refused_name : (ps : List Pair) (p : Pair) → is_some (value_of p.0 ps) ≡ true → false ≡ are_params (ps ++ p ∷ [])
+refused_name ps p h =
+    let one : are_distinct (ps ++ p ∷ []) ≡ false =
+    are_distinct-more ps p ∙ rw (is_none-some (value_of p.0 ps) h) (and_false (are_distinct ps)) in
+    sym (rw (one, and_false (list_all is_param (ps ++ p ∷ []))) refl)
+
+-- what a list is after an item was appended, or didn't fit
+pub record Grows (text new : List ℕ) (p : Pair) : Type 0 where
+  pub good : are_params (pairs_of text ++ p ∷ []) ≡ true
+  pub view : pairs_of new ≡ pairs_of text ++ p ∷ []
+  pub spelled : new ≡ params_text (pairs_of text ++ p ∷ [])
+
+-- the list after an item was appended
+pub grown : (text new : List ℕ) (p : Pair) → are_params (pairs_of text) ≡ true → text ≡ params_text (pairs_of text)
+    → is_param p ≡ true
+    → is_some (value_of p.0 (pairs_of text)) ≡ false → leb (length (with_item text p)) 127 ≡ true
+    → new ≡ with_item text p → Grows text new p
+grown text new p h is param name fits e =
+    let ps : List Pair = pairs_of text in
+    let good : are_params (ps ++ p ∷ []) ≡ true =
+    rw (are_params-more ps p h, param, is_none-none (value_of p.0 ps) name, ← is) fits in
+    let whole : new ≡ params_text (ps ++ p ∷ []) = e ∙ ap (λ (t : List ℕ). with_item t p) is ∙ sym (params_text-more ps p) in
+    record {
+      good = good;
+      view = ap pairs_of whole
+          ∙ pairs_again (ps ++ p ∷ []) (all_params (ps ++ p ∷ []) good);
+      spelled = whole;
+    }
+
+-- a list that is too long is refused
+pub refused_long : (text : List ℕ) (p : Pair) → are_params (pairs_of text) ≡ true → text ≡ params_text (pairs_of text)
+    → leb (length (with_item text p)) 127 ≡ false → false ≡ are_params (pairs_of text ++ p ∷ [])
+refused_long text p h is long =
+    let ps : List Pair = pairs_of text in
+    sym (are_params-more ps p h ∙ rw (← is, long) (and_false (is_param p && is_none (value_of p.0 ps))))

@@ -1,0 +1,269 @@
+-- The fields of a text, and the text of the fields.
+use Rattle.std.proofs.Common.{◌≡◌, ◌≢◌, ℕ, ◌<◌, ◌^◌, true, false, List, [], ◌∷◌, ◌++◌, length, refl, sym, ap, ◌∙◌, subst, arith, Option, Some, None, Ok, Err, append_assoc, codes, eqb}
+use Rattle.std.proofs.lemmas.List.{append-nil}
+use Rattle.std.proofs.lemmas.Grind.{flat_map-append}
+use Rattle.std.proofs.lemmas.Bool.{not-true, and_parts}
+use Rattle.std.specs.Prelude.{IfSome, IsSome, IsNone, is_some}
+use Rattle.std.specs.Borrow.{Bor}
+use Rattle.std.proofs.lemmas.List.Splits.{join_with_byte-slice_split, length-slice_split}
+use Rattle.std.specs.List.{list_all, flat_map, AllByRecursion, join_with_byte}
+use Rattle.std.specs.Fmt.{decimal}
+use Rattle.std.specs.Str.{bytes_eq}
+use Rattle.argon2_base.specs.Texts.{IsBytes, is_name, is_name_char, is_value, is_value_char, strict_base64}
+use Rattle.argon2_base.specs.PhcText.{HasBytes, IsPhc, Pair, Phc, PhcText, are_params, field, fields, fields_text, is_param, item, list_field, pair_of, params_text, phc_text, version_text}
+use Rattle.argon2_base.specs.PhcFields.{fields_of, fields_left, IsBytesField, NoVersionFirst, NoItemFirst}
+use Rattle.argon2_base.specs.declared.error.password_hash.Error.TheVariants.{EncodingInvalid}
+use Rattle.argon2_base.proofs.texts.Base64Lemmas.{decode_of-strict_base64, strict_base64_unique}
+use Rattle.argon2_base.proofs.texts.Characters.{lacks_by}
+use Rattle.argon2_base.proofs.texts.Separators.{Lacks, Lacks-append, Lacks_not, cut_joined}
+use Rattle.argon2_base.proofs.texts.ParamsTextLemmas.{all_params, name_lacks, item_lacks, pair_again, param_name}
+use Rattle.argon2_base.proofs.texts.ValueCharacters.{decimal_chars, base64_chars}
+
+-- ---- no field has a `$`
+
+-- a list's text lacks what no item has, and is no `,`
+params_text_lacks : (c : ℕ) → is_name_char c ≡ false → is_value_char c ≡ false → eqb 61 c ≡ false → eqb 44 c ≡ false
+    → (ps : List Pair) → list_all is_param ps ≡ true → Lacks c (params_text ps)
+params_text_lacks c a b d e [] h = tt
+params_text_lacks c a b d e (p ∷ []) h = item_lacks c a b d p (and_parts (is_param p) true h).0
+params_text_lacks c a b d e (p ∷ q ∷ ps) h =
+    let k = and_parts (is_param p) (list_all is_param (q ∷ ps)) h in
+    Lacks-append c (item p) (44 ∷ params_text (q ∷ ps)) (item_lacks c a b d p k.0) (e, params_text_lacks c a b d e (q ∷ ps) k.1)
+
+-- strict Base64 lacks what is no character of values
+base64_lacks : (c : ℕ) → is_value_char c ≡ false → (b : List ℕ) → IsBytes b → Lacks c (strict_base64 b)
+base64_lacks c fails b bytes = lacks_by is_value_char c fails (strict_base64 b) (base64_chars b bytes)
+
+-- a version has no `$`
+version_lacks : (n : ℕ) → n < 2 ^ 32 → Lacks 36 (version_text n)
+version_lacks n small = (refl, (refl, lacks_by is_value_char 36 refl (decimal n) (decimal_chars n (omega arith))))
+
+-- neither part has it
+and_then : (c : ℕ) (xs ys : List (List ℕ)) → AllByRecursion (Lacks c) xs → AllByRecursion (Lacks c) ys
+    → AllByRecursion (Lacks c) (xs ++ ys)
+and_then c [] ys h k = k
+and_then c (x ∷ xs) ys h k = (h.0, and_then c xs ys h.1 k)
+
+-- nor the field of a version
+version_field_lacks : (o : Option ℕ) → IfSome o (λ n. n < 2 ^ 32) → AllByRecursion (Lacks 36) (field version_text o)
+version_field_lacks None h = tt
+version_field_lacks (Some n) h = (version_lacks n h, tt)
+
+-- nor the field of bytes
+bytes_field_lacks : (low high : ℕ) (o : Option (List ℕ)) → IfSome o (HasBytes low high)
+    → AllByRecursion (Lacks 36) (field strict_base64 o)
+bytes_field_lacks low high None h = tt
+bytes_field_lacks low high (Some b) h = (base64_lacks 36 refl b h.0, tt)
+
+-- nor the field of parameters
+list_field_lacks : (ps : List Pair) → are_params ps ≡ true → AllByRecursion (Lacks 36) (list_field ps)
+list_field_lacks [] h = tt
+list_field_lacks (p ∷ ps) h = (params_text_lacks 36 refl refl refl refl (p ∷ ps) (all_params (p ∷ ps) h), tt)
+
+-- so no field has a `$`
+fields_lack : (v : Phc) → IsPhc v → AllByRecursion (Lacks 36) (fields v)
+fields_lack v h = (
+  name_lacks 36 refl v.algorithm h.algorithm,
+  and_then 36 (field version_text v.version) _ (version_field_lacks v.version h.version)
+      (and_then 36 (list_field v.params) _ (list_field_lacks v.params h.params)
+      (and_then 36 (field strict_base64 v.salt) (field strict_base64 v.hash) (bytes_field_lacks 8 48 v.salt h.salt)
+      (bytes_field_lacks 4 64 v.hash h.hash))),
+)
+
+-- ---- the fields joined
+
+-- fields behind a `$` each are fields joined by `$` behind one
+joined : (x : List ℕ) (xs : List (List ℕ)) → flat_map (λ f. 36 ∷ f) (x ∷ xs) ≡ 36 ∷ join_with_byte 36 (x ∷ xs)
+joined x [] = ap (λ (t : List ℕ). 36 ∷ t) (append-nil x)
+joined x (y ∷ xs) = ap (λ (t : List ℕ). 36 ∷ (x ++ t)) (joined y xs)
+
+-- the fields behind the version
+abbrev pub from_params : Phc → List (List ℕ)
+from_params v = list_field v.params ++ (field strict_base64 v.salt ++ field strict_base64 v.hash)
+
+-- the fields behind the parameters
+abbrev pub from_salt : Phc → List (List ℕ)
+from_salt v = field strict_base64 v.salt ++ field strict_base64 v.hash
+
+-- what a text that is in the grammar begins with
+pub first_and_left : {text t first : List ℕ} {left : List (List ℕ)} (v : Phc) → PhcText text v → text ≡ 36 ∷ t
+    → fields_of t ≡ first ∷ left → (first ≡ v.algorithm) × (left ≡ field version_text v.version ++ from_params v)
+first_and_left {text} {t} {first} {left} v h e f =
+    let behind : List (List ℕ) = field version_text v.version ++ from_params v in
+    let same : 36 ∷ t ≡ 36 ∷ join_with_byte 36 (fields v) = sym e ∙ h.1 ∙ joined v.algorithm behind in
+    let t-is : t ≡ join_with_byte 36 (fields v) = cc in
+    let cut : fields_of t ≡ fields v = ap fields_of t-is ∙ cut_joined 36 v.algorithm behind (fields_lack v h.0) in
+    let parts : first ∷ left ≡ fields v = sym f ∙ cut in
+    (cc parts, cc parts)
+
+-- a text in the grammar begins with a `$`
+pub begins : (text : List ℕ) (v : Phc) → PhcText text v → (rest : List ℕ) × (text ≡ 36 ∷ rest)
+begins text v h = (_, h.1 ∙ joined v.algorithm (field version_text v.version ++ from_params v))
+
+-- the text of the fields
+pub spelled : (text t : List ℕ) (v : Phc) → text ≡ 36 ∷ t → fields_of t ≡ fields v → text ≡ phc_text v
+spelled text t v e f =
+    let whole : t ≡ join_with_byte 36 (fields v) = sym (join_with_byte-slice_split 36 t) ∙ ap (join_with_byte 36) f in
+    e ∙ ap (λ (r : List ℕ). 36 ∷ r) whole ∙ sym (joined v.algorithm (field version_text v.version ++ from_params v))
+
+-- ---- which field comes next
+
+-- a list's text is an item, whose value may have more items in it
+text_item : (p : Pair) (ps : List Pair) → (value : List ℕ) × (params_text (p ∷ ps) ≡ item (p.0, value))
+text_item p [] = (p.1, refl)
+text_item p (q ∷ ps) = (p.1 ++ 44 ∷ params_text (q ∷ ps), append_assoc p.0 (61 ∷ p.1) (44 ∷ params_text (q ∷ ps)))
+
+-- strict Base64 is no item
+base64_no_item : (b : List ℕ) (p : Pair) → IsBytes b → strict_base64 b ≡ item p → ⊥
+base64_no_item b p bytes e = Lacks_not 61 p.0 p.1 (subst (Lacks 61) e (base64_lacks 61 refl b bytes))
+
+-- nor is a hash
+hash_no_item : (o : Option (List ℕ)) → IfSome o (HasBytes 4 64) → NoItemFirst (field strict_base64 o)
+hash_no_item None h p more e = absurd cc
+hash_no_item (Some b) h p more e = base64_no_item b p h.0 cc
+
+-- nor a salt, or a hash in its place
+bytes_no_item : (o r : Option (List ℕ)) → IfSome o (HasBytes 8 48) → IfSome r (HasBytes 4 64)
+    → NoItemFirst (field strict_base64 o ++ field strict_base64 r)
+bytes_no_item None r h k = hash_no_item r k
+bytes_no_item (Some b) r h k = λ p more e. base64_no_item b p h.0 cc
+
+-- behind the parameters there is no item
+pub no_item : (v : Phc) → IsPhc v → NoItemFirst (from_salt v)
+no_item v h = bytes_no_item v.salt v.hash h.salt h.hash
+
+-- no parameter is named `v`
+not_v : (p : Pair) → is_param p ≡ true → bytes_eq p.0 (codes "v") ≡ false
+not_v p h = not-true _ (and_parts (is_name p.0) _ (and_parts _ (is_value p.1) h).0).1
+
+-- a list is no version
+list_no_version : (ps : List Pair) (rest : List (List ℕ)) → are_params ps ≡ true → NoItemFirst rest
+    → NoVersionFirst (list_field ps ++ rest)
+list_no_version [] rest h k d more e = k (codes "v", d) more e
+list_no_version (p ∷ ps) rest h k d more e =
+    let one = and_parts (is_param p) (list_all is_param ps) (all_params (p ∷ ps) h) in
+    let t = text_item p ps in
+    let first : params_text (p ∷ ps) ≡ item (codes "v", d) = cc in
+    let same : item (p.0, t.0) ≡ item (codes "v", d) = sym t.1 ∙ first in
+    let pairs : ◌≡◌ {A = Pair} (p.0, t.0) (codes "v", d) =
+    sym (pair_again p.0 t.0 (name_lacks 61 refl p.0 (param_name p one.0))) ∙ ap pair_of same in
+    let named : p.0 ≡ codes "v" = ap (λ (q : Pair). q.0) pairs in
+    let differs : bytes_eq (codes "v") (codes "v") ≡ false = rw named at (not_v p one.0) in
+    absurd cc
+
+-- behind the version there is no version
+pub no_version : (v : Phc) → IsPhc v → NoVersionFirst (from_params v)
+no_version v h = list_no_version v.params (from_salt v) h.params (no_item v h)
+
+-- without a salt there is no hash
+pub none_after : (s o : Option (List ℕ)) → (IsSome o → IsSome s) → IsNone s → field strict_base64 o ≡ []
+none_after s None h n = refl
+none_after None (Some b) h n = absurd (let f = h refl in cc)
+none_after (Some s) (Some b) h n = absurd cc
+
+-- ---- the field that is read
+
+-- what is no item is no list
+pub no_list_read : (f : List ℕ) (more rest : List (List ℕ)) (ps : List Pair) → ((p : Pair) → f ≢ item p)
+    → f ∷ more ≡ list_field ps ++ rest → (◌≡◌ {A = List Pair} [] ps) × (f ∷ more ≡ rest)
+no_list_read f more rest [] h e = (refl, e)
+no_list_read f more rest (p ∷ ps) h e =
+    let t = text_item p ps in
+    absurd (let same : f ≡ params_text (p ∷ ps) = cc in h (p.0, t.0) (same ∙ t.1))
+
+-- an item begins a list
+pub list_read : (f : List ℕ) (more rest : List (List ℕ)) (ps : List Pair) (p : Pair) → f ≡ item p → NoItemFirst rest
+    → f ∷ more ≡ list_field ps ++ rest → (f ≡ params_text ps) × (more ≡ rest)
+list_read f more rest [] p is k e = absurd (k p more (sym e ∙ ap (λ (x : List ℕ). x ∷ more) is))
+list_read f more rest (q ∷ ps) p is k e = (cc e, cc e)
+
+-- bytes, and bytes with the same strict Base64, are one
+base64_one : (b d : List ℕ) → IsBytes b → IsBytes d → strict_base64 b ≡ strict_base64 d → b ≡ d
+base64_one b d bytes others e = strict_base64_unique (strict_base64 d) b d bytes (sym e) (decode_of-strict_base64 d others)
+
+-- bytes whose strict Base64 is the first field are read
+pub bytes_read : (low high : ℕ) (b : List ℕ) (left : List (List ℕ)) (more : Option (Bor (List ℕ)))
+    → left ≡ strict_base64 b ∷ fields_left more → HasBytes low high b → IsBytesField low high left (Ok (Some b, more))
+bytes_read low high b left more e h = record {
+  found = (e, h);
+  end = λ none. absurd cc;
+  only = read;
+  invalid = tt;
+}
+  where
+    read : (o : Option (List ℕ)) (rest : List (List ℕ)) → IfSome o (HasBytes low high) → (IsNone o → rest ≡ [])
+        → left ≡ field strict_base64 o ++ rest → (◌≡◌ {A = Option (List ℕ)} (Some b) o) × (fields_left more ≡ rest)
+    read None rest has none is = absurd (let f = none refl in cc)
+    read (Some d) rest has none is = (ap Some (base64_one b d h.0 has.0 (cc)), cc)
+
+-- a field that is the strict Base64 of no such bytes is refused
+pub bytes_refused : (low high : ℕ) (f : List ℕ) (left more : List (List ℕ)) → left ≡ f ∷ more
+    → ((b : List ℕ) → HasBytes low high b → f ≢ strict_base64 b) → IsBytesField low high left (Err EncodingInvalid)
+bytes_refused low high f left more e h = record {
+  found = tt;
+  end = tt;
+  only = refused;
+  invalid = refl;
+}
+  where
+    refused : (o : Option (List ℕ)) (rest : List (List ℕ)) → IfSome o (HasBytes low high) → (IsNone o → rest ≡ [])
+        → left ≡ field strict_base64 o ++ rest → ⊥
+    refused None rest has none is = absurd (let f = none refl in cc)
+    refused (Some d) rest has none is = h d has (cc)
+
+-- ---- the whole text
+
+-- nothing is left where there is no field
+pub left_none : (o : Option (Bor (List ℕ))) → fields_left o ≡ [] → is_some o ≡ false
+left_none None e = refl
+left_none (Some x) e = absurd (omega (arith, ap length e, length-slice_split (λ b. eqb b 36) x.now))
+
+-- no field where nothing is left
+pub none_left : (o : Option (Bor (List ℕ))) → is_some o ≡ false → fields_left o ≡ []
+none_left None e = refl
+none_left (Some x) e = absurd cc
+
+-- a hash that was read has a salt before it
+pub salt_before_hash : (s o : Option (List ℕ)) (left left' : Option (Bor (List ℕ))) → (IsNone s → left ≡ None)
+    → fields_left left ≡ field strict_base64 o ++ fields_left left' → is_some o ≡ true → is_some s ≡ true
+salt_before_hash (Some s) o left more h e some = refl
+salt_before_hash None None left more h e some = absurd cc
+salt_before_hash None (Some b) left more h e some = absurd (let n = sym (ap fields_left (h refl)) ∙ e in cc)
+
+-- values with the same fields are one
+pub same_phc : (v : Phc) (a : List ℕ) (n : Option ℕ) (ps : List Pair) (s o : Option (List ℕ)) → a ≡ v.algorithm
+    → n ≡ v.version → ps ≡ v.params → s ≡ v.salt → o ≡ v.hash
+    → ◌≡◌ {A = Phc} (record { algorithm = a; version = n; params = ps; salt = s; hash = o }) v
+same_phc v a n ps s o e1 e2 e3 e4 e5 = λ i. record { algorithm = e1 i; version = e2 i; params = e3 i; salt = e4 i; hash = e5 i }
+
+-- a salt and a hash that were read one by one, with nothing behind them
+pub both_read : {f2 f3 f4 : List (List ℕ)} (s o : Option (List ℕ)) → f2 ≡ field strict_base64 s ++ f3
+    → f3 ≡ field strict_base64 o ++ f4 → f4 ≡ [] → f2 ≡ field strict_base64 s ++ field strict_base64 o
+both_read s o e1 e2 e3 = rw (e1, e2, e3, append-nil) refl
+
+-- the fields that were read one by one
+pub gathered : (t : List ℕ) {first : List ℕ} (v : Phc) {f0 f1 f2 : List (List ℕ)}
+    → fields_of t ≡ first ∷ f0 → v.algorithm ≡ first → f0 ≡ field version_text v.version ++ f1
+    → f1 ≡ list_field v.params ++ f2 → f2 ≡ from_salt v → fields_of t ≡ fields v
+gathered t v e a e1 e2 e3 = rw (e, e1, e2, e3, a) refl
+
+-- ---- printing
+
+-- the fields that were printed one after the other
+pub printed : (v : Phc) {t0 t1 t2 t3 t4 t5 first : List ℕ} {salt hash : List (List ℕ)} → t0 ≡ [] → t1 ≡ t0 ++ 36 ∷ first
+    → first ≡ v.algorithm → t2 ≡ t1 ++ fields_text (field version_text v.version)
+    → t3 ≡ t2 ++ fields_text (list_field v.params) → t4 ≡ t3 ++ fields_text salt → salt ≡ field strict_base64 v.salt
+    → t5 ≡ t4 ++ fields_text hash → hash ≡ field strict_base64 v.hash → t5 ≡ phc_text v
+printed v {first = first} e0 e1 ea e2 e3 e4 es e5 eh =
+    let f : List ℕ → List ℕ = λ x. 36 ∷ x in
+    let a : List (List ℕ) = field version_text v.version in
+    let b : List (List ℕ) = list_field v.params in
+    let s : List (List ℕ) = field strict_base64 v.salt in
+    let h : List (List ℕ) = field strict_base64 v.hash in
+    let p : List ℕ = 36 ∷ v.algorithm in
+    let whole : phc_text v ≡ p ++ (flat_map f a ++ (flat_map f b ++ (flat_map f s ++ flat_map f h))) =
+    rw (flat_map-append f a (b ++ (s ++ h)), flat_map-append f b (s ++ h), flat_map-append f s h) refl in
+    rw (e5, eh, e4, es, e3, e2, e1, e0, ea)
+    (append_assoc ((p ++ flat_map f a) ++ flat_map f b) (flat_map f s) (flat_map f h)
+    ∙ append_assoc (p ++ flat_map f a) (flat_map f b) (flat_map f s ++ flat_map f h)
+    ∙ append_assoc p (flat_map f a) (flat_map f b ++ (flat_map f s ++ flat_map f h)) ∙ sym whole)
