@@ -2,7 +2,7 @@
 
 use super::known_tags::KNOWN_TAGS;
 use super::{PWD, SALT, known, words};
-use argon2::{Algorithm, Error, Kdf, Version, kdf};
+use argon2::{Algorithm, Argon2, Error, Kdf, Params, Version, kdf};
 use std::test::Fail;
 
 #[test]
@@ -15,6 +15,23 @@ fn hashes_on_memory_of_its_own(rt: HostRuntime) -> Result<(), Fail> {
     let answer = argon2.hash_password_into(rt.alloc(), &PWD, &SALT, &mut tag);
     assert!(rt; answer == Err(Error::OutputTooShort));
     assert!(rt; tag == [7; 3]);
+    Ok(())
+}
+
+// One byte more than parameters hold.
+#[test]
+fn hashes_under_data_of_any_length(rt: HostRuntime) -> Result<(), Fail> {
+    let params = Params::new(16, 1, 1, None)?;
+    let argon2 = Argon2::new(Algorithm::Argon2id, Version::V0x13, params);
+    let mut tag = [7; 32];
+    argon2.hash_password_into_with_data(rt.alloc(), &[7; 33], b"password", b"somesalt", &mut tag)?;
+    let wanted = [
+        0xff89df19ff0d5af4,
+        0x0409559d05b1182d,
+        0xf5af9464aa6372e7,
+        0xe999d07f278f20cf,
+    ];
+    assert!(rt; words(&tag) == wanted);
     Ok(())
 }
 
