@@ -9,7 +9,6 @@ use Rattle.argon2_audit.specs.Claim.{begins}
 use Rattle.argon2_audit.specs.declared.arguments.Command.{Command}
 use Rattle.argon2_audit.specs.declared.arguments.Command.TheVariants.{Help, Version, Audit}
 use Rattle.argon2_audit.specs.Policy.{default_policy}
-use Rattle.argon2_audit.specs.declared.options.Form.{Form}
 use Rattle.argon2_audit.specs.declared.options.Form.TheVariants.{Lines, Json, Quiet}
 use Rattle.argon2_audit.specs.declared.options.Options.{Options}
 use Rattle.argon2_audit.specs.declared.policy.Policy.{Policy}

@@ -1,5 +1,5 @@
 -- What a line claims to store, by how it begins.
-use Rattle.std.specs.Prelude.{ℕ, ◌==◌, ◌||◌, Bool, false, List, [], ◌∷◌, codes, drop, length, if◌then◌else◌, Option, Some, None}
+use Rattle.std.specs.Prelude.{ℕ, ◌==◌, ◌||◌, Bool, List, [], ◌∷◌, codes, drop, length, if◌then◌else◌, Option, Some, None}
 use Rattle.std.specs.List.{list_all, list_any, starts_with}
 use Rattle.std.specs.Option.{unwrap_or, option_map}
 use Rattle.std.specs.Io.BufRead.{strip_last}

@@ -390,7 +390,7 @@ fn reads_texts_as_other_programs_store_them(rt: HostRuntime) -> Result<(), Fail>
         (["--min-m", "8"], "\u{feff}u:"),
         (["--field", "3"], "1:u:"),
         (["--field", "1"], ""),
-        (["--separator", ","], "u,"),
+        (["--separator", ";"], "u;"),
     ] {
         let text = format!(in rt.alloc(); "{before}{TEXT}")?;
         let mut input = text.as_bytes();

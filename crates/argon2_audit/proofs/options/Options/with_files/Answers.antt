@@ -1,8 +1,8 @@
-use Rattle.std.proofs.Common.{◌≡◌, ◌∙◌, ℕ, Bool, true, false, List, length, Option, Some, None, map, string_bytes, ap, sym, if◌then◌else◌}
+use Rattle.std.proofs.Common.{◌≡◌, ◌∙◌, ℕ, Bool, true, false, length, Option, Some, None, map, string_bytes, ap, sym, if◌then◌else◌}
 use Rattle.std.specs.List.{list_all}
 use Rattle.std.proofs.lemmas.List.Folds.{list_all-map}
 use Rattle.std.proofs.lemmas.List.{length-map}
-use Rattle.argon2_audit.specs.Arguments.{is_file, with_files_of}
+use Rattle.argon2_audit.specs.Arguments.{is_file}
 use Rattle.argon2_audit.specs.declared.options.Options.{Options}
 use Rattle.argon2_audit.proofs.options.Options.with_files.Goals as goal
 
