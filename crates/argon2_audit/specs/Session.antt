@@ -109,4 +109,5 @@ IsAnswer (Audit options) input clean = IsAudit options input clean
 abbrev pub IsPassed : Command → Option (List ℕ) → Type 0
 IsPassed Help input = ⊤
 IsPassed Version input = ⊤
-IsPassed (Audit options) input = IfSome input (λ bytes. (tally : Tally) × IsTallied options bytes tally × IsClean options.policy tally)
+IsPassed (Audit options) input = IfSome input (λ bytes. (tally : Tally) × IsTallied options bytes tally
+    × IsClean options.policy tally)

@@ -42,7 +42,8 @@ impl Audit {
         requires { self.old.tally.lines < 2 ^ 64 - 1 }
         ensures options { self.new.options ≡ self.old.options }
         ensures counts { IfOk result (λ marks. Counts marks self.old.tally self.new.tally) }
-        ensures class { IfOk result (λ marks. marks.class ≡ class_of self.old.options.policy finding.now) }
+        ensures class { IfOk result
+            (λ marks. marks.class ≡ class_of self.old.options.policy finding.now) }
         ensures short { IfOk result
             (λ marks. marks.short_salt ≡ has_short_salt self.old.options.policy finding.now) }
         ensures equal { IfOk result

@@ -140,7 +140,8 @@ fn answer<R: Read, W: Write, E: Write>(
 // Writes a page.
 fn page<W: Write>(output: &mut W, text: &str) -> Result<bool, Failure>
     ensures ok { IfOk result IsTrue }
-    ensures written { OnOk result (Appends (W.contents output.old) (W.contents output.new) text.now) }
+    ensures written { OnOk result
+        (Appends (W.contents output.old) (W.contents output.new) text.now) }
 {
     output.write_all(text.as_bytes())?;
     output.flush()?;

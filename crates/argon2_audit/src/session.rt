@@ -92,7 +92,8 @@ impl Session {
         ensures after { OnOk result ((before : List ℕ) → IsAfter self.old before
             → IsAfter self.new (before ++ 10 ∷ [])) }
         ensures whole { OnOk result ((bytes : List ℕ) → IsAfter self.old bytes
-            → ¬ IsRead self.old.line [] → IsTallied self.old.audit.options bytes self.new.audit.tally) }
+            → ¬ IsRead self.old.line []
+            → IsTallied self.old.audit.options bytes self.new.audit.tally) }
     {
         let finding = self.line.end(self.audit.options.place);
         let marks = self.audit.add(&finding)?;

@@ -31,8 +31,8 @@ pub struct Tally {
     pub unknown: u64,
     pub short_salts: u64,
     pub equal_salts: u64,
-    ghost adds_up: { lines ≡ outside + no_hash + below + sound + other + locked + empty + blank + comment
-        + unknown },
+    ghost adds_up: { lines ≡ outside + no_hash + below + sound + other + locked + empty + blank
+        + comment + unknown },
     ghost short: { short_salts ≤ lines },
     ghost equal: { equal_salts ≤ lines },
 }
