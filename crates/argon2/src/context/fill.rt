@@ -45,7 +45,7 @@ impl<'a> Instance<'a> {
 
     /// All passes. `positions` has a place for each block of each pass, where the place of the
     /// block's reference is put down; or it is empty.
-    pub(crate) fn fill(&self, memory: &mut [Block], positions: &mut [u32], work: &mut Work)
+    fn fill(&self, memory: &mut [Block], positions: &mut [u32], work: &mut Work)
         requires room { length memory.old ≡ block_count self.now }
         requires count { work.old < 2 ^ 126 }
         ensures filled { (first : FirstColumns) → Begins self.now first memory.old
@@ -62,7 +62,8 @@ impl<'a> Instance<'a> {
         requires in_passes { pass < self.now.t_cost }
         requires room { block_count self.now ≤ length memory.old }
         requires count { work.old + slices_calls self.now pass 4 < 2 ^ 127 }
-        ensures filled { Fills self.now pass (λ _. begun self.now pass 0) (λ _. begun self.now pass 4)
+        ensures filled { Fills self.now pass
+            (λ _. begun self.now pass 0) (λ _. begun self.now pass 4)
             memory.old memory.new positions.old positions.new }
         ensures work { work.new ≡ work.old + slices_calls self.now pass 4 }
     {
@@ -84,7 +85,8 @@ impl<'a> Instance<'a> {
         requires in_slices { slice < 4 }
         requires room { block_count self.now ≤ length memory.old }
         requires count { work.old + self.now.p_cost * segment_calls self.now pass slice < 2 ^ 127 }
-        ensures filled { Fills self.now pass (λ _. begun self.now pass slice) (λ _. begun self.now pass (slice + 1))
+        ensures filled { Fills self.now pass
+            (λ _. begun self.now pass slice) (λ _. begun self.now pass (slice + 1))
             memory.old memory.new positions.old positions.new }
         ensures work { work.new ≡ work.old + self.now.p_cost * segment_calls self.now pass slice }
     {
@@ -95,7 +97,7 @@ impl<'a> Instance<'a> {
 
     /// The steps of a lane in a slice. `positions` has a place for each block of each pass, where
     /// the place of the block's reference is put down; or it is empty.
-    pub(super) fn fill_segment(
+    fn fill_segment(
         &self,
         memory: &mut [Block],
         positions: &mut [u32],
@@ -109,7 +111,8 @@ impl<'a> Instance<'a> {
         requires in_lanes { lane < self.now.p_cost }
         requires room { block_count self.now ≤ length memory.old }
         requires count { work.old < 2 ^ 127 }
-        ensures filled { Fills self.now pass (in_order self.now pass slice lane (begun self.now pass slice))
+        ensures filled { Fills self.now pass
+            (in_order self.now pass slice lane (begun self.now pass slice))
             (in_order self.now pass slice lane ((slice + 1) * segment_length self.now))
             memory.old memory.new positions.old positions.new }
         ensures work { work.new ≡ work.old + segment_calls self.now pass slice }
@@ -133,8 +136,8 @@ impl<'a> Instance<'a> {
     /// Puts down the place of a step's reference, if there is room for it.
     fn put_position(&self, positions: &mut [u32], at: Step, reference: u32)
         requires { IsStep self.now at.pass at.lane at.column }
-        ensures { positions.new
-            ≡ slice_set positions.old (position_index self.now at.pass at.lane at.column) reference }
+        ensures { let index = position_index self.now at.pass at.lane at.column in
+            positions.new ≡ slice_set positions.old index reference }
     {
         let place = self.place(at.lane, at.column) as usize;
         let index = at.pass as usize * self.block_count() + place;

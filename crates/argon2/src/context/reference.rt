@@ -1,5 +1,5 @@
-//! Which block a block refers to: the word that takes it, of the previous block or of address blocks,
-//! which depend on no other block, and the block that it takes (RFC 9106, sections 3.4.1 and 3.4.2).
+//! Which block a block refers to: a word of the previous block takes it, or one of address blocks,
+//! which depend on no other block (RFC 9106, sections 3.4.1 and 3.4.2).
 
 ghost use Rattle.std.specs.Prelude.{◌≡◌, ℕ, ◌+◌, ◌-◌, ◌*◌, ◌/◌, ◌^◌, ◌<◌, ◌≤◌, ◌==◌, ◌++◌, length, replicate, slice_index_or, if◌then◌else◌};
 ghost use Rattle.argon2.specs.Rfc9106.{MayReferTo, address_block, addresses_of, block_count, is_independent, lane_length, permitted, place_of, reference, reference_index, reference_lane, segment_length};
