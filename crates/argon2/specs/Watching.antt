@@ -32,8 +32,8 @@ pub record IsFilledFrom (ctx : Context) (first : FirstColumns) (memory : Memory)
 
 -- ---- in the midst of a pass
 
--- a memory where the first done(l) columns of each lane l are made: each place has the block of the
--- last pass that wrote it
+-- A memory where the first done(l) columns of each lane l are made: each place has the block of the
+-- last pass that wrote it.
 pub record HasBlocksUpTo (ctx : Context) (first : FirstColumns) (pass : ℕ) (done : ℕ → ℕ) (memory : Memory) : Type 0
   where
     pub size : length memory ≡ block_count ctx
@@ -43,7 +43,7 @@ pub record HasBlocksUpTo (ctx : Context) (first : FirstColumns) (pass : ℕ) (do
         pass ≡ suc before → lane < ctx.p_cost → column < lane_length ctx → done lane ≤ column →
         slice_index_or memory (lane * lane_length ctx + column) [] ≡ block_of ctx first before lane column
 
--- the list then: the references so far, and as before at columns 0 and 1 of pass 0
+-- A list at that moment has the references so far, and at columns 0 and 1 of pass 0 what it had.
 pub record HasPositionsUpTo (ctx : Context) (first : FirstColumns) (pass : ℕ) (done : ℕ → ℕ) (old new : List ℕ) : Type 0
   where
     pub size : length new ≡ place_count ctx
@@ -54,14 +54,14 @@ pub record HasPositionsUpTo (ctx : Context) (first : FirstColumns) (pass : ℕ) 
         slice_index new (position_index ctx 0 lane column)
         ≡ slice_index old (position_index ctx 0 lane column)
 
--- both, the list where there is a place for each reference
+-- Both hold, the second where the list has a place for each reference.
 pub record IsFilledUpTo (ctx : Context) (first : FirstColumns) (pass : ℕ) (done : ℕ → ℕ) (memory : Memory)
     (old new : List ℕ) : Type 0
   where
     pub blocks : HasBlocksUpTo ctx first pass done memory
     pub positions : length old ≡ place_count ctx → HasPositionsUpTo ctx first pass done old new
 
--- from one such moment of a pass to another
+-- A memory and a list go from one such moment of a pass to another.
 abbrev pub Fills : Context → ℕ → (ℕ → ℕ) → (ℕ → ℕ) → Memory → Memory → List ℕ → List ℕ → Type 0
 Fills ctx pass done done' memory memory' places places' =
     (first : FirstColumns) (old : List ℕ) →
@@ -71,7 +71,7 @@ Fills ctx pass done done' memory memory' places places' =
 abbrev pub begun : Context → ℕ → ℕ → ℕ
 begun ctx pass slice = (slice + 1) * segment_length ctx - turn_count ctx pass slice
 
--- how many of each are made in a slice when the lanes before one are done, and that one has so many
+-- how many of each are made when the lanes before one have finished the slice and that one has so many
 abbrev pub in_order : Context → ℕ → ℕ → ℕ → ℕ → ℕ → ℕ
 in_order ctx pass slice lane column other =
     if nat_lt other lane then (slice + 1) * segment_length ctx
