@@ -2,9 +2,9 @@
 
 ghost use Rattle.argon2_audit.specs.Entry.{IsEntryAnswer};
 
-use argon2::password_hash::Result;
+use argon2::password_hash::{Result, Settings};
 use argon2::phc::Salt;
-use argon2::{Algorithm, Params, PasswordHash, Version};
+use argon2::{Algorithm, PasswordHash, Version};
 
 /// What texts are counted by.
 #[derive(Clone, Copy, PartialEq, Eq, PartialOrd, Ord)]
@@ -52,23 +52,18 @@ pub fn shown(text: &str) -> Result<Entry>
     ensures { IsEntryAnswer text.now result }
 {
     let hash = PasswordHash::new(text)?;
-    let params = Params::try_from(&hash)?;
-    let algorithm = Algorithm::try_from(hash.algorithm.as_str())?;
-    let version = match hash.version {
-        Some(number) => Version::try_from(number)?,
-        None => Version::V0x10,
-    };
+    let shown = Settings::try_from(&hash)?;
     let hash_len = match &hash.hash {
         Some(output) => Some(output.len() as u32),
         None => None,
     };
     Ok(Entry {
         kind: Kind {
-            algorithm,
-            version,
-            m_cost: params.m_cost(),
-            t_cost: params.t_cost(),
-            p_cost: params.p_cost(),
+            algorithm: shown.algorithm,
+            version: shown.version,
+            m_cost: shown.params.m_cost(),
+            t_cost: shown.params.t_cost(),
+            p_cost: shown.params.p_cost(),
         },
         salt: hash.salt,
         hash_len,
