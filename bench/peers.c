@@ -1,4 +1,4 @@
-/* Hashes standard input by a library of C, as a process of its own: M T P SALT; prints the tag.
+/* Hashes standard input by a library of C, as a separate process: M T P SALT; prints the tag.
    Built with -DUSE_ARGON2 over libargon2, or with -DUSE_SODIUM over libsodium (one lane). */
 #include <stdio.h>
 #include <stdlib.h>

@@ -115,7 +115,7 @@ impl<'key> Argon2<'key> {
     /// [`block_count`](Params::block_count) blocks of `memory` are then the matrix that it was made
     /// of, whatever they were before, and the others are as they were. No other memory is taken.
     ///
-    /// Where the parameters set an output length, `out` has just that many bytes; else it has 4 to
+    /// Where the parameters set an output length, `out` has exactly that many bytes; else it has 4 to
     /// 4294967295. The password has 0 to 4294967295 bytes, the salt 8 to 4294967295.
     ///
     /// # Errors
@@ -145,7 +145,7 @@ impl<'key> Argon2<'key> {
         Ok(())
     }
 
-    /// Writes the tag of a password and a salt into `out`, on memory of its own: one request to
+    /// Writes the tag of a password and a salt into `out`, on memory that it allocates: one request to
     /// `alloc` for [`block_count`](Params::block_count) blocks of 1024 bytes, which are given back
     /// before the call returns.
     ///
@@ -220,8 +220,8 @@ impl<'key> Argon2<'key> {
     /// address block (RFC 9106, section 3.4.1.2), of which one serves 128 columns of a segment.
     ///
     /// `positions` has as many places as passes times blocks. Where a lane has q columns, the block
-    /// of a lane and a column stands at place lane * q + column of the memory, and the place of its
-    /// reference is put down at that index after one whole memory for each pass before. What stands
+    /// of a lane and a column is at place lane * q + column of the memory, and the place of its
+    /// reference is written at that index after one whole memory for each pass before. What stands
     /// for columns 0 and 1 of pass 0 stays.
     ///
     /// # Errors
@@ -271,7 +271,7 @@ impl<'key> Argon2<'key> {
     }
 
     // Writes the tag into `out`, and answers how often blocks were mixed. `positions` has a place for
-    // each block of each pass, where the place of the block's reference is put down; or it is empty.
+    // each block of each pass, where the place of the block's reference is written; or it is empty.
     fn hash(
         &self,
         pwd: &[u8],

@@ -26,7 +26,7 @@ pub trait Kdf {
         ensures same { OnErr result (out.new ≡ out.old) };
 }
 
-/// Marks key derivation that is made for passwords: it is slow enough to make guessing dear.
+/// Marks key derivation that is made for passwords: it is slow enough to make guessing expensive.
 pub trait Pbkdf: Kdf {}
 
 /// The key is the tag. Lengths are taken as by

@@ -1,4 +1,22 @@
-//! Argon2 (RFC 9106): password hashing, key derivation, and PHC texts.
+//! Argon2 (RFC 9106): password hashing, key derivation and PHC texts.
+//!
+//! A service stores the text that hashing makes, and verifies later passwords against it:
+//!
+//! ```text
+//! let argon2 = Argon2::default();
+//! let hash = argon2.hash_password(alloc, &mut rng, password)?;
+//! argon2.verify_password(alloc, password, hash.text().as_str())?;
+//! ```
+//!
+//! [`Argon2`] hashes on memory that it allocates, on lent memory, watched, or by single steps.
+//!
+//! - [`params`], [`algorithm`], [`version`]: what a hash is made under.
+//! - [`password_hash`]: hashing to texts, reading them, and verifying.
+//! - [`bound`]: the most that a stored text may ask for.
+//! - [`login`]: a store of names and texts that renews old texts.
+//! - [`kdf`]: key derivation.
+//! - [`laws`]: what holds of the definitions, each law as the contract of a function.
+//! - [`blake2b`], [`blake2b_long`], [`block`], [`byte_list`], [`error`], [`phc`]: the parts.
 #![tactic(auto)]
 
 pub mod algorithm;

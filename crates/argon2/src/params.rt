@@ -89,7 +89,7 @@ impl Params {
 
     /// The parameters of `m_cost` blocks of 1024 bytes, `t_cost` passes and `p_cost` lanes, with
     /// no key identifier and no associated data. Where an output length is set, in bytes, each
-    /// output has just that length.
+    /// output has exactly that length.
     ///
     /// # Errors
     /// The first of these that holds:

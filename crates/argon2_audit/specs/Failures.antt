@@ -14,7 +14,7 @@ IsMemory File = ⊥
 IsMemory Closed = ⊥
 IsMemory Output = ⊥
 
--- the failure of a write, which is of its own where the reader is gone
+-- the failure of a write, which differs where the reader is gone
 abbrev pub IsOfWriting : Error → Failure → Type 0
 IsOfWriting error Closed = error_kind error ≡ BrokenPipe
 IsOfWriting error Output = error_kind error ≢ BrokenPipe

@@ -18,7 +18,7 @@ pub enum Failure {
     /// A file that the arguments name fails before its end.
     #[error("a file can't be read")]
     File,
-    /// Nobody reads standard output any more, which the program does not tell.
+    /// Nobody reads standard output any more, which the program does not report.
     #[error("nobody reads standard output")]
     Closed,
     /// Standard output does not take the report.

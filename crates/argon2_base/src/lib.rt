@@ -1,5 +1,5 @@
-//! What Argon2 stands on: BLAKE2b, the hash of any length, the blocks of its memory and their
-//! mixing, and the faults of every call.
+//! What Argon2 is built on: BLAKE2b (RFC 7693), the hash of any length, blocks and their mixing
+//! (RFC 9106), byte lists, PHC texts, and the errors of every call.
 #![tactic(auto)]
 
 pub mod blake2b;

@@ -14,7 +14,7 @@ use argon2::{Algorithm, Argon2, ParamsBuilder, Version};
 use argon2_base::phc::are_equal;
 use std::alloc::Global;
 
-/// Hashes on memory of its own, and writes the tag into `out`. Answers 0, or the code of the
+/// Allocates memory, hashes on it, and writes the tag into `out`. Answers 0, or the code of the
 /// request's first fault, or -22 where memory was refused; `out` is then as before.
 #[unsafe(no_mangle)]
 pub extern "C" fn argon2_c_hash(

@@ -34,7 +34,7 @@ impl From<io::Error> for Failure {
     }
 }
 
-/// Want of memory is told as such.
+/// Out of memory is reported as that.
 impl From<argon2::Error> for Failure {
     ghost use Rattle.argon2_calibrate.specs.Failures.{IsOfHashing};
 

@@ -15,7 +15,7 @@ const LEAST_BLOCKS: u32 = 8;
 const TRIALS: u32 = 4;
 
 /// The most memory up to a limit with which one pass takes no longer than the target, by halves, and then
-/// the most passes: as RFC 9106, section 4, goes about it. Each measured time is told on `errors`.
+/// the most passes: as RFC 9106, section 4, goes about it. Each measured time is written to `errors`.
 ///
 /// # Errors
 /// Those of the stopwatch.
@@ -85,7 +85,7 @@ fn most_passes<S: Stopwatch, E: Write>(
     Ok(best)
 }
 
-/// How many microseconds a hash takes, the least of three times, which is told on `errors` as seconds.
+/// How many microseconds a hash takes, the least of three times, which is written to `errors` as seconds.
 pub fn timed<S: Stopwatch, E: Write>(
     stopwatch: &mut S,
     errors: &mut E,

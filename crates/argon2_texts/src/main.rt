@@ -1,7 +1,7 @@
 //! `argon2-texts`: says what texts are read as. Each line of standard input is a text's bytes in hex;
 //! each line of the answer is the text printed again, its parameters or why it has none, and what
 //! verifying `abc` against it says, or why the text is refused. `ci/hostile-texts` compares the answers
-//! with those of a reader of its own.
+//! with those of a separate reader.
 #![tactic(auto)]
 
 use argon2::{Argon2, Params, PasswordHash, PasswordVerifier};

@@ -33,7 +33,7 @@ pub refused_before : {X : Type 0} → (replies : List ℕ → List ℕ → Type 
 refused_before replies input message (Ok x) is h = tt
 refused_before replies input message (Err f) is h = before_reply replies input message f is h
 
--- a call on a text refuses for want of memory, or what has no reply
+-- a call on a text refuses since memory runs out, or what has no reply
 refusal_by_text : (IsReply : List ℕ → Type 0) (e : Error) (f : Failure) → (e ≡ OutOfMemory) ⊎ HasNone IsReply → IsOfText e f
     → IsRefusalOf IsReply f
 refusal_by_text IsReply e Input why h = absurd h
@@ -48,7 +48,7 @@ no_reply : (text password : List ℕ) (e : Error) → (e ≡ OutOfMemory) ⊎ (A
 no_reply text password e (inl memory) = inl memory
 no_reply text password e (inr never) = inr (λ line reply. never reply.1)
 
--- verifying a text under no secret refuses for want of memory, or what it does not accept
+-- verifying a text under no secret refuses since memory runs out, or what it does not accept
 pub refused_text : {X : Type 0} → (text password secret : List ℕ) (e : Error) (r : Result X Failure) → secret ≡ []
     → (e ≡ OutOfMemory) ⊎ (Accepts secret password text → ⊥) → IsErrAnd r (IsOfText e)
     → IfErr r (IsRefusalOf (IsVerifyReply text password))

@@ -20,7 +20,7 @@ IsOfReading (Memory refused) = ⊤
 IsOfReading (Hashing refusal) = ⊥
 IsOfReading (Text refusal) = ⊥
 
--- the failure by a call that refuses: want of memory is told as such
+-- the failure by a call that refuses: out of memory is reported as that
 abbrev pub IsOfHashing : Error → Failure → Type 0
 IsOfHashing refusal Input = ⊥
 IsOfHashing refusal Output = ⊥
@@ -28,7 +28,7 @@ IsOfHashing refusal (Memory refused) = refusal ≡ OutOfMemory
 IsOfHashing refusal (Hashing error) = (error ≡ refusal) × (refusal ≢ OutOfMemory)
 IsOfHashing refusal (Text error) = ⊥
 
--- the failure by a call on a text that refuses: want of memory is told as such
+-- the failure by a call on a text that refuses: out of memory is reported as that
 abbrev pub IsOfText : TextError → Failure → Type 0
 IsOfText refusal Input = ⊥
 IsOfText refusal Output = ⊥

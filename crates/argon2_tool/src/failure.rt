@@ -30,7 +30,7 @@ pub enum Failure {
     Text(password_hash::Error),
 }
 
-/// The failure of a read: want of memory is told as such.
+/// The failure of a read; out of memory is reported as that.
 pub fn of_reading(error: &io::Error) -> Failure
     ensures memory { error_kind error.now ≡ ErrorKind.OutOfMemory → IsMemory result }
     ensures input { error_kind error.now ≢ ErrorKind.OutOfMemory → result ≡ Failure.Input }
@@ -51,7 +51,7 @@ impl From<AllocError> for Failure {
     }
 }
 
-/// Want of memory is told as such, whoever met it.
+/// Out of memory is reported as that, wherever it was found.
 impl From<argon2::Error> for Failure {
     ghost from_gives = { IsOfHashing };
 
@@ -63,7 +63,7 @@ impl From<argon2::Error> for Failure {
     }
 }
 
-/// Want of memory is told as such, whoever met it.
+/// Out of memory is reported as that, wherever it was found.
 impl From<password_hash::Error> for Failure {
     ghost from_gives = { IsOfText };
 

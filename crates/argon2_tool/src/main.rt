@@ -1,4 +1,4 @@
-//! `argon2-tool`: digests and tags of standard input.
+//! `argon2-tool`: digests, tags and PHC texts of standard input, and verifying.
 #![tactic(auto)]
 
 use failure::Failure;

@@ -1,4 +1,4 @@
-//! A scheduler of its own: in each slice the lanes take turns, one column each.
+//! Another scheduler: in each slice the lanes take turns, one column each.
 //!
 //! Hashing fills one lane of a slice after the other. The law of
 //! [`slice_interleaving`](argon2::laws::slice_interleaving) says that any other order comes to the

@@ -58,7 +58,7 @@ pub not_refused : (P : Type 0) (Q : Error → Type 0) (r : Result (Unit {0}) Err
 not_refused P Q (Ok x) never h = h
 not_refused P Q (Err e) never h = absurd (never e refl)
 
--- what a test that fails would tell doesn't hold
+-- where a test fails, what it decides does not hold
 pub untold : {P : Type 0} (b : Bool) → b ≡ false → (P → b ≡ true) → ¬ P
 untold true fails tells holds = absurd cc
 untold false fails tells holds = let told = tells holds in absurd cc

@@ -12,7 +12,7 @@ pub place_below : (ctx : Context) (lane column : ℕ) → lane < ctx.p_cost → 
     → lane * lane_length ctx + column < block_count ctx
 place_below ctx lane column a b = let h = mul-add-lt lane (lane_length ctx) column ctx.p_cost a b in omega arith
 
--- the previous block stands at the previous place
+-- the previous block is at the previous place
 pub previous_in_memory : (ctx : Context) (memory : Memory) (pass lane column : ℕ)
     → previous ctx (in_memory ctx memory) pass lane column ≡ slice_index_or memory (previous_place ctx lane column) []
 unfolding previous in_memory

@@ -1,4 +1,4 @@
--- The places that the steps put down are those of the recurrence's references.
+-- The places that the steps record are those of the recurrence's references.
 use Rattle.std.proofs.Common.{◌≡◌, ℕ, suc, ◌+◌, ◌-◌, ◌*◌, ◌<◌, ◌≤◌, ◌≢◌, inl, inr, List, length, refl, sym, ap, ◌∙◌, arith}
 use Rattle.std.specs.Prelude.{slice_index, slice_set}
 use Rattle.std.proofs.lemmas.List.{length-set, get_or-set_same, get_or-set_other}
@@ -39,7 +39,7 @@ HasPositionsUpTo-like ctx first pass done done' old new same has = record {
   of_first_columns = has.of_first_columns;
 }
 
--- a step puts down its reference's place
+-- a step records its reference's place
 pub step_positions : (ctx : Context) → Sizes ctx → (first : FirstColumns) (pass lane column : ℕ) (done done' : ℕ → ℕ)
     (old new : List ℕ) (place : ℕ) → IsStep ctx pass lane column → pass < ctx.t_cost
     → place ≡ reference_places ctx first pass lane column → done lane ≡ column → done' lane ≡ suc column

@@ -12,7 +12,7 @@ use Rattle.argon2.specs.Steps.{IsStep, in_memory, step, turns, turn_count, IsSch
 use Rattle.argon2.proofs.recurrence.PermittedPlaces.{InSlice}
 use Rattle.argon2.proofs.recurrence.Sources.{made_cong}
 
--- other lanes or columns stand at other places
+-- other lanes or columns have other places
 pub place_apart : (q l c m d : ℕ) → c < q → d < q → (l ≡ m → c ≡ d → ⊥) → l * q + c ≢ m * q + d
 place_apart q l c m d hc hd ne e = let s = same_from_place l c m d q hc hd e in ne s.0 s.1
 

@@ -21,7 +21,7 @@ pub(super) struct Step {
 
 impl<'a> Instance<'a> {
     /// Makes the matrix for an output of `out_len` bytes, and counts each mixing. `positions` has a
-    /// place for each block of each pass, where the place of the block's reference is put down; or
+    /// place for each block of each pass, where the place of the block's reference is written; or
     /// it is empty.
     pub(super) fn fill_blocks(
         &self,
@@ -44,7 +44,7 @@ impl<'a> Instance<'a> {
     }
 
     /// All passes. `positions` has a place for each block of each pass, where the place of the
-    /// block's reference is put down; or it is empty.
+    /// block's reference is written; or it is empty.
     fn fill(&self, memory: &mut [Block], positions: &mut [u32], work: &mut Work)
         requires room { length memory.old ≡ block_count self.now }
         requires count { work.old < 2 ^ 126 }
@@ -96,7 +96,7 @@ impl<'a> Instance<'a> {
     }
 
     /// The steps of a lane in a slice. `positions` has a place for each block of each pass, where
-    /// the place of the block's reference is put down; or it is empty.
+    /// the place of the block's reference is written; or it is empty.
     fn fill_segment(
         &self,
         memory: &mut [Block],
@@ -133,7 +133,7 @@ impl<'a> Instance<'a> {
         }
     }
 
-    /// Puts down the place of a step's reference, if there is room for it.
+    /// Writes the place of a step's reference, if there is room for it.
     fn put_position(&self, positions: &mut [u32], at: Step, reference: u32)
         requires { IsStep self.now at.pass at.lane at.column }
         ensures { let index = position_index self.now at.pass at.lane at.column in

@@ -9,7 +9,7 @@ use argon2_base::error::{Error, Result};
 use std::convert::AsSlice;
 use std::str::FromStr;
 
-/// A key identifier: 0 to 8 bytes, which tell keys apart and take no part in any hash. It is
+/// A key identifier: 0 to 8 bytes, which distinguish keys and enter no hash. It is
 /// equal to, ordered with and hashed as its bytes; a shorter one stands before its continuations.
 #[derive(Clone, Copy, Debug, PartialEq, Eq, PartialOrd, Ord, Hash)]
 pub struct KeyId {

@@ -1,4 +1,4 @@
-//! Hashing on memory of its own.
+//! Hashing on memory that the call allocates.
 
 use super::known_tags::KNOWN_TAGS;
 use super::{PWD, SALT, known, words};

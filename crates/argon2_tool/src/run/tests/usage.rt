@@ -8,7 +8,7 @@ use std::test::Fail;
 pub const USAGE: &str =
     "usage: argon2-tool digest N | long N | tag ALG VER M T P LEN SALT | phc ALG VER M T P SALT | verify TEXT\n";
 
-// An input that would be told if it were read.
+// An input that would show if it were read.
 fn unread() -> Slow<'static> {
     Slow::failing(b"", ErrorKind::Other)
 }
