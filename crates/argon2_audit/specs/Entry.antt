@@ -11,16 +11,16 @@ use Rattle.argon2_audit.specs.declared.entry.Entry.{Entry}
 -- fault of the settings
 abbrev pub entry_of : Phc → Result Entry Fault
 entry_of v = read (shown_settings v) (λ settings. Ok (record {
-    kind = record {
-      algorithm = settings.algorithm;
-      version = settings.version;
-      m_cost = settings.parameters.m_cost;
-      t_cost = settings.parameters.t_cost;
-      p_cost = settings.parameters.p_cost;
-    };
-    salt = v.salt;
-    hash_len = option_map length v.hash;
-  }))
+  kind = record {
+    algorithm = settings.algorithm;
+    version = settings.version;
+    m_cost = settings.parameters.m_cost;
+    t_cost = settings.parameters.t_cost;
+    p_cost = settings.parameters.p_cost;
+  };
+  salt = v.salt;
+  hash_len = option_map length v.hash;
+}))
 
 -- what a text shows by its value, or `EncodingInvalid` where it is no value's
 abbrev pub IsEntryAnswer : List ℕ → Result Entry Error → Type 0
