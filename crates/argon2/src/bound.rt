@@ -89,7 +89,8 @@ impl Bound {
         password: &[u8],
         text: &str,
     ) -> Result<(), BoundError>
-        ensures answer { IsBoundAnswer self.now (secret_of argon2.now) password.now text.now result }
+        ensures answer { IsBoundAnswer self.now (secret_of argon2.now) password.now text.now
+            result }
         ensures accepted { let secret = secret_of argon2.now in
             MatchResult result (λ _. AcceptsWithin self.now secret password.now text.now)
             (VerifyRefusal self.now secret password.now text.now) }

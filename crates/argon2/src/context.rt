@@ -137,7 +137,8 @@ impl<'key> Argon2<'key> {
         ensures answer { result
             ≡ answer_unless (refusal_of self.now (length out.old) pwd.now salt.now memory.old) tt }
 
-        ensures hashed { OnOk result (IsHashed self.now pwd.now salt.now out.new memory.old memory.new) }
+        ensures hashed { OnOk result (IsHashed self.now pwd.now salt.now out.new memory.old
+            memory.new) }
 
         ensures same { OnErr result ((out.new ≡ out.old) × (memory.new ≡ memory.old)) }
     {
@@ -166,7 +167,8 @@ impl<'key> Argon2<'key> {
         ensures answer { MayAnswer (length_refusal (own_parameters self.now).output_len
             (length out.old) (length pwd.now) (length salt.now)) result }
 
-        ensures tag { OnOk result (out.new ≡ tag_of (context_of self.now) pwd.now salt.now (length out.old)) }
+        ensures tag { OnOk result (out.new
+            ≡ tag_of (context_of self.now) pwd.now salt.now (length out.old)) }
         ensures same { OnErr result (out.new ≡ out.old) }
     {
         self.hash_password_into_with_data(alloc, self.params.data(), pwd, salt, out)
@@ -187,11 +189,13 @@ impl<'key> Argon2<'key> {
         salt: &[u8],
         out: &mut [u8],
     ) -> Result<()>
-        ensures answer { MayAnswer (data_refusal (length associated.now) (own_parameters self.now).output_len
+        ensures answer { MayAnswer (data_refusal (length associated.now)
+            (own_parameters self.now).output_len
             (length out.old) (length pwd.now) (length salt.now)) result }
 
         ensures tag { OnOk result
-            (out.new ≡ tag_of (context_under self.now associated.now) pwd.now salt.now (length out.old)) }
+            (out.new ≡ tag_of (context_under self.now associated.now) pwd.now salt.now
+            (length out.old)) }
 
         ensures same { OnErr result (out.new ≡ out.old) }
     {
@@ -237,13 +241,17 @@ impl<'key> Argon2<'key> {
     ) -> Result<Work>
         requires { length positions.old ≡ place_count (context_of self.now) }
         ensures answer { result ≡ answer_unless
-            (refusal_of self.now (length out.old) pwd.now salt.now memory.old) (mixing_calls (context_of self.now)) }
+            (refusal_of self.now (length out.old) pwd.now salt.now memory.old)
+            (mixing_calls (context_of self.now)) }
 
-        ensures hashed { OnOk result (IsHashed self.now pwd.now salt.now out.new memory.old memory.new) }
+        ensures hashed { OnOk result (IsHashed self.now pwd.now salt.now out.new memory.old
+            memory.new) }
         ensures positions { OnOk result
-            (AreReferencesOf self.now pwd.now salt.now (length out.old) positions.old positions.new) }
+            (AreReferencesOf self.now pwd.now salt.now (length out.old) positions.old
+            positions.new) }
 
-        ensures same { OnErr result ((out.new ≡ out.old) × (memory.new ≡ memory.old) × (positions.new ≡ positions.old)) }
+        ensures same { OnErr result ((out.new ≡ out.old) × (memory.new ≡ memory.old)
+            × (positions.new ≡ positions.old)) }
     {
         self.hash(pwd, salt, out, memory, positions)
     }
@@ -258,7 +266,8 @@ impl<'key> Argon2<'key> {
     /// - [`Error::SaltTooLong`]: the salt is longer than 4294967295 bytes.
     /// - [`Error::MemoryTooLittle`]: `memory` has fewer blocks than are filled.
     pub fn fill_memory(&self, pwd: &[u8], salt: &[u8], memory: &mut [Block]) -> Result<()>
-        ensures answer { result ≡ answer_unless (fill_refusal self.now pwd.now salt.now memory.old) tt }
+        ensures answer { result ≡ answer_unless (fill_refusal self.now pwd.now salt.now memory.old)
+            tt }
         ensures filled { OnOk result (IsFilled self.now pwd.now salt.now 0 memory.old memory.new) }
         ensures same { OnErr result (memory.new ≡ memory.old) }
     {

@@ -21,8 +21,10 @@ pub trait Kdf {
     /// [`Error`] where a length is not taken, or a request for memory was refused; `out` is then
     /// as before.
     fn derive_key(&self, alloc: Global, password: &[u8], salt: &[u8], out: &mut [u8]) -> Result<()>
-        ensures taken { OnOk result (takes self.now (length password.now) (length salt.now) (length out.old)) }
-        ensures key { OnOk result (out.new ≡ key_of self.now password.now salt.now (length out.old)) }
+        ensures taken { OnOk result (takes self.now (length password.now) (length salt.now)
+            (length out.old)) }
+        ensures key { OnOk result (out.new
+            ≡ key_of self.now password.now salt.now (length out.old)) }
         ensures same { OnErr result (out.new ≡ out.old) };
 }
 

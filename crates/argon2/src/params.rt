@@ -163,7 +163,8 @@ impl Params {
     /// that is at most the memory cost (RFC 9106, section 3.2).
     #[tactic(auto, unfolding(crate::specs::Rfc9106::segment_length_for))]
     pub fn block_count(&self) -> usize
-        ensures value { result ≡ block_count_for (parameters_of self.now).m_cost (parameters_of self.now).p_cost }
+        ensures value { result ≡ block_count_for (parameters_of self.now).m_cost
+            (parameters_of self.now).p_cost }
         ensures in_memory { result ≤ (parameters_of self.now).m_cost }
         ensures small { result < 2 ^ 32 }
     {
@@ -174,7 +175,8 @@ impl Params {
     /// The number of columns of a lane: four segments (RFC 9106, section 3.2, where it is `q`).
     #[tactic(auto, unfolding(crate::specs::Rfc9106::segment_length_for))]
     pub fn lane_length(&self) -> u32
-        ensures { result ≡ lane_length_for (parameters_of self.now).m_cost (parameters_of self.now).p_cost }
+        ensures { result ≡ lane_length_for (parameters_of self.now).m_cost
+            (parameters_of self.now).p_cost }
     {
         4 * (self.m_cost / (4 * self.p_cost))
     }

@@ -138,7 +138,8 @@ no_line_more kept seen options tally bytes none b = record {
 }
 
 pub audit_of : (options : Options) (input : Option (List ℕ)) (tally : Tally) (clean : Bool)
-    → IfSome input (λ bytes. IsTallied options bytes tally) → (IsTrue clean ↔ IsClean options.policy tally) → IsAudit options input clean
+    → IfSome input (λ bytes. IsTallied options bytes tally) → (IsTrue clean ↔ IsClean options.policy tally)
+    → IsAudit options input clean
 audit_of options None tally clean tallied is = tt
 audit_of options (Some bytes) tally clean tallied is = (tally, tallied, is)
 

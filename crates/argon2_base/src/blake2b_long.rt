@@ -57,7 +57,8 @@ fn hasher_of(len: u32, inputs: &[&[u8]]) -> Blake2b
 // Writes an output of more than 64 bytes, whose V(1) is `start`.
 fn write_pieces(start: &[u8; 64], out: &mut [u8])
     requires { 64 < length out.old }
-    ensures { (first : List ℕ) → start.now ≡ chain first 1 → out.new ≡ pieces (length out.old) first }
+    ensures { (first : List ℕ) → start.now ≡ chain first 1
+        → out.new ≡ pieces (length out.old) first }
 {
     let half_count = out.len().div_ceil(32) - 2;
     let mut current = *start;

@@ -25,7 +25,8 @@ impl<const N: usize> ByteList<N> {
 
     /// The list of these bytes, if they fit.
     pub fn new(source: &[u8]) -> Option<Self>
-        ensures { MatchOption result (N < length source.now) (λ list. list_bytes list ≡ source.now) }
+        ensures { MatchOption result (N < length source.now)
+            (λ list. list_bytes list ≡ source.now) }
     {
         if source.len() > N {
             return None;

@@ -32,7 +32,8 @@ pub struct Decoded {
 
 /// What a text of this variant says, or the code of the refusal.
 pub fn decode(alloc: Global, algorithm: Algorithm, text: &str) -> Result<Decoded, i32>
-    ensures found { IfOk result (λ d. IsSaid (said d) × (text.now ≡ spelling (algorithm_name algorithm) (said d))) }
+    ensures found { IfOk result
+        (λ d. IsSaid (said d) × (text.now ≡ spelling (algorithm_name algorithm) (said d))) }
     ensures only { (v : Said) → IsSaid v → text.now ≡ spelling (algorithm_name algorithm) v
         → MatchResult result (λ d. said d ≡ v) (λ e. e ≡ MEMORY_ALLOCATION_ERROR) }
     ensures codes { IfErr result (λ e. (e ≡ DECODING_FAIL) ⊎ (e ≡ MEMORY_ALLOCATION_ERROR)) }
@@ -105,7 +106,8 @@ fn after_name(algorithm: Algorithm, text: &str) -> Option<&str>
 // What follows this text at the front.
 fn behind<'a>(text: &'a str, front: &str) -> Option<&'a str>
     ensures found { IfSome result (λ x. text.now ≡ front.now ++ x.now) }
-    ensures only { (left : List ℕ) → text.now ≡ front.now ++ left → IsSomeAnd result (λ x. x.now ≡ left) }
+    ensures only { (left : List ℕ) → text.now ≡ front.now ++ left → IsSomeAnd result
+        (λ x. x.now ≡ left) }
 {
     text.strip_prefix(front)
 }
@@ -141,7 +143,8 @@ fn costs(text: &str) -> Option<((u32, u32, u32), &str)>
 fn field<'a>(text: &'a str, name: &str, mark: char) -> Option<(u32, &'a str)>
     requires { mark < 48 }
     ensures found { IfSome result (λ x. text.now ≡ name.now ++ (decimal x.0 ++ mark ∷ x.1.now)) }
-    ensures only { (n : ℕ) (left : List ℕ) → n < 2 ^ 32 → text.now ≡ name.now ++ (decimal n ++ mark ∷ left)
+    ensures only { (n : ℕ) (left : List ℕ) → n < 2 ^ 32 → text.now ≡ name.now
+        ++ (decimal n ++ mark ∷ left)
         → IsSomeAnd result (λ x. (x.0 ≡ n) × (x.1.now ≡ left)) }
 {
     number(behind(text, name)?, mark)

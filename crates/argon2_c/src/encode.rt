@@ -30,7 +30,8 @@ pub extern "C" fn argon2_c_encode(
     out: &mut [u8],
 ) -> i32
     ensures answer { let text = text_of algorithm version m_cost t_cost lanes salt.now tag.now in
-        (result ≡ encode_code algorithm text (length out.old)) ⊎ (result ≡ MEMORY_ALLOCATION_ERROR) }
+        (result ≡ encode_code algorithm text (length out.old))
+        ⊎ (result ≡ MEMORY_ALLOCATION_ERROR) }
     ensures written { let text = text_of algorithm version m_cost t_cost lanes salt.now tag.now in
         result ≡ OK → out.new ≡ text ++ 0 ∷ drop (suc (length text)) out.old }
     ensures same { result ≢ OK → out.new ≡ out.old }
@@ -61,7 +62,8 @@ fn text(
     tag: &[u8],
 ) -> Result<String, AllocError>
     ensures { IfOk result (λ text. text.bytes.items
-        ≡ spelling (algorithm_name algorithm) (said_with version m_cost t_cost lanes salt.now tag.now)) }
+        ≡ spelling (algorithm_name algorithm) (said_with version m_cost t_cost lanes salt.now
+        tag.now)) }
 {
     let salt = Base64 { bytes: salt };
     let tag = Base64 { bytes: tag };
@@ -88,7 +90,8 @@ impl fmt::Display for Base64<'_> {
 // Writes a text with a zero byte behind it, where there is room.
 fn put(text: &[u8], out: &mut [u8]) -> bool
     ensures room { IsTrue result ↔ (length text.now < length out.old) }
-    ensures written { IsTrue result → out.new ≡ text.now ++ 0 ∷ drop (suc (length text.now)) out.old }
+    ensures written { IsTrue result
+        → out.new ≡ text.now ++ 0 ∷ drop (suc (length text.now)) out.old }
     ensures same { IsFalse result → out.new ≡ out.old }
 {
     let len = text.len();
@@ -111,7 +114,8 @@ pub extern "C" fn argon2_c_encoded_length(
     salt_len: u32,
     tag_len: u32,
 ) -> usize
-    ensures value { (salt tag : List ℕ) → algorithm ≤ 2 → length salt ≡ salt_len → length tag ≡ tag_len
+    ensures value { (salt tag : List ℕ) → algorithm ≤ 2 → length salt ≡ salt_len
+        → length tag ≡ tag_len
         → result ≡ length (text_of algorithm 19 m_cost t_cost lanes salt tag) + 1 }
     ensures none { 2 < algorithm → result ≡ 0 }
 {

@@ -48,7 +48,8 @@ pub fn refusal(
     secret: usize,
     associated: usize,
 ) -> Option<i32>
-    ensures first { result ≡ first_of (request_faults request.now output pwd salt secret associated) }
+    ensures first { result ≡ first_of (request_faults request.now output pwd salt secret
+        associated) }
     ensures none { IsNone result → IsFaultless request.now output pwd salt secret associated }
 {
     if request.lacks_output {
@@ -127,7 +128,8 @@ pub extern "C" fn argon2_c_refusal(
     secret: usize,
     associated: usize,
 ) -> i32
-    ensures { result ≡ unwrap_or (first_of (request_faults request.now output pwd salt secret associated)) OK }
+    ensures { result ≡ unwrap_or (first_of (request_faults request.now output pwd salt secret
+        associated)) OK }
 {
     refusal(request, output, pwd, salt, secret, associated).unwrap_or(OK)
 }

@@ -26,14 +26,18 @@ pub extern "C" fn argon2_c_verify(
     absent: usize,
 ) -> i32
     ensures refused { (e : ℤ)
-        → call_refusal algorithm has_text (length text.now) (length pwd.now) absent ≡ Some e → result ≡ e }
-    ensures said { (v : Said) → call_refusal algorithm has_text (length text.now) (length pwd.now) absent ≡ None
+        → call_refusal algorithm has_text (length text.now) (length pwd.now) absent ≡ Some e
+        → result ≡ e }
+    ensures said { (v : Said)
+        → call_refusal algorithm has_text (length text.now) (length pwd.now) absent ≡ None
         → Says algorithm text.now v
         → (result ≡ verify_code algorithm pwd.now absent v) ⊎ (result ≡ MEMORY_ALLOCATION_ERROR) }
-    ensures unsaid { call_refusal algorithm has_text (length text.now) (length pwd.now) absent ≡ None
+    ensures unsaid { call_refusal algorithm has_text (length text.now) (length pwd.now) absent
+        ≡ None
         → ((v : Said) → Says algorithm text.now v → ⊥)
         → (result ≡ DECODING_FAIL) ⊎ (result ≡ MEMORY_ALLOCATION_ERROR) }
-    ensures found { (result ≡ OK) ⊎ (result ≡ VERIFY_MISMATCH) → (v : Said) × Says algorithm text.now v }
+    ensures found { (result ≡ OK) ⊎ (result ≡ VERIFY_MISMATCH) → (v : Said)
+        × Says algorithm text.now v }
 {
     if let Some(code) = call_refusal(algorithm, has_text, text.len(), pwd.len(), absent) {
         return code;
@@ -83,7 +87,8 @@ fn decoded(alloc: Global, algorithm: u32, text: &[u8]) -> Result<Decoded, i32>
 
 // Whether a password has this hash.
 fn compared(alloc: Global, algorithm: u32, shown: &Decoded, pwd: &[u8], absent: usize) -> i32
-    ensures { (result ≡ verify_code algorithm pwd.now absent (said shown.now)) ⊎ (result ≡ MEMORY_ALLOCATION_ERROR) }
+    ensures { (result ≡ verify_code algorithm pwd.now absent (said shown.now))
+        ⊎ (result ≡ MEMORY_ALLOCATION_ERROR) }
 {
     let Ok(mut out) = vec![in alloc; 0u8; shown.tag.len()] else {
         return MEMORY_ALLOCATION_ERROR;

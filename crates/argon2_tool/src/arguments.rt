@@ -29,7 +29,8 @@ impl<'a> Command<'a> {
     /// The command that the arguments spell, if they spell one.
     pub fn parsed(args: &'a [String]) -> Option<Command<'a>>
         ensures found { IfSome result (λ command. Spells (map string_bytes args.now) command) }
-        ensures only { (command : Command) → Spells (map string_bytes args.now) command → IsSome result }
+        ensures only { (command : Command) → Spells (map string_bytes args.now) command
+            → IsSome result }
     {
         let (name, values) = args.split_first()?;
         match name.as_str() {
@@ -45,7 +46,8 @@ impl<'a> Command<'a> {
     // The command that `digest` and these words spell, if they spell one.
     fn digest_of(values: &'a [String]) -> Option<Command<'a>>
         ensures found { IfSome result (Spells (codes "digest" ∷ map string_bytes values.now)) }
-        ensures only { (command : Command) → Spells (codes "digest" ∷ map string_bytes values.now) command
+        ensures only { (command : Command)
+            → Spells (codes "digest" ∷ map string_bytes values.now) command
             → IsSome result }
     {
         let [len] = values else {
@@ -57,7 +59,8 @@ impl<'a> Command<'a> {
     // The command that `long` and these words spell, if they spell one.
     fn long_of(values: &'a [String]) -> Option<Command<'a>>
         ensures found { IfSome result (Spells (codes "long" ∷ map string_bytes values.now)) }
-        ensures only { (command : Command) → Spells (codes "long" ∷ map string_bytes values.now) command
+        ensures only { (command : Command)
+            → Spells (codes "long" ∷ map string_bytes values.now) command
             → IsSome result }
     {
         let [len] = values else {
@@ -69,7 +72,8 @@ impl<'a> Command<'a> {
     // The command that `tag` and these words spell, if they spell one.
     fn tag_of(values: &'a [String]) -> Option<Command<'a>>
         ensures found { IfSome result (Spells (codes "tag" ∷ map string_bytes values.now)) }
-        ensures only { (command : Command) → Spells (codes "tag" ∷ map string_bytes values.now) command
+        ensures only { (command : Command)
+            → Spells (codes "tag" ∷ map string_bytes values.now) command
             → IsSome result }
     {
         let [algorithm, version, m_cost, t_cost, p_cost, len, salt] = values else {
@@ -89,7 +93,8 @@ impl<'a> Command<'a> {
     // The command that `phc` and these words spell, if they spell one.
     fn phc_of(values: &'a [String]) -> Option<Command<'a>>
         ensures found { IfSome result (Spells (codes "phc" ∷ map string_bytes values.now)) }
-        ensures only { (command : Command) → Spells (codes "phc" ∷ map string_bytes values.now) command
+        ensures only { (command : Command)
+            → Spells (codes "phc" ∷ map string_bytes values.now) command
             → IsSome result }
     {
         let [algorithm, version, m_cost, t_cost, p_cost, salt] = values else {
@@ -108,7 +113,8 @@ impl<'a> Command<'a> {
     // The command that `verify` and these words spell, if they spell one.
     fn verify_of(values: &'a [String]) -> Option<Command<'a>>
         ensures found { IfSome result (Spells (codes "verify" ∷ map string_bytes values.now)) }
-        ensures only { (command : Command) → Spells (codes "verify" ∷ map string_bytes values.now) command
+        ensures only { (command : Command)
+            → Spells (codes "verify" ∷ map string_bytes values.now) command
             → IsSome result }
     {
         let [text] = values else {
@@ -127,9 +133,11 @@ impl<'a> Command<'a> {
         len: &str,
         salt: &'a str,
     ) -> Option<Command<'a>>
-        ensures found { IfSome result (Spells (codes "tag" ∷ algorithm.now ∷ version.now ∷ m_cost.now
+        ensures found { IfSome result (Spells (codes "tag" ∷ algorithm.now ∷ version.now
+            ∷ m_cost.now
             ∷ t_cost.now ∷ p_cost.now ∷ len.now ∷ salt.now ∷ [])) }
-        ensures only { (command : Command) → Spells (codes "tag" ∷ algorithm.now ∷ version.now ∷ m_cost.now
+        ensures only { (command : Command)
+            → Spells (codes "tag" ∷ algorithm.now ∷ version.now ∷ m_cost.now
             ∷ t_cost.now ∷ p_cost.now ∷ len.now ∷ salt.now ∷ []) command → IsSome result }
     {
         let request = Request::parsed(algorithm, version, m_cost, t_cost, p_cost)?;
@@ -146,9 +154,11 @@ impl<'a> Command<'a> {
         p_cost: &str,
         salt: &'a str,
     ) -> Option<Command<'a>>
-        ensures found { IfSome result (Spells (codes "phc" ∷ algorithm.now ∷ version.now ∷ m_cost.now
+        ensures found { IfSome result (Spells (codes "phc" ∷ algorithm.now ∷ version.now
+            ∷ m_cost.now
             ∷ t_cost.now ∷ p_cost.now ∷ salt.now ∷ [])) }
-        ensures only { (command : Command) → Spells (codes "phc" ∷ algorithm.now ∷ version.now ∷ m_cost.now
+        ensures only { (command : Command)
+            → Spells (codes "phc" ∷ algorithm.now ∷ version.now ∷ m_cost.now
             ∷ t_cost.now ∷ p_cost.now ∷ salt.now ∷ []) command → IsSome result }
     {
         let request = Request::parsed(algorithm, version, m_cost, t_cost, p_cost)?;

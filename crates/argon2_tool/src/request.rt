@@ -28,7 +28,8 @@ impl<'a> Request<'a> {
         ensures found { IfSome result (λ r. IsRequest r × (request_words r
             ≡ algorithm.now ∷ version.now ∷ m_cost.now ∷ t_cost.now ∷ p_cost.now ∷ [])) }
         ensures only { (r : Request) → IsRequest r
-            → request_words r ≡ algorithm.now ∷ version.now ∷ m_cost.now ∷ t_cost.now ∷ p_cost.now ∷ []
+            → request_words r ≡ algorithm.now ∷ version.now ∷ m_cost.now ∷ t_cost.now ∷ p_cost.now
+            ∷ []
             → IsSome result }
     {
         Some(Request {

@@ -40,7 +40,8 @@ pub fn run<R: Read, W: Write, E: Write>(
         × IsAnswered c (R.remaining input.old) (W.contents output.old) (W.contents output.new) }
     ensures quiet { result ≡ 0 → Keeps (E.contents errors.old) (E.contents errors.new) }
     ensures refused { result ≡ 1 → (c : Command) × Spells (map string_bytes args.now) c
-        × (IsRefused c (R.remaining input.old) → Keeps (W.contents output.old) (W.contents output.new)) }
+        × (IsRefused c (R.remaining input.old)
+        → Keeps (W.contents output.old) (W.contents output.new)) }
 {
     let Some(command) = Command::parsed(args) else {
         let _ = writeln!(errors, "{USAGE}");

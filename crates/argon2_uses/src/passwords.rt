@@ -17,7 +17,8 @@ use std::alloc::Global;
 /// What to store for a new password: it prints as the text.
 pub fn stored<R: Rng>(alloc: Global, rng: &mut R, password: &[u8]) -> Result<PasswordHash>
     ensures accepted { IfOk result (λ hash. Accepts [] password.now (phc_text (phc_of hash))) }
-    ensures made { IsHashAnswer default_target password.now (fill_bytes 16 (R.stream rng.old)).0 result }
+    ensures made { IsHashAnswer default_target password.now (fill_bytes 16 (R.stream rng.old)).0
+        result }
 {
     Argon2::default().hash_password(alloc, rng, password)
 }

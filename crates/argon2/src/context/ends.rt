@@ -75,7 +75,8 @@ impl Instance<'_> {
     pub(super) fn begin(&self, pwd: &[u8], salt: &[u8], out_len: u32, blocks: &mut [Block])
         requires inputs { AreShort pwd.now salt.now }
         requires size { length blocks.old ≡ block_count self.now }
-        ensures begins { Begins self.now (first_block self.now pwd.now salt.now out_len) blocks.new }
+        ensures begins { Begins self.now (first_block self.now pwd.now salt.now out_len)
+            blocks.new }
         ensures others { KeepsOtherColumns self.now blocks.old blocks.new }
     {
         let hash = self.initial_hash(pwd, salt, out_len);
@@ -90,7 +91,8 @@ impl Instance<'_> {
         requires room { block_count self.now ≤ length memory.now }
         requires some { 1 ≤ length out.old }
         requires few { length out.old < 2 ^ 32 }
-        ensures { out.new ≡ long_hash (length out.old) (bytes_of (last_column self.now memory.now)) }
+        ensures { out.new
+            ≡ long_hash (length out.old) (bytes_of (last_column self.now memory.now)) }
     {
         let last = self.last_column(memory);
         blake2b_long(&[&last.to_bytes()], out).unwrap();

@@ -36,7 +36,8 @@ impl Argon2<'_> {
         salt: &[u8],
         memory: &[Block],
     ) -> Result<()>
-        ensures answer { result ≡ answer_unless (refusal_of self.now out_len pwd.now salt.now memory.now) tt }
+        ensures answer { result ≡ answer_unless (refusal_of self.now out_len pwd.now salt.now
+            memory.now) tt }
         ensures output { OnOk result (IsOutputLength out_len) }
         ensures short { OnOk result (AreShort pwd.now salt.now) }
         ensures room { OnOk result (block_count (context_of self.now) ≤ length memory.now) }

@@ -110,7 +110,8 @@ impl<'a> Instance<'a> {
     /// The place of the block that a word takes for a step.
     pub(super) fn reference_place(&self, at: Step, word: u64) -> u32
         requires { IsStep self.now at.pass at.lane at.column }
-        ensures value { result ≡ place_of self.now (reference self.now at.pass at.lane at.column word) }
+        ensures value { result ≡ place_of self.now (reference self.now at.pass at.lane at.column
+            word) }
         ensures within { result < block_count self.now }
     {
         let other = self.reference_lane(at, word);
@@ -162,7 +163,8 @@ impl<'a> Instance<'a> {
     fn permitted_column(&self, at: Step, index: u32) -> u32
         requires step { IsStep self.now at.pass at.lane at.column }
         requires few { index < lane_length self.now }
-        ensures value { (other : ℕ) → let blocks = permitted self.now at.pass at.lane at.column other in
+        ensures value { (other : ℕ)
+            → let blocks = permitted self.now at.pass at.lane at.column other in
             index < length blocks → result ≡ (slice_index_or blocks index (0, 0)).1 }
         ensures within { result < lane_length self.now }
     {

@@ -29,8 +29,10 @@ impl Argon2<'_> {
         out_len: usize,
         memory: &mut [Block],
     ) -> Result<()>
-        ensures answer { result ≡ answer_unless (refusal_of self.now out_len pwd.now salt.now memory.old) tt }
-        ensures begun { OnOk result (IsBegun self.now pwd.now salt.now out_len memory.old memory.new) }
+        ensures answer { result ≡ answer_unless (refusal_of self.now out_len pwd.now salt.now
+            memory.old) tt }
+        ensures begun { OnOk result (IsBegun self.now pwd.now salt.now out_len memory.old
+            memory.new) }
         ensures same { OnErr result (memory.new ≡ memory.old) }
     {
         self.check(out_len, pwd, salt, memory)?;

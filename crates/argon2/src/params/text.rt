@@ -100,7 +100,8 @@ impl fmt::Display for Params {
 
 // Takes the number that the value of this name is the decimal of.
 fn take_number(found: &mut Option<u32>, name: &'static str, value: &Value<'_>) -> Result<()>
-    ensures { outcome_of (λ _. found.new) result ≡ value_taken (bad_param name.now) (number_of value.now) }
+    ensures { outcome_of (λ _. found.new) result
+        ≡ value_taken (bad_param name.now) (number_of value.now) }
 {
     let Ok(n) = value.decimal() else {
         return Err(Error::ParamInvalid { name });

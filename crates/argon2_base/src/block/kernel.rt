@@ -21,7 +21,8 @@ fn add_mul(a: u64x8, b: u64x8) -> u64x8
 #[inline(always)]
 fn xor_rotate(a: u64x8, b: u64x8, k: u64) -> u64x8
     requires { (0 < k) × (k < 64) }
-    ensures { (j : ℕ) → j < 8 → slice_index result j ≡ xor_rotate (slice_index a j) (slice_index b j) k }
+    ensures { (j : ℕ) → j < 8 → slice_index result j
+        ≡ xor_rotate (slice_index a j) (slice_index b j) k }
 {
     let x = a ^ b;
     (x >> u64x8::splat(k)) | (x << u64x8::splat(64 - k))
@@ -70,7 +71,12 @@ fn xor_rotate_24(a: u64x8, b: u64x8) -> u64x8
 #[inline(always)]
 fn gb(a: u64x8, b: u64x8, c: u64x8, d: u64x8) -> (u64x8, u64x8, u64x8, u64x8)
     ensures { (j : ℕ) → j < 8
-        → (slice_index result.0 j, slice_index result.1 j, slice_index result.2 j, slice_index result.3 j)
+        → (
+          slice_index result.0 j,
+          slice_index result.1 j,
+          slice_index result.2 j,
+          slice_index result.3 j,
+        )
         ≡ gb (slice_index a j) (slice_index b j) (slice_index c j) (slice_index d j) }
 {
     let a1 = add_mul(a, b);
@@ -112,8 +118,10 @@ fn perm(mut v: [u64x8; 16]) -> [u64x8; 16]
 // The lanes of two vectors in turn.
 #[inline(always)]
 fn interleave(a: u64x8, b: u64x8) -> (u64x8, u64x8)
-    ensures left { (j : ℕ) → j < 8 → slice_index result.0 j ≡ slice_index (if j % 2 == 0 then a else b) (j / 2) }
-    ensures right { (j : ℕ) → j < 8 → slice_index result.1 j ≡ slice_index (if j % 2 == 0 then a else b) (4 + j / 2) }
+    ensures left { (j : ℕ) → j < 8 → slice_index result.0 j
+        ≡ slice_index (if j % 2 == 0 then a else b) (j / 2) }
+    ensures right { (j : ℕ) → j < 8 → slice_index result.1 j
+        ≡ slice_index (if j % 2 == 0 then a else b) (4 + j / 2) }
 {
     a.interleave(b)
 }
@@ -185,7 +193,8 @@ fn load(words: &[u64], at: usize) -> u64x8
 #[inline(always)]
 fn load_xor(x: &[u64; 128], y: &[u64; 128], at: usize) -> u64x8
     requires { at + 8 ≤ 128 }
-    ensures { (k : ℕ) → k < 8 → slice_index result k ≡ slice_index (xor_blocks x.now y.now) (at + k) }
+    ensures { (k : ℕ) → k < 8 → slice_index result k
+        ≡ slice_index (xor_blocks x.now y.now) (at + k) }
 {
     load(x, at) ^ load(y, at)
 }
@@ -194,7 +203,8 @@ fn load_xor(x: &[u64; 128], y: &[u64; 128], at: usize) -> u64x8
 #[inline(always)]
 fn store_xor(words: &mut [u64], at: usize, v: u64x8, r: u64x8)
     requires { at + 8 ≤ length words.old }
-    ensures here { (k : ℕ) → k < 8 → slice_index words.new (at + k) ≡ bit_xor (slice_index v k) (slice_index r k) }
+    ensures here { (k : ℕ) → k < 8 → slice_index words.new (at + k)
+        ≡ bit_xor (slice_index v k) (slice_index r k) }
     ensures below { (k : ℕ) → k < at → slice_index words.new k ≡ slice_index words.old k }
 {
     (v ^ r).copy_to_slice(&mut words[at..]);
@@ -244,7 +254,8 @@ fn rows(r: &[u64x8; 16]) -> [u64x8; 16]
 // From words of rows to words of columns: word 2 * i + e of column j is word 2 * j + e of row i.
 #[inline(always)]
 fn columns(x: [u64x8; 16]) -> [u64x8; 16]
-    ensures { (i j e : ℕ) → i < 8 → j < 8 → e < 2 → lane_word result (2 * i + e) j ≡ lane_word x (2 * j + e) i }
+    ensures { (i j e : ℕ) → i < 8 → j < 8 → e < 2 → lane_word result (2 * i + e) j
+        ≡ lane_word x (2 * j + e) i }
 {
     let [a0, a1, a2, a3, a4, a5, a6, a7] = transpose([
         x[0], x[2], x[4], x[6], x[8], x[10], x[12], x[14],
@@ -264,7 +275,8 @@ fn store_row(out: &mut [u64], i: usize, even: u64x8, odd: u64x8, left: u64x8, ri
     ensures left { (k : ℕ) → k < 8 → slice_index out.new (16 * i + k)
         ≡ bit_xor (slice_index (if k % 2 == 0 then even else odd) (k / 2)) (slice_index left k) }
     ensures right { (k : ℕ) → k < 8 → slice_index out.new (16 * i + 8 + k)
-        ≡ bit_xor (slice_index (if k % 2 == 0 then even else odd) (4 + k / 2)) (slice_index right k) }
+        ≡ bit_xor (slice_index (if k % 2 == 0 then even else odd) (4 + k / 2))
+        (slice_index right k) }
     ensures below { (k : ℕ) → k < 16 * i → slice_index out.new k ≡ slice_index out.old k }
 {
     let (low, high) = interleave(even, odd);
@@ -276,7 +288,8 @@ fn store_row(out: &mut [u64], i: usize, even: u64x8, odd: u64x8, left: u64x8, ri
 #[inline(always)]
 fn words(columns: &[u64x8; 16], r: &[u64x8; 16]) -> [u64; 128]
     ensures { (w : ℕ) → w < 128 → slice_index result w
-        ≡ bit_xor (lane_word columns.now (2 * (w / 16) + w % 2) (w % 16 / 2)) (slice_index (words_in_eights r.now) w) }
+        ≡ bit_xor (lane_word columns.now (2 * (w / 16) + w % 2) (w % 16 / 2))
+        (slice_index (words_in_eights r.now) w) }
 {
     let mut out = [0; 128];
     'rows: for i in 0..8 {

@@ -24,7 +24,9 @@ fn hides_the_secret(rt: HostRuntime) -> Result<(), Fail> {
     let params = Params::new(32, 3, 4, Some(16))?;
     let argon2 = Argon2::new_with_secret(b"secret", Algorithm::Argon2i, Version::V0x10, params)?;
     let text =
-        "Argon2 { algorithm: Argon2i, version: V0x10, params: Params { m_cost: 32, t_cost: 3, p_cost: 4, keyid: KeyId { bytes: [] }, associated: AssociatedData { bytes: [] }, output_len: Some(16) }, .. }";
+        "Argon2 { algorithm: Argon2i, version: V0x10, params: Params { m_cost: 32, t_cost: 3, \
+         p_cost: 4, keyid: KeyId { bytes: [] }, associated: AssociatedData { bytes: [] }, \
+         output_len: Some(16) }, .. }";
     assert!(rt; shows(rt.alloc(), &argon2, text));
     Ok(())
 }
@@ -36,11 +38,12 @@ fn shows_parameters(rt: HostRuntime) -> Result<(), Fail> {
         .m_cost(32)
         .keyid(KeyId::new(b"ab")?)
         .data(AssociatedData::new(&[4; 3])?);
-    let text =
-        "Params { m_cost: 32, t_cost: 2, p_cost: 1, keyid: KeyId { bytes: [97, 98] }, associated: AssociatedData { bytes: [4, 4, 4] }, output_len: None }";
+    let text = "Params { m_cost: 32, t_cost: 2, p_cost: 1, keyid: KeyId { bytes: [97, 98] }, \
+         associated: AssociatedData { bytes: [4, 4, 4] }, output_len: None }";
     assert!(rt; shows(rt.alloc(), &builder.build()?, text));
     let text =
-        "ParamsBuilder { m_cost: 32, t_cost: 2, p_cost: 1, keyid: Some(KeyId { bytes: [97, 98] }), associated: Some(AssociatedData { bytes: [4, 4, 4] }), output_len: None }";
+        "ParamsBuilder { m_cost: 32, t_cost: 2, p_cost: 1, keyid: Some(KeyId { bytes: [97, 98] \
+         }), associated: Some(AssociatedData { bytes: [4, 4, 4] }), output_len: None }";
     assert!(rt; shows(rt.alloc(), &builder, text));
     Ok(())
 }

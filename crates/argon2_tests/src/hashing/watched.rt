@@ -13,7 +13,8 @@ use std::test::Fail;
 
 // How many places there are for the references of all steps.
 fn place_count(argon2: &Argon2<'_>) -> Result<usize, Fail>
-    ensures { IfOk result (λ n. n ≡ (context_of argon2.now).t_cost * block_count (context_of argon2.now)) }
+    ensures { IfOk result (λ n.
+        n ≡ (context_of argon2.now).t_cost * block_count (context_of argon2.now)) }
 {
     let params = argon2.params();
     match params.block_count().checked_mul(params.t_cost() as usize) {

@@ -11,7 +11,8 @@ fn answers_the_digest_of_its_input(rt: HostRuntime) -> Result<(), Fail> {
             "digest",
             "64",
             "",
-            "786a02f742015903c6c6fd852552d272912f4740e15847618a86e217f71f5419d25e1031afee585313896444934eb04b903a685b1448b755d56f701afe9be2ce\n",
+            "786a02f742015903c6c6fd852552d272912f4740e15847618a86e217f71f5419\
+             d25e1031afee585313896444934eb04b903a685b1448b755d56f701afe9be2ce\n",
         ),
         (
             "digest",
@@ -25,7 +26,8 @@ fn answers_the_digest_of_its_input(rt: HostRuntime) -> Result<(), Fail> {
             "long",
             "65",
             "abc",
-            "77baa447fe6f777c9bcb519545ce80badaf08ecb973fbb4ff45af7d8b569ec7caad65f72669d05153cdeaa563a162bb5ae4c42214551593816008dc560c5a65391\n",
+            "77baa447fe6f777c9bcb519545ce80badaf08ecb973fbb4ff45af7d8b569ec7c\
+             aad65f72669d05153cdeaa563a162bb5ae4c42214551593816008dc560c5a65391\n",
         ),
     ] {
         let mut input = message.as_bytes();
@@ -184,7 +186,9 @@ fn long_64_is_a_digest(rt: HostRuntime) -> Result<(), Fail> {
     )?;
     assert_eq!(rt;
         long.as_slice(),
-        b"f32577a3172f56657d531faaa43077bb8c9726ada7bb04dd337ec5a65454abff241ad6b87a72440e5127c6f9caa70327f2a699096e52d163eb52d9cd99620593\n".as_slice()
+        b"f32577a3172f56657d531faaa43077bb8c9726ada7bb04dd337ec5a65454abff\
+          241ad6b87a72440e5127c6f9caa70327f2a699096e52d163eb52d9cd99620593\n"
+            .as_slice()
     );
     assert_eq!(rt; digest.as_slice(), long.as_slice());
     Ok(())
