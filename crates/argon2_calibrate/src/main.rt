@@ -11,6 +11,7 @@ use stopwatch::Machine;
 mod arguments;
 mod choice;
 mod failure;
+mod options;
 mod run;
 mod search;
 mod stopwatch;

@@ -3,10 +3,11 @@
 ghost use Rattle.std.specs.Prelude.{◌≡◌, ◌↔◌, ◌≤◌, IfSome, OnOk, IsNone, map, string_bytes};
 ghost use Rattle.std.specs.Io.KnownBytes.{Appends, Keeps};
 ghost use Rattle.argon2_calibrate.specs.Answer.{IsAnswered, call_text, list_text, time_text};
-ghost use Rattle.argon2_calibrate.specs.Arguments.{command_of};
+ghost use Rattle.argon2_calibrate.specs.Arguments.{ArePossible, command_of};
 
 use crate::arguments::Command;
 use crate::failure::Failure;
+use crate::options::Options;
 use crate::search::search;
 use crate::stopwatch::Stopwatch;
 use std::io::Write;
@@ -14,20 +15,29 @@ use std::io::Write;
 #[cfg(test)]
 mod tests;
 
-const USAGE: &str = "usage: argon2-calibrate SECONDS [MEBIBYTES] | --help";
+const USAGE: &str = "\
+usage: argon2-calibrate [--min-t N] [--lanes N] SECONDS [MEBIBYTES]
+       argon2-calibrate -h | --help | --version";
+
+const VERSION: &str = "argon2-calibrate 0.6.0\n";
 
 const HELP: &str = "\
 argon2-calibrate says which costs make a hash take a given time on this machine.
 
-    argon2-calibrate SECONDS [MEBIBYTES]
+    argon2-calibrate [OPTION].. SECONDS [MEBIBYTES]
 
 SECONDS is a decimal number up to 3600, and may have a point with one to three digits. MEBIBYTES is
 the most memory that one hash may take, 64 where it is not given.
 
-It hashes by Argon2id with one lane, each time thrice, and says on standard error the least of the
-three times. First it halves the memory, from the most on, until one pass is within the time; then
-it takes the most passes that are, of up to four numbers that it tries. It writes the parameters as
-a list, as a call and with the time that was measured.
+    --min-t N   the least number of passes (2 below 64 MiB of memory, and 1 from there on)
+    --lanes N   lanes, with at least 8 blocks of 1024 bytes each (1)
+    -h, --help  write this
+    --version   write the version
+
+It hashes by Argon2id, each time thrice, and says on standard error the least of the three times.
+First it halves the memory, from the most on, until the least passes are within the time; then it
+takes the most passes that are, of up to four numbers that it tries. It writes the parameters as a
+list, as a call and with the time that was measured.
 
 The status is 0 where the costs are written. It is 1 where the clock, writing or a request for memory
 fails, which standard error says; and 2 where the arguments are not of this form.
@@ -55,10 +65,9 @@ pub fn run<S: Stopwatch, W: Write, E: Write>(
         return 2;
     };
     let answered = match command {
-        Command::Help => help(output),
-        Command::Calibrate(millis, mebibytes) => {
-            calibrate(millis, mebibytes, stopwatch, output, errors)
-        }
+        Command::Help => page(output, HELP),
+        Command::Version => page(output, VERSION),
+        Command::Calibrate(options) => calibrate(options, stopwatch, output, errors),
     };
     match answered {
         Ok(()) => 0,
@@ -74,49 +83,46 @@ pub fn fail<E: Write>(errors: &mut E, failure: Failure) -> u8
     1
 }
 
-// Writes the help.
-fn help<W: Write>(output: &mut W) -> Result<(), Failure>
-    ensures { OnOk result (Appends (W.contents output.old) (W.contents output.new) HELP.now) }
+// Writes a page.
+fn page<W: Write>(output: &mut W, text: &str) -> Result<(), Failure>
+    ensures { OnOk result (Appends (W.contents output.old) (W.contents output.new) text.now) }
 {
-    output.write_all(HELP.as_bytes())?;
+    output.write_all(text.as_bytes())?;
     output.flush()?;
     Ok(())
 }
 
-// Writes the costs that take so many milliseconds with at most so much memory.
+// Writes the costs that options ask for.
 fn calibrate<S: Stopwatch, W: Write, E: Write>(
-    millis: u32,
-    mebibytes: u32,
+    options: Options,
     stopwatch: &mut S,
     output: &mut W,
     errors: &mut E,
 ) -> Result<(), Failure>
-    requires some { 1 ≤ mebibytes }
-    requires most { mebibytes ≤ 4194303 }
-    ensures { OnOk result (IsAnswered S.may_take (Command.Calibrate millis mebibytes)
+    requires { ArePossible options }
+    ensures { OnOk result (IsAnswered S.may_take (Command.Calibrate options)
         (W.contents output.old) (W.contents output.new)) }
 {
-    let target = 1000 * u64::from(millis);
-    let choice = search(stopwatch, errors, target, 1024 * mebibytes)?;
+    let choice = search(stopwatch, errors, options)?;
     let (m, t) = (choice.m_cost, choice.t_cost);
-    write_list(output, m, t)?;
-    write_call(output, m, t)?;
+    write_list(output, m, t, options.lanes)?;
+    write_call(output, m, t, options.lanes)?;
     write_time(output, choice.time)
 }
 
 // Writes costs as a list of parameters, a line.
-fn write_list<W: Write>(output: &mut W, m: u32, t: u32) -> Result<(), Failure>
-    ensures { OnOk result (Appends (W.contents output.old) (W.contents output.new) (list_text m t)) }
+fn write_list<W: Write>(output: &mut W, m: u32, t: u32, p: u32) -> Result<(), Failure>
+    ensures { OnOk result (Appends (W.contents output.old) (W.contents output.new) (list_text m t p)) }
 {
-    writeln!(output, "m={m},t={t},p=1")?;
+    writeln!(output, "m={m},t={t},p={p}")?;
     Ok(())
 }
 
 // Writes costs as a call, a line.
-fn write_call<W: Write>(output: &mut W, m: u32, t: u32) -> Result<(), Failure>
-    ensures { OnOk result (Appends (W.contents output.old) (W.contents output.new) (call_text m t)) }
+fn write_call<W: Write>(output: &mut W, m: u32, t: u32, p: u32) -> Result<(), Failure>
+    ensures { OnOk result (Appends (W.contents output.old) (W.contents output.new) (call_text m t p)) }
 {
-    writeln!(output, "Params::new({m}, {t}, 1, None)")?;
+    writeln!(output, "Params::new({m}, {t}, {p}, None)")?;
     Ok(())
 }
 

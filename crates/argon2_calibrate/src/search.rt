@@ -1,20 +1,19 @@
 //! The search for costs.
 
 ghost use Rattle.std.specs.Prelude.{◌≡◌, ◌≤◌, IfOk};
-ghost use Rattle.argon2_calibrate.specs.Choice.{IsBest, IsChoice, IsOnePass, IsTime};
+ghost use Rattle.argon2_calibrate.specs.Arguments.{ArePossible};
+ghost use Rattle.argon2_calibrate.specs.Choice.{IsBest, IsChoice, IsFirst, IsTime};
 
-use crate::choice::{Choice, further, passes};
+use crate::choice::{Choice, further, least_passes, passes};
 use crate::failure::Failure;
+use crate::options::Options;
 use crate::stopwatch::Stopwatch;
 use std::io::Write;
 
-// The fewest blocks that a hash with one lane may have.
-const LEAST_BLOCKS: u32 = 8;
-
-// How many numbers of passes are tried beside one.
+// How many numbers of passes are tried beside the least.
 const TRIALS: u32 = 4;
 
-/// The most memory up to a limit with which one pass takes no longer than the target, by halves, and then
+/// The most memory up to a limit with which the least passes take no longer than the target, by halves, and then
 /// the most passes: as RFC 9106, section 4, goes about it. Each measured time is written to `errors`.
 ///
 /// # Errors
@@ -22,35 +21,36 @@ const TRIALS: u32 = 4;
 pub fn search<S: Stopwatch, E: Write>(
     stopwatch: &mut S,
     errors: &mut E,
-    target: u64,
-    most: u32,
+    options: Options,
 ) -> Result<Choice, Failure>
-    requires { 8 ≤ most }
-    ensures { IfOk result (IsChoice S.may_take target most) }
+    requires { ArePossible options }
+    ensures { IfOk result (IsChoice (S.may_take options.lanes) options) }
 {
-    let one = one_pass(stopwatch, errors, target, most)?;
-    most_passes(stopwatch, errors, target, one)
+    let first = most_memory(stopwatch, errors, options)?;
+    most_passes(stopwatch, errors, options, first)
 }
 
-// One pass over the most memory, by halves, with which it takes no longer than the target.
-fn one_pass<S: Stopwatch, E: Write>(
+// The least passes over the most memory, by halves, with which they take no longer than the target.
+fn most_memory<S: Stopwatch, E: Write>(
     stopwatch: &mut S,
     errors: &mut E,
-    target: u64,
-    most: u32,
+    options: Options,
 ) -> Result<Choice, Failure>
-    requires { 8 ≤ most }
-    ensures { IfOk result (IsOnePass S.may_take target most) }
+    requires { ArePossible options }
+    ensures some { IfOk result (λ first. 1 ≤ first.t_cost) }
+    ensures first { IfOk result (IsFirst (S.may_take options.lanes) options) }
 {
-    let mut m_cost = most;
-    let mut time = timed(stopwatch, errors, m_cost, 1)?;
-    while time > target && m_cost >= 2 * LEAST_BLOCKS {
+    let mut m_cost = options.most;
+    let mut t_cost = least_passes(options.min_t, m_cost);
+    let mut time = timed(stopwatch, errors, options.lanes, m_cost, t_cost)?;
+    while time > options.target && m_cost >= 16 * options.lanes {
         m_cost /= 2;
-        time = timed(stopwatch, errors, m_cost, 1)?;
+        t_cost = least_passes(options.min_t, m_cost);
+        time = timed(stopwatch, errors, options.lanes, m_cost, t_cost)?;
     }
     Ok(Choice {
         m_cost,
-        t_cost: 1,
+        t_cost,
         time,
     })
 }
@@ -60,27 +60,28 @@ fn one_pass<S: Stopwatch, E: Write>(
 fn most_passes<S: Stopwatch, E: Write>(
     stopwatch: &mut S,
     errors: &mut E,
-    target: u64,
-    one: Choice,
+    options: Options,
+    first: Choice,
 ) -> Result<Choice, Failure>
-    requires single { one.t_cost ≡ 1 }
-    requires taken { IsTime S.may_take one.m_cost 1 one.time }
-    ensures { IfOk result (IsBest S.may_take target one) }
+    requires some { 1 ≤ first.t_cost }
+    requires taken { IsTime (S.may_take options.lanes) first.m_cost first.t_cost first.time }
+    ensures { IfOk result (IsBest (S.may_take options.lanes) options.target first) }
 {
-    let mut best = one;
-    let (mut most, mut next) = (u32::MAX, 2);
+    let mut best = first;
+    let (mut most, mut next) = (u32::MAX, first.t_cost.saturating_add(1));
     'trials: for _ in 0..TRIALS {
         if next <= best.t_cost {
             break;
         }
-        let time = timed(stopwatch, errors, one.m_cost, next)?;
-        if time <= target {
+        let time = timed(stopwatch, errors, options.lanes, first.m_cost, next)?;
+        if time <= options.target {
             best.t_cost = next;
             best.time = time;
         } else {
             most = next - 1;
         }
-        next = passes(target, one.time, further(one.time, next, time)).min(most);
+        let further = further(first, next, time);
+        next = passes(options.target, first, further).min(most);
     }
     Ok(best)
 }
@@ -89,17 +90,18 @@ fn most_passes<S: Stopwatch, E: Write>(
 pub fn timed<S: Stopwatch, E: Write>(
     stopwatch: &mut S,
     errors: &mut E,
+    lanes: u32,
     m_cost: u32,
     t_cost: u32,
 ) -> Result<u64, Failure>
-    ensures { IfOk result (IsTime S.may_take m_cost t_cost) }
+    ensures { IfOk result (IsTime (S.may_take lanes) m_cost t_cost) }
 {
-    let [a, b, c] = stopwatch.times(m_cost, t_cost)?;
+    let [a, b, c] = stopwatch.times(lanes, m_cost, t_cost)?;
     let time = a.min(b).min(c);
     let (seconds, millis) = (time / 1_000_000, time / 1000 % 1000);
     let _ = writeln!(
         errors,
-        "argon2-calibrate: m={m_cost},t={t_cost},p=1 takes {seconds}.{millis:03} seconds"
+        "argon2-calibrate: m={m_cost},t={t_cost},p={lanes} takes {seconds}.{millis:03} seconds"
     );
     Ok(time)
 }

@@ -12,19 +12,19 @@ use std::alloc::Global;
 use std::rt::Clock;
 use std::time::Instant;
 
-/// What measures hashes by Argon2id with one lane.
+/// What measures hashes by Argon2id.
 pub trait Stopwatch {
     ghost use Rattle.std.specs.Prelude.{ℕ, ⊤, List, IfOk};
 
-    // Hashes with so many blocks and passes may be found to take so many microseconds.
-    ghost may_take: { ℕ → ℕ → List ℕ → Type 0 } = { λ _ _ _. ⊤ };
+    // Hashes with so many lanes, blocks and passes may be found to take so many microseconds.
+    ghost may_take: { ℕ → ℕ → ℕ → List ℕ → Type 0 } = { λ _ _ _ _. ⊤ };
 
-    /// How many microseconds each of three hashes takes with so many blocks of 1024 bytes and so many passes.
+    /// How many microseconds each of three hashes takes with so many lanes, blocks of 1024 bytes and passes.
     ///
     /// # Errors
     /// Memory may be refused, and the clock may not answer.
-    fn times(&mut self, m_cost: u32, t_cost: u32) -> Result<[u64; 3], Failure>
-        ensures { IfOk result (may_take m_cost t_cost) };
+    fn times(&mut self, lanes: u32, m_cost: u32, t_cost: u32) -> Result<[u64; 3], Failure>
+        ensures { IfOk result (may_take lanes m_cost t_cost) };
 }
 
 /// The machine that the program runs on.
@@ -50,20 +50,20 @@ impl<'a, C: Clock> Machine<'a, C> {
     }
 }
 
-// What is timed: Argon2id with so many blocks and passes and one lane.
-fn argon2id(m_cost: u32, t_cost: u32) -> argon2::Result<Argon2<'static>>
-    ensures { IsContextOf Argon2id V0x13 (plain m_cost t_cost 1 None) result }
+// What is timed: Argon2id with so many lanes, blocks and passes.
+fn argon2id(lanes: u32, m_cost: u32, t_cost: u32) -> argon2::Result<Argon2<'static>>
+    ensures { IsContextOf Argon2id V0x13 (plain m_cost t_cost lanes None) result }
 {
-    let params = Params::new(m_cost, t_cost, 1, None)?;
+    let params = Params::new(m_cost, t_cost, lanes, None)?;
     Ok(Argon2::new(Algorithm::Argon2id, Version::V0x13, params))
 }
 
 impl<C: Clock> Stopwatch for Machine<'_, C> {
     // Only valid costs have a time.
-    ghost may_take = { λ m_cost t_cost _. AreValid (plain m_cost t_cost 1 None) };
+    ghost may_take = { λ lanes m_cost t_cost _. AreValid (plain m_cost t_cost lanes None) };
 
-    fn times(&mut self, m_cost: u32, t_cost: u32) -> Result<[u64; 3], Failure> {
-        let argon2 = argon2id(m_cost, t_cost)?;
+    fn times(&mut self, lanes: u32, m_cost: u32, t_cost: u32) -> Result<[u64; 3], Failure> {
+        let argon2 = argon2id(lanes, m_cost, t_cost)?;
         Ok([
             self.time(&argon2)?,
             self.time(&argon2)?,

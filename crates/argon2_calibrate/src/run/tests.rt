@@ -15,7 +15,7 @@ struct Even {
 }
 
 impl Stopwatch for Even {
-    fn times(&mut self, m_cost: u32, t_cost: u32) -> Result<[u64; 3], Failure> {
+    fn times(&mut self, _lanes: u32, m_cost: u32, t_cost: u32) -> Result<[u64; 3], Failure> {
         let blocks = u64::from(m_cost).saturating_mul(u64::from(t_cost));
         let taken = (blocks.saturating_mul(self.a_block) / 1000).saturating_add(self.once);
         Ok([taken.saturating_mul(2), taken, taken.saturating_add(1)])
@@ -27,7 +27,7 @@ impl Stopwatch for Even {
 struct Uneven(u64);
 
 impl Stopwatch for Uneven {
-    fn times(&mut self, _m_cost: u32, t_cost: u32) -> Result<[u64; 3], Failure> {
+    fn times(&mut self, _lanes: u32, _m_cost: u32, t_cost: u32) -> Result<[u64; 3], Failure> {
         let taken = if t_cost == 2 {
             self.0
         } else {
@@ -42,7 +42,7 @@ impl Stopwatch for Uneven {
 struct Full;
 
 impl Stopwatch for Full {
-    fn times(&mut self, _m_cost: u32, _t_cost: u32) -> Result<[u64; 3], Failure> {
+    fn times(&mut self, _lanes: u32, _m_cost: u32, _t_cost: u32) -> Result<[u64; 3], Failure> {
         Err(Failure::Memory(AllocError))
     }
 }
@@ -74,37 +74,68 @@ impl Write for Failing {
 
 fn run_words<S: Stopwatch, W: Write, E: Write>(
     alloc: Global,
-    words: &[&str],
+    words: &str,
     stopwatch: &mut S,
     output: &mut W,
     errors: &mut E,
 ) -> Result<u8, AllocError> {
     let mut args = Vec::new(alloc);
-    for word in words {
+    for word in words.split(' ') {
         args.push(String::from_str(alloc, word)?)?;
     }
     Ok(run(args.as_slice(), stopwatch, output, errors))
 }
 
-// 64 MiB take 65.5 ms a pass, and 1000 ms have room for 15 passes; 20 ms have room for 1 pass of 16 MiB,
-// as 16.4 ms and 1 ms beside are.
+// A pass over 64 MiB takes 65.5 ms, and 1000 ms have room for 15 of them; 20 ms have room for 2 passes over 8 MiB or
+// 1 over 16 MiB, which take 16.4 ms and 1 ms beside.
 #[test]
 fn takes_the_most_memory_and_then_the_most_passes(rt: HostRuntime) -> Result<(), Fail> {
     for (words, once, answer) in [
+        ("--version", 0, "argon2-calibrate 0.6.0\n"),
         (
-            ["1", "64"],
+            "1",
             0,
             "m=65536,t=15,p=1\nParams::new(65536, 15, 1, None)\n0.983 seconds\n",
         ),
         (
-            ["0.02", "64"],
+            "0.02 64",
+            1000,
+            "m=8192,t=2,p=1\nParams::new(8192, 2, 1, None)\n0.017 seconds\n",
+        ),
+        (
+            "0.001 1",
+            2000,
+            "m=8,t=2,p=1\nParams::new(8, 2, 1, None)\n0.002 seconds\n",
+        ),
+        (
+            "--min-t 1 0.02",
             1000,
             "m=16384,t=1,p=1\nParams::new(16384, 1, 1, None)\n0.017 seconds\n",
         ),
         (
-            ["0.001", "1"],
+            "--min-t 3 0.2",
+            0,
+            "m=65536,t=3,p=1\nParams::new(65536, 3, 1, None)\n0.196 seconds\n",
+        ),
+        (
+            "--min-t 4294967295 0.001 1",
+            0,
+            "m=8,t=4294967295,p=1\nParams::new(8, 4294967295, 1, None)\n34359.738 seconds\n",
+        ),
+        (
+            "--lanes 4 0.02",
+            1000,
+            "m=8192,t=2,p=4\nParams::new(8192, 2, 4, None)\n0.017 seconds\n",
+        ),
+        (
+            "--lanes 3 --min-t 1 0.001 1",
             2000,
-            "m=8,t=1,p=1\nParams::new(8, 1, 1, None)\n0.002 seconds\n",
+            "m=32,t=1,p=3\nParams::new(32, 1, 3, None)\n0.002 seconds\n",
+        ),
+        (
+            "--lanes 1 --lanes 8192 1 64",
+            0,
+            "m=65536,t=15,p=8192\nParams::new(65536, 15, 8192, None)\n0.983 seconds\n",
         ),
     ] {
         let mut stopwatch = Even {
@@ -112,7 +143,7 @@ fn takes_the_most_memory_and_then_the_most_passes(rt: HostRuntime) -> Result<(),
             once,
         };
         let (mut output, mut errors) = (Vec::new(rt.alloc()), Vec::new(rt.alloc()));
-        let status = run_words(rt.alloc(), &words, &mut stopwatch, &mut output, &mut errors)?;
+        let status = run_words(rt.alloc(), words, &mut stopwatch, &mut output, &mut errors)?;
         assert_eq!(rt; output.as_slice(), answer.as_bytes());
         assert_eq!(rt; status, 0);
     }
@@ -129,7 +160,7 @@ fn corrects_the_passes_by_their_time(rt: HostRuntime) -> Result<(), Fail> {
         let (mut output, mut errors) = (Vec::new(rt.alloc()), Vec::new(rt.alloc()));
         run_words(
             rt.alloc(),
-            &["0.5"],
+            "0.5",
             &mut Uneven(both),
             &mut output,
             &mut errors,
@@ -150,7 +181,7 @@ fn tells_each_time(rt: HostRuntime) -> Result<(), Fail> {
     let (mut output, mut errors) = (Vec::new(rt.alloc()), Vec::new(rt.alloc()));
     run_words(
         rt.alloc(),
-        &["0.7", "1024"],
+        "0.7 1024",
         &mut stopwatch,
         &mut output,
         &mut errors,
@@ -166,25 +197,41 @@ argon2-calibrate: m=524288,t=2,p=1 takes 1.048 seconds
 #[test]
 fn tells_its_usage_where_arguments_are_of_no_form(rt: HostRuntime) -> Result<(), Fail> {
     for words in [
-        ["0", "64"],
-        ["0.000", "64"],
-        ["1.", "64"],
-        [".5", "64"],
-        ["1.0000", "64"],
-        ["1.x", "64"],
-        ["1e3", "64"],
-        ["-1", "64"],
-        ["3600.001", "64"],
-        ["1", "0"],
-        ["1", "064"],
-        ["1", "4194304"],
-        ["--help", "1"],
+        "0 64",
+        "0.000 64",
+        "1. 64",
+        ".5 64",
+        "1.0000 64",
+        "1.x 64",
+        "1e3 64",
+        "-1 64",
+        "3600.001 64",
+        "1 0",
+        "1 064",
+        "1 4194304",
+        "1 64 1",
+        "",
+        "-h 1",
+        "--help 1",
+        "--version 1",
+        "--min-t",
+        "--min-t 1",
+        "--min-t 0 1",
+        "--min-t 4294967296 1",
+        "--lanes 1",
+        "--lanes 0 1",
+        "--lanes 16777216 1 4194303",
+        "--lanes 8193 1 64",
+        "--passes 2 1",
+        "1 --lanes 2",
     ] {
         let (mut output, mut errors) = (Vec::new(rt.alloc()), Vec::new(rt.alloc()));
-        let status = run_words(rt.alloc(), &words, &mut Full, &mut output, &mut errors)?;
+        let status = run_words(rt.alloc(), words, &mut Full, &mut output, &mut errors)?;
         assert_eq!(rt;
             errors.as_slice(),
-            b"usage: argon2-calibrate SECONDS [MEBIBYTES] | --help\n".as_slice()
+            b"usage: argon2-calibrate [--min-t N] [--lanes N] SECONDS [MEBIBYTES]
+       argon2-calibrate -h | --help | --version\n"
+                .as_slice()
         );
         assert_eq!(rt; output.len(), 0);
         assert_eq!(rt; status, 2);
@@ -195,13 +242,7 @@ fn tells_its_usage_where_arguments_are_of_no_form(rt: HostRuntime) -> Result<(),
 #[test]
 fn tells_what_fails(rt: HostRuntime) -> Result<(), Fail> {
     let (mut output, mut errors) = (Vec::new(rt.alloc()), Vec::new(rt.alloc()));
-    let status = run_words(
-        rt.alloc(),
-        &["3600.000"],
-        &mut Full,
-        &mut output,
-        &mut errors,
-    )?;
+    let status = run_words(rt.alloc(), "3600.000", &mut Full, &mut output, &mut errors)?;
     assert_eq!(rt;
         errors.as_slice(),
         b"argon2-calibrate: out of memory\n".as_slice()
@@ -215,7 +256,7 @@ fn tells_what_fails(rt: HostRuntime) -> Result<(), Fail> {
         let mut errors = Vec::new(rt.alloc());
         let status = run_words(
             rt.alloc(),
-            &[word],
+            word,
             &mut stopwatch,
             &mut Failing(0),
             &mut errors,
@@ -234,8 +275,8 @@ fn tells_what_fails(rt: HostRuntime) -> Result<(), Fail> {
 #[test]
 fn measures_this_machine(rt: HostRuntime) -> Result<(), Fail> {
     let mut machine = Machine::new(rt.alloc(), &rt);
-    assert!(rt; machine.times(7, 1).is_err());
-    let [short, long] = [machine.times(8, 1)?, machine.times(4096, 4)?];
+    assert!(rt; machine.times(2, 15, 1).is_err());
+    let [short, long] = [machine.times(1, 8, 1)?, machine.times(1, 4096, 4)?];
     assert!(rt;
         long.iter().min() > short.iter().min(),
         "{short:?} {long:?}"

@@ -1,0 +1,24 @@
+//! What a calibration is asked for.
+
+/// What a calibration is asked for.
+#[derive(Clone, Copy, Debug, PartialEq, Eq)]
+pub struct Options {
+    /// How long a hash may take, in microseconds.
+    pub target: u64,
+    /// The most memory in blocks of 1024 bytes.
+    pub most: u32,
+    /// Lanes.
+    pub lanes: u32,
+    /// The least number of passes, where it is given.
+    pub min_t: Option<u32>,
+}
+
+impl Options {
+    /// One lane and at most 64 MiB, with no time yet.
+    pub const DEFAULT: Options = Options {
+        target: 0,
+        most: 65536,
+        lanes: 1,
+        min_t: None,
+    };
+}
