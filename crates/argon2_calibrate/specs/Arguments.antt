@@ -1,5 +1,5 @@
 -- What the program's arguments ask for.
-use Rattle.std.specs.Prelude.{◌≤◌, ⊤, IfSome, ℕ, ◌+◌, ◌-◌, ◌*◌, ◌&&◌, ◌==◌, nat_le, nat_lt, Bool, List, [], ◌∷◌, length, codes, if◌then◌else◌, Option, Some, None, option_and_then}
+use Rattle.std.specs.Prelude.{◌≤◌, ⊤, IfSome, ℕ, ◌+◌, ◌-◌, ◌*◌, ◌&&◌, ◌==◌, nat_le, nat_lt, Bool, true, false, List, [], ◌∷◌, length, codes, if◌then◌else◌, Option, Some, None, option_and_then}
 use Rattle.std.specs.List.{after_first, before_first, position_or_len}
 use Rattle.std.specs.Option.{option_map}
 use Rattle.std.specs.Str.{bytes_eq}
@@ -84,11 +84,13 @@ abbrev pub or_else : Option Options → (Options → Option Options) → Option 
 or_else None next other = other
 or_else (Some changed) next other = next changed
 
--- the options after names with values, and then a time and the most memory
+-- the options after `--json` and names with values, and then a time and the most memory
 abbrev pub with_words_of : Options → List (List ℕ) → Option Options
 with_words_of options [] = None
 with_words_of options (word ∷ []) = calibration_of options (word ∷ [])
-with_words_of options (word ∷ value ∷ rest) = or_else (with_value_of word value options)
+with_words_of options (word ∷ value ∷ rest) =
+    if bytes_eq word (codes "--json") then with_words_of (record options { json = true }) (value ∷ rest)
+    else or_else (with_value_of word value options)
     (λ changed. with_words_of changed rest) (calibration_of options (word ∷ value ∷ rest))
 
 -- `-h`, `--help` or `--version`
@@ -105,9 +107,9 @@ alone_of [] = None
 alone_of (word ∷ []) = page_of word
 alone_of (word ∷ value ∷ rest) = None
 
--- one lane and no least number of passes
+-- lines for one lane, and no least number of passes
 abbrev pub default_options : Options
-default_options = record { target = 0; most = 65536; lanes = 1; min_t = None }
+default_options = record { target = 0; most = 65536; lanes = 1; min_t = None; json = false }
 
 abbrev pub or_command : Option Command → Option Options → Option Command
 or_command None options = option_map Calibrate options

@@ -1,7 +1,8 @@
 -- Costs that are chosen by measured times.
-use Rattle.std.specs.Prelude.{◌≡◌, ◌⊎◌, ⊤, ℕ, ◌+◌, ◌-◌, ◌*◌, ◌<◌, ◌≤◌, ◌/◌, zero, suc, max, min, nat_le, nat_lt, if◌then◌else◌, List, [], ◌∷◌, length, Option, Some, None}
+use Rattle.std.specs.Prelude.{◌≡◌, ◌⊎◌, ⊤, ℕ, ◌+◌, ◌-◌, ◌*◌, ◌<◌, ◌≤◌, ◌/◌, zero, suc, max, min, nat_le, nat_lt, if◌then◌else◌, List, [], ◌∷◌, length, Bool, Option, Some, None}
 use Rattle.argon2.specs.Settings.{AreValid, plain}
 use Rattle.argon2_calibrate.specs.declared.choice.Choice.{Choice}
+use Rattle.argon2_calibrate.specs.declared.choice.Timed.{Timed}
 use Rattle.argon2_calibrate.specs.declared.options.Options.{Options}
 
 -- the least number of passes over so much memory: what is asked for, or else 2 below 64 MiB and 1 from there on
@@ -31,6 +32,15 @@ pub record IsGreatest (target : ℕ) (first : Choice) (further passes : ℕ) : T
 abbrev pub IsTime : (ℕ → ℕ → List ℕ → Type 0) → ℕ → ℕ → ℕ → Type 0
 IsTime Takes m_cost t_cost time = (a : ℕ) × (b : ℕ) × (c : ℕ)
     × Takes m_cost t_cost (a ∷ b ∷ c ∷ []) × (time ≡ min (min a b) c)
+
+-- the greatest of three times is above the least by more than a quarter
+abbrev pub scatter : ℕ → ℕ → ℕ → Bool
+scatter a b c = nat_lt (min (min a b) c / 4) (max (max a b) c - min (min a b) c)
+
+-- the least of the times that three hashes took, and whether they scatter
+abbrev pub IsTimed : (ℕ → ℕ → List ℕ → Type 0) → ℕ → ℕ → Timed → Type 0
+IsTimed Takes m_cost t_cost timed = (a : ℕ) × (b : ℕ) × (c : ℕ) × Takes m_cost t_cost (a ∷ b ∷ c ∷ [])
+    × (timed.time ≡ min (min a b) c) × (timed.busy ≡ scatter a b c)
 
 -- memory halved so often
 abbrev pub halved : ℕ → ℕ → ℕ

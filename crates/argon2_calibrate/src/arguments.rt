@@ -73,6 +73,9 @@ impl Options {
         let Some((value, after)) = rest.split_first() else {
             return self.calibration(args);
         };
+        if word.as_str() == "--json" {
+            return Options { json: true, ..self }.with_words(rest);
+        }
         match self.with_value(word.as_str(), value.as_str()) {
             Some(changed) => changed.with_words(after),
             None => self.calibration(args),

@@ -1,7 +1,7 @@
 //! Costs that are chosen by measured times.
 
 ghost use Rattle.std.specs.Prelude.{◌≡◌, ◌≤◌, ◌<◌, IfSome};
-ghost use Rattle.argon2_calibrate.specs.Choice.{IsGreatest, further_of, least_passes};
+ghost use Rattle.argon2_calibrate.specs.Choice.{IsGreatest, further_of, least_passes, scatter};
 
 /// Memory and passes, and how long a hash under them takes.
 #[derive(Clone, Copy, Debug, PartialEq, Eq)]
@@ -12,6 +12,31 @@ pub struct Choice {
     pub t_cost: u32,
     /// The time as it was measured, in microseconds.
     pub time: u64,
+}
+
+/// Costs that were searched for.
+#[derive(Clone, Copy, Debug, PartialEq, Eq)]
+pub struct Found {
+    pub choice: Choice,
+    /// Whether some of the times that it rests on scattered to the last.
+    pub busy: bool,
+}
+
+/// The time of a hash.
+#[derive(Clone, Copy, Debug, PartialEq, Eq)]
+pub struct Timed {
+    /// The least of three times in microseconds.
+    pub time: u64,
+    /// Whether the three times scatter.
+    pub busy: bool,
+}
+
+/// Whether the greatest of three times is above the least by more than a quarter.
+pub fn scatter(a: u64, b: u64, c: u64) -> bool
+    ensures { result ≡ scatter a b c }
+{
+    let least = a.min(b).min(c);
+    a.max(b).max(c) - least > least / 4
 }
 
 /// The least number of passes over so much memory: what is asked for, or else 2 below 64 MiB and 1 from there on.

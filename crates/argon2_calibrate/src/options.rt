@@ -11,6 +11,8 @@ pub struct Options {
     pub lanes: u32,
     /// The least number of passes, where it is given.
     pub min_t: Option<u32>,
+    /// Whether the answer is a JSON object.
+    pub json: bool,
 }
 
 impl Options {
@@ -20,5 +22,6 @@ impl Options {
         most: 65536,
         lanes: 1,
         min_t: None,
+        json: false,
     };
 }

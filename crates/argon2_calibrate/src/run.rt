@@ -2,10 +2,11 @@
 
 ghost use Rattle.std.specs.Prelude.{◌≡◌, ◌↔◌, ◌≤◌, IfSome, OnOk, IsNone, map, string_bytes};
 ghost use Rattle.std.specs.Io.KnownBytes.{Appends, Keeps};
-ghost use Rattle.argon2_calibrate.specs.Answer.{IsAnswered, call_text, list_text, time_text};
+ghost use Rattle.argon2_calibrate.specs.Answer.{IsAnswered, call_text, end_text, json_text, lines_text, list_text, time_text};
 ghost use Rattle.argon2_calibrate.specs.Arguments.{ArePossible, command_of};
 
 use crate::arguments::Command;
+use crate::choice::Found;
 use crate::failure::Failure;
 use crate::options::Options;
 use crate::search::search;
@@ -16,10 +17,12 @@ use std::io::Write;
 mod tests;
 
 const USAGE: &str = "\
-usage: argon2-calibrate [--min-t N] [--lanes N] SECONDS [MEBIBYTES]
+usage: argon2-calibrate [--min-t N] [--lanes N] [--json] SECONDS [MEBIBYTES]
        argon2-calibrate -h | --help | --version";
 
 const VERSION: &str = "argon2-calibrate 0.6.0\n";
+
+const BUSY: &str = "the machine was busy: times may be too long";
 
 const HELP: &str = "\
 argon2-calibrate says which costs make a hash take a given time on this machine.
@@ -31,6 +34,7 @@ the most memory that one hash may take, 64 where it is not given.
 
     --min-t N   the least number of passes (2 below 64 MiB of memory, and 1 from there on)
     --lanes N   lanes, with at least 8 blocks of 1024 bytes each (1)
+    --json      write one JSON object: m, t, p, seconds, busy
     -h, --help  write this
     --version   write the version
 
@@ -38,6 +42,10 @@ It hashes by Argon2id, each time thrice, and says on standard error the least of
 First it halves the memory, from the most on, until the least passes are within the time; then it
 takes the most passes that are, of up to four numbers that it tries. It writes the parameters as a
 list, as a call and with the time that was measured.
+
+The machine is busy where the greatest of three times is above the least by more than a quarter. Then
+it measures again, at most five times in all. Where some times scattered to the last, a last line or
+the JSON object says so.
 
 The status is 0 where the costs are written. It is 1 where the clock, writing or a request for memory
 fails, which standard error says; and 2 where the arguments are not of this form.
@@ -103,11 +111,39 @@ fn calibrate<S: Stopwatch, W: Write, E: Write>(
     ensures { OnOk result (IsAnswered S.may_take (Command.Calibrate options)
         (W.contents output.old) (W.contents output.new)) }
 {
-    let choice = search(stopwatch, errors, options)?;
-    let (m, t) = (choice.m_cost, choice.t_cost);
-    write_list(output, m, t, options.lanes)?;
-    write_call(output, m, t, options.lanes)?;
-    write_time(output, choice.time)
+    let found = search(stopwatch, errors, options)?;
+    if options.json {
+        write_json(output, found, options.lanes)
+    } else {
+        write_lines(output, found, options.lanes)
+    }
+}
+
+// Writes costs as a JSON object, a line.
+fn write_json<W: Write>(output: &mut W, found: Found, p: u32) -> Result<(), Failure>
+    ensures { OnOk result (Appends (W.contents output.old) (W.contents output.new) (json_text found p)) }
+{
+    let (m, t, time) = (found.choice.m_cost, found.choice.t_cost, found.choice.time);
+    write!(output, "{{\"m\":{m},\"t\":{t},\"p\":{p},")?;
+    let (seconds, millis) = (time / 1_000_000, time / 1000 % 1000);
+    let busy = found.busy;
+    writeln!(
+        output,
+        "\"seconds\":{seconds}.{millis:03},\"busy\":{busy}}}"
+    )?;
+    output.flush()?;
+    Ok(())
+}
+
+// Writes costs and their time as lines.
+fn write_lines<W: Write>(output: &mut W, found: Found, p: u32) -> Result<(), Failure>
+    ensures { OnOk result (Appends (W.contents output.old) (W.contents output.new) (lines_text found p)) }
+{
+    let (m, t) = (found.choice.m_cost, found.choice.t_cost);
+    write_list(output, m, t, p)?;
+    write_call(output, m, t, p)?;
+    write_time(output, found.choice.time)?;
+    write_end(output, found.busy)
 }
 
 // Writes costs as a list of parameters, a line.
@@ -132,6 +168,16 @@ fn write_time<W: Write>(output: &mut W, time: u64) -> Result<(), Failure>
 {
     let (seconds, millis) = (time / 1_000_000, time / 1000 % 1000);
     writeln!(output, "{seconds}.{millis:03} seconds")?;
+    Ok(())
+}
+
+// Writes a line where the machine was busy.
+fn write_end<W: Write>(output: &mut W, busy: bool) -> Result<(), Failure>
+    ensures { OnOk result (Appends (W.contents output.old) (W.contents output.new) (end_text busy)) }
+{
+    if busy {
+        writeln!(output, "{BUSY}")?;
+    }
     output.flush()?;
     Ok(())
 }

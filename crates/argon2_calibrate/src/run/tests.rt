@@ -7,18 +7,25 @@ use std::io::{ErrorKind, Write};
 use std::process::Abort;
 use std::test::Fail;
 
-// A machine that takes so many nanoseconds a block and pass, and so many microseconds beside.
+// A machine that takes so many nanoseconds a block and pass, and so many microseconds beside. So many times the last
+// hash of three takes too long by a microsecond.
 #[derive(Drop)]
 struct Even {
     a_block: u64,
     once: u64,
+    busy: u32,
 }
 
 impl Stopwatch for Even {
     fn times(&mut self, _lanes: u32, m_cost: u32, t_cost: u32) -> Result<[u64; 3], Failure> {
         let blocks = u64::from(m_cost).saturating_mul(u64::from(t_cost));
         let taken = (blocks.saturating_mul(self.a_block) / 1000).saturating_add(self.once);
-        Ok([taken.saturating_mul(2), taken, taken.saturating_add(1)])
+        let close = taken.saturating_add(taken / 4);
+        if self.busy == 0 {
+            return Ok([close, taken, taken]);
+        }
+        self.busy -= 1;
+        Ok([close, taken, close.saturating_add(1)])
     }
 }
 
@@ -93,6 +100,11 @@ fn takes_the_most_memory_and_then_the_most_passes(rt: HostRuntime) -> Result<(),
     for (words, once, answer) in [
         ("--version", 0, "argon2-calibrate 0.6.0\n"),
         (
+            "--json --lanes 4 0.02",
+            1000,
+            "{\"m\":8192,\"t\":2,\"p\":4,\"seconds\":0.017,\"busy\":false}\n",
+        ),
+        (
             "1",
             0,
             "m=65536,t=15,p=1\nParams::new(65536, 15, 1, None)\n0.983 seconds\n",
@@ -141,6 +153,7 @@ fn takes_the_most_memory_and_then_the_most_passes(rt: HostRuntime) -> Result<(),
         let mut stopwatch = Even {
             a_block: 1000,
             once,
+            busy: 0,
         };
         let (mut output, mut errors) = (Vec::new(rt.alloc()), Vec::new(rt.alloc()));
         let status = run_words(rt.alloc(), words, &mut stopwatch, &mut output, &mut errors)?;
@@ -177,6 +190,7 @@ fn tells_each_time(rt: HostRuntime) -> Result<(), Fail> {
     let mut stopwatch = Even {
         a_block: 1000,
         once: 0,
+        busy: 0,
     };
     let (mut output, mut errors) = (Vec::new(rt.alloc()), Vec::new(rt.alloc()));
     run_words(
@@ -191,6 +205,58 @@ argon2-calibrate: m=524288,t=1,p=1 takes 0.524 seconds
 argon2-calibrate: m=524288,t=2,p=1 takes 1.048 seconds
 ";
     assert_eq!(rt; errors.as_slice(), told.as_bytes());
+    Ok(())
+}
+
+// A pass over 64 MiB takes 65.5 ms, and 2 passes over 32 MiB do. Where a machine is busy five times, it is still so when
+// 64 MiB were measured to the last.
+#[test]
+fn measures_again_where_the_machine_is_busy(rt: HostRuntime) -> Result<(), Fail> {
+    for (words, busy, again, answer) in [
+        (
+            "0.07",
+            4,
+            4,
+            "m=65536,t=1,p=1\nParams::new(65536, 1, 1, None)\n0.065 seconds\n",
+        ),
+        (
+            "0.07",
+            5,
+            4,
+            "m=65536,t=1,p=1\nParams::new(65536, 1, 1, None)\n0.065 seconds
+the machine was busy: times may be too long\n",
+        ),
+        (
+            "--json 0.07",
+            100,
+            8,
+            "{\"m\":65536,\"t\":1,\"p\":1,\"seconds\":0.065,\"busy\":true}\n",
+        ),
+        (
+            "--json 0.04",
+            5,
+            4,
+            "{\"m\":16384,\"t\":2,\"p\":1,\"seconds\":0.032,\"busy\":true}\n",
+        ),
+    ] {
+        let mut stopwatch = Even {
+            a_block: 1000,
+            once: 0,
+            busy,
+        };
+        let (mut output, mut errors) = (Vec::new(rt.alloc()), Vec::new(rt.alloc()));
+        let status = run_words(rt.alloc(), words, &mut stopwatch, &mut output, &mut errors)?;
+        let said = str::from_utf8(errors.as_slice()).unwrap_or("");
+        let lines = said.split('\n');
+        assert_eq!(rt;
+            lines
+                .filter(|line| *line == "argon2-calibrate: the machine is busy, measuring again")
+                .count(),
+            again
+        );
+        assert_eq!(rt; output.as_slice(), answer.as_bytes());
+        assert_eq!(rt; status, 0);
+    }
     Ok(())
 }
 
@@ -222,6 +288,9 @@ fn tells_its_usage_where_arguments_are_of_no_form(rt: HostRuntime) -> Result<(),
         "--lanes 0 1",
         "--lanes 16777216 1 4194303",
         "--lanes 8193 1 64",
+        "--json",
+        "1 --json",
+        "--json --help",
         "--passes 2 1",
         "1 --lanes 2",
     ] {
@@ -229,7 +298,7 @@ fn tells_its_usage_where_arguments_are_of_no_form(rt: HostRuntime) -> Result<(),
         let status = run_words(rt.alloc(), words, &mut Full, &mut output, &mut errors)?;
         assert_eq!(rt;
             errors.as_slice(),
-            b"usage: argon2-calibrate [--min-t N] [--lanes N] SECONDS [MEBIBYTES]
+            b"usage: argon2-calibrate [--min-t N] [--lanes N] [--json] SECONDS [MEBIBYTES]
        argon2-calibrate -h | --help | --version\n"
                 .as_slice()
         );
@@ -252,6 +321,7 @@ fn tells_what_fails(rt: HostRuntime) -> Result<(), Fail> {
         let mut stopwatch = Even {
             a_block: 0,
             once: 1,
+            busy: 0,
         };
         let mut errors = Vec::new(rt.alloc());
         let status = run_words(

@@ -9,7 +9,7 @@ loop-time-preserved g c =
       omega arith,
       c.least_passes-t_cost-in-loop-time.ensures.some,
       c.least_passes-t_cost-in-loop-time.ensures.value,
-      c.in_ok-time-2.ensures,
+      c.in_ok-again.ensures.time,
       halved_more (g.S.Stopwatch.may_take c.args.options.lanes) c.args.options c.loop-time.m_cost c.loop-time.time so
           (rw least at took) (omega arith),
     )
