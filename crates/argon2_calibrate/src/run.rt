@@ -121,7 +121,8 @@ fn calibrate<S: Stopwatch, W: Write, E: Write>(
 
 // Writes costs as a JSON object, a line.
 fn write_json<W: Write>(output: &mut W, found: Found, p: u32) -> Result<(), Failure>
-    ensures { OnOk result (Appends (W.contents output.old) (W.contents output.new) (json_text found p)) }
+    ensures { OnOk result (Appends (W.contents output.old) (W.contents output.new)
+        (json_text found p)) }
 {
     let (m, t, time) = (found.choice.m_cost, found.choice.t_cost, found.choice.time);
     write!(output, "{{\"m\":{m},\"t\":{t},\"p\":{p},")?;
@@ -137,7 +138,8 @@ fn write_json<W: Write>(output: &mut W, found: Found, p: u32) -> Result<(), Fail
 
 // Writes costs and their time as lines.
 fn write_lines<W: Write>(output: &mut W, found: Found, p: u32) -> Result<(), Failure>
-    ensures { OnOk result (Appends (W.contents output.old) (W.contents output.new) (lines_text found p)) }
+    ensures { OnOk result (Appends (W.contents output.old) (W.contents output.new)
+        (lines_text found p)) }
 {
     let (m, t) = (found.choice.m_cost, found.choice.t_cost);
     write_list(output, m, t, p)?;
@@ -148,7 +150,8 @@ fn write_lines<W: Write>(output: &mut W, found: Found, p: u32) -> Result<(), Fai
 
 // Writes costs as a list of parameters, a line.
 fn write_list<W: Write>(output: &mut W, m: u32, t: u32, p: u32) -> Result<(), Failure>
-    ensures { OnOk result (Appends (W.contents output.old) (W.contents output.new) (list_text m t p)) }
+    ensures { OnOk result (Appends (W.contents output.old) (W.contents output.new)
+        (list_text m t p)) }
 {
     writeln!(output, "m={m},t={t},p={p}")?;
     Ok(())
@@ -156,7 +159,8 @@ fn write_list<W: Write>(output: &mut W, m: u32, t: u32, p: u32) -> Result<(), Fa
 
 // Writes costs as a call, a line.
 fn write_call<W: Write>(output: &mut W, m: u32, t: u32, p: u32) -> Result<(), Failure>
-    ensures { OnOk result (Appends (W.contents output.old) (W.contents output.new) (call_text m t p)) }
+    ensures { OnOk result (Appends (W.contents output.old) (W.contents output.new)
+        (call_text m t p)) }
 {
     writeln!(output, "Params::new({m}, {t}, {p}, None)")?;
     Ok(())
@@ -164,7 +168,8 @@ fn write_call<W: Write>(output: &mut W, m: u32, t: u32, p: u32) -> Result<(), Fa
 
 // Writes so many microseconds as seconds, a line.
 fn write_time<W: Write>(output: &mut W, time: u64) -> Result<(), Failure>
-    ensures { OnOk result (Appends (W.contents output.old) (W.contents output.new) (time_text time)) }
+    ensures { OnOk result (Appends (W.contents output.old) (W.contents output.new)
+        (time_text time)) }
 {
     let (seconds, millis) = (time / 1_000_000, time / 1000 % 1000);
     writeln!(output, "{seconds}.{millis:03} seconds")?;
@@ -173,7 +178,8 @@ fn write_time<W: Write>(output: &mut W, time: u64) -> Result<(), Failure>
 
 // Writes a line where the machine was busy.
 fn write_end<W: Write>(output: &mut W, busy: bool) -> Result<(), Failure>
-    ensures { OnOk result (Appends (W.contents output.old) (W.contents output.new) (end_text busy)) }
+    ensures { OnOk result (Appends (W.contents output.old) (W.contents output.new)
+        (end_text busy)) }
 {
     if busy {
         writeln!(output, "{BUSY}")?;

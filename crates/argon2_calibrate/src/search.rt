@@ -73,7 +73,8 @@ fn most_passes<S: Stopwatch, E: Write>(
 ) -> Result<Found, Failure>
     requires some { 1 ≤ first.t_cost }
     requires taken { IsTime (S.may_take options.lanes) first.m_cost first.t_cost first.time }
-    ensures { IfOk result (λ found. IsBest (S.may_take options.lanes) options.target first found.choice) }
+    ensures { IfOk result (λ found. IsBest (S.may_take options.lanes) options.target first
+        found.choice) }
 {
     let (mut best, mut busy) = (first, was_busy);
     let (mut most, mut next) = (u32::MAX, first.t_cost.saturating_add(1));
