@@ -29,17 +29,16 @@ impl Stopwatch for Even {
     }
 }
 
-// A machine that takes 10 ms a pass, but so many microseconds for two passes.
+// A machine that takes 10 ms a pass, but so many microseconds for two passes, and then once twice as many.
 #[derive(Drop)]
 struct Uneven(u64);
 
 impl Stopwatch for Uneven {
     fn times(&mut self, _lanes: u32, _m_cost: u32, t_cost: u32) -> Result<[u64; 3], Failure> {
-        let taken = if t_cost == 2 {
-            self.0
-        } else {
-            u64::from(t_cost).saturating_mul(10_000)
-        };
+        if t_cost == 2 {
+            return Ok([self.0, self.0.saturating_mul(2), self.0]);
+        }
+        let taken = u64::from(t_cost).saturating_mul(10_000);
         Ok([taken, taken, taken])
     }
 }
@@ -163,7 +162,7 @@ fn takes_the_most_memory_and_then_the_most_passes(rt: HostRuntime) -> Result<(),
     Ok(())
 }
 
-// By two passes alone it would be 10 of them, or 197; what they take is measured.
+// By two passes alone it would be 10 of them, or 197; what they take is measured. Two passes alone are busy.
 #[test]
 fn corrects_the_passes_by_their_time(rt: HostRuntime) -> Result<(), Fail> {
     for (both, tried) in [
@@ -181,6 +180,11 @@ fn corrects_the_passes_by_their_time(rt: HostRuntime) -> Result<(), Fail> {
         let told = str::from_utf8(errors.as_slice()).unwrap_or("");
         assert!(rt; told.contains(tried));
         assert!(rt; output.as_slice().starts_with(b"m=65536,t=50,p=1\n"));
+        assert!(rt;
+            output
+                .as_slice()
+                .ends_with(b"\nthe machine was busy: times may be too long\n")
+        );
     }
     Ok(())
 }
