@@ -17,8 +17,9 @@ pub struct Choice {
 /// Costs that were searched for.
 #[derive(Clone, Copy, Debug, PartialEq, Eq)]
 pub struct Found {
+    /// The costs.
     pub choice: Choice,
-    /// Whether some of the times that it rests on scattered to the last.
+    /// Whether some of the times that the search measured scattered to the last.
     pub busy: bool,
 }
 

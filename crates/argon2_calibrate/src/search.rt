@@ -97,7 +97,8 @@ fn most_passes<S: Stopwatch, E: Write>(
     Ok(Found { choice: best, busy })
 }
 
-/// How many microseconds a hash takes, the least of three times, which is written to `errors` as seconds.
+/// How many microseconds a hash takes, the least of three times, which is written to `errors` as seconds; and whether
+/// the three times scatter even where they were measured five times.
 pub fn timed<S: Stopwatch, E: Write>(
     stopwatch: &mut S,
     errors: &mut E,
