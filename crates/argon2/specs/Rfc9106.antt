@@ -135,7 +135,7 @@ unfoldable pub without_last : List (ℕ × ℕ) → List (ℕ × ℕ)
 without_last xs = take (length xs - 1) xs
 
 -- The pairs (pass, column) of a lane `other` that the block of a pass, a lane and a column may
--- refer to, oldest first: the finished segments, and of its own lane the segment so far but for the
+-- refer to, oldest first: the finished segments, and of the lane itself the segment so far but for the
 -- previous block. At a segment's start the last of them is left out.
 unfoldable pub permitted : Context → ℕ → ℕ → ℕ → ℕ → List (ℕ × ℕ)
 permitted ctx pass lane column other =
