@@ -1,0 +1,32 @@
+"""The programs that the scripts of ci/ run."""
+
+import os
+import subprocess
+import sys
+
+CRATES = os.path.join(os.path.dirname(os.path.realpath(__file__)), "../crates")
+
+
+def newest_source():
+    """When a file of the crates was last changed."""
+    newest = 0.0
+    for at, folders, names in os.walk(CRATES):
+        if "out" in folders:
+            folders.remove("out")
+        newest = max([newest, *(os.path.getmtime(f"{at}/{name}") for name in names)])
+    return newest
+
+
+def built(crate):
+    """The path of a crate's program: the one that `rt ci` leaves in out/, or one that `rt run` builds.
+
+    It is built where there is none, or where a source is newer.
+    """
+    program = f"{CRATES}/{crate}/out/{crate}"
+    newest = newest_source()
+    if not os.path.exists(program) or os.path.getmtime(program) < newest:
+        how = {"stdin": subprocess.DEVNULL, "capture_output": True, "text": True}
+        ran = subprocess.run(["rt", "run", "--", "--help"], cwd=f"{CRATES}/{crate}", **how)
+        if not os.path.exists(program) or os.path.getmtime(program) < newest:
+            sys.exit(f"rt run built no {crate}:\n{ran.stdout}{ran.stderr}")
+    return program
