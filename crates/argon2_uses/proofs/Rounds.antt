@@ -7,13 +7,13 @@ use Rattle.argon2.specs.Rfc9106.{Context, Memory, segment_length}
 use Rattle.argon2.specs.Steps.{IsSchedule, run, step, turns, turn_count}
 use Rattle.argon2_uses.specs.Scheduler.{rounds, lanes_in_rounds}
 
--- the lanes from one on have no turn of a lane before
+-- the lanes from one on have no turn of an earlier lane
 turns_below : (lane a n : ℕ) → lane < a → turns lane (range_with_len a n) ≡ 0
 turns_below lane a zero h = refl
 turns_below lane a (suc n) h =
     turns-other lane a (range_with_len (a + 1) n) (λ e. omega arith) ∙ turns_below lane (a + 1) n (omega arith)
 
--- and one of each of their own
+-- each lane of the range has one turn
 turns_within : (lane a n : ℕ) → a ≤ lane → lane < a + n → turns lane (range_with_len a n) ≡ 1
 turns_within lane a zero h below = absurd (omega arith)
 turns_within lane a (suc n) h below = elim (cases_eq a lane) [
@@ -79,7 +79,7 @@ run_turn ctx pass slice lane index memory h below =
     ap (λ k. run ctx pass slice (range_with_len lane k ++ rounds p n) memory) e
     ∙ ap (λ x. run ctx pass slice rest (step ctx memory pass lane x)) c
 
--- a round begins
+-- where a round begins, every lane is left in it
 pub run_begin : (ctx : Context) (pass slice index : ℕ) (memory : Memory) → index < segment_length ctx →
     run ctx pass slice (rounds ctx.p_cost (segment_length ctx - index)) memory
     ≡ run ctx pass slice (left ctx 0 (segment_length ctx - (index + 1))) memory
@@ -91,7 +91,7 @@ run_begin ctx pass slice index memory below =
     ap (λ k. run ctx pass slice (rounds ctx.p_cost k) memory) e
     ∙ ap (λ k. run ctx pass slice (range_with_len 0 k ++ rounds ctx.p_cost n) memory) all
 
--- and ends
+-- where a round ends, no lane is left in it
 pub run_end : (ctx : Context) (pass slice n : ℕ) (memory : Memory) →
     run ctx pass slice (left ctx ctx.p_cost n) memory ≡ run ctx pass slice (rounds ctx.p_cost n) memory
 unfolding left

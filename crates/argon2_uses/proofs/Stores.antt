@@ -1,23 +1,30 @@
--- What calls of the login store leave, and why `add` refuses.
-use Rattle.std.proofs.Common.{◌≡◌, ℕ, List, Option, Some, None, Result, Ok, Err, ap, ◌∙◌}
-use Rattle.std.specs.Prelude.{IfErr, IsSomeAnd, OnOk}
-use Rattle.argon2.specs.Login.{Store, AcceptedStep, AddStep, LoginAnswer, store_of, target_of}
-use Rattle.argon2.specs.Made.{Target}
+-- What calls of the login store leave, why `add` refuses, and the names of a store one after the other.
+use Rattle.std.proofs.Common.{◌≡◌, ℕ, ◌≤◌, List, [], ◌∷◌, Option, Some, None, true, Result, Ok, Err, inl, inr, ap, ◌∙◌}
+use Rattle.std.proofs.lemmas.Bool.{and_parts, cases_Bool}
+use Rattle.std.specs.Prelude.{◌≢◌, IfErr, IsErr, IsErrAnd, IsSomeAnd, OnOk}
+use Rattle.std.specs.Cmp.{tied_itself}
+use Rattle.std.specs.Cmp.Lexicographic.{slice_cmp, nat_list_cmp_total}
+use Rattle.std.specs.FinMap.{empty, entries, entries_sorted, get, get-empty, is_sorted}
+use Rattle.std.specs.FinMap.Entries.{below_all}
+use Rattle.std.specs.List.{AllByRecursion}
+use Rattle.std.specs.Ordering.{is_lt, nat_cmp}
+use Rattle.argon2.specs.Login.{Store, AcceptedStep, AddStep, KeepsOthers, LoginAnswer, store_of, target_of}
+use Rattle.argon2.specs.Made.{Target, tag_length}
 use Rattle.argon2.specs.PhcText.{Phc, PhcText}
 use Rattle.argon2.specs.declared.login.answers.Accepted.{Accepted}
 use Rattle.argon2.specs.declared.login.Login.{Login}
 use Rattle.argon2.specs.declared.login.answers.LoginError.{LoginError}
 use Rattle.argon2.specs.declared.login.answers.LoginError.TheVariants.{NameTaken, NameUnknown, OutOfMemory, Refused, Text}
-use Rattle.argon2_uses.specs.Login.{RegisterRefusal}
+use Rattle.argon2_uses.specs.Login.{MoveRefusal, RegisterRefusal}
 
--- after an accepted `login`
+-- what an accepted `login` leaves
 pub login_leaves : (old : Login) (name password drawn : List ℕ) (found : Option Phc) (did : Accepted) (after : Store) →
     LoginAnswer (target_of old) (store_of old) name password drawn found (Ok did) after →
     IsSomeAnd found (λ v. AcceptedStep (target_of old) (store_of old) name password drawn v did after)
 login_leaves old name password drawn None did after step = absurd step
 login_leaves old name password drawn (Some v) did after step = step.1
 
--- after `add` of a text
+-- what `add` of a text leaves
 pub add_gives : (answer : Result (Unit {0}) LoginError) (o : Option Phc) (text : List ℕ) (v w : Phc) → PhcText text v →
     v ≡ w → OnOk answer ((u : Phc) → PhcText text u → o ≡ Some u) → OnOk answer (o ≡ Some w)
 add_gives (Ok x) o text v w is same says = says v is ∙ ap Some same
@@ -34,3 +41,72 @@ add_refuses target login name password salt text v (Err NameTaken) after is step
 add_refuses target login name password salt text v (Err NameUnknown) after is step = absurd step.0
 add_refuses target login name password salt text v (Err OutOfMemory) after is step = tt
 add_refuses target login name password salt text v (Err (Refused e)) after is step = absurd step.0
+
+-- ---- the names of a store
+
+-- each of the names is new when it is added, one after the other
+abbrev pub AreNew : List (List ℕ × Phc) → Store → Type 0
+AreNew [] store = Unit {0}
+AreNew (e ∷ es) store =
+    (get store e.0 ≡ None) × ((after : Store) → KeepsOthers e.0 store after → AreNew es after)
+
+-- a name that is below another is not that name
+below_differs : (name other : List ℕ) → is_lt (slice_cmp nat_cmp name other) ≡ true → other ≢ name
+below_differs name other below e =
+    let tied = tied_itself nat_list_cmp_total name in
+    let same = rw (e, tied) at below in
+    absurd cc
+
+-- names above the one that is added stay absent
+absent_above : (name : List ℕ) (es : List (List ℕ × Phc)) (store after : Store) →
+    below_all (slice_cmp nat_cmp) name es ≡ true → AllByRecursion (λ e. get store e.0 ≡ None) es →
+    KeepsOthers name store after → AllByRecursion (λ e. get after e.0 ≡ None) es
+absent_above name [] store after below absent keeps = tt
+absent_above name (e ∷ es) store after below absent keeps =
+    let parts = and_parts (is_lt (slice_cmp nat_cmp name e.0)) _ below in (
+      keeps e.0 (below_differs name e.0 parts.0) ∙ absent.0,
+      absent_above name es store after parts.1 absent.1 keeps,
+    )
+
+new_in_order : (es : List (List ℕ × Phc)) (store : Store) → is_sorted (slice_cmp nat_cmp) es ≡ true →
+    AllByRecursion (λ e. get store e.0 ≡ None) es → AreNew es store
+new_in_order [] store sorted absent = tt
+new_in_order (e ∷ es) store sorted absent =
+    let parts = and_parts (below_all (slice_cmp nat_cmp) e.0 es) _ sorted in (
+      absent.0,
+      λ after keeps. new_in_order es after parts.1 (absent_above e.0 es store after parts.0 absent.1 keeps),
+    )
+
+absent_empty : (es : List (List ℕ × Phc)) → AllByRecursion (λ e. get {X = Phc} {R = slice_cmp nat_cmp} empty e.0 ≡ None) es
+absent_empty [] = tt
+absent_empty (e ∷ es) = (get-empty (slice_cmp nat_cmp) e.0, absent_empty es)
+
+-- the names of a store, added to a store without names
+pub entries_are_new : (store : Store) → AreNew (entries store) empty
+entries_are_new store = elim (cases_Bool (is_sorted (slice_cmp nat_cmp) (entries store))) [
+  | inl sorted ↦ new_in_order (entries store) empty sorted (absent_empty (entries store))
+  | inr unsorted ↦ absurd (rw unsorted at (entries_sorted store))
+]
+
+pub entries_are_new_in : (es : List (List ℕ × Phc)) (store start : Store) → es ≡ entries store → start ≡ empty →
+    AreNew es start
+entries_are_new_in es store start is none = rw (is, none) (entries_are_new store)
+
+-- `add` refuses a text of the grammar under a new name only where memory is out
+pub add_refuses_new : (target : Target) (before : Store) (name text : List ℕ) (v : Phc)
+    (answer : Result (Unit {0}) LoginError) (after : Store) → PhcText text v → get before name ≡ None →
+    tag_length target.settings ≤ 64 → AddStep before name text answer after → IfErr answer (MoveRefusal target)
+add_refuses_new target before name text v (Ok x) after is new fits step = tt
+add_refuses_new target before name text v (Err Text) after is new fits step = absurd (step.0 v is)
+add_refuses_new target before name text v (Err NameTaken) after is new fits step =
+    let taken = rw new at step.0.1 in
+    absurd cc
+add_refuses_new target before name text v (Err NameUnknown) after is new fits step = absurd step.0
+add_refuses_new target before name text v (Err OutOfMemory) after is new fits step = fits
+add_refuses_new target before name text v (Err (Refused e)) after is new fits step = absurd step.0
+
+-- a refusal that is passed on
+pub refused_as : (target : Target) (r : Result Login LoginError) (e : LoginError) → IsErr r × IsErrAnd r (λ e'. e' ≡ e) →
+    MoveRefusal target e → IfErr r (MoveRefusal target)
+refused_as target (Ok x) e is refused = tt
+refused_as target (Err e') e is refused = rw is.1 refused

@@ -6,7 +6,7 @@ use Rattle.argon2.specs.base_declared.error.Error.{Error}
 use Rattle.argon2.specs.declared.context.Argon2.{Argon2}
 use Rattle.argon2_uses.specs.declared.arena.Input.{Input}
 
--- of 32 bytes
+-- the tag of an input, 32 bytes
 abbrev pub input_tag : Context → Input → List ℕ
 input_tag ctx input = tag_of ctx input.password.now input.salt.now 32
 

@@ -1,9 +1,9 @@
 -- What a service asks of its login store.
-use Rattle.std.specs.Prelude.{◌≡◌, ℕ, List, Option, Some, Result, Ok, Err, IsSome, IsSomeAnd}
+use Rattle.std.specs.Prelude.{◌≡◌, ◌≤◌, ◌⊎◌, ℕ, List, Option, Some, Result, Ok, Err, IsErrAnd, IsSome, IsSomeAnd}
 use Rattle.std.specs.FinMap.{get}
 use Rattle.argon2.specs.Stored.{AcceptsBy}
-use Rattle.argon2.specs.Login.{AcceptedStep, store_of, target_of}
-use Rattle.argon2.specs.Made.{Target, IsHashAnswer}
+use Rattle.argon2.specs.Login.{Store, AcceptedStep, AddStep, IsNew, LoginAnswer, store_of, target_of}
+use Rattle.argon2.specs.Made.{Target, IsHashAnswer, tag_length}
 use Rattle.argon2.specs.declared.login.Login.{Login}
 use Rattle.argon2.specs.declared.login.answers.Accepted.{Accepted}
 use Rattle.argon2.specs.declared.login.answers.LoginError.{LoginError}
@@ -14,7 +14,7 @@ abbrev pub HasPasswordUnder : List ℕ → Login → List ℕ → List ℕ → T
 HasPasswordUnder secret login name password =
     IsSomeAnd (get (store_of login) name) (AcceptsBy secret password)
 
--- the same under the store's own
+-- under the store's own secret, the name's text accepts the password
 abbrev pub HasPassword : Login → List ℕ → List ℕ → Type 0
 HasPassword login name password = HasPasswordUnder (target_of login).secret login name password
 
@@ -31,3 +31,17 @@ RegisterRefusal target login name password salt NameTaken = IsSome (get (store_o
 RegisterRefusal target login name password salt OutOfMemory = Unit {0}
 RegisterRefusal target login name password salt (Refused e) = IsHashAnswer target password salt (Err e)
 RegisterRefusal target login name password salt _ = ⊥
+
+-- what `add` does, and where that succeeds what `login` does then
+abbrev pub TakesOver :
+    Login → List ℕ → List ℕ → List ℕ → List ℕ → Result Accepted LoginError → Login → Type 0
+TakesOver old name text password drawn result new =
+    IsErrAnd result (λ e. AddStep (store_of old) name text (Err e) (store_of new))
+    ⊎ ((between : Store) × AddStep (store_of old) name text (Ok tt) between
+    × LoginAnswer (target_of old) between name password drawn (get between name) result (store_of new))
+
+-- why a store is not moved to a target: its hashes don't fit into texts, or else memory was refused
+abbrev pub MoveRefusal : Target → LoginError → Type 0
+MoveRefusal target (Refused e) = IsNew target (Err e)
+MoveRefusal target OutOfMemory = tag_length target.settings ≤ 64
+MoveRefusal target _ = ⊥

@@ -10,7 +10,7 @@ ghost use Rattle.argon2.specs.Made.{made};
 ghost use Rattle.argon2.specs.base_declared.error.password_hash.Error.TheVariants.{OutOfMemory};
 ghost use Rattle.argon2.specs.declared.login.answers.Accepted.TheVariants.{Kept};
 ghost use Rattle.argon2.specs.declared.login.answers.LoginError.TheVariants.{Refused};
-ghost use Rattle.argon2_uses.specs.Login.{HasPassword, HasPasswordUnder, Leaves, RegisterRefusal};
+ghost use Rattle.argon2_uses.specs.Login.{HasPassword, HasPasswordUnder, Leaves, MoveRefusal, RegisterRefusal, TakesOver};
 
 use argon2::login::{Accepted, Login, LoginError};
 use argon2::password_hash::Error;
@@ -89,6 +89,8 @@ pub fn take_over<R: Rng>(
     text: &str,
     password: &[u8],
 ) -> Result<Accepted, LoginError>
+    ensures answer { TakesOver store.old name.now text.now password.now
+        (fill_bytes 16 (R.stream rng.old)).0 result store.new }
     ensures current { IfOk result (λ did. did ≢ Kept →
         IsSomeAnd (get (store_of store.new) name.now) (IsCurrent (target_of store.new))) }
     ensures others { KeepsOthers name.now (store_of store.old) (store_of store.new) }
@@ -109,6 +111,7 @@ pub fn moved<'key>(
 ) -> Result<Login<'key>, LoginError>
     ensures texts { IfOk result (λ new. store_of new ≡ store_of store.now) }
     ensures target { IfOk result (λ new. target_of new ≡ made_under.target_of target.entry) }
+    ensures refused { IfErr result (MoveRefusal (made_under.target_of target.entry)) }
 {
     let mut new = match Login::new(alloc, target) {
         Ok(new) => new,

@@ -14,7 +14,7 @@ invariant-loop-index l =
     run ctx l.pass l.slice (rounds ctx.p_cost (segment_length ctx - l.index)) (blocks_of ctx l.memory)
     ≡ run ctx l.pass l.slice (lanes_in_rounds ctx l.pass l.slice) (blocks_of ctx l.fn.memory)
 
--- so do the turns that are left
+-- the turns that are left come to the same
 abbrev pub invariant-loop-lane : goal.invariant-loop-lane
 invariant-loop-lane l =
     let ctx = context_of l.argon2 in
