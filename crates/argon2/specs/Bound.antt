@@ -1,7 +1,6 @@
 -- What a stored text asks for, and whether a bound admits it.
-use Rattle.std.specs.Prelude.{◌≡◌, ◌⊎◌, ℕ, ◌≤◌, ◌*◌, List, codes, length, Result, Ok, Err, IsErrAnd}
-use Rattle.std.specs.Option.{option_map}
-use Rattle.argon2_base.specs.Error.{Fault, fault_of, hash_error_text}
+use Rattle.std.specs.Prelude.{◌≡◌, ◌⊎◌, ℕ, ◌≤◌, ◌*◌, List, codes, Result, Ok, Err, IsErrAnd}
+use Rattle.argon2_base.specs.Error.{fault_of, hash_error_text}
 use Rattle.argon2_base.specs.PhcText.{Phc, PhcText}
 use Rattle.argon2_base.specs.declared.error.password_hash.Error.{Error}
 use Rattle.argon2_base.specs.declared.error.password_hash.Error.TheVariants.{EncodingInvalid, OutOfMemory}
@@ -9,14 +8,10 @@ use Rattle.argon2.specs.declared.bound.Bound.{Bound}
 use Rattle.argon2.specs.declared.bound.BoundError.{BoundError}
 use Rattle.argon2.specs.declared.bound.BoundError.TheVariants.{TooExpensive, Refused}
 use Rattle.argon2.specs.Stored.{Accepts, AcceptsBy, IsVerifyAnswer}
-use Rattle.argon2.specs.ListedParameters.{params_of}
+use Rattle.argon2.specs.ListedParameters.{asked_of}
 use Rattle.argon2.specs.Login.{IsText}
 use Rattle.argon2.specs.Settings.{Parameters}
 use Rattle.argon2.specs.Rfc9106.{block_count_for}
-
--- the parameters that a text's value asks for, or why it has none
-abbrev pub asked_of : Phc → Result Parameters Fault
-asked_of v = params_of (option_map length v.hash) v.params
 
 -- the bytes of the memory that is filled
 abbrev pub bytes_filled : Parameters → ℕ
@@ -34,7 +29,7 @@ pub record AsksWithin (bound : Bound) (v : Phc) : Type 0 where
   pub within : IsWithin bound parameters
   pub memory : bytes_filled parameters ≤ 1024 * bound.m_cost
 
--- the same, and so many blocks are what it asks for
+-- the value asks for costs within the bound, and for so many blocks
 abbrev pub AsksBlocksWithin : Bound → Phc → ℕ → Type 0
 AsksBlocksWithin bound v blocks = (asks : AsksWithin bound v)
     × (blocks ≡ block_count_for asks.parameters.m_cost asks.parameters.p_cost)

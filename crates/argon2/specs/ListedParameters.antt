@@ -142,7 +142,7 @@ items_of ps = record {
   associated = option_and_then (short_bytes 32) (value_of (codes "data") ps);
 }
 
--- the same, and under a name that they don't have what was found before
+-- what items say, or under a name that they don't have what was found before
 abbrev pub items_over : List Pair → Items → Items
 items_over ps before = record {
   m = option_or (items_of ps).m before.m;
@@ -171,9 +171,13 @@ items_read ps = checked (items_fault ps) (Ok (items_of ps))
 abbrev pub IsListAnswer : List Pair → Result Params HashError → Type 0
 IsListAnswer ps r = outcome_of parameters_of r ≡ params_of None ps
 
--- the answer for what a PHC text says: the output length is the hash's
+-- the parameters that a PHC text's value asks for, whose output length is the hash's, or why it has none
+abbrev pub asked_of : Phc → Result Parameters Fault
+asked_of v = params_of (option_map length v.hash) v.params
+
+-- the answer for a PHC text's value
 abbrev pub IsPhcAnswer : Phc → Result Params HashError → Type 0
-IsPhcAnswer v r = outcome_of parameters_of r ≡ params_of (option_map length v.hash) v.params
+IsPhcAnswer v r = outcome_of parameters_of r ≡ asked_of v
 
 -- the answer for a text: that of its list, or `ParamsInvalid` where it is no list's
 abbrev pub IsTextAnswer : List ℕ → Result Params HashError → Type 0

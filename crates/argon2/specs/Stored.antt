@@ -1,6 +1,5 @@
 -- What a stored value shows, and when it accepts a password.
 use Rattle.std.specs.Prelude.{ℕ, List, length, Option, Some, None, Result, Ok, Err, ◌≡◌, ◌≤◌, ◌&&◌, nat_le, Bool, if◌then◌else◌, IsOk, ◌⊎◌}
-use Rattle.std.specs.Option.{option_map}
 use Rattle.std.specs.Str.{bytes_eq}
 use Rattle.argon2_base.specs.Error.{Fault, bad_algorithm, bad_encoding, bad_password, bad_version, no_memory, outcome_of}
 use Rattle.argon2_base.specs.PhcText.{Phc, PhcText}
@@ -10,7 +9,7 @@ use Rattle.argon2.specs.declared.version.Version.{Version}
 use Rattle.argon2.specs.declared.version.Version.TheVariants.{V0x10}
 use Rattle.argon2.specs.Settings.{Settings, algorithm_named, version_numbered}
 use Rattle.argon2.specs.Argon2.{settings_with}
-use Rattle.argon2.specs.ListedParameters.{params_of}
+use Rattle.argon2.specs.ListedParameters.{asked_of, params_of}
 use Rattle.argon2_base.specs.declared.error.password_hash.Error.{Error}
 use Rattle.argon2.specs.Rfc9106.{context_with, tag_of}
 
@@ -52,7 +51,7 @@ version_shown (Some number) = version_numbered number
 -- the fault of the first that is not there
 abbrev pub shown_settings : Phc → Result Settings Fault
 shown_settings v =
-    read (params_of (option_map length v.hash) v.params) (λ parameters.
+    read (asked_of v) (λ parameters.
     found (algorithm_named v.algorithm) bad_algorithm (λ algorithm.
     found (version_shown v.version) bad_version (λ version.
     Ok (record { algorithm = algorithm; version = version; parameters = parameters }))))
