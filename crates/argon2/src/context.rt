@@ -18,7 +18,6 @@ mod reference;
 mod stepping;
 
 use instance::Instance;
-use lengths::check_inputs;
 
 /// The most bytes of a password.
 pub const MAX_PWD_LEN: usize = 4294967295;
@@ -271,8 +270,7 @@ impl<'key> Argon2<'key> {
         ensures filled { OnOk result (IsFilled self.now pwd.now salt.now 0 memory.old memory.new) }
         ensures same { OnErr result (memory.new ≡ memory.old) }
     {
-        check_inputs(pwd, salt)?;
-        self.check_memory(memory)?;
+        self.check_filling(pwd, salt, memory)?;
         let instance = self.instance();
         let matrix = &mut memory[..instance.block_count()];
         instance.fill_blocks(pwd, salt, 0, matrix, &mut [], &mut Work::new());

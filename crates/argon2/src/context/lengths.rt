@@ -3,7 +3,7 @@
 ghost use Rattle.std.specs.Prelude.{◌≡◌, ◌≤◌, OnOk, length};
 ghost use Rattle.argon2.specs.Argon2.{context_of};
 ghost use Rattle.argon2.specs.Rfc9106.{AreShort, block_count};
-ghost use Rattle.argon2.specs.Hashing.{input_refusal, memory_refusal, output_refusal, refusal_of, IsOutputLength};
+ghost use Rattle.argon2.specs.Hashing.{fill_refusal, input_refusal, memory_refusal, output_refusal, refusal_of, IsOutputLength};
 ghost use Rattle.argon2.specs.Refusals.{answer_unless};
 
 use super::{Argon2, MAX_PWD_LEN, MAX_SALT_LEN, MIN_SALT_LEN};
@@ -12,7 +12,7 @@ use argon2_base::block::Block;
 use argon2_base::error::{Error, Result};
 
 /// Refuses a password or a salt.
-pub(super) fn check_inputs(pwd: &[u8], salt: &[u8]) -> Result<()>
+fn check_inputs(pwd: &[u8], salt: &[u8]) -> Result<()>
     ensures answer { result ≡ answer_unless (input_refusal pwd.now salt.now) tt }
     ensures short { OnOk result (AreShort pwd.now salt.now) }
 {
@@ -43,6 +43,16 @@ impl Argon2<'_> {
         ensures room { OnOk result (block_count (context_of self.now) ≤ length memory.now) }
     {
         self.check_output(out_len)?;
+        self.check_filling(pwd, salt, memory)
+    }
+
+    /// Refuses a password, a salt or lent memory, by the first fault.
+    pub(super) fn check_filling(&self, pwd: &[u8], salt: &[u8], memory: &[Block]) -> Result<()>
+        ensures answer { result ≡ answer_unless (fill_refusal self.now pwd.now salt.now memory.now)
+            tt }
+        ensures short { OnOk result (AreShort pwd.now salt.now) }
+        ensures room { OnOk result (block_count (context_of self.now) ≤ length memory.now) }
+    {
         check_inputs(pwd, salt)?;
         self.check_memory(memory)
     }
@@ -63,7 +73,7 @@ impl Argon2<'_> {
     }
 
     /// Refuses lent memory.
-    pub(super) fn check_memory(&self, memory: &[Block]) -> Result<()>
+    fn check_memory(&self, memory: &[Block]) -> Result<()>
         ensures answer { result ≡ answer_unless (memory_refusal self.now memory.now) tt }
         ensures room { OnOk result (block_count (context_of self.now) ≤ length memory.now) }
     {

@@ -10,9 +10,8 @@ returns-clause-answer c =
     let output = output_faults (own_parameters c.args.self.now).output_len c.args.out_len in
     let inputs = input_faults (length c.args.pwd.now) (length c.args.salt.now) in
     let memory = memory_faults (block_count (context_of c.args.self.now)) (length c.args.memory.now) in
-    let first = first_of_rest output (inputs ++ memory) (not_refused _ _ _ c.in_ok-check_output.ensures.answer) in
-    let second = first_of_rest inputs memory (not_refused _ _ _ c.in_ok-check_inputs.ensures.answer) in
-    c.check_memory.ensures.answer ∙ sym (ap (λ refusal. answer_unless refusal tt) (first ∙ second))
+    let rest = first_of_rest output (inputs ++ memory) (not_refused _ _ _ c.in_ok-check_output.ensures.answer) in
+    c.check_filling.ensures.answer ∙ sym (ap (λ refusal. answer_unless refusal tt) rest)
 
 pub returns-in_err-check_output-clause-answer : goal.returns-in_err-check_output-clause-answer
 returns-in_err-check_output-clause-answer c =
@@ -22,18 +21,5 @@ returns-in_err-check_output-clause-answer c =
     passed_on c.from_residual.result _ c.from_residual.ensures
     ∙ first_refused output (inputs ++ memory) tt tt _ c.in_err-check_output.ensures.answer
 
-pub returns-in_err-check_inputs-clause-answer : goal.returns-in_err-check_inputs-clause-answer
-returns-in_err-check_inputs-clause-answer c =
-    let output = output_faults (own_parameters c.args.self.now).output_len c.args.out_len in
-    let inputs = input_faults (length c.args.pwd.now) (length c.args.salt.now) in
-    let memory = memory_faults (block_count (context_of c.args.self.now)) (length c.args.memory.now) in
-    let first = first_of_rest output (inputs ++ memory) (not_refused _ _ _ c.in_ok-check_output.ensures.answer) in
-    passed_on c.from_residual-in_err-check_inputs.result _ c.from_residual-in_err-check_inputs.ensures
-    ∙ first_refused inputs memory tt tt _ c.in_err-check_inputs.ensures.answer
-    ∙ sym (ap (λ refusal. answer_unless refusal tt) first)
-
 pub returns-clause-output : goal.returns-clause-output
-returns-clause-output c = on_ok c.check_memory.result c.in_ok-check_output.ensures.fits
-
-pub returns-clause-short : goal.returns-clause-short
-returns-clause-short c = on_ok c.check_memory.result c.in_ok-check_inputs.ensures.short
+returns-clause-output c = on_ok c.check_filling.result c.in_ok-check_output.ensures.fits
