@@ -16,8 +16,7 @@ use Rattle.argon2.specs.declared.login.answers.Accepted.TheVariants.{Current, Ke
 use Rattle.argon2.specs.declared.login.answers.LoginError.{LoginError}
 use Rattle.argon2.specs.declared.login.answers.LoginError.TheVariants.{NameTaken, NameUnknown, OutOfMemory, Refused, Text}
 use Rattle.argon2.specs.Stored.{AcceptsBy, IsVerifyAnswer, shown_settings}
-use Rattle.argon2.specs.Made as made_under
-use Rattle.argon2.specs.Made.{Target, IsTarget, made, sized}
+use Rattle.argon2.specs.Made.{Target, IsTarget, made, sized, target_of, tag_length}
 use Rattle.argon2_base.specs.Error.{hash_error_text}
 
 -- what texts say, by the bytes of their names
@@ -32,13 +31,13 @@ named_values texts = map (λ e. (string_bytes e.0, phc_of e.1)) texts
 abbrev pub values_of : {Y : Type 0} → BTreeMap (String Y) PasswordHash → Store
 values_of texts = from_entries (named_values texts.entries)
 
--- the texts that it has
+-- the texts that a login store has
 abbrev pub store_of : Login → Store
 store_of login = values_of login.texts
 
--- what it renews them by
-abbrev pub target_of : Login → Target
-target_of login = made_under.target_of login.target.argon2
+-- what a login store renews its texts by
+abbrev pub login_target : Login → Target
+login_target login = target_of login.target.argon2
 
 -- the store after these names are added with their texts, one after the other
 abbrev pub added : List (List ℕ × Phc) → Store → Store
@@ -52,8 +51,8 @@ KeepsOthers name before after = (other : List ℕ) → other ≢ name → get af
 -- a store without names, of a target whose hashes fit into texts, or the refusal of longer ones
 abbrev pub IsNew : Target → Result Login HashError → Type 0
 IsNew target (Ok login) =
-    IsTarget (target_of login) × (target_of login ≡ target) × (store_of login ≡ empty)
-IsNew target (Err e) = (e ≡ OutputSize) × (64 < made_under.tag_length target.settings)
+    IsTarget (login_target login) × (login_target login ≡ target) × (store_of login ≡ empty)
+IsNew target (Err e) = (e ≡ OutputSize) × (64 < tag_length target.settings)
 
 -- the name has a text, and it accepts the password
 abbrev pub HasPassword : Target → Store → List ℕ → List ℕ → Type 0
@@ -117,7 +116,7 @@ LoginStep target before (logging_in name password drawn answer) after =
 
 -- a call takes the store from one state to another
 abbrev pub Steps : Event → Login → Login → Type 0
-Steps event old new = LoginStep (target_of old) (store_of old) event (store_of new)
+Steps event old new = LoginStep (login_target old) (store_of old) event (store_of new)
 
 -- what the generator has left: a text is made anew of 16 bytes, also where it is not kept
 abbrev pub stream_after : Result Accepted LoginError → Stream → Stream

@@ -9,8 +9,8 @@ ghost use Rattle.argon2_base.specs.PhcText.{Phc, PhcText};
 ghost use Rattle.argon2_base.specs.declared.error.password_hash.Error.TheVariants.{OutOfMemory as NoMemory};
 ghost use Rattle.argon2.specs.declared.login.answers.Accepted.TheVariants.{Kept};
 ghost use Rattle.argon2.specs.declared.login.answers.LoginError.TheVariants.{Refused};
-ghost use Rattle.argon2.specs.Login.{HasPassword, IsCurrent, IsNew, KeepsOthers, Steps, added, adding, logging_in, named_values, store_of, stream_after, target_of};
-ghost use Rattle.argon2.specs.Made as made_under;
+ghost use Rattle.argon2.specs.Login.{HasPassword, IsCurrent, IsNew, KeepsOthers, Steps, added, adding, logging_in, named_values, store_of, stream_after, login_target};
+ghost use Rattle.argon2.specs.Made.{target_of};
 
 use crate::context::Argon2;
 use crate::password_hash::Result;
@@ -45,7 +45,7 @@ impl<'key> Login<'key> {
     /// [`Error::OutputSize`] where the target's output length is above 64, the most bytes that the
     /// hash of a PHC text has.
     pub fn new(alloc: Global, target: Argon2<'key>) -> Result<Login<'key>>
-        ensures { IsNew (made_under.target_of target.entry) result }
+        ensures { IsNew (target_of target.entry) result }
     {
         Ok(Login {
             alloc,
@@ -68,7 +68,7 @@ impl<'key> Login<'key> {
         ensures inserted { OnOk result ((v : Phc) → PhcText text.now v →
             store_of self.new ≡ insert (store_of self.old) name.now v) }
         ensures others { KeepsOthers name.now (store_of self.old) (store_of self.new) }
-        ensures target { target_of self.new ≡ target_of self.old }
+        ensures target { login_target self.new ≡ login_target self.old }
     {
         let Ok(parsed) = PasswordHash::new(text) else {
             return Err(LoginError::Text);
@@ -105,14 +105,14 @@ impl<'key> Login<'key> {
         ensures step { Steps (logging_in name.now password.now
             (fill_bytes 16 (R.stream rng.old)).0 result) self.old self.new }
         ensures accepted { MatchResult result
-            (λ _. HasPassword (target_of self.old) (store_of self.new) name.now password.now)
+            (λ _. HasPassword (login_target self.old) (store_of self.new) name.now password.now)
             (λ e. (e ≡ Refused NoMemory)
-            ⊎ (HasPassword (target_of self.old) (store_of self.old) name.now password.now → ⊥)) }
+            ⊎ (HasPassword (login_target self.old) (store_of self.old) name.now password.now → ⊥)) }
         ensures current { IfOk result (λ accepted. accepted ≢ Kept →
-            IsSomeAnd (get (store_of self.new) name.now) (IsCurrent (target_of self.new))) }
+            IsSomeAnd (get (store_of self.new) name.now) (IsCurrent (login_target self.new))) }
         ensures others { KeepsOthers name.now (store_of self.old) (store_of self.new) }
         ensures drawn { R.stream rng.new ≡ stream_after result (R.stream rng.old) }
-        ensures target { target_of self.new ≡ target_of self.old }
+        ensures target { login_target self.new ≡ login_target self.old }
     {
         let Some(text) = self.texts.get_mut(name) else {
             return Err(LoginError::NameUnknown);

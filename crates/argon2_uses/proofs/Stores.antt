@@ -8,7 +8,7 @@ use Rattle.std.specs.FinMap.{empty, entries, entries_sorted, get, get-empty, is_
 use Rattle.std.specs.FinMap.Entries.{below_all}
 use Rattle.std.specs.List.{AllByRecursion}
 use Rattle.std.specs.Ordering.{is_lt, nat_cmp}
-use Rattle.argon2.specs.Login.{Store, AcceptedStep, AddStep, KeepsOthers, LoginAnswer, store_of, target_of}
+use Rattle.argon2.specs.Login.{Store, AcceptedStep, AddStep, KeepsOthers, LoginAnswer, store_of, login_target}
 use Rattle.argon2.specs.Made.{Target, tag_length}
 use Rattle.argon2.specs.PhcText.{Phc, PhcText}
 use Rattle.argon2.specs.declared.login.answers.Accepted.{Accepted}
@@ -19,8 +19,8 @@ use Rattle.argon2_uses.specs.Login.{MoveRefusal, RegisterRefusal}
 
 -- what an accepted `login` leaves
 pub login_leaves : (old : Login) (name password drawn : List ℕ) (found : Option Phc) (did : Accepted) (after : Store) →
-    LoginAnswer (target_of old) (store_of old) name password drawn found (Ok did) after →
-    IsSomeAnd found (λ v. AcceptedStep (target_of old) (store_of old) name password drawn v did after)
+    LoginAnswer (login_target old) (store_of old) name password drawn found (Ok did) after →
+    IsSomeAnd found (λ v. AcceptedStep (login_target old) (store_of old) name password drawn v did after)
 login_leaves old name password drawn None did after step = absurd step
 login_leaves old name password drawn (Some v) did after step = step.1
 

@@ -2,7 +2,7 @@
 use Rattle.std.specs.Prelude.{◌≡◌, ◌≤◌, ◌⊎◌, ℕ, List, Option, Some, Result, Ok, Err, IsErrAnd, IsSome, IsSomeAnd}
 use Rattle.std.specs.FinMap.{get}
 use Rattle.argon2.specs.Stored.{AcceptsBy}
-use Rattle.argon2.specs.Login.{Store, AcceptedStep, AddStep, IsNew, LoginAnswer, store_of, target_of}
+use Rattle.argon2.specs.Login.{Store, AcceptedStep, AddStep, IsNew, LoginAnswer, store_of, login_target}
 use Rattle.argon2.specs.Made.{Target, IsHashAnswer, tag_length}
 use Rattle.argon2.specs.declared.login.Login.{Login}
 use Rattle.argon2.specs.declared.login.answers.Accepted.{Accepted}
@@ -16,13 +16,13 @@ HasPasswordUnder secret login name password =
 
 -- under the store's own secret, the name's text accepts the password
 abbrev pub HasPassword : Login → List ℕ → List ℕ → Type 0
-HasPassword login name password = HasPasswordUnder (target_of login).secret login name password
+HasPassword login name password = HasPasswordUnder (login_target login).secret login name password
 
 -- what a login finds and leaves: a current text that stays, one that was not current and was made
 -- anew, or one that is not current and stays; else all is as it was
 abbrev pub Leaves : Login → List ℕ → List ℕ → List ℕ → Result (Option Accepted) LoginError → Login → Type 0
 Leaves old name password drawn (Ok (Some did)) new = IsSomeAnd (get (store_of old) name) (λ v.
-    AcceptedStep (target_of old) (store_of old) name password drawn v did (store_of new))
+    AcceptedStep (login_target old) (store_of old) name password drawn v did (store_of new))
 Leaves old name password drawn _ new = store_of new ≡ store_of old
 
 -- why a name is not registered with a password and a salt
@@ -38,7 +38,7 @@ abbrev pub TakesOver :
 TakesOver old name text password drawn result new =
     IsErrAnd result (λ e. AddStep (store_of old) name text (Err e) (store_of new))
     ⊎ ((between : Store) × AddStep (store_of old) name text (Ok tt) between
-    × LoginAnswer (target_of old) between name password drawn (get between name) result (store_of new))
+    × LoginAnswer (login_target old) between name password drawn (get between name) result (store_of new))
 
 -- why a store is not moved to a target: its hashes don't fit into texts, or else memory was refused
 abbrev pub MoveRefusal : Target → LoginError → Type 0

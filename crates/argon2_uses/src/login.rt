@@ -4,9 +4,8 @@ ghost use Rattle.std.specs.Prelude.{◌≡◌, ◌≢◌, ◌↔◌, ◌⊎◌, 
 ghost use Rattle.std.specs.FinMap.{get};
 ghost use Rattle.rand_core.specs.Stream.{fill_bytes};
 ghost use Rattle.argon2.specs.Argon2.{secret_of};
-ghost use Rattle.argon2.specs.Login.{IsCurrent, KeepsOthers, store_of, target_of};
-ghost use Rattle.argon2.specs.Made as made_under;
-ghost use Rattle.argon2.specs.Made.{made};
+ghost use Rattle.argon2.specs.Login.{IsCurrent, KeepsOthers, store_of, login_target};
+ghost use Rattle.argon2.specs.Made.{made, target_of};
 ghost use Rattle.argon2.specs.base_declared.error.password_hash.Error.TheVariants.{OutOfMemory};
 ghost use Rattle.argon2.specs.declared.login.answers.Accepted.TheVariants.{Kept};
 ghost use Rattle.argon2.specs.declared.login.answers.LoginError.TheVariants.{Refused};
@@ -35,10 +34,10 @@ pub fn register<R: Rng>(
     ensures registered { OnOk result
         (HasPasswordUnder (secret_of argon2.now) store.new name.now password.now) }
     ensures text { OnOk result (get (store_of store.new) name.now ≡ Some (made
-        (made_under.target_of argon2.now) password.now (fill_bytes 16 (R.stream rng.old)).0)) }
+        (target_of argon2.now) password.now (fill_bytes 16 (R.stream rng.old)).0)) }
     ensures others { KeepsOthers name.now (store_of store.old) (store_of store.new) }
-    ensures target { target_of store.new ≡ target_of store.old }
-    ensures refused { IfErr result (RegisterRefusal (made_under.target_of argon2.now) store.old
+    ensures target { login_target store.new ≡ login_target store.old }
+    ensures refused { IfErr result (RegisterRefusal (target_of argon2.now) store.old
         name.now password.now (fill_bytes 16 (R.stream rng.old)).0) }
     ensures same { OnErr result (store_of store.new ≡ store_of store.old) }
 {
@@ -68,7 +67,7 @@ pub fn log_in<R: Rng>(
     ensures left { Leaves store.old name.now password.now (fill_bytes 16 (R.stream rng.old)).0
         result store.new }
     ensures others { KeepsOthers name.now (store_of store.old) (store_of store.new) }
-    ensures target { target_of store.new ≡ target_of store.old }
+    ensures target { login_target store.new ≡ login_target store.old }
 {
     match store.login(rng, name, password) {
         Ok(accepted) => Ok(Some(accepted)),
@@ -92,7 +91,7 @@ pub fn take_over<R: Rng>(
     ensures answer { TakesOver store.old name.now text.now password.now
         (fill_bytes 16 (R.stream rng.old)).0 result store.new }
     ensures current { IfOk result (λ did. did ≢ Kept →
-        IsSomeAnd (get (store_of store.new) name.now) (IsCurrent (target_of store.new))) }
+        IsSomeAnd (get (store_of store.new) name.now) (IsCurrent (login_target store.new))) }
     ensures others { KeepsOthers name.now (store_of store.old) (store_of store.new) }
 {
     store.add(name, text)?;
@@ -110,8 +109,8 @@ pub fn moved<'key>(
     target: Argon2<'key>,
 ) -> Result<Login<'key>, LoginError>
     ensures texts { IfOk result (λ new. store_of new ≡ store_of store.now) }
-    ensures target { IfOk result (λ new. target_of new ≡ made_under.target_of target.entry) }
-    ensures refused { IfErr result (MoveRefusal (made_under.target_of target.entry)) }
+    ensures target { IfOk result (λ new. login_target new ≡ target_of target.entry) }
+    ensures refused { IfErr result (MoveRefusal (target_of target.entry)) }
 {
     let mut new = match Login::new(alloc, target) {
         Ok(new) => new,

@@ -2,7 +2,7 @@ use Rattle.std.proofs.Common.{rules, ◌≡◌, None, Err, ap, ◌∙◌}
 use Rattle.std.specs.FinMap.{get}
 use Rattle.argon2.specs.PhcFields.{phc_of}
 use Rattle.argon2.specs.Login.{named_values, store_of}
-use Rattle.argon2.specs.Made as made_under
+use Rattle.argon2.specs.Made.{target_of}
 use Rattle.argon2_uses.proofs.Stores.{add_refuses_new, entries_are_new_in, refused_as}
 use Rattle.argon2_uses.proofs.login.moved.Goals as goal
 
@@ -20,7 +20,7 @@ loop-name-init c =
 
 pub returns-in_err-add-clause-refused : goal.returns-in_err-add-clause-refused
 returns-in_err-add-clause-refused c =
-    let target = made_under.target_of c.args.target in
+    let target = target_of c.args.target in
     let before = store_of c.loop-name.new in
     let new : get before c.deref.result.now ≡ None = search rules in
     refused_as target c.from_residual.result c.in_err-add.field-0.0 c.from_residual.ensures

@@ -4,26 +4,26 @@ use Rattle.std.specs.FinMap.{get}
 use Rattle.rand_core.specs.Stream.{fill_bytes}
 use Rattle.argon2_base.specs.PhcFields.{phc_of}
 use Rattle.argon2.specs.declared.login.answers.LoginError.TheVariants.{NameUnknown}
-use Rattle.argon2.specs.Login.{LoginAnswer, store_of, target_of, values_of}
+use Rattle.argon2.specs.Login.{LoginAnswer, store_of, login_target, values_of}
 use Rattle.argon2.proofs.login_store.LoginLemmas.{has_accepted, has_current, no_text, login_step}
 use Rattle.argon2.proofs.login_store.Stores.{get-found, get-other, get-same, values_of-set}
 use Rattle.argon2.proofs.login.Login.login.Goals as goal
 
 pub returns-in_default-clause-step : goal.returns-in_default-clause-step
 returns-in_default-clause-step g c =
-    login_step (target_of c.args.self.now) _ c.args.name.now c.args.password.now
+    login_step (login_target c.args.self.now) _ c.args.name.now c.args.password.now
     (fill_bytes 16 (g.R.Rng.stream c.args.rng.now)).0 None (Err NameUnknown) _
     (get-found c.args.self.now.texts c.args.name.now None (sym c.in_default.ensures.value))
     (tt, ap values_of c.get_mut.follows.holds-at-none)
 
 pub returns-in_default-clause-accepted : goal.returns-in_default-clause-accepted
 returns-in_default-clause-accepted g c =
-    inr (no_text (target_of c.args.self.now) (store_of c.args.self.now) c.args.name.now c.args.password.now
+    inr (no_text (login_target c.args.self.now) (store_of c.args.self.now) c.args.name.now c.args.password.now
     (get-found c.args.self.now.texts c.args.name.now None (sym c.in_default.ensures.value)))
 
 pub returns : goal.returns
 returns g c =
-    let target = target_of c.args.self.now in
+    let target = login_target c.args.self.now in
     let before = c.args.self.now.texts in
     let name = c.args.name.now in
     let password = c.args.password.now in
