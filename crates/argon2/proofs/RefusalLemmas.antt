@@ -10,17 +10,17 @@ pub not_refused : {A : Type 0} (refusal : Option Error) (a b : A) → Ok a ≡ a
 not_refused None a b e = refl
 not_refused (Some fault) a b e = absurd cc
 
--- so any other value is its answer too
-pub answered : {A B : Type 0} (refusal : Option Error) (a b : A) (x y : B) → Ok a ≡ answer_unless refusal b → x ≡ y
+-- an answer with one value is refused as an answer with any other
+pub ok_with_any_value : {A B : Type 0} (refusal : Option Error) (a b : A) (x y : B) → Ok a ≡ answer_unless refusal b → x ≡ y
     → Ok x ≡ answer_unless refusal y
-answered None a b x y e same = ap Ok same
-answered (Some fault) a b x y e same = absurd cc
+ok_with_any_value None a b x y e same = ap Ok same
+ok_with_any_value (Some fault) a b x y e same = absurd cc
 
 -- what is refused is refused with any value
-pub refused : {A B : Type 0} (refusal : Option Error) (a : A) (b : B) (e : Error) → Err e ≡ answer_unless refusal a
+pub err_with_any_value : {A B : Type 0} (refusal : Option Error) (a : A) (b : B) (e : Error) → Err e ≡ answer_unless refusal a
     → Err e ≡ answer_unless refusal b
-refused None a b e h = absurd cc
-refused (Some fault) a b e h = cc
+err_with_any_value None a b e h = absurd cc
+err_with_any_value (Some fault) a b e h = cc
 
 -- an error that is passed on
 pub passed_on : {A : Type 0} (r : Result A Error) (e : Error) → IsErr r × IsErrAnd r (λ e'. e' ≡ e) → r ≡ Err e

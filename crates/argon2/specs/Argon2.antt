@@ -18,7 +18,7 @@ abbrev pub secret_bytes : Option Secret → List ℕ
 secret_bytes None = []
 secret_bytes (Some secret) = secret.bytes.now
 
--- its secret
+-- the secret of an `Argon2`
 abbrev pub secret_of : Argon2 → List ℕ
 secret_of argon2 = secret_bytes argon2.secret
 
@@ -27,11 +27,11 @@ abbrev pub settings_with : Algorithm → Version → Params → Settings
 settings_with algorithm version params =
     record { algorithm = algorithm; version = version; parameters = parameters_of params }
 
--- all else that it has
+-- the algorithm, the version and the parameters of an `Argon2`
 abbrev pub settings_of : Argon2 → Settings
 settings_of argon2 = settings_with argon2.algorithm argon2.version argon2.params
 
--- its parameters
+-- the parameters of an `Argon2`
 abbrev pub own_parameters : Argon2 → Parameters
 own_parameters argon2 = (settings_of argon2).parameters
 
@@ -39,7 +39,7 @@ own_parameters argon2 = (settings_of argon2).parameters
 abbrev pub context_of : Argon2 → Context
 context_of argon2 = context_with (settings_of argon2) (secret_of argon2)
 
--- the same under other associated data
+-- what it hashes under, with other associated data
 abbrev pub context_under : Argon2 → List ℕ → Context
 context_under argon2 associated = record (context_of argon2) { associated = associated }
 
@@ -57,7 +57,7 @@ IsKeyed own key (Err e) = (e ≡ SecretTooLong) × (4294967295 < length key)
 abbrev pub argon2id_with : Parameters → Settings
 argon2id_with parameters = record { algorithm = Argon2id; version = V0x13; parameters = parameters }
 
--- the same and no secret
+-- Argon2id of version 0x13 with these parameters and no secret
 abbrev pub IsArgon2idWith : Parameters → Argon2 → Type 0
 IsArgon2idWith parameters argon2 =
     (settings_of argon2 ≡ argon2id_with parameters) × (secret_of argon2 ≡ [])

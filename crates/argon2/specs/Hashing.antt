@@ -32,7 +32,7 @@ refusal_of argon2 n password salt memory = first_of (
     ++ input_faults (length password) (length salt)
     ++ memory_faults (block_count (context_of argon2)) (length memory))
 
--- the same where nothing is put out
+-- why filling memory is refused, which has no output
 abbrev pub fill_refusal : Argon2 → List ℕ → List ℕ → Memory → Option Error
 fill_refusal argon2 password salt memory = first_of (
     input_faults (length password) (length salt)

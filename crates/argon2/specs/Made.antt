@@ -31,7 +31,7 @@ target_of argon2 = record { settings = settings_of argon2; secret = secret_of ar
 abbrev pub tag_length : Settings → ℕ
 tag_length settings = unwrap_or settings.parameters.output_len 32
 
--- the same settings with that length set
+-- the settings with that length set
 abbrev pub sized : Settings → Settings
 sized settings = record settings {
   parameters = record settings.parameters { output_len = Some (tag_length settings) };

@@ -36,7 +36,7 @@ memory_faults wanted lent = (nat_lt lent wanted, MemoryTooLittle) ∷ []
 abbrev pub length_refusal : Option ℕ → ℕ → ℕ → ℕ → Option Error
 length_refusal n output password salt = first_of (output_faults n output ++ input_faults password salt)
 
--- the same with so many bytes of associated data, which are looked at first
+-- the refusal with so many bytes of associated data, which are checked first
 abbrev pub data_refusal : ℕ → Option ℕ → ℕ → ℕ → ℕ → Option Error
 data_refusal associated n output password salt =
     if nat_lt 4294967295 associated then Some AdTooLong else length_refusal n output password salt

@@ -130,7 +130,7 @@ finished_segments ctx (suc pass) slice =
     columns pass ((slice + 1) * segment_length ctx) (lane_length ctx)
     ++ columns (suc pass) 0 (slice * segment_length ctx)
 
--- all but the last
+-- the list without its last entry
 unfoldable pub without_last : List (ℕ × ℕ) → List (ℕ × ℕ)
 without_last xs = take (length xs - 1) xs
 
@@ -202,7 +202,7 @@ unfoldable pub is_independent : Context → ℕ → ℕ → Bool
 is_independent ctx pass slice =
     (ctx.algorithm == 1) || ((ctx.algorithm == 2) && ((pass == 0) && nat_lt slice 2))
 
--- 128 words made of numbers alone, the counter telling the address blocks of a segment apart
+-- 128 words made of numbers alone; the counter is that of the address block in its segment
 -- (RFC 9106, section 3.4.1.2)
 unfoldable pub address_block : Context → ℕ → ℕ → ℕ → ℕ → List ℕ
 address_block ctx pass lane slice counter =
@@ -258,7 +258,7 @@ made_block ctx blocks pass lane column =
     then xor_blocks block (blocks (pass - 1) lane column)
     else block
 
--- any block
+-- a block of the first two columns of pass 0, or one that is made of others
 unfoldable pub rule : Context → FirstColumns → Blocks → ℕ → ℕ → ℕ → List ℕ
 rule ctx first blocks pass lane column =
     if (pass == 0) && nat_lt column 2
@@ -273,7 +273,7 @@ unfoldable pub in_history : Context → List (List (List ℕ)) → ℕ → ℕ �
 in_history ctx history pass lane column =
     slice_index_or (slice_index_or history (pass * lane_length ctx + column) []) lane []
 
--- the first n columns
+-- the list of the first n columns
 unfoldable pub history : Context → FirstColumns → ℕ → List (List (List ℕ))
 history ctx first zero = []
 history ctx first (suc n) =

@@ -1,4 +1,4 @@
--- What holds of a login store after every list of calls.
+-- What is true of a login store after every list of calls.
 use Rattle.std.specs.Prelude.{◌≡◌, ◌≢◌, ℕ, List, [], ◌∷◌, if◌then◌else◌, Option, Some, None, Ok, IsSomeAnd}
 use Rattle.std.specs.Option.{option_or}
 use Rattle.std.specs.Str.{bytes_eq}
@@ -50,7 +50,7 @@ TextsAreAddedOrMade = (target : Target) → IsTarget target →
 
 -- ---- the last accepted login of a name
 
--- its password and what it did
+-- the password of a login of the name, and what the login did
 abbrev pub accepted : List ℕ → Event → Option (List ℕ × Accepted)
 accepted name (logging_in n given drawn (Ok did)) = if bytes_eq name n then Some (given, did) else None
 accepted name _ = None

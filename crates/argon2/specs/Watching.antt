@@ -87,26 +87,26 @@ independent_segments ctx =
     else if ctx.algorithm == 2 then 2 * ctx.p_cost
     else 0
 
--- once for each block but the first two columns, and twice for each address block
+-- how often is mixed: once for each block but the first two columns, twice for each address block
 unfoldable pub mixing_calls : Context → ℕ
 mixing_calls ctx =
     ctx.t_cost * block_count ctx - 2 * ctx.p_cost
     + 2 * ((segment_length ctx + 127) / 128) * independent_segments ctx
 
--- the same of one segment
+-- the mixing calls of one segment
 unfoldable pub segment_calls : Context → ℕ → ℕ → ℕ
 segment_calls ctx pass slice =
     let of_addresses = 2 * ((segment_length ctx + 127) / 128) in
     (if is_independent ctx pass slice then of_addresses else 0)
     + turn_count ctx pass slice
 
--- of the first slices of a pass
+-- the mixing calls of the first slices of a pass
 unfoldable pub slices_calls : Context → ℕ → ℕ → ℕ
 slices_calls ctx pass zero = 0
 slices_calls ctx pass (suc slice) =
     slices_calls ctx pass slice + ctx.p_cost * segment_calls ctx pass slice
 
--- of the first passes
+-- the mixing calls of the first passes
 unfoldable pub passes_calls : Context → ℕ → ℕ
 passes_calls ctx zero = 0
 passes_calls ctx (suc pass) = passes_calls ctx pass + slices_calls ctx pass 4

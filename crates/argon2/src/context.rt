@@ -344,7 +344,7 @@ impl<'key> Argon2<'key> {
         self.instance_under(self.params.data())
     }
 
-    // The same under other associated data.
+    // What the hash's blocks are filled by under other associated data.
     fn instance_under<'a>(&'a self, associated: &'a [u8]) -> Instance<'a>
         requires { length associated.now ≤ MAX_AD_LEN }
         ensures value { result ≡ context_under self.now associated.now }

@@ -15,7 +15,7 @@
 //! - [`bound`]: the most that a stored text may ask for.
 //! - [`login`]: a store of names and texts that renews old texts.
 //! - [`kdf`]: key derivation.
-//! - [`laws`]: what holds of the definitions, each law as the contract of a function.
+//! - [`laws`]: what is true of the definitions, each law as the contract of a function.
 //! - [`blake2b`], [`blake2b_long`], [`block`], [`byte_list`], [`error`], [`phc`]: the parts.
 #![tactic(auto)]
 

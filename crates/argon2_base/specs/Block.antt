@@ -72,12 +72,12 @@ row i x = map (λ k. slice_index x (16 * i + k)) (range_with_len 0 16)
 unfoldable pub column : ℕ → List ℕ → List ℕ
 column j x = map (λ k. slice_index x (16 * (k / 2) + 2 * j + k % 2)) (range_with_len 0 16)
 
--- P on each row: word k of row i stands at 16 * i + k
+-- P on each row: word k of row i has index 16 * i + k
 unfoldable pub by_rows : List ℕ → List ℕ
 by_rows x =
     map (λ w. slice_index (perm (row (w / 16) x)) (w % 16)) (range_with_len 0 128)
 
--- P on each column: word 2 * i + e of column j stands at 16 * i + 2 * j + e
+-- P on each column: word 2 * i + e of column j has index 16 * i + 2 * j + e
 unfoldable pub by_columns : List ℕ → List ℕ
 by_columns x =
     map (λ w. slice_index (perm (column (w % 16 / 2) x)) (2 * (w / 16) + w % 2))

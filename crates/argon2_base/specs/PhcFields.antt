@@ -48,6 +48,6 @@ pub record IsBytesField (low high : ℕ) (left : List (List ℕ))
 
 -- ---- the value of the code
 
--- its fields, as its text has them
+-- the fields of a `PasswordHash`, as its text has them
 abbrev pub phc_of : PasswordHash → Phc
 phc_of h = phc_with h.algorithm h.version h.params h.salt h.hash

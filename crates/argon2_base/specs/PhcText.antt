@@ -13,7 +13,7 @@ use Rattle.argon2_base.specs.Texts.{IsBytes, is_name, is_value, strict_base64}
 
 -- ---- identifiers
 
--- its characters
+-- the characters of an identifier
 abbrev pub ident_text : Ident → List ℕ
 ident_text i = list_bytes i.bytes
 

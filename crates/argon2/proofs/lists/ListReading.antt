@@ -32,7 +32,7 @@ no_items = record { m = None; t = None; p = None; keyid = None; associated = Non
 over_none : (ps : List Pair) → items_over ps no_items ≡ items_of ps
 over_none ps = simp or_none
 
--- before the first item
+-- before the first item nothing is read
 pub nothing_read : (list : List Pair) → are_params list ≡ true → Reading list list no_items
 nothing_read list params =
     let grammar = and_parts (list_all is_param list && are_distinct list) (nat_le (length (params_text list)) 127) params in
@@ -70,7 +70,7 @@ only_first : (item : Pair) (rest : List Pair) (name : List ℕ) → value_of ite
     → bytes_eq item.0 name ≡ true → value_of name rest ≡ None
 only_first item rest name once is = rw (← (bytes_eq-Decides item.0 name).0 is) once
 
--- the same of all names
+-- one more item adds what is found under each name
 items_next : (item : Pair) (rest : List Pair) (before : Items) → value_of item.0 rest ≡ None
     → items_over rest (items_over (item ∷ []) before) ≡ items_over (item ∷ rest) before
 items_next item rest before once =
@@ -123,7 +123,7 @@ pub passed_on : {X Y : Type 0} (view : X → Y) (r : Result X HashError) (e : Ha
 passed_on view (Ok x) e h = absurd h.1
 passed_on view (Err e') e h = rw h.1 refl
 
--- the same of a fault of hashing
+-- an error that is passed on is a fault of hashing
 pub passed_as_fault : {X Y : Type 0} (view : X → Y) (r : Result X HashError) (e : Error)
     → IsErr r × IsErrAnd r (λ e'. fault_of e' ≡ as_fault e) → outcome_of view r ≡ Err (as_fault e)
 passed_as_fault view (Ok x) e h = absurd h.1
@@ -142,7 +142,7 @@ params_read o list items m t p h memory passes lanes =
     let p_is : number_at (codes "p") list ≡ Some p = sym (ap (λ (i : Items). i.p) parts.1) ∙ lanes in
     rw (parts.0, m_is, t_is, p_is, parts.1) refl
 
--- where they are valid
+-- valid costs are not refused
 costs_valid : {X : Type 0} (fault : Option Error) (x : X) → IsNone fault → Ok x ≡ checked (cost_fault fault) (Ok x)
 costs_valid None x valid = refl
 costs_valid (Some e) x valid = absurd cc
@@ -160,7 +160,7 @@ pub params_made : (o : Option ℕ) (list : List Pair) (items : Items) (m t p : �
 params_made o list items m t p v h memory passes lanes made =
     rw (params_read o list items m t p h memory passes lanes, ← made.1) (costs_valid (first_fault m t p o) v made.0)
 
--- where they are not
+-- the fault of costs that are not valid
 pub params_refused : (o : Option ℕ) (list : List Pair) (items : Items) (m t p : ℕ) (e : Error) → Ok items ≡ items_read list
     → items.m ≡ Some m → items.t ≡ Some t → items.p ≡ Some p
     → first_fault m t p o ≡ Some e → Err (as_fault e) ≡ params_of o list

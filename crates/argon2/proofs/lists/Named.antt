@@ -12,9 +12,9 @@ use Rattle.argon2.specs.Settings.{IsNamedInText, algorithm_name, algorithm_named
 use Rattle.argon2_base.specs.declared.error.password_hash.Error.{Error as HashError}
 
 -- a test of what does not hold fails
-fails : {P : Type 0} (test : Bool) → Decides test P → (P → ⊥) → test ≡ false
-fails true d not = absurd (not (d.0 refl))
-fails false d not = refl
+false_by_decides : {P : Type 0} (test : Bool) → Decides test P → (P → ⊥) → test ≡ false
+false_by_decides true d not = absurd (not (d.0 refl))
+false_by_decides false d not = refl
 
 -- a variant is found by its name
 pub algorithm_named-name : (algorithm : Algorithm) → algorithm_named (algorithm_name algorithm) ≡ Some algorithm
@@ -26,9 +26,9 @@ algorithm_named-name Argon2id = refl
 pub algorithm_named-no : (name : List ℕ) → ((algorithm : Algorithm) → name ≢ algorithm_name algorithm)
     → algorithm_named name ≡ None
 algorithm_named-no name other =
-    let d = fails _ (bytes_eq-Decides name (algorithm_name Argon2d)) (other Argon2d) in
-    let i = fails _ (bytes_eq-Decides name (algorithm_name Argon2i)) (other Argon2i) in
-    let id = fails _ (bytes_eq-Decides name (algorithm_name Argon2id)) (other Argon2id) in
+    let d = false_by_decides _ (bytes_eq-Decides name (algorithm_name Argon2d)) (other Argon2d) in
+    let i = false_by_decides _ (bytes_eq-Decides name (algorithm_name Argon2i)) (other Argon2i) in
+    let id = false_by_decides _ (bytes_eq-Decides name (algorithm_name Argon2id)) (other Argon2id) in
     rw (d, i, id) refl
 
 -- a version is found by its number
@@ -39,8 +39,8 @@ version_numbered-number V0x13 = refl
 -- by a number that no version has none is found
 pub version_numbered-no : (number : ℕ) → ((version : Version) → number ≢ version_number version) → version_numbered number ≡ None
 version_numbered-no number other =
-    let old = fails _ (Decides-eqb number 16) (other V0x10) in
-    let new = fails _ (Decides-eqb number 19) (other V0x13) in
+    let old = false_by_decides _ (Decides-eqb number 16) (other V0x10) in
+    let new = false_by_decides _ (Decides-eqb number 19) (other V0x13) in
     rw (old, new) refl
 
 -- what a name in a text is answered is what is found by it

@@ -20,7 +20,7 @@ use Rattle.argon2.specs.Made.{Target, made, tag_length, text_faults, password_fa
 use Rattle.argon2.specs.Refusals.{first_of}
 use Rattle.argon2.specs.Settings.{Settings}
 
--- from what the name has
+-- a login of a name whose text is known is a step
 pub login_step : (target : Target) (before : Store) (name password drawn : List ℕ) (o : Option Phc)
     (answer : Result Accepted LoginError) (after : Store) →
     get before name ≡ o → LoginAnswer target before name password drawn o answer after →
@@ -52,7 +52,7 @@ pub refused_text : {P : Type 0} (e : Error) → (e ≡ OutOfMemory) ⊎ (P → �
 refused_text e (inl memory) = inl (ap Refused memory)
 refused_text e (inr never) = inr never
 
--- what holds of an answer that is no refusal
+-- an answer that is no refusal is Ok
 pub not_refused : (P : Type 0) (Q : Error → Type 0) (r : Result (Unit {0}) Error) → ((e : Error) → r ≡ Err e → ⊥) →
     MatchResult r (λ _. P) Q → P
 not_refused P Q (Ok x) never h = h
@@ -63,14 +63,14 @@ pub untold : {P : Type 0} (b : Bool) → b ≡ false → (P → b ≡ true) → 
 untold true fails tells holds = absurd cc
 untold false fails tells holds = let told = tells holds in absurd cc
 
-unchecked : (f : Option Fault) (v w : Phc) → Ok v ≡ checked f (Ok w) → (v ≡ w) × (f ≡ None)
-unchecked None v w e = (cc, refl)
-unchecked (Some fault) v w e = absurd cc
+checked_ok : (f : Option Fault) (v w : Phc) → Ok v ≡ checked f (Ok w) → (v ≡ w) × (f ≡ None)
+checked_ok None v w e = (cc, refl)
+checked_ok (Some fault) v w e = absurd cc
 
 -- what a hash that was answered is
 pub hash_made : (target : Target) (password salt : List ℕ) (h : PasswordHash) →
     IsHashAnswer target password salt (Ok h) → phc_of h ≡ made target password salt
-hash_made target password salt h (inl e) = (unchecked _ (phc_of h) (made target password salt) e).0
+hash_made target password salt h (inl e) = (checked_ok _ (phc_of h) (made target password salt) e).0
 hash_made target password salt h (inr r) = let e = r.0 in absurd cc
 
 few_bytes : (salt hash password : ℕ) → first_of (text_faults salt hash ++ password_faults password) ≡ None
@@ -82,10 +82,10 @@ pub hash_short : (target : Target) (password salt : List ℕ) (h : PasswordHash)
     IsHashAnswer target password salt (Ok h) → length password ≤ 4294967295
 hash_short target password salt h (inl e) =
     few_bytes (length salt) (tag_length target.settings) (length password)
-    (unchecked _ (phc_of h) (made target password salt) e).1
+    (checked_ok _ (phc_of h) (made target password salt) e).1
 hash_short target password salt h (inr r) = let e = r.0 in absurd cc
 
--- its salt has the length of one
+-- the salt of a made value has the length of a salt
 pub made_salt : (target : Target) (password salt : List ℕ) (v : Phc) → v ≡ made target password salt → IsPhc v →
     HasBytes 8 48 salt
 made_salt target password salt v e is = (rw e at is).salt

@@ -35,18 +35,18 @@ reached_none target None o h = tt
 reached_none target (Some last) o h = absurd h
 
 -- a call that neither gives the name a text nor logs it in
-same : (target : Target) (name : List ℕ) (event : Event) (older : List Event) (o p : Option Phc) →
+known_after_other : (target : Target) (name : List ℕ) (event : Event) (older : List Event) (o p : Option Phc) →
     source name event ≡ None → accepted name event ≡ None → p ≡ o →
     Known target name older o → Known target name (event ∷ older) p
-same target name event older o p s a e known = rw (e, s, a) known
+known_after_other target name event older o p s a e known = rw (e, s, a) known
 
 -- an accepted login of the name that leaves its text
-logged : (target : Target) (name given : List ℕ) (did : Accepted) (event : Event) (older : List Event) (v : Phc)
+known_after_login : (target : Target) (name given : List ℕ) (did : Accepted) (event : Event) (older : List Event) (v : Phc)
     (o p : Option Phc) →
     source name event ≡ None → accepted name event ≡ Some (given, did) → o ≡ Some v → p ≡ o →
     AcceptsBy target.secret given v → (did ≢ Kept → IsCurrent target v) →
     Known target name older o → Known target name (event ∷ older) p
-logged target name given did event older v o p s a is e accepts current known =
+known_after_login target name given did event older v o p s a is e accepts current known =
     let old = rw is at known in
     rw (e, s, a, is) (old.0, old.1, (accepts, current))
 
@@ -59,7 +59,7 @@ module _ (target : Target)
       AddStep before n added answer after → ((name : List ℕ) → Known target name older (get before name)) →
       (name : List ℕ) → Known target name (adding n added answer ∷ older) (get after name)
   add_keeps before after n added (Err e) older step known name =
-      same target name (adding n added (Err e)) older _ _ refl refl (ap (λ m. get m name) step.1) (known name)
+      known_after_other target name (adding n added (Err e)) older _ _ refl refl (ap (λ m. get m name) step.1) (known name)
   add_keeps before after n added (Ok x) older step known name =
       let v = step.1 in
       let set = ap (λ m. get m name) step.3 ∙ get-set before n v name in
@@ -69,7 +69,7 @@ module _ (target : Target)
             let reached = reached_none target (newest (accepted name) older) (Some v) (rw none at (known name).2) in
             rw (set, hit) (step.2, step.2.0, reached)
         | inr miss ↦
-            same target name (adding n added (Ok x)) older _ _ (rw miss refl) refl (set ∙ rw miss refl) (known name)
+            known_after_other target name (adding n added (Ok x)) older _ _ (rw miss refl) refl (set ∙ rw miss refl) (known name)
       ]
 
   login_keeps : (before after : Store) (n given drawn : List ℕ) (o : Option Phc)
@@ -78,26 +78,26 @@ module _ (target : Target)
       ((name : List ℕ) → Known target name older (get before name)) →
       (name : List ℕ) → Known target name (logging_in n given drawn answer ∷ older) (get after name)
   login_keeps before after n given drawn None (Err e) older is step known name =
-      same target name (logging_in n given drawn (Err e)) older _ _ refl refl (ap (λ m. get m name) step.1) (known name)
+      known_after_other target name (logging_in n given drawn (Err e)) older _ _ refl refl (ap (λ m. get m name) step.1) (known name)
   login_keeps before after n given drawn (Some v) (Err e) older is step known name =
-      same target name (logging_in n given drawn (Err e)) older _ _ refl refl (ap (λ m. get m name) step.1) (known name)
+      known_after_other target name (logging_in n given drawn (Err e)) older _ _ refl refl (ap (λ m. get m name) step.1) (known name)
   login_keeps before after n given drawn None (Ok did) older is step known name = absurd step
   login_keeps before after n given drawn (Some v) (Ok Current) older is step known name = elim (cases_Bool (bytes_eq name n)) [
     | inl hit ↦
-        logged target name given Current (logging_in n given drawn (Ok Current)) older v _ _ refl (rw hit refl)
+        known_after_login target name given Current (logging_in n given drawn (Ok Current)) older v _ _ refl (rw hit refl)
         (ap (get before) ((bytes_eq-Decides name n).0 hit) ∙ is) (ap (λ m. get m name) step.1.1) step.0
         (λ _. step.1.0) (known name)
     | inr miss ↦
-        same target name (logging_in n given drawn (Ok Current)) older _ _ refl (rw miss refl)
+        known_after_other target name (logging_in n given drawn (Ok Current)) older _ _ refl (rw miss refl)
         (ap (λ m. get m name) step.1.1) (known name)
   ]
   login_keeps before after n given drawn (Some v) (Ok Kept) older is step known name = elim (cases_Bool (bytes_eq name n)) [
     | inl hit ↦
-        logged target name given Kept (logging_in n given drawn (Ok Kept)) older v _ _ refl (rw hit refl)
+        known_after_login target name given Kept (logging_in n given drawn (Ok Kept)) older v _ _ refl (rw hit refl)
         (ap (get before) ((bytes_eq-Decides name n).0 hit) ∙ is) (ap (λ m. get m name) step.1.1) step.0
         (λ other. absurd (other refl)) (known name)
     | inr miss ↦
-        same target name (logging_in n given drawn (Ok Kept)) older _ _ refl (rw miss refl)
+        known_after_other target name (logging_in n given drawn (Ok Kept)) older _ _ refl (rw miss refl)
         (ap (λ m. get m name) step.1.1) (known name)
   ]
   login_keeps before after n given drawn (Some v) (Ok Rehashed) older is step known name =
@@ -110,7 +110,7 @@ module _ (target : Target)
               (made_accepts given drawn step.0.short, λ _. made_current given drawn),
             )
         | inr miss ↦
-            same target name (logging_in n given drawn (Ok Rehashed)) older _ _ (rw miss refl) (rw miss refl)
+            known_after_other target name (logging_in n given drawn (Ok Rehashed)) older _ _ (rw miss refl) (rw miss refl)
             (set ∙ rw miss refl) (known name)
       ]
 

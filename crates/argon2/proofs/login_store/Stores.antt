@@ -1,5 +1,5 @@
 -- Stores: one name set, names added, and the tree that a store stands for.
-use Rattle.std.proofs.Common.{rules, ◌≡◌, ℕ, List, [], ◌∷◌, Option, Some, None, Bool, true, false, cond, string_bytes, inl, inr, refl, sym, ap, ◌∙◌}
+use Rattle.std.proofs.Common.{rules, ◌≡◌, ℕ, List, [], ◌∷◌, Option, Some, None, Bool, true, false, if◌then◌else◌, string_bytes, inl, inr, refl, sym, ap, ◌∙◌}
 use Rattle.std.proofs.lemmas.Bool.{and_parts, cases_Bool}
 use Rattle.std.proofs.lemmas.Map.Text.{is_eq-slice_cmp}
 use Rattle.std.proofs.lemmas.Slice.Eq.{bytes_eq-Decides}
@@ -25,15 +25,15 @@ use Rattle.argon2.specs.Login.{Store, KeepsOthers, added, named_values, values_o
 
 -- what a store with one name set has
 pub get-set : (m : Store) (n : List ℕ) (v : Phc) (q : List ℕ) →
-    get (insert m n v) q ≡ cond (bytes_eq q n) (Some v) (get m q)
+    get (insert m n v) q ≡ (if bytes_eq q n then Some v else get m q)
 get-set m n v q =
-    get-insert nat_list_cmp_total m n v q ∙ ap (λ b. cond b (Some v) (get m q)) (is_eq-slice_cmp q n)
+    get-insert nat_list_cmp_total m n v q ∙ ap (λ b. if b then Some v else get m q) (is_eq-slice_cmp q n)
 
--- and that name
+-- a store with a name set has the text of that name
 pub get-same : (m : Store) (n : List ℕ) (v : Phc) → get (insert m n v) n ≡ Some v
 get-same m n v =
     let same = (bytes_eq-Decides n n).1 refl in
-    get-set m n v n ∙ ap (λ b. cond b (Some v) (get m n)) same
+    get-set m n v n ∙ ap (λ b. if b then Some v else get m n) same
 
 -- what it has under any other name stays
 pub get-other : (m : Store) (n : List ℕ) (v : Phc) → KeepsOthers n m (insert m n v)
@@ -53,10 +53,10 @@ insert-same m n v has =
 
 -- ---- names that are added
 
-unequal : (r s : Ordering) → r ≡ s → is_lt s ≡ true → is_eq r ≡ false
-unequal r Less e h = ap is_eq e
-unequal r Equal e h = absurd cc
-unequal r Greater e h = absurd cc
+is_eq-less : (r s : Ordering) → r ≡ s → is_lt s ≡ true → is_eq r ≡ false
+is_eq-less r Less e h = ap is_eq e
+is_eq-less r Equal e h = absurd cc
+is_eq-less r Greater e h = absurd cc
 
 -- a name that stands before all others is not among them
 none_below : (n q : List ℕ) (es : List (List ℕ × Phc)) → slice_cmp nat_cmp q n ≡ Equal →
@@ -64,7 +64,7 @@ none_below : (n q : List ℕ) (es : List (List ℕ × Phc)) → slice_cmp nat_cm
 none_below n q [] e h = refl
 none_below n q (x ∷ es) e h =
     let parts = and_parts (is_lt (slice_cmp nat_cmp n x.0)) _ h in
-    rw (unequal _ _ (nat_list_cmp_total.congr q n x.0 e) parts.0) (none_below n q es e parts.1)
+    rw (is_eq-less _ _ (nat_list_cmp_total.congr q n x.0 e) parts.0) (none_below n q es e parts.1)
 
 or_none : (o : Option Phc) → option_or o None ≡ o
 or_none None = refl
@@ -86,7 +86,7 @@ get-added (x ∷ es) m q h =
     ]
 
 map_cond : (b : Bool) (h : PasswordHash) (o : Option PasswordHash) →
-    cond b (Some (phc_of h)) (option_map phc_of o) ≡ option_map phc_of (cond b (Some h) o)
+    (if b then Some (phc_of h) else option_map phc_of o) ≡ option_map phc_of (if b then Some h else o)
 map_cond true h o = refl
 map_cond false h o = refl
 
@@ -96,7 +96,7 @@ module _ {Y : Type 0} where
       ≡ option_map phc_of (lookup (is_at (λ k. slice_cmp nat_cmp q (string_bytes k))) es)
   find_named [] q = refl
   find_named (e ∷ es) q =
-      ap (cond (is_at (λ k. slice_cmp nat_cmp q (string_bytes k)) e.0) (Some (phc_of e.1))) (find_named es q)
+      ap (λ o. if is_at (λ k. slice_cmp nat_cmp q (string_bytes k)) e.0 then Some (phc_of e.1) else o) (find_named es q)
       ∙ map_cond (is_at (λ k. slice_cmp nat_cmp q (string_bytes k)) e.0) e.1 _
 
   -- the store has what the tree has
@@ -106,7 +106,7 @@ module _ {Y : Type 0} where
       get-from_entries nat_list_cmp_total (named_values m.entries) q
       ∙ find_named m.entries q
 
-  -- the same of what is known of the tree
+  -- a text that the tree has, or has not, is the store's
   pub get-found : (m : BTreeMap (String Y) PasswordHash) (q : List ℕ) (o : Option PasswordHash) →
       get_by_text m q ≡ o → get (values_of m) q ≡ option_map phc_of o
   get-found m q o e = get-values_of m q ∙ ap (option_map phc_of) e
@@ -118,9 +118,9 @@ module _ {Y : Type 0} where
   values_of-set m n name h e =
       same_map nat_list_cmp_total (slice_cmp-IsAntisymmetric nat_cmp-IsAntisymmetric) _ _ (λ q.
       get-values_of n q ∙ ap (option_map phc_of) (e q) ∙ sym (map_cond (bytes_eq name q) h (get_by_text m q))
-      ∙ ap (λ b. cond b (Some (phc_of h)) (option_map phc_of (get_by_text m q))) (nat_list_eq_equiv.symm name q)
+      ∙ ap (λ b. if b then Some (phc_of h) else option_map phc_of (get_by_text m q)) (nat_list_eq_equiv.symm name q)
       ∙ sym (get-set (values_of m) name (phc_of h) q
-      ∙ ap (cond (bytes_eq q name) (Some (phc_of h))) (get-values_of m q)))
+      ∙ ap (λ o. if bytes_eq q name then Some (phc_of h) else o) (get-values_of m q)))
 
   -- a name that the tree has, and one that it has not
   pub present : (m : BTreeMap (String Y) PasswordHash) (q : List ℕ) → is_some (get_by_text m q) ≡ true →

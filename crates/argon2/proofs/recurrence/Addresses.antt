@@ -25,7 +25,7 @@ word_addressed ctx blocks pass lane column x e =
     let s = segment_length ctx in
     word_of_option (is_independent ctx pass (column / s)) _ x (column % s % 128) _ e
 
--- that of any other is the previous block's first
+-- the word of any other block is the previous block's first
 pub word_not_addressed : (ctx : Context) (blocks : Blocks) (pass lane column : ℕ)
     → addresses_of ctx pass lane column ≡ None
     → reference_word ctx blocks pass lane column ≡ slice_index_or (previous ctx blocks pass lane column) 0 0

@@ -48,7 +48,7 @@ finished_column ctx pass slice i =
     if pass == 0 then i else if nat_lt next (lane_length ctx) then next else next - lane_length ctx
 
 module _ (ctx : Context) (sizes : Sizes ctx) (column : ℕ) (in_columns : column < lane_length ctx) where
-  -- the column's slice
+  -- the column is in its slice
   bounds : InSlice (segment_length ctx) column (column / segment_length ctx)
   bounds = in_slice (segment_length ctx) column sizes.two_columns in_columns
 

@@ -20,7 +20,7 @@ pub record Reads (ctx : Context) (pass lane column r l c : ℕ) : Type 0 where
   pub apart : (l ≡ lane)
       ⊎ ((c < column / segment_length ctx * segment_length ctx) ⊎ ((column / segment_length ctx + 1) * segment_length ctx ≤ c))
 
--- what holds of each column holds of the list
+-- a property of each column is one of the list
 All-columns : (P : ℕ × ℕ → Type 0) (pass from to : ℕ)
     → ((c : ℕ) → from ≤ c → c < to → P (pass, c)) → All P (columns pass from to)
 unfolding columns
@@ -37,7 +37,7 @@ module _ (ctx : Context) (sizes : Sizes ctx) (lane column other : ℕ) (in_lanes
   abbrev IsSource : ℕ → ℕ × ℕ → Type 0
   IsSource pass x = Reads ctx pass lane column x.0 other x.1
 
-  -- the column's slice
+  -- the column is in its slice
   bounds : InSlice (segment_length ctx) column (column / segment_length ctx)
   bounds = in_slice (segment_length ctx) column sizes.two_columns in_columns
 

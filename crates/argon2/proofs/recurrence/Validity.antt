@@ -15,10 +15,10 @@ not_refused true fault rest h = absurd (let x : true ≡ false = h in cc)
 not_refused false fault rest h = (refl, h)
 
 -- costs that are not refused have these sizes
-pub sizes : (ctx : Context) → ctx.m_cost < 2 ^ 32 → ctx.t_cost < 2 ^ 32
+pub sizes_of_valid : (ctx : Context) → ctx.m_cost < 2 ^ 32 → ctx.t_cost < 2 ^ 32
     → IsNone (first_fault ctx.m_cost ctx.t_cost ctx.p_cost None) → Sizes ctx
 unfolding segment_length_for
-sizes ctx small_m small_t none =
+sizes_of_valid ctx small_m small_t none =
     let m = ctx.m_cost in
     let p = ctx.p_cost in
     let a = not_refused (nat_lt m 8) _ _ none in
@@ -42,4 +42,4 @@ sizes ctx small_m small_t none =
 
 -- a valid context has these sizes
 pub sizes-valid : (ctx : Context) → IsValid ctx → Sizes ctx
-sizes-valid ctx valid = sizes ctx valid.m_cost valid.t_cost valid.costs
+sizes-valid ctx valid = sizes_of_valid ctx valid.m_cost valid.t_cost valid.costs

@@ -19,11 +19,11 @@ named_asked name o (Ok algorithm) e is = rw e (algorithm_named-text name (Ok alg
 named_asked name o (Err fault) e not = (rw e (algorithm_named-text name (Err fault) not), ap fault_of not.0)
 
 -- settings that there are not
-pub unasked : (asked : Result Settings Fault) (secret password salt : List ℕ) (e : Error) (r : Result PasswordHash Error)
+pub asked_refused : (asked : Result Settings Fault) (secret password salt : List ℕ) (e : Error) (r : Result PasswordHash Error)
     → Err (fault_of e) ≡ asked → IsErrAnd r (λ f. f ≡ e) → IsAskedAnswer asked secret password salt r
-unasked asked secret password salt e r is h = rw (← is) (passed_on phc_of e r h)
+asked_refused asked secret password salt e r is h = rw (← is) (passed_on phc_of e r h)
 
--- and hashing under those that there are
+-- hashing under settings that there are
 pub hashed_asked : (asked : Result Settings Fault) (own : Settings) (secret key password salt : List ℕ)
     (r : Result PasswordHash Error) → Ok own ≡ asked → key ≡ secret
     → IsHashAnswer (record { settings = own; secret = key }) password salt r → IsAskedAnswer asked secret password salt r

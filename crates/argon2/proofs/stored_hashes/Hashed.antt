@@ -32,7 +32,7 @@ module _ (target : Target) (password salt : List ℕ) where
   unrefused : fault ≡ None → Ok (made target password salt) ≡ hashed target password salt
   unrefused none = sym (ap (λ o. checked o (Ok (made target password salt))) none)
 
-  -- the salt was refused
+  -- the answer where the salt was refused
   pub unsalted : (e : Error) (r : Result PasswordHash Error)
       → (e ≡ SaltInvalid) × (8 ≤ length salt → length salt ≤ 48 → ⊥) → IsErrAnd r (λ f. f ≡ e)
       → IsHashAnswer target password salt r
@@ -41,7 +41,7 @@ module _ (target : Target) (password salt : List ℕ) where
       inl (rw (h, why.0) (refused (salt_fault _ _ (password_faults (length password)) why.1)))
 
   module _ (least : 8 ≤ length salt) (most : length salt ≤ 48) (fits : tag_length target.settings ≤ 64) where
-    -- no tag was made
+    -- the answer where no tag was made
     pub untagged : (e : Error) (r : Result PasswordHash Error)
         → (e ≡ OutOfMemory) ⊎ ((e ≡ PasswordInvalid) × (4294967295 < length password)) → IsErrAnd r (λ f. f ≡ e)
         → IsHashAnswer target password salt r
@@ -52,7 +52,7 @@ module _ (target : Target) (password salt : List ℕ) where
         inl (rw (h, why.0) (refused (no_text_fault _ _ (password_faults (length password)) least most fits
         ∙ rw (lt-ltb 4294967295 (length password) why.1) refl)))
 
-    -- a value was made
+    -- the answer where a value was made
     pub answered : (v : Phc) → v ≡ made target password salt → length password ≤ 4294967295
         → Ok v ≡ hashed target password salt
     answered v is short =

@@ -118,7 +118,7 @@ module _ (target : Target) (is : IsTarget target) (password salt : List ℕ) whe
     same_tag = ap (tag_of (context_with target.settings target.secret) password salt) (sym hash_bytes.1);
   }
 
-  -- it shows the target's settings
+  -- a made value shows the target's settings
   pub made_shows : (v : Phc) → v ≡ made target password salt → shown_settings v ≡ Ok (sized target.settings)
   made_shows v e = rw (
     e,
@@ -127,12 +127,12 @@ module _ (target : Target) (is : IsTarget target) (password salt : List ℕ) whe
     version_numbered-number target.settings.version,
   ) refl
 
-  -- its text is accepted
+  -- the text of a made value accepts the password
   pub made_accepted : (v : Phc) → v ≡ made target password salt → HasBytes 8 48 salt → length password ≤ 4294967295
       → Accepts target.secret password (phc_text v)
   made_accepted v e bytes short = (v, (rw e (made_is_phc bytes), refl), rw e (made_accepts short))
 
--- what is made of its parts
+-- a value with the parts of a made value is the made value
 pub is_made : (target : Target) (password salt name : List ℕ) (number : ℕ) (ps : List Pair) (v : Parameters)
     (own given tag : List ℕ)
     → name ≡ algorithm_name target.settings.algorithm → number ≡ version_number target.settings.version

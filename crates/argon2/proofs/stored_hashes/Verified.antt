@@ -1,6 +1,6 @@
 -- Verifying answers Ok exactly where the value accepts.
-use Rattle.std.proofs.Common.{◌≡◌, ℕ, ◌≤◌, ◌&&◌, Bool, true, false, List, length, Option, Some, None, Result, Ok, Err, inl, inr, ◌⊎◌, refl, sym, subst, leb}
-use Rattle.std.proofs.lemmas.Bool.{le-leb, leb-true}
+use Rattle.std.proofs.Common.{◌≡◌, ℕ, ◌≤◌, Bool, true, false, List, length, Option, Some, None, Result, Ok, Err, inl, inr, ◌⊎◌, refl, sym, subst, nat_le}
+use Rattle.std.proofs.lemmas.Bool.{and_parts, le-leb, leb-true}
 use Rattle.std.proofs.lemmas.Slice.Eq.{bytes_eq-Decides}
 use Rattle.std.specs.Option.{option_map}
 use Rattle.std.specs.Prelude.{if◌then◌else◌, MatchResult}
@@ -20,30 +20,25 @@ use Rattle.argon2.specs.ListedParameters.{params_of}
 abbrev answer_if : Bool → Result (Unit {0}) Fault
 answer_if b = if b then Ok tt else Err bad_password
 
-abbrev outcome : List ℕ → List ℕ → Result Stored Fault → Result (Unit {0}) Fault
-outcome secret password r = read r (λ stored. answer_if (is_tag secret password stored))
+abbrev answer_for : List ℕ → List ℕ → Result Stored Fault → Result (Unit {0}) Fault
+answer_for secret password r = read r (λ stored. answer_if (is_tag secret password stored))
 
-want_of_memory : (e : Error) → fault_of e ≡ no_memory → e ≡ OutOfMemory
-want_of_memory Algorithm h = absurd cc
-want_of_memory EncodingInvalid h = absurd cc
-want_of_memory OutOfMemory h = refl
-want_of_memory OutputSize h = absurd cc
-want_of_memory (ParamInvalid name) h = absurd cc
-want_of_memory ParamsInvalid h = absurd cc
-want_of_memory PasswordInvalid h = absurd cc
-want_of_memory SaltInvalid h = absurd cc
-want_of_memory Version h = absurd cc
-
--- a test that holds for two reasons
-both : (a b : Bool) → a && b ≡ true → (a ≡ true) × (b ≡ true)
-both true b h = (refl, h)
-both false b h = absurd cc
+memory_fault : (e : Error) → fault_of e ≡ no_memory → e ≡ OutOfMemory
+memory_fault Algorithm h = absurd cc
+memory_fault EncodingInvalid h = absurd cc
+memory_fault OutOfMemory h = refl
+memory_fault OutputSize h = absurd cc
+memory_fault (ParamInvalid name) h = absurd cc
+memory_fault ParamsInvalid h = absurd cc
+memory_fault PasswordInvalid h = absurd cc
+memory_fault SaltInvalid h = absurd cc
+memory_fault Version h = absurd cc
 
 tag_again : (secret password : List ℕ) (stored : Stored) → is_tag secret password stored ≡ true
     → (length password ≤ 4294967295) × (stored.hash
     ≡ tag_of (context_with stored.settings secret) password stored.salt (length stored.hash))
 tag_again secret password stored h =
-    let parts = both (leb (length password) 4294967295) _ h in
+    let parts = and_parts (nat_le (length password) 4294967295) _ h in
     (leb-true (length password) 4294967295 parts.0, (bytes_eq-Decides stored.hash _).0 parts.1)
 
 accepted_if : (b : Bool) → answer_if b ≡ Ok tt → b ≡ true
@@ -59,7 +54,7 @@ stored_with salt hash rp oa ov =
     Ok (record { algorithm = algorithm; version = version; parameters = parameters })))))
     (λ settings. Ok (record { settings = settings; salt = salt; hash = hash }))
 
--- the same of what may have neither
+-- the stored value of a salt and a hash that may be absent
 abbrev stored_from : Phc → Option (List ℕ) → Option (List ℕ) → Result Stored Fault
 stored_from v os oh =
     found os bad_password (λ salt.
@@ -70,7 +65,7 @@ module _ (secret password : List ℕ) (v : Phc) where
   accepts_with : (salt hash : List ℕ) (rp : Result Parameters Fault) (oa : Option Variant) (ov : Option Numbered)
       → v.salt ≡ Some salt → v.hash ≡ Some hash → params_of (Some (length hash)) v.params ≡ rp
       → algorithm_named v.algorithm ≡ oa → version_shown v.version ≡ ov
-      → outcome secret password (stored_with salt hash rp oa ov) ≡ Ok tt → AcceptsBy secret password v
+      → answer_for secret password (stored_with salt hash rp oa ov) ≡ Ok tt → AcceptsBy secret password v
   accepts_with salt hash (Err e) oa ov es eh ep ea ev h = absurd cc
   accepts_with salt hash (Ok parameters) None ov es eh ep ea ev h = absurd cc
   accepts_with salt hash (Ok parameters) (Some algorithm) None es eh ep ea ev h = absurd cc
@@ -92,7 +87,7 @@ module _ (secret password : List ℕ) (v : Phc) where
       }
 
   accepts_from : (os oh : Option (List ℕ)) → v.salt ≡ os → v.hash ≡ oh
-      → outcome secret password (stored_from v os oh) ≡ Ok tt → AcceptsBy secret password v
+      → answer_for secret password (stored_from v os oh) ≡ Ok tt → AcceptsBy secret password v
   accepts_from None oh es eh h = absurd cc
   accepts_from (Some salt) None es eh h = absurd cc
   accepts_from (Some salt) (Some hash) es eh h = accepts_with salt hash _ _ _ es eh refl refl refl h
@@ -101,7 +96,7 @@ module _ (secret password : List ℕ) (v : Phc) where
   accepts_verified : verified secret password v ≡ Ok tt → AcceptsBy secret password v
   accepts_verified h = accepts_from v.salt v.hash refl refl h
 
-  -- and there it is
+  -- where the value accepts, Ok is answered
   verified_accepts : AcceptsBy secret password v → verified secret password v ≡ Ok tt
   verified_accepts a =
       let same = (bytes_eq-Decides a.hash (tag_of (context_with a.settings secret) password a.salt (length a.hash))).1
@@ -122,9 +117,9 @@ module _ (secret password : List ℕ) (v : Phc) where
   exact (Ok _) (inl is) = accepts_verified (sym is)
   exact (Ok _) (inr is) = let no = is.0 in absurd cc
   exact (Err e) (inl is) = inr (λ a. let yes = verified_accepts a in let no = is in absurd cc)
-  exact (Err e) (inr is) = inl (want_of_memory e (let same = is.0 in cc))
+  exact (Err e) (inr is) = inl (memory_fault e (let same = is.0 in cc))
 
--- the same of a text that has this value and no other
+-- an answer for a value is the answer for its text
 pub exact_text : (secret password text : List ℕ) (v : Phc) (r : Result (Unit {0}) Error) → PhcText text v
     → ((w : Phc) → PhcText text w → v ≡ w)
     → IsVerifyAnswer secret password v r

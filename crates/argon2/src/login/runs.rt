@@ -1,4 +1,4 @@
-//! What holds of a login store after every list of calls.
+//! What is true of a login store after every list of calls.
 
 ghost use Rattle.argon2.specs.Runs.{TextsAreAddedOrMade, LastPasswordIsAccepted, TargetIsReached};
 

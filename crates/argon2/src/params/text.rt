@@ -65,7 +65,7 @@ impl TryFrom<&Params> for ParamsString {
     }
 }
 
-/// The same of parameters by value.
+/// Lists parameters that are given by value, as by reference.
 impl TryFrom<Params> for ParamsString {
     ghost use Rattle.argon2.specs.Params.{parameters_of};
     ghost use Rattle.argon2.specs.ListedParameters.{IsListOf};
@@ -225,7 +225,8 @@ impl TryFrom<&ParamsString> for Params {
     }
 }
 
-/// The same of a whole PHC text, whose hash has the length of the output.
+/// The parameters of a PHC text, read as from its list. Their output length is the length of the
+/// hash, where the text has one.
 impl TryFrom<&PasswordHash> for Params {
     ghost use Rattle.argon2_base.specs.PhcFields.{phc_of};
     ghost use Rattle.argon2.specs.ListedParameters.{IsPhcAnswer};
@@ -240,7 +241,8 @@ impl TryFrom<&PasswordHash> for Params {
     }
 }
 
-/// The same of a list's text, or `ParamsInvalid` where it is no list's.
+/// The parameters of a list's text, read as from the list, or `ParamsInvalid` where the text is
+/// outside the grammar of lists.
 impl FromStr for Params {
     ghost use Rattle.argon2.specs.ListedParameters.{IsTextAnswer};
 

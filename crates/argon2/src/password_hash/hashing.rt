@@ -56,7 +56,7 @@ impl<'key> Argon2<'key> {
         argon2
     }
 
-    // The same under an algorithm of this name and a version of this number.
+    // Hashing with the same secret under an algorithm of this name and a version of this number.
     fn with_asked(
         &self,
         alg_id: Option<&str>,

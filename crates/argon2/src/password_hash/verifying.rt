@@ -48,7 +48,7 @@ impl PasswordVerifier<&PasswordHash> for Argon2<'_> {
     }
 }
 
-/// The same of a PHC text.
+/// Verifies against the value of a PHC text.
 impl PasswordVerifier<&str> for Argon2<'_> {
     ghost use Rattle.argon2.specs.Stored.{Accepts, IsVerifyTextAnswer};
     ghost use Rattle.argon2.specs.Argon2.{secret_of};

@@ -31,7 +31,7 @@ hash_after-append i p x (suc n) h =
     rw (drop-append-le (n * 128) p x (omega arith)) (take-append-le 128 rest x fits) in
     rw (block, hash_after-append i p x n (omega arith)) refl
 
--- one more block
+-- one more block is taken in
 pub hash_after_next : (i p : List ℕ) (n : ℕ) → hash_after i p (n + 1)
     ≡ compress (hash_after i p n) (take 128 (drop (n * 128) p)) (n * 128 + 128) false
 unfolding hash_after
@@ -85,7 +85,7 @@ IsAtEdge_block i h m x t a full et =
     let none : drop (q * 128) m ≡ [] = drop_all (q * 128) m (omega arith) in
     IsAtEdge_next i h m x x q t a.0 (omega arith) (omega arith) (rw none refl) (omega arith)
 
--- nothing was held
+-- where nothing is held, the blocks end at the edge
 pub IsAtEdge_none : (i h b m : List ℕ) → IsAbsorbed i h b m → held m ≡ 0 → IsAtEdge i h m
 IsAtEdge_none i h b m a none =
     let q : length m / 128 ≡ blocks_before (length m) = omega arith in

@@ -15,14 +15,14 @@ use borrow.Rule.Slice.PartMut.{put_mid, post_of}
 abbrev pub first_halves : List ℕ → ℕ → List ℕ
 first_halves first i = flat_map (half first) (range_with_len 1 i)
 
--- one more number
+-- a longer range ends with one more number
 range_with_len_more : (a n : ℕ) → range_with_len a (suc n) ≡ range_with_len a n ++ (a + n) ∷ []
 range_with_len_more a zero = rw add-zero refl
 range_with_len_more a (suc n) =
     let e : (a + 1) + n ≡ a + suc n = omega arith in
     ap (λ (xs : List ℕ). a ∷ xs) (rw e at (range_with_len_more (a + 1) n))
 
--- one more half
+-- one more half is appended
 first_halves_more : (first : List ℕ) (i : ℕ)
     → first_halves first (i + 1) ≡ first_halves first i ++ half first (i + 1)
 first_halves_more first i =

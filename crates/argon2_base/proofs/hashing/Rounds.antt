@@ -5,7 +5,7 @@ use Rattle.std.proofs.lemmas.List.FromFn.{map-range_with_len_more}
 use Rattle.std.specs.List.{range_with_len}
 use Rattle.argon2_base.specs.Blake2b.{round, rounds, sigma}
 
--- one more round
+-- one more round is done
 pub one_more : {before after : List ℕ} (v m : List ℕ) (r : ℕ) → before ≡ rounds v m r
     → after ≡ round before (map (λ k. slice_index m k) (sigma r)) → after ≡ rounds v m (suc r)
 unfolding rounds
@@ -15,11 +15,11 @@ one_more v m r e step = step ∙ ap (λ w. round w (map (λ k. slice_index m k) 
 abbrev pub xored_word : List ℕ → List ℕ → ℕ → ℕ
 xored_word h v i = bit_xor (bit_xor (slice_index h i) (slice_index v i)) (slice_index v (i + 8))
 
--- its first i words
+-- the first i words of xor_halves
 abbrev pub first_words : List ℕ → List ℕ → ℕ → List ℕ
 first_words h v i = map (xored_word h v) (range_with_len 0 i)
 
--- one more word
+-- one more word is joined
 pub first_words_more : (h v out : List ℕ) (i : ℕ) → i < length out → take i out ≡ first_words h v i
     → take (i + 1) (slice_set out i (xored_word h v i)) ≡ first_words h v (i + 1)
 first_words_more h v out i more before =

@@ -8,13 +8,13 @@ use Rattle.std.specs.Simd.Lanes.{zip2, pick_l}
 use Rattle.argon2_base.specs.Block.{add_mul, xor_rotate, row}
 use Rattle.argon2_base.specs.Lanes.{lane, lane_word, words_in_eights, ones_left, ones_right, twos_left, twos_right, fours_left, fours_right}
 
--- what holds of 0 and 1
+-- what is true of 0 and 1 is true of each number below 2
 pub below_two : (P : ℕ → Type 0) → P 0 → P 1 → (e : ℕ) → e < 2 → P e
 below_two P p0 p1 zero h = p0
 below_two P p0 p1 (suc zero) h = p1
 below_two P p0 p1 (suc (suc n)) h = absurd (omega arith)
 
--- what holds of each of eight lanes
+-- what is true of each of eight lanes
 pub below_eight : (P : ℕ → Type 0) → P 0 → P 1 → P 2 → P 3 → P 4 → P 5 → P 6 → P 7 → (j : ℕ) → j < 8 → P j
 below_eight P p0 p1 p2 p3 p4 p5 p6 p7 zero h = p0
 below_eight P p0 p1 p2 p3 p4 p5 p6 p7 (suc zero) h = p1
@@ -26,7 +26,7 @@ below_eight P p0 p1 p2 p3 p4 p5 p6 p7 (suc (suc (suc (suc (suc (suc zero)))))) h
 below_eight P p0 p1 p2 p3 p4 p5 p6 p7 (suc (suc (suc (suc (suc (suc (suc zero))))))) h = p7
 below_eight P p0 p1 p2 p3 p4 p5 p6 p7 (suc (suc (suc (suc (suc (suc (suc (suc n)))))))) h = absurd (omega arith)
 
--- what holds of each of sixteen words
+-- what is true of each of sixteen words
 pub below_sixteen : (P : ℕ → Type 0) → P 0 → P 1 → P 2 → P 3 → P 4 → P 5 → P 6 → P 7
     → P 8 → P 9 → P 10 → P 11 → P 12 → P 13 → P 14 → P 15 → (k : ℕ) → k < 16 → P k
 below_sixteen P a0 a1 a2 a3 a4 a5 a6 a7 b0 b1 b2 b3 b4 b5 b6 b7 k h =
@@ -36,7 +36,7 @@ below_sixteen P a0 a1 a2 a3 a4 a5 a6 a7 b0 b1 b2 b3 b4 b5 b6 b7 k h =
     (below_two _ b0 b1) (below_two _ b2 b3) (below_two _ b4 b5) (below_two _ b6 b7)
     (k / 2) (omega arith) (k % 2) (omega arith))
 
--- what holds of each list of eight elements
+-- what is true of each list of eight elements
 pub eight_lanes : (P : List ℕ → Type 0)
     → ((a b c d e f g h : ℕ) → P (a ∷ b ∷ c ∷ d ∷ e ∷ f ∷ g ∷ h ∷ [])) → (xs : List ℕ) → length xs ≡ 8 → P xs
 eight_lanes P p (a ∷ b ∷ c ∷ d ∷ e ∷ f ∷ g ∷ h ∷ []) l = p a b c d e f g h
@@ -50,7 +50,7 @@ eight_lanes P p (a ∷ b ∷ c ∷ d ∷ e ∷ f ∷ []) l = absurd (omega arith
 eight_lanes P p (a ∷ b ∷ c ∷ d ∷ e ∷ f ∷ g ∷ []) l = absurd (omega arith)
 eight_lanes P p (a ∷ b ∷ c ∷ d ∷ e ∷ f ∷ g ∷ h ∷ i ∷ xs) l = absurd (omega arith)
 
--- what holds of any two lists of eight elements
+-- what is true of any two lists of eight elements
 two_vectors : (P : List ℕ → List ℕ → Type 0)
     → ((a b c d e f g h i j k l m n o p : ℕ) → P (a ∷ b ∷ c ∷ d ∷ e ∷ f ∷ g ∷ h ∷ []) (i ∷ j ∷ k ∷ l ∷ m ∷ n ∷ o ∷ p ∷ []))
     → (x : List ℕ) → length x ≡ 8 → (y : List ℕ) → length y ≡ 8 → P x y
@@ -62,7 +62,7 @@ two_vectors P t =
 wrapped_sum : (s x : ℕ) → (s % 2 ^ 64 + (x % 2 ^ 64 + x % 2 ^ 64) % 2 ^ 64) % 2 ^ 64 ≡ (s + 2 * x) % 2 ^ 64
 wrapped_sum s x = omega arith
 
--- the same where the product is doubled by a factor
+-- the wrapped sum where the product is doubled by a factor
 wrapped_twice : (s x : ℕ) → (s % 2 ^ 64 + x * 2 % 2 ^ 64) % 2 ^ 64 ≡ (s + x * 2) % 2 ^ 64
 wrapped_twice s x = omega arith
 
@@ -81,7 +81,7 @@ add_mul_word a b =
     let product : 2 * (a % 2 ^ 32) * (b % 2 ^ 32) ≡ 2 * (a % 2 ^ 32 * (b % 2 ^ 32)) = omega arith in
     rw (low_a, low_b, product) (wrapped_sum (a + b) (a % 2 ^ 32 * (b % 2 ^ 32)))
 
--- the same, as written for one word
+-- the sum of products, as written for one word
 pub add_mul_plain : (a b : ℕ)
     → ((a + b) % 2 ^ 64 + bit_and a 0xffffffff * bit_and b 0xffffffff * 2 % 2 ^ 64) % 2 ^ 64 ≡ add_mul a b
 unfolding add_mul
@@ -175,8 +175,8 @@ Interleaved a b =
     → slice_index (pick_l 0 (a ++ b) (4 ∷ 12 ∷ 5 ∷ 13 ∷ 6 ∷ 14 ∷ 7 ∷ 15 ∷ [])) j
     ≡ slice_index (if j % 2 == 0 then a else b) (4 + j / 2))
 
-pub interleaved : (a : List ℕ) → length a ≡ 8 → (b : List ℕ) → length b ≡ 8 → Interleaved a b
-interleaved =
+pub interleaved_words : (a : List ℕ) → length a ≡ 8 → (b : List ℕ) → length b ≡ 8 → Interleaved a b
+interleaved_words =
     two_vectors Interleaved (λ a0 a1 a2 a3 a4 a5 a6 a7 b0 b1 b2 b3 b4 b5 b6 b7.
     (below_eight _ refl refl refl refl refl refl refl refl, below_eight _ refl refl refl refl refl refl refl refl))
 

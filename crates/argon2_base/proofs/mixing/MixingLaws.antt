@@ -11,7 +11,7 @@ xor_blocks-comm [] (b ∷ y) = refl
 xor_blocks-comm (a ∷ x) [] = refl
 xor_blocks-comm (a ∷ x) (b ∷ y) = ap₂ (λ h t. h ∷ t) (xor_comm a b) (xor_blocks-comm x y)
 
--- nor does their mixing
+-- the mixing of two blocks does not mind their order
 pub mixed-comm : (x y : List ℕ) → mixed x y ≡ mixed y x
 unfolding mixed
 mixed-comm x y = ap (λ r. xor_blocks (by_columns (by_rows r)) r) (xor_blocks-comm x y)

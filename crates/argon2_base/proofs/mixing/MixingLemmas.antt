@@ -67,9 +67,9 @@ abbrev one_of : List (List ℕ) → ℕ → ℕ → ℕ → ℕ
 one_of x i e q =
     slice_index (if e == 0 then slice_index_or x (2 * i) [] else slice_index_or x (2 * i + 1) []) q
 
--- which is the lane of the vector of that number
-picked : (x : List (List ℕ)) (i q e : ℕ) → e < 2 → one_of x i e q ≡ lane_word x (2 * i + e) q
-picked x i q =
+-- the word is the lane of the vector of that number
+one_of-lane_word : (x : List (List ℕ)) (i q e : ℕ) → e < 2 → one_of x i e q ≡ lane_word x (2 * i + e) q
+one_of-lane_word x i q =
     let first : 2 * i ≡ 2 * i + 0 = omega arith in
     below_two _ (ap (λ k. lane_word x k q) first) refl
 
@@ -94,7 +94,7 @@ row_stored x r out i left right w low high =
           let lane_of : k / 2 ≡ w % 16 / 2 = omega arith in
           ap (slice_index out) (sym place)
           ∙ left k (omega arith)
-          ∙ ap₂ bit_xor (picked x i (k / 2) (k % 2) (omega arith) ∙ ap₂ (lane_word x) vector lane_of) (ap (slice_index r) place)
+          ∙ ap₂ bit_xor (one_of-lane_word x i (k / 2) (k % 2) (omega arith) ∙ ap₂ (lane_word x) vector lane_of) (ap (slice_index r) place)
       | inr in_right ↦
           let k = w - (16 * i + 8) in
           let place : 16 * i + 8 + k ≡ w = omega arith in
@@ -102,7 +102,7 @@ row_stored x r out i left right w low high =
           let lane_of : 4 + k / 2 ≡ w % 16 / 2 = omega arith in
           ap (slice_index out) (sym place)
           ∙ right k (omega arith)
-          ∙ ap₂ bit_xor (picked x i (4 + k / 2) (k % 2) (omega arith) ∙ ap₂ (lane_word x) vector lane_of)
+          ∙ ap₂ bit_xor (one_of-lane_word x i (4 + k / 2) (k % 2) (omega arith) ∙ ap₂ (lane_word x) vector lane_of)
           (ap (slice_index r) place)
     ]
 

@@ -78,7 +78,7 @@ short_bytes_found most s b bytes h =
     let parts = and_parts (nat_le (length b) most) (list_all is_byte b) found.1 in
     (passing_bytes b parts.1, leb-true (length b) most parts.0, strict_base64_decoded s b bytes found.0)
 
--- and finds those of each such text
+-- `short_bytes` finds the bytes of each such text
 pub short_bytes_again : (most : ℕ) (s b : List ℕ) → IsBytes b → length b ≤ most → s ≡ strict_base64 b
     → short_bytes most s ≡ Some b
 unfolding decoded_of
@@ -102,7 +102,7 @@ pub refused_text : (most : ℕ) (s : List ℕ) (cause : B64Error) → IsBase64Ca
 refused_text most s InvalidLength long b bytes fits is = omega (arith, ap length is, length-strict_base64 b)
 refused_text most s InvalidEncoding refused b bytes fits is = refused.1 b bytes is
 
--- and `short_bytes` finds none
+-- `short_bytes` finds no bytes of a text that is refused
 pub short_bytes_refused : (most : ℕ) (s : List ℕ) (cause : B64Error) → IsBytes s
     → IsBase64Cause (base64_length most) s cause → short_bytes most s ≡ None
 short_bytes_refused most s cause bytes refused = none_unless (short_bytes most s) (λ b is.

@@ -38,7 +38,7 @@ shifted_or x small =
     ∙ or_comm (x / 2 ^ 24) (x % 2 ^ 24 * 2 ^ 40)
     ∙ or_shifted (x % 2 ^ 24) 40 (x / 2 ^ 24) low
 
--- the same by bytes
+-- the sum of the turned bytes is the rotation
 turned_sum : (x : ℕ) → x < 2 ^ 64
     → x / 16777216 % 256
     + 256 * (x / 4294967296 % 256

@@ -1,5 +1,5 @@
 -- What follows from a test of each character.
-use Rattle.std.proofs.Common.{◌≡◌, ℕ, zero, suc, ◌<◌, ◌≤◌, Bool, true, false, ◌&&◌, List, [], ◌∷◌, length, arith, inl, inr, eqb, leb}
+use Rattle.std.proofs.Common.{◌≡◌, ℕ, zero, suc, ◌<◌, ◌≤◌, Bool, true, false, ◌&&◌, List, [], ◌∷◌, length, arith, inl, inr, ◌==◌, nat_le}
 use Rattle.std.proofs.lemmas.Bool.Decides.{nat_tests}
 use Rattle.std.proofs.lemmas.Bool.{cases_Bool, eqb-true, leb-true, and_parts}
 use Rattle.std.specs.List.{list_all, AllByRecursion}
@@ -18,10 +18,10 @@ pub name_char_small : (c : ℕ) → is_name_char c ≡ true → c < 128
 name_char_small c h = grind (arith, nat_tests)
 
 -- characters that pass such a test are ASCII text
-ascii : (p : ℕ → Bool) (gives : (c : ℕ) → p c ≡ true → c < 128) (s : List ℕ) → list_all p s ≡ true → IsAscii s
-ascii p gives [] h i = omega arith
-ascii p gives (x ∷ s) h zero = gives x (and_parts (p x) (list_all p s) h).0
-ascii p gives (x ∷ s) h (suc i) = ascii p gives s (and_parts (p x) (list_all p s) h).1 i
+ascii_by : (p : ℕ → Bool) (gives : (c : ℕ) → p c ≡ true → c < 128) (s : List ℕ) → list_all p s ≡ true → IsAscii s
+ascii_by p gives [] h i = omega arith
+ascii_by p gives (x ∷ s) h zero = gives x (and_parts (p x) (list_all p s) h).0
+ascii_by p gives (x ∷ s) h (suc i) = ascii_by p gives s (and_parts (p x) (list_all p s) h).1 i
 
 -- the characters of a name
 pub name_chars : (s : List ℕ) → is_name s ≡ true → list_all is_name_char s ≡ true
@@ -30,16 +30,16 @@ name_chars s h = (and_parts _ (list_all is_name_char s) h).1
 -- a text that is a name has at most 32 characters
 pub name_length : {text s : List ℕ} → text ≡ s → is_name s ≡ true → length text ≤ 32
 name_length {s = s} e h =
-    let lengths = and_parts (leb 1 (length s) && leb (length s) 32) (list_all is_name_char s) h in
-    rw e (leb-true (length s) 32 (and_parts (leb 1 (length s)) (leb (length s) 32) lengths.0).1)
+    let lengths = and_parts (nat_le 1 (length s) && nat_le (length s) 32) (list_all is_name_char s) h in
+    rw e (leb-true (length s) 32 (and_parts (nat_le 1 (length s)) (nat_le (length s) 32) lengths.0).1)
 
 -- a name is text
 pub IsUtf8-name : (s : List ℕ) → is_name s ≡ true → IsUtf8 s
-IsUtf8-name s h = IsUtf8-from_ascii s (ascii is_name_char name_char_small s (name_chars s h))
+IsUtf8-name s h = IsUtf8-from_ascii s (ascii_by is_name_char name_char_small s (name_chars s h))
 
 -- a character that doesn't pass is in no list of those that do
-pub lacks_by : (p : ℕ → Bool) (c : ℕ) → p c ≡ false → (s : List ℕ) → list_all p s ≡ true → AllByRecursion (λ x. eqb x c ≡ false) s
-lacks_by p c fails s h = tests_give p (λ x. eqb x c ≡ false) (λ x yes. elim (cases_Bool (eqb x c)) [
+pub lacks_by : (p : ℕ → Bool) (c : ℕ) → p c ≡ false → (s : List ℕ) → list_all p s ≡ true → AllByRecursion (λ x. (x == c) ≡ false) s
+lacks_by p c fails s h = tests_give p (λ x. (x == c) ≡ false) (λ x yes. elim (cases_Bool (x == c)) [
   | inl same ↦ let e : x ≡ c = eqb-true x c same in absurd (let y : p c ≡ true = rw (← e) yes in cc)
   | inr other ↦ other
 ]) s h

@@ -1,4 +1,4 @@
--- The equalities of lists of parameters and of what PHC texts say: each holds of one value alone.
+-- The equalities of lists of parameters and of what PHC texts say: each value equals itself alone.
 use Rattle.std.proofs.Common.{◌≡◌, Bool, ◌&&◌, List, Option, Some, None, refl, ap}
 use Rattle.std.specs.Bool.{Decides}
 use Rattle.std.specs.Cmp.{unsigned_Decides}

@@ -1,5 +1,5 @@
 -- Reading a list item by item.
-use Rattle.std.proofs.Common.{◌≡◌, ℕ, ◌<◌, ◌≤◌, true, false, ◌&&◌, List, [], ◌∷◌, ◌++◌, length, map, refl, sym, ap, ◌∙◌, arith, inl, inr, leb, length-append, append_assoc}
+use Rattle.std.proofs.Common.{◌≡◌, ℕ, ◌<◌, ◌≤◌, true, false, ◌&&◌, List, [], ◌∷◌, ◌++◌, length, map, refl, sym, ap, ◌∙◌, arith, inl, inr, nat_le, length-append, append_assoc}
 use Rattle.std.proofs.lemmas.Bool.{cases_Bool, le-leb, leb-true, and_parts}
 use Rattle.std.proofs.lemmas.List.{append-nil, map-append}
 use Rattle.std.proofs.lemmas.List.Folds.{list_all-append}
@@ -22,9 +22,9 @@ one_list text ps qs h k = sym (pairs_again ps (all_params ps h.0)) ∙ ap pairs_
     ∙ pairs_again qs (all_params qs k.0)
 
 -- where all items were read
-pub ends : (text : List ℕ) (done : List Pair) → are_params done ≡ true → map item done ++ [] ≡ items_of text
+pub read_at_end : (text : List ℕ) (done : List Pair) → are_params done ≡ true → map item done ++ [] ≡ items_of text
     → ParamsText text done
-ends text done h e = (h, sym (join_with_byte-slice_split 44 text) ∙ ap (join_with_byte 44) (sym e ∙ append-nil (map item done)))
+read_at_end text done h e = (h, sym (join_with_byte-slice_split 44 text) ∙ ap (join_with_byte 44) (sym e ∙ append-nil (map item done)))
 
 -- ---- at an item
 
@@ -71,7 +71,7 @@ text_front (q ∷ r ∷ a) b = omega (
 -- the front of a list in the grammar is in the grammar
 pub params_front : (a b : List Pair) → are_params (a ++ b) ≡ true → are_params a ≡ true
 params_front a b h =
-    let t = and_parts (list_all is_param (a ++ b) && are_distinct (a ++ b)) (leb (length (params_text (a ++ b))) 127) h in
+    let t = and_parts (list_all is_param (a ++ b) && are_distinct (a ++ b)) (nat_le (length (params_text (a ++ b))) 127) h in
     let d = and_parts (list_all is_param (a ++ b)) (are_distinct (a ++ b)) t.0 in
     let l = and_parts (list_all is_param a) (list_all is_param b) (sym (list_all-append is_param a b) ∙ d.0) in
     let short : length (params_text a) ≤ 127 = omega (arith, text_front a b, leb-true (length (params_text (a ++ b))) 127 t.1) in
@@ -94,8 +94,8 @@ fits_here done ps x more h k e =
 value_length : (n v : List ℕ) → is_param (n, v) ≡ true → length v ≤ 64
 value_length n v h =
     let value : is_value v ≡ true = param_value (n, v) h in
-    leb-true (length v) 64 (and_parts (leb 1 (length v)) (leb (length v) 64)
-    (and_parts (leb 1 (length v) && leb (length v) 64) _ value).0).1
+    leb-true (length v) 64 (and_parts (nat_le 1 (length v)) (nat_le (length v) 64)
+    (and_parts (nat_le 1 (length v) && nat_le (length v) 64) _ value).0).1
 
 -- what is longer is no value
 pub long_value : (n v : List ℕ) → 64 < length v → is_param (n, v) ≡ false

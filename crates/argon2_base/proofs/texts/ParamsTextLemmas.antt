@@ -1,5 +1,5 @@
 -- What a list says, and what longer lists are.
-use Rattle.std.proofs.Common.{◌≡◌, ◌≢◌, ℕ, ◌<◌, Bool, true, false, not, ◌&&◌, List, [], ◌∷◌, ◌++◌, length, map, refl, sym, ap, ◌∙◌, arith, inl, inr, eqb, leb, Some, None, length-append, append_assoc, lit<}
+use Rattle.std.proofs.Common.{◌≡◌, ◌≢◌, ℕ, ◌<◌, Bool, true, false, not, ◌&&◌, List, [], ◌∷◌, ◌++◌, length, map, refl, sym, ap, ◌∙◌, arith, inl, inr, ◌==◌, nat_le, Some, None, length-append, append_assoc, lit<}
 use Rattle.std.specs.Cmp.Lexicographic.{nat_list_eq_equiv}
 use Rattle.std.proofs.lemmas.Bool.{cases_Bool, and_parts}
 use Rattle.std.specs.List.{list_all, AllByRecursion}
@@ -20,11 +20,11 @@ pair_again (c ∷ n) v h = rw (h.0, pair_again n v h.1) refl
 
 -- ---- the parts of one parameter
 
--- its name
+-- the name of a parameter is a name
 pub param_name : (p : Pair) → is_param p ≡ true → is_name p.0 ≡ true
 param_name p h = (and_parts (is_name p.0) _ (and_parts _ (is_value p.1) h).0).0
 
--- its value
+-- the value of a parameter is a value
 pub param_value : (p : Pair) → is_param p ≡ true → is_value p.1 ≡ true
 param_value p h = (and_parts _ (is_value p.1) h).1
 
@@ -45,7 +45,7 @@ pub param_again : (p : Pair) → is_param p ≡ true → pair_of (item p) ≡ p
 param_again p h = pair_again p.0 p.1 (name_lacks 61 refl p.0 (param_name p h))
 
 -- an item lacks what is in no name and no value, and is no `=`
-pub item_lacks : (c : ℕ) → is_name_char c ≡ false → is_value_char c ≡ false → eqb 61 c ≡ false → (p : Pair)
+pub item_lacks : (c : ℕ) → is_name_char c ≡ false → is_value_char c ≡ false → (61 == c) ≡ false → (p : Pair)
     → is_param p ≡ true → Lacks c (item p)
 item_lacks c a b d p h = Lacks-append c p.0 (61 ∷ p.1) (name_lacks c a p.0 (param_name p h))
     (d, value_lacks c b p.1 (param_value p h))
@@ -66,9 +66,9 @@ map_again (p ∷ ps) h = let b = and_parts (is_param p) (list_all is_param ps) h
 
 -- each of a list is a parameter
 pub all_params : (ps : List Pair) → are_params ps ≡ true → list_all is_param ps ≡ true
-all_params ps h = (and_parts (list_all is_param ps) _ (and_parts _ (leb (length (params_text ps)) 127) h).0).0
+all_params ps h = (and_parts (list_all is_param ps) _ (and_parts _ (nat_le (length (params_text ps)) 127) h).0).0
 
--- text that isn't empty
+-- a text that isn't empty has the pairs of its parts
 pub pairs_of_items : (t : List ℕ) → 0 < length t → pairs_of t ≡ map pair_of (items_of t)
 pairs_of_items [] h = absurd (omega arith)
 pairs_of_items (c ∷ t) h = refl
@@ -87,7 +87,7 @@ pub items_again : (p : Pair) (ps : List Pair) → list_all is_param (p ∷ ps) �
     → items_of (params_text (p ∷ ps)) ≡ map item (p ∷ ps)
 items_again p ps h = cut_joined 44 (item p) (map item ps) (items_lack (p ∷ ps) h)
 
--- the same where the text is not empty
+-- the items of a list whose text is not empty
 pub items_again_long : (ps : List Pair) → list_all is_param ps ≡ true → 0 < length (params_text ps)
     → items_of (params_text ps) ≡ map item ps
 items_again_long [] h long = absurd (omega arith)
@@ -140,20 +140,20 @@ value_of-first n q ps = elim (cases_Bool (bytes_eq q.0 n)) [
 ]
 
 -- two pairs of tests, the other way
-shuffle : (a b c d : Bool) → ((a && b) && (c && d)) ≡ ((a && c) && (b && d))
-shuffle true true c d = refl
-shuffle true false true d = refl
-shuffle true false false d = refl
-shuffle false b c d = refl
+and_swap : (a b c d : Bool) → ((a && b) && (c && d)) ≡ ((a && c) && (b && d))
+and_swap true true c d = refl
+and_swap true false true d = refl
+and_swap true false false d = refl
+and_swap false b c d = refl
 
 -- whether names are distinct with one more
 pub are_distinct-more : (ps : List Pair) (p : Pair) → are_distinct (ps ++ p ∷ []) ≡ (are_distinct ps && is_none (value_of p.0 ps))
 are_distinct-more [] p = refl
 are_distinct-more (q ∷ ps) p =
     rw (value_of-more q.0 ps p, are_distinct-more ps p, value_of-first p.0 q ps, bytes_eq_sym p.0 q.0)
-    (shuffle (is_none (value_of q.0 ps)) (not (bytes_eq q.0 p.0)) (are_distinct ps) (is_none (value_of p.0 ps)))
+    (and_swap (is_none (value_of q.0 ps)) (not (bytes_eq q.0 p.0)) (are_distinct ps) (is_none (value_of p.0 ps)))
 
--- a test and true
+-- a test and true are the test
 and_true : (b : Bool) → (b && true) ≡ b
 and_true true = refl
 and_true false = refl
@@ -164,7 +164,7 @@ list_all-more ps p = list_all-append is_param ps (p ∷ []) ∙ ap (λ b. list_a
 
 -- when a list may get one more
 pub are_params-more : (ps : List Pair) (p : Pair) → are_params ps ≡ true
-    → are_params (ps ++ p ∷ []) ≡ ((is_param p && is_none (value_of p.0 ps)) && leb (length (with_item (params_text ps) p)) 127)
+    → are_params (ps ++ p ∷ []) ≡ ((is_param p && is_none (value_of p.0 ps)) && nat_le (length (with_item (params_text ps) p)) 127)
 are_params-more ps p h =
     let b = and_parts (list_all is_param ps && are_distinct ps) _ h in
     let d = and_parts (list_all is_param ps) (are_distinct ps) b.0 in
@@ -201,7 +201,7 @@ starts_ok text long good is =
 
 -- ---- one more parameter, or a refusal
 
--- a test and false
+-- a test and false are false
 and_false : (b : Bool) → (b && false) ≡ false
 and_false true = refl
 and_false false = refl
@@ -210,12 +210,12 @@ and_false false = refl
 pub refused_param : (ps : List Pair) (p : Pair) → is_param p ≡ false → false ≡ are_params (ps ++ p ∷ [])
 refused_param ps p h = sym (rw (list_all-more ps p, h, and_false (list_all is_param ps)) refl)
 
--- something is there
+-- where there is something, not nothing
 is_none-some : (o : Option (List ℕ)) → is_some o ≡ true → is_none o ≡ false
 is_none-some None h = absurd cc
 is_none-some (Some x) h = refl
 
--- nothing is there
+-- where there is nothing
 is_none-none : (o : Option (List ℕ)) → is_some o ≡ false → is_none o ≡ true
 is_none-none None h = refl
 is_none-none (Some x) h = absurd cc
@@ -234,11 +234,11 @@ pub record Grows (text new : List ℕ) (p : Pair) : Type 0 where
   pub spelled : new ≡ params_text (pairs_of text ++ p ∷ [])
 
 -- the list after an item was appended
-pub grown : (text new : List ℕ) (p : Pair) → are_params (pairs_of text) ≡ true → text ≡ params_text (pairs_of text)
+pub params_grown : (text new : List ℕ) (p : Pair) → are_params (pairs_of text) ≡ true → text ≡ params_text (pairs_of text)
     → is_param p ≡ true
-    → is_some (value_of p.0 (pairs_of text)) ≡ false → leb (length (with_item text p)) 127 ≡ true
+    → is_some (value_of p.0 (pairs_of text)) ≡ false → nat_le (length (with_item text p)) 127 ≡ true
     → new ≡ with_item text p → Grows text new p
-grown text new p h is param name fits e =
+params_grown text new p h is param name fits e =
     let ps : List Pair = pairs_of text in
     let good : are_params (ps ++ p ∷ []) ≡ true =
     rw (are_params-more ps p h, param, is_none-none (value_of p.0 ps) name, ← is) fits in
@@ -252,7 +252,7 @@ grown text new p h is param name fits e =
 
 -- a list that is too long is refused
 pub refused_long : (text : List ℕ) (p : Pair) → are_params (pairs_of text) ≡ true → text ≡ params_text (pairs_of text)
-    → leb (length (with_item text p)) 127 ≡ false → false ≡ are_params (pairs_of text ++ p ∷ [])
+    → nat_le (length (with_item text p)) 127 ≡ false → false ≡ are_params (pairs_of text ++ p ∷ [])
 refused_long text p h is long =
     let ps : List Pair = pairs_of text in
     sym (are_params-more ps p h ∙ rw (← is, long) (and_false (is_param p && is_none (value_of p.0 ps))))

@@ -1,5 +1,5 @@
 -- The fields of a text, and the text of the fields.
-use Rattle.std.proofs.Common.{◌≡◌, ◌≢◌, ℕ, ◌<◌, ◌^◌, true, false, List, [], ◌∷◌, ◌++◌, length, refl, sym, ap, ◌∙◌, subst, arith, Option, Some, None, Ok, Err, append_assoc, codes, eqb}
+use Rattle.std.proofs.Common.{◌≡◌, ◌≢◌, ℕ, ◌<◌, ◌^◌, true, false, List, [], ◌∷◌, ◌++◌, length, refl, sym, ap, ◌∙◌, subst, arith, Option, Some, None, Ok, Err, append_assoc, codes, ◌==◌}
 use Rattle.std.proofs.lemmas.List.{append-nil}
 use Rattle.std.proofs.lemmas.Grind.{flat_map-append}
 use Rattle.std.proofs.lemmas.Bool.{not-true, and_parts}
@@ -22,7 +22,7 @@ use Rattle.argon2_base.proofs.texts.ValueCharacters.{decimal_chars, base64_chars
 -- ---- no field has a `$`
 
 -- a list's text lacks what no item has, and is no `,`
-params_text_lacks : (c : ℕ) → is_name_char c ≡ false → is_value_char c ≡ false → eqb 61 c ≡ false → eqb 44 c ≡ false
+params_text_lacks : (c : ℕ) → is_name_char c ≡ false → is_value_char c ≡ false → (61 == c) ≡ false → (44 == c) ≡ false
     → (ps : List Pair) → list_all is_param ps ≡ true → Lacks c (params_text ps)
 params_text_lacks c a b d e [] h = tt
 params_text_lacks c a b d e (p ∷ []) h = item_lacks c a b d p (and_parts (is_param p) true h).0
@@ -38,29 +38,29 @@ base64_lacks c fails b bytes = lacks_by is_value_char c fails (strict_base64 b) 
 version_lacks : (n : ℕ) → n < 2 ^ 32 → Lacks 36 (version_text n)
 version_lacks n small = (refl, (refl, lacks_by is_value_char 36 refl (decimal n) (decimal_chars n (omega arith))))
 
--- neither part has it
+-- two lists of texts without the character, joined
 and_then : (c : ℕ) (xs ys : List (List ℕ)) → AllByRecursion (Lacks c) xs → AllByRecursion (Lacks c) ys
     → AllByRecursion (Lacks c) (xs ++ ys)
 and_then c [] ys h k = k
 and_then c (x ∷ xs) ys h k = (h.0, and_then c xs ys h.1 k)
 
--- nor the field of a version
+-- the field of a version has no `$`
 version_field_lacks : (o : Option ℕ) → IfSome o (λ n. n < 2 ^ 32) → AllByRecursion (Lacks 36) (field version_text o)
 version_field_lacks None h = tt
 version_field_lacks (Some n) h = (version_lacks n h, tt)
 
--- nor the field of bytes
+-- the field of bytes has no `$`
 bytes_field_lacks : (low high : ℕ) (o : Option (List ℕ)) → IfSome o (HasBytes low high)
     → AllByRecursion (Lacks 36) (field strict_base64 o)
 bytes_field_lacks low high None h = tt
 bytes_field_lacks low high (Some b) h = (base64_lacks 36 refl b h.0, tt)
 
--- nor the field of parameters
+-- the field of parameters has no `$`
 list_field_lacks : (ps : List Pair) → are_params ps ≡ true → AllByRecursion (Lacks 36) (list_field ps)
 list_field_lacks [] h = tt
 list_field_lacks (p ∷ ps) h = (params_text_lacks 36 refl refl refl refl (p ∷ ps) (all_params (p ∷ ps) h), tt)
 
--- so no field has a `$`
+-- no field has a `$`
 fields_lack : (v : Phc) → IsPhc v → AllByRecursion (Lacks 36) (fields v)
 fields_lack v h = (
   name_lacks 36 refl v.algorithm h.algorithm,
@@ -73,9 +73,9 @@ fields_lack v h = (
 -- ---- the fields joined
 
 -- fields behind a `$` each are fields joined by `$` behind one
-joined : (x : List ℕ) (xs : List (List ℕ)) → flat_map (λ f. 36 ∷ f) (x ∷ xs) ≡ 36 ∷ join_with_byte 36 (x ∷ xs)
-joined x [] = ap (λ (t : List ℕ). 36 ∷ t) (append-nil x)
-joined x (y ∷ xs) = ap (λ (t : List ℕ). 36 ∷ (x ++ t)) (joined y xs)
+flat_map-dollar : (x : List ℕ) (xs : List (List ℕ)) → flat_map (λ f. 36 ∷ f) (x ∷ xs) ≡ 36 ∷ join_with_byte 36 (x ∷ xs)
+flat_map-dollar x [] = ap (λ (t : List ℕ). 36 ∷ t) (append-nil x)
+flat_map-dollar x (y ∷ xs) = ap (λ (t : List ℕ). 36 ∷ (x ++ t)) (flat_map-dollar y xs)
 
 -- the fields behind the version
 abbrev pub from_params : Phc → List (List ℕ)
@@ -90,21 +90,21 @@ pub first_and_left : {text t first : List ℕ} {left : List (List ℕ)} (v : Phc
     → fields_of t ≡ first ∷ left → (first ≡ v.algorithm) × (left ≡ field version_text v.version ++ from_params v)
 first_and_left {text} {t} {first} {left} v h e f =
     let behind : List (List ℕ) = field version_text v.version ++ from_params v in
-    let same : 36 ∷ t ≡ 36 ∷ join_with_byte 36 (fields v) = sym e ∙ h.1 ∙ joined v.algorithm behind in
+    let same : 36 ∷ t ≡ 36 ∷ join_with_byte 36 (fields v) = sym e ∙ h.1 ∙ flat_map-dollar v.algorithm behind in
     let t-is : t ≡ join_with_byte 36 (fields v) = cc in
     let cut : fields_of t ≡ fields v = ap fields_of t-is ∙ cut_joined 36 v.algorithm behind (fields_lack v h.0) in
     let parts : first ∷ left ≡ fields v = sym f ∙ cut in
     (cc parts, cc parts)
 
 -- a text in the grammar begins with a `$`
-pub begins : (text : List ℕ) (v : Phc) → PhcText text v → (rest : List ℕ) × (text ≡ 36 ∷ rest)
-begins text v h = (_, h.1 ∙ joined v.algorithm (field version_text v.version ++ from_params v))
+pub begins_with_dollar : (text : List ℕ) (v : Phc) → PhcText text v → (rest : List ℕ) × (text ≡ 36 ∷ rest)
+begins_with_dollar text v h = (_, h.1 ∙ flat_map-dollar v.algorithm (field version_text v.version ++ from_params v))
 
 -- the text of the fields
-pub spelled : (text t : List ℕ) (v : Phc) → text ≡ 36 ∷ t → fields_of t ≡ fields v → text ≡ phc_text v
-spelled text t v e f =
+pub text_of_fields : (text t : List ℕ) (v : Phc) → text ≡ 36 ∷ t → fields_of t ≡ fields v → text ≡ phc_text v
+text_of_fields text t v e f =
     let whole : t ≡ join_with_byte 36 (fields v) = sym (join_with_byte-slice_split 36 t) ∙ ap (join_with_byte 36) f in
-    e ∙ ap (λ (r : List ℕ). 36 ∷ r) whole ∙ sym (joined v.algorithm (field version_text v.version ++ from_params v))
+    e ∙ ap (λ (r : List ℕ). 36 ∷ r) whole ∙ sym (flat_map-dollar v.algorithm (field version_text v.version ++ from_params v))
 
 -- ---- which field comes next
 
@@ -117,12 +117,12 @@ text_item p (q ∷ ps) = (p.1 ++ 44 ∷ params_text (q ∷ ps), append_assoc p.0
 base64_no_item : (b : List ℕ) (p : Pair) → IsBytes b → strict_base64 b ≡ item p → ⊥
 base64_no_item b p bytes e = Lacks_not 61 p.0 p.1 (subst (Lacks 61) e (base64_lacks 61 refl b bytes))
 
--- nor is a hash
+-- a hash is no item
 hash_no_item : (o : Option (List ℕ)) → IfSome o (HasBytes 4 64) → NoItemFirst (field strict_base64 o)
 hash_no_item None h p more e = absurd cc
 hash_no_item (Some b) h p more e = base64_no_item b p h.0 cc
 
--- nor a salt, or a hash in its place
+-- a salt, or a hash in its place, is no item
 bytes_no_item : (o r : Option (List ℕ)) → IfSome o (HasBytes 8 48) → IfSome r (HasBytes 4 64)
     → NoItemFirst (field strict_base64 o ++ field strict_base64 r)
 bytes_no_item None r h k = hash_no_item r k
@@ -216,7 +216,7 @@ bytes_refused low high f left more e h = record {
 -- nothing is left where there is no field
 pub left_none : (o : Option (Bor (List ℕ))) → fields_left o ≡ [] → is_some o ≡ false
 left_none None e = refl
-left_none (Some x) e = absurd (omega (arith, ap length e, length-slice_split (λ b. eqb b 36) x.now))
+left_none (Some x) e = absurd (omega (arith, ap length e, length-slice_split (λ b. b == 36) x.now))
 
 -- no field where nothing is left
 pub none_left : (o : Option (Bor (List ℕ))) → is_some o ≡ false → fields_left o ≡ []
@@ -242,19 +242,19 @@ pub both_read : {f2 f3 f4 : List (List ℕ)} (s o : Option (List ℕ)) → f2 �
 both_read s o e1 e2 e3 = rw (e1, e2, e3, append-nil) refl
 
 -- the fields that were read one by one
-pub gathered : (t : List ℕ) {first : List ℕ} (v : Phc) {f0 f1 f2 : List (List ℕ)}
+pub fields_of_parts : (t : List ℕ) {first : List ℕ} (v : Phc) {f0 f1 f2 : List (List ℕ)}
     → fields_of t ≡ first ∷ f0 → v.algorithm ≡ first → f0 ≡ field version_text v.version ++ f1
     → f1 ≡ list_field v.params ++ f2 → f2 ≡ from_salt v → fields_of t ≡ fields v
-gathered t v e a e1 e2 e3 = rw (e, e1, e2, e3, a) refl
+fields_of_parts t v e a e1 e2 e3 = rw (e, e1, e2, e3, a) refl
 
 -- ---- printing
 
 -- the fields that were printed one after the other
-pub printed : (v : Phc) {t0 t1 t2 t3 t4 t5 first : List ℕ} {salt hash : List (List ℕ)} → t0 ≡ [] → t1 ≡ t0 ++ 36 ∷ first
+pub text_of_printed : (v : Phc) {t0 t1 t2 t3 t4 t5 first : List ℕ} {salt hash : List (List ℕ)} → t0 ≡ [] → t1 ≡ t0 ++ 36 ∷ first
     → first ≡ v.algorithm → t2 ≡ t1 ++ fields_text (field version_text v.version)
     → t3 ≡ t2 ++ fields_text (list_field v.params) → t4 ≡ t3 ++ fields_text salt → salt ≡ field strict_base64 v.salt
     → t5 ≡ t4 ++ fields_text hash → hash ≡ field strict_base64 v.hash → t5 ≡ phc_text v
-printed v {first = first} e0 e1 ea e2 e3 e4 es e5 eh =
+text_of_printed v {first = first} e0 e1 ea e2 e3 e4 es e5 eh =
     let f : List ℕ → List ℕ = λ x. 36 ∷ x in
     let a : List (List ℕ) = field version_text v.version in
     let b : List (List ℕ) = list_field v.params in

@@ -29,7 +29,8 @@ pub struct PasswordHash {
     pub salt: Option<Salt>,
     /// The hash, where the text has one.
     pub hash: Option<Output>,
-    ghost grammatical: { IsPhc (phc_with algorithm version params salt hash) } by { Prim.hlevel props },
+    ghost grammatical: { IsPhc
+        (phc_with algorithm version params salt hash) } by { Prim.hlevel props },
 }
 
 impl PasswordHash {
@@ -172,7 +173,8 @@ fn push_params(text: &mut ArrayString<326>, params: &ParamsString)
 // Appends the field of bytes, given their Base64.
 fn push_base64<const N: usize>(text: &mut ArrayString<326>, base64: Option<ArrayString<N>>)
     requires { array_string_len text.old + N < 326 }
-    ensures bytes { text.new.bytes ≡ text.old.bytes ++ fields_text (field (λ t. t.bytes) base64.entry) }
+    ensures bytes { text.new.bytes
+        ≡ text.old.bytes ++ fields_text (field (λ t. t.bytes) base64.entry) }
     ensures max { array_string_len text.new ≤ array_string_len text.old + N + 1 }
 {
     if let Some(base64) = base64 {

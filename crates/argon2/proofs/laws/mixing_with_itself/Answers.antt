@@ -5,12 +5,12 @@ use Rattle.argon2_base.specs.Block.{add_mul, by_columns, by_rows, column, gb, mi
 use Rattle.argon2.proofs.laws.mixing_with_itself.Goals as goal
 
 -- the exclusive or of words with themselves is zeros
-zeros : (x : List ℕ) → xor_blocks x x ≡ replicate (length x) 0
+xor_blocks-self : (x : List ℕ) → xor_blocks x x ≡ replicate (length x) 0
 unfolding xor_blocks
-zeros [] = refl
-zeros (w ∷ x) = ap₂ (λ h t. h ∷ t) (xor_self w) (zeros x)
+xor_blocks-self [] = refl
+xor_blocks-self (w ∷ x) = ap₂ (λ h t. h ∷ t) (xor_self w) (xor_blocks-self x)
 
--- and of zeros nothing else is made
+-- zeros are mixed to zeros
 mixed_zeros : xor_blocks (by_columns (by_rows zero_block)) zero_block ≡ zero_block
 unfolding xor_blocks zero_block by_columns by_rows column row perm mix_columns mix_diagonals gb xor_rotate add_mul
 mixed_zeros = refl
@@ -22,4 +22,4 @@ from_zeros x r e = ap (λ r. xor_blocks (by_columns (by_rows r)) r) e
 pub returns : goal.returns
 unfolding zero_block
 returns c = λ x size.
-    from_zeros x zero_block (zeros x ∙ ap (λ n. replicate n 0) size) ∙ mixed_zeros
+    from_zeros x zero_block (xor_blocks-self x ∙ ap (λ n. replicate n 0) size) ∙ mixed_zeros

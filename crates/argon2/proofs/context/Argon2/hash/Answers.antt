@@ -3,14 +3,14 @@ use Rattle.argon2.specs.Argon2.{context_of}
 use Rattle.argon2.specs.Rfc9106.{Sizes, block_count, matrix_of}
 use Rattle.argon2.specs.Watching.{mixing_calls}
 use Rattle.argon2.proofs.LentMemory.{is_hashed}
-use Rattle.argon2.proofs.RefusalLemmas.{answered, passed_on, refused}
+use Rattle.argon2.proofs.RefusalLemmas.{ok_with_any_value, passed_on, err_with_any_value}
 use Rattle.argon2.proofs.schedules.LastColumn.{tag_of_matrix}
 use Rattle.argon2.proofs.context.Argon2.hash.Goals as goal
 
 pub returns-in_err-check : goal.returns-in_err-check
 returns-in_err-check c =
     rw (passed_on c.from_residual.result _ c.from_residual.ensures) (record {
-      answer = refused _ _ _ _ c.in_err-check.ensures.answer;
+      answer = err_with_any_value _ _ _ _ c.in_err-check.ensures.answer;
       hashed = tt;
       positions = tt;
       same = (refl, refl, refl);
@@ -34,7 +34,7 @@ returns c =
     ∙ tag_of_matrix ctx (subst Sizes same c.block_count.ensures.sizes) c.args.pwd.now c.args.salt.now _ _ made in
     record {
       answer =
-          answered _ _ _ _ _ c.in_ok-check.ensures.answer
+          ok_with_any_value _ _ _ _ _ c.in_ok-check.ensures.answer
           ((rw (c.new-work.ensures, same) at c.fill_blocks.ensures.work) ∙ all);
       hashed =
           is_hashed c.args.self.now c.block_count.result count c.args.memory.now c.fill_blocks.new.blocks

@@ -7,10 +7,10 @@ use Rattle.argon2.proofs.lists.ReadAgain.{read_again, valid_without}
 use Rattle.argon2.proofs.params.text.params_string.Goals as goal
 
 -- the list as it grows, by what the arguments' types say
-fronts : {m t p : ℕ} {k d : List ℕ} → Fits w32 m → Fits w32 t → Fits w32 p
+fronts_fit : {m t p : ℕ} {k d : List ℕ} → Fits w32 m → Fits w32 t → Fits w32 p
     → ((i : ℕ) → Fits w8 (slice_index k i)) → ((i : ℕ) → Fits w8 (slice_index d i))
     → length k ≤ 8 → length d ≤ 32 → Fronts m t p k d
-fronts {m} {t} {p} {k} {d} hm ht hp bk bd lk ld =
+fronts_fit {m} {t} {p} {k} {d} hm ht hp bk bd lk ld =
     listed_fronts m t p k d (omega (arith, hm)) (omega (arith, ht)) (omega (arith, hp))
     (λ i. omega (arith, bk i)) (λ i. omega (arith, bd i)) lk ld
 
@@ -31,21 +31,21 @@ with_data m t p k d list more costs keyid good =
 
 pub unreachable-requires : goal.unreachable-requires
 unreachable-requires c =
-    let one = (fronts c.ranges.m c.ranges.t c.ranges.p c.type_inv.keyid c.type_inv.associated
+    let one = (fronts_fit c.ranges.m c.ranges.t c.ranges.p c.type_inv.keyid c.type_inv.associated
     c.requires.keyid_fits c.requires.data_fits).memory in
     let refused = rw (c.new-list.ensures) at c.in_default.ensures.when in
     cc
 
 pub unreachable-requires-in_default-add_decimal : goal.unreachable-requires-in_default-add_decimal
 unreachable-requires-in_default-add_decimal c =
-    let two = (fronts c.ranges.m c.ranges.t c.ranges.p c.type_inv.keyid c.type_inv.associated
+    let two = (fronts_fit c.ranges.m c.ranges.t c.ranges.p c.type_inv.keyid c.type_inv.associated
     c.requires.keyid_fits c.requires.data_fits).passes in
     let refused = rw (c.in-Ok.ensures.ok, c.new-list.ensures) at c.in_default-add_decimal.ensures.when in
     cc
 
 pub unreachable-requires-in_default-add_decimal-2 : goal.unreachable-requires-in_default-add_decimal-2
 unreachable-requires-in_default-add_decimal-2 c =
-    let three = (fronts c.ranges.m c.ranges.t c.ranges.p c.type_inv.keyid c.type_inv.associated
+    let three = (fronts_fit c.ranges.m c.ranges.t c.ranges.p c.type_inv.keyid c.type_inv.associated
     c.requires.keyid_fits c.requires.data_fits).lanes in
     let refused = rw (c.in-Ok-add_decimal.ensures.ok, c.in-Ok.ensures.ok, c.new-list.ensures)
     at c.in_default-add_decimal-2.ensures.when in
@@ -56,7 +56,7 @@ add_bytes-requires c =
     let costs = rw (c.in-Ok-add_decimal.ensures.ok, c.in-Ok.ensures.ok, c.new-list.ensures)
     at c.in-Ok-add_decimal-2.ensures.ok in
     with_keyid c.args.m c.args.t c.args.p c.args.keyid.now c.args.associated.now _ costs
-    (fronts c.ranges.m c.ranges.t c.ranges.p c.type_inv.keyid c.type_inv.associated
+    (fronts_fit c.ranges.m c.ranges.t c.ranges.p c.type_inv.keyid c.type_inv.associated
     c.requires.keyid_fits c.requires.data_fits)
 
 pub add_bytes-requires-2 : goal.add_bytes-requires-2
@@ -64,7 +64,7 @@ add_bytes-requires-2 c =
     let costs = rw (c.in-Ok-add_decimal.ensures.ok, c.in-Ok.ensures.ok, c.new-list.ensures)
     at c.in-Ok-add_decimal-2.ensures.ok in
     with_data c.args.m c.args.t c.args.p c.args.keyid.now c.args.associated.now _ _ costs c.add_bytes.ensures
-    (fronts c.ranges.m c.ranges.t c.ranges.p c.type_inv.keyid c.type_inv.associated
+    (fronts_fit c.ranges.m c.ranges.t c.ranges.p c.type_inv.keyid c.type_inv.associated
     c.requires.keyid_fits c.requires.data_fits)
 
 pub returns-clause-again : goal.returns-clause-again

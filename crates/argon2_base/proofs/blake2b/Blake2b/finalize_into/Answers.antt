@@ -1,6 +1,6 @@
 use Rattle.std.proofs.Common.{◌≡◌, ℕ, length, refl, ap, sym, ◌∙◌, arith, length-take-le}
 use Rattle.argon2_base.specs.Blake2b.{blake2b}
-use Rattle.argon2_base.proofs.hashing.HasherFields.{opened, zeros_len, block_len, digest_written}
+use Rattle.argon2_base.proofs.hashing.HasherFields.{held_by_fields, zeros_len, block_len, digest_written}
 use Rattle.argon2_base.proofs.blake2b.Blake2b.finalize_into.Goals as goal
 
 pub copy_from_slice-requires : goal.copy_from_slice-requires
@@ -21,7 +21,7 @@ pub returns : goal.returns
 returns c = λ m held.
     let s = c.self.inside in
     let len : s.len ≡ length c.args.out.now = ap (λ r. r.digest_len) c.self.view_is ∙ sym c.requires in
-    let before = opened c.args.self s.len s.total s.h s.buffer m c.self.view_is held in
+    let before = held_by_fields c.args.self s.len s.total s.h s.buffer m c.self.view_is held in
     digest_written s.len s.total s.h s.buffer m _ _ _ _ _ _ _ c.held_len-filled.result before
     c.held_len-filled.ensures refl c.copy_from_slice.ensures.after refl c.compress.ensures
     c.le_bytes.ensures c.copy_from_slice-2.ensures.after refl ∙ ap (λ (n : ℕ). blake2b n m) len

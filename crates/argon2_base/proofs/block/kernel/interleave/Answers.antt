@@ -1,8 +1,8 @@
-use Rattle.argon2_base.proofs.mixing.LaneLemmas.{interleaved}
+use Rattle.argon2_base.proofs.mixing.LaneLemmas.{interleaved_words}
 use Rattle.argon2_base.proofs.block.kernel.interleave.Goals as goal
 
 pub returns-clause-left : goal.returns-clause-left
-returns-clause-left c = (interleaved c.args.a c.fits-a.0 c.args.b c.fits-b.0).0
+returns-clause-left c = (interleaved_words c.args.a c.fits-a.0 c.args.b c.fits-b.0).0
 
 pub returns-clause-right : goal.returns-clause-right
-returns-clause-right c = (interleaved c.args.a c.fits-a.0 c.args.b c.fits-b.0).1
+returns-clause-right c = (interleaved_words c.args.a c.fits-a.0 c.args.b c.fits-b.0).1

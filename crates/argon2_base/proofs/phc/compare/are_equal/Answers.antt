@@ -1,4 +1,4 @@
-use Rattle.std.proofs.Common.{ap, arith, below_more, get_or, nat_eq}
+use Rattle.std.proofs.Common.{ap, arith, below_more, slice_index_or, nat_eq}
 use Rattle.std.proofs.lemmas.Bool.Decides.{same_from_decides, Decides-eqb}
 use Rattle.std.proofs.lemmas.Grind.{same_number_lists}
 use Rattle.std.proofs.lemmas.Slice.Eq.{bytes_eq-Decides}
@@ -8,13 +8,13 @@ use Rattle.argon2_base.proofs.phc.compare.are_equal.Goals as goal
 
 pub loop-i-preserved : goal.loop-i-preserved
 loop-i-preserved c =
-    let x = get_or c.args.a.now c.loop-i.i 0 in
-    let y = get_or c.args.b.now c.loop-i.i 0 in
+    let x = slice_index_or c.args.a.now c.loop-i.i 0 in
+    let y = slice_index_or c.args.b.now c.loop-i.i 0 in
     record {
       same = λ none.
           let before = no_difference c.loop-i.difference x y none in
           below_more _ _ (c.loop-i.invariant.same before.0) before.1;
-      none = λ e. difference_none c.loop-i.difference x y (c.loop-i.invariant.none e) (ap (λ xs. get_or xs c.loop-i.i 0) e);
+      none = λ e. difference_none c.loop-i.difference x y (c.loop-i.invariant.none e) (ap (λ xs. slice_index_or xs c.loop-i.i 0) e);
     }
 
 pub returns : goal.returns

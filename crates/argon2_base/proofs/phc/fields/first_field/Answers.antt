@@ -1,15 +1,15 @@
 use Rattle.std.proofs.Common.{◌∙◌, ap, lit<, Some, None}
 use Rattle.std.proofs.lemmas.Str.Pattern.{split_parts}
 use Rattle.argon2_base.specs.PhcFields.{fields_of}
-use Rattle.argon2_base.proofs.texts.Separators.{Lacks_from, cut, uncut}
+use Rattle.argon2_base.proofs.texts.Separators.{Lacks_from, slice_split-first, slice_split-lacks}
 use Rattle.argon2_base.proofs.phc.fields.first_field.Goals as goal
 
 pub returns-in-Some : goal.returns-in-Some
 returns-in-Some c =
     let parts = split_parts 36 c.args.text.now (Some (c.in-Some.field, c.in-Some.rest)) c.in-Some.ensures.cases (lit< tt) in
-    ap fields_of parts.0 ∙ cut 36 c.in-Some.field.now c.in-Some.rest.now (Lacks_from 36 c.in-Some.field.now parts.1)
+    ap fields_of parts.0 ∙ slice_split-first 36 c.in-Some.field.now c.in-Some.rest.now (Lacks_from 36 c.in-Some.field.now parts.1)
 
 pub returns-in-None : goal.returns-in-None
 returns-in-None c =
     let none = split_parts 36 c.args.text.now None c.in-None.ensures.cases (lit< tt) in
-    uncut 36 c.args.text.now (Lacks_from 36 c.args.text.now none)
+    slice_split-lacks 36 c.args.text.now (Lacks_from 36 c.args.text.now none)

@@ -17,7 +17,7 @@ serves_on : (index : ℕ) → (index % 128 ≢ 0) ⊎ (index ≤ 0) → (index -
 serves_on index (inl e) = omega arith
 serves_on index (inr e) = omega arith
 
--- at any other the next begins
+-- at any other index the next address block begins
 serves_next : (index : ℕ) → 0 < index → index % 128 ≡ 0 → index / 128 + 1 ≡ (index - 1) / 128 + 1 + 1
 serves_next index some e = omega arith
 

@@ -6,11 +6,11 @@ use Rattle.argon2.specs.Stored.{Accepts}
 use Rattle.argon2.specs.Argon2.{secret_of, settings_of}
 use Rattle.argon2.specs.Made.{settings_asked}
 use Rattle.argon2.specs.Params.{parameters_of}
-use Rattle.argon2.proofs.stored_hashes.Asked.{unasked, hashed_asked}
+use Rattle.argon2.proofs.stored_hashes.Asked.{asked_refused, hashed_asked}
 use Rattle.argon2.proofs.password_hash.hashing.Argon2CustomizedPasswordHasherPasswordHash.hash_password_customized.Goals as goal
 
 pub returns-in_err-with_asked-clause-answer : goal.returns-in_err-with_asked-clause-answer
-returns-in_err-with_asked-clause-answer c = unasked
+returns-in_err-with_asked-clause-answer c = asked_refused
     (settings_asked (option_copied c.args.alg_id) c.args.version (parameters_of c.args.params)) (secret_of c.args.self.now)
     c.args.password.now c.args.salt.now c.in_err-with_asked.field-0.0 c.from_residual.result
     c.in_err-with_asked.ensures.settings c.from_residual.ensures.1

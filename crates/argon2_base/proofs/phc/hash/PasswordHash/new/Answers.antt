@@ -1,12 +1,12 @@
 use Rattle.std.proofs.Common.{◌≡◌, ◌∙◌, lit<, Some, None, true, false}
 use Rattle.std.proofs.lemmas.Str.Pattern.{strip_prefix_char}
 use Rattle.argon2_base.specs.Texts.{is_name}
-use Rattle.argon2_base.proofs.texts.PhcTextLemmas.{first_and_left, begins, spelled, from_params, from_salt, no_version, no_item, same_phc, gathered}
+use Rattle.argon2_base.proofs.texts.PhcTextLemmas.{first_and_left, begins_with_dollar, text_of_fields, from_params, from_salt, no_version, no_item, same_phc, fields_of_parts}
 use Rattle.argon2_base.proofs.phc.hash.PasswordHash.new.Goals as goal
 
 pub returns-in_default-clause-only : goal.returns-in_default-clause-only
 returns-in_default-clause-only c = λ v h.
-    let b = begins c.args.text.now v h in
+    let b = begins_with_dollar c.args.text.now v h in
     strip_prefix_char 36 c.args.text.now None c.in_default.ensures.cases (lit< tt) b.0 b.1
 
 pub returns-in_err-algorithm-clause-only : goal.returns-in_err-algorithm-clause-only
@@ -72,6 +72,6 @@ returns-clause-found c =
         hash = last.2;
         salted = last.3;
       },
-      spelled c.args.text.now c.in-Some.text.now _ e (gathered c.in-Some.text.now _ c.first_field.ensures
+      text_of_fields c.args.text.now c.in-Some.text.now _ e (fields_of_parts c.in-Some.text.now _ c.first_field.ensures
           c.in_ok-algorithm.ensures.value c.in_ok-version.ensures.found.0 c.in_ok-params.ensures.found.0 last.0),
     )

@@ -2,7 +2,7 @@ use Rattle.std.proofs.Common.{rules, ◌≡◌, length, ap, arith}
 use Rattle.argon2_base.specs.Texts.{strict_base64}
 use Rattle.argon2_base.specs.PhcFields.{phc_of}
 use Rattle.argon2_base.specs.PhcText.{field}
-use Rattle.argon2_base.proofs.texts.PhcTextLemmas.{printed}
+use Rattle.argon2_base.proofs.texts.PhcTextLemmas.{text_of_printed}
 use Rattle.argon2_base.proofs.texts.Characters.{name_length}
 use Rattle.argon2_base.proofs.phc.hash.PasswordHash.text.Goals as goal
 
@@ -32,6 +32,6 @@ returns c =
     let salt : field (λ t. t.bytes) c.map.result ≡ field strict_base64 h.salt = search rules in
     let hash : field (λ t. t.bytes) c.map-2.result ≡ field strict_base64 h.hash = search rules in (
       h.grammatical,
-      printed (phc_of h) c.new-text.ensures c.push_field.ensures.bytes c.as_str.ensures.value c.push_version.ensures.bytes
+      text_of_printed (phc_of h) c.new-text.ensures c.push_field.ensures.bytes c.as_str.ensures.value c.push_version.ensures.bytes
           c.push_params.ensures.bytes c.push_base64.ensures.bytes salt c.push_base64-2.ensures.bytes hash,
     )
