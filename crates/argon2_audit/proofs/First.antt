@@ -1,5 +1,5 @@
 -- The first byte that passes a test.
-use Rattle.std.proofs.Common.{arith, ◌≡◌, ℕ, Bool, true, false, List, length, Option, Some, None, get_or, sym, refl}
+use Rattle.std.proofs.Common.{arith, ◌≡◌, ℕ, Bool, true, false, List, length, Option, Some, None, slice_index_or, sym, refl}
 use Rattle.std.specs.Option.{unwrap_or}
 use Rattle.std.specs.List.{position_or_len}
 use Rattle.std.proofs.lemmas.List.Sums.{position_or_len_is}
@@ -14,7 +14,7 @@ pub first_place : (test : ℕ → Bool) (bytes : List ℕ) (found : Option ℕ) 
     → unwrap_or found (length bytes) ≡ position_or_len test bytes
 first_place test bytes None never =
     sym (position_or_len_is test bytes (length bytes) 0 (omega arith)
-    (λ k below. not_true (test (get_or bytes k 0)) (never k (omega arith) below)) (λ past. absurd (omega arith)))
+    (λ k below. not_true (test (slice_index_or bytes k 0)) (never k (omega arith) below)) (λ past. absurd (omega arith)))
 first_place test bytes (Some k) first =
     sym (position_or_len_is test bytes k 0 (let high = first.0.high in omega arith)
-    (λ i below. not_true (test (get_or bytes i 0)) (first.0.before i (omega arith) below)) (λ _. first.1))
+    (λ i below. not_true (test (slice_index_or bytes i 0)) (first.0.before i (omega arith) below)) (λ _. first.1))

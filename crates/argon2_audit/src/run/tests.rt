@@ -83,11 +83,11 @@ fn expect<R: Read>(
     alloc: Global,
     words: &[&str],
     input: &mut R,
-    (status, written, told): (u8, &str, &str),
+    (status, written, reported): (u8, &str, &str),
 ) -> Result<(), Fail> {
     let (mut output, mut errors) = (Vec::new(alloc), Vec::new(alloc));
     let ended = run_words(alloc, words, input, &mut output, &mut errors)?;
-    assert_eq!(rt; errors.as_slice(), told.as_bytes());
+    assert_eq!(rt; errors.as_slice(), reported.as_bytes());
     assert!(rt; output.as_slice().starts_with(written.as_bytes()));
     assert_eq!(rt; ended, status);
     Ok(())
@@ -227,7 +227,7 @@ fn passes_over_long_lines(rt: HostRuntime) -> Result<(), Fail> {
 }
 
 #[test]
-fn tells_what_fails(rt: HostRuntime) -> Result<(), Fail> {
+fn reports_what_fails(rt: HostRuntime) -> Result<(), Fail> {
     for calls in [0, 1, 3000] {
         expect(
             &rt,
@@ -240,10 +240,10 @@ fn tells_what_fails(rt: HostRuntime) -> Result<(), Fail> {
         let refused = (1, "", "argon2-audit: out of memory\n");
         expect(&rt, rt.alloc(), &[], &mut Failing { calls, kind }, refused)?;
     }
-    for (kind, told) in [(ErrorKind::Other, UNWRITTEN), (ErrorKind::BrokenPipe, "")] {
+    for (kind, reported) in [(ErrorKind::Other, UNWRITTEN), (ErrorKind::BrokenPipe, "")] {
         for calls in [0, 1, 10] {
             let mut output = Failing { calls, kind };
-            expect_unwritten(&rt, rt.alloc(), &mut output, told)?;
+            expect_unwritten(&rt, rt.alloc(), &mut output, reported)?;
         }
     }
     Ok(())
@@ -254,18 +254,18 @@ fn expect_unwritten(
     rt: &impl Abort,
     alloc: Global,
     output: &mut Failing,
-    told: &str,
+    reported: &str,
 ) -> Result<(), Fail> {
     let (mut input, mut errors) = (SOUND.as_bytes(), Vec::new(alloc));
     let status = run_words(alloc, &[], &mut input, output, &mut errors)?;
-    assert_eq!(rt; errors.as_slice(), told.as_bytes());
+    assert_eq!(rt; errors.as_slice(), reported.as_bytes());
     assert_eq!(rt; status, 1);
     Ok(())
 }
 
 #[test]
-fn tells_its_usage_where_arguments_are_no_options(rt: HostRuntime) -> Result<(), Fail> {
-    let told = format!(in rt.alloc(); "{USAGE}\n")?;
+fn prints_its_usage_where_arguments_are_no_options(rt: HostRuntime) -> Result<(), Fail> {
+    let reported = format!(in rt.alloc(); "{USAGE}\n")?;
     for words in [
         ["--min-m", "4294967296"],
         ["--min-t", "01"],
@@ -281,7 +281,7 @@ fn tells_its_usage_where_arguments_are_no_options(rt: HostRuntime) -> Result<(),
             rt.alloc(),
             &words,
             &mut Failing::after(0),
-            (2, "", told.as_str()),
+            (2, "", reported.as_str()),
         )?;
     }
     let words = ["--min-m"];
@@ -290,7 +290,7 @@ fn tells_its_usage_where_arguments_are_no_options(rt: HostRuntime) -> Result<(),
         rt.alloc(),
         &words,
         &mut Failing::after(0),
-        (2, "", told.as_str()),
+        (2, "", reported.as_str()),
     )
 }
 

@@ -177,8 +177,8 @@ fn corrects_the_passes_by_their_time(rt: HostRuntime) -> Result<(), Fail> {
             &mut output,
             &mut errors,
         )?;
-        let told = str::from_utf8(errors.as_slice()).unwrap_or("");
-        assert!(rt; told.contains(tried));
+        let printed = str::from_utf8(errors.as_slice()).unwrap_or("");
+        assert!(rt; printed.contains(tried));
         assert!(rt; output.as_slice().starts_with(b"m=65536,t=50,p=1\n"));
         assert!(rt;
             output
@@ -190,7 +190,7 @@ fn corrects_the_passes_by_their_time(rt: HostRuntime) -> Result<(), Fail> {
 }
 
 #[test]
-fn tells_each_time(rt: HostRuntime) -> Result<(), Fail> {
+fn prints_each_time(rt: HostRuntime) -> Result<(), Fail> {
     let mut stopwatch = Even {
         a_block: 1000,
         once: 0,
@@ -204,11 +204,11 @@ fn tells_each_time(rt: HostRuntime) -> Result<(), Fail> {
         &mut output,
         &mut errors,
     )?;
-    let told = "argon2-calibrate: m=1048576,t=1,p=1 takes 1.048 seconds
+    let printed = "argon2-calibrate: m=1048576,t=1,p=1 takes 1.048 seconds
 argon2-calibrate: m=524288,t=1,p=1 takes 0.524 seconds
 argon2-calibrate: m=524288,t=2,p=1 takes 1.048 seconds
 ";
-    assert_eq!(rt; errors.as_slice(), told.as_bytes());
+    assert_eq!(rt; errors.as_slice(), printed.as_bytes());
     Ok(())
 }
 
@@ -265,7 +265,7 @@ the machine was busy: times may be too long\n",
 }
 
 #[test]
-fn tells_its_usage_where_arguments_are_of_no_form(rt: HostRuntime) -> Result<(), Fail> {
+fn prints_its_usage_where_arguments_are_of_no_form(rt: HostRuntime) -> Result<(), Fail> {
     for words in [
         "0 64",
         "0.000 64",
@@ -313,7 +313,7 @@ fn tells_its_usage_where_arguments_are_of_no_form(rt: HostRuntime) -> Result<(),
 }
 
 #[test]
-fn tells_what_fails(rt: HostRuntime) -> Result<(), Fail> {
+fn reports_what_fails(rt: HostRuntime) -> Result<(), Fail> {
     let (mut output, mut errors) = (Vec::new(rt.alloc()), Vec::new(rt.alloc()));
     let status = run_words(rt.alloc(), "3600.000", &mut Full, &mut output, &mut errors)?;
     assert_eq!(rt;
