@@ -44,11 +44,12 @@ def built(top, name, libraries, sources, words=()):
     Returns its paths by processor. `sources` are its files by their names, and `words` are the
     arguments of the run that ends each build. All is written below `top`.
     """
-    own = [line for line in read(f"{TOP}/crates.txt").splitlines() if line.startswith(("argon2:", "argon2_base:"))]
+    needed = {"argon2", "argon2_base", *libraries.split()}
+    own = [line for line in read(f"{TOP}/crates.txt").splitlines() if line.partition(":")[0] in needed]
     write(f"{top}/crates.txt", "\n".join([*own, f"{name}: {libraries}", ""]))
     os.makedirs(f"{top}/crates")
-    for library in ("argon2", "argon2_base"):
-        run("cp", "-r", f"{TOP}/crates/{library}", f"{top}/crates")
+    for line in own:
+        run("cp", "-r", f"{TOP}/crates/{line.partition(':')[0]}", f"{top}/crates")
     folder, programs = f"{top}/crates/{name}", {}
     for file, text in sources.items():
         write(f"{folder}/src/{file}", text)
