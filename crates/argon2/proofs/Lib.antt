@@ -1,3 +1,4 @@
+pub mod AccountLemmas
 pub mod InitialHashing
 mod LentMemory
 mod RefusalLemmas

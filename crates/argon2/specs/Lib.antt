@@ -1,3 +1,5 @@
+pub mod AccountRuns
+pub mod Accounts
 pub mod Argon2
 pub use Rattle.argon2_base.specs.Blake2b
 pub use Rattle.argon2_base.specs.Block

@@ -119,7 +119,7 @@ abbrev pub Steps : Event → Login → Login → Type 0
 Steps event old new = LoginStep (login_target old) (store_of old) event (store_of new)
 
 -- what the generator has left: a text is made anew of 16 bytes, also where it is not kept
-abbrev pub stream_after : Result Accepted LoginError → Stream → Stream
+abbrev pub stream_after : {E : Type 0} → Result Accepted E → Stream → Stream
 stream_after (Ok Rehashed) stream = (fill_bytes 16 stream).1
 stream_after (Ok Kept) stream = (fill_bytes 16 stream).1
 stream_after _ stream = stream

@@ -37,12 +37,15 @@ sized settings = record settings {
   parameters = record settings.parameters { output_len = Some (tag_length settings) };
 }
 
--- the tag of that length, or the refusal: no memory, or a password of more than 4294967295 bytes
+-- why no hash is made: no memory, or a password of more than 4294967295 bytes
+abbrev pub HashingRefusal : List ℕ → Error → Type 0
+HashingRefusal password e = (e ≡ OutOfMemory) ⊎ ((e ≡ PasswordInvalid) × (4294967295 < length password))
+
+-- the tag of that length, or the refusal
 abbrev pub IsTagAnswer : Argon2 → List ℕ → List ℕ → Result (List ℕ) Error → Type 0
 IsTagAnswer argon2 password salt (Ok hash) = (length password ≤ 4294967295)
     × (hash ≡ tag_of (context_of argon2) password salt (tag_length (settings_of argon2)))
-IsTagAnswer argon2 password salt (Err e) =
-    (e ≡ OutOfMemory) ⊎ ((e ≡ PasswordInvalid) × (4294967295 < length password))
+IsTagAnswer argon2 password salt (Err e) = HashingRefusal password e
 
 -- the value that a password and a salt make
 abbrev pub made : Target → List ℕ → List ℕ → Phc
@@ -53,6 +56,11 @@ made target password salt = record {
   salt = Some salt;
   hash = Some (tag_of (context_with target.settings target.secret) password salt (tag_length target.settings));
 }
+
+-- the value is a fresh one: it is made of the password and these drawn bytes
+abbrev pub IsFresh : Target → List ℕ → List ℕ → Phc → Type 0
+IsFresh target password drawn v =
+    HasBytes 8 48 drawn × (length password ≤ 4294967295) × (v ≡ made target password drawn)
 
 -- settings whose hashes fit into texts
 pub record IsTarget (target : Target) : Type 0 where

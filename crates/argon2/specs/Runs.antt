@@ -17,7 +17,7 @@ Run target (event ∷ older) store =
     (before : Store) × Run target older before × LoginStep target before event store
 
 -- what the newest of the calls for which there is something has
-abbrev pub newest : {X : Type 0} → (Event → Option X) → List Event → Option X
+abbrev pub newest : {E X : Type 0} → (E → Option X) → List E → Option X
 newest of [] = None
 newest of (event ∷ older) = option_or (of event) (newest of older)
 

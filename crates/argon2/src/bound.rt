@@ -103,7 +103,7 @@ impl Bound {
     }
 
     // Whether parameters ask for no more.
-    fn allows(&self, params: &Params) -> bool
+    pub(crate) fn allows(&self, params: &Params) -> bool
         ensures { IsTrue result ↔ IsWithin self.now (parameters_of params.now) }
     {
         params.m_cost() <= self.m_cost

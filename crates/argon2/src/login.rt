@@ -27,7 +27,7 @@ mod target;
 
 pub use answers::{Accepted, LoginError};
 pub use runs::login_runs;
-use target::Target;
+pub(crate) use target::Target;
 
 /// Names with their texts, and a target: the settings and the secret that texts are verified and
 /// made anew under.

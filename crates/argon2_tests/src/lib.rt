@@ -3,6 +3,8 @@
 #![tactic(auto)]
 
 #[cfg(test)]
+mod accounts;
+#[cfg(test)]
 mod algorithm;
 #[cfg(test)]
 mod blake2b;
@@ -12,6 +14,8 @@ mod blake2b_long;
 mod block;
 #[cfg(test)]
 mod bound;
+#[cfg(test)]
+mod drawn;
 #[cfg(test)]
 mod hashing;
 #[cfg(test)]

@@ -1,14 +1,11 @@
 ghost use Rattle.std.specs.Prelude.{◌<◌};
 
+use crate::drawn::Drawn;
 use argon2::login::{Accepted, Login, LoginError};
 use argon2::password_hash::{Error, PasswordHasher};
 use argon2::{Algorithm, Argon2, AssociatedData, Params, ParamsBuilder, PasswordHash, Version};
 use std::alloc::Global;
 use std::test::Fail;
-
-mod drawn;
-
-use drawn::Drawn;
 
 const PWD: [u8; 32] = [1; 32];
 

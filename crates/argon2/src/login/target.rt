@@ -14,26 +14,28 @@ use std::result::Result as Outcome;
 
 // Settings and a secret whose hashes fit into texts.
 #[derive(Drop)]
-pub(super) struct Target<'key> {
+pub(crate) struct Target<'key> {
     argon2: Argon2<'key>,
     ghost fits: { IsTarget (target_of argon2) } by { Prim.hlevel props },
 }
 
 impl<'key> Target<'key> {
-    ghost use Rattle.std.specs.Prelude.{◌≡◌, ◌≢◌, ◌↔◌, ◌⊎◌, ◌<◌, ℕ, List, Some, IsTrue, IfOk, MatchResult};
+    ghost use Rattle.std.specs.Prelude.{◌≡◌, ◌≢◌, ◌↔◌, ◌⊎◌, ◌<◌, ℕ, List, Some, Ok, Err, IsTrue, IfOk, MatchResult};
     ghost use Rattle.std.specs.FinMap.{get, insert};
     ghost use Rattle.rand_core.specs.Stream.{fill_bytes};
     ghost use Rattle.argon2_base.specs.PhcFields.{phc_of};
+    ghost use Rattle.argon2_base.specs.PhcText.{Phc};
     ghost use Rattle.argon2_base.specs.declared.error.password_hash.Error.TheVariants.{OutOfMemory, OutputSize};
-    ghost use Rattle.argon2.specs.Stored.{AcceptsBy, settings_value};
+    ghost use Rattle.argon2.specs.Stored.{AcceptsBy, IsVerifyAnswer, settings_value, stored_of, stored_value};
     ghost use Rattle.argon2.specs.Argon2.{settings_of};
+    ghost use Rattle.argon2.specs.Accounts.{Leaves};
     ghost use Rattle.argon2.specs.Login.{Store, IsCurrent, LoginAnswer, stream_after};
-    ghost use Rattle.argon2.specs.Made.{sized, tag_length};
+    ghost use Rattle.argon2.specs.Made.{HashingRefusal, IsFresh, sized, tag_length};
     ghost use Rattle.argon2.specs.declared.login.answers.Accepted.TheVariants.{Kept};
     ghost use Rattle.argon2.specs.declared.login.answers.LoginError.TheVariants.{Refused};
 
     // `OutputSize` where hashes are longer than those of texts.
-    pub(super) fn new(argon2: Argon2<'key>) -> Result<Target<'key>>
+    pub(crate) fn new(argon2: Argon2<'key>) -> Result<Target<'key>>
         ensures { MatchResult result (λ target. target.argon2 ≡ argon2.entry)
             (λ e. (e ≡ OutputSize) × (64 < tag_length (settings_of argon2.entry))) }
     {
@@ -69,17 +71,63 @@ impl<'key> Target<'key> {
             Ok(stored) => stored,
             Err(e) => return Err(LoginError::Refused(e)),
         };
-        if let Err(e) = self.argon2.verify_stored(alloc, password, &stored) {
-            return Err(LoginError::Refused(e));
+        match self.accepts(alloc, password, &stored) {
+            Ok(true) => Ok(Accepted::Current),
+            Ok(false) => Ok(self.renew(alloc, rng, text, password)),
+            Err(e) => Err(LoginError::Refused(e)),
         }
-        if self.is_shown_by(&stored.settings) {
-            return Ok(Accepted::Current);
-        }
-        let Ok(fresh) = self.argon2.hash_password(alloc, rng, password) else {
-            return Ok(Accepted::Kept);
+    }
+
+    // Whether what a text shows is current, where it accepts the password.
+    pub(crate) fn accepts(
+        &self,
+        alloc: Global,
+        password: &[u8],
+        stored: &Stored<'_>,
+    ) -> Result<bool>
+        ensures { (v : Phc) → stored_of v ≡ Ok (stored_value stored.now) → MatchResult result
+            (λ current. AcceptsBy (target_of self.now.argon2).secret password.now v
+            × (IsTrue current ↔ IsCurrent (target_of self.now.argon2) v))
+            (λ e. IsVerifyAnswer (target_of self.now.argon2).secret password.now v (Err e)) }
+    {
+        self.argon2.verify_stored(alloc, password, stored)?;
+        Ok(self.is_shown_by(&stored.settings))
+    }
+
+    // Writes a fresh text of a password over a text that is not current.
+    pub(crate) fn renew<R: Rng>(
+        &self,
+        alloc: Global,
+        rng: &mut R,
+        text: &mut PasswordHash,
+        password: &[u8],
+    ) -> Accepted
+        requires { ¬ (IsCurrent (target_of self.now.argon2) (phc_of text.old)) }
+        ensures renewed { Leaves (target_of self.now.argon2) password.now
+            (fill_bytes 16 (R.stream rng.old)).0 (phc_of text.old) result (phc_of text.new) }
+        ensures drawn { R.stream rng.new ≡ (fill_bytes 16 (R.stream rng.old)).1 }
+    {
+        let Ok(fresh) = self.hash(alloc, rng, password) else {
+            return Accepted::Kept;
         };
         *text = fresh;
-        Ok(Accepted::Rehashed)
+        Accepted::Rehashed
+    }
+
+    // A fresh text of a password.
+    pub(crate) fn hash<R: Rng>(
+        &self,
+        alloc: Global,
+        rng: &mut R,
+        password: &[u8],
+    ) -> Result<PasswordHash>
+        ensures made { MatchResult result
+            (λ text. IsFresh (target_of self.now.argon2) password.now
+            (fill_bytes 16 (R.stream rng.old)).0 (phc_of text))
+            (HashingRefusal password.now) }
+        ensures drawn { R.stream rng.new ≡ (fill_bytes 16 (R.stream rng.old)).1 }
+    {
+        self.argon2.hash_password(alloc, rng, password)
     }
 
     // Whether the settings are these, with the length of the hashes.

@@ -9,7 +9,7 @@ use std::marker::Model;
 
 /// How many words of four bytes were drawn.
 #[derive(Drop)]
-pub(super) struct Drawn(pub(super) u32);
+pub(crate) struct Drawn(pub(crate) u32);
 
 impl Model for Drawn {
     ghost Value = { ℕ };
