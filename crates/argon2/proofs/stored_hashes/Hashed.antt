@@ -26,35 +26,35 @@ module _ (target : Target) (password salt : List ℕ) where
   abbrev fault : Option Fault
   fault = first_of (text_faults (length salt) (tag_length target.settings) ++ password_faults (length password))
 
-  refused : {f : Fault} → fault ≡ Some f → Err f ≡ hashed target password salt
-  refused is = sym (ap (λ o. checked o (Ok (made target password salt))) is)
+  err_of_fault : {f : Fault} → fault ≡ Some f → Err f ≡ hashed target password salt
+  err_of_fault is = sym (ap (λ o. checked o (Ok (made target password salt))) is)
 
-  unrefused : fault ≡ None → Ok (made target password salt) ≡ hashed target password salt
-  unrefused none = sym (ap (λ o. checked o (Ok (made target password salt))) none)
+  ok_of_no_fault : fault ≡ None → Ok (made target password salt) ≡ hashed target password salt
+  ok_of_no_fault none = sym (ap (λ o. checked o (Ok (made target password salt))) none)
 
   -- the answer where the salt was refused
-  pub unsalted : (e : Error) (r : Result PasswordHash Error)
+  pub answer_bad_salt : (e : Error) (r : Result PasswordHash Error)
       → (e ≡ SaltInvalid) × (8 ≤ length salt → length salt ≤ 48 → ⊥) → IsErrAnd r (λ f. f ≡ e)
       → IsHashAnswer target password salt r
-  unsalted e (Ok _) why h = absurd h
-  unsalted e (Err f) why h =
-      inl (rw (h, why.0) (refused (salt_fault _ _ (password_faults (length password)) why.1)))
+  answer_bad_salt e (Ok _) why h = absurd h
+  answer_bad_salt e (Err f) why h =
+      inl (rw (h, why.0) (err_of_fault (salt_fault _ _ (password_faults (length password)) why.1)))
 
   module _ (least : 8 ≤ length salt) (most : length salt ≤ 48) (fits : tag_length target.settings ≤ 64) where
     -- the answer where no tag was made
-    pub untagged : (e : Error) (r : Result PasswordHash Error)
+    pub answer_no_tag : (e : Error) (r : Result PasswordHash Error)
         → (e ≡ OutOfMemory) ⊎ ((e ≡ PasswordInvalid) × (4294967295 < length password)) → IsErrAnd r (λ f. f ≡ e)
         → IsHashAnswer target password salt r
-    untagged e (Ok _) why h = absurd h
-    untagged e (Err f) (inl memory) h =
+    answer_no_tag e (Ok _) why h = absurd h
+    answer_no_tag e (Err f) (inl memory) h =
         inr (rw (h, memory) refl, ap is_some (no_text_fault (length salt) (tag_length target.settings) [] least most fits))
-    untagged e (Err f) (inr why) h =
-        inl (rw (h, why.0) (refused (no_text_fault _ _ (password_faults (length password)) least most fits
+    answer_no_tag e (Err f) (inr why) h =
+        inl (rw (h, why.0) (err_of_fault (no_text_fault _ _ (password_faults (length password)) least most fits
         ∙ rw (lt-ltb 4294967295 (length password) why.1) refl)))
 
     -- the answer where a value was made
-    pub answered : (v : Phc) → v ≡ made target password salt → length password ≤ 4294967295
+    pub answer_made : (v : Phc) → v ≡ made target password salt → length password ≤ 4294967295
         → Ok v ≡ hashed target password salt
-    answered v is short =
-        ap Ok is ∙ unrefused (no_text_fault _ _ (password_faults (length password)) least most fits
+    answer_made v is short =
+        ap Ok is ∙ ok_of_no_fault (no_text_fault _ _ (password_faults (length password)) least most fits
         ∙ rw (le-ltb 4294967295 (length password) short) refl)

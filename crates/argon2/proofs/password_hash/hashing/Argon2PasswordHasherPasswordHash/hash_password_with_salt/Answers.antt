@@ -4,19 +4,19 @@ use Rattle.argon2.specs.Settings.{algorithm_name, version_number}
 use Rattle.argon2.specs.Argon2.{settings_of}
 use Rattle.argon2.specs.Made.{tag_length, target_of}
 use Rattle.argon2.specs.Params.{parameters_of}
-use Rattle.argon2.proofs.stored_hashes.Hashed.{unsalted, untagged, answered}
+use Rattle.argon2.proofs.stored_hashes.Hashed.{answer_bad_salt, answer_no_tag, answer_made}
 use Rattle.argon2.proofs.stored_hashes.MadeValues.{is_made, is_target, made_accepted, made_shows}
 use Rattle.argon2.proofs.password_hash.hashing.Argon2PasswordHasherPasswordHash.hash_password_with_salt.Goals as goal
 
 pub returns-in_err-salt-clause-answer : goal.returns-in_err-salt-clause-answer
-returns-in_err-salt-clause-answer c = unsalted (target_of c.args.self.now) c.args.password.now c.args.salt.now
+returns-in_err-salt-clause-answer c = answer_bad_salt (target_of c.args.self.now) c.args.password.now c.args.salt.now
     c.in_err-salt.field-0.0 c.from_residual.result c.in_err-salt.ensures.when c.from_residual.ensures.1
 
 pub tag-requires-clause-fits : goal.tag-requires-clause-fits
 tag-requires-clause-fits c = omega (arith, c.if-tag_len-gt-MAX_LENGTH.false, c.tag_len.ensures)
 
 pub returns-in_err-hash-clause-answer : goal.returns-in_err-hash-clause-answer
-returns-in_err-hash-clause-answer c = untagged (target_of c.args.self.now) c.args.password.now c.args.salt.now
+returns-in_err-hash-clause-answer c = answer_no_tag (target_of c.args.self.now) c.args.password.now c.args.salt.now
     c.in_ok-salt.ensures.when.0 c.in_ok-salt.ensures.when.1
     (omega (arith, c.if-tag_len-gt-MAX_LENGTH.false, c.tag_len.ensures))
     c.in_err-hash.field-0.0 c.from_residual-in_err-hash.result c.in_err-hash.ensures
@@ -38,7 +38,7 @@ returns c =
     let lengths = c.in_ok-salt.ensures.when in
     let bytes = rw c.in_ok-salt.ensures.value at c.as_bytes.ensures.bytes in
     record {
-      answer = inl (answered target password salt lengths.0 lengths.1 fits _ is
+      answer = inl (answer_made target password salt lengths.0 lengths.1 fits _ is
           c.in_ok-hash.ensures.0);
       accepted = made_accepted target target_fits password salt _ is (bytes, lengths.0, lengths.1)
           c.in_ok-hash.ensures.0;
