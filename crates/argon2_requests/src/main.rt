@@ -130,7 +130,7 @@ fn hashed(
     }
 }
 
-// The same where the salt is drawn.
+// A text whose salt is drawn.
 fn drawn(rt: &HostRuntime, argon2: &Argon2<'_>) -> io::Result<()> {
     let mut rng = ChaCha20Rng::from_seed([7; 32]);
     let answer = argon2.hash_password(rt.alloc(), &mut rng, &PASSWORD);

@@ -48,7 +48,7 @@ tag_under settings len salt password =
     unless (length_refusal settings.parameters.output_len len (length password) (length salt))
     (encode_lower (tag_of (context_with settings []) password salt len))
 
--- the same where the settings may be refused before
+-- the reply where the settings may be refused first
 abbrev pub tag_reply : Result Settings Error → ℕ → List ℕ → List ℕ → Result (List ℕ) Error
 tag_reply (Ok settings) len salt password = tag_under settings len salt password
 tag_reply (Err refusal) len salt password = Err refusal
@@ -58,7 +58,7 @@ abbrev pub IsPhcUnder : Settings → List ℕ → List ℕ → List ℕ → Type
 IsPhcUnder settings salt password line = (v : Phc)
     × (hashed (record { settings = settings; secret = [] }) password salt ≡ Ok v) × (line ≡ phc_text v)
 
--- the same where the settings may be refused before
+-- the reply where the settings may be refused first
 abbrev pub IsPhcReply : Result Settings Error → List ℕ → List ℕ → List ℕ → Type 0
 IsPhcReply (Ok settings) salt password line = IsPhcUnder settings salt password line
 IsPhcReply (Err refusal) salt password line = ⊥

@@ -2,7 +2,7 @@
 -- columns a segment, one or two lanes, one or two passes, each algorithm and both versions; an address
 -- block that is the second of its segment; an exclusive or over two lanes. A definition that errs in
 -- one of these does not check.
-use Rattle.std.proofs.Common.{◌≡◌, ℕ, ◌+◌, ◌-◌, ◌*◌, ◌/◌, ◌%◌, ◌^◌, List, [], ◌∷◌, ◌++◌, fold, get_or, map, take, refl}
+use Rattle.std.proofs.Common.{◌≡◌, ℕ, ◌+◌, ◌-◌, ◌*◌, ◌/◌, ◌%◌, ◌^◌, List, [], ◌∷◌, ◌++◌, fold, slice_index_or, map, take, refl}
 use Rattle.std.specs.List.{range_with_len}
 use Rattle.argon2_base.specs.Block.{zero_block, xor_blocks}
 use Rattle.argon2.specs.Rfc9106.{Context, FirstColumns, address_word, block_count, history, in_history, lane_length, place_of, reference_of, segment_length_for, xor_lanes}
@@ -15,7 +15,7 @@ first lane column = map (λ k. 0x9e3779b97f4a7c15 * (128 * (2 * lane + column) +
 
 -- two words of the last column's exclusive or
 last_words : Context → List (List (List ℕ)) → List ℕ
-last_words ctx h = take 2 (fold xor_blocks zero_block (get_or h (ctx.t_cost * lane_length ctx - 1) []))
+last_words ctx h = take 2 (fold xor_blocks zero_block (slice_index_or h (ctx.t_cost * lane_length ctx - 1) []))
 
 -- the place of the reference of each block of pass 1
 places : Context → List (List (List ℕ)) → List ℕ
@@ -74,7 +74,7 @@ address_value = refl
 
 -- ---- how often two blocks are mixed
 
--- of an algorithm and three costs
+-- the mixing calls of an algorithm and three costs
 calls : ℕ → ℕ → ℕ → ℕ → ℕ
 calls algorithm m t p =
     mixing_calls (record {
@@ -87,7 +87,7 @@ calls algorithm m t p =
       associated = [];
     })
 
--- for Argon2d, Argon2id and Argon2i
+-- the mixing calls of Argon2d, Argon2id and Argon2i
 calls_values : (calls 0 32 3 4 ∷ calls 2 32 3 4 ∷ calls 1 32 3 4
     ∷ calls 0 8 1 1 ∷ calls 2 8 1 1 ∷ calls 1 8 1 1
     ∷ calls 0 33 1 2 ∷ calls 2 33 1 2 ∷ calls 1 33 1 2

@@ -23,7 +23,7 @@ perm_value = refl
 abbrev counted : List ℕ
 counted = range_with_len 0 128
 
--- the same in the high halves
+-- the counted words in the high halves
 abbrev counted_high : List ℕ
 counted_high = map (λ w. w * 2 ^ 32) counted
 

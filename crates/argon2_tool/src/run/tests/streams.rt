@@ -135,7 +135,7 @@ fn reads_a_byte_a_call(rt: HostRuntime) -> Result<(), Fail> {
 
 // Whatever else is wrong with a request, the input is read first.
 #[test]
-fn tells_that_the_input_fails(rt: HostRuntime) -> Result<(), Fail> {
+fn reports_that_the_input_fails(rt: HostRuntime) -> Result<(), Fail> {
     for words in [
         &["digest", "64"] as &[&str],
         &["long", "100"],
@@ -173,7 +173,7 @@ fn write_to(
 }
 
 #[test]
-fn tells_that_the_output_fails(rt: HostRuntime) -> Result<(), Fail> {
+fn reports_that_the_output_fails(rt: HostRuntime) -> Result<(), Fail> {
     let unwritten = (1, "argon2: standard output can't be written\n");
     for (words, line) in COMMANDS {
         // at its first and a later byte, at the line feed, and at the flush

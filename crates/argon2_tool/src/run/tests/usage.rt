@@ -14,7 +14,7 @@ fn unread() -> Slow<'static> {
 }
 
 #[test]
-fn tells_its_usage_where_arguments_spell_no_command(rt: HostRuntime) -> Result<(), Fail> {
+fn prints_its_usage_where_arguments_spell_no_command(rt: HostRuntime) -> Result<(), Fail> {
     let usage = (2, "", USAGE);
     for len in [
         "",
