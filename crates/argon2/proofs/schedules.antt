@@ -6,3 +6,5 @@ pub mod InOrder
 pub mod LastColumn
 pub mod ReferencePlaces
 pub mod Schedules
+pub mod SegmentColumns
+pub mod SegmentParts

@@ -19,6 +19,7 @@ pub use Rattle.argon2_base.specs.PhcText
 pub mod Refusals
 pub mod Rfc9106
 pub mod Runs
+pub mod Segments
 pub mod Settings
 pub mod Steps
 pub mod Stored

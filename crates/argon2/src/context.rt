@@ -10,6 +10,7 @@ use argon2_base::error::{Error, Result};
 use std::alloc::Allocator;
 use std::fmt;
 
+mod apart;
 mod ends;
 mod fill;
 mod instance;

@@ -11,6 +11,9 @@ use std::ops::{BitXor, BitXorAssign};
 
 mod kernel;
 
+/// The words of a block, as a C caller has them.
+pub type Words = [u64; 128];
+
 /// A block: 128 words of 64 bits (RFC 9106, section 3.2).
 ///
 /// `Block` is `Block<u64>`. The parameter is there so that callers of
@@ -177,4 +180,18 @@ impl Work {
     {
         self.mixes
     }
+}
+
+/// Mixes two blocks that are given by their words, as [`Block::mix`] does, and counts nothing.
+pub fn mix_words(x: &Words, y: &Words) -> Words
+    ensures { result ≡ mixed x.now y.now }
+{
+    kernel::mix(x, y)
+}
+
+/// The exclusive or with the words of a block.
+pub fn xor_words(x: &mut Words, y: &Words)
+    ensures { x.new ≡ xor_blocks x.old y.now }
+{
+    kernel::xor_into(x, y)
 }

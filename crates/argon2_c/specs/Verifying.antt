@@ -1,5 +1,5 @@
 -- What verifying a text answers.
-use Rattle.std.specs.Prelude.{◌≡◌, ℕ, ◌||◌, nat_lt, not, Bool, false, ℤ, Option, if◌then◌else◌, List, [], ◌∷◌, length, unwrap_or}
+use Rattle.std.specs.Prelude.{◌≡◌, ℕ, ◌+◌, ◌++◌, drop, ◌||◌, nat_lt, not, Bool, false, ℤ, Option, if◌then◌else◌, List, [], ◌∷◌, length, unwrap_or}
 use Rattle.std.specs.Str.{bytes_eq}
 use Rattle.argon2.specs.Refusals.{first_of}
 use Rattle.argon2.specs.Rfc9106.{tag_of}
@@ -7,6 +7,7 @@ use Rattle.argon2_c.specs.declared.code.TheConstants.{OK, PWD_TOO_LONG, DECODING
 use Rattle.argon2_c.specs.Requests.{asked, request_faults}
 use Rattle.argon2_c.specs.Texts.{Said, IsSaid, name_numbered, spelling}
 use Rattle.argon2_c.specs.declared.request.Request.{Request}
+use Rattle.argon2_c.specs.declared.verify.Shown.{Shown}
 
 -- why a call is refused before the text is read; absent are the bytes of a password whose pointer is null
 abbrev pub call_refusal : ℕ → Bool → ℕ → ℕ → ℕ → Option ℤ
@@ -54,3 +55,13 @@ verify_code algorithm password absent v =
 -- the text is this variant's, and says this
 abbrev pub Says : ℕ → List ℕ → Said → Type 0
 Says algorithm text v = IsSaid v × (text ≡ spelling (name_numbered algorithm) v)
+
+-- what a text says, with its salt and its tag at the front of some room
+pub record IsShown (v : Said) (shown : Shown) (old new : List ℕ) : Type 0 where
+  pub version : shown.version ≡ unwrap_or v.version 16
+  pub m_cost : shown.m_cost ≡ v.m_cost
+  pub t_cost : shown.t_cost ≡ v.t_cost
+  pub lanes : shown.lanes ≡ v.lanes
+  pub salt : shown.salt ≡ length v.salt
+  pub tag : shown.tag ≡ length v.tag
+  pub room : new ≡ v.salt ++ (v.tag ++ drop (length v.salt + length v.tag) old)

@@ -40,6 +40,8 @@ pub const MEMORY_ALLOCATION_ERROR: i32 = -22;
 pub const FREE_MEMORY_CBK_NULL: i32 = -23;
 /// There is a function that takes memory back and none that gives it.
 pub const ALLOCATE_MEMORY_CBK_NULL: i32 = -24;
+/// The memory has another size than the request asks for, or there is no such segment.
+pub const INCORRECT_PARAMETER: i32 = -25;
 /// There is no such variant, or no such version.
 pub const INCORRECT_TYPE: i32 = -26;
 /// There is no thread.

@@ -57,8 +57,8 @@ pub extern "C" fn argon2_c_hash(
     }
 }
 
-// Hashing as asked for but for associated data, where nothing is refused.
-fn hashing<'key>(
+/// Hashing as asked for but for associated data, where nothing is refused.
+pub fn hashing<'key>(
     request: &Request,
     secret: &'key [u8],
     output: usize,

@@ -6,6 +6,7 @@ mod decode;
 pub mod encode;
 pub mod hash;
 pub mod request;
+pub mod segments;
 #[cfg(test)]
 mod tests;
 pub mod verify;

@@ -1,9 +1,9 @@
 //! Whether a password has the hash of a text.
 
-ghost use Rattle.std.specs.Prelude.{◌≡◌, ◌⊎◌, ◌≤◌, ℤ, None, Some, IsNone, IfOk, IfErr, MatchResult, length};
+ghost use Rattle.std.specs.Prelude.{◌≡◌, ◌≢◌, ◌⊎◌, ◌≤◌, ℤ, None, Some, IsNone, IfOk, IfErr, MatchResult, length};
 ghost use Rattle.argon2_c.specs.declared.code.TheConstants.{VERIFY_MISMATCH};
 ghost use Rattle.argon2_c.specs.Texts.{Said, said};
-ghost use Rattle.argon2_c.specs.Verifying.{Says, call_refusal, shown_request, verify_code};
+ghost use Rattle.argon2_c.specs.Verifying.{IsShown, Says, call_refusal, shown_request, verify_code};
 
 use crate::code::{DECODING_FAIL, INCORRECT_TYPE, MEMORY_ALLOCATION_ERROR, OK, PWD_TOO_LONG};
 use crate::decode::{Decoded, decode};
@@ -46,6 +46,85 @@ pub extern "C" fn argon2_c_verify(
         Ok(shown) => compared(alloc, algorithm, &shown, pwd, absent),
         Err(code) => code,
     }
+}
+
+/// What a text says.
+#[repr(C)]
+#[derive(Clone, Copy)]
+pub struct Shown {
+    /// The version, 16 where the text has none.
+    pub version: u32,
+    /// The memory cost.
+    pub m_cost: u32,
+    /// The number of passes.
+    pub t_cost: u32,
+    /// The number of lanes.
+    pub lanes: u32,
+    /// The length of the salt.
+    pub salt: usize,
+    /// The length of the hash.
+    pub tag: usize,
+}
+
+/// Reads a text for a caller that makes the hash by segments. Writes the salt and then the tag to the front
+/// of `room`, and the rest into `shown`, and returns 0. Returns the code by which [`argon2_c_verify`]
+/// refuses the call or the text, for a password of `pwd` bytes, or -22 where `room` has too little room
+/// or memory was refused; nothing is then written.
+#[unsafe(no_mangle)]
+pub extern "C" fn argon2_c_read(
+    alloc: Global,
+    algorithm: u32,
+    has_text: bool,
+    text: &[u8],
+    pwd: usize,
+    absent: usize,
+    shown: &mut Shown,
+    room: &mut [u8],
+) -> i32
+    ensures refused { (e : ℤ) → call_refusal algorithm has_text (length text.now) pwd absent
+        ≡ Some e → result ≡ e }
+    ensures said { (v : Said) → call_refusal algorithm has_text (length text.now) pwd absent ≡ None
+        → Says algorithm text.now v
+        → (result ≡ MEMORY_ALLOCATION_ERROR)
+        ⊎ ((result ≡ OK) × IsShown v shown.new room.old room.new) }
+    ensures unsaid { call_refusal algorithm has_text (length text.now) pwd absent ≡ None
+        → ((v : Said) → Says algorithm text.now v → ⊥)
+        → (result ≡ DECODING_FAIL) ⊎ (result ≡ MEMORY_ALLOCATION_ERROR) }
+    ensures found { result ≡ OK → (v : Said) × Says algorithm text.now v }
+    ensures same { result ≢ OK → (shown.new ≡ shown.old) × (room.new ≡ room.old) }
+{
+    if let Some(code) = call_refusal(algorithm, has_text, text.len(), pwd, absent) {
+        return code;
+    }
+    match decoded(alloc, algorithm, text) {
+        Ok(found) => show(&found, shown, room),
+        Err(code) => code,
+    }
+}
+
+// Writes what a text says, where there is room.
+fn show(found: &Decoded, shown: &mut Shown, room: &mut [u8]) -> i32
+    ensures answer { (result ≡ MEMORY_ALLOCATION_ERROR)
+        ⊎ ((result ≡ OK) × IsShown (said found.now) shown.new room.old room.new) }
+    ensures same { result ≢ OK → (shown.new ≡ shown.old) × (room.new ≡ room.old) }
+{
+    let salt = found.salt.len();
+    let tag = found.tag.len();
+    if room.len() < salt || room.len() - salt < tag {
+        return MEMORY_ALLOCATION_ERROR;
+    }
+    let (front, behind) = room.split_at_mut(salt);
+    front.copy_from_slice(found.salt.as_slice());
+    behind[..tag].copy_from_slice(found.tag.as_slice());
+    *shown = Shown {
+        version: found.version.unwrap_or(16),
+        m_cost: found.m_cost,
+        t_cost: found.t_cost,
+        lanes: found.lanes,
+        salt,
+        tag,
+    };
+    OK
 }
 
 // Why a call is refused before the text is read.

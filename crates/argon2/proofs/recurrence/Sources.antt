@@ -8,6 +8,7 @@ use Rattle.std.proofs.lemmas.List.Elements.{All-map, All-append, All-take, All-g
 use Rattle.std.proofs.lemmas.Bool.{cond_both, cond-true, eq-eqb, eqb-true, ltb-true, and_parts, and_from}
 use Rattle.argon2_base.specs.Block.{mixed, xor_blocks}
 use Rattle.argon2.specs.Rfc9106.{Blocks, Context, Reference, Sizes, address_word, columns, finished_segments, is_independent, lane_length, made_block, permitted, previous, reference, reference_index, reference_lane, reference_of, reference_word, segment_length, without_last}
+use Rattle.argon2.specs.Segments.{IsPlaceFor}
 use Rattle.argon2.specs.Steps.{IsStep}
 use Rattle.argon2.proofs.recurrence.PermittedPlaces.{InSlice, in_slice, some_permitted}
 
@@ -102,7 +103,7 @@ unfolding reference_index
 index_below count w h = omega arith
 
 -- whatever the word, the block that it takes is a source
-reference_reads : (ctx : Context) → Sizes ctx → (pass lane column w : ℕ)
+pub reference_reads : (ctx : Context) → Sizes ctx → (pass lane column w : ℕ)
     → IsStep ctx pass lane column
     → Reads ctx pass lane column (reference ctx pass lane column w).pass (reference ctx pass lane column w).lane
     (reference ctx pass lane column w).column
@@ -116,6 +117,23 @@ reference_reads ctx sizes pass lane column w st =
     All-get_or (λ (x : ℕ × ℕ). Reads ctx pass lane column x.0 other x.1) blocks (reference_index (length blocks) w) (0, 0)
     (index_below (length blocks) w some)
     (permitted_sources ctx sizes lane column other below st.in_columns pass)
+
+-- a source is in a place for the step
+pub Reads-place : (ctx : Context) → Sizes ctx → (pass lane column r l c : ℕ)
+    → Reads ctx pass lane column r l c → IsPlaceFor ctx lane column l c
+Reads-place ctx sizes pass lane column r l c reads = record {
+  in_lanes = reads.in_lanes;
+  in_columns = reads.in_columns;
+  apart = elim reads.apart [
+    | inl own ↦ inl own
+    | inr other ↦ inr (λ same.
+        let s = segment_length ctx in
+        let here = in_slice s c sizes.two_columns reads.in_columns in
+        let above = subst (λ x. x * s ≤ c) same here.above in
+        let below = subst (λ x. c < (x + 1) * s) same here.below in
+        elim other [ inl before ↦ omega arith | inr after ↦ omega arith ])
+  ];
+}
 
 -- blocks f and g agree wherever the block of pass, lane and column may be made of them
 abbrev pub AgreeOn : (ctx : Context) (pass lane column : ℕ) → Blocks → Blocks → Type 0

@@ -33,9 +33,9 @@ fn update_input(hasher: &mut Blake2b, input: &[u8])
     hasher.update(input);
 }
 
-// The block of a lane and a column that an initial hash makes.
+/// The block of a lane and a column that an initial hash makes.
 #[tactic(auto, unfolding(crate::specs::Rfc9106::block_after))]
-fn block_after(hash: &[u8; 64], lane: u32, column: u32) -> Block
+pub(super) fn block_after(hash: &[u8; 64], lane: u32, column: u32) -> Block
     ensures { result ≡ block_after hash.now lane column }
 {
     let mut bytes = [0; Block::SIZE];
@@ -51,7 +51,7 @@ fn block_after(hash: &[u8; 64], lane: u32, column: u32) -> Block
 
 impl Instance<'_> {
     /// The initial hash for an output of `out_len` bytes.
-    fn initial_hash(&self, pwd: &[u8], salt: &[u8], out_len: u32) -> [u8; 64]
+    pub(super) fn initial_hash(&self, pwd: &[u8], salt: &[u8], out_len: u32) -> [u8; 64]
         requires { AreShort pwd.now salt.now }
         ensures { result ≡ initial_hash self.now pwd.now salt.now out_len }
     {

@@ -114,10 +114,22 @@ impl<'a> Instance<'a> {
             word) }
         ensures within { result < block_count self.now }
     {
-        let other = self.reference_lane(at, word);
-        let count = self.permitted_count(at, other);
+        let (lane, column) = self.reference(at, word);
+        self.place(lane, column)
+    }
+
+    /// The lane and the column of that block.
+    pub(super) fn reference(&self, at: Step, word: u64) -> (u32, u32)
+        requires { IsStep self.now at.pass at.lane at.column }
+        ensures lane { result.0 ≡ (reference self.now at.pass at.lane at.column word).lane }
+        ensures column { result.1 ≡ (reference self.now at.pass at.lane at.column word).column }
+        ensures in_lanes { result.0 < self.now.p_cost }
+        ensures in_columns { result.1 < lane_length self.now }
+    {
+        let lane = self.reference_lane(at, word);
+        let count = self.permitted_count(at, lane);
         let index = reference_index(count, word);
-        self.place(other, self.permitted_column(at, index))
+        (lane, self.permitted_column(at, index))
     }
 
     /// The lane that is referred to.

@@ -1,63 +1,14 @@
-use Rattle.std.proofs.Common.{◌≡◌, ℕ, zero, suc, refl, ◌+◌, ◌-◌, ◌*◌, ◌/◌, ◌%◌, ◌<◌, ◌≤◌, ◌≢◌, ◌⊎◌, inl, inr, ◌^◌, subst, sym, ap, ◌∙◌, arith}
+use Rattle.std.proofs.Common.{◌≡◌, ℕ, ◌+◌, ◌-◌, ◌*◌, ◌/◌, ◌≤◌, inl, inr, subst, sym, ap, ◌∙◌, arith}
 use Rattle.std.specs.Prelude.{if◌then◌else◌}
 use Rattle.std.proofs.lemmas.Bool.Decides.{nat_tests}
-use Rattle.std.proofs.Math.Nat.{mul-le-mul_right}
-use Rattle.std.proofs.lemmas.Nat.{mul-add-lt, mul-le}
-use Rattle.argon2.specs.Rfc9106.{Context, Sizes, addresses_of, block_count, is_independent, segment_length}
-use Rattle.argon2.specs.Steps.{IsStep, turn_count}
+use Rattle.argon2.specs.Rfc9106.{addresses_of, block_count, is_independent, segment_length}
+use Rattle.argon2.specs.Steps.{turn_count}
 use Rattle.argon2.specs.Watching.{IsFilledUpTo, begun, in_order, segment_calls}
 use Rattle.argon2.proofs.recurrence.Addresses.{same_addresses, address_mixings, mixings_more}
-use Rattle.argon2.proofs.recurrence.PermittedPlaces.{InSlice}
 use Rattle.argon2.proofs.schedules.InOrder.{filled_step}
+use Rattle.argon2.proofs.schedules.SegmentColumns.{a_column, a_step, column_fits, later_slice, serves_next, serves_on}
 use Rattle.argon2.proofs.context.instance.Instance.fill_segment.Goals as goal
 use Rattle.argon2.proofs.context.instance.Instance.fill_segment.Goals.{then-pass-eq0+then-slice-eq0, else-pass-eq0, else-pass-eq0-via-then-pass-eq0+else-slice-eq0, else-pass-eq0-via-else-pass-eq0, then-index-gt0+then-index-eq0, else-index-gt0, else-index-gt0-via-then-index-gt0+else-index-eq0, else-index-gt0-via-else-index-gt0}
-
--- at an index that begins no address block the one at hand serves on
-serves_on : (index : ℕ) → (index % 128 ≢ 0) ⊎ (index ≤ 0) → (index - 1) / 128 ≡ index / 128
-serves_on index (inl e) = omega arith
-serves_on index (inr e) = omega arith
-
--- at any other index the next address block begins
-serves_next : (index : ℕ) → 0 < index → index % 128 ≡ 0 → index / 128 + 1 ≡ (index - 1) / 128 + 1 + 1
-serves_next index some e = omega arith
-
--- a column of a segment is one of its lane
-in_lane : (slice segment index n : ℕ) → slice < 4 → index < segment → segment ≡ n → slice * segment + index < 4 * n
-in_lane slice segment index n h k is =
-    let place = mul-add-lt slice segment index 4 h k in
-    omega arith
-
--- a segment's columns are steps, from column 2 on in pass 0
-a_step : (ctx : Context) (pass lane slice segment index : ℕ) → lane < ctx.p_cost → slice < 4 → index < segment
-    → segment ≡ segment_length ctx → (pass ≡ 0 → 2 ≤ slice * segment + index)
-    → IsStep ctx pass lane (slice * segment + index)
-a_step ctx pass lane slice segment index l h k is later = record {
-  in_lanes = l;
-  in_columns = in_lane slice segment index (segment_length ctx) h k is;
-  later = later;
-}
-
--- a segment's columns are columns of its slice
-a_column : (slice segment index n : ℕ) → slice < 4 → index < segment → segment ≡ n → InSlice n (slice * segment + index) slice
-a_column slice segment index n h k is =
-    let product = ap (λ x. slice * x) is in
-    record { above = omega arith; below = omega arith; whole = mul-le-mul_right n (omega arith); one_of_four = h }
-
--- a segment's columns are numbers of 32 bits
-column_fits : (ctx : Context) (slice segment index : ℕ) → Sizes ctx → segment ≡ segment_length ctx → slice < 4 → index < segment
-    → slice * segment + index < 2 ^ 32
-column_fits ctx slice segment index sizes is h k =
-    let n : ℕ = 4 * segment_length ctx in
-    let lane : 1 * n ≤ ctx.p_cost * n = mul-le 1 n ctx.p_cost n sizes.some_lane (omega arith) in
-    let column = in_lane slice segment index (segment_length ctx) h k is in
-    let memory = sizes.in_memory in
-    let small = sizes.m_cost in
-    omega arith
-
--- a later slice begins at column 2 or above
-later_slice : (slice segment start : ℕ) → slice ≢ 0 → 2 ≤ segment → 2 ≤ slice * segment + start
-later_slice zero segment start some two = absurd (some refl)
-later_slice (suc s) segment start some two = omega arith
 
 pub overflow_mul-column : goal.overflow_mul-column
 overflow_mul-column c =

@@ -1,15 +1,18 @@
 use Rattle.std.proofs.Common.{arith}
 use Rattle.argon2.specs.Rfc9106.{reference}
-use Rattle.argon2.proofs.context.instance.Instance.reference_place.Goals as goal
+use Rattle.argon2.proofs.context.instance.Instance.reference.Goals as goal
 
-pub returns-clause-value : goal.returns-clause-value
+pub returns-clause-lane : goal.returns-clause-lane
 unfolding reference
-returns-clause-value c =
-    let l = c.reference_lane-other.ensures.value in
+returns-clause-lane c = c.reference_lane-lane.ensures.value
+
+pub returns-clause-column : goal.returns-clause-column
+unfolding reference
+returns-clause-column c =
+    let l = c.reference_lane-lane.ensures.value in
     let n = c.permitted_count-count.ensures.value in
     let i = c.reference_index-index.ensures.value in
-    let p = c.place.ensures.value in
-    let e = c.permitted_column.ensures.value c.reference_lane-other.result
+    let e = c.permitted_column.ensures.value c.reference_lane-lane.result
     (let w = c.reference_index-index.ensures.within in omega arith) in
     cc
 

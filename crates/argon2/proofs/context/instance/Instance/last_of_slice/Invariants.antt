@@ -1,0 +1,13 @@
+use Rattle.std.proofs.Common.{◌≡◌, ℕ, ◌+◌, ◌-◌, ◌*◌, [], map, fold}
+use Rattle.std.specs.Prelude.{slice_index_or}
+use Rattle.std.specs.List.{range_with_len}
+use Rattle.argon2_base.specs.Block.{xor_blocks, zero_block}
+use Rattle.argon2.specs.Rfc9106.{segment_length}
+use Rattle.argon2.proofs.context.instance.Instance.last_of_slice.Given as goal
+
+-- the lanes so far
+abbrev pub invariant-loop-lane : goal.invariant-loop-lane
+invariant-loop-lane l =
+    l.all ≡ fold xor_blocks zero_block
+    (map (λ (lane : ℕ). slice_index_or l.last (lane * segment_length l.self + (segment_length l.self - 1)) [])
+    (range_with_len 0 l.lane))

@@ -1,0 +1,54 @@
+-- The columns of a segment, by their index in it.
+use Rattle.std.proofs.Common.{◌≡◌, ℕ, zero, suc, refl, ◌+◌, ◌-◌, ◌*◌, ◌/◌, ◌%◌, ◌<◌, ◌≤◌, ◌≢◌, ◌⊎◌, inl, inr, ◌^◌, ap, arith}
+use Rattle.std.proofs.Math.Nat.{mul-le-mul_right}
+use Rattle.std.proofs.lemmas.Nat.{mul-add-lt, mul-le}
+use Rattle.argon2.specs.Rfc9106.{Context, Sizes, segment_length}
+use Rattle.argon2.specs.Steps.{IsStep}
+use Rattle.argon2.proofs.recurrence.PermittedPlaces.{InSlice}
+
+-- at an index that begins no address block the one at hand serves on
+pub serves_on : (index : ℕ) → (index % 128 ≢ 0) ⊎ (index ≤ 0) → (index - 1) / 128 ≡ index / 128
+serves_on index (inl e) = omega arith
+serves_on index (inr e) = omega arith
+
+-- at any other index the next address block begins
+pub serves_next : (index : ℕ) → 0 < index → index % 128 ≡ 0 → index / 128 + 1 ≡ (index - 1) / 128 + 1 + 1
+serves_next index some e = omega arith
+
+-- a column of a segment is one of its lane
+pub in_lane : (slice segment index n : ℕ) → slice < 4 → index < segment → segment ≡ n → slice * segment + index < 4 * n
+in_lane slice segment index n h k is =
+    let place = mul-add-lt slice segment index 4 h k in
+    omega arith
+
+-- a segment's columns are steps, from column 2 on in pass 0
+pub a_step : (ctx : Context) (pass lane slice segment index : ℕ) → lane < ctx.p_cost → slice < 4 → index < segment
+    → segment ≡ segment_length ctx → (pass ≡ 0 → 2 ≤ slice * segment + index)
+    → IsStep ctx pass lane (slice * segment + index)
+a_step ctx pass lane slice segment index l h k is later = record {
+  in_lanes = l;
+  in_columns = in_lane slice segment index (segment_length ctx) h k is;
+  later = later;
+}
+
+-- a segment's columns are columns of its slice
+pub a_column : (slice segment index n : ℕ) → slice < 4 → index < segment → segment ≡ n → InSlice n (slice * segment + index) slice
+a_column slice segment index n h k is =
+    let product = ap (λ x. slice * x) is in
+    record { above = omega arith; below = omega arith; whole = mul-le-mul_right n (omega arith); one_of_four = h }
+
+-- a segment's columns are numbers of 32 bits
+pub column_fits : (ctx : Context) (slice segment index : ℕ) → Sizes ctx → segment ≡ segment_length ctx → slice < 4 → index < segment
+    → slice * segment + index < 2 ^ 32
+column_fits ctx slice segment index sizes is h k =
+    let n : ℕ = 4 * segment_length ctx in
+    let lane : 1 * n ≤ ctx.p_cost * n = mul-le 1 n ctx.p_cost n sizes.some_lane (omega arith) in
+    let column = in_lane slice segment index (segment_length ctx) h k is in
+    let memory = sizes.in_memory in
+    let small = sizes.m_cost in
+    omega arith
+
+-- a later slice begins at column 2 or above
+pub later_slice : (slice segment start : ℕ) → slice ≢ 0 → 2 ≤ segment → 2 ≤ slice * segment + start
+later_slice zero segment start some two = absurd (some refl)
+later_slice (suc s) segment start some two = omega arith

@@ -1,0 +1,131 @@
+-- A step on the parts of a memory is that step on the memory.
+use Rattle.std.proofs.Common.{◌≡◌, ℕ, suc, ◌+◌, ◌*◌, ◌/◌, ◌%◌, ◌<◌, ◌≤◌, ◌≢◌, inl, inr, ◌&&◌, List, [], length, sym, ap, ◌∙◌, subst, arith}
+use Rattle.std.specs.Prelude.{slice_index_or, slice_set, nat_lt, ◌==◌, if◌then◌else◌}
+use Rattle.std.proofs.Math.Nat.{mod-lt}
+use Rattle.std.proofs.lemmas.Nat.{div-add-mod', mul-add-lt}
+use Rattle.std.proofs.lemmas.Bool.{cases_eq, cond_both}
+use Rattle.std.proofs.lemmas.Bool.Decides.{nat_tests}
+use Rattle.std.proofs.lemmas.List.{get_or-set_other, get_or-set_same}
+use Rattle.argon2_base.specs.Block.{mixed, xor_blocks}
+use Rattle.argon2.specs.Rfc9106.{Context, FirstColumns, Memory, Sizes, block_count, lane_length, made_block, reference, segment_length}
+use Rattle.argon2.specs.Segments.{AreParts}
+use Rattle.argon2.specs.Steps.{IsStep, in_memory, previous_place, step, word_in}
+use Rattle.argon2.specs.Watching.{HasBlocksUpTo, begun}
+use Rattle.argon2.proofs.recurrence.PermittedPlaces.{InSlice, in_slice}
+use Rattle.argon2.proofs.schedules.Filling.{step_fills}
+use Rattle.argon2.proofs.schedules.InMemory.{made_by_places, place_below}
+use Rattle.argon2.proofs.schedules.Schedules.{place_apart, turn_count-le}
+
+-- an index of a segment is a column of its lane
+column_below : (s k i : ℕ) → k < 4 → i < s → k * s + i < 4 * s
+column_below s k i four h = let b = mul-add-lt k s i 4 four h in omega arith
+
+-- indexes of other slices are other columns
+column_apart : (s k i slice index : ℕ) → k < slice → i < s → k * s + i ≢ slice * s + index
+column_apart s k i slice index below h e = let b = mul-add-lt k s i slice below h in omega arith
+
+-- a block that is written into the segment is written into the memory
+parts_set : (ctx : Context) (slice lane index : ℕ) (memory before own after : Memory) (b : List ℕ)
+    → slice < 4 → lane < ctx.p_cost → index < segment_length ctx
+    → length own ≡ segment_length ctx → length memory ≡ block_count ctx
+    → AreParts ctx slice lane memory before own after
+    → AreParts ctx slice lane (slice_set memory (lane * lane_length ctx + (slice * segment_length ctx + index)) b) before
+    (slice_set own index b) after
+parts_set ctx slice lane index memory before own after b four l h size all parts =
+    let s = segment_length ctx in
+    let q = lane_length ctx in
+    let column = slice * s + index in
+    let at = lane * q + column in
+    let high : column < q = column_below s slice index four h in
+    let within = place_below ctx lane column l high in
+    record {
+      in_before = λ k o i below a lt.
+          parts.in_before k o i below a lt
+          ∙ sym (get_or-set_other memory at (o * q + (k * s + i)) b []
+          (place_apart q o (k * s + i) lane column (column_below s k i (omega arith) lt) high
+          (λ _. column_apart s k i slice index below lt)));
+      in_own = λ i lt. elim (cases_eq i index) [
+        | inl e ↦ (ap (λ n. slice_index_or (slice_set own index b) n []) e ∙ get_or-set_same own index b [] (omega arith)
+            ∙ sym (ap (λ n. slice_index_or (slice_set memory at b) (lane * q + (slice * s + n)) []) e
+            ∙ get_or-set_same memory at b [] (omega arith)))
+        | inr ne ↦ (get_or-set_other own index i b [] ne ∙ parts.in_own i lt
+            ∙ sym (get_or-set_other memory at (lane * q + (slice * s + i)) b []
+            (place_apart q lane (slice * s + i) lane column (column_below s slice i four lt) high
+            (λ _ e. ne (omega arith)))))
+      ];
+      in_after = λ k o i above below a lt.
+          parts.in_after k o i above below a lt
+          ∙ sym (get_or-set_other memory at (o * q + (k * s + i)) b []
+          (place_apart q o (k * s + i) lane column (column_below s k i below lt) high
+          (λ _ e. column_apart s slice index k i above h (sym e))));
+    }
+
+-- a step writes one block of each
+pub step_parts : (ctx : Context) → Sizes ctx → (pass lane column : ℕ) (memory before own after : Memory) (b : List ℕ)
+    → IsStep ctx pass lane column → length own ≡ segment_length ctx → length memory ≡ block_count ctx
+    → AreParts ctx (column / segment_length ctx) lane memory before own after
+    → b ≡ made_block ctx (in_memory ctx memory) pass lane column
+    → AreParts ctx (column / segment_length ctx) lane (step ctx memory pass lane column) before
+    (slice_set own (column % segment_length ctx) b) after
+unfolding step
+step_parts ctx sizes pass lane column memory before own after b st size all parts made =
+    let s = segment_length ctx in
+    let slice = column / s in
+    let two = sizes.two_columns in
+    let set = parts_set ctx slice lane (column % s) memory before own after b
+    (in_slice s column two st.in_columns).one_of_four st.in_lanes (mod-lt column (omega arith)) size all parts in
+    subst (λ x. AreParts ctx slice lane (slice_set memory (lane * lane_length ctx + column) x) before
+    (slice_set own (column % s) b) after) made
+    (subst (λ n. AreParts ctx slice lane (slice_set memory (lane * lane_length ctx + n) b) before
+    (slice_set own (column % s) b) after) (div-add-mod' column s) set)
+
+-- the block of a step, by the two blocks that are read for it
+pub made_of_reads : (ctx : Context) (pass lane column word before other place : ℕ) (memory : Memory) (x y : List ℕ)
+    → x ≡ slice_index_or memory (lane * lane_length ctx + before) []
+    → lane * lane_length ctx + before ≡ previous_place ctx lane column
+    → word ≡ word_in ctx memory pass lane column
+    → y ≡ slice_index_or memory (other * lane_length ctx + place) []
+    → other ≡ (reference ctx pass lane column word).lane → place ≡ (reference ctx pass lane column word).column
+    → made_block ctx (in_memory ctx memory) pass lane column
+    ≡ (if (ctx.version == 19) && nat_lt 0 pass
+    then xor_blocks (mixed x y) (slice_index_or memory (lane * lane_length ctx + column) []) else mixed x y)
+made_of_reads ctx pass lane column word before other place memory x y hx hp hw hy ho hc =
+    let q = lane_length ctx in
+    let from = reference ctx pass lane column word in
+    let read : ℕ → List ℕ = λ n. slice_index_or memory n [] in
+    let x' : x ≡ read (previous_place ctx lane column) = hx ∙ ap read hp in
+    let y' : y ≡ read (from.lane * q + from.column) = hy ∙ ap (λ l. read (l * q + place)) ho
+    ∙ ap (λ c. read (from.lane * q + c)) hc in
+    made_by_places ctx memory pass lane column word hw
+    ∙ ap (λ b. (if (ctx.version == 19) && nat_lt 0 pass then xor_blocks b (read (lane * q + column)) else b))
+    (ap (λ b. mixed b (read (from.lane * q + from.column))) (sym x') ∙ ap (mixed x) (sym y'))
+
+-- ---- a lane that goes ahead of the others in its slice
+
+-- how many columns of each lane are made when one has so many and the others have not begun the slice
+abbrev pub ahead : Context → ℕ → ℕ → ℕ → ℕ → ℕ → ℕ
+ahead ctx pass slice lane column other = if other == lane then column else begun ctx pass slice
+
+-- a step fills a column more of it
+pub ahead_step : (ctx : Context) → Sizes ctx → (first : FirstColumns) (pass slice lane column : ℕ) (memory : Memory)
+    → IsStep ctx pass lane column → InSlice (segment_length ctx) column slice
+    → HasBlocksUpTo ctx first pass (ahead ctx pass slice lane column) memory
+    → HasBlocksUpTo ctx first pass (ahead ctx pass slice lane (column + 1)) (step ctx memory pass lane column)
+ahead_step ctx sizes first pass slice lane column memory st here is =
+    let s = segment_length ctx in
+    let done = ahead ctx pass slice lane column in
+    let done' = ahead ctx pass slice lane (column + 1) in
+    let now : done lane ≡ column = grind (arith, nat_tests) in
+    let then' : done' lane ≡ suc column = grind (arith, nat_tests) in
+    let others : (l : ℕ) → l ≢ lane → done' l ≡ done l = λ l ne. grind (arith, nat_tests) in
+    let low = here.above in
+    let high = here.below in
+    let few = turn_count-le ctx pass slice in
+    let Within = λ (n : ℕ). (slice * s ≤ n) × (n ≤ (slice + 1) * s) in
+    let within : (l : ℕ) → l < ctx.p_cost → Within (done l) =
+    λ l _. cond_both (l == lane) _ _ Within (λ _. (omega arith, omega arith)) (λ _. (omega arith, omega arith)) in
+    step_fills ctx sizes first pass lane column slice done done' memory st here now then' others within is
+
+-- it begins with the others
+pub ahead-first : (ctx : Context) (pass slice lane l : ℕ) → begun ctx pass slice ≡ ahead ctx pass slice lane (begun ctx pass slice) l
+ahead-first ctx pass slice lane l = grind (arith, nat_tests)

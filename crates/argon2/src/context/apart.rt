@@ -1,0 +1,246 @@
+//! Filling where each segment is lent apart, so that the lanes of a slice can be filled side by side.
+//!
+//! The memory is laid out slice by slice, in each slice lane by lane: where a segment has S columns and
+//! there are p lanes, the block of a lane and a column is at ((column / S) * p + lane) * S + column % S.
+//! A segment is filled on three parts of it: the slices before, the segment, and the slices after it.
+
+ghost use Rattle.std.specs.Prelude.{◌≡◌, ℕ, ◌*◌, ◌+◌, ◌-◌, ◌/◌, ◌<◌, ◌≤◌, ◌^◌, [], length, slice_index_or};
+ghost use Rattle.argon2_base.specs.Block.{bytes_of};
+ghost use Rattle.argon2_base.specs.LongHash.{long_hash};
+ghost use Rattle.argon2.specs.Rfc9106.{AreShort, Blocks, Memory, addresses_of, block_count, first_block, lane_length, previous, reference_word, segment_length};
+ghost use Rattle.argon2.specs.Segments.{AreLengths, AreParts, BeginsSlices, FillsSegment, IsPlaceFor, last_of_slice, slice_length};
+ghost use Rattle.argon2.specs.Steps.{IsStep, step};
+
+use super::Argon2;
+use super::ends::block_after;
+use super::fill::Step;
+use super::instance::Instance;
+use crate::{Block, Work};
+use argon2_base::blake2b_long::blake2b_long;
+use argon2_base::block::{Words, mix_words, xor_words};
+use std::convert::AsSlice;
+
+impl Argon2<'_> {
+    ghost use Rattle.std.specs.Prelude.{◌≡◌, ◌<◌, ◌≤◌, ◌^◌, length};
+    ghost use Rattle.argon2_base.specs.Block.{bytes_of};
+    ghost use Rattle.argon2_base.specs.LongHash.{long_hash};
+    ghost use Rattle.argon2.specs.Argon2.{context_of, context_under};
+    ghost use Rattle.argon2.specs.Rfc9106.{AreShort, first_block};
+    ghost use Rattle.argon2.specs.Segments.{AreLengths, BeginsSlices, FillsSegment, last_of_slice, slice_length};
+
+    /// Writes columns 0 and 1 of each lane into the first slice, and no other block, for a tag of
+    /// `out_len` bytes and under this associated data in place of the parameters' (RFC 9106,
+    /// section 3.2, steps 3 and 4).
+    pub fn begin_slices(
+        &self,
+        associated: &[u8],
+        pwd: &[u8],
+        salt: &[u8],
+        out_len: u32,
+        first: &mut [Words],
+    )
+        requires data { length associated.now < 2 ^ 32 }
+        requires inputs { AreShort pwd.now salt.now }
+        requires slice { length first.old ≡ slice_length (context_of self.now) }
+        ensures { let ctx = context_under self.now associated.now in
+            BeginsSlices ctx (first_block ctx pwd.now salt.now out_len) first.old first.new }
+    {
+        let instance = self.instance_under(associated);
+        instance.begin_slices(pwd, salt, out_len, first);
+    }
+
+    /// Writes the blocks of a lane in a slice of a pass into `own`, its segment, under this associated
+    /// data in place of the parameters' (RFC 9106, section 3.2, steps 5 and 6). `before` are the slices
+    /// before, and `after` those after it.
+    pub fn fill_segment(
+        &self,
+        associated: &[u8],
+        before: &[Words],
+        own: &mut [Words],
+        after: &[Words],
+        pass: u32,
+        slice: u32,
+        lane: u32,
+    )
+        requires data { length associated.now < 2 ^ 32 }
+        requires parts { AreLengths (context_of self.now) slice lane (length before.now) (length own.old)
+            (length after.now) }
+        ensures { FillsSegment (context_under self.now associated.now) pass slice lane before.now
+            own.old own.new after.now }
+    {
+        let instance = self.instance_under(associated);
+        instance.fill_own(before, own, after, pass, slice, lane);
+    }
+
+    /// Writes the hash of the last column's exclusive or, of as many bytes as `out` has. `last` is the
+    /// last slice (RFC 9106, section 3.2, steps 7 and 8).
+    pub fn finish_slices(&self, last: &[Words], out: &mut [u8])
+        requires slice { length last.now ≡ slice_length (context_of self.now) }
+        requires some { 1 ≤ length out.old }
+        requires few { length out.old < 2 ^ 32 }
+        ensures { out.new
+            ≡ long_hash (length out.old) (bytes_of (last_of_slice (context_of self.now) last.now)) }
+    {
+        let block = self.instance().last_of_slice(last);
+        blake2b_long(&[&block.to_bytes()], out).unwrap();
+    }
+}
+
+impl<'a> Instance<'a> {
+    /// Writes columns 0 and 1 of each lane into the first slice, and no other block.
+    fn begin_slices(&self, pwd: &[u8], salt: &[u8], out_len: u32, first: &mut [Words])
+        requires inputs { AreShort pwd.now salt.now }
+        requires slice { length first.old ≡ slice_length self.now }
+        ensures { BeginsSlices self.now (first_block self.now pwd.now salt.now out_len) first.old
+            first.new }
+    {
+        let hash = self.initial_hash(pwd, salt, out_len);
+        for lane in 0..self.lanes() {
+            let place = self.place_in_slices(0, lane, 0) as usize;
+            first[place].copy_from_slice(block_after(&hash, lane, 0).as_slice());
+            let place = self.place_in_slices(0, lane, 1) as usize;
+            first[place].copy_from_slice(block_after(&hash, lane, 1).as_slice());
+        }
+    }
+
+    /// The exclusive or of the last column's blocks, which are in the last slice.
+    fn last_of_slice(&self, last: &[Words]) -> Block
+        requires { length last.now ≡ slice_length self.now }
+        ensures { result ≡ last_of_slice self.now last.now }
+    {
+        let end = self.segment_length() - 1;
+        let mut all = [0; 128];
+        for lane in 0..self.lanes() {
+            xor_words(&mut all, &last[self.place_in_slices(0, lane, end) as usize]);
+        }
+        let mut block = Block::new();
+        block.as_mut_slice().copy_from_slice(&all);
+        block
+    }
+
+    /// The steps of a lane in a slice. `own` is its segment, `before` are the slices before, and
+    /// `after` those after it.
+    fn fill_own(
+        &self,
+        before: &[Words],
+        own: &mut [Words],
+        after: &[Words],
+        pass: u32,
+        slice: u32,
+        lane: u32,
+    )
+        requires { AreLengths self.now slice lane (length before.now) (length own.old)
+            (length after.now) }
+        ensures { FillsSegment self.now pass slice lane before.now own.old own.new after.now }
+    {
+        let segment = self.segment_length();
+        let column = slice * segment;
+        let start = if pass == 0 && slice == 0 { 2 } else { 0 };
+        let mut addresses = self.addresses(Step { pass, lane, column }, &mut Work::new());
+        for index in start..segment {
+            let column = slice * segment + index;
+            let at = Step { pass, lane, column };
+            if index > 0 && index % 128 == 0 {
+                addresses = self.addresses(at, &mut Work::new());
+            }
+            self.step_own(before, own, after, &addresses, at);
+        }
+    }
+
+    /// Writes the block of a step into its segment.
+    fn step_own(
+        &self,
+        before: &[Words],
+        own: &mut [Words],
+        after: &[Words],
+        addresses: &Option<Block>,
+        at: Step,
+    )
+        requires parts { let slice = at.column / segment_length self.now in
+            AreLengths self.now slice at.lane (length before.now) (length own.old)
+            (length after.now) }
+        requires step { IsStep self.now at.pass at.lane at.column }
+        requires addresses { addresses.now ≡ addresses_of self.now at.pass at.lane at.column }
+        ensures size { length own.new ≡ length own.old }
+        ensures step { let slice = at.column / segment_length self.now in
+            (memory : Memory) → length memory ≡ block_count self.now
+            → AreParts self.now slice at.lane memory before.now own.old after.now
+            → AreParts self.now slice at.lane (step self.now memory at.pass at.lane at.column)
+            before.now own.new after.now }
+    {
+        let index = at.column % self.segment_length();
+        let previous = if at.column == 0 {
+            self.lane_length() - 1
+        } else {
+            at.column - 1
+        };
+        let x = self.block(before, own, after, at, at.lane, previous);
+        let word = self.word_after(x, addresses, at);
+        let (lane, column) = self.reference(at, word);
+        let y = self.block(before, own, after, at, lane, column);
+        let made = mix_words(x, y);
+        if self.xors(at.pass) {
+            xor_words(&mut own[index as usize], &made);
+        } else {
+            own[index as usize] = made;
+        }
+    }
+
+    /// The word of a step: of its address block, or else the first of `x`, the previous block.
+    fn word_after(&self, x: &Words, addresses: &Option<Block>, at: Step) -> u64
+        requires { addresses.now ≡ addresses_of self.now at.pass at.lane at.column }
+        ensures { (blocks : Blocks) → x.now ≡ previous self.now blocks at.pass at.lane at.column
+            → result ≡ reference_word self.now blocks at.pass at.lane at.column }
+    {
+        match addresses {
+            Some(block) => {
+                let index = at.column % self.segment_length();
+                block.as_slice()[(index % 128) as usize]
+            }
+            None => x[0],
+        }
+    }
+
+    /// A block that a step may read.
+    fn block<'m>(
+        &self,
+        before: &'m [Words],
+        own: &'m [Words],
+        after: &'m [Words],
+        at: Step,
+        lane: u32,
+        column: u32,
+    ) -> &'m Words
+        requires parts { let slice = at.column / segment_length self.now in
+            AreLengths self.now slice at.lane (length before.now) (length own.now)
+            (length after.now) }
+        requires place { IsPlaceFor self.now at.lane at.column lane column }
+        ensures { let slice = at.column / segment_length self.now in
+            (memory : Memory)
+            → AreParts self.now slice at.lane memory before.now own.now after.now
+            → result.now ≡ slice_index_or memory (lane * lane_length self.now + column) [] }
+    {
+        let segment = self.segment_length();
+        let at_hand = at.column / segment;
+        let slice = column / segment;
+        let index = column % segment;
+        if slice == at_hand {
+            &own[index as usize]
+        } else if slice < at_hand {
+            &before[self.place_in_slices(slice, lane, index) as usize]
+        } else {
+            &after[self.place_in_slices(slice - (at_hand + 1), lane, index) as usize]
+        }
+    }
+
+    /// The place of a block in some slices, one after the other.
+    fn place_in_slices(&self, slice: u32, lane: u32, index: u32) -> u32
+        requires in_slices { slice < 4 }
+        requires in_lanes { lane < self.now.p_cost }
+        requires in_segment { index < segment_length self.now }
+        ensures value { result ≡ (slice * self.now.p_cost + lane) * segment_length self.now + index }
+        ensures within { (slices : ℕ) → slice < slices → result < slices * slice_length self.now }
+    {
+        (slice * self.lanes() + lane) * self.segment_length() + index
+    }
+}
