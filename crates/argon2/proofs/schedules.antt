@@ -7,4 +7,5 @@ pub mod LastColumn
 pub mod ReferencePlaces
 pub mod Schedules
 pub mod SegmentColumns
+pub mod SegmentLaw
 pub mod SegmentParts

@@ -1,6 +1,7 @@
 //! Laws of Argon2: each is the contract of a function without parameters, and calling it does nothing.
 
 ghost use Rattle.argon2.specs.Laws.{KeyIdIsNotHashed, MixingIsSymmetric, MixingWithItselfIsZero, BlocksFollowRule, NoOthersDo, SchedulesAgree, SchedulesFill, SchedulesGiveTag, Argon2iIsIndependent, Argon2idIsIndependentAtFirst};
+ghost use Rattle.argon2.specs.Segments.{SegmentsGiveTag};
 
 /// The mixing of two blocks (RFC 9106, section 3.5) is the same in either order.
 pub fn mixing_symmetric()
@@ -29,6 +30,13 @@ pub fn slice_interleaving()
     ensures agree { SchedulesAgree }
     ensures fill { SchedulesFill }
     ensures tag { SchedulesGiveTag }
+{}
+
+/// Where a memory is laid out slice by slice, its first slice is begun, and each segment is filled once on
+/// the parts of that memory, slice by slice and the lanes of a slice in any order, the last column gives
+/// the tag.
+pub fn segments_apart()
+    ensures { SegmentsGiveTag }
 {}
 
 /// Where references do not depend on the blocks, they depend on the algorithm and the costs alone.

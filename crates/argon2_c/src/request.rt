@@ -1,6 +1,6 @@
 //! What a C caller asks for, and why it is refused.
 
-ghost use Rattle.std.specs.Prelude.{◌≡◌, IsNone, unwrap_or};
+ghost use Rattle.std.specs.Prelude.{◌≡◌, ◌≢◌, IfSome, IsNone, unwrap_or};
 ghost use Rattle.argon2.specs.Refusals.{first_of};
 ghost use Rattle.argon2_c.specs.Requests.{IsFaultless, length_faults, request_faults};
 
@@ -51,6 +51,7 @@ pub fn refusal(
     ensures first { result ≡ first_of (request_faults request.now output pwd salt secret
         associated) }
     ensures none { IsNone result → IsFaultless request.now output pwd salt secret associated }
+    ensures fault { IfSome result (λ code. code ≢ OK) }
 {
     if request.lacks_output {
         return Some(OUTPUT_PTR_NULL);

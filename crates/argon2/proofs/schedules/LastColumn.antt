@@ -26,7 +26,7 @@ matrix_at ctx sizes first lane column a b =
     ∙ ap (block_of ctx first (ctx.t_cost - 1) lane) (mod-mul-add lane q column b)
 
 -- equal blocks of each lane have one exclusive or
-xor_lanes_cong : (ctx : Context) (f g : ℕ → List ℕ)
+pub xor_lanes_cong : (ctx : Context) (f g : ℕ → List ℕ)
     → ((lane : ℕ) → lane < ctx.p_cost → f lane ≡ g lane) → xor_lanes ctx f ≡ xor_lanes ctx g
 unfolding xor_lanes
 xor_lanes_cong ctx f g h =

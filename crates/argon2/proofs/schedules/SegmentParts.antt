@@ -17,7 +17,7 @@ use Rattle.argon2.proofs.schedules.InMemory.{made_by_places, place_below}
 use Rattle.argon2.proofs.schedules.Schedules.{place_apart, turn_count-le}
 
 -- an index of a segment is a column of its lane
-column_below : (s k i : ℕ) → k < 4 → i < s → k * s + i < 4 * s
+pub column_below : (s k i : ℕ) → k < 4 → i < s → k * s + i < 4 * s
 column_below s k i four h = let b = mul-add-lt k s i 4 four h in omega arith
 
 -- indexes of other slices are other columns

@@ -1,0 +1,5 @@
+use Rattle.argon2.proofs.schedules.SegmentLaw.{segments_give_tag}
+use Rattle.argon2.proofs.laws.segments_apart.Goals as goal
+
+pub returns : goal.returns
+returns c = segments_give_tag

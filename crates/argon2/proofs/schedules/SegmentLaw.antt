@@ -1,0 +1,227 @@
+-- Segments that are filled on the parts of a memory, slice by slice, lead to the tag.
+use Rattle.std.proofs.Common.{◌≡◌, ℕ, zero, suc, ◌+◌, ◌-◌, ◌*◌, ◌/◌, ◌%◌, ◌<◌, ◌≤◌, inl, inr, List, [], map, length, sym, ap, ◌∙◌, subst, arith}
+use Rattle.std.specs.Prelude.{drop, slice_index_or}
+use Rattle.std.specs.List.{range_with_len}
+use Rattle.std.proofs.Math.Nat.{mod-lt, mul-le-mul_right}
+use Rattle.std.proofs.lemmas.Nat.{div-add-mod', div-mul-add, mod-mul-add, mul-add-lt}
+use Rattle.std.proofs.lemmas.Bool.{cases_lt}
+use Rattle.std.proofs.lemmas.List.{get_or-drop, get_or-take}
+use Rattle.std.proofs.lemmas.List.FromFn.{get_or-map-range_with_len, length-map-range_with_len}
+use Rattle.argon2_base.specs.Block.{bytes_of}
+use Rattle.argon2_base.specs.LongHash.{long_hash}
+use Rattle.argon2.specs.Rfc9106.{Context, FirstColumns, Memory, Sizes, block_count, block_of, first_block, lane_length, last_block, segment_length, tag_of}
+use Rattle.argon2.specs.Segments.{AreParts, FillsSegment, IsFilledBySegments, last_of_slice, segment_in, slice_length, slices_after, slices_before}
+use Rattle.argon2.specs.Watching.{HasBlocksUpTo, begun}
+use Rattle.argon2.proofs.recurrence.PermittedPlaces.{in_slice}
+use Rattle.argon2.proofs.schedules.Filling.{filled_at_first, next_pass, turn_count-later_slice}
+use Rattle.argon2.proofs.schedules.InMemory.{place_below}
+use Rattle.argon2.proofs.schedules.LastColumn.{xor_lanes_cong}
+use Rattle.argon2.proofs.schedules.Schedules.{turn_count-le}
+use Rattle.argon2.proofs.schedules.SegmentParts.{column_below}
+
+-- a memory that stands slice after slice, lane after lane
+in_lanes : Context → Memory → Memory
+in_lanes ctx memory =
+    let s = segment_length ctx in
+    map (λ place.
+    let lane = place / lane_length ctx in
+    let column = place % lane_length ctx in
+    slice_index_or memory ((column / s * ctx.p_cost + lane) * s + column % s) [])
+    (range_with_len 0 (block_count ctx))
+
+-- it has as many blocks as are filled
+length-in_lanes : (ctx : Context) (memory : Memory) → length (in_lanes ctx memory) ≡ block_count ctx
+unfolding in_lanes
+length-in_lanes ctx memory = length-map-range_with_len _ 0 (block_count ctx)
+
+-- its block of a lane, a slice and an index
+in_lanes_at : (ctx : Context) (memory : Memory) (k lane i : ℕ) → k < 4 → lane < ctx.p_cost → i < segment_length ctx
+    → slice_index_or (in_lanes ctx memory) (lane * lane_length ctx + (k * segment_length ctx + i)) []
+    ≡ slice_index_or memory ((k * ctx.p_cost + lane) * segment_length ctx + i) []
+unfolding in_lanes
+in_lanes_at ctx memory k lane i four l h =
+    let s = segment_length ctx in
+    let q = lane_length ctx in
+    let column = k * s + i in
+    let n = lane * q + column in
+    let high : column < q = column_below s k i four h in
+    let at : ℕ → ℕ → List ℕ = λ lane column. slice_index_or memory ((column / s * ctx.p_cost + lane) * s + column % s) [] in
+    get_or-map-range_with_len (λ place. at (place / q) (place % q)) 0 (block_count ctx) n n []
+    (place_below ctx lane column l high) (omega arith)
+    ∙ ap (λ x. at x (n % q)) (div-mul-add lane q column high)
+    ∙ ap (at lane) (mod-mul-add lane q column high)
+    ∙ ap (λ x. slice_index_or memory ((x * ctx.p_cost + lane) * s + column % s) []) (div-mul-add k s i h)
+    ∙ ap (λ x. slice_index_or memory ((k * ctx.p_cost + lane) * s + x) []) (mod-mul-add k s i h)
+
+-- a place in the slices before one
+place_before : (p s slice k lane i : ℕ) → k < slice → lane < p → i < s → (k * p + lane) * s + i < slice * (p * s)
+place_before p s slice k lane i below l h =
+    let row = mul-add-lt k p lane slice below l in
+    let at = mul-add-lt (k * p + lane) s i (p * slice) row h in
+    omega arith
+
+-- a place in the slices after one, counted from the first
+place_after : (p s slice j lane i : ℕ) → suc slice * (p * s) + ((j * p + lane) * s + i) ≡ ((suc slice + j) * p + lane) * s + i
+place_after p s slice j lane i = omega arith
+
+-- the parts of a memory are parts of it
+parts_of : (ctx : Context) (slice lane : ℕ) (memory : Memory) → slice < 4 → lane < ctx.p_cost
+    → AreParts ctx slice lane (in_lanes ctx memory) (slices_before ctx slice memory) (segment_in ctx slice lane memory)
+    (slices_after ctx slice memory)
+parts_of ctx slice lane memory four own =
+    let s = segment_length ctx in
+    let p = ctx.p_cost in
+    record {
+      in_before = λ k l i below a lt.
+          get_or-take (slice * slice_length ctx) memory ((k * p + l) * s + i) [] (place_before p s slice k l i below a lt)
+          ∙ sym (in_lanes_at ctx memory k l i (omega arith) a lt);
+      in_own = λ i lt.
+          let start = slice * slice_length ctx + lane * s in
+          let place : start + i ≡ (slice * p + lane) * s + i = omega arith in
+          get_or-take s (drop start memory) i [] lt ∙ get_or-drop start memory i []
+          ∙ ap (λ n. slice_index_or memory n []) place ∙ sym (in_lanes_at ctx memory slice lane i four own lt);
+      in_after = λ k l i above below a lt.
+          let j = k - suc slice in
+          let more : suc slice + j ≡ k = omega arith in
+          get_or-drop (suc slice * slice_length ctx) memory ((j * p + l) * s + i) []
+          ∙ ap (λ n. slice_index_or memory n []) (place_after p s slice j l i ∙ ap (λ x. (x * p + l) * s + i) more)
+          ∙ sym (in_lanes_at ctx memory k l i below a lt);
+    }
+
+-- a column below a slice's end is in no later slice
+slice_at : (s k slice i : ℕ) → 2 ≤ s → k * s + i < (slice + 1) * s → slice ≤ k → k ≡ slice
+slice_at s k slice i two below above = elim (cases_lt slice k) [
+  | inl lt ↦ absurd (let m = mul-add-lt slice s 0 k lt (omega arith) in
+      let most : (slice + 1) * s ≤ k * s = mul-le-mul_right s (omega arith) in omega arith)
+  | inr le ↦ omega arith
+]
+
+-- a column from a slice's end on is in a later slice
+slice_above : (s k slice i : ℕ) → i < s → (slice + 1) * s ≤ k * s + i → slice < k
+slice_above s k slice i small from = elim (cases_lt slice k) [
+  | inl lt ↦ lt
+  | inr le ↦ absurd (let most : k * s ≤ slice * s = mul-le-mul_right s le in omega arith)
+]
+
+-- a slice whose segments are filled is filled
+slice_fills : (ctx : Context) → Sizes ctx → (first : FirstColumns) (pass slice : ℕ) (memory memory' : Memory) → slice < 4
+    → ((lane : ℕ) → lane < ctx.p_cost → FillsSegment ctx pass slice lane (slices_before ctx slice memory)
+    (segment_in ctx slice lane memory) (segment_in ctx slice lane memory') (slices_after ctx slice memory))
+    → slices_before ctx slice memory' ≡ slices_before ctx slice memory
+    → slices_after ctx slice memory' ≡ slices_after ctx slice memory
+    → HasBlocksUpTo ctx first pass (λ _. begun ctx pass slice) (in_lanes ctx memory)
+    → HasBlocksUpTo ctx first pass (λ _. begun ctx pass (suc slice)) (in_lanes ctx memory')
+slice_fills ctx sizes first pass slice memory memory' four fills before after h =
+    let s = segment_length ctx in
+    let p = ctx.p_cost in
+    let q = lane_length ctx in
+    let two = sizes.two_columns in
+    let later = turn_count-later_slice ctx pass slice in
+    let few = turn_count-le ctx pass slice in
+    let Is : ℕ → ℕ → ℕ → Type 0 =
+    λ r l c. slice_index_or (in_lanes ctx memory') (l * q + c) [] ≡ block_of ctx first r l c in
+    record {
+      size = length-in_lanes ctx memory';
+      new = λ l c a below lt.
+          let k = c / s in
+          let i = c % s in
+          let small : i < s = mod-lt c (omega arith) in
+          let is : k * s + i ≡ c = div-add-mod' c s in
+          let here = (in_slice s c two below).above in
+          subst (Is pass l) is (elim (cases_lt k slice) [
+            | inl low ↦ (
+                let row = mul-add-lt k s i slice low small in
+                sym ((parts_of ctx slice l memory' four a).in_before k l i low a small)
+                ∙ ap (λ (m : Memory). slice_index_or m ((k * p + l) * s + i) []) before
+                ∙ (parts_of ctx slice l memory four a).in_before k l i low a small
+                ∙ h.new l (k * s + i) a (omega arith) (omega arith))
+            | inr high ↦ (
+                let same : k ≡ slice = slice_at s k slice i two (omega arith) high in
+                ap (λ x. slice_index_or (in_lanes ctx memory') (l * q + (x * s + i)) []) same
+                ∙ sym ((parts_of ctx slice l memory' four a).in_own i small)
+                ∙ (fills l a).made first (in_lanes ctx memory) (parts_of ctx slice l memory four a) h i small
+                ∙ ap (λ x. block_of ctx first pass l (x * s + i)) (sym same))
+          ]);
+      old = λ r l c turn a below le.
+          let k = c / s in
+          let i = c % s in
+          let small : i < s = mod-lt c (omega arith) in
+          let is : k * s + i ≡ c = div-add-mod' c s in
+          let here = in_slice s c two below in
+          let above : slice < k = slice_above s k slice i small (omega arith) in
+          subst (Is r l) is
+          (sym ((parts_of ctx slice l memory' four a).in_after k l i above here.one_of_four a small)
+          ∙ ap (λ (m : Memory). slice_index_or m (((k - suc slice) * p + l) * s + i) []) after
+          ∙ (parts_of ctx slice l memory four a).in_after k l i above here.one_of_four a small
+          ∙ h.old r l (k * s + i) turn a (omega arith) (omega arith));
+    }
+
+module _ (ctx : Context) (first : FirstColumns) (memory : ℕ → ℕ → Memory) (is : IsFilledBySegments ctx first memory) where
+  sizes : Sizes ctx
+  sizes = is.begins.1.sizes
+
+  -- the first slice is where pass 0 begins
+  begins_filled : HasBlocksUpTo ctx first 0 (λ _. begun ctx 0 0) (in_lanes ctx (memory 0 0))
+  begins_filled = filled_at_first ctx sizes first (in_lanes ctx (memory 0 0)) (record {
+    size = length-in_lanes ctx (memory 0 0);
+    columns = λ lane column l small.
+        let s = segment_length ctx in
+        let two = sizes.two_columns in
+        let within = mul-add-lt lane s column ctx.p_cost l (omega arith) in
+        let zero' : lane * lane_length ctx + column ≡ lane * lane_length ctx + (0 * s + column) = omega arith in
+        let place : (0 * ctx.p_cost + lane) * s + column ≡ lane * s + column = omega arith in
+        ap (λ n. slice_index_or (in_lanes ctx (memory 0 0)) n []) zero'
+        ∙ in_lanes_at ctx (memory 0 0) 0 lane column (omega arith) l (omega arith)
+        ∙ ap (λ n. slice_index_or (memory 0 0) n []) place
+        ∙ sym (get_or-take (slice_length ctx) (memory 0 0) (lane * s + column) [] (omega arith))
+        ∙ is.begins.1.columns lane column l small;
+  })
+
+  -- the slices of a pass are filled one after the other
+  slices_filled : (pass slice : ℕ) → pass < ctx.t_cost → slice ≤ 4
+      → HasBlocksUpTo ctx first pass (λ _. begun ctx pass 0) (in_lanes ctx (memory pass 0))
+      → HasBlocksUpTo ctx first pass (λ _. begun ctx pass slice) (in_lanes ctx (memory pass slice))
+  slices_filled pass zero t four h = h
+  slices_filled pass (suc slice) t four h =
+      slice_fills ctx sizes first pass slice (memory pass slice) (memory pass (suc slice)) (omega arith)
+      (λ lane l. is.fills pass slice lane t (omega arith) l)
+      (is.before pass slice t (omega arith)) (is.after pass slice t (omega arith))
+      (slices_filled pass slice t (omega arith) h)
+
+  -- so are the passes
+  passes_filled : (pass : ℕ) → pass < ctx.t_cost
+      → HasBlocksUpTo ctx first pass (λ _. begun ctx pass 0) (in_lanes ctx (memory pass 0))
+  passes_filled zero t = begins_filled
+  passes_filled (suc pass) t =
+      subst (λ (m : Memory). HasBlocksUpTo ctx first (suc pass) (λ _. begun ctx (suc pass) 0) (in_lanes ctx m))
+      (sym (is.next pass t))
+      (next_pass ctx first pass (in_lanes ctx (memory pass 4))
+      (slices_filled pass 4 (omega arith) (omega arith) (passes_filled pass (omega arith))))
+
+  -- the last slice has the last column
+  last_filled : last_of_slice ctx (slices_after ctx 2 (memory (ctx.t_cost - 1) 4)) ≡ last_block ctx first
+  unfolding last_block
+  last_filled =
+      let s = segment_length ctx in
+      let p = ctx.p_cost in
+      let last = ctx.t_cost - 1 in
+      let some = sizes.some_pass in
+      let two = sizes.two_columns in
+      let later = turn_count-later_slice ctx last 3 in
+      let h = slices_filled last 4 (omega arith) (omega arith) (passes_filled last (omega arith)) in
+      xor_lanes_cong ctx _ _ (λ lane l.
+      let place : 3 * slice_length ctx + (lane * s + (s - 1)) ≡ (3 * p + lane) * s + (s - 1) = omega arith in
+      let column : 3 * s + (s - 1) ≡ lane_length ctx - 1 = omega arith in
+      get_or-drop (3 * slice_length ctx) (memory last 4) (lane * s + (s - 1)) []
+      ∙ ap (λ n. slice_index_or (memory last 4) n []) place
+      ∙ sym (in_lanes_at ctx (memory last 4) 3 lane (s - 1) (omega arith) l (omega arith))
+      ∙ h.new lane (3 * s + (s - 1)) l (omega arith) (omega arith)
+      ∙ ap (block_of ctx first last lane) column)
+
+-- the last column's hash is the tag
+pub segments_give_tag : (ctx : Context) (password salt : List ℕ) (n : ℕ) (memory : ℕ → ℕ → Memory)
+    → IsFilledBySegments ctx (first_block ctx password salt n) memory
+    → long_hash n (bytes_of (last_of_slice ctx (slices_after ctx 2 (memory (ctx.t_cost - 1) 4)))) ≡ tag_of ctx password salt n
+unfolding tag_of
+segments_give_tag ctx password salt n memory is =
+    ap (λ block. long_hash n (bytes_of block)) (last_filled ctx (first_block ctx password salt n) memory is)
