@@ -85,7 +85,6 @@ slices_after ctx slice memory = drop (suc slice * slice_length ctx) memory
 -- filled once, slice by slice, on the parts of that memory; nothing else was written.
 pub record IsFilledBySegments (ctx : Context) (first : FirstColumns) (memory : ℕ → ℕ → Memory) : Type 0
   where
-    pub size : (pass slice : ℕ) → length (memory pass slice) ≡ 4 * slice_length ctx
     pub begins : (old : Memory) × BeginsSlices ctx first old (take (slice_length ctx) (memory 0 0))
     pub fills : (pass slice lane : ℕ) → pass < ctx.t_cost → slice < 4 → lane < ctx.p_cost →
         FillsSegment ctx pass slice lane
