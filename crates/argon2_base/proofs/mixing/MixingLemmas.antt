@@ -94,7 +94,8 @@ row_stored x r out i left right w low high =
           let lane_of : k / 2 ≡ w % 16 / 2 = omega arith in
           ap (slice_index out) (sym place)
           ∙ left k (omega arith)
-          ∙ ap₂ bit_xor (one_of-lane_word x i (k / 2) (k % 2) (omega arith) ∙ ap₂ (lane_word x) vector lane_of) (ap (slice_index r) place)
+          ∙ ap₂ bit_xor (one_of-lane_word x i (k / 2) (k % 2) (omega arith) ∙ ap₂ (lane_word x) vector lane_of)
+          (ap (slice_index r) place)
       | inr in_right ↦
           let k = w - (16 * i + 8) in
           let place : 16 * i + 8 + k ≡ w = omega arith in

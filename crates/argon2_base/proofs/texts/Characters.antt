@@ -38,7 +38,8 @@ pub IsUtf8-name : (s : List ℕ) → is_name s ≡ true → IsUtf8 s
 IsUtf8-name s h = IsUtf8-from_ascii s (ascii_by is_name_char name_char_small s (name_chars s h))
 
 -- a character that doesn't pass is in no list of those that do
-pub lacks_by : (p : ℕ → Bool) (c : ℕ) → p c ≡ false → (s : List ℕ) → list_all p s ≡ true → AllByRecursion (λ x. (x == c) ≡ false) s
+pub lacks_by : (p : ℕ → Bool) (c : ℕ) → p c ≡ false → (s : List ℕ) → list_all p s ≡ true
+    → AllByRecursion (λ x. (x == c) ≡ false) s
 lacks_by p c fails s h = tests_give p (λ x. (x == c) ≡ false) (λ x yes. elim (cases_Bool (x == c)) [
   | inl same ↦ let e : x ≡ c = eqb-true x c same in absurd (let y : p c ≡ true = rw (← e) yes in cc)
   | inr other ↦ other

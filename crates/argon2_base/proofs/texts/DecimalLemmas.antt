@@ -16,7 +16,9 @@ number_again text n small is =
 
 -- what is no decimal is of no number
 pub number_none : (text : List ℕ) → ((n : ℕ) → n < 2 ^ 32 → text ≡ decimal n → ⊥) → number_of text ≡ None
-number_none text h = elim (cases_Bool (bytes_eq (decimal (digits_value 10 text)) text && nat_lt (digits_value 10 text) (2 ^ 32))) [
+number_none text h =
+    let n = digits_value 10 text in
+    elim (cases_Bool (bytes_eq (decimal n) text && nat_lt n (2 ^ 32))) [
   | inl e ↦
       let t = and_parts (bytes_eq (decimal (digits_value 10 text)) text) (nat_lt (digits_value 10 text) (2 ^ 32)) e in
       absurd (h (digits_value 10 text) (ltb-true _ _ t.1) (sym ((bytes_eq-Decides _ _).0 t.0)))

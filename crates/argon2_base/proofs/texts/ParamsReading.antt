@@ -24,7 +24,8 @@ one_list text ps qs h k = sym (pairs_again ps (all_params ps h.0)) ∙ ap pairs_
 -- where all items were read
 pub read_at_end : (text : List ℕ) (done : List Pair) → are_params done ≡ true → map item done ++ [] ≡ items_of text
     → ParamsText text done
-read_at_end text done h e = (h, sym (join_with_byte-slice_split 44 text) ∙ ap (join_with_byte 44) (sym e ∙ append-nil (map item done)))
+read_at_end text done h e =
+    (h, sym (join_with_byte-slice_split 44 text) ∙ ap (join_with_byte 44) (sym e ∙ append-nil (map item done)))
 
 -- ---- at an item
 

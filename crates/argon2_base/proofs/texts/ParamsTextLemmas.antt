@@ -164,7 +164,8 @@ list_all-more ps p = list_all-append is_param ps (p ∷ []) ∙ ap (λ b. list_a
 
 -- when a list may get one more
 pub are_params-more : (ps : List Pair) (p : Pair) → are_params ps ≡ true
-    → are_params (ps ++ p ∷ []) ≡ ((is_param p && is_none (value_of p.0 ps)) && nat_le (length (with_item (params_text ps) p)) 127)
+    → are_params (ps ++ p ∷ [])
+    ≡ ((is_param p && is_none (value_of p.0 ps)) && nat_le (length (with_item (params_text ps) p)) 127)
 are_params-more ps p h =
     let b = and_parts (list_all is_param ps && are_distinct ps) _ h in
     let d = and_parts (list_all is_param ps) (are_distinct ps) b.0 in

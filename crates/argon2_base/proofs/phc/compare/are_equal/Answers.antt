@@ -14,7 +14,8 @@ loop-i-preserved c =
       same = λ none.
           let before = no_difference c.loop-i.difference x y none in
           below_more _ _ (c.loop-i.invariant.same before.0) before.1;
-      none = λ e. difference_none c.loop-i.difference x y (c.loop-i.invariant.none e) (ap (λ xs. slice_index_or xs c.loop-i.i 0) e);
+      none = λ e. difference_none c.loop-i.difference x y (c.loop-i.invariant.none e)
+          (ap (λ xs. slice_index_or xs c.loop-i.i 0) e);
     }
 
 pub returns : goal.returns

@@ -34,7 +34,8 @@ returns-in_err-add-clause-only c = λ ps h.
     absurd (let x = c.in_err-add.ensures.when in cc)
 
 pub returns-clause-found : goal.returns-clause-found
-returns-clause-found c = read_at_end c.args.text.now c.items.list c.items.invariant.good (rw c.in_default.is at c.items.invariant.parts)
+returns-clause-found c =
+    read_at_end c.args.text.now c.items.list c.items.invariant.good (rw c.in_default.is at c.items.invariant.parts)
 
 pub returns-clause-only : goal.returns-clause-only
 returns-clause-only c = λ ps h.
