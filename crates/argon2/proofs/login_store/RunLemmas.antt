@@ -78,9 +78,11 @@ module _ (target : Target)
       ((name : List ℕ) → Known target name older (get before name)) →
       (name : List ℕ) → Known target name (logging_in n given drawn answer ∷ older) (get after name)
   login_keeps before after n given drawn None (Err e) older is step known name =
-      known_after_other target name (logging_in n given drawn (Err e)) older _ _ refl refl (ap (λ m. get m name) step.1) (known name)
+      known_after_other target name (logging_in n given drawn (Err e)) older _ _ refl refl (ap (λ m. get m name) step.1)
+      (known name)
   login_keeps before after n given drawn (Some v) (Err e) older is step known name =
-      known_after_other target name (logging_in n given drawn (Err e)) older _ _ refl refl (ap (λ m. get m name) step.1) (known name)
+      known_after_other target name (logging_in n given drawn (Err e)) older _ _ refl refl (ap (λ m. get m name) step.1)
+      (known name)
   login_keeps before after n given drawn None (Ok did) older is step known name = absurd step
   login_keeps before after n given drawn (Some v) (Ok Current) older is step known name = elim (cases_Bool (bytes_eq name n)) [
     | inl hit ↦

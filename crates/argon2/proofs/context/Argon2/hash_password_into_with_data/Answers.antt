@@ -11,5 +11,6 @@ returns-clause-tag g c =
     let ctx = context_under c.args.self.now c.args.associated.now in
     let under = c.instance_under-instance.ensures in
     rw under.value at c.write_tag.ensures
-    ∙ tag_of_matrix ctx (sizes_of_valid ctx under.valid.m_cost under.valid.t_cost under.valid.costs) c.args.pwd.now c.args.salt.now
+    ∙ tag_of_matrix ctx (sizes_of_valid ctx under.valid.m_cost under.valid.t_cost under.valid.costs)
+    c.args.pwd.now c.args.salt.now
     _ _ (rw under.value at c.fill_blocks.ensures.filled.matrix)
