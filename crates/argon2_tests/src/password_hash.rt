@@ -8,6 +8,7 @@ use std::alloc::Global;
 use std::test::Fail;
 
 mod counting_rng;
+mod stored;
 
 use counting_rng::CountingRng;
 
