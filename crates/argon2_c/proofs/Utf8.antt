@@ -40,7 +40,8 @@ is_utf8-decimal n t small k = IsUtf8-append (decimal n) t (IsUtf8-from_ascii (de
 -- a version in front of text
 is_utf8-version_part : (o : Option ℕ) (t : List ℕ) → IfSome o (λ n. n < 2 ^ 32) → IsUtf8 t → IsUtf8 (version_part o t)
 is_utf8-version_part None t h k = k
-is_utf8-version_part (Some n) t h k = is_utf8-append (codes "v=") _ refl (is_utf8-decimal n (36 ∷ t) (omega (arith, h)) (is_utf8-append (codes "$") t refl k))
+is_utf8-version_part (Some n) t h k =
+    is_utf8-append (codes "v=") _ refl (is_utf8-decimal n (36 ∷ t) (omega (arith, h)) (is_utf8-append (codes "$") t refl k))
 
 -- a spelling is text
 pub IsUtf8-spelling : (n : ℕ) (v : Said) → IsSaid v → IsUtf8 (spelling (name_numbered n) v)
