@@ -102,7 +102,7 @@ fn is_entry(entry: Option<(&String, &PasswordHash)>, name: &str, text: &str) -> 
 }
 
 #[test]
-fn tells_its_texts_in_order(rt: HostRuntime) -> Result<(), Fail> {
+fn gives_its_texts_in_order(rt: HostRuntime) -> Result<(), Fail> {
     let mut login = store(rt.alloc(), "kim", NEW)?;
     assert!(rt; login.add("ann", OLD) == Ok(()));
     assert!(rt; login.add("kimi", OLDEST) == Ok(()));
@@ -256,13 +256,13 @@ fn answers_as_a_plain_model_does(rt: HostRuntime) -> Result<(), Fail> {
         let (wanted, known) = modelled(model[call.name], &call);
         model[call.name] = known;
         let mut rng = Drawn(0);
-        let told = answer_of(rt.alloc(), &mut login, &mut rng, &hashes, &call)?;
+        let answer = answer_of(rt.alloc(), &mut login, &mut rng, &hashes, &call)?;
         let words = if wanted == Ok(Some(Accepted::Rehashed)) {
             4
         } else {
             0
         };
-        assert!(rt; told == wanted && rng.0 == words, "{turn}");
+        assert!(rt; answer == wanted && rng.0 == words, "{turn}");
         assert!(rt; has_known(&login, &hashes, call.name, known), "{turn}");
     }
     for (name, &known) in model.iter().enumerate() {

@@ -141,11 +141,11 @@ fn watch(alloc: Global, row: &Row, memory: &mut [Block]) -> Result<(u128, u64), 
 }
 
 #[test]
-fn tells_all_places_under_small_costs(rt: HostRuntime) -> Result<(), Fail> {
+fn shows_all_places_under_small_costs(rt: HostRuntime) -> Result<(), Fail> {
     let mut memory = Vec::from_elem(rt.alloc(), Block::new(), 19456)?;
     for (n, row) in ROWS.iter().enumerate() {
-        let told = watch(rt.alloc(), row, memory.as_mut_slice())?;
-        assert!(rt; told == (row.mixes, row.places), "row {n}");
+        let watched = watch(rt.alloc(), row, memory.as_mut_slice())?;
+        assert!(rt; watched == (row.mixes, row.places), "row {n}");
     }
     Ok(())
 }
@@ -200,8 +200,8 @@ fn are_places(places: &[u32], row: &Places) -> bool {
     expected.next().is_none()
 }
 
-// Whether a pass tells the places of a row.
-fn tells_places(alloc: Global, row: &Places) -> Result<bool, Fail> {
+// Whether a pass shows the places of a row.
+fn shows_places(alloc: Global, row: &Places) -> Result<bool, Fail> {
     let mut builder = ParamsBuilder::new();
     builder.m_cost(row.m_cost).t_cost(1).p_cost(row.p_cost);
     let argon2 = builder.context(row.algorithm, row.version)?;
@@ -218,16 +218,16 @@ fn tells_places(alloc: Global, row: &Places) -> Result<bool, Fail> {
 }
 
 #[test]
-fn tells_each_place_of_a_pass(rt: HostRuntime) -> Result<(), Fail> {
+fn shows_each_place_of_a_pass(rt: HostRuntime) -> Result<(), Fail> {
     for (n, row) in PLACES.iter().enumerate() {
-        assert!(rt; tells_places(rt.alloc(), row)?, "row {n}");
+        assert!(rt; shows_places(rt.alloc(), row)?, "row {n}");
     }
     Ok(())
 }
 
 // Whether the places are the same for another password: all of Argon2i, and of Argon2id those of slices 0 and 1 of
 // pass 0, which are columns 0 to 3 of each lane.
-fn tells_the_same(algorithm: Algorithm) -> Result<bool, Fail> {
+fn shows_the_same(algorithm: Algorithm) -> Result<bool, Fail> {
     let argon2 = known(algorithm, Version::V0x13)?;
     let (_, _, places) = watch_known(&argon2, &PWD)?;
     let (_, _, others) = watch_known(&argon2, b"password")?;
@@ -240,9 +240,9 @@ fn tells_the_same(algorithm: Algorithm) -> Result<bool, Fail> {
 }
 
 #[test]
-fn tells_the_same_places_for_other_passwords(rt: HostRuntime) -> Result<(), Fail> {
-    assert!(rt; tells_the_same(Algorithm::Argon2i)?);
-    assert!(rt; tells_the_same(Algorithm::Argon2id)?);
+fn shows_the_same_places_for_other_passwords(rt: HostRuntime) -> Result<(), Fail> {
+    assert!(rt; shows_the_same(Algorithm::Argon2i)?);
+    assert!(rt; shows_the_same(Algorithm::Argon2id)?);
     Ok(())
 }
 
