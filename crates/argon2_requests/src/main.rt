@@ -1,11 +1,13 @@
 //! Shows what memory the calls of `argon2` ask for, a line a call. First those that ask for none, also where
 //! a stored text would take more than there is; then those that make one request, and last those of a login
-//! store: two for its first name, one for the next, one for each hash. With a request refused, the line of the
-//! call that made it is another. A line of a call that draws has the word that the generator gives next.
+//! store and of accounts: two for the first name, one for the next, one for each hash. With a request refused, the
+//! line of the call that made it is another. A line of a call that draws has the word that the generator gives next.
 #![tactic(auto)]
 
+use argon2::accounts::{AccountError, Accounts};
 use argon2::blake2b::Blake2b;
 use argon2::blake2b_long::blake2b_long;
+use argon2::bound::Bound;
 use argon2::login::Login;
 use argon2::{
     Algorithm, Argon2, AssociatedData, Block, CustomizedPasswordHasher, Kdf, KeyId, Params,
@@ -38,6 +40,8 @@ const LONGEST: &str =
     $AAAAAAAAAAAAAAAAAAAAAAAAAAAAAAAAAAAAAAAAAAAAAAAAAAAAAAAAAAAAAAAAAAAAAAAAAAAAAAAAAAAAAA";
 
 const NO_ALGORITHM: &str = "$argon2$v=19$m=4294967295,t=1,p=1$c29tZXNhbHQ$AAAAAA";
+
+const EXPENSIVE: &str = "$argon2id$v=19$m=4294967295,t=1,p=1$c29tZXNhbHQ$AAAAAA";
 
 const NO_HASH: &str = "$argon2id$v=19$m=4294967295,t=1,p=1$c29tZXNhbHQ";
 
@@ -97,9 +101,10 @@ fn main(rt: HostRuntime) -> io::Result<()> {
     log_in(&rt, "a first login of ann", &mut store)?;
     log_in(&rt, "a second login of ann", &mut store)?;
     match store.text_of("eve") {
-        Some(text) => println!(rt; "text_of eve: {text}"),
-        None => println!(rt; "text_of eve: no text"),
+        Some(text) => println!(rt; "text_of eve: {text}")?,
+        None => println!(rt; "text_of eve: no text")?,
     }
+    accounts(&rt)
 }
 
 // What the vectors of RFC 9106, section 5, are made under.
@@ -284,6 +289,53 @@ fn log_in(rt: &impl Print, call: &str, store: &mut Login<'_>) -> io::Result<()> 
         Err(e) => print!(rt; "{call}: {e}; next {next:08x}; ")?,
     }
     match store.text_of("ann") {
+        Some(text) => println!(rt; "{text}"),
+        None => println!(rt; "no text"),
+    }
+}
+
+// A name that is registered and gets the same password again, and one with a text that is above the bound.
+fn accounts(rt: &HostRuntime) -> io::Result<()> {
+    let bound = Bound {
+        m_cost: 32,
+        t_cost: 3,
+        p_cost: 4,
+    };
+    let Ok(Ok(mut accounts)) = known().map(|argon2| Accounts::new(rt.alloc(), argon2, bound)) else {
+        return Err(io::Error::from(ErrorKind::InvalidInput));
+    };
+    let mut rng = ChaCha20Rng::from_seed([7; 32]);
+    let answer = accounts.register(&mut rng, "kim", &PASSWORD);
+    answered(rt, "register kim", answer, rng, &accounts)?;
+    let mut rng = ChaCha20Rng::from_seed([7; 32]);
+    let answer = accounts.change_password(&mut rng, "kim", &PASSWORD, &PASSWORD);
+    answered(rt, "change_password of kim", answer, rng, &accounts)?;
+    let mut rng = ChaCha20Rng::from_seed([7; 32]);
+    let answer = accounts.set_password(&mut rng, "kim", &PASSWORD);
+    answered(rt, "set_password of kim", answer, rng, &accounts)?;
+
+    let there = accounts.add("max", EXPENSIVE).is_ok();
+    let mut rng = ChaCha20Rng::from_seed([7; 32]);
+    match accounts.login(&mut rng, "max", &PASSWORD) {
+        Ok(did) => println!(rt; "a login of max: {did}, {there}"),
+        Err(e) => println!(rt; "a login of max: {e}, {there}"),
+    }
+}
+
+// What a call on the accounts answers, the word that the generator gives next, and the text of kim.
+fn answered(
+    rt: &impl Print,
+    call: &str,
+    answer: Result<(), AccountError>,
+    mut rng: ChaCha20Rng,
+    accounts: &Accounts<'_>,
+) -> io::Result<()> {
+    let next = rng.next_u32();
+    match answer {
+        Ok(()) => print!(rt; "{call}: ok; next {next:08x}; ")?,
+        Err(e) => print!(rt; "{call}: {e}; next {next:08x}; ")?,
+    }
+    match accounts.text_of("kim") {
         Some(text) => println!(rt; "{text}"),
         None => println!(rt; "no text"),
     }

@@ -11,7 +11,8 @@ use Rattle.argon2.proofs.accounts.Accounts.change_password.Goals as goal
 
 pub returns-in_default-clause-step : goal.returns-in_default-clause-step
 returns-in_default-clause-step g c = (
-  on_none (Changes (kept_terms c.args.self.now) c.args.old.now c.args.new.now (fill_bytes 16 (g.R.Rng.stream c.args.rng.now)).0) _ _
+  on_none (Changes (kept_terms c.args.self.now) c.args.old.now c.args.new.now
+      (fill_bytes 16 (g.R.Rng.stream c.args.rng.now)).0) _ _
       (get-found c.args.self.now.texts c.args.name.now None (sym c.in_default.ensures.value))
       (ap (λ m. get (values_of m) c.args.name.now) c.get_mut.follows.holds-at-none),
   λ other differs. ap (λ m. get (values_of m) other) c.get_mut.follows.holds-at-none,
@@ -29,8 +30,8 @@ returns g c =
     ((c.get_mut.follows.holds fresh).3 (rw (← c.in-Some.ensures.value) refl))) in
     record {
       step = (
-        on_value (Changes (kept_terms c.args.self.now) c.args.old.now c.args.new.now (fill_bytes 16 (g.R.Rng.stream c.args.rng.now)).0)
-            _ _ (phc_of text) (phc_of fresh) c.change_password.result had changes.0 c.change_password.ensures.step,
+        on_value (Changes (kept_terms c.args.self.now) c.args.old.now c.args.new.now
+            (fill_bytes 16 (g.R.Rng.stream c.args.rng.now)).0) _ _ (phc_of text) (phc_of fresh) c.change_password.result had changes.0 c.change_password.ensures.step,
         changes.1,
       );
       accepted = rw changes.0 c.change_password.ensures.accepted;
