@@ -3,10 +3,10 @@
  *
  *   comparing OTHER OURS requests COUNT SEED    random contexts, a third with faults
  *   comparing OTHER OURS texts COUNT SEED       texts, half of them damaged, and writing them
- *   comparing OTHER OURS time ROUNDS            64 MiB, three passes, one lane and four, in turns
+ *   comparing OTHER OURS time ROUNDS            memory and passes of some kinds, one lane and four, in turns
  *
  * The first two print a line of counts, after those in which the libraries differ; the last prints lines of
- * lanes, library, least wall milliseconds and least processor milliseconds.
+ * memory, passes, lanes, library, least wall milliseconds and least processor milliseconds.
  */
 #define _GNU_SOURCE
 #include <argon2.h>
@@ -157,20 +157,22 @@ static double processor(void) {
 }
 
 static int times(long rounds) {
-    for (uint32_t lanes = 1; lanes <= 4; lanes += 3) {
+    static const uint32_t costs[][2] = {{4096, 1}, {19456, 2}, {65536, 3}, {1 << 20, 1}};
+    for (int row = 0; row < 8; row++) {
+        const uint32_t m = costs[row / 2][0], t = costs[row / 2][1], lanes = row % 2 ? 4 : 1;
         double least[2][2] = {{1e9, 1e9}, {1e9, 1e9}};
         for (long i = 0; i < 2 * rounds; i++) {
             int k = i % 2;
             uint8_t out[32];
             double begun = wall(), used = processor();
-            if (both[k].hash(3, 65536, lanes, "password", 8, "somesaltsomesalt", 16, out, 32, NULL, 0, Argon2_id, 0x13))
+            if (both[k].hash(t, m, lanes, "password", 8, "somesaltsomesalt", 16, out, 32, NULL, 0, Argon2_id, 0x13))
                 return 1;
             begun = wall() - begun, used = processor() - used;
             if (begun < least[k][0]) least[k][0] = begun;
             if (used < least[k][1]) least[k][1] = used;
         }
         for (int k = 0; k < 2; k++)
-            printf("%u %s %.1f %.1f\n", lanes, k ? "ours" : "other", least[k][0], least[k][1]);
+            printf("%u %u %u %s %.1f %.1f\n", m, t, lanes, k ? "ours" : "other", least[k][0], least[k][1]);
     }
     return 0;
 }

@@ -32,6 +32,26 @@ size_t argon2_c_encoded_length(uint32_t algorithm, uint32_t m_cost, uint32_t t_c
     uint32_t salt, uint32_t tag);
 int32_t argon2_c_verify(uint32_t algorithm, bool has_text, bytes text, size_t, bytes pwd, size_t, size_t absent);
 
+/* What a text says. */
+struct shown {
+    uint32_t version, m_cost, t_cost, lanes;
+    size_t salt, tag; /* lengths */
+};
+
+int32_t argon2_c_read(uint32_t algorithm, bool has_text, bytes text, size_t, size_t pwd, size_t absent, struct shown *,
+    uint8_t *room, size_t);
+
+/* A hash by parts, which threads.c puts together. */
+typedef struct {
+    uint64_t words[128];
+} block;
+
+int32_t argon2_c_begin(const struct request *, bytes pwd, size_t, bytes salt, size_t, bytes secret, size_t,
+    bytes associated, size_t, size_t output, block *slice, size_t);
+int32_t argon2_c_segment(const struct request *, bytes secret, size_t, bytes associated, size_t, const block *before,
+    size_t, block *own, size_t, const block *after, size_t, uint32_t pass, uint32_t slice, uint32_t lane);
+int32_t argon2_c_finish(const struct request *, const block *last, size_t, uint8_t *out, size_t);
+
 /* Stands for a null pointer, with length 0. */
 static uint8_t nothing[1];
 
@@ -52,9 +72,9 @@ static void wipe_and_free(uint8_t *at, size_t n) {
     free(at);
 }
 
-/* Wipes what the crate's functions left on the stack, of which they use some 10 KiB. */
+/* Wipes what the crate's functions left on the stack, of which they use some 13 KiB. */
 static __attribute__((noinline)) void wipe_stack(void) {
-    uint8_t below[12 << 10];
+    uint8_t below[16 << 10];
     wipe(below, sizeof below);
 }
 
@@ -128,6 +148,8 @@ struct tried rattle_realloc(void *block, size_t kept, size_t n, size_t alignment
 
 /* ---- hashing */
 
+#include "threads.c"
+
 /* Whether two ranges have a byte in common. */
 static bool meet(const void *a, size_t n, const void *b, size_t m) {
     return a && b && n && m && ((uintptr_t)a - (uintptr_t)b < m || (uintptr_t)b - (uintptr_t)a < n);
@@ -157,14 +179,15 @@ static int refusal(const argon2_context *c, argon2_type type) {
     return argon2_c_refusal(&request, c->outlen, c->pwdlen, c->saltlen, c->secretlen, c->adlen);
 }
 
-/* Hashes as the context says into `out`, which has the context's length and lies apart from all inputs and
- * from what is lent. */
+/* Hashes as the context says, of which nothing is refused, into `out`, which has the context's length and lies apart from
+ * all inputs and from what is lent. */
 static int hash_into(const argon2_context *c, argon2_type type, uint8_t *out, struct lent lends) {
     const struct request request = requested(c, type);
+    const uint32_t workers = worker_count(c);
     const struct lent before = lend(lends);
-    const int answer = argon2_c_hash(&request, some(c->pwd), length(c->pwd, c->pwdlen), some(c->salt),
-        length(c->salt, c->saltlen), some(c->secret), length(c->secret, c->secretlen), some(c->ad),
-        length(c->ad, c->adlen), some(out), length(out, c->outlen));
+    const int answer = workers > 1 ? hash_in_threads(c, &request, out, lends, workers)
+        : argon2_c_hash(&request, some(c->pwd), length(c->pwd, c->pwdlen), some(c->salt), length(c->salt, c->saltlen),
+            some(c->secret), length(c->secret, c->secretlen), some(c->ad), length(c->ad, c->adlen), out, c->outlen);
     lend(before);
     wipe_stack();
     return answer;
@@ -254,9 +277,28 @@ size_t argon2_encodedlen(uint32_t t_cost, uint32_t m_cost, uint32_t lanes, uint3
 /* ---- verifying */
 
 int argon2_verify(const char *encoded, const void *pwd, const size_t pwdlen, argon2_type type) {
+    const size_t n = encoded ? strlen(encoded) : 0;
+    uint8_t *const room = malloc(2 * n); /* for the salt and the tag of the text, and for the tag that is made */
     const struct lent before = lend((struct lent){0});
-    const int answer = argon2_c_verify(type, encoded != NULL, some(encoded), encoded ? strlen(encoded) : 0, some(pwd),
-        length(pwd, pwdlen), absent(pwd, pwdlen));
+    struct shown shown = {0};
+    int answer = argon2_c_read(type, encoded != NULL, some(encoded), n, length(pwd, pwdlen), absent(pwd, pwdlen), &shown,
+        some(room), room ? n : 0);
+    if (answer == ARGON2_OK) {
+        const argon2_context c = {
+            .out = room + n, .outlen = shown.tag, .pwd = (uint8_t *)pwd, .pwdlen = pwdlen, .salt = room,
+            .saltlen = shown.salt, .t_cost = shown.t_cost, .m_cost = shown.m_cost, .lanes = shown.lanes,
+            .threads = shown.lanes, .version = shown.version,
+        };
+        answer = refusal(&c, type);
+        if (answer == ARGON2_OK && worker_count(&c) > 1) {
+            answer = hash_into(&c, type, c.out, (struct lent){0});
+            if (answer == ARGON2_OK) answer = argon2_c_compare(room + shown.salt, shown.tag, c.out, shown.tag);
+        } else if (answer == ARGON2_OK) {
+            answer = argon2_c_verify(type, true, some(encoded), n, some(pwd), length(pwd, pwdlen), 0);
+        }
+        wipe(room, 2 * n);
+    }
+    free(room);
     lend(before);
     wipe_stack();
     return answer;

@@ -140,7 +140,7 @@ typedef struct Argon2_Context {
     uint32_t t_cost;  /* passes */
     uint32_t m_cost;  /* blocks of 1024 bytes */
     uint32_t lanes;   /* lanes, which change the tag */
-    uint32_t threads; /* at least 1; all lanes are filled by the calling thread */
+    uint32_t threads; /* at least 1; no more than so many fill the lanes, and the tag does not depend on it */
 
     uint32_t version; /* 0x10 or 0x13 */
 

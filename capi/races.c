@@ -1,0 +1,111 @@
+/*
+ * Hashes whose lanes several threads fill, for capi/check-races, under ThreadSanitizer or helgrind. ThreadSanitizer does
+ * not see into the crate, so the calls of the crate are wrapped there: each says what it reads and writes, and is held
+ * against the order that the crate asks for. Prints what fails, and last 'N passed, M failed'.
+ */
+#define _GNU_SOURCE
+#include "argon2.h"
+
+#include <sched.h>
+#include <stdatomic.h>
+#include <stdbool.h>
+#include <stdio.h>
+#include <string.h>
+
+static int passed, failed;
+
+static void expect(bool holds, const char *what, uint32_t lanes) {
+    if (holds) passed++;
+    else failed++, printf("failed: %s, of %u lanes\n", what, lanes);
+}
+
+/* Four threads, on any machine. */
+int sched_getaffinity(pid_t process, size_t n, cpu_set_t *usable) {
+    (void)process;
+    memset(usable, 0, n), memset(usable, 15, 1);
+    return 0;
+}
+
+enum { MOST_PASSES = 2, MOST_LANES = 9 };
+
+/* What of the hash was done; without an order, which would hide races. */
+static uint32_t lanes;
+static atomic_uint made[4 * MOST_PASSES][MOST_LANES], filled[4 * MOST_PASSES], wrong;
+
+#ifdef WRAPS
+typedef struct {
+    uint64_t words[128];
+} block;
+typedef const uint8_t *bytes;
+
+void __tsan_read_range(void *, long);
+void __tsan_write_range(void *, long);
+int32_t __real_argon2_c_begin(const void *, bytes, size_t, bytes, size_t, bytes, size_t, bytes, size_t, size_t, block *,
+    size_t);
+int32_t __real_argon2_c_segment(const void *, bytes, size_t, bytes, size_t, const block *, size_t, block *, size_t,
+    const block *, size_t, uint32_t, uint32_t, uint32_t);
+int32_t __real_argon2_c_finish(const void *, const block *, size_t, uint8_t *, size_t);
+
+static void once(bool holds) {
+    if (!holds) atomic_fetch_add_explicit(&wrong, 1, memory_order_relaxed);
+}
+
+int32_t __wrap_argon2_c_begin(const void *request, bytes pwd, size_t pwdlen, bytes salt, size_t saltlen, bytes secret,
+    size_t secretlen, bytes ad, size_t adlen, size_t outlen, block *first, size_t width) {
+    __tsan_write_range(first, width * sizeof *first);
+    return __real_argon2_c_begin(request, pwd, pwdlen, salt, saltlen, secret, secretlen, ad, adlen, outlen, first, width);
+}
+
+int32_t __wrap_argon2_c_segment(const void *request, bytes secret, size_t secretlen, bytes ad, size_t adlen,
+    const block *before, size_t before_n, block *own, size_t n, const block *after, size_t after_n, uint32_t pass,
+    uint32_t slice, uint32_t lane) {
+    const size_t width = n * lanes;
+    const uint32_t step = 4 * pass + slice;
+    int32_t answer;
+    once(own == before + slice * width + lane * n && before_n == slice * width);
+    once(after == before + (slice + 1) * width && after_n == (3 - slice) * width);
+    once(atomic_fetch_add_explicit(&made[step][lane], 1, memory_order_relaxed) == 0);
+    once(step == 0 || atomic_load_explicit(&filled[step - 1], memory_order_relaxed) == lanes);
+    __tsan_read_range((block *)before, before_n * sizeof *before);
+    __tsan_write_range(own, n * sizeof *own);
+    __tsan_read_range((block *)after, after_n * sizeof *after);
+    answer = __real_argon2_c_segment(request, secret, secretlen, ad, adlen, before, before_n, own, n, after, after_n, pass,
+        slice, lane);
+    atomic_fetch_add_explicit(&filled[step], 1, memory_order_relaxed);
+    return answer;
+}
+
+int32_t __wrap_argon2_c_finish(const void *request, const block *last, size_t width, uint8_t *out, size_t outlen) {
+    __tsan_read_range((block *)last, width * sizeof *last);
+    return __real_argon2_c_finish(request, last, width, out, outlen);
+}
+#endif
+
+static void hash(argon2_type type, uint32_t version, uint32_t passes, uint32_t threads, uint8_t *tag) {
+    argon2_context c = {
+        .out = tag, .outlen = 32, .pwd = (uint8_t *)"password", .pwdlen = 8, .salt = (uint8_t *)"somesalt", .saltlen = 8,
+        .t_cost = passes, .m_cost = 4096 + 4 * MOST_LANES, .lanes = lanes, .threads = threads, .version = version,
+    };
+    memset(made, 0, sizeof made), memset(filled, 0, sizeof filled);
+    expect(argon2_ctx(&c, type) == ARGON2_OK, "a hash", lanes);
+}
+
+int main(void) {
+    static const struct {
+        argon2_type type;
+        uint32_t version, passes, lanes;
+    } all[] = {
+        {Argon2_d, ARGON2_VERSION_10, 1, 2}, {Argon2_i, ARGON2_VERSION_13, 1, 3},
+        {Argon2_id, ARGON2_VERSION_13, MOST_PASSES, 4}, {Argon2_id, ARGON2_VERSION_10, 1, MOST_LANES},
+    };
+    for (size_t i = 0; i < sizeof all / sizeof *all; i++) {
+        uint8_t alone[32], tag[32] = {0};
+        lanes = all[i].lanes;
+        hash(all[i].type, all[i].version, all[i].passes, 1, alone);
+        hash(all[i].type, all[i].version, all[i].passes, 4, tag);
+        expect(!memcmp(tag, alone, 32), "the tag of one thread", lanes);
+    }
+    expect(wrong == 0, "each segment once and in order", lanes);
+    printf("%d passed, %d failed\n", passed, failed);
+    return failed != 0;
+}

@@ -1,0 +1,164 @@
+/*
+ * Lanes filled by several threads; argon2.c includes this. The memory is laid out slice by slice, in each slice lane by
+ * lane, so that a segment, the slices before its own and those behind it are three ranges that lie apart.
+ */
+#include <pthread.h>
+#include <sched.h>
+#include <signal.h>
+
+/* With less memory than this, in blocks, no thread pays. */
+enum { FROM_HERE_IN_THREADS = 4 << 10 };
+
+/* 1 in a build of capi/check-races, in which no slice waits for the one before it. */
+#ifndef RACES
+#define RACES 0
+#endif
+
+/* A hash that several threads make. */
+struct filling {
+    const argon2_context *context;
+    const struct request *request;
+    block *blocks;
+    size_t segment; /* its columns */
+    uint32_t workers; /* threads, with the caller's */
+    bool wipes;
+    pthread_mutex_t lock; /* for what follows */
+    pthread_cond_t changed;
+    uint32_t pass, slice;
+    uint32_t taken, filled; /* lanes of the slice */
+    uint32_t unwiped; /* segments of the first three slices; they are wiped when all slices are filled */
+    int answer; /* the first that is not 0 */
+};
+
+/* How many blocks a hash uses, of those that it may. */
+static size_t block_count(const argon2_context *c) {
+    return (size_t)(c->m_cost / (4 * c->lanes)) * (4 * c->lanes);
+}
+
+/* How many threads make a hash, with the caller's. */
+static uint32_t worker_count(const argon2_context *c) {
+    const uint32_t useful = c->threads < c->lanes ? c->threads : c->lanes;
+    uint32_t usable = CPU_SETSIZE;
+    cpu_set_t set;
+    if (useful == 1 || block_count(c) < FROM_HERE_IN_THREADS) return 1;
+    if (sched_getaffinity(0, sizeof set, &set) == 0) usable = CPU_COUNT(&set);
+    return useful < usable ? useful : usable;
+}
+
+/* Fills the segments of `n` lanes, beginning with `lane`. */
+static int fill_segments(const struct filling *f, uint32_t pass, uint32_t slice, uint32_t lane, uint32_t n) {
+    const argon2_context *c = f->context;
+    const size_t width = f->segment * c->lanes;
+    block *here = f->blocks + slice * width;
+    int answer = ARGON2_OK;
+    for (uint32_t end = lane + n; lane < end && answer == ARGON2_OK; lane++)
+        answer = argon2_c_segment(f->request, some(c->secret), length(c->secret, c->secretlen), some(c->ad),
+            length(c->ad, c->adlen), f->blocks, slice * width, here + lane * f->segment, f->segment, here + width,
+            (3 - slice) * width, pass, slice, lane);
+    return answer;
+}
+
+/* Counts lanes as filled. After the last one of a slice the next slice begins. */
+static void count_filled(struct filling *f, uint32_t n) {
+    f->filled += n;
+    if (f->filled < f->context->lanes) return;
+    f->taken = f->filled = 0;
+    f->pass += f->slice == 3;
+    f->slice = (f->slice + 1) % 4;
+    pthread_cond_broadcast(&f->changed);
+}
+
+/* Takes lanes of the slice and fills their segments, again and again until the last slice is filled. */
+static void fill_slices(struct filling *f) {
+    pthread_mutex_lock(&f->lock);
+    while (f->pass < f->context->t_cost && f->answer == ARGON2_OK) {
+        const uint32_t pass = f->pass, slice = f->slice, lane = f->taken;
+        const uint32_t n = (f->context->lanes - lane + 2 * f->workers - 1) / (2 * f->workers);
+        int answer;
+        if (n == 0) {
+            pthread_cond_wait(&f->changed, &f->lock);
+            continue;
+        }
+        f->taken += n;
+        if (RACES) count_filled(f, n);
+        pthread_mutex_unlock(&f->lock);
+        answer = fill_segments(f, pass, slice, lane, n);
+        pthread_mutex_lock(&f->lock);
+        if (!RACES) count_filled(f, n);
+        if (answer != ARGON2_OK) {
+            f->answer = answer;
+            pthread_cond_broadcast(&f->changed);
+        }
+    }
+    pthread_mutex_unlock(&f->lock);
+    wipe_stack();
+}
+
+/* Wipes segments of the first three slices, until none is left. The tag is made of the last slice meanwhile. */
+static void wipe_slices(struct filling *f) {
+    pthread_mutex_lock(&f->lock);
+    while (f->unwiped > 0) {
+        block *at = f->blocks + --f->unwiped * f->segment;
+        pthread_mutex_unlock(&f->lock);
+        wipe(at, f->segment * sizeof *at);
+        pthread_mutex_lock(&f->lock);
+    }
+    pthread_mutex_unlock(&f->lock);
+}
+
+static void *work(void *filling) {
+    fill_slices(filling);
+    wipe_slices(filling);
+    return NULL;
+}
+
+/* Starts as many of the other threads as can be started, and returns how many. They take no signals but those of their
+ * own faults. */
+static uint32_t start_threads(struct filling *f, pthread_t *threads) {
+    static const int faults[] = {SIGSEGV, SIGBUS, SIGILL, SIGFPE, SIGTRAP, SIGSYS};
+    uint32_t started = 0;
+    sigset_t blocked, before;
+    sigfillset(&blocked);
+    for (size_t i = 0; i < sizeof faults / sizeof *faults; i++) sigdelset(&blocked, faults[i]);
+    pthread_sigmask(SIG_BLOCK, &blocked, &before);
+    while (started + 1 < f->workers && pthread_create(&threads[started], NULL, work, f) == 0) started++;
+    pthread_sigmask(SIG_SETMASK, &before, NULL);
+    return started;
+}
+
+/* Fills all slices and writes the tag into `out`. The threads have ended when this returns. */
+static __attribute__((noinline)) void fill_and_finish(struct filling *f, uint8_t *out) {
+    const size_t width = f->segment * f->context->lanes;
+    block *last = f->blocks + 3 * width;
+    pthread_t threads[CPU_SETSIZE];
+    uint32_t started;
+    int cancelling;
+    pthread_setcancelstate(PTHREAD_CANCEL_DISABLE, &cancelling);
+    started = start_threads(f, threads);
+    fill_slices(f);
+    if (f->answer == ARGON2_OK) f->answer = argon2_c_finish(f->request, last, width, out, f->context->outlen);
+    if (f->wipes) wipe(last, width * sizeof *last);
+    wipe_slices(f);
+    while (started > 0) pthread_join(threads[--started], NULL);
+    pthread_setcancelstate(cancelling, NULL);
+    wipe_stack();
+}
+
+/* Hashes as `argon2_c_hash` does, with so many threads. */
+static int hash_in_threads(const argon2_context *c, const struct request *request, uint8_t *out, struct lent lends,
+    uint32_t workers) {
+    const size_t n = block_count(c);
+    const bool is_lent = lends.n > 0 && (uintptr_t)lends.at % _Alignof(block) == 0;
+    struct filling f = {
+        .context = c, .request = request, .blocks = (block *)(is_lent ? lends.at : system_memory(n * sizeof(block))),
+        .segment = n / 4 / c->lanes, .workers = workers, .wipes = !is_lent, .unwiped = is_lent ? 0 : 3 * c->lanes,
+        .lock = PTHREAD_MUTEX_INITIALIZER, .changed = PTHREAD_COND_INITIALIZER,
+    };
+    if (!f.blocks) return ARGON2_MEMORY_ALLOCATION_ERROR;
+    f.answer = argon2_c_begin(request, some(c->pwd), length(c->pwd, c->pwdlen), some(c->salt),
+        length(c->salt, c->saltlen), some(c->secret), length(c->secret, c->secretlen), some(c->ad),
+        length(c->ad, c->adlen), c->outlen, f.blocks, n / 4);
+    if (f.answer == ARGON2_OK) fill_and_finish(&f, out);
+    if (!is_lent) free(f.blocks);
+    return f.answer;
+}
