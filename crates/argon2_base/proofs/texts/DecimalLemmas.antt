@@ -19,8 +19,8 @@ pub number_none : (text : List ℕ) → ((n : ℕ) → n < 2 ^ 32 → text ≡ d
 number_none text h =
     let n = digits_value 10 text in
     elim (cases_Bool (bytes_eq (decimal n) text && nat_lt n (2 ^ 32))) [
-  | inl e ↦
-      let t = and_parts (bytes_eq (decimal (digits_value 10 text)) text) (nat_lt (digits_value 10 text) (2 ^ 32)) e in
-      absurd (h (digits_value 10 text) (ltb-true _ _ t.1) (sym ((bytes_eq-Decides _ _).0 t.0)))
-  | inr e ↦ rw e refl
-]
+      | inl e ↦
+          let t = and_parts (bytes_eq (decimal (digits_value 10 text)) text) (nat_lt (digits_value 10 text) (2 ^ 32)) e in
+          absurd (h (digits_value 10 text) (ltb-true _ _ t.1) (sym ((bytes_eq-Decides _ _).0 t.0)))
+      | inr e ↦ rw e refl
+    ]
