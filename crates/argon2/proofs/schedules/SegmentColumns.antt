@@ -38,8 +38,8 @@ a_column slice segment index n h k is =
     record { above = omega arith; below = omega arith; whole = mul-le-mul_right n (omega arith); one_of_four = h }
 
 -- a segment's columns are numbers of 32 bits
-pub column_fits : (ctx : Context) (slice segment index : ℕ) → Sizes ctx → segment ≡ segment_length ctx → slice < 4 → index < segment
-    → slice * segment + index < 2 ^ 32
+pub column_fits : (ctx : Context) (slice segment index : ℕ) → Sizes ctx → segment ≡ segment_length ctx → slice < 4
+    → index < segment → slice * segment + index < 2 ^ 32
 column_fits ctx slice segment index sizes is h k =
     let n : ℕ = 4 * segment_length ctx in
     let lane : 1 * n ≤ ctx.p_cost * n = mul-le 1 n ctx.p_cost n sizes.some_lane (omega arith) in

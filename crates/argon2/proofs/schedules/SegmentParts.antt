@@ -127,5 +127,6 @@ ahead_step ctx sizes first pass slice lane column memory st here is =
     step_fills ctx sizes first pass lane column slice done done' memory st here now then' others within is
 
 -- it begins with the others
-pub ahead-first : (ctx : Context) (pass slice lane l : ℕ) → begun ctx pass slice ≡ ahead ctx pass slice lane (begun ctx pass slice) l
+pub ahead-first : (ctx : Context) (pass slice lane l : ℕ)
+    → begun ctx pass slice ≡ ahead ctx pass slice lane (begun ctx pass slice) l
 ahead-first ctx pass slice lane l = grind (arith, nat_tests)

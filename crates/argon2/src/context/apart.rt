@@ -63,8 +63,8 @@ impl Argon2<'_> {
         lane: u32,
     )
         requires data { length associated.now < 2 ^ 32 }
-        requires parts { AreLengths (context_of self.now) slice lane (length before.now) (length own.old)
-            (length after.now) }
+        requires parts { AreLengths (context_of self.now) slice lane (length before.now)
+            (length own.old) (length after.now) }
         ensures { FillsSegment (context_under self.now associated.now) pass slice lane before.now
             own.old own.new after.now }
     {
@@ -238,7 +238,8 @@ impl<'a> Instance<'a> {
         requires in_slices { slice < 4 }
         requires in_lanes { lane < self.now.p_cost }
         requires in_segment { index < segment_length self.now }
-        ensures value { result ≡ (slice * self.now.p_cost + lane) * segment_length self.now + index }
+        ensures value { result
+            ≡ (slice * self.now.p_cost + lane) * segment_length self.now + index }
         ensures within { (slices : ℕ) → slice < slices → result < slices * slice_length self.now }
     {
         (slice * self.lanes() + lane) * self.segment_length() + index

@@ -60,7 +60,8 @@ loop-index-init c =
         (
           parts,
           subst (λ n. HasBlocksUpTo ctx first pass (ahead ctx pass slice lane n) memory) begins
-              (HasBlocksUpTo-like ctx first pass (λ _. begun ctx pass slice) _ memory (λ l _. ahead-first ctx pass slice lane l) is),
+              (HasBlocksUpTo-like ctx first pass (λ _. begun ctx pass slice) _ memory
+              (λ l _. ahead-first ctx pass slice lane l) is),
         ),
       );
       addresses = c.addresses-addresses.ensures.block ∙ ap (addresses_of ctx pass lane) column
@@ -93,7 +94,8 @@ step_own-requires-clause-step c =
 pub step_own-requires-clause-parts : goal.step_own-requires-clause-parts
 step_own-requires-clause-parts c =
     let s = c.segment_length-segment.ensures.value in
-    let at : (c.args.slice * c.segment_length-segment.result + c.loop-index.index) / segment_length c.args.self.now ≡ c.args.slice =
+    let at : (c.args.slice * c.segment_length-segment.result + c.loop-index.index) / segment_length c.args.self.now
+    ≡ c.args.slice =
     ap (λ n. (c.args.slice * n + c.loop-index.index) / segment_length c.args.self.now) s
     ∙ div-mul-add c.args.slice (segment_length c.args.self.now) c.loop-index.index (omega arith) in
     rw (at, c.loop-index.invariant.size) c.requires
@@ -160,9 +162,9 @@ returns c =
       size = last.size;
       made = λ first memory parts is i lt.
           let m = last.filled first memory parts is in
-          let done : slice * segment_length ctx + i < ahead ctx pass slice lane (slice * c.segment_length-segment.result + c.loop-index.index) lane =
-          (let now : ahead ctx pass slice lane (slice * c.segment_length-segment.result + c.loop-index.index) lane
-          ≡ slice * c.segment_length-segment.result + c.loop-index.index = grind (arith, nat_tests) in omega arith) in
+          let end = slice * c.segment_length-segment.result + c.loop-index.index in
+          let now : ahead ctx pass slice lane end lane ≡ end = grind (arith, nat_tests) in
+          let done : slice * segment_length ctx + i < ahead ctx pass slice lane end lane = omega arith in
           m.1.0.in_own i lt
           ∙ m.1.1.new lane (slice * segment_length ctx + i) c.requires.in_lanes
           (in_lane slice (segment_length ctx) i _ c.requires.in_slices lt refl) done;

@@ -44,7 +44,8 @@ returns-then-xors-clause-step c = λ memory all parts.
     let is : c.xor_words.new.x ≡ made_block ctx (in_memory ctx memory) pass lane column =
     c.xor_words.ensures
     ∙ ap (λ b. xor_blocks b c.mix_words-made.result)
-    (ap (λ n. slice_index_or c.args.own.now (column % n) []) s ∙ own ∙ own') ∙ z ∙ ap (λ b. xor_blocks b (slice_index_or memory (lane * lane_length ctx + column) []))
+    (ap (λ n. slice_index_or c.args.own.now (column % n) []) s ∙ own ∙ own') ∙ z
+    ∙ ap (λ b. xor_blocks b (slice_index_or memory (lane * lane_length ctx + column) []))
     c.mix_words-made.ensures ∙ sym (by ∙ yes) in
     rw s (step_parts ctx sizes pass lane column memory c.args.before.now c.args.own.now c.args.after.now _ c.requires.step
     c.requires.parts.is_own all parts is)
