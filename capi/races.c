@@ -1,7 +1,7 @@
 /*
  * Hashes whose lanes several threads fill, for capi/check-races, under ThreadSanitizer or helgrind. ThreadSanitizer does
- * not see into the crate, so the calls of the crate are wrapped there: each says what it reads and writes, and is held
- * against the order that the crate asks for. Prints what fails, and last 'N passed, M failed'.
+ * not see into the crate, so each call of the crate says there what it reads and writes, and is held against the order that
+ * the crate asks for. Prints what fails, and last 'N passed, M failed'.
  */
 #define _GNU_SOURCE
 #include "argon2.h"
@@ -11,6 +11,7 @@
 #include <stdbool.h>
 #include <stdio.h>
 #include <string.h>
+#include <unistd.h>
 
 static int passed, failed;
 
@@ -32,18 +33,19 @@ enum { MOST_PASSES = 2, MOST_LANES = 9 };
 static uint32_t lanes;
 static atomic_uint made[4 * MOST_PASSES][MOST_LANES], filled[4 * MOST_PASSES], wrong;
 
-#ifdef WRAPS
 typedef struct {
     uint64_t words[128];
 } block;
 typedef const uint8_t *bytes;
 
+int32_t __real_argon2_c_segment(const void *, bytes, size_t, bytes, size_t, const block *, size_t, block *, size_t,
+    const block *, size_t, uint32_t, uint32_t, uint32_t);
+
+#ifdef ANNOTATES
 void __tsan_read_range(void *, long);
 void __tsan_write_range(void *, long);
 int32_t __real_argon2_c_begin(const void *, bytes, size_t, bytes, size_t, bytes, size_t, bytes, size_t, size_t, block *,
     size_t);
-int32_t __real_argon2_c_segment(const void *, bytes, size_t, bytes, size_t, const block *, size_t, block *, size_t,
-    const block *, size_t, uint32_t, uint32_t, uint32_t);
 int32_t __real_argon2_c_finish(const void *, const block *, size_t, uint8_t *, size_t);
 
 static void once(bool holds) {
@@ -56,12 +58,21 @@ int32_t __wrap_argon2_c_begin(const void *request, bytes pwd, size_t pwdlen, byt
     return __real_argon2_c_begin(request, pwd, pwdlen, salt, saltlen, secret, secretlen, ad, adlen, outlen, first, width);
 }
 
+int32_t __wrap_argon2_c_finish(const void *request, const block *last, size_t width, uint8_t *out, size_t outlen) {
+    __tsan_read_range((block *)last, width * sizeof *last);
+    return __real_argon2_c_finish(request, last, width, out, outlen);
+}
+#endif
+
+/* The first segment waits, so that other threads are there to fill the others. */
 int32_t __wrap_argon2_c_segment(const void *request, bytes secret, size_t secretlen, bytes ad, size_t adlen,
     const block *before, size_t before_n, block *own, size_t n, const block *after, size_t after_n, uint32_t pass,
     uint32_t slice, uint32_t lane) {
+    int32_t answer;
+    if (pass == 0 && slice == 0 && lane == 0) usleep(20000);
+#ifdef ANNOTATES
     const size_t width = n * lanes;
     const uint32_t step = 4 * pass + slice;
-    int32_t answer;
     once(own == before + slice * width + lane * n && before_n == slice * width);
     once(after == before + (slice + 1) * width && after_n == (3 - slice) * width);
     once(atomic_fetch_add_explicit(&made[step][lane], 1, memory_order_relaxed) == 0);
@@ -69,17 +80,14 @@ int32_t __wrap_argon2_c_segment(const void *request, bytes secret, size_t secret
     __tsan_read_range((block *)before, before_n * sizeof *before);
     __tsan_write_range(own, n * sizeof *own);
     __tsan_read_range((block *)after, after_n * sizeof *after);
+#endif
     answer = __real_argon2_c_segment(request, secret, secretlen, ad, adlen, before, before_n, own, n, after, after_n, pass,
         slice, lane);
+#ifdef ANNOTATES
     atomic_fetch_add_explicit(&filled[step], 1, memory_order_relaxed);
+#endif
     return answer;
 }
-
-int32_t __wrap_argon2_c_finish(const void *request, const block *last, size_t width, uint8_t *out, size_t outlen) {
-    __tsan_read_range((block *)last, width * sizeof *last);
-    return __real_argon2_c_finish(request, last, width, out, outlen);
-}
-#endif
 
 static void hash(argon2_type type, uint32_t version, uint32_t passes, uint32_t threads, uint8_t *tag) {
     argon2_context c = {

@@ -68,8 +68,10 @@ static void count_filled(struct filling *f, uint32_t n) {
     pthread_cond_broadcast(&f->changed);
 }
 
-/* Takes lanes of the slice and fills their segments, again and again until the last slice is filled. */
-static void fill_slices(struct filling *f) {
+/* Takes lanes of the slice and fills their segments, again and again until the last slice is filled. Returns the same in all
+ * threads: whether each segment was. */
+static int fill_slices(struct filling *f) {
+    int result;
     pthread_mutex_lock(&f->lock);
     while (f->pass < f->context->t_cost && f->answer == ARGON2_OK) {
         const uint32_t pass = f->pass, slice = f->slice, lane = f->taken;
@@ -90,8 +92,10 @@ static void fill_slices(struct filling *f) {
             pthread_cond_broadcast(&f->changed);
         }
     }
+    result = f->answer;
     pthread_mutex_unlock(&f->lock);
     wipe_stack();
+    return result;
 }
 
 /* Wipes segments of the first three slices, until none is left. The tag is made of the last slice meanwhile. */
@@ -107,8 +111,7 @@ static void wipe_slices(struct filling *f) {
 }
 
 static void *work(void *filling) {
-    fill_slices(filling);
-    wipe_slices(filling);
+    if (fill_slices(filling) == ARGON2_OK) wipe_slices(filling);
     return NULL;
 }
 
@@ -127,21 +130,24 @@ static uint32_t start_threads(struct filling *f, pthread_t *threads) {
 }
 
 /* Fills all slices and writes the tag into `out`. The threads have ended when this returns. */
-static __attribute__((noinline)) void fill_and_finish(struct filling *f, uint8_t *out) {
+static __attribute__((noinline)) int fill_and_finish(struct filling *f, uint8_t *out) {
     const size_t width = f->segment * f->context->lanes;
     block *last = f->blocks + 3 * width;
     pthread_t threads[CPU_SETSIZE];
     uint32_t started;
-    int cancelling;
+    int answer, cancelling;
     pthread_setcancelstate(PTHREAD_CANCEL_DISABLE, &cancelling);
     started = start_threads(f, threads);
-    fill_slices(f);
-    if (f->answer == ARGON2_OK) f->answer = argon2_c_finish(f->request, last, width, out, f->context->outlen);
-    if (f->wipes) wipe(last, width * sizeof *last);
-    wipe_slices(f);
+    answer = fill_slices(f);
+    if (answer == ARGON2_OK) {
+        answer = argon2_c_finish(f->request, last, width, out, f->context->outlen);
+        if (f->wipes) wipe(last, width * sizeof *last);
+        wipe_slices(f);
+    }
     while (started > 0) pthread_join(threads[--started], NULL);
     pthread_setcancelstate(cancelling, NULL);
     wipe_stack();
+    return answer;
 }
 
 /* Hashes as `argon2_c_hash` does, with so many threads. */
@@ -154,11 +160,12 @@ static int hash_in_threads(const argon2_context *c, const struct request *reques
         .segment = n / 4 / c->lanes, .workers = workers, .wipes = !is_lent, .unwiped = is_lent ? 0 : 3 * c->lanes,
         .lock = PTHREAD_MUTEX_INITIALIZER, .changed = PTHREAD_COND_INITIALIZER,
     };
+    int answer;
     if (!f.blocks) return ARGON2_MEMORY_ALLOCATION_ERROR;
-    f.answer = argon2_c_begin(request, some(c->pwd), length(c->pwd, c->pwdlen), some(c->salt),
+    answer = argon2_c_begin(request, some(c->pwd), length(c->pwd, c->pwdlen), some(c->salt),
         length(c->salt, c->saltlen), some(c->secret), length(c->secret, c->secretlen), some(c->ad),
         length(c->ad, c->adlen), c->outlen, f.blocks, n / 4);
-    if (f.answer == ARGON2_OK) fill_and_finish(&f, out);
-    if (!is_lent) free(f.blocks);
-    return f.answer;
+    if (answer == ARGON2_OK) answer = fill_and_finish(&f, out);
+    if (!is_lent) answer == ARGON2_OK ? free(f.blocks) : wipe_and_free((uint8_t *)f.blocks, n * sizeof(block));
+    return answer;
 }
