@@ -21,7 +21,7 @@ pub struct Request {
     pub t_cost: u32,
     /// The number of lanes.
     pub lanes: u32,
-    /// The number of threads, of which one is used.
+    /// The most threads that fill the lanes.
     pub threads: u32,
     /// Whether the output's pointer is null.
     pub lacks_output: bool,
