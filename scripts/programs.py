@@ -26,7 +26,7 @@ def built(crate):
     newest = newest_source()
     if not os.path.exists(program) or os.path.getmtime(program) < newest:
         how = {"stdin": subprocess.DEVNULL, "capture_output": True, "text": True}
-        ran = subprocess.run(["rt", "run", "--", "--help"], cwd=f"{CRATES}/{crate}", **how)
+        ran = subprocess.run(["rt", "run"], cwd=f"{CRATES}/{crate}", **how)
         if not os.path.exists(program) or os.path.getmtime(program) < newest:
             sys.exit(f"rt run built no {crate}:\n{ran.stdout}{ran.stderr}")
     return program
