@@ -194,7 +194,7 @@ stream_after_making (Err NameUnknown) stream = stream
 stream_after_making _ stream = (fill_bytes 16 stream).1
 
 -- after a change: 16 bytes are drawn once the old password is accepted
-abbrev pub DrawsOnce : Type 0 → Result (Unit {0}) AccountError → Stream → Stream → Type 0
+abbrev pub DrawsOnce : {E : Type 0} → Type 0 → Result (Unit {0}) E → Stream → Stream → Type 0
 DrawsOnce accepted answer old new =
     (accepted × (new ≡ (fill_bytes 16 old).1)) ⊎ (IsErr answer × (new ≡ old))
 

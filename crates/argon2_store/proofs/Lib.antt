@@ -1,0 +1,5 @@
+pub mod FileLemmas
+pub mod LoadLemmas
+pub mod NameLemmas
+pub mod RowLemmas
+pub mod TableLemmas

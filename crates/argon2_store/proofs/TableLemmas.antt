@@ -1,0 +1,162 @@
+-- What the rows of a table are after each step of a change.
+use Rattle.std.proofs.Common.{◌≡◌, ℕ, zero, suc, ◌+◌, ◌^◌, nat_lt, ◌≤◌, List, length, Option, Some, None, Result, Ok, Err, Bool, true, false, refl, sym, ap, ap₂, subst, ◌∙◌, IsTrue, arith}
+use Rattle.std.proofs.lemmas.Bool.Decides.{nat_tests}
+use Rattle.std.specs.Float.{NotNan}
+use Rattle.std.specs.Float.Ieee
+use Rattle.std.specs.Prelude.{All, IfErr, IfOk, MatchResult, OnOk}
+use Rattle.std.specs.FinMap.{get, insert, remove}
+use Rattle.sqlite_disk.specs.Disk.{MoreFaults}
+use Rattle.sqlite_value.specs.Keys.{plain}
+use Rattle.sqlite_value.specs.Order.{Row, column, number}
+use Rattle.sqlite_trees.specs.declared.error.StoreError.{StoreError}
+use Rattle.sqlite_trees.specs.declared.error.StoreError.TheVariants.{OutOfMemory, Io, Corrupt, Full, Broken, Unstorable}
+use Rattle.sqlite_trees.specs.declared.store.Shape.{Shape}
+use Rattle.sqlite_trees.specs.declared.store.Shape.TheVariants.{Index}
+use Rattle.sqlite_trees.specs.declared.store.Store.{Ghosts}
+use Rattle.sqlite_trees.specs.Tree.{Trees, insert_entry, order_of, remove_entry}
+use Rattle.sqlite_trees.specs.View.{View, Commits, HasCause, IsStorable, SetsTree, is_int}
+use Rattle.argon2_base.specs.PhcText.{Phc, phc_text}
+use Rattle.argon2.specs.Login.{Store}
+use Rattle.argon2_store.specs.Rows.{row_of, rows_of}
+use Rattle.argon2_store.specs.Table.{Changes, IsHonest, IsKept, IsLong, IsOpen, Leaves, Sees, changed}
+use Rattle.argon2_store.proofs.NameLemmas.{get-gone-same, insert-remove, known, remove-none}
+use Rattle.argon2_store.proofs.RowLemmas.{insert_entry-rows_of, remove_entry-rows_of}
+
+-- ---- answers
+
+pub on_ok : {T E P Q : Type 0} (r : Result T E) → OnOk r P → (P → Q) → OnOk r Q
+on_ok (Ok x) p f = f p
+on_ok (Err e) p f = tt
+
+pub on_ok_later : {T E P : Type 0} (Q : Type 0) (r : Result T E) → (P → OnOk r Q) → OnOk r (P → Q)
+on_ok_later Q (Ok x) f = f
+on_ok_later Q (Err e) f = tt
+
+pub if_ok : {T E : Type 0} {P Q : T → Type 0} (r : Result T E) → IfOk r P → ((x : T) → P x → Q x) → IfOk r Q
+if_ok (Ok x) p f = f x p
+if_ok (Err e) p f = tt
+
+pub if_ok2 : {T E : Type 0} {P R Q : T → Type 0} (r : Result T E) → IfOk r P → IfOk r R → ((x : T) → P x → R x → Q x) → IfOk r Q
+if_ok2 (Ok x) p q f = f x p q
+if_ok2 (Err e) p q f = tt
+
+pub if_err : {T E : Type 0} {P Q : E → Type 0} (r : Result T E) → IfErr r P → ((e : E) → P e → Q e) → IfErr r Q
+if_err (Ok x) p f = tt
+if_err (Err e) p f = f e p
+
+-- ---- views
+
+-- a store that is sound is open
+pub open_if_sound : (v : View) → (v.is_open ≡ false → IsTrue v.is_broken) → v.is_broken ≡ false → IsTrue v.is_open
+open_if_sound v broken sound = go v.is_open refl
+  where
+    go : (b : Bool) → v.is_open ≡ b → IsTrue b
+    go true e = refl
+    go false e = absurd (let h = sym sound ∙ broken e in cc)
+
+pub still_open : (old new : View) → Commits old new → IsTrue old.is_open → IsTrue new.is_open
+still_open old new made is = subst IsTrue (sym (ap (λ (w : View). w.is_open) made.is)) is
+
+pub now_committed : (old new : View) (names : Store) → Commits old new → Sees old names → new.committed 0 ≡ rows_of names
+now_committed old new names made sees = ap (λ (w : View). w.committed 0) made.is ∙ sees made.sound
+
+pub set_seen : (old new : View) (row : Row) (names : Store) (name : List ℕ) (v : Phc) → old.shape 0 ≡ Index plain
+    → SetsTree old new 0 (insert_entry (order_of (old.shape 0)) row) → row ≡ row_of (name, v) → get names name ≡ None
+    → Sees old names → Sees new (insert names name v)
+set_seen old new row names name v shape set is none sees unbroken =
+    ap (λ (w : View). w.trees 0) set.is ∙ ap (λ (s : Shape). insert_entry (order_of s) row (old.trees 0)) shape
+    ∙ ap₂ (insert_entry plain) is (sees set.sound) ∙ insert_entry-rows_of names name v none
+
+pub gone_seen : (old new : View) (row : Row) (names : Store) (name : List ℕ) (v : Phc) → old.shape 0 ≡ Index plain
+    → SetsTree old new 0 (remove_entry (order_of (old.shape 0)) row) → row ≡ row_of (name, v) → get names name ≡ Some v
+    → Sees old names → Sees new (remove names name)
+gone_seen old new row names name v shape set is has sees unbroken =
+    ap (λ (w : View). w.trees 0) set.is ∙ ap (λ (s : Shape). remove_entry (order_of s) row (old.trees 0)) shape
+    ∙ ap₂ (remove_entry plain) is (sees set.sound) ∙ remove_entry-rows_of names name v has
+
+pub same_broken : (old new : View) (tree : ℕ) (edit : List Row → List Row)
+    → SetsTree old new tree edit → new.is_broken ≡ old.is_broken
+same_broken old new tree edit set = ap (λ (w : View). w.is_broken) set.is
+
+pub put_none : (v : View) (names : Store) (name : List ℕ) (o : Option Phc) → o ≡ None → get names name ≡ None
+    → Sees v names → Sees v (changed names name o)
+put_none v names name o is none sees unbroken =
+    sees unbroken ∙ ap rows_of (sym (ap (changed names name) is ∙ remove-none names name none))
+
+-- a crash leaves the names of a store that is open
+pub leaves_kept : {S : Type 0} (g : Ghosts S) (s : S) (names : Store)
+    → ((db : Trees) → IsOpen g s → g.recovers s db → db ≡ (g.view s).committed)
+    → IsKept g s names → IsHonest g s → IsOpen g s → Leaves g s (λ left. left ≡ names)
+leaves_kept g s names settled kept clean is_open db found =
+    (names, ap (λ (t : Trees). t 0) (settled db is_open found) ∙ kept.committed clean is_open, refl)
+
+-- ---- names
+
+-- a change of a name that was taken out is a change of the name
+pub changed-remove : (names : Store) (name : List ℕ) (o : Option Phc) → changed (remove names name) name o ≡ changed names name o
+changed-remove names name None = remove-none (remove names name) name (get-gone-same names name)
+changed-remove names name (Some v) = insert-remove names name v
+
+-- a change that wrote what the names in memory had is that of the text set there
+pub has_set : {S : Type 0} (g : Ghosts S) (old new : S) (before after : Store) (name : List ℕ) (v : Phc) (o : Option Phc)
+    (long : Type 0) (result : Result (Unit {0}) StoreError) → o ≡ get after name → after ≡ insert before name v
+    → Changes g old new before (changed before name o) long result → Changes g old new before (insert before name v) long result
+has_set g old new before after name v o long result has is =
+    subst (λ s. Changes g old new before s long result) (ap (changed before name) (known before after name v o has is))
+
+-- ---- causes
+
+pub more_later : (old mid new : ℕ) → MoreFaults old mid → mid ≤ new → MoreFaults old new
+more_later old mid new more le = omega (arith, more, le)
+
+pub more_earlier : (old mid new : ℕ) → old ≤ mid → MoreFaults mid new → MoreFaults old new
+more_earlier old mid new le more = omega (arith, le, more)
+
+-- a cause that holds of less holds of more
+pub cause_map : (old new : View) (P Q R U : Type 0) → (IsTrue old.is_broken → IsTrue new.is_broken) → (P → Q) → (R → U)
+    → (e : StoreError) → HasCause old P R e → HasCause new Q U e
+cause_map old new P Q R U b f h OutOfMemory cause = tt
+cause_map old new P Q R U b f h Io cause = f cause
+cause_map old new P Q R U b f h Corrupt cause = f cause
+cause_map old new P Q R U b f h Full cause = f cause
+cause_map old new P Q R U b f h Broken cause = b cause
+cause_map old new P Q R U b f h Unstorable cause = h cause
+
+-- the cause of an error of a change, of those of its steps
+pub cause_after : (old mid : View) (f m n : ℕ) (P : Type 0) (done result : Result (Unit {0}) StoreError) → f ≤ m → m ≤ n
+    → OnOk done (mid.is_broken ≡ old.is_broken) → IfErr done (HasCause old (MoreFaults f m) P)
+    → MatchResult done (λ _. IfErr result (HasCause mid (MoreFaults m n) ⊥)) (λ e. result ≡ Err e)
+    → IfErr result (HasCause old (MoreFaults f n) P)
+cause_after old mid f m n P (Ok x) result first later same cause more = if_err result more
+    (cause_map mid old (MoreFaults m n) (MoreFaults f n) ⊥ P (subst IsTrue same) (more_earlier f m n first) (λ h. absurd h))
+cause_after old mid f m n P (Err e) result first later same cause is = rw is
+    (cause_map old old (MoreFaults f m) (MoreFaults f n) P P (λ b. b) (λ more. more_later f m n more later) (λ h. h) e cause)
+
+-- ---- rows
+
+no_int : (e : List ℕ × Phc) (c : ℕ) → is_int (column (row_of e) c) ≡ false
+no_int e zero = refl
+no_int e (suc zero) = refl
+no_int e (suc (suc c)) = refl
+
+numbers : (e : List ℕ × Phc) → All (λ v. NotNan (number v)) (row_of e)
+unfolding Ieee.is_nan
+numbers e zero d h = tt
+numbers e (suc zero) d h = tt
+numbers e (suc (suc c)) d h = absurd (omega (arith, h))
+
+-- a row that may not be stored is long
+pub is_long : (reals : ℕ) (row : Row) (name : List ℕ) (v : Phc) → row ≡ row_of (name, v) → length (phc_text v) ≤ 326
+    → ¬ (IsStorable reals row) → IsLong name
+is_long reals row name v is short not = go (nat_lt (10 ^ 9) (362 + length name)) refl
+  where
+    go : (b : Bool) → nat_lt (10 ^ 9) (362 + length name) ≡ b → IsLong name
+    go true e = grind (arith, nat_tests)
+    go false e =
+        let few : 362 + length name ≤ 10 ^ 9 = grind (arith, nat_tests) in
+        absurd (not (rw is (record {
+          typed = λ c h. no_int (name, v) c;
+          columns = (omega arith, omega arith);
+          numbers = numbers (name, v);
+          short = omega (arith, few, short);
+        })))

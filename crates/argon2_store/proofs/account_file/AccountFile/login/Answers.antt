@@ -1,0 +1,57 @@
+use Rattle.std.proofs.Common.{ap, refl, sym, subst, ◌∙◌, ◌≡◌, ℕ, List, true, Some, Ok}
+use Rattle.rand_core.specs.Stream.{fill_bytes}
+use Rattle.argon2_base.specs.PhcFields.{phc_of}
+use Rattle.argon2_base.specs.PhcText.{Phc}
+use Rattle.argon2.specs.Accounts.{Leaves, LogsIn}
+use Rattle.argon2.specs.Made.{Target}
+use Rattle.argon2.specs.contracts.login.answers.Accepted.{the_type}
+use Rattle.argon2.specs.declared.accounts.error.AccountError.TheVariants.{NameUnknown}
+use Rattle.argon2.specs.declared.login.answers.Accepted.{Accepted}
+use Rattle.argon2.specs.declared.login.answers.Accepted.TheVariants.{Current, Kept, Rehashed}
+use denote.Enum.Bare.{sameb}
+use mathlib.Core.Bool.{not}
+use Rattle.argon2_store.specs.AccountFile.{names_of, terms_of}
+use Rattle.argon2_store.proofs.FileLemmas.{accepts, has_written, refuses, writes}
+use Rattle.argon2_store.proofs.account_file.AccountFile.login.Goals as goal
+
+-- a login that makes no fresh text leaves the text
+still : (target : Target) (password drawn : List ℕ) (v w : Phc) (did : Accepted) → not (sameb the_type did Rehashed) ≡ true
+    → Leaves target password drawn v did w → w ≡ v
+still target password drawn v w Current other left = left.1
+still target password drawn v w Rehashed other left = absurd cc
+still target password drawn v w Kept other left = left.1
+
+pub returns-in_default-clause-call : goal.returns-in_default-clause-call
+returns-in_default-clause-call g c =
+    refuses g.met.S.Store.settled _ c.args.name.now (λ answer. refl) _ c.is_closed.ensures c.if-is_closed.false
+    _ (sym c.in_default.ensures) NameUnknown _ c.into.ensures (refl, refl)
+
+pub returns-in_err-accepted-clause-call : goal.returns-in_err-accepted-clause-call
+returns-in_err-accepted-clause-call g c =
+    refuses g.met.S.Store.settled _ c.args.name.now (λ answer. refl) _ c.is_closed.ensures c.if-is_closed.false
+    _ (sym c.in-Some.ensures ∙ ap Some (sym c.copy_of-text.ensures))
+    c.in_err-accepted.field-0.0 _ c.from_residual.ensures.1 (c.in_err-accepted.ensures.step.0, refl)
+
+pub returns-then-ne-clause-call : goal.returns-then-ne-clause-call
+returns-then-ne-clause-call g c =
+    let terms = terms_of c.args.self.now in
+    let drawn = (fill_bytes 16 (g.R.Rng.stream c.args.rng.now)).0 in
+    let did = c.in_ok-accepted.accepted in
+    let step = c.in_ok-accepted.ensures.step in
+    accepts g.met.S.Store.settled _ c.args.name.now (λ answer. refl) _ c.is_closed.ensures c.if-is_closed.false
+    _ (sym c.in-Some.ensures ∙ ap Some (sym c.copy_of-text.ensures)) did
+    (subst (λ (w : Phc). LogsIn terms c.args.password.now drawn (phc_of c.copy_of-text.result) (Ok did) w)
+    (still terms.target c.args.password.now drawn _ _ did (sym c.ne.ensures ∙ c.if-ne.true) step.1) step)
+
+pub returns-clause-call : goal.returns-clause-call
+returns-clause-call g c =
+    writes g.met.S.Store.settled _ c.args.name.now (λ answer. refl) _ c.is_closed.ensures c.if-is_closed.false
+    _ (sym c.in-Some.ensures ∙ ap Some (sym c.copy_of-text.ensures))
+    _ (Some (phc_of c.log_in.new.text)) c.in_ok-accepted.accepted refl c.in_ok-accepted.ensures.step
+    _ c.replace.ensures.file c.replace.ensures.names _ c.written.ensures
+
+pub returns-clause-accepted : goal.returns-clause-accepted
+returns-clause-accepted g c =
+    has_written (terms_of c.args.self.now) (names_of c.args.self.now) _ c.args.name.now c.args.password.now
+    (phc_of c.log_in.new.text) c.in_ok-accepted.accepted _ c.replace.ensures.names c.in_ok-accepted.ensures.accepted
+    _ c.written.ensures

@@ -1,0 +1,7 @@
+pub mod AccountFile
+pub mod Errors
+pub mod Names
+pub mod Opening
+pub mod Rows
+pub mod Shown
+pub mod Table

@@ -1,0 +1,358 @@
+//! Accounts in a file.
+
+ghost use Rattle.std.specs.Prelude.{◌≡◌, ◌↔◌, Ok, Err, IsTrue, IfOk, OnOk, MatchResult, length};
+ghost use Rattle.std.specs.FinMap.{entries, get};
+ghost use Rattle.std.specs.Option.{option_copied, option_map};
+ghost use Rattle.rand_core.specs.Stream.{fill_bytes};
+ghost use Rattle.argon2_base.specs.PhcFields.{phc_of};
+ghost use Rattle.argon2.specs.Accounts.{DrawsOnce, HasPassword, adding, changing, logging_in, registering, removing, setting};
+ghost use Rattle.argon2.specs.Login.{named_values};
+ghost use Rattle.argon2.specs.Made.{target_of};
+ghost use Rattle.argon2_store.specs.Errors.{answered};
+
+use crate::error::{FileError, OpenError};
+use crate::opening::open_path;
+use crate::table::Table;
+use argon2::accounts::{AccountError, Policy};
+use argon2::bound::Bound;
+use argon2::login::Accepted;
+use argon2::{Argon2, PasswordHash};
+use rand_core::Rng;
+use sqlite_disk::Disk;
+use sqlite_std_file::{FileFrom, Start, Wary};
+use sqlite_store::FileStore;
+use sqlite_trees::error::StoreError;
+use sqlite_trees::store::Store;
+use std::collections::btree_map::Iter;
+
+/// Names with passwords, each stored as a PHC text, in memory and in a file. Its calls are those of
+/// [`Accounts`](argon2::accounts::Accounts), and each that changes a text has the file hold the change,
+/// past any crash, before it returns `Ok`.
+///
+/// A name is any text. Where a call returns an error, the accounts are as before it, in memory and in
+/// the file. One exception: where the disk fails during a commit, the file may hold the change or not. Then
+/// [`FileError::Closed`] refuses every later call that may write, until the file is opened again.
+#[derive(Drop)]
+pub struct AccountFile<'key, S: Store> {
+    policy: Policy<'key>,
+    table: Table<S>,
+}
+
+/// Accounts in the file at a path, of which nothing is supposed but that its disk keeps what it has synced.
+pub type AccountsAt<'key> = AccountFile<'key, FileStore<FileFrom<Wary>>>;
+
+// The same value again.
+fn copy_of(text: &PasswordHash) -> PasswordHash
+    ensures { phc_of result ≡ phc_of text.now }
+{
+    match PasswordHash::new(text.text().as_str()) {
+        Ok(copy) => copy,
+        Err(_) => unreachable!(),
+    }
+}
+
+// What a call answers that wrote to an open file.
+fn written<X: Copy>(done: Result<(), StoreError>, answer: X) -> Result<X, FileError>
+    ensures { result ≡ answered done answer }
+{
+    match done {
+        Ok(()) => Ok(answer),
+        // The disk lied: an honest one does not break an open store without an error of its own.
+        Err(StoreError::Broken) => Err(FileError::Damaged),
+        Err(error) => Err(error.into()),
+    }
+}
+
+impl<'key, S: Store> AccountFile<'key, S> {
+    ghost use Rattle.argon2_store.specs.AccountFile.{IsClosed, Serves, names_of, store_of, stream_after_login, stream_after_making, terms_of};
+    ghost use Rattle.argon2_store.specs.Table.{IsHonest};
+
+    /// Gives a new name a text, which may ask for more than the bound.
+    ///
+    /// # Errors
+    /// The first of these that holds:
+    /// - [`FileError::Closed`]: the file has to be opened again.
+    /// - [`FileError::Account`] with [`Error::EncodingInvalid`](argon2::password_hash::Error::EncodingInvalid):
+    ///   the text is outside the grammar of PHC texts.
+    /// - [`FileError::Account`] with [`AccountError::NameTaken`]: the name has a text.
+    /// - [`FileError::OutOfMemory`], [`FileError::Io`], [`FileError::Damaged`], [`FileError::Full`] or
+    ///   [`FileError::TooLong`]: the change can't be written.
+    pub fn add(&mut self, name: &str, text: &str) -> Result<(), FileError>
+        ensures { Serves (adding name.now text.now) result self.old self.new }
+    {
+        if self.is_closed() {
+            return Err(FileError::Closed);
+        }
+        let parsed = PasswordHash::new(text)?;
+        if self.table.get(name).is_some() {
+            return Err(AccountError::NameTaken.into());
+        }
+        written(self.table.insert(name, parsed), ())
+    }
+
+    /// Gives a new name a text of a password, as [`Policy::hash_password`] makes it. 16 bytes are
+    /// drawn from `rng`, unless the file is closed or the name is taken.
+    ///
+    /// # Errors
+    /// The first of these that holds:
+    /// - [`FileError::Closed`]: the file has to be opened again.
+    /// - [`FileError::Account`] with [`AccountError::NameTaken`]: the name has a text.
+    /// - [`FileError::Account`] with those of [`Policy::hash_password`].
+    /// - those of writing, as [`add`](AccountFile::add).
+    pub fn register<R: Rng>(
+        &mut self,
+        rng: &mut R,
+        name: &str,
+        password: &[u8],
+    ) -> Result<(), FileError>
+        ensures call { Serves (registering name.now password.now (fill_bytes 16 (R.stream rng.old)).0)
+            result self.old self.new }
+        ensures accepted { OnOk result
+            (HasPassword (terms_of self.new) (names_of self.new) name.now password.now) }
+        ensures drawn { R.stream rng.new ≡ stream_after_making result (R.stream rng.old) }
+    {
+        if self.is_closed() {
+            return Err(FileError::Closed);
+        }
+        if self.table.get(name).is_some() {
+            return Err(AccountError::NameTaken.into());
+        }
+        let text = self.policy.hash_password(rng, password)?;
+        written(self.table.insert(name, text), ())
+    }
+
+    /// Verifies a password against the text of a name, and renews the text, as [`Policy::log_in`]. It
+    /// returns [`Accepted::Rehashed`] once the file holds the fresh text.
+    ///
+    /// # Errors
+    /// The first of these that holds:
+    /// - [`FileError::Closed`]: the file has to be opened again.
+    /// - [`FileError::Account`] with [`AccountError::NameUnknown`]: the name has no text.
+    /// - [`FileError::Account`] with those of [`Policy::log_in`].
+    /// - those of writing, as [`add`](AccountFile::add): the password is right, and the fresh text
+    ///   can't be written.
+    pub fn login<R: Rng>(
+        &mut self,
+        rng: &mut R,
+        name: &str,
+        password: &[u8],
+    ) -> Result<Accepted, FileError>
+        ensures call { Serves (logging_in name.now password.now (fill_bytes 16 (R.stream rng.old)).0)
+            result self.old self.new }
+        ensures accepted { OnOk result
+            (HasPassword (terms_of self.new) (names_of self.new) name.now password.now) }
+        ensures drawn { R.stream rng.new ≡ stream_after_login result (R.stream rng.old) }
+    {
+        if self.is_closed() {
+            return Err(FileError::Closed);
+        }
+        let Some(stored) = self.table.get(name) else {
+            return Err(AccountError::NameUnknown.into());
+        };
+        let mut text = copy_of(stored);
+        let accepted = self.policy.log_in(rng, &mut text, password)?;
+        if accepted != Accepted::Rehashed {
+            return Ok(accepted);
+        }
+        written(self.table.replace(name, text), accepted)
+    }
+
+    /// Gives a name a text of a new password where its text accepts the old one, as
+    /// [`Policy::change_password`].
+    ///
+    /// # Errors
+    /// The first of these that holds:
+    /// - [`FileError::Closed`]: the file has to be opened again.
+    /// - [`FileError::Account`] with [`AccountError::NameUnknown`]: the name has no text.
+    /// - [`FileError::Account`] with those of [`Policy::change_password`].
+    /// - those of writing, as [`add`](AccountFile::add).
+    pub fn change_password<R: Rng>(
+        &mut self,
+        rng: &mut R,
+        name: &str,
+        old: &[u8],
+        new: &[u8],
+    ) -> Result<(), FileError>
+        ensures call { Serves (changing name.now old.now new.now (fill_bytes 16 (R.stream rng.old)).0)
+            result self.old self.new }
+        ensures accepted { OnOk result
+            (HasPassword (terms_of self.new) (names_of self.new) name.now new.now) }
+        ensures drawn { DrawsOnce (HasPassword (terms_of self.old) (names_of self.old) name.now old.now)
+            result (R.stream rng.old) (R.stream rng.new) }
+    {
+        if self.is_closed() {
+            return Err(FileError::Closed);
+        }
+        let Some(stored) = self.table.get(name) else {
+            return Err(AccountError::NameUnknown.into());
+        };
+        let mut text = copy_of(stored);
+        self.policy.change_password(rng, &mut text, old, new)?;
+        written(self.table.replace(name, text), ())
+    }
+
+    /// Gives a name a text of a new password, whatever text it had, as [`Policy::hash_password`]
+    /// makes it. 16 bytes are drawn from `rng`, unless the file is closed or the name is unknown.
+    ///
+    /// # Errors
+    /// The first of these that holds:
+    /// - [`FileError::Closed`]: the file has to be opened again.
+    /// - [`FileError::Account`] with [`AccountError::NameUnknown`]: the name has no text.
+    /// - [`FileError::Account`] with those of [`Policy::hash_password`].
+    /// - those of writing, as [`add`](AccountFile::add).
+    pub fn set_password<R: Rng>(
+        &mut self,
+        rng: &mut R,
+        name: &str,
+        new: &[u8],
+    ) -> Result<(), FileError>
+        ensures call { Serves (setting name.now new.now (fill_bytes 16 (R.stream rng.old)).0)
+            result self.old self.new }
+        ensures accepted { OnOk result
+            (HasPassword (terms_of self.new) (names_of self.new) name.now new.now) }
+        ensures drawn { R.stream rng.new ≡ stream_after_making result (R.stream rng.old) }
+    {
+        if self.is_closed() {
+            return Err(FileError::Closed);
+        }
+        if self.table.get(name).is_none() {
+            return Err(AccountError::NameUnknown.into());
+        }
+        let text = self.policy.hash_password(rng, new)?;
+        written(self.table.replace(name, text), ())
+    }
+
+    /// Removes a name and its text.
+    ///
+    /// # Errors
+    /// The first of these that holds:
+    /// - [`FileError::Closed`]: the file has to be opened again.
+    /// - [`FileError::Account`] with [`AccountError::NameUnknown`]: the name has no text.
+    /// - those of writing, as [`add`](AccountFile::add).
+    pub fn remove(&mut self, name: &str) -> Result<(), FileError>
+        ensures { Serves (removing name.now) result self.old self.new }
+    {
+        if self.is_closed() {
+            return Err(FileError::Closed);
+        }
+        if self.table.get(name).is_none() {
+            return Err(AccountError::NameUnknown.into());
+        }
+        written(self.table.remove(name), ())
+    }
+
+    /// Whether the file has to be opened again, since the disk failed during a commit.
+    pub fn is_closed(&self) -> bool
+        ensures { IsHonest S.Store (store_of self.now) → IsTrue result ↔ IsClosed self.now }
+    {
+        self.table.is_closed()
+    }
+
+    /// The text of a name, where it has one.
+    pub fn text_of(&self, name: &str) -> Option<&PasswordHash>
+        ensures { option_map phc_of (option_copied result) ≡ get (names_of self.now) name.now }
+    {
+        self.table.get(name)
+    }
+
+    /// The names and their texts, in the order of the names' bytes.
+    pub fn texts(&self) -> Iter<'_, String, PasswordHash>
+        ensures { named_values result ≡ entries (names_of self.now) }
+    {
+        self.table.iter()
+    }
+
+    /// How many names there are.
+    pub fn len(&self) -> usize
+        ensures { result ≡ length (entries (names_of self.now)) }
+    {
+        self.table.len()
+    }
+
+    /// Whether there are no names.
+    pub fn is_empty(&self) -> bool
+        ensures { IsTrue result ↔ (length (entries (names_of self.now)) ≡ 0) }
+    {
+        self.len() == 0
+    }
+}
+
+impl<'key, T: Start> AccountFile<'key, FileStore<FileFrom<T>>> {
+    ghost use Rattle.sqlite_wal.specs.Files.{image_at};
+    ghost use Rattle.argon2_store.specs.AccountFile.{HasFound, Opens};
+
+    /// As [`open`](AccountFile::open), where `start` stands for what the files at the path hold. One
+    /// value of each type opens one file.
+    ///
+    /// # Errors
+    /// Those of [`open`](AccountFile::open).
+    pub fn open_from(
+        rt: &HostRuntime,
+        path: &str,
+        start: T,
+        target: Argon2<'key>,
+        bound: Bound,
+    ) -> Result<AccountFile<'key, FileStore<FileFrom<T>>>, OpenError>
+        ensures ready { Opens (record { target = target_of target.entry; bound = bound }) result }
+        ensures found { IfOk result (HasFound (image_at T.Start)) }
+    {
+        let policy = match Policy::new(rt.alloc(), target, bound) {
+            Ok(policy) => policy,
+            Err(error) => return Err(OpenError::Terms(error)),
+        };
+        let store = open_path(rt, path, start)?;
+        Ok(AccountFile {
+            policy,
+            table: Table::open(rt.alloc(), store)?,
+        })
+    }
+}
+
+impl<'key> AccountsAt<'key> {
+    ghost use Rattle.argon2_store.specs.AccountFile.{Opens};
+
+    /// Opens the accounts in the SQLite file at a path, or makes the file. Its log lies beside it, under
+    /// the same name with `-wal` at its end. `target` and `bound` are those of
+    /// [`Accounts::new`](argon2::accounts::Accounts::new).
+    ///
+    /// The file stays open, and locked against other processes, until the value is dropped.
+    /// An open that fails leaves the accounts in the file as they were.
+    ///
+    /// # Errors
+    /// - [`OpenError::Terms`]: the target or the bound is refused, as by [`Policy::new`].
+    /// - [`OpenError::Path`]: the system refuses to open or to make the file.
+    /// - [`OpenError::Busy`]: another process has it open.
+    /// - [`OpenError::HotJournal`]: SQLite was stopped in the middle of a change.
+    /// - [`OpenError::NotAccounts`], [`OpenError::Row`]: it holds something else than accounts.
+    /// - [`OpenError::Io`], [`OpenError::Full`], [`OpenError::OutOfMemory`].
+    pub fn open(
+        rt: &HostRuntime,
+        path: &str,
+        target: Argon2<'key>,
+        bound: Bound,
+    ) -> Result<AccountsAt<'key>, OpenError>
+        ensures { Opens (record { target = target_of target.entry; bound = bound }) result }
+    {
+        AccountFile::open_from(rt, path, Wary, target, bound)
+    }
+}
+
+impl<'key, D: Disk> AccountFile<'key, FileStore<D>> {
+    ghost use Rattle.sqlite_store.specs.FileStore.{HasSpilled, log_frames};
+    ghost use Rattle.argon2_store.specs.AccountFile.{Copies, store_of};
+
+    /// Copies the log into the file, so that the file alone has all accounts, and empties the log. To drop
+    /// the value without it loses nothing: the next open reads the log.
+    ///
+    /// # Errors
+    /// - [`FileError::Closed`]: the file has to be opened again.
+    /// - [`FileError::OutOfMemory`], [`FileError::Io`], [`FileError::Damaged`], [`FileError::Full`]: the
+    ///   copy fails. The file and its log still hold all accounts.
+    pub fn checkpoint(&mut self) -> Result<(), FileError>
+        ensures call { Copies result self.old self.new }
+        ensures copied { OnOk result
+            (¬ HasSpilled (store_of self.old) → log_frames (store_of self.new) ≡ 0) }
+    {
+        Ok(self.table.checkpoint()?)
+    }
+}

@@ -1,0 +1,187 @@
+//! Why calls on an account file are refused.
+
+ghost use Rattle.std.specs.Prelude.{◌≡◌, Some};
+ghost use Rattle.argon2_store.specs.Errors.{file_error_text, named};
+
+use argon2::accounts::AccountError;
+use argon2::password_hash::Error;
+use sqlite_std_file::OpenError as PathError;
+use sqlite_store::OpenError as UnopenedError;
+use sqlite_trees::error::StoreError;
+use sqlite_wal::Error as LogError;
+use std::alloc::AllocError;
+use std::{fmt, io};
+
+/// Why a call on an account file is refused. The accounts are then as before, in the file too.
+#[derive(Clone, Copy, Debug, PartialEq, Eq)]
+pub enum FileError {
+    /// The accounts refuse the call; nothing was written.
+    Account(AccountError),
+    /// A request for memory was refused.
+    OutOfMemory,
+    /// The disk failed.
+    Io,
+    /// The file is damaged: it has something else than what was written.
+    Damaged,
+    /// The disk or the file has no room.
+    Full,
+    /// The name is too long: its row would have more than a billion bytes.
+    TooLong,
+    /// An earlier failure left the file in doubt. It has to be opened again.
+    Closed,
+}
+
+impl fmt::Display for FileError {
+    ghost output = { λ e. Some (file_error_text e) };
+
+    fn fmt<W: fmt::Write>(&self, f: &mut fmt::Formatter<W>) -> fmt::Result {
+        match self {
+            FileError::Account(error) => write!(f, "{error}"),
+            FileError::OutOfMemory => f.write_str("out of memory"),
+            FileError::Io => f.write_str("the disk failed"),
+            FileError::Damaged => f.write_str("the file is damaged"),
+            FileError::Full => f.write_str("the disk or the file is full"),
+            FileError::TooLong => f.write_str("name is too long"),
+            FileError::Closed => f.write_str("the file has to be opened again"),
+        }
+    }
+}
+
+impl std::error::Error for FileError {}
+
+impl From<AccountError> for FileError {
+    ghost use Rattle.argon2_store.specs.declared.error.FileError.TheVariants.{Account};
+
+    ghost from_gives = { λ e error. error ≡ Account e };
+
+    fn from(error: AccountError) -> FileError {
+        FileError::Account(error)
+    }
+}
+
+impl From<Error> for FileError {
+    ghost use Rattle.argon2.specs.declared.accounts.error.AccountError.TheVariants.{Refused};
+    ghost use Rattle.argon2_store.specs.declared.error.FileError.TheVariants.{Account};
+
+    ghost from_gives = { λ e error. error ≡ Account (Refused e) };
+
+    fn from(error: Error) -> FileError {
+        FileError::Account(AccountError::Refused(error))
+    }
+}
+
+impl From<StoreError> for FileError {
+    ghost from_gives = { λ e error. error ≡ named e };
+
+    fn from(error: StoreError) -> FileError {
+        match error {
+            StoreError::OutOfMemory => FileError::OutOfMemory,
+            StoreError::Io => FileError::Io,
+            StoreError::Corrupt => FileError::Damaged,
+            StoreError::Full => FileError::Full,
+            StoreError::Broken => FileError::Closed,
+            StoreError::Unstorable => FileError::TooLong,
+        }
+    }
+}
+
+/// Why a file is not opened. It is then as it was.
+#[derive(Clone, Copy, Debug)]
+pub enum OpenError {
+    /// There is no policy of the target and the bound. The file was not looked at.
+    Terms(AccountError),
+    /// The system refuses to open or to make the file.
+    Path(io::Error),
+    /// Another process has the file open.
+    Busy,
+    /// SQLite was stopped in the middle of a change, and has to open the file first.
+    HotJournal,
+    /// A request for memory was refused.
+    OutOfMemory,
+    /// The disk failed.
+    Io,
+    /// The disk or the file has no room.
+    Full,
+    /// The file is no SQLite database, is damaged, or has other tables than that of the accounts.
+    NotAccounts,
+    /// A row is no name with a PHC text.
+    Row,
+}
+
+impl fmt::Display for OpenError {
+    fn fmt<W: fmt::Write>(&self, f: &mut fmt::Formatter<W>) -> fmt::Result {
+        match self {
+            OpenError::Terms(error) => write!(f, "{error}"),
+            OpenError::Path(error) => write!(f, "{error}"),
+            OpenError::Busy => f.write_str("the file is in use"),
+            OpenError::HotJournal => f.write_str(
+                "the file has a journal to play back: open it with sqlite3 first",
+            ),
+            OpenError::OutOfMemory => f.write_str("out of memory"),
+            OpenError::Io => f.write_str("the disk failed"),
+            OpenError::Full => f.write_str("the disk or the file is full"),
+            OpenError::NotAccounts => f.write_str("the file does not hold accounts"),
+            OpenError::Row => f.write_str("a row is no name with a PHC text"),
+        }
+    }
+}
+
+impl std::error::Error for OpenError {}
+
+impl From<AllocError> for OpenError {
+    fn from(_: AllocError) -> OpenError {
+        OpenError::OutOfMemory
+    }
+}
+
+impl From<io::Error> for OpenError {
+    fn from(error: io::Error) -> OpenError {
+        OpenError::Path(error)
+    }
+}
+
+impl From<StoreError> for OpenError {
+    fn from(error: StoreError) -> OpenError {
+        match error {
+            StoreError::OutOfMemory => OpenError::OutOfMemory,
+            StoreError::Io => OpenError::Io,
+            StoreError::Full => OpenError::Full,
+            StoreError::Corrupt | StoreError::Broken | StoreError::Unstorable =>
+                OpenError::NotAccounts,
+        }
+    }
+}
+
+impl From<PathError> for OpenError {
+    fn from(error: PathError) -> OpenError {
+        match error {
+            PathError::Io(error) => OpenError::Path(error),
+            PathError::OutOfMemory => OpenError::OutOfMemory,
+            PathError::Busy => OpenError::Busy,
+            PathError::HotJournal => OpenError::HotJournal,
+        }
+    }
+}
+
+impl From<LogError> for OpenError {
+    fn from(error: LogError) -> OpenError {
+        match error {
+            LogError::OutOfMemory => OpenError::OutOfMemory,
+            LogError::Io(_) => OpenError::Io,
+            LogError::Full => OpenError::Full,
+            LogError::Corrupt | LogError::Closed | LogError::NoSuchPage | LogError::Exists =>
+                OpenError::NotAccounts,
+        }
+    }
+}
+
+impl From<UnopenedError> for OpenError {
+    fn from(error: UnopenedError) -> OpenError {
+        match error {
+            UnopenedError::OutOfMemory => OpenError::OutOfMemory,
+            UnopenedError::Io => OpenError::Io,
+            UnopenedError::Full => OpenError::Full,
+            UnopenedError::Refused => OpenError::NotAccounts,
+        }
+    }
+}

@@ -1,0 +1,29 @@
+//! Accounts in a file: names with PHC texts, in a SQLite database that survives a crash at any moment.
+//!
+//! ```text
+//! let mut accounts = AccountFile::open(rt, "accounts.db", Argon2::default(), bound)?;
+//! accounts.register(&mut rng, "ann", password)?;
+//! accounts.login(&mut rng, "ann", password)?;
+//! ```
+//!
+//! Once a call has returned `Ok`, the file holds its change, whatever happens to the process or to the
+//! machine. After a crash in the middle of a call the file holds the accounts from before it, or with its
+//! change. All names and texts are kept in memory too, so that only a change touches the disk: each is a
+//! transaction, which is synced to the disk before the call returns.
+//!
+//! A name is any text, empty or not. Two names are the same where their bytes are.
+//!
+//! The file is that of SQLite, with a log beside it whose name ends in `-wal` and one table:
+//! `CREATE TABLE account (name TEXT NOT NULL PRIMARY KEY, phc TEXT NOT NULL) WITHOUT ROWID`. While it is
+//! open, no other process can read or write it: a second one gets [`OpenError::Busy`], and `sqlite3` says
+//! that the database is locked. While it is not, `sqlite3` may read and change it.
+#![tactic(auto)]
+
+mod account_file;
+mod error;
+mod names;
+mod opening;
+mod table;
+
+pub use account_file::{AccountFile, AccountsAt};
+pub use error::{FileError, OpenError};
