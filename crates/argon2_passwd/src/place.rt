@@ -1,0 +1,79 @@
+//! Where the program finds the secret and random bytes.
+
+use crate::failure::Failure;
+use std::alloc::AllocError;
+use std::fs;
+use std::io::{ErrorKind, Read};
+use std::random::RandomSource;
+
+// The most bytes that a secret may have.
+const LONGEST_SECRET: usize = 4096;
+
+/// Where the program finds the secret and random bytes.
+pub trait Place {
+    ghost use Rattle.std.specs.Prelude.{◌≡◌, ℕ, List, IfErr, IfOk};
+    ghost use Rattle.argon2_passwd.specs.Failures.{status_of};
+
+    // The file at a path has these bytes.
+    ghost holds: { List ℕ → List ℕ → Type 0 };
+
+    /// The secret in the file at a path.
+    ///
+    /// # Errors
+    /// The file can't be read, or has not 1 to 4096 bytes.
+    fn secret(&mut self, path: &str) -> Result<Vec<u8>, Failure>
+        ensures held { IfOk result (λ secret. holds path.now secret.items) }
+        ensures failed { IfErr result (λ failure. status_of failure ≡ 3) };
+
+    /// Random bytes to start a generator with.
+    ///
+    /// # Errors
+    /// The system gives none.
+    fn seed(&mut self) -> Result<[u8; 32], Failure>
+        ensures { IfErr result (λ failure. status_of failure ≡ 3) };
+}
+
+/// The machine that the program runs on.
+#[derive(Drop)]
+pub struct Machine<'a> {
+    rt: &'a HostRuntime,
+}
+
+impl<'a> Machine<'a> {
+    /// The machine of this runtime.
+    pub fn new(rt: &'a HostRuntime) -> Machine<'a> {
+        Machine { rt }
+    }
+}
+
+impl Place for Machine<'_> {
+    ghost use Rattle.std.specs.Prelude.{◌≤◌, length};
+
+    // Of a secret only the length is known.
+    ghost holds = { λ path secret. (1 ≤ length secret) × (length secret ≤ 4096) };
+
+    fn secret(&mut self, path: &str) -> Result<Vec<u8>, Failure> {
+        let mut secret = Vec::new(self.rt.alloc());
+        let file = fs::open(self.rt, path).or(Err(Failure::Secret))?;
+        match file
+            .take(LONGEST_SECRET as u64 + 1)
+            .read_to_end(&mut secret)
+        {
+            Ok(_) => {}
+            Err(e) if e.kind() == ErrorKind::OutOfMemory => return Err(Failure::from(AllocError)),
+            Err(_) => return Err(Failure::Secret),
+        }
+        if secret.is_empty() || secret.len() > LONGEST_SECRET {
+            return Err(Failure::SecretLength);
+        }
+        Ok(secret)
+    }
+
+    fn seed(&mut self) -> Result<[u8; 32], Failure> {
+        let mut seed = [0; 32];
+        match self.rt.fill_bytes(&mut seed) {
+            Ok(()) => Ok(seed),
+            Err(_) => Err(Failure::Random),
+        }
+    }
+}
