@@ -57,7 +57,7 @@ fn written<X: Copy>(done: Result<(), StoreError>, answer: X) -> Result<X, FileEr
 {
     match done {
         Ok(()) => Ok(answer),
-        // The disk lied: an honest one does not break an open store without an error of its own.
+        // Only a wrong answer of the disk breaks a store that was open.
         Err(StoreError::Broken) => Err(FileError::Damaged),
         Err(error) => Err(error.into()),
     }
