@@ -102,8 +102,8 @@ static void damage(char *text) {
     }
 }
 
-/* Whether the reference would be asked for more than 100 MiB or hash under a version that there is not. */
-static int is_dear(const char *text) {
+/* Whether a text asks for more than 100000 blocks or 100 passes. */
+static int is_costly(const char *text) {
     const char *m = strstr(text, "m="), *t = strstr(text, "t=");
     return (m && strtoul(m + 2, NULL, 10) > 100000) || (t && strtoul(t + 2, NULL, 10) > 100);
 }
@@ -130,7 +130,7 @@ static int texts(long count) {
         strcpy(damaged, text[0]);
         if (i % 2) damage(damaged);
         else if (below(2)) pwd[3] ^= 1;
-        if (is_dear(damaged)) {
+        if (is_costly(damaged)) {
             i--;
             continue;
         }

@@ -29,7 +29,7 @@ fn answer(alloc: Global, line: &str) -> Result<String, AllocError> {
     };
     match PasswordHash::new(text) {
         Ok(hash) => match Params::try_from(&hash) {
-            Ok(params) if is_dear(&params) => {
+            Ok(params) if is_costly(&params) => {
                 format!(in alloc; "{hash} {params}; costs too much")
             }
             Ok(params) => format!(in alloc; "{hash} {params}; {}", verdict(alloc, &hash)?),
@@ -40,7 +40,7 @@ fn answer(alloc: Global, line: &str) -> Result<String, AllocError> {
 }
 
 // Whether hashing takes more than 64 blocks or 8 passes.
-fn is_dear(params: &Params) -> bool {
+fn is_costly(params: &Params) -> bool {
     params.block_count() > 64 || params.t_cost() > 8
 }
 
