@@ -57,7 +57,7 @@ pub extern "C" fn argon2_c_hash(
     }
 }
 
-/// Hashing as asked for but for associated data, where nothing is refused.
+/// Hashing as asked for, without associated data, where nothing is refused.
 pub fn hashing<'key>(
     request: &Request,
     secret: &'key [u8],

@@ -1,4 +1,8 @@
 //! Argon2 for C: what `capi/argon2.c` calls, under the codes of `argon2.h`.
+//!
+//! - [`request`]: what a caller asks for, and the first reason to refuse it.
+//! - [`hash`], [`segments`]: the tag, by one call or by calls that threads share.
+//! - [`encode`], [`verify`]: texts, written and verified.
 #![tactic(auto)]
 
 mod code;

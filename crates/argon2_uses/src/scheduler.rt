@@ -1,7 +1,7 @@
 //! Another scheduler: in each slice the lanes take turns, one column each.
 //!
 //! Hashing fills one lane of a slice after the other. The law of
-//! [`slice_interleaving`](argon2::laws::slice_interleaving) says that any other order comes to the
+//! [`slice_interleaving`](argon2::laws::slice_interleaving) says that any other order gives the
 //! same tag.
 
 ghost use Rattle.std.specs.Prelude.{◌≡◌, ◌<◌, ◌≤◌, OnOk, OnErr, length};

@@ -1,7 +1,7 @@
 //! A vault that is opened by a passphrase, under a secret that is kept apart from the vault.
 //!
-//! A passphrase and the salt of the vault's header come to 64 bytes. The first half of them is the
-//! key, which stands nowhere; the other half is the tag that the header has.
+//! A passphrase and the salt of the vault's header give 64 bytes. The first half of them is the key,
+//! which is stored nowhere; the other half is the tag in the header.
 
 ghost use Rattle.std.specs.Prelude.{◌≡◌, ◌≤◌, ◌↔◌, IsOk, IfOk, IfErr, MatchOption, length, take, drop};
 ghost use Rattle.argon2.specs.Argon2.{context_of, secret_of, settings_of};
@@ -69,7 +69,7 @@ pub fn open(
     Ok(Some(key))
 }
 
-// The key and the tag that a passphrase and a salt come to.
+// The key and the tag that a passphrase and a salt give.
 fn derived(
     argon2: &Argon2<'_>,
     alloc: Global,
