@@ -105,9 +105,6 @@ within_not_above bound v asks above =
     let is : asks.parameters ≡ above.1.0 = let a = asks.asked in let b = above.1.1 in cc in
     above.1.2 (rw (sym is) asks.within)
 
-pub unread_not_above : (bound : Bound) (v : Phc) (fault : Fault) → Err fault ≡ stored_of v → ¬ (IsAbove bound v)
-unread_not_above bound v fault is above = let can = above.0 in let it = rw (← is) at can in absurd cc
-
 -- ---- what a policy makes and accepts
 
 pub fresh_current : (terms : Terms) → AreTerms terms → (password drawn : List ℕ) (w : Phc)

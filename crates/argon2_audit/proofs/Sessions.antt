@@ -1,11 +1,10 @@
 -- What is known before the first byte, after a line, and after the last.
-use Rattle.std.proofs.Common.{arith, Option, Some, None, Result, Ok, Err, IfOk, ◌↔◌, ◌≡◌, ◌∙◌, ◌+◌, ◌<◌, ℕ, Bool, true, false, IsTrue, List, [], ◌∷◌, ◌++◌, length, ap, sym, subst, refl, inl, inr, append_assoc, append-nil, ◌||◌}
-use Rattle.std.specs.Bool.{MatchBool}
+use Rattle.std.proofs.Common.{arith, Option, Some, None, Result, Ok, Err, IfOk, ◌↔◌, ◌≡◌, ◌∙◌, ◌+◌, ℕ, Bool, true, false, IsTrue, List, [], ◌∷◌, ◌++◌, ap, sym, subst, refl, inr, append_assoc, append-nil, ◌||◌}
 use Rattle.std.specs.Prelude.{IfSome}
 use Rattle.argon2_audit.specs.Finding.{IsFinding, class_of, has_short_salt, salt_of}
 use Rattle.argon2_audit.specs.Line.{IsRead}
 use Rattle.argon2_audit.specs.Seen.{has_any, has_salt, is_salt}
-use Rattle.argon2_audit.specs.Session.{IsAnswer, IsAudit, IsBegun, IsJoined, IsPassed, IsTallied, IsTallyOf, how_many, joined, any_salt, is_repeated, repeated}
+use Rattle.argon2_audit.specs.Session.{IsAnswer, IsAudit, IsBegun, IsPassed, IsTallied, IsTallyOf, how_many, joined, any_salt, is_repeated, repeated}
 use Rattle.argon2_audit.specs.Tally.{Counts, IsClean, count_of, is_class, one_if}
 use Rattle.argon2_audit.specs.declared.arguments.Command.{Command}
 use Rattle.argon2_audit.specs.declared.arguments.Command.TheVariants.{Help, Version, Audit}
@@ -115,27 +114,6 @@ line_last kept seen options old new bytes finding marks finds counts class_is sh
 }
 
 -- ---- the end
-
-nothing_left : (is_long : Bool) (bytes line : List ℕ)
-    → MatchBool is_long ((length bytes ≡ 4096) × (4096 < length line)) (bytes ≡ line)
-    → MatchBool is_long ((length bytes ≡ 4096) × (4096 < 0)) (bytes ≡ []) → line ≡ []
-nothing_left true bytes line read none = absurd (omega arith)
-nothing_left false bytes line read none = sym read ∙ none
-
-all_ended : (bytes rest : List ℕ) (lines : List (List ℕ)) → bytes ≡ joined lines ++ rest → rest ≡ [] → IsJoined bytes lines
-all_ended bytes rest [] split none = split ∙ none
-all_ended bytes rest (line ∷ lines) split none = inl (split ∙ ap (λ r. joined (line ∷ lines) ++ r) none ∙ append-nil _)
-
-pub no_line_more : (kept : Line) (seen : Seen) (options : Options) (tally : Tally) (bytes : List ℕ) → IsRead kept []
-    → IsBegun kept seen options bytes tally → IsTallied options bytes tally
-no_line_more kept seen options tally bytes none b = record {
-  lines = b.lines;
-  findings = b.findings;
-  feeds = b.feeds;
-  split = all_ended bytes b.rest b.lines b.split (nothing_left kept.is_long kept.bytes.items b.rest b.read none);
-  found = b.found;
-  tally = b.tally;
-}
 
 pub audit_of : (options : Options) (input : Option (List ℕ)) (tally : Tally) (clean : Bool)
     → IfSome input (λ bytes. IsTallied options bytes tally) → (IsTrue clean ↔ IsClean options.policy tally)

@@ -1,11 +1,10 @@
 -- One login as a step.
-use Rattle.std.proofs.Common.{◌≡◌, ℕ, ◌≤◌, Bool, true, false, List, ◌++◌, length, Option, Some, None, Result, Ok, Err, ◌⊎◌, inl, inr, refl, ap, arith}
-use Rattle.std.proofs.lemmas.Bool.Decides.{nat_tests}
+use Rattle.std.proofs.Common.{◌≡◌, ℕ, Bool, true, false, List, Option, Some, None, Result, Ok, Err, ◌⊎◌, inl, inr, ap}
 use Rattle.std.specs.Prelude.{◌≢◌, IfOk, IsSomeAnd, MatchResult}
 use Rattle.std.specs.FinMap.{get}
 use Rattle.argon2_base.specs.Error.{Fault}
 use Rattle.argon2_base.specs.PhcFields.{phc_of}
-use Rattle.argon2_base.specs.PhcText.{Phc, IsPhc, HasBytes}
+use Rattle.argon2_base.specs.PhcText.{Phc}
 use Rattle.argon2_base.specs.declared.error.password_hash.Error.{Error}
 use Rattle.argon2_base.specs.declared.error.password_hash.Error.TheVariants.{OutOfMemory}
 use Rattle.argon2_base.specs.declared.phc.hash.PasswordHash.{PasswordHash}
@@ -16,8 +15,7 @@ use Rattle.argon2.specs.declared.login.answers.LoginError.TheVariants.{Refused}
 use Rattle.argon2.specs.Stored.{AcceptsBy}
 use Rattle.argon2.specs.ListedParameters.{checked}
 use Rattle.argon2.specs.Login.{Store, HasPassword, IsCurrent, LoginAnswer, LoginStep, logging_in}
-use Rattle.argon2.specs.Made.{Target, made, tag_length, text_faults, password_faults, IsHashAnswer}
-use Rattle.argon2.specs.Refusals.{first_of}
+use Rattle.argon2.specs.Made.{Target, made, IsHashAnswer}
 use Rattle.argon2.specs.Settings.{Settings}
 
 -- a login of a name whose text is known is a step
@@ -52,43 +50,20 @@ pub refused_text : {P : Type 0} (e : Error) → (e ≡ OutOfMemory) ⊎ (P → �
 refused_text e (inl memory) = inl (ap Refused memory)
 refused_text e (inr never) = inr never
 
--- an answer that is no refusal is Ok
-pub not_refused : (P : Type 0) (Q : Error → Type 0) (r : Result (Unit {0}) Error) → ((e : Error) → r ≡ Err e → ⊥) →
-    MatchResult r (λ _. P) Q → P
-not_refused P Q (Ok x) never h = h
-not_refused P Q (Err e) never h = absurd (never e refl)
-
 -- where a test fails, what it decides does not hold
 pub untold : {P : Type 0} (b : Bool) → b ≡ false → (P → b ≡ true) → ¬ P
 untold true fails tells holds = absurd cc
 untold false fails tells holds = let told = tells holds in absurd cc
 
-checked_ok : (f : Option Fault) (v w : Phc) → Ok v ≡ checked f (Ok w) → (v ≡ w) × (f ≡ None)
-checked_ok None v w e = (cc, refl)
+checked_ok : (f : Option Fault) (v w : Phc) → Ok v ≡ checked f (Ok w) → v ≡ w
+checked_ok None v w e = cc
 checked_ok (Some fault) v w e = absurd cc
 
 -- what a hash that was answered is
 pub hash_made : (target : Target) (password salt : List ℕ) (h : PasswordHash) →
     IsHashAnswer target password salt (Ok h) → phc_of h ≡ made target password salt
-hash_made target password salt h (inl e) = (checked_ok _ (phc_of h) (made target password salt) e).0
+hash_made target password salt h (inl e) = checked_ok _ (phc_of h) (made target password salt) e
 hash_made target password salt h (inr r) = let e = r.0 in absurd cc
-
-few_bytes : (salt hash password : ℕ) → first_of (text_faults salt hash ++ password_faults password) ≡ None
-    → password ≤ 4294967295
-few_bytes salt hash password none = grind (arith, nat_tests)
-
--- how long the password is
-pub hash_short : (target : Target) (password salt : List ℕ) (h : PasswordHash) →
-    IsHashAnswer target password salt (Ok h) → length password ≤ 4294967295
-hash_short target password salt h (inl e) =
-    few_bytes (length salt) (tag_length target.settings) (length password)
-    (checked_ok _ (phc_of h) (made target password salt) e).1
-hash_short target password salt h (inr r) = let e = r.0 in absurd cc
-
--- the salt of a made value has the length of a salt
-pub made_salt : (target : Target) (password salt : List ℕ) (v : Phc) → v ≡ made target password salt → IsPhc v →
-    HasBytes 8 48 salt
-made_salt target password salt v e is = (rw e at is).salt
 
 -- a value shows its settings once
 pub shown_once : (r : Result Settings Fault) (a b : Settings) → r ≡ Ok a → r ≡ Ok b → a ≡ b

@@ -1,5 +1,5 @@
 -- Verifying answers Ok exactly where the value accepts.
-use Rattle.std.proofs.Common.{◌≡◌, ℕ, ◌≤◌, Bool, true, false, List, length, Option, Some, None, Result, Ok, Err, inl, inr, ◌⊎◌, refl, sym, subst, nat_le}
+use Rattle.std.proofs.Common.{◌≡◌, ℕ, ◌≤◌, Bool, true, false, List, length, Option, Some, None, Result, Ok, Err, inl, inr, ◌⊎◌, refl, sym, nat_le}
 use Rattle.std.proofs.lemmas.Bool.{and_parts, le-leb, leb-true}
 use Rattle.std.proofs.lemmas.Slice.Eq.{bytes_eq-Decides}
 use Rattle.std.specs.Option.{option_map}
@@ -7,10 +7,10 @@ use Rattle.std.specs.Prelude.{if◌then◌else◌, MatchResult}
 use Rattle.argon2_base.specs.Error.{Fault, bad_algorithm, bad_password, bad_version, fault_of, no_memory}
 use Rattle.argon2_base.specs.declared.error.password_hash.Error.{Error}
 use Rattle.argon2_base.specs.declared.error.password_hash.Error.TheVariants.{Algorithm, EncodingInvalid, OutOfMemory, OutputSize, ParamInvalid, ParamsInvalid, PasswordInvalid, SaltInvalid, Version}
-use Rattle.argon2_base.specs.PhcText.{Phc, PhcText}
+use Rattle.argon2_base.specs.PhcText.{Phc}
 use Rattle.argon2.specs.declared.algorithm.Algorithm.{Algorithm as Variant}
 use Rattle.argon2.specs.declared.version.Version.{Version as Numbered}
-use Rattle.argon2.specs.Stored.{Accepts, AcceptsBy, IsVerifyAnswer, Stored, found, is_tag, read, verified, version_shown}
+use Rattle.argon2.specs.Stored.{AcceptsBy, IsVerifyAnswer, Stored, found, is_tag, read, verified, version_shown}
 use Rattle.argon2.specs.Settings.{Parameters, Settings, algorithm_named}
 use Rattle.argon2.specs.Rfc9106.{context_with, tag_of}
 use Rattle.argon2.specs.ListedParameters.{params_of}
@@ -118,14 +118,3 @@ module _ (secret password : List ℕ) (v : Phc) where
   exact (Ok _) (inr is) = let no = is.0 in absurd cc
   exact (Err e) (inl is) = inr (λ a. let yes = verified_accepts a in let no = is in absurd cc)
   exact (Err e) (inr is) = inl (memory_fault e (let same = is.0 in cc))
-
--- an answer for a value is the answer for its text
-pub exact_text : (secret password text : List ℕ) (v : Phc) (r : Result (Unit {0}) Error) → PhcText text v
-    → ((w : Phc) → PhcText text w → v ≡ w)
-    → IsVerifyAnswer secret password v r
-    → MatchResult r (λ _. Accepts secret password text) (λ e. (e ≡ OutOfMemory) ⊎ (Accepts secret password text → ⊥))
-exact_text secret password text v (Ok x) has only h = (v, has, exact secret password v (Ok x) h)
-exact_text secret password text v (Err e) has only h = elim (exact secret password v (Err e) h) [
-  | inl memory ↦ inl memory
-  | inr never ↦ inr (λ a. never (subst (AcceptsBy secret password) (sym (only a.0 a.1)) a.2))
-]

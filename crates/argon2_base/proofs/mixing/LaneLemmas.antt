@@ -62,10 +62,6 @@ two_vectors P t =
 wrapped_sum : (s x : ℕ) → (s % 2 ^ 64 + (x % 2 ^ 64 + x % 2 ^ 64) % 2 ^ 64) % 2 ^ 64 ≡ (s + 2 * x) % 2 ^ 64
 wrapped_sum s x = omega arith
 
--- the wrapped sum where the product is doubled by a factor
-wrapped_twice : (s x : ℕ) → (s % 2 ^ 64 + x * 2 % 2 ^ 64) % 2 ^ 64 ≡ (s + x * 2) % 2 ^ 64
-wrapped_twice s x = omega arith
-
 -- the steps of one word
 abbrev add_mul_steps : ℕ → ℕ → ℕ
 add_mul_steps a b =
@@ -80,16 +76,6 @@ add_mul_word a b =
     let low_b : bit_and b 0xffffffff ≡ b % 2 ^ 32 = and_mask b 32 in
     let product : 2 * (a % 2 ^ 32) * (b % 2 ^ 32) ≡ 2 * (a % 2 ^ 32 * (b % 2 ^ 32)) = omega arith in
     rw (low_a, low_b, product) (wrapped_sum (a + b) (a % 2 ^ 32 * (b % 2 ^ 32)))
-
--- the sum of products, as written for one word
-pub add_mul_plain : (a b : ℕ)
-    → ((a + b) % 2 ^ 64 + bit_and a 0xffffffff * bit_and b 0xffffffff * 2 % 2 ^ 64) % 2 ^ 64 ≡ add_mul a b
-unfolding add_mul
-add_mul_plain a b =
-    let low_a : bit_and a 0xffffffff ≡ a % 2 ^ 32 = and_mask a 32 in
-    let low_b : bit_and b 0xffffffff ≡ b % 2 ^ 32 = and_mask b 32 in
-    let product : 2 * (a % 2 ^ 32) * (b % 2 ^ 32) ≡ a % 2 ^ 32 * (b % 2 ^ 32) * 2 = omega arith in
-    rw (low_a, low_b, product) (wrapped_twice (a + b) (a % 2 ^ 32 * (b % 2 ^ 32)))
 
 -- eight words at once
 abbrev wrapped_add : List ℕ → List ℕ → List ℕ

@@ -18,10 +18,6 @@ use Rattle.argon2_base.specs.ByteList.{base64_length, IsBase64Cause}
 use Rattle.argon2_base.specs.declared.error.B64Error.{B64Error}
 use Rattle.argon2_base.specs.declared.error.B64Error.TheVariants.{InvalidEncoding, InvalidLength}
 
--- the engine's symbols are the alphabet of RFC 4648
-pub encode_table-alphabet : standard_no_pad.encode_table ≡ alphabet
-encode_table-alphabet = refl
-
 -- what the engine writes
 pub encode_of-strict : (b : List ℕ) → encode_of standard_no_pad b ≡ strict_base64 b
 unfolding strict_base64
@@ -84,13 +80,6 @@ pub short_bytes_again : (most : ℕ) (s b : List ℕ) → IsBytes b → length b
 unfolding decoded_of
 short_bytes_again most s b bytes short is =
     rw (is, decode_of-strict_base64 b bytes, le-leb (length b) most short, bytes_pass b bytes) refl
-
--- where it finds none, there are none
-pub short_bytes_none : (most : ℕ) (s : List ℕ) → short_bytes most s ≡ None
-    → (b : List ℕ) → IsBytes b → length b ≤ most → s ≡ strict_base64 b → ⊥
-short_bytes_none most s h b bytes short is =
-    let again = sym h ∙ short_bytes_again most s b bytes short is in
-    cc again
 
 none_unless : (o : Option (List ℕ)) → ((b : List ℕ) → o ≡ Some b → ⊥) → o ≡ None
 none_unless None h = refl
