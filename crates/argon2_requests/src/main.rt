@@ -65,13 +65,13 @@ fn main(rt: HostRuntime) -> io::Result<()> {
 
     let mut out = [0; 32];
     let answer = argon2.hash_password_into(rt.alloc(), &PASSWORD, &SALT, &mut out);
-    tell(&rt, "hash_password_into", answer, &out)?;
+    print_answer(&rt, "hash_password_into", answer, &out)?;
     let mut out = [0; 3];
     let answer = argon2.hash_password_into(rt.alloc(), &PASSWORD, &SALT, &mut out);
-    tell(&rt, "hash_password_into of 3 bytes", answer, &out)?;
+    print_answer(&rt, "hash_password_into of 3 bytes", answer, &out)?;
     let mut out = [0; 32];
     let answer = argon2.derive_key(rt.alloc(), &PASSWORD, &SALT, &mut out);
-    tell(&rt, "derive_key", answer, &out)?;
+    print_answer(&rt, "derive_key", answer, &out)?;
     let made = argon2.hash_password_with_salt(rt.alloc(), &PASSWORD, &SALT);
     hashed(&rt, "hash_password_with_salt", made)?;
     let made = argon2.hash_password_customized(
@@ -155,7 +155,7 @@ fn verify(rt: &HostRuntime, call: &str, argon2: &Argon2<'_>, text: &str) -> io::
 }
 
 // A call's name, what it answered, and what its output then holds.
-fn tell<E: Display + Drop>(
+fn print_answer<E: Display + Drop>(
     rt: &impl Print,
     call: &str,
     answer: Result<(), E>,
@@ -176,9 +176,9 @@ fn digest(rt: &impl Print) -> io::Result<()> {
     let mut hasher = Blake2b::new(4);
     hasher.update(b"abc");
     hasher.finalize_into(&mut out);
-    tell(rt, "Blake2b", argon2::Result::Ok(()), &out)?;
+    print_answer(rt, "Blake2b", argon2::Result::Ok(()), &out)?;
     let answer = blake2b_long(&[b"abc"], &mut out);
-    tell(rt, "blake2b_long", answer, &out)
+    print_answer(rt, "blake2b_long", answer, &out)
 }
 
 // Reading and printing a text.
@@ -193,7 +193,7 @@ fn read(rt: &impl Print, call: &str, text: &str) -> io::Result<()> {
 fn build(rt: &impl Print) -> io::Result<()> {
     match KeyId::from_b64("8PDw8A") {
         Ok(keyid) => {
-            tell(
+            print_answer(
                 rt,
                 "KeyId::from_b64",
                 argon2::Result::Ok(()),
@@ -216,7 +216,7 @@ fn build(rt: &impl Print) -> io::Result<()> {
 fn lent(rt: &impl Print, argon2: &Argon2<'_>) -> io::Result<()> {
     let (mut memory, mut out) = ([Block::new(); 32], [0; 32]);
     let answer = argon2.hash_password_into_with_memory(&PASSWORD, &SALT, &mut out, &mut memory);
-    tell(rt, "hash_password_into_with_memory", answer, &out)?;
+    print_answer(rt, "hash_password_into_with_memory", answer, &out)?;
 
     match argon2.fill_memory(&PASSWORD, &SALT, &mut memory) {
         Ok(()) => println!(rt; "fill_memory: {} blocks", memory.len())?,
@@ -236,7 +236,7 @@ fn lent(rt: &impl Print, argon2: &Argon2<'_>) -> io::Result<()> {
         match answer {
             Ok(work) => {
                 println!(rt; "Work::mixes: {}", work.mixes())?;
-                tell(
+                print_answer(
                     rt,
                     "hash_password_into_watched",
                     argon2::Result::Ok(()),
@@ -266,7 +266,7 @@ fn stepped(rt: &impl Print, argon2: &Argon2<'_>) -> io::Result<()> {
         }
         argon2.finish_fill(&memory, &mut out);
     }
-    tell(rt, "finish_fill", answer, &out)
+    print_answer(rt, "finish_fill", answer, &out)
 }
 
 // What adding a name to a store answers, and whether the name is there then.
