@@ -2,7 +2,7 @@
 use Rattle.std.proofs.Common.{◌≡◌, ◌⊎◌, inl, inr, ℕ, List, Option, Some, None, Result, Ok, Err, Bool, true, false, Bor, refl, sym, ap, subst, ◌∙◌, IsTrue}
 use Rattle.std.specs.FinMap.{get, insert}
 use Rattle.std.specs.Option.{is_some, option_copied, option_map}
-use Rattle.std.specs.Prelude.{◌↔◌, IsErrAnd, MatchResult, OnOk}
+use Rattle.std.specs.Prelude.{◌↔◌, IfErr, IsErrAnd, MatchResult, OnErr, OnOk}
 use Rattle.sqlite_trees.specs.Tree.{Trees}
 use Rattle.sqlite_trees.specs.declared.error.StoreError.{StoreError}
 use Rattle.sqlite_trees.specs.declared.error.StoreError.TheVariants as below
@@ -16,13 +16,14 @@ use Rattle.argon2.specs.Login.{Store}
 use Rattle.argon2.specs.declared.accounts.error.AccountError.{AccountError}
 use Rattle.argon2.specs.declared.accounts.error.AccountError.TheVariants.{NameUnknown}
 use Rattle.argon2.proofs.login_store.Stores.{get-other, get-same}
-use Rattle.argon2_store.specs.AccountFile.{Answers, Call, HasCause, IsBeforeOrAfter, IsClosed, Serves, names_of, store_of, terms_of}
+use Rattle.argon2_store.specs.AccountFile.{Answers, Call, HasCause, IsBeforeOrAfter, IsClosed, Runs, Serves, names_of, store_of, terms_of}
 use Rattle.argon2_store.specs.Errors.{answered, unwritten}
 use Rattle.argon2_store.specs.Table.{Changes, IsHonest, IsLong, IsOpen, Leaves, changed}
 use Rattle.argon2_store.specs.declared.account_file.AccountFile.{AccountFile}
 use Rattle.argon2_store.specs.declared.error.FileError.{FileError}
 use Rattle.argon2_store.specs.declared.error.FileError.TheVariants.{Account}
 use Rattle.argon2_store.proofs.NameLemmas.{get-gone-other, get-gone-same}
+use Rattle.argon2_store.proofs.TableLemmas.{err_is}
 
 open_of : (b : Bool) → (b ≡ false → ⊥) → IsTrue b
 open_of true h = refl
@@ -65,12 +66,24 @@ step_of terms before event (Some v) answer = (
   get-other before (name_of event) v,
 )
 
--- A call on a name that has this text or none, in a file that is not closed.
+refused_cause : {X : Type 0} (closed fault long : Type 0) (r : Result X FileError)
+    → IfErr r (λ f. (e : AccountError) × (f ≡ Account e)) → IfErr r (HasCause closed fault long)
+refused_cause closed fault long (Ok x) why = tt
+refused_cause closed fault long (Err f) why = rw why.1 tt
+
+ok_if : {X E P : Type 0} (r : Result X E) → P → OnOk r P
+ok_if (Ok x) p = p
+ok_if (Err e) p = tt
+
+err_if : {X E P : Type 0} (r : Result X E) → P → OnErr r P
+err_if (Ok x) p = tt
+err_if (Err e) p = p
+
+-- A call on a file that is not closed.
 module _ {S : Type 0} {g : Ghosts S}
     (settled : (s : S) (db : Trees) → IsTrue (g.view s).is_open → g.recovers s db → db ≡ (g.view s).committed)
-    {X : Type 0} (call : Call X) (name : List ℕ) (calls : (answer : Result X AccountError) → name_of (call answer) ≡ name)
     (old : AccountFile S g) {b : Bool} (tests : IsHonest g (store_of old) → IsTrue b ↔ IsClosed old) (no : b ≡ false)
-    (o : Option Phc) (had : get (names_of old) name ≡ o) where
+    {X : Type 0} (answers : Result X FileError → Store → Type 0) (May : Store → Type 0) (long : Type 0) where
   live : IsHonest g (store_of old) → IsClosed old → ⊥
   live clean is = absurd (let yes = (tests clean).1 is in cc)
 
@@ -78,6 +91,76 @@ module _ {S : Type 0} {g : Ghosts S}
   still_left : IsHonest g (store_of old) → IsOpen g (store_of old) → Leaves g (store_of old) (λ left. left ≡ names_of old)
   still_left clean is_open db found =
       (names_of old, ap (λ (t : Trees). t 0) (settled _ db is_open found) ∙ old.table.kept.committed clean is_open, refl)
+
+  -- nothing is written
+  pub writes_none : (new : AccountFile S g) → store_of new ≡ store_of old → terms_of new ≡ terms_of old
+      → names_of new ≡ names_of old → May (names_of old) → (r : Result X FileError) → answers r (names_of old)
+      → IfErr r (λ f. (e : AccountError) × (f ≡ Account e)) → Runs answers May long r old new
+  writes_none new stored same named may r step why = record {
+    step = subst (answers r) (sym named) step;
+    terms = same;
+    unchanged = err_if r named;
+    crash = rw stored (λ clean is_open db found.
+        let left = still_left clean is_open db found in (left.0, left.1, subst May (sym left.2) may));
+    durable = ok_if r (rw stored (λ clean db found.
+        let left = still_left clean (open_of _ (live clean)) db found in (left.0, left.1, left.2 ∙ sym named)));
+    closed = λ clean h. absurd (live clean h);
+    closes = λ clean is_open. inl (rw stored is_open);
+    cause = λ clean. refused_cause _ _ long r why;
+  }
+
+  may_leave : (new : AccountFile S g) (to : Store) → May (names_of old) → May to
+      → (IsHonest g (store_of new) → Leaves g (store_of new) (λ left. (left ≡ names_of old) ⊎ (left ≡ to)))
+      → IsHonest g (store_of new) → Leaves g (store_of new) May
+  may_leave new to before after crash clean db found =
+      let left = crash clean db found in
+      (left.0, left.1, elim left.2 [ inl b ↦ subst May (sym b) before | inr a ↦ subst May (sym a) after ])
+
+  -- names are written, or stay as they were
+  pub writes_all : (new : AccountFile S g) (to : Store) (x : X) → terms_of new ≡ terms_of old → answers (Ok x) to
+      → ((e : StoreError) → answers (Err (unwritten e)) (names_of old)) → May (names_of old) → May to
+      → (done : Result (Unit {0}) StoreError) → Changes g (store_of old) (store_of new) (names_of old) to long done
+      → MatchResult done (λ _. names_of new ≡ to) (λ _. names_of new ≡ names_of old)
+      → (r : Result X FileError) → r ≡ answered done x → Runs answers May long r old new
+  writes_all new to x same step failed before after (Ok _) change is r e = rw e (record {
+    step = subst (answers (Ok x)) (sym is) step;
+    terms = same;
+    unchanged = tt;
+    crash = λ clean is_open. may_leave new to before after change.crash clean;
+    durable = λ clean db found. let left = (change.durable clean).1 db found in (left.0, left.1, left.2 ∙ sym is);
+    closed = λ clean h. absurd (live clean h);
+    closes = λ clean is_open. change.closes clean;
+    cause = λ clean. tt;
+  })
+  writes_all new to x same step failed before after (Err f) change is r e = rw e (record {
+    step = subst (answers (Err (unwritten f))) (sym is) (failed f);
+    terms = same;
+    unchanged = is;
+    crash = λ clean is_open. may_leave new to before after change.crash clean;
+    durable = tt;
+    closed = λ clean h. absurd (live clean h);
+    closes = λ clean is_open. change.closes clean;
+    cause = λ clean.
+        let first = change.honest clean in
+        let sound = old.table.kept.sound first (open_of _ (live first)) in
+        unwritten_cause (g.view (store_of old)) _ _ _
+        (λ b. let h : IsTrue (g.view (store_of old)).is_broken = b in cc) f (change.cause clean);
+  })
+
+-- A call on a name that has this text or none, in a file that is not closed.
+module _ {S : Type 0} {g : Ghosts S}
+    (settled : (s : S) (db : Trees) → IsTrue (g.view s).is_open → g.recovers s db → db ≡ (g.view s).committed)
+    {X : Type 0} (call : Call X) (name : List ℕ) (calls : (answer : Result X AccountError) → name_of (call answer) ≡ name)
+    (old : AccountFile S g) {b : Bool} (tests : IsHonest g (store_of old) → IsTrue b ↔ IsClosed old) (no : b ≡ false)
+    (o : Option Phc) (had : get (names_of old) name ≡ o) where
+  abbrev answers : Result X FileError → Store → Type 0
+  answers = Answers (terms_of old) (names_of old) call
+
+  abbrev May : Store → Type 0
+  May = IsBeforeOrAfter X (terms_of old) (names_of old) call
+
+  abbrev long : Type 0
+  long = IsLong (name_of (call (Err NameUnknown)))
 
   now_has : (answer : Result X AccountError) → get (names_of old) (name_of (call answer)) ≡ o
   now_has answer = ap (get (names_of old)) (calls answer) ∙ had
@@ -91,83 +174,30 @@ module _ {S : Type 0} {g : Ghosts S}
   -- a call that the accounts refuse
   pub refuses : (e : AccountError) (r : Result X FileError) → IsErrAnd r (λ f. f ≡ Account e)
       → AccountAnswer (terms_of old) (call (Err e)) o o → Serves call r old old
-  refuses e (Ok x) is answer = absurd is
-  refuses e (Err f) is answer = rw is (record {
-    step = stays (Err e) answer;
-    terms = refl;
-    unchanged = refl;
-    crash = λ clean is_open db found. let left = still_left clean is_open db found in (left.0, left.1, inl left.2);
-    durable = tt;
-    closed = λ clean h. absurd (live clean h);
-    closes = λ clean is_open. inl is_open;
-    cause = λ clean. tt;
-  })
+  refuses e r is answer = rw (err_is r (Account e) is)
+      (writes_none settled old tests no answers May long old refl refl refl (inl refl) (Err (Account e)) (stays (Err e) answer) (e, refl))
 
   -- an accepted call that writes nothing
   pub accepts : (x : X) → AccountAnswer (terms_of old) (call (Ok x)) o o → Serves call (Ok x) old old
-  accepts x answer = record {
-    step = stays (Ok x) answer;
-    terms = refl;
-    unchanged = tt;
-    crash = λ clean is_open db found. let left = still_left clean is_open db found in (left.0, left.1, inl left.2);
-    durable = λ clean. still_left clean (open_of _ (live clean));
-    closed = λ clean h. absurd (live clean h);
-    closes = λ clean is_open. inl is_open;
-    cause = λ clean. tt;
-  }
+  accepts x answer =
+      writes_none settled old tests no answers May long old refl refl refl (inl refl) (Ok x) (stays (Ok x) answer) tt
 
-  module _ (new : AccountFile S g) (p : Option Phc) (x : X) (same : terms_of new ≡ terms_of old)
-      (answer : AccountAnswer (terms_of old) (call (Ok x)) o p) where
-    abbrev to : Store
-    to = changed (names_of old) name p
-
-    moves : AccountStep (terms_of old) (names_of old) (call (Ok x)) to
-    moves =
-        subst (λ (n : List ℕ). AccountStep (terms_of old) (names_of old) (call (Ok x)) (changed (names_of old) n p))
-        (calls (Ok x)) (step_of (terms_of old) (names_of old) (call (Ok x)) p
-        (subst (λ (q : Option Phc). AccountAnswer (terms_of old) (call (Ok x)) q p) (sym (now_has (Ok x))) answer))
-
-    may_leave : (IsHonest g (store_of new) → Leaves g (store_of new) (λ left. (left ≡ names_of old) ⊎ (left ≡ to)))
-        → IsHonest g (store_of new) → Leaves g (store_of new) (IsBeforeOrAfter X (terms_of old) (names_of old) call)
-    may_leave crash clean db found =
-        let left = crash clean db found in (
-          left.0,
-          left.1,
-          elim left.2 [
-            | inl b ↦ inl b
-            | inr a ↦ inr (x, subst (AccountStep (terms_of old) (names_of old) (call (Ok x))) (sym a) moves)
-          ],
-        )
-
-    -- an accepted call that writes its name's text
-    pub writes : (done : Result (Unit {0}) StoreError)
-        → Changes g (store_of old) (store_of new) (names_of old) to (IsLong name) done
-        → MatchResult done (λ _. names_of new ≡ to) (λ _. names_of new ≡ names_of old)
-        → (r : Result X FileError) → r ≡ answered done x → Serves call r old new
-    writes (Ok _) change is r e = rw e (record {
-      step = subst (AccountStep (terms_of old) (names_of old) (call (Ok x))) (sym is) moves;
-      terms = same;
-      unchanged = tt;
-      crash = λ clean is_open. may_leave change.crash clean;
-      durable = λ clean db found. let left = (change.durable clean).1 db found in (left.0, left.1, left.2 ∙ sym is);
-      closed = λ clean h. absurd (live clean h);
-      closes = λ clean is_open. change.closes clean;
-      cause = λ clean. tt;
-    })
-    writes (Err f) change is r e = rw e (record {
-      step = unwritten_step X (terms_of old) (names_of old) (names_of new) call f is;
-      terms = same;
-      unchanged = is;
-      crash = λ clean is_open. may_leave change.crash clean;
-      durable = tt;
-      closed = λ clean h. absurd (live clean h);
-      closes = λ clean is_open. change.closes clean;
-      cause = λ clean.
-          let first = change.honest clean in
-          let sound = old.table.kept.sound first (open_of _ (live first)) in
-          rw (calls (Err NameUnknown)) (unwritten_cause (g.view (store_of old)) _ _ _
-          (λ b. let h : IsTrue (g.view (store_of old)).is_broken = b in cc) f (change.cause clean));
-    })
+  -- an accepted call that writes its name's text
+  pub writes : (new : AccountFile S g) (p : Option Phc) (x : X) → terms_of new ≡ terms_of old
+      → AccountAnswer (terms_of old) (call (Ok x)) o p → (done : Result (Unit {0}) StoreError)
+      → Changes g (store_of old) (store_of new) (names_of old) (changed (names_of old) name p) (IsLong name) done
+      → MatchResult done (λ _. names_of new ≡ changed (names_of old) name p) (λ _. names_of new ≡ names_of old)
+      → (r : Result X FileError) → r ≡ answered done x → Serves call r old new
+  writes new p x same answer done change is r e =
+      let before = names_of old in
+      let to = changed before name p in
+      let moves = subst (λ (n : List ℕ). AccountStep (terms_of old) before (call (Ok x)) (changed before n p)) (calls (Ok x))
+      (step_of (terms_of old) before (call (Ok x)) p
+      (subst (λ (q : Option Phc). AccountAnswer (terms_of old) (call (Ok x)) q p) (sym (now_has (Ok x))) answer)) in
+      writes_all settled old tests no answers May long new to x same moves
+      (λ f. unwritten_step X (terms_of old) before before call f refl) (inl refl) (inr (x, moves)) done
+      (subst (λ (n : List ℕ). Changes g (store_of old) (store_of new) before to (IsLong n) done)
+      (sym (calls (Err NameUnknown))) change) is r e
 
 -- the name has the text that was written, and a password that it admits
 pub has_written : (terms : Terms) (before after : Store) (name password : List ℕ) (v : Phc) {X : Type 0} (x : X)

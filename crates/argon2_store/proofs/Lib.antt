@@ -1,3 +1,4 @@
+pub mod AddLemmas
 pub mod FileLemmas
 pub mod LoadLemmas
 pub mod NameLemmas

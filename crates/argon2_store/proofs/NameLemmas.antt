@@ -16,7 +16,7 @@ use Rattle.argon2_base.specs.declared.phc.hash.PasswordHash.{PasswordHash}
 use Rattle.argon2.specs.Login.{KeepsOthers, Store, values_of}
 use Rattle.argon2.proofs.login_store.Stores.{get-same, get-set, get-values_of}
 
-same : (m n : Store) → ((q : List ℕ) → get m q ≡ get n q) → m ≡ n
+pub same : (m n : Store) → ((q : List ℕ) → get m q ≡ get n q) → m ≡ n
 same m n = same_map nat_list_cmp_total (slice_cmp-IsAntisymmetric nat_cmp-IsAntisymmetric) m n
 
 -- what is left once a name is taken out

@@ -1,9 +1,9 @@
 -- What the rows of a table are after each step of a change.
-use Rattle.std.proofs.Common.{◌≡◌, ℕ, zero, suc, ◌+◌, ◌^◌, nat_lt, ◌≤◌, List, length, Option, Some, None, Result, Ok, Err, Bool, true, false, refl, sym, ap, ap₂, subst, ◌∙◌, IsTrue, arith}
+use Rattle.std.proofs.Common.{◌≡◌, ℕ, zero, suc, ◌+◌, ◌^◌, nat_lt, ◌≤◌, List, length, Option, Some, None, Result, Ok, Err, Bool, true, false, refl, sym, ap, ap₂, subst, ◌∙◌, IsTrue, arith, inl, inr}
 use Rattle.std.proofs.lemmas.Bool.Decides.{nat_tests}
 use Rattle.std.specs.Float.{NotNan}
 use Rattle.std.specs.Float.Ieee
-use Rattle.std.specs.Prelude.{All, IfErr, IfOk, MatchResult, OnOk}
+use Rattle.std.specs.Prelude.{◌⊎◌, All, IsErrAnd, IfErr, IfOk, MatchResult, OnOk}
 use Rattle.std.specs.FinMap.{get, insert, remove}
 use Rattle.sqlite_disk.specs.Disk.{MoreFaults}
 use Rattle.sqlite_value.specs.Keys.{plain}
@@ -14,11 +14,11 @@ use Rattle.sqlite_trees.specs.declared.store.Shape.{Shape}
 use Rattle.sqlite_trees.specs.declared.store.Shape.TheVariants.{Index}
 use Rattle.sqlite_trees.specs.declared.store.Store.{Ghosts}
 use Rattle.sqlite_trees.specs.Tree.{Trees, insert_entry, order_of, remove_entry}
-use Rattle.sqlite_trees.specs.View.{View, Commits, HasCause, IsStorable, SetsTree, is_int}
+use Rattle.sqlite_trees.specs.View.{View, Commits, HasCause, IsFailure, IsStorable, KeepsSchema, OnlyWrites, SetsTree, doubt, is_int}
 use Rattle.argon2_base.specs.PhcText.{Phc, phc_text}
 use Rattle.argon2.specs.Login.{Store}
 use Rattle.argon2_store.specs.Rows.{row_of, rows_of}
-use Rattle.argon2_store.specs.Table.{Changes, IsHonest, IsKept, IsLong, IsOpen, Leaves, Sees, changed}
+use Rattle.argon2_store.specs.Table.{Changes, HasBegun, IsHonest, IsKept, IsLong, IsOpen, Leaves, Sees, StaysQuiet, Writes, changed}
 use Rattle.argon2_store.proofs.NameLemmas.{get-gone-same, insert-remove, known, remove-none}
 use Rattle.argon2_store.proofs.RowLemmas.{insert_entry-rows_of, remove_entry-rows_of}
 
@@ -43,6 +43,10 @@ if_ok2 (Err e) p q f = tt
 pub if_err : {T E : Type 0} {P Q : E → Type 0} (r : Result T E) → IfErr r P → ((e : E) → P e → Q e) → IfErr r Q
 if_err (Ok x) p f = tt
 if_err (Err e) p f = f e p
+
+pub err_is : {T E : Type 0} (r : Result T E) (e : E) → IsErrAnd r (λ f. f ≡ e) → r ≡ Err e
+err_is (Ok x) e h = absurd h
+err_is (Err f) e h = ap Err h
 
 -- ---- views
 
@@ -131,6 +135,172 @@ cause_after old mid f m n P (Ok x) result first later same cause more = if_err r
     (cause_map mid old (MoreFaults m n) (MoreFaults f n) ⊥ P (subst IsTrue same) (more_earlier f m n first) (λ h. absurd h))
 cause_after old mid f m n P (Err e) result first later same cause is = rw is
     (cause_map old old (MoreFaults f m) (MoreFaults f n) P P (λ b. b) (λ more. more_later f m n more later) (λ h. h) e cause)
+
+-- ---- writing
+
+module _ {S : Type 0} (g : Ghosts S) where
+  quiet_itself : (s : S) → StaysQuiet g s s
+  quiet_itself s = record {
+    shield = λ h. h;
+    clean = omega arith;
+    counts = omega arith;
+    closes = λ clean is_open. inl is_open;
+    outcomes = λ db found. found;
+  }
+
+  quiet_then : (a b c : S) → StaysQuiet g a b → StaysQuiet g b c → StaysQuiet g a c
+  quiet_then a b c x y = record {
+    shield = λ h. y.shield (x.shield h);
+    clean = omega (arith, x.clean, y.clean);
+    counts = omega (arith, x.counts, y.counts);
+    closes = λ clean is_open. elim (x.closes (omega (arith, clean, y.clean)) is_open) [
+      | inl mid ↦ elim (y.closes clean mid) [
+        | inl still ↦ inl still
+        | inr more ↦ inr (more_earlier (g.faults a) (g.faults b) (g.faults c) x.counts more)
+      ]
+      | inr more ↦ inr (more_later (g.faults a) (g.faults b) (g.faults c) more y.counts)
+    ];
+    outcomes = λ db found. x.outcomes db (y.outcomes db found);
+  }
+
+  schema_itself : (v : View) → KeepsSchema v v
+  schema_itself v = record { shape = refl; reals = refl; committed_shape = refl; committed_reals = refl; numbered = refl }
+
+  schema_then : (a b c : View) → KeepsSchema a b → KeepsSchema b c → KeepsSchema a c
+  schema_then a b c x y = record {
+    shape = y.shape ∙ x.shape;
+    reals = y.reals ∙ x.reals;
+    committed_shape = y.committed_shape ∙ x.committed_shape;
+    committed_reals = y.committed_reals ∙ x.committed_reals;
+    numbered = y.numbered ∙ x.numbered;
+  }
+
+  -- a call that writes no row
+  pub writes_nothing : (s : S) (before after : Store) (long : Type 0) (r : Result (Unit {0}) StoreError)
+      → OnOk r (after ≡ before) → IfErr r (λ e. e ≡ OutOfMemory) → Writes g s s before after long r
+  writes_nothing s before after long (Ok x) same why = record {
+    begun = λ names clean begun. begun;
+    sees = λ clean sees. rw same sees;
+    broken = λ clean. refl;
+    cause = λ clean. tt;
+    schema = schema_itself (g.view s);
+    quiet = quiet_itself s;
+  }
+  writes_nothing s before after long (Err e) same why = record {
+    begun = λ names clean begun. begun;
+    sees = tt;
+    broken = tt;
+    cause = λ clean. rw why tt;
+    schema = schema_itself (g.view s);
+    quiet = quiet_itself s;
+  }
+
+  still_committed : (old new : View) (r : Result (Unit {0}) StoreError) → OnOk r (OnlyWrites old new)
+      → IfErr r (IsFailure old new) → IsTrue new.is_open → IsTrue old.is_open × (new.committed ≡ old.committed)
+  still_committed old new (Ok x) writes failed is_open =
+      (subst IsTrue (ap (λ (v : View). v.is_open) writes) is_open, ap (λ (v : View). v.committed) writes)
+  still_committed old new (Err e) writes failed is_open = (failed.kept.was_open is_open, failed.kept.committed is_open)
+
+  -- a call on the store that writes a row
+  pub writes_row : (old new : S) (before after : Store) (long : Type 0) (r : Result (Unit {0}) StoreError)
+      → OnOk r (IsHonest g new → OnlyWrites (g.view old) (g.view new)) → IfErr r (IsFailure (g.view old) (g.view new))
+      → OnOk r (IsHonest g new → Sees (g.view old) before → Sees (g.view new) after)
+      → (IsHonest g new → IfErr r (HasCause (g.view old) (MoreFaults (g.faults old) (g.faults new)) long))
+      → KeepsSchema (g.view old) (g.view new) → StaysQuiet g old new → Writes g old new before after long r
+  writes_row old new before after long r frame failed sees cause schema quiet = record {
+    begun = λ names clean begun. record {
+      indexed = ap (λ (f : ℕ → Shape). f 0) schema.shape ∙ begun.indexed;
+      shapes = schema.shape ∙ begun.shapes ∙ sym schema.committed_shape;
+      committed = λ is_open.
+          let still = still_committed (g.view old) (g.view new) r (on_ok r frame (λ f. f clean)) failed is_open in
+          ap (λ (t : Trees). t 0) still.1 ∙ begun.committed still.0;
+      left = λ db found. begun.left db (quiet.outcomes db found);
+    };
+    sees = sees;
+    broken = on_ok r frame (λ f clean. ap (λ (v : View). v.is_broken) (f clean));
+    cause = cause;
+    schema = schema;
+    quiet = quiet;
+  }
+
+  -- rows written after others
+  pub writes_then : (a b c : S) (x y z : Store) (P Q R : Type 0) (r : Result (Unit {0}) StoreError) → Writes g a b x y P (Ok tt)
+      → Writes g b c y z Q r → (Q → R) → Writes g a c x z R r
+  writes_then a b c x y z P Q R r first later more =
+      let earlier : IsHonest g c → IsHonest g b = λ clean. omega (arith, clean, later.quiet.clean) in
+      record {
+        begun = λ names clean begun. later.begun names clean (first.begun names (earlier clean) begun);
+        sees = on_ok r later.sees (λ f clean sees. f clean (first.sees (earlier clean) sees));
+        broken = on_ok r later.broken (λ f clean. f clean ∙ first.broken (earlier clean));
+        cause = λ clean. if_err r (later.cause clean)
+            (cause_map (g.view b) (g.view a) (MoreFaults (g.faults b) (g.faults c)) (MoreFaults (g.faults a) (g.faults c)) Q R
+            (subst IsTrue (first.broken (earlier clean)))
+            (more_earlier (g.faults a) (g.faults b) (g.faults c) first.quiet.counts) more);
+        schema = schema_then (g.view a) (g.view b) (g.view c) first.schema later.schema;
+        quiet = quiet_then a b c first.quiet later.quiet;
+      }
+
+  -- where rows are not all written, nothing is said of the names
+  pub writes_less : (a b : S) (x y z : Store) (P Q : Type 0) (e : StoreError) → Writes g a b x y P (Err e) → (P → Q)
+      → Writes g a b x z Q (Err e)
+  writes_less a b x y z P Q e written more = record {
+    begun = written.begun;
+    sees = tt;
+    broken = tt;
+    cause = λ clean. cause_map (g.view a) (g.view a) (MoreFaults (g.faults a) (g.faults b)) (MoreFaults (g.faults a) (g.faults b)) P Q
+        (λ h. h) (λ h. h) more e (written.cause clean);
+    schema = written.schema;
+    quiet = written.quiet;
+  }
+
+  pub keeps_shape : (a b : S) (x y : Store) (P : Type 0) (r : Result (Unit {0}) StoreError) → Writes g a b x y P r
+      → (IsHonest g a → (g.view a).shape 0 ≡ Index plain) → IsHonest g b → (g.view b).shape 0 ≡ Index plain
+  keeps_shape a b x y P r wrote had clean =
+      ap (λ (f : ℕ → Shape). f 0) wrote.schema.shape ∙ had (omega (arith, clean, wrote.quiet.clean))
+
+  -- rows that are written, and then committed or taken back
+  pub changes_of : (old mid new : S) (before after : Store) (long : Type 0) (done result : Result (Unit {0}) StoreError)
+      → ((db : Trees) → IsOpen g old → g.recovers old db → db ≡ (g.view old).committed)
+      → IsKept g old before → (IsHonest g old → IsOpen g old) → Writes g old mid before after long done
+      → ((IsHonest g new → HasBegun g mid before × OnOk done (Sees (g.view mid) after))
+      → MatchResult result (λ _. IsKept g new after) (λ _. IsKept g new before))
+      → (IsHonest g new → HasBegun g mid before → OnOk done (Sees (g.view mid) after)
+      → Leaves g new (λ left. (left ≡ before) ⊎ (left ≡ after)))
+      → (IsHonest g new → OnOk done (Sees (g.view mid) after) → OnOk result (IsOpen g new × Leaves g new (λ left. left ≡ after)))
+      → (IsHonest g new → MatchResult done
+      (λ _. IfErr result (HasCause (g.view mid) (MoreFaults (g.faults mid) (g.faults new)) ⊥)) (λ e. result ≡ Err e))
+      → (IsHonest g new → IsOpen g mid → IsOpen g new ⊎ MoreFaults (g.faults mid) (g.faults new))
+      → doubt (g.view mid).is_clean ≤ doubt (g.view new).is_clean → g.faults mid ≤ g.faults new
+      → Changes g old new before after long result
+  changes_of old mid new before after long done result settled kept is_open wrote keeps left durable cause closes clean counts =
+      let to_mid : IsHonest g new → IsHonest g mid = λ now. omega (arith, now, clean) in
+      let to_old : IsHonest g new → IsHonest g old = λ now. omega (arith, now, clean, wrote.quiet.clean) in
+      let begun : IsHonest g new → HasBegun g mid before = λ now.
+      let first = to_old now in
+      let was = is_open first in
+      wrote.begun before (to_mid now) (record {
+        indexed = kept.indexed first was;
+        shapes = kept.shapes first was;
+        committed = kept.committed first;
+        left = λ db found. ap (λ (t : Trees). t 0) (settled db was found) ∙ kept.committed first was;
+      }) in
+      let sees : IsHonest g new → OnOk done (Sees (g.view mid) after) = λ now. on_ok done wrote.sees (λ f.
+      f (to_mid now) (λ unbroken. kept.seen (to_old now) (is_open (to_old now)))) in
+      record {
+        honest = to_old;
+        kept = keeps (λ now. (begun now, sees now));
+        crash = λ now. left now (begun now) (sees now);
+        durable = on_ok_later _ result (λ now. durable now (sees now));
+        cause = λ now. cause_after (g.view old) (g.view mid) (g.faults old) (g.faults mid) (g.faults new) long done result
+            wrote.quiet.counts counts (on_ok done wrote.broken (λ same. same (to_mid now))) (wrote.cause (to_mid now)) (cause now);
+        closes = λ now. elim (wrote.quiet.closes (to_mid now) (is_open (to_old now))) [
+          | inl still ↦ elim (closes now still) [
+            | inl yet ↦ inl yet
+            | inr more ↦ inr (more_earlier (g.faults old) (g.faults mid) (g.faults new) wrote.quiet.counts more)
+          ]
+          | inr more ↦ inr (more_later (g.faults old) (g.faults mid) (g.faults new) more counts)
+        ];
+      }
 
 -- ---- rows
 

@@ -1,5 +1,5 @@
 -- What callers see of accounts in a file, and what each call does.
-use Rattle.std.specs.Prelude.{◌≡◌, ◌⊎◌, false, Result, Ok, Err, IsErr, IfErr, OnOk, OnErr, ⊤}
+use Rattle.std.specs.Prelude.{◌≡◌, ◌⊎◌, ℕ, List, false, Any, Result, Ok, Err, IsErr, IfErr, OnOk, OnErr, ⊤}
 use Rattle.rand_core.specs.Stream.{Stream, fill_bytes}
 use Rattle.sqlite_disk.specs.Disk.{MoreFaults}
 use Rattle.sqlite_trees.specs.declared.error.StoreError.{StoreError}
@@ -12,6 +12,7 @@ use Rattle.argon2.specs.declared.accounts.error.AccountError.{AccountError}
 use Rattle.argon2.specs.declared.accounts.error.AccountError.TheVariants.{NameTaken, NameUnknown}
 use Rattle.argon2.specs.declared.login.answers.Accepted.{Accepted}
 use Rattle.argon2.specs.declared.login.answers.Accepted.TheVariants.{Current}
+use Rattle.argon2_store.specs.Adding.{AddsAll, IsFirstRefused}
 use Rattle.argon2_store.specs.Errors.{named}
 use Rattle.argon2_store.specs.Opening.{HoldsNames}
 use Rattle.argon2_store.specs.Shown as table
@@ -36,6 +37,21 @@ Answers terms before call (Err e) after = after ≡ before
 abbrev pub IsBeforeOrAfter : (X : Type 0) → Terms → Store → Call X → Store → Type 0
 IsBeforeOrAfter X terms before call left =
     (left ≡ before) ⊎ ((x : X) × AccountStep terms before (call (Ok x)) left)
+
+-- an answer without the index of its error
+abbrev pub unindexed : {X : Type 0} → Result X (ℕ × FileError) → Result X FileError
+unindexed (Ok x) = Ok x
+unindexed (Err e) = Err e.1
+
+-- what adding all of several names answers, and the names after it
+abbrev pub AnswersAll : Store → List (List ℕ × List ℕ) → Result (Unit {0}) FileError → Store → Type 0
+AnswersAll before es (Ok _) after = AddsAll before es after
+AnswersAll before es (Err e) after = after ≡ before
+
+-- where the accounts refuse one of the names, it is the first that they refuse
+abbrev pub IsRefusal : Store → List (List ℕ × List ℕ) → ℕ × FileError → Type 0
+IsRefusal before es (k, Account why) = IsFirstRefused before es k why
+IsRefusal before es _ = ⊤
 
 -- why a call has this error, where `fault` says that the disk failed or refused during it
 abbrev pub HasCause : Type 0 → Type 0 → Type 0 → FileError → Type 0
@@ -95,15 +111,15 @@ module _ {S : Type 0} {g : Ghosts S} where
     -- it is an error of the file
     pub of_file : IfErr result (λ e. (why : StoreError) × (e ≡ named why))
 
-  -- What a call does. The clauses on the file hold while the disk has given no wrong answer that was taken as true.
-  pub record Serves {X : Type 0} (call : Call X) (result : Result X FileError) (old new : AccountFile S g) : Type 0 where
-    pub step : Answers (terms_of old) (names_of old) call result (names_of new)
+  -- What a call does that answers so. The clauses on the file hold while the disk has given no wrong answer that was taken as true.
+  pub record Runs {X : Type 0} (answers : Result X FileError → Store → Type 0) (May : Store → Type 0) (too_long : Type 0)
+      (result : Result X FileError) (old new : AccountFile S g) : Type 0 where
+    pub step : answers result (names_of new)
     pub terms : terms_of new ≡ terms_of old
     -- an error leaves all as it was
     pub unchanged : OnErr result (names_of new ≡ names_of old)
-    -- a crash at any moment of the call leaves the names from before it, or those that it was to leave
-    pub crash : IsHonest g (store_of new) → IsOpen g (store_of old) →
-        Leaves g (store_of new) (IsBeforeOrAfter X (terms_of old) (names_of old) call)
+    -- what a crash at any moment of the call may leave
+    pub crash : IsHonest g (store_of new) → IsOpen g (store_of old) → Leaves g (store_of new) May
     -- once it has returned `Ok`, every crash leaves the names that there are now
     pub durable : OnOk result (IsHonest g (store_of new) → Leaves g (store_of new) (λ left. left ≡ names_of new))
     -- a file that is closed stays so, and is as it was
@@ -113,8 +129,17 @@ module _ {S : Type 0} {g : Ghosts S} where
         IsOpen g (store_of new) ⊎ MoreFaults (g.faults (store_of old)) (g.faults (store_of new))
     -- each error has its cause
     pub cause : IsHonest g (store_of new) → IfErr result
-        (HasCause (IsClosed old) (MoreFaults (g.faults (store_of old)) (g.faults (store_of new)))
-        (IsLong (name_of (call (Err NameUnknown)))))
+        (HasCause (IsClosed old) (MoreFaults (g.faults (store_of old)) (g.faults (store_of new))) too_long)
+
+  -- A call on one name. A crash leaves the names from before it, or those that it was to leave.
+  abbrev pub Serves : {X : Type 0} → Call X → Result X FileError → AccountFile S g → AccountFile S g → Type 0
+  Serves {X} call result old new = Runs (Answers (terms_of old) (names_of old) call)
+      (IsBeforeOrAfter X (terms_of old) (names_of old) call) (IsLong (name_of (call (Err NameUnknown)))) result old new
+
+  -- An addition of several names. A crash leaves the names from before it, or all of the new ones too.
+  abbrev pub AddsOrNone : List (List ℕ × List ℕ) → Result (Unit {0}) FileError → AccountFile S g → AccountFile S g → Type 0
+  AddsOrNone es result old new = Runs (AnswersAll (names_of old) es)
+      (λ left. (left ≡ names_of old) ⊎ AddsAll (names_of old) es left) (Any (λ e. IsLong e.0) es) result old new
 
 -- ---- what the generator has left
 

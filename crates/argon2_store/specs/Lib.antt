@@ -1,4 +1,5 @@
 pub mod AccountFile
+pub mod Adding
 pub mod Errors
 pub mod Names
 pub mod Opening

@@ -13,7 +13,7 @@ use Rattle.sqlite_trees.specs.declared.store.Shape.TheVariants.{Index}
 use Rattle.sqlite_trees.specs.declared.store.Store.{Ghosts}
 use Rattle.sqlite_trees.specs.Props.{rows_set}
 use Rattle.sqlite_trees.specs.Tree.{Trees}
-use Rattle.sqlite_trees.specs.View.{View, IsClean, HasCause}
+use Rattle.sqlite_trees.specs.View.{View, IsClean, IsQuiet, HasCause, KeepsSchema}
 use Rattle.argon2_base.specs.PhcText.{Phc}
 use Rattle.argon2.specs.Login.{Store}
 use Rattle.argon2_store.specs.Rows.{rows_of}
@@ -79,6 +79,19 @@ module _ {S : Type 0} (g : Ghosts S) where
     pub shapes : (g.view s).shape ≡ (g.view s).committed_shape
     pub committed : IsOpen s → (g.view s).committed 0 ≡ rows_of names
     pub left : (db : Trees) → g.recovers s db → db 0 ≡ rows_of names
+
+  -- no fault is forgotten, and a crash has no new outcome
+  abbrev pub StaysQuiet : S → S → Type 0
+  StaysQuiet old new = IsQuiet g.view g.faults g.recovers g.is_shielded old new
+
+  -- Rows written into a transaction, which change the names that it sees, up to the first that fails.
+  pub record Writes (old new : S) (before after : Store) (too_long : Type 0) (result : Result (Unit {0}) StoreError) : Type 0 where
+    pub begun : (names : Store) → IsHonest new → HasBegun old names → HasBegun new names
+    pub sees : OnOk result (IsHonest new → Sees (g.view old) before → Sees (g.view new) after)
+    pub broken : OnOk result (IsHonest new → (g.view new).is_broken ≡ (g.view old).is_broken)
+    pub cause : IsHonest new → IfErr result (HasCause (g.view old) (MoreFaults (g.faults old) (g.faults new)) too_long)
+    pub schema : KeepsSchema (g.view old) (g.view new)
+    pub quiet : StaysQuiet old new
 
   -- A change from one list of names to another, with its answer.
   pub record Changes (old new : S) (before after : Store) (too_long : Type 0) (result : Result (Unit {0}) StoreError) : Type 0 where

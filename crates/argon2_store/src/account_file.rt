@@ -1,6 +1,6 @@
 //! Accounts in a file.
 
-ghost use Rattle.std.specs.Prelude.{◌≡◌, ◌↔◌, Ok, Err, IsTrue, IfOk, OnOk, MatchResult, length};
+ghost use Rattle.std.specs.Prelude.{◌≡◌, ◌↔◌, Ok, Err, IsTrue, IfErr, IfOk, OnOk, MatchResult, length, map};
 ghost use Rattle.std.specs.FinMap.{entries, get};
 ghost use Rattle.std.specs.Option.{option_copied, option_map};
 ghost use Rattle.rand_core.specs.Stream.{fill_bytes};
@@ -8,6 +8,7 @@ ghost use Rattle.argon2_base.specs.PhcFields.{phc_of};
 ghost use Rattle.argon2.specs.Accounts.{DrawsOnce, HasPassword, adding, changing, logging_in, registering, removing, setting};
 ghost use Rattle.argon2.specs.Login.{named_values};
 ghost use Rattle.argon2.specs.Made.{target_of};
+ghost use Rattle.argon2_store.specs.Adding.{entry_of};
 ghost use Rattle.argon2_store.specs.Errors.{answered};
 
 use crate::error::{FileError, OpenError};
@@ -64,7 +65,7 @@ fn written<X: Copy>(done: Result<(), StoreError>, answer: X) -> Result<X, FileEr
 }
 
 impl<'key, S: Store> AccountFile<'key, S> {
-    ghost use Rattle.argon2_store.specs.AccountFile.{IsClosed, Serves, names_of, store_of, stream_after_login, stream_after_making, terms_of};
+    ghost use Rattle.argon2_store.specs.AccountFile.{AddsOrNone, IsClosed, IsRefusal, Serves, names_of, store_of, stream_after_login, stream_after_making, terms_of, unindexed};
     ghost use Rattle.argon2_store.specs.Table.{IsHonest};
 
     /// Gives a new name a text, which may ask for more than the bound.
@@ -88,6 +89,31 @@ impl<'key, S: Store> AccountFile<'key, S> {
             return Err(AccountError::NameTaken.into());
         }
         written(self.table.insert(name, parsed), ())
+    }
+
+    /// Adds all of these new names with their texts, as [`add`](AccountFile::add) in order, or none: they are
+    /// written together. After a crash in the middle of the call the file holds all of them or none.
+    ///
+    /// # Errors
+    /// With an index into `new`. The first of these that holds:
+    /// - [`FileError::Closed`]: the file has to be opened again.
+    /// - [`FileError::Account`]: the entry at the index is the first that `add` would refuse, and so. Here it is
+    ///   [`Error::OutOfMemory`](argon2::password_hash::Error::OutOfMemory) where there is no memory for the entry.
+    /// - those of writing, as [`add`](AccountFile::add), with the number of entries for an index.
+    pub fn add_all(&mut self, new: &[(&str, &str)]) -> Result<(), (usize, FileError)>
+        ensures call { AddsOrNone (map entry_of new.now) (unindexed result) self.old self.new }
+        ensures refused { IfErr result (IsRefusal (names_of self.old) (map entry_of new.now)) }
+    {
+        if self.is_closed() {
+            return Err((0, FileError::Closed));
+        }
+        match self.table.add_all(new) {
+            Ok(done) => match written(done, ()) {
+                Ok(()) => Ok(()),
+                Err(error) => Err((new.len(), error)),
+            },
+            Err((index, error)) => Err((index, error.into())),
+        }
     }
 
     /// Gives a new name a text of a password, as [`Policy::hash_password`] makes it. 16 bytes are

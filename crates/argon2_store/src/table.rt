@@ -1,22 +1,24 @@
 //! Names with their texts, in a tree of a store and in memory.
 
-ghost use Rattle.std.specs.Prelude.{◌≡◌, ◌≤◌, ◌⊎◌, ◌↔◌, false, Err, Some, None, IsSome, IsTrue, OnOk, IfErr, IfOk, MatchResult, length};
+ghost use Rattle.std.specs.Prelude.{◌≡◌, ◌≤◌, ◌⊎◌, ◌↔◌, false, Any, Err, Some, None, IsSome, IsTrue, OnOk, IfErr, IfOk, MatchResult, length, map};
 ghost use Rattle.std.specs.FinMap.{entries, get, insert, remove};
 ghost use Rattle.std.specs.Option.{option_copied, option_map};
 ghost use Rattle.sqlite_disk.specs.Disk.{MoreFaults};
 ghost use Rattle.sqlite_value.specs.Keys.{plain};
-ghost use Rattle.sqlite_trees.specs.View.{IsQuiet, HasCause, KeepsSchema, doubt};
+ghost use Rattle.sqlite_trees.specs.View.{HasCause, doubt};
 ghost use Rattle.sqlite_trees.specs.declared.store.Shape.TheVariants.{Index};
 ghost use Rattle.argon2_base.specs.PhcFields.{phc_of};
 ghost use Rattle.argon2_base.specs.PhcText.{phc_text};
 ghost use Rattle.argon2.specs.Login.{Store as Named, named_values};
+ghost use Rattle.argon2_store.specs.Adding.{AddsAll, IsFirstRefused, entry_of};
 ghost use Rattle.argon2_store.specs.Names.{values_in};
 ghost use Rattle.argon2_store.specs.Rows.{TakesRow, row_of, rows_of};
-ghost use Rattle.argon2_store.specs.Table.{Changes, HasBegun, IsFresh, IsHonest, IsKept, IsKept-prop, IsOpen, IsLong, Leaves, Sees, changed};
+ghost use Rattle.argon2_store.specs.Table.{Changes, HasBegun, IsFresh, IsHonest, IsKept, IsKept-prop, IsOpen, IsLong, Leaves, Sees, StaysQuiet, Writes, changed};
 
 use crate::error::OpenError;
 use crate::names::Names;
 use argon2::PasswordHash;
+use argon2::accounts::AccountError;
 use sqlite_disk::Disk;
 use sqlite_store::FileStore;
 use sqlite_trees::error::StoreError;
@@ -59,17 +61,10 @@ fn put<S: Store>(
     new: Option<&PasswordHash>,
 ) -> Result<(), StoreError>
     requires { IsHonest S.Store store.old → (S.Store.view store.old).shape 0 ≡ Index plain }
-    ensures begun { (names : Named) → IsHonest S.Store store.new → HasBegun S.Store store.old names →
-        HasBegun S.Store store.new names }
-    ensures sees { OnOk result ((names : Named) → IsHonest S.Store store.new → get names name.now ≡ None →
-        Sees (S.Store.view store.old) names →
-        Sees (S.Store.view store.new) (changed names name.now (option_map phc_of (option_copied new.entry)))) }
-    ensures cause { IsHonest S.Store store.new → IfErr result (HasCause (S.Store.view store.old)
-        (MoreFaults (S.Store.faults store.old) (S.Store.faults store.new))
-        (IsLong name.now)) }
-    ensures broken { OnOk result (IsHonest S.Store store.new →
-        (S.Store.view store.new).is_broken ≡ (S.Store.view store.old).is_broken) }
-    ensures quiet { IsQuiet S.Store.view S.Store.faults S.Store.recovers S.Store.is_shielded store.old store.new }
+    ensures { (names : Named) → get names name.now ≡ None →
+        Writes S.Store store.old store.new names
+        (changed names name.now (option_map phc_of (option_copied new.entry)))
+        (IsLong name.now) result }
 {
     let Some(hash) = new else {
         return Ok(());
@@ -86,20 +81,50 @@ fn take_out<S: Store>(
     hash: &PasswordHash,
 ) -> Result<(), StoreError>
     requires { IsHonest S.Store store.old → (S.Store.view store.old).shape 0 ≡ Index plain }
-    ensures begun { (names : Named) → IsHonest S.Store store.new → HasBegun S.Store store.old names →
-        HasBegun S.Store store.new names }
-    ensures sees { OnOk result ((names : Named) → IsHonest S.Store store.new →
-        get names name.now ≡ Some (phc_of hash.now) → Sees (S.Store.view store.old) names →
-        Sees (S.Store.view store.new) (remove names name.now)) }
-    ensures broken { OnOk result (IsHonest S.Store store.new →
-        (S.Store.view store.new).is_broken ≡ (S.Store.view store.old).is_broken) }
-    ensures schema { KeepsSchema (S.Store.view store.old) (S.Store.view store.new) }
-    ensures cause { IsHonest S.Store store.new → IfErr result (HasCause (S.Store.view store.old)
-        (MoreFaults (S.Store.faults store.old) (S.Store.faults store.new)) ⊥) }
-    ensures quiet { IsQuiet S.Store.view S.Store.faults S.Store.recovers S.Store.is_shielded store.old store.new }
+    ensures { (names : Named) → get names name.now ≡ Some (phc_of hash.now) →
+        Writes S.Store store.old store.new names (remove names name.now) ⊥ result }
 {
     lay(row, name, hash)?;
     store.remove(ACCOUNTS, row)
+}
+
+// Takes a name's row out where it has one, and writes another where there is one.
+fn write<S: Store>(
+    store: &mut S,
+    row: &mut Row,
+    name: &str,
+    old: Option<&PasswordHash>,
+    new: Option<&PasswordHash>,
+) -> Result<(), StoreError>
+    requires { IsHonest S.Store store.old → (S.Store.view store.old).shape 0 ≡ Index plain }
+    ensures { (names : Named) → get names name.now ≡ option_map phc_of (option_copied old.entry) →
+        Writes S.Store store.old store.new names
+        (changed names name.now (option_map phc_of (option_copied new.entry)))
+        (IsLong name.now) result }
+{
+    let Some(hash) = old else {
+        return put(store, row, name, new);
+    };
+    take_out(store, row, name, hash)?;
+    put(store, row, name, new)
+}
+
+// Writes the rows of new names, with their texts in memory.
+fn put_all<S: Store>(
+    store: &mut S,
+    row: &mut Row,
+    names: &Names,
+    new: &[(&str, &str)],
+) -> Result<(), StoreError>
+    requires { IsHonest S.Store store.old → (S.Store.view store.old).shape 0 ≡ Index plain }
+    ensures { (before : Named) → AddsAll before (map entry_of new.now) (values_in names.now) →
+        Writes S.Store store.old store.new before (values_in names.now)
+        (Any (λ e. IsLong e.0) (map entry_of new.now)) result }
+{
+    for &(name, _) in new {
+        put(store, row, name, names.get(name))?;
+    }
+    Ok(())
 }
 
 // Commits what was written, or takes it back where that has failed.
@@ -131,34 +156,6 @@ fn finish<S: Store>(store: &mut S, done: Result<(), StoreError>) -> Result<(), S
     }
 }
 
-// Takes a name's row out where it has one, and writes another where there is one.
-fn write<S: Store>(
-    store: &mut S,
-    row: &mut Row,
-    name: &str,
-    old: Option<&PasswordHash>,
-    new: Option<&PasswordHash>,
-) -> Result<(), StoreError>
-    requires { IsHonest S.Store store.old → (S.Store.view store.old).shape 0 ≡ Index plain }
-    ensures begun { (names : Named) → IsHonest S.Store store.new → HasBegun S.Store store.old names →
-        HasBegun S.Store store.new names }
-    ensures sees { OnOk result ((names : Named) → IsHonest S.Store store.new →
-        get names name.now ≡ option_map phc_of (option_copied old.entry) → Sees (S.Store.view store.old) names →
-        Sees (S.Store.view store.new) (changed names name.now (option_map phc_of (option_copied new.entry)))) }
-    ensures cause { IsHonest S.Store store.new → IfErr result (HasCause (S.Store.view store.old)
-        (MoreFaults (S.Store.faults store.old) (S.Store.faults store.new))
-        (IsLong name.now)) }
-    ensures broken { OnOk result (IsHonest S.Store store.new →
-        (S.Store.view store.new).is_broken ≡ (S.Store.view store.old).is_broken) }
-    ensures quiet { IsQuiet S.Store.view S.Store.faults S.Store.recovers S.Store.is_shielded store.old store.new }
-{
-    let Some(hash) = old else {
-        return put(store, row, name, new);
-    };
-    take_out(store, row, name, hash)?;
-    put(store, row, name, new)
-}
-
 // Changes what a name has, and commits. The store is open.
 fn change<S: Store>(
     store: &mut S,
@@ -175,6 +172,24 @@ fn change<S: Store>(
         (IsLong name.now) result }
 {
     let done = write(store, row, name, old, new);
+    finish(store, done)
+}
+
+// Writes the rows of new names, with their texts in memory, and commits. The store is open.
+fn change_all<S: Store>(
+    store: &mut S,
+    row: &mut Row,
+    names: &Names,
+    new: &[(&str, &str)],
+) -> Result<(), StoreError>
+    requires shape { IsHonest S.Store store.old → (S.Store.view store.old).shape 0 ≡ Index plain }
+    requires open { IsHonest S.Store store.old → IsOpen S.Store store.old }
+    ensures { (before : Named) → AddsAll before (map entry_of new.now) (values_in names.now) →
+        IsKept S.Store store.old before →
+        Changes S.Store store.old store.new before (values_in names.now)
+        (Any (λ e. IsLong e.0) (map entry_of new.now)) result }
+{
+    let done = put_all(store, row, names, new);
     finish(store, done)
 }
 
@@ -204,7 +219,7 @@ fn load<S: Store>(alloc: Global, store: &mut S, row: &mut Row) -> Result<Names, 
     ensures found { IfOk result (λ names. IsHonest S.Store store.new →
         (S.Store.view store.old).committed 0 ≡ rows_of (values_in names)) }
     ensures open { OnOk result (IsHonest S.Store store.new → IsOpen S.Store store.new) }
-    ensures quiet { IsQuiet S.Store.view S.Store.faults S.Store.recovers S.Store.is_shielded store.old store.new }
+    ensures quiet { StaysQuiet S.Store store.old store.new }
 {
     if store.shape(ACCOUNTS) != Shape::Index(Order::PLAIN) {
         return Err(OpenError::NotAccounts);
@@ -234,7 +249,7 @@ impl<S: Store + Drop> Table<S> {
         ensures left { IfOk result (λ table. IsHonest S.Store (store_in table) →
             Leaves S.Store (store_in table) (λ left. left ≡ names_in table)) }
         ensures quiet { IfOk result (λ table.
-            IsQuiet S.Store.view S.Store.faults S.Store.recovers S.Store.is_shielded store (store_in table)) }
+            StaysQuiet S.Store store (store_in table)) }
     {
         let mut row = Row::new(alloc);
         let names = load(alloc, &mut store, &mut row)?;
@@ -269,6 +284,30 @@ impl<S: Store> Table<S> {
             Err(error) => {
                 self.names.remove(name);
                 Err(error)
+            }
+        }
+    }
+
+    // Gives new names their texts. Where one is refused, none is written.
+    pub(crate) fn add_all(
+        &mut self,
+        new: &[(&str, &str)],
+    ) -> Result<Result<(), StoreError>, (usize, AccountError)>
+        requires { IsHonest S.Store (file_of self.old) → IsOpen S.Store (file_of self.old) }
+        ensures added { IfOk result (λ done. (after : Named)
+            × AddsAll (names_of self.old) (map entry_of new.now) after
+            × Changes S.Store (file_of self.old) (file_of self.new) (names_of self.old) after
+            (Any (λ e. IsLong e.0) (map entry_of new.now)) done
+            × MatchResult done (λ _. names_of self.new ≡ after) (λ _. names_of self.new ≡ names_of self.old)) }
+        ensures refused { IfErr result (λ e. IsFirstRefused (names_of self.old) (map entry_of new.now) e.0 e.1
+            × (names_of self.new ≡ names_of self.old) × (file_of self.new ≡ file_of self.old)) }
+    {
+        self.names.add_all(self.alloc, new)?;
+        match change_all(&mut self.store, &mut self.row, &self.names, new) {
+            Ok(()) => Ok(Ok(())),
+            Err(error) => {
+                self.names.remove_all(new);
+                Ok(Err(error))
             }
         }
     }

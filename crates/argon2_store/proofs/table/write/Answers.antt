@@ -1,17 +1,28 @@
-use Rattle.std.proofs.Common.{arith, ap, ◌∙◌, subst}
-use Rattle.std.specs.FinMap.{remove}
+use Rattle.std.proofs.Common.{ap, ◌∙◌, subst}
+use Rattle.std.specs.FinMap.{empty, insert, remove}
 use Rattle.std.specs.Option.{option_copied, option_map}
-use Rattle.sqlite_trees.specs.View.{IsClean}
 use Rattle.argon2_base.specs.PhcFields.{phc_of}
-use Rattle.argon2_store.specs.Table.{Sees}
+use Rattle.argon2.proofs.login_store.Stores.{get-same}
+use Rattle.argon2_store.specs.Table.{IsLong, Writes}
 use Rattle.argon2_store.proofs.NameLemmas.{get-gone-same}
-use Rattle.argon2_store.proofs.TableLemmas.{changed-remove, on_ok}
+use Rattle.argon2_store.proofs.TableLemmas.{changed-remove, keeps_shape, writes_then}
 use Rattle.argon2_store.proofs.table.write.Goals as goal
 
-pub returns-clause-sees : goal.returns-clause-sees
-returns-clause-sees g c = on_ok c.put-2.result c.put-2.ensures.sees (λ f names clean has sees.
+pub put-requires-2 : goal.put-requires-2
+put-requires-2 g c =
     let name = c.args.name.now in
-    let mid : IsClean (g.S.Store.view c.take_out.new.store) = omega (arith, clean, c.put-2.ensures.quiet.clean) in
+    let v = phc_of c.in-Some.hash.now in
+    let names = insert empty name v in
+    keeps_shape g.S.Store c.args.store.now c.take_out.new.store names (remove names name) ⊥ c.take_out.result
+    (c.take_out.ensures names (get-same empty name v)) c.requires
+
+pub returns : goal.returns
+returns g c names has =
+    let name = c.args.name.now in
     let here = has ∙ ap (λ n. option_map phc_of (option_copied n)) c.in-Some.is in
-    subst (Sees (g.S.Store.view c.put-2.new.store)) (changed-remove names name _)
-    (f (remove names name) clean (get-gone-same names name) (c.in_ok-take_out.ensures.sees names mid here sees)))
+    writes_then g.S.Store c.args.store.now c.take_out.new.store c.put-2.new.store names (remove names name) _ ⊥ _ (IsLong name) c.put-2.result
+    (c.in_ok-take_out.ensures names here)
+    (subst (λ s. Writes g.S.Store c.take_out.new.store c.put-2.new.store (remove names name) s (IsLong name) c.put-2.result)
+    (changed-remove names name (option_map phc_of (option_copied c.args.new)))
+    (c.put-2.ensures (remove names name) (get-gone-same names name)))
+    (λ long. long)

@@ -1,5 +1,5 @@
-use Rattle.std.proofs.Common.{arith, ◌≡◌, Result, Ok, Err, Bool, true, false, IsTrue, refl, sym, ap, ◌∙◌}
-use Rattle.std.specs.Prelude.{IfErr, IsErr, IsErrAnd}
+use Rattle.std.proofs.Common.{arith, ◌≡◌, Result, Err, Bool, true, false, IsTrue, refl, sym, ap, ◌∙◌}
+use Rattle.std.specs.Prelude.{IfErr, IsErr}
 use Rattle.sqlite_disk.specs.Disk.{MoreFaults}
 use Rattle.sqlite_store.specs.FileStore.{view}
 use Rattle.sqlite_store.specs.Laws.{settled_at}
@@ -13,7 +13,7 @@ use Rattle.argon2_store.specs.Errors.{named}
 use Rattle.argon2_store.specs.Table.{IsHonest}
 use Rattle.argon2_store.specs.declared.account_file.AccountFile.{AccountFile}
 use Rattle.argon2_store.specs.declared.error.FileError.{FileError}
-use Rattle.argon2_store.proofs.TableLemmas.{leaves_kept}
+use Rattle.argon2_store.proofs.TableLemmas.{err_is, leaves_kept}
 use Rattle.argon2_store.proofs.account_file.AccountFile+FileStore+D.checkpoint.Goals as goal
 
 named_cause : (v : shown.View) (closed fault : Type 0) → (IsTrue v.is_broken → closed) → (e : StoreError)
@@ -24,10 +24,6 @@ named_cause v closed fault broken below.Corrupt h = h
 named_cause v closed fault broken below.Full h = h
 named_cause v closed fault broken below.Broken h = broken h
 named_cause v closed fault broken below.Unstorable h = h
-
-err_is : (r : Result (Unit {0}) FileError) (f : FileError) → IsErrAnd r (λ e. e ≡ f) → r ≡ Err f
-err_is (Ok x) f h = absurd h
-err_is (Err e) f h = ap Err h
 
 closed_of : (b : Bool) → (IsTrue b → ⊥) → b ≡ false
 closed_of true h = absurd (h refl)

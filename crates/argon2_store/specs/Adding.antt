@@ -1,0 +1,26 @@
+-- Adding several names with their texts, one after the other.
+use Rattle.std.specs.Prelude.{◌≡◌, ℕ, ◌<◌, List, [], ◌∷◌, length, slice_index_or, take, Result, Ok, Err}
+use Rattle.std.specs.Borrow.{Bor}
+use Rattle.std.specs.FinMap.{get}
+use Rattle.argon2.specs.Accounts.{Adds}
+use Rattle.argon2.specs.Login.{KeepsOthers, Store}
+use Rattle.argon2.specs.declared.accounts.error.AccountError.{AccountError}
+
+-- a name and its text
+abbrev pub entry_of : Bor (List ℕ) × Bor (List ℕ) → List ℕ × List ℕ
+entry_of e = (e.0.now, e.1.now)
+
+-- what adding a name with its text answers, and the names after it
+abbrev pub AddsName : Store → List ℕ × List ℕ → Result (Unit {0}) AccountError → Store → Type 0
+AddsName before e answer after = Adds e.1 (get before e.0) answer (get after e.0) × KeepsOthers e.0 before after
+
+-- the names once each is added
+abbrev pub AddsAll : Store → List (List ℕ × List ℕ) → Store → Type 0
+AddsAll before [] after = after ≡ before
+AddsAll before (e ∷ es) after = (mid : Store) × AddsName before e (Ok tt) mid × AddsAll mid es after
+
+-- those before this one can be added, and this one is then refused
+abbrev pub IsFirstRefused : Store → List (List ℕ × List ℕ) → ℕ → AccountError → Type 0
+IsFirstRefused before es k why =
+    (mid : Store) × AddsAll before (take k es) mid × (k < length es)
+    × AddsName mid (slice_index_or es k ([], [])) (Err why) mid
