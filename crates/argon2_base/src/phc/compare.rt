@@ -1,4 +1,4 @@
-//! Comparison of bytes in a time that does not depend on where they differ.
+//! Comparison of bytes that does not stop at the first that differs.
 
 ghost use Rattle.std.specs.Prelude.{◌≡◌};
 ghost use Rattle.std.specs.Str.{bytes_eq};
