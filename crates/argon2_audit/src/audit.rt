@@ -34,7 +34,7 @@ impl Audit {
         }
     }
 
-    /// Counts a line that comes to this, and returns what it is counted as.
+    /// Counts a line in which this is found, and returns what it is counted as.
     ///
     /// # Errors
     /// Memory may be refused, and the line is not counted then.

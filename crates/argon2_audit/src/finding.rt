@@ -1,4 +1,4 @@
-//! What a line comes to.
+//! What is found in a line.
 
 ghost use Rattle.std.specs.Prelude.{◌≤◌, length};
 ghost use Rattle.argon2_audit.specs.Finding.{IsFinding, IsTextFinding};
@@ -9,7 +9,7 @@ use crate::place::Place;
 use crate::policy::Policy;
 use argon2::password_hash::Error;
 
-/// What a line comes to.
+/// What is found in a line.
 #[derive(Drop)]
 pub enum Finding {
     /// The line has more bytes than any line may have.
@@ -49,7 +49,7 @@ pub enum Class {
     Unknown,
 }
 
-/// What a line comes to that is not too long.
+/// What is found in a line that is not too long.
 pub fn found(line: &[u8], place: Place) -> Finding
     requires { length line.now ≤ 4096 }
     ensures { IsFinding place line.now result }
@@ -60,7 +60,7 @@ pub fn found(line: &[u8], place: Place) -> Finding
     }
 }
 
-// What a text comes to that claims to be Argon2's.
+// What is found in a text that claims to be Argon2's.
 fn found_text(text: &[u8]) -> Finding
     ensures { IsTextFinding text.now result }
 {

@@ -47,7 +47,7 @@ impl Line {
         Ok(())
     }
 
-    /// What the line comes to, with the text at this place of it. Nothing of the next line is read yet.
+    /// What is found in the line, with the text at this place of it. Nothing of the next line is read yet.
     pub fn end(&mut self, place: Place) -> Finding
         ensures finding { (line : List ℕ) → IsRead self.old line → IsFinding place line result }
         ensures next { IsRead self.new [] }

@@ -34,7 +34,7 @@ impl Session {
         }
     }
 
-    /// Takes account of more bytes, and writes remarks on the lines that end in them.
+    /// Takes more bytes, and writes remarks on the lines that end in them.
     pub fn add<W: Write>(&mut self, bytes: &[u8], output: &mut W) -> Result<(), Failure>
         requires { self.old.audit.tally.lines + length bytes.now < 2 ^ 64 }
         ensures options { OnOk result (self.new.audit.options ≡ self.old.audit.options) }
@@ -49,7 +49,7 @@ impl Session {
         Ok(())
     }
 
-    // Takes account of one more byte.
+    // Takes one more byte.
     fn add_byte<W: Write>(&mut self, byte: u8, output: &mut W) -> Result<(), Failure>
         requires { self.old.audit.tally.lines < 2 ^ 64 - 1 }
         ensures options { OnOk result (self.new.audit.options ≡ self.old.audit.options) }
@@ -78,7 +78,7 @@ impl Session {
         Ok(())
     }
 
-    /// Writes what the lines come to, after the last.
+    /// Writes the counts of all lines, after the last.
     pub fn end_report<W: Write>(&self, output: &mut W) -> Result<(), Failure> {
         self.report.table(output, &self.audit)
     }

@@ -19,7 +19,7 @@ pub struct Choice {
 pub struct Found {
     /// The costs.
     pub choice: Choice,
-    /// Whether some of the times that the search measured scattered to the last.
+    /// Whether some of the times that the search measured still scattered at the end.
     pub busy: bool,
 }
 

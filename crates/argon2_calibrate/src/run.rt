@@ -38,14 +38,14 @@ the most memory that one hash may take, 64 where it is not given.
     -h, --help  write this
     --version   write the version
 
-It hashes by Argon2id, each time thrice, and says on standard error the least of the three times.
+It hashes by Argon2id, three times for each choice, and says on standard error the least time.
 First it halves the memory, from the most on, until the least passes are within the time; then it
 takes the most passes that are, of up to four numbers that it tries. It writes the parameters as a
 list, as a call and with the time that was measured.
 
 The machine is busy where the greatest of three times is above the least by more than a quarter. Then
-it measures again, at most five times in all. Where some times scattered to the last, a last line or
-the JSON object says so.
+it measures again, at most five times in all. Where some times still differ that much in the end, a
+last line or the JSON object says so.
 
 The status is 0 where the costs are written. It is 1 where the clock, writing or a request for memory
 fails, which standard error says; and 2 where the arguments are not of this form.
