@@ -58,7 +58,8 @@ add_last [] before mid after e same last =
     (after, subst (λ (m : Store). AddsName m e (Ok tt) after) same last, refl)
 add_last (x ∷ xs) before mid after e all last = (all.0, all.1, add_last xs all.0 mid after e all.2 last)
 
-pub all_but_last : (es : List (List ℕ × List ℕ)) (before after : Store) (e : List ℕ × List ℕ) → AddsAll before (es ++ e ∷ []) after
+pub all_but_last : (es : List (List ℕ × List ℕ)) (before after : Store) (e : List ℕ × List ℕ)
+    → AddsAll before (es ++ e ∷ []) after
     → (mid : Store) × AddsAll before es mid × AddsName mid e (Ok tt) after
 all_but_last [] before after e all = (before, refl, subst (AddsName before e (Ok tt)) (sym all.2) all.1)
 all_but_last (x ∷ xs) before after e all =

@@ -175,7 +175,8 @@ module _ {S : Type 0} {g : Ghosts S}
   pub refuses : (e : AccountError) (r : Result X FileError) → IsErrAnd r (λ f. f ≡ Account e)
       → AccountAnswer (terms_of old) (call (Err e)) o o → Serves call r old old
   refuses e r is answer = rw (err_is r (Account e) is)
-      (writes_none settled old tests no answers May long old refl refl refl (inl refl) (Err (Account e)) (stays (Err e) answer) (e, refl))
+      (writes_none settled old tests no answers May long old refl refl refl (inl refl) (Err (Account e)) (stays (Err e) answer)
+      (e, refl))
 
   -- an accepted call that writes nothing
   pub accepts : (x : X) → AccountAnswer (terms_of old) (call (Ok x)) o o → Serves call (Ok x) old old

@@ -80,7 +80,8 @@ tails : (xs ys : List Row) → Some xs ≡ Some ys → xs ≡ ys
 tails xs ys h = cc
 
 pub step : (first now next : View) (row : Row) (before after : Store) → IsOrdered first.shape first.trees
-    → first.shape 0 ≡ Index plain → IsReading first now before → Advances now next 0 row true → TakesRow row before after → IsReading first next after
+    → first.shape 0 ≡ Index plain → IsReading first now before → Advances now next 0 row true → TakesRow row before after
+    → IsReading first next after
 step first now next row before after ordered shape reading moves taken =
     let rest = tails reading.rest (row ∷ moves.0) (sym reading.left ∙ moves.1) in
     let all : rows_of before ++ row ∷ moves.0 ≡ first.trees 0 = ap (λ l. rows_of before ++ l) (sym rest) ∙ reading.all in

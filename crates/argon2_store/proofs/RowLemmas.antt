@@ -42,9 +42,11 @@ insert_entry-map k v (e ∷ es) none =
     go (order k e.0) (order e.0 k) (nat_list_cmp_total.antisymm e.0 k) parts.0 (row_cmp-row_of e (k, v)) rest
   where
     go : (o p : Ordering) → p ≡ ordering_reverse o → is_eq o ≡ false
-        → entry_cmp plain (row_of e) (row_of (k, v)) ≡ ordering_then p (row_cmp (Text (phc_text e.1) ∷ []) (Text (phc_text v) ∷ []))
+        → entry_cmp plain (row_of e) (row_of (k, v)) ≡ ordering_then p
+        (row_cmp (Text (phc_text e.1) ∷ []) (Text (phc_text v) ∷ []))
         → insert_entry plain (row_of (k, v)) (map row_of es) ≡ map row_of (put order k v es)
-        → match_ordering (entry_cmp plain (row_of e) (row_of (k, v))) (row_of e ∷ insert_entry plain (row_of (k, v)) (map row_of es))
+        → match_ordering (entry_cmp plain (row_of e) (row_of (k, v)))
+        (row_of e ∷ insert_entry plain (row_of (k, v)) (map row_of es))
         (row_of e ∷ map row_of es) (row_of (k, v) ∷ row_of e ∷ map row_of es)
         ≡ map row_of (by_order o ((k, v) ∷ e ∷ es) ((e.0, v) ∷ es) (e ∷ put order k v es))
     go Less p flip apart is rest = rw (is, flip) refl
@@ -59,7 +61,8 @@ insert_entry-rows_of names name v none =
 
 -- ---- a name taken out
 
-filter_same : (p q : List ℕ × Phc → Bool) (es : List (List ℕ × Phc)) → AllByRecursion (λ e. p e ≡ q e) es → filter p es ≡ filter q es
+filter_same : (p q : List ℕ × Phc → Bool) (es : List (List ℕ × Phc)) → AllByRecursion (λ e. p e ≡ q e) es
+    → filter p es ≡ filter q es
 filter_same p q [] h = refl
 filter_same p q (e ∷ es) h = ap₂ (λ b rest. cond b (e ∷ rest) rest) h.0 (filter_same p q es h.1)
 
@@ -115,15 +118,18 @@ turned : (b : Bool) (o : Option Phc) → cond (not b) o None ≡ cond b None o
 turned true o = refl
 turned false o = refl
 
-entries-remove : (names : Store) (name : List ℕ) → entries (remove names name) ≡ where_key order (λ x. not (eq_by_cmp order name x)) (entries names)
+entries-remove : (names : Store) (name : List ℕ)
+    → entries (remove names name) ≡ where_key order (λ x. not (eq_by_cmp order name x)) (entries names)
 entries-remove names name =
     let test : List ℕ → Bool = λ x. not (eq_by_cmp order name x) in
     let es = where_key order test (entries names) in
     let sorted = is_sorted-where_key order test (entries names) (entries_sorted names) in
-    let same : remove names name ≡ from_sorted es = same_map nat_list_cmp_total (slice_cmp-IsAntisymmetric nat_cmp-IsAntisymmetric) _ _ (λ q.
+    let same : remove names name ≡ from_sorted es =
+    same_map nat_list_cmp_total (slice_cmp-IsAntisymmetric nat_cmp-IsAntisymmetric) _ _ (λ q.
     get-remove nat_list_cmp_total names name q
     ∙ sym (get-from_sorted order es q sorted
-    ∙ find-where_key order test q (λ x t. ap (λ r. not (is_eq r)) (sym (alike_right nat_list_cmp_total q x name t))) (entries names)
+    ∙ find-where_key order test q (λ x t. ap (λ r. not (is_eq r)) (sym (alike_right nat_list_cmp_total q x name t)))
+    (entries names)
     ∙ turned (eq_by_cmp order name q) _
     ∙ ap₂ (λ b o. cond b None o) ((eq_by_cmp_equiv nat_list_cmp_total).symm name q) (sym (get-entries names q)))) in
     ap entries same ∙ entries-from_sorted order es sorted

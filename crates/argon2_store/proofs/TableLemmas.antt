@@ -247,7 +247,8 @@ module _ {S : Type 0} (g : Ghosts S) where
     begun = written.begun;
     sees = tt;
     broken = tt;
-    cause = λ clean. cause_map (g.view a) (g.view a) (MoreFaults (g.faults a) (g.faults b)) (MoreFaults (g.faults a) (g.faults b)) P Q
+    cause = λ clean. cause_map (g.view a) (g.view a) (MoreFaults (g.faults a) (g.faults b))
+        (MoreFaults (g.faults a) (g.faults b)) P Q
         (λ h. h) (λ h. h) more e (written.cause clean);
     schema = written.schema;
     quiet = written.quiet;
@@ -292,7 +293,8 @@ module _ {S : Type 0} (g : Ghosts S) where
         crash = λ now. left now (begun now) (sees now);
         durable = on_ok_later _ result (λ now. durable now (sees now));
         cause = λ now. cause_after (g.view old) (g.view mid) (g.faults old) (g.faults mid) (g.faults new) long done result
-            wrote.quiet.counts counts (on_ok done wrote.broken (λ same. same (to_mid now))) (wrote.cause (to_mid now)) (cause now);
+            wrote.quiet.counts counts (on_ok done wrote.broken (λ same. same (to_mid now))) (wrote.cause (to_mid now))
+            (cause now);
         closes = λ now. elim (wrote.quiet.closes (to_mid now) (is_open (to_old now))) [
           | inl still ↦ elim (closes now still) [
             | inl yet ↦ inl yet

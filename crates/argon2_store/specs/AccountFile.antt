@@ -111,7 +111,8 @@ module _ {S : Type 0} {g : Ghosts S} where
     -- it is an error of the file
     pub of_file : IfErr result (λ e. (why : StoreError) × (e ≡ named why))
 
-  -- What a call does that answers so. The clauses on the file hold while the disk has given no wrong answer that was taken as true.
+  -- What a call does that answers so. The clauses on the file hold while the disk has given no wrong answer that was
+  -- taken as true.
   pub record Runs {X : Type 0} (answers : Result X FileError → Store → Type 0) (May : Store → Type 0) (too_long : Type 0)
       (result : Result X FileError) (old new : AccountFile S g) : Type 0 where
     pub step : answers result (names_of new)

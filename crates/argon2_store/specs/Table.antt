@@ -80,24 +80,30 @@ module _ {S : Type 0} (g : Ghosts S) where
     pub committed : IsOpen s → (g.view s).committed 0 ≡ rows_of names
     pub left : (db : Trees) → g.recovers s db → db 0 ≡ rows_of names
 
+  -- the disk failed or refused from the one to the other
+  abbrev pub HasFailed : S → S → Type 0
+  HasFailed old new = MoreFaults (g.faults old) (g.faults new)
+
   -- no fault is forgotten, and a crash has no new outcome
   abbrev pub StaysQuiet : S → S → Type 0
   StaysQuiet old new = IsQuiet g.view g.faults g.recovers g.is_shielded old new
 
   -- Rows written into a transaction, which change the names that it sees, up to the first that fails.
-  pub record Writes (old new : S) (before after : Store) (too_long : Type 0) (result : Result (Unit {0}) StoreError) : Type 0 where
+  pub record Writes (old new : S) (before after : Store) (too_long : Type 0) (result : Result (Unit {0}) StoreError)
+      : Type 0 where
     pub begun : (names : Store) → IsHonest new → HasBegun old names → HasBegun new names
     pub sees : OnOk result (IsHonest new → Sees (g.view old) before → Sees (g.view new) after)
     pub broken : OnOk result (IsHonest new → (g.view new).is_broken ≡ (g.view old).is_broken)
-    pub cause : IsHonest new → IfErr result (HasCause (g.view old) (MoreFaults (g.faults old) (g.faults new)) too_long)
+    pub cause : IsHonest new → IfErr result (HasCause (g.view old) (HasFailed old new) too_long)
     pub schema : KeepsSchema (g.view old) (g.view new)
     pub quiet : StaysQuiet old new
 
   -- A change from one list of names to another, with its answer.
-  pub record Changes (old new : S) (before after : Store) (too_long : Type 0) (result : Result (Unit {0}) StoreError) : Type 0 where
+  pub record Changes (old new : S) (before after : Store) (too_long : Type 0) (result : Result (Unit {0}) StoreError)
+      : Type 0 where
     pub honest : IsHonest new → IsHonest old
     pub kept : MatchResult result (λ _. IsKept new after) (λ _. IsKept new before)
     pub crash : IsHonest new → Leaves new (λ left. (left ≡ before) ⊎ (left ≡ after))
     pub durable : OnOk result (IsHonest new → IsOpen new × Leaves new (λ left. left ≡ after))
-    pub cause : IsHonest new → IfErr result (HasCause (g.view old) (MoreFaults (g.faults old) (g.faults new)) too_long)
-    pub closes : IsHonest new → IsOpen new ⊎ MoreFaults (g.faults old) (g.faults new)
+    pub cause : IsHonest new → IfErr result (HasCause (g.view old) (HasFailed old new) too_long)
+    pub closes : IsHonest new → IsOpen new ⊎ HasFailed old new

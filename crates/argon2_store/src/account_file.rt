@@ -91,15 +91,15 @@ impl<'key, S: Store> AccountFile<'key, S> {
         written(self.table.insert(name, parsed), ())
     }
 
-    /// Adds all of these new names with their texts, as [`add`](AccountFile::add) in order, or none: they are
-    /// written together. After a crash in the middle of the call the file holds all of them or none.
+    /// Adds all of these new names with their texts, as [`add`](AccountFile::add) in order, or none. They
+    /// are written together: after a crash in the middle of the call the file holds all of them or none.
     ///
     /// # Errors
-    /// With an index into `new`. The first of these that holds:
+    /// Each comes with an index into `new`. The first of these that holds:
     /// - [`FileError::Closed`]: the file has to be opened again.
-    /// - [`FileError::Account`]: the entry at the index is the first that `add` would refuse, and so. Here it is
-    ///   [`Error::OutOfMemory`](argon2::password_hash::Error::OutOfMemory) where there is no memory for the entry.
-    /// - those of writing, as [`add`](AccountFile::add), with the number of entries for an index.
+    /// - [`FileError::Account`]: the entry at the index is the first that `add` refuses, for this reason. With
+    ///   [`Error::OutOfMemory`](argon2::password_hash::Error::OutOfMemory) there is no memory for it.
+    /// - those of writing, as [`add`](AccountFile::add). The index is then the number of entries.
     pub fn add_all(&mut self, new: &[(&str, &str)]) -> Result<(), (usize, FileError)>
         ensures call { AddsOrNone (map entry_of new.now) (unindexed result) self.old self.new }
         ensures refused { IfErr result (IsRefusal (names_of self.old) (map entry_of new.now)) }
@@ -131,7 +131,8 @@ impl<'key, S: Store> AccountFile<'key, S> {
         name: &str,
         password: &[u8],
     ) -> Result<(), FileError>
-        ensures call { Serves (registering name.now password.now (fill_bytes 16 (R.stream rng.old)).0)
+        ensures call { Serves
+            (registering name.now password.now (fill_bytes 16 (R.stream rng.old)).0)
             result self.old self.new }
         ensures accepted { OnOk result
             (HasPassword (terms_of self.new) (names_of self.new) name.now password.now) }
@@ -163,7 +164,8 @@ impl<'key, S: Store> AccountFile<'key, S> {
         name: &str,
         password: &[u8],
     ) -> Result<Accepted, FileError>
-        ensures call { Serves (logging_in name.now password.now (fill_bytes 16 (R.stream rng.old)).0)
+        ensures call { Serves
+            (logging_in name.now password.now (fill_bytes 16 (R.stream rng.old)).0)
             result self.old self.new }
         ensures accepted { OnOk result
             (HasPassword (terms_of self.new) (names_of self.new) name.now password.now) }
@@ -199,11 +201,13 @@ impl<'key, S: Store> AccountFile<'key, S> {
         old: &[u8],
         new: &[u8],
     ) -> Result<(), FileError>
-        ensures call { Serves (changing name.now old.now new.now (fill_bytes 16 (R.stream rng.old)).0)
+        ensures call { Serves
+            (changing name.now old.now new.now (fill_bytes 16 (R.stream rng.old)).0)
             result self.old self.new }
         ensures accepted { OnOk result
             (HasPassword (terms_of self.new) (names_of self.new) name.now new.now) }
-        ensures drawn { DrawsOnce (HasPassword (terms_of self.old) (names_of self.old) name.now old.now)
+        ensures drawn { DrawsOnce
+            (HasPassword (terms_of self.old) (names_of self.old) name.now old.now)
             result (R.stream rng.old) (R.stream rng.new) }
     {
         if self.is_closed() {

@@ -39,7 +39,8 @@ impl Names {
         name: &str,
         hash: PasswordHash,
     ) -> Result<(), AllocError>
-        ensures ok { OnOk result (values_in self.new ≡ map.insert (values_in self.old) name.now (phc_of hash)) }
+        ensures ok { OnOk result
+            (values_in self.new ≡ map.insert (values_in self.old) name.now (phc_of hash)) }
         ensures err { OnErr result (values_in self.new ≡ values_in self.old) }
     {
         let key = String::from_str(alloc, name)?;

@@ -1,7 +1,7 @@
 //! Opening the file at a path, or making it.
 
 ghost use Rattle.std.specs.Prelude.{◌≡◌, [], ◌∷◌, IsTrue, IfOk, OnOk};
-ghost use Rattle.sqlite_store.specs.FileStore.{is_shielded, view};
+ghost use Rattle.sqlite_store.specs.FileStore.{view};
 ghost use Rattle.sqlite_store.specs.Unopened.{AreUsable, image, state_of, wanted_by};
 ghost use Rattle.sqlite_store.specs.Unopened as below;
 ghost use Rattle.sqlite_trees.specs.View.{IsClean};
@@ -41,7 +41,6 @@ const PAGE: usize = 4096;
 fn make<D: Disk + Drop>(files: Unopened<D>) -> Result<FileStore<D>, OpenError>
     requires { AreUsable files }
     ensures fresh { IfOk result (λ it. IsClean (view it) → IsFresh (view it)) }
-    ensures guarded { IfOk result (λ it. IsClean (view it) → is_shielded it) }
     ensures honest { IfOk result (λ it. IsClean (view it) → IsTrue (state_of files).is_clean) }
     ensures empty { IfOk result (λ it. IsClean (view it) →
         ∥ below.IsUnstarted files ∥₁ × ((view it).committed 0 ≡ [])) }
@@ -56,7 +55,8 @@ fn make<D: Disk + Drop>(files: Unopened<D>) -> Result<FileStore<D>, OpenError>
 fn is_bare<D: Disk + Drop>(files: &mut Unopened<D>) -> Result<bool, OpenError>
     requires { AreUsable files.old }
     ensures usable { OnOk result (AreUsable files.new) }
-    ensures read { IsTrue (state_of files.new).is_clean → IfOk result (IsReadAs files.old files.new) }
+    ensures read { IsTrue (state_of files.new).is_clean →
+        IfOk result (IsReadAs files.old files.new) }
     ensures schema { wanted_by files.new ≡ wanted_by files.old }
     ensures size { IsTrue (state_of files.new).is_clean →
         (state_of files.new).page_size ≡ (state_of files.old).page_size }
@@ -69,7 +69,6 @@ fn is_bare<D: Disk + Drop>(files: &mut Unopened<D>) -> Result<bool, OpenError>
 fn attach<D: Disk + Drop>(mut files: Unopened<D>) -> Result<FileStore<D>, OpenError>
     requires { AreUsable files }
     ensures fresh { IfOk result (λ it. IsClean (view it) → IsFresh (view it)) }
-    ensures guarded { IfOk result (λ it. IsClean (view it) → is_shielded it) }
     ensures found { IfOk result (λ it. IsClean (view it) →
         FoundIn (state_of files).page_size (wanted_by files) (image files)
         ((view it).committed 0)) }
@@ -94,7 +93,6 @@ pub(crate) fn open_files<D: Disk + Drop>(
     ensures found { IfOk result (λ it. IsClean (view it) →
         FoundIn 4096 (account ∷ []) (seen_image D.Disk files.log files.db)
         ((view it).committed 0)) }
-    ensures guarded { IfOk result (λ it. IsClean (view it) → is_shielded it) }
 {
     let Some(size) = PageSize::new(PAGE) else {
         return Err(OpenError::NotAccounts);
@@ -123,7 +121,6 @@ pub(crate) fn open_path<T: Start>(
     ensures fresh { IfOk result (λ it. IsClean (view it) → IsFresh (view it)) }
     ensures found { IfOk result (λ it. IsClean (view it) →
         FoundIn 4096 (account ∷ []) (image_at T.Start) ((view it).committed 0)) }
-    ensures guarded { IfOk result (λ it. IsClean (view it) → is_shielded it) }
 {
     let files = sqlite_std_file::open(rt, path, start)?;
     let state = RandomState::new(rt)?;

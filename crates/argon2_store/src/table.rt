@@ -13,7 +13,7 @@ ghost use Rattle.argon2.specs.Login.{Store as Named, named_values};
 ghost use Rattle.argon2_store.specs.Adding.{AddsAll, IsFirstRefused, entry_of};
 ghost use Rattle.argon2_store.specs.Names.{values_in};
 ghost use Rattle.argon2_store.specs.Rows.{TakesRow, row_of, rows_of};
-ghost use Rattle.argon2_store.specs.Table.{Changes, HasBegun, IsFresh, IsHonest, IsKept, IsKept-prop, IsOpen, IsLong, Leaves, Sees, StaysQuiet, Writes, changed};
+ghost use Rattle.argon2_store.specs.Table.{Changes, HasBegun, HasFailed, IsFresh, IsHonest, IsKept, IsKept-prop, IsOpen, IsLong, Leaves, Sees, StaysQuiet, Writes, changed};
 
 use crate::error::OpenError;
 use crate::names::Names;
@@ -129,21 +129,24 @@ fn put_all<S: Store>(
 
 // Commits what was written, or takes it back where that has failed.
 fn finish<S: Store>(store: &mut S, done: Result<(), StoreError>) -> Result<(), StoreError>
-    ensures kept { (before : Named) (after : Named) → (IsHonest S.Store store.new →
+    ensures kept { (before after : Named) → (IsHonest S.Store store.new →
         HasBegun S.Store store.old before × OnOk done (Sees (S.Store.view store.old) after)) →
-        MatchResult result (λ _. IsKept S.Store store.new after) (λ _. IsKept S.Store store.new before) }
-    ensures left { (before : Named) (after : Named) → IsHonest S.Store store.new → HasBegun S.Store store.old before →
-        OnOk done (Sees (S.Store.view store.old) after) →
+        MatchResult result (λ _. IsKept S.Store store.new after)
+        (λ _. IsKept S.Store store.new before) }
+    ensures left { (before after : Named) → IsHonest S.Store store.new →
+        HasBegun S.Store store.old before → OnOk done (Sees (S.Store.view store.old) after) →
         Leaves S.Store store.new (λ left. (left ≡ before) ⊎ (left ≡ after)) }
-    ensures durable { (after : Named) → IsHonest S.Store store.new → OnOk done (Sees (S.Store.view store.old) after) →
+    ensures durable { (after : Named) → IsHonest S.Store store.new →
+        OnOk done (Sees (S.Store.view store.old) after) →
         OnOk result (IsOpen S.Store store.new × Leaves S.Store store.new (λ left. left ≡ after)) }
     ensures cause { IsHonest S.Store store.new → MatchResult done
         (λ _. IfErr result (HasCause (S.Store.view store.old)
-        (MoreFaults (S.Store.faults store.old) (S.Store.faults store.new)) ⊥))
+        (HasFailed S.Store store.old store.new) ⊥))
         (λ e. result ≡ Err e) }
     ensures closes { IsHonest S.Store store.new → IsOpen S.Store store.old →
-        IsOpen S.Store store.new ⊎ MoreFaults (S.Store.faults store.old) (S.Store.faults store.new) }
-    ensures clean { doubt (S.Store.view store.old).is_clean ≤ doubt (S.Store.view store.new).is_clean }
+        IsOpen S.Store store.new ⊎ HasFailed S.Store store.old store.new }
+    ensures clean { doubt (S.Store.view store.old).is_clean
+        ≤ doubt (S.Store.view store.new).is_clean }
     ensures counts { S.Store.faults store.old ≤ S.Store.faults store.new }
     ensures shield { S.Store.is_shielded store.old → S.Store.is_shielded store.new }
 {
@@ -168,7 +171,8 @@ fn change<S: Store>(
     requires open { IsHonest S.Store store.old → IsOpen S.Store store.old }
     ensures { (before : Named) → get before name.now ≡ option_map phc_of (option_copied old.entry) →
         IsKept S.Store store.old before →
-        Changes S.Store store.old store.new before (changed before name.now (option_map phc_of (option_copied new.entry)))
+        Changes S.Store store.old store.new before
+        (changed before name.now (option_map phc_of (option_copied new.entry)))
         (IsLong name.now) result }
 {
     let done = write(store, row, name, old, new);
@@ -298,8 +302,10 @@ impl<S: Store> Table<S> {
             × AddsAll (names_of self.old) (map entry_of new.now) after
             × Changes S.Store (file_of self.old) (file_of self.new) (names_of self.old) after
             (Any (λ e. IsLong e.0) (map entry_of new.now)) done
-            × MatchResult done (λ _. names_of self.new ≡ after) (λ _. names_of self.new ≡ names_of self.old)) }
-        ensures refused { IfErr result (λ e. IsFirstRefused (names_of self.old) (map entry_of new.now) e.0 e.1
+            × MatchResult done (λ _. names_of self.new ≡ after)
+            (λ _. names_of self.new ≡ names_of self.old)) }
+        ensures refused { IfErr result (λ e.
+            IsFirstRefused (names_of self.old) (map entry_of new.now) e.0 e.1
             × (names_of self.new ≡ names_of self.old) × (file_of self.new ≡ file_of self.old)) }
     {
         self.names.add_all(self.alloc, new)?;
@@ -345,7 +351,8 @@ impl<S: Store> Table<S> {
 
     // Whether the file has to be opened again: a call has failed in a way that only that mends.
     pub(crate) fn is_closed(&self) -> bool
-        ensures { IsHonest S.Store (file_of self.now) → IsTrue result ↔ ((S.Store.view (file_of self.now)).is_open ≡ false) }
+        ensures { IsHonest S.Store (file_of self.now) →
+            IsTrue result ↔ ((S.Store.view (file_of self.now)).is_open ≡ false) }
     {
         self.store.is_broken()
     }

@@ -40,9 +40,6 @@ returns-in-Ok-clause-fresh g c clean =
       shapes = sym (ap (λ o. all_shapes (kept_schema o store.schema.items)) ready.unaltered);
     }
 
-pub returns-in-Ok-clause-guarded : goal.returns-in-Ok-clause-guarded
-returns-in-Ok-clause-guarded g c clean = c.in-Ok.ensures.guarded (clean_of _ clean)
-
 pub returns-in-Ok-clause-found : goal.returns-in-Ok-clause-found
 returns-in-Ok-clause-found g c clean =
     let now = clean_of _ clean in

@@ -6,5 +6,9 @@ nothing [] h = refl
 nothing (x ∷ xs) h = absurd (omega (arith, h))
 
 pub returns-clause-read : goal.returns-clause-read
-returns-clause-read g c clean =
-    (c.in_ok-rows.rows.items, c.in_ok-rows.ensures.ok clean, λ yes. (let none : length c.in_ok-rows.rows.items ≡ 0 = search rules in nothing c.in_ok-rows.rows.items none))
+returns-clause-read g c clean = (
+  c.in_ok-rows.rows.items,
+  c.in_ok-rows.ensures.ok clean,
+  λ yes.
+      (let none : length c.in_ok-rows.rows.items ≡ 0 = search rules in nothing c.in_ok-rows.rows.items none),
+)

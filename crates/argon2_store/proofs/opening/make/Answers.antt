@@ -2,11 +2,12 @@ use Rattle.std.proofs.Common.{arith}
 use Rattle.sqlite_trees.proofs.Doubt.{clean_of}
 use Rattle.argon2_store.proofs.opening.make.Goals as goal
 
-pub returns-in-Ok-clause-guarded : goal.returns-in-Ok-clause-guarded
-returns-in-Ok-clause-guarded g c clean = c.in-Ok.ensures.guarded (clean_of _ clean)
-
 pub returns-in-Ok-clause-honest : goal.returns-in-Ok-clause-honest
 returns-in-Ok-clause-honest g c clean = c.in-Ok.ensures.honest (clean_of _ clean)
 
 pub returns-in-Ok-clause-empty : goal.returns-in-Ok-clause-empty
-returns-in-Ok-clause-empty g c clean = (c.in-Ok.ensures.started (clean_of _ clean), c.in-Ok.ensures.empty (clean_of _ clean) 0 (omega arith))
+returns-in-Ok-clause-empty g c clean = (
+  c.in-Ok.ensures.started (clean_of _ clean),
+  c.in-Ok.ensures.empty (clean_of _ clean) 0
+      (omega arith),
+)

@@ -17,7 +17,8 @@ returns-then-is_new-clause-found g c = if_ok c.make.result c.make.ensures.empty 
 
 pub returns-clause-found : goal.returns-clause-found
 returns-clause-found g c = if_ok c.attach.result c.attach.ensures.found (λ store found clean.
-    let there : FoundIn (state_of c.in-Ok-new.unopened).page_size (wanted_by c.in-Ok-new.unopened) (image c.in-Ok-new.unopened) ((view store).committed 0) = found clean in
+    let there : FoundIn (state_of c.in-Ok-new.unopened).page_size (wanted_by c.in-Ok-new.unopened) (image c.in-Ok-new.unopened)
+    ((view store).committed 0) = found clean in
     let schema : wanted_by c.in-Ok-new.unopened ≡ account ∷ [] = c.in-Ok-new.ensures.schema in
     let size : (state_of c.in-Ok-new.unopened).page_size ≡ 4096 = search rules in
     let img : image c.in-Ok-new.unopened ≡ seen_image g.D.Disk c.args.files.log c.args.files.db = search rules in

@@ -15,8 +15,12 @@ returns-in-Ok-clause-durable g c after clean sees = on_ok c.commit.result c.comm
     let new = g.S.Store.view c.commit.new.self in
     let is_open = still_open old new made (open_if_sound old (g.met.S.Store.broken_if_shut c.args.store.now) made.sound) in (
       is_open,
-      λ db found.
-          (after, ap (λ t. t 0) (g.met.S.Store.settled c.commit.new.self db is_open found) ∙ now_committed old new after made (rw c.in-Ok.is at sees), refl),
+      λ db found. (
+        after,
+        ap (λ t. t 0) (g.met.S.Store.settled c.commit.new.self db is_open found)
+            ∙ now_committed old new after made (rw c.in-Ok.is at sees),
+        refl,
+      ),
     ))
 
 pub returns-in-Err-clause-left : goal.returns-in-Err-clause-left

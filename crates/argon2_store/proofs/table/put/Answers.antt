@@ -25,6 +25,7 @@ returns g c names none =
     subst (λ o. Sees (view new) (changed names c.args.name.now o)) (sym is)
     (set_seen (view old) (view new) _ names c.args.name.now (phc_of c.in-Some.hash.now) (c.requires first) (ok clean)
     c.in_ok-lay.ensures.row none sees)))
-    (λ clean. if_err c.insert.result (c.insert.ensures.cause clean) (cause_map (view old) (view old) fault fault _ _ (λ b. b) (λ f. f)
+    (λ clean. if_err c.insert.result (c.insert.ensures.cause clean)
+    (cause_map (view old) (view old) fault fault _ _ (λ b. b) (λ f. f)
     (is_long ((view old).reals 0) _ c.args.name.now (phc_of c.in-Some.hash.now) c.in_ok-lay.ensures.row c.lay.ensures.short)))
     c.insert.ensures.schema c.insert.ensures.quiet

@@ -20,7 +20,8 @@ pub returns : goal.returns
 returns g c names has =
     let name = c.args.name.now in
     let here = has ∙ ap (λ n. option_map phc_of (option_copied n)) c.in-Some.is in
-    writes_then g.S.Store c.args.store.now c.take_out.new.store c.put-2.new.store names (remove names name) _ ⊥ _ (IsLong name) c.put-2.result
+    writes_then g.S.Store c.args.store.now c.take_out.new.store c.put-2.new.store names (remove names name) _ ⊥ _ (IsLong name)
+    c.put-2.result
     (c.in_ok-take_out.ensures names here)
     (subst (λ s. Writes g.S.Store c.take_out.new.store c.put-2.new.store (remove names name) s (IsLong name) c.put-2.result)
     (changed-remove names name (option_map phc_of (option_copied c.args.new)))

@@ -9,18 +9,24 @@ use Rattle.argon2_store.proofs.account_file.AccountFile.change_password.Goals as
 
 pub returns-in_default-clause-call : goal.returns-in_default-clause-call
 returns-in_default-clause-call g c =
-    refuses g.met.S.Store.settled (changing c.args.name.now c.args.old.now c.args.new.now (fill_bytes 16 (g.R.Rng.stream c.args.rng.now)).0) c.args.name.now (λ answer. refl) _ c.is_closed.ensures c.if-is_closed.false
+    refuses g.met.S.Store.settled (changing c.args.name.now c.args.old.now c.args.new.now
+    (fill_bytes 16 (g.R.Rng.stream c.args.rng.now)).0)
+    c.args.name.now (λ answer. refl) _ c.is_closed.ensures c.if-is_closed.false
     _ (sym c.in_default.ensures) NameUnknown _ c.into.ensures (refl, refl)
 
 pub returns-in_err-change_password-clause-call : goal.returns-in_err-change_password-clause-call
 returns-in_err-change_password-clause-call g c =
-    refuses g.met.S.Store.settled (changing c.args.name.now c.args.old.now c.args.new.now (fill_bytes 16 (g.R.Rng.stream c.args.rng.now)).0) c.args.name.now (λ answer. refl) _ c.is_closed.ensures c.if-is_closed.false
+    refuses g.met.S.Store.settled (changing c.args.name.now c.args.old.now c.args.new.now
+    (fill_bytes 16 (g.R.Rng.stream c.args.rng.now)).0)
+    c.args.name.now (λ answer. refl) _ c.is_closed.ensures c.if-is_closed.false
     _ (sym c.in-Some.ensures ∙ ap Some (sym c.copy_of-text.ensures))
     c.in_err-change_password.field-0.0 _ c.from_residual.ensures.1 (c.in_err-change_password.ensures.step.0, refl)
 
 pub returns-clause-call : goal.returns-clause-call
 returns-clause-call g c =
-    writes g.met.S.Store.settled (changing c.args.name.now c.args.old.now c.args.new.now (fill_bytes 16 (g.R.Rng.stream c.args.rng.now)).0) c.args.name.now (λ answer. refl) _ c.is_closed.ensures c.if-is_closed.false
+    writes g.met.S.Store.settled (changing c.args.name.now c.args.old.now c.args.new.now
+    (fill_bytes 16 (g.R.Rng.stream c.args.rng.now)).0)
+    c.args.name.now (λ answer. refl) _ c.is_closed.ensures c.if-is_closed.false
     _ (sym c.in-Some.ensures ∙ ap Some (sym c.copy_of-text.ensures))
     _ (Some (phc_of c.change_password.new.text)) tt refl c.in_ok-change_password.ensures.step
     _ c.replace.ensures.file c.replace.ensures.names _ c.written.ensures

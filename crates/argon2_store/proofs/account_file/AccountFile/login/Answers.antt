@@ -23,12 +23,16 @@ still target password drawn v w Kept other left = left.1
 
 pub returns-in_default-clause-call : goal.returns-in_default-clause-call
 returns-in_default-clause-call g c =
-    refuses g.met.S.Store.settled (logging_in c.args.name.now c.args.password.now (fill_bytes 16 (g.R.Rng.stream c.args.rng.now)).0) c.args.name.now (λ answer. refl) _ c.is_closed.ensures c.if-is_closed.false
+    refuses g.met.S.Store.settled (logging_in c.args.name.now c.args.password.now
+    (fill_bytes 16 (g.R.Rng.stream c.args.rng.now)).0)
+    c.args.name.now (λ answer. refl) _ c.is_closed.ensures c.if-is_closed.false
     _ (sym c.in_default.ensures) NameUnknown _ c.into.ensures (refl, refl)
 
 pub returns-in_err-accepted-clause-call : goal.returns-in_err-accepted-clause-call
 returns-in_err-accepted-clause-call g c =
-    refuses g.met.S.Store.settled (logging_in c.args.name.now c.args.password.now (fill_bytes 16 (g.R.Rng.stream c.args.rng.now)).0) c.args.name.now (λ answer. refl) _ c.is_closed.ensures c.if-is_closed.false
+    refuses g.met.S.Store.settled (logging_in c.args.name.now c.args.password.now
+    (fill_bytes 16 (g.R.Rng.stream c.args.rng.now)).0)
+    c.args.name.now (λ answer. refl) _ c.is_closed.ensures c.if-is_closed.false
     _ (sym c.in-Some.ensures ∙ ap Some (sym c.copy_of-text.ensures))
     c.in_err-accepted.field-0.0 _ c.from_residual.ensures.1 (c.in_err-accepted.ensures.step.0, refl)
 
@@ -38,14 +42,18 @@ returns-then-ne-clause-call g c =
     let drawn = (fill_bytes 16 (g.R.Rng.stream c.args.rng.now)).0 in
     let did = c.in_ok-accepted.accepted in
     let step = c.in_ok-accepted.ensures.step in
-    accepts g.met.S.Store.settled (logging_in c.args.name.now c.args.password.now (fill_bytes 16 (g.R.Rng.stream c.args.rng.now)).0) c.args.name.now (λ answer. refl) _ c.is_closed.ensures c.if-is_closed.false
+    accepts g.met.S.Store.settled (logging_in c.args.name.now c.args.password.now
+    (fill_bytes 16 (g.R.Rng.stream c.args.rng.now)).0)
+    c.args.name.now (λ answer. refl) _ c.is_closed.ensures c.if-is_closed.false
     _ (sym c.in-Some.ensures ∙ ap Some (sym c.copy_of-text.ensures)) did
     (subst (λ (w : Phc). LogsIn terms c.args.password.now drawn (phc_of c.copy_of-text.result) (Ok did) w)
     (still terms.target c.args.password.now drawn _ _ did (sym c.ne.ensures ∙ c.if-ne.true) step.1) step)
 
 pub returns-clause-call : goal.returns-clause-call
 returns-clause-call g c =
-    writes g.met.S.Store.settled (logging_in c.args.name.now c.args.password.now (fill_bytes 16 (g.R.Rng.stream c.args.rng.now)).0) c.args.name.now (λ answer. refl) _ c.is_closed.ensures c.if-is_closed.false
+    writes g.met.S.Store.settled (logging_in c.args.name.now c.args.password.now
+    (fill_bytes 16 (g.R.Rng.stream c.args.rng.now)).0)
+    c.args.name.now (λ answer. refl) _ c.is_closed.ensures c.if-is_closed.false
     _ (sym c.in-Some.ensures ∙ ap Some (sym c.copy_of-text.ensures))
     _ (Some (phc_of c.log_in.new.text)) c.in_ok-accepted.accepted refl c.in_ok-accepted.ensures.step
     _ c.replace.ensures.file c.replace.ensures.names _ c.written.ensures

@@ -13,19 +13,25 @@ use Rattle.argon2_store.proofs.account_file.AccountFile.register.Goals as goal
 pub returns-then-is_some-clause-call : goal.returns-then-is_some-clause-call
 returns-then-is_some-clause-call g c =
     let has : IsSome (get (names_of c.args.self.now) c.args.name.now) = search rules in
-    refuses g.met.S.Store.settled (registering c.args.name.now c.args.password.now (fill_bytes 16 (g.R.Rng.stream c.args.rng.now)).0) c.args.name.now (λ answer. refl) _ c.is_closed.ensures c.if-is_closed.false _ refl
+    refuses g.met.S.Store.settled (registering c.args.name.now c.args.password.now
+    (fill_bytes 16 (g.R.Rng.stream c.args.rng.now)).0)
+    c.args.name.now (λ answer. refl) _ c.is_closed.ensures c.if-is_closed.false _ refl
     NameTaken _ c.into.ensures (taken c.args.password.now _ has, refl)
 
 pub returns-in_err-text-clause-call : goal.returns-in_err-text-clause-call
 returns-in_err-text-clause-call g c =
     let none : get (names_of c.args.self.now) c.args.name.now ≡ None = search rules in
-    refuses g.met.S.Store.settled (registering c.args.name.now c.args.password.now (fill_bytes 16 (g.R.Rng.stream c.args.rng.now)).0) c.args.name.now (λ answer. refl) _ c.is_closed.ensures c.if-is_closed.false _ none
+    refuses g.met.S.Store.settled (registering c.args.name.now c.args.password.now
+    (fill_bytes 16 (g.R.Rng.stream c.args.rng.now)).0)
+    c.args.name.now (λ answer. refl) _ c.is_closed.ensures c.if-is_closed.false _ none
     c.in_err-text.field-0.0 _ c.from_residual.ensures.1 (c.in_err-text.ensures.made, refl)
 
 pub returns-clause-call : goal.returns-clause-call
 returns-clause-call g c =
     let none : get (names_of c.args.self.now) c.args.name.now ≡ None = search rules in
-    writes g.met.S.Store.settled (registering c.args.name.now c.args.password.now (fill_bytes 16 (g.R.Rng.stream c.args.rng.now)).0) c.args.name.now (λ answer. refl) _ c.is_closed.ensures c.if-is_closed.false _ none
+    writes g.met.S.Store.settled (registering c.args.name.now c.args.password.now
+    (fill_bytes 16 (g.R.Rng.stream c.args.rng.now)).0)
+    c.args.name.now (λ answer. refl) _ c.is_closed.ensures c.if-is_closed.false _ none
     _ (Some (phc_of c.in_ok-text.text)) tt refl (refl, c.in_ok-text.ensures.made)
     _ c.insert.ensures.file c.insert.ensures.names _ c.written.ensures
 

@@ -11,18 +11,21 @@ use Rattle.argon2_store.proofs.account_file.AccountFile.set_password.Goals as go
 pub returns-then-is_none-clause-call : goal.returns-then-is_none-clause-call
 returns-then-is_none-clause-call g c =
     let none : get (names_of c.args.self.now) c.args.name.now ≡ None = search rules in
-    refuses g.met.S.Store.settled (setting c.args.name.now c.args.new.now (fill_bytes 16 (g.R.Rng.stream c.args.rng.now)).0) c.args.name.now (λ answer. refl) _ c.is_closed.ensures c.if-is_closed.false _ none
+    refuses g.met.S.Store.settled (setting c.args.name.now c.args.new.now (fill_bytes 16 (g.R.Rng.stream c.args.rng.now)).0)
+    c.args.name.now (λ answer. refl) _ c.is_closed.ensures c.if-is_closed.false _ none
     NameUnknown _ c.into.ensures (refl, refl)
 
 pub returns-in_err-text-clause-call : goal.returns-in_err-text-clause-call
 returns-in_err-text-clause-call g c =
-    refuses g.met.S.Store.settled (setting c.args.name.now c.args.new.now (fill_bytes 16 (g.R.Rng.stream c.args.rng.now)).0) c.args.name.now (λ answer. refl) _ c.is_closed.ensures c.if-is_closed.false
+    refuses g.met.S.Store.settled (setting c.args.name.now c.args.new.now (fill_bytes 16 (g.R.Rng.stream c.args.rng.now)).0)
+    c.args.name.now (λ answer. refl) _ c.is_closed.ensures c.if-is_closed.false
     _ (has_text _ _ c.if-is_none.ensures c.get.ensures).1
     c.in_err-text.field-0.0 _ c.from_residual.ensures.1 (c.in_err-text.ensures.made, refl)
 
 pub returns-clause-call : goal.returns-clause-call
 returns-clause-call g c =
-    writes g.met.S.Store.settled (setting c.args.name.now c.args.new.now (fill_bytes 16 (g.R.Rng.stream c.args.rng.now)).0) c.args.name.now (λ answer. refl) _ c.is_closed.ensures c.if-is_closed.false
+    writes g.met.S.Store.settled (setting c.args.name.now c.args.new.now (fill_bytes 16 (g.R.Rng.stream c.args.rng.now)).0)
+    c.args.name.now (λ answer. refl) _ c.is_closed.ensures c.if-is_closed.false
     _ (has_text _ _ c.if-is_none.ensures c.get.ensures).1
     _ (Some (phc_of c.in_ok-text.text)) tt refl c.in_ok-text.ensures.made
     _ c.replace.ensures.file c.replace.ensures.names _ c.written.ensures

@@ -4,4 +4,5 @@ use Rattle.argon2.proofs.login_store.Stores.{entries-values_of}
 use Rattle.argon2_store.proofs.names.Names.len.Goals as goal
 
 pub returns : goal.returns
-returns c = c.len.ensures.len ∙ sym (ap length (entries-values_of c.args.self.now.texts c.len.ensures.ordered) ∙ length-map c.args.self.now.texts.entries _)
+returns c = c.len.ensures.len ∙ sym (ap length (entries-values_of c.args.self.now.texts c.len.ensures.ordered)
+    ∙ length-map c.args.self.now.texts.entries _)

@@ -15,8 +15,13 @@ invariant_of-self-in-Err g c =
 pub returns-in-Err-clause-added : goal.returns-in-Err-clause-added
 returns-in-Err-clause-added g c =
     let before = values_in c.args.self.now.names in
-    let done = c.change_all.ensures before c.in_ok-add_all.ensures c.args.self.now.kept in
-    (values_in c.add_all.new.self, c.in_ok-add_all.ensures, rw c.in-Err.is at done, c.remove_all.ensures before c.in_ok-add_all.ensures)
+    let done = c.change_all.ensures before c.in_ok-add_all.ensures c.args.self.now.kept in (
+      values_in c.add_all.new.self,
+      c.in_ok-add_all.ensures,
+      rw c.in-Err.is at done,
+      c.remove_all.ensures before
+          c.in_ok-add_all.ensures,
+    )
 
 pub invariant_of-self-in-Ok : goal.invariant_of-self-in-Ok
 invariant_of-self-in-Ok g c =
