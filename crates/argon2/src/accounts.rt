@@ -1,6 +1,6 @@
-//! Accounts: names with passwords, each stored as a PHC text. Passwords are registered, verified,
-//! changed, set anew and removed; no text is verified that asks for more than a bound, and old texts
-//! are renewed at a login.
+//! Accounts: names with passwords, each stored as a PHC text. Names are registered and removed, and
+//! passwords verified, changed and set anew. No text is verified that asks for more than a bound, and
+//! old texts are renewed at a login.
 //!
 //! ```text
 //! let mut accounts = Accounts::new(alloc, Argon2::default(), bound)?;
@@ -49,7 +49,7 @@ pub struct Accounts<'key> {
 }
 
 impl<'key> Accounts<'key> {
-    /// Accounts without names. What memory their calls take is asked of `alloc`; this one takes none.
+    /// Accounts without names. Their calls allocate from `alloc`; this one allocates nothing.
     ///
     /// # Errors
     /// Those of [`Policy::new`].
@@ -113,10 +113,10 @@ impl<'key> Accounts<'key> {
         self.insert(name, text)
     }
 
-    /// Verifies a password against the text of a name, and renews the text, as [`Policy::log_in`].
+    /// Verifies a password against the text of a name, and renews the text, as [`Policy::log_in`] does.
     ///
     /// # Errors
-    /// The accounts are then as before:
+    /// The first of these that holds; the accounts are then as before:
     /// - [`AccountError::NameUnknown`]: the name has no text.
     /// - those of [`Policy::log_in`].
     pub fn login<R: Rng>(
@@ -145,10 +145,10 @@ impl<'key> Accounts<'key> {
     }
 
     /// Gives a name a text of a new password where its text accepts the old one, as
-    /// [`Policy::change_password`].
+    /// [`Policy::change_password`] does.
     ///
     /// # Errors
-    /// The accounts are then as before:
+    /// The first of these that holds; the accounts are then as before:
     /// - [`AccountError::NameUnknown`]: the name has no text.
     /// - those of [`Policy::change_password`].
     pub fn change_password<R: Rng>(

@@ -34,8 +34,7 @@ impl<'key> Policy<'key> {
     ghost use Rattle.argon2.specs.Login.{IsCurrent, stream_after};
     ghost use Rattle.argon2.specs.Made.{IsFresh, target_of};
 
-    /// A policy of a target and a bound. What memory its calls take is asked of `alloc`; this one
-    /// takes none.
+    /// A policy of a target and a bound. Its calls allocate from `alloc`; this one allocates nothing.
     ///
     /// # Errors
     /// The first of these that holds:
@@ -65,8 +64,8 @@ impl<'key> Policy<'key> {
     /// drawn also where the call is refused.
     ///
     /// # Errors
-    /// - [`AccountError::Refused`] with the error of hashing: out of memory, or a password longer than
-    ///   4294967295 bytes.
+    /// [`AccountError::Refused`] with the error of hashing: out of memory, or a password longer than
+    /// 4294967295 bytes.
     pub fn hash_password<R: Rng>(
         &self,
         rng: &mut R,
@@ -96,7 +95,8 @@ impl<'key> Policy<'key> {
     /// The text is then as before:
     /// - [`AccountError::TooExpensive`]: the text can be read, and a cost is above the bound's. No
     ///   memory was asked for.
-    /// - [`AccountError::Refused`]: verifying refuses, for the reason that it holds.
+    /// - [`AccountError::Refused`] with the reason: the text can't be verified, or does not accept the
+    ///   password.
     pub fn log_in<R: Rng>(
         &self,
         rng: &mut R,

@@ -30,7 +30,7 @@ impl Argon2<'_> {
 
     /// Writes columns 0 and 1 of each lane into the first slice, and no other block, for a tag of
     /// `out_len` bytes and under this associated data in place of the parameters' (RFC 9106,
-    /// section 3.2, steps 3 and 4).
+    /// section 3.2, steps 3 and 4). The data, the password and the salt have at most 4294967295 bytes.
     pub fn begin_slices(
         &self,
         associated: &[u8],
@@ -50,8 +50,8 @@ impl Argon2<'_> {
     }
 
     /// Writes the blocks of a lane in a slice of a pass into `own`, its segment, under this associated
-    /// data in place of the parameters' (RFC 9106, section 3.2, steps 5 and 6). `before` are the slices
-    /// before, and `after` those after it.
+    /// data in place of the parameters' (RFC 9106, section 3.2, steps 5 and 6). `before` has the slices
+    /// before it, and `after` those after it. The data has at most 4294967295 bytes.
     pub fn fill_segment(
         &self,
         associated: &[u8],
@@ -72,8 +72,8 @@ impl Argon2<'_> {
         instance.fill_own(before, own, after, pass, slice, lane);
     }
 
-    /// Writes the hash of the last column's exclusive or, of as many bytes as `out` has. `last` is the
-    /// last slice (RFC 9106, section 3.2, steps 7 and 8).
+    /// Writes the hash of the last column's exclusive or, of as many bytes as `out` has, 1 to 4294967295.
+    /// `last` is the last slice (RFC 9106, section 3.2, steps 7 and 8).
     pub fn finish_slices(&self, last: &[Words], out: &mut [u8])
         requires slice { length last.now ≡ slice_length (context_of self.now) }
         requires some { 1 ≤ length out.old }
@@ -118,8 +118,8 @@ impl<'a> Instance<'a> {
         block
     }
 
-    /// The steps of a lane in a slice. `own` is its segment, `before` are the slices before, and
-    /// `after` those after it.
+    /// Makes the steps of a lane in a slice. `own` is its segment, `before` has the slices before it,
+    /// and `after` those after it.
     fn fill_own(
         &self,
         before: &[Words],
