@@ -1,14 +1,28 @@
 -- What the program answers.
-use Rattle.std.specs.Prelude.{◌≡◌, ℕ, List, [], ◌∷◌, ◌++◌, Option, Some, None, IfSome, Ok}
-use Rattle.std.specs.Io.KnownBytes.{Appends}
+use Rattle.std.specs.Prelude.{◌≡◌, ◌⊎◌, ⊤, ℕ, ◌==◌, false, Bool, ◌||◌, IsTrue, List, [], ◌∷◌, ◌++◌, Option, Some, None, IfSome, Result, Ok, Err}
+use Rattle.std.specs.FinMap.{entries}
+use Rattle.std.specs.Io.BufRead.{drop_through}
+use Rattle.std.specs.List.{list_any}
+use Rattle.std.specs.Option.{option_map}
+use Rattle.std.specs.Io.KnownBytes.{Appends, Keeps}
 use Rattle.argon2_base.specs.PhcText.{Phc, PhcText, phc_text}
-use Rattle.argon2.specs.Accounts.{Admits, AreTerms, LogsIn, Terms}
+use Rattle.sqlite_trees.specs.declared.store.Store.{Ghosts}
+use Rattle.argon2.specs.Accounts.{Admits, AreTerms, LogsIn, Terms, changing, logging_in, registering, removing, setting}
 use Rattle.argon2.specs.Argon2.{argon2id_with}
-use Rattle.argon2.specs.Login.{accepted_text}
+use Rattle.argon2.specs.Login.{Store, accepted_text}
 use Rattle.argon2.specs.Made.{IsFresh}
 use Rattle.argon2.specs.declared.login.answers.Accepted.{Accepted}
 use Rattle.argon2.specs.declared.login.answers.Accepted.TheVariants.{Rehashed}
-use Rattle.argon2_passwd.specs.Arguments.{Asked, Choices, bound_of, check, hash, help, version}
+use Rattle.argon2.specs.declared.accounts.error.AccountError.{AccountError}
+use Rattle.argon2_store.specs.AccountFile.{Call, IsReady, Serves, names_of}
+use Rattle.argon2_store.specs.declared.account_file.AccountFile.{AccountFile}
+use Rattle.argon2_store.specs.declared.error.FileError.{FileError}
+use Rattle.argon2_store.specs.declared.error.FileError.TheVariants.{Account}
+use Rattle.argon2_passwd.specs.Arguments.{Asked, Choices, bound_of, check, edit, hash, help, show, verify, version}
+use Rattle.argon2_passwd.specs.declared.arguments.Edit.{Edit}
+use Rattle.argon2_passwd.specs.declared.arguments.Edit.TheVariants.{Register, Change, Set, Remove}
+use Rattle.argon2_passwd.specs.declared.arguments.View.{View}
+use Rattle.argon2_passwd.specs.declared.arguments.View.TheVariants.{Names, Texts}
 use Rattle.argon2_passwd.specs.Passwords.{password_of}
 use Rattle.argon2_passwd.specs.declared.run.TheConstants.{HELP, VERSION}
 
@@ -60,23 +74,99 @@ abbrev pub IsReplied : (List ℕ → List ℕ → Type 0) → Choices → (Terms
 IsReplied Holds choices IsReply old new = (secret drawn line : List ℕ) × IsSecret Holds choices.secret_file secret
     × IsReply (terms_by choices secret) drawn line × Appends old new (line ++ 10 ∷ [])
 
--- what is asked for is answered
-abbrev pub IsAnswered : (List ℕ → List ℕ → Type 0) → Asked → Option (List ℕ) → Option (List ℕ) → Option (List ℕ) → Type 0
-IsAnswered Holds help input old new = Appends old new HELP.now
-IsAnswered Holds version input old new = Appends old new VERSION.now
-IsAnswered Holds (hash choices) input old new =
-    IsReplied Holds choices (λ terms drawn line. IsHashReply terms drawn input line) old new
-IsAnswered Holds (check choices text) input old new =
-    IsReplied Holds choices (λ terms drawn line. IsCheckReply terms drawn text input line) old new
-
 -- a refusal under the choices and their secret: the parameters are above the bound, or this holds
 abbrev pub IsRefusedBy : (List ℕ → List ℕ → Type 0) → Choices → (Terms → Type 0) → Type 0
 IsRefusedBy Holds choices Why = (secret : List ℕ) × IsSecret Holds choices.secret_file secret
     × (AreTerms (terms_by choices secret) → Why (terms_by choices secret))
 
--- what is asked for is refused
-abbrev pub IsRefused : (List ℕ → List ℕ → Type 0) → Asked → Option (List ℕ) → Type 0
-IsRefused Holds help input = ⊥
-IsRefused Holds version input = ⊥
-IsRefused Holds (hash choices) input = IsRefusedBy Holds choices (λ terms. HasNone input)
-IsRefused Holds (check choices text) input = IsRefusedBy Holds choices (λ terms. Denies terms text input)
+-- ---- accounts in a file
+
+-- what an input has behind its first line
+abbrev pub behind : Option (List ℕ) → Option (List ℕ)
+behind input = option_map (drop_through 10) input
+
+-- the passwords that a change takes
+abbrev pub AreRead : Edit → Option (List ℕ) → List ℕ → List ℕ → Type 0
+AreRead Remove input first second = ⊤
+AreRead Change input first second = IfSome input (λ bytes. password_of bytes ≡ Some first)
+    × IfSome (behind input) (λ bytes. password_of bytes ≡ Some second)
+AreRead act input first second = IfSome input (λ bytes. password_of bytes ≡ Some first)
+
+-- a known input does not have them
+abbrev pub AreUnread : Edit → Option (List ℕ) → Type 0
+AreUnread Remove input = ⊥
+AreUnread Change input = HasNone input ⊎ HasNone (behind input)
+AreUnread act input = HasNone input
+
+-- the name of a new text would break the lines that show it
+abbrev pub breaks_lines : Edit → List ℕ → Bool
+breaks_lines Register name = list_any (λ b. b == 10) name || list_any (λ b. b == 58) name
+breaks_lines act name = false
+
+-- the call of a change, but for its answer
+abbrev pub call_of : Edit → List ℕ → List ℕ → List ℕ → List ℕ → Call (Unit {0})
+call_of Register name first second drawn = registering name first drawn
+call_of Change name first second drawn = changing name first second drawn
+call_of Set name first second drawn = setting name first drawn
+call_of Remove name first second drawn = removing name
+
+-- the line of a name with its text
+abbrev pub entry_line : View → List ℕ × Phc → List ℕ
+entry_line Names e = e.0 ++ 10 ∷ []
+entry_line Texts e = e.0 ++ 58 ∷ phc_text e.1 ++ 10 ∷ []
+
+-- those of all names
+abbrev pub lines_of : View → List (List ℕ × Phc) → List ℕ
+lines_of view [] = []
+lines_of view (e ∷ es) = entry_line view e ++ lines_of view es
+
+-- a file at a path that was opened under these terms
+abbrev pub IsOpened : {S : Type 0} {g : Ghosts S} → (List ℕ → Store → Type 0) → List ℕ → Terms → AccountFile S g → Type 0
+IsOpened Has path terms file = IsReady terms file × Has path (names_of file)
+
+module _ {S : Type 0} (g : Ghosts S) (Holds : List ℕ → List ℕ → Type 0) (Has : List ℕ → Store → Type 0) where
+  -- a call on the file at a path, which was opened under the choices and their secret
+  abbrev pub IsCalled : {X : Type 0} → Choices → List ℕ → (List ℕ → Call X) → Result X FileError → Type 0
+  IsCalled choices path call result = (secret drawn : List ℕ) × (before after : AccountFile S g)
+      × IsSecret Holds choices.secret_file secret × IsOpened Has path (terms_by choices secret) before
+      × Serves (call drawn) result before after
+
+  -- a change of the text of a name
+  abbrev pub IsEdited : Choices → List ℕ → Edit → List ℕ → Option (List ℕ) → Type 0
+  IsEdited choices path act name input = (breaks_lines act name ≡ false) × (first second : List ℕ)
+      × AreRead act input first second × IsCalled choices path (call_of act name first second) (Ok tt)
+
+  -- what the file has, a line for each name
+  abbrev pub IsShown : Choices → List ℕ → View → Option (List ℕ) → Option (List ℕ) → Type 0
+  IsShown choices path view old new = (secret : List ℕ) × (file : AccountFile S g)
+      × IsSecret Holds choices.secret_file secret × IsOpened Has path (terms_by choices secret) file
+      × Appends old new (lines_of view (entries (names_of file)))
+
+  -- what is asked for is answered
+  abbrev pub IsAnswered : Asked → Option (List ℕ) → Option (List ℕ) → Option (List ℕ) → Type 0
+  IsAnswered help input old new = Appends old new HELP.now
+  IsAnswered version input old new = Appends old new VERSION.now
+  IsAnswered (hash choices) input old new =
+      IsReplied Holds choices (λ terms drawn line. IsHashReply terms drawn input line) old new
+  IsAnswered (check choices text) input old new =
+      IsReplied Holds choices (λ terms drawn line. IsCheckReply terms drawn text input line) old new
+  IsAnswered (verify choices path name) input old new = (accepted : Accepted)
+      × OfPassword (λ password. IsCalled choices path (logging_in name password) (Ok accepted)) input
+      × Appends old new (accepted_text accepted ++ 10 ∷ [])
+  IsAnswered (edit choices path act name) input old new = IsEdited choices path act name input × Keeps old new
+  IsAnswered (show choices path view) input old new = IsShown choices path view old new
+
+  -- what is asked for is refused
+  abbrev pub IsRefused : Asked → Option (List ℕ) → Type 0
+  IsRefused help input = ⊥
+  IsRefused version input = ⊥
+  IsRefused (hash choices) input = IsRefusedBy Holds choices (λ terms. HasNone input)
+  IsRefused (check choices text) input = IsRefusedBy Holds choices (λ terms. Denies terms text input)
+  IsRefused (verify choices path name) input = HasNone input ⊎ IsRefusedBy Holds choices (λ terms. ⊥)
+      ⊎ OfPassword (λ password. (e : AccountError)
+      × IsCalled choices path (logging_in name password) (Err (Account e))) input
+  IsRefused (edit choices path act name) input =
+      IsTrue (breaks_lines act name) ⊎ AreUnread act input ⊎ IsRefusedBy Holds choices (λ terms. ⊥)
+      ⊎ ((first second : List ℕ) × (e : AccountError) × AreRead act input first second
+      × IsCalled choices path (call_of act name first second) (Err (Account e)))
+  IsRefused (show choices path view) input = IsRefusedBy Holds choices (λ terms. ⊥)

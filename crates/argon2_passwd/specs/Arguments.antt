@@ -9,7 +9,11 @@ use Rattle.argon2.specs.Params.{parameters_of}
 use Rattle.argon2.specs.Settings.{Parameters, default_parameters, first_fault, plain}
 use Rattle.argon2.specs.declared.bound.Bound.{Bound}
 use Rattle.argon2_passwd.specs.declared.arguments.Command.{Command}
-use Rattle.argon2_passwd.specs.declared.arguments.Command.TheVariants.{Help, Version, Hash, Check}
+use Rattle.argon2_passwd.specs.declared.arguments.Command.TheVariants.{Help, Version, Hash, Check, Verify, Edit as Edits, Show}
+use Rattle.argon2_passwd.specs.declared.arguments.Edit.{Edit}
+use Rattle.argon2_passwd.specs.declared.arguments.Edit.TheVariants.{Register, Change, Set, Remove}
+use Rattle.argon2_passwd.specs.declared.arguments.View.{View}
+use Rattle.argon2_passwd.specs.declared.arguments.View.TheVariants.{Names, Texts}
 use Rattle.argon2_passwd.specs.declared.options.Options.{Options}
 
 -- under what texts are made and verified
@@ -18,12 +22,15 @@ pub record Choices : Type 0 where
   pub bound : Option Bound
   pub secret_file : Option (List ℕ)
 
--- what is asked for
+-- what is asked for, on a file with its path
 pub data Asked : Type 0 where
   help : Asked
   version : Asked
   hash : Choices → Asked
   check : Choices → List ℕ → Asked
+  verify : Choices → List ℕ → List ℕ → Asked
+  edit : Choices → List ℕ → Edit → List ℕ → Asked
+  show : Choices → List ℕ → View → Asked
 
 -- ---- what the program's own values say
 
@@ -39,6 +46,9 @@ asked Help = help
 asked Version = version
 asked (Hash options) = hash (choices_of options)
 asked (Check options text) = check (choices_of options) text.now
+asked (Verify options file name) = verify (choices_of options) file.now name.now
+asked (Edits options file change name) = edit (choices_of options) file.now change name.now
+asked (Show options file view) = show (choices_of options) file.now view
 
 -- ---- costs
 
@@ -85,12 +95,36 @@ bound_of choices = unwrap_or choices.bound (record {
   p_cost = max choices.parameters.p_cost 64;
 })
 
--- `hash`, or `check` and a text
+-- a change of the text of a name
+abbrev pub edit_of : List ℕ → Option Edit
+edit_of word =
+    if bytes_eq word (codes "register") then Some Register
+    else if bytes_eq word (codes "change") then Some Change
+    else if bytes_eq word (codes "set") then Some Set
+    else if bytes_eq word (codes "remove") then Some Remove
+    else None
+
+-- what is written of a file
+abbrev pub view_of : List ℕ → Option View
+view_of word =
+    if bytes_eq word (codes "list") then Some Names
+    else if bytes_eq word (codes "export") then Some Texts
+    else None
+
+-- a word between a file and a name
+abbrev pub on_name_of : Choices → List ℕ → List ℕ → List ℕ → Option Asked
+on_name_of choices file word name =
+    if bytes_eq word (codes "verify") then Some (verify choices file name)
+    else option_map (λ change. edit choices file change name) (edit_of word)
+
+-- `hash`, `check` and a text, or a file with a word, and with a name
 abbrev pub task_by : Choices → List (List ℕ) → Option Asked
 task_by choices [] = None
 task_by choices (word ∷ []) = if bytes_eq word (codes "hash") then Some (hash choices) else None
-task_by choices (word ∷ text ∷ []) = if bytes_eq word (codes "check") then Some (check choices text) else None
-task_by choices (word ∷ text ∷ other ∷ rest) = None
+task_by choices (word ∷ text ∷ []) = if bytes_eq word (codes "check") then Some (check choices text)
+    else option_map (λ view. show choices word view) (view_of text)
+task_by choices (file ∷ word ∷ name ∷ []) = on_name_of choices file word name
+task_by choices (word ∷ text ∷ other ∷ more ∷ rest) = None
 
 -- the choices where an option with a value changes them
 abbrev pub with_value_of : List ℕ → List ℕ → Choices → Option Choices

@@ -4,12 +4,15 @@ use Rattle.argon2_base.specs.declared.error.password_hash.Error.TheVariants.{Out
 use Rattle.argon2.specs.declared.accounts.error.AccountError.{AccountError}
 use Rattle.argon2.specs.declared.accounts.error.AccountError.TheVariants.{Refused}
 use Rattle.argon2_passwd.specs.declared.failure.Failure.{Failure}
-use Rattle.argon2_passwd.specs.declared.failure.Failure.TheVariants.{NoPassword, LongPassword, Account, Memory}
+use Rattle.argon2_passwd.specs.declared.failure.Failure.TheVariants.{NoPassword, LongPassword, Name, Account, Memory}
+use Rattle.argon2_store.specs.declared.error.FileError.{FileError}
+use Rattle.argon2_store.specs.declared.error.FileError.TheVariants as file
 
 -- 1 where the answer is no, 3 where a file, a stream or a request for memory fails
 abbrev pub status_of : Failure → ℕ
 status_of NoPassword = 1
 status_of LongPassword = 1
+status_of Name = 1
 status_of (Account error) = 1
 status_of _ = 3
 
@@ -23,3 +26,8 @@ abbrev pub IsOfAccount : AccountError → Failure → Type 0
 IsOfAccount refusal (Memory refused) = refusal ≡ Refused OutOfMemory
 IsOfAccount refusal (Account error) = (error ≡ refusal) × (refusal ≢ Refused OutOfMemory)
 IsOfAccount refusal _ = ⊥
+
+-- the failure by a call on a file
+abbrev pub IsOfFile : FileError → Failure → Type 0
+IsOfFile (file.Account refusal) failure = IsOfAccount refusal failure
+IsOfFile error failure = status_of failure ≡ 3

@@ -4,7 +4,7 @@ ghost use Rattle.std.specs.Prelude.{◌≡◌, map, string_bytes};
 ghost use Rattle.std.specs.Option.{option_map};
 ghost use Rattle.argon2_base.specs.Texts.{number_of};
 ghost use Rattle.argon2.specs.Params.{parameters_of};
-ghost use Rattle.argon2_passwd.specs.Arguments.{alone_by, asked, cost_of, costs_of, is_option, page_of, params_of};
+ghost use Rattle.argon2_passwd.specs.Arguments.{alone_by, asked, cost_of, costs_of, edit_of, is_option, page_of, params_of, view_of};
 
 use crate::options::Options;
 use argon2::Params;
@@ -22,6 +22,34 @@ pub enum Command<'a> {
     Hash(Options<'a>),
     /// `check TEXT`: whether a text accepts a password.
     Check(Options<'a>, &'a str),
+    /// `FILE verify NAME`: whether the text of a name in a file accepts a password.
+    Verify(Options<'a>, &'a str, &'a str),
+    /// `FILE register NAME` and others: a change of the text of a name in a file.
+    Edit(Options<'a>, &'a str, Edit, &'a str),
+    /// `FILE list` or `FILE export`: what a file has.
+    Show(Options<'a>, &'a str, View),
+}
+
+/// What is done to the text of a name.
+#[derive(Clone, Copy)]
+pub enum Edit {
+    /// A new name gets a text of a password.
+    Register,
+    /// The name gets a text of another password, where its text accepts the old one.
+    Change,
+    /// The name gets a text of another password.
+    Set,
+    /// The name and its text are removed.
+    Remove,
+}
+
+/// What is written of a file.
+#[derive(Clone, Copy)]
+pub enum View {
+    /// The names.
+    Names,
+    /// The names with their texts.
+    Texts,
 }
 
 impl<'a> Command<'a> {
@@ -72,7 +100,7 @@ fn is_option(word: &str) -> bool
 impl<'a> Options<'a> {
     ghost use Rattle.std.specs.Prelude.{◌≡◌, map, string_bytes};
     ghost use Rattle.std.specs.Option.{option_map};
-    ghost use Rattle.argon2_passwd.specs.Arguments.{asked, choices_of, task_by, with_value_of, words_by};
+    ghost use Rattle.argon2_passwd.specs.Arguments.{asked, choices_of, on_name_of, task_by, with_value_of, words_by};
 
     // What the arguments ask for, where options are followed by a task.
     fn with_words(self, args: &'a [String]) -> Option<Command<'a>>
@@ -118,8 +146,45 @@ impl<'a> Options<'a> {
         match args {
             [word] if word.as_str() == "hash" => Some(Command::Hash(self)),
             [word, text] if word.as_str() == "check" => Some(Command::Check(self, text.as_str())),
+            [file, word] => Some(Command::Show(self, file.as_str(), view_by(word.as_str())?)),
+            [file, word, name] => self.on_name(file.as_str(), word.as_str(), name.as_str()),
             _ => None,
         }
+    }
+
+    // What a word asks for that stands between a file and a name.
+    fn on_name(self, file: &'a str, word: &str, name: &'a str) -> Option<Command<'a>>
+        ensures { option_map asked result
+            ≡ on_name_of (choices_of self.entry) file.now word.now name.now }
+    {
+        match word {
+            "verify" => Some(Command::Verify(self, file, name)),
+            _ => Some(Command::Edit(self, file, edit_by(word)?, name)),
+        }
+    }
+}
+
+// The change that a word asks for.
+fn edit_by(word: &str) -> Option<Edit>
+    ensures { result ≡ edit_of word.now }
+{
+    match word {
+        "register" => Some(Edit::Register),
+        "change" => Some(Edit::Change),
+        "set" => Some(Edit::Set),
+        "remove" => Some(Edit::Remove),
+        _ => None,
+    }
+}
+
+// What a word asks to write.
+fn view_by(word: &str) -> Option<View>
+    ensures { result ≡ view_of word.now }
+{
+    match word {
+        "list" => Some(View::Names),
+        "export" => Some(View::Texts),
+        _ => None,
     }
 }
 

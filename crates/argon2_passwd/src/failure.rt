@@ -2,10 +2,11 @@
 
 ghost use Rattle.std.specs.Prelude.{◌≡◌, ◌≢◌};
 ghost use Rattle.std.specs.IoError.{error_kind};
-ghost use Rattle.argon2_passwd.specs.Failures.{IsMemory, IsOfAccount, status_of};
+ghost use Rattle.argon2_passwd.specs.Failures.{IsMemory, IsOfAccount, IsOfFile, status_of};
 
 use argon2::accounts::AccountError;
 use argon2::password_hash;
+use argon2_store::{FileError, OpenError};
 use std::alloc::AllocError;
 use std::io;
 use std::io::ErrorKind;
@@ -20,9 +21,19 @@ pub enum Failure {
     /// A line for a password is longer than it may be.
     #[error("a password has at most 4096 bytes")]
     LongPassword,
-    /// The parameters are above the bound, or TEXT is no text, is above the bound or does not accept the password.
+    /// A new name has a line break or a colon.
+    #[error("a name has no line break and no colon")]
+    Name,
+    /// The parameters are above the bound, or a text is none, is above it or does not accept the password, or a
+    /// name is taken or unknown.
     #[error(transparent)]
     Account(AccountError),
+    /// The file with the accounts can't be opened.
+    #[error(transparent)]
+    Unopened(OpenError),
+    /// The file with the accounts can't be written.
+    #[error(transparent)]
+    File(FileError),
     /// The file with the secret can't be read.
     #[error("the secret's file can't be read")]
     Secret,
@@ -54,6 +65,7 @@ impl Failure {
         match self {
             Failure::NoPassword => 1,
             Failure::LongPassword => 1,
+            Failure::Name => 1,
             Failure::Account(_) => 1,
             _ => 3,
         }
@@ -112,5 +124,30 @@ impl From<password_hash::Error> for Failure {
 
     fn from(error: password_hash::Error) -> Failure {
         Failure::from(AccountError::Refused(error))
+    }
+}
+
+/// The failure of a call on a file.
+impl From<FileError> for Failure {
+    ghost from_gives = { IsOfFile };
+
+    fn from(error: FileError) -> Failure {
+        match error {
+            FileError::Account(error) => Failure::from(error),
+            FileError::OutOfMemory => Failure::Memory(AllocError),
+            error => Failure::File(error),
+        }
+    }
+}
+
+/// The failure of an open.
+impl From<OpenError> for Failure {
+    ghost from_gives = { λ _ failure. status_of failure ≡ 3 };
+
+    fn from(error: OpenError) -> Failure {
+        match error {
+            OpenError::OutOfMemory => Failure::Memory(AllocError),
+            error => Failure::Unopened(error),
+        }
     }
 }

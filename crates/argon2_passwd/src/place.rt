@@ -1,6 +1,12 @@
-//! Where the program finds the secret and random bytes.
+//! Where the program finds the secret, random bytes and accounts.
 
 use crate::failure::Failure;
+use argon2::Argon2;
+use argon2::bound::Bound;
+use argon2_store::{AccountFile, AccountsAt};
+use sqlite_std_file::{FileFrom, Wary};
+use sqlite_store::FileStore;
+use sqlite_trees::store::Store;
 use std::alloc::AllocError;
 use std::fs;
 use std::io::{ErrorKind, Read};
@@ -9,13 +15,22 @@ use std::random::RandomSource;
 // The most bytes that a secret may have.
 const LONGEST_SECRET: usize = 4096;
 
-/// Where the program finds the secret and random bytes.
+/// Where the program finds the secret, random bytes and accounts.
 pub trait Place {
     ghost use Rattle.std.specs.Prelude.{◌≡◌, ℕ, List, IfErr, IfOk};
+    ghost use Rattle.argon2.specs.Login.{Store as Texts};
+    ghost use Rattle.argon2.specs.Made.{target_of};
+    ghost use Rattle.argon2_store.specs.AccountFile.{IsReady, names_of};
     ghost use Rattle.argon2_passwd.specs.Failures.{status_of};
+
+    /// The store of a file with accounts.
+    type File: Store + Drop;
 
     // The file at a path has these bytes.
     ghost holds: { List ℕ → List ℕ → Type 0 };
+
+    // The file at a path has these names with their texts.
+    ghost keeps: { List ℕ → Texts → Type 0 };
 
     /// The secret in the file at a path.
     ///
@@ -31,6 +46,21 @@ pub trait Place {
     /// The system gives none.
     fn seed(&mut self) -> Result<[u8; 32], Failure>
         ensures { IfErr result (λ failure. status_of failure ≡ 3) };
+
+    /// The accounts in the file at a path, which is made where there is none.
+    ///
+    /// # Errors
+    /// The file can't be opened.
+    fn open<'key>(
+        &mut self,
+        path: &str,
+        target: Argon2<'key>,
+        bound: Bound,
+    ) -> Result<AccountFile<'key, Self::File>, Failure>
+        ensures kept { IfOk result (λ file. keeps path.now (names_of file)) }
+        ensures ready { IfOk result
+            (IsReady (record { target = target_of target.entry; bound = bound })) }
+        ensures failed { IfErr result (λ failure. status_of failure ≡ 3) };
 }
 
 /// The machine that the program runs on.
@@ -47,10 +77,15 @@ impl<'a> Machine<'a> {
 }
 
 impl Place for Machine<'_> {
-    ghost use Rattle.std.specs.Prelude.{◌≤◌, length};
+    ghost use Rattle.std.specs.Prelude.{◌≤◌, length, ⊤};
+
+    type File = FileStore<FileFrom<Wary>>;
 
     // Of a secret only the length is known.
     ghost holds = { λ path secret. (1 ≤ length secret) × (length secret ≤ 4096) };
+
+    // Of names nothing is known.
+    ghost keeps = { λ path names. ⊤ };
 
     fn secret(&mut self, path: &str) -> Result<Vec<u8>, Failure> {
         let mut secret = Vec::new(self.rt.alloc());
@@ -74,6 +109,18 @@ impl Place for Machine<'_> {
         match self.rt.fill_bytes(&mut seed) {
             Ok(()) => Ok(seed),
             Err(_) => Err(Failure::Random),
+        }
+    }
+
+    fn open<'key>(
+        &mut self,
+        path: &str,
+        target: Argon2<'key>,
+        bound: Bound,
+    ) -> Result<AccountsAt<'key>, Failure> {
+        match AccountFile::open(self.rt, path, target, bound) {
+            Ok(accounts) => Ok(accounts),
+            Err(error) => Err(Failure::from(error)),
         }
     }
 }

@@ -3,6 +3,7 @@
 ghost use Rattle.std.specs.Prelude.{◌≡◌, ◌↔◌, ◌≤◌, ◌++◌, ◌∷◌, [], ℕ, List, IfErr, IfOk, IfSome, IsNone, OnOk, map, string_bytes};
 ghost use Rattle.std.specs.Io.KnownBytes.{Appends, Keeps};
 ghost use Rattle.argon2.specs.Accounts.{AreTerms, terms_of};
+ghost use Rattle.argon2.specs.Login.{accepted_text};
 ghost use Rattle.argon2.specs.Made.{target_of};
 ghost use Rattle.argon2_passwd.specs.Answers.{IsAnswered, IsCheckReply, IsHashReply, IsRefused, IsSecret, terms_by};
 ghost use Rattle.argon2_passwd.specs.Arguments.{Asked, asked, asked_by, choices_of};
@@ -13,26 +14,33 @@ use crate::failure::Failure;
 use crate::options::Options;
 use crate::place::Place;
 use argon2::accounts::Policy;
+use argon2::login::Accepted;
 use argon2::{Algorithm, Argon2, Version};
 use rand_chacha::ChaCha20Rng;
 use rand_core::SeedableRng;
 use std::alloc::Global;
 use std::io::{BufRead, Write};
 
+mod accounts;
 #[cfg(test)]
 mod tests;
 mod texts;
 
 const USAGE: &str = "\
 usage: argon2-passwd [OPTION].. hash | check TEXT
+       argon2-passwd [OPTION].. FILE register NAME | verify NAME | change NAME | set NAME | remove NAME
+       argon2-passwd [OPTION].. FILE list | export
        argon2-passwd -h | --help | --version";
 
 const VERSION: &str = "argon2-passwd 0.6.0\n";
 
 const HELP: &str = "\
-argon2-passwd makes a PHC text of a password by Argon2id, and checks a password by such a text.
+argon2-passwd makes a PHC text of a password by Argon2id, checks a password by such a text, and keeps
+names with such texts in a file.
 
     argon2-passwd [OPTION].. hash | check TEXT
+    argon2-passwd [OPTION].. FILE register NAME | verify NAME | change NAME | set NAME | remove NAME
+    argon2-passwd [OPTION].. FILE list | export
 
 The password is the first line of standard input. The line's end, LF or CR LF, is no part of it. It has
 at most 4096 bytes.
@@ -41,26 +49,38 @@ at most 4096 bytes.
     check TEXT  accept or refuse the password; write \"text is current\" where it is accepted and TEXT was
                 made under the parameters, and \"text is renewed\" and a new text where it was not
 
+FILE is a SQLite database that survives a crash at any moment. It is made where there is none. A path
+that is the word hash or check is written ./hash or ./check.
+
+    register NAME  give a new name, which has no line break and no colon, a text of the password
+    verify NAME    accept or refuse the password; write \"text is current\" where it is accepted, or
+                   \"text is renewed\" once FILE has a new text in place of one under other parameters
+    change NAME    give the name a text of the second line where the first line is accepted
+    set NAME       give a name that is there a text of the password
+    remove NAME    remove the name with its text
+    list           write the names, one a line, in the order of their bytes
+    export         write the same lines with a colon and the text behind each name
+
 The options come first:
 
     --params m=M,t=T,p=P  what new texts are made under: M blocks of 1024 bytes, T passes and P lanes
                           (m=19456,t=2,p=1)
-    --bound m=M,t=T,p=P   the most that TEXT may ask for, no less than the parameters
+    --bound m=M,t=T,p=P   the most that a text may ask for, no less than the parameters
                           (m=2097152,t=64,p=64, or the parameters where they are above it)
     --secret-file PATH    the file's bytes, 1 to 4096 of them, are the secret of all texts
     -h, --help            write this
     --version             write the version
 
-The status is 0 where a text is written or the password is accepted. It is 1 where it is refused: the
-password is wrong, longer or not there, or TEXT is none or above the bound. It is 2 where the arguments
-are not of this form, and 3 where a file, a stream or a request for memory fails. Where it is not 0,
-standard error says why.
+The status is 0 where a text is written, the password is accepted or the command on FILE is done. It is
+1 where it is refused: the password is wrong, longer or not there, a text is none or above the bound, or
+the name is taken, unknown or not allowed. It is 2 where the arguments are not of this form, and 3 where
+a file, a stream or a request for memory fails. Where it is not 0, standard error says why.
 ";
 
 /// Answers what `args` ask for, and returns the exit status.
 ///
-/// Status 0: the answer is written to `output`, and nothing to `errors`. Status 1: the password is
-/// refused. Status 2: the arguments are not of the form of the usage lines, which `errors` gets, and
+/// Status 0: the answer is written to `output`, and nothing to `errors`. Status 1: the password or the
+/// name is refused. Status 2: the arguments are not of the form of the usage lines, which `errors` gets, and
 /// neither `input` nor `output` is touched. Status 3: a file, a stream or a request for memory failed.
 /// With 1 and 3 the failure's text is written to `errors`, and with 1 nothing to `output`. Where `errors`
 /// can't be written, the status stays.
@@ -77,11 +97,11 @@ pub fn run<P: Place, R: BufRead, W: Write, E: Write>(
     ensures unread { result ≡ 2 → Keeps (R.remaining input.old) (R.remaining input.new) }
     ensures unwritten { result ≡ 2 → Keeps (W.contents output.old) (W.contents output.new) }
     ensures answered { result ≡ 0 → IfSome (asked_by (map string_bytes args.now))
-        (λ asked. IsAnswered P.holds asked (R.remaining input.old)
+        (λ asked. IsAnswered P.File.Store P.holds P.keeps asked (R.remaining input.old)
         (W.contents output.old) (W.contents output.new)) }
     ensures quiet { result ≡ 0 → Keeps (E.contents errors.old) (E.contents errors.new) }
     ensures refused { result ≡ 1 → IfSome (asked_by (map string_bytes args.now))
-        (λ asked. IsRefused P.holds asked (R.remaining input.old))
+        (λ asked. IsRefused P.File.Store P.holds P.keeps asked (R.remaining input.old))
         × Keeps (W.contents output.old) (W.contents output.new) }
 {
     let Some(command) = Command::parsed(args) else {
@@ -111,10 +131,10 @@ fn answer<P: Place, R: BufRead, W: Write>(
     input: &mut R,
     output: &mut W,
 ) -> Result<(), Failure>
-    ensures ok { OnOk result (IsAnswered P.holds (asked command.entry) (R.remaining input.old)
-        (W.contents output.old) (W.contents output.new)) }
+    ensures ok { OnOk result (IsAnswered P.File.Store P.holds P.keeps (asked command.entry)
+        (R.remaining input.old) (W.contents output.old) (W.contents output.new)) }
     ensures err { IfErr result (λ failure. status_of failure ≡ 1
-        → IsRefused P.holds (asked command.entry) (R.remaining input.old)
+        → IsRefused P.File.Store P.holds P.keeps (asked command.entry) (R.remaining input.old)
         × Keeps (W.contents output.old) (W.contents output.new)) }
 {
     match command {
@@ -128,6 +148,16 @@ fn answer<P: Place, R: BufRead, W: Write>(
             let reply = check(alloc, &options, place, text, input)?;
             write_line(output, reply.as_str())
         }
+        Command::Verify(options, file, name) => {
+            let accepted = accounts::verify(alloc, &options, place, file, name, input)?;
+            write_accepted(output, accepted)
+        }
+        Command::Edit(options, file, edit, name) => accounts::edit(
+            alloc, &options, place, file, edit, name, input,
+        ),
+        Command::Show(options, file, view) => accounts::show(
+            alloc, &options, place, file, view, output,
+        ),
     }
 }
 
@@ -143,7 +173,8 @@ fn hash<P: Place, R: BufRead>(
         × IsHashReply (terms_by (choices_of options.now) secret) drawn (R.remaining input.old)
         (string_bytes text)) }
     ensures err { IfErr result (λ failure. status_of failure ≡ 1
-        → IsRefused P.holds (Asked.hash (choices_of options.now)) (R.remaining input.old)) }
+        → IsRefused P.File.Store P.holds P.keeps
+        (Asked.hash (choices_of options.now)) (R.remaining input.old)) }
 {
     let secret = secret(alloc, place, options)?;
     let policy = policy(alloc, options, secret.as_slice())?;
@@ -164,7 +195,8 @@ fn check<P: Place, R: BufRead>(
         × IsCheckReply (terms_by (choices_of options.now) secret) drawn text.now
         (R.remaining input.old) (string_bytes reply)) }
     ensures err { IfErr result (λ failure. status_of failure ≡ 1
-        → IsRefused P.holds (Asked.check (choices_of options.now) text.now) (R.remaining input.old)) }
+        → IsRefused P.File.Store P.holds P.keeps
+        (Asked.check (choices_of options.now) text.now) (R.remaining input.old)) }
 {
     let secret = secret(alloc, place, options)?;
     let policy = policy(alloc, options, secret.as_slice())?;
@@ -228,6 +260,17 @@ fn write_line<W: Write>(output: &mut W, text: &str) -> Result<(), Failure>
         (text.now ++ 10 ∷ [])) }
 {
     writeln!(output, "{text}")?;
+    output.flush()?;
+    Ok(())
+}
+
+// Writes what a login did.
+fn write_accepted<W: Write>(output: &mut W, accepted: Accepted) -> Result<(), Failure>
+    ensures err { IfErr result (λ failure. failure ≡ Failure.Output) }
+    ensures ok { OnOk result (Appends (W.contents output.old) (W.contents output.new)
+        (accepted_text accepted ++ 10 ∷ [])) }
+{
+    writeln!(output, "{accepted}")?;
     output.flush()?;
     Ok(())
 }

@@ -11,6 +11,10 @@ const FOLDER: &str = "argon2_passwd_test";
 
 const SECRET: &str = "argon2_passwd_test/secret";
 
+const ACCOUNTS: &str = "argon2_passwd_accounts_test";
+
+const ACCOUNTS_FILE: &str = "argon2_passwd_accounts_test/accounts";
+
 // Of the password `abc` and the salt `somesalt`, by the reference implementation.
 const TEXT: &str =
     "$argon2id$v=19$m=8,t=1,p=1$c29tZXNhbHQ$LVJKYEkaeNsu5UCkG00QmN9KvYwrpueSxItaCk3nAjU";
@@ -204,6 +208,61 @@ fn reads_a_secret_of_up_to_4096_bytes(rt: HostRuntime) -> Result<(), Fail> {
     Ok(())
 }
 
+// Whether the program answers a command on a file so.
+fn expect_on_file(
+    rt: &HostRuntime,
+    words: &[&str],
+    input: &[u8],
+    answer: (u8, &str, &str),
+) -> Result<bool, AllocError> {
+    let mut all = Vec::new(rt.alloc());
+    for word in ["--params", LEAST, ACCOUNTS_FILE] {
+        all.push(word)?;
+    }
+    for word in words {
+        all.push(*word)?;
+    }
+    expect(rt, all.as_slice(), input, answer)
+}
+
+#[test]
+fn keeps_accounts(rt: HostRuntime) -> Result<(), Fail> {
+    let _ = fs::remove_dir_all(&rt, ACCOUNTS);
+    fs::create_dir(&rt, ACCOUNTS)?;
+    let done = (0, "", "");
+    let unknown = (1, "", "argon2-passwd: name is unknown\n");
+    let taken = (1, "", "argon2-passwd: name is taken\n");
+    let name = (
+        1,
+        "",
+        "argon2-passwd: a name has no line break and no colon\n",
+    );
+    let none = (1, "", "argon2-passwd: standard input has no password\n");
+    for (words, input, answer) in [
+        (&["register", "ann"] as &[&str], b"abc\n" as &[u8], done),
+        (&["register", "ann"], b"abc\n", taken),
+        (&["register", "a:b"], b"abc\n", name),
+        (&["register", "a\nb"], b"abc\n", name),
+        (&["verify", "ann"], b"abc\n", CURRENT),
+        (&["verify", "ann"], b"abd\n", WRONG),
+        (&["verify", "bob"], b"abc\n", unknown),
+        (&["change", "ann"], b"abc\nnew\n", done),
+        (&["change", "ann"], b"abc\nnew\n", WRONG),
+        (&["change", "ann"], b"new\n", none),
+        (&["set", "ann"], b"set\n", done),
+        (&["verify", "ann"], b"set\n", CURRENT),
+        (&["register", "Bob"], b"abc\n", done),
+        (&["list"], b"", (0, "Bob\nann\n", "")),
+        (&["remove", "ann"], b"", done),
+        (&["set", "ann"], b"set\n", unknown),
+        (&["list"], b"", (0, "Bob\n", "")),
+    ] {
+        assert!(rt; expect_on_file(&rt, words, input, answer)?, "{words:?}");
+    }
+    fs::remove_dir_all(&rt, ACCOUNTS)?;
+    Ok(())
+}
+
 #[test]
 fn says_that_the_output_fails(rt: HostRuntime) -> Result<(), Fail> {
     for words in [&["--params", LEAST, "check", TEXT] as &[&str], &["--help"]] {
@@ -236,6 +295,10 @@ fn shows_its_usage_where_arguments_are_of_another_form(rt: HostRuntime) -> Resul
         &["--bound", "m=4294967296,t=1,p=1", "hash"],
         &["--secret", "x", "hash"],
         &["hash", "--help"],
+        &["x", "lists"],
+        &["x", "verify"],
+        &["x", "list", "ann"],
+        &["x", "verify", "ann", "bob"],
     ] {
         assert!(rt;
             expect(&rt, words, b"abc", (2, "", usage.as_str()))?,

@@ -8,6 +8,7 @@ use Rattle.argon2.specs.declared.accounts.error.AccountError.TheVariants.{Refuse
 use Rattle.argon2_passwd.specs.Failures.{IsOfAccount, status_of}
 use Rattle.argon2_passwd.specs.declared.failure.Failure.{Failure}
 use Rattle.argon2_passwd.specs.declared.failure.Failure.TheVariants.{Account, Memory}
+use Rattle.argon2_passwd.proofs.Refusals.{err_then}
 use Rattle.argon2_passwd.proofs.run.texts.login.Goals as goal
 
 -- a refusal that is not out of memory has its reason
@@ -22,14 +23,9 @@ refused : {X : Type 0} → (P : Type 0) (e : AccountError) (r : Result X Failure
 refused P e (Ok x) why is = tt
 refused P e (Err f) why is = reason P e f why is
 
-on_all : {X : Type 0} {Q : Type 0} {P : Type 0} → (r : Result X Failure) → (P → Q) → IfErr r (λ f. status_of f ≡ 1 → P)
-    → IfErr r (λ f. status_of f ≡ 1 → Q)
-on_all (Ok x) next is = tt
-on_all (Err f) next is = λ one. next (is one)
-
 pub returns-in_err-accepted-clause-err : goal.returns-in_err-accepted-clause-err
 returns-in_err-accepted-clause-err g c =
     let admits = Admits (terms_of c.args.policy.now) c.args.password.now in
     let never = refused (¬ (admits (phc_of c.in_ok-hash.hash))) _ _ c.in_err-accepted.ensures.accepted
     c.from_residual-in_err-accepted.ensures.1 in
-    on_all _ (λ no v is. λ admitted. no (subst admits (sym (c.in_ok-hash.ensures.only v is)) admitted)) never
+    err_then _ never (λ no v is. λ admitted. no (subst admits (sym (c.in_ok-hash.ensures.only v is)) admitted))

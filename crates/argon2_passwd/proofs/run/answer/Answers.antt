@@ -1,0 +1,42 @@
+use Rattle.argon2_passwd.specs.Answers.{IsAnswered}
+use Rattle.argon2_passwd.specs.Arguments.{asked}
+use Rattle.argon2_passwd.proofs.Refusals.{err_then, keeps_same, ok_then, passed}
+use Rattle.argon2_passwd.proofs.run.answer.Goals as goal
+
+pub returns-in_err-accepted-in-Verify-clause-err : goal.returns-in_err-accepted-in-Verify-clause-err
+returns-in_err-accepted-in-Verify-clause-err g c =
+    rw c.in-Verify.is (err_then _
+    (passed c.in_err-accepted-in-Verify.field-0.0 _ c.from_residual-in_err-accepted-in-Verify.ensures.1
+    c.in_err-accepted-in-Verify.ensures.err)
+    (λ no. (no, keeps_same _)))
+
+pub returns-in_ok-reply-in-Check-clause-ok : goal.returns-in_ok-reply-in-Check-clause-ok
+returns-in_ok-reply-in-Check-clause-ok g c =
+    let done = c.in_ok-reply-in-Check.ensures.ok in
+    ok_then {Q = IsAnswered g.P.File.Store g.P.Place.holds g.P.Place.keeps (asked c.args.command)
+    (g.R.Read.remaining c.args.input.now) (g.W.Write.contents c.args.output.now)
+    (g.W.Write.contents c.write_line-in-Check.new.output)}
+    _ c.write_line-in-Check.ensures.ok
+    (λ appended. rw c.in-Check.is (done.0, done.1, _, done.2, done.3, (rw c.as_str-in-Check.ensures.value at appended)))
+
+pub returns-in_ok-accepted-in-Verify-clause-ok : goal.returns-in_ok-accepted-in-Verify-clause-ok
+returns-in_ok-accepted-in-Verify-clause-ok g c =
+    ok_then {Q = IsAnswered g.P.File.Store g.P.Place.holds g.P.Place.keeps (asked c.args.command)
+    (g.R.Read.remaining c.args.input.now) (g.W.Write.contents c.args.output.now)
+    (g.W.Write.contents c.write_accepted.new.output)}
+    _ c.write_accepted.ensures.ok
+    (λ appended. rw c.in-Verify.is
+    (c.in_ok-accepted-in-Verify.accepted, c.in_ok-accepted-in-Verify.ensures.ok, appended))
+
+pub returns-in-Edit-clause-ok : goal.returns-in-Edit-clause-ok
+returns-in-Edit-clause-ok g c =
+    ok_then {Q = IsAnswered g.P.File.Store g.P.Place.holds g.P.Place.keeps (asked c.args.command)
+    (g.R.Read.remaining c.args.input.now) (g.W.Write.contents c.args.output.now)
+    (g.W.Write.contents c.args.output.now)}
+    _ c.edit.ensures.ok (λ done. rw c.in-Edit.is (done, keeps_same _))
+
+pub returns-in-Edit-clause-err : goal.returns-in-Edit-clause-err
+returns-in-Edit-clause-err g c = rw c.in-Edit.is (err_then _ c.edit.ensures.err (λ no. (no, keeps_same _)))
+
+pub returns-in-Show-clause-ok : goal.returns-in-Show-clause-ok
+returns-in-Show-clause-ok g c = rw c.in-Show.is c.show.ensures.ok

@@ -1,0 +1,203 @@
+//! Accounts in a file.
+
+ghost use Rattle.std.specs.Prelude.{◌≡◌, Ok, None, IfErr, IfOk, OnOk};
+ghost use Rattle.std.specs.FinMap.{entries};
+ghost use Rattle.std.specs.Io.KnownBytes.{Appends, Keeps};
+ghost use Rattle.rand_core.specs.Stream.{fill_bytes};
+ghost use Rattle.argon2.specs.Accounts.{AreTerms, logging_in};
+ghost use Rattle.argon2_base.specs.PhcFields.{phc_of};
+ghost use Rattle.argon2_store.specs.AccountFile.{Serves, names_of};
+ghost use Rattle.argon2_passwd.specs.Answers.{AreRead, AreUnread, IsCalled, IsEdited, IsOpened, IsRefused, IsShown, OfPassword, breaks_lines, call_of, entry_line, lines_of, terms_by};
+ghost use Rattle.argon2_passwd.specs.Arguments.{Asked, choices_of};
+ghost use Rattle.argon2_passwd.specs.Failures.{status_of};
+
+use super::{policy, secret, target};
+use crate::arguments::{Edit, View};
+use crate::failure::Failure;
+use crate::options::Options;
+use crate::passwords::password;
+use crate::place::Place;
+use argon2::PasswordHash;
+use argon2::login::Accepted;
+use argon2_store::{AccountFile, FileError};
+use rand_chacha::ChaCha20Rng;
+use rand_core::{Rng, SeedableRng};
+use sqlite_trees::store::Store;
+use std::alloc::Global;
+use std::io::{self, BufRead, Write};
+
+/// What a name's text in a file does with the next password, where it accepts it.
+pub fn verify<P: Place, R: BufRead>(
+    alloc: Global,
+    options: &Options<'_>,
+    place: &mut P,
+    file: &str,
+    name: &str,
+    input: &mut R,
+) -> Result<Accepted, Failure>
+    ensures ok { IfOk result (λ accepted. OfPassword (λ password.
+        IsCalled P.File.Store P.holds P.keeps (choices_of options.now) file.now
+        (logging_in name.now password) (Ok accepted)) (R.remaining input.old)) }
+    ensures err { IfErr result (λ failure. status_of failure ≡ 1
+        → IsRefused P.File.Store P.holds P.keeps
+        (Asked.verify (choices_of options.now) file.now name.now) (R.remaining input.old)) }
+{
+    let password = password(alloc, input)?;
+    let secret = secret(alloc, place, options)?;
+    let mut rng = ChaCha20Rng::from_seed(place.seed()?);
+    let mut accounts = open(alloc, options, place, file, secret.as_slice())?;
+    Ok(accounts.login(&mut rng, name, password.as_slice())?)
+}
+
+/// Changes the text of a name in a file, by the next passwords.
+pub fn edit<P: Place, R: BufRead>(
+    alloc: Global,
+    options: &Options<'_>,
+    place: &mut P,
+    file: &str,
+    edit: Edit,
+    name: &str,
+    input: &mut R,
+) -> Result<(), Failure>
+    ensures ok { OnOk result (IsEdited P.File.Store P.holds P.keeps (choices_of options.now)
+        file.now edit name.now (R.remaining input.old)) }
+    ensures err { IfErr result (λ failure. status_of failure ≡ 1
+        → IsRefused P.File.Store P.holds P.keeps
+        (Asked.edit (choices_of options.now) file.now edit name.now) (R.remaining input.old)) }
+{
+    if breaks_lines(edit, name) {
+        return Err(Failure::Name);
+    }
+    let (first, second) = passwords(alloc, edit, input)?;
+    let secret = secret(alloc, place, options)?;
+    let mut rng = ChaCha20Rng::from_seed(place.seed()?);
+    let mut accounts = open(alloc, options, place, file, secret.as_slice())?;
+    Ok(call(
+        &mut accounts,
+        &mut rng,
+        edit,
+        name,
+        first.as_slice(),
+        second.as_slice(),
+    )?)
+}
+
+/// Writes what a file has, a line for each name.
+pub fn show<P: Place, W: Write>(
+    alloc: Global,
+    options: &Options<'_>,
+    place: &mut P,
+    file: &str,
+    view: View,
+    output: &mut W,
+) -> Result<(), Failure>
+    ensures ok { OnOk result (IsShown P.File.Store P.holds P.keeps (choices_of options.now)
+        file.now view (W.contents output.old) (W.contents output.new)) }
+    ensures err { IfErr result (λ failure. status_of failure ≡ 1
+        → IsRefused P.File.Store P.holds P.keeps
+        (Asked.show (choices_of options.now) file.now view) None
+        × Keeps (W.contents output.old) (W.contents output.new)) }
+{
+    let secret = secret(alloc, place, options)?;
+    let accounts = open(alloc, options, place, file, secret.as_slice())?;
+    Ok(write_all(&accounts, view, output)?)
+}
+
+// The accounts in a file, which is left alone where the parameters are above the bound.
+fn open<'key, P: Place>(
+    alloc: Global,
+    options: &Options<'_>,
+    place: &mut P,
+    file: &str,
+    secret: &'key [u8],
+) -> Result<AccountFile<'key, P::File>, Failure>
+    ensures ok { IfOk result (IsOpened P.keeps file.now
+        (terms_by (choices_of options.now) secret.now)) }
+    ensures err { IfErr result (λ failure. status_of failure ≡ 1
+        → ¬ (AreTerms (terms_by (choices_of options.now) secret.now))) }
+{
+    let _ = policy(alloc, options, secret)?;
+    place.open(file, target(options, secret)?, options.bound())
+}
+
+// Whether the name of a new text would break the lines that show it.
+fn breaks_lines(edit: Edit, name: &str) -> bool
+    ensures { result ≡ breaks_lines edit name.now }
+{
+    match edit {
+        Edit::Register => name.as_bytes().contains(&b'\n') || name.as_bytes().contains(&b':'),
+        _ => false,
+    }
+}
+
+// The passwords that a change takes: the first line, and the one after it where there are two.
+fn passwords<R: BufRead>(
+    alloc: Global,
+    edit: Edit,
+    input: &mut R,
+) -> Result<(Vec<u8>, Vec<u8>), Failure>
+    ensures ok { IfOk result (λ read.
+        AreRead edit (R.remaining input.old) read.0.items read.1.items) }
+    ensures err { IfErr result (λ failure. status_of failure ≡ 1
+        → AreUnread edit (R.remaining input.old)) }
+{
+    match edit {
+        Edit::Remove => Ok((Vec::new(alloc), Vec::new(alloc))),
+        Edit::Change => {
+            let old = password(alloc, input)?;
+            Ok((old, password(alloc, input)?))
+        }
+        _ => Ok((password(alloc, input)?, Vec::new(alloc))),
+    }
+}
+
+// Changes the text of a name.
+fn call<S: Store, G: Rng>(
+    accounts: &mut AccountFile<'_, S>,
+    rng: &mut G,
+    edit: Edit,
+    name: &str,
+    first: &[u8],
+    second: &[u8],
+) -> Result<(), FileError>
+    ensures { Serves (call_of edit name.now first.now second.now
+        (fill_bytes 16 (G.stream rng.old)).0) result accounts.old accounts.new }
+{
+    match edit {
+        Edit::Register => accounts.register(rng, name, first),
+        Edit::Change => accounts.change_password(rng, name, first, second),
+        Edit::Set => accounts.set_password(rng, name, first),
+        Edit::Remove => accounts.remove(name),
+    }
+}
+
+// Writes a line for each name.
+fn write_all<S: Store, W: Write>(
+    accounts: &AccountFile<'_, S>,
+    view: View,
+    output: &mut W,
+) -> io::Result<()>
+    ensures { OnOk result (Appends (W.contents output.old) (W.contents output.new)
+        (lines_of view (entries (names_of accounts.now)))) }
+{
+    for (name, hash) in accounts.texts() {
+        write_entry(view, name.as_str(), hash, output)?;
+    }
+    output.flush()
+}
+
+// Writes the line of a name.
+fn write_entry<W: Write>(
+    view: View,
+    name: &str,
+    hash: &PasswordHash,
+    output: &mut W,
+) -> io::Result<()>
+    ensures { OnOk result (Appends (W.contents output.old) (W.contents output.new)
+        (entry_line view (name.now, phc_of hash.now))) }
+{
+    match view {
+        View::Names => writeln!(output, "{name}"),
+        View::Texts => writeln!(output, "{name}:{hash}"),
+    }
+}
