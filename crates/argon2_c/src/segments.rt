@@ -64,10 +64,10 @@ pub extern "C" fn argon2_c_begin(
     OK
 }
 
-/// Fills segment `slice` of a lane in a pass, and returns 0. `before` are the slices before, `own` is the
-/// segment, and `after` are the slices after it. Returns the code of the request's first fault, or -25 where
-/// there is no such segment or one of the three has another length; nothing is then written. It allocates
-/// nothing.
+/// Fills segment `slice` of a lane in a pass, and returns 0. `before` has the slices before it, `own` is the
+/// segment, and `after` has the slices after it. Returns the code of the request's first fault, where the
+/// lengths of output, password and salt count as valid, or -25 where there is no such segment or one of the
+/// three has another length; nothing is then written. It allocates nothing.
 #[unsafe(no_mangle)]
 pub extern "C" fn argon2_c_segment(
     request: &Request,
@@ -100,8 +100,8 @@ pub extern "C" fn argon2_c_segment(
 }
 
 /// Writes the tag into `out`, and returns 0. `last` is the last slice. Returns the code of the request's
-/// first fault, or -25 where `last` has another length than a slice; nothing is then written. It allocates
-/// nothing.
+/// first fault, where the lengths of the inputs count as valid, or -25 where `last` has another length than
+/// a slice; nothing is then written. It allocates nothing.
 #[unsafe(no_mangle)]
 pub extern "C" fn argon2_c_finish(request: &Request, last: &[Words], out: &mut [u8]) -> i32
     ensures answer { result ≡ unwrap_or (first_of (request_faults request.now (length out.old) 0 8 0
