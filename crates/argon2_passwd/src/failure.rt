@@ -24,8 +24,8 @@ pub enum Failure {
     /// A new name has a line break or a colon.
     #[error("a name has no line break and no colon")]
     Name,
-    /// The parameters are above the bound, or a text is none, is above it or does not accept the password, or a
-    /// name is taken or unknown.
+    /// The parameters are above the bound; or a text is outside the grammar, is above the bound or does not
+    /// accept the password; or a name is taken or unknown.
     #[error(transparent)]
     Account(AccountError),
     /// The file with the accounts can't be opened.

@@ -33,7 +33,7 @@ fn main(rt: HostRuntime) -> ExitCode {
     ExitCode::from(status)
 }
 
-// The arguments after the program's name; none where one is no text, as no command has such a one.
+// The arguments after the program's name; none of them where one is not UTF-8, as no command has such a word.
 fn words(rt: &HostRuntime) -> Result<Vec<String>, AllocError> {
     let mut args = Vec::new(rt.alloc());
     match env::args(rt) {

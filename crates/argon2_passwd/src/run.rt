@@ -72,16 +72,18 @@ The options come first:
     --version             write the version
 
 The status is 0 where a text is written, the password is accepted or the command on FILE is done. It is
-1 where it is refused: the password is wrong, longer or not there, a text is none or above the bound, or
-the name is taken, unknown or not allowed. It is 2 where the arguments are not of this form, and 3 where
-a file, a stream or a request for memory fails. Where it is not 0, standard error says why.
+1 where it is refused: the password is wrong, too long or missing, a text is outside the grammar or above
+the bound, the parameters are above the bound, or the name is taken, unknown or not allowed. It is 2 where
+the arguments are not of this form, and 3 where a file, a stream, random bytes or a request for memory
+fails. Where it is not 0, standard error says why.
 ";
 
 /// Answers what `args` ask for, and returns the exit status.
 ///
 /// Status 0: the answer is written to `output`, and nothing to `errors`. Status 1: the password or the
-/// name is refused. Status 2: the arguments are not of the form of the usage lines, which `errors` gets, and
-/// neither `input` nor `output` is touched. Status 3: a file, a stream or a request for memory failed.
+/// name is refused, or the parameters are above the bound. Status 2: the arguments are not of the form of
+/// the usage lines, which `errors` gets, and neither `input` nor `output` is touched. Status 3: a file, a
+/// stream, random bytes or a request for memory failed.
 /// With 1 and 3 the failure's text is written to `errors`, and with 1 nothing to `output`. Where `errors`
 /// can't be written, the status stays.
 pub fn run<P: Place, R: BufRead, W: Write, E: Write>(

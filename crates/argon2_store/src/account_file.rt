@@ -27,8 +27,8 @@ use sqlite_trees::store::Store;
 use std::collections::btree_map::Iter;
 
 /// Names with passwords, each stored as a PHC text, in memory and in a file. Its calls are those of
-/// [`Accounts`](argon2::accounts::Accounts), and each that changes a text has the file hold the change,
-/// past any crash, before it returns `Ok`.
+/// [`Accounts`](argon2::accounts::Accounts). Once one that changes a text returns `Ok`, the file holds the
+/// change, past any crash.
 ///
 /// A name is any text. Where a call returns an error, the accounts are as before it, in memory and in
 /// the file. One exception: where the disk fails during a commit, the file may hold the change or not. Then
@@ -39,7 +39,7 @@ pub struct AccountFile<'key, S: Store> {
     table: Table<S>,
 }
 
-/// Accounts in the file at a path, of which nothing is supposed but that its disk keeps what it has synced.
+/// Accounts in the file at a path. Of the file nothing is known; its disk keeps what it has synced.
 pub type AccountsAt<'key> = AccountFile<'key, FileStore<FileFrom<Wary>>>;
 
 // The same value again.

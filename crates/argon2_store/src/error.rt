@@ -12,7 +12,8 @@ use sqlite_wal::Error as LogError;
 use std::alloc::AllocError;
 use std::{fmt, io};
 
-/// Why a call on an account file is refused. The accounts are then as before, in the file too.
+/// Why a call on an account file fails. The accounts are then as before the call, in memory and, unless the disk failed
+/// during a commit, in the file.
 #[derive(Clone, Copy, Debug, PartialEq, Eq)]
 pub enum FileError {
     /// The accounts refuse the call; nothing was written.
@@ -85,7 +86,7 @@ impl From<StoreError> for FileError {
     }
 }
 
-/// Why a file is not opened. It is then as it was.
+/// Why a file is not opened. The accounts in it are then as they were.
 #[derive(Clone, Copy, Debug)]
 pub enum OpenError {
     /// There is no policy of the target and the bound. The file was not looked at.
@@ -104,7 +105,7 @@ pub enum OpenError {
     Full,
     /// The file is no SQLite database, is damaged, or has other tables than that of the accounts.
     NotAccounts,
-    /// A row is no name with a PHC text.
+    /// A row is not a name with a PHC text.
     Row,
 }
 

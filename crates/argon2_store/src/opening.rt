@@ -65,7 +65,7 @@ fn is_bare<D: Disk + Drop>(files: &mut Unopened<D>) -> Result<bool, OpenError>
     Ok(rows.as_slice().is_empty())
 }
 
-// Opens the table, or makes it where a first open that was cut off has left a database without it.
+// Opens the table, or makes it in a database without tables, such as a first open that was cut off leaves.
 fn attach<D: Disk + Drop>(mut files: Unopened<D>) -> Result<FileStore<D>, OpenError>
     requires { AreUsable files }
     ensures fresh { IfOk result (λ it. IsClean (view it) → IsFresh (view it)) }

@@ -349,7 +349,7 @@ impl<S: Store> Table<S> {
         Ok(())
     }
 
-    // Whether the file has to be opened again: a call has failed in a way that only that mends.
+    // Whether the file has to be opened again, since the disk failed during a commit.
     pub(crate) fn is_closed(&self) -> bool
         ensures { IsHonest S.Store (file_of self.now) →
             IsTrue result ↔ ((S.Store.view (file_of self.now)).is_open ≡ false) }

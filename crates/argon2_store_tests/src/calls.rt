@@ -12,10 +12,11 @@ use sqlite_trees::store::Store;
 use std::alloc::{AllocError, Global};
 use std::{fs, io};
 
-/// A call: a name, and its text or passwords.
+/// A call: a name, and its text or passwords, or two names with their texts.
 #[derive(Clone, Copy)]
 pub enum Call {
     Add(&'static str, &'static str),
+    AddAll([(&'static str, &'static str); 2]),
     Register(&'static str, &'static str),
     Login(&'static str, &'static str),
     Change(&'static str, &'static str, &'static str),
@@ -69,6 +70,10 @@ pub fn notes(alloc: Global) -> Result<Vec<u8>, AllocError> {
 fn answer<S: Store>(file: &mut AccountFile<'_, S>, rng: &mut ChaCha20Rng, call: Call) -> Answer {
     match call {
         Call::Add(name, text) => file.add(name, text).map(|_| None),
+        Call::AddAll(new) => match file.add_all(&new) {
+            Ok(()) => Ok(None),
+            Err((_, error)) => Err(error),
+        },
         Call::Register(name, new) => file.register(rng, name, new.as_bytes()).map(|_| None),
         Call::Login(name, old) => file.login(rng, name, old.as_bytes()).map(Some),
         Call::Change(name, old, new) => file

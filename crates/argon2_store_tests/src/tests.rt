@@ -29,7 +29,7 @@ const WRONG: Answer = Err(FileError::Account(AccountError::Refused(Error::Passwo
 
 const NO_TEXT: Answer = Err(FileError::Account(AccountError::Refused(Error::EncodingInvalid)));
 
-const FIRST: [(Call, Answer); 10] = [
+const FIRST: [(Call, Answer); 11] = [
     (Call::Register("ann", "one"), Ok(None)),
     (Call::Add("eve", OLD), Ok(None)),
     (Call::Login("ann", "one"), CURRENT),
@@ -40,21 +40,25 @@ const FIRST: [(Call, Answer); 10] = [
     (Call::Set("", "three"), Ok(None)),
     (Call::Register("max", "four"), Ok(None)),
     (Call::Remove("max"), Ok(None)),
+    (Call::AddAll([("max", OLD), ("zoe", OLD)]), Ok(None)),
 ];
 
-const LATER: [(Call, Answer); 5] = [
+const LATER: [(Call, Answer); 6] = [
     (Call::Login("ann", "two"), CURRENT),
     (Call::Login("eve", "password"), CURRENT),
     (Call::Login("", "three"), CURRENT),
     (Call::Login("ann", "one"), WRONG),
-    (Call::Login("max", "four"), UNKNOWN),
+    (Call::Login("max", "four"), WRONG),
+    (Call::Login("zoe", "five"), WRONG),
 ];
 
-const REFUSED: [(Call, Answer); 10] = [
+const REFUSED: [(Call, Answer); 12] = [
     (Call::Add("ann", OLD), Ok(None)),
     (Call::Add("ann", OLD), TAKEN),
     (Call::Register("ann", "one"), TAKEN),
     (Call::Add("bob", "x"), NO_TEXT),
+    (Call::AddAll([("bob", OLD), ("ann", OLD)]), TAKEN),
+    (Call::AddAll([("bob", OLD), ("eve", "x")]), NO_TEXT),
     (Call::Login("bob", "one"), UNKNOWN),
     (Call::Change("bob", "one", "two"), UNKNOWN),
     (Call::Set("bob", "one"), UNKNOWN),

@@ -91,7 +91,7 @@ fn write<S: Store + Drop>(
     for number in first..u64::MAX {
         let name = name_of(rt.alloc(), number)?;
         match call(&mut file, &mut rng, number, name.as_str()) {
-            Ok(()) => tell(rt, &file, name.as_str())?,
+            Ok(()) => print_line(rt, &file, name.as_str())?,
             Err(error) => return failed(rt, &error),
         }
     }
@@ -120,7 +120,7 @@ fn call<S: Store>(
     }
 }
 
-fn tell<S: Store>(rt: &HostRuntime, file: &AccountFile<'_, S>, name: &str) -> io::Result<()> {
+fn print_line<S: Store>(rt: &HostRuntime, file: &AccountFile<'_, S>, name: &str) -> io::Result<()> {
     match file.text_of(name) {
         Some(text) => println!(rt; "{name} {text}"),
         None => println!(rt; "{name}"),
