@@ -16,7 +16,7 @@ use std::{fs, io};
 #[derive(Clone, Copy)]
 pub enum Call {
     Add(&'static str, &'static str),
-    AddAll([(&'static str, &'static str); 2]),
+    AddTwo(&'static str, &'static str, &'static str, &'static str),
     Register(&'static str, &'static str),
     Login(&'static str, &'static str),
     Change(&'static str, &'static str, &'static str),
@@ -70,7 +70,10 @@ pub fn notes(alloc: Global) -> Result<Vec<u8>, AllocError> {
 fn answer<S: Store>(file: &mut AccountFile<'_, S>, rng: &mut ChaCha20Rng, call: Call) -> Answer {
     match call {
         Call::Add(name, text) => file.add(name, text).map(|_| None),
-        Call::AddAll(new) => match file.add_all(&new) {
+        Call::AddTwo(first, old, second, new) => match file.add_all(&[
+            (first, old),
+            (second, new),
+        ]) {
             Ok(()) => Ok(None),
             Err((_, error)) => Err(error),
         },

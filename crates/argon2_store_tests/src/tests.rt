@@ -40,7 +40,7 @@ const FIRST: [(Call, Answer); 11] = [
     (Call::Set("", "three"), Ok(None)),
     (Call::Register("max", "four"), Ok(None)),
     (Call::Remove("max"), Ok(None)),
-    (Call::AddAll([("max", OLD), ("zoe", OLD)]), Ok(None)),
+    (Call::AddTwo("max", OLD, "zoe", OLD), Ok(None)),
 ];
 
 const LATER: [(Call, Answer); 6] = [
@@ -57,8 +57,8 @@ const REFUSED: [(Call, Answer); 12] = [
     (Call::Add("ann", OLD), TAKEN),
     (Call::Register("ann", "one"), TAKEN),
     (Call::Add("bob", "x"), NO_TEXT),
-    (Call::AddAll([("bob", OLD), ("ann", OLD)]), TAKEN),
-    (Call::AddAll([("bob", OLD), ("eve", "x")]), NO_TEXT),
+    (Call::AddTwo("bob", OLD, "ann", OLD), TAKEN),
+    (Call::AddTwo("bob", OLD, "eve", "x"), NO_TEXT),
     (Call::Login("bob", "one"), UNKNOWN),
     (Call::Change("bob", "one", "two"), UNKNOWN),
     (Call::Set("bob", "one"), UNKNOWN),
