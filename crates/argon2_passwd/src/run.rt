@@ -22,8 +22,6 @@ use std::alloc::Global;
 use std::io::{BufRead, Write};
 
 mod accounts;
-#[cfg(test)]
-mod tests;
 mod texts;
 
 const USAGE: &str = "\
