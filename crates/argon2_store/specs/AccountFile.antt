@@ -87,10 +87,11 @@ module _ {S : Type 0} {g : Ghosts S} where
     pub is_open : IsHonest g (store_of file) → IsOpen g (store_of file)
     pub left : IsHonest g (store_of file) → Leaves g (store_of file) (λ left. left ≡ names_of file)
 
-  -- a file that was opened, or an error, which is that of the terms where they are refused
+  -- a file that was opened, the refusal of the terms, or another error under sound terms
   abbrev pub Opens : Terms → Result (AccountFile S g) OpenError → Type 0
   Opens terms (Ok file) = IsReady terms file
-  Opens terms (Err e) = AreTerms terms ⊎ ((why : AccountError) × (e ≡ NoPolicy why) × PolicyRefusal terms why)
+  Opens terms (Err (NoPolicy why)) = PolicyRefusal terms why
+  Opens terms (Err e) = AreTerms terms
 
   -- it has the names that the two files hold
   abbrev pub HasFound : Image → AccountFile S g → Type 0

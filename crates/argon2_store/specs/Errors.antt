@@ -1,10 +1,12 @@
 -- The errors of account files.
-use Rattle.std.specs.Prelude.{ℕ, List, Result, Ok, Err, codes}
+use Rattle.std.specs.Prelude.{ℕ, List, Result, Ok, Err, codes, ⊤}
 use Rattle.sqlite_trees.specs.declared.error.StoreError.{StoreError}
 use Rattle.sqlite_trees.specs.declared.error.StoreError.TheVariants as below
 use Rattle.argon2.specs.Accounts.{account_error_text}
 use Rattle.argon2_store.specs.declared.error.FileError.{FileError}
 use Rattle.argon2_store.specs.declared.error.FileError.TheVariants.{Account, OutOfMemory, Io, Damaged, Full, TooLong, Closed}
+use Rattle.argon2_store.specs.declared.error.OpenError.{OpenError}
+use Rattle.argon2_store.specs.declared.error.OpenError.TheVariants.{Terms}
 
 -- what an error of the store is called
 abbrev pub named : StoreError → FileError
@@ -24,6 +26,11 @@ unwritten e = named e
 abbrev pub answered : {X : Type 0} → Result (Unit {0}) StoreError → X → Result X FileError
 answered (Ok _) x = Ok x
 answered (Err e) x = Err (unwritten e)
+
+-- an error other than a refusal of the terms
+abbrev pub IsOfFile : OpenError → Type 0
+IsOfFile (Terms why) = ⊥
+IsOfFile e = ⊤
 
 -- what an error prints
 abbrev pub file_error_text : FileError → List ℕ

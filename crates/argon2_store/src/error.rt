@@ -1,7 +1,7 @@
 //! Why calls on an account file are refused.
 
 ghost use Rattle.std.specs.Prelude.{◌≡◌, Some};
-ghost use Rattle.argon2_store.specs.Errors.{file_error_text, named};
+ghost use Rattle.argon2_store.specs.Errors.{IsOfFile, file_error_text, named};
 
 use argon2::accounts::AccountError;
 use argon2::password_hash::Error;
@@ -130,18 +130,24 @@ impl fmt::Display for OpenError {
 impl std::error::Error for OpenError {}
 
 impl From<AllocError> for OpenError {
+    ghost from_gives = { λ _. IsOfFile };
+
     fn from(_: AllocError) -> OpenError {
         OpenError::OutOfMemory
     }
 }
 
 impl From<io::Error> for OpenError {
+    ghost from_gives = { λ _. IsOfFile };
+
     fn from(error: io::Error) -> OpenError {
         OpenError::Path(error)
     }
 }
 
 impl From<StoreError> for OpenError {
+    ghost from_gives = { λ _. IsOfFile };
+
     fn from(error: StoreError) -> OpenError {
         match error {
             StoreError::OutOfMemory => OpenError::OutOfMemory,
@@ -154,6 +160,8 @@ impl From<StoreError> for OpenError {
 }
 
 impl From<PathError> for OpenError {
+    ghost from_gives = { λ _. IsOfFile };
+
     fn from(error: PathError) -> OpenError {
         match error {
             PathError::Io(error) => OpenError::Path(error),
@@ -165,6 +173,8 @@ impl From<PathError> for OpenError {
 }
 
 impl From<LogError> for OpenError {
+    ghost from_gives = { λ _. IsOfFile };
+
     fn from(error: LogError) -> OpenError {
         match error {
             LogError::OutOfMemory => OpenError::OutOfMemory,
@@ -177,6 +187,8 @@ impl From<LogError> for OpenError {
 }
 
 impl From<UnopenedError> for OpenError {
+    ghost from_gives = { λ _. IsOfFile };
+
     fn from(error: UnopenedError) -> OpenError {
         match error {
             UnopenedError::OutOfMemory => OpenError::OutOfMemory,

@@ -23,5 +23,5 @@ loop-preserved g c = (
       let first : IsClean (g.S.Store.view c.args.store.now) = omega (arith, c.loop.invariant.1.clean, then) in
       let yes : c.in_ok-next.field-0 ≡ true = search rules in
       step _ _ _ _ _ _ (g.met.S.Store.ordered c.args.store.now (c.requires first).unbroken) (search rules)
-      (c.loop.invariant.2 then) (rw yes at (c.in_ok-next.ensures.ok later)) c.in_ok-take.ensures,
+      (c.loop.invariant.2 then) (rw yes at (c.in_ok-next.ensures.ok later)) c.in_ok-take.ensures.taken,
 )
