@@ -7,6 +7,8 @@ use Rattle.argon2_passwd.specs.declared.failure.Failure.{Failure}
 use Rattle.argon2_passwd.specs.declared.failure.Failure.TheVariants.{NoPassword, LongPassword, Name, Account, Memory}
 use Rattle.argon2_store.specs.declared.error.FileError.{FileError}
 use Rattle.argon2_store.specs.declared.error.FileError.TheVariants as file
+use Rattle.argon2_store.specs.declared.error.OpenError.{OpenError}
+use Rattle.argon2_store.specs.declared.error.OpenError.TheVariants.{Terms}
 
 -- 1 where the answer is no, 3 where a file, a stream or a request for memory fails
 abbrev pub status_of : Failure → ℕ
@@ -31,3 +33,8 @@ IsOfAccount refusal _ = ⊥
 abbrev pub IsOfFile : FileError → Failure → Type 0
 IsOfFile (file.Account refusal) failure = IsOfAccount refusal failure
 IsOfFile error failure = status_of failure ≡ 3
+
+-- the failure by an open
+abbrev pub IsOfOpen : OpenError → Failure → Type 0
+IsOfOpen (Terms refusal) failure = IsOfAccount refusal failure
+IsOfOpen error failure = status_of failure ≡ 3

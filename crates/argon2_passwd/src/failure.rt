@@ -2,7 +2,7 @@
 
 ghost use Rattle.std.specs.Prelude.{◌≡◌, ◌≢◌};
 ghost use Rattle.std.specs.IoError.{error_kind};
-ghost use Rattle.argon2_passwd.specs.Failures.{IsMemory, IsOfAccount, IsOfFile, status_of};
+ghost use Rattle.argon2_passwd.specs.Failures.{IsMemory, IsOfAccount, IsOfFile, IsOfOpen, status_of};
 
 use argon2::accounts::AccountError;
 use argon2::password_hash;
@@ -142,10 +142,11 @@ impl From<FileError> for Failure {
 
 /// The failure of an open.
 impl From<OpenError> for Failure {
-    ghost from_gives = { λ _ failure. status_of failure ≡ 3 };
+    ghost from_gives = { IsOfOpen };
 
     fn from(error: OpenError) -> Failure {
         match error {
+            OpenError::Terms(error) => Failure::from(error),
             OpenError::OutOfMemory => Failure::Memory(AllocError),
             error => Failure::Unopened(error),
         }

@@ -18,6 +18,7 @@ const LONGEST_SECRET: usize = 4096;
 /// Where the program finds the secret, random bytes and accounts.
 pub trait Place {
     ghost use Rattle.std.specs.Prelude.{◌≡◌, ℕ, List, IfErr, IfOk};
+    ghost use Rattle.argon2.specs.Accounts.{AreTerms};
     ghost use Rattle.argon2.specs.Login.{Store as Texts};
     ghost use Rattle.argon2.specs.Made.{target_of};
     ghost use Rattle.argon2_store.specs.AccountFile.{IsReady, names_of};
@@ -50,7 +51,7 @@ pub trait Place {
     /// The accounts in the file at a path, which is made where there is none.
     ///
     /// # Errors
-    /// The file can't be opened.
+    /// The target asks for more than the bound, and the file is left alone; or the file can't be opened.
     fn open<'key>(
         &mut self,
         path: &str,
@@ -60,7 +61,8 @@ pub trait Place {
         ensures kept { IfOk result (λ file. keeps path.now (names_of file)) }
         ensures ready { IfOk result
             (IsReady (record { target = target_of target.entry; bound = bound })) }
-        ensures failed { IfErr result (λ failure. status_of failure ≡ 3) };
+        ensures refused { IfErr result (λ failure. status_of failure ≡ 1
+            → ¬ (AreTerms (record { target = target_of target.entry; bound = bound }))) };
 }
 
 /// The machine that the program runs on.

@@ -11,7 +11,7 @@ ghost use Rattle.argon2_passwd.specs.Answers.{AreRead, AreUnread, IsCalled, IsEd
 ghost use Rattle.argon2_passwd.specs.Arguments.{Asked, choices_of};
 ghost use Rattle.argon2_passwd.specs.Failures.{status_of};
 
-use super::{policy, secret, target};
+use super::{secret, target};
 use crate::arguments::{Edit, View};
 use crate::failure::Failure;
 use crate::options::Options;
@@ -45,7 +45,7 @@ pub fn verify<P: Place, R: BufRead>(
     let password = password(alloc, input)?;
     let secret = secret(alloc, place, options)?;
     let mut rng = ChaCha20Rng::from_seed(place.seed()?);
-    let mut accounts = open(alloc, options, place, file, secret.as_slice())?;
+    let mut accounts = open(options, place, file, secret.as_slice())?;
     Ok(accounts.login(&mut rng, name, password.as_slice())?)
 }
 
@@ -71,7 +71,7 @@ pub fn edit<P: Place, R: BufRead>(
     let (first, second) = passwords(alloc, edit, input)?;
     let secret = secret(alloc, place, options)?;
     let mut rng = ChaCha20Rng::from_seed(place.seed()?);
-    let mut accounts = open(alloc, options, place, file, secret.as_slice())?;
+    let mut accounts = open(options, place, file, secret.as_slice())?;
     Ok(call(
         &mut accounts,
         &mut rng,
@@ -99,13 +99,12 @@ pub fn show<P: Place, W: Write>(
         × Keeps (W.contents output.old) (W.contents output.new)) }
 {
     let secret = secret(alloc, place, options)?;
-    let accounts = open(alloc, options, place, file, secret.as_slice())?;
+    let accounts = open(options, place, file, secret.as_slice())?;
     Ok(write_all(&accounts, view, output)?)
 }
 
 // The accounts in a file, which is left alone where the parameters are above the bound.
 fn open<'key, P: Place>(
-    alloc: Global,
     options: &Options<'_>,
     place: &mut P,
     file: &str,
@@ -116,7 +115,6 @@ fn open<'key, P: Place>(
     ensures err { IfErr result (λ failure. status_of failure ≡ 1
         → ¬ (AreTerms (terms_by (choices_of options.now) secret.now))) }
 {
-    let _ = policy(alloc, options, secret)?;
     place.open(file, target(options, secret)?, options.bound())
 }
 
