@@ -103,7 +103,7 @@ fn refuses_and_leaves_the_text(rt: HostRuntime) -> Result<(), Fail> {
     assert!(rt; accounts.change_password(&mut rng, "ann", b"other", &PWD) == Err(refused));
     let expensive = AccountError::TooExpensive;
     assert!(rt; accounts.login(&mut rng, "max", b"password") == Err(expensive));
-    assert!(rt; accounts.change_password(&mut rng, "max", b"password", &PWD) == Err(expensive));
+    assert!(rt; accounts.change_password(&mut rng, "max", b"other", &PWD) == Err(expensive));
 
     assert!(rt; has(&accounts, "ann", OLD) && has(&accounts, "max", EXPENSIVE));
     assert!(rt; rng.0 == 0);

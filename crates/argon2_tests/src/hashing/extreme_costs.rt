@@ -38,6 +38,7 @@ fn refuses_costs_past_the_edge(rt: HostRuntime) {
     ] {
         assert!(rt; fault_of(m, p, output_len) == Some(fault), "{m} {p}");
     }
+    assert!(rt; fault_of(8, 1, Some(4294967295)) == None);
 }
 
 #[test]
