@@ -12,7 +12,7 @@ not_one : (P : Type 0) (status : ℕ) → status ≡ 3 → status ≡ 1 → P
 not_one P status three one = absurd cc
 
 -- a refusal of a call on a file is one by its accounts
-of_account : (P : Type 0) (e : FileError) (f : Failure) → IsOfFile e f → status_of f ≡ 1
+pub of_account : (P : Type 0) (e : FileError) (f : Failure) → IsOfFile e f → status_of f ≡ 1
     → ((refusal : AccountError) → e ≡ Account refusal → P) → P
 of_account P (Account refusal) f is one why = why refusal refl
 of_account P OutOfMemory f is one why = not_one P _ is one
@@ -31,10 +31,10 @@ pub ok_then : {X : Type 0} {E : Type 0} {P : Type 0} {Q : Type 0} → (r : Resul
 ok_then (Ok x) is next = next is
 ok_then (Err e) is next = tt
 
-pub err_then : {X : Type 0} {P : Type 0} {Q : Type 0} → (r : Result X Failure) → IfErr r (λ f. status_of f ≡ 1 → P)
-    → (P → Q) → IfErr r (λ f. status_of f ≡ 1 → Q)
+pub err_then : {X : Type 0} {P : Failure → Type 0} {Q : Failure → Type 0} → (r : Result X Failure)
+    → IfErr r (λ f. status_of f ≡ 1 → P f) → ((f : Failure) → P f → Q f) → IfErr r (λ f. status_of f ≡ 1 → Q f)
 err_then (Ok x) is next = tt
-err_then (Err f) is next = λ one. next (is one)
+err_then (Err f) is next = λ one. next f (is one)
 
 pub passed : {X : Type 0} {P : Type 0} → (f : Failure) (r : Result X Failure) → IsErrAnd r (λ e. e ≡ f)
     → (status_of f ≡ 1 → P) → IfErr r (λ e. status_of e ≡ 1 → P)

@@ -1,10 +1,12 @@
 -- What the program answers.
-use Rattle.std.specs.Prelude.{◌≡◌, ◌⊎◌, ⊤, ℕ, ◌==◌, false, Bool, ◌||◌, IsTrue, List, [], ◌∷◌, ◌++◌, Option, Some, None, IfSome, Result, Ok, Err}
+use Rattle.std.specs.Prelude.{◌≡◌, ◌⊎◌, ⊤, ℕ, ◌==◌, false, Bool, ◌||◌, ◌+◌, IsTrue, List, [], ◌∷◌, ◌++◌, map, if◌then◌else◌, Option, Some, None, IfSome, Result, Ok, Err}
 use Rattle.std.specs.FinMap.{entries}
 use Rattle.std.specs.Io.BufRead.{drop_through}
-use Rattle.std.specs.List.{list_any}
+use Rattle.std.specs.List.{after_first, before_first, list_any}
 use Rattle.std.specs.Option.{option_map}
 use Rattle.std.specs.Io.KnownBytes.{Appends, Keeps}
+use Rattle.std.specs.Str.{is_utf8}
+use Rattle.std.specs.Str.Lines.{lines}
 use Rattle.argon2_base.specs.PhcText.{Phc, PhcText, phc_text}
 use Rattle.sqlite_trees.specs.declared.store.Store.{Ghosts}
 use Rattle.argon2.specs.Accounts.{Admits, AreTerms, LogsIn, Terms, changing, logging_in, registering, removing, setting}
@@ -14,16 +16,19 @@ use Rattle.argon2.specs.Made.{IsFresh}
 use Rattle.argon2.specs.declared.login.answers.Accepted.{Accepted}
 use Rattle.argon2.specs.declared.login.answers.Accepted.TheVariants.{Rehashed}
 use Rattle.argon2.specs.declared.accounts.error.AccountError.{AccountError}
-use Rattle.argon2_store.specs.AccountFile.{Call, IsReady, Serves, names_of}
+use Rattle.argon2_store.specs.AccountFile.{AddsOrNone, Call, IsReady, Serves, names_of}
+use Rattle.argon2_store.specs.Adding.{IsFirstRefused}
 use Rattle.argon2_store.specs.declared.account_file.AccountFile.{AccountFile}
 use Rattle.argon2_store.specs.declared.error.FileError.{FileError}
 use Rattle.argon2_store.specs.declared.error.FileError.TheVariants.{Account}
-use Rattle.argon2_passwd.specs.Arguments.{Asked, Choices, bound_of, check, edit, hash, help, show, verify, version}
+use Rattle.argon2_passwd.specs.Arguments.{Asked, Choices, bound_of, check, edit, hash, help, import, show, verify, version}
 use Rattle.argon2_passwd.specs.declared.arguments.Edit.{Edit}
 use Rattle.argon2_passwd.specs.declared.arguments.Edit.TheVariants.{Register, Change, Set, Remove}
 use Rattle.argon2_passwd.specs.declared.arguments.View.{View}
 use Rattle.argon2_passwd.specs.declared.arguments.View.TheVariants.{Names, Texts}
 use Rattle.argon2_passwd.specs.Passwords.{password_of}
+use Rattle.argon2_passwd.specs.declared.failure.Failure.{Failure}
+use Rattle.argon2_passwd.specs.declared.failure.Failure.TheVariants.{Line}
 use Rattle.argon2_passwd.specs.declared.run.TheConstants.{HELP, VERSION}
 
 -- a fact of a password, the first line of a known input
@@ -120,6 +125,19 @@ abbrev pub lines_of : View → List (List ℕ × Phc) → List ℕ
 lines_of view [] = []
 lines_of view (e ∷ es) = entry_line view e ++ lines_of view es
 
+-- the name and the text of a line: no text where it has no colon, and neither where it is not UTF-8
+abbrev pub entry_in : List ℕ → List ℕ × List ℕ
+entry_in line = if is_utf8 line then (before_first (λ b. b == 58) line, after_first (λ b. b == 58) line) else ([], [])
+
+-- those of all lines
+abbrev pub entries_in : List ℕ → List (List ℕ × List ℕ)
+entries_in input = map entry_in (lines input)
+
+-- one of the entries is the first that is refused, and none is added; the failure has its line and the reason
+abbrev pub RefusesLine : {S : Type 0} {g : Ghosts S} → Failure → List (List ℕ × List ℕ) → AccountFile S g → AccountFile S g → Type 0
+RefusesLine failure es before after = (k : ℕ) × (why : AccountError) × (failure ≡ Line (k + 1) why)
+    × IsFirstRefused (names_of before) es k why × AddsOrNone es (Err (Account why)) before after
+
 -- a file at a path that was opened under these terms
 abbrev pub IsOpened : {S : Type 0} {g : Ghosts S} → (List ℕ → Store → Type 0) → List ℕ → Terms → AccountFile S g → Type 0
 IsOpened Has path terms file = IsReady terms file × Has path (names_of file)
@@ -142,6 +160,13 @@ module _ {S : Type 0} (g : Ghosts S) (Holds : List ℕ → List ℕ → Type 0) 
       × IsSecret Holds choices.secret_file secret × IsOpened Has path (terms_by choices secret) file
       × Appends old new (lines_of view (entries (names_of file)))
 
+  -- a fact of the entries that a known input has, and of the file at a path as it was opened and as it is left
+  abbrev pub IsImported : Choices → List ℕ → (List (List ℕ × List ℕ) → AccountFile S g → AccountFile S g → Type 0)
+      → Option (List ℕ) → Type 0
+  IsImported choices path Ends input = (secret : List ℕ) × (es : List (List ℕ × List ℕ)) × (before after : AccountFile S g)
+      × IfSome input (λ bytes. es ≡ entries_in bytes) × IsSecret Holds choices.secret_file secret
+      × IsOpened Has path (terms_by choices secret) before × Ends es before after
+
   -- what is asked for is answered
   abbrev pub IsAnswered : Asked → Option (List ℕ) → Option (List ℕ) → Option (List ℕ) → Type 0
   IsAnswered help input old new = Appends old new HELP.now
@@ -155,6 +180,8 @@ module _ {S : Type 0} (g : Ghosts S) (Holds : List ℕ → List ℕ → Type 0) 
       × Appends old new (accepted_text accepted ++ 10 ∷ [])
   IsAnswered (edit choices path act name) input old new = IsEdited choices path act name input × Keeps old new
   IsAnswered (show choices path view) input old new = IsShown choices path view old new
+  IsAnswered (import choices path) input old new =
+      IsImported choices path (λ es. AddsOrNone es (Ok tt)) input × Keeps old new
 
   -- what is asked for is refused
   abbrev pub IsRefused : Asked → Option (List ℕ) → Type 0
@@ -170,3 +197,5 @@ module _ {S : Type 0} (g : Ghosts S) (Holds : List ℕ → List ℕ → Type 0) 
       ⊎ ((first second : List ℕ) × (e : AccountError) × AreRead act input first second
       × IsCalled choices path (call_of act name first second) (Err (Account e)))
   IsRefused (show choices path view) input = IsRefusedBy Holds choices (λ terms. ⊥)
+  IsRefused (import choices path) input = IsRefusedBy Holds choices (λ terms. ⊥)
+      ⊎ ((failure : Failure) × IsImported choices path (RefusesLine failure) input)

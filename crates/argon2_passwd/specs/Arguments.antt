@@ -9,7 +9,7 @@ use Rattle.argon2.specs.Params.{parameters_of}
 use Rattle.argon2.specs.Settings.{Parameters, default_parameters, first_fault, plain}
 use Rattle.argon2.specs.declared.bound.Bound.{Bound}
 use Rattle.argon2_passwd.specs.declared.arguments.Command.{Command}
-use Rattle.argon2_passwd.specs.declared.arguments.Command.TheVariants.{Help, Version, Hash, Check, Verify, Edit as Edits, Show}
+use Rattle.argon2_passwd.specs.declared.arguments.Command.TheVariants.{Help, Version, Hash, Check, Verify, Edit as Edits, Show, Import}
 use Rattle.argon2_passwd.specs.declared.arguments.Edit.{Edit}
 use Rattle.argon2_passwd.specs.declared.arguments.Edit.TheVariants.{Register, Change, Set, Remove}
 use Rattle.argon2_passwd.specs.declared.arguments.View.{View}
@@ -31,6 +31,7 @@ pub data Asked : Type 0 where
   verify : Choices → List ℕ → List ℕ → Asked
   edit : Choices → List ℕ → Edit → List ℕ → Asked
   show : Choices → List ℕ → View → Asked
+  import : Choices → List ℕ → Asked
 
 -- ---- what the program's own values say
 
@@ -49,6 +50,7 @@ asked (Check options text) = check (choices_of options) text.now
 asked (Verify options file name) = verify (choices_of options) file.now name.now
 asked (Edits options file change name) = edit (choices_of options) file.now change name.now
 asked (Show options file view) = show (choices_of options) file.now view
+asked (Import options file) = import (choices_of options) file.now
 
 -- ---- costs
 
@@ -122,6 +124,7 @@ abbrev pub task_by : Choices → List (List ℕ) → Option Asked
 task_by choices [] = None
 task_by choices (word ∷ []) = if bytes_eq word (codes "hash") then Some (hash choices) else None
 task_by choices (word ∷ text ∷ []) = if bytes_eq word (codes "check") then Some (check choices text)
+    else if bytes_eq text (codes "import") then Some (import choices word)
     else option_map (λ view. show choices word view) (view_of text)
 task_by choices (file ∷ word ∷ name ∷ []) = on_name_of choices file word name
 task_by choices (word ∷ text ∷ other ∷ more ∷ rest) = None

@@ -4,7 +4,7 @@ use Rattle.argon2_base.specs.declared.error.password_hash.Error.TheVariants.{Out
 use Rattle.argon2.specs.declared.accounts.error.AccountError.{AccountError}
 use Rattle.argon2.specs.declared.accounts.error.AccountError.TheVariants.{Refused}
 use Rattle.argon2_passwd.specs.declared.failure.Failure.{Failure}
-use Rattle.argon2_passwd.specs.declared.failure.Failure.TheVariants.{NoPassword, LongPassword, Name, Account, Memory}
+use Rattle.argon2_passwd.specs.declared.failure.Failure.TheVariants.{NoPassword, LongPassword, Name, Account, Line, Memory}
 use Rattle.argon2_store.specs.declared.error.FileError.{FileError}
 use Rattle.argon2_store.specs.declared.error.FileError.TheVariants as file
 use Rattle.argon2_store.specs.declared.error.OpenError.{OpenError}
@@ -16,6 +16,7 @@ status_of NoPassword = 1
 status_of LongPassword = 1
 status_of Name = 1
 status_of (Account error) = 1
+status_of (Line number error) = 1
 status_of _ = 3
 
 -- a request for memory was refused

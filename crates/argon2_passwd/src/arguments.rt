@@ -28,6 +28,8 @@ pub enum Command<'a> {
     Edit(Options<'a>, &'a str, Edit, &'a str),
     /// `FILE list` or `FILE export`: what a file has.
     Show(Options<'a>, &'a str, View),
+    /// `FILE import`: names with their texts for a file.
+    Import(Options<'a>, &'a str),
 }
 
 /// What is done to the text of a name.
@@ -146,6 +148,7 @@ impl<'a> Options<'a> {
         match args {
             [word] if word.as_str() == "hash" => Some(Command::Hash(self)),
             [word, text] if word.as_str() == "check" => Some(Command::Check(self, text.as_str())),
+            [file, word] if word.as_str() == "import" => Some(Command::Import(self, file.as_str())),
             [file, word] => Some(Command::Show(self, file.as_str(), view_by(word.as_str())?)),
             [file, word, name] => self.on_name(file.as_str(), word.as_str(), name.as_str()),
             _ => None,

@@ -28,6 +28,9 @@ pub enum Failure {
     /// accept the password; or a name is taken or unknown.
     #[error(transparent)]
     Account(AccountError),
+    /// The text of a line of standard input is outside the grammar, or its name is taken; the line has this number.
+    #[error("line {0}: {1}")]
+    Line(usize, AccountError),
     /// The file with the accounts can't be opened.
     #[error(transparent)]
     Unopened(OpenError),
@@ -67,6 +70,7 @@ impl Failure {
             Failure::LongPassword => 1,
             Failure::Name => 1,
             Failure::Account(_) => 1,
+            Failure::Line(..) => 1,
             _ => 3,
         }
     }

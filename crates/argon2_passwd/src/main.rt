@@ -9,6 +9,7 @@ use std::io::ErrorKind;
 use std::process::ExitCode;
 
 mod arguments;
+mod entries;
 mod failure;
 mod options;
 mod passwords;

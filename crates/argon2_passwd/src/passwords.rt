@@ -32,8 +32,8 @@ pub fn password<R: BufRead>(alloc: Global, input: &mut R) -> Result<Vec<u8>, Fai
     Ok(line)
 }
 
-// How many bytes a line has before its LF or CR LF.
-fn line_len(line: &[u8]) -> usize
+/// How many bytes a line has before its LF or CR LF.
+pub fn line_len(line: &[u8]) -> usize
     ensures value { take result line.now ≡ line_of line.now }
     ensures length { length (line_of line.now) ≡ result }
 {

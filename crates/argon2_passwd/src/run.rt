@@ -27,7 +27,7 @@ mod texts;
 const USAGE: &str = "\
 usage: argon2-passwd [OPTION].. hash | check TEXT
        argon2-passwd [OPTION].. FILE register NAME | verify NAME | change NAME | set NAME | remove NAME
-       argon2-passwd [OPTION].. FILE list | export
+       argon2-passwd [OPTION].. FILE list | export | import
        argon2-passwd -h | --help | --version";
 
 const VERSION: &str = "argon2-passwd 0.6.0\n";
@@ -38,7 +38,7 @@ names with such texts in a file.
 
     argon2-passwd [OPTION].. hash | check TEXT
     argon2-passwd [OPTION].. FILE register NAME | verify NAME | change NAME | set NAME | remove NAME
-    argon2-passwd [OPTION].. FILE list | export
+    argon2-passwd [OPTION].. FILE list | export | import
 
 The password is the first line of standard input. The line's end, LF or CR LF, is no part of it. It has
 at most 4096 bytes.
@@ -58,6 +58,7 @@ that is the word hash or check is written ./hash or ./check.
     remove NAME    remove the name with its text
     list           write the names, one a line, in the order of their bytes
     export         write the same lines with a colon and the text behind each name
+    import         add all names and texts of standard input, in the form that export writes, or none
 
 The options come first:
 
@@ -78,8 +79,8 @@ fails. Where it is not 0, standard error says why.
 
 /// Answers what `args` ask for, and returns the exit status.
 ///
-/// Status 0: the answer is written to `output`, and nothing to `errors`. Status 1: the password or the
-/// name is refused, or the parameters are above the bound. Status 2: the arguments are not of the form of
+/// Status 0: the answer is written to `output`, and nothing to `errors`. Status 1: the password, the name
+/// or a line is refused, or the parameters are above the bound. Status 2: the arguments are not of the form of
 /// the usage lines, which `errors` gets, and neither `input` nor `output` is touched. Status 3: a file, a
 /// stream, random bytes or a request for memory failed.
 /// With 1 and 3 the failure's text is written to `errors`, and with 1 nothing to `output`. Where `errors`
@@ -158,6 +159,7 @@ fn answer<P: Place, R: BufRead, W: Write>(
         Command::Show(options, file, view) => accounts::show(
             alloc, &options, place, file, view, output,
         ),
+        Command::Import(options, file) => accounts::import(alloc, &options, place, file, input),
     }
 }
 

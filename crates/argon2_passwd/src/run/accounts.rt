@@ -1,18 +1,20 @@
 //! Accounts in a file.
 
-ghost use Rattle.std.specs.Prelude.{◌≡◌, Ok, None, IfErr, IfOk, OnOk};
+ghost use Rattle.std.specs.Prelude.{◌≡◌, ◌⊎◌, Ok, None, IfErr, IfOk, OnOk, map};
 ghost use Rattle.std.specs.FinMap.{entries};
 ghost use Rattle.std.specs.Io.KnownBytes.{Appends, Keeps};
 ghost use Rattle.rand_core.specs.Stream.{fill_bytes};
 ghost use Rattle.argon2.specs.Accounts.{AreTerms, logging_in};
 ghost use Rattle.argon2_base.specs.PhcFields.{phc_of};
-ghost use Rattle.argon2_store.specs.AccountFile.{Serves, names_of};
-ghost use Rattle.argon2_passwd.specs.Answers.{AreRead, AreUnread, IsCalled, IsEdited, IsOpened, IsRefused, IsShown, OfPassword, breaks_lines, call_of, entry_line, lines_of, terms_by};
+ghost use Rattle.argon2_store.specs.AccountFile.{AddsOrNone, Serves, names_of};
+ghost use Rattle.argon2_store.specs.Adding.{entry_of};
+ghost use Rattle.argon2_passwd.specs.Answers.{AreRead, AreUnread, IsCalled, IsEdited, IsImported, IsOpened, IsRefused, IsRefusedBy, IsShown, OfPassword, RefusesLine, breaks_lines, call_of, entry_line, lines_of, terms_by};
 ghost use Rattle.argon2_passwd.specs.Arguments.{Asked, choices_of};
 ghost use Rattle.argon2_passwd.specs.Failures.{status_of};
 
 use super::{secret, target};
 use crate::arguments::{Edit, View};
+use crate::entries::{entries, read_all};
 use crate::failure::Failure;
 use crate::options::Options;
 use crate::passwords::password;
@@ -103,6 +105,28 @@ pub fn show<P: Place, W: Write>(
     Ok(write_all(&accounts, view, output)?)
 }
 
+/// Adds all names and texts of the input, each a line, to a file, or none.
+pub fn import<P: Place, R: BufRead>(
+    alloc: Global,
+    options: &Options<'_>,
+    place: &mut P,
+    file: &str,
+    input: &mut R,
+) -> Result<(), Failure>
+    ensures ok { OnOk result (IsImported P.File.Store P.holds P.keeps (choices_of options.now)
+        file.now (λ es. AddsOrNone es (Ok tt)) (R.remaining input.old)) }
+    ensures err { IfErr result (λ failure. status_of failure ≡ 1
+        → IsRefusedBy P.holds (choices_of options.now) (λ terms. ⊥)
+        ⊎ IsImported P.File.Store P.holds P.keeps (choices_of options.now) file.now
+        (RefusesLine failure) (R.remaining input.old)) }
+{
+    let bytes = read_all(alloc, input)?;
+    let entries = entries(alloc, bytes.as_slice())?;
+    let secret = secret(alloc, place, options)?;
+    let mut accounts = open(options, place, file, secret.as_slice())?;
+    add_all(&mut accounts, entries.as_slice())
+}
+
 // The accounts in a file, which is left alone where the parameters are above the bound.
 fn open<'key, P: Place>(
     options: &Options<'_>,
@@ -166,6 +190,25 @@ fn call<S: Store, G: Rng>(
         Edit::Change => accounts.change_password(rng, name, first, second),
         Edit::Set => accounts.set_password(rng, name, first),
         Edit::Remove => accounts.remove(name),
+    }
+}
+
+// Adds all entries, each a line, or none.
+fn add_all<S: Store>(
+    accounts: &mut AccountFile<'_, S>,
+    entries: &[(&str, &str)],
+) -> Result<(), Failure>
+    ensures ok { OnOk result
+        (AddsOrNone (map entry_of entries.now) (Ok tt) accounts.old accounts.new) }
+    ensures err { IfErr result (λ failure. status_of failure ≡ 1
+        → RefusesLine failure (map entry_of entries.now) accounts.old accounts.new) }
+{
+    match accounts.add_all(entries) {
+        Ok(()) => Ok(()),
+        Err((index, error)) => match Failure::from(error) {
+            Failure::Account(why) => Err(Failure::Line(index + 1, why)),
+            failure => Err(failure),
+        },
     }
 }
 

@@ -1,3 +1,4 @@
+use Rattle.std.proofs.Common.{inl, inr, ⊎_elim}
 use Rattle.argon2_passwd.specs.Answers.{IsAnswered}
 use Rattle.argon2_passwd.specs.Arguments.{asked}
 use Rattle.argon2_passwd.proofs.Refusals.{err_then, keeps_same, ok_then, passed}
@@ -8,7 +9,7 @@ returns-in_err-accepted-in-Verify-clause-err g c =
     rw c.in-Verify.is (err_then _
     (passed c.in_err-accepted-in-Verify.field-0.0 _ c.from_residual-in_err-accepted-in-Verify.ensures.1
     c.in_err-accepted-in-Verify.ensures.err)
-    (λ no. (no, keeps_same _)))
+    (λ failure no. (no, keeps_same _)))
 
 pub returns-in_ok-reply-in-Check-clause-ok : goal.returns-in_ok-reply-in-Check-clause-ok
 returns-in_ok-reply-in-Check-clause-ok g c =
@@ -36,7 +37,18 @@ returns-in-Edit-clause-ok g c =
     _ c.edit.ensures.ok (λ done. rw c.in-Edit.is (done, keeps_same _))
 
 pub returns-in-Edit-clause-err : goal.returns-in-Edit-clause-err
-returns-in-Edit-clause-err g c = rw c.in-Edit.is (err_then _ c.edit.ensures.err (λ no. (no, keeps_same _)))
+returns-in-Edit-clause-err g c = rw c.in-Edit.is (err_then _ c.edit.ensures.err (λ failure no. (no, keeps_same _)))
 
 pub returns-in-Show-clause-ok : goal.returns-in-Show-clause-ok
 returns-in-Show-clause-ok g c = rw c.in-Show.is c.show.ensures.ok
+
+pub returns-in-Import-clause-ok : goal.returns-in-Import-clause-ok
+returns-in-Import-clause-ok g c =
+    ok_then {Q = IsAnswered g.P.File.Store g.P.Place.holds g.P.Place.keeps (asked c.args.command)
+    (g.R.Read.remaining c.args.input.now) (g.W.Write.contents c.args.output.now)
+    (g.W.Write.contents c.args.output.now)}
+    _ c.import.ensures.ok (λ done. rw c.in-Import.is (done, keeps_same _))
+
+pub returns-in-Import-clause-err : goal.returns-in-Import-clause-err
+returns-in-Import-clause-err g c = rw c.in-Import.is (err_then _ c.import.ensures.err
+    (λ failure no. (⊎_elim inl (λ refused. inr (failure, refused)) no, keeps_same _)))

@@ -28,4 +28,4 @@ returns-in_err-accepted-clause-err g c =
     let admits = Admits (terms_of c.args.policy.now) c.args.password.now in
     let never = refused (¬ (admits (phc_of c.in_ok-hash.hash))) _ _ c.in_err-accepted.ensures.accepted
     c.from_residual-in_err-accepted.ensures.1 in
-    err_then _ never (λ no v is. λ admitted. no (subst admits (sym (c.in_ok-hash.ensures.only v is)) admitted))
+    err_then _ never (λ f no v is. λ admitted. no (subst admits (sym (c.in_ok-hash.ensures.only v is)) admitted))
