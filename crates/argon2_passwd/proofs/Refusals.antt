@@ -4,23 +4,15 @@ use Rattle.std.specs.Io.KnownBytes.{Keeps}
 use Rattle.std.specs.Prelude.{IfErr, IsErrAnd, OnOk}
 use Rattle.argon2.specs.declared.accounts.error.AccountError.{AccountError}
 use Rattle.argon2_store.specs.declared.error.FileError.{FileError}
-use Rattle.argon2_store.specs.declared.error.FileError.TheVariants.{Account, OutOfMemory, Io, Damaged, Full, TooLong, Closed}
+use Rattle.argon2_store.specs.declared.error.FileError.TheVariants.{Account}
 use Rattle.argon2_passwd.specs.Failures.{IsOfFile, status_of}
 use Rattle.argon2_passwd.specs.declared.failure.Failure.{Failure}
-
-not_one : (P : Type 0) (status : ℕ) → status ≡ 3 → status ≡ 1 → P
-not_one P status three one = absurd cc
 
 -- a refusal of a call on a file is one by its accounts
 pub of_account : (P : Type 0) (e : FileError) (f : Failure) → IsOfFile e f → status_of f ≡ 1
     → ((refusal : AccountError) → e ≡ Account refusal → P) → P
 of_account P (Account refusal) f is one why = why refusal refl
-of_account P OutOfMemory f is one why = not_one P _ is one
-of_account P Io f is one why = not_one P _ is one
-of_account P Damaged f is one why = not_one P _ is one
-of_account P Full f is one why = not_one P _ is one
-of_account P TooLong f is one why = not_one P _ is one
-of_account P Closed f is one why = not_one P _ is one
+of_account P e f is one why = absurd cc
 
 pub refused : {X : Type 0} (P : Type 0) (e : FileError) (r : Result X Failure) → IsErrAnd r (IsOfFile e)
     → ((refusal : AccountError) → e ≡ Account refusal → P) → IfErr r (λ f. status_of f ≡ 1 → P)
