@@ -12,9 +12,6 @@ use crate::session::Session;
 use std::alloc::Global;
 use std::io::{ErrorKind, Read, Write};
 
-#[cfg(test)]
-mod tests;
-
 const USAGE: &str = "\
 usage: argon2-audit [--min-m M] [--min-t T] [--min-p P] [--min-salt N] [--min-hash N] [--min-version V]
            [--require ALGORITHM] [--allow-other] [--field N] [--separator C] [--json | --quiet] [FILE]..
