@@ -23,7 +23,7 @@ use Rattle.argon2_store.specs.declared.account_file.AccountFile.{AccountFile}
 use Rattle.argon2_store.specs.declared.error.FileError.{FileError}
 use Rattle.argon2_store.specs.declared.error.FileError.TheVariants.{Account}
 use Rattle.argon2_store.proofs.NameLemmas.{get-gone-other, get-gone-same}
-use Rattle.argon2_store.proofs.TableLemmas.{err_is}
+use Rattle.argon2_store.proofs.TableLemmas.{err_is, leaves_kept}
 
 open_of : (b : Bool) → (b ≡ false → ⊥) → IsTrue b
 open_of true h = refl
@@ -89,8 +89,7 @@ module _ {S : Type 0} {g : Ghosts S}
 
   -- a crash leaves the names of a store that is open
   still_left : IsHonest g (store_of old) → IsOpen g (store_of old) → Leaves g (store_of old) (λ left. left ≡ names_of old)
-  still_left clean is_open db found =
-      (names_of old, ap (λ (t : Trees). t 0) (settled _ db is_open found) ∙ old.table.kept.committed clean is_open, refl)
+  still_left = leaves_kept g (store_of old) (names_of old) (settled (store_of old)) old.table.kept
 
   -- nothing is written
   pub writes_none : (new : AccountFile S g) → store_of new ≡ store_of old → terms_of new ≡ terms_of old

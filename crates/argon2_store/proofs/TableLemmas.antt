@@ -13,12 +13,13 @@ use Rattle.sqlite_trees.specs.declared.error.StoreError.TheVariants.{OutOfMemory
 use Rattle.sqlite_trees.specs.declared.store.Shape.{Shape}
 use Rattle.sqlite_trees.specs.declared.store.Shape.TheVariants.{Index}
 use Rattle.sqlite_trees.specs.declared.store.Store.{Ghosts}
+use Rattle.sqlite_trees.specs.Objects.{catalog_tree}
 use Rattle.sqlite_trees.specs.Tree.{Trees, insert_entry, order_of, remove_entry}
 use Rattle.sqlite_trees.specs.View.{View, Commits, HasCause, IsFailure, IsStorable, KeepsSchema, OnlyWrites, SetsTree, doubt, is_int}
 use Rattle.argon2_base.specs.PhcText.{Phc, phc_text}
 use Rattle.argon2.specs.Login.{Store}
-use Rattle.argon2_store.specs.Rows.{row_of, rows_of}
-use Rattle.argon2_store.specs.Table.{Changes, HasBegun, IsHonest, IsKept, IsLong, IsOpen, Leaves, Sees, StaysQuiet, Writes, changed}
+use Rattle.argon2_store.specs.Rows.{row_of}
+use Rattle.argon2_store.specs.Table.{Changes, HasBegun, Holds, IsHonest, IsKept, IsLong, IsOpen, Leaves, Sees, StaysQuiet, Writes, changed}
 use Rattle.argon2_store.proofs.NameLemmas.{get-gone-same, insert-remove, known, remove-none}
 use Rattle.argon2_store.proofs.RowLemmas.{insert_entry-rows_of, remove_entry-rows_of}
 
@@ -61,22 +62,27 @@ open_if_sound v broken sound = go v.is_open refl
 pub still_open : (old new : View) → Commits old new → IsTrue old.is_open → IsTrue new.is_open
 still_open old new made is = subst IsTrue (sym (ap (λ (w : View). w.is_open) made.is)) is
 
-pub now_committed : (old new : View) (names : Store) → Commits old new → Sees old names → new.committed 0 ≡ rows_of names
-now_committed old new names made sees = ap (λ (w : View). w.committed 0) made.is ∙ sees made.sound
+pub now_committed : (old new : View) (names : Store) → Commits old new → Sees old names → Holds new.committed names
+now_committed old new names made sees =
+    subst (λ t. Holds t names) (sym (ap (λ (w : View). w.committed) made.is)) (sees made.sound)
 
 pub set_seen : (old new : View) (row : Row) (names : Store) (name : List ℕ) (v : Phc) → old.shape 0 ≡ Index plain
     → SetsTree old new 0 (insert_entry (order_of (old.shape 0)) row) → row ≡ row_of (name, v) → get names name ≡ None
     → Sees old names → Sees new (insert names name v)
-set_seen old new row names name v shape set is none sees unbroken =
-    ap (λ (w : View). w.trees 0) set.is ∙ ap (λ (s : Shape). insert_entry (order_of s) row (old.trees 0)) shape
-    ∙ ap₂ (insert_entry plain) is (sees set.sound) ∙ insert_entry-rows_of names name v none
+set_seen old new row names name v shape set is none sees unbroken = (
+  ap (λ (w : View). w.trees 0) set.is ∙ ap (λ (s : Shape). insert_entry (order_of s) row (old.trees 0)) shape
+      ∙ ap₂ (insert_entry plain) is (sees set.sound).0 ∙ insert_entry-rows_of names name v none,
+  ap (λ (w : View). w.trees catalog_tree) set.is ∙ (sees set.sound).1,
+)
 
 pub gone_seen : (old new : View) (row : Row) (names : Store) (name : List ℕ) (v : Phc) → old.shape 0 ≡ Index plain
     → SetsTree old new 0 (remove_entry (order_of (old.shape 0)) row) → row ≡ row_of (name, v) → get names name ≡ Some v
     → Sees old names → Sees new (remove names name)
-gone_seen old new row names name v shape set is has sees unbroken =
-    ap (λ (w : View). w.trees 0) set.is ∙ ap (λ (s : Shape). remove_entry (order_of s) row (old.trees 0)) shape
-    ∙ ap₂ (remove_entry plain) is (sees set.sound) ∙ remove_entry-rows_of names name v has
+gone_seen old new row names name v shape set is has sees unbroken = (
+  ap (λ (w : View). w.trees 0) set.is ∙ ap (λ (s : Shape). remove_entry (order_of s) row (old.trees 0)) shape
+      ∙ ap₂ (remove_entry plain) is (sees set.sound).0 ∙ remove_entry-rows_of names name v has,
+  ap (λ (w : View). w.trees catalog_tree) set.is ∙ (sees set.sound).1,
+)
 
 pub same_broken : (old new : View) (tree : ℕ) (edit : List Row → List Row)
     → SetsTree old new tree edit → new.is_broken ≡ old.is_broken
@@ -85,14 +91,14 @@ same_broken old new tree edit set = ap (λ (w : View). w.is_broken) set.is
 pub put_none : (v : View) (names : Store) (name : List ℕ) (o : Option Phc) → o ≡ None → get names name ≡ None
     → Sees v names → Sees v (changed names name o)
 put_none v names name o is none sees unbroken =
-    sees unbroken ∙ ap rows_of (sym (ap (changed names name) is ∙ remove-none names name none))
+    subst (Holds v.trees) (sym (ap (changed names name) is ∙ remove-none names name none)) (sees unbroken)
 
 -- a crash leaves the names of a store that is open
 pub leaves_kept : {S : Type 0} (g : Ghosts S) (s : S) (names : Store)
     → ((db : Trees) → IsOpen g s → g.recovers s db → db ≡ (g.view s).committed)
     → IsKept g s names → IsHonest g s → IsOpen g s → Leaves g s (λ left. left ≡ names)
 leaves_kept g s names settled kept clean is_open db found =
-    (names, ap (λ (t : Trees). t 0) (settled db is_open found) ∙ kept.committed clean is_open, refl)
+    (names, subst (λ t. Holds t names) (sym (settled db is_open found)) (kept.committed clean is_open), refl)
 
 -- ---- names
 
@@ -213,7 +219,7 @@ module _ {S : Type 0} (g : Ghosts S) where
       shapes = schema.shape ∙ begun.shapes ∙ sym schema.committed_shape;
       committed = λ is_open.
           let still = still_committed (g.view old) (g.view new) r (on_ok r frame (λ f. f clean)) failed is_open in
-          ap (λ (t : Trees). t 0) still.1 ∙ begun.committed still.0;
+          subst (λ t. Holds t names) (sym still.1) (begun.committed still.0);
       left = λ db found. begun.left db (quiet.outcomes db found);
     };
     sees = sees;
@@ -283,7 +289,7 @@ module _ {S : Type 0} (g : Ghosts S) where
         indexed = kept.indexed first was;
         shapes = kept.shapes first was;
         committed = kept.committed first;
-        left = λ db found. ap (λ (t : Trees). t 0) (settled db was found) ∙ kept.committed first was;
+        left = λ db found. subst (λ t. Holds t before) (sym (settled db was found)) (kept.committed first was);
       }) in
       let sees : IsHonest g new → OnOk done (Sees (g.view mid) after) = λ now. on_ok done wrote.sees (λ f.
       f (to_mid now) (λ unbroken. kept.seen (to_old now) (is_open (to_old now)))) in

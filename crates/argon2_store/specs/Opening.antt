@@ -8,10 +8,9 @@ use Rattle.sqlite_pages.specs.PageMap.{PageMap}
 use Rattle.sqlite_pool.specs.Opening.{IsBlankFile}
 use Rattle.sqlite_pool.specs.Stored.{Recovers}
 use Rattle.sqlite_store.specs.Listing.{file_trees}
-use Rattle.sqlite_store.specs.Opening.{IsEmptyFile}
 use Rattle.sqlite_store.specs.declared.catalog.Wanted.{Wanted}
-use Rattle.sqlite_store.specs.Db.{rows_at}
-use Rattle.sqlite_pool.specs.File.{in_use}
+use Rattle.sqlite_store.specs.Db.{IsFile, rows_at}
+use Rattle.sqlite_pool.specs.File.{IsSoundFile, in_use}
 use Rattle.sqlite_trees.specs.declared.store.Shape.TheVariants.{Index, Table}
 use Rattle.sqlite_wal.specs.Recovery.{Image}
 use Rattle.sqlite_value.specs.declared.value.Value.TheVariants.{Text}
@@ -21,8 +20,8 @@ use Rattle.argon2_store.specs.Rows.{rows_of}
 
 -- there is no database yet, or one that lists no table
 abbrev pub IsUnstarted : ℕ → Image → Type 0
-IsUnstarted size image = ∥ IsBlankFile size image ⊎ ((pages : PageMap) × Recovers size image pages × IsEmptyFile size pages) ∥₁
-    ⊎ ((pages : PageMap) × Recovers size image pages × (rows_at size (in_use size pages) Table 1 ≡ []))
+IsUnstarted size image = IsBlankFile size image
+    ⊎ ((pages : PageMap) × Recovers size image pages × IsSoundFile size pages × (rows_at size (in_use size pages) Table 1 ≡ []))
 
 -- the rows of `sqlite_schema` are read, and whether there are none
 abbrev pub IsReadAs : {D : Type 0} {g : Ghosts D} → Unopened D g → Unopened D g → Bool → Type 0
@@ -37,11 +36,13 @@ account = record {
       ∷ Text (codes "CREATE TABLE account (name TEXT NOT NULL PRIMARY KEY, phc TEXT NOT NULL) WITHOUT ROWID") ∷ [];
 }
 
--- the files recover to a database whose first table has these rows, or there was no table and these are none
-abbrev pub FoundIn : ℕ → List Wanted → Image → List Row → Type 0
-FoundIn size schema image rows = ((pages : PageMap) × Recovers size image pages × (file_trees size schema pages 0 ≡ rows))
-    ⊎ (IsUnstarted size image × (rows ≡ []))
+-- the files recover to a database of that table, which has these rows, or there was no table and these are none
+abbrev pub FoundIn : ℕ → Image → List Row → Type 0
+FoundIn size image rows =
+    ((pages : PageMap) × Recovers size image pages × ∥ IsFile size (account ∷ []) pages ∥₁
+    × (file_trees size (account ∷ []) pages 0 ≡ rows))
+    ⊎ (∥ IsUnstarted size image ∥₁ × (rows ≡ []))
 
 -- the two files hold exactly these names with their texts
 abbrev pub HoldsNames : Image → Store → Type 0
-HoldsNames image names = FoundIn 4096 (account ∷ []) image (rows_of names)
+HoldsNames image names = FoundIn 4096 image (rows_of names)

@@ -1,9 +1,9 @@
 -- What a table of names shows, and what a change of it leaves in the file.
-use Rattle.std.specs.Prelude.{◌≡◌, ◌⊎◌, ℕ, ◌^◌, ◌+◌, ◌<◌, List, ◌++◌, length, false, Option, Some, None, Result, IsTrue, IfErr, OnOk, MatchResult}
+use Rattle.std.specs.Prelude.{◌≡◌, ◌⊎◌, ℕ, ◌^◌, ◌+◌, ◌<◌, List, [], ◌∷◌, ◌++◌, length, false, Option, Some, None, Result, IsTrue, IfErr, OnOk, MatchResult}
 use Rattle.std.specs.Coded.{Coded-set, →_prop}
 use Rattle.std.specs.FinMap.{insert, remove}
 use mathlib.Core.Bool.{Bool-set}
-use mathlib.Core.HLevel.{Π_set}
+use mathlib.Core.HLevel.{×_prop, Π_set}
 use Rattle.sqlite_disk.specs.Disk.{MoreFaults}
 use Rattle.sqlite_value.specs.Keys.{plain}
 use Rattle.sqlite_value.specs.Order.{Row}
@@ -11,11 +11,14 @@ use Rattle.sqlite_trees.specs.contracts.store.Shape.{the_row}
 use Rattle.sqlite_trees.specs.declared.error.StoreError.{StoreError}
 use Rattle.sqlite_trees.specs.declared.store.Shape.TheVariants.{Index}
 use Rattle.sqlite_trees.specs.declared.store.Store.{Ghosts}
+use Rattle.sqlite_trees.specs.Objects.{catalog_tree}
 use Rattle.sqlite_trees.specs.Props.{rows_set}
 use Rattle.sqlite_trees.specs.Tree.{Trees}
 use Rattle.sqlite_trees.specs.View.{View, IsClean, IsQuiet, HasCause, KeepsSchema}
 use Rattle.argon2_base.specs.PhcText.{Phc}
+use Rattle.sqlite_store.specs.Listing.{listed_from}
 use Rattle.argon2.specs.Login.{Store}
+use Rattle.argon2_store.specs.Opening.{account}
 use Rattle.argon2_store.specs.Rows.{rows_of}
 
 -- the names with this one's text set, or with this one taken out
@@ -23,9 +26,17 @@ abbrev pub changed : Store → List ℕ → Option Phc → Store
 changed names name None = remove names name
 changed names name (Some v) = insert names name v
 
+-- what a database lists that has the table of the accounts alone
+unfoldable pub catalog : List Row
+catalog = listed_from 0 (account ∷ [])
+
+-- the database has that table alone, with the rows of these names
+abbrev pub Holds : Trees → Store → Type 0
+Holds db names = (db 0 ≡ rows_of names) × (db catalog_tree ≡ catalog)
+
 -- the transaction sees these names, unless it is broken
 abbrev pub Sees : View → Store → Type 0
-Sees v names = v.is_broken ≡ false → v.trees 0 ≡ rows_of names
+Sees v names = v.is_broken ≡ false → Holds v.trees names
 
 -- a row of the name may be longer than a billion bytes, less 18 for each column; a text has at most 326
 abbrev pub IsLong : List ℕ → Type 0
@@ -36,6 +47,7 @@ pub record IsFresh (v : View) : Type 0 where
   pub unbroken : v.is_broken ≡ false
   pub settled : v.trees ≡ v.committed
   pub shapes : v.shape ≡ v.committed_shape
+  pub listed : v.trees catalog_tree ≡ catalog
 
 -- some of the tree's rows are read, and the names are theirs
 pub record IsReading (first now : View) (names : Store) : Type 0 where
@@ -52,33 +64,33 @@ module _ {S : Type 0} (g : Ghosts S) where
   abbrev pub IsOpen : S → Type 0
   IsOpen s = IsTrue (g.view s).is_open
 
-  -- whatever a crash at this moment leaves has such rows
+  -- whatever a crash at this moment leaves holds such names
   abbrev pub Leaves : S → (Store → Type 0) → Type 0
-  Leaves s P = (db : Trees) → g.recovers s db → (names : Store) × (db 0 ≡ rows_of names) × P names
+  Leaves s P = (db : Trees) → g.recovers s db → (names : Store) × Holds db names × P names
 
   -- While the store is open, the file and the memory have the same names, and nothing waits to be committed.
   pub record IsKept (s : S) (names : Store) : Type 0 where
     pub indexed : IsHonest s → IsOpen s → (g.view s).shape 0 ≡ Index plain
     pub shapes : IsHonest s → IsOpen s → (g.view s).shape ≡ (g.view s).committed_shape
     pub sound : IsHonest s → IsOpen s → (g.view s).is_broken ≡ false
-    pub seen : IsHonest s → IsOpen s → (g.view s).trees 0 ≡ rows_of names
-    pub committed : IsHonest s → IsOpen s → (g.view s).committed 0 ≡ rows_of names
+    pub seen : IsHonest s → IsOpen s → Holds (g.view s).trees names
+    pub committed : IsHonest s → IsOpen s → Holds (g.view s).committed names
 
   pub IsKept-prop : (s : S) (names : Store) → IsProp (IsKept s names)
   IsKept-prop s names a b = λ i. record {
     indexed = →_prop (→_prop (Coded-set the_row.coded _ _)) a.indexed b.indexed i;
     shapes = →_prop (→_prop (Π_set (λ _. Coded-set the_row.coded) _ _)) a.shapes b.shapes i;
     sound = →_prop (→_prop (Bool-set _ _)) a.sound b.sound i;
-    seen = →_prop (→_prop (rows_set _ _)) a.seen b.seen i;
-    committed = →_prop (→_prop (rows_set _ _)) a.committed b.committed i;
+    seen = →_prop (→_prop (×_prop (rows_set _ _) (rows_set _ _))) a.seen b.seen i;
+    committed = →_prop (→_prop (×_prop (rows_set _ _) (rows_set _ _))) a.committed b.committed i;
   }
 
   -- A transaction has begun over these names: they are committed, and a crash leaves them.
   pub record HasBegun (s : S) (names : Store) : Type 0 where
     pub indexed : (g.view s).shape 0 ≡ Index plain
     pub shapes : (g.view s).shape ≡ (g.view s).committed_shape
-    pub committed : IsOpen s → (g.view s).committed 0 ≡ rows_of names
-    pub left : (db : Trees) → g.recovers s db → db 0 ≡ rows_of names
+    pub committed : IsOpen s → Holds (g.view s).committed names
+    pub left : (db : Trees) → g.recovers s db → Holds db names
 
   -- the disk failed or refused from the one to the other
   abbrev pub HasFailed : S → S → Type 0

@@ -40,7 +40,8 @@ const PAGE: usize = 4096;
 
 // Makes the table.
 fn make<D: Disk + Drop>(files: Unopened<D>) -> Result<FileStore<D>, OpenError>
-    requires { AreUsable files }
+    requires usable { AreUsable files }
+    requires schema { wanted_by files ≡ account ∷ [] }
     ensures fresh { IfOk result (λ it. IsClean (view it) → IsFresh (view it)) }
     ensures honest { IfOk result (λ it. IsClean (view it) → IsTrue (state_of files).is_clean) }
     ensures empty { IfOk result (λ it. IsClean (view it) →
@@ -70,11 +71,11 @@ fn is_bare<D: Disk + Drop>(files: &mut Unopened<D>) -> Result<bool, OpenError>
 
 // Opens the table, or makes it in a database without tables, such as a first open that was cut off leaves.
 fn attach<D: Disk + Drop>(mut files: Unopened<D>) -> Result<FileStore<D>, OpenError>
-    requires { AreUsable files }
+    requires usable { AreUsable files }
+    requires schema { wanted_by files ≡ account ∷ [] }
     ensures fresh { IfOk result (λ it. IsClean (view it) → IsFresh (view it)) }
     ensures found { IfOk result (λ it. IsClean (view it) →
-        FoundIn (state_of files).page_size (wanted_by files) (image files)
-        ((view it).committed 0)) }
+        FoundIn (state_of files).page_size (image files) ((view it).committed 0)) }
     ensures of_file { IfErr result IsOfFile }
 {
     if is_bare(&mut files)? {
@@ -95,8 +96,7 @@ pub(crate) fn open_files<D: Disk + Drop>(
     requires { IsTrue (D.Disk.is_usable files.log) × IsTrue (D.Disk.is_usable files.db) }
     ensures fresh { IfOk result (λ it. IsClean (view it) → IsFresh (view it)) }
     ensures found { IfOk result (λ it. IsClean (view it) →
-        FoundIn 4096 (account ∷ []) (seen_image D.Disk files.log files.db)
-        ((view it).committed 0)) }
+        FoundIn 4096 (seen_image D.Disk files.log files.db) ((view it).committed 0)) }
     ensures of_file { IfErr result IsOfFile }
 {
     let Some(size) = PageSize::new(PAGE) else {
@@ -125,7 +125,7 @@ pub(crate) fn open_path<T: Start>(
 ) -> Result<FileStore<FileFrom<T>>, OpenError>
     ensures fresh { IfOk result (λ it. IsClean (view it) → IsFresh (view it)) }
     ensures found { IfOk result (λ it. IsClean (view it) →
-        FoundIn 4096 (account ∷ []) (image_at T.Start) ((view it).committed 0)) }
+        FoundIn 4096 (image_at T.Start) ((view it).committed 0)) }
     ensures of_file { IfErr result IsOfFile }
 {
     let files = sqlite_std_file::open(rt, path, start)?;

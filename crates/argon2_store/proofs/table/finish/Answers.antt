@@ -1,10 +1,11 @@
-use Rattle.std.proofs.Common.{inl, inr, refl, ap, ◌∙◌}
+use Rattle.std.proofs.Common.{inl, inr, refl, subst, sym}
+use Rattle.argon2_store.specs.Table.{Holds}
 use Rattle.argon2_store.proofs.TableLemmas.{now_committed, on_ok, open_if_sound, still_open}
 use Rattle.argon2_store.proofs.table.finish.Goals as goal
 
 pub returns-in-Ok-clause-left : goal.returns-in-Ok-clause-left
 returns-in-Ok-clause-left g c before after clean begun sees db found = elim (c.commit.ensures.crash db found) [
-  | inl made ↦ (after, ap (λ t. t 0) made.1 ∙ (rw c.in-Ok.is at sees) made.0, inr refl)
+  | inl made ↦ (after, subst (λ t. Holds t after) (sym made.1) ((rw c.in-Ok.is at sees) made.0), inr refl)
   | inr earlier ↦ (before, begun.left db earlier, inl refl)
 ]
 
@@ -17,8 +18,8 @@ returns-in-Ok-clause-durable g c after clean sees = on_ok c.commit.result c.comm
       is_open,
       λ db found. (
         after,
-        ap (λ t. t 0) (g.met.S.Store.settled c.commit.new.self db is_open found)
-            ∙ now_committed old new after made (rw c.in-Ok.is at sees),
+        subst (λ t. Holds t after) (sym (g.met.S.Store.settled c.commit.new.self db is_open found))
+            (now_committed old new after made (rw c.in-Ok.is at sees)),
         refl,
       ),
     ))

@@ -2,7 +2,7 @@ use Rattle.std.proofs.Common.{ap, ◌≡◌, ◌∙◌, subst, sym, inl, refl}
 use Rattle.std.specs.FinMap.{remove}
 use Rattle.argon2_base.specs.PhcFields.{phc_of}
 use Rattle.argon2_store.specs.Names.{values_in}
-use Rattle.argon2_store.specs.Table.{IsKept}
+use Rattle.argon2_store.specs.Table.{Holds, IsKept}
 use Rattle.argon2_store.proofs.NameLemmas.{remove-insert}
 use Rattle.argon2_store.proofs.TableLemmas.{has_set}
 use Rattle.argon2_store.proofs.table.Table.insert.Goals as goal
@@ -15,8 +15,9 @@ returns-in_default-clause-file g c =
       kept = c.args.self.now.kept;
       crash = λ clean db found. (
         values_in c.args.self.now.names,
-        ap (λ t. t 0) (g.met.S.Store.settled s db (c.requires.open clean) found)
-            ∙ c.args.self.now.kept.committed clean (c.requires.open clean),
+        subst (λ t. Holds t (values_in c.args.self.now.names))
+            (sym (g.met.S.Store.settled s db (c.requires.open clean) found))
+            (c.args.self.now.kept.committed clean (c.requires.open clean)),
         inl refl,
       );
       durable = tt;
