@@ -16,7 +16,7 @@ use Rattle.argon2.specs.Login.{Store}
 use Rattle.argon2.specs.declared.accounts.error.AccountError.{AccountError}
 use Rattle.argon2.specs.declared.accounts.error.AccountError.TheVariants.{NameUnknown}
 use Rattle.argon2.proofs.login_store.Stores.{get-other, get-same}
-use Rattle.argon2_store.specs.AccountFile.{Answers, Call, HasCause, IsBeforeOrAfter, IsClosed, Runs, Serves, names_of, store_of, terms_of}
+use Rattle.argon2_store.specs.AccountFile.{Answers, Call, HasCause, IfRefused, IsBeforeOrAfter, IsClosed, Runs, Serves, names_of, store_of, terms_of}
 use Rattle.argon2_store.specs.Errors.{answered, unwritten}
 use Rattle.argon2_store.specs.Table.{Changes, IsHonest, IsLong, IsOpen, Leaves, changed}
 use Rattle.argon2_store.specs.declared.account_file.AccountFile.{AccountFile}
@@ -71,6 +71,19 @@ refused_cause : {X : Type 0} (closed fault long : Type 0) (r : Result X FileErro
 refused_cause closed fault long (Ok x) why = tt
 refused_cause closed fault long (Err f) why = rw why.1 tt
 
+refused_same : {X P : Type 0} (r : Result X FileError) → IfErr r (λ f. (e : AccountError) × (f ≡ Account e)) → P
+    → IfErr r (IfRefused P)
+refused_same (Ok x) why p = tt
+refused_same (Err f) why p = rw why.1 p
+
+not_refused : (P : Type 0) (e : StoreError) → IfRefused P (unwritten e)
+not_refused P below.OutOfMemory = tt
+not_refused P below.Io = tt
+not_refused P below.Corrupt = tt
+not_refused P below.Full = tt
+not_refused P below.Broken = tt
+not_refused P below.Unstorable = tt
+
 ok_if : {X E P : Type 0} (r : Result X E) → P → OnOk r P
 ok_if (Ok x) p = p
 ok_if (Err e) p = tt
@@ -98,7 +111,9 @@ module _ {S : Type 0} {g : Ghosts S}
   writes_none new stored same named may r step why = record {
     step = subst (answers r) (sym named) step;
     terms = same;
+    honest = rw stored (λ clean. clean);
     unchanged = err_if r named;
+    refused = refused_same r why stored;
     crash = rw stored (λ clean is_open db found.
         let left = still_left clean is_open db found in (left.0, left.1, subst May (sym left.2) may));
     durable = ok_if r (rw stored (λ clean db found.
@@ -124,7 +139,9 @@ module _ {S : Type 0} {g : Ghosts S}
   writes_all new to x same step failed before after (Ok _) change is r e = rw e (record {
     step = subst (answers (Ok x)) (sym is) step;
     terms = same;
+    honest = change.honest;
     unchanged = tt;
+    refused = tt;
     crash = λ clean is_open. may_leave new to before after change.crash clean;
     durable = λ clean db found. let left = (change.durable clean).1 db found in (left.0, left.1, left.2 ∙ sym is);
     closed = λ clean h. absurd (live clean h);
@@ -134,7 +151,9 @@ module _ {S : Type 0} {g : Ghosts S}
   writes_all new to x same step failed before after (Err f) change is r e = rw e (record {
     step = subst (answers (Err (unwritten f))) (sym is) (failed f);
     terms = same;
+    honest = change.honest;
     unchanged = is;
+    refused = not_refused _ f;
     crash = λ clean is_open. may_leave new to before after change.crash clean;
     durable = tt;
     closed = λ clean h. absurd (live clean h);

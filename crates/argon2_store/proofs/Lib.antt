@@ -5,3 +5,4 @@ pub mod NameLemmas
 pub mod OpenLemmas
 pub mod RowLemmas
 pub mod TableLemmas
+pub mod TextLemmas

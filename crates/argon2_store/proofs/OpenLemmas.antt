@@ -165,7 +165,7 @@ next_open it listed left may found holds = ∥∥₁_elim it.safe squash₁ (λ 
     let few : reserved size ≤ 8 = grind arith in
     let large : 504 ≤ size = omega (arith, allowed.0) in
     let sound = ours.file.sound in
-    elim holds [
+    elim holds.1 [
       | inl there ↦ ∥∥₁_map there.2 (λ file.
           let sized = same_size left size 4096 pages there.0 recs there.1 large (omega arith) sound file.sound in
           let one = same_pages left size 4096 pages there.0 recs there.1 large (omega arith) sound file.sound in (

@@ -3,6 +3,7 @@ use Rattle.std.specs.Prelude.{◌≡◌, ◌⊎◌, ℕ, List, false, Any, Resul
 use Rattle.rand_core.specs.Stream.{Stream, fill_bytes}
 use Rattle.sqlite_disk.specs.Disk.{MoreFaults}
 use Rattle.sqlite_trees.specs.declared.error.StoreError.{StoreError}
+use Rattle.sqlite_trees.specs.Tree.{Trees}
 use Rattle.sqlite_trees.specs.declared.store.Store.{Ghosts}
 use Rattle.sqlite_wal.specs.Recovery.{Image}
 use Rattle.argon2.specs.Accounts as kept
@@ -53,6 +54,11 @@ abbrev pub IsRefusal : Store → List (List ℕ × List ℕ) → ℕ × FileErro
 IsRefusal before es (k, Account why) = IsFirstRefused before es k why
 IsRefusal before es _ = ⊤
 
+-- where the accounts refuse the call
+abbrev pub IfRefused : Type 0 → FileError → Type 0
+IfRefused P (Account e) = P
+IfRefused P _ = ⊤
+
 -- why a call has this error, where `fault` says that the disk failed or refused during it
 abbrev pub HasCause : Type 0 → Type 0 → Type 0 → FileError → Type 0
 HasCause closed fault too_long (Account e) = ⊤
@@ -101,7 +107,10 @@ module _ {S : Type 0} {g : Ghosts S} where
   pub record Copies (result : Result (Unit {0}) FileError) (old new : AccountFile S g) : Type 0 where
     pub names : names_of new ≡ names_of old
     pub terms : terms_of new ≡ terms_of old
-    -- a crash leaves the names, at any moment of the call and after it
+    pub honest : IsHonest g (store_of new) → IsHonest g (store_of old)
+    -- a crash has no new outcome
+    pub outcomes : (db : Trees) → g.recovers (store_of new) db → g.recovers (store_of old) db
+    -- it leaves the names, at any moment of the call and after it
     pub left : IsHonest g (store_of new) → IsOpen g (store_of old) → Leaves g (store_of new) (λ left. left ≡ names_of old)
     -- a file that is closed is refused, and nothing but a failure of the disk closes it
     pub closed : IsHonest g (store_of new) → IsClosed old → IsErr result
@@ -118,8 +127,11 @@ module _ {S : Type 0} {g : Ghosts S} where
       (result : Result X FileError) (old new : AccountFile S g) : Type 0 where
     pub step : answers result (names_of new)
     pub terms : terms_of new ≡ terms_of old
+    pub honest : IsHonest g (store_of new) → IsHonest g (store_of old)
     -- an error leaves all as it was
     pub unchanged : OnErr result (names_of new ≡ names_of old)
+    -- a refusal of the accounts leaves the file too
+    pub refused : IfErr result (IfRefused (store_of new ≡ store_of old))
     -- what a crash at any moment of the call may leave
     pub crash : IsHonest g (store_of new) → IsOpen g (store_of old) → Leaves g (store_of new) May
     -- once it has returned `Ok`, every crash leaves the names that there are now

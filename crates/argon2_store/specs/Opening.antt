@@ -16,7 +16,7 @@ use Rattle.sqlite_wal.specs.Recovery.{Image}
 use Rattle.sqlite_value.specs.declared.value.Value.TheVariants.{Text}
 use Rattle.sqlite_value.specs.Keys.{plain}
 use Rattle.argon2.specs.Login.{Store}
-use Rattle.argon2_store.specs.Rows.{rows_of}
+use Rattle.argon2_store.specs.Rows.{AreTexts, rows_of}
 
 -- there is no database yet, or one that lists no table
 abbrev pub IsUnstarted : ℕ → Image → Type 0
@@ -45,4 +45,4 @@ FoundIn size image rows =
 
 -- the two files hold exactly these names with their texts
 abbrev pub HoldsNames : Image → Store → Type 0
-HoldsNames image names = FoundIn 4096 image (rows_of names)
+HoldsNames image names = AreTexts names × FoundIn 4096 image (rows_of names)

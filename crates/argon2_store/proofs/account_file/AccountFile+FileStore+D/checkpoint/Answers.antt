@@ -44,6 +44,8 @@ copies : {S : Type 0} (g : Ghosts S)
 copies g settled old new r quiet names terms closed cause of_file = record {
   names = names;
   terms = terms;
+  honest = λ clean. omega (arith, clean, quiet.clean);
+  outcomes = quiet.outcomes;
   left = λ clean is_open db found. leaves_kept g (store_of old) (names_of old) (settled (store_of old)) old.table.kept
       (omega (arith, clean, quiet.clean)) is_open db (quiet.outcomes db found);
   closed = closed;

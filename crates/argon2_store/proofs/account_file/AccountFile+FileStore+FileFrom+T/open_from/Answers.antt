@@ -3,6 +3,7 @@ use Rattle.sqlite_store.specs.FileStore.{view}
 use Rattle.sqlite_trees.specs.View.{IsClean}
 use Rattle.sqlite_wal.specs.Files.{image_at}
 use Rattle.argon2_store.specs.Opening.{FoundIn}
+use Rattle.argon2_store.proofs.TextLemmas.{are_texts}
 use Rattle.argon2_store.proofs.account_file.AccountFile+FileStore+FileFrom+T.open_from.Goals as goal
 
 pub open-requires : goal.open-requires
@@ -18,5 +19,7 @@ returns-clause-ready g c = record {
 
 pub returns-clause-found : goal.returns-clause-found
 returns-clause-found g c clean =
-    let was : IsClean (view c.in_ok-store.store) = omega (arith, clean, c.in_ok-open.ensures.quiet.clean) in
-    subst (FoundIn 4096 (image_at g.T.Start)) (c.in_ok-open.ensures.found clean) (c.in_ok-store.ensures.found was)
+    let was : IsClean (view c.in_ok-store.store) = omega (arith, clean, c.in_ok-open.ensures.quiet.clean) in (
+      are_texts c.in_ok-open.field-0.names,
+      subst (FoundIn 4096 (image_at g.T.Start)) (c.in_ok-open.ensures.found clean) (c.in_ok-store.ensures.found was),
+    )

@@ -1,0 +1,186 @@
+-- A text is that of one value, and so rows are those of one map of names.
+use Rattle.std.proofs.Common.{◌≡◌, ℕ, ◌<◌, ◌^◌, Bool, true, false, cond, List, [], ◌∷◌, ◌++◌, map, length, Option, Some, None, Result, Ok, Err, inl, inr, refl, sym, ap, ◌∙◌, arith, ◌==◌, ◌≢◌}
+use Rattle.std.proofs.lemmas.Bool.{cases_Bool}
+use Rattle.std.proofs.lemmas.Slice.Eq.{bytes_eq-Decides}
+use Rattle.std.proofs.lemmas.Fmt.{decimal_injective}
+use Rattle.std.proofs.lemmas.List.Splits.{length-slice_split}
+use Rattle.std.specs.Cmp.Lexicographic.{slice_cmp}
+use Rattle.std.specs.FinMap.{entries, find, get, get-entries}
+use Rattle.std.specs.Fmt.{decimal}
+use Rattle.std.specs.Ordering.{eq_by_cmp, nat_cmp}
+use Rattle.std.specs.Prelude.{IfSome, IsNone}
+use Rattle.std.specs.Str.{bytes_eq}
+use Rattle.std.specs.Option.{option_map}
+use Rattle.argon2_base.specs.PhcFields.{NoItemFirst, NoVersionFirst, fields_of, phc_of}
+use Rattle.argon2_base.specs.PhcText.{HasBytes, IsPhc, Pair, Phc, are_params, field, list_field, params_text, phc_text, version_text}
+use Rattle.argon2_base.specs.Texts.{strict_base64}
+use Rattle.argon2_base.specs.declared.phc.hash.PasswordHash.{PasswordHash}
+use Rattle.argon2_base.proofs.texts.Base64Lemmas.{decode_of-strict_base64, strict_base64_unique}
+use Rattle.argon2_base.proofs.texts.ParamsReading.{one_list}
+use Rattle.argon2_base.proofs.texts.PhcTextLemmas.{begins_with_dollar, first_and_left, from_params, no_item, no_list_read, no_version, none_after, same_phc}
+use Rattle.argon2.specs.Login.{Store}
+use Rattle.argon2.specs.Accounts.{AccountAnswer, AccountEvent, AccountStep, AreTerms, Changes, LogsIn, OnValue, Sets, Terms, adding, changing, logging_in, name_of, registering, removing, setting}
+use Rattle.argon2.specs.Made.{IsFresh}
+use Rattle.argon2.specs.declared.accounts.error.AccountError.{AccountError}
+use Rattle.argon2.specs.declared.login.answers.Accepted.{Accepted}
+use Rattle.argon2.specs.declared.login.answers.Accepted.TheVariants.{Current, Kept, Rehashed}
+use Rattle.argon2.proofs.login_store.Stores.{get-values_of}
+use Rattle.argon2.proofs.stored_hashes.MadeValues.{made_is_phc}
+use Rattle.argon2_store.specs.Names.{values_in}
+use Rattle.argon2_store.specs.Rows.{AreTexts, row_of, rows_of}
+use Rattle.argon2_store.specs.declared.names.Names.{Names}
+use Rattle.argon2_store.proofs.NameLemmas.{same}
+
+-- ---- the fields of a text
+
+version_once : (m n : Option ℕ) (xs ys : List (List ℕ)) → IfSome m (λ k. k < 2 ^ 32) → IfSome n (λ k. k < 2 ^ 32)
+    → NoVersionFirst xs → NoVersionFirst ys → field version_text m ++ xs ≡ field version_text n ++ ys
+    → (m ≡ n) × (xs ≡ ys)
+version_once None None xs ys low small h k e = (refl, e)
+version_once None (Some n) xs ys low small h k e = absurd (h (decimal n) ys e)
+version_once (Some m) None xs ys low small h k e = absurd (k (decimal m) xs (sym e))
+version_once (Some m) (Some n) xs ys low small h k e =
+    let digits : decimal m ≡ decimal n = cc e in
+    (ap Some (decimal_injective m n (omega (arith, low)) (omega (arith, small)) digits), cc e)
+
+list_once : (ps qs : List Pair) (xs ys : List (List ℕ)) → are_params ps ≡ true → are_params qs ≡ true
+    → NoItemFirst xs → NoItemFirst ys → list_field ps ++ xs ≡ list_field qs ++ ys → (ps ≡ qs) × (xs ≡ ys)
+list_once [] [] xs ys good fine h k e = (refl, e)
+list_once [] (q ∷ qs) xs ys good fine h k e = absurd (
+    let no = no_list_read (params_text (q ∷ qs)) ys ys (q ∷ qs) (λ p is. h p ys (e ∙ ap (λ f. f ∷ ys) is)) refl in cc)
+list_once (p ∷ ps) [] xs ys good fine h k e = absurd (
+    let no = no_list_read (params_text (p ∷ ps)) xs xs (p ∷ ps) (λ q is. k q xs (sym e ∙ ap (λ f. f ∷ xs) is)) refl in cc)
+list_once (p ∷ ps) (q ∷ qs) xs ys good fine h k e =
+    let text : params_text (p ∷ ps) ≡ params_text (q ∷ qs) = cc e in
+    (one_list (params_text (p ∷ ps)) (p ∷ ps) (q ∷ qs) (good, refl) (fine, text), cc e)
+
+bytes_once : (low high : ℕ) (a b : Option (List ℕ)) (xs ys : List (List ℕ)) → IfSome a (HasBytes low high)
+    → IfSome b (HasBytes low high) → (IsNone a → xs ≡ []) → (IsNone b → ys ≡ [])
+    → field strict_base64 a ++ xs ≡ field strict_base64 b ++ ys → (a ≡ b) × (xs ≡ ys)
+bytes_once low high None None xs ys good fine h k e = (refl, e)
+bytes_once low high None (Some b) xs ys good fine h k e = absurd (let none = h refl in cc)
+bytes_once low high (Some a) None xs ys good fine h k e = absurd (let none = k refl in cc)
+bytes_once low high (Some a) (Some b) xs ys good fine h k e =
+    let text : strict_base64 a ≡ strict_base64 b = cc e in
+    (ap Some (strict_base64_unique (strict_base64 b) a b good.0 (sym text) (decode_of-strict_base64 b fine.0)), cc e)
+
+-- values of one text are one
+phc_once : (v w : Phc) → IsPhc v → IsPhc w → phc_text v ≡ phc_text w → v ≡ w
+phc_once v w good fine one =
+    let begun = begins_with_dollar (phc_text v) v (good, refl) in
+    go begun.0 begun.1 (fields_of begun.0) refl
+  where
+    go : (t : List ℕ) → phc_text v ≡ 36 ∷ t → (fs : List (List ℕ)) → fields_of t ≡ fs → v ≡ w
+    go t is [] cut = absurd (omega (arith, ap length cut, length-slice_split (λ b. b == 36) t))
+    go t is (first ∷ left) cut =
+        let a = first_and_left v (good, refl) is cut in
+        let b = first_and_left w (fine, one) is cut in
+        let versions = version_once v.version w.version (from_params v) (from_params w) good.version fine.version
+        (no_version v good) (no_version w fine) (sym a.1 ∙ b.1) in
+        let lists = list_once v.params w.params _ _ good.params fine.params (no_item v good) (no_item w fine) versions.1 in
+        let salts = bytes_once 8 48 v.salt w.salt _ _ good.salt fine.salt (none_after v.salt v.hash good.salted)
+        (none_after w.salt w.hash fine.salted) lists.1 in
+        let hashes = bytes_once 4 64 v.hash w.hash [] [] good.hash fine.hash (λ none. refl) (λ none. refl)
+        (ap (λ fs. fs ++ []) salts.1) in
+        same_phc w _ _ _ _ _ (sym a.0 ∙ b.0) versions.0 lists.0 salts.0 hashes.0
+
+-- ---- rows
+
+abbrev found : List ℕ → List (List ℕ × Phc) → Option Phc
+found = find (slice_cmp nat_cmp)
+
+abbrev AreFound : List ℕ → List (List ℕ × Phc) → Type 0
+AreFound name es = (v : Phc) → found name es ≡ Some v → IsPhc v
+
+find_once : (name : List ℕ) (es fs : List (List ℕ × Phc)) → map row_of es ≡ map row_of fs → AreFound name es → AreFound name fs
+    → found name es ≡ found name fs
+find_once name [] [] one good fine = refl
+find_once name [] (f ∷ fs) one good fine = absurd cc
+find_once name (e ∷ es) [] one good fine = absurd cc
+find_once name (e ∷ es) (f ∷ fs) one good fine =
+    let named : e.0 ≡ f.0 = cc in
+    let rest : map row_of es ≡ map row_of fs = cc in
+    go (cc) (find_once name es fs rest) (eq_by_cmp (slice_cmp nat_cmp) name e.0) refl
+    (ap (λ k. cond (eq_by_cmp (slice_cmp nat_cmp) name k) (Some f.1) (found name fs)) (sym named))
+  where
+    go : phc_text e.1 ≡ phc_text f.1 → (AreFound name es → AreFound name fs → found name es ≡ found name fs)
+        → (b : Bool) → found name (e ∷ es) ≡ cond b (Some e.1) (found name es)
+        → found name (f ∷ fs) ≡ cond b (Some f.1) (found name fs) → found name (e ∷ es) ≡ found name (f ∷ fs)
+    go text later true x y = x ∙ ap Some (phc_once e.1 f.1 (good e.1 x) (fine f.1 y) text) ∙ sym y
+    go text later false x y = x ∙ later (λ v has. good v (x ∙ has)) (λ v has. fine v (y ∙ has)) ∙ sym y
+
+-- rows are those of one map of names
+pub rows_of-once : (a b : Store) → AreTexts a → AreTexts b → rows_of a ≡ rows_of b → a ≡ b
+rows_of-once a b good fine one = same a b (λ name. get-entries a name ∙ find_once name (entries a) (entries b) one
+    (λ v has. good name v (get-entries a name ∙ has)) (λ v has. fine name v (get-entries b name ∙ has))
+    ∙ sym (get-entries b name))
+
+-- ---- names whose values are what texts say
+
+of_hash : (o : Option PasswordHash) (v : Phc) → option_map phc_of o ≡ Some v → IsPhc v
+of_hash None v is = absurd cc
+of_hash (Some hash) v is = let same : phc_of hash ≡ v = cc in rw (← same) hash.grammatical
+
+pub are_texts : (names : Names) → AreTexts (values_in names)
+are_texts names name v has = of_hash _ v (sym (get-values_of names.texts name) ∙ has)
+
+module _ (terms : Terms) (are : AreTerms terms) where
+  fresh_text : (password drawn : List ℕ) (v : Phc) → IsFresh terms.target password drawn v → IsPhc v
+  fresh_text password drawn v fresh = rw fresh.2 (made_is_phc terms.target are.is_target password drawn fresh.0)
+
+  on_value : {X : Type 0} (changes : Phc → Result X AccountError → Phc → Type 0) (answer : Result X AccountError)
+      (o p : Option Phc) → ((v w : Phc) → IsPhc v → changes v answer w → IsPhc w) → IfSome o IsPhc
+      → OnValue changes o answer p → IfSome p IsPhc
+  on_value changes answer (Some v) (Some w) keeps good step = keeps v w good step
+  on_value changes answer (Some v) None keeps good step = tt
+  on_value changes answer None p keeps good step = rw step.1 tt
+
+  logged_in : (password drawn : List ℕ) (answer : Result Accepted AccountError) (v w : Phc) → IsPhc v
+      → LogsIn terms password drawn v answer w → IsPhc w
+  logged_in password drawn (Ok Current) v w good step = rw step.1.1 good
+  logged_in password drawn (Ok Rehashed) v w good step = fresh_text password drawn w step.1.1
+  logged_in password drawn (Ok Kept) v w good step = rw step.1.1 good
+  logged_in password drawn (Err e) v w good step = rw step.1 good
+
+  set : (password drawn : List ℕ) (answer : Result (Unit {0}) AccountError) (v w : Phc) → IsPhc v
+      → Sets terms password drawn v answer w → IsPhc w
+  set password drawn (Ok x) v w good step = fresh_text password drawn w step
+  set password drawn (Err e) v w good step = rw step.1 good
+
+  changed : (old password drawn : List ℕ) (answer : Result (Unit {0}) AccountError) (v w : Phc) → IsPhc v
+      → Changes terms old password drawn v answer w → IsPhc w
+  changed old password drawn (Ok x) v w good step = fresh_text password drawn w step.1
+  changed old password drawn (Err e) v w good step = rw step.1 good
+
+  answer_text : (event : AccountEvent) (o p : Option Phc) → AccountAnswer terms event o p → IfSome o IsPhc → IfSome p IsPhc
+  answer_text (adding name text (Ok x)) o (Some v) step good = step.1.0
+  answer_text (adding name text (Ok x)) o None step good = tt
+  answer_text (adding name text (Err e)) o p step good = rw step.1 good
+  answer_text (registering name password drawn (Ok x)) o (Some v) step good = fresh_text password drawn v step.1
+  answer_text (registering name password drawn (Ok x)) o None step good = tt
+  answer_text (registering name password drawn (Err e)) o p step good = rw step.1 good
+  answer_text (logging_in name password drawn answer) o p step good =
+      on_value (LogsIn terms password drawn) answer o p (logged_in password drawn answer) good step
+  answer_text (changing name old password drawn answer) o p step good =
+      on_value (Changes terms old password drawn) answer o p (changed old password drawn answer) good step
+  answer_text (setting name password drawn answer) o p step good =
+      on_value (Sets terms password drawn) answer o p (set password drawn answer) good step
+  answer_text (removing name (Ok x)) o p step good = rw step.1 tt
+  answer_text (removing name (Err e)) o p step good = rw step.2 tt
+
+  if_some : (o : Option Phc) → ((v : Phc) → o ≡ Some v → IsPhc v) → IfSome o IsPhc
+  if_some (Some v) good = good v refl
+  if_some None good = tt
+
+  -- a step keeps them so
+  pub step_texts : (event : AccountEvent) (before after : Store) → AreTexts before → AccountStep terms before event after
+      → AreTexts after
+  step_texts event before after good step name v has = elim (cases_Bool (bytes_eq name (name_of event))) [
+    | inl hit ↦
+        let here = (bytes_eq-Decides name (name_of event)).0 hit in
+        let text = answer_text event _ _ step.0 (if_some _ (good (name_of event))) in
+        rw (sym (ap (get after) here) ∙ has) at text
+    | inr miss ↦
+        let differs : name ≢ name_of event = λ here. let hit = (bytes_eq-Decides name (name_of event)).1 here in absurd cc in
+        good name v (sym (step.1 name differs) ∙ has)
+  ]
