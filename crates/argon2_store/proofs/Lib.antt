@@ -4,5 +4,6 @@ pub mod LoadLemmas
 pub mod NameLemmas
 pub mod OpenLemmas
 pub mod RowLemmas
+pub mod RunLemmas
 pub mod TableLemmas
 pub mod TextLemmas

@@ -4,5 +4,6 @@ pub mod Errors
 pub mod Names
 pub mod Opening
 pub mod Rows
+pub mod Runs
 pub mod Shown
 pub mod Table

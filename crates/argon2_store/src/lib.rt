@@ -23,6 +23,7 @@ mod account_file;
 mod error;
 mod names;
 mod opening;
+pub mod runs;
 mod table;
 
 pub use account_file::{AccountFile, AccountsAt};

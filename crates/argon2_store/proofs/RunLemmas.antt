@@ -1,0 +1,241 @@
+-- What calls make of a file, and what an open finds after them.
+use Rattle.std.proofs.Common.{◌≡◌, ℕ, Bool, true, false, List, [], ◌∷◌, ◌++◌, map, Result, Ok, Err, inl, inr, refl, sym, subst, ◌∙◌, append_assoc, IsTrue}
+use Rattle.std.proofs.lemmas.List.{reverse-append}
+use Rattle.std.proofs.Math.Logic.{∥∥₁_elim, ∥∥₁_map}
+use Rattle.std.specs.FinMap.{empty}
+use Rattle.std.specs.List.{flat_map}
+use Rattle.std.specs.Prelude.{◌⊎◌}
+use Rattle.sqlite_disk.specs.declared.Disk as disk
+use Rattle.sqlite_wal.proofs.LogLemmas.{SeenMayStay}
+use Rattle.sqlite_store.specs.Laws.{settled_at}
+use Rattle.sqlite_store.specs.declared.store.FileStore.{FileStore}
+use Rattle.sqlite_trees.specs.Tree.{Trees}
+use Rattle.sqlite_trees.specs.declared.store.Store.{Ghosts}
+use Rattle.argon2.specs.AccountRuns.{AccountRun}
+use Rattle.argon2.specs.Accounts.{AccountEvent, AccountStep, AreTerms, Terms, adding}
+use Rattle.argon2.specs.Login.{Store}
+use Rattle.argon2_store.specs.AccountFile.{AddsOrNone, Call, Copies, IsClosed, IsReady, Serves, names_of, store_of, terms_of}
+use Rattle.argon2_store.specs.Adding.{AddsAll}
+use Rattle.argon2_store.specs.Rows.{AreTexts}
+use Rattle.argon2_store.specs.Runs.{AreEventsOf, Did, Does, EndsRun, FileCall, IsAccepted, IsFoundAfter, IsLate, IsLateOf, Run, RunFrom, add_all, added, checkpoint, event_of, events_of, login, on_name, over_file}
+use Rattle.argon2_store.specs.Table.{IsHonest, IsOpen, Leaves}
+use Rattle.argon2_store.specs.declared.account_file.AccountFile.{AccountFile}
+use Rattle.argon2_store.specs.declared.error.FileError.{FileError}
+use Rattle.argon2_store.specs.declared.error.FileError.TheVariants.{Account, OutOfMemory, Io, Damaged, Full, TooLong, Closed}
+use Rattle.argon2_store.proofs.TableLemmas.{leaves_kept}
+use Rattle.argon2_store.proofs.OpenLemmas.{next_open}
+use Rattle.argon2_store.proofs.TextLemmas.{are_texts, rows_of-once, step_texts}
+
+-- ---- events
+
+run_then : (terms : Terms) (first mid last : Store) (newer older : List AccountEvent) → RunFrom terms first older mid
+    → RunFrom terms mid newer last → RunFrom terms first (newer ++ older) last
+run_then terms first mid last [] older earlier later = subst (RunFrom terms first older) (sym later) earlier
+run_then terms first mid last (event ∷ newer) older earlier later =
+    (later.0, run_then terms first mid later.0 newer older earlier later.1, later.2)
+
+pub run_texts : (terms : Terms) → AreTerms terms → (first last : Store) (events : List AccountEvent) → AreTexts first
+    → RunFrom terms first events last → AreTexts last
+run_texts terms are first last [] good run = subst AreTexts (sym run) good
+run_texts terms are first last (event ∷ older) good run =
+    step_texts terms are event run.0 last (run_texts terms are first run.0 older good run.1) run.2
+
+pub account_run : (terms : Terms) (events : List AccountEvent) (names : Store) → RunFrom terms empty events names
+    → AccountRun terms events names
+account_run terms [] names run = run
+account_run terms (event ∷ older) names run = (run.0, account_run terms older run.0 run.1, run.2)
+
+added_run : (terms : Terms) (es : List (List ℕ × List ℕ)) (before after : Store) → AddsAll before es after
+    → RunFrom terms before (added es) after
+added_run terms [] before after adds = adds
+added_run terms (e ∷ es) before after (mid, step, adds) =
+    let one : RunFrom terms before (adding e.0 e.1 (Ok tt) ∷ []) mid = (before, refl, step) in
+    subst (λ events. RunFrom terms before events after)
+    (sym (reverse-append (adding e.0 e.1 (Ok tt) ∷ []) (map (λ e. adding e.0 e.1 (Ok tt)) es)))
+    (run_then terms before mid after (added es) _ one (added_run terms es mid after adds))
+
+none_late : (calls : List FileCall) → IsLate calls []
+none_late [] = refl
+none_late (call ∷ older) = inr (none_late older)
+
+-- ---- calls
+
+module _ {S : Type 0} {g : Ghosts S}
+    (settled : (s : S) (db : Trees) → IsTrue (g.view s).is_open → g.recovers s db → db ≡ (g.view s).committed)
+    (terms : Terms) (first : AccountFile S g) where
+  -- what these events made of it, and what a crash leaves: that, or some that come late too
+  pub record Reached (events : List AccountEvent) (Late : List AccountEvent → Type 0) (file : AccountFile S g) : Type 0 where
+    pub under : terms_of file ≡ terms
+    pub run : RunFrom terms (names_of first) events (names_of file)
+    pub left : IsHonest g (store_of file) → Leaves g (store_of file)
+        (λ left. (late : List AccountEvent) × Late late × RunFrom terms (names_of first) (late ++ events) left)
+
+  module _ (calls : List FileCall) (old new : AccountFile S g)
+      (before : Reached (flat_map events_of calls) (IsLate calls) old) where
+    abbrev events : List AccountEvent
+    events = flat_map events_of calls
+
+    open_or_not : {P : Type 0} → (IsOpen g (store_of old) → P) → (IsClosed old → P) → P
+    open_or_not {P} if_open if_closed = go (g.view (store_of old)).is_open refl
+      where
+        go : (b : Bool) → (g.view (store_of old)).is_open ≡ b → P
+        go true is = if_open is
+        go false is = if_closed is
+
+    -- the names are as they were, and a crash leaves them, or with some events that come late
+    stays : (Late : List AccountEvent → Type 0) → terms_of new ≡ terms_of old → names_of new ≡ names_of old
+        → (IsHonest g (store_of new) → IsHonest g (store_of old))
+        → (IsHonest g (store_of new) → IsOpen g (store_of old) → Leaves g (store_of new)
+        (λ left. (left ≡ names_of old) ⊎ ((late : List AccountEvent) × Late late × RunFrom terms (names_of old) late left)))
+        → (IsHonest g (store_of old) → IsClosed old → (db : Trees) → g.recovers (store_of new) db → g.recovers (store_of old) db)
+        → Reached events (λ late. Late late ⊎ IsLate calls late) new
+    stays Late same named honest crash closed = record {
+      under = same ∙ before.under;
+      run = subst (RunFrom terms (names_of first) events) (sym named) before.run;
+      left = λ clean. open_or_not
+          (λ is_open db found.
+          let (names, has, left) = crash clean is_open db found in (
+            names,
+            has,
+            elim left [
+              | inl is ↦ ([], inr (none_late calls), subst (RunFrom terms (names_of first) events) (sym is) before.run)
+              | inr more ↦ (more.0, inl more.1, run_then terms (names_of first) (names_of old) names more.0 events before.run more.2)
+            ],
+          ))
+          (λ is_closed db found.
+          let (names, has, more) = before.left (honest clean) db (closed (honest clean) is_closed db found) in
+          (names, has, (more.0, inr more.1, more.2)));
+    }
+
+    -- events that are in the file
+    lasts : (Late : List AccountEvent → Type 0) (newer : List AccountEvent) → terms_of new ≡ terms_of old
+        → RunFrom terms (names_of old) newer (names_of new)
+        → (IsHonest g (store_of new) → Leaves g (store_of new) (λ left. left ≡ names_of new))
+        → Reached (newer ++ events) (λ late. Late late ⊎ IsLate calls late) new
+    lasts Late newer same later left =
+        let run = run_then terms (names_of first) (names_of old) (names_of new) newer events before.run later in
+        record {
+          under = same ∙ before.under;
+          run = run;
+          left = λ clean db found.
+              let (names, has, is) = left clean db found in
+              (names, has, ([], inr (none_late calls), subst (RunFrom terms (names_of first) (newer ++ events)) (sym is) run));
+        }
+
+    -- a call on one name that ended with an error of the file
+    cut : {X : Type 0} (call : Call X) (e : FileError) → names_of new ≡ names_of old → Serves call (Err e) old new
+        → Reached events (λ late. ((x : X) × (late ≡ call (Ok x) ∷ [])) ⊎ IsLate calls late) new
+    cut {X} call e named does = stays (λ late. (x : X) × (late ≡ call (Ok x) ∷ [])) does.terms named does.honest
+        (λ clean is_open db found.
+        let (names, has, left) = does.crash clean is_open db found in (
+          names,
+          has,
+          elim left [
+            | inl is ↦ inl is
+            | inr more ↦ inr (
+              call (Ok more.0) ∷ [],
+              (more.0, refl),
+              (names_of old, refl, subst (λ t. AccountStep t (names_of old) (call (Ok more.0)) names) before.under more.1),
+            )
+          ],
+        ))
+        (λ clean is_closed db found. subst (λ s. g.recovers s db) (does.closed clean is_closed).1 found)
+
+    cut_all : (es : List (List ℕ × List ℕ)) (e : FileError) → names_of new ≡ names_of old → AddsOrNone es (Err e) old new
+        → Reached events (λ late. (late ≡ added es) ⊎ IsLate calls late) new
+    cut_all es e named does = stays (λ late. late ≡ added es) does.terms named does.honest
+        (λ clean is_open db found.
+        let (names, has, left) = does.crash clean is_open db found in (
+          names,
+          has,
+          elim left [
+            | inl is ↦ inl is
+            | inr adds ↦ inr (added es, refl, added_run terms es (names_of old) names adds)
+          ],
+        ))
+        (λ clean is_closed db found. subst (λ s. g.recovers s db) (does.closed clean is_closed).1 found)
+
+    -- one that the accounts answered
+    serves : {X : Type 0} (call : Call X) (result : Result X FileError) → Serves call result old new
+        → Reached (event_of call result ++ events) (λ late. IsAccepted call result late ⊎ IsLate calls late) new
+    serves call (Ok x) does = lasts (λ late. ⊥) (call (Ok x) ∷ []) does.terms
+        (names_of old, refl, subst (λ t. AccountStep t (names_of old) (call (Ok x)) (names_of new)) before.under does.step)
+        does.durable
+    serves call (Err (Account e)) does = lasts (λ late. ⊥) (call (Err e) ∷ []) does.terms
+        (names_of old, refl, subst (λ t. AccountStep t (names_of old) (call (Err e)) (names_of new)) before.under does.step)
+        (λ clean. open_or_not
+        (λ is_open db found.
+        let (names, has, is) = leaves_kept g (store_of old) (names_of old) (settled (store_of old)) old.table.kept
+        (does.honest clean) is_open db (subst (λ s. g.recovers s db) does.refused found) in
+        (names, has, is ∙ sym does.unchanged))
+        (λ is_closed. let no = (does.closed (does.honest clean) is_closed).0 in absurd cc))
+    serves call (Err OutOfMemory) does = cut call OutOfMemory does.unchanged does
+    serves call (Err Io) does = cut call Io does.unchanged does
+    serves call (Err Damaged) does = cut call Damaged does.unchanged does
+    serves call (Err Full) does = cut call Full does.unchanged does
+    serves call (Err TooLong) does = cut call TooLong does.unchanged does
+    serves call (Err Closed) does = cut call Closed does.unchanged does
+
+    adds : (es : List (List ℕ × List ℕ)) (result : Result (Unit {0}) FileError) → AddsOrNone es result old new
+        → Reached (events_of (add_all es result) ++ events) (λ late. IsLateOf (add_all es result) late ⊎ IsLate calls late) new
+    adds es (Ok x) does = lasts (λ late. ⊥) (added es) does.terms (added_run terms es (names_of old) (names_of new) does.step)
+        does.durable
+    adds es (Err (Account e)) does = stays (λ late. ⊥) does.terms does.unchanged does.honest
+        (λ clean is_open db found.
+        let (names, has, is) = leaves_kept g (store_of old) (names_of old) (settled (store_of old)) old.table.kept
+        (does.honest clean) is_open db (subst (λ s. g.recovers s db) does.refused found) in
+        (names, has, inl is))
+        (λ clean is_closed db found. subst (λ s. g.recovers s db) does.refused found)
+    adds es (Err OutOfMemory) does = cut_all es OutOfMemory does.unchanged does
+    adds es (Err Io) does = cut_all es Io does.unchanged does
+    adds es (Err Damaged) does = cut_all es Damaged does.unchanged does
+    adds es (Err Full) does = cut_all es Full does.unchanged does
+    adds es (Err TooLong) does = cut_all es TooLong does.unchanged does
+    adds es (Err Closed) does = cut_all es Closed does.unchanged does
+
+    copies : (result : Result (Unit {0}) FileError) → Copies result old new
+        → Reached events (λ late. ⊥ ⊎ IsLate calls late) new
+    copies result does = stays (λ late. ⊥) does.terms does.names does.honest
+        (λ clean is_open db found. let (names, has, is) = does.left clean is_open db found in (names, has, inl is))
+        (λ clean is_closed. does.outcomes)
+
+    pub one_more : (call : FileCall) → Does call old new
+        → Reached (events_of call ++ events) (λ late. IsLateOf call late ⊎ IsLate calls late) new
+    one_more (on_name call result) does = serves call result does
+    one_more (login call result) does = serves call result does
+    one_more (add_all es result) does = adds es result does
+    one_more (checkpoint result) does = copies result does
+
+  pub reached : IsReady terms first → (calls : List FileCall) (last : AccountFile S g) → Did calls first last
+      → Reached (flat_map events_of calls) (IsLate calls) last
+  reached ready [] last is = subst (Reached [] (IsLate [])) (sym is) (record {
+    under = ready.under;
+    run = refl;
+    left = λ clean db found. let (names, has, same) = ready.left clean db found in (names, has, ([], refl, same));
+  })
+  reached ready (call ∷ older) last (mid, did, does) = one_more older mid last (reached ready older mid did) call does
+
+-- ---- runs
+
+pub ends_run : {D : Type 0} (g : disk.Ghosts D) → SeenMayStay g → (last : AccountFile (FileStore D g) over_file) → EndsRun last
+ends_run {D} g stay last terms first calls left ready did clean may next holds =
+    let settled = λ (it : FileStore D g) (db : Trees). settled_at it stay db in
+    let leaves = (reached {S = FileStore D g} {g = over_file} settled terms first ready calls last did).left clean in
+    ∥∥₁_map (next_open {g = g} (store_of last) (λ db found. (leaves db found).1.1) left may next holds) (λ found.
+    let (names, held, late) = leaves found.0 found.1 in
+    let texts = run_texts terms ready.sound (names_of first) names (late.0 ++ flat_map events_of calls)
+    (are_texts first.table.names) late.2 in
+    let same = rows_of-once names next texts holds.0 (sym held.0 ∙ found.2.0) in
+    (late.0, late.1, subst (RunFrom terms (names_of first) (late.0 ++ flat_map events_of calls)) same late.2))
+
+pub runs_join : (terms : Terms) (first : Store) (runs : List Run) (names : Store) → IsFoundAfter terms first runs names
+    → ∥ ((events : List AccountEvent) × AreEventsOf runs events × RunFrom terms first events names) ∥₁
+runs_join terms first [] names is = ∣ ([], refl, is) ∣₁
+runs_join terms first (run ∷ older) names (earlier, leaves, holds) =
+    ∥∥₁_elim (runs_join terms first older run.found earlier) squash₁ (λ before. ∥∥₁_map (leaves names holds) (λ now.
+    let own = flat_map events_of run.calls in (
+      now.0 ++ (own ++ before.0),
+      (now.0, before.0, now.1, before.1, refl),
+      subst (λ events. RunFrom terms first events names) (append_assoc now.0 own before.0)
+          (run_then terms first run.found names (now.0 ++ own) before.0 before.2 now.2),
+    )))
