@@ -14,10 +14,10 @@ use Rattle.sqlite_trees.specs.declared.store.Store.{Ghosts}
 use Rattle.argon2.specs.AccountRuns.{AccountRun}
 use Rattle.argon2.specs.Accounts.{AccountEvent, AccountStep, AreTerms, Terms, adding}
 use Rattle.argon2.specs.Login.{Store}
-use Rattle.argon2_store.specs.AccountFile.{AddsOrNone, Call, Copies, IsClosed, IsReady, Serves, names_of, store_of, terms_of}
+use Rattle.argon2_store.specs.AccountFile.{AddsOrNone, Call, Copies, IsBeforeOrAfter, IsClosed, IsReady, Runs, Serves, names_of, store_of, terms_of}
 use Rattle.argon2_store.specs.Adding.{AddsAll}
 use Rattle.argon2_store.specs.Rows.{AreTexts}
-use Rattle.argon2_store.specs.Runs.{AreEventsOf, Did, Does, EndsRun, FileCall, IsAccepted, IsFoundAfter, IsLate, IsLateOf, Run, RunFrom, add_all, added, checkpoint, event_of, events_of, login, on_name, over_file}
+use Rattle.argon2_store.specs.Runs.{AreEventsOf, Did, Does, EndsRun, FileCall, IsLateEvent, IsFoundAfter, IsLate, IsLateOf, Run, RunFrom, add_all, added, checkpoint, event_of, events_of, login, on_name, over_file}
 use Rattle.argon2_store.specs.Table.{IsHonest, IsOpen, Leaves}
 use Rattle.argon2_store.specs.declared.account_file.AccountFile.{AccountFile}
 use Rattle.argon2_store.specs.declared.error.FileError.{FileError}
@@ -122,42 +122,34 @@ module _ {S : Type 0} {g : Ghosts S}
               (names, has, ([], inr (none_late calls), subst (RunFrom terms (names_of first) (newer ++ events)) (sym is) run));
         }
 
-    -- a call on one name that ended with an error of the file
-    cut : {X : Type 0} (call : Call X) (e : FileError) → names_of new ≡ names_of old → Serves call (Err e) old new
-        → Reached events (λ late. ((x : X) × (late ≡ call (Ok x) ∷ [])) ⊎ IsLate calls late) new
-    cut {X} call e named does = stays (λ late. (x : X) × (late ≡ call (Ok x) ∷ [])) does.terms named does.honest
-        (λ clean is_open db found.
-        let (names, has, left) = does.crash clean is_open db found in (
-          names,
-          has,
-          elim left [
-            | inl is ↦ inl is
-            | inr more ↦ inr (
-              call (Ok more.0) ∷ [],
-              (more.0, refl),
-              (names_of old, refl, subst (λ t. AccountStep t (names_of old) (call (Ok more.0)) names) before.under more.1),
-            )
-          ],
-        ))
+    -- a call with an error of the file
+    cut : {X : Type 0} {answers : Result X FileError → Store → Type 0} {May : Store → Type 0} {long : Type 0}
+        (Late : List AccountEvent → Type 0) (e : FileError)
+        → ((left : Store) → May left
+        → (left ≡ names_of old) ⊎ ((late : List AccountEvent) × Late late × RunFrom terms (names_of old) late left))
+        → Runs answers May long (Err e) old new → Reached events (λ late. Late late ⊎ IsLate calls late) new
+    cut Late e may does = stays Late does.terms does.unchanged does.honest
+        (λ clean is_open db found. let (names, has, left) = does.crash clean is_open db found in (names, has, may names left))
         (λ clean is_closed db found. subst (λ s. g.recovers s db) (does.closed clean is_closed).1 found)
 
-    cut_all : (es : List (List ℕ × List ℕ)) (e : FileError) → names_of new ≡ names_of old → AddsOrNone es (Err e) old new
-        → Reached events (λ late. (late ≡ added es) ⊎ IsLate calls late) new
-    cut_all es e named does = stays (λ late. late ≡ added es) does.terms named does.honest
-        (λ clean is_open db found.
-        let (names, has, left) = does.crash clean is_open db found in (
-          names,
-          has,
-          elim left [
-            | inl is ↦ inl is
-            | inr adds ↦ inr (added es, refl, added_run terms es (names_of old) names adds)
-          ],
-        ))
-        (λ clean is_closed db found. subst (λ s. g.recovers s db) (does.closed clean is_closed).1 found)
+    late_call : {X : Type 0} (call : Call X) (left : Store) → IsBeforeOrAfter X (terms_of old) (names_of old) call left
+        → (left ≡ names_of old) ⊎ ((late : List AccountEvent) × ((x : X) × (late ≡ call (Ok x) ∷ []))
+        × RunFrom terms (names_of old) late left)
+    late_call call left (inl is) = inl is
+    late_call call left (inr (x, step)) = inr (
+      call (Ok x) ∷ [],
+      (x, refl),
+      (names_of old, refl, subst (λ t. AccountStep t (names_of old) (call (Ok x)) left) before.under step),
+    )
 
-    -- one that the accounts answered
+    late_names : (es : List (List ℕ × List ℕ)) (left : Store) → (left ≡ names_of old) ⊎ AddsAll (names_of old) es left
+        → (left ≡ names_of old) ⊎ ((late : List AccountEvent) × (late ≡ added es) × RunFrom terms (names_of old) late left)
+    late_names es left (inl is) = inl is
+    late_names es left (inr adds) = inr (added es, refl, added_run terms es (names_of old) left adds)
+
+    -- a call on one name
     serves : {X : Type 0} (call : Call X) (result : Result X FileError) → Serves call result old new
-        → Reached (event_of call result ++ events) (λ late. IsAccepted call result late ⊎ IsLate calls late) new
+        → Reached (event_of call result ++ events) (λ late. IsLateEvent call result late ⊎ IsLate calls late) new
     serves call (Ok x) does = lasts (λ late. ⊥) (call (Ok x) ∷ []) does.terms
         (names_of old, refl, subst (λ t. AccountStep t (names_of old) (call (Ok x)) (names_of new)) before.under does.step)
         does.durable
@@ -169,12 +161,12 @@ module _ {S : Type 0} {g : Ghosts S}
         (does.honest clean) is_open db (subst (λ s. g.recovers s db) does.refused found) in
         (names, has, is ∙ sym does.unchanged))
         (λ is_closed. let no = (does.closed (does.honest clean) is_closed).0 in absurd cc))
-    serves call (Err OutOfMemory) does = cut call OutOfMemory does.unchanged does
-    serves call (Err Io) does = cut call Io does.unchanged does
-    serves call (Err Damaged) does = cut call Damaged does.unchanged does
-    serves call (Err Full) does = cut call Full does.unchanged does
-    serves call (Err TooLong) does = cut call TooLong does.unchanged does
-    serves call (Err Closed) does = cut call Closed does.unchanged does
+    serves call (Err OutOfMemory) does = cut (IsLateEvent call (Err OutOfMemory)) OutOfMemory (late_call call) does
+    serves call (Err Io) does = cut (IsLateEvent call (Err Io)) Io (late_call call) does
+    serves call (Err Damaged) does = cut (IsLateEvent call (Err Damaged)) Damaged (late_call call) does
+    serves call (Err Full) does = cut (IsLateEvent call (Err Full)) Full (late_call call) does
+    serves call (Err TooLong) does = cut (IsLateEvent call (Err TooLong)) TooLong (late_call call) does
+    serves call (Err Closed) does = cut (IsLateEvent call (Err Closed)) Closed (late_call call) does
 
     adds : (es : List (List ℕ × List ℕ)) (result : Result (Unit {0}) FileError) → AddsOrNone es result old new
         → Reached (events_of (add_all es result) ++ events) (λ late. IsLateOf (add_all es result) late ⊎ IsLate calls late) new
@@ -186,12 +178,12 @@ module _ {S : Type 0} {g : Ghosts S}
         (does.honest clean) is_open db (subst (λ s. g.recovers s db) does.refused found) in
         (names, has, inl is))
         (λ clean is_closed db found. subst (λ s. g.recovers s db) does.refused found)
-    adds es (Err OutOfMemory) does = cut_all es OutOfMemory does.unchanged does
-    adds es (Err Io) does = cut_all es Io does.unchanged does
-    adds es (Err Damaged) does = cut_all es Damaged does.unchanged does
-    adds es (Err Full) does = cut_all es Full does.unchanged does
-    adds es (Err TooLong) does = cut_all es TooLong does.unchanged does
-    adds es (Err Closed) does = cut_all es Closed does.unchanged does
+    adds es (Err OutOfMemory) does = cut (IsLateOf (add_all es (Err OutOfMemory))) OutOfMemory (late_names es) does
+    adds es (Err Io) does = cut (IsLateOf (add_all es (Err Io))) Io (late_names es) does
+    adds es (Err Damaged) does = cut (IsLateOf (add_all es (Err Damaged))) Damaged (late_names es) does
+    adds es (Err Full) does = cut (IsLateOf (add_all es (Err Full))) Full (late_names es) does
+    adds es (Err TooLong) does = cut (IsLateOf (add_all es (Err TooLong))) TooLong (late_names es) does
+    adds es (Err Closed) does = cut (IsLateOf (add_all es (Err Closed))) Closed (late_names es) does
 
     copies : (result : Result (Unit {0}) FileError) → Copies result old new
         → Reached events (λ late. ⊥ ⊎ IsLate calls late) new

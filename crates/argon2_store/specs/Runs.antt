@@ -19,8 +19,8 @@ use Rattle.argon2_store.specs.declared.account_file.AccountFile.{AccountFile}
 use Rattle.argon2_store.specs.declared.error.FileError.{FileError}
 use Rattle.argon2_store.specs.declared.error.FileError.TheVariants.{Account}
 
--- A call with its answer. A crash is a disk that does nothing more, so a call that it cuts off stands with the error
--- that it would have returned.
+-- A call with its answer. A crash is a disk that does nothing more from then on, so a call that it cuts off stands with
+-- the error that it would have returned.
 pub data FileCall : Type 0 where
   on_name : Call (Unit {0}) → Result (Unit {0}) FileError → FileCall
   login : Call Accepted → Result Accepted FileError → FileCall
@@ -29,11 +29,11 @@ pub data FileCall : Type 0 where
 
 -- ---- the events of calls, the newest first
 
--- names that were added one after the other
+-- names that are added one after the other
 abbrev pub added : List (List ℕ × List ℕ) → List AccountEvent
 added es = reverse (map (λ e. adding e.0 e.1 (Ok tt)) es)
 
--- what the accounts answered, where the call has no error of the file
+-- a call that the accounts answered is an event
 abbrev pub event_of : {X : Type 0} → Call X → Result X FileError → List AccountEvent
 event_of call (Ok x) = call (Ok x) ∷ []
 event_of call (Err (Account e)) = call (Err e) ∷ []
@@ -46,21 +46,21 @@ events_of (add_all es (Ok _)) = added es
 events_of (add_all es (Err e)) = []
 events_of (checkpoint result) = []
 
--- the call as it is where it was accepted, though it has an error of the file
-abbrev pub IsAccepted : {X : Type 0} → Call X → Result X FileError → List AccountEvent → Type 0
-IsAccepted call (Ok x) late = ⊥
-IsAccepted call (Err (Account e)) late = ⊥
-IsAccepted {X} call (Err e) late = (x : X) × (late ≡ call (Ok x) ∷ [])
+-- A call with an error of the file may come late: its change is in the file all the same, as if it was accepted.
+abbrev pub IsLateEvent : {X : Type 0} → Call X → Result X FileError → List AccountEvent → Type 0
+IsLateEvent call (Ok x) late = ⊥
+IsLateEvent call (Err (Account e)) late = ⊥
+IsLateEvent {X} call (Err e) late = (x : X) × (late ≡ call (Ok x) ∷ [])
 
 abbrev pub IsLateOf : FileCall → List AccountEvent → Type 0
-IsLateOf (on_name call result) late = IsAccepted call result late
-IsLateOf (login call result) late = IsAccepted call result late
+IsLateOf (on_name call result) late = IsLateEvent call result late
+IsLateOf (login call result) late = IsLateEvent call result late
 IsLateOf (add_all es (Ok _)) late = ⊥
 IsLateOf (add_all es (Err (Account e))) late = ⊥
 IsLateOf (add_all es (Err e)) late = late ≡ added es
 IsLateOf (checkpoint result) late = ⊥
 
--- none, or those of one call that has an error of the file, as if it was accepted
+-- what comes late of calls: nothing, or one of them
 abbrev pub IsLate : List FileCall → List AccountEvent → Type 0
 IsLate [] late = late ≡ []
 IsLate (call ∷ older) late = IsLateOf call late ⊎ IsLate older late
@@ -74,29 +74,29 @@ RunFrom terms first (event ∷ older) names =
 -- ---- one run
 
 module _ {S : Type 0} {g : Ghosts S} where
-  -- what a call did to a file
+  -- what a call did to a file, by its contract
   abbrev pub Does : FileCall → AccountFile S g → AccountFile S g → Type 0
   Does (on_name call result) old new = Serves call result old new
   Does (login call result) old new = Serves call result old new
   Does (add_all es result) old new = AddsOrNone es result old new
   Does (checkpoint result) old new = Copies result old new
 
-  -- what calls did to it, of which the newest is the first
+  -- calls, the newest first, took the old file to the new one
   abbrev pub Did : List FileCall → AccountFile S g → AccountFile S g → Type 0
   Did [] old new = new ≡ old
   Did (call ∷ older) old new = (mid : AccountFile S g) × Did older old mid × Does call mid new
 
--- A run: the names that its open found, its calls, and what it left of the two files.
+-- a run: the names that its open found, its calls, the newest first, and what it left of the two files
 pub record Run : Type 0 where
   pub found : Store
   pub calls : List FileCall
   pub left : Image
 
--- An open of what the run left finds the names as its calls left them, or with one late call.
-abbrev pub LeavesRun : Terms → Run → Type 0
-LeavesRun terms run = (next : Store) → HoldsNames run.left next
+-- An open finds what the run left: the names as its calls made them, and perhaps what came late.
+abbrev pub IsFound : Terms → Run → Type 0
+IsFound terms run = (names : Store) → HoldsNames run.left names
     → ∥ ((late : List AccountEvent) × IsLate run.calls late
-    × RunFrom terms run.found (late ++ flat_map events_of run.calls) next) ∥₁
+    × RunFrom terms run.found (late ++ flat_map events_of run.calls) names) ∥₁
 
 abbrev pub over_file : {D : Type 0} {g : disk.Ghosts D} → Ghosts (FileStore D g)
 over_file = record {
@@ -109,32 +109,32 @@ over_file = record {
   names = NamesFault;
 }
 
--- Whatever calls led to this file, a crash now ends such a run.
+-- Whatever calls led to the file, an open finds what a crash leaves of it now.
 abbrev pub EndsRun : {D : Type 0} {g : disk.Ghosts D} → AccountFile (FileStore D g) over_file → Type 0
 EndsRun last = (terms : Terms) (first : AccountFile _ over_file) (calls : List FileCall) (left : Image) →
     IsReady terms first → Did calls first last → IsHonest over_file (store_of last) → (state (store_of last)).may_leave left
-    → LeavesRun terms (record { found = names_of first; calls = calls; left = left })
+    → IsFound terms (record { found = names_of first; calls = calls; left = left })
 
 -- ---- runs
 
--- the names that an open finds after runs, the newest first, each of which found what the one before it left
+-- An open finds the names after runs, the newest first. Each found what the one before it left, and the oldest `first`.
 abbrev pub IsFoundAfter : Terms → Store → List Run → Store → Type 0
 IsFoundAfter terms first [] names = names ≡ first
 IsFoundAfter terms first (run ∷ older) names =
-    IsFoundAfter terms first older run.found × LeavesRun terms run × HoldsNames run.left names
+    IsFoundAfter terms first older run.found × IsFound terms run × HoldsNames run.left names
 
--- the events of all their calls, and of each run's late one
+-- the events of runs, with what came late of each
 abbrev pub AreEventsOf : List Run → List AccountEvent → Type 0
 AreEventsOf [] events = events ≡ []
 AreEventsOf (run ∷ older) events = (late earlier : List AccountEvent) × IsLate run.calls late × AreEventsOf older earlier
     × (events ≡ late ++ (flat_map events_of run.calls ++ earlier))
 
--- What an open finds after runs, these events made of what the first of them found.
+-- The names that an open finds after runs are what their events made of the first ones.
 abbrev pub NamesAreRun : Type 0
 NamesAreRun = (terms : Terms) (first : Store) (runs : List Run) (names : Store) → IsFoundAfter terms first runs names
     → ∥ ((events : List AccountEvent) × AreEventsOf runs events × RunFrom terms first events names) ∥₁
 
--- Where the first run found no names, each name has what the last of its accepted calls gave it, or no text.
+-- Where these were none, each name has what the last of its accepted calls gave it, and no text where there was none.
 abbrev pub TextsAreKept : Type 0
 TextsAreKept = (terms : Terms) → AreTerms terms → (runs : List Run) (names : Store) → IsFoundAfter terms empty runs names
     → ∥ ((events : List AccountEvent) × AreEventsOf runs events

@@ -23,8 +23,9 @@ mod account_file;
 mod error;
 mod names;
 mod opening;
-pub mod runs;
+mod runs;
 mod table;
 
 pub use account_file::{AccountFile, AccountsAt};
 pub use error::{FileError, OpenError};
+pub use runs::{account_file_runs, next_run};
