@@ -4,7 +4,7 @@ use Rattle.std.proofs.lemmas.List.{reverse-append}
 use Rattle.std.proofs.Math.Logic.{∥∥₁_elim, ∥∥₁_map}
 use Rattle.std.specs.FinMap.{empty}
 use Rattle.std.specs.List.{flat_map}
-use Rattle.std.specs.Prelude.{◌⊎◌}
+use Rattle.std.specs.Prelude.{◌⊎◌, IsErr}
 use Rattle.sqlite_disk.specs.declared.Disk as disk
 use Rattle.sqlite_wal.proofs.LogLemmas.{SeenMayStay}
 use Rattle.sqlite_store.specs.Laws.{settled_at}
@@ -17,7 +17,7 @@ use Rattle.argon2.specs.Login.{Store}
 use Rattle.argon2_store.specs.AccountFile.{AddsOrNone, Call, Copies, IsBeforeOrAfter, IsClosed, IsReady, Runs, Serves, names_of, store_of, terms_of}
 use Rattle.argon2_store.specs.Adding.{AddsAll}
 use Rattle.argon2_store.specs.Rows.{AreTexts}
-use Rattle.argon2_store.specs.Runs.{AreEventsOf, Did, Does, EndsRun, FileCall, IsLateEvent, IsFoundAfter, IsLate, IsLateOf, Run, RunFrom, add_all, added, checkpoint, event_of, events_of, login, on_name, over_file}
+use Rattle.argon2_store.specs.Runs.{AreEventsOf, Did, Does, EndsRun, FileCall, IsFoundAfter, IsLate, IsLateEvent, IsLateOf, IsShutOut, Run, RunFrom, add_all, added, checkpoint, event_of, events_of, login, on_name, over_file}
 use Rattle.argon2_store.specs.Table.{IsHonest, IsOpen, Leaves}
 use Rattle.argon2_store.specs.declared.account_file.AccountFile.{AccountFile}
 use Rattle.argon2_store.specs.declared.error.FileError.{FileError}
@@ -54,10 +54,6 @@ added_run terms (e ∷ es) before after (mid, step, adds) =
     (sym (reverse-append (adding e.0 e.1 (Ok tt) ∷ []) (map (λ e. adding e.0 e.1 (Ok tt)) es)))
     (run_then terms before mid after (added es) _ one (added_run terms es mid after adds))
 
-none_late : (calls : List FileCall) → IsLate calls []
-none_late [] = refl
-none_late (call ∷ older) = inr (none_late older)
-
 -- ---- calls
 
 module _ {S : Type 0} {g : Ghosts S}
@@ -75,6 +71,10 @@ module _ {S : Type 0} {g : Ghosts S}
     abbrev events : List AccountEvent
     events = flat_map events_of calls
 
+    -- nothing comes late, or this call, or what came late of those before it, since it is shut out
+    abbrev Now : (List AccountEvent → Type 0) → Type 0 → List AccountEvent → Type 0
+    Now Late Shut late = (late ≡ []) ⊎ (Late late ⊎ (Shut × IsLate calls late))
+
     open_or_not : {P : Type 0} → (IsOpen g (store_of old) → P) → (IsClosed old → P) → P
     open_or_not {P} if_open if_closed = go (g.view (store_of old)).is_open refl
       where
@@ -83,13 +83,14 @@ module _ {S : Type 0} {g : Ghosts S}
         go false is = if_closed is
 
     -- the names are as they were, and a crash leaves them, or with some events that come late
-    stays : (Late : List AccountEvent → Type 0) → terms_of new ≡ terms_of old → names_of new ≡ names_of old
+    stays : (Late : List AccountEvent → Type 0) (Shut : Type 0) → terms_of new ≡ terms_of old → names_of new ≡ names_of old
         → (IsHonest g (store_of new) → IsHonest g (store_of old))
         → (IsHonest g (store_of new) → IsOpen g (store_of old) → Leaves g (store_of new)
         (λ left. (left ≡ names_of old) ⊎ ((late : List AccountEvent) × Late late × RunFrom terms (names_of old) late left)))
-        → (IsHonest g (store_of old) → IsClosed old → (db : Trees) → g.recovers (store_of new) db → g.recovers (store_of old) db)
-        → Reached events (λ late. Late late ⊎ IsLate calls late) new
-    stays Late same named honest crash closed = record {
+        → (IsHonest g (store_of new) → IsClosed old
+        → Shut × ((db : Trees) → g.recovers (store_of new) db → g.recovers (store_of old) db))
+        → Reached events (Now Late Shut) new
+    stays Late Shut same named honest crash closed = record {
       under = same ∙ before.under;
       run = subst (RunFrom terms (names_of first) events) (sym named) before.run;
       left = λ clean. open_or_not
@@ -98,28 +99,33 @@ module _ {S : Type 0} {g : Ghosts S}
             names,
             has,
             elim left [
-              | inl is ↦ ([], inr (none_late calls), subst (RunFrom terms (names_of first) events) (sym is) before.run)
-              | inr more ↦ (more.0, inl more.1, run_then terms (names_of first) (names_of old) names more.0 events before.run more.2)
+              | inl is ↦ ([], inl refl, subst (RunFrom terms (names_of first) events) (sym is) before.run)
+              | inr more ↦ (
+                more.0,
+                inr (inl more.1),
+                run_then terms (names_of first) (names_of old) names more.0 events before.run more.2,
+              )
             ],
           ))
           (λ is_closed db found.
-          let (names, has, more) = before.left (honest clean) db (closed (honest clean) is_closed db found) in
-          (names, has, (more.0, inr more.1, more.2)));
+          let (shut, old_one) = closed clean is_closed in
+          let (names, has, more) = before.left (honest clean) db (old_one db found) in
+          (names, has, (more.0, inr (inr (shut, more.1)), more.2)));
     }
 
     -- events that are in the file
-    lasts : (Late : List AccountEvent → Type 0) (newer : List AccountEvent) → terms_of new ≡ terms_of old
+    lasts : (Late : List AccountEvent → Type 0) (Shut : Type 0) (newer : List AccountEvent) → terms_of new ≡ terms_of old
         → RunFrom terms (names_of old) newer (names_of new)
         → (IsHonest g (store_of new) → Leaves g (store_of new) (λ left. left ≡ names_of new))
-        → Reached (newer ++ events) (λ late. Late late ⊎ IsLate calls late) new
-    lasts Late newer same later left =
+        → Reached (newer ++ events) (Now Late Shut) new
+    lasts Late Shut newer same later left =
         let run = run_then terms (names_of first) (names_of old) (names_of new) newer events before.run later in
         record {
           under = same ∙ before.under;
           run = run;
           left = λ clean db found.
               let (names, has, is) = left clean db found in
-              (names, has, ([], inr (none_late calls), subst (RunFrom terms (names_of first) (newer ++ events)) (sym is) run));
+              (names, has, ([], inl refl, subst (RunFrom terms (names_of first) (newer ++ events)) (sym is) run));
         }
 
     -- a call with an error of the file
@@ -127,10 +133,12 @@ module _ {S : Type 0} {g : Ghosts S}
         (Late : List AccountEvent → Type 0) (e : FileError)
         → ((left : Store) → May left
         → (left ≡ names_of old) ⊎ ((late : List AccountEvent) × Late late × RunFrom terms (names_of old) late left))
-        → Runs answers May long (Err e) old new → Reached events (λ late. Late late ⊎ IsLate calls late) new
-    cut Late e may does = stays Late does.terms does.unchanged does.honest
+        → Runs answers May long (Err e) old new
+        → Reached events (Now Late (◌≡◌ {A = Result X FileError} (Err e) (Err Closed))) new
+    cut Late e may does = stays Late _ does.terms does.unchanged does.honest
         (λ clean is_open db found. let (names, has, left) = does.crash clean is_open db found in (names, has, may names left))
-        (λ clean is_closed db found. subst (λ s. g.recovers s db) (does.closed clean is_closed).1 found)
+        (λ clean is_closed. let (shut, same) = does.closed (does.honest clean) is_closed in
+        (shut, λ db found. subst (λ s. g.recovers s db) same found))
 
     late_call : {X : Type 0} (call : Call X) (left : Store) → IsBeforeOrAfter X (terms_of old) (names_of old) call left
         → (left ≡ names_of old) ⊎ ((late : List AccountEvent) × ((x : X) × (late ≡ call (Ok x) ∷ []))
@@ -149,11 +157,11 @@ module _ {S : Type 0} {g : Ghosts S}
 
     -- a call on one name
     serves : {X : Type 0} (call : Call X) (result : Result X FileError) → Serves call result old new
-        → Reached (event_of call result ++ events) (λ late. IsLateEvent call result late ⊎ IsLate calls late) new
-    serves call (Ok x) does = lasts (λ late. ⊥) (call (Ok x) ∷ []) does.terms
+        → Reached (event_of call result ++ events) (Now (IsLateEvent call result) (result ≡ Err Closed)) new
+    serves call (Ok x) does = lasts (λ late. ⊥) _ (call (Ok x) ∷ []) does.terms
         (names_of old, refl, subst (λ t. AccountStep t (names_of old) (call (Ok x)) (names_of new)) before.under does.step)
         does.durable
-    serves call (Err (Account e)) does = lasts (λ late. ⊥) (call (Err e) ∷ []) does.terms
+    serves call (Err (Account e)) does = lasts (λ late. ⊥) _ (call (Err e) ∷ []) does.terms
         (names_of old, refl, subst (λ t. AccountStep t (names_of old) (call (Err e)) (names_of new)) before.under does.step)
         (λ clean. open_or_not
         (λ is_open db found.
@@ -169,15 +177,16 @@ module _ {S : Type 0} {g : Ghosts S}
     serves call (Err Closed) does = cut (IsLateEvent call (Err Closed)) Closed (late_call call) does
 
     adds : (es : List (List ℕ × List ℕ)) (result : Result (Unit {0}) FileError) → AddsOrNone es result old new
-        → Reached (events_of (add_all es result) ++ events) (λ late. IsLateOf (add_all es result) late ⊎ IsLate calls late) new
-    adds es (Ok x) does = lasts (λ late. ⊥) (added es) does.terms (added_run terms es (names_of old) (names_of new) does.step)
+        → Reached (events_of (add_all es result) ++ events) (Now (IsLateOf (add_all es result)) (result ≡ Err Closed)) new
+    adds es (Ok x) does = lasts (λ late. ⊥) _ (added es) does.terms (added_run terms es (names_of old) (names_of new) does.step)
         does.durable
-    adds es (Err (Account e)) does = stays (λ late. ⊥) does.terms does.unchanged does.honest
+    adds es (Err (Account e)) does = stays (λ late. ⊥) _ does.terms does.unchanged does.honest
         (λ clean is_open db found.
         let (names, has, is) = leaves_kept g (store_of old) (names_of old) (settled (store_of old)) old.table.kept
         (does.honest clean) is_open db (subst (λ s. g.recovers s db) does.refused found) in
         (names, has, inl is))
-        (λ clean is_closed db found. subst (λ s. g.recovers s db) does.refused found)
+        (λ clean is_closed.
+        ((does.closed (does.honest clean) is_closed).0, λ db found. subst (λ s. g.recovers s db) does.refused found))
     adds es (Err OutOfMemory) does = cut (IsLateOf (add_all es (Err OutOfMemory))) OutOfMemory (late_names es) does
     adds es (Err Io) does = cut (IsLateOf (add_all es (Err Io))) Io (late_names es) does
     adds es (Err Damaged) does = cut (IsLateOf (add_all es (Err Damaged))) Damaged (late_names es) does
@@ -186,13 +195,13 @@ module _ {S : Type 0} {g : Ghosts S}
     adds es (Err Closed) does = cut (IsLateOf (add_all es (Err Closed))) Closed (late_names es) does
 
     copies : (result : Result (Unit {0}) FileError) → Copies result old new
-        → Reached events (λ late. ⊥ ⊎ IsLate calls late) new
-    copies result does = stays (λ late. ⊥) does.terms does.names does.honest
+        → Reached events (Now (λ late. ⊥) (IsErr result)) new
+    copies result does = stays (λ late. ⊥) _ does.terms does.names does.honest
         (λ clean is_open db found. let (names, has, is) = does.left clean is_open db found in (names, has, inl is))
-        (λ clean is_closed. does.outcomes)
+        (λ clean is_closed. (does.closed clean is_closed, does.outcomes))
 
     pub one_more : (call : FileCall) → Does call old new
-        → Reached (events_of call ++ events) (λ late. IsLateOf call late ⊎ IsLate calls late) new
+        → Reached (events_of call ++ events) (Now (IsLateOf call) (IsShutOut call)) new
     one_more (on_name call result) does = serves call result does
     one_more (login call result) does = serves call result does
     one_more (add_all es result) does = adds es result does

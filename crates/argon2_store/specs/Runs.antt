@@ -1,5 +1,5 @@
 -- Runs on an account file, each of which opens what the last one left.
-use Rattle.std.specs.Prelude.{◌≡◌, ◌⊎◌, ℕ, List, [], ◌∷◌, ◌++◌, map, reverse, Result, Ok, Err}
+use Rattle.std.specs.Prelude.{◌≡◌, ◌⊎◌, ℕ, List, [], ◌∷◌, ◌++◌, map, reverse, Result, Ok, Err, IsErr}
 use Rattle.std.specs.FinMap.{empty, get}
 use Rattle.std.specs.List.{flat_map}
 use Rattle.sqlite_disk.specs.declared.Disk as disk
@@ -17,7 +17,7 @@ use Rattle.argon2_store.specs.Opening.{HoldsNames}
 use Rattle.argon2_store.specs.Table.{IsHonest}
 use Rattle.argon2_store.specs.declared.account_file.AccountFile.{AccountFile}
 use Rattle.argon2_store.specs.declared.error.FileError.{FileError}
-use Rattle.argon2_store.specs.declared.error.FileError.TheVariants.{Account}
+use Rattle.argon2_store.specs.declared.error.FileError.TheVariants.{Account, Closed}
 
 -- A call with its answer. A crash is a disk that does nothing more from then on, so a call that it cuts off stands with
 -- the error that it would have returned.
@@ -60,10 +60,17 @@ IsLateOf (add_all es (Err (Account e))) late = ⊥
 IsLateOf (add_all es (Err e)) late = late ≡ added es
 IsLateOf (checkpoint result) late = ⊥
 
--- what comes late of calls: nothing, or one of them
+-- it was refused since the file was closed
+abbrev pub IsShutOut : FileCall → Type 0
+IsShutOut (on_name call result) = result ≡ Err Closed
+IsShutOut (login call result) = result ≡ Err Closed
+IsShutOut (add_all es result) = result ≡ Err Closed
+IsShutOut (checkpoint result) = IsErr result
+
+-- what comes late of calls, the newest first: nothing, or the last of them that was not shut out
 abbrev pub IsLate : List FileCall → List AccountEvent → Type 0
 IsLate [] late = late ≡ []
-IsLate (call ∷ older) late = IsLateOf call late ⊎ IsLate older late
+IsLate (call ∷ older) late = (late ≡ []) ⊎ (IsLateOf call late ⊎ (IsShutOut call × IsLate older late))
 
 -- the names are what these events made of the first ones
 abbrev pub RunFrom : Terms → Store → List AccountEvent → Store → Type 0

@@ -8,8 +8,8 @@ use sqlite_disk::Disk;
 use sqlite_store::FileStore;
 
 /// Where a crash comes now, or the file is dropped, the next open finds the names as all calls on the file
-/// left them, or with one change more: that of a call which the crash cut off or which had an error of the
-/// file. Nothing is said of a crash during an open.
+/// left them. One change may be there too: that of the last call that did not find the file closed, where
+/// it had an error of the file or the crash cut it off. Nothing is said of a crash during an open.
 pub fn next_run<D: Disk>(file: &AccountFile<'_, FileStore<D>>)
     ensures { EndsRun file.now }
 {}
@@ -17,7 +17,8 @@ pub fn next_run<D: Disk>(file: &AccountFile<'_, FileStore<D>>)
 /// After any list of runs, each of which opens what the one before it left: an open finds what the calls of
 /// all runs, in their order, made of the names that the first run found. Where it found none, each name has
 /// what the last of its accepted calls gave it: the added text, a text that accepts the password, or none. In
-/// each run one call that a crash cut off, or that had an error of the file, may count as accepted.
+/// each run the last call that did not find the file closed may count as accepted, where it had an error of
+/// the file or a crash cut it off.
 pub fn account_file_runs()
     ensures events { NamesAreRun }
     ensures texts { TextsAreKept }
