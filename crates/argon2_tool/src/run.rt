@@ -12,8 +12,6 @@ use std::io::{Read, Write};
 
 mod digest;
 mod tag;
-#[cfg(test)]
-mod tests;
 mod texts;
 
 const USAGE: &str =
