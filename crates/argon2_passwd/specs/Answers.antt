@@ -134,7 +134,8 @@ abbrev pub entries_in : List ℕ → List (List ℕ × List ℕ)
 entries_in input = map entry_in (lines input)
 
 -- one of the entries is the first that is refused, and none is added; the failure has its line and the reason
-abbrev pub RefusesLine : {S : Type 0} {g : Ghosts S} → Failure → List (List ℕ × List ℕ) → AccountFile S g → AccountFile S g → Type 0
+abbrev pub RefusesLine : {S : Type 0} {g : Ghosts S} → Failure → List (List ℕ × List ℕ) → AccountFile S g → AccountFile S g
+    → Type 0
 RefusesLine failure es before after = (k : ℕ) × (why : AccountError) × (failure ≡ Line (k + 1) why)
     × IsFirstRefused (names_of before) es k why × AddsOrNone es (Err (Account why)) before after
 

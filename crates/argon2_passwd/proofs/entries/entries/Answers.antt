@@ -34,8 +34,8 @@ lines-last line some none =
     let part = ap lines_of_parts (slice_split_none (λ b. b == 10) line none) in grind (arith, common_steps)
 
 -- the first line goes up to the first line feed, or is all
-lines_first : (rest line after : List ℕ) (i : ℕ) → 0 < length rest → rest ≡ line ++ after → length line ≡ min (i + 1) (length rest)
-    → IsFirstMatchOrLen (λ b. b == 10) rest i → lines rest ≡ line_of line ∷ lines after
+lines_first : (rest line after : List ℕ) (i : ℕ) → 0 < length rest → rest ≡ line ++ after
+    → length line ≡ min (i + 1) (length rest) → IsFirstMatchOrLen (λ b. b == 10) rest i → lines rest ≡ line_of line ∷ lines after
 lines_first rest line after i some whole long first = ⊎_elim
     (λ inside.
     let feed = first.1 inside 0 in

@@ -9,8 +9,8 @@ use Rattle.argon2_store.specs.Adding.{entry_of}
 use Rattle.argon2_passwd.proofs.entries.entry.Goals as goal
 
 -- a text at its first colon
-cut : (line : List ℕ) (r : Option (Bor (List ℕ) × Bor (List ℕ))) (other : Bor (List ℕ) × Bor (List ℕ)) → IsSplitOnceResult 58 line r
-    → other.0.now ≡ line → other.1.now ≡ []
+cut : (line : List ℕ) (r : Option (Bor (List ℕ) × Bor (List ℕ))) (other : Bor (List ℕ) × Bor (List ℕ))
+    → IsSplitOnceResult 58 line r → other.0.now ≡ line → other.1.now ≡ []
     → entry_of (unwrap_or r other) ≡ (before_first (λ b. b == 58) line, after_first (λ b. b == 58) line)
 cut line None other is name text = let none = split_once_first 58 line None is (lit< tt) in grind (arith, common_steps)
 cut line (Some x) other is name text = let some = split_once_first 58 line (Some x) is (lit< tt) in cc
