@@ -62,7 +62,7 @@ unstarted it (inr empty) = inr (empty.0, empty.1, empty.2.0.sound, empty.2.1)
 
 -- ---- the size of a page
 
--- two sound files in one img have pages of one size
+-- an image is a sound file by one size of a page alone
 module _ (img : Image) (a b : ℕ) (p q : PageMap) (found : Recovers a img p) (also : Recovers b img q)
     (large : 504 ≤ a) (big : 504 ≤ b) (sound : IsSoundFile a p) (whole : IsSoundFile b q) where
   first : Adopts a img p
