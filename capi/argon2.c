@@ -109,12 +109,12 @@ static struct lent lend(struct lent next) {
     return before;
 }
 
-/* Large memory is asked for in huge pages, which saves most page faults; where there are none, nothing is lost. */
+/* Large memory is asked for in huge pages, which saves most page faults; where there are none, nothing is lost. It comes
+ * from malloc, which gives the same memory to the next hash where that has less than 32 MiB, and so no fault at all. */
 static uint8_t *system_memory(size_t whole) {
-    uint8_t *at;
-    if (whole < LARGE) return malloc(whole);
-    at = aligned_alloc(HUGE_PAGE, (whole + HUGE_PAGE - 1) / HUGE_PAGE * HUGE_PAGE);
-    if (at) (void)madvise(at, whole / HUGE_PAGE * HUGE_PAGE, MADV_HUGEPAGE);
+    uint8_t *const at = malloc(whole);
+    const size_t before = -(uintptr_t)at % HUGE_PAGE; /* the bytes up to the first huge page */
+    if (at && whole >= LARGE) (void)madvise(at + before, (whole - before) / HUGE_PAGE * HUGE_PAGE, MADV_HUGEPAGE);
     return at;
 }
 
