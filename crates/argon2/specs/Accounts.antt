@@ -1,6 +1,8 @@
--- Accounts: what callers see of a policy and of accounts, and what each call does to its name's value.
-use Rattle.std.specs.Prelude.{◌≡◌, ◌⊎◌, ℕ, ◌≤◌, ◌<◌, List, Option, Some, None, IsSome, IsSomeAnd, IsOk, IsErr, Result, Ok, Err, codes}
+-- Accounts: what callers see of a policy and of accounts, what each call does to its name's value, and what is true after
+-- every list of calls.
+use Rattle.std.specs.Prelude.{◌≡◌, ◌⊎◌, ℕ, ◌≤◌, ◌<◌, List, [], ◌∷◌, if◌then◌else◌, Option, Some, None, IsSome, IsSomeAnd, IsOk, IsErr, Result, Ok, Err, codes}
 use Rattle.std.specs.FinMap.{empty, get}
+use Rattle.std.specs.Str.{bytes_eq}
 use Rattle.rand_core.specs.Stream.{Stream, fill_bytes}
 use Rattle.argon2_base.specs.Error.{hash_error_text}
 use Rattle.argon2_base.specs.PhcText.{Phc, PhcText}
@@ -16,6 +18,7 @@ use Rattle.argon2.specs.declared.login.answers.Accepted.TheVariants.{Current, Ke
 use Rattle.argon2.specs.Bound.{AsksWithin, HashRefusal, IsWithin}
 use Rattle.argon2.specs.Login.{IsCurrent, IsText, KeepsOthers, Store, values_of}
 use Rattle.argon2.specs.Made.{HashingRefusal, IsFresh, IsTarget, Target, tag_length, target_of}
+use Rattle.argon2.specs.Runs.{newest}
 use Rattle.argon2.specs.Stored.{AcceptsBy, IsVerifyAnswer, stored_of}
 
 -- what passwords are hashed and verified under
@@ -184,6 +187,47 @@ Steps event old new = AccountStep (kept_terms old) (store_of old) event (store_o
 -- the name has a text that asks for no more than the bound, and accepts the password
 abbrev pub HasPassword : Terms → Store → List ℕ → List ℕ → Type 0
 HasPassword terms store name password = IsSomeAnd (get store name) (Admits terms password)
+
+-- ---- lists of calls, the newest first
+
+-- the calls take the store from the first one to the last
+abbrev pub AccountRun : Terms → Store → List AccountEvent → Store → Type 0
+AccountRun terms first [] last = last ≡ first
+AccountRun terms first (event ∷ older) last =
+    (before : Store) × AccountRun terms first older before × AccountStep terms before event last
+
+pub data Given : Type 0 where
+  a_text : List ℕ → Given  -- a text that was added
+  a_password : List ℕ → Given  -- a password: registered, set, changed to, or accepted at a login
+  nothing : Given  -- the name was removed
+
+-- what an accepted call gives its name
+abbrev pub gives : AccountEvent → Option Given
+gives (adding name text (Ok _)) = Some (a_text text)
+gives (registering name password drawn (Ok _)) = Some (a_password password)
+gives (logging_in name password drawn (Ok _)) = Some (a_password password)
+gives (changing name old password drawn (Ok _)) = Some (a_password password)
+gives (setting name password drawn (Ok _)) = Some (a_password password)
+gives (removing name (Ok _)) = Some nothing
+gives _ = None
+
+-- what a call gives this name
+abbrev pub given : List ℕ → AccountEvent → Option Given
+given name event = if bytes_eq name (name_of event) then gives event else None
+
+-- the name has what it was given
+abbrev pub HasGiven : Terms → Option Given → Option Phc → Type 0
+HasGiven terms (Some (a_text text)) (Some v) = PhcText text v
+HasGiven terms (Some (a_password password)) (Some v) = Admits terms password v
+HasGiven terms (Some nothing) None = Unit {0}
+HasGiven terms None None = Unit {0}
+HasGiven terms _ _ = ⊥
+
+-- Each name has what the last of its accepted calls gave it, and no text where there was none.
+abbrev pub TextsAreGiven : Type 0
+TextsAreGiven = (terms : Terms) → AreTerms terms →
+    (events : List AccountEvent) (store : Store) → AccountRun terms empty events store →
+    (name : List ℕ) → HasGiven terms (newest (given name) events) (get store name)
 
 -- ---- what the generator has left
 

@@ -1,4 +1,3 @@
-pub mod AccountRuns
 pub mod Accounts
 pub mod Argon2
 pub use Rattle.argon2_base.specs.Blake2b

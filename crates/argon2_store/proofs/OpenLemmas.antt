@@ -118,10 +118,10 @@ module _ (w : Wanted) (rest : List Wanted) (same : listed_from 0 (w ∷ rest) �
   unfolding describes is_about
   describes-same entry =
       let is = rw shape at same in
-      let kind : column w.row 0 ≡ column account.row 0 = cc is in
-      let name : column w.row 1 ≡ column account.row 1 = cc is in
-      let table : column w.row 2 ≡ column account.row 2 = cc is in
-      let sql : column w.row 3 ≡ column account.row 3 = cc is in
+      let kind : column (w.row) 0 ≡ column (account.row) 0 = cc is in
+      let name : column (w.row) 1 ≡ column (account.row) 1 = cc is in
+      let table : column (w.row) 2 ≡ column (account.row) 2 = cc is in
+      let sql : column (w.row) 3 ≡ column (account.row) 3 = cc is in
       rw (shape, kind, name, table, sql)
 
   root-same : (entries : List Row) → root_in entries w ≡ root_in entries account

@@ -2,7 +2,6 @@
 use Rattle.std.proofs.Common.{◌≡◌, ℕ, Bool, true, false, List, [], ◌∷◌, ◌++◌, map, Result, Ok, Err, inl, inr, refl, sym, subst, ◌∙◌, append_assoc, IsTrue}
 use Rattle.std.proofs.lemmas.List.{reverse-append}
 use Rattle.std.proofs.Math.Logic.{∥∥₁_elim, ∥∥₁_map}
-use Rattle.std.specs.FinMap.{empty}
 use Rattle.std.specs.List.{flat_map}
 use Rattle.std.specs.Prelude.{◌⊎◌, IsErr}
 use Rattle.sqlite_disk.specs.declared.Disk as disk
@@ -11,13 +10,12 @@ use Rattle.sqlite_store.specs.Laws.{settled_at}
 use Rattle.sqlite_store.specs.declared.store.FileStore.{FileStore}
 use Rattle.sqlite_trees.specs.Tree.{Trees}
 use Rattle.sqlite_trees.specs.declared.store.Store.{Ghosts}
-use Rattle.argon2.specs.AccountRuns.{AccountRun}
-use Rattle.argon2.specs.Accounts.{AccountEvent, AccountStep, AreTerms, Terms, adding}
+use Rattle.argon2.specs.Accounts.{AccountEvent, AccountRun, AccountStep, AreTerms, Terms, adding}
 use Rattle.argon2.specs.Login.{Store}
 use Rattle.argon2_store.specs.AccountFile.{AddsOrNone, Call, Copies, IsBeforeOrAfter, IsClosed, IsReady, Runs, Serves, names_of, store_of, terms_of}
 use Rattle.argon2_store.specs.Adding.{AddsAll}
 use Rattle.argon2_store.specs.Rows.{AreTexts}
-use Rattle.argon2_store.specs.Runs.{AreEventsOf, Did, Does, EndsRun, FileCall, IsFoundAfter, IsLate, IsLateEvent, IsLateOf, IsShutOut, Run, RunFrom, add_all, added, checkpoint, event_of, events_of, login, on_name, over_file}
+use Rattle.argon2_store.specs.Runs.{AreEventsOf, Did, Does, EndsRun, FileCall, IsFoundAfter, IsLate, IsLateEvent, IsLateOf, IsShutOut, Run, add_all, added, checkpoint, event_of, events_of, login, on_name, over_file}
 use Rattle.argon2_store.specs.Table.{IsHonest, IsOpen, Leaves}
 use Rattle.argon2_store.specs.declared.account_file.AccountFile.{AccountFile}
 use Rattle.argon2_store.specs.declared.error.FileError.{FileError}
@@ -28,29 +26,24 @@ use Rattle.argon2_store.proofs.TextLemmas.{are_texts, rows_of-once, step_texts}
 
 -- ---- events
 
-run_then : (terms : Terms) (first mid last : Store) (newer older : List AccountEvent) → RunFrom terms first older mid
-    → RunFrom terms mid newer last → RunFrom terms first (newer ++ older) last
-run_then terms first mid last [] older earlier later = subst (RunFrom terms first older) (sym later) earlier
+run_then : (terms : Terms) (first mid last : Store) (newer older : List AccountEvent) → AccountRun terms first older mid
+    → AccountRun terms mid newer last → AccountRun terms first (newer ++ older) last
+run_then terms first mid last [] older earlier later = subst (AccountRun terms first older) (sym later) earlier
 run_then terms first mid last (event ∷ newer) older earlier later =
     (later.0, run_then terms first mid later.0 newer older earlier later.1, later.2)
 
 pub run_texts : (terms : Terms) → AreTerms terms → (first last : Store) (events : List AccountEvent) → AreTexts first
-    → RunFrom terms first events last → AreTexts last
+    → AccountRun terms first events last → AreTexts last
 run_texts terms are first last [] good run = subst AreTexts (sym run) good
 run_texts terms are first last (event ∷ older) good run =
     step_texts terms are event run.0 last (run_texts terms are first run.0 older good run.1) run.2
 
-pub account_run : (terms : Terms) (events : List AccountEvent) (names : Store) → RunFrom terms empty events names
-    → AccountRun terms events names
-account_run terms [] names run = run
-account_run terms (event ∷ older) names run = (run.0, account_run terms older run.0 run.1, run.2)
-
 added_run : (terms : Terms) (es : List (List ℕ × List ℕ)) (before after : Store) → AddsAll before es after
-    → RunFrom terms before (added es) after
+    → AccountRun terms before (added es) after
 added_run terms [] before after adds = adds
 added_run terms (e ∷ es) before after (mid, step, adds) =
-    let one : RunFrom terms before (adding e.0 e.1 (Ok tt) ∷ []) mid = (before, refl, step) in
-    subst (λ events. RunFrom terms before events after)
+    let one : AccountRun terms before (adding e.0 e.1 (Ok tt) ∷ []) mid = (before, refl, step) in
+    subst (λ events. AccountRun terms before events after)
     (sym (reverse-append (adding e.0 e.1 (Ok tt) ∷ []) (map (λ e. adding e.0 e.1 (Ok tt)) es)))
     (run_then terms before mid after (added es) _ one (added_run terms es mid after adds))
 
@@ -62,9 +55,9 @@ module _ {S : Type 0} {g : Ghosts S}
   -- what these events made of it, and what a crash leaves: that, or some that come late too
   pub record Reached (events : List AccountEvent) (Late : List AccountEvent → Type 0) (file : AccountFile S g) : Type 0 where
     pub under : terms_of file ≡ terms
-    pub run : RunFrom terms (names_of first) events (names_of file)
+    pub run : AccountRun terms (names_of first) events (names_of file)
     pub left : IsHonest g (store_of file) → Leaves g (store_of file)
-        (λ left. (late : List AccountEvent) × Late late × RunFrom terms (names_of first) (late ++ events) left)
+        (λ left. (late : List AccountEvent) × Late late × AccountRun terms (names_of first) (late ++ events) left)
 
   module _ (calls : List FileCall) (old new : AccountFile S g)
       (before : Reached (flat_map events_of calls) (IsLate calls) old) where
@@ -86,20 +79,20 @@ module _ {S : Type 0} {g : Ghosts S}
     stays : (Late : List AccountEvent → Type 0) (Shut : Type 0) → terms_of new ≡ terms_of old → names_of new ≡ names_of old
         → (IsHonest g (store_of new) → IsHonest g (store_of old))
         → (IsHonest g (store_of new) → IsOpen g (store_of old) → Leaves g (store_of new)
-        (λ left. (left ≡ names_of old) ⊎ ((late : List AccountEvent) × Late late × RunFrom terms (names_of old) late left)))
+        (λ left. (left ≡ names_of old) ⊎ ((late : List AccountEvent) × Late late × AccountRun terms (names_of old) late left)))
         → (IsHonest g (store_of new) → IsClosed old
         → Shut × ((db : Trees) → g.recovers (store_of new) db → g.recovers (store_of old) db))
         → Reached events (Now Late Shut) new
     stays Late Shut same named honest crash closed = record {
       under = same ∙ before.under;
-      run = subst (RunFrom terms (names_of first) events) (sym named) before.run;
+      run = subst (AccountRun terms (names_of first) events) (sym named) before.run;
       left = λ clean. open_or_not
           (λ is_open db found.
           let (names, has, left) = crash clean is_open db found in (
             names,
             has,
             elim left [
-              | inl is ↦ ([], inl refl, subst (RunFrom terms (names_of first) events) (sym is) before.run)
+              | inl is ↦ ([], inl refl, subst (AccountRun terms (names_of first) events) (sym is) before.run)
               | inr more ↦ (
                 more.0,
                 inr (inl more.1),
@@ -115,7 +108,7 @@ module _ {S : Type 0} {g : Ghosts S}
 
     -- events that are in the file
     lasts : (Late : List AccountEvent → Type 0) (Shut : Type 0) (newer : List AccountEvent) → terms_of new ≡ terms_of old
-        → RunFrom terms (names_of old) newer (names_of new)
+        → AccountRun terms (names_of old) newer (names_of new)
         → (IsHonest g (store_of new) → Leaves g (store_of new) (λ left. left ≡ names_of new))
         → Reached (newer ++ events) (Now Late Shut) new
     lasts Late Shut newer same later left =
@@ -125,14 +118,14 @@ module _ {S : Type 0} {g : Ghosts S}
           run = run;
           left = λ clean db found.
               let (names, has, is) = left clean db found in
-              (names, has, ([], inl refl, subst (RunFrom terms (names_of first) (newer ++ events)) (sym is) run));
+              (names, has, ([], inl refl, subst (AccountRun terms (names_of first) (newer ++ events)) (sym is) run));
         }
 
     -- a call with an error of the file
     cut : {X : Type 0} {answers : Result X FileError → Store → Type 0} {May : Store → Type 0} {long : Type 0}
         (Late : List AccountEvent → Type 0) (e : FileError)
         → ((left : Store) → May left
-        → (left ≡ names_of old) ⊎ ((late : List AccountEvent) × Late late × RunFrom terms (names_of old) late left))
+        → (left ≡ names_of old) ⊎ ((late : List AccountEvent) × Late late × AccountRun terms (names_of old) late left))
         → Runs answers May long (Err e) old new
         → Reached events (Now Late (◌≡◌ {A = Result X FileError} (Err e) (Err Closed))) new
     cut Late e may does = stays Late _ does.terms does.unchanged does.honest
@@ -142,7 +135,7 @@ module _ {S : Type 0} {g : Ghosts S}
 
     late_call : {X : Type 0} (call : Call X) (left : Store) → IsBeforeOrAfter X (terms_of old) (names_of old) call left
         → (left ≡ names_of old) ⊎ ((late : List AccountEvent) × ((x : X) × (late ≡ call (Ok x) ∷ []))
-        × RunFrom terms (names_of old) late left)
+        × AccountRun terms (names_of old) late left)
     late_call call left (inl is) = inl is
     late_call call left (inr (x, step)) = inr (
       call (Ok x) ∷ [],
@@ -151,7 +144,7 @@ module _ {S : Type 0} {g : Ghosts S}
     )
 
     late_names : (es : List (List ℕ × List ℕ)) (left : Store) → (left ≡ names_of old) ⊎ AddsAll (names_of old) es left
-        → (left ≡ names_of old) ⊎ ((late : List AccountEvent) × (late ≡ added es) × RunFrom terms (names_of old) late left)
+        → (left ≡ names_of old) ⊎ ((late : List AccountEvent) × (late ≡ added es) × AccountRun terms (names_of old) late left)
     late_names es left (inl is) = inl is
     late_names es left (inr adds) = inr (added es, refl, added_run terms es (names_of old) left adds)
 
@@ -227,16 +220,16 @@ ends_run {D} g stay last terms first calls left ready did clean may next holds =
     let texts = run_texts terms ready.sound (names_of first) names (late.0 ++ flat_map events_of calls)
     (are_texts first.table.names) late.2 in
     let same = rows_of-once names next texts holds.0 (sym held.0 ∙ found.2.0) in
-    (late.0, late.1, subst (RunFrom terms (names_of first) (late.0 ++ flat_map events_of calls)) same late.2))
+    (late.0, late.1, subst (AccountRun terms (names_of first) (late.0 ++ flat_map events_of calls)) same late.2))
 
 pub runs_join : (terms : Terms) (first : Store) (runs : List Run) (names : Store) → IsFoundAfter terms first runs names
-    → ∥ ((events : List AccountEvent) × AreEventsOf runs events × RunFrom terms first events names) ∥₁
+    → ∥ ((events : List AccountEvent) × AreEventsOf runs events × AccountRun terms first events names) ∥₁
 runs_join terms first [] names is = ∣ ([], refl, is) ∣₁
 runs_join terms first (run ∷ older) names (earlier, leaves, holds) =
     ∥∥₁_elim (runs_join terms first older run.found earlier) squash₁ (λ before. ∥∥₁_map (leaves names holds) (λ now.
     let own = flat_map events_of run.calls in (
       now.0 ++ (own ++ before.0),
       (now.0, before.0, now.1, before.1, refl),
-      subst (λ events. RunFrom terms first events names) (append_assoc now.0 own before.0)
+      subst (λ events. AccountRun terms first events names) (append_assoc now.0 own before.0)
           (run_then terms first run.found names (now.0 ++ own) before.0 before.2 now.2),
     )))

@@ -7,8 +7,7 @@ use Rattle.sqlite_store.specs.FileStore.{IsStep, NamesFault, blamed, faults, is_
 use Rattle.sqlite_store.specs.declared.store.FileStore.{FileStore}
 use Rattle.sqlite_trees.specs.declared.store.Store.{Ghosts}
 use Rattle.sqlite_wal.specs.Recovery.{Image}
-use Rattle.argon2.specs.AccountRuns.{HasGiven, given}
-use Rattle.argon2.specs.Accounts.{AccountEvent, AccountStep, AreTerms, Terms, adding}
+use Rattle.argon2.specs.Accounts.{AccountEvent, AccountRun, AreTerms, HasGiven, Terms, adding, given}
 use Rattle.argon2.specs.Login.{Store}
 use Rattle.argon2.specs.Runs.{newest}
 use Rattle.argon2.specs.declared.login.answers.Accepted.{Accepted}
@@ -72,12 +71,6 @@ abbrev pub IsLate : List FileCall → List AccountEvent → Type 0
 IsLate [] late = late ≡ []
 IsLate (call ∷ older) late = (late ≡ []) ⊎ (IsLateOf call late ⊎ (IsShutOut call × IsLate older late))
 
--- the names are what these events made of the first ones
-abbrev pub RunFrom : Terms → Store → List AccountEvent → Store → Type 0
-RunFrom terms first [] names = names ≡ first
-RunFrom terms first (event ∷ older) names =
-    (before : Store) × RunFrom terms first older before × AccountStep terms before event names
-
 -- ---- one run
 
 module _ {S : Type 0} {g : Ghosts S} where
@@ -103,7 +96,7 @@ pub record Run : Type 0 where
 abbrev pub IsFound : Terms → Run → Type 0
 IsFound terms run = (names : Store) → HoldsNames run.left names
     → ∥ ((late : List AccountEvent) × IsLate run.calls late
-    × RunFrom terms run.found (late ++ flat_map events_of run.calls) names) ∥₁
+    × AccountRun terms run.found (late ++ flat_map events_of run.calls) names) ∥₁
 
 abbrev pub over_file : {D : Type 0} {g : disk.Ghosts D} → Ghosts (FileStore D g)
 over_file = record {
@@ -139,7 +132,7 @@ AreEventsOf (run ∷ older) events = (late earlier : List AccountEvent) × IsLat
 -- The names that an open finds after runs are what their events made of the first ones.
 abbrev pub NamesAreRun : Type 0
 NamesAreRun = (terms : Terms) (first : Store) (runs : List Run) (names : Store) → IsFoundAfter terms first runs names
-    → ∥ ((events : List AccountEvent) × AreEventsOf runs events × RunFrom terms first events names) ∥₁
+    → ∥ ((events : List AccountEvent) × AreEventsOf runs events × AccountRun terms first events names) ∥₁
 
 -- Where these were none, each name has what the last of its accepted calls gave it, and no text where there was none.
 abbrev pub TextsAreKept : Type 0

@@ -1,6 +1,6 @@
 //! What holds of accounts after every list of calls.
 
-ghost use Rattle.argon2.specs.AccountRuns.{TextsAreGiven};
+ghost use Rattle.argon2.specs.Accounts.{TextsAreGiven};
 
 /// After every list of calls on new accounts: exactly the names that were added or registered, and
 /// not removed since, have a text. It is the text that was added; or it asks for no more than the

@@ -1,6 +1,6 @@
 use Rattle.std.proofs.Math.Logic.{∥∥₁_map}
 use Rattle.std.specs.FinMap.{empty}
-use Rattle.argon2_store.proofs.RunLemmas.{account_run, runs_join}
+use Rattle.argon2_store.proofs.RunLemmas.{runs_join}
 use Rattle.argon2_store.proofs.runs.account_file_runs.Goals as goal
 
 pub returns-clause-events : goal.returns-clause-events
@@ -8,4 +8,4 @@ returns-clause-events c = runs_join
 
 pub returns-clause-texts : goal.returns-clause-texts
 returns-clause-texts c terms are runs names after = ∥∥₁_map (runs_join terms empty runs names after)
-    (λ (events, of, run). (events, of, c.account_runs.ensures terms are events names (account_run terms events names run)))
+    (λ (events, of, run). (events, of, c.account_runs.ensures terms are events names run))

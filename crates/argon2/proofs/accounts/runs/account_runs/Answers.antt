@@ -3,14 +3,13 @@ use Rattle.std.proofs.Common.{◌≡◌, ◌≢◌, ℕ, List, [], ◌∷◌, Op
 use Rattle.std.proofs.lemmas.Bool.{cases_Bool}
 use Rattle.std.proofs.lemmas.Slice.Eq.{bytes_eq-Decides}
 use Rattle.std.specs.Cmp.Lexicographic.{slice_cmp}
-use Rattle.std.specs.FinMap.{get, get-empty}
+use Rattle.std.specs.FinMap.{empty, get, get-empty}
 use Rattle.std.specs.Option.{option_or}
 use Rattle.std.specs.Ordering.{nat_cmp}
 use Rattle.std.specs.Str.{bytes_eq}
 use Rattle.argon2_base.specs.PhcText.{Phc}
 use Rattle.argon2.specs.declared.accounts.error.AccountError.{AccountError}
-use Rattle.argon2.specs.AccountRuns.{AccountRun, Given, HasGiven, given, gives, password}
-use Rattle.argon2.specs.Accounts.{AccountAnswer, AccountEvent, Admits, AreTerms, Changes, LogsIn, OnValue, Sets, Terms, adding, changing, logging_in, name_of, registering, removing, setting}
+use Rattle.argon2.specs.Accounts.{AccountAnswer, AccountEvent, AccountRun, Admits, AreTerms, Changes, Given, HasGiven, LogsIn, OnValue, Sets, Terms, a_password, adding, changing, given, gives, logging_in, name_of, registering, removing, setting}
 use Rattle.argon2.specs.Login.{Store}
 use Rattle.argon2.specs.Runs.{newest}
 use Rattle.argon2.proofs.AccountLemmas.{fresh_admits, leaves_admits}
@@ -28,7 +27,7 @@ module _ (terms : Terms) (are : AreTerms terms) where
   -- an accepted one leaves a value with its password
   chosen : {X : Type 0} (changes : Phc → Result X AccountError → Phc → Type 0) (x : X) (last : List ℕ)
       (o p : Option Phc) → ((v w : Phc) → changes v (Ok x) w → Admits terms last w) → OnValue changes o (Ok x) p
-      → HasGiven terms (Some (password last)) p
+      → HasGiven terms (Some (a_password last)) p
   chosen changes x last (Some v) (Some w) admits step = admits v w step
   chosen changes x last (Some v) None admits step = absurd step
   chosen changes x last None p admits step = let never = step.0 in absurd cc
@@ -57,7 +56,7 @@ module _ (terms : Terms) (are : AreTerms terms) where
   call_gives (removing name (Ok x)) older o p step has = rw step.1 tt
   call_gives (removing name (Err e)) older o p step has = rw step.2 (rw step.1 at has)
 
-  has_given : (events : List AccountEvent) (store : Store) → AccountRun terms events store →
+  has_given : (events : List AccountEvent) (store : Store) → AccountRun terms empty events store →
       (name : List ℕ) → HasGiven terms (newest (given name) events) (get store name)
   has_given [] store run name = rw (run, get-empty (slice_cmp nat_cmp) name) tt
   has_given (event ∷ older) store run name = elim (cases_Bool (bytes_eq name (name_of event))) [
