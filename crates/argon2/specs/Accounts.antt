@@ -1,6 +1,6 @@
 -- Accounts: what callers see of a policy and of accounts, what each call does to its name's value, and what is true after
 -- every list of calls.
-use Rattle.std.specs.Prelude.{◌≡◌, ◌⊎◌, ℕ, ◌≤◌, ◌<◌, List, [], ◌∷◌, if◌then◌else◌, Option, Some, None, IsSome, IsSomeAnd, IsOk, IsErr, Result, Ok, Err, codes}
+use Rattle.std.specs.Prelude.{◌≡◌, ◌⊎◌, ℕ, ◌≤◌, ◌<◌, List, [], ◌∷◌, if◌then◌else◌, Option, Some, None, IsSome, IsSomeAnd, IsOk, IsErrAnd, Result, Ok, Err, codes}
 use Rattle.std.specs.FinMap.{empty, get}
 use Rattle.std.specs.Str.{bytes_eq}
 use Rattle.rand_core.specs.Stream.{Stream, fill_bytes}
@@ -237,10 +237,13 @@ stream_after_making (Err NameTaken) stream = stream
 stream_after_making (Err NameUnknown) stream = stream
 stream_after_making _ stream = (fill_bytes 16 stream).1
 
--- after a change: 16 bytes are drawn once the old password is accepted
-abbrev pub DrawsOnce : {E : Type 0} → Type 0 → Result (Unit {0}) E → Stream → Stream → Type 0
-DrawsOnce accepted answer old new =
-    (accepted × (new ≡ (fill_bytes 16 old).1)) ⊎ (IsErr answer × (new ≡ old))
+-- after a change of this value or none: 16 bytes are drawn once the old password is accepted, and nothing where it is denied
+abbrev pub DrawsOnce :
+    Terms → List ℕ → Option Phc → Result (Unit {0}) AccountError → Stream → Stream → Type 0
+DrawsOnce terms password None answer old new = new ≡ old
+DrawsOnce terms password (Some v) answer old new =
+    (Admits terms password v × (new ≡ (fill_bytes 16 old).1))
+    ⊎ (IsErrAnd answer (Denial terms password v) × (new ≡ old))
 
 -- ---- texts
 

@@ -145,7 +145,8 @@ impl<'key> Accounts<'key> {
     }
 
     /// Gives a name a text of a new password where its text accepts the old one, as
-    /// [`Policy::change_password`] does.
+    /// [`Policy::change_password`] does. 16 bytes are drawn from `rng` once the old password is accepted,
+    /// and else nothing is.
     ///
     /// # Errors
     /// The first of these that holds; the accounts are then as before:
@@ -162,9 +163,8 @@ impl<'key> Accounts<'key> {
             (fill_bytes 16 (R.stream rng.old)).0 result) self.old self.new }
         ensures accepted { OnOk result
             (HasPassword (kept_terms self.new) (store_of self.new) name.now new.now) }
-        ensures drawn { DrawsOnce
-            (HasPassword (kept_terms self.old) (store_of self.old) name.now old.now) result
-            (R.stream rng.old) (R.stream rng.new) }
+        ensures drawn { DrawsOnce (kept_terms self.old) old.now
+            (get (store_of self.old) name.now) result (R.stream rng.old) (R.stream rng.new) }
         ensures terms { kept_terms self.new ≡ kept_terms self.old }
     {
         let Some(text) = self.texts.get_mut(name) else {

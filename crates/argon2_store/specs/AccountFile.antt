@@ -1,13 +1,14 @@
 -- What callers see of accounts in a file, and what each call does.
-use Rattle.std.specs.Prelude.{◌≡◌, ◌⊎◌, ℕ, List, false, Any, Result, Ok, Err, IsErr, IfErr, OnOk, OnErr, ⊤}
+use Rattle.std.specs.Prelude.{◌≡◌, ◌⊎◌, ℕ, List, false, Any, Option, IsSomeAnd, Result, Ok, Err, IsErr, IfErr, OnOk, OnErr, ⊤}
 use Rattle.rand_core.specs.Stream.{Stream, fill_bytes}
 use Rattle.sqlite_disk.specs.Disk.{MoreFaults}
 use Rattle.sqlite_trees.specs.declared.error.StoreError.{StoreError}
 use Rattle.sqlite_trees.specs.Tree.{Trees}
 use Rattle.sqlite_trees.specs.declared.store.Store.{Ghosts}
 use Rattle.sqlite_wal.specs.Recovery.{Image}
+use Rattle.argon2_base.specs.PhcText.{Phc}
 use Rattle.argon2.specs.Accounts as kept
-use Rattle.argon2.specs.Accounts.{AccountEvent, AccountStep, AreTerms, PolicyRefusal, Terms, name_of}
+use Rattle.argon2.specs.Accounts.{AccountEvent, AccountStep, Admits, AreTerms, PolicyRefusal, Terms, name_of}
 use Rattle.argon2.specs.Login.{Store}
 use Rattle.argon2.specs.declared.accounts.error.AccountError.{AccountError}
 use Rattle.argon2.specs.declared.accounts.error.AccountError.TheVariants.{NameTaken, NameUnknown}
@@ -170,3 +171,10 @@ stream_after_login (Ok Current) stream = stream
 stream_after_login (Err (Account e)) stream = stream
 stream_after_login (Err Closed) stream = stream
 stream_after_login _ stream = (fill_bytes 16 stream).1
+
+-- after a change: as for accounts, but nothing where the file is closed, and 16 bytes also where the fresh text is not written
+abbrev pub DrawsOnce : Terms → List ℕ → Option Phc → Result (Unit {0}) FileError → Stream → Stream → Type 0
+DrawsOnce terms password before (Err Closed) old new = new ≡ old
+DrawsOnce terms password before (Err (Account e)) old new = kept.DrawsOnce terms password before (Err e) old new
+DrawsOnce terms password before answer old new =
+    IsSomeAnd before (Admits terms password) × (new ≡ (fill_bytes 16 old).1)

@@ -5,7 +5,7 @@ ghost use Rattle.std.specs.FinMap.{entries, get};
 ghost use Rattle.std.specs.Option.{option_copied, option_map};
 ghost use Rattle.rand_core.specs.Stream.{fill_bytes};
 ghost use Rattle.argon2_base.specs.PhcFields.{phc_of};
-ghost use Rattle.argon2.specs.Accounts.{DrawsOnce, HasPassword, adding, changing, logging_in, registering, removing, setting};
+ghost use Rattle.argon2.specs.Accounts.{HasPassword, adding, changing, logging_in, registering, removing, setting};
 ghost use Rattle.argon2.specs.Login.{named_values};
 ghost use Rattle.argon2.specs.Made.{target_of};
 ghost use Rattle.argon2_store.specs.Adding.{entry_of};
@@ -65,7 +65,7 @@ fn written<X: Copy>(done: Result<(), StoreError>, answer: X) -> Result<X, FileEr
 }
 
 impl<'key, S: Store> AccountFile<'key, S> {
-    ghost use Rattle.argon2_store.specs.AccountFile.{AddsOrNone, IsClosed, IsRefusal, Serves, names_of, store_of, stream_after_login, stream_after_making, terms_of, unindexed};
+    ghost use Rattle.argon2_store.specs.AccountFile.{AddsOrNone, DrawsOnce, IsClosed, IsRefusal, Serves, names_of, store_of, stream_after_login, stream_after_making, terms_of, unindexed};
     ghost use Rattle.argon2_store.specs.Table.{IsHonest};
 
     /// Gives a new name a text, which may ask for more than the bound.
@@ -186,7 +186,8 @@ impl<'key, S: Store> AccountFile<'key, S> {
     }
 
     /// Gives a name a text of a new password where its text accepts the old one, as
-    /// [`Policy::change_password`].
+    /// [`Policy::change_password`]. 16 bytes are drawn from `rng` once the old password is accepted,
+    /// also where the new text can't be written. Else nothing is drawn, as where the file is closed.
     ///
     /// # Errors
     /// The first of these that holds:
@@ -206,9 +207,8 @@ impl<'key, S: Store> AccountFile<'key, S> {
             result self.old self.new }
         ensures accepted { OnOk result
             (HasPassword (terms_of self.new) (names_of self.new) name.now new.now) }
-        ensures drawn { DrawsOnce
-            (HasPassword (terms_of self.old) (names_of self.old) name.now old.now)
-            result (R.stream rng.old) (R.stream rng.new) }
+        ensures drawn { DrawsOnce (terms_of self.old) old.now
+            (get (names_of self.old) name.now) result (R.stream rng.old) (R.stream rng.new) }
     {
         if self.is_closed() {
             return Err(FileError::Closed);

@@ -24,7 +24,7 @@ pub struct Policy<'key> {
 }
 
 impl<'key> Policy<'key> {
-    ghost use Rattle.std.specs.Prelude.{◌≡◌, ◌≢◌, ◌⊎◌, ◌↔◌, Ok, Err, IsTrue, IfOk, OnOk, MatchResult};
+    ghost use Rattle.std.specs.Prelude.{◌≡◌, ◌≢◌, ◌⊎◌, ◌↔◌, Some, Ok, Err, IsTrue, IfOk, OnOk, MatchResult};
     ghost use Rattle.rand_core.specs.Stream.{fill_bytes};
     ghost use Rattle.argon2_base.specs.PhcFields.{phc_of};
     ghost use Rattle.argon2_base.specs.declared.error.password_hash.Error.TheVariants.{OutOfMemory};
@@ -141,7 +141,7 @@ impl<'key> Policy<'key> {
         ensures accepted { OnOk result (Admits (terms_of self.now) new.now (phc_of text.new)) }
         ensures expensive { IsAbove (terms_of self.now).bound (phc_of text.old)
             → result ≡ Err TooExpensive }
-        ensures drawn { DrawsOnce (Admits (terms_of self.now) old.now (phc_of text.old)) result
+        ensures drawn { DrawsOnce (terms_of self.now) old.now (Some (phc_of text.old)) result
             (R.stream rng.old) (R.stream rng.new) }
     {
         self.verify(text, old)?;

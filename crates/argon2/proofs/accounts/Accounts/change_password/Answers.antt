@@ -18,6 +18,10 @@ returns-in_default-clause-step g c = (
   λ other differs. ap (λ m. get (values_of m) other) c.get_mut.follows.holds-at-none,
 )
 
+pub returns-in_default-clause-drawn : goal.returns-in_default-clause-drawn
+returns-in_default-clause-drawn g c =
+    rw (get-found c.args.self.now.texts c.args.name.now None (sym c.in_default.ensures.value)) refl
+
 pub returns : goal.returns
 returns g c =
     let before = c.args.self.now.texts in

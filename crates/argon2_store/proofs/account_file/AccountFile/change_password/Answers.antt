@@ -1,11 +1,21 @@
-use Rattle.std.proofs.Common.{ap, refl, sym, ◌∙◌, Some}
-use Rattle.rand_core.specs.Stream.{fill_bytes}
+use Rattle.std.proofs.Common.{rules, ℕ, List, Some, Result, Ok, ap, refl, sym, ◌∙◌}
+use Rattle.rand_core.specs.Stream.{Stream, fill_bytes}
+use Rattle.sqlite_trees.specs.declared.error.StoreError.{StoreError}
 use Rattle.argon2_base.specs.PhcFields.{phc_of}
-use Rattle.argon2.specs.Accounts.{changing}
+use Rattle.argon2_base.specs.PhcText.{Phc}
+use Rattle.argon2.specs.Accounts as kept
+use Rattle.argon2.specs.Accounts.{Terms, changing}
 use Rattle.argon2.specs.declared.accounts.error.AccountError.TheVariants.{NameUnknown}
-use Rattle.argon2_store.specs.AccountFile.{names_of, terms_of}
+use Rattle.argon2_store.specs.AccountFile.{DrawsOnce, names_of, terms_of}
+use Rattle.argon2_store.specs.Errors.{answered}
 use Rattle.argon2_store.proofs.FileLemmas.{has_written, refuses, writes}
 use Rattle.argon2_store.proofs.account_file.AccountFile.change_password.Goals as goal
+
+-- an accepted change draws, whether it is written or not
+drawn_written : (terms : Terms) (password : List ℕ) (v : Phc) (old new : Stream)
+    → kept.DrawsOnce terms password (Some v) (Ok tt) old new → (done : Result (Unit {0}) StoreError)
+    → DrawsOnce terms password (Some v) (answered done tt) old new
+drawn_written terms password v old new drawn done = search rules
 
 pub returns-in_default-clause-call : goal.returns-in_default-clause-call
 returns-in_default-clause-call g c =
@@ -35,3 +45,7 @@ pub returns-clause-accepted : goal.returns-clause-accepted
 returns-clause-accepted g c =
     has_written (terms_of c.args.self.now) (names_of c.args.self.now) _ c.args.name.now c.args.new.now
     (phc_of c.change_password.new.text) tt _ c.replace.ensures.names c.in_ok-change_password.ensures.accepted _ c.written.ensures
+
+pub returns-clause-drawn : goal.returns-clause-drawn
+returns-clause-drawn g c = rw (← c.in-Some.ensures, ← c.copy_of-text.ensures, c.written.ensures)
+    (drawn_written (terms_of c.args.self.now) c.args.old.now _ _ _ c.in_ok-change_password.ensures.drawn c.replace.result)
