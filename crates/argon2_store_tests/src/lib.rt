@@ -1,7 +1,5 @@
-//! The tests of `argon2_store`, on real files and by its public calls.
+//! The calls of an account file that `argon2-passwd` does not make, on a real file. `ci/passwd` tries the others.
 #![tactic(auto)]
 
-#[cfg(test)]
-mod calls;
 #[cfg(test)]
 mod tests;
