@@ -15,6 +15,7 @@ fn accepts_what_asks_for_no_more(rt: HostRuntime) -> Result<(), Fail> {
         (255, 2, 2, "password", Err(BoundError::TooExpensive)),
         (256, 1, 2, "password", Err(BoundError::TooExpensive)),
         (256, 2, 1, "password", Err(BoundError::TooExpensive)),
+        (255, 2, 2, "sassword", Err(BoundError::TooExpensive)),
         (
             256,
             2,

@@ -93,6 +93,7 @@ fn orders_key_identifiers(rt: HostRuntime) -> Result<(), Fail> {
     let zero = KeyId::new(&[0])?;
     assert!(rt; KeyId::default() < zero);
     assert!(rt; zero < KeyId::new(&[0, 0])?);
+    assert!(rt; KeyId::new(&[0, 0])? < KeyId::new(&[1])?);
     assert!(rt; !zero.is_empty());
     Ok(())
 }

@@ -3,14 +3,12 @@ use argon2::password_hash::{
 };
 use argon2::{Algorithm, Argon2, AssociatedData, KeyId, Params, ParamsBuilder, Version};
 use argon2_base::phc::PasswordHash;
-use rand_core::Rng;
+use rand_chacha::ChaCha20Rng;
+use rand_core::{Rng, SeedableRng};
 use std::alloc::Global;
 use std::test::Fail;
 
-mod counting_rng;
 mod stored;
-
-use counting_rng::CountingRng;
 
 // Verifies by a context of other settings and no secret.
 fn verify(alloc: Global, password: &str, text: &str) -> Result<()> {
@@ -135,17 +133,18 @@ fn hashes_to_a_text_with_all_settings_asked_for(rt: HostRuntime) -> std::result:
     Ok(())
 }
 
-// The fault of hashing to this many bytes with a drawn salt; where there is none, whether the text has the salt.
+// The fault of hashing to this many bytes with a drawn salt; where there is none, whether the text has the first 16 bytes
+// that ChaCha20 gives for a key, a nonce and a counter of zeros (RFC 8439, appendix A.1), as the generator of a zero seed.
 fn drawn(
     alloc: Global,
-    rng: &mut CountingRng,
+    rng: &mut ChaCha20Rng,
     len: usize,
 ) -> std::result::Result<Result<bool>, Fail> {
     let context = Argon2::from(Params::new(8, 1, 1, Some(len))?);
     match context.hash_password(alloc, rng, b"password") {
         Ok(hash) => {
             let text = hash.to_string(alloc)?;
-            Ok(Ok(text.as_str().contains("$AAECAwQFBgcICQoLDA0ODw$")))
+            Ok(Ok(text.as_str().contains("$drjgraDxPZBAXWrlU4a9KA$")))
         }
         Err(error) => Ok(Err(error)),
     }
@@ -153,12 +152,12 @@ fn drawn(
 
 #[test]
 fn draws_a_salt_also_for_a_refusal(rt: HostRuntime) -> std::result::Result<(), Fail> {
-    let mut rng = CountingRng::new();
+    let mut rng = ChaCha20Rng::from_seed([0; 32]);
     assert!(rt; drawn(rt.alloc(), &mut rng, 32)? == Ok(true));
-    assert!(rt; rng.next_u32() == 0x13121110);
-    let mut rng = CountingRng::new();
+    assert!(rt; rng.next_u32() == 0xb819d2bd);
+    let mut rng = ChaCha20Rng::from_seed([0; 32]);
     assert!(rt; drawn(rt.alloc(), &mut rng, 65)? == Err(Error::OutputSize));
-    assert!(rt; rng.next_u32() == 0x13121110);
+    assert!(rt; rng.next_u32() == 0xb819d2bd);
     Ok(())
 }
 
@@ -275,12 +274,17 @@ fn accepts_one_password_with_data(rt: HostRuntime) {
     assert!(rt; answers(rt.alloc(), TEXT_OF_ALL) == ACCEPTED);
 }
 
+// Also one that differs in its first or its last byte alone.
 #[test]
 fn refuses_another_hash(rt: HostRuntime) {
-    let text = "$argon2i$v=19$m=65536,t=2,p=1$c29tZXNhbHQ$\
-        8iIuixkI73Js3G1uMbezQXD0b8LG4SXGsOwoQkdAQIM";
-    let answer = verify(rt.alloc(), "password", text);
-    assert!(rt; answer == Err(Error::PasswordInvalid));
+    for text in [
+        "$argon2i$v=19$m=65536,t=2,p=1$c29tZXNhbHQ$8iIuixkI73Js3G1uMbezQXD0b8LG4SXGsOwoQkdAQIM",
+        "$argon2id$v=19$m=256,t=2,p=2$c29tZXNhbHQ$cQk8UB/VmZZF4Oo79iDXuL5/0ttZwg2f/5U52iv1cDc",
+        "$argon2id$v=19$m=256,t=2,p=2$c29tZXNhbHQ$bQk8UB/VmZZF4Oo79iDXuL5/0ttZwg2f/5U52iv1cDg",
+    ] {
+        let answer = verify(rt.alloc(), "password", text);
+        assert!(rt; answer == Err(Error::PasswordInvalid), "{text}");
+    }
 }
 
 // Without a version it is 0x10.

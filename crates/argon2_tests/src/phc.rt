@@ -172,6 +172,7 @@ fn made_of_an_identifier(rt: HostRuntime) {
     };
     assert!(rt; bare.text().as_str() == "$argon2d");
     assert!(rt; PasswordHash::new(TEXT) != Ok(bare));
+    assert!(rt; PasswordHash::new("$argon2d$v=16") != PasswordHash::new("$argon2d$v=19"));
 }
 
 #[test]
@@ -259,7 +260,9 @@ fn lists_refuse_names(rt: HostRuntime) -> Result<(), Fail> {
     let mut list = ParamsString::new();
     list.add_decimal("m", 8)?;
     assert!(rt; list.add_decimal("m", 8) == Err(Error::ParamsInvalid));
-    assert!(rt; list.as_str() == "m=8");
+    assert!(rt; list.add_b64_bytes("x", &[0; 48]) == Ok(()));
+    assert!(rt; list.add_b64_bytes("y", &[0; 48]) == Err(Error::ParamsInvalid));
+    assert!(rt; list.as_str().len() == 70);
     Ok(())
 }
 

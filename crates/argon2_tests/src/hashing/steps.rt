@@ -5,21 +5,20 @@ use super::{PWD, SALT, are_ones, known, ones, words};
 use argon2::{Algorithm, Argon2, Block, Error, Version};
 use std::test::Fail;
 
-// A step, where its conditions hold.
-fn step(
+// The place that a step refers to, where its conditions hold.
+pub fn step(
     argon2: &Argon2<'_>,
     memory: &mut [Block],
     pass: u32,
     lane: u32,
     column: u32,
-) -> Result<(), Fail> {
+) -> Result<u32, Fail> {
     let params = argon2.params();
     let in_range = pass < params.t_cost()
         && lane < params.p_cost()
         && column < params.lane_length();
     if in_range && (pass > 0 || column >= 2) && params.block_count() <= memory.len() {
-        argon2.step_block(memory, pass, lane, column);
-        return Ok(());
+        return Ok(argon2.step_block(memory, pass, lane, column));
     }
     Err("no such step".into())
 }
@@ -66,10 +65,10 @@ const ORDERS: [[[u32; 8]; 4]; 3] = [
     ],
 ];
 
-// The tag of a row, where lanes take turns in these orders.
+// The tag of a row, where lanes take turns in these orders. The memory has a block more than are filled.
 fn tag_by_turns(row: &KnownTag, slices: &[[u32; 8]; 4]) -> Result<[u64; 4], Fail> {
     let argon2 = known(row.algorithm, row.version)?;
-    let mut memory = [Block::new(); 32];
+    let mut memory = [ones(); 33];
     argon2.begin_fill(&PWD, &SALT, 32, &mut memory)?;
     for step in 1..12u32 {
         let slice = step % 4;

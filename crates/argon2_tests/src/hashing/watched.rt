@@ -6,6 +6,7 @@ ghost use Rattle.argon2.specs.Argon2.{context_of};
 ghost use Rattle.argon2.specs.Rfc9106.{block_count};
 
 use super::known_tags::KNOWN_TAGS;
+use super::steps::step;
 use super::{PWD, SALT, are_ones, known, ones, words};
 use argon2::{Algorithm, Argon2, Block, Error, ParamsBuilder, Version};
 use std::alloc::Global;
@@ -200,12 +201,31 @@ fn are_places(places: &[u32], row: &Places) -> bool {
     expected.next().is_none()
 }
 
-// Whether a pass shows the places of a row.
+// The same places as single steps answer them, column by column.
+fn stepped_places(argon2: &Argon2<'_>, places: &mut [u32]) -> Result<(), Fail> {
+    let mut memory = [ones(); 24];
+    argon2.begin_fill(b"password", b"somesalt", 32, &mut memory)?;
+    let columns = argon2.params().lane_length();
+    for column in 2..columns {
+        for lane in 0..argon2.params().p_cost() {
+            let at = lane.wrapping_mul(columns).wrapping_add(column) as usize;
+            match places.get_mut(at) {
+                Some(place) => *place = step(argon2, &mut memory, 0, lane, column)?,
+                None => return Err("no such place".into()),
+            }
+        }
+    }
+    Ok(())
+}
+
+// Whether a pass shows the places of a row, at once and by single steps.
 fn shows_places(alloc: Global, row: &Places) -> Result<bool, Fail> {
     let mut builder = ParamsBuilder::new();
     builder.m_cost(row.m_cost).t_cost(1).p_cost(row.p_cost);
     let argon2 = builder.context(row.algorithm, row.version)?;
     let mut places = Vec::from_elem(alloc, u32::MAX, place_count(&argon2)?)?;
+    let mut stepped = Vec::from_elem(alloc, u32::MAX, places.len())?;
+    stepped_places(&argon2, stepped.as_mut_slice())?;
     let mut memory = [Block::new(); 24];
     argon2.hash_password_into_watched(
         b"password",
@@ -214,7 +234,7 @@ fn shows_places(alloc: Global, row: &Places) -> Result<bool, Fail> {
         &mut memory,
         places.as_mut_slice(),
     )?;
-    Ok(are_places(&places, row))
+    Ok(are_places(&places, row) && are_places(&stepped, row))
 }
 
 #[test]

@@ -1,6 +1,6 @@
-use super::{lock, open, seal};
+use super::{Header, lock, open, seal};
 use argon2::phc::Salt;
-use argon2::{Algorithm, Argon2, Params, Version};
+use argon2::{Algorithm, Argon2, Params, PasswordHash, Version};
 use std::test::Fail;
 
 // Under a secret; with costs that an independent model can afford.
@@ -33,6 +33,13 @@ fn opens_with_its_passphrase_and_secret_alone(rt: HostRuntime) -> Result<(), Fai
         let opened = open(&argon2, alloc, passphrase.as_bytes(), &header)?;
         assert_eq!(rt; opened, expected, "{secret} {passphrase}");
     }
+    // a tag that differs in its last byte alone
+    let text = "$argon2id$c29tZXNhbHQ$KTOfaoHe+66FxYtZE/6Uvp+QIdadSXN4LQW0S43amJE";
+    let Some(tag) = PasswordHash::new(text)?.hash else {
+        return Err("no tag".into());
+    };
+    let other = Header { tag, ..header };
+    assert_eq!(rt; open(&argon2, alloc, b"passphrase", &other)?, None);
     Ok(())
 }
 
