@@ -102,7 +102,7 @@ struct lent {
 /* What this thread lends to the crate's call that it is in. No callback runs during such a call. */
 static _Thread_local struct lent lent;
 
-/* Lends from now on, and returns what was lent before. */
+/* Lends `next` from now on, and returns the memory that was lent before. */
 static struct lent lend(struct lent next) {
     const struct lent before = lent;
     lent = next;

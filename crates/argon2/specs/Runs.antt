@@ -41,7 +41,7 @@ IsFrom target (Some (text added)) (Some v) = PhcText added v
 IsFrom target (Some (password given drawn)) (Some v) = v ≡ made target given drawn
 IsFrom target _ _ = ⊥
 
--- Just the names that were added have a text. It is the one that was added, or after a login that
+-- Exactly the names that were added have a text. It is the one that was added, or after a login that
 -- renewed it the one made at the last such login.
 abbrev pub TextsAreAddedOrMade : Type 0
 TextsAreAddedOrMade = (target : Target) → IsTarget target →

@@ -122,7 +122,7 @@ more_later old mid new more le = omega (arith, more, le)
 pub more_earlier : (old mid new : ℕ) → old ≤ mid → MoreFaults mid new → MoreFaults old new
 more_earlier old mid new le more = omega (arith, le, more)
 
--- a cause that holds of less holds of more
+-- a cause by weaker conditions
 pub cause_map : (old new : View) (P Q R U : Type 0) → (IsTrue old.is_broken → IsTrue new.is_broken) → (P → Q) → (R → U)
     → (e : StoreError) → HasCause old P R e → HasCause new Q U e
 cause_map old new P Q R U b f h OutOfMemory cause = tt

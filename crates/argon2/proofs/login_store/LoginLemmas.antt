@@ -50,10 +50,10 @@ pub refused_text : {P : Type 0} (e : Error) → (e ≡ OutOfMemory) ⊎ (P → �
 refused_text e (inl memory) = inl (ap Refused memory)
 refused_text e (inr never) = inr never
 
--- where a test fails, what it decides does not hold
-pub untold : {P : Type 0} (b : Bool) → b ≡ false → (P → b ≡ true) → ¬ P
-untold true fails tells holds = absurd cc
-untold false fails tells holds = let told = tells holds in absurd cc
+-- where a test fails, what it decides is not so
+pub false_refutes : {P : Type 0} (b : Bool) → b ≡ false → (P → b ≡ true) → ¬ P
+false_refutes true fails decides is = absurd cc
+false_refutes false fails decides is = let passes = decides is in absurd cc
 
 checked_ok : (f : Option Fault) (v w : Phc) → Ok v ≡ checked f (Ok w) → v ≡ w
 checked_ok None v w e = cc

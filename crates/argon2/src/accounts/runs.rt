@@ -1,4 +1,4 @@
-//! What holds of accounts after every list of calls.
+//! What is true of accounts after every list of calls.
 
 ghost use Rattle.argon2.specs.Accounts.{TextsAreGiven};
 

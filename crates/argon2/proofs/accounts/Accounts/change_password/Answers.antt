@@ -35,7 +35,8 @@ returns g c =
     record {
       step = (
         on_value (Changes (kept_terms c.args.self.now) c.args.old.now c.args.new.now
-            (fill_bytes 16 (g.R.Rng.stream c.args.rng.now)).0) _ _ (phc_of text) (phc_of fresh) c.change_password.result had changes.0 c.change_password.ensures.step,
+            (fill_bytes 16 (g.R.Rng.stream c.args.rng.now)).0) _ _ (phc_of text) (phc_of fresh) c.change_password.result
+            had changes.0 c.change_password.ensures.step,
         changes.1,
       );
       accepted = rw changes.0 c.change_password.ensures.accepted;

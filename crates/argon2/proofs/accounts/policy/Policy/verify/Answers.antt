@@ -3,14 +3,14 @@ use Rattle.argon2_base.specs.PhcFields.{phc_of}
 use Rattle.argon2.specs.Stored.{stored_value}
 use Rattle.argon2.specs.declared.accounts.error.AccountError.TheVariants.{Refused}
 use Rattle.argon2.proofs.AccountLemmas.{asks_above, asks_within, passed, within_not_above}
-use Rattle.argon2.proofs.login_store.LoginLemmas.{untold}
+use Rattle.argon2.proofs.login_store.LoginLemmas.{false_refutes}
 use Rattle.argon2.proofs.stored_hashes.Answered.{stored_shows}
 use Rattle.argon2.proofs.accounts.policy.Policy.verify.Goals as goal
 
 pub returns-then-not-allows-clause-answer : goal.returns-then-not-allows-clause-answer
 returns-then-not-allows-clause-answer c =
     asks_above c.args.self.now.bound (phc_of c.args.text.now) (stored_value c.in_ok-stored.stored)
-    c.in_ok-stored.ensures (untold c.allows.result c.if-not-allows.true c.allows.ensures.1)
+    c.in_ok-stored.ensures (false_refutes c.allows.result c.if-not-allows.true c.allows.ensures.1)
 
 pub returns-in_err-accepts-clause-answer : goal.returns-in_err-accepts-clause-answer
 returns-in_err-accepts-clause-answer c =
