@@ -11,6 +11,4 @@ pub mod encode;
 pub mod hash;
 pub mod request;
 pub mod segments;
-#[cfg(test)]
-mod tests;
 pub mod verify;

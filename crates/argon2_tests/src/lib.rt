@@ -1,15 +1,11 @@
-//! The tests of `argon2_base` and `argon2`, all by their public calls: values that others have computed, printed texts,
-//! and each call once.
+//! The tests of `argon2`, and those of `argon2_base` that need hashes, by their public calls: values that others have
+//! computed, printed texts, and each call once.
 #![tactic(auto)]
 
 #[cfg(test)]
 mod accounts;
 #[cfg(test)]
 mod algorithm;
-#[cfg(test)]
-mod blake2b;
-#[cfg(test)]
-mod blake2b_long;
 #[cfg(test)]
 mod block;
 #[cfg(test)]
@@ -24,7 +20,5 @@ mod login;
 mod params;
 #[cfg(test)]
 mod password_hash;
-#[cfg(test)]
-mod phc;
 #[cfg(test)]
 mod version;

@@ -121,6 +121,3 @@ pub fn moved<'key>(
     }
     Ok(new)
 }
-
-#[cfg(test)]
-mod tests;

@@ -1,0 +1,112 @@
+//! Shows what the calls of an account file answer that `argon2-passwd` does not make, a line a call, and whether the file
+//! is closed then. Where the log has been copied it is removed, and the file is opened again.
+#![tactic(auto)]
+
+use argon2::accounts::AccountError;
+use argon2::bound::Bound;
+use argon2::{Algorithm, Argon2, Params, Version};
+use argon2_store::{AccountFile, AccountsAt, FileError, OpenError};
+use sqlite_disk::Disk;
+use sqlite_store::FileStore;
+use sqlite_trees::store::Store;
+use std::{fs, io};
+
+// A text of `password`, by Debian's `argon2`.
+const TEXT: &str =
+    "$argon2id$v=19$m=256,t=2,p=2$c29tZXNhbHQ$bQk8UB/VmZZF4Oo79iDXuL5/0ttZwg2f/5U52iv1cDc";
+
+const BOUND: Bound = Bound {
+    m_cost: 256,
+    t_cost: 2,
+    p_cost: 2,
+};
+
+// What a file answers that begins with no names.
+#[derive(Clone, Copy)]
+struct Answers {
+    was_empty: bool,
+    added: Answer,
+    added_again: Answer,
+    has_ann: bool,
+    copied: Answer,
+}
+
+// What a call answers, and whether the file is closed then.
+#[derive(Clone, Copy)]
+struct Answer {
+    result: Result<(), FileError>,
+    is_closed: bool,
+}
+
+fn main(rt: HostRuntime) -> io::Result<()> {
+    match open(&rt) {
+        Ok(file) => {
+            let answers = answers_of(file);
+            println!(rt; "is_empty: {}", answers.was_empty)?;
+            show(&rt, "add", &answers.added)?;
+            show(&rt, "add again", &answers.added_again)?;
+            println!(rt; "has ann alone: {}", answers.has_ann)?;
+            show(&rt, "checkpoint", &answers.copied)?;
+            if answers.copied.result.is_ok() {
+                fs::remove_file(&rt, "accounts.db-wal")?;
+            }
+        }
+        Err(error) => println!(rt; "open: {error}")?,
+    }
+    match open(&rt) {
+        Ok(file) => println!(rt; "has ann alone: {}", has_ann(&file)),
+        Err(error) => println!(rt; "open again: {error}"),
+    }
+}
+
+fn open(rt: &HostRuntime) -> Result<AccountsAt<'static>, OpenError> {
+    let Ok(params) = Params::new(8, 1, 1, None) else {
+        return Err(OpenError::Terms(AccountError::TooExpensive));
+    };
+    let target = Argon2::new(Algorithm::Argon2id, Version::V0x13, params);
+    AccountFile::open(rt, "accounts.db", target, BOUND)
+}
+
+fn answers_of<D: Disk + Drop>(mut file: AccountFile<'_, FileStore<D>>) -> Answers {
+    let was_empty = file.is_empty();
+    let result = file.add("ann", TEXT);
+    let added = Answer {
+        result,
+        is_closed: file.is_closed(),
+    };
+    let result = file.add("ann", TEXT);
+    let added_again = Answer {
+        result,
+        is_closed: file.is_closed(),
+    };
+    let has_ann = has_ann(&file);
+    let result = file.checkpoint();
+    let copied = Answer {
+        result,
+        is_closed: file.is_closed(),
+    };
+    Answers {
+        was_empty,
+        added,
+        added_again,
+        has_ann,
+        copied,
+    }
+}
+
+// Whether a file has the name ann alone, with its text.
+fn has_ann<S: Store>(file: &AccountFile<'_, S>) -> bool {
+    let is_text = match file.text_of("ann") {
+        Some(hash) => hash.text().as_str() == TEXT,
+        None => false,
+    };
+    is_text && file.len() == 1
+}
+
+fn show(rt: &impl Print, call: &str, answer: &Answer) -> io::Result<()> {
+    let state = if answer.is_closed { "closed" } else { "open" };
+    match &answer.result {
+        Ok(()) => println!(rt; "{call}: ok; {state}"),
+        Err(error) => println!(rt; "{call}: {error}; {state}"),
+    }
+}
