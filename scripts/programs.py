@@ -8,11 +8,12 @@ CRATES = os.path.join(os.path.dirname(os.path.realpath(__file__)), "../crates")
 
 
 def newest_source():
-    """When a file of the crates was last changed."""
+    """When Rattle or a proof of the crates was last changed. A program that runs in its crate's folder may leave files there."""
     newest = 0.0
     for at, folders, names in os.walk(CRATES):
         if "out" in folders:
             folders.remove("out")
+        names = [name for name in names if name.endswith((".rt", ".antt"))]
         newest = max([newest, *(os.path.getmtime(f"{at}/{name}") for name in names)])
     return newest
 

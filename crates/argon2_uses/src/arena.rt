@@ -55,3 +55,6 @@ pub fn hash_all(
     }
     Ok(())
 }
+
+#[cfg(test)]
+mod tests;

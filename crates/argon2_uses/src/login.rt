@@ -121,3 +121,6 @@ pub fn moved<'key>(
     }
     Ok(new)
 }
+
+#[cfg(test)]
+mod tests;

@@ -88,3 +88,6 @@ fn derived(
     };
     Ok((key, tag))
 }
+
+#[cfg(test)]
+mod tests;

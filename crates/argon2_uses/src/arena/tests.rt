@@ -1,0 +1,38 @@
+use super::{Input, hash_all};
+use argon2::{Algorithm, Argon2, Block, Params, Version};
+use std::test::Fail;
+
+// Of the independent model.
+const TAGS: [[u8; 32]; 2] = [
+    [
+        0xbb, 0x0c, 0xc8, 0x0a, 0x3e, 0x67, 0x11, 0x49, 0x52, 0x69, 0x15, 0x41, 0x8c, 0x6e, 0xef,
+        0xe7, 0x61, 0xbb, 0x19, 0xd5, 0xd2, 0xd5, 0x67, 0xa0, 0x17, 0x70, 0x3e, 0x0c, 0xea, 0x6a,
+        0xb0, 0x5c,
+    ],
+    [
+        0xb8, 0x82, 0xbb, 0xd4, 0xaa, 0xd0, 0x33, 0xb6, 0x7d, 0xcc, 0x2b, 0xa0, 0x02, 0xc7, 0xb4,
+        0xb6, 0x06, 0xc6, 0x7b, 0x59, 0x65, 0x47, 0xe1, 0x7a, 0xbe, 0xc6, 0x7b, 0x24, 0xa4, 0x5c,
+        0x20, 0xb5,
+    ],
+];
+
+#[test]
+fn hashes_one_after_another(rt: HostRuntime) -> Result<(), Fail> {
+    let params = Params::new(32, 3, 4, None)?;
+    let argon2 = Argon2::new(Algorithm::Argon2id, Version::V0x13, params);
+    let mut arena = Vec::from_elem(rt.alloc(), Block::new(), 32)?;
+    let inputs = [
+        Input {
+            password: b"password",
+            salt: b"somesalt",
+        },
+        Input {
+            password: b"sassword",
+            salt: b"diffsalt",
+        },
+    ];
+    let mut tags = [[0; 32]; 2];
+    hash_all(&argon2, arena.as_mut_slice(), &inputs, &mut tags)?;
+    assert_eq!(rt; tags, TAGS);
+    Ok(())
+}

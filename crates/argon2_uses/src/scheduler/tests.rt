@@ -1,0 +1,50 @@
+use super::hash_in_rounds;
+use argon2::{Algorithm, Argon2, Block, Params, Version};
+use std::test::Fail;
+
+// Of Debian's `argon2`: 3 passes over 32 blocks in 4 lanes, `password` with `somesalt`.
+const TAGS: [(Algorithm, Version, u128); 4] = [
+    (
+        Algorithm::Argon2d,
+        Version::V0x13,
+        0xe51dfbc672b54ca10f26928b88632757,
+    ),
+    (
+        Algorithm::Argon2i,
+        Version::V0x13,
+        0x366b7406bb13b670aff29e3fcac7fd0b,
+    ),
+    (
+        Algorithm::Argon2id,
+        Version::V0x13,
+        0xcf6d3a037d880ee7ea4dd58404a48483,
+    ),
+    (
+        Algorithm::Argon2id,
+        Version::V0x10,
+        0x416ad684a1d35d9bb9b7b0ba9475626b,
+    ),
+];
+
+#[test]
+fn gives_the_known_tags(rt: HostRuntime) -> Result<(), Fail> {
+    let params = Params::new(32, 3, 4, None)?;
+    let mut memory = Vec::from_elem(rt.alloc(), Block::new(), 32)?;
+    for (algorithm, version, expected) in TAGS {
+        let argon2 = Argon2::new(algorithm, version, params);
+        let mut tag = [0; 16];
+        hash_in_rounds(
+            &argon2,
+            b"password",
+            b"somesalt",
+            &mut tag,
+            memory.as_mut_slice(),
+        )?;
+        assert_eq!(rt;
+            u128::from_be_bytes(tag),
+            expected,
+            "{algorithm} {version:?}"
+        );
+    }
+    Ok(())
+}
