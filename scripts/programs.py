@@ -1,10 +1,20 @@
-"""The programs that the scripts of ci/ run."""
+"""What the scripts of ci/ share: the programs that they run, and how they judge."""
 
 import os
 import subprocess
 import sys
 
 CRATES = os.path.join(os.path.dirname(os.path.realpath(__file__)), "../crates")
+
+
+class Wrong(Exception):
+    """What a script found is not what it wants."""
+
+
+def check(holds, *found):
+    """Raises `Wrong` with what was found if this does not hold. Python's options can turn an `assert` off, but not this."""
+    if not holds:
+        raise Wrong(*found)
 
 
 def newest_source():
