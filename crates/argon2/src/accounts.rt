@@ -1,5 +1,5 @@
 //! Accounts: names with passwords, each stored as a PHC text. Names are registered and removed, and
-//! passwords verified, changed and set anew. No text is verified that asks for more than a bound, and
+//! passwords verified, changed and set anew. A text that asks for more than a bound accepts no password, and
 //! old texts are renewed at a login.
 //!
 //! ```text

@@ -1,4 +1,4 @@
-//! A bound on what a stored text may ask for, checked before the text is verified.
+//! A bound on what a stored text may ask for.
 //!
 //! A text says which costs it is verified under, so whoever can write one can ask for up to 4 TiB.
 
@@ -80,7 +80,7 @@ impl Bound {
     ///
     /// # Errors
     /// The first of these that holds:
-    /// - those of [`Bound::admit`], before anything is allocated.
+    /// - those of [`Bound::admit`], whatever memory there is.
     /// - [`BoundError::Refused`] with the error of [`PasswordVerifier::verify_password`].
     pub fn verify(
         &self,

@@ -1,10 +1,11 @@
 //! Shows what memory the calls of `argon2` ask for, a line a call. First those that ask for none, also where
-//! a stored text would take more than there is; then those that make one request, and last those of a login
-//! store and of accounts: two for the first name, one for the next, one for each hash. With a request refused, the
-//! line of the call that made it is another. A line of a call that draws has the word that the generator gives next.
+//! a stored text would take more than there is, or is above a bound; then those that make one request, and last
+//! those of a login store and of accounts: two for the first name, one for the next, one for each hash. With a
+//! request refused, the line of the call that made it is another. A line of a call that draws has the word that
+//! the generator gives next.
 #![tactic(auto)]
 
-use argon2::accounts::{AccountError, Accounts};
+use argon2::accounts::{AccountError, Accounts, Policy};
 use argon2::blake2b::Blake2b;
 use argon2::blake2b_long::blake2b_long;
 use argon2::bound::Bound;
@@ -45,12 +46,18 @@ const EXPENSIVE: &str = "$argon2id$v=19$m=4294967295,t=1,p=1$c29tZXNhbHQ$AAAAAA"
 
 const NO_HASH: &str = "$argon2id$v=19$m=4294967295,t=1,p=1$c29tZXNhbHQ";
 
+const BOUND: Bound = Bound {
+    m_cost: 32,
+    t_cost: 3,
+    p_cost: 4,
+};
+
 fn main(rt: HostRuntime) -> io::Result<()> {
     digest(&rt)?;
     read(&rt, "PasswordHash::new", NEW)?;
     read(&rt, "PasswordHash::new of the longest text", LONGEST)?;
     build(&rt)?;
-    let Ok(argon2) = known() else {
+    let (Ok(argon2), Ok(target)) = (known(), known()) else {
         return Err(io::Error::from(ErrorKind::InvalidInput));
     };
     lent(&rt, &argon2)?;
@@ -62,6 +69,7 @@ fn main(rt: HostRuntime) -> io::Result<()> {
         NO_ALGORITHM,
     )?;
     verify(&rt, "verify_password of no hash", &argon2, NO_HASH)?;
+    above(&rt, target)?;
 
     let mut out = [255; 32];
     let answer = argon2.hash_password_into(rt.alloc(), &PASSWORD, &SALT, &mut out);
@@ -86,10 +94,10 @@ fn main(rt: HostRuntime) -> io::Result<()> {
     drawn(&rt, &argon2)?;
     verify(&rt, "verify_password", &argon2, NEW)?;
     match PasswordHash::new(OLD) {
-        Ok(hash) => match argon2.verify_password(rt.alloc(), &PASSWORD, &hash) {
-            Ok(()) => println!(rt; "verify_password of a value: ok")?,
-            Err(e) => println!(rt; "verify_password of a value: {e}")?,
-        },
+        Ok(hash) => {
+            let answer = argon2.verify_password(rt.alloc(), &PASSWORD, &hash);
+            show(&rt, "verify_password of a value", answer)?;
+        }
         Err(e) => println!(rt; "verify_password of a value: {e}")?,
     }
 
@@ -148,7 +156,13 @@ fn drawn(rt: &HostRuntime, argon2: &Argon2<'_>) -> io::Result<()> {
 
 // What verifying the password against a text answers.
 fn verify(rt: &HostRuntime, call: &str, argon2: &Argon2<'_>, text: &str) -> io::Result<()> {
-    match argon2.verify_password(rt.alloc(), &PASSWORD, text) {
+    let answer = argon2.verify_password(rt.alloc(), &PASSWORD, text);
+    show(rt, call, answer)
+}
+
+// A call's name, and what it answered.
+fn show<E: Display + Drop>(rt: &impl Print, call: &str, answer: Result<(), E>) -> io::Result<()> {
+    match answer {
         Ok(()) => println!(rt; "{call}: ok"),
         Err(e) => println!(rt; "{call}: {e}"),
     }
@@ -294,14 +308,29 @@ fn log_in(rt: &impl Print, call: &str, store: &mut Login<'_>) -> io::Result<()> 
     }
 }
 
+// The calls on a text that is above the bound.
+fn above(rt: &HostRuntime, argon2: Argon2<'_>) -> io::Result<()> {
+    let answer = BOUND.admit(EXPENSIVE).map(|_| ());
+    show(rt, "Bound::admit", answer)?;
+    let answer = BOUND.verify(rt.alloc(), &argon2, &PASSWORD, EXPENSIVE);
+    show(rt, "Bound::verify", answer)?;
+
+    let policy = Policy::new(rt.alloc(), argon2, BOUND);
+    let (Ok(policy), Ok(mut text)) = (policy, PasswordHash::new(EXPENSIVE)) else {
+        return Err(io::Error::from(ErrorKind::InvalidInput));
+    };
+    let answer = BOUND.admit_hash(&text).map(|_| ());
+    show(rt, "Bound::admit_hash", answer)?;
+    let mut rng = ChaCha20Rng::from_seed([7; 32]);
+    let answer = policy.log_in(&mut rng, &mut text, &PASSWORD).map(|_| ());
+    show(rt, "Policy::log_in", answer)?;
+    let answer = policy.change_password(&mut rng, &mut text, &PASSWORD, &PASSWORD);
+    show(rt, "Policy::change_password", answer)
+}
+
 // A name that is registered and gets the same password again, and one with a text that is above the bound.
 fn accounts(rt: &HostRuntime) -> io::Result<()> {
-    let bound = Bound {
-        m_cost: 32,
-        t_cost: 3,
-        p_cost: 4,
-    };
-    let Ok(Ok(mut accounts)) = known().map(|argon2| Accounts::new(rt.alloc(), argon2, bound)) else {
+    let Ok(Ok(mut accounts)) = known().map(|argon2| Accounts::new(rt.alloc(), argon2, BOUND)) else {
         return Err(io::Error::from(ErrorKind::InvalidInput));
     };
     let mut rng = ChaCha20Rng::from_seed([7; 32]);
@@ -317,9 +346,11 @@ fn accounts(rt: &HostRuntime) -> io::Result<()> {
     let there = accounts.add("max", EXPENSIVE).is_ok();
     let mut rng = ChaCha20Rng::from_seed([7; 32]);
     match accounts.login(&mut rng, "max", &PASSWORD) {
-        Ok(did) => println!(rt; "a login of max: {did}, {there}"),
-        Err(e) => println!(rt; "a login of max: {e}, {there}"),
+        Ok(did) => println!(rt; "a login of max: {did}, {there}")?,
+        Err(e) => println!(rt; "a login of max: {e}, {there}")?,
     }
+    let answer = accounts.change_password(&mut rng, "max", &PASSWORD, &PASSWORD);
+    show(rt, "change_password of max", answer)
 }
 
 // What a call on the accounts answers, the word that the generator gives next, and the text of kim.

@@ -93,8 +93,8 @@ impl<'key> Policy<'key> {
     ///
     /// # Errors
     /// The text is then as before:
-    /// - [`AccountError::TooExpensive`]: the text can be read, and a cost is above the bound's. No
-    ///   memory was asked for.
+    /// - [`AccountError::TooExpensive`]: the text can be read, and a cost is above the bound's,
+    ///   whatever memory there is.
     /// - [`AccountError::Refused`] with the reason: the text can't be verified, or does not accept the
     ///   password.
     pub fn log_in<R: Rng>(
