@@ -119,8 +119,8 @@ impl Place for Machine<'_> {
         path: &str,
         target: Argon2<'key>,
         bound: Bound,
-    ) -> Result<AccountsAt<'key>, Failure> {
-        match AccountFile::open(self.rt, path, target, bound) {
+    ) -> Result<AccountsAt<'key, Wary>, Failure> {
+        match AccountFile::open(self.rt, path, Wary, target, bound) {
             Ok(accounts) => Ok(accounts),
             Err(error) => Err(Failure::from(error)),
         }

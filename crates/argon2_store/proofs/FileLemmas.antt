@@ -2,7 +2,7 @@
 use Rattle.std.proofs.Common.{◌≡◌, ◌⊎◌, inl, inr, ℕ, List, Option, Some, None, Result, Ok, Err, Bool, true, false, Bor, refl, sym, ap, subst, ◌∙◌, IsTrue}
 use Rattle.std.specs.FinMap.{get, insert}
 use Rattle.std.specs.Option.{is_some, option_copied, option_map}
-use Rattle.std.specs.Prelude.{◌↔◌, IfErr, IsErrAnd, MatchResult, OnErr, OnOk}
+use Rattle.std.specs.Prelude.{◌↔◌, IfErr, IsErr, IsErrAnd, MatchResult, OnErr, OnOk, length}
 use Rattle.sqlite_trees.specs.Tree.{Trees}
 use Rattle.sqlite_trees.specs.declared.error.StoreError.{StoreError}
 use Rattle.sqlite_trees.specs.declared.error.StoreError.TheVariants as below
@@ -16,7 +16,7 @@ use Rattle.argon2.specs.Login.{Store}
 use Rattle.argon2.specs.declared.accounts.error.AccountError.{AccountError}
 use Rattle.argon2.specs.declared.accounts.error.AccountError.TheVariants.{NameUnknown}
 use Rattle.argon2.proofs.login_store.Stores.{get-other, get-same}
-use Rattle.argon2_store.specs.AccountFile.{Answers, Call, HasCause, IfRefused, IsBeforeOrAfter, IsClosed, Runs, Serves, names_of, store_of, terms_of}
+use Rattle.argon2_store.specs.AccountFile.{Answers, Call, HasCause, IfRefused, IsBeforeOrAfter, IsClosed, IsErrorAt, Runs, Serves, names_of, store_of, terms_of}
 use Rattle.argon2_store.specs.Errors.{answered, unwritten}
 use Rattle.argon2_store.specs.Table.{Changes, IsHonest, IsLong, IsOpen, Leaves, changed}
 use Rattle.argon2_store.specs.declared.account_file.AccountFile.{AccountFile}
@@ -34,6 +34,11 @@ pub has_text : (o : Option (Bor PasswordHash)) (m : Option Phc) → is_some o �
     → (v : Phc) × (m ≡ Some v)
 has_text (Some text) m found is = (phc_of text.now, sym is)
 has_text None m found is = absurd cc
+
+pub unnamed : (done : Result (Unit {0}) StoreError) (before now after : Store) → IsErr done
+    → MatchResult done (λ _. now ≡ after) (λ _. now ≡ before) → now ≡ before
+unnamed (Ok x) before now after failed is = absurd cc
+unnamed (Err e) before now after failed is = is
 
 unwritten_step : (X : Type 0) (terms : Terms) (before after : Store) (call : Call X) (e : StoreError) → after ≡ before
     → Answers terms before call (Err (unwritten e)) after
@@ -75,6 +80,22 @@ refused_same : {X P : Type 0} (r : Result X FileError) → IfErr r (λ f. (e : A
     → IfErr r (IfRefused P)
 refused_same (Ok x) why p = tt
 refused_same (Err f) why p = rw why.1 p
+
+-- an error of writing comes with the number of entries
+at_end : (before : Store) (es : List (List ℕ × List ℕ)) (k : ℕ) → k ≡ length es → (e : StoreError)
+    → IsErrorAt before es (k, unwritten e)
+at_end before es k is below.OutOfMemory = is
+at_end before es k is below.Io = is
+at_end before es k is below.Corrupt = is
+at_end before es k is below.Full = is
+at_end before es k is below.Broken = is
+at_end before es k is below.Unstorable = is
+
+pub writes_at : (before : Store) (es : List (List ℕ × List ℕ)) (k : ℕ) → k ≡ length es → (done : Result (Unit {0}) StoreError)
+    (error : FileError) → ◌≡◌ {A = Result (Unit {0}) FileError} (Err error) (answered done tt) → IsErrorAt before es (k, error)
+writes_at before es k is (Ok x) error same = absurd cc
+writes_at before es k is (Err e) error same =
+    let called : error ≡ unwritten e = cc in rw called (at_end before es k is e)
 
 not_refused : (P : Type 0) (e : StoreError) → IfRefused P (unwritten e)
 not_refused P below.OutOfMemory = tt
@@ -201,6 +222,37 @@ module _ {S : Type 0} {g : Ghosts S}
   accepts x answer =
       writes_none settled old tests no answers May long old refl refl refl (inl refl) (Ok x) (stays (Ok x) answer) tt
 
+  moves_to : (p : Option Phc) (x : X) → AccountAnswer (terms_of old) (call (Ok x)) o p
+      → AccountStep (terms_of old) (names_of old) (call (Ok x)) (changed (names_of old) name p)
+  moves_to p x answer =
+      subst (λ (n : List ℕ). AccountStep (terms_of old) (names_of old) (call (Ok x)) (changed (names_of old) n p)) (calls (Ok x))
+      (step_of (terms_of old) (names_of old) (call (Ok x)) p
+      (subst (λ (q : Option Phc). AccountAnswer (terms_of old) (call (Ok x)) q p) (sym (now_has (Ok x))) answer))
+
+  -- an accepted call that could not write its name's text, where the file is still open
+  pub keeps : (new : AccountFile S g) (p : Option Phc) (did x : X) → terms_of new ≡ terms_of old → names_of new ≡ names_of old
+      → AccountAnswer (terms_of old) (call (Ok did)) o p → AccountAnswer (terms_of old) (call (Ok x)) o o
+      → (done : Result (Unit {0}) StoreError)
+      → Changes g (store_of old) (store_of new) (names_of old) (changed (names_of old) name p) (IsLong name) done
+      → {later : Bool} → (IsHonest g (store_of new) → IsTrue later ↔ IsClosed new) → later ≡ false → Serves call (Ok x) old new
+  keeps new p did x same named wrote answer done change still shut =
+      let is_open : IsHonest g (store_of new) → IsOpen g (store_of new) = λ clean.
+      open_of _ (λ is. absurd (let yes = (still clean).1 is in cc)) in
+      record {
+        step = subst (AccountStep (terms_of old) (names_of old) (call (Ok x))) (sym named) (stays (Ok x) answer);
+        terms = same;
+        honest = change.honest;
+        unchanged = tt;
+        refused = tt;
+        crash = λ clean was_open. may_leave settled old tests no answers May long new (changed (names_of old) name p) (inl refl)
+            (inr (did, moves_to p did wrote)) change.crash clean;
+        durable = λ clean. leaves_kept g (store_of new) (names_of new) (settled (store_of new)) new.table.kept clean
+            (is_open clean);
+        closed = λ clean h. absurd (live settled old tests no answers May long clean h);
+        closes = λ clean was_open. inl (is_open clean);
+        cause = λ clean. tt;
+      }
+
   -- an accepted call that writes its name's text
   pub writes : (new : AccountFile S g) (p : Option Phc) (x : X) → terms_of new ≡ terms_of old
       → AccountAnswer (terms_of old) (call (Ok x)) o p → (done : Result (Unit {0}) StoreError)
@@ -210,9 +262,7 @@ module _ {S : Type 0} {g : Ghosts S}
   writes new p x same answer done change is r e =
       let before = names_of old in
       let to = changed before name p in
-      let moves = subst (λ (n : List ℕ). AccountStep (terms_of old) before (call (Ok x)) (changed before n p)) (calls (Ok x))
-      (step_of (terms_of old) before (call (Ok x)) p
-      (subst (λ (q : Option Phc). AccountAnswer (terms_of old) (call (Ok x)) q p) (sym (now_has (Ok x))) answer)) in
+      let moves = moves_to p x answer in
       writes_all settled old tests no answers May long new to x same moves
       (λ f. unwritten_step X (terms_of old) before before call f refl) (inl refl) (inr (x, moves)) done
       (subst (λ (n : List ℕ). Changes g (store_of old) (store_of new) before to (IsLong n) done)

@@ -1,5 +1,5 @@
 -- What callers see of accounts in a file, and what each call does.
-use Rattle.std.specs.Prelude.{◌≡◌, ◌⊎◌, ℕ, List, false, Any, Option, IsSomeAnd, Result, Ok, Err, IsErr, IfErr, OnOk, OnErr, ⊤}
+use Rattle.std.specs.Prelude.{◌≡◌, ◌⊎◌, ℕ, List, false, Any, Option, IsSomeAnd, Result, Ok, Err, IsErr, IfErr, OnOk, OnErr, ⊤, length}
 use Rattle.rand_core.specs.Stream.{Stream, fill_bytes}
 use Rattle.sqlite_disk.specs.Disk.{MoreFaults}
 use Rattle.sqlite_trees.specs.declared.error.StoreError.{StoreError}
@@ -50,15 +50,22 @@ abbrev pub AnswersAll : Store → List (List ℕ × List ℕ) → Result (Unit {
 AnswersAll before es (Ok _) after = AddsAll before es after
 AnswersAll before es (Err e) after = after ≡ before
 
--- where the accounts refuse one of the names, it is the first that they refuse
-abbrev pub IsRefusal : Store → List (List ℕ × List ℕ) → ℕ × FileError → Type 0
-IsRefusal before es (k, Account why) = IsFirstRefused before es k why
-IsRefusal before es _ = ⊤
+-- which of the names an error is about: the first that the accounts refuse, none if the file is closed, and all if they
+-- can't be written
+abbrev pub IsErrorAt : Store → List (List ℕ × List ℕ) → ℕ × FileError → Type 0
+IsErrorAt before es (k, Account why) = IsFirstRefused before es k why
+IsErrorAt before es (k, Closed) = k ≡ 0
+IsErrorAt before es (k, _) = k ≡ length es
 
--- where the accounts refuse the call
+-- if the accounts refuse the call
 abbrev pub IfRefused : Type 0 → FileError → Type 0
 IfRefused P (Account e) = P
 IfRefused P _ = ⊤
+
+-- if it has an error of the file
+abbrev pub IfOfFile : Type 0 → FileError → Type 0
+IfOfFile P (Account e) = ⊤
+IfOfFile P _ = P
 
 -- why a call has this error, where `fault` says that the disk failed or refused during it
 abbrev pub HasCause : Type 0 → Type 0 → Type 0 → FileError → Type 0
@@ -165,7 +172,7 @@ stream_after_making (Err (Account NameTaken)) stream = stream
 stream_after_making (Err (Account NameUnknown)) stream = stream
 stream_after_making _ stream = (fill_bytes 16 stream).1
 
--- after a login: 16 bytes are drawn for a fresh text, also where there is no memory for it or it is not written
+-- after a login: 16 bytes are drawn for a fresh text, also if there is no memory for it or it is not written
 abbrev pub stream_after_login : Result Accepted FileError → Stream → Stream
 stream_after_login (Ok Current) stream = stream
 stream_after_login (Err (Account e)) stream = stream

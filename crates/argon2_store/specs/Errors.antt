@@ -1,12 +1,19 @@
 -- The errors of account files.
 use Rattle.std.specs.Prelude.{ℕ, List, Result, Ok, Err, codes, ⊤}
+use Rattle.sqlite_std_file.specs.declared.pair.OpenError.{OpenError as PathError}
+use Rattle.sqlite_std_file.specs.declared.pair.OpenError.TheVariants as path
+use Rattle.sqlite_store.specs.declared.error.OpenError.{OpenError as FilesError}
+use Rattle.sqlite_store.specs.declared.error.OpenError.TheVariants as files
 use Rattle.sqlite_trees.specs.declared.error.StoreError.{StoreError}
 use Rattle.sqlite_trees.specs.declared.error.StoreError.TheVariants as below
+use Rattle.sqlite_wal.specs.declared.error.Error.{Error as LogError}
+use Rattle.sqlite_wal.specs.declared.error.Error.TheVariants as log
 use Rattle.argon2.specs.Accounts.{account_error_text}
 use Rattle.argon2_store.specs.declared.error.FileError.{FileError}
 use Rattle.argon2_store.specs.declared.error.FileError.TheVariants.{Account, OutOfMemory, Io, Damaged, Full, TooLong, Closed}
 use Rattle.argon2_store.specs.declared.error.OpenError.{OpenError}
-use Rattle.argon2_store.specs.declared.error.OpenError.TheVariants.{Terms}
+use Rattle.argon2_store.specs.declared.error.OpenError.TheVariants as no
+use Rattle.argon2_store.specs.declared.error.OpenError.TheVariants.{Path, Busy, HotJournal, NotAccounts}
 
 -- what an error of the store is called
 abbrev pub named : StoreError → FileError
@@ -27,10 +34,46 @@ abbrev pub answered : {X : Type 0} → Result (Unit {0}) StoreError → X → Re
 answered (Ok _) x = Ok x
 answered (Err e) x = Err (unwritten e)
 
--- an error other than a refusal of the terms
-abbrev pub IsOfFile : OpenError → Type 0
-IsOfFile (Terms why) = ⊥
-IsOfFile e = ⊤
+-- what an open calls the errors below it
+abbrev pub path_error : PathError → OpenError
+path_error (path.Io why) = Path why
+path_error path.OutOfMemory = no.OutOfMemory
+path_error path.Busy = Busy
+path_error path.HotJournal = HotJournal
+
+abbrev pub log_error : LogError → OpenError
+log_error log.OutOfMemory = no.OutOfMemory
+log_error (log.Io why) = no.Io
+log_error log.Full = no.Full
+log_error _ = NotAccounts
+
+abbrev pub files_error : FilesError → OpenError
+files_error files.OutOfMemory = no.OutOfMemory
+files_error files.Io = no.Io
+files_error files.Full = no.Full
+files_error files.Refused = NotAccounts
+
+abbrev pub store_error : StoreError → OpenError
+store_error below.OutOfMemory = no.OutOfMemory
+store_error below.Io = no.Io
+store_error below.Full = no.Full
+store_error _ = NotAccounts
+
+-- the errors of opening the files at a path
+abbrev pub IsOfPath : OpenError → Type 0
+IsOfPath (Path why) = ⊤
+IsOfPath no.OutOfMemory = ⊤
+IsOfPath Busy = ⊤
+IsOfPath HotJournal = ⊤
+IsOfPath _ = ⊥
+
+-- the errors of the database in them
+abbrev pub IsOfDatabase : OpenError → Type 0
+IsOfDatabase no.OutOfMemory = ⊤
+IsOfDatabase no.Io = ⊤
+IsOfDatabase no.Full = ⊤
+IsOfDatabase NotAccounts = ⊤
+IsOfDatabase _ = ⊥
 
 -- what an error prints
 abbrev pub file_error_text : FileError → List ℕ

@@ -20,7 +20,7 @@ use argon2::login::Accepted;
 use argon2::{Argon2, PasswordHash};
 use rand_core::Rng;
 use sqlite_disk::Disk;
-use sqlite_std_file::{FileFrom, Start, Wary};
+use sqlite_std_file::{FileFrom, Start};
 use sqlite_store::FileStore;
 use sqlite_trees::error::StoreError;
 use sqlite_trees::store::Store;
@@ -39,8 +39,8 @@ pub struct AccountFile<'key, S: Store> {
     table: Table<S>,
 }
 
-/// Accounts in the file at a path. Of the file nothing is known; its disk keeps what it has synced.
-pub type AccountsAt<'key> = AccountFile<'key, FileStore<FileFrom<Wary>>>;
+/// Accounts in the file at a path. `T` stands for what the file and its log held as they were opened.
+pub type AccountsAt<'key, T> = AccountFile<'key, FileStore<FileFrom<T>>>;
 
 // The same value again.
 fn copy_of(text: &PasswordHash) -> PasswordHash
@@ -65,7 +65,7 @@ fn written<X: Copy>(done: Result<(), StoreError>, answer: X) -> Result<X, FileEr
 }
 
 impl<'key, S: Store> AccountFile<'key, S> {
-    ghost use Rattle.argon2_store.specs.AccountFile.{AddsOrNone, DrawsOnce, IsClosed, IsRefusal, Serves, names_of, store_of, stream_after_login, stream_after_making, terms_of, unindexed};
+    ghost use Rattle.argon2_store.specs.AccountFile.{AddsOrNone, DrawsOnce, IfOfFile, IsClosed, IsErrorAt, Serves, names_of, store_of, stream_after_login, stream_after_making, terms_of, unindexed};
     ghost use Rattle.argon2_store.specs.Table.{IsHonest};
 
     /// Gives a new name a text, which may ask for more than the bound.
@@ -96,13 +96,13 @@ impl<'key, S: Store> AccountFile<'key, S> {
     ///
     /// # Errors
     /// Each comes with an index into `new`. The first of these that holds:
-    /// - [`FileError::Closed`]: the file has to be opened again.
+    /// - [`FileError::Closed`]: the file has to be opened again. The index is 0.
     /// - [`FileError::Account`]: the entry at the index is the first that `add` refuses, for this reason. With
     ///   [`Error::OutOfMemory`](argon2::password_hash::Error::OutOfMemory) there is no memory for it.
     /// - those of writing, as [`add`](AccountFile::add). The index is then the number of entries.
     pub fn add_all(&mut self, new: &[(&str, &str)]) -> Result<(), (usize, FileError)>
         ensures call { AddsOrNone (map entry_of new.now) (unindexed result) self.old self.new }
-        ensures refused { IfErr result (IsRefusal (names_of self.old) (map entry_of new.now)) }
+        ensures refused { IfErr result (IsErrorAt (names_of self.old) (map entry_of new.now)) }
     {
         if self.is_closed() {
             return Err((0, FileError::Closed));
@@ -149,15 +149,16 @@ impl<'key, S: Store> AccountFile<'key, S> {
     }
 
     /// Verifies a password against the text of a name, and renews the text, as [`Policy::log_in`]. It
-    /// returns [`Accepted::Rehashed`] once the file holds the fresh text.
+    /// returns [`Accepted::Rehashed`] once the file holds the fresh text, and [`Accepted::Kept`] if there is
+    /// no memory for a fresh text or it can't be written.
     ///
     /// # Errors
     /// The first of these that holds:
     /// - [`FileError::Closed`]: the file has to be opened again.
     /// - [`FileError::Account`] with [`AccountError::NameUnknown`]: the name has no text.
     /// - [`FileError::Account`] with those of [`Policy::log_in`].
-    /// - those of writing, as [`add`](AccountFile::add): the password is right, and the fresh text
-    ///   can't be written.
+    /// - those of writing, as [`add`](AccountFile::add): the password is right, and writing the fresh text
+    ///   has closed the file.
     pub fn login<R: Rng>(
         &mut self,
         rng: &mut R,
@@ -170,6 +171,8 @@ impl<'key, S: Store> AccountFile<'key, S> {
         ensures accepted { OnOk result
             (HasPassword (terms_of self.new) (names_of self.new) name.now password.now) }
         ensures drawn { R.stream rng.new ≡ stream_after_login result (R.stream rng.old) }
+        ensures served { IsHonest S.Store (store_of self.new) →
+            IfErr result (IfOfFile (IsClosed self.new)) }
     {
         if self.is_closed() {
             return Err(FileError::Closed);
@@ -182,7 +185,11 @@ impl<'key, S: Store> AccountFile<'key, S> {
         if accepted != Accepted::Rehashed {
             return Ok(accepted);
         }
-        written(self.table.replace(name, text), accepted)
+        let done = self.table.replace(name, text);
+        if done.is_err() && !self.is_closed() {
+            return Ok(Accepted::Kept);
+        }
+        written(done, accepted)
     }
 
     /// Gives a name a text of a new password where its text accepts the old one, as
@@ -307,43 +314,14 @@ impl<'key, S: Store> AccountFile<'key, S> {
     }
 }
 
-impl<'key, T: Start> AccountFile<'key, FileStore<FileFrom<T>>> {
+impl<'key, T: Start> AccountsAt<'key, T> {
     ghost use Rattle.sqlite_wal.specs.Files.{image_at};
     ghost use Rattle.argon2_store.specs.AccountFile.{HasFound, Opens};
 
-    /// As [`open`](AccountFile::open), where `start` stands for what the files at the path hold. One
-    /// value of each type opens one file.
-    ///
-    /// # Errors
-    /// Those of [`open`](AccountFile::open).
-    pub fn open_from(
-        rt: &HostRuntime,
-        path: &str,
-        start: T,
-        target: Argon2<'key>,
-        bound: Bound,
-    ) -> Result<AccountFile<'key, FileStore<FileFrom<T>>>, OpenError>
-        ensures ready { Opens (record { target = target_of target.entry; bound = bound }) result }
-        ensures found { IfOk result (HasFound (image_at T.Start)) }
-    {
-        let policy = match Policy::new(rt.alloc(), target, bound) {
-            Ok(policy) => policy,
-            Err(error) => return Err(OpenError::Terms(error)),
-        };
-        let store = open_path(rt, path, start)?;
-        Ok(AccountFile {
-            policy,
-            table: Table::open(rt.alloc(), store)?,
-        })
-    }
-}
-
-impl<'key> AccountsAt<'key> {
-    ghost use Rattle.argon2_store.specs.AccountFile.{Opens};
-
     /// Opens the accounts in the SQLite file at a path, or makes the file. Its log lies beside it, under
-    /// the same name with `-wal` at its end. `target` and `bound` are those of
-    /// [`Accounts::new`](argon2::accounts::Accounts::new).
+    /// the same name with `-wal` at its end. `start` stands for what the two files hold: one value of each
+    /// type opens one file, and only `main` names the type, such as `sqlite_std_file::Wary`. `target` and
+    /// `bound` are those of [`Accounts::new`](argon2::accounts::Accounts::new).
     ///
     /// The file stays open, and locked against other processes, until the value is dropped.
     /// An open that fails leaves the accounts in the file as they were.
@@ -358,12 +336,22 @@ impl<'key> AccountsAt<'key> {
     pub fn open(
         rt: &HostRuntime,
         path: &str,
+        start: T,
         target: Argon2<'key>,
         bound: Bound,
-    ) -> Result<AccountsAt<'key>, OpenError>
-        ensures { Opens (record { target = target_of target.entry; bound = bound }) result }
+    ) -> Result<AccountsAt<'key, T>, OpenError>
+        ensures ready { Opens (record { target = target_of target.entry; bound = bound }) result }
+        ensures found { IfOk result (HasFound (image_at T.Start)) }
     {
-        AccountFile::open_from(rt, path, Wary, target, bound)
+        let policy = match Policy::new(rt.alloc(), target, bound) {
+            Ok(policy) => policy,
+            Err(error) => return Err(OpenError::Terms(error)),
+        };
+        let store = open_path(rt, path, start)?;
+        Ok(AccountFile {
+            policy,
+            table: Table::open(rt.alloc(), store)?,
+        })
     }
 }
 

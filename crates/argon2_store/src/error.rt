@@ -1,7 +1,7 @@
 //! Why calls on an account file are refused.
 
 ghost use Rattle.std.specs.Prelude.{◌≡◌, Some};
-ghost use Rattle.argon2_store.specs.Errors.{IsOfFile, file_error_text, named};
+ghost use Rattle.argon2_store.specs.Errors.{IsOfDatabase, IsOfPath, file_error_text, files_error, log_error, named, path_error, store_error};
 
 use argon2::accounts::AccountError;
 use argon2::password_hash::Error;
@@ -130,7 +130,9 @@ impl fmt::Display for OpenError {
 impl std::error::Error for OpenError {}
 
 impl From<AllocError> for OpenError {
-    ghost from_gives = { λ _. IsOfFile };
+    ghost use Rattle.argon2_store.specs.declared.error.OpenError.TheVariants.{OutOfMemory};
+
+    ghost from_gives = { λ _ error. error ≡ OutOfMemory };
 
     fn from(_: AllocError) -> OpenError {
         OpenError::OutOfMemory
@@ -138,7 +140,9 @@ impl From<AllocError> for OpenError {
 }
 
 impl From<io::Error> for OpenError {
-    ghost from_gives = { λ _. IsOfFile };
+    ghost use Rattle.argon2_store.specs.declared.error.OpenError.TheVariants.{Path};
+
+    ghost from_gives = { λ e error. error ≡ Path e };
 
     fn from(error: io::Error) -> OpenError {
         OpenError::Path(error)
@@ -146,7 +150,7 @@ impl From<io::Error> for OpenError {
 }
 
 impl From<StoreError> for OpenError {
-    ghost from_gives = { λ _. IsOfFile };
+    ghost from_gives = { λ e error. (error ≡ store_error e) × IsOfDatabase error };
 
     fn from(error: StoreError) -> OpenError {
         match error {
@@ -160,7 +164,7 @@ impl From<StoreError> for OpenError {
 }
 
 impl From<PathError> for OpenError {
-    ghost from_gives = { λ _. IsOfFile };
+    ghost from_gives = { λ e error. (error ≡ path_error e) × IsOfPath error };
 
     fn from(error: PathError) -> OpenError {
         match error {
@@ -173,7 +177,7 @@ impl From<PathError> for OpenError {
 }
 
 impl From<LogError> for OpenError {
-    ghost from_gives = { λ _. IsOfFile };
+    ghost from_gives = { λ e error. (error ≡ log_error e) × IsOfDatabase error };
 
     fn from(error: LogError) -> OpenError {
         match error {
@@ -187,7 +191,7 @@ impl From<LogError> for OpenError {
 }
 
 impl From<UnopenedError> for OpenError {
-    ghost from_gives = { λ _. IsOfFile };
+    ghost from_gives = { λ e error. (error ≡ files_error e) × IsOfDatabase error };
 
     fn from(error: UnopenedError) -> OpenError {
         match error {

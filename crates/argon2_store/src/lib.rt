@@ -1,7 +1,7 @@
 //! Accounts in a file: names with PHC texts, in a SQLite database that survives a crash at any moment.
 //!
 //! ```text
-//! let mut accounts = AccountFile::open(rt, "accounts.db", Argon2::default(), bound)?;
+//! let mut accounts = AccountFile::open(rt, "accounts.db", Wary, Argon2::default(), bound)?;
 //! accounts.register(&mut rng, "ann", password)?;
 //! accounts.login(&mut rng, "ann", password)?;
 //! ```

@@ -1,12 +1,12 @@
 //! Opening the file at a path, or making it.
 
-ghost use Rattle.std.specs.Prelude.{◌≡◌, [], ◌∷◌, IsTrue, IfErr, IfOk, OnOk};
+ghost use Rattle.std.specs.Prelude.{◌≡◌, ◌⊎◌, [], ◌∷◌, IsTrue, IfErr, IfOk, OnOk};
 ghost use Rattle.sqlite_store.specs.FileStore.{view};
 ghost use Rattle.sqlite_store.specs.Unopened.{AreUsable, image, state_of, wanted_by};
 ghost use Rattle.sqlite_store.specs.Unopened as below;
 ghost use Rattle.sqlite_trees.specs.View.{IsClean};
 ghost use Rattle.sqlite_wal.specs.Files.{image_at, seen_image};
-ghost use Rattle.argon2_store.specs.Errors.{IsOfFile};
+ghost use Rattle.argon2_store.specs.Errors.{IsOfDatabase, IsOfPath};
 ghost use Rattle.argon2_store.specs.Opening.{FoundIn, IsReadAs, account};
 ghost use Rattle.argon2_store.specs.Table.{IsFresh};
 
@@ -46,7 +46,7 @@ fn make<D: Disk + Drop>(files: Unopened<D>) -> Result<FileStore<D>, OpenError>
     ensures honest { IfOk result (λ it. IsClean (view it) → IsTrue (state_of files).is_clean) }
     ensures empty { IfOk result (λ it. IsClean (view it) →
         ∥ below.IsUnstarted files ∥₁ × ((view it).committed 0 ≡ [])) }
-    ensures of_file { IfErr result IsOfFile }
+    ensures error { IfErr result IsOfDatabase }
 {
     match files.create() {
         Ok(store) => Ok(store),
@@ -63,7 +63,7 @@ fn is_bare<D: Disk + Drop>(files: &mut Unopened<D>) -> Result<bool, OpenError>
     ensures schema { wanted_by files.new ≡ wanted_by files.old }
     ensures size { IsTrue (state_of files.new).is_clean →
         (state_of files.new).page_size ≡ (state_of files.old).page_size }
-    ensures of_file { IfErr result IsOfFile }
+    ensures error { IfErr result IsOfDatabase }
 {
     let rows = files.read_catalog()?;
     Ok(rows.as_slice().is_empty())
@@ -76,7 +76,7 @@ fn attach<D: Disk + Drop>(mut files: Unopened<D>) -> Result<FileStore<D>, OpenEr
     ensures fresh { IfOk result (λ it. IsClean (view it) → IsFresh (view it)) }
     ensures found { IfOk result (λ it. IsClean (view it) →
         FoundIn (state_of files).page_size (image files) ((view it).committed 0)) }
-    ensures of_file { IfErr result IsOfFile }
+    ensures error { IfErr result IsOfDatabase }
 {
     if is_bare(&mut files)? {
         return make(files);
@@ -97,7 +97,7 @@ pub(crate) fn open_files<D: Disk + Drop>(
     ensures fresh { IfOk result (λ it. IsClean (view it) → IsFresh (view it)) }
     ensures found { IfOk result (λ it. IsClean (view it) →
         FoundIn 4096 (seen_image D.Disk files.log files.db) ((view it).committed 0)) }
-    ensures of_file { IfErr result IsOfFile }
+    ensures error { IfErr result IsOfDatabase }
 {
     let Some(size) = PageSize::new(PAGE) else {
         return Err(OpenError::NotAccounts);
@@ -126,7 +126,7 @@ pub(crate) fn open_path<T: Start>(
     ensures fresh { IfOk result (λ it. IsClean (view it) → IsFresh (view it)) }
     ensures found { IfOk result (λ it. IsClean (view it) →
         FoundIn 4096 (image_at T.Start) ((view it).committed 0)) }
-    ensures of_file { IfErr result IsOfFile }
+    ensures error { IfErr result (λ e. IsOfPath e ⊎ IsOfDatabase e) }
 {
     let files = sqlite_std_file::open(rt, path, start)?;
     let state = RandomState::new(rt)?;

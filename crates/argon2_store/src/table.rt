@@ -11,9 +11,10 @@ ghost use Rattle.argon2_base.specs.PhcFields.{phc_of};
 ghost use Rattle.argon2_base.specs.PhcText.{phc_text};
 ghost use Rattle.argon2.specs.Login.{Store as Named, named_values};
 ghost use Rattle.argon2_store.specs.Adding.{AddsAll, IsFirstRefused, entry_of};
-ghost use Rattle.argon2_store.specs.Errors.{IsOfFile};
+ghost use Rattle.argon2_store.specs.Errors.{IsOfDatabase};
 ghost use Rattle.argon2_store.specs.Names.{values_in};
 ghost use Rattle.argon2_store.specs.Rows.{TakesRow, row_of, rows_of};
+ghost use Rattle.argon2_store.specs.declared.error.OpenError.TheVariants.{Row as NoAccount};
 ghost use Rattle.argon2_store.specs.Table.{Changes, HasBegun, HasFailed, IsFresh, IsHonest, IsKept, IsKept-prop, IsOpen, IsLong, Leaves, Sees, StaysQuiet, Writes, changed};
 
 use crate::error::OpenError;
@@ -201,7 +202,7 @@ fn change_all<S: Store>(
 // Takes in the name of a row that was read.
 fn take(alloc: Global, row: &Row, names: &mut Names) -> Result<(), OpenError>
     ensures taken { OnOk result (TakesRow row.now (values_in names.old) (values_in names.new)) }
-    ensures of_file { IfErr result IsOfFile }
+    ensures error { IfErr result (λ e. (e ≡ NoAccount) ⊎ IsOfDatabase e) }
 {
     let (ValueRef::Text(name), ValueRef::Text(text)) = (row.get(0), row.get(1)) else {
         return Err(OpenError::Row);
@@ -226,7 +227,7 @@ fn load<S: Store>(alloc: Global, store: &mut S, row: &mut Row) -> Result<Names, 
         (S.Store.view store.old).committed 0 ≡ rows_of (values_in names)) }
     ensures open { OnOk result (IsHonest S.Store store.new → IsOpen S.Store store.new) }
     ensures quiet { StaysQuiet S.Store store.old store.new }
-    ensures of_file { IfErr result IsOfFile }
+    ensures error { IfErr result (λ e. (e ≡ NoAccount) ⊎ IsOfDatabase e) }
 {
     if store.shape(ACCOUNTS) != Shape::Index(Order::PLAIN) {
         return Err(OpenError::NotAccounts);
@@ -257,7 +258,7 @@ impl<S: Store + Drop> Table<S> {
             Leaves S.Store (store_in table) (λ left. left ≡ names_in table)) }
         ensures quiet { IfOk result (λ table.
             StaysQuiet S.Store store (store_in table)) }
-        ensures of_file { IfErr result IsOfFile }
+        ensures error { IfErr result (λ e. (e ≡ NoAccount) ⊎ IsOfDatabase e) }
     {
         let mut row = Row::new(alloc);
         let names = load(alloc, &mut store, &mut row)?;

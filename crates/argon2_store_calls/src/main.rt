@@ -7,6 +7,7 @@ use argon2::bound::Bound;
 use argon2::{Algorithm, Argon2, Params, Version};
 use argon2_store::{AccountFile, AccountsAt, FileError, OpenError};
 use sqlite_disk::Disk;
+use sqlite_std_file::{Start, Wary};
 use sqlite_store::FileStore;
 use sqlite_trees::store::Store;
 use std::{fs, io};
@@ -39,7 +40,7 @@ struct Answer {
 }
 
 fn main(rt: HostRuntime) -> io::Result<()> {
-    match open(&rt) {
+    match open(&rt, Wary) {
         Ok(file) => {
             let answers = answers_of(file);
             println!(rt; "is_empty: {}", answers.was_empty)?;
@@ -53,18 +54,18 @@ fn main(rt: HostRuntime) -> io::Result<()> {
         }
         Err(error) => println!(rt; "open: {error}")?,
     }
-    match open(&rt) {
+    match open(&rt, Wary) {
         Ok(file) => println!(rt; "has ann alone: {}", has_ann(&file)),
         Err(error) => println!(rt; "open again: {error}"),
     }
 }
 
-fn open(rt: &HostRuntime) -> Result<AccountsAt<'static>, OpenError> {
+fn open<T: Start>(rt: &HostRuntime, start: T) -> Result<AccountsAt<'static, T>, OpenError> {
     let Ok(params) = Params::new(8, 1, 1, None) else {
         return Err(OpenError::Terms(AccountError::TooExpensive));
     };
     let target = Argon2::new(Algorithm::Argon2id, Version::V0x13, params);
-    AccountFile::open(rt, "accounts.db", target, BOUND)
+    AccountFile::open(rt, "accounts.db", start, target, BOUND)
 }
 
 fn answers_of<D: Disk + Drop>(mut file: AccountFile<'_, FileStore<D>>) -> Answers {

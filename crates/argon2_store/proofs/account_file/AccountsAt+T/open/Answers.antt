@@ -4,7 +4,7 @@ use Rattle.sqlite_trees.specs.View.{IsClean}
 use Rattle.sqlite_wal.specs.Files.{image_at}
 use Rattle.argon2_store.specs.Opening.{FoundIn}
 use Rattle.argon2_store.proofs.TextLemmas.{are_texts}
-use Rattle.argon2_store.proofs.account_file.AccountFile+FileStore+FileFrom+T.open_from.Goals as goal
+use Rattle.argon2_store.proofs.account_file.AccountsAt+T.open.Goals as goal
 
 pub open-requires : goal.open-requires
 open-requires g c = c.in_ok-store.ensures.fresh
