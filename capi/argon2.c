@@ -6,6 +6,7 @@
 #define _GNU_SOURCE
 #include "argon2.h"
 
+#include <malloc.h>
 #include <stdbool.h>
 #include <stdlib.h>
 #include <string.h>
@@ -13,7 +14,13 @@
 
 /* ---- what the crate exports: a slice is a pointer, never null, and a length */
 
+_Static_assert(sizeof(size_t) == 8, "the crate's lengths have 64 bits");
+
 typedef const uint8_t *bytes;
+
+typedef struct {
+    uint64_t words[128];
+} block;
 
 struct request {
     uint32_t algorithm, version, m_cost, t_cost, lanes, threads;
@@ -23,14 +30,15 @@ struct request {
 int32_t argon2_c_refusal(const struct request *, size_t output, size_t pwd, size_t salt, size_t secret,
     size_t associated);
 int32_t argon2_c_hash(const struct request *, bytes pwd, size_t, bytes salt, size_t, bytes secret, size_t,
-    bytes associated, size_t, uint8_t *out, size_t);
+    bytes associated, size_t, block *memory, size_t, uint8_t *out, size_t);
 int32_t argon2_c_length_refusal(size_t output, size_t pwd, size_t salt);
 int32_t argon2_c_compare(bytes, size_t, bytes, size_t);
 int32_t argon2_c_encode(uint32_t algorithm, uint32_t version, uint32_t m_cost, uint32_t t_cost, uint32_t lanes,
     bytes salt, size_t, bytes tag, size_t, uint8_t *out, size_t);
 size_t argon2_c_encoded_length(uint32_t algorithm, uint32_t m_cost, uint32_t t_cost, uint32_t lanes,
     uint32_t salt, uint32_t tag);
-int32_t argon2_c_verify(uint32_t algorithm, bool has_text, bytes text, size_t, bytes pwd, size_t, size_t absent);
+int32_t argon2_c_verify(uint32_t algorithm, bool has_text, bytes text, size_t, bytes pwd, size_t, size_t absent,
+    block *memory, size_t);
 
 /* What a text says. */
 struct shown {
@@ -42,10 +50,6 @@ int32_t argon2_c_read(uint32_t algorithm, bool has_text, bytes text, size_t, siz
     uint8_t *room, size_t);
 
 /* A hash by parts, which threads.c puts together. */
-typedef struct {
-    uint64_t words[128];
-} block;
-
 int32_t argon2_c_begin(const struct request *, bytes pwd, size_t, bytes salt, size_t, bytes secret, size_t,
     bytes associated, size_t, size_t output, block *slice, size_t);
 int32_t argon2_c_segment(const struct request *, bytes secret, size_t, bytes associated, size_t, const block *before,
@@ -78,70 +82,39 @@ static __attribute__((noinline)) void wipe_stack(void) {
     wipe(below, sizeof below);
 }
 
-/* ---- the memory that the crate asks for */
+/* ---- memory */
 
 enum { HUGE_PAGE = 2 << 20, LARGE = 4 << 20 };
 
-/* Stands in front of each block of malloc's, whose alignment it keeps. */
-union header {
-    size_t whole;
-    uint8_t room[64];
-};
+/* The blocks of a hash. Large memory is in huge pages, which saves most page faults; without huge pages nothing is lost.
+ * It comes from malloc, which gives the same memory to the next hash below 32 MiB, and so no fault at all. */
+static block *new_blocks(size_t n) {
+    const size_t whole = n * sizeof(block);
+    uint8_t *const at = malloc(whole);
+    const size_t before = -(uintptr_t)at % HUGE_PAGE; /* the bytes up to the first huge page */
+    if (at && whole >= LARGE) (void)madvise(at + before, (whole - before) / HUGE_PAGE * HUGE_PAGE, MADV_HUGEPAGE);
+    return (block *)at;
+}
 
+/* The crate allocates for texts alone, and never during a hash. */
 struct tried {
     bool ok;
     void *at; /* not null */
 };
 
-/* Memory that a callback gave. The first request for so many bytes takes it, if it is aligned. */
-struct lent {
-    uint8_t *at;
-    size_t n; /* 0 once it is taken */
-};
-
-/* What this thread lends to the crate's call that it is in. No callback runs during such a call. */
-static _Thread_local struct lent lent;
-
-/* Lends `next` from now on, and returns the memory that was lent before. */
-static struct lent lend(struct lent next) {
-    const struct lent before = lent;
-    lent = next;
-    return before;
-}
-
-/* Large memory is asked for in huge pages, which saves most page faults; where there are none, nothing is lost. It comes
- * from malloc, which gives the same memory to the next hash where that has less than 32 MiB, and so no fault at all. */
-static uint8_t *system_memory(size_t whole) {
-    uint8_t *const at = malloc(whole);
-    const size_t before = -(uintptr_t)at % HUGE_PAGE; /* the bytes up to the first huge page */
-    if (at && whole >= LARGE) (void)madvise(at + before, (whole - before) / HUGE_PAGE * HUGE_PAGE, MADV_HUGEPAGE);
-    return at;
-}
-
 struct tried rattle_alloc(size_t n, size_t alignment) {
-    size_t whole = n + sizeof(union header);
-    uint8_t *at;
-    if (lent.n && n == lent.n && (uintptr_t)lent.at % alignment == 0) {
-        lent.n = 0;
-        return (struct tried){true, lent.at};
-    }
-    at = n > PTRDIFF_MAX - HUGE_PAGE ? NULL : system_memory(whole); /* no alignment is above that of malloc */
-    if (!at) return (struct tried){false, nothing};
-    ((union header *)at)->whole = whole;
-    return (struct tried){true, at + sizeof(union header)};
+    uint8_t *const at = malloc(n);
+    (void)alignment; /* never above malloc's */
+    return at ? (struct tried){true, at} : (struct tried){false, nothing};
 }
 
-void rattle_dealloc(void *block) {
-    uint8_t *at = (uint8_t *)block - sizeof(union header);
-    if (block == lent.at) return;
-    wipe_and_free(at, ((union header *)at)->whole);
-}
+void rattle_dealloc(void *at) { wipe_and_free(at, malloc_usable_size(at)); }
 
-struct tried rattle_realloc(void *block, size_t kept, size_t n, size_t alignment) {
-    struct tried grown = rattle_alloc(n, alignment);
+struct tried rattle_realloc(void *at, size_t kept, size_t n, size_t alignment) {
+    const struct tried grown = rattle_alloc(n, alignment);
     if (grown.ok) {
-        memcpy(grown.at, block, kept < n ? kept : n);
-        rattle_dealloc(block);
+        memcpy(grown.at, at, kept < n ? kept : n);
+        rattle_dealloc(at);
     }
     return grown;
 }
@@ -179,67 +152,71 @@ static int refusal(const argon2_context *c, argon2_type type) {
     return argon2_c_refusal(&request, c->outlen, c->pwdlen, c->saltlen, c->secretlen, c->adlen);
 }
 
-/* Hashes as the context says, of which nothing is refused, into `out`, which has the context's length and lies apart from
- * all inputs and from what is lent. */
-static int hash_into(const argon2_context *c, argon2_type type, uint8_t *out, struct lent lends) {
+/* Hashes as the context says, of which nothing is refused, on `memory`, into `out`, which has the context's length and
+ * lies apart from all inputs and from the memory. */
+static int hash_on(const argon2_context *c, argon2_type type, uint8_t *out, block *memory, bool wipes) {
     const struct request request = requested(c, type);
     const uint32_t workers = worker_count(c);
-    const struct lent before = lend(lends);
-    const int answer = workers > 1 ? hash_in_threads(c, &request, out, lends, workers)
+    const size_t n = block_count(c);
+    const int answer = workers > 1 ? hash_in_threads(c, &request, out, memory, wipes, workers)
         : argon2_c_hash(&request, some(c->pwd), length(c->pwd, c->pwdlen), some(c->salt), length(c->salt, c->saltlen),
-            some(c->secret), length(c->secret, c->secretlen), some(c->ad), length(c->ad, c->adlen), out, c->outlen);
-    lend(before);
+            some(c->secret), length(c->secret, c->secretlen), some(c->ad), length(c->ad, c->adlen), memory, n, out,
+            c->outlen);
+    if (wipes && workers == 1) wipe(memory, n * sizeof(block));
     wipe_stack();
     return answer;
 }
 
-/* Hashes as the context says into its output, wherever that lies. */
-static int hash_apart(const argon2_context *c, argon2_type type, struct lent lends) {
-    uint8_t *apart;
+/* Hashes so on memory of malloc's. */
+static int hash_into(const argon2_context *c, argon2_type type, uint8_t *out) {
+    block *const memory = new_blocks(block_count(c));
     int answer;
-    if (!meets_input(c, c->out, c->outlen) && !meet(c->out, c->outlen, lends.at, lends.n))
-        return hash_into(c, type, c->out, lends);
-    apart = malloc(c->outlen);
-    if (!apart) return ARGON2_MEMORY_ALLOCATION_ERROR;
-    answer = hash_into(c, type, apart, lends);
-    if (answer == ARGON2_OK) memcpy(c->out, apart, c->outlen);
-    wipe_and_free(apart, c->outlen);
+    if (!memory) return ARGON2_MEMORY_ALLOCATION_ERROR;
+    answer = hash_on(c, type, out, memory, true);
+    free(memory);
     return answer;
 }
 
 static int encode(const argon2_context *c, argon2_type type, uint8_t *text, size_t room) {
-    const struct lent before = lend((struct lent){0});
     const int answer = argon2_c_encode(type, c->version, c->m_cost, c->t_cost, c->lanes, some(c->salt),
         length(c->salt, c->saltlen), c->out, c->outlen, text, room);
-    lend(before);
     wipe_stack();
     return answer;
 }
 
-static void wipe_input(uint8_t *at, uint32_t *n) {
-    if (at) explicit_bzero(at, *n);
-    *n = 0;
+/* Clears an input as a flag asks, and its length in the caller's context. */
+static void clear_input(uint8_t *at, uint32_t n, uint32_t *context_length) {
+    if (at) explicit_bzero(at, n);
+    *context_length = 0;
 }
 
-int argon2_ctx(argon2_context *c, argon2_type type) {
-    struct lent given = {0}, lends = {0};
+int argon2_ctx(argon2_context *context, argon2_type type) {
+    argon2_context c; /* as it is now: a callback may change it */
+    uint8_t *given = NULL, *apart = NULL;
+    size_t n;
+    bool is_lent;
     int answer;
-    if (!c) return ARGON2_INCORRECT_PARAMETER;
-    answer = refusal(c, type);
+    if (!context) return ARGON2_INCORRECT_PARAMETER;
+    c = *context;
+    answer = refusal(&c, type);
     if (answer != ARGON2_OK) return answer;
-    if (c->allocate_cbk) {
-        given.n = (size_t)(c->m_cost / (4 * c->lanes)) * (4 * c->lanes) * 1024;
-        (void)c->allocate_cbk(&given.at, given.n);
-        if (!given.at) return ARGON2_MEMORY_ALLOCATION_ERROR;
-        if (!meets_input(c, given.at, given.n)) lends = given;
+    n = block_count(&c) * sizeof(block);
+    if (c.allocate_cbk) {
+        (void)c.allocate_cbk(&given, n);
+        if (!given) return ARGON2_MEMORY_ALLOCATION_ERROR;
     }
-    answer = hash_apart(c, type, lends);
-    if (answer == ARGON2_OK && c->flags & ARGON2_FLAG_CLEAR_PASSWORD) wipe_input(c->pwd, &c->pwdlen);
-    if (answer == ARGON2_OK && c->flags & ARGON2_FLAG_CLEAR_SECRET) wipe_input(c->secret, &c->secretlen);
-    if (given.at) {
-        wipe(given.at, given.n);
-        c->free_cbk(given.at, given.n);
-    }
+    is_lent = given && (uintptr_t)given % _Alignof(block) == 0 && !meets_input(&c, given, n);
+    if (meets_input(&c, c.out, c.outlen) || meet(c.out, c.outlen, given, n)) apart = malloc(c.outlen);
+    else apart = c.out;
+    if (!apart) answer = ARGON2_MEMORY_ALLOCATION_ERROR;
+    else if (is_lent) answer = hash_on(&c, type, apart, (block *)given, false);
+    else answer = hash_into(&c, type, apart);
+    if (answer == ARGON2_OK && c.flags & ARGON2_FLAG_CLEAR_PASSWORD) clear_input(c.pwd, c.pwdlen, &context->pwdlen);
+    if (answer == ARGON2_OK && c.flags & ARGON2_FLAG_CLEAR_SECRET) clear_input(c.secret, c.secretlen, &context->secretlen);
+    if (given) wipe(given, n);
+    if (answer == ARGON2_OK && apart != c.out) memcpy(c.out, apart, c.outlen);
+    if (apart && apart != c.out) wipe_and_free(apart, c.outlen);
+    if (given) c.free_cbk(given, n);
     return answer;
 }
 
@@ -261,7 +238,7 @@ int argon2_hash(const uint32_t t_cost, const uint32_t m_cost, const uint32_t lan
     }
     c.out = malloc(hashlen + room);
     if (!c.out) return ARGON2_MEMORY_ALLOCATION_ERROR;
-    answer = hash_into(&c, type, c.out, (struct lent){0});
+    answer = hash_into(&c, type, c.out);
     if (answer == ARGON2_OK && room) answer = encode(&c, type, c.out + hashlen, room);
     if (answer == ARGON2_OK && hash) memcpy(hash, c.out, hashlen);
     if (answer == ARGON2_OK && room) memcpy(encoded, c.out + hashlen, room);
@@ -279,7 +256,6 @@ size_t argon2_encodedlen(uint32_t t_cost, uint32_t m_cost, uint32_t lanes, uint3
 int argon2_verify(const char *encoded, const void *pwd, const size_t pwdlen, argon2_type type) {
     const size_t n = encoded ? strlen(encoded) : 0;
     uint8_t *const room = malloc(2 * n); /* for the salt and the tag of the text, and for the tag that is made */
-    const struct lent before = lend((struct lent){0});
     struct shown shown = {0};
     int answer = argon2_c_read(type, encoded != NULL, some(encoded), n, length(pwd, pwdlen), absent(pwd, pwdlen), &shown,
         some(room), room ? n : 0);
@@ -291,23 +267,26 @@ int argon2_verify(const char *encoded, const void *pwd, const size_t pwdlen, arg
         };
         answer = refusal(&c, type);
         if (answer == ARGON2_OK && worker_count(&c) > 1) {
-            answer = hash_into(&c, type, c.out, (struct lent){0});
+            answer = hash_into(&c, type, c.out);
             if (answer == ARGON2_OK) answer = argon2_c_compare(room + shown.salt, shown.tag, c.out, shown.tag);
         } else if (answer == ARGON2_OK) {
-            answer = argon2_c_verify(type, true, some(encoded), n, some(pwd), length(pwd, pwdlen), 0);
+            block *const memory = new_blocks(block_count(&c));
+            answer = !memory ? ARGON2_MEMORY_ALLOCATION_ERROR : argon2_c_verify(type, true, some(encoded), n, some(pwd),
+                length(pwd, pwdlen), 0, memory, block_count(&c));
+            if (memory) wipe_and_free((uint8_t *)memory, block_count(&c) * sizeof(block));
         }
         wipe(room, 2 * n);
     }
     free(room);
-    lend(before);
     wipe_stack();
     return answer;
 }
 
 int argon2_verify_ctx(argon2_context *c, const char *hash, argon2_type type) {
-    int answer = argon2_ctx(c, type);
+    const argon2_context before = c ? *c : (argon2_context){0}; /* a callback may change it */
+    const int answer = argon2_ctx(c, type);
     if (answer != ARGON2_OK) return answer;
-    return argon2_c_compare(some(hash), length(hash, c->outlen), c->out, c->outlen);
+    return argon2_c_compare(some(hash), length(hash, before.outlen), before.out, before.outlen);
 }
 
 /* ---- the variants */

@@ -1,4 +1,7 @@
 /*
+ * SPDX-FileCopyrightText: 2026 The maintainers of this repository
+ * SPDX-License-Identifier: MIT OR Apache-2.0
+ *
  * Argon2 (RFC 9106) for C, over a proved library: the names, numbers and layouts of libargon2's argon2.h,
  * so that a program that was written for the one runs on the other without a change.
  *

@@ -9,6 +9,9 @@
 /* With less memory than this, in blocks, no thread pays. */
 enum { FROM_HERE_IN_THREADS = 4 << 10 };
 
+/* The stack of each thread, which the default of a program may be too small for. */
+enum { STACK = 256 << 10 };
+
 /* 1 in a build of capi/check-races, in which no slice waits for the one before it. */
 #ifndef RACES
 #define RACES 0
@@ -120,12 +123,16 @@ static void *work(void *filling) {
 static uint32_t start_threads(struct filling *f, pthread_t *threads) {
     static const int faults[] = {SIGSEGV, SIGBUS, SIGILL, SIGFPE, SIGTRAP, SIGSYS};
     uint32_t started = 0;
+    pthread_attr_t attributes;
     sigset_t blocked, before;
+    if (pthread_attr_init(&attributes) != 0) return 0;
+    pthread_attr_setstacksize(&attributes, STACK);
     sigfillset(&blocked);
     for (size_t i = 0; i < sizeof faults / sizeof *faults; i++) sigdelset(&blocked, faults[i]);
     pthread_sigmask(SIG_BLOCK, &blocked, &before);
-    while (started + 1 < f->workers && pthread_create(&threads[started], NULL, work, f) == 0) started++;
+    while (started + 1 < f->workers && pthread_create(&threads[started], &attributes, work, f) == 0) started++;
     pthread_sigmask(SIG_SETMASK, &before, NULL);
+    pthread_attr_destroy(&attributes);
     return started;
 }
 
@@ -151,21 +158,18 @@ static __attribute__((noinline)) int fill_and_finish(struct filling *f, uint8_t 
 }
 
 /* Hashes as `argon2_c_hash` does, with so many threads. */
-static int hash_in_threads(const argon2_context *c, const struct request *request, uint8_t *out, struct lent lends,
+static int hash_in_threads(const argon2_context *c, const struct request *request, uint8_t *out, block *memory, bool wipes,
     uint32_t workers) {
     const size_t n = block_count(c);
-    const bool is_lent = lends.n > 0 && (uintptr_t)lends.at % _Alignof(block) == 0;
     struct filling f = {
-        .context = c, .request = request, .blocks = (block *)(is_lent ? lends.at : system_memory(n * sizeof(block))),
-        .segment = n / 4 / c->lanes, .workers = workers, .wipes = !is_lent, .unwiped = is_lent ? 0 : 3 * c->lanes,
+        .context = c, .request = request, .blocks = memory, .segment = n / 4 / c->lanes, .workers = workers,
+        .wipes = wipes, .unwiped = wipes ? 3 * c->lanes : 0,
         .lock = PTHREAD_MUTEX_INITIALIZER, .changed = PTHREAD_COND_INITIALIZER,
     };
-    int answer;
-    if (!f.blocks) return ARGON2_MEMORY_ALLOCATION_ERROR;
-    answer = argon2_c_begin(request, some(c->pwd), length(c->pwd, c->pwdlen), some(c->salt),
+    int answer = argon2_c_begin(request, some(c->pwd), length(c->pwd, c->pwdlen), some(c->salt),
         length(c->salt, c->saltlen), some(c->secret), length(c->secret, c->secretlen), some(c->ad),
-        length(c->ad, c->adlen), c->outlen, f.blocks, n / 4);
+        length(c->ad, c->adlen), c->outlen, memory, n / 4);
     if (answer == ARGON2_OK) answer = fill_and_finish(&f, out);
-    if (!is_lent) answer == ARGON2_OK ? free(f.blocks) : wipe_and_free((uint8_t *)f.blocks, n * sizeof(block));
+    if (wipes && answer != ARGON2_OK) wipe(memory, n * sizeof(block));
     return answer;
 }

@@ -1,3 +1,4 @@
+pub mod Memory
 pub mod Requests
 pub mod Texts
 pub mod Verifying

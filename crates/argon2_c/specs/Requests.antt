@@ -1,8 +1,8 @@
 -- What a C caller asks for: what its hash depends on, and why it is refused.
-use Rattle.std.specs.Prelude.{◌≡◌, ◌⊎◌, ℕ, ◌*◌, ◌-◌, ◌≤◌, ◌&&◌, not, nat_lt, ◌==◌, Bool, ℤ, List, [], ◌∷◌, Option, Some, None}
+use Rattle.std.specs.Prelude.{◌≡◌, ◌⊎◌, ℕ, ◌*◌, ◌-◌, ◌≤◌, ◌&&◌, not, nat_lt, ◌==◌, Bool, ℤ, List, [], ◌∷◌}
 use Rattle.argon2.specs.Rfc9106.{Context, segment_length}
 use Rattle.argon2.specs.Segments.{slice_length}
-use Rattle.argon2_c.specs.declared.code.TheConstants.{OUTPUT_PTR_NULL, OUTPUT_TOO_SHORT, OUTPUT_TOO_LONG, PWD_TOO_LONG, SALT_TOO_SHORT, SALT_TOO_LONG, AD_TOO_LONG, SECRET_TOO_LONG, TIME_TOO_SMALL, MEMORY_TOO_LITTLE, LANES_TOO_FEW, LANES_TOO_MANY, MEMORY_ALLOCATION_ERROR, PWD_PTR_MISMATCH, SALT_PTR_MISMATCH, SECRET_PTR_MISMATCH, AD_PTR_MISMATCH, FREE_MEMORY_CBK_NULL, ALLOCATE_MEMORY_CBK_NULL, INCORRECT_TYPE, THREADS_TOO_FEW, THREADS_TOO_MANY}
+use Rattle.argon2_c.specs.declared.code.TheConstants.{OUTPUT_PTR_NULL, OUTPUT_TOO_SHORT, OUTPUT_TOO_LONG, PWD_TOO_LONG, SALT_TOO_SHORT, SALT_TOO_LONG, AD_TOO_LONG, SECRET_TOO_LONG, TIME_TOO_SMALL, MEMORY_TOO_LITTLE, LANES_TOO_FEW, LANES_TOO_MANY, PWD_PTR_MISMATCH, SALT_PTR_MISMATCH, SECRET_PTR_MISMATCH, AD_PTR_MISMATCH, FREE_MEMORY_CBK_NULL, ALLOCATE_MEMORY_CBK_NULL, INCORRECT_TYPE, THREADS_TOO_FEW, THREADS_TOO_MANY}
 use Rattle.argon2_c.specs.declared.request.Request.{Request}
 
 -- what the hash depends on beside the password, the salt and the output's length
@@ -70,11 +70,6 @@ pub record IsFaultless (r : Request) (output password salt secret associated : �
   pub lanes_most : r.lanes ≤ 16777215
   pub is_variant : r.algorithm ≤ 2
   pub is_version : (r.version ≡ 16) ⊎ (r.version ≡ 19)
-
--- the code of the fault, or else this answer or that memory was refused
-abbrev pub IsAnswer : Option ℤ → ℤ → ℤ → Type 0
-IsAnswer (Some fault) answer result = result ≡ fault
-IsAnswer None answer result = (result ≡ answer) ⊎ (result ≡ MEMORY_ALLOCATION_ERROR)
 
 -- whether there is such a segment, and the parts of the memory have the lengths that it asks for
 abbrev pub are_lengths : Context → ℕ → ℕ → ℕ → ℕ → ℕ → Bool

@@ -1,9 +1,10 @@
 -- What verifying a text answers.
-use Rattle.std.specs.Prelude.{◌≡◌, ℕ, ◌+◌, ◌++◌, drop, ◌||◌, nat_lt, not, Bool, false, ℤ, Option, if◌then◌else◌, List, [], ◌∷◌, length, unwrap_or}
+use Rattle.std.specs.Prelude.{◌≡◌, ℕ, ◌+◌, ◌*◌, ◌==◌, ◌++◌, drop, ◌||◌, nat_lt, not, Bool, false, ℤ, Option, if◌then◌else◌, List, [], ◌∷◌, length, unwrap_or}
 use Rattle.std.specs.Str.{bytes_eq}
 use Rattle.argon2.specs.Refusals.{first_of}
 use Rattle.argon2.specs.Rfc9106.{tag_of}
-use Rattle.argon2_c.specs.declared.code.TheConstants.{OK, PWD_TOO_LONG, DECODING_FAIL, INCORRECT_TYPE, VERIFY_MISMATCH}
+use Rattle.argon2.specs.Segments.{slice_length}
+use Rattle.argon2_c.specs.declared.code.TheConstants.{OK, PWD_TOO_LONG, DECODING_FAIL, INCORRECT_PARAMETER, INCORRECT_TYPE, VERIFY_MISMATCH}
 use Rattle.argon2_c.specs.Requests.{asked, request_faults}
 use Rattle.argon2_c.specs.Texts.{Said, IsSaid, name_numbered, spelling}
 use Rattle.argon2_c.specs.declared.request.Request.{Request}
@@ -46,11 +47,13 @@ abbrev pub shown_tag : ℕ → List ℕ → ℕ → Said → List ℕ
 shown_tag algorithm password absent v =
     tag_of (asked (shown_request algorithm absent v) [] []) password v.salt (length v.tag)
 
--- the code of the first fault, or whether the password has the hash
-abbrev pub verify_code : ℕ → List ℕ → ℕ → Said → ℤ
-verify_code algorithm password absent v =
+-- the code of the first fault, or whether the password has the hash, on so many blocks of memory
+abbrev pub verify_code : ℕ → List ℕ → ℕ → ℕ → Said → ℤ
+verify_code algorithm password absent blocks v =
     unwrap_or (first_of (shown_faults algorithm (length password) absent v))
-    (if bytes_eq v.tag (shown_tag algorithm password absent v) then OK else VERIFY_MISMATCH)
+    (if blocks == 4 * slice_length (asked (shown_request algorithm absent v) [] [])
+    then (if bytes_eq v.tag (shown_tag algorithm password absent v) then OK else VERIFY_MISMATCH)
+    else INCORRECT_PARAMETER)
 
 -- the text is this variant's, and says this
 abbrev pub Says : ℕ → List ℕ → Said → Type 0

@@ -1,36 +1,42 @@
 //! Hashing, and comparing what was hashed.
 
-ghost use Rattle.std.specs.Prelude.{◌≡◌, ◌≢◌, ◌≤◌, ◌⊎◌, None, [], length, if◌then◌else◌};
+ghost use Rattle.std.specs.Prelude.{◌≡◌, ◌≢◌, ◌≤◌, ◌<◌, ◌==◌, ◌*◌, ◌-◌, ◌^◌, ◌⊎◌, ℕ, None, [], length, unwrap_or, if◌then◌else◌};
 ghost use Rattle.std.specs.Str.{bytes_eq};
 ghost use Rattle.argon2.specs.Settings.{algorithm_number, version_number};
-ghost use Rattle.argon2.specs.Argon2.{context_of, own_parameters};
+ghost use Rattle.argon2.specs.Argon2.{context_of, context_under, own_parameters};
 ghost use Rattle.argon2.specs.Refusals.{first_of};
 ghost use Rattle.argon2.specs.Rfc9106.{tag_of};
-ghost use Rattle.argon2_c.specs.Requests.{IsAnswer, IsFaultless, asked, request_faults};
+ghost use Rattle.argon2.specs.Segments.{FillsSegment, slice_length};
+ghost use Rattle.argon2_c.specs.Memory.{FillsSlice, segment_of};
+ghost use Rattle.argon2_c.specs.Requests.{IsFaultless, asked, request_faults};
 
-use crate::code::{MEMORY_ALLOCATION_ERROR, OK, VERIFY_MISMATCH};
+use crate::code::{INCORRECT_PARAMETER, OK, VERIFY_MISMATCH};
 use crate::request::{Request, refusal};
+use crate::segments::{segment_len, slice_len};
 use argon2::{Algorithm, Argon2, ParamsBuilder, Version};
+use argon2_base::block::Words;
 use argon2_base::phc::are_equal;
-use std::alloc::Global;
 
-/// Allocates memory, hashes on it, and writes the tag into `out`. Answers 0, or the code of the
-/// request's first fault, or -22 where memory was refused; `out` is then as before.
+/// Hashes on lent memory, whatever it held, and writes the tag into `out`. Returns 0, or the code of the
+/// request's first fault, or -25 if `memory` has another length than the request's blocks; `out` and
+/// `memory` are then as before. It allocates nothing.
 #[unsafe(no_mangle)]
 pub extern "C" fn argon2_c_hash(
-    alloc: Global,
     request: &Request,
     pwd: &[u8],
     salt: &[u8],
     secret: &[u8],
     associated: &[u8],
+    memory: &mut [Words],
     out: &mut [u8],
 ) -> i32
-    ensures answer { IsAnswer (first_of (request_faults request.now (length out.old)
-        (length pwd.now) (length salt.now) (length secret.now) (length associated.now))) OK result }
+    ensures answer { result ≡ unwrap_or (first_of (request_faults request.now (length out.old)
+        (length pwd.now) (length salt.now) (length secret.now) (length associated.now)))
+        (if length memory.old == 4 * slice_length (asked request.now [] []) then OK
+        else INCORRECT_PARAMETER) }
     ensures tag { result ≡ OK → out.new
         ≡ tag_of (asked request.now secret.now associated.now) pwd.now salt.now (length out.old) }
-    ensures same { result ≢ OK → out.new ≡ out.old }
+    ensures same { result ≢ OK → (out.new ≡ out.old) × (memory.new ≡ memory.old) }
 {
     let refusal = refusal(
         request,
@@ -43,6 +49,10 @@ pub extern "C" fn argon2_c_hash(
     if let Some(code) = refusal {
         return code;
     }
+    let width = slice_len(request) as usize;
+    if memory.len() != 4 * width {
+        return INCORRECT_PARAMETER;
+    }
     let argon2 = hashing(
         request,
         secret,
@@ -51,9 +61,77 @@ pub extern "C" fn argon2_c_hash(
         salt.len(),
         associated.len(),
     );
-    match argon2.hash_password_into_with_data(alloc, associated, pwd, salt, out) {
-        Ok(()) => OK,
-        Err(_) => MEMORY_ALLOCATION_ERROR,
+    argon2.begin_slices(
+        associated,
+        pwd,
+        salt,
+        out.len() as u32,
+        &mut memory[..width],
+    );
+    for pass in 0..request.t_cost {
+        for slice in 0..4 {
+            fill_slice(&argon2, associated, request, memory, pass, slice);
+        }
+    }
+    argon2.finish_slices(&memory[3 * width..], out);
+    OK
+}
+
+// Fills the segments of a slice.
+fn fill_slice(
+    argon2: &Argon2<'_>,
+    associated: &[u8],
+    request: &Request,
+    memory: &mut [Words],
+    pass: u32,
+    slice: u32,
+)
+    requires data { length associated.now < 2 ^ 32 }
+    requires lanes { (1 ≤ request.now.lanes) × (request.now.lanes ≤ 16777215) }
+    requires context { context_under argon2.now associated.now
+        ≡ asked request.now (context_of argon2.now).secret associated.now }
+    requires slice { slice < 4 }
+    requires size { length memory.old ≡ 4 * slice_length (asked request.now [] []) }
+    ensures { let ctx = asked request.now (context_of argon2.now).secret associated.now in
+        FillsSlice ctx pass slice memory.old memory.new }
+{
+    let width = slice_len(request) as usize;
+    let (before, rest) = memory.split_at_mut(slice as usize * width);
+    let (here, after) = rest.split_at_mut(width);
+    fill_lanes(
+        argon2, associated, request, before, here, after, pass, slice,
+    );
+}
+
+// Fills the segments of a slice, one lane after the other.
+fn fill_lanes(
+    argon2: &Argon2<'_>,
+    associated: &[u8],
+    request: &Request,
+    before: &[Words],
+    here: &mut [Words],
+    after: &[Words],
+    pass: u32,
+    slice: u32,
+)
+    requires data { length associated.now < 2 ^ 32 }
+    requires lanes { (1 ≤ request.now.lanes) × (request.now.lanes ≤ 16777215) }
+    requires context { context_under argon2.now associated.now
+        ≡ asked request.now (context_of argon2.now).secret associated.now }
+    requires slice { slice < 4 }
+    requires before { length before.now ≡ slice * slice_length (asked request.now [] []) }
+    requires here { length here.old ≡ slice_length (asked request.now [] []) }
+    requires after { length after.now ≡ (3 - slice) * slice_length (asked request.now [] []) }
+    ensures size { length here.new ≡ length here.old }
+    ensures fills { let ctx = asked request.now (context_of argon2.now).secret associated.now in
+        (lane : ℕ) → lane < request.now.lanes → FillsSegment ctx pass slice lane before.now
+        (segment_of ctx lane here.old) (segment_of ctx lane here.new) after.now }
+{
+    let segment = segment_len(request) as usize;
+    for lane in 0..request.lanes {
+        let start = lane as usize * segment;
+        let own = &mut here[start..start + segment];
+        argon2.fill_segment(associated, before, own, after, pass, slice, lane);
     }
 }
 

@@ -122,16 +122,16 @@ pub extern "C" fn argon2_c_finish(request: &Request, last: &[Words], out: &mut [
     OK
 }
 
-// How many blocks a segment has.
-fn segment_len(request: &Request) -> u32
+/// How many blocks a segment has.
+pub fn segment_len(request: &Request) -> u32
     requires { (1 ≤ request.now.lanes) × (request.now.lanes ≤ 16777215) }
     ensures { result ≡ segment_length (asked request.now [] []) }
 {
     request.m_cost / (4 * request.lanes)
 }
 
-// How many blocks a slice has.
-fn slice_len(request: &Request) -> u32
+/// How many blocks a slice has.
+pub fn slice_len(request: &Request) -> u32
     requires { (1 ≤ request.now.lanes) × (request.now.lanes ≤ 16777215) }
     ensures value { result ≡ slice_length (asked request.now [] []) }
     ensures within { 4 * result ≤ request.now.m_cost }

@@ -10,12 +10,14 @@ use crate::decode::{Decoded, decode};
 use crate::hash::{argon2_c_compare, argon2_c_hash, variant};
 use crate::request::Request;
 use argon2::MAX_PWD_LEN;
+use argon2_base::block::Words;
 use std::alloc::Global;
 
-/// Whether a password has the hash of a text. `absent` is how many bytes the password has behind a null
-/// pointer. Answers 0 where it has, and -35 where it has not; else the code of the call's first fault,
-/// or -32 where the text is in no such variant's grammar, or the code of the first fault of the request
-/// that the text stands for, or -22 where memory was refused.
+/// Whether a password has the hash of a text, hashed on lent memory, whatever that held. `absent` is how
+/// many bytes the password has behind a null pointer. Returns 0 if it has, and -35 if it has not; else the
+/// code of the call's first fault, or -32 if the text is in no such variant's grammar, or the code of the
+/// first fault of the request that the text stands for, or -25 if `memory` has another length than that
+/// request's blocks, or -22 if memory for the bytes of the text was refused.
 #[unsafe(no_mangle)]
 pub extern "C" fn argon2_c_verify(
     alloc: Global,
@@ -24,6 +26,7 @@ pub extern "C" fn argon2_c_verify(
     text: &[u8],
     pwd: &[u8],
     absent: usize,
+    memory: &mut [Words],
 ) -> i32
     ensures refused { (e : ℤ)
         → call_refusal algorithm has_text (length text.now) (length pwd.now) absent ≡ Some e
@@ -31,7 +34,8 @@ pub extern "C" fn argon2_c_verify(
     ensures said { (v : Said)
         → call_refusal algorithm has_text (length text.now) (length pwd.now) absent ≡ None
         → Says algorithm text.now v
-        → (result ≡ verify_code algorithm pwd.now absent v) ⊎ (result ≡ MEMORY_ALLOCATION_ERROR) }
+        → (result ≡ verify_code algorithm pwd.now absent (length memory.old) v)
+        ⊎ (result ≡ MEMORY_ALLOCATION_ERROR) }
     ensures unsaid { call_refusal algorithm has_text (length text.now) (length pwd.now) absent
         ≡ None
         → ((v : Said) → Says algorithm text.now v → ⊥)
@@ -43,7 +47,7 @@ pub extern "C" fn argon2_c_verify(
         return code;
     }
     match decoded(alloc, algorithm, text) {
-        Ok(shown) => compared(alloc, algorithm, &shown, pwd, absent),
+        Ok(shown) => compared(alloc, algorithm, &shown, pwd, absent, memory),
         Err(code) => code,
     }
 }
@@ -165,8 +169,15 @@ fn decoded(alloc: Global, algorithm: u32, text: &[u8]) -> Result<Decoded, i32>
 }
 
 // Whether a password has this hash.
-fn compared(alloc: Global, algorithm: u32, shown: &Decoded, pwd: &[u8], absent: usize) -> i32
-    ensures { (result ≡ verify_code algorithm pwd.now absent (said shown.now))
+fn compared(
+    alloc: Global,
+    algorithm: u32,
+    shown: &Decoded,
+    pwd: &[u8],
+    absent: usize,
+    memory: &mut [Words],
+) -> i32
+    ensures { (result ≡ verify_code algorithm pwd.now absent (length memory.old) (said shown.now))
         ⊎ (result ≡ MEMORY_ALLOCATION_ERROR) }
 {
     let Ok(mut out) = vec![in alloc; 0u8; shown.tag.len()] else {
@@ -174,12 +185,12 @@ fn compared(alloc: Global, algorithm: u32, shown: &Decoded, pwd: &[u8], absent: 
     };
     let request = shown_request(algorithm, absent, shown);
     let code = argon2_c_hash(
-        alloc,
         &request,
         pwd,
         shown.salt.as_slice(),
         &[],
         &[],
+        memory,
         out.as_mut_slice(),
     );
     if code != OK {

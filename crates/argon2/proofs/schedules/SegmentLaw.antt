@@ -1,6 +1,6 @@
 -- Segments that are filled on the parts of a memory, slice by slice, lead to the tag.
-use Rattle.std.proofs.Common.{◌≡◌, ℕ, zero, suc, ◌+◌, ◌-◌, ◌*◌, ◌/◌, ◌%◌, ◌<◌, ◌≤◌, inl, inr, List, [], map, length, sym, ap, ◌∙◌, subst, arith}
-use Rattle.std.specs.Prelude.{drop, slice_index_or}
+use Rattle.std.proofs.Common.{◌≡◌, ℕ, zero, suc, ◌+◌, ◌-◌, ◌*◌, ◌/◌, ◌%◌, ◌<◌, ◌≤◌, inl, inr, List, [], map, length, refl, sym, ap, ◌∙◌, subst, arith}
+use Rattle.std.specs.Prelude.{drop, slice_index_or, take}
 use Rattle.std.specs.List.{range_with_len}
 use Rattle.std.proofs.Math.Nat.{mod-lt, mul-le-mul_right}
 use Rattle.std.proofs.lemmas.Nat.{div-add-mod', div-mul-add, mod-mul-add, mul-add-lt}
@@ -10,17 +10,17 @@ use Rattle.std.proofs.lemmas.List.FromFn.{get_or-map-range_with_len, length-map-
 use Rattle.argon2_base.specs.Block.{bytes_of}
 use Rattle.argon2_base.specs.LongHash.{long_hash}
 use Rattle.argon2.specs.Rfc9106.{Context, FirstColumns, Memory, Sizes, block_count, block_of, first_block, lane_length, last_block, segment_length, tag_of}
-use Rattle.argon2.specs.Segments.{AreParts, FillsSegment, IsFilledBySegments, last_of_slice, segment_in, slice_length, slices_after, slices_before}
+use Rattle.argon2.specs.Segments.{AreParts, BeginsSlices, FillsSegment, IsFilledBySegments, last_of_slice, segment_in, slice_length, slices_after, slices_before}
 use Rattle.argon2.specs.Watching.{HasBlocksUpTo, begun}
 use Rattle.argon2.proofs.recurrence.PermittedPlaces.{in_slice}
-use Rattle.argon2.proofs.schedules.Filling.{filled_at_first, next_pass, turn_count-later_slice}
+use Rattle.argon2.proofs.schedules.Filling.{filled_at_first, next_pass, turn_count-later_pass, turn_count-later_slice}
 use Rattle.argon2.proofs.schedules.InMemory.{place_below}
 use Rattle.argon2.proofs.schedules.LastColumn.{xor_lanes_cong}
 use Rattle.argon2.proofs.schedules.Schedules.{turn_count-le}
 use Rattle.argon2.proofs.schedules.SegmentParts.{column_below}
 
 -- a memory that stands slice after slice, lane after lane
-in_lanes : Context → Memory → Memory
+pub in_lanes : Context → Memory → Memory
 in_lanes ctx memory =
     let s = segment_length ctx in
     map (λ place.
@@ -104,7 +104,7 @@ slice_above s k slice i small from = elim (cases_lt slice k) [
 ]
 
 -- a slice whose segments are filled is filled
-slice_fills : (ctx : Context) → Sizes ctx → (first : FirstColumns) (pass slice : ℕ) (memory memory' : Memory) → slice < 4
+pub slice_fills : (ctx : Context) → Sizes ctx → (first : FirstColumns) (pass slice : ℕ) (memory memory' : Memory) → slice < 4
     → ((lane : ℕ) → lane < ctx.p_cost → FillsSegment ctx pass slice lane (slices_before ctx slice memory)
     (segment_in ctx slice lane memory) (segment_in ctx slice lane memory') (slices_after ctx slice memory))
     → slices_before ctx slice memory' ≡ slices_before ctx slice memory
@@ -156,26 +156,51 @@ slice_fills ctx sizes first pass slice memory memory' four fills before after h 
           ∙ h.old r l (k * s + i) turn a (omega arith) (omega arith));
     }
 
+-- a first slice that was begun is where pass 0 begins
+pub slices_begun : (ctx : Context) (first : FirstColumns) (old memory : Memory)
+    → BeginsSlices ctx first old (take (slice_length ctx) memory)
+    → HasBlocksUpTo ctx first 0 (λ _. begun ctx 0 0) (in_lanes ctx memory)
+slices_begun ctx first old memory is = filled_at_first ctx is.sizes first (in_lanes ctx memory) (record {
+  size = length-in_lanes ctx memory;
+  columns = λ lane column l small.
+      let s = segment_length ctx in
+      let two = is.sizes.two_columns in
+      let within = mul-add-lt lane s column ctx.p_cost l (omega arith) in
+      let zero' : lane * lane_length ctx + column ≡ lane * lane_length ctx + (0 * s + column) = omega arith in
+      let place : (0 * ctx.p_cost + lane) * s + column ≡ lane * s + column = omega arith in
+      ap (λ n. slice_index_or (in_lanes ctx memory) n []) zero'
+      ∙ in_lanes_at ctx memory 0 lane column (omega arith) l (omega arith)
+      ∙ ap (λ n. slice_index_or memory n []) place
+      ∙ sym (get_or-take (slice_length ctx) memory (lane * s + column) [] (omega arith))
+      ∙ is.columns lane column l small;
+})
+
+-- after the last pass the last column's hash is the tag
+pub slices_give_tag : (ctx : Context) → Sizes ctx → (password salt : List ℕ) (n : ℕ) (memory : Memory) (last : ℕ)
+    → suc last ≡ ctx.t_cost
+    → HasBlocksUpTo ctx (first_block ctx password salt n) (suc last) (λ _. begun ctx (suc last) 0) (in_lanes ctx memory)
+    → long_hash n (bytes_of (last_of_slice ctx (slices_after ctx 2 memory))) ≡ tag_of ctx password salt n
+unfolding tag_of last_block
+slices_give_tag ctx sizes password salt n memory last passes h =
+    let s = segment_length ctx in
+    let p = ctx.p_cost in
+    let first = first_block ctx password salt n in
+    let two = sizes.two_columns in
+    let later = turn_count-later_pass ctx last in
+    let pass : last ≡ ctx.t_cost - 1 = omega arith in
+    ap (λ block. long_hash n (bytes_of block)) (xor_lanes_cong ctx _ _ (λ lane l.
+    let place : 3 * slice_length ctx + (lane * s + (s - 1)) ≡ (3 * p + lane) * s + (s - 1) = omega arith in
+    let column : 3 * s + (s - 1) ≡ lane_length ctx - 1 = omega arith in
+    get_or-drop (3 * slice_length ctx) memory (lane * s + (s - 1)) []
+    ∙ ap (λ n. slice_index_or memory n []) place
+    ∙ sym (in_lanes_at ctx memory 3 lane (s - 1) (omega arith) l (omega arith))
+    ∙ h.old last lane (3 * s + (s - 1)) refl l (omega arith) (omega arith)
+    ∙ ap (block_of ctx first last lane) column
+    ∙ ap (λ r. block_of ctx first r lane (lane_length ctx - 1)) pass))
+
 module _ (ctx : Context) (first : FirstColumns) (memory : ℕ → ℕ → Memory) (is : IsFilledBySegments ctx first memory) where
   sizes : Sizes ctx
   sizes = is.begins.1.sizes
-
-  -- the first slice is where pass 0 begins
-  begins_filled : HasBlocksUpTo ctx first 0 (λ _. begun ctx 0 0) (in_lanes ctx (memory 0 0))
-  begins_filled = filled_at_first ctx sizes first (in_lanes ctx (memory 0 0)) (record {
-    size = length-in_lanes ctx (memory 0 0);
-    columns = λ lane column l small.
-        let s = segment_length ctx in
-        let two = sizes.two_columns in
-        let within = mul-add-lt lane s column ctx.p_cost l (omega arith) in
-        let zero' : lane * lane_length ctx + column ≡ lane * lane_length ctx + (0 * s + column) = omega arith in
-        let place : (0 * ctx.p_cost + lane) * s + column ≡ lane * s + column = omega arith in
-        ap (λ n. slice_index_or (in_lanes ctx (memory 0 0)) n []) zero'
-        ∙ in_lanes_at ctx (memory 0 0) 0 lane column (omega arith) l (omega arith)
-        ∙ ap (λ n. slice_index_or (memory 0 0) n []) place
-        ∙ sym (get_or-take (slice_length ctx) (memory 0 0) (lane * s + column) [] (omega arith))
-        ∙ is.begins.1.columns lane column l small;
-  })
 
   -- the slices of a pass are filled one after the other
   slices_filled : (pass slice : ℕ) → pass < ctx.t_cost → slice ≤ 4
@@ -191,37 +216,21 @@ module _ (ctx : Context) (first : FirstColumns) (memory : ℕ → ℕ → Memory
   -- so are the passes
   passes_filled : (pass : ℕ) → pass < ctx.t_cost
       → HasBlocksUpTo ctx first pass (λ _. begun ctx pass 0) (in_lanes ctx (memory pass 0))
-  passes_filled zero t = begins_filled
+  passes_filled zero t = slices_begun ctx first is.begins.0 (memory 0 0) is.begins.1
   passes_filled (suc pass) t =
       subst (λ (m : Memory). HasBlocksUpTo ctx first (suc pass) (λ _. begun ctx (suc pass) 0) (in_lanes ctx m))
       (sym (is.next pass t))
       (next_pass ctx first pass (in_lanes ctx (memory pass 4))
       (slices_filled pass 4 (omega arith) (omega arith) (passes_filled pass (omega arith))))
 
-  -- the last slice has the last column
-  last_filled : last_of_slice ctx (slices_after ctx 2 (memory (ctx.t_cost - 1) 4)) ≡ last_block ctx first
-  unfolding last_block
-  last_filled =
-      let s = segment_length ctx in
-      let p = ctx.p_cost in
-      let last = ctx.t_cost - 1 in
-      let some = sizes.some_pass in
-      let two = sizes.two_columns in
-      let later = turn_count-later_slice ctx last 3 in
-      let h = slices_filled last 4 (omega arith) (omega arith) (passes_filled last (omega arith)) in
-      xor_lanes_cong ctx _ _ (λ lane l.
-      let place : 3 * slice_length ctx + (lane * s + (s - 1)) ≡ (3 * p + lane) * s + (s - 1) = omega arith in
-      let column : 3 * s + (s - 1) ≡ lane_length ctx - 1 = omega arith in
-      get_or-drop (3 * slice_length ctx) (memory last 4) (lane * s + (s - 1)) []
-      ∙ ap (λ n. slice_index_or (memory last 4) n []) place
-      ∙ sym (in_lanes_at ctx (memory last 4) 3 lane (s - 1) (omega arith) l (omega arith))
-      ∙ h.new lane (3 * s + (s - 1)) l (omega arith) (omega arith)
-      ∙ ap (block_of ctx first last lane) column)
-
--- the last column's hash is the tag
+-- so the last column's hash is the tag
 pub segments_give_tag : (ctx : Context) (password salt : List ℕ) (n : ℕ) (memory : ℕ → ℕ → Memory)
     → IsFilledBySegments ctx (first_block ctx password salt n) memory
     → long_hash n (bytes_of (last_of_slice ctx (slices_after ctx 2 (memory (ctx.t_cost - 1) 4)))) ≡ tag_of ctx password salt n
-unfolding tag_of
 segments_give_tag ctx password salt n memory is =
-    ap (λ block. long_hash n (bytes_of block)) (last_filled ctx (first_block ctx password salt n) memory is)
+    let first = first_block ctx password salt n in
+    let some = is.begins.1.sizes.some_pass in
+    let last = ctx.t_cost - 1 in
+    slices_give_tag ctx is.begins.1.sizes password salt n (memory last 4) last (omega arith)
+    (next_pass ctx first last (in_lanes ctx (memory last 4)) (slices_filled ctx first memory is last 4 (omega arith)
+    (omega arith) (passes_filled ctx first memory is last (omega arith))))
