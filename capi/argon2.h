@@ -8,7 +8,7 @@
  * What each function answers is the contract of a function of the crate argon2_c; docs/DIFFERENCES.md
  * lists what differs from the reference. Where an answer is not ARGON2_OK, nothing was written, except that
  * argon2_verify_ctx writes the tag of a password that does not match. Outputs may overlap inputs and each other.
- * All functions may be called by several threads at once.
+ * All functions may be called by several threads at once. A call takes up to 32 KiB of the caller's stack.
  */
 #ifndef ARGON2_H
 #define ARGON2_H
@@ -64,7 +64,7 @@ extern "C" {
 #define ARGON2_MIN_SECRET UINT32_C(0)
 #define ARGON2_MAX_SECRET UINT32_C(0xFFFFFFFF)
 
-/* Flags of a context: wipe the password, or the secret, once it is hashed. */
+/* Flags of a context: wipe the password, or the secret, once it is hashed, before the tag is written. */
 #define ARGON2_DEFAULT_FLAGS UINT32_C(0)
 #define ARGON2_FLAG_CLEAR_PASSWORD (UINT32_C(1) << 0)
 #define ARGON2_FLAG_CLEAR_SECRET (UINT32_C(1) << 1)
@@ -118,7 +118,7 @@ typedef enum Argon2_ErrorCodes {
 
 /* Writes the address of so many bytes of memory, aligned as malloc's, into the first argument, or leaves NULL there.
  * The result is ignored. A callback may call each function of this library, and may leave by longjmp or an
- * exception. */
+ * exception. What it changes in the context changes nothing of the call. */
 typedef int (*allocate_fptr)(uint8_t **memory, size_t bytes_to_allocate);
 
 /* Takes the memory back, last of all that a call does. */
