@@ -130,7 +130,7 @@ stream_after _ stream = stream
 abbrev pub accepted_text : Accepted → List ℕ
 accepted_text Current = codes "text is current"
 accepted_text Rehashed = codes "text is renewed"
-accepted_text Kept = codes "text is kept: out of memory"
+accepted_text Kept = codes "text is kept"
 
 -- what a refusal prints
 abbrev pub login_error_text : LoginError → List ℕ

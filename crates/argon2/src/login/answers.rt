@@ -14,7 +14,8 @@ pub enum Accepted {
     Current,
     /// The text had others. It is now one that was made of the password under the target.
     Rehashed,
-    /// The text has others, and stays: memory for a new one was refused.
+    /// The text has others, and stays: there was no memory for a new one, or a file with accounts could
+    /// not be written.
     Kept,
 }
 
@@ -25,7 +26,7 @@ impl fmt::Display for Accepted {
         match self {
             Accepted::Current => f.write_str("text is current"),
             Accepted::Rehashed => f.write_str("text is renewed"),
-            Accepted::Kept => f.write_str("text is kept: out of memory"),
+            Accepted::Kept => f.write_str("text is kept"),
         }
     }
 }
