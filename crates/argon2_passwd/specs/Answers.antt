@@ -16,7 +16,7 @@ use Rattle.argon2.specs.Made.{IsFresh}
 use Rattle.argon2.specs.declared.login.answers.Accepted.{Accepted}
 use Rattle.argon2.specs.declared.login.answers.Accepted.TheVariants.{Rehashed}
 use Rattle.argon2.specs.declared.accounts.error.AccountError.{AccountError}
-use Rattle.argon2_store.specs.AccountFile.{AddsOrNone, Call, IsReady, Serves, names_of}
+use Rattle.argon2_store.specs.AccountFile.{AddsOrNone, Call, IsReady, Serves, names_of, store_of}
 use Rattle.argon2_store.specs.Adding.{IsFirstRefused}
 use Rattle.argon2_store.specs.declared.account_file.AccountFile.{AccountFile}
 use Rattle.argon2_store.specs.declared.error.FileError.{FileError}
@@ -143,60 +143,72 @@ RefusesLine failure es before after = (k : ℕ) × (why : AccountError) × (fail
 abbrev pub IsOpened : {S : Type 0} {g : Ghosts S} → (List ℕ → Store → Type 0) → List ℕ → Terms → AccountFile S g → Type 0
 IsOpened Has path terms file = IsReady terms file × Has path (names_of file)
 
+-- no file was opened, or its store was left as this one
+abbrev pub IsLeft : {S : Type 0} → Type 0 → Option S → Option S → Type 0
+IsLeft Unopened left None = Unopened
+IsLeft Unopened left (Some store) = left ≡ Some store
+
 module _ {S : Type 0} (g : Ghosts S) (Holds : List ℕ → List ℕ → Type 0) (Has : List ℕ → Store → Type 0) where
-  -- a call on the file at a path, which was opened under the choices and their secret
-  abbrev pub IsCalled : {X : Type 0} → Choices → List ℕ → (List ℕ → Call X) → Result X FileError → Type 0
-  IsCalled choices path call result = (secret drawn : List ℕ) × (before after : AccountFile S g)
+  -- all that was done with the file at a path, which was opened under the choices and their secret
+  abbrev pub IsDone : Choices → List ℕ → (List ℕ → AccountFile S g → AccountFile S g → Type 0) → (Option S → Type 0) → Type 0
+  IsDone choices path Does Becomes = (secret drawn : List ℕ) × (before after : AccountFile S g)
       × IsSecret Holds choices.secret_file secret × IsOpened Has path (terms_by choices secret) before
-      × Serves (call drawn) result before after
+      × Does drawn before after × Becomes (Some (store_of after))
 
-  -- a change of the text of a name
-  abbrev pub IsEdited : Choices → List ℕ → Edit → List ℕ → Option (List ℕ) → Type 0
-  IsEdited choices path act name input = (breaks_lines act name ≡ false) × (first second : List ℕ)
-      × AreRead act input first second × IsCalled choices path (call_of act name first second) (Ok tt)
+  -- that was one call
+  abbrev pub IsCalled : {X : Type 0} → Choices → List ℕ → (List ℕ → Call X) → Result X FileError → (Option S → Type 0) → Type 0
+  IsCalled choices path call result = IsDone choices path (λ drawn. Serves (call drawn) result)
 
-  -- what the file has, a line for each name
-  abbrev pub IsShown : Choices → List ℕ → View → Option (List ℕ) → Option (List ℕ) → Type 0
-  IsShown choices path view old new = (secret : List ℕ) × (file : AccountFile S g)
-      × IsSecret Holds choices.secret_file secret × IsOpened Has path (terms_by choices secret) file
-      × Appends old new (lines_of view (entries (names_of file)))
+  -- that was a login with the password
+  abbrev pub IsLogin : Choices → List ℕ → List ℕ → Result Accepted FileError → Option (List ℕ) → (Option S → Type 0) → Type 0
+  IsLogin choices path name result input Becomes =
+      OfPassword (λ password. IsCalled choices path (logging_in name password) result Becomes) input
 
-  -- a fact of the entries that a known input has, and of the file at a path as it was opened and as it is left
+  -- that was a change of the text of a name, by the passwords that are read
+  abbrev pub IsEdited : Choices → List ℕ → Edit → List ℕ → Result (Unit {0}) FileError → Option (List ℕ) → (Option S → Type 0) → Type 0
+  IsEdited choices path act name result input Becomes = (breaks_lines act name ≡ false) × (first second : List ℕ)
+      × AreRead act input first second × IsCalled choices path (call_of act name first second) result Becomes
+
+  -- nothing was done with it, and this is a fact of its names
+  abbrev pub IsRead : Choices → List ℕ → (Store → Type 0) → (Option S → Type 0) → Type 0
+  IsRead choices path Shows = IsDone choices path (λ drawn before after. (after ≡ before) × Shows (names_of before))
+
+  -- that was the addition of the entries that a known input has, and the answer to it
   abbrev pub IsImported : Choices → List ℕ → (List (List ℕ × List ℕ) → AccountFile S g → AccountFile S g → Type 0)
-      → Option (List ℕ) → Type 0
-  IsImported choices path Ends input = (secret : List ℕ) × (es : List (List ℕ × List ℕ)) × (before after : AccountFile S g)
-      × IfSome input (λ bytes. es ≡ entries_in bytes) × IsSecret Holds choices.secret_file secret
-      × IsOpened Has path (terms_by choices secret) before × Ends es before after
+      → Option (List ℕ) → (Option S → Type 0) → Type 0
+  IsImported choices path Adds input Becomes = (es : List (List ℕ × List ℕ))
+      × IfSome input (λ bytes. es ≡ entries_in bytes) × IsDone choices path (λ drawn. Adds es) Becomes
 
   -- what is asked for is answered
-  abbrev pub IsAnswered : Asked → Option (List ℕ) → Option (List ℕ) → Option (List ℕ) → Type 0
-  IsAnswered help input old new = Appends old new HELP.now
-  IsAnswered version input old new = Appends old new VERSION.now
-  IsAnswered (hash choices) input old new =
-      IsReplied Holds choices (λ terms drawn line. IsHashReply terms drawn input line) old new
-  IsAnswered (check choices text) input old new =
-      IsReplied Holds choices (λ terms drawn line. IsCheckReply terms drawn text input line) old new
-  IsAnswered (verify choices path name) input old new = (accepted : Accepted)
-      × OfPassword (λ password. IsCalled choices path (logging_in name password) (Ok accepted)) input
-      × Appends old new (accepted_text accepted ++ 10 ∷ [])
-  IsAnswered (edit choices path act name) input old new = IsEdited choices path act name input × Keeps old new
-  IsAnswered (show choices path view) input old new = IsShown choices path view old new
-  IsAnswered (import choices path) input old new =
-      IsImported choices path (λ es. AddsOrNone es (Ok tt)) input × Keeps old new
+  abbrev pub IsAnswered : Asked → Option (List ℕ) → Option (List ℕ) → Option (List ℕ) → (Option S → Type 0) → Type 0
+  IsAnswered help input old new Becomes = Appends old new HELP.now × Becomes None
+  IsAnswered version input old new Becomes = Appends old new VERSION.now × Becomes None
+  IsAnswered (hash choices) input old new Becomes =
+      IsReplied Holds choices (λ terms drawn line. IsHashReply terms drawn input line) old new × Becomes None
+  IsAnswered (check choices text) input old new Becomes =
+      IsReplied Holds choices (λ terms drawn line. IsCheckReply terms drawn text input line) old new × Becomes None
+  IsAnswered (verify choices path name) input old new Becomes = (accepted : Accepted)
+      × IsLogin choices path name (Ok accepted) input Becomes × Appends old new (accepted_text accepted ++ 10 ∷ [])
+  IsAnswered (edit choices path act name) input old new Becomes =
+      IsEdited choices path act name (Ok tt) input Becomes × Keeps old new
+  IsAnswered (show choices path view) input old new Becomes =
+      IsRead choices path (λ names. Appends old new (lines_of view (entries names))) Becomes
+  IsAnswered (import choices path) input old new Becomes =
+      IsImported choices path (λ es. AddsOrNone es (Ok tt)) input Becomes × Keeps old new
 
   -- what is asked for is refused
-  abbrev pub IsRefused : Asked → Option (List ℕ) → Type 0
-  IsRefused help input = ⊥
-  IsRefused version input = ⊥
-  IsRefused (hash choices) input = IsRefusedBy Holds choices (λ terms. HasNone input)
-  IsRefused (check choices text) input = IsRefusedBy Holds choices (λ terms. Denies terms text input)
-  IsRefused (verify choices path name) input = HasNone input ⊎ IsRefusedBy Holds choices (λ terms. ⊥)
-      ⊎ OfPassword (λ password. (e : AccountError)
-      × IsCalled choices path (logging_in name password) (Err (Account e))) input
-  IsRefused (edit choices path act name) input =
-      IsTrue (breaks_lines act name) ⊎ AreUnread act input ⊎ IsRefusedBy Holds choices (λ terms. ⊥)
-      ⊎ ((first second : List ℕ) × (e : AccountError) × AreRead act input first second
-      × IsCalled choices path (call_of act name first second) (Err (Account e)))
-  IsRefused (show choices path view) input = IsRefusedBy Holds choices (λ terms. ⊥)
-  IsRefused (import choices path) input = IsRefusedBy Holds choices (λ terms. ⊥)
-      ⊎ ((failure : Failure) × IsImported choices path (RefusesLine failure) input)
+  abbrev pub IsRefused : Asked → Option (List ℕ) → (Option S → Type 0) → Type 0
+  IsRefused help input Becomes = ⊥
+  IsRefused version input Becomes = ⊥
+  IsRefused (hash choices) input Becomes = IsRefusedBy Holds choices (λ terms. HasNone input) × Becomes None
+  IsRefused (check choices text) input Becomes =
+      IsRefusedBy Holds choices (λ terms. Denies terms text input) × Becomes None
+  IsRefused (verify choices path name) input Becomes =
+      ((HasNone input ⊎ IsRefusedBy Holds choices (λ terms. ⊥)) × Becomes None)
+      ⊎ ((e : AccountError) × IsLogin choices path name (Err (Account e)) input Becomes)
+  IsRefused (edit choices path act name) input Becomes =
+      ((IsTrue (breaks_lines act name) ⊎ AreUnread act input ⊎ IsRefusedBy Holds choices (λ terms. ⊥)) × Becomes None)
+      ⊎ ((e : AccountError) × IsEdited choices path act name (Err (Account e)) input Becomes)
+  IsRefused (show choices path view) input Becomes = IsRefusedBy Holds choices (λ terms. ⊥) × Becomes None
+  IsRefused (import choices path) input Becomes = (IsRefusedBy Holds choices (λ terms. ⊥) × Becomes None)
+      ⊎ ((failure : Failure) × IsImported choices path (RefusesLine failure) input Becomes)

@@ -20,11 +20,13 @@ pub use run::run;
 
 fn main(rt: HostRuntime) -> ExitCode {
     let (mut output, mut errors) = (rt.stdout(), rt.stderr());
+    let mut left = None;
     let status = match words(&rt) {
         Ok(args) => run(
             rt.alloc(),
             args.as_slice(),
             &mut Machine::new(&rt),
+            &mut left,
             &mut rt.reader(),
             &mut output,
             &mut errors,

@@ -15,9 +15,9 @@ use std::random::RandomSource;
 // The most bytes that a secret may have.
 const LONGEST_SECRET: usize = 4096;
 
-/// Where the program finds the secret, random bytes and accounts.
+/// Where the program finds the secret, random bytes and accounts. It opens one file.
 pub trait Place {
-    ghost use Rattle.std.specs.Prelude.{◌≡◌, ℕ, List, IfErr, IfOk};
+    ghost use Rattle.std.specs.Prelude.{◌≡◌, ℕ, List, IfErr, IfOk, OnErr};
     ghost use Rattle.argon2.specs.Accounts.{AreTerms};
     ghost use Rattle.argon2.specs.Login.{Store as Texts};
     ghost use Rattle.argon2.specs.Made.{target_of};
@@ -33,11 +33,14 @@ pub trait Place {
     // The file at a path has these names with their texts.
     ghost keeps: { List ℕ → Texts → Type 0 };
 
+    // No file with accounts was opened.
+    ghost unopened: { Self → Type 0 };
+
     /// The secret in the file at a path.
     ///
     /// # Errors
     /// The file can't be read, or has not 1 to 4096 bytes.
-    fn secret(&mut self, path: &str) -> Result<Vec<u8>, Failure>
+    fn secret(&self, path: &str) -> Result<Vec<u8>, Failure>
         ensures held { IfOk result (λ secret. holds path.now secret.items) }
         ensures failed { IfErr result (λ failure. status_of failure ≡ 3) };
 
@@ -45,7 +48,7 @@ pub trait Place {
     ///
     /// # Errors
     /// The system gives none.
-    fn seed(&mut self) -> Result<[u8; 32], Failure>
+    fn seed(&self) -> Result<[u8; 32], Failure>
         ensures { IfErr result (λ failure. status_of failure ≡ 3) };
 
     /// The accounts in the file at a path, which is made where there is none.
@@ -58,11 +61,13 @@ pub trait Place {
         target: Argon2<'key>,
         bound: Bound,
     ) -> Result<AccountFile<'key, Self::File>, Failure>
+        requires { unopened self.old }
         ensures kept { IfOk result (λ file. keeps path.now (names_of file)) }
         ensures ready { IfOk result
             (IsReady (record { target = target_of target.entry; bound = bound })) }
         ensures refused { IfErr result (λ failure. status_of failure ≡ 1
-            → ¬ (AreTerms (record { target = target_of target.entry; bound = bound }))) };
+            → ¬ (AreTerms (record { target = target_of target.entry; bound = bound }))) }
+        ensures untouched { OnErr result (unopened self.new) };
 }
 
 /// The machine that the program runs on.
@@ -89,7 +94,9 @@ impl Place for Machine<'_> {
     // Of names nothing is known.
     ghost keeps = { λ path names. ⊤ };
 
-    fn secret(&mut self, path: &str) -> Result<Vec<u8>, Failure> {
+    ghost unopened = { λ machine. ⊤ };
+
+    fn secret(&self, path: &str) -> Result<Vec<u8>, Failure> {
         let mut secret = Vec::new(self.rt.alloc());
         let file = fs::open(self.rt, path).or(Err(Failure::Secret))?;
         match file
@@ -106,7 +113,7 @@ impl Place for Machine<'_> {
         Ok(secret)
     }
 
-    fn seed(&mut self) -> Result<[u8; 32], Failure> {
+    fn seed(&self) -> Result<[u8; 32], Failure> {
         let mut seed = [0; 32];
         match self.rt.fill_bytes(&mut seed) {
             Ok(()) => Ok(seed),

@@ -5,8 +5,8 @@ ghost use Rattle.std.specs.Io.KnownBytes.{Appends, Keeps};
 ghost use Rattle.argon2.specs.Accounts.{AreTerms, terms_of};
 ghost use Rattle.argon2.specs.Login.{accepted_text};
 ghost use Rattle.argon2.specs.Made.{target_of};
-ghost use Rattle.argon2_passwd.specs.Answers.{IsAnswered, IsCheckReply, IsHashReply, IsRefused, IsSecret, terms_by};
-ghost use Rattle.argon2_passwd.specs.Arguments.{Asked, asked, asked_by, choices_of};
+ghost use Rattle.argon2_passwd.specs.Answers.{Denies, HasNone, IsAnswered, IsCheckReply, IsHashReply, IsLeft, IsRefused, IsRefusedBy, IsSecret, terms_by};
+ghost use Rattle.argon2_passwd.specs.Arguments.{asked, asked_by, choices_of};
 ghost use Rattle.argon2_passwd.specs.Failures.{status_of};
 
 use crate::arguments::Command;
@@ -84,32 +84,36 @@ fails. Where it is not 0, standard error says why.
 /// the usage lines, which `errors` gets, and neither `input` nor `output` is touched. Status 3: a file, a
 /// stream, random bytes or a request for memory failed.
 /// With 1 and 3 the failure's text is written to `errors`, and with 1 nothing to `output`. Where `errors`
-/// can't be written, the status stays.
+/// can't be written, the status stays. `left` is the store of the file that was opened.
 pub fn run<P: Place, R: BufRead, W: Write, E: Write>(
     alloc: Global,
     args: &[String],
     place: &mut P,
+    left: &mut Option<P::File>,
     input: &mut R,
     output: &mut W,
     errors: &mut E,
 ) -> u8
+    requires { P.unopened place.old }
     ensures status { result ≤ 3 }
     ensures usage { (result ≡ 2) ↔ IsNone (asked_by (map string_bytes args.now)) }
     ensures unread { result ≡ 2 → Keeps (R.remaining input.old) (R.remaining input.new) }
     ensures unwritten { result ≡ 2 → Keeps (W.contents output.old) (W.contents output.new) }
+    ensures unopened { result ≡ 2 → P.unopened place.new }
     ensures answered { result ≡ 0 → IfSome (asked_by (map string_bytes args.now))
         (λ asked. IsAnswered P.File.Store P.holds P.keeps asked (R.remaining input.old)
-        (W.contents output.old) (W.contents output.new)) }
+        (W.contents output.old) (W.contents output.new) (IsLeft (P.unopened place.new) left.new)) }
     ensures quiet { result ≡ 0 → Keeps (E.contents errors.old) (E.contents errors.new) }
     ensures refused { result ≡ 1 → IfSome (asked_by (map string_bytes args.now))
-        (λ asked. IsRefused P.File.Store P.holds P.keeps asked (R.remaining input.old))
+        (λ asked. IsRefused P.File.Store P.holds P.keeps asked (R.remaining input.old)
+        (IsLeft (P.unopened place.new) left.new))
         × Keeps (W.contents output.old) (W.contents output.new) }
 {
     let Some(command) = Command::parsed(args) else {
         let _ = writeln!(errors, "{USAGE}");
         return 2;
     };
-    match answer(alloc, command, place, input, output) {
+    match answer(alloc, command, place, left, input, output) {
         Ok(()) => 0,
         Err(failure) => fail(errors, failure),
     }
@@ -129,13 +133,17 @@ fn answer<P: Place, R: BufRead, W: Write>(
     alloc: Global,
     command: Command<'_>,
     place: &mut P,
+    left: &mut Option<P::File>,
     input: &mut R,
     output: &mut W,
 ) -> Result<(), Failure>
+    requires { P.unopened place.old }
     ensures ok { OnOk result (IsAnswered P.File.Store P.holds P.keeps (asked command.entry)
-        (R.remaining input.old) (W.contents output.old) (W.contents output.new)) }
+        (R.remaining input.old) (W.contents output.old) (W.contents output.new)
+        (IsLeft (P.unopened place.new) left.new)) }
     ensures err { IfErr result (λ failure. status_of failure ≡ 1
         → IsRefused P.File.Store P.holds P.keeps (asked command.entry) (R.remaining input.old)
+        (IsLeft (P.unopened place.new) left.new)
         × Keeps (W.contents output.old) (W.contents output.new)) }
 {
     match command {
@@ -150,16 +158,18 @@ fn answer<P: Place, R: BufRead, W: Write>(
             write_line(output, reply.as_str())
         }
         Command::Verify(options, file, name) => {
-            let accepted = accounts::verify(alloc, &options, place, file, name, input)?;
+            let accepted = accounts::verify(alloc, &options, place, left, file, name, input)?;
             write_accepted(output, accepted)
         }
         Command::Edit(options, file, edit, name) => accounts::edit(
-            alloc, &options, place, file, edit, name, input,
+            alloc, &options, place, left, file, edit, name, input,
         ),
         Command::Show(options, file, view) => accounts::show(
-            alloc, &options, place, file, view, output,
+            alloc, &options, place, left, file, view, output,
         ),
-        Command::Import(options, file) => accounts::import(alloc, &options, place, file, input),
+        Command::Import(options, file) => accounts::import(
+            alloc, &options, place, left, file, input,
+        ),
     }
 }
 
@@ -167,7 +177,7 @@ fn answer<P: Place, R: BufRead, W: Write>(
 fn hash<P: Place, R: BufRead>(
     alloc: Global,
     options: &Options<'_>,
-    place: &mut P,
+    place: &P,
     input: &mut R,
 ) -> Result<String, Failure>
     ensures ok { IfOk result (λ text. (secret drawn : List ℕ)
@@ -175,8 +185,8 @@ fn hash<P: Place, R: BufRead>(
         × IsHashReply (terms_by (choices_of options.now) secret) drawn (R.remaining input.old)
         (string_bytes text)) }
     ensures err { IfErr result (λ failure. status_of failure ≡ 1
-        → IsRefused P.File.Store P.holds P.keeps
-        (Asked.hash (choices_of options.now)) (R.remaining input.old)) }
+        → IsRefusedBy P.holds (choices_of options.now)
+        (λ terms. HasNone (R.remaining input.old))) }
 {
     let secret = secret(alloc, place, options)?;
     let policy = policy(alloc, options, secret.as_slice())?;
@@ -188,7 +198,7 @@ fn hash<P: Place, R: BufRead>(
 fn check<P: Place, R: BufRead>(
     alloc: Global,
     options: &Options<'_>,
-    place: &mut P,
+    place: &P,
     text: &str,
     input: &mut R,
 ) -> Result<String, Failure>
@@ -197,8 +207,8 @@ fn check<P: Place, R: BufRead>(
         × IsCheckReply (terms_by (choices_of options.now) secret) drawn text.now
         (R.remaining input.old) (string_bytes reply)) }
     ensures err { IfErr result (λ failure. status_of failure ≡ 1
-        → IsRefused P.File.Store P.holds P.keeps
-        (Asked.check (choices_of options.now) text.now) (R.remaining input.old)) }
+        → IsRefusedBy P.holds (choices_of options.now)
+        (λ terms. Denies terms text.now (R.remaining input.old))) }
 {
     let secret = secret(alloc, place, options)?;
     let policy = policy(alloc, options, secret.as_slice())?;
@@ -207,7 +217,7 @@ fn check<P: Place, R: BufRead>(
 }
 
 // The secret that the options name, none where they name no file.
-fn secret<P: Place>(alloc: Global, place: &mut P, options: &Options<'_>) -> Result<Vec<u8>, Failure>
+fn secret<P: Place>(alloc: Global, place: &P, options: &Options<'_>) -> Result<Vec<u8>, Failure>
     ensures ok { IfOk result (λ secret.
         IsSecret P.holds (choices_of options.now).secret_file secret.items) }
     ensures err { IfErr result (λ failure. status_of failure ≡ 3) }

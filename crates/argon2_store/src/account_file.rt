@@ -292,6 +292,13 @@ impl<'key, S: Store> AccountFile<'key, S> {
         self.table.get(name)
     }
 
+    /// The store that holds the names.
+    pub fn into_store(self) -> S
+        ensures { result ≡ store_of self.entry }
+    {
+        self.table.store
+    }
+
     /// The names and their texts, in the order of the names' bytes.
     pub fn texts(&self) -> Iter<'_, String, PasswordHash>
         ensures { named_values result ≡ entries (names_of self.now) }

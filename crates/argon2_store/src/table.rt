@@ -38,7 +38,7 @@ const ACCOUNTS: u32 = 0;
 #[derive(Drop)]
 pub(crate) struct Table<S: Store> {
     alloc: Global,
-    store: S,
+    pub(crate) store: S,
     row: Row,
     names: Names,
     ghost kept: { IsKept S.Store store (values_in names) } by { IsKept-prop S.Store store (values_in names) },

@@ -1,14 +1,14 @@
 //! Accounts in a file.
 
-ghost use Rattle.std.specs.Prelude.{◌≡◌, ◌⊎◌, Ok, None, IfErr, IfOk, OnOk, map};
+ghost use Rattle.std.specs.Prelude.{◌≡◌, ◌⊎◌, Ok, None, IfErr, IfOk, OnErr, OnOk, map};
 ghost use Rattle.std.specs.FinMap.{entries};
 ghost use Rattle.std.specs.Io.KnownBytes.{Appends, Keeps};
 ghost use Rattle.rand_core.specs.Stream.{fill_bytes};
-ghost use Rattle.argon2.specs.Accounts.{AreTerms, logging_in};
+ghost use Rattle.argon2.specs.Accounts.{AreTerms};
 ghost use Rattle.argon2_base.specs.PhcFields.{phc_of};
 ghost use Rattle.argon2_store.specs.AccountFile.{AddsOrNone, Serves, names_of};
 ghost use Rattle.argon2_store.specs.Adding.{entry_of};
-ghost use Rattle.argon2_passwd.specs.Answers.{AreRead, AreUnread, IsCalled, IsEdited, IsImported, IsOpened, IsRefused, IsRefusedBy, IsShown, OfPassword, RefusesLine, breaks_lines, call_of, entry_line, lines_of, terms_by};
+ghost use Rattle.argon2_passwd.specs.Answers.{AreRead, AreUnread, IsEdited, IsImported, IsLeft, IsLogin, IsOpened, IsRead, IsRefused, IsRefusedBy, RefusesLine, breaks_lines, call_of, entry_line, lines_of, terms_by};
 ghost use Rattle.argon2_passwd.specs.Arguments.{Asked, choices_of};
 ghost use Rattle.argon2_passwd.specs.Failures.{status_of};
 
@@ -33,22 +33,27 @@ pub fn verify<P: Place, R: BufRead>(
     alloc: Global,
     options: &Options<'_>,
     place: &mut P,
+    left: &mut Option<P::File>,
     file: &str,
     name: &str,
     input: &mut R,
 ) -> Result<Accepted, Failure>
-    ensures ok { IfOk result (λ accepted. OfPassword (λ password.
-        IsCalled P.File.Store P.holds P.keeps (choices_of options.now) file.now
-        (logging_in name.now password) (Ok accepted)) (R.remaining input.old)) }
+    requires { P.unopened place.old }
+    ensures ok { IfOk result (λ accepted. IsLogin P.File.Store P.holds P.keeps
+        (choices_of options.now) file.now name.now (Ok accepted) (R.remaining input.old)
+        (IsLeft (P.unopened place.new) left.new)) }
     ensures err { IfErr result (λ failure. status_of failure ≡ 1
         → IsRefused P.File.Store P.holds P.keeps
-        (Asked.verify (choices_of options.now) file.now name.now) (R.remaining input.old)) }
+        (Asked.verify (choices_of options.now) file.now name.now) (R.remaining input.old)
+        (IsLeft (P.unopened place.new) left.new)) }
 {
     let password = password(alloc, input)?;
     let secret = secret(alloc, place, options)?;
     let mut rng = ChaCha20Rng::from_seed(place.seed()?);
     let mut accounts = open(options, place, file, secret.as_slice())?;
-    Ok(accounts.login(&mut rng, name, password.as_slice())?)
+    let done = accounts.login(&mut rng, name, password.as_slice());
+    *left = Some(accounts.into_store());
+    Ok(done?)
 }
 
 /// Changes the text of a name in a file, by the next passwords.
@@ -56,16 +61,20 @@ pub fn edit<P: Place, R: BufRead>(
     alloc: Global,
     options: &Options<'_>,
     place: &mut P,
+    left: &mut Option<P::File>,
     file: &str,
     edit: Edit,
     name: &str,
     input: &mut R,
 ) -> Result<(), Failure>
+    requires { P.unopened place.old }
     ensures ok { OnOk result (IsEdited P.File.Store P.holds P.keeps (choices_of options.now)
-        file.now edit name.now (R.remaining input.old)) }
+        file.now edit name.now (Ok tt) (R.remaining input.old)
+        (IsLeft (P.unopened place.new) left.new)) }
     ensures err { IfErr result (λ failure. status_of failure ≡ 1
         → IsRefused P.File.Store P.holds P.keeps
-        (Asked.edit (choices_of options.now) file.now edit name.now) (R.remaining input.old)) }
+        (Asked.edit (choices_of options.now) file.now edit name.now) (R.remaining input.old)
+        (IsLeft (P.unopened place.new) left.new)) }
 {
     if breaks_lines(edit, name) {
         return Err(Failure::Name);
@@ -74,14 +83,16 @@ pub fn edit<P: Place, R: BufRead>(
     let secret = secret(alloc, place, options)?;
     let mut rng = ChaCha20Rng::from_seed(place.seed()?);
     let mut accounts = open(options, place, file, secret.as_slice())?;
-    Ok(call(
+    let done = call(
         &mut accounts,
         &mut rng,
         edit,
         name,
         first.as_slice(),
         second.as_slice(),
-    )?)
+    );
+    *left = Some(accounts.into_store());
+    Ok(done?)
 }
 
 /// Writes what a file has, a line for each name.
@@ -89,20 +100,26 @@ pub fn show<P: Place, W: Write>(
     alloc: Global,
     options: &Options<'_>,
     place: &mut P,
+    left: &mut Option<P::File>,
     file: &str,
     view: View,
     output: &mut W,
 ) -> Result<(), Failure>
-    ensures ok { OnOk result (IsShown P.File.Store P.holds P.keeps (choices_of options.now)
-        file.now view (W.contents output.old) (W.contents output.new)) }
+    requires { P.unopened place.old }
+    ensures ok { OnOk result (IsRead P.File.Store P.holds P.keeps (choices_of options.now)
+        file.now (λ names. Appends (W.contents output.old) (W.contents output.new)
+        (lines_of view (entries names))) (IsLeft (P.unopened place.new) left.new)) }
     ensures err { IfErr result (λ failure. status_of failure ≡ 1
         → IsRefused P.File.Store P.holds P.keeps
         (Asked.show (choices_of options.now) file.now view) None
+        (IsLeft (P.unopened place.new) left.new)
         × Keeps (W.contents output.old) (W.contents output.new)) }
 {
     let secret = secret(alloc, place, options)?;
     let accounts = open(options, place, file, secret.as_slice())?;
-    Ok(write_all(&accounts, view, output)?)
+    let written = write_all(&accounts, view, output);
+    *left = Some(accounts.into_store());
+    Ok(written?)
 }
 
 /// Adds all names and texts of the input, each a line, to a file, or none.
@@ -110,21 +127,26 @@ pub fn import<P: Place, R: BufRead>(
     alloc: Global,
     options: &Options<'_>,
     place: &mut P,
+    left: &mut Option<P::File>,
     file: &str,
     input: &mut R,
 ) -> Result<(), Failure>
+    requires { P.unopened place.old }
     ensures ok { OnOk result (IsImported P.File.Store P.holds P.keeps (choices_of options.now)
-        file.now (λ es. AddsOrNone es (Ok tt)) (R.remaining input.old)) }
+        file.now (λ es. AddsOrNone es (Ok tt)) (R.remaining input.old)
+        (IsLeft (P.unopened place.new) left.new)) }
     ensures err { IfErr result (λ failure. status_of failure ≡ 1
-        → IsRefusedBy P.holds (choices_of options.now) (λ terms. ⊥)
+        → (IsRefusedBy P.holds (choices_of options.now) (λ terms. ⊥) × P.unopened place.new)
         ⊎ IsImported P.File.Store P.holds P.keeps (choices_of options.now) file.now
-        (RefusesLine failure) (R.remaining input.old)) }
+        (RefusesLine failure) (R.remaining input.old) (IsLeft (P.unopened place.new) left.new)) }
 {
     let bytes = read_all(alloc, input)?;
     let entries = entries(alloc, bytes.as_slice())?;
     let secret = secret(alloc, place, options)?;
     let mut accounts = open(options, place, file, secret.as_slice())?;
-    add_all(&mut accounts, entries.as_slice())
+    let added = add_all(&mut accounts, entries.as_slice());
+    *left = Some(accounts.into_store());
+    added
 }
 
 // The accounts in a file, which is left alone where the parameters are above the bound.
@@ -134,10 +156,12 @@ fn open<'key, P: Place>(
     file: &str,
     secret: &'key [u8],
 ) -> Result<AccountFile<'key, P::File>, Failure>
+    requires { P.unopened place.old }
     ensures ok { IfOk result (IsOpened P.keeps file.now
         (terms_by (choices_of options.now) secret.now)) }
     ensures err { IfErr result (λ failure. status_of failure ≡ 1
         → ¬ (AreTerms (terms_by (choices_of options.now) secret.now))) }
+    ensures untouched { OnErr result (P.unopened place.new) }
 {
     place.open(file, target(options, secret)?, options.bound())
 }

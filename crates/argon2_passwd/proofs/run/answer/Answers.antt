@@ -1,5 +1,5 @@
 use Rattle.std.proofs.Common.{inl, inr, ⊎_elim}
-use Rattle.argon2_passwd.specs.Answers.{IsAnswered}
+use Rattle.argon2_passwd.specs.Answers.{IsAnswered, IsLeft}
 use Rattle.argon2_passwd.specs.Arguments.{asked}
 use Rattle.argon2_passwd.proofs.Refusals.{err_then, keeps_same, ok_then, passed}
 use Rattle.argon2_passwd.proofs.run.answer.Goals as goal
@@ -16,15 +16,15 @@ returns-in_ok-reply-in-Check-clause-ok g c =
     let done = c.in_ok-reply-in-Check.ensures.ok in
     ok_then {Q = IsAnswered g.P.File.Store g.P.Place.holds g.P.Place.keeps (asked c.args.command)
     (g.R.Read.remaining c.args.input.now) (g.W.Write.contents c.args.output.now)
-    (g.W.Write.contents c.write_line-in-Check.new.output)}
+    (g.W.Write.contents c.write_line-in-Check.new.output) (IsLeft (g.P.Place.unopened c.args.place.now) c.args.left.now)}
     _ c.write_line-in-Check.ensures.ok
-    (λ appended. rw c.in-Check.is (done.0, done.1, _, done.2, done.3, (rw c.as_str-in-Check.ensures.value at appended)))
+    (λ appended. rw c.in-Check.is ((done.0, done.1, _, done.2, done.3, (rw c.as_str-in-Check.ensures.value at appended)), c.requires))
 
 pub returns-in_ok-accepted-in-Verify-clause-ok : goal.returns-in_ok-accepted-in-Verify-clause-ok
 returns-in_ok-accepted-in-Verify-clause-ok g c =
     ok_then {Q = IsAnswered g.P.File.Store g.P.Place.holds g.P.Place.keeps (asked c.args.command)
     (g.R.Read.remaining c.args.input.now) (g.W.Write.contents c.args.output.now)
-    (g.W.Write.contents c.write_accepted.new.output)}
+    (g.W.Write.contents c.write_accepted.new.output) (IsLeft (g.P.Place.unopened c.verify.new.place) c.verify.new.left)}
     _ c.write_accepted.ensures.ok
     (λ appended. rw c.in-Verify.is
     (c.in_ok-accepted-in-Verify.accepted, c.in_ok-accepted-in-Verify.ensures.ok, appended))
@@ -33,7 +33,7 @@ pub returns-in-Edit-clause-ok : goal.returns-in-Edit-clause-ok
 returns-in-Edit-clause-ok g c =
     ok_then {Q = IsAnswered g.P.File.Store g.P.Place.holds g.P.Place.keeps (asked c.args.command)
     (g.R.Read.remaining c.args.input.now) (g.W.Write.contents c.args.output.now)
-    (g.W.Write.contents c.args.output.now)}
+    (g.W.Write.contents c.args.output.now) (IsLeft (g.P.Place.unopened c.edit.new.place) c.edit.new.left)}
     _ c.edit.ensures.ok (λ done. rw c.in-Edit.is (done, keeps_same _))
 
 pub returns-in-Edit-clause-err : goal.returns-in-Edit-clause-err
@@ -46,7 +46,7 @@ pub returns-in-Import-clause-ok : goal.returns-in-Import-clause-ok
 returns-in-Import-clause-ok g c =
     ok_then {Q = IsAnswered g.P.File.Store g.P.Place.holds g.P.Place.keeps (asked c.args.command)
     (g.R.Read.remaining c.args.input.now) (g.W.Write.contents c.args.output.now)
-    (g.W.Write.contents c.args.output.now)}
+    (g.W.Write.contents c.args.output.now) (IsLeft (g.P.Place.unopened c.import.new.place) c.import.new.left)}
     _ c.import.ensures.ok (λ done. rw c.in-Import.is (done, keeps_same _))
 
 pub returns-in-Import-clause-err : goal.returns-in-Import-clause-err

@@ -1,8 +1,8 @@
-use Rattle.std.proofs.Common.{◌≡◌, ◌∙◌, ℕ, List, Option, Some, None, Ok, ap, inr, map}
+use Rattle.std.proofs.Common.{◌≡◌, ◌∙◌, ℕ, List, [], Option, Some, None, Ok, ap, inr, map}
 use Rattle.std.specs.Prelude.{IfSome}
 use Rattle.argon2_store.specs.AccountFile.{AddsOrNone}
 use Rattle.argon2_store.specs.Adding.{entry_of}
-use Rattle.argon2_passwd.specs.Answers.{IsImported, entries_in}
+use Rattle.argon2_passwd.specs.Answers.{IsImported, IsLeft, entries_in}
 use Rattle.argon2_passwd.specs.Arguments.{choices_of}
 use Rattle.argon2_passwd.proofs.Refusals.{err_then, ok_then}
 use Rattle.argon2_passwd.proofs.run.accounts.import.Goals as goal
@@ -18,27 +18,35 @@ pub returns-clause-ok : goal.returns-clause-ok
 returns-clause-ok g c =
     let input = g.R.Read.remaining c.args.input.now in
     ok_then {Q = IsImported g.P.File.Store g.P.Place.holds g.P.Place.keeps (choices_of c.args.options.now) c.args.file.now
-    (λ es. AddsOrNone es (Ok tt)) input} _ c.add_all.ensures.ok (λ added. (
-      c.in_ok-secret.secret.items,
+    (λ es. AddsOrNone es (Ok tt)) input (IsLeft (g.P.Place.unopened c.open.new.place) (Some c.into_store.result))} _ c.add_all-added.ensures.ok (λ added. (
       map entry_of c.in_ok-entries.entries.items,
-      c.in_ok-accounts.accounts,
-      c.add_all.new.accounts,
       of_known input _ _ _ c.in_ok-bytes.ensures.ok c.as_slice.ensures.value c.in_ok-entries.ensures,
-      c.in_ok-secret.ensures.ok,
-      (rw c.as_slice-2.ensures.value at c.in_ok-accounts.ensures.ok),
-      (rw c.as_slice-3.ensures.value at added),
+      (
+        c.in_ok-secret.secret.items,
+        [],
+        c.in_ok-accounts.accounts,
+        c.add_all-added.new.accounts,
+        c.in_ok-secret.ensures.ok,
+        (rw c.as_slice-2.ensures.value at c.in_ok-accounts.ensures.ok),
+        (rw c.as_slice-3.ensures.value at added),
+        ap Some c.into_store.ensures,
+      ),
     ))
 
 pub returns-clause-err : goal.returns-clause-err
 returns-clause-err g c =
-    err_then _ c.add_all.ensures.err (λ failure refused. inr (
-      c.in_ok-secret.secret.items,
+    err_then _ c.add_all-added.ensures.err (λ failure refused. inr (
       map entry_of c.in_ok-entries.entries.items,
-      c.in_ok-accounts.accounts,
-      c.add_all.new.accounts,
       of_known (g.R.Read.remaining c.args.input.now) _ _ _ c.in_ok-bytes.ensures.ok c.as_slice.ensures.value
           c.in_ok-entries.ensures,
-      c.in_ok-secret.ensures.ok,
-      (rw c.as_slice-2.ensures.value at c.in_ok-accounts.ensures.ok),
-      (rw c.as_slice-3.ensures.value at refused),
+      (
+        c.in_ok-secret.secret.items,
+        [],
+        c.in_ok-accounts.accounts,
+        c.add_all-added.new.accounts,
+        c.in_ok-secret.ensures.ok,
+        (rw c.as_slice-2.ensures.value at c.in_ok-accounts.ensures.ok),
+        (rw c.as_slice-3.ensures.value at refused),
+        ap Some c.into_store.ensures,
+      ),
     ))
