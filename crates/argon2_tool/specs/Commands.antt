@@ -16,7 +16,8 @@ use Rattle.argon2.specs.Settings.{Settings}
 use Rattle.argon2_tool.specs.Failures.{HasNone}
 use Rattle.argon2_tool.specs.Request.{IsRequest, request_words, settings_asked, unless}
 use Rattle.argon2_tool.specs.declared.arguments.Command.{Command}
-use Rattle.argon2_tool.specs.declared.arguments.Command.TheVariants.{Digest, Long, Tag, Phc as PhcCommand, Verify}
+use Rattle.argon2_tool.specs.declared.arguments.Command.TheVariants.{Digest, Long, Tag, Phc as PhcCommand, Verify, Help, Version}
+use Rattle.argon2_tool.specs.declared.run.TheConstants.{HELP, VERSION}
 
 -- the numbers of a command are in range
 abbrev pub IsCommand : Command → Type 0
@@ -25,6 +26,8 @@ IsCommand (Long len) = len ≤ 1024
 IsCommand (Tag request len salt) = IsRequest request × (len ≤ 1024)
 IsCommand (PhcCommand request salt) = IsRequest request
 IsCommand (Verify text) = ⊤
+IsCommand Help = ⊤
+IsCommand Version = ⊤
 
 -- the words of a command
 abbrev pub words_of : Command → List (List ℕ)
@@ -33,6 +36,8 @@ words_of (Long len) = codes "long" ∷ decimal len ∷ []
 words_of (Tag request len salt) = codes "tag" ∷ request_words request ++ decimal len ∷ salt.now ∷ []
 words_of (PhcCommand request salt) = codes "phc" ∷ request_words request ++ salt.now ∷ []
 words_of (Verify text) = codes "verify" ∷ text.now ∷ []
+words_of Help = codes "--help" ∷ []
+words_of Version = codes "--version" ∷ []
 
 -- the words spell the command
 abbrev pub Spells : List (List ℕ) → Command → Type 0
@@ -74,6 +79,8 @@ Replies (Long len) message line = long_reply len message ≡ Ok line
 Replies (Tag request len salt) password line = tag_reply (settings_asked request) len salt.now password ≡ Ok line
 Replies (PhcCommand request salt) password line = IsPhcReply (settings_asked request) salt.now password line
 Replies (Verify text) password line = IsVerifyReply text.now password line
+Replies Help input line = line ≡ HELP.now
+Replies Version input line = line ≡ VERSION.now
 
 -- where the input is known, the command's reply to it is appended to a known output, as a line
 abbrev pub IsAnswered : Command → Option (List ℕ) → Option (List ℕ) → Option (List ℕ) → Type 0

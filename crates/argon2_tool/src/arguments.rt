@@ -19,6 +19,10 @@ pub enum Command<'a> {
     Phc(Request<'a>, &'a str),
     /// `verify TEXT`: whether a PHC text accepts a password.
     Verify(&'a str),
+    /// `--help`: what the program does.
+    Help,
+    /// `--version`: the program's version.
+    Version,
 }
 
 impl<'a> Command<'a> {
@@ -39,6 +43,8 @@ impl<'a> Command<'a> {
             "tag" => Command::tag_of(values),
             "phc" => Command::phc_of(values),
             "verify" => Command::verify_of(values),
+            "--help" if values.is_empty() => Some(Command::Help),
+            "--version" if values.is_empty() => Some(Command::Version),
             _ => None,
         }
     }

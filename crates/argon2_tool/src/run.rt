@@ -17,6 +17,29 @@ mod texts;
 const USAGE: &str =
     "usage: argon2-tool digest N | long N | tag ALG VER M T P LEN SALT | phc ALG VER M T P SALT | verify TEXT";
 
+// The last line has its line feed from `write_line`.
+const HELP: &str = "\
+argon2-tool reads all of standard input and writes one line.
+
+    argon2-tool digest N                         BLAKE2b digest of N bytes, 1 to 64
+    argon2-tool long N                           hash of any length (RFC 9106, 3.3) of N bytes, 1 to 1024
+    argon2-tool tag ALG VER M T P LEN SALT       tag of LEN bytes, 4 to 1024, of a password
+    argon2-tool phc ALG VER M T P SALT           PHC string of a password, to store
+    argon2-tool verify TEXT                      ok if the PHC string accepts the password
+    argon2-tool --help                           this help
+    argon2-tool --version                        the version
+
+ALG is argon2d, argon2i or argon2id. VER is 16 or 19. M is the memory in blocks of 1024 bytes, T the
+number of passes and P the number of lanes. Digests and tags are hexadecimal. A line break at the end
+of the input counts: printf '%s' writes none.
+
+    printf 'correct horse' | argon2-tool phc argon2id 19 19456 2 1 \"$(openssl rand -hex 8)\"
+
+The status is 0 if the line is written. It is 1 if the command is refused or fails, which standard error
+explains, and 2 if the arguments spell no command.";
+
+const VERSION: &str = "argon2-tool 0.6.0";
+
 /// Runs the command that `args` spell on `input`, and returns the exit status.
 ///
 /// Status 0: the answer is written to `output`, as a line, and nothing to `errors`. Status 1: the
@@ -91,6 +114,8 @@ fn reply<R: Read>(alloc: Global, command: &Command<'_>, input: &mut R) -> Result
         Command::Tag(request, len, salt) => tag::tag(alloc, &request, len as usize, salt, input),
         Command::Phc(request, salt) => texts::phc(alloc, &request, salt, input),
         Command::Verify(text) => texts::verify(alloc, text, input),
+        Command::Help => Ok(String::from_str(alloc, HELP)?),
+        Command::Version => Ok(String::from_str(alloc, VERSION)?),
     }
 }
 
