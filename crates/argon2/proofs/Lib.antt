@@ -1,4 +1,3 @@
-pub mod AccountLemmas
 pub mod InitialHashing
 mod LentMemory
 mod RefusalLemmas

@@ -9,7 +9,7 @@ use Rattle.argon2.specs.declared.bound.BoundError.{BoundError}
 use Rattle.argon2.specs.declared.bound.BoundError.TheVariants.{TooExpensive, Refused}
 use Rattle.argon2.specs.Stored.{Accepts, AcceptsBy, IsVerifyAnswer}
 use Rattle.argon2.specs.ListedParameters.{asked_of}
-use Rattle.argon2.specs.Login.{IsText}
+use Rattle.argon2.specs.NamedTexts.{IsText}
 use Rattle.argon2.specs.Settings.{Parameters}
 use Rattle.argon2.specs.Rfc9106.{block_count_for}
 

@@ -1,4 +1,3 @@
-pub mod Accounts
 pub mod Argon2
 pub use Rattle.argon2_base.specs.Blake2b
 pub use Rattle.argon2_base.specs.Block
@@ -12,6 +11,7 @@ pub mod ListedParameters
 pub mod Login
 pub use Rattle.argon2_base.specs.LongHash
 pub mod Made
+pub mod NamedTexts
 pub mod Params
 pub use Rattle.argon2_base.specs.PhcFields
 pub use Rattle.argon2_base.specs.PhcText

@@ -1,13 +1,8 @@
 -- The login store: what callers see of it, and what each call does.
-use Rattle.std.specs.Prelude.{◌≡◌, ◌≢◌, ℕ, ◌<◌, List, [], ◌∷◌, map, String, string_bytes, Option, Some, None, IsSome, IsSomeAnd, Result, Ok, Err, codes}
-use Rattle.std.specs.BTreeMap.{BTreeMap}
-use Rattle.std.specs.FinMap.{FinMap, empty, from_entries, get, insert}
-use Rattle.std.specs.Ordering.{nat_cmp}
-use Rattle.std.specs.Cmp.Lexicographic.{slice_cmp}
-use Rattle.rand_core.specs.Stream.{Stream, fill_bytes}
-use Rattle.argon2_base.specs.PhcFields.{phc_of}
+use Rattle.std.specs.Prelude.{◌≡◌, ℕ, ◌<◌, List, Option, Some, None, IsSome, IsSomeAnd, Result, Ok, Err, codes}
+use Rattle.std.specs.FinMap.{empty, get, insert}
+use Rattle.argon2_base.specs.Error.{hash_error_text}
 use Rattle.argon2_base.specs.PhcText.{Phc, PhcText, HasBytes}
-use Rattle.argon2_base.specs.declared.phc.hash.PasswordHash.{PasswordHash}
 use Rattle.argon2_base.specs.declared.error.password_hash.Error.{Error as HashError}
 use Rattle.argon2_base.specs.declared.error.password_hash.Error.TheVariants.{OutputSize}
 use Rattle.argon2.specs.declared.login.Login.{Login}
@@ -15,21 +10,19 @@ use Rattle.argon2.specs.declared.login.answers.Accepted.{Accepted}
 use Rattle.argon2.specs.declared.login.answers.Accepted.TheVariants.{Current, Kept, Rehashed}
 use Rattle.argon2.specs.declared.login.answers.LoginError.{LoginError}
 use Rattle.argon2.specs.declared.login.answers.LoginError.TheVariants.{NameTaken, NameUnknown, OutOfMemory, Refused, Text}
-use Rattle.argon2.specs.Stored.{AcceptsBy, IsVerifyAnswer, shown_settings}
-use Rattle.argon2.specs.Made.{Target, IsTarget, made, sized, target_of, tag_length}
-use Rattle.argon2_base.specs.Error.{hash_error_text}
+use Rattle.argon2.specs.declared.login.target.Target.{Target as LoginTarget}
+use Rattle.argon2.specs.Made.{Target, IsTarget, made, tag_length, target_of}
+use Rattle.argon2.specs.NamedTexts.{IsCurrent, IsText, Store, values_of}
+use Rattle.argon2.specs.Stored.{AcceptsBy, IsVerifyAnswer}
 
--- what texts say, by the bytes of their names
-abbrev pub Store : Type 0
-Store = FinMap (slice_cmp nat_cmp) Phc
+-- what a contract sees of the code's target
+abbrev pub target_value : LoginTarget → Target
+target_value target = target_of target.argon2
 
--- names with texts as what they say
-abbrev pub named_values : {Y : Type 0} → List (String Y × PasswordHash) → List (List ℕ × Phc)
-named_values texts = map (λ e. (string_bytes e.0, phc_of e.1)) texts
-
--- a tree of them as such a map
-abbrev pub values_of : {Y : Type 0} → BTreeMap (String Y) PasswordHash → Store
-values_of texts = from_entries (named_values texts.entries)
+-- a target whose hashes fit into texts, or the refusal of longer ones
+abbrev pub IsNewTarget : Target → Result LoginTarget HashError → Type 0
+IsNewTarget target (Ok own) = IsTarget target × (target_value own ≡ target)
+IsNewTarget target (Err e) = (e ≡ OutputSize) × (64 < tag_length target.settings)
 
 -- the texts that a login store has
 abbrev pub store_of : Login → Store
@@ -37,16 +30,7 @@ store_of login = values_of login.texts
 
 -- what a login store renews its texts by
 abbrev pub login_target : Login → Target
-login_target login = target_of login.target.argon2
-
--- the store after these names are added with their texts, one after the other
-abbrev pub added : List (List ℕ × Phc) → Store → Store
-added [] store = store
-added (e ∷ es) store = added es (insert store e.0 e.1)
-
--- the texts of all other names stay
-abbrev pub KeepsOthers : List ℕ → Store → Store → Type 0
-KeepsOthers name before after = (other : List ℕ) → other ≢ name → get after other ≡ get before other
+login_target login = target_value login.target
 
 -- a store without names, of a target whose hashes fit into texts, or the refusal of longer ones
 abbrev pub IsNew : Target → Result Login HashError → Type 0
@@ -64,10 +48,6 @@ HasPassword target store name password = IsSomeAnd (get store name) (AcceptsBy t
 pub data Event : Type 0 where
   adding : List ℕ → List ℕ → Result (Unit {0}) LoginError → Event
   logging_in : List ℕ → List ℕ → List ℕ → Result Accepted LoginError → Event
-
--- the text is one of the grammar
-abbrev pub IsText : List ℕ → Type 0
-IsText text = (v : Phc) × PhcText text v
 
 -- why `add` refuses
 abbrev pub AddRefusal : Store → List ℕ → List ℕ → LoginError → Type 0
@@ -87,10 +67,6 @@ abbrev pub LoginRefusal : Target → List ℕ → Option Phc → LoginError → 
 LoginRefusal target password None NameUnknown = Unit {0}
 LoginRefusal target password (Some v) (Refused e) = IsVerifyAnswer target.secret password v (Err e)
 LoginRefusal target password _ _ = ⊥
-
--- the text shows the target's settings, with the length of the target's hashes
-abbrev pub IsCurrent : Target → Phc → Type 0
-IsCurrent target v = shown_settings v ≡ Ok (sized target.settings)
 
 -- what an accepted login does with the name's text
 abbrev pub AcceptedStep : Target → Store → List ℕ → List ℕ → List ℕ → Phc → Accepted → Store → Type 0
@@ -117,12 +93,6 @@ LoginStep target before (logging_in name password drawn answer) after =
 -- a call takes the store from one state to another
 abbrev pub Steps : Event → Login → Login → Type 0
 Steps event old new = LoginStep (login_target old) (store_of old) event (store_of new)
-
--- what the generator has left: a text is made anew of 16 bytes, also where it is not kept
-abbrev pub stream_after : {E : Type 0} → Result Accepted E → Stream → Stream
-stream_after (Ok Rehashed) stream = (fill_bytes 16 stream).1
-stream_after (Ok Kept) stream = (fill_bytes 16 stream).1
-stream_after _ stream = stream
 
 -- ---- texts
 

@@ -1,13 +1,13 @@
 -- What is true of a login store after every list of calls.
 use Rattle.std.specs.Prelude.{◌≡◌, ◌≢◌, ℕ, List, [], ◌∷◌, if◌then◌else◌, Option, Some, None, Ok, IsSomeAnd}
-use Rattle.std.specs.Option.{option_or}
 use Rattle.std.specs.Str.{bytes_eq}
 use Rattle.std.specs.FinMap.{empty, get}
 use Rattle.argon2_base.specs.PhcText.{Phc, PhcText, phc_text}
 use Rattle.argon2.specs.declared.login.answers.Accepted.{Accepted}
 use Rattle.argon2.specs.declared.login.answers.Accepted.TheVariants.{Rehashed, Kept}
 use Rattle.argon2.specs.Stored.{Accepts}
-use Rattle.argon2.specs.Login.{Store, Event, adding, logging_in, LoginStep, IsCurrent}
+use Rattle.argon2.specs.Login.{Event, adding, logging_in, LoginStep}
+use Rattle.argon2.specs.NamedTexts.{Store, IsCurrent, newest}
 use Rattle.argon2.specs.Made.{Target, IsTarget, made}
 
 -- the store is what these calls, the newest first, made of the empty one
@@ -15,11 +15,6 @@ abbrev pub Run : Target → List Event → Store → Type 0
 Run target [] store = store ≡ empty
 Run target (event ∷ older) store =
     (before : Store) × Run target older before × LoginStep target before event store
-
--- what the newest of the calls for which there is something has
-abbrev pub newest : {E X : Type 0} → (E → Option X) → List E → Option X
-newest of [] = None
-newest of (event ∷ older) = option_or (of event) (newest of older)
 
 -- ---- where a name's text is from
 

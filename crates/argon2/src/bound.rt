@@ -102,8 +102,8 @@ impl Bound {
         Ok(())
     }
 
-    // Whether parameters ask for no more.
-    pub(crate) fn allows(&self, params: &Params) -> bool
+    /// Whether no cost of the parameters is above this bound's.
+    pub fn allows(&self, params: &Params) -> bool
         ensures { IsTrue result ↔ IsWithin self.now (parameters_of params.now) }
     {
         params.m_cost() <= self.m_cost

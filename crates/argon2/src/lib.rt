@@ -14,13 +14,11 @@
 //! - [`password_hash`]: hashing to texts, reading them, and verifying.
 //! - [`bound`]: the most that a stored text may ask for.
 //! - [`login`]: a store of names and texts that renews old texts.
-//! - [`accounts`]: a store of passwords: registering, logging in, changing and removing, within a bound.
 //! - [`kdf`]: key derivation.
 //! - [`laws`]: what is true of the definitions, each law as the contract of a function.
 //! - [`blake2b`], [`blake2b_long`], [`block`], [`byte_list`], [`error`], [`phc`]: the parts.
 #![tactic(auto)]
 
-pub mod accounts;
 pub mod algorithm;
 pub mod bound;
 mod context;

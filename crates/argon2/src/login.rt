@@ -9,7 +9,8 @@ ghost use Rattle.argon2_base.specs.PhcText.{Phc, PhcText};
 ghost use Rattle.argon2_base.specs.declared.error.password_hash.Error.TheVariants.{OutOfMemory as NoMemory};
 ghost use Rattle.argon2.specs.declared.login.answers.Accepted.TheVariants.{Kept};
 ghost use Rattle.argon2.specs.declared.login.answers.LoginError.TheVariants.{Refused};
-ghost use Rattle.argon2.specs.Login.{HasPassword, IsCurrent, IsNew, KeepsOthers, Steps, added, adding, logging_in, named_values, store_of, stream_after, login_target};
+ghost use Rattle.argon2.specs.Login.{HasPassword, IsNew, Steps, adding, logging_in, store_of, login_target};
+ghost use Rattle.argon2.specs.NamedTexts.{IsCurrent, KeepsOthers, added, named_values, stream_after};
 ghost use Rattle.argon2.specs.Made.{target_of};
 
 use crate::context::Argon2;
@@ -27,7 +28,7 @@ mod target;
 
 pub use answers::{Accepted, LoginError};
 pub use runs::login_runs;
-pub(crate) use target::Target;
+pub use target::Target;
 
 /// Names with their texts, and a target: the settings and the secret that texts are verified and
 /// made anew under.

@@ -9,13 +9,14 @@ use Rattle.std.specs.Str.{is_utf8}
 use Rattle.std.specs.Str.Lines.{lines}
 use Rattle.argon2_base.specs.PhcText.{Phc, PhcText, phc_text}
 use Rattle.sqlite_trees.specs.declared.store.Store.{Ghosts}
-use Rattle.argon2.specs.Accounts.{Admits, AreTerms, LogsIn, Terms, changing, logging_in, registering, removing, setting}
+use Rattle.argon2_accounts.specs.Accounts.{Admits, AreTerms, LogsIn, Terms, changing, logging_in, registering, removing, setting}
 use Rattle.argon2.specs.Argon2.{argon2id_with}
-use Rattle.argon2.specs.Login.{Store, accepted_text}
+use Rattle.argon2.specs.Login.{accepted_text}
+use Rattle.argon2.specs.NamedTexts.{Store}
 use Rattle.argon2.specs.Made.{IsFresh}
 use Rattle.argon2.specs.declared.login.answers.Accepted.{Accepted}
 use Rattle.argon2.specs.declared.login.answers.Accepted.TheVariants.{Rehashed}
-use Rattle.argon2.specs.declared.accounts.error.AccountError.{AccountError}
+use Rattle.argon2_accounts.specs.declared.error.AccountError.{AccountError}
 use Rattle.argon2_store.specs.AccountFile.{AddsOrNone, Call, IsReady, Serves, names_of, store_of}
 use Rattle.argon2_store.specs.Adding.{IsFirstRefused}
 use Rattle.argon2_store.specs.declared.account_file.AccountFile.{AccountFile}

@@ -1,8 +1,8 @@
 -- Why the program fails.
 use Rattle.std.specs.Prelude.{◌≡◌, ◌≢◌, ⊤, ℕ}
 use Rattle.argon2_base.specs.declared.error.password_hash.Error.TheVariants.{OutOfMemory}
-use Rattle.argon2.specs.declared.accounts.error.AccountError.{AccountError}
-use Rattle.argon2.specs.declared.accounts.error.AccountError.TheVariants.{Refused}
+use Rattle.argon2_accounts.specs.declared.error.AccountError.{AccountError}
+use Rattle.argon2_accounts.specs.declared.error.AccountError.TheVariants.{Refused}
 use Rattle.argon2_passwd.specs.declared.failure.Failure.{Failure}
 use Rattle.argon2_passwd.specs.declared.failure.Failure.TheVariants.{NoPassword, LongPassword, Name, Account, Line, Memory}
 use Rattle.argon2_store.specs.declared.error.FileError.{FileError}

@@ -4,8 +4,8 @@ ghost use Rattle.std.specs.Prelude.{◌≡◌, ◌≢◌};
 ghost use Rattle.std.specs.IoError.{error_kind};
 ghost use Rattle.argon2_passwd.specs.Failures.{IsMemory, IsOfAccount, IsOfFile, IsOfOpen, status_of};
 
-use argon2::accounts::AccountError;
 use argon2::password_hash;
+use argon2_accounts::AccountError;
 use argon2_store::{FileError, OpenError};
 use std::alloc::AllocError;
 use std::io;
@@ -122,7 +122,7 @@ impl From<AccountError> for Failure {
 
 /// The same of a text that can't be read.
 impl From<password_hash::Error> for Failure {
-    ghost use Rattle.argon2.specs.declared.accounts.error.AccountError.TheVariants.{Refused};
+    ghost use Rattle.argon2_accounts.specs.declared.error.AccountError.TheVariants.{Refused};
 
     ghost from_gives = { λ error. IsOfAccount (Refused error) };
 

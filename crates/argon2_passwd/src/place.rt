@@ -18,8 +18,8 @@ const LONGEST_SECRET: usize = 4096;
 /// Where the program finds the secret, random bytes and accounts. It opens one file.
 pub trait Place {
     ghost use Rattle.std.specs.Prelude.{◌≡◌, ℕ, List, IfErr, IfOk, OnErr};
-    ghost use Rattle.argon2.specs.Accounts.{AreTerms};
-    ghost use Rattle.argon2.specs.Login.{Store as Texts};
+    ghost use Rattle.argon2_accounts.specs.Accounts.{AreTerms};
+    ghost use Rattle.argon2.specs.NamedTexts.{Store as Texts};
     ghost use Rattle.argon2.specs.Made.{target_of};
     ghost use Rattle.argon2_store.specs.AccountFile.{IsReady, names_of};
     ghost use Rattle.argon2_passwd.specs.Failures.{status_of};

@@ -2,7 +2,7 @@
 
 ghost use Rattle.std.specs.Prelude.{◌≡◌, ◌↔◌, ◌≤◌, ◌++◌, ◌∷◌, [], ℕ, List, IfErr, IfOk, IfSome, IsNone, OnOk, map, string_bytes};
 ghost use Rattle.std.specs.Io.KnownBytes.{Appends, Keeps};
-ghost use Rattle.argon2.specs.Accounts.{AreTerms, terms_of};
+ghost use Rattle.argon2_accounts.specs.Accounts.{AreTerms, terms_of};
 ghost use Rattle.argon2.specs.Login.{accepted_text};
 ghost use Rattle.argon2.specs.Made.{target_of};
 ghost use Rattle.argon2_passwd.specs.Answers.{Denies, HasNone, IsAnswered, IsCheckReply, IsHashReply, IsLeft, IsRefused, IsRefusedBy, IsSecret, terms_by};
@@ -13,9 +13,9 @@ use crate::arguments::Command;
 use crate::failure::Failure;
 use crate::options::Options;
 use crate::place::Place;
-use argon2::accounts::Policy;
 use argon2::login::Accepted;
 use argon2::{Algorithm, Argon2, Version};
+use argon2_accounts::Policy;
 use rand_chacha::ChaCha20Rng;
 use rand_core::SeedableRng;
 use std::alloc::Global;

@@ -5,7 +5,6 @@
 //! the generator gives next.
 #![tactic(auto)]
 
-use argon2::accounts::{AccountError, Accounts, Policy};
 use argon2::blake2b::Blake2b;
 use argon2::blake2b_long::blake2b_long;
 use argon2::bound::Bound;
@@ -14,6 +13,7 @@ use argon2::{
     Algorithm, Argon2, AssociatedData, Block, CustomizedPasswordHasher, Kdf, KeyId, Params,
     ParamsBuilder, PasswordHash, PasswordHasher, PasswordVerifier, Version, password_hash,
 };
+use argon2_accounts::{AccountError, Accounts, Policy};
 use rand_chacha::ChaCha20Rng;
 use rand_core::{Rng, SeedableRng};
 use std::fmt::Display;

@@ -6,8 +6,8 @@ use Rattle.std.specs.FinMap.{get, insert, remove}
 use Rattle.std.specs.Prelude.{IsSomeAnd}
 use Rattle.std.specs.Str.{bytes_eq}
 use Rattle.argon2_base.specs.PhcText.{Phc, PhcText}
-use Rattle.argon2.specs.Login.{KeepsOthers, Store}
-use Rattle.argon2.specs.declared.accounts.error.AccountError.{AccountError}
+use Rattle.argon2.specs.NamedTexts.{KeepsOthers, Store}
+use Rattle.argon2_accounts.specs.declared.error.AccountError.{AccountError}
 use Rattle.argon2.proofs.login_store.Stores.{get-other, get-same}
 use Rattle.argon2_store.specs.Adding.{AddsAll, AddsName}
 use Rattle.argon2_store.proofs.NameLemmas.{remove-insert, same}

@@ -11,10 +11,10 @@ use Rattle.sqlite_trees.specs.View as view
 use Rattle.argon2_base.specs.PhcFields.{phc_of}
 use Rattle.argon2_base.specs.PhcText.{Phc}
 use Rattle.argon2_base.specs.declared.phc.hash.PasswordHash.{PasswordHash}
-use Rattle.argon2.specs.Accounts.{AccountAnswer, AccountEvent, AccountStep, Admits, HasPassword, Terms, name_of}
-use Rattle.argon2.specs.Login.{Store}
-use Rattle.argon2.specs.declared.accounts.error.AccountError.{AccountError}
-use Rattle.argon2.specs.declared.accounts.error.AccountError.TheVariants.{NameUnknown}
+use Rattle.argon2_accounts.specs.Accounts.{AccountAnswer, AccountEvent, AccountStep, Admits, HasPassword, Terms, name_of}
+use Rattle.argon2.specs.NamedTexts.{Store}
+use Rattle.argon2_accounts.specs.declared.error.AccountError.{AccountError}
+use Rattle.argon2_accounts.specs.declared.error.AccountError.TheVariants.{NameUnknown}
 use Rattle.argon2.proofs.login_store.Stores.{get-other, get-same}
 use Rattle.argon2_store.specs.AccountFile.{Answers, Call, HasCause, IfRefused, IsBeforeOrAfter, IsClosed, IsErrorAt, Runs, Serves, names_of, store_of, terms_of}
 use Rattle.argon2_store.specs.Errors.{answered, unwritten}

@@ -14,7 +14,7 @@ use Rattle.sqlite_trees.specs.declared.store.Direction.TheVariants.{Forward}
 use Rattle.sqlite_trees.specs.Tree.{IsIndex, from_key, order_of, sought}
 use Rattle.sqlite_trees.specs.View.{View, Advances, IsOrdered, with_cursor}
 use Rattle.argon2_base.specs.PhcText.{Phc, phc_text}
-use Rattle.argon2.specs.Login.{Store}
+use Rattle.argon2.specs.NamedTexts.{Store}
 use Rattle.argon2_store.specs.Rows.{TakesRow, row_of, rows_of}
 use Rattle.argon2_store.specs.Table.{IsReading}
 use Rattle.argon2_store.proofs.RowLemmas.{row_cmp-row_of}

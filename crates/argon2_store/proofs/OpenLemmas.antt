@@ -35,7 +35,7 @@ use Rattle.sqlite_store.specs.Unopened as below
 use Rattle.sqlite_store.specs.declared.catalog.Wanted.{Wanted}
 use Rattle.sqlite_store.specs.declared.store.FileStore.{FileStore}
 use Rattle.sqlite_store.specs.declared.store.open.Unopened.{Unopened}
-use Rattle.argon2.specs.Login.{Store}
+use Rattle.argon2.specs.NamedTexts.{Store}
 use Rattle.argon2_store.specs.Opening.{HoldsNames, IsUnstarted, account}
 use Rattle.argon2_store.specs.Table.{Holds, IsFresh, catalog}
 

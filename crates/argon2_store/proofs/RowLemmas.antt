@@ -15,7 +15,7 @@ use Rattle.sqlite_value.proofs.OrderLemmas.{value_cmp-Text}
 use Rattle.sqlite_trees.specs.Tree.{insert_entry, remove_entry}
 use Rattle.sqlite_trees.proofs.ListLemmas.{filter-map}
 use Rattle.argon2_base.specs.PhcText.{Phc, phc_text}
-use Rattle.argon2.specs.Login.{Store}
+use Rattle.argon2.specs.NamedTexts.{Store}
 use Rattle.argon2_store.specs.Rows.{row_of, rows_of}
 
 abbrev order : List ℕ → List ℕ → Ordering

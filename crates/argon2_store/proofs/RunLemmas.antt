@@ -10,8 +10,8 @@ use Rattle.sqlite_store.specs.Laws.{settled_at}
 use Rattle.sqlite_store.specs.declared.store.FileStore.{FileStore}
 use Rattle.sqlite_trees.specs.Tree.{Trees}
 use Rattle.sqlite_trees.specs.declared.store.Store.{Ghosts}
-use Rattle.argon2.specs.Accounts.{AccountEvent, AccountRun, AccountStep, AreTerms, Terms, adding}
-use Rattle.argon2.specs.Login.{Store}
+use Rattle.argon2_accounts.specs.Accounts.{AccountEvent, AccountRun, AccountStep, AreTerms, Terms, adding}
+use Rattle.argon2.specs.NamedTexts.{Store}
 use Rattle.argon2_store.specs.AccountFile.{AddsOrNone, Call, Copies, IsBeforeOrAfter, IsClosed, IsReady, Runs, Serves, names_of, store_of, terms_of}
 use Rattle.argon2_store.specs.Adding.{AddsAll}
 use Rattle.argon2_store.specs.Rows.{AreTexts}

@@ -17,7 +17,7 @@ use Rattle.sqlite_trees.specs.Objects.{catalog_tree}
 use Rattle.sqlite_trees.specs.Tree.{Trees, insert_entry, order_of, remove_entry}
 use Rattle.sqlite_trees.specs.View.{View, Commits, HasCause, IsFailure, IsStorable, KeepsSchema, OnlyWrites, SetsTree, doubt, is_int}
 use Rattle.argon2_base.specs.PhcText.{Phc, phc_text}
-use Rattle.argon2.specs.Login.{Store}
+use Rattle.argon2.specs.NamedTexts.{Store}
 use Rattle.argon2_store.specs.Rows.{row_of}
 use Rattle.argon2_store.specs.Table.{Changes, HasBegun, Holds, IsHonest, IsKept, IsLong, IsOpen, Leaves, Sees, StaysQuiet, Writes, changed}
 use Rattle.argon2_store.proofs.NameLemmas.{get-gone-same, insert-remove, known, remove-none}

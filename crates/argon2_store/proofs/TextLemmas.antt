@@ -18,10 +18,10 @@ use Rattle.argon2_base.specs.declared.phc.hash.PasswordHash.{PasswordHash}
 use Rattle.argon2_base.proofs.texts.Base64Lemmas.{decode_of-strict_base64, strict_base64_unique}
 use Rattle.argon2_base.proofs.texts.ParamsReading.{one_list}
 use Rattle.argon2_base.proofs.texts.PhcTextLemmas.{begins_with_dollar, first_and_left, from_params, no_item, no_list_read, no_version, none_after, same_phc}
-use Rattle.argon2.specs.Login.{Store}
-use Rattle.argon2.specs.Accounts.{AccountAnswer, AccountEvent, AccountStep, AreTerms, Changes, LogsIn, OnValue, Sets, Terms, adding, changing, logging_in, name_of, registering, removing, setting}
+use Rattle.argon2.specs.NamedTexts.{Store}
+use Rattle.argon2_accounts.specs.Accounts.{AccountAnswer, AccountEvent, AccountStep, AreTerms, Changes, LogsIn, OnValue, Sets, Terms, adding, changing, logging_in, name_of, registering, removing, setting}
 use Rattle.argon2.specs.Made.{IsFresh}
-use Rattle.argon2.specs.declared.accounts.error.AccountError.{AccountError}
+use Rattle.argon2_accounts.specs.declared.error.AccountError.{AccountError}
 use Rattle.argon2.specs.declared.login.answers.Accepted.{Accepted}
 use Rattle.argon2.specs.declared.login.answers.Accepted.TheVariants.{Current, Kept, Rehashed}
 use Rattle.argon2.proofs.login_store.Stores.{get-values_of}

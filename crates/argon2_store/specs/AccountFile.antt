@@ -7,11 +7,11 @@ use Rattle.sqlite_trees.specs.Tree.{Trees}
 use Rattle.sqlite_trees.specs.declared.store.Store.{Ghosts}
 use Rattle.sqlite_wal.specs.Recovery.{Image}
 use Rattle.argon2_base.specs.PhcText.{Phc}
-use Rattle.argon2.specs.Accounts as kept
-use Rattle.argon2.specs.Accounts.{AccountEvent, AccountStep, Admits, AreTerms, PolicyRefusal, Terms, name_of}
-use Rattle.argon2.specs.Login.{Store}
-use Rattle.argon2.specs.declared.accounts.error.AccountError.{AccountError}
-use Rattle.argon2.specs.declared.accounts.error.AccountError.TheVariants.{NameTaken, NameUnknown}
+use Rattle.argon2_accounts.specs.Accounts as kept
+use Rattle.argon2_accounts.specs.Accounts.{AccountEvent, AccountStep, Admits, AreTerms, PolicyRefusal, Terms, name_of}
+use Rattle.argon2.specs.NamedTexts.{Store}
+use Rattle.argon2_accounts.specs.declared.error.AccountError.{AccountError}
+use Rattle.argon2_accounts.specs.declared.error.AccountError.TheVariants.{NameTaken, NameUnknown}
 use Rattle.argon2.specs.declared.login.answers.Accepted.{Accepted}
 use Rattle.argon2.specs.declared.login.answers.Accepted.TheVariants.{Current}
 use Rattle.argon2_store.specs.Adding.{AddsAll, IsFirstRefused}

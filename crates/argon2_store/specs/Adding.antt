@@ -2,9 +2,9 @@
 use Rattle.std.specs.Prelude.{◌≡◌, ℕ, ◌<◌, List, [], ◌∷◌, length, slice_index_or, take, Result, Ok, Err}
 use Rattle.std.specs.Borrow.{Bor}
 use Rattle.std.specs.FinMap.{get}
-use Rattle.argon2.specs.Accounts.{Adds}
-use Rattle.argon2.specs.Login.{KeepsOthers, Store}
-use Rattle.argon2.specs.declared.accounts.error.AccountError.{AccountError}
+use Rattle.argon2_accounts.specs.Accounts.{Adds}
+use Rattle.argon2.specs.NamedTexts.{KeepsOthers, Store}
+use Rattle.argon2_accounts.specs.declared.error.AccountError.{AccountError}
 
 -- a name and its text
 abbrev pub entry_of : Bor (List ℕ) × Bor (List ℕ) → List ℕ × List ℕ

@@ -8,7 +8,7 @@ use Rattle.sqlite_trees.specs.declared.error.StoreError.{StoreError}
 use Rattle.sqlite_trees.specs.declared.error.StoreError.TheVariants as below
 use Rattle.sqlite_wal.specs.declared.error.Error.{Error as LogError}
 use Rattle.sqlite_wal.specs.declared.error.Error.TheVariants as log
-use Rattle.argon2.specs.Accounts.{account_error_text}
+use Rattle.argon2_accounts.specs.Accounts.{account_error_text}
 use Rattle.argon2_store.specs.declared.error.FileError.{FileError}
 use Rattle.argon2_store.specs.declared.error.FileError.TheVariants.{Account, OutOfMemory, Io, Damaged, Full, TooLong, Closed}
 use Rattle.argon2_store.specs.declared.error.OpenError.{OpenError}

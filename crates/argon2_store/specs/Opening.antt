@@ -15,7 +15,7 @@ use Rattle.sqlite_trees.specs.declared.store.Shape.TheVariants.{Index, Table}
 use Rattle.sqlite_wal.specs.Recovery.{Image}
 use Rattle.sqlite_value.specs.declared.value.Value.TheVariants.{Text}
 use Rattle.sqlite_value.specs.Keys.{plain}
-use Rattle.argon2.specs.Login.{Store}
+use Rattle.argon2.specs.NamedTexts.{Store}
 use Rattle.argon2_store.specs.Rows.{AreTexts, rows_of}
 
 -- there is no database yet, or one that lists no table

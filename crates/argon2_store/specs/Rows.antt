@@ -4,7 +4,7 @@ use Rattle.std.specs.FinMap.{entries, get, insert}
 use Rattle.sqlite_value.specs.declared.value.Value.TheVariants.{Text}
 use Rattle.sqlite_value.specs.Order.{Row}
 use Rattle.argon2_base.specs.PhcText.{IsPhc, Phc, phc_text}
-use Rattle.argon2.specs.Login.{Store}
+use Rattle.argon2.specs.NamedTexts.{Store}
 
 -- the row of a name and what its text says
 abbrev pub row_of : List ℕ × Phc → Row

@@ -7,9 +7,8 @@ use Rattle.sqlite_store.specs.FileStore.{IsStep, NamesFault, blamed, faults, is_
 use Rattle.sqlite_store.specs.declared.store.FileStore.{FileStore}
 use Rattle.sqlite_trees.specs.declared.store.Store.{Ghosts}
 use Rattle.sqlite_wal.specs.Recovery.{Image}
-use Rattle.argon2.specs.Accounts.{AccountEvent, AccountRun, AreTerms, HasGiven, Terms, adding, given}
-use Rattle.argon2.specs.Login.{Store}
-use Rattle.argon2.specs.Runs.{newest}
+use Rattle.argon2_accounts.specs.Accounts.{AccountEvent, AccountRun, AreTerms, HasGiven, Terms, adding, given}
+use Rattle.argon2.specs.NamedTexts.{Store, newest}
 use Rattle.argon2.specs.declared.login.answers.Accepted.{Accepted}
 use Rattle.argon2_store.specs.AccountFile.{AddsOrNone, Call, Copies, IsReady, Serves, names_of, store_of}
 use Rattle.argon2_store.specs.Opening.{HoldsNames}

@@ -1,6 +1,6 @@
 -- What a table shows.
 use Rattle.sqlite_trees.specs.declared.store.Store.{Ghosts}
-use Rattle.argon2.specs.Login.{Store}
+use Rattle.argon2.specs.NamedTexts.{Store}
 use Rattle.argon2_store.specs.Names.{values_in}
 use Rattle.argon2_store.specs.declared.table.Table.{Table}
 

@@ -17,7 +17,7 @@ use Rattle.sqlite_trees.specs.Tree.{Trees}
 use Rattle.sqlite_trees.specs.View.{View, IsClean, IsQuiet, HasCause, KeepsSchema}
 use Rattle.argon2_base.specs.PhcText.{Phc}
 use Rattle.sqlite_store.specs.Listing.{listed_from}
-use Rattle.argon2.specs.Login.{Store}
+use Rattle.argon2.specs.NamedTexts.{Store}
 use Rattle.argon2_store.specs.Opening.{account}
 use Rattle.argon2_store.specs.Rows.{rows_of}
 

@@ -5,8 +5,8 @@ ghost use Rattle.std.specs.FinMap.{entries, get};
 ghost use Rattle.std.specs.Option.{option_copied, option_map};
 ghost use Rattle.rand_core.specs.Stream.{fill_bytes};
 ghost use Rattle.argon2_base.specs.PhcFields.{phc_of};
-ghost use Rattle.argon2.specs.Accounts.{HasPassword, adding, changing, logging_in, registering, removing, setting};
-ghost use Rattle.argon2.specs.Login.{named_values};
+ghost use Rattle.argon2_accounts.specs.Accounts.{HasPassword, adding, changing, logging_in, registering, removing, setting};
+ghost use Rattle.argon2.specs.NamedTexts.{named_values};
 ghost use Rattle.argon2.specs.Made.{target_of};
 ghost use Rattle.argon2_store.specs.Adding.{entry_of};
 ghost use Rattle.argon2_store.specs.Errors.{answered};
@@ -14,10 +14,10 @@ ghost use Rattle.argon2_store.specs.Errors.{answered};
 use crate::error::{FileError, OpenError};
 use crate::opening::open_path;
 use crate::table::Table;
-use argon2::accounts::{AccountError, Policy};
 use argon2::bound::Bound;
 use argon2::login::Accepted;
 use argon2::{Argon2, PasswordHash};
+use argon2_accounts::{AccountError, Policy};
 use rand_core::Rng;
 use sqlite_disk::Disk;
 use sqlite_std_file::{FileFrom, Start};
@@ -27,7 +27,7 @@ use sqlite_trees::store::Store;
 use std::collections::btree_map::Iter;
 
 /// Names with passwords, each stored as a PHC text, in memory and in a file. Its calls are those of
-/// [`Accounts`](argon2::accounts::Accounts). Once one that changes a text returns `Ok`, the file holds the
+/// [`Accounts`](argon2_accounts::Accounts). Once one that changes a text returns `Ok`, the file holds the
 /// change, past any crash.
 ///
 /// A name is any text. Where a call returns an error, the accounts are as before it, in memory and in
@@ -328,7 +328,7 @@ impl<'key, T: Start> AccountsAt<'key, T> {
     /// Opens the accounts in the SQLite file at a path, or makes the file. Its log lies beside it, under
     /// the same name with `-wal` at its end. `start` stands for what the two files hold: one value of each
     /// type opens one file, and only `main` names the type, such as `sqlite_std_file::Wary`. `target` and
-    /// `bound` are those of [`Accounts::new`](argon2::accounts::Accounts::new).
+    /// `bound` are those of [`Accounts::new`](argon2_accounts::Accounts::new).
     ///
     /// The file stays open, and locked against other processes, until the value is dropped.
     /// An open that fails leaves the accounts in the file as they were.

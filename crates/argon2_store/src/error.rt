@@ -3,8 +3,8 @@
 ghost use Rattle.std.specs.Prelude.{◌≡◌, Some};
 ghost use Rattle.argon2_store.specs.Errors.{IsOfDatabase, IsOfPath, file_error_text, files_error, log_error, named, path_error, store_error};
 
-use argon2::accounts::AccountError;
 use argon2::password_hash::Error;
+use argon2_accounts::AccountError;
 use sqlite_std_file::OpenError as PathError;
 use sqlite_store::OpenError as UnopenedError;
 use sqlite_trees::error::StoreError;
@@ -61,7 +61,7 @@ impl From<AccountError> for FileError {
 }
 
 impl From<Error> for FileError {
-    ghost use Rattle.argon2.specs.declared.accounts.error.AccountError.TheVariants.{Refused};
+    ghost use Rattle.argon2_accounts.specs.declared.error.AccountError.TheVariants.{Refused};
     ghost use Rattle.argon2_store.specs.declared.error.FileError.TheVariants.{Account};
 
     ghost from_gives = { λ e error. error ≡ Account (Refused e) };

@@ -5,12 +5,12 @@ ghost use Rattle.std.specs.FinMap.{empty, get, entries};
 ghost use Rattle.std.specs.FinMap as map;
 ghost use Rattle.std.specs.Option.{option_copied, option_map};
 ghost use Rattle.argon2_base.specs.PhcFields.{phc_of};
-ghost use Rattle.argon2.specs.Login.{Store, named_values};
+ghost use Rattle.argon2.specs.NamedTexts.{Store, named_values};
 ghost use Rattle.argon2_store.specs.Adding.{AddsAll, AddsName, IsFirstRefused, entry_of};
 
 use argon2::PasswordHash;
-use argon2::accounts::AccountError;
 use argon2::password_hash::Error;
+use argon2_accounts::AccountError;
 use std::alloc::{AllocError, Global};
 use std::collections::BTreeMap;
 use std::collections::btree_map::Iter;

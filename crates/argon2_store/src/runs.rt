@@ -3,7 +3,7 @@
 ghost use Rattle.argon2_store.specs.Runs.{EndsRun, NamesAreRun, TextsAreKept};
 
 use crate::account_file::AccountFile;
-use argon2::accounts::account_runs;
+use argon2_accounts::account_runs;
 use sqlite_disk::Disk;
 use sqlite_store::FileStore;
 

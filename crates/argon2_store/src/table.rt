@@ -9,7 +9,7 @@ ghost use Rattle.sqlite_trees.specs.View.{HasCause, doubt};
 ghost use Rattle.sqlite_trees.specs.declared.store.Shape.TheVariants.{Index};
 ghost use Rattle.argon2_base.specs.PhcFields.{phc_of};
 ghost use Rattle.argon2_base.specs.PhcText.{phc_text};
-ghost use Rattle.argon2.specs.Login.{Store as Named, named_values};
+ghost use Rattle.argon2.specs.NamedTexts.{Store as Named, named_values};
 ghost use Rattle.argon2_store.specs.Adding.{AddsAll, IsFirstRefused, entry_of};
 ghost use Rattle.argon2_store.specs.Errors.{IsOfDatabase};
 ghost use Rattle.argon2_store.specs.Names.{values_in};
@@ -20,7 +20,7 @@ ghost use Rattle.argon2_store.specs.Table.{Changes, HasBegun, HasFailed, IsFresh
 use crate::error::OpenError;
 use crate::names::Names;
 use argon2::PasswordHash;
-use argon2::accounts::AccountError;
+use argon2_accounts::AccountError;
 use sqlite_disk::Disk;
 use sqlite_store::FileStore;
 use sqlite_trees::error::StoreError;

@@ -2,9 +2,9 @@
 //! is closed then. Where the log has been copied it is removed, and the file is opened again.
 #![tactic(auto)]
 
-use argon2::accounts::AccountError;
 use argon2::bound::Bound;
 use argon2::{Algorithm, Argon2, Params, Version};
+use argon2_accounts::AccountError;
 use argon2_store::{AccountFile, AccountsAt, FileError, OpenError};
 use sqlite_disk::Disk;
 use sqlite_std_file::{Start, Wary};

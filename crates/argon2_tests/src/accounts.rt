@@ -1,9 +1,9 @@
 use crate::drawn::Drawn;
-use argon2::accounts::{AccountError, Accounts, Policy};
 use argon2::bound::Bound;
 use argon2::login::Accepted;
 use argon2::password_hash::Error;
 use argon2::{Algorithm, Argon2, AssociatedData, ParamsBuilder, PasswordHash, Version};
+use argon2_accounts::{AccountError, Accounts, Policy};
 use std::alloc::Global;
 use std::test::Fail;
 

@@ -8,7 +8,8 @@ use Rattle.std.specs.FinMap.{empty, entries, entries_sorted, get, get-empty, is_
 use Rattle.std.specs.FinMap.Entries.{below_all}
 use Rattle.std.specs.List.{AllByRecursion}
 use Rattle.std.specs.Ordering.{is_lt, nat_cmp}
-use Rattle.argon2.specs.Login.{Store, AcceptedStep, AddStep, KeepsOthers, LoginAnswer, store_of, login_target}
+use Rattle.argon2.specs.Login.{AcceptedStep, AddStep, LoginAnswer, store_of, login_target}
+use Rattle.argon2.specs.NamedTexts.{Store, KeepsOthers}
 use Rattle.argon2.specs.Made.{Target, tag_length}
 use Rattle.argon2.specs.PhcText.{Phc, PhcText}
 use Rattle.argon2.specs.declared.login.answers.Accepted.{Accepted}

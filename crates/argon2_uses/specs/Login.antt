@@ -2,7 +2,8 @@
 use Rattle.std.specs.Prelude.{◌≡◌, ◌≤◌, ◌⊎◌, ℕ, List, Option, Some, Result, Ok, Err, IsErrAnd, IsSome, IsSomeAnd}
 use Rattle.std.specs.FinMap.{get}
 use Rattle.argon2.specs.Stored.{AcceptsBy}
-use Rattle.argon2.specs.Login.{Store, AcceptedStep, AddStep, IsNew, LoginAnswer, store_of, login_target}
+use Rattle.argon2.specs.Login.{AcceptedStep, AddStep, IsNew, LoginAnswer, store_of, login_target}
+use Rattle.argon2.specs.NamedTexts.{Store}
 use Rattle.argon2.specs.Made.{Target, IsHashAnswer, tag_length}
 use Rattle.argon2.specs.declared.login.Login.{Login}
 use Rattle.argon2.specs.declared.login.answers.Accepted.{Accepted}

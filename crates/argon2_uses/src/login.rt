@@ -4,7 +4,8 @@ ghost use Rattle.std.specs.Prelude.{◌≡◌, ◌≢◌, ◌↔◌, ◌⊎◌, 
 ghost use Rattle.std.specs.FinMap.{get};
 ghost use Rattle.rand_core.specs.Stream.{fill_bytes};
 ghost use Rattle.argon2.specs.Argon2.{secret_of};
-ghost use Rattle.argon2.specs.Login.{IsCurrent, KeepsOthers, store_of, login_target};
+ghost use Rattle.argon2.specs.Login.{store_of, login_target};
+ghost use Rattle.argon2.specs.NamedTexts.{IsCurrent, KeepsOthers};
 ghost use Rattle.argon2.specs.Made.{made, target_of};
 ghost use Rattle.argon2.specs.base_declared.error.password_hash.Error.TheVariants.{OutOfMemory};
 ghost use Rattle.argon2.specs.declared.login.answers.Accepted.TheVariants.{Kept};

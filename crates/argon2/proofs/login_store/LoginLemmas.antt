@@ -1,7 +1,7 @@
 -- One login as a step.
-use Rattle.std.proofs.Common.{◌≡◌, ℕ, Bool, true, false, List, Option, Some, None, Result, Ok, Err, ◌⊎◌, inl, inr, ap}
+use Rattle.std.proofs.Common.{◌≡◌, ℕ, Bool, true, false, List, Option, Some, None, Result, Ok, Err, ◌⊎◌, inl, inr, refl, ap, ◌∙◌}
 use Rattle.std.specs.Prelude.{◌≢◌, IfOk, IsSomeAnd, MatchResult}
-use Rattle.std.specs.FinMap.{get}
+use Rattle.std.specs.FinMap.{get, insert}
 use Rattle.argon2_base.specs.Error.{Fault}
 use Rattle.argon2_base.specs.PhcFields.{phc_of}
 use Rattle.argon2_base.specs.PhcText.{Phc}
@@ -9,14 +9,17 @@ use Rattle.argon2_base.specs.declared.error.password_hash.Error.{Error}
 use Rattle.argon2_base.specs.declared.error.password_hash.Error.TheVariants.{OutOfMemory}
 use Rattle.argon2_base.specs.declared.phc.hash.PasswordHash.{PasswordHash}
 use Rattle.argon2.specs.declared.login.answers.Accepted.{Accepted}
-use Rattle.argon2.specs.declared.login.answers.Accepted.TheVariants.{Kept}
+use Rattle.argon2.specs.declared.login.answers.Accepted.TheVariants.{Current, Kept, Rehashed}
 use Rattle.argon2.specs.declared.login.answers.LoginError.{LoginError}
 use Rattle.argon2.specs.declared.login.answers.LoginError.TheVariants.{Refused}
 use Rattle.argon2.specs.Stored.{AcceptsBy}
 use Rattle.argon2.specs.ListedParameters.{checked}
-use Rattle.argon2.specs.Login.{Store, HasPassword, IsCurrent, LoginAnswer, LoginStep, logging_in}
-use Rattle.argon2.specs.Made.{Target, made, IsHashAnswer}
+use Rattle.argon2.specs.Login.{AcceptedStep, HasPassword, LoginAnswer, LoginStep, logging_in}
+use Rattle.argon2.specs.NamedTexts.{Store, IsCurrent, Leaves}
+use Rattle.argon2.specs.Made.{Target, IsTarget, made, IsHashAnswer}
 use Rattle.argon2.specs.Settings.{Settings}
+use Rattle.argon2.proofs.login_store.Stores.{insert-same}
+use Rattle.argon2.proofs.stored_hashes.MadeValues.{made_accepts, made_shows}
 
 -- a login of a name whose text is known is a step
 pub login_step : (target : Target) (before : Store) (name password drawn : List ℕ) (o : Option Phc)
@@ -69,3 +72,28 @@ hash_made target password salt h (inr r) = let e = r.0 in absurd cc
 pub shown_once : (r : Result Settings Fault) (a b : Settings) → r ≡ Ok a → r ≡ Ok b → a ≡ b
 shown_once (Ok own) a b first second = cc
 shown_once (Err fault) a b first second = absurd cc
+
+-- ---- what an accepted login leaves
+
+pub leaves_step : (target : Target) (store : Store) (name password drawn : List ℕ) (v w : Phc) (did : Accepted)
+    → get store name ≡ Some v → Leaves target password drawn v did w
+    → AcceptedStep target store name password drawn v did (insert store name w)
+leaves_step target store name password drawn v w Current has left =
+    (left.0, ap (insert store name) left.1 ∙ insert-same store name v has)
+leaves_step target store name password drawn v w Rehashed has left =
+    (left.0, left.1.0, ap (insert store name) left.1.2)
+leaves_step target store name password drawn v w Kept has left =
+    (left.0, ap (insert store name) left.1 ∙ insert-same store name v has)
+
+pub leaves_accepts : (target : Target) → IsTarget target → (password drawn : List ℕ) (v w : Phc) (did : Accepted)
+    → Leaves target password drawn v did w → AcceptsBy target.secret password v → AcceptsBy target.secret password w
+leaves_accepts target fits password drawn v w Current left accepts = rw left.1 accepts
+leaves_accepts target fits password drawn v w Rehashed left accepts =
+    rw left.1.2 (made_accepts target fits password drawn left.1.1)
+leaves_accepts target fits password drawn v w Kept left accepts = rw left.1 accepts
+
+pub leaves_current : (target : Target) → IsTarget target → (password drawn : List ℕ) (v w : Phc) (did : Accepted)
+    → Leaves target password drawn v did w → did ≢ Kept → IsCurrent target w
+leaves_current target fits password drawn v w Current left other = rw left.1 left.0
+leaves_current target fits password drawn v w Rehashed left other = made_shows target fits password drawn w left.1.2
+leaves_current target fits password drawn v w Kept left other = absurd (other refl)

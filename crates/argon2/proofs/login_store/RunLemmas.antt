@@ -12,9 +12,10 @@ use Rattle.argon2.specs.declared.login.answers.Accepted.{Accepted}
 use Rattle.argon2.specs.declared.login.answers.Accepted.TheVariants.{Current, Rehashed, Kept}
 use Rattle.argon2.specs.declared.login.answers.LoginError.{LoginError}
 use Rattle.argon2.specs.Stored.{AcceptsBy, Accepts}
-use Rattle.argon2.specs.Login.{Store, Event, adding, logging_in, AddStep, LoginAnswer, LoginStep, IsCurrent}
+use Rattle.argon2.specs.Login.{Event, adding, logging_in, AddStep, LoginAnswer, LoginStep}
+use Rattle.argon2.specs.NamedTexts.{IsCurrent, Store, newest}
 use Rattle.argon2.specs.Made.{Target, made}
-use Rattle.argon2.specs.Runs.{Run, newest, source, accepted, IsFrom}
+use Rattle.argon2.specs.Runs.{Run, source, accepted, IsFrom}
 use Rattle.argon2.proofs.login_store.Stores.{get-set}
 
 -- what is known of the text of a name after an accepted login

@@ -21,7 +21,7 @@ use Rattle.std.specs.Str.{bytes_eq}
 use Rattle.argon2_base.specs.PhcFields.{phc_of}
 use Rattle.argon2_base.specs.PhcText.{Phc}
 use Rattle.argon2_base.specs.declared.phc.hash.PasswordHash.{PasswordHash}
-use Rattle.argon2.specs.Login.{Store, KeepsOthers, added, named_values, values_of}
+use Rattle.argon2.specs.NamedTexts.{Store, KeepsOthers, added, named_values, values_of}
 
 -- what a store with one name set has
 pub get-set : (m : Store) (n : List ℕ) (v : Phc) (q : List ℕ) →

@@ -1,4 +1,4 @@
-//! What a login store verifies its texts under, and renews them by.
+//! What a store verifies its texts under, and renews them by.
 
 ghost use Rattle.std.proofs.Props.{props};
 ghost use Rattle.argon2.specs.Made.{target_of, IsTarget};
@@ -12,32 +12,35 @@ use rand_core::Rng;
 use std::alloc::Global;
 use std::result::Result as Outcome;
 
-// Settings and a secret whose hashes fit into texts.
+/// Settings and a secret whose hashes fit into texts.
 #[derive(Drop)]
-pub(crate) struct Target<'key> {
+pub struct Target<'key> {
     argon2: Argon2<'key>,
     ghost fits: { IsTarget (target_of argon2) } by { Prim.hlevel props },
 }
 
 impl<'key> Target<'key> {
-    ghost use Rattle.std.specs.Prelude.{◌≡◌, ◌≢◌, ◌↔◌, ◌⊎◌, ◌<◌, ℕ, List, Some, Ok, Err, IsTrue, IfOk, MatchResult};
+    ghost use Rattle.std.specs.Prelude.{◌≡◌, ◌≢◌, ◌↔◌, ◌⊎◌, ℕ, List, Some, Ok, Err, IsTrue, IfOk, MatchResult};
     ghost use Rattle.std.specs.FinMap.{get, insert};
     ghost use Rattle.rand_core.specs.Stream.{fill_bytes};
     ghost use Rattle.argon2_base.specs.PhcFields.{phc_of};
     ghost use Rattle.argon2_base.specs.PhcText.{Phc};
-    ghost use Rattle.argon2_base.specs.declared.error.password_hash.Error.TheVariants.{OutOfMemory, OutputSize};
+    ghost use Rattle.argon2_base.specs.declared.error.password_hash.Error.TheVariants.{OutOfMemory};
     ghost use Rattle.argon2.specs.Stored.{AcceptsBy, IsVerifyAnswer, settings_value, stored_of, stored_value};
     ghost use Rattle.argon2.specs.Argon2.{settings_of};
-    ghost use Rattle.argon2.specs.Accounts.{Leaves};
-    ghost use Rattle.argon2.specs.Login.{Store, IsCurrent, LoginAnswer, stream_after};
-    ghost use Rattle.argon2.specs.Made.{HashingRefusal, IsFresh, sized, tag_length};
+    ghost use Rattle.argon2.specs.NamedTexts.{IsCurrent, Leaves, Store, stream_after};
+    ghost use Rattle.argon2.specs.Login.{IsNewTarget, LoginAnswer, target_value};
+    ghost use Rattle.argon2.specs.Made.{HashingRefusal, IsFresh, sized};
     ghost use Rattle.argon2.specs.declared.login.answers.Accepted.TheVariants.{Kept};
     ghost use Rattle.argon2.specs.declared.login.answers.LoginError.TheVariants.{Refused};
 
-    // `OutputSize` where hashes are longer than those of texts.
-    pub(crate) fn new(argon2: Argon2<'key>) -> Result<Target<'key>>
-        ensures { MatchResult result (λ target. target.argon2 ≡ argon2.entry)
-            (λ e. (e ≡ OutputSize) × (64 < tag_length (settings_of argon2.entry))) }
+    /// The target that hashes as `argon2` does.
+    ///
+    /// # Errors
+    /// [`Error::OutputSize`] if the output length is above 64, the most bytes that the hash of a PHC
+    /// text has.
+    pub fn new(argon2: Argon2<'key>) -> Result<Target<'key>>
+        ensures { IsNewTarget (target_of argon2.entry) result }
     {
         let len = argon2.params().output_len();
         if len.unwrap_or(Params::DEFAULT_OUTPUT_LEN) > Output::MAX_LENGTH {
@@ -56,15 +59,15 @@ impl<'key> Target<'key> {
         password: &[u8],
     ) -> Outcome<Accepted, LoginError>
         ensures step { (store : Store) (name : List ℕ) → get store name ≡ Some (phc_of text.old) →
-            LoginAnswer (target_of self.now.argon2) store name password.now
+            LoginAnswer (target_value self.now) store name password.now
             (fill_bytes 16 (R.stream rng.old)).0 (Some (phc_of text.old)) result
             (insert store name (phc_of text.new)) }
         ensures accepted { MatchResult result
-            (λ _. AcceptsBy (target_of self.now.argon2).secret password.now (phc_of text.new))
+            (λ _. AcceptsBy (target_value self.now).secret password.now (phc_of text.new))
             (λ e. (e ≡ Refused OutOfMemory)
-            ⊎ (AcceptsBy (target_of self.now.argon2).secret password.now (phc_of text.old) → ⊥)) }
+            ⊎ (AcceptsBy (target_value self.now).secret password.now (phc_of text.old) → ⊥)) }
         ensures current { IfOk result (λ accepted. accepted ≢ Kept →
-            IsCurrent (target_of self.now.argon2) (phc_of text.new)) }
+            IsCurrent (target_value self.now) (phc_of text.new)) }
         ensures drawn { R.stream rng.new ≡ stream_after result (R.stream rng.old) }
     {
         let stored = match Stored::try_from(&*text) {
@@ -78,51 +81,63 @@ impl<'key> Target<'key> {
         }
     }
 
-    // Whether what a text shows is current, where it accepts the password.
-    pub(crate) fn accepts(
-        &self,
-        alloc: Global,
-        password: &[u8],
-        stored: &Stored<'_>,
-    ) -> Result<bool>
+    /// Whether a text has the target's algorithm, version, parameters and hash length, if it accepts
+    /// the password under the target's secret. `stored` is what the text shows. The memory of the
+    /// hash is requested from `alloc`, and returned before the call ends.
+    ///
+    /// # Errors
+    /// The first of these that holds:
+    /// - [`Error::OutOfMemory`]: the request was refused.
+    /// - [`Error::PasswordInvalid`]: the password is longer than 4294967295 bytes, or the text does
+    ///   not accept it.
+    pub fn accepts(&self, alloc: Global, password: &[u8], stored: &Stored<'_>) -> Result<bool>
         ensures { (v : Phc) → stored_of v ≡ Ok (stored_value stored.now) → MatchResult result
-            (λ current. AcceptsBy (target_of self.now.argon2).secret password.now v
-            × (IsTrue current ↔ IsCurrent (target_of self.now.argon2) v))
-            (λ e. IsVerifyAnswer (target_of self.now.argon2).secret password.now v (Err e)) }
+            (λ current. AcceptsBy (target_value self.now).secret password.now v
+            × (IsTrue current ↔ IsCurrent (target_value self.now) v))
+            (λ e. IsVerifyAnswer (target_value self.now).secret password.now v (Err e)) }
     {
         self.argon2.verify_stored(alloc, password, stored)?;
         Ok(self.is_shown_by(&stored.settings))
     }
 
-    // Writes a fresh text of a password over a text that is not current.
-    pub(crate) fn renew<R: Rng>(
+    /// Writes a fresh text of a password over a text that is not current. The text stays if there is
+    /// no memory for a new one, or the password is longer than 4294967295 bytes. 16 bytes are drawn
+    /// from `rng` in each case.
+    pub fn renew<R: Rng>(
         &self,
         alloc: Global,
         rng: &mut R,
         text: &mut PasswordHash,
         password: &[u8],
     ) -> Accepted
-        requires { ¬ (IsCurrent (target_of self.now.argon2) (phc_of text.old)) }
-        ensures renewed { Leaves (target_of self.now.argon2) password.now
+        requires { ¬ (IsCurrent (target_value self.now) (phc_of text.old)) }
+        ensures renewed { Leaves (target_value self.now) password.now
             (fill_bytes 16 (R.stream rng.old)).0 (phc_of text.old) result (phc_of text.new) }
         ensures drawn { R.stream rng.new ≡ (fill_bytes 16 (R.stream rng.old)).1 }
     {
-        let Ok(fresh) = self.hash(alloc, rng, password) else {
+        let Ok(fresh) = self.hash_password(alloc, rng, password) else {
             return Accepted::Kept;
         };
         *text = fresh;
         Accepted::Rehashed
     }
 
-    // A fresh text of a password.
-    pub(crate) fn hash<R: Rng>(
+    /// A fresh text of a password, with a salt of 16 bytes that are drawn from `rng`. They are drawn
+    /// also if the call is refused. The memory of the hash is requested from `alloc`, and returned
+    /// before the call ends.
+    ///
+    /// # Errors
+    /// The first of these that holds:
+    /// - [`Error::OutOfMemory`]: the request was refused.
+    /// - [`Error::PasswordInvalid`]: the password is longer than 4294967295 bytes.
+    pub fn hash_password<R: Rng>(
         &self,
         alloc: Global,
         rng: &mut R,
         password: &[u8],
     ) -> Result<PasswordHash>
         ensures made { MatchResult result
-            (λ text. IsFresh (target_of self.now.argon2) password.now
+            (λ text. IsFresh (target_value self.now) password.now
             (fill_bytes 16 (R.stream rng.old)).0 (phc_of text))
             (HashingRefusal password.now) }
         ensures drawn { R.stream rng.new ≡ (fill_bytes 16 (R.stream rng.old)).1 }

@@ -4,7 +4,7 @@ ghost use Rattle.std.specs.Prelude.{◌≡◌, ◌⊎◌, Ok, None, IfErr, IfOk,
 ghost use Rattle.std.specs.FinMap.{entries};
 ghost use Rattle.std.specs.Io.KnownBytes.{Appends, Keeps};
 ghost use Rattle.rand_core.specs.Stream.{fill_bytes};
-ghost use Rattle.argon2.specs.Accounts.{AreTerms};
+ghost use Rattle.argon2_accounts.specs.Accounts.{AreTerms};
 ghost use Rattle.argon2_base.specs.PhcFields.{phc_of};
 ghost use Rattle.argon2_store.specs.AccountFile.{AddsOrNone, Serves, names_of};
 ghost use Rattle.argon2_store.specs.Adding.{entry_of};

@@ -2,7 +2,7 @@
 
 ghost use Rattle.std.specs.Prelude.{◌≡◌, Ok, IfErr, IfOk, string_bytes};
 ghost use Rattle.rand_core.specs.Stream.{fill_bytes};
-ghost use Rattle.argon2.specs.Accounts.{Admits, LogsIn, terms_of};
+ghost use Rattle.argon2_accounts.specs.Accounts.{Admits, LogsIn, terms_of};
 ghost use Rattle.argon2_passwd.specs.Answers.{Denies, HasNone, IsCheckReply, IsHashReply, login_text};
 ghost use Rattle.argon2_passwd.specs.Failures.{status_of};
 ghost use Rattle.argon2_base.specs.PhcFields.{phc_of};
@@ -11,8 +11,8 @@ ghost use Rattle.argon2_base.specs.PhcText.{Phc, PhcText};
 use crate::failure::Failure;
 use crate::passwords::password;
 use argon2::PasswordHash;
-use argon2::accounts::Policy;
 use argon2::login::Accepted;
+use argon2_accounts::Policy;
 use rand_core::Rng;
 use std::alloc::{AllocError, Global};
 use std::io::BufRead;

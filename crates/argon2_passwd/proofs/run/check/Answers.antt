@@ -1,6 +1,6 @@
 use Rattle.std.proofs.Common.{◌≡◌, ◌∙◌, ℕ, ap, subst, string_bytes, List, Option, String, Result, Ok, Err}
 use Rattle.std.specs.Prelude.{IfOk}
-use Rattle.argon2.specs.Accounts.{Terms}
+use Rattle.argon2_accounts.specs.Accounts.{Terms}
 use Rattle.argon2_passwd.specs.Answers.{IsCheckReply, terms_by}
 use Rattle.argon2_passwd.specs.Arguments.{Choices, choices_of}
 use Rattle.argon2_passwd.proofs.run.check.Goals as goal

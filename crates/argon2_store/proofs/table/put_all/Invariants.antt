@@ -2,7 +2,7 @@ use Rattle.std.proofs.Common.{◌≡◌, Ok, drop, map}
 use Rattle.std.specs.Prelude.{Any}
 use Rattle.sqlite_value.specs.Keys.{plain}
 use Rattle.sqlite_trees.specs.declared.store.Shape.TheVariants.{Index}
-use Rattle.argon2.specs.Login.{Store}
+use Rattle.argon2.specs.NamedTexts.{Store}
 use Rattle.argon2_store.specs.Adding.{AddsAll, entry_of}
 use Rattle.argon2_store.specs.Names.{values_in}
 use Rattle.argon2_store.specs.Table.{IsHonest, IsLong, Writes}

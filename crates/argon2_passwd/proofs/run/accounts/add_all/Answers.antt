@@ -1,5 +1,5 @@
 use Rattle.std.proofs.Common.{◌≡◌, refl, sym, ap}
-use Rattle.argon2.specs.declared.accounts.error.AccountError.{AccountError}
+use Rattle.argon2_accounts.specs.declared.error.AccountError.{AccountError}
 use Rattle.argon2_store.specs.declared.error.FileError.{FileError}
 use Rattle.argon2_store.specs.declared.error.FileError.TheVariants.{Account}
 use Rattle.argon2_passwd.specs.Failures.{IsOfFile}

@@ -1,7 +1,7 @@
 use Rattle.std.proofs.Common.{List, ℕ, Option}
 use Rattle.std.specs.FinMap.{entries}
 use Rattle.std.specs.Io.KnownBytes.{Appends}
-use Rattle.argon2.specs.Login.{named_values}
+use Rattle.argon2.specs.NamedTexts.{named_values}
 use Rattle.argon2_store.specs.AccountFile.{names_of}
 use Rattle.argon2_passwd.specs.Answers.{lines_of}
 use Rattle.argon2_passwd.proofs.run.accounts.write_all.Given as goal

@@ -2,9 +2,9 @@ use Rattle.std.proofs.Common.{◌≡◌, ◌⊎◌, inl, inr, sym, subst, Result
 use Rattle.std.specs.Prelude.{IfErr, IsErrAnd}
 use Rattle.argon2_base.specs.PhcFields.{phc_of}
 use Rattle.argon2_base.specs.declared.error.password_hash.Error.TheVariants.{OutOfMemory}
-use Rattle.argon2.specs.Accounts.{Admits, terms_of}
-use Rattle.argon2.specs.declared.accounts.error.AccountError.{AccountError}
-use Rattle.argon2.specs.declared.accounts.error.AccountError.TheVariants.{Refused}
+use Rattle.argon2_accounts.specs.Accounts.{Admits, terms_of}
+use Rattle.argon2_accounts.specs.declared.error.AccountError.{AccountError}
+use Rattle.argon2_accounts.specs.declared.error.AccountError.TheVariants.{Refused}
 use Rattle.argon2_passwd.specs.Failures.{IsOfAccount, status_of}
 use Rattle.argon2_passwd.specs.declared.failure.Failure.{Failure}
 use Rattle.argon2_passwd.specs.declared.failure.Failure.TheVariants.{Account, Memory}

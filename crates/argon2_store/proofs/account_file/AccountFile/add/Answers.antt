@@ -2,8 +2,8 @@ use Rattle.std.proofs.Common.{rules, ◌≡◌, Some, None, inl, refl}
 use Rattle.std.specs.Prelude.{IsSome}
 use Rattle.std.specs.FinMap.{get}
 use Rattle.argon2_base.specs.PhcFields.{phc_of}
-use Rattle.argon2.specs.Accounts.{adding}
-use Rattle.argon2.specs.declared.accounts.error.AccountError.TheVariants.{NameTaken, Refused}
+use Rattle.argon2_accounts.specs.Accounts.{adding}
+use Rattle.argon2_accounts.specs.declared.error.AccountError.TheVariants.{NameTaken, Refused}
 use Rattle.argon2_store.specs.AccountFile.{names_of}
 use Rattle.argon2_store.proofs.FileLemmas.{refuses, writes}
 use Rattle.argon2_store.proofs.account_file.AccountFile.add.Goals as goal

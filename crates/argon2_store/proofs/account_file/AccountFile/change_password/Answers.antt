@@ -3,9 +3,9 @@ use Rattle.rand_core.specs.Stream.{Stream, fill_bytes}
 use Rattle.sqlite_trees.specs.declared.error.StoreError.{StoreError}
 use Rattle.argon2_base.specs.PhcFields.{phc_of}
 use Rattle.argon2_base.specs.PhcText.{Phc}
-use Rattle.argon2.specs.Accounts as kept
-use Rattle.argon2.specs.Accounts.{Terms, changing}
-use Rattle.argon2.specs.declared.accounts.error.AccountError.TheVariants.{NameUnknown}
+use Rattle.argon2_accounts.specs.Accounts as kept
+use Rattle.argon2_accounts.specs.Accounts.{Terms, changing}
+use Rattle.argon2_accounts.specs.declared.error.AccountError.TheVariants.{NameUnknown}
 use Rattle.argon2_store.specs.AccountFile.{DrawsOnce, names_of, terms_of}
 use Rattle.argon2_store.specs.Errors.{answered}
 use Rattle.argon2_store.proofs.FileLemmas.{has_written, refuses, writes}

@@ -3,11 +3,11 @@ use Rattle.std.specs.FinMap.{get}
 use Rattle.rand_core.specs.Stream.{fill_bytes}
 use Rattle.argon2_base.specs.PhcFields.{phc_of}
 use Rattle.argon2_base.specs.PhcText.{Phc}
-use Rattle.argon2.specs.Accounts.{Leaves, LogsIn, logging_in}
-use Rattle.argon2.specs.Login.{IsCurrent}
+use Rattle.argon2_accounts.specs.Accounts.{LogsIn, logging_in}
+use Rattle.argon2.specs.NamedTexts.{IsCurrent, Leaves}
 use Rattle.argon2.specs.Made.{Target}
 use Rattle.argon2.specs.contracts.login.answers.Accepted.{the_type}
-use Rattle.argon2.specs.declared.accounts.error.AccountError.TheVariants.{NameUnknown}
+use Rattle.argon2_accounts.specs.declared.error.AccountError.TheVariants.{NameUnknown}
 use Rattle.argon2.specs.declared.login.answers.Accepted.{Accepted}
 use Rattle.argon2.specs.declared.login.answers.Accepted.TheVariants.{Current, Kept, Rehashed}
 use denote.Enum.Bare.{sameb}

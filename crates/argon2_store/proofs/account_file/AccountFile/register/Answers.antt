@@ -3,9 +3,9 @@ use Rattle.std.specs.Prelude.{IsSome}
 use Rattle.std.specs.FinMap.{get}
 use Rattle.rand_core.specs.Stream.{fill_bytes}
 use Rattle.argon2_base.specs.PhcFields.{phc_of}
-use Rattle.argon2.specs.Accounts.{registering}
-use Rattle.argon2.specs.declared.accounts.error.AccountError.TheVariants.{NameTaken}
-use Rattle.argon2.proofs.AccountLemmas.{taken}
+use Rattle.argon2_accounts.specs.Accounts.{registering}
+use Rattle.argon2_accounts.specs.declared.error.AccountError.TheVariants.{NameTaken}
+use Rattle.argon2_accounts.proofs.AccountLemmas.{taken}
 use Rattle.argon2_store.specs.AccountFile.{names_of, terms_of}
 use Rattle.argon2_store.proofs.FileLemmas.{has_written, refuses, writes}
 use Rattle.argon2_store.proofs.account_file.AccountFile.register.Goals as goal

@@ -1,8 +1,8 @@
 use Rattle.std.proofs.Common.{rules, ◌≡◌, None, refl}
 use Rattle.std.specs.Prelude.{IsSome}
 use Rattle.std.specs.FinMap.{get}
-use Rattle.argon2.specs.Accounts.{removing}
-use Rattle.argon2.specs.declared.accounts.error.AccountError.TheVariants.{NameUnknown}
+use Rattle.argon2_accounts.specs.Accounts.{removing}
+use Rattle.argon2_accounts.specs.declared.error.AccountError.TheVariants.{NameUnknown}
 use Rattle.argon2_store.specs.AccountFile.{names_of}
 use Rattle.argon2_store.proofs.FileLemmas.{refuses, writes}
 use Rattle.argon2_store.proofs.account_file.AccountFile.remove.Goals as goal

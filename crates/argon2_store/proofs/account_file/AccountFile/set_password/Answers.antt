@@ -2,8 +2,8 @@ use Rattle.std.proofs.Common.{rules, ◌≡◌, Some, None, refl}
 use Rattle.std.specs.FinMap.{get}
 use Rattle.rand_core.specs.Stream.{fill_bytes}
 use Rattle.argon2_base.specs.PhcFields.{phc_of}
-use Rattle.argon2.specs.Accounts.{setting}
-use Rattle.argon2.specs.declared.accounts.error.AccountError.TheVariants.{NameUnknown}
+use Rattle.argon2_accounts.specs.Accounts.{setting}
+use Rattle.argon2_accounts.specs.declared.error.AccountError.TheVariants.{NameUnknown}
 use Rattle.argon2_store.specs.AccountFile.{names_of, terms_of}
 use Rattle.argon2_store.proofs.FileLemmas.{has_text, has_written, refuses, writes}
 use Rattle.argon2_store.proofs.account_file.AccountFile.set_password.Goals as goal

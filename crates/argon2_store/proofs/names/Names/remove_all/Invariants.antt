@@ -1,5 +1,5 @@
 use Rattle.std.proofs.Common.{map, take}
-use Rattle.argon2.specs.Login.{Store}
+use Rattle.argon2.specs.NamedTexts.{Store}
 use Rattle.argon2_store.specs.Adding.{AddsAll, entry_of}
 use Rattle.argon2_store.specs.Names.{values_in}
 use Rattle.argon2_store.proofs.names.Names.remove_all.Given as goal

@@ -1,0 +1,197 @@
+-- What passwords make of a value: within a bound, accepted, and as the step of a store.
+use Rattle.std.proofs.Common.{◌≡◌, ◌≢◌, ℕ, ◌*◌, ◌≤◌, List, Option, Some, None, Result, Ok, Err, ◌⊎◌, inl, inr, refl, sym, ap, ◌∙◌, arith, mul_comm, mul_left_comm, div-mul-le_self, false}
+use Rattle.std.proofs.lemmas.Bool.{cases_Bool}
+use Rattle.std.proofs.lemmas.Map.{update_same, update_other}
+use Rattle.std.proofs.lemmas.Slice.Eq.{bytes_eq-Decides}
+use Rattle.std.specs.BTreeMap.{BTreeMap, get_by_text}
+use Rattle.std.specs.FinMap.{get}
+use Rattle.std.specs.Map.{update}
+use Rattle.std.specs.Option.{option_map}
+use Rattle.std.specs.Prelude.{String, IsErrAnd, IsSome, MatchResult, OnOk}
+use Rattle.std.specs.Str.{bytes_eq}
+use Rattle.rand_core.specs.Stream.{Stream, fill_bytes}
+use Rattle.argon2_base.specs.Error.{Fault, bad_algorithm, bad_version}
+use Rattle.argon2_base.specs.PhcFields.{phc_of}
+use Rattle.argon2_base.specs.PhcText.{Phc, PhcText}
+use Rattle.argon2_base.specs.declared.error.password_hash.Error.{Error}
+use Rattle.argon2_base.specs.declared.error.password_hash.Error.TheVariants.{EncodingInvalid, OutOfMemory}
+use Rattle.argon2_base.specs.declared.phc.hash.PasswordHash.{PasswordHash}
+use Rattle.argon2_accounts.specs.declared.error.AccountError.{AccountError}
+use Rattle.argon2_accounts.specs.declared.error.AccountError.TheVariants.{NameTaken, NameUnknown, Refused, TooExpensive}
+use Rattle.argon2.specs.declared.algorithm.Algorithm.{Algorithm}
+use Rattle.argon2.specs.declared.bound.Bound.{Bound}
+use Rattle.argon2.specs.declared.login.answers.Accepted.{Accepted}
+use Rattle.argon2.specs.declared.login.answers.Accepted.TheVariants.{Current, Kept, Rehashed}
+use Rattle.argon2.specs.declared.version.Version.{Version}
+use Rattle.argon2_accounts.specs.Accounts.{Adds, Admits, AreTerms, Denial, HasPassword, IsAbove, MakingRefusal, OnValue, RegisteringRefusal, Registers, Sets, Terms, stream_after_making}
+use Rattle.argon2.specs.NamedTexts.{IsCurrent, IsText, KeepsOthers, Leaves, Store, values_of}
+use Rattle.argon2.specs.Bound.{AsksWithin, IsWithin}
+use Rattle.argon2.specs.Made.{IsFresh}
+use Rattle.argon2.specs.Rfc9106.{segment_length_for}
+use Rattle.argon2.specs.Settings.{Parameters, Settings}
+use Rattle.argon2.specs.Stored.{Stored, found, read, shown_settings, stored_of}
+use Rattle.argon2.proofs.login_store.Stores.{get-found, get-values_of}
+use Rattle.argon2.proofs.stored_hashes.Answered.{stored_shows}
+use Rattle.argon2.proofs.stored_hashes.MadeValues.{made_accepts, made_shows}
+use Rattle.argon2.proofs.stored_hashes.Verified.{exact}
+
+-- ---- the bound
+
+filled_within : (m p most : ℕ) → m ≤ most → 1024 * (p * (4 * segment_length_for m p)) ≤ 1024 * most
+unfolding segment_length_for
+filled_within m p most within =
+    let q = segment_length_for m p in
+    let same = mul_left_comm p 4 q ∙ ap (λ n. 4 * n) (mul_comm p q) ∙ sym (mul_left_comm q 4 p) in
+    let least = div-mul-le_self m (4 * p) in
+    omega (arith, same, least, within)
+
+shown_parameters : (r : Result Parameters Fault) (algorithm : Option Algorithm) (version : Option Version)
+    (settings : Settings) → read r (λ parameters. found algorithm bad_algorithm (λ own.
+    found version bad_version (λ number.
+    Ok (record { algorithm = own; version = number; parameters = parameters })))) ≡ Ok settings
+    → r ≡ Ok settings.parameters
+shown_parameters (Err fault) algorithm version settings is = absurd cc
+shown_parameters (Ok q) None version settings is = absurd cc
+shown_parameters (Ok q) (Some own) None settings is = absurd cc
+shown_parameters (Ok q) (Some own) (Some number) settings is =
+    let shown : record { algorithm = own; version = number; parameters = q } ≡ settings = cc in
+    ap (λ (s : Settings). Ok s.parameters) shown
+
+-- a value that shows costs within the bound
+pub asks_within : (bound : Bound) (v : Phc) (settings : Settings) → shown_settings v ≡ Ok settings
+    → IsWithin bound settings.parameters → AsksWithin bound v
+asks_within bound v settings shows within = record {
+  parameters = settings.parameters;
+  asked = shown_parameters _ _ _ settings shows;
+  within = within;
+  memory = filled_within settings.parameters.m_cost settings.parameters.p_cost bound.m_cost within.0;
+}
+
+-- and one that shows others
+pub asks_above : (bound : Bound) (v : Phc) (stored : Stored) → Ok stored ≡ stored_of v
+    → (IsWithin bound stored.settings.parameters → ⊥) → IsAbove bound v
+asks_above bound v stored is never = (
+  rw (← is) refl,
+  (stored.settings.parameters, shown_parameters _ _ _ stored.settings (stored_shows v stored is), never),
+)
+
+pub within_not_above : (bound : Bound) (v : Phc) → AsksWithin bound v → ¬ (IsAbove bound v)
+within_not_above bound v asks above =
+    let is : asks.parameters ≡ above.1.0 = let a = asks.asked in let b = above.1.1 in cc in
+    above.1.2 (rw (sym is) asks.within)
+
+-- ---- what a policy makes and accepts
+
+pub fresh_current : (terms : Terms) → AreTerms terms → (password drawn : List ℕ) (w : Phc)
+    → IsFresh terms.target password drawn w → IsCurrent terms.target w
+fresh_current terms are password drawn w fresh = made_shows terms.target are.is_target password drawn w fresh.2
+
+pub fresh_admits : (terms : Terms) → AreTerms terms → (password drawn : List ℕ) (w : Phc)
+    → IsFresh terms.target password drawn w → Admits terms password w
+fresh_admits terms are password drawn w fresh = (
+  asks_within terms.bound w _ (fresh_current terms are password drawn w fresh) are.within,
+  rw fresh.2 (made_accepts terms.target are.is_target password drawn fresh.1),
+)
+
+pub leaves_admits : (terms : Terms) → AreTerms terms → (password drawn : List ℕ) (v w : Phc) (did : Accepted)
+    → Leaves terms.target password drawn v did w → Admits terms password v → Admits terms password w
+leaves_admits terms are password drawn v w Current left admits = rw left.1 admits
+leaves_admits terms are password drawn v w Rehashed left admits = fresh_admits terms are password drawn w left.1
+leaves_admits terms are password drawn v w Kept left admits = rw left.1 admits
+
+-- a refusal other than of memory says that the password is not accepted within the bound
+pub denied : (terms : Terms) (password : List ℕ) (v : Phc) (e : AccountError) → Denial terms password v e
+    → (e ≡ Refused OutOfMemory) ⊎ ¬ (Admits terms password v)
+denied terms password v NameTaken why = absurd why
+denied terms password v NameUnknown why = absurd why
+denied terms password v TooExpensive why = inr (λ admits. within_not_above terms.bound v admits.0 why)
+denied terms password v (Refused e) why = elim (exact terms.target.secret password v (Err e) why.1) [
+  | inl memory ↦ inl (ap Refused memory)
+  | inr never ↦ inr (λ admits. never admits.1)
+]
+
+-- an error that was passed on
+pub passed : {X E : Type 0} (P : X → Type 0) (Q : E → Type 0) (e : E) (r : Result X E) → IsErrAnd r (λ f. f ≡ e) → Q e
+    → MatchResult r P Q
+passed P Q e (Ok x) is why = absurd is
+passed P Q e (Err f) is why = rw is why
+
+-- ---- a name's value
+
+pub on_value : {X : Type 0} (changes : Phc → Result X AccountError → Phc → Type 0) (o p : Option Phc) (v w : Phc)
+    (answer : Result X AccountError) → o ≡ Some v → p ≡ Some w → changes v answer w → OnValue changes o answer p
+on_value changes o p v w answer had has step = rw (had, has) step
+
+pub on_none : {X : Type 0} (changes : Phc → Result X AccountError → Phc → Type 0) (o p : Option Phc)
+    → o ≡ None → p ≡ o → OnValue changes o (Err NameUnknown) p
+on_none changes o p had has = rw (has, had) (refl, refl)
+
+unequal : (name other : List ℕ) → other ≢ name → bytes_eq name other ≡ false
+unequal name other differs = elim (cases_Bool (bytes_eq name other)) [
+  | inl hit ↦ absurd (differs (sym ((bytes_eq-Decides name other).0 hit)))
+  | inr miss ↦ miss
+]
+
+-- trees that differ at one name
+pub name_changes : {Y : Type 0} (m n : BTreeMap (String Y) PasswordHash) (name : List ℕ) (o : Option PasswordHash)
+    → ((q : List ℕ) → get_by_text n q ≡ update bytes_eq (get_by_text m) name o q)
+    → (get (values_of n) name ≡ option_map phc_of o) × KeepsOthers name (values_of m) (values_of n)
+name_changes m n name o updates = (
+  get-found n name o
+      (updates name ∙ update_same bytes_eq (get_by_text m) name o name ((bytes_eq-Decides name name).1 refl)),
+  λ other differs. get-found n other (get_by_text m other)
+      (updates other ∙ update_other bytes_eq (get_by_text m) name o other (unequal name other differs))
+      ∙ sym (get-values_of m other),
+)
+
+-- ---- names that are added and registered
+
+pub not_added : (text : List ℕ) (before : Option Phc) (e : Error) (r : Result (Unit {0}) AccountError)
+    → IsErrAnd r (λ f. f ≡ Refused e) → e ≡ EncodingInvalid → ¬ (IsText text) → Adds text before r before
+not_added text before e (Ok x) is why never = absurd is
+not_added text before e (Err f) is why never = rw (is, why) (inl (refl, never), refl)
+
+-- what putting a new name's value in answers
+abbrev pub Inserts : Store → Store → List ℕ → Phc → Result (Unit {0}) AccountError → Type 0
+Inserts before after name v r = MatchResult r (λ _. get after name ≡ Some v)
+    (λ e. (e ≡ Refused OutOfMemory) × (after ≡ before))
+
+pub adds : (before after : Store) (name text : List ℕ) (v : Phc) (r : Result (Unit {0}) AccountError)
+    → PhcText text v → get before name ≡ None → Inserts before after name v r
+    → Adds text (get before name) r (get after name)
+adds before after name text v (Ok x) has none is = (none, rw is has)
+adds before after name text v (Err e) has none is =
+    (rw is.0 (inr (refl, (v, has), none)), ap (λ m. get m name) is.1)
+
+pub taken : (password : List ℕ) (o : Option Phc) → IsSome o → RegisteringRefusal password o NameTaken
+taken password (Some v) has = tt
+taken password None has = absurd cc
+
+module _ (terms : Terms) (password drawn : List ℕ) where
+  pub not_registered : (o : Option Phc) (e : AccountError) (r : Result (Unit {0}) AccountError)
+      → IsErrAnd r (λ f. f ≡ e) → MakingRefusal password e → o ≡ None → Registers terms password drawn o r o
+  not_registered o e (Ok x) is why none = absurd is
+  not_registered o e (Err f) is why none = rw (is, none) (why, refl)
+
+  pub registers : (before after : Store) (name : List ℕ) (v : Phc) (r : Result (Unit {0}) AccountError)
+      → IsFresh terms.target password drawn v → get before name ≡ None → Inserts before after name v r
+      → Registers terms password drawn (get before name) r (get after name)
+  registers before after name v (Ok x) fresh none is = (none, rw is fresh)
+  registers before after name v (Err e) fresh none is =
+      (rw (none, is.0) (inl refl), ap (λ m. get m name) is.1)
+
+  pub not_set : (v : Phc) (e : AccountError) (r : Result (Unit {0}) AccountError)
+      → IsErrAnd r (λ f. f ≡ e) → MakingRefusal password e → Sets terms password drawn v r v
+  not_set v e (Ok x) is why = absurd is
+  not_set v e (Err f) is why = rw is (why, refl)
+
+pub inserted_has : (terms : Terms) (before after : Store) (name password : List ℕ) (v : Phc)
+    (r : Result (Unit {0}) AccountError) → Admits terms password v → Inserts before after name v r
+    → OnOk r (HasPassword terms after name password)
+inserted_has terms before after name password v (Ok x) admits is = rw is admits
+inserted_has terms before after name password v (Err e) admits is = tt
+
+pub inserted_drawn : (before after : Store) (name : List ℕ) (v : Phc) (r : Result (Unit {0}) AccountError)
+    (stream : Stream) → Inserts before after name v r → stream_after_making r stream ≡ (fill_bytes 16 stream).1
+inserted_drawn before after name v (Ok x) stream is = refl
+inserted_drawn before after name v (Err e) stream is = rw is.0 refl

@@ -1,0 +1,34 @@
+use Rattle.std.proofs.Common.{refl, sym, ◌∙◌}
+use Rattle.argon2_base.specs.PhcFields.{phc_of}
+use Rattle.argon2_accounts.specs.Accounts.{store_of}
+use Rattle.argon2_accounts.proofs.AccountLemmas.{adds, not_added}
+use Rattle.argon2.proofs.login_store.Stores.{absent, present}
+use Rattle.argon2_accounts.proofs.accounts.Accounts.add.Goals as goal
+
+pub returns-in_err-parsed-clause-step : goal.returns-in_err-parsed-clause-step
+returns-in_err-parsed-clause-step c = (
+  not_added c.args.text.now _ c.in_err-parsed.field-0.0 c.from_residual.result c.from_residual.ensures.1
+      c.in_err-parsed.ensures.invalid (λ is. c.in_err-parsed.ensures.only is.0 is.1),
+  λ other differs. refl,
+)
+
+pub returns-then-contains_key-clause-step : goal.returns-then-contains_key-clause-step
+returns-then-contains_key-clause-step c = (
+  (
+    (
+      (phc_of c.in_ok-parsed.parsed, c.in_ok-parsed.ensures.found),
+      present c.args.self.now.texts c.args.name.now (sym c.contains_key.ensures ∙ c.if-contains_key.true),
+    ),
+    refl,
+  ),
+  λ other differs. refl,
+)
+
+pub returns-clause-step : goal.returns-clause-step
+returns-clause-step c = (
+  adds (store_of c.args.self.now) (store_of c.insert.new.self) c.args.name.now c.args.text.now
+      (phc_of c.in_ok-parsed.parsed) c.insert.result c.in_ok-parsed.ensures.found
+      (absent c.args.self.now.texts c.args.name.now (sym c.contains_key.ensures ∙ c.if-contains_key.false))
+      c.insert.ensures.inserted,
+  c.insert.ensures.others,
+)

@@ -1,0 +1,51 @@
+use Rattle.std.proofs.Common.{ap, refl, sym, Some, None, inr}
+use Rattle.std.proofs.lemmas.Map.Text.{btree_map_updates_text}
+use Rattle.std.specs.FinMap.{get}
+use Rattle.rand_core.specs.Stream.{fill_bytes}
+use Rattle.argon2_base.specs.PhcFields.{phc_of}
+use Rattle.argon2_accounts.specs.Accounts.{LogsIn, kept_terms}
+use Rattle.argon2.specs.NamedTexts.{values_of}
+use Rattle.argon2_accounts.proofs.AccountLemmas.{name_changes, on_none, on_value}
+use Rattle.argon2.proofs.login_store.Stores.{get-found}
+use Rattle.argon2_accounts.proofs.accounts.Accounts.login.Goals as goal
+
+pub returns-in_default-clause-step : goal.returns-in_default-clause-step
+returns-in_default-clause-step g c = (
+  on_none (LogsIn (kept_terms c.args.self.now) c.args.password.now (fill_bytes 16 (g.R.Rng.stream c.args.rng.now)).0) _ _
+      (get-found c.args.self.now.texts c.args.name.now None (sym c.in_default.ensures.value))
+      (ap (λ m. get (values_of m) c.args.name.now) c.get_mut.follows.holds-at-none),
+  λ other differs. ap (λ m. get (values_of m) other) c.get_mut.follows.holds-at-none,
+)
+
+pub returns-in_default-clause-accepted : goal.returns-in_default-clause-accepted
+returns-in_default-clause-accepted g c =
+    let none = get-found c.args.self.now.texts c.args.name.now None (sym c.in_default.ensures.value) in
+    inr (λ has. let not = rw none at has in absurd not)
+
+pub returns-in_default-clause-expensive : goal.returns-in_default-clause-expensive
+returns-in_default-clause-expensive g c = λ above.
+    let none = get-found c.args.self.now.texts c.args.name.now None (sym c.in_default.ensures.value) in
+    let not = rw none at above in absurd not
+
+pub returns : goal.returns
+returns g c =
+    let before = c.args.self.now.texts in
+    let name = c.args.name.now in
+    let text = c.in-Some.text.now in
+    let fresh = c.log_in.new.text in
+    let after = c.get_mut.follows.lender fresh in
+    let had = get-found before name (Some text) (sym c.in-Some.ensures.value) in
+    let changes = name_changes before after name (Some fresh) (btree_map_updates_text name before after _
+    ((c.get_mut.follows.holds fresh).3 (rw (← c.in-Some.ensures.value) refl))) in
+    record {
+      step = (
+        on_value (LogsIn (kept_terms c.args.self.now) c.args.password.now (fill_bytes 16 (g.R.Rng.stream c.args.rng.now)).0)
+            _ _ (phc_of text) (phc_of fresh) c.log_in.result had changes.0 c.log_in.ensures.step,
+        changes.1,
+      );
+      accepted = rw (had, changes.0) c.log_in.ensures.accepted;
+      current = rw changes.0 c.log_in.ensures.current;
+      expensive = rw had c.log_in.ensures.expensive;
+      drawn = c.log_in.ensures.drawn;
+      terms = refl;
+    }

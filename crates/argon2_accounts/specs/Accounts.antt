@@ -1,0 +1,248 @@
+-- Accounts: what callers see of a policy and of accounts, what each call does to its name's value, and what is true after
+-- every list of calls.
+use Rattle.std.specs.Prelude.{◌≡◌, ◌⊎◌, ℕ, ◌≤◌, ◌<◌, List, [], ◌∷◌, if◌then◌else◌, Option, Some, None, IsSome, IsSomeAnd, IsOk, IsErrAnd, Result, Ok, Err, codes}
+use Rattle.std.specs.FinMap.{empty, get}
+use Rattle.std.specs.Str.{bytes_eq}
+use Rattle.rand_core.specs.Stream.{Stream, fill_bytes}
+use Rattle.argon2_base.specs.Error.{hash_error_text}
+use Rattle.argon2_base.specs.PhcText.{Phc, PhcText}
+use Rattle.argon2_base.specs.declared.error.password_hash.Error.TheVariants.{EncodingInvalid, OutOfMemory, OutputSize}
+use Rattle.argon2_accounts.specs.declared.accounts.Accounts.{Accounts}
+use Rattle.argon2_accounts.specs.declared.error.AccountError.{AccountError}
+use Rattle.argon2_accounts.specs.declared.error.AccountError.TheVariants.{NameTaken, NameUnknown, Refused, TooExpensive}
+use Rattle.argon2_accounts.specs.declared.policy.Policy.{Policy}
+use Rattle.argon2.specs.declared.bound.Bound.{Bound}
+use Rattle.argon2.specs.declared.bound.BoundError.TheVariants.{TooExpensive as AboveBound}
+use Rattle.argon2.specs.declared.login.answers.Accepted.{Accepted}
+use Rattle.argon2.specs.Bound.{AsksWithin, HashRefusal, IsWithin}
+use Rattle.argon2.specs.Login.{target_value}
+use Rattle.argon2.specs.NamedTexts.{IsText, KeepsOthers, Leaves, Store, newest, values_of}
+use Rattle.argon2.specs.Made.{HashingRefusal, IsFresh, IsTarget, Target, tag_length}
+use Rattle.argon2.specs.Stored.{AcceptsBy, IsVerifyAnswer, stored_of}
+
+-- what passwords are hashed and verified under
+pub record Terms : Type 0 where
+  pub target : Target
+  pub bound : Bound
+
+-- hashes fit into texts, and the target asks for no more than the bound
+pub record AreTerms (terms : Terms) : Type 0 where
+  pub is_target : IsTarget terms.target
+  pub within : IsWithin terms.bound terms.target.settings.parameters
+
+-- those of a policy, and of accounts
+abbrev pub terms_of : Policy → Terms
+terms_of policy = record { target = target_value policy.target; bound = policy.bound }
+
+abbrev pub kept_terms : Accounts → Terms
+kept_terms accounts = terms_of accounts.policy
+
+-- the texts that accounts have
+abbrev pub store_of : Accounts → Store
+store_of accounts = values_of accounts.texts
+
+-- why there is no policy of a target and a bound
+abbrev pub PolicyRefusal : Terms → AccountError → Type 0
+PolicyRefusal terms (Refused e) = (e ≡ OutputSize) × (64 < tag_length terms.target.settings)
+PolicyRefusal terms TooExpensive = (tag_length terms.target.settings ≤ 64)
+    × ¬ (IsWithin terms.bound terms.target.settings.parameters)
+PolicyRefusal terms _ = ⊥
+
+-- a policy of these terms, or the refusal
+abbrev pub IsNewPolicy : Terms → Result Policy AccountError → Type 0
+IsNewPolicy terms (Ok policy) = AreTerms terms × (terms_of policy ≡ terms)
+IsNewPolicy terms (Err e) = PolicyRefusal terms e
+
+-- accounts of these terms without names, or the refusal
+abbrev pub AreNew : Terms → Result Accounts AccountError → Type 0
+AreNew terms (Ok accounts) = AreTerms terms × (kept_terms accounts ≡ terms) × (store_of accounts ≡ empty)
+AreNew terms (Err e) = PolicyRefusal terms e
+
+-- ---- one value
+
+-- the value can be verified, but asks for more than the bound
+abbrev pub IsAbove : Bound → Phc → Type 0
+IsAbove bound v = IsOk (stored_of v) × HashRefusal bound v AboveBound
+
+-- the value asks for no more than the bound, and accepts the password
+abbrev pub Admits : Terms → List ℕ → Phc → Type 0
+Admits terms password v = AsksWithin terms.bound v × AcceptsBy terms.target.secret password v
+
+-- why the value does not
+abbrev pub Denial : Terms → List ℕ → Phc → AccountError → Type 0
+Denial terms password v TooExpensive = IsAbove terms.bound v
+Denial terms password v (Refused e) =
+    ¬ (IsAbove terms.bound v) × IsVerifyAnswer terms.target.secret password v (Err e)
+Denial terms password v _ = ⊥
+
+-- why no text is made of a password
+abbrev pub MakingRefusal : List ℕ → AccountError → Type 0
+MakingRefusal password (Refused e) = HashingRefusal password e
+MakingRefusal password _ = ⊥
+
+-- what a login answers, and what it makes of the value
+abbrev pub LogsIn : Terms → List ℕ → List ℕ → Phc → Result Accepted AccountError → Phc → Type 0
+LogsIn terms password drawn v (Ok did) w =
+    Admits terms password v × Leaves terms.target password drawn v did w
+LogsIn terms password drawn v (Err e) w = Denial terms password v e × (w ≡ v)
+
+-- what setting a password answers, and what it makes of the value
+abbrev pub Sets : Terms → List ℕ → List ℕ → Phc → Result (Unit {0}) AccountError → Phc → Type 0
+Sets terms password drawn v (Ok _) w = IsFresh terms.target password drawn w
+Sets terms password drawn v (Err e) w = MakingRefusal password e × (w ≡ v)
+
+-- what changing a password answers, and what it makes of the value: the old one is verified first
+abbrev pub Changes : Terms → List ℕ → List ℕ → List ℕ → Phc → Result (Unit {0}) AccountError → Phc → Type 0
+Changes terms old password drawn v (Ok x) w = Admits terms old v × Sets terms password drawn v (Ok x) w
+Changes terms old password drawn v (Err e) w =
+    (Denial terms old v e ⊎ (Admits terms old v × MakingRefusal password e)) × (w ≡ v)
+
+-- ---- a call, its answer, and the value of its name
+
+-- A call that may draw stands with the 16 bytes that the generator would give.
+pub data AccountEvent : Type 0 where
+  adding : List ℕ → List ℕ → Result (Unit {0}) AccountError → AccountEvent
+  registering : List ℕ → List ℕ → List ℕ → Result (Unit {0}) AccountError → AccountEvent
+  logging_in : List ℕ → List ℕ → List ℕ → Result Accepted AccountError → AccountEvent
+  changing : List ℕ → List ℕ → List ℕ → List ℕ → Result (Unit {0}) AccountError → AccountEvent
+  setting : List ℕ → List ℕ → List ℕ → Result (Unit {0}) AccountError → AccountEvent
+  removing : List ℕ → Result (Unit {0}) AccountError → AccountEvent
+
+-- the name of a call
+abbrev pub name_of : AccountEvent → List ℕ
+name_of (adding name text answer) = name
+name_of (registering name password drawn answer) = name
+name_of (logging_in name password drawn answer) = name
+name_of (changing name old password drawn answer) = name
+name_of (setting name password drawn answer) = name
+name_of (removing name answer) = name
+
+-- why a text is not added
+abbrev pub AddingRefusal : List ℕ → Option Phc → AccountError → Type 0
+AddingRefusal text before NameTaken = IsText text × IsSome before
+AddingRefusal text before (Refused e) = ((e ≡ EncodingInvalid) × ¬ (IsText text))
+    ⊎ ((e ≡ OutOfMemory) × IsText text × (before ≡ None))
+AddingRefusal text before _ = ⊥
+
+-- what adding a text answers, and the name's value after it
+abbrev pub Adds : List ℕ → Option Phc → Result (Unit {0}) AccountError → Option Phc → Type 0
+Adds text before (Ok _) after = (before ≡ None) × IsSomeAnd after (PhcText text)
+Adds text before (Err e) after = AddingRefusal text before e × (after ≡ before)
+
+-- why a name is not registered
+abbrev pub RegisteringRefusal : List ℕ → Option Phc → AccountError → Type 0
+RegisteringRefusal password (Some v) NameTaken = Unit {0}
+RegisteringRefusal password None e = MakingRefusal password e
+RegisteringRefusal password _ _ = ⊥
+
+-- what registering answers, and the name's value after it
+abbrev pub Registers :
+    Terms → List ℕ → List ℕ → Option Phc → Result (Unit {0}) AccountError → Option Phc → Type 0
+Registers terms password drawn before (Ok _) after =
+    (before ≡ None) × IsSomeAnd after (IsFresh terms.target password drawn)
+Registers terms password drawn before (Err e) after =
+    RegisteringRefusal password before e × (after ≡ before)
+
+-- what a call on a name's value answers, and the value after it: without one it is refused
+abbrev pub OnValue : {X : Type 0} → (Phc → Result X AccountError → Phc → Type 0)
+    → Option Phc → Result X AccountError → Option Phc → Type 0
+OnValue changes (Some v) answer after = IsSomeAnd after (changes v answer)
+OnValue changes None answer after = (answer ≡ Err NameUnknown) × (after ≡ None)
+
+-- what removing answers, and the name's value after it
+abbrev pub Removes : Option Phc → Result (Unit {0}) AccountError → Option Phc → Type 0
+Removes before (Ok _) after = IsSome before × (after ≡ None)
+Removes before (Err e) after = (e ≡ NameUnknown) × (before ≡ None) × (after ≡ None)
+
+-- what a call answers where its name has this value or none, and what the name has after it
+abbrev pub AccountAnswer : Terms → AccountEvent → Option Phc → Option Phc → Type 0
+AccountAnswer terms (adding name text answer) before after = Adds text before answer after
+AccountAnswer terms (registering name password drawn answer) before after =
+    Registers terms password drawn before answer after
+AccountAnswer terms (logging_in name password drawn answer) before after =
+    OnValue (LogsIn terms password drawn) before answer after
+AccountAnswer terms (changing name old password drawn answer) before after =
+    OnValue (Changes terms old password drawn) before answer after
+AccountAnswer terms (setting name password drawn answer) before after =
+    OnValue (Sets terms password drawn) before answer after
+AccountAnswer terms (removing name answer) before after = Removes before answer after
+
+-- what a call answers, and the store after it: all other names keep their values
+abbrev pub AccountStep : Terms → Store → AccountEvent → Store → Type 0
+AccountStep terms before event after =
+    AccountAnswer terms event (get before (name_of event)) (get after (name_of event))
+    × KeepsOthers (name_of event) before after
+
+-- a call takes accounts from one state to another
+abbrev pub Steps : AccountEvent → Accounts → Accounts → Type 0
+Steps event old new = AccountStep (kept_terms old) (store_of old) event (store_of new)
+
+-- the name has a text that asks for no more than the bound, and accepts the password
+abbrev pub HasPassword : Terms → Store → List ℕ → List ℕ → Type 0
+HasPassword terms store name password = IsSomeAnd (get store name) (Admits terms password)
+
+-- ---- lists of calls, the newest first
+
+-- the calls take the store from the first one to the last
+abbrev pub AccountRun : Terms → Store → List AccountEvent → Store → Type 0
+AccountRun terms first [] last = last ≡ first
+AccountRun terms first (event ∷ older) last =
+    (before : Store) × AccountRun terms first older before × AccountStep terms before event last
+
+pub data Given : Type 0 where
+  a_text : List ℕ → Given  -- a text that was added
+  a_password : List ℕ → Given  -- a password: registered, set, changed to, or accepted at a login
+  nothing : Given  -- the name was removed
+
+-- what an accepted call gives its name
+abbrev pub gives : AccountEvent → Option Given
+gives (adding name text (Ok _)) = Some (a_text text)
+gives (registering name password drawn (Ok _)) = Some (a_password password)
+gives (logging_in name password drawn (Ok _)) = Some (a_password password)
+gives (changing name old password drawn (Ok _)) = Some (a_password password)
+gives (setting name password drawn (Ok _)) = Some (a_password password)
+gives (removing name (Ok _)) = Some nothing
+gives _ = None
+
+-- what a call gives this name
+abbrev pub given : List ℕ → AccountEvent → Option Given
+given name event = if bytes_eq name (name_of event) then gives event else None
+
+-- the name has what it was given
+abbrev pub HasGiven : Terms → Option Given → Option Phc → Type 0
+HasGiven terms (Some (a_text text)) (Some v) = PhcText text v
+HasGiven terms (Some (a_password password)) (Some v) = Admits terms password v
+HasGiven terms (Some nothing) None = Unit {0}
+HasGiven terms None None = Unit {0}
+HasGiven terms _ _ = ⊥
+
+-- Each name has what the last of its accepted calls gave it, and no text where there was none.
+abbrev pub TextsAreGiven : Type 0
+TextsAreGiven = (terms : Terms) → AreTerms terms →
+    (events : List AccountEvent) (store : Store) → AccountRun terms empty events store →
+    (name : List ℕ) → HasGiven terms (newest (given name) events) (get store name)
+
+-- ---- what the generator has left
+
+-- after a text was to be made: 16 bytes are drawn, unless the name is the reason of a refusal
+abbrev pub stream_after_making : Result (Unit {0}) AccountError → Stream → Stream
+stream_after_making (Err NameTaken) stream = stream
+stream_after_making (Err NameUnknown) stream = stream
+stream_after_making _ stream = (fill_bytes 16 stream).1
+
+-- after a change of this value or none: 16 bytes are drawn once the old password is accepted, and nothing where it is denied
+abbrev pub DrawsOnce :
+    Terms → List ℕ → Option Phc → Result (Unit {0}) AccountError → Stream → Stream → Type 0
+DrawsOnce terms password None answer old new = new ≡ old
+DrawsOnce terms password (Some v) answer old new =
+    (Admits terms password v × (new ≡ (fill_bytes 16 old).1))
+    ⊎ (IsErrAnd answer (Denial terms password v) × (new ≡ old))
+
+-- ---- texts
+
+-- what a refusal prints
+abbrev pub account_error_text : AccountError → List ℕ
+account_error_text NameTaken = codes "name is taken"
+account_error_text NameUnknown = codes "name is unknown"
+account_error_text TooExpensive = codes "costs are above the bound"
+account_error_text (Refused e) = hash_error_text e

@@ -1,0 +1,22 @@
+//! Accounts: names with passwords, each stored as a PHC text.
+//!
+//! ```text
+//! let mut accounts = Accounts::new(alloc, Argon2::default(), bound)?;
+//! accounts.register(&mut rng, "ann", password)?;
+//! accounts.login(&mut rng, "ann", password)?;
+//! ```
+//!
+//! A text that asks for more than a bound accepts no password, and old texts are renewed at a login.
+//! [`Accounts`] keeps names with texts in memory. [`Policy`] does the same to a text that is kept
+//! elsewhere.
+#![tactic(auto)]
+
+mod accounts;
+mod error;
+mod policy;
+mod runs;
+
+pub use accounts::Accounts;
+pub use error::AccountError;
+pub use policy::Policy;
+pub use runs::account_runs;

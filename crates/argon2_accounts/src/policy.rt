@@ -1,0 +1,167 @@
+//! What passwords of accounts are hashed and verified under.
+
+ghost use Rattle.std.proofs.Props.{props};
+ghost use Rattle.argon2.specs.Bound.{IsWithin};
+ghost use Rattle.argon2.specs.Login.{target_value};
+
+use crate::error::AccountError;
+use argon2::Argon2;
+use argon2::bound::Bound;
+use argon2::login::{Accepted, Target};
+use argon2::password_hash::Stored;
+use argon2_base::phc::PasswordHash;
+use rand_core::Rng;
+use std::alloc::Global;
+
+/// What passwords of accounts are hashed and verified under: a target whose hashes fit into texts,
+/// and a bound on what a stored text may ask for, which the target is within.
+#[derive(Drop)]
+pub struct Policy<'key> {
+    pub(crate) alloc: Global,
+    target: Target<'key>,
+    bound: Bound,
+    ghost within: { IsWithin bound (target_value target).settings.parameters } by { Prim.hlevel props },
+}
+
+impl<'key> Policy<'key> {
+    ghost use Rattle.std.specs.Prelude.{◌≡◌, ◌≢◌, ◌⊎◌, ◌↔◌, Some, Ok, Err, IsTrue, IfOk, OnOk, MatchResult};
+    ghost use Rattle.rand_core.specs.Stream.{fill_bytes};
+    ghost use Rattle.argon2_base.specs.PhcFields.{phc_of};
+    ghost use Rattle.argon2_base.specs.declared.error.password_hash.Error.TheVariants.{OutOfMemory};
+    ghost use Rattle.argon2_accounts.specs.declared.error.AccountError.TheVariants.{Refused, TooExpensive};
+    ghost use Rattle.argon2.specs.declared.login.answers.Accepted.TheVariants.{Kept};
+    ghost use Rattle.argon2_accounts.specs.Accounts.{Admits, Changes, Denial, DrawsOnce, IsAbove, IsNewPolicy, LogsIn, MakingRefusal, terms_of};
+    ghost use Rattle.argon2.specs.NamedTexts.{IsCurrent, stream_after};
+    ghost use Rattle.argon2.specs.Made.{IsFresh, target_of};
+
+    /// A policy of a target and a bound. Its calls allocate from `alloc`; this one allocates nothing.
+    ///
+    /// # Errors
+    /// The first of these that holds:
+    /// - [`AccountError::Refused`] with [`Error::OutputSize`](argon2::password_hash::Error::OutputSize):
+    ///   the target's output length is above 64, the most bytes that the hash of a PHC text has.
+    /// - [`AccountError::TooExpensive`]: a cost of the target is above the bound's.
+    pub fn new(
+        alloc: Global,
+        target: Argon2<'key>,
+        bound: Bound,
+    ) -> Result<Policy<'key>, AccountError>
+        ensures { IsNewPolicy (record { target = target_of target.entry; bound = bound }) result }
+    {
+        let affordable = bound.allows(target.params());
+        let target = Target::new(target)?;
+        if !affordable {
+            return Err(AccountError::TooExpensive);
+        }
+        Ok(Policy {
+            alloc,
+            target,
+            bound,
+        })
+    }
+
+    /// A fresh text of a password, with a salt of 16 bytes that are drawn from `rng`. They are
+    /// drawn also where the call is refused.
+    ///
+    /// # Errors
+    /// [`AccountError::Refused`] with the error of hashing: out of memory, or a password longer than
+    /// 4294967295 bytes.
+    pub fn hash_password<R: Rng>(
+        &self,
+        rng: &mut R,
+        password: &[u8],
+    ) -> Result<PasswordHash, AccountError>
+        ensures made { MatchResult result
+            (λ text. IsFresh (terms_of self.now).target password.now
+            (fill_bytes 16 (R.stream rng.old)).0 (phc_of text))
+            (MakingRefusal password.now) }
+        ensures accepted { IfOk result (λ text.
+            Admits (terms_of self.now) password.now (phc_of text)) }
+        ensures current { IfOk result (λ text.
+            IsCurrent (terms_of self.now).target (phc_of text)) }
+        ensures drawn { R.stream rng.new ≡ (fill_bytes 16 (R.stream rng.old)).1 }
+    {
+        Ok(self.target.hash_password(self.alloc, rng, password)?)
+    }
+
+    /// Verifies a password against a text that asks for no more than the bound, under the target's
+    /// secret. Where the text accepts the password and has other settings than the target, a fresh
+    /// one is made of the password, as by [`hash_password`](Policy::hash_password), and written over
+    /// it. [`Accepted`] says what was done.
+    ///
+    /// Nothing is drawn but for a fresh text; then 16 bytes are, even if there is no memory for it.
+    ///
+    /// # Errors
+    /// The text is then as before:
+    /// - [`AccountError::TooExpensive`]: the text can be read, and a cost is above the bound's,
+    ///   whatever memory there is.
+    /// - [`AccountError::Refused`] with the reason: the text can't be verified, or does not accept the
+    ///   password.
+    pub fn log_in<R: Rng>(
+        &self,
+        rng: &mut R,
+        text: &mut PasswordHash,
+        password: &[u8],
+    ) -> Result<Accepted, AccountError>
+        ensures step { LogsIn (terms_of self.now) password.now
+            (fill_bytes 16 (R.stream rng.old)).0 (phc_of text.old) result (phc_of text.new) }
+        ensures accepted { MatchResult result
+            (λ _. Admits (terms_of self.now) password.now (phc_of text.new))
+            (λ e. (e ≡ Refused OutOfMemory)
+            ⊎ ¬ (Admits (terms_of self.now) password.now (phc_of text.old))) }
+        ensures current { IfOk result (λ accepted. accepted ≢ Kept →
+            IsCurrent (terms_of self.now).target (phc_of text.new)) }
+        ensures expensive { IsAbove (terms_of self.now).bound (phc_of text.old)
+            → result ≡ Err TooExpensive }
+        ensures drawn { R.stream rng.new ≡ stream_after result (R.stream rng.old) }
+    {
+        if self.verify(text, password)? {
+            return Ok(Accepted::Current);
+        }
+        Ok(self.target.renew(self.alloc, rng, text, password))
+    }
+
+    /// Writes a fresh text of a new password over a text that asks for no more than the bound and
+    /// accepts the old password. 16 bytes are drawn once the old password is accepted, and else
+    /// nothing is.
+    ///
+    /// # Errors
+    /// The text is then as before:
+    /// - those of [`log_in`](Policy::log_in) with the old password.
+    /// - those of [`hash_password`](Policy::hash_password) with the new one.
+    pub fn change_password<R: Rng>(
+        &self,
+        rng: &mut R,
+        text: &mut PasswordHash,
+        old: &[u8],
+        new: &[u8],
+    ) -> Result<(), AccountError>
+        ensures step { Changes (terms_of self.now) old.now new.now
+            (fill_bytes 16 (R.stream rng.old)).0 (phc_of text.old) result (phc_of text.new) }
+        ensures accepted { OnOk result (Admits (terms_of self.now) new.now (phc_of text.new)) }
+        ensures expensive { IsAbove (terms_of self.now).bound (phc_of text.old)
+            → result ≡ Err TooExpensive }
+        ensures drawn { DrawsOnce (terms_of self.now) old.now (Some (phc_of text.old)) result
+            (R.stream rng.old) (R.stream rng.new) }
+    {
+        self.verify(text, old)?;
+        *text = self.hash_password(rng, new)?;
+        Ok(())
+    }
+
+    // Whether a text has the target's settings, where it accepts the password within the bound.
+    fn verify(&self, text: &PasswordHash, password: &[u8]) -> Result<bool, AccountError>
+        ensures answer { MatchResult result
+            (λ current. Admits (terms_of self.now) password.now (phc_of text.now)
+            × (IsTrue current ↔ IsCurrent (terms_of self.now).target (phc_of text.now)))
+            (Denial (terms_of self.now) password.now (phc_of text.now)) }
+        ensures expensive { IsAbove (terms_of self.now).bound (phc_of text.now)
+            → result ≡ Err TooExpensive }
+    {
+        let stored = Stored::try_from(text)?;
+        if !self.bound.allows(&stored.settings.params) {
+            return Err(AccountError::TooExpensive);
+        }
+        Ok(self.target.accepts(self.alloc, password, &stored)?)
+    }
+}
