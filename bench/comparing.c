@@ -1,12 +1,12 @@
 /*
- * Compares two libraries of argon2.h, the first being another's and the second ours:
+ * Compares libraries of argon2.h:
  *
- *   comparing OTHER OURS requests COUNT SEED    random contexts, a third with faults
- *   comparing OTHER OURS texts COUNT SEED       texts, half of them damaged, and writing them
- *   comparing OTHER OURS time ROUNDS            memory and passes of some kinds, one lane and four, in turns
+ *   comparing requests COUNT OTHER OURS    random contexts, a third with faults
+ *   comparing texts COUNT OTHER OURS       texts, half of them damaged, and writing them
+ *   comparing times ROUNDS LIBRARY..       memory and passes of some kinds, one lane and four, in turns
  *
  * The first two print a line of counts, after those in which the libraries differ; the last prints lines of
- * memory, passes, lanes, library, least wall milliseconds and least processor milliseconds.
+ * memory, passes, lanes, and each library's least milliseconds of wall time and of processor time.
  */
 #define _GNU_SOURCE
 #include <argon2.h>
@@ -18,13 +18,15 @@
 #include <sys/resource.h>
 #include <time.h>
 
+enum { MOST = 8 };
+
 static struct library {
     int (*ctx)(argon2_context *, argon2_type);
     int (*verify)(const char *, const void *, size_t, argon2_type);
     int (*hash)(uint32_t, uint32_t, uint32_t, const void *, size_t, const void *, size_t, void *, size_t, char *,
         size_t, argon2_type, uint32_t);
     size_t (*encodedlen)(uint32_t, uint32_t, uint32_t, uint32_t, uint32_t, argon2_type);
-} both[2];
+} tried[MOST];
 
 static void load(struct library *library, const char *path) {
     void *file = dlopen(path, RTLD_NOW | RTLD_LOCAL | RTLD_DEEPBIND);
@@ -35,7 +37,7 @@ static void load(struct library *library, const char *path) {
     *(void **)&library->encodedlen = dlsym(file, "argon2_encodedlen");
 }
 
-static uint64_t state;
+static uint64_t state = 88172645463325252ull;
 
 /* A random number below a bound. */
 static uint32_t below(uint32_t bound) {
@@ -76,7 +78,7 @@ static int requests(long count) {
             contexts[k].pwd = no_pwd ? NULL : pwd[k];
             contexts[k].secret = no_secret ? NULL : secret[k];
             if (no_secret && !bad) contexts[k].secretlen = 0;
-            answers[k] = both[k].ctx(&contexts[k], type);
+            answers[k] = tried[k].ctx(&contexts[k], type);
             if (lent) printf("not given back: %zu bytes\n", lent), exit(1);
         }
         if (answers[0] != answers[1]) codes++, printf("codes %d and %d\n", answers[0], answers[1]);
@@ -119,10 +121,10 @@ static int texts(long count) {
         int answers[2];
         fill(pwd, 16), fill(salt, 64), memset(out, 0, sizeof out), memset(text, 1, sizeof text);
         for (int k = 0; k < 2; k++)
-            answers[k] = both[k].hash(t, m, lanes, pwd, 16, salt, saltlen, out[k], outlen, text[k], room, type, version);
+            answers[k] = tried[k].hash(t, m, lanes, pwd, 16, salt, saltlen, out[k], outlen, text[k], room, type, version);
         if (answers[0] != answers[1] || (!answers[0] && (strcmp(text[0], text[1]) || memcmp(out[0], out[1], 80)))
-            || both[0].encodedlen(t, m, lanes, saltlen, outlen, type)
-            != both[1].encodedlen(t, m, lanes, saltlen, outlen, type)) written++;
+            || tried[0].encodedlen(t, m, lanes, saltlen, outlen, type)
+            != tried[1].encodedlen(t, m, lanes, saltlen, outlen, type)) written++;
         if (answers[0]) {
             i--;
             continue;
@@ -134,7 +136,7 @@ static int texts(long count) {
             i--;
             continue;
         }
-        for (int k = 0; k < 2; k++) answers[k] = both[k].verify(damaged, pwd, 16, type);
+        for (int k = 0; k < 2; k++) answers[k] = tried[k].verify(damaged, pwd, 16, type);
         if (answers[0] == answers[1]) same++, right += answers[0] == 0;
         else codes++, printf("codes %d and %d: %s\n", answers[0], answers[1], damaged);
         accepted += (answers[0] == 0) != (answers[1] == 0);
@@ -156,32 +158,35 @@ static double processor(void) {
     return (used.ru_utime.tv_sec + used.ru_stime.tv_sec) * 1e3 + (used.ru_utime.tv_usec + used.ru_stime.tv_usec) / 1e3;
 }
 
-static int times(long rounds) {
-    static const uint32_t costs[][2] = {{4096, 1}, {19456, 2}, {65536, 3}, {1 << 20, 1}};
-    for (int row = 0; row < 8; row++) {
+static int times(long rounds, int count) {
+    static const uint32_t costs[][2] = {{4096, 1}, {19456, 2}, {65536, 3}, {1 << 18, 1}, {1 << 20, 1}};
+    for (int row = 0; row < 10; row++) {
         const uint32_t m = costs[row / 2][0], t = costs[row / 2][1], lanes = row % 2 ? 4 : 1;
-        double least[2][2] = {{1e9, 1e9}, {1e9, 1e9}};
-        for (long i = 0; i < 2 * rounds; i++) {
-            int k = i % 2;
+        double least[MOST][2];
+        for (int k = 0; k < count; k++) least[k][0] = least[k][1] = 1e9;
+        for (long i = 0; i < count * rounds; i++) {
+            int k = i % count;
             uint8_t out[32];
             double begun = wall(), used = processor();
-            if (both[k].hash(t, m, lanes, "password", 8, "somesaltsomesalt", 16, out, 32, NULL, 0, Argon2_id, 0x13))
+            if (tried[k].hash(t, m, lanes, "password", 8, "somesaltsomesalt", 16, out, 32, NULL, 0, Argon2_id, 0x13))
                 return 1;
             begun = wall() - begun, used = processor() - used;
             if (begun < least[k][0]) least[k][0] = begun;
             if (used < least[k][1]) least[k][1] = used;
         }
-        for (int k = 0; k < 2; k++)
-            printf("%u %u %u %s %.1f %.1f\n", m, t, lanes, k ? "ours" : "other", least[k][0], least[k][1]);
+        printf("%u %u %u", m, t, lanes);
+        for (int k = 0; k < count; k++) printf(" %.1f %.1f", least[k][0], least[k][1]);
+        puts("");
     }
     return 0;
 }
 
 int main(int argc, char **argv) {
-    if (argc < 5) return 2;
-    load(&both[0], argv[1]), load(&both[1], argv[2]);
-    state = argc > 5 ? strtoull(argv[5], NULL, 10) * 2654435761u + 88172645463325252ull : 1;
-    if (!strcmp(argv[3], "requests")) return requests(atol(argv[4]));
-    if (!strcmp(argv[3], "texts")) return texts(atol(argv[4]));
-    return times(atol(argv[4]));
+    const long count = argc > 2 ? atol(argv[2]) : 0;
+    const int libraries = argc - 3;
+    if (libraries < 1 || libraries > MOST) return 2;
+    for (int k = 0; k < libraries; k++) load(&tried[k], argv[3 + k]);
+    if (!strcmp(argv[1], "times")) return times(count, libraries);
+    if (libraries != 2) return 2;
+    return strcmp(argv[1], "texts") ? requests(count) : texts(count);
 }
