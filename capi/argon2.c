@@ -1,12 +1,11 @@
 /*
- * argon2.h over the proved crate argon2_c. The crate decides what is refused and makes tags and texts. The C
- * turns null pointers, lengths of C strings and contexts into what the crate takes, copies what overlaps, calls
- * the callbacks, wipes, and holds constant texts.
+ * argon2.h over the proved crate argon2_c. The crate decides what is refused and makes tags and texts, on memory that it
+ * is lent: it names no allocator. The C turns null pointers, lengths of C strings and contexts into what the crate takes,
+ * gets memory, copies what overlaps, calls the callbacks, wipes, and holds constant texts.
  */
 #define _GNU_SOURCE
 #include "argon2.h"
 
-#include <malloc.h>
 #include <stdbool.h>
 #include <stdlib.h>
 #include <string.h>
@@ -37,17 +36,14 @@ int32_t argon2_c_encode(uint32_t algorithm, uint32_t version, uint32_t m_cost, u
     bytes salt, size_t, bytes tag, size_t, uint8_t *out, size_t);
 size_t argon2_c_encoded_length(uint32_t algorithm, uint32_t m_cost, uint32_t t_cost, uint32_t lanes,
     uint32_t salt, uint32_t tag);
-int32_t argon2_c_verify(uint32_t algorithm, bool has_text, bytes text, size_t, bytes pwd, size_t, size_t absent,
-    block *memory, size_t);
-
-/* What a text says. */
+/* What a text says; its salt and its tag are at the front of the room that was lent for it. */
 struct shown {
     uint32_t version, m_cost, t_cost, lanes;
     size_t salt, tag; /* lengths */
 };
 
-int32_t argon2_c_read(uint32_t algorithm, bool has_text, bytes text, size_t, size_t pwd, size_t absent, struct shown *,
-    uint8_t *room, size_t);
+int32_t argon2_c_verify(uint32_t algorithm, bool has_text, bytes text, size_t, bytes pwd, size_t, size_t absent,
+    struct shown *, uint8_t *room, size_t, block *memory, size_t);
 
 /* A hash by parts, which threads.c puts together. */
 int32_t argon2_c_begin(const struct request *, bytes pwd, size_t, bytes salt, size_t, bytes secret, size_t,
@@ -57,7 +53,7 @@ int32_t argon2_c_segment(const struct request *, bytes secret, size_t, bytes ass
 int32_t argon2_c_finish(const struct request *, const block *last, size_t, uint8_t *out, size_t);
 
 /* Stands for a null pointer, with length 0. */
-static uint8_t nothing[1];
+static _Alignas(block) uint8_t nothing[1];
 
 static uint8_t *some(const void *at) { return at ? (uint8_t *)at : nothing; }
 static size_t length(const void *at, size_t n) { return at ? n : 0; }
@@ -94,29 +90,6 @@ static block *new_blocks(size_t n) {
     const size_t before = -(uintptr_t)at % HUGE_PAGE; /* the bytes up to the first huge page */
     if (at && whole >= LARGE) (void)madvise(at + before, (whole - before) / HUGE_PAGE * HUGE_PAGE, MADV_HUGEPAGE);
     return (block *)at;
-}
-
-/* The crate allocates for texts alone, and never during a hash. */
-struct tried {
-    bool ok;
-    void *at; /* not null */
-};
-
-struct tried rattle_alloc(size_t n, size_t alignment) {
-    uint8_t *const at = malloc(n);
-    (void)alignment; /* never above malloc's */
-    return at ? (struct tried){true, at} : (struct tried){false, nothing};
-}
-
-void rattle_dealloc(void *at) { wipe_and_free(at, malloc_usable_size(at)); }
-
-struct tried rattle_realloc(void *at, size_t kept, size_t n, size_t alignment) {
-    const struct tried grown = rattle_alloc(n, alignment);
-    if (grown.ok) {
-        memcpy(grown.at, at, kept < n ? kept : n);
-        rattle_dealloc(at);
-    }
-    return grown;
 }
 
 /* ---- hashing */
@@ -253,31 +226,45 @@ size_t argon2_encodedlen(uint32_t t_cost, uint32_t m_cost, uint32_t lanes, uint3
 
 /* ---- verifying */
 
+/* A text to verify, and the room for what it says and for the tag that is made. */
+struct verifying {
+    argon2_type type;
+    const char *text;
+    size_t length;
+    const void *pwd;
+    size_t pwdlen;
+    uint8_t *room;
+    struct shown shown;
+};
+
+static int verify_on(struct verifying *v, block *memory, size_t n) {
+    return argon2_c_verify(v->type, v->text != NULL, some(v->text), v->length, some(v->pwd), length(v->pwd, v->pwdlen),
+        absent(v->pwd, v->pwdlen), &v->shown, some(v->room), length(v->room, 2 * v->length), memory, n);
+}
+
 int argon2_verify(const char *encoded, const void *pwd, const size_t pwdlen, argon2_type type) {
     const size_t n = encoded ? strlen(encoded) : 0;
-    uint8_t *const room = malloc(2 * n); /* for the salt and the tag of the text, and for the tag that is made */
-    struct shown shown = {0};
-    int answer = argon2_c_read(type, encoded != NULL, some(encoded), n, length(pwd, pwdlen), absent(pwd, pwdlen), &shown,
-        some(room), room ? n : 0);
-    if (answer == ARGON2_OK) {
+    struct verifying v = {type, encoded, n, pwd, pwdlen, malloc(2 * n), {0}};
+    int answer = verify_on(&v, (block *)nothing, 0);
+    if (answer == ARGON2_INCORRECT_PARAMETER) { /* nothing is wrong but that there was no memory */
         const argon2_context c = {
-            .out = room + n, .outlen = shown.tag, .pwd = (uint8_t *)pwd, .pwdlen = pwdlen, .salt = room,
-            .saltlen = shown.salt, .t_cost = shown.t_cost, .m_cost = shown.m_cost, .lanes = shown.lanes,
-            .threads = shown.lanes, .version = shown.version,
+            .out = v.room + n, .outlen = v.shown.tag, .pwd = (uint8_t *)pwd, .pwdlen = pwdlen, .salt = v.room,
+            .saltlen = v.shown.salt, .t_cost = v.shown.t_cost, .m_cost = v.shown.m_cost, .lanes = v.shown.lanes,
+            .threads = v.shown.lanes, .version = v.shown.version,
         };
-        answer = refusal(&c, type);
-        if (answer == ARGON2_OK && worker_count(&c) > 1) {
-            answer = hash_into(&c, type, c.out);
-            if (answer == ARGON2_OK) answer = argon2_c_compare(room + shown.salt, shown.tag, c.out, shown.tag);
-        } else if (answer == ARGON2_OK) {
-            block *const memory = new_blocks(block_count(&c));
-            answer = !memory ? ARGON2_MEMORY_ALLOCATION_ERROR : argon2_c_verify(type, true, some(encoded), n, some(pwd),
-                length(pwd, pwdlen), 0, memory, block_count(&c));
-            if (memory) wipe_and_free((uint8_t *)memory, block_count(&c) * sizeof(block));
+        block *const memory = new_blocks(block_count(&c));
+        if (!memory) {
+            answer = ARGON2_MEMORY_ALLOCATION_ERROR;
+        } else if (worker_count(&c) > 1) {
+            answer = hash_on(&c, type, c.out, memory, true);
+            if (answer == ARGON2_OK) answer = argon2_c_compare(v.room + c.saltlen, c.outlen, c.out, c.outlen);
+        } else {
+            answer = verify_on(&v, memory, block_count(&c));
+            wipe(memory, block_count(&c) * sizeof(block));
         }
-        wipe(room, 2 * n);
+        free(memory);
     }
-    free(room);
+    if (v.room) wipe_and_free(v.room, 2 * n);
     wipe_stack();
     return answer;
 }

@@ -1,3 +1,4 @@
+mod Appending
 mod Lengths
 mod Marks
 mod Utf8

@@ -1,10 +1,11 @@
 -- The texts of argon2.h's library: what they say, and the one spelling of each.
-use Rattle.std.specs.Prelude.{ℕ, ◌<◌, ◌^◌, ◌==◌, nat_le, nat_lt, ◌&&◌, ℤ, length, if◌then◌else◌, List, ◌∷◌, ◌++◌, codes, Option, Some, None, IfSome}
+use Rattle.std.specs.Prelude.{◌≡◌, ℕ, ◌<◌, ◌^◌, ◌==◌, nat_le, nat_lt, ◌&&◌, ℤ, length, if◌then◌else◌, List, ◌∷◌, ◌++◌, codes, Option, Some, None, IfSome, unwrap_or}
 use Rattle.std.specs.Fmt.{decimal}
+use Rattle.base64.specs.Decode.{IsWrittenOver}
 use Rattle.argon2_base.specs.Texts.{IsBytes, strict_base64}
 use Rattle.argon2_c.specs.declared.code.TheConstants.{ENCODING_FAIL, OK}
-use Rattle.argon2_c.specs.declared.decode.Decoded.{Decoded}
 use Rattle.argon2_c.specs.declared.decode.Parts.{Parts}
+use Rattle.argon2_c.specs.declared.decode.Shown.{Shown}
 
 -- what a text says beside the name
 pub record Said : Type 0 where
@@ -68,22 +69,29 @@ spelling name v = joined name (written v)
 abbrev pub text_of : ℕ → ℕ → ℕ → ℕ → ℕ → List ℕ → List ℕ → List ℕ
 text_of algorithm version m t p salt tag = spelling (name_numbered algorithm) (said_with version m t p salt tag)
 
--- the code of writing a text into so much room, memory aside: a zero byte has to fit too
+-- the code of writing a text into so much room: a zero byte has to fit too
 abbrev pub encode_code : ℕ → List ℕ → ℕ → ℤ
 encode_code algorithm text room = if nat_le algorithm 2 && nat_lt (length text) room then OK else ENCODING_FAIL
 
--- what the code has read
-abbrev pub said : Decoded → Said
-said d = record {
-  version = d.version;
-  m_cost = d.m_cost;
-  t_cost = d.t_cost;
-  lanes = d.lanes;
-  salt = d.salt.items;
-  tag = d.tag.items;
-}
+-- the text is this variant's, and says this
+abbrev pub Says : ℕ → List ℕ → Said → Type 0
+Says algorithm text v = IsSaid v × (text ≡ spelling (name_numbered algorithm) v)
 
--- the same before Base64 is read
+-- what a text says, but for the bytes of its salt and its tag
+pub record IsShown (v : Said) (shown : Shown) : Type 0 where
+  pub version : shown.version ≡ unwrap_or v.version 16
+  pub m_cost : shown.m_cost ≡ v.m_cost
+  pub t_cost : shown.t_cost ≡ v.t_cost
+  pub lanes : shown.lanes ≡ v.lanes
+  pub salt : shown.salt ≡ length v.salt
+  pub tag : shown.tag ≡ length v.tag
+
+-- behind a text that ends at `at`, more of it is written up to `end`, and nothing else
+abbrev pub Appends : ℕ → List ℕ → List ℕ → List ℕ → ℕ → Type 0
+Appends at more old new end = (front first : List ℕ) → length front ≡ at → IsWrittenOver front first old
+    → (length (front ++ more) ≡ end) × IsWrittenOver (front ++ more) first new
+
+-- what the parts of a text say, before Base64 is read
 abbrev pub parts_of : Parts → Said
 parts_of p = record {
   version = p.version;

@@ -1,50 +1,52 @@
 //! Texts, read from left to right. The salt and the hash have any length.
 
-ghost use Rattle.std.specs.Prelude.{◌≡◌, ◌⊎◌, ◌∷◌, ◌++◌, ◌<◌, ◌^◌, ℕ, List, Option, codes, IfSome, IfOk, IfErr, IsSomeAnd, MatchResult};
+ghost use Rattle.std.specs.Prelude.{◌≡◌, ◌∷◌, ◌++◌, ◌+◌, ◌*◌, ◌<◌, ◌≤◌, ◌^◌, ℕ, List, Option, codes, length, IfSome, IsSomeAnd};
 ghost use Rattle.std.specs.Fmt.{decimal};
-ghost use Rattle.argon2.specs.Settings.{algorithm_name};
+ghost use Rattle.base64.specs.Decode.{IsWrittenOver, decoded_estimate};
 ghost use Rattle.argon2_base.specs.Texts.{IsBytes, strict_base64};
-ghost use Rattle.argon2_c.specs.Texts.{Said, IsSaid, costs_part, joined, parts_of, said, spelling, version_part, written};
+ghost use Rattle.argon2_c.specs.Texts.{IsShown, Said, IsSaid, Says, costs_part, joined, parts_of, spelling, version_part, written};
 
-use crate::code::{DECODING_FAIL, MEMORY_ALLOCATION_ERROR};
-use argon2::Algorithm;
+use crate::hash::name;
 use argon2_base::phc::read_decimal;
-use base64::DecodeAllocError;
 use base64::engine::general_purpose::STANDARD_NO_PAD;
-use std::alloc::Global;
 
-/// What a text says.
-#[derive(Drop)]
-pub struct Decoded {
-    /// The version, where the text has one.
-    pub version: Option<u32>,
+/// What a text says, whose salt and hash stand elsewhere.
+#[repr(C)]
+#[derive(Clone, Copy)]
+pub struct Shown {
+    /// The version, 16 where the text has none.
+    pub version: u32,
     /// The memory cost.
     pub m_cost: u32,
     /// The number of passes.
     pub t_cost: u32,
     /// The number of lanes.
     pub lanes: u32,
-    /// The salt.
-    pub salt: Vec<u8>,
-    /// The hash.
-    pub tag: Vec<u8>,
+    /// The length of the salt.
+    pub salt: usize,
+    /// The length of the hash.
+    pub tag: usize,
 }
 
-/// What a text of this variant says, or the code of the refusal.
-pub fn decode(alloc: Global, algorithm: Algorithm, text: &str) -> Result<Decoded, i32>
-    ensures found { IfOk result
-        (λ d. IsSaid (said d) × (text.now ≡ spelling (algorithm_name algorithm) (said d))) }
-    ensures only { (v : Said) → IsSaid v → text.now ≡ spelling (algorithm_name algorithm) v
-        → MatchResult result (λ d. said d ≡ v) (λ e. e ≡ MEMORY_ALLOCATION_ERROR) }
-    ensures codes { IfErr result (λ e. (e ≡ DECODING_FAIL) ⊎ (e ≡ MEMORY_ALLOCATION_ERROR)) }
+/// Reads a text of this variant, and writes its salt and then its hash to the front of `room`. Where it
+/// is no such text, `room` may hold anything.
+pub fn decode(algorithm: u32, text: &[u8], room: &mut [u8]) -> Option<Shown>
+    requires variant { algorithm ≤ 2 }
+    requires room { 2 * length text.now ≤ length room.old }
+    ensures found { IfSome result (λ shown. (v : Said) × Says algorithm text.now v
+        × IsShown v shown × IsWrittenOver (v.salt ++ v.tag) room.old room.new) }
+    ensures within { IfSome result (λ shown. shown.salt + shown.tag ≤ length text.now) }
+    ensures only { (v : Said) → Says algorithm text.now v → IsSomeAnd result (λ shown.
+        IsShown v shown × IsWrittenOver (v.salt ++ v.tag) room.old room.new) }
 {
-    let Some(parts) = split(algorithm, text) else {
-        return Err(DECODING_FAIL);
+    let Ok(text) = std::str::from_utf8(text) else {
+        return None;
     };
-    let salt = bytes(alloc, parts.salt)?;
-    let tag = bytes(alloc, parts.tag)?;
-    Ok(Decoded {
-        version: parts.version,
+    let parts = split(name(algorithm), text)?;
+    let salt = bytes(parts.salt, room)?;
+    let tag = bytes(parts.tag, &mut room[salt..])?;
+    Some(Shown {
+        version: parts.version.unwrap_or(16),
         m_cost: parts.m_cost,
         t_cost: parts.t_cost,
         lanes: parts.lanes,
@@ -70,15 +72,15 @@ pub struct Parts<'a> {
     pub tag: &'a str,
 }
 
-// The parts of a text of this variant.
-fn split(algorithm: Algorithm, text: &str) -> Option<Parts<'_>>
-    ensures found { IfSome result (λ p. text.now ≡ joined (algorithm_name algorithm) (parts_of p)) }
+// The parts of a text of the variant of a name.
+fn split<'a>(name: &str, text: &'a str) -> Option<Parts<'a>>
+    ensures found { IfSome result (λ p. text.now ≡ joined name.now (parts_of p)) }
     ensures numbers { IfSome result (λ p. IfSome p.version (λ n. n < 2 ^ 32)
         × (p.m_cost < 2 ^ 32) × (p.t_cost < 2 ^ 32) × (p.lanes < 2 ^ 32)) }
-    ensures only { (v : Said) → IsSaid v → text.now ≡ spelling (algorithm_name algorithm) v
+    ensures only { (v : Said) → IsSaid v → text.now ≡ spelling name.now v
         → IsSomeAnd result (λ p. parts_of p ≡ written v) }
 {
-    let text = after_name(algorithm, text)?;
+    let text = after_name(name, text)?;
     let (version, text) = version(text)?;
     let (costs, text) = costs(text)?;
     let (salt, tag) = cut(text)?;
@@ -93,13 +95,13 @@ fn split(algorithm: Algorithm, text: &str) -> Option<Parts<'_>>
 }
 
 // What follows the name.
-fn after_name(algorithm: Algorithm, text: &str) -> Option<&str>
-    ensures found { IfSome result (λ x. text.now ≡ 36 ∷ (algorithm_name algorithm ++ 36 ∷ x.now)) }
-    ensures only { (left : List ℕ) → text.now ≡ 36 ∷ (algorithm_name algorithm ++ 36 ∷ left)
+fn after_name<'a>(name: &str, text: &'a str) -> Option<&'a str>
+    ensures found { IfSome result (λ x. text.now ≡ 36 ∷ (name.now ++ 36 ∷ x.now)) }
+    ensures only { (left : List ℕ) → text.now ≡ 36 ∷ (name.now ++ 36 ∷ left)
         → IsSomeAnd result (λ x. x.now ≡ left) }
 {
     let text = behind(text, "$")?;
-    let text = behind(text, algorithm.as_str())?;
+    let text = behind(text, name)?;
     behind(text, "$")
 }
 
@@ -170,16 +172,16 @@ fn cut(text: &str) -> Option<(&str, &str)>
     text.split_once('$')
 }
 
-// The bytes whose strict Base64 a text is, or the code of the refusal.
-fn bytes(alloc: Global, text: &str) -> Result<Vec<u8>, i32>
-    ensures found { IfOk result (λ v. IsBytes v.items × (text.now ≡ strict_base64 v.items)) }
+// Writes the bytes whose strict Base64 a text is to the front of `out`, and returns how many they are.
+fn bytes(text: &str, out: &mut [u8]) -> Option<usize>
+    requires { decoded_estimate (length text.now) ≤ length out.old }
+    ensures found { IfSome result (λ n. (b : List ℕ) × IsBytes b × (text.now ≡ strict_base64 b)
+        × (n ≡ length b) × IsWrittenOver b out.old out.new) }
     ensures only { (b : List ℕ) → IsBytes b → text.now ≡ strict_base64 b
-        → MatchResult result (λ v. v.items ≡ b) (λ e. e ≡ MEMORY_ALLOCATION_ERROR) }
-    ensures codes { IfErr result (λ e. (e ≡ DECODING_FAIL) ⊎ (e ≡ MEMORY_ALLOCATION_ERROR)) }
+        → IsSomeAnd result (λ n. (n ≡ length b) × IsWrittenOver b out.old out.new) }
 {
-    match STANDARD_NO_PAD.decode(alloc, text.as_bytes()) {
-        Ok(bytes) => Ok(bytes),
-        Err(DecodeAllocError::OutOfMemory) => Err(MEMORY_ALLOCATION_ERROR),
-        Err(DecodeAllocError::DecodeError(_)) => Err(DECODING_FAIL),
+    match STANDARD_NO_PAD.decode_slice_unchecked(text.as_bytes(), out) {
+        Ok(n) => Some(n),
+        Err(_) => None,
     }
 }

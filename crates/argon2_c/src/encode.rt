@@ -1,25 +1,18 @@
 //! A hash as a text.
 
-ghost use Rattle.std.specs.Prelude.{◌≡◌, ◌≢◌, ◌↔◌, ◌⊎◌, ◌++◌, ◌∷◌, ◌+◌, ◌*◌, ◌/◌, ◌<◌, ◌≤◌, ◌^◌, ℕ, List, Some, suc, length, drop, IfOk, IsTrue, IsFalse};
+ghost use Rattle.std.specs.Prelude.{◌≡◌, ◌≢◌, ◌++◌, ◌∷◌, ◌+◌, ◌*◌, ◌/◌, ◌<◌, ◌≤◌, ◌^◌, ℕ, List, suc, length, drop};
 ghost use Rattle.std.specs.Fmt.{decimal};
-ghost use Rattle.argon2.specs.Settings.{algorithm_name};
 ghost use Rattle.argon2_base.specs.Texts.{strict_base64};
-ghost use Rattle.argon2_c.specs.Texts.{encode_code, name_numbered, said_with, spelling, text_of};
+ghost use Rattle.argon2_c.specs.Texts.{Appends, encode_code, text_of};
 
-use crate::code::{ENCODING_FAIL, MEMORY_ALLOCATION_ERROR, OK};
-use crate::hash::variant;
-use argon2::Algorithm;
-use base64::display::Base64Display;
+use crate::code::{ENCODING_FAIL, OK};
+use crate::hash::name;
 use base64::engine::general_purpose::STANDARD_NO_PAD;
-use std::alloc::{AllocError, Global};
-use std::fmt;
 
 /// Writes a hash as a text with a zero byte behind it, and returns 0. Returns -31 where there is no such
-/// variant or too little room, and may return -22 in any case, where memory was refused; `out` is then as
-/// before.
+/// variant or too little room; `out` is then as before.
 #[unsafe(no_mangle)]
 pub extern "C" fn argon2_c_encode(
-    alloc: Global,
     algorithm: u32,
     version: u32,
     m_cost: u32,
@@ -30,8 +23,7 @@ pub extern "C" fn argon2_c_encode(
     out: &mut [u8],
 ) -> i32
     ensures answer { let text = text_of algorithm version m_cost t_cost lanes salt.now tag.now in
-        (result ≡ encode_code algorithm text (length out.old))
-        ⊎ (result ≡ MEMORY_ALLOCATION_ERROR) }
+        result ≡ encode_code algorithm text (length out.old) }
     ensures written { let text = text_of algorithm version m_cost t_cost lanes salt.now tag.now in
         result ≡ OK → out.new ≡ text ++ 0 ∷ drop (suc (length text)) out.old }
     ensures same { result ≢ OK → out.new ≡ out.old }
@@ -39,68 +31,62 @@ pub extern "C" fn argon2_c_encode(
     if algorithm > 2 {
         return ENCODING_FAIL;
     }
-    let algorithm = variant(algorithm);
-    let Ok(text) = text(alloc, algorithm, version, m_cost, t_cost, lanes, salt, tag) else {
-        return MEMORY_ALLOCATION_ERROR;
-    };
-    if put(text.as_bytes(), out) {
-        OK
-    } else {
-        ENCODING_FAIL
+    let variant = name(algorithm);
+    let numbers = digits(version) + digits(m_cost) + digits(t_cost) + digits(lanes);
+    if text_len(variant.len() + numbers, salt.len(), tag.len()) >= out.len() as u128 {
+        return ENCODING_FAIL;
     }
+    let at = put(b"$", out, 0);
+    let at = put(variant.as_bytes(), out, at);
+    let at = put(b"$v=", out, at);
+    let at = put_decimal(version, out, at);
+    let at = put(b"$m=", out, at);
+    let at = put_decimal(m_cost, out, at);
+    let at = put(b",t=", out, at);
+    let at = put_decimal(t_cost, out, at);
+    let at = put(b",p=", out, at);
+    let at = put_decimal(lanes, out, at);
+    let at = put(b"$", out, at);
+    let at = put_base64(salt, out, at);
+    let at = put(b"$", out, at);
+    let at = put_base64(tag, out, at);
+    put(b"\0", out, at);
+    OK
 }
 
-// The text of a hash.
-fn text(
-    alloc: Global,
-    algorithm: Algorithm,
-    version: u32,
-    m_cost: u32,
-    t_cost: u32,
-    lanes: u32,
-    salt: &[u8],
-    tag: &[u8],
-) -> Result<String, AllocError>
-    ensures { IfOk result (λ text. text.bytes.items
-        ≡ spelling (algorithm_name algorithm) (said_with version m_cost t_cost lanes salt.now
-        tag.now)) }
+// Writes bytes from a place on, and returns the place behind them.
+fn put(bytes: &[u8], out: &mut [u8], at: usize) -> usize
+    requires { at + length bytes.now ≤ length out.old }
+    ensures at { result ≡ at + length bytes.now }
+    ensures appends { Appends at bytes.now out.old out.new result }
 {
-    let salt = Base64 { bytes: salt };
-    let tag = Base64 { bytes: tag };
-    let text = format!(in alloc;
-        "${algorithm}$v={version}$m={m_cost},t={t_cost},p={lanes}${salt}${tag}"
-    )?;
-    Ok(text)
+    let end = at + bytes.len();
+    out[at..end].copy_from_slice(bytes);
+    end
 }
 
-// Bytes, which are printed as strict Base64.
-#[derive(Drop)]
-struct Base64<'a> {
-    bytes: &'a [u8],
-}
-
-impl fmt::Display for Base64<'_> {
-    ghost output = { λ b. Some (strict_base64 b.bytes.now) };
-
-    fn fmt<W: fmt::Write>(&self, f: &mut fmt::Formatter<W>) -> fmt::Result {
-        fmt::Display::fmt(&Base64Display::new(self.bytes, &STANDARD_NO_PAD), f)
-    }
-}
-
-// Writes a text with a zero byte behind it, where there is room.
-fn put(text: &[u8], out: &mut [u8]) -> bool
-    ensures room { IsTrue result ↔ (length text.now < length out.old) }
-    ensures written { IsTrue result
-        → out.new ≡ text.now ++ 0 ∷ drop (suc (length text.now)) out.old }
-    ensures same { IsFalse result → out.new ≡ out.old }
+// Writes the decimal of a number so.
+fn put_decimal(n: u32, out: &mut [u8], at: usize) -> usize
+    requires { at + length (decimal n) ≤ length out.old }
+    ensures at { result ≡ at + length (decimal n) }
+    ensures appends { Appends at (decimal n) out.old out.new result }
 {
-    let len = text.len();
-    if len >= out.len() {
-        return false;
+    if n < 10 {
+        return put(&[b'0' + n as u8], out, at);
     }
-    out[..len].copy_from_slice(text);
-    out[len] = 0;
-    true
+    let at = put_decimal(n / 10, out, at);
+    put(&[b'0' + (n % 10) as u8], out, at)
+}
+
+// Writes the Base64 of bytes so.
+fn put_base64(bytes: &[u8], out: &mut [u8], at: usize) -> usize
+    requires { at + (4 * length bytes.now + 2) / 3 ≤ length out.old }
+    ensures at { result ≡ at + (4 * length bytes.now + 2) / 3 }
+    ensures appends { Appends at (strict_base64 bytes.now) out.old out.new result }
+{
+    let end = at + base64_len(bytes.len());
+    let _ = STANDARD_NO_PAD.encode_slice(bytes, &mut out[at..end]);
+    end
 }
 
 /// How many bytes a text takes with the zero byte behind it, at version 19; 0 where there is no such
@@ -122,20 +108,17 @@ pub extern "C" fn argon2_c_encoded_length(
     if algorithm > 2 {
         return 0;
     }
-    let numbers = digits(m_cost) + digits(t_cost) + digits(lanes);
-    name_len(algorithm) + numbers + base64_len(salt_len) + base64_len(tag_len) + 18
+    let numbers = 2 + digits(m_cost) + digits(t_cost) + digits(lanes);
+    let letters = name(algorithm).len() + numbers;
+    text_len(letters, salt_len as usize, tag_len as usize) as usize + 1
 }
 
-// How many letters the name of the variant of a number has.
-fn name_len(algorithm: u32) -> usize
-    ensures value { result ≡ length (name_numbered algorithm) }
-    ensures few { result ≤ 8 }
+// How many bytes a text has, with so many in its name and its numbers together.
+fn text_len(letters: usize, salt: usize, tag: usize) -> u128
+    requires { (letters ≤ 48) × (salt < 2 ^ 63) × (tag < 2 ^ 63) }
+    ensures { result ≡ letters + (4 * salt + 2) / 3 + (4 * tag + 2) / 3 + 15 }
 {
-    if algorithm == 0 || algorithm == 1 {
-        7
-    } else {
-        8
-    }
+    letters as u128 + base64_len(salt) as u128 + base64_len(tag) as u128 + 15
 }
 
 // How many digits a number has.
@@ -147,9 +130,9 @@ fn digits(n: u32) -> usize
 }
 
 // How many symbols the Base64 of so many bytes has.
-fn base64_len(n: u32) -> usize
-    ensures value { result ≡ (4 * n + 2) / 3 }
-    ensures small { result < 2 ^ 33 }
+fn base64_len(n: usize) -> usize
+    requires { n < 2 ^ 63 }
+    ensures { result ≡ (4 * n + 2) / 3 }
 {
-    (4 * n as usize + 2) / 3
+    n / 3 * 4 + (n % 3 * 4 + 2) / 3
 }

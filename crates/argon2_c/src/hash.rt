@@ -9,6 +9,7 @@ ghost use Rattle.argon2.specs.Rfc9106.{tag_of};
 ghost use Rattle.argon2.specs.Segments.{FillsSegment, slice_length};
 ghost use Rattle.argon2_c.specs.Memory.{FillsSlice, segment_of};
 ghost use Rattle.argon2_c.specs.Requests.{IsFaultless, asked, request_faults};
+ghost use Rattle.argon2_c.specs.Texts.{name_numbered};
 
 use crate::code::{INCORRECT_PARAMETER, OK, VERIFY_MISMATCH};
 use crate::request::{Request, refusal};
@@ -157,8 +158,8 @@ pub fn hashing<'key>(
     Argon2::new_with_secret(secret, variant(request.algorithm), version, params).unwrap()
 }
 
-/// The variant of a number.
-pub fn variant(number: u32) -> Algorithm
+// The variant of a number.
+fn variant(number: u32) -> Algorithm
     requires { number ≤ 2 }
     ensures { algorithm_number result ≡ number }
 {
@@ -167,6 +168,15 @@ pub fn variant(number: u32) -> Algorithm
         1 => Algorithm::Argon2i,
         _ => Algorithm::Argon2id,
     }
+}
+
+/// The name of the variant of a number.
+pub fn name(number: u32) -> &'static str
+    requires { number ≤ 2 }
+    ensures name { result.now ≡ name_numbered number }
+    ensures short { length result.now ≤ 8 }
+{
+    variant(number).as_str()
 }
 
 // The version of a number.

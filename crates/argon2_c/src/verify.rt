@@ -1,134 +1,88 @@
 //! Whether a password has the hash of a text.
 
-ghost use Rattle.std.specs.Prelude.{◌≡◌, ◌≢◌, ◌⊎◌, ◌≤◌, ℤ, None, Some, IsNone, IfOk, IfErr, MatchResult, length};
+ghost use Rattle.std.specs.Prelude.{◌≡◌, ◌⊎◌, ◌≤◌, ◌*◌, ◌++◌, ℤ, None, Some, IsNone, length, take};
 ghost use Rattle.argon2_c.specs.declared.code.TheConstants.{VERIFY_MISMATCH};
-ghost use Rattle.argon2_c.specs.Texts.{Said, said};
-ghost use Rattle.argon2_c.specs.Verifying.{IsShown, Says, call_refusal, shown_request, verify_code};
+ghost use Rattle.argon2_c.specs.Texts.{IsShown, Said, Says};
+ghost use Rattle.argon2_c.specs.Verifying.{call_refusal, compare_code, shown_request, verify_code};
 
 use crate::code::{DECODING_FAIL, INCORRECT_TYPE, MEMORY_ALLOCATION_ERROR, OK, PWD_TOO_LONG};
-use crate::decode::{Decoded, decode};
-use crate::hash::{argon2_c_compare, argon2_c_hash, variant};
+use crate::decode::{Shown, decode};
+use crate::hash::{argon2_c_compare, argon2_c_hash};
 use crate::request::Request;
 use argon2::MAX_PWD_LEN;
 use argon2_base::block::Words;
-use std::alloc::Global;
 
 /// Whether a password has the hash of a text, hashed on lent memory, whatever that held. `absent` is how
 /// many bytes the password has behind a null pointer. Returns 0 if it has, and -35 if it has not; else the
 /// code of the call's first fault, or -32 if the text is in no such variant's grammar, or the code of the
 /// first fault of the request that the text stands for, or -25 if `memory` has another length than that
-/// request's blocks, or -22 if memory for the bytes of the text was refused.
+/// request's blocks. But for the first two, `shown` and the front of `room` are then what the text says:
+/// its salt, and behind it its hash. A caller that hashes by segments takes them from a call without memory.
 #[unsafe(no_mangle)]
 pub extern "C" fn argon2_c_verify(
-    alloc: Global,
     algorithm: u32,
     has_text: bool,
     text: &[u8],
     pwd: &[u8],
     absent: usize,
-    memory: &mut [Words],
-) -> i32
-    ensures refused { (e : ℤ)
-        → call_refusal algorithm has_text (length text.now) (length pwd.now) absent ≡ Some e
-        → result ≡ e }
-    ensures said { (v : Said)
-        → call_refusal algorithm has_text (length text.now) (length pwd.now) absent ≡ None
-        → Says algorithm text.now v
-        → (result ≡ verify_code algorithm pwd.now absent (length memory.old) v)
-        ⊎ (result ≡ MEMORY_ALLOCATION_ERROR) }
-    ensures unsaid { call_refusal algorithm has_text (length text.now) (length pwd.now) absent
-        ≡ None
-        → ((v : Said) → Says algorithm text.now v → ⊥)
-        → (result ≡ DECODING_FAIL) ⊎ (result ≡ MEMORY_ALLOCATION_ERROR) }
-    ensures found { (result ≡ OK) ⊎ (result ≡ VERIFY_MISMATCH) → (v : Said)
-        × Says algorithm text.now v }
-{
-    if let Some(code) = call_refusal(algorithm, has_text, text.len(), pwd.len(), absent) {
-        return code;
-    }
-    match decoded(alloc, algorithm, text) {
-        Ok(shown) => compared(alloc, algorithm, &shown, pwd, absent, memory),
-        Err(code) => code,
-    }
-}
-
-/// What a text says.
-#[repr(C)]
-#[derive(Clone, Copy)]
-pub struct Shown {
-    /// The version, 16 where the text has none.
-    pub version: u32,
-    /// The memory cost.
-    pub m_cost: u32,
-    /// The number of passes.
-    pub t_cost: u32,
-    /// The number of lanes.
-    pub lanes: u32,
-    /// The length of the salt.
-    pub salt: usize,
-    /// The length of the hash.
-    pub tag: usize,
-}
-
-/// Reads a text for a caller that makes the hash by segments. Writes the salt and then the tag to the front
-/// of `room`, and the rest into `shown`, and returns 0. Returns the code by which [`argon2_c_verify`]
-/// refuses the call or the text, for a password of `pwd` bytes, or -22 where `room` has too little room
-/// or memory was refused; nothing is then written.
-#[unsafe(no_mangle)]
-pub extern "C" fn argon2_c_read(
-    alloc: Global,
-    algorithm: u32,
-    has_text: bool,
-    text: &[u8],
-    pwd: usize,
-    absent: usize,
     shown: &mut Shown,
     room: &mut [u8],
+    memory: &mut [Words],
 ) -> i32
-    ensures refused { (e : ℤ) → call_refusal algorithm has_text (length text.now) pwd absent
-        ≡ Some e → result ≡ e }
-    ensures said { (v : Said) → call_refusal algorithm has_text (length text.now) pwd absent ≡ None
-        → Says algorithm text.now v
-        → (result ≡ MEMORY_ALLOCATION_ERROR)
-        ⊎ ((result ≡ OK) × IsShown v shown.new room.old room.new) }
-    ensures unsaid { call_refusal algorithm has_text (length text.now) pwd absent ≡ None
-        → ((v : Said) → Says algorithm text.now v → ⊥)
-        → (result ≡ DECODING_FAIL) ⊎ (result ≡ MEMORY_ALLOCATION_ERROR) }
-    ensures found { result ≡ OK → (v : Said) × Says algorithm text.now v }
-    ensures same { result ≢ OK → (shown.new ≡ shown.old) × (room.new ≡ room.old) }
+    ensures refused { (e : ℤ) → call_refusal algorithm has_text (length text.now) (length pwd.now)
+        absent (length room.old) ≡ Some e
+        → (result ≡ e) × (shown.new ≡ shown.old) × (room.new ≡ room.old) }
+    ensures said { (v : Said) → call_refusal algorithm has_text (length text.now) (length pwd.now)
+        absent (length room.old) ≡ None → Says algorithm text.now v
+        → (result ≡ verify_code algorithm pwd.now absent (length memory.old) v)
+        × IsShown v shown.new × (take (length (v.salt ++ v.tag)) room.new ≡ v.salt ++ v.tag) }
+    ensures unsaid { call_refusal algorithm has_text (length text.now) (length pwd.now) absent
+        (length room.old) ≡ None → ((v : Said) → Says algorithm text.now v → ⊥)
+        → (result ≡ DECODING_FAIL) × (shown.new ≡ shown.old) }
+    ensures found { (result ≡ OK) ⊎ (result ≡ VERIFY_MISMATCH) → (v : Said)
+        × Says algorithm text.now v }
+    ensures same { (result ≡ OK) ⊎ (result ≡ VERIFY_MISMATCH) ⊎ (memory.new ≡ memory.old) }
 {
-    if let Some(code) = call_refusal(algorithm, has_text, text.len(), pwd, absent) {
+    let refusal = call_refusal(
+        algorithm,
+        has_text,
+        text.len(),
+        pwd.len(),
+        absent,
+        room.len(),
+    );
+    if let Some(code) = refusal {
         return code;
     }
-    match decoded(alloc, algorithm, text) {
-        Ok(found) => show(&found, shown, room),
-        Err(code) => code,
-    }
+    let Some(found) = decode(algorithm, text, room) else {
+        return DECODING_FAIL;
+    };
+    *shown = found;
+    let (said, rest) = room.split_at_mut(found.salt + found.tag);
+    let (salt, tag) = said.split_at(found.salt);
+    let request = shown_request(algorithm, absent, &found);
+    compared(&request, pwd, salt, tag, memory, &mut rest[..found.tag])
 }
 
-// Writes what a text says, where there is room.
-fn show(found: &Decoded, shown: &mut Shown, room: &mut [u8]) -> i32
-    ensures answer { (result ≡ MEMORY_ALLOCATION_ERROR)
-        ⊎ ((result ≡ OK) × IsShown (said found.now) shown.new room.old room.new) }
-    ensures same { result ≢ OK → (shown.new ≡ shown.old) × (room.new ≡ room.old) }
+// Whether a password has this hash, which is made in `out`.
+fn compared(
+    request: &Request,
+    pwd: &[u8],
+    salt: &[u8],
+    tag: &[u8],
+    memory: &mut [Words],
+    out: &mut [u8],
+) -> i32
+    requires { length out.old ≡ length tag.now }
+    ensures answer { result ≡ compare_code request.now pwd.now salt.now tag.now
+        (length memory.old) }
+    ensures same { (result ≡ OK) ⊎ (result ≡ VERIFY_MISMATCH) ⊎ (memory.new ≡ memory.old) }
 {
-    let salt = found.salt.len();
-    let tag = found.tag.len();
-    if room.len() < salt || room.len() - salt < tag {
-        return MEMORY_ALLOCATION_ERROR;
+    let code = argon2_c_hash(request, pwd, salt, &[], &[], memory, out);
+    if code != OK {
+        return code;
     }
-    let (front, behind) = room.split_at_mut(salt);
-    front.copy_from_slice(found.salt.as_slice());
-    behind[..tag].copy_from_slice(found.tag.as_slice());
-    *shown = Shown {
-        version: found.version.unwrap_or(16),
-        m_cost: found.m_cost,
-        t_cost: found.t_cost,
-        lanes: found.lanes,
-        salt,
-        tag,
-    };
-    OK
+    argon2_c_compare(tag, out)
 }
 
 // Why a call is refused before the text is read.
@@ -138,9 +92,10 @@ fn call_refusal(
     text: usize,
     pwd: usize,
     absent: usize,
+    room: usize,
 ) -> Option<i32>
-    ensures first { result ≡ call_refusal algorithm has_text text pwd absent }
-    ensures none { IsNone result → algorithm ≤ 2 }
+    ensures first { result ≡ call_refusal algorithm has_text text pwd absent room }
+    ensures none { IsNone result → (algorithm ≤ 2) × (2 * text ≤ room) }
 {
     if pwd > MAX_PWD_LEN || absent > MAX_PWD_LEN {
         return Some(PWD_TOO_LONG);
@@ -151,61 +106,19 @@ fn call_refusal(
     if algorithm > 2 {
         return Some(INCORRECT_TYPE);
     }
+    if room < 2 * text {
+        return Some(MEMORY_ALLOCATION_ERROR);
+    }
     None
 }
 
-// What a text of this variant says, or the code of the refusal.
-fn decoded(alloc: Global, algorithm: u32, text: &[u8]) -> Result<Decoded, i32>
-    requires { algorithm ≤ 2 }
-    ensures found { IfOk result (λ d. Says algorithm text.now (said d)) }
-    ensures only { (v : Said) → Says algorithm text.now v
-        → MatchResult result (λ d. said d ≡ v) (λ e. e ≡ MEMORY_ALLOCATION_ERROR) }
-    ensures codes { IfErr result (λ e. (e ≡ DECODING_FAIL) ⊎ (e ≡ MEMORY_ALLOCATION_ERROR)) }
-{
-    let Ok(text) = std::str::from_utf8(text) else {
-        return Err(DECODING_FAIL);
-    };
-    decode(alloc, variant(algorithm), text)
-}
-
-// Whether a password has this hash.
-fn compared(
-    alloc: Global,
-    algorithm: u32,
-    shown: &Decoded,
-    pwd: &[u8],
-    absent: usize,
-    memory: &mut [Words],
-) -> i32
-    ensures { (result ≡ verify_code algorithm pwd.now absent (length memory.old) (said shown.now))
-        ⊎ (result ≡ MEMORY_ALLOCATION_ERROR) }
-{
-    let Ok(mut out) = vec![in alloc; 0u8; shown.tag.len()] else {
-        return MEMORY_ALLOCATION_ERROR;
-    };
-    let request = shown_request(algorithm, absent, shown);
-    let code = argon2_c_hash(
-        &request,
-        pwd,
-        shown.salt.as_slice(),
-        &[],
-        &[],
-        memory,
-        out.as_mut_slice(),
-    );
-    if code != OK {
-        return code;
-    }
-    argon2_c_compare(shown.tag.as_slice(), out.as_slice())
-}
-
 // The request that a text stands for.
-fn shown_request(algorithm: u32, absent: usize, shown: &Decoded) -> Request
-    ensures { result ≡ shown_request algorithm absent (said shown.now) }
+fn shown_request(algorithm: u32, absent: usize, shown: &Shown) -> Request
+    ensures { (v : Said) → IsShown v shown.now → result ≡ shown_request algorithm absent v }
 {
     Request {
         algorithm,
-        version: shown.version.unwrap_or(16),
+        version: shown.version,
         m_cost: shown.m_cost,
         t_cost: shown.t_cost,
         lanes: shown.lanes,
