@@ -8,7 +8,7 @@ ghost use Rattle.argon2.specs.Refusals.{first_of};
 ghost use Rattle.argon2.specs.Rfc9106.{tag_of};
 ghost use Rattle.argon2.specs.Segments.{FillsSegment, slice_length};
 ghost use Rattle.argon2_c.specs.Memory.{FillsSlice, segment_of};
-ghost use Rattle.argon2_c.specs.Requests.{IsFaultless, asked, request_faults};
+ghost use Rattle.argon2_c.specs.Requests.{asked, request_faults};
 ghost use Rattle.argon2_c.specs.Texts.{name_numbered};
 
 use crate::code::{INCORRECT_PARAMETER, OK, VERIFY_MISMATCH};
@@ -54,14 +54,7 @@ pub extern "C" fn argon2_c_hash(
     if memory.len() != 4 * width {
         return INCORRECT_PARAMETER;
     }
-    let argon2 = hashing(
-        request,
-        secret,
-        out.len(),
-        pwd.len(),
-        salt.len(),
-        associated.len(),
-    );
+    let argon2 = hashing(request, secret);
     argon2.begin_slices(
         associated,
         pwd,
@@ -137,15 +130,12 @@ fn fill_lanes(
 }
 
 /// Hashing as asked for, without associated data, where nothing is refused.
-pub fn hashing<'key>(
-    request: &Request,
-    secret: &'key [u8],
-    output: usize,
-    pwd: usize,
-    salt: usize,
-    associated: usize,
-) -> Argon2<'key>
-    requires { IsFaultless request.now output pwd salt (length secret.now) associated }
+pub fn hashing<'key>(request: &Request, secret: &'key [u8]) -> Argon2<'key>
+    requires secret { length secret.now ≤ 4294967295 }
+    requires costs { (8 * request.now.lanes ≤ request.now.m_cost) × (1 ≤ request.now.t_cost)
+        × (1 ≤ request.now.lanes) × (request.now.lanes ≤ 16777215) }
+    requires numbers { (request.now.algorithm ≤ 2)
+        × ((request.now.version ≡ 16) ⊎ (request.now.version ≡ 19)) }
     ensures context { context_of result ≡ asked request.now secret.now [] }
     ensures any_length { (own_parameters result).output_len ≡ None }
 {

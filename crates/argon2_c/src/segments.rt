@@ -10,7 +10,7 @@ ghost use Rattle.argon2_base.specs.LongHash.{long_hash};
 ghost use Rattle.argon2.specs.Rfc9106.{first_block, segment_length};
 ghost use Rattle.argon2.specs.Refusals.{first_of};
 ghost use Rattle.argon2.specs.Segments.{AreLengths, BeginsSlices, FillsSegment, last_of_slice, slice_length};
-ghost use Rattle.argon2_c.specs.Requests.{IsFaultless, asked, are_lengths, request_faults};
+ghost use Rattle.argon2_c.specs.Requests.{asked, are_lengths, request_faults};
 
 use crate::code::{INCORRECT_PARAMETER, OK};
 use crate::hash::hashing;
@@ -52,14 +52,7 @@ pub extern "C" fn argon2_c_begin(
     if slice.len() != slice_len(request) as usize {
         return INCORRECT_PARAMETER;
     }
-    let argon2 = hashing(
-        request,
-        secret,
-        output,
-        pwd.len(),
-        salt.len(),
-        associated.len(),
-    );
+    let argon2 = hashing(request, secret);
     argon2.begin_slices(associated, pwd, salt, output as u32, slice);
     OK
 }
@@ -94,7 +87,7 @@ pub extern "C" fn argon2_c_segment(
     if !fits(request, before.len(), own.len(), after.len(), slice, lane) {
         return INCORRECT_PARAMETER;
     }
-    let argon2 = hashing(request, secret, 4, 0, 8, associated.len());
+    let argon2 = hashing(request, secret);
     argon2.fill_segment(associated, before, own, after, pass, slice, lane);
     OK
 }
@@ -118,7 +111,7 @@ pub extern "C" fn argon2_c_finish(request: &Request, last: &[Words], out: &mut [
     if last.len() != slice_len(request) as usize {
         return INCORRECT_PARAMETER;
     }
-    hashing(request, &[], out.len(), 0, 8, 0).finish_slices(last, out);
+    hashing(request, &[]).finish_slices(last, out);
     OK
 }
 
