@@ -219,13 +219,16 @@ unfoldable pub address_word : Context → ℕ → ℕ → ℕ → ℕ → ℕ
 address_word ctx pass lane slice index =
     slice_index (address_block ctx pass lane slice (address_counter index)) (index % 128)
 
--- The address block that has the word of a block, in a slice that has address blocks: one serves 128
--- indexes.
-unfoldable pub addresses_of : Context → ℕ → ℕ → ℕ → Option (List ℕ)
+-- The address block that has the word of an index of a segment, in a slice that has address blocks: one
+-- serves 128 indexes.
+unfoldable pub addresses_at : Context → ℕ → ℕ → ℕ → ℕ → Option (List ℕ)
+addresses_at ctx pass lane slice index =
+    if is_independent ctx pass slice then Some (address_block ctx pass lane slice (address_counter index)) else None
+
+-- that of a block
+abbrev pub addresses_of : Context → ℕ → ℕ → ℕ → Option (List ℕ)
 addresses_of ctx pass lane column =
-    let slice = column / segment_length ctx in
-    let counter = address_counter (column % segment_length ctx) in
-    if is_independent ctx pass slice then Some (address_block ctx pass lane slice counter) else None
+    addresses_at ctx pass lane (column / segment_length ctx) (column % segment_length ctx)
 
 -- the block one column before, or at column 0 the last of the pass before
 unfoldable pub previous : Context → Blocks → ℕ → ℕ → ℕ → List ℕ

@@ -1,6 +1,6 @@
 -- Which references a watched hash records, and how often it mixes.
 use Rattle.std.specs.Prelude.{◌≡◌, ℕ, suc, ◌+◌, ◌-◌, ◌*◌, ◌<◌, ◌≤◌, ◌⊎◌, ◌==◌, List, [], length, nat_lt, slice_index, slice_index_or, if◌then◌else◌, zero, ◌/◌}
-use Rattle.argon2.specs.Rfc9106.{Context, FirstColumns, Memory, block_count, block_of, is_independent, lane_length, matrix, reference_places, segment_length}
+use Rattle.argon2.specs.Rfc9106.{Context, FirstColumns, Memory, address_counter, block_count, block_of, is_independent, lane_length, matrix, reference_places, segment_length}
 use Rattle.argon2.specs.Steps.{IsStep, turn_count}
 
 -- ---- the references
@@ -93,12 +93,15 @@ mixing_calls ctx =
     ctx.t_cost * block_count ctx - 2 * ctx.p_cost
     + 2 * ((segment_length ctx + 127) / 128) * independent_segments ctx
 
+-- the mixings of a segment's address blocks up to that of an index
+unfoldable pub address_mixings : Context → ℕ → ℕ → ℕ → ℕ
+address_mixings ctx pass slice index =
+    if is_independent ctx pass slice then 2 * address_counter index else 0
+
 -- the mixing calls of one segment
 unfoldable pub segment_calls : Context → ℕ → ℕ → ℕ
 segment_calls ctx pass slice =
-    let of_addresses = 2 * ((segment_length ctx + 127) / 128) in
-    (if is_independent ctx pass slice then of_addresses else 0)
-    + turn_count ctx pass slice
+    address_mixings ctx pass slice (segment_length ctx - 1) + turn_count ctx pass slice
 
 -- the mixing calls of the first slices of a pass
 unfoldable pub slices_calls : Context → ℕ → ℕ → ℕ

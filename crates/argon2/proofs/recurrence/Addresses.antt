@@ -1,8 +1,9 @@
 -- Which address block has the word of a block, and how many a segment has.
-use Rattle.std.proofs.Common.{◌≡◌, ℕ, ◌+◌, ◌*◌, ◌/◌, ◌%◌, ◌<◌, Bool, true, false, List, Option, Some, None, refl, sym, ap, ◌∙◌, arith}
+use Rattle.std.proofs.Common.{◌≡◌, ℕ, ◌+◌, ◌*◌, ◌/◌, ◌%◌, ◌≤◌, Bool, true, false, List, Some, None, refl, ap, arith}
+use Rattle.std.proofs.lemmas.Bool.{cond_both}
 use Rattle.std.specs.Prelude.{slice_index_or, if◌then◌else◌}
-use Rattle.std.proofs.lemmas.Nat.{div-mul-add, mod-mul-add}
-use Rattle.argon2.specs.Rfc9106.{Blocks, Context, address_block, address_word, addresses_of, is_independent, previous, reference_word, segment_length}
+use Rattle.argon2.specs.Rfc9106.{Blocks, Context, address_block, address_word, addresses_at, addresses_of, is_independent, previous, reference_word, segment_length}
+use Rattle.argon2.specs.Watching.{address_mixings}
 
 -- an optional block has a word, or there is another
 word_of_option : (b : Bool) (a x : List ℕ) (i other : ℕ) → (if b then Some a else None) ≡ Some x
@@ -20,7 +21,7 @@ other_of_option false a i other e = refl
 pub word_addressed : (ctx : Context) (blocks : Blocks) (pass lane column : ℕ) (x : List ℕ)
     → addresses_of ctx pass lane column ≡ Some x
     → reference_word ctx blocks pass lane column ≡ slice_index_or x (column % segment_length ctx % 128) 0
-unfolding addresses_of reference_word address_word
+unfolding addresses_at reference_word address_word
 word_addressed ctx blocks pass lane column x e =
     let s = segment_length ctx in
     word_of_option (is_independent ctx pass (column / s)) _ x (column % s % 128) _ e
@@ -29,42 +30,43 @@ word_addressed ctx blocks pass lane column x e =
 pub word_not_addressed : (ctx : Context) (blocks : Blocks) (pass lane column : ℕ)
     → addresses_of ctx pass lane column ≡ None
     → reference_word ctx blocks pass lane column ≡ slice_index_or (previous ctx blocks pass lane column) 0 0
-unfolding addresses_of reference_word address_word
+unfolding addresses_at reference_word address_word
 word_not_addressed ctx blocks pass lane column e =
     let s = segment_length ctx in
     other_of_option (is_independent ctx pass (column / s)) _ (column % s % 128) _ e
 
--- the address block of an index of a segment
-addresses_at : (ctx : Context) (pass lane slice index : ℕ) → index < segment_length ctx
-    → addresses_of ctx pass lane (slice * segment_length ctx + index)
-    ≡ (if is_independent ctx pass slice then Some (address_block ctx pass lane slice (index / 128 + 1)) else None)
-unfolding addresses_of
-addresses_at ctx pass lane slice index below =
-    let s = segment_length ctx in
-    let column = slice * s + index in
-    let at : ℕ → ℕ → Option (List ℕ) =
-    λ slice i. (if is_independent ctx pass slice then Some (address_block ctx pass lane slice (i / 128 + 1)) else None) in
-    ap (λ slice. at slice (column % s)) (div-mul-add slice s index below) ∙ ap (at slice) (mod-mul-add slice s index below)
+-- the mixings of one address block more
+two_more : (b : Bool) (m n : ℕ) → n ≡ m + 1 → (if b then 2 * (n + 1) else 0) ≡ (if b then 2 * (m + 1) else 0) + (if b then 2 else 0)
+two_more true m n e = omega arith
+two_more false m n e = refl
 
 -- one address block serves 128 indexes
-pub same_addresses : (ctx : Context) (pass lane slice i j : ℕ)
-    → i < segment_length ctx → j < segment_length ctx → i / 128 ≡ j / 128
-    → addresses_of ctx pass lane (slice * segment_length ctx + i) ≡ addresses_of ctx pass lane (slice * segment_length ctx + j)
-same_addresses ctx pass lane slice i j a b same =
-    addresses_at ctx pass lane slice i a
-    ∙ ap (λ n. (if is_independent ctx pass slice then Some (address_block ctx pass lane slice (n + 1)) else None)) same
-    ∙ sym (addresses_at ctx pass lane slice j b)
+pub same_addresses : (ctx : Context) (pass lane slice i j : ℕ) → i / 128 ≡ j / 128
+    → addresses_at ctx pass lane slice i ≡ addresses_at ctx pass lane slice j
+unfolding addresses_at
+same_addresses ctx pass lane slice i j same =
+    ap (λ n. (if is_independent ctx pass slice then Some (address_block ctx pass lane slice (n + 1)) else None)) same
 
--- each address block of a segment takes two mixings
-pub address_mixings : (ctx : Context) (pass slice index : ℕ) → index < segment_length ctx
-    → (let two : ℕ = 2 in
-    (if is_independent ctx pass ((slice * segment_length ctx + index) / segment_length ctx) then two else 0)
-    ≡ (if is_independent ctx pass slice then two else 0))
-address_mixings ctx pass slice index below =
-    let mixings : ℕ → ℕ = λ slice. (if is_independent ctx pass slice then 2 else 0) in
-    ap mixings (div-mul-add slice (segment_length ctx) index below)
+-- and no more is mixed for them
+pub same_mixings : (ctx : Context) (pass slice i j : ℕ) → i / 128 ≡ j / 128
+    → address_mixings ctx pass slice i ≡ address_mixings ctx pass slice j
+unfolding address_mixings
+same_mixings ctx pass slice i j same = ap (λ n. (if is_independent ctx pass slice then 2 * (n + 1) else 0)) same
 
--- the mixings of n address blocks and one more
-pub mixings_more : (b : Bool) (n : ℕ) → (if b then 2 * (n + 1) else 0) ≡ (if b then 2 * n else 0) + (if b then 2 else 0)
-mixings_more true n = omega arith
-mixings_more false n = refl
+-- two for the first
+pub first_mixings : (ctx : Context) (pass slice : ℕ)
+    → address_mixings ctx pass slice 0 ≡ (if is_independent ctx pass slice then 2 else 0)
+unfolding address_mixings
+first_mixings ctx pass slice = refl
+
+-- each address block takes two mixings
+pub next_mixings : (ctx : Context) (pass slice i j : ℕ) → j / 128 ≡ i / 128 + 1
+    → address_mixings ctx pass slice j ≡ address_mixings ctx pass slice i + (if is_independent ctx pass slice then 2 else 0)
+unfolding address_mixings
+next_mixings ctx pass slice i j next = two_more (is_independent ctx pass slice) (i / 128) (j / 128) next
+
+-- they are few
+pub few_mixings : (ctx : Context) (pass slice index : ℕ) → address_mixings ctx pass slice index ≤ 2 * (index / 128 + 1)
+unfolding address_mixings
+few_mixings ctx pass slice index =
+    cond_both (is_independent ctx pass slice) _ _ (λ n. n ≤ 2 * (index / 128 + 1)) (λ _. omega arith) (λ _. omega arith)

@@ -4,13 +4,18 @@ use Rattle.std.specs.Prelude.{◌==◌, if◌then◌else◌}
 use Rattle.std.proofs.Math.Nat.{mul-le-mul, mul-le-mul_left, mul-le-mul_right}
 use Rattle.std.proofs.lemmas.Bool.{cases_eq, cases_lt, cond_both}
 use Rattle.std.proofs.lemmas.Bool.Decides.{nat_tests}
-use Rattle.argon2.specs.Rfc9106.{Context, Sizes, block_count, is_independent, lane_length, segment_length}
-use Rattle.argon2.specs.Watching.{independent_segments, mixing_calls, segment_calls, slices_calls, passes_calls}
+use Rattle.argon2.specs.Rfc9106.{Context, Sizes, address_counter, block_count, is_independent, lane_length, segment_length}
+use Rattle.argon2.specs.Watching.{address_mixings, independent_segments, mixing_calls, segment_calls, slices_calls, passes_calls}
 
 module _ (ctx : Context) (sizes : Sizes ctx) where
   -- the mixings of the address blocks of a segment that has them
   address_calls : ℕ
   address_calls = 2 * ((segment_length ctx + 127) / 128)
+
+  -- the last index has the last of them
+  address_calls-up : 2 * address_counter (segment_length ctx - 1) ≡ address_calls
+  unfolding address_calls
+  address_calls-up = let two = sizes.two_columns in omega arith
 
   -- how many of a lane's segments have address blocks, in pass 0 and in a later pass
   independent_first : ℕ
@@ -25,13 +30,13 @@ module _ (ctx : Context) (sizes : Sizes ctx) where
 
   -- the mixings of a lane in pass 0
   pass_calls-first : pass_calls 0 + 2 ≡ 4 * segment_length ctx + address_calls * independent_first
-  unfolding pass_calls segment_calls is_independent address_calls independent_first
-  pass_calls-first = let two = sizes.two_columns in grind (arith, nat_tests)
+  unfolding pass_calls segment_calls address_mixings is_independent address_calls independent_first
+  pass_calls-first = let two = sizes.two_columns in let up = address_calls-up in grind (arith, nat_tests)
 
   -- the mixings of a lane in a later pass
   pass_calls-later : (pass : ℕ) → pass_calls (suc pass) ≡ 4 * segment_length ctx + address_calls * independent_later
-  unfolding pass_calls segment_calls is_independent address_calls independent_later
-  pass_calls-later pass = grind (arith, nat_tests)
+  unfolding pass_calls segment_calls address_mixings is_independent address_calls independent_later
+  pass_calls-later pass = let up = address_calls-up in grind (arith, nat_tests)
 
   -- the mixings of a pass's four slices are those of its lanes
   slices_calls-4 : (pass : ℕ) → slices_calls ctx pass 4 ≡ ctx.p_cost * pass_calls pass

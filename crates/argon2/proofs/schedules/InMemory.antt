@@ -3,6 +3,7 @@ use Rattle.std.proofs.Common.{◌≡◌, ℕ, zero, suc, ◌+◌, ◌-◌, ◌*�
 use Rattle.std.specs.Prelude.{slice_index_or, nat_lt, ◌==◌, if◌then◌else◌}
 use Rattle.std.proofs.lemmas.Nat.{mul-add-lt}
 use Rattle.std.proofs.lemmas.Bool.{cond-false, ne_eqb}
+use Rattle.argon2_base.proofs.mixing.MixingLaws.{xor_blocks-comm}
 use Rattle.argon2_base.specs.Block.{mixed, xor_blocks}
 use Rattle.argon2.specs.Rfc9106.{Context, Memory, block_count, lane_length, made_block, place_of, previous, reference, reference_of}
 use Rattle.argon2.specs.Steps.{in_memory, previous_place, reference_place, word_in}
@@ -29,10 +30,14 @@ pub made_by_places : (ctx : Context) (memory : Memory) (pass lane column word : 
     (slice_index_or memory (place_of ctx (reference ctx pass lane column word)) []) in
     made_block ctx (in_memory ctx memory) pass lane column
     ≡ (if (ctx.version == 19) && nat_lt 0 pass
-    then xor_blocks block (slice_index_or memory (lane * lane_length ctx + column) []) else block)
+    then xor_blocks (slice_index_or memory (lane * lane_length ctx + column) []) block else block)
 unfolding made_block reference_of in_memory
 made_by_places ctx memory pass lane column word is =
+    let old = slice_index_or memory (lane * lane_length ctx + column) [] in
+    let block = mixed (slice_index_or memory (previous_place ctx lane column) [])
+    (slice_index_or memory (place_of ctx (reference ctx pass lane column word)) []) in
     rw (is, ← previous_in_memory ctx memory pass lane column) refl
+    ∙ ap (λ b. if (ctx.version == 19) && nat_lt 0 pass then b else block) (xor_blocks-comm block old)
 
 -- the place of the reference that a word takes
 pub place_by_word : (ctx : Context) (memory : Memory) (pass lane column word : ℕ)

@@ -1,5 +1,5 @@
 -- The columns of a segment, by their index in it.
-use Rattle.std.proofs.Common.{◌≡◌, ℕ, zero, suc, refl, ◌+◌, ◌-◌, ◌*◌, ◌/◌, ◌%◌, ◌<◌, ◌≤◌, ◌≢◌, ◌⊎◌, inl, inr, ◌^◌, ap, arith}
+use Rattle.std.proofs.Common.{◌≡◌, ℕ, zero, suc, refl, ◌+◌, ◌-◌, ◌*◌, ◌/◌, ◌%◌, ◌<◌, ◌≤◌, ◌≢◌, ◌⊎◌, inl, inr, ◌^◌, arith}
 use Rattle.std.proofs.Math.Nat.{mul-le-mul_right}
 use Rattle.std.proofs.lemmas.Nat.{mul-add-lt, mul-le}
 use Rattle.argon2.specs.Rfc9106.{Context, Sizes, segment_length}
@@ -12,38 +12,37 @@ serves_on index (inl e) = omega arith
 serves_on index (inr e) = omega arith
 
 -- at any other index the next address block begins
-pub serves_next : (index : ℕ) → 0 < index → index % 128 ≡ 0 → index / 128 + 1 ≡ (index - 1) / 128 + 1 + 1
+pub serves_next : (index : ℕ) → 0 < index → index % 128 ≡ 0 → index / 128 ≡ (index - 1) / 128 + 1
 serves_next index some e = omega arith
 
 -- a column of a segment is one of its lane
-pub in_lane : (slice segment index n : ℕ) → slice < 4 → index < segment → segment ≡ n → slice * segment + index < 4 * n
-in_lane slice segment index n h k is =
-    let place = mul-add-lt slice segment index 4 h k in
+pub in_lane : (n slice index : ℕ) → slice < 4 → index < n → slice * n + index < 4 * n
+in_lane n slice index h k =
+    let place = mul-add-lt slice n index 4 h k in
     omega arith
 
 -- a segment's columns are steps, from column 2 on in pass 0
-pub a_step : (ctx : Context) (pass lane slice segment index : ℕ) → lane < ctx.p_cost → slice < 4 → index < segment
-    → segment ≡ segment_length ctx → (pass ≡ 0 → 2 ≤ slice * segment + index)
-    → IsStep ctx pass lane (slice * segment + index)
-a_step ctx pass lane slice segment index l h k is later = record {
+pub a_step : (ctx : Context) (pass lane slice index : ℕ) → lane < ctx.p_cost → slice < 4 → index < segment_length ctx
+    → (pass ≡ 0 → 2 ≤ slice * segment_length ctx + index)
+    → IsStep ctx pass lane (slice * segment_length ctx + index)
+a_step ctx pass lane slice index l h k later = record {
   in_lanes = l;
-  in_columns = in_lane slice segment index (segment_length ctx) h k is;
+  in_columns = in_lane (segment_length ctx) slice index h k;
   later = later;
 }
 
 -- a segment's columns are columns of its slice
-pub a_column : (slice segment index n : ℕ) → slice < 4 → index < segment → segment ≡ n → InSlice n (slice * segment + index) slice
-a_column slice segment index n h k is =
-    let product = ap (λ x. slice * x) is in
+pub a_column : (n slice index : ℕ) → slice < 4 → index < n → InSlice n (slice * n + index) slice
+a_column n slice index h k =
     record { above = omega arith; below = omega arith; whole = mul-le-mul_right n (omega arith); one_of_four = h }
 
 -- a segment's columns are numbers of 32 bits
-pub column_fits : (ctx : Context) (slice segment index : ℕ) → Sizes ctx → segment ≡ segment_length ctx → slice < 4
-    → index < segment → slice * segment + index < 2 ^ 32
-column_fits ctx slice segment index sizes is h k =
+pub column_fits : (ctx : Context) (slice index : ℕ) → Sizes ctx → slice < 4 → index < segment_length ctx
+    → slice * segment_length ctx + index < 2 ^ 32
+column_fits ctx slice index sizes h k =
     let n : ℕ = 4 * segment_length ctx in
     let lane : 1 * n ≤ ctx.p_cost * n = mul-le 1 n ctx.p_cost n sizes.some_lane (omega arith) in
-    let column = in_lane slice segment index (segment_length ctx) h k is in
+    let column = in_lane (segment_length ctx) slice index h k in
     let memory = sizes.in_memory in
     let small = sizes.m_cost in
     omega arith

@@ -17,7 +17,7 @@ use Rattle.argon2.proofs.schedules.Filling.{filled_at_first, next_pass, turn_cou
 use Rattle.argon2.proofs.schedules.InMemory.{place_below}
 use Rattle.argon2.proofs.schedules.LastColumn.{xor_lanes_cong}
 use Rattle.argon2.proofs.schedules.Schedules.{turn_count-le}
-use Rattle.argon2.proofs.schedules.SegmentParts.{column_below}
+use Rattle.argon2.proofs.schedules.SegmentColumns.{in_lane}
 
 -- a memory that stands slice after slice, lane after lane
 pub in_lanes : Context → Memory → Memory
@@ -44,7 +44,7 @@ in_lanes_at ctx memory k lane i four l h =
     let q = lane_length ctx in
     let column = k * s + i in
     let n = lane * q + column in
-    let high : column < q = column_below s k i four h in
+    let high : column < q = in_lane s k i four h in
     let at : ℕ → ℕ → List ℕ = λ lane column. slice_index_or memory ((column / s * ctx.p_cost + lane) * s + column % s) [] in
     get_or-map-range_with_len (λ place. at (place / q) (place % q)) 0 (block_count ctx) n n []
     (place_below ctx lane column l high) (omega arith)

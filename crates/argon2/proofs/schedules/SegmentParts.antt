@@ -1,24 +1,20 @@
 -- A step on the parts of a memory is that step on the memory.
-use Rattle.std.proofs.Common.{◌≡◌, ℕ, suc, ◌+◌, ◌*◌, ◌/◌, ◌%◌, ◌<◌, ◌≤◌, ◌≢◌, inl, inr, ◌&&◌, List, [], length, sym, ap, ◌∙◌, subst, arith}
-use Rattle.std.specs.Prelude.{slice_index_or, slice_set, nat_lt, ◌==◌, if◌then◌else◌}
+use Rattle.std.proofs.Common.{◌≡◌, ℕ, suc, ◌+◌, ◌*◌, ◌/◌, ◌%◌, ◌<◌, ◌≤◌, ◌≢◌, inl, inr, List, [], length, sym, ap, ◌∙◌, subst, arith}
+use Rattle.std.specs.Prelude.{slice_index_or, slice_set, ◌==◌, if◌then◌else◌}
 use Rattle.std.proofs.Math.Nat.{mod-lt}
 use Rattle.std.proofs.lemmas.Nat.{div-add-mod', mul-add-lt}
 use Rattle.std.proofs.lemmas.Bool.{cases_eq, cond_both}
 use Rattle.std.proofs.lemmas.Bool.Decides.{nat_tests}
 use Rattle.std.proofs.lemmas.List.{get_or-set_other, get_or-set_same}
-use Rattle.argon2_base.specs.Block.{mixed, xor_blocks}
-use Rattle.argon2.specs.Rfc9106.{Context, FirstColumns, Memory, Sizes, block_count, lane_length, made_block, reference, segment_length}
+use Rattle.argon2.specs.Rfc9106.{Context, FirstColumns, Memory, Sizes, block_count, lane_length, made_block, segment_length}
 use Rattle.argon2.specs.Segments.{AreParts}
-use Rattle.argon2.specs.Steps.{IsStep, in_memory, previous_place, step, word_in}
+use Rattle.argon2.specs.Steps.{IsStep, in_memory, step}
 use Rattle.argon2.specs.Watching.{HasBlocksUpTo, begun}
 use Rattle.argon2.proofs.recurrence.PermittedPlaces.{InSlice, in_slice}
 use Rattle.argon2.proofs.schedules.Filling.{step_fills}
-use Rattle.argon2.proofs.schedules.InMemory.{made_by_places, place_below}
+use Rattle.argon2.proofs.schedules.InMemory.{place_below}
 use Rattle.argon2.proofs.schedules.Schedules.{place_apart, turn_count-le}
-
--- an index of a segment is a column of its lane
-pub column_below : (s k i : ℕ) → k < 4 → i < s → k * s + i < 4 * s
-column_below s k i four h = let b = mul-add-lt k s i 4 four h in omega arith
+use Rattle.argon2.proofs.schedules.SegmentColumns.{in_lane}
 
 -- indexes of other slices are other columns
 column_apart : (s k i slice index : ℕ) → k < slice → i < s → k * s + i ≢ slice * s + index
@@ -36,13 +32,13 @@ parts_set ctx slice lane index memory before own after b four l h size all parts
     let q = lane_length ctx in
     let column = slice * s + index in
     let at = lane * q + column in
-    let high : column < q = column_below s slice index four h in
+    let high : column < q = in_lane s slice index four h in
     let within = place_below ctx lane column l high in
     record {
       in_before = λ k o i below a lt.
           parts.in_before k o i below a lt
           ∙ sym (get_or-set_other memory at (o * q + (k * s + i)) b []
-          (place_apart q o (k * s + i) lane column (column_below s k i (omega arith) lt) high
+          (place_apart q o (k * s + i) lane column (in_lane s k i (omega arith) lt) high
           (λ _. column_apart s k i slice index below lt)));
       in_own = λ i lt. elim (cases_eq i index) [
         | inl e ↦ (ap (λ n. slice_index_or (slice_set own index b) n []) e ∙ get_or-set_same own index b [] (omega arith)
@@ -50,13 +46,13 @@ parts_set ctx slice lane index memory before own after b four l h size all parts
             ∙ get_or-set_same memory at b [] (omega arith)))
         | inr ne ↦ (get_or-set_other own index i b [] ne ∙ parts.in_own i lt
             ∙ sym (get_or-set_other memory at (lane * q + (slice * s + i)) b []
-            (place_apart q lane (slice * s + i) lane column (column_below s slice i four lt) high
+            (place_apart q lane (slice * s + i) lane column (in_lane s slice i four lt) high
             (λ _ e. ne (omega arith)))))
       ];
       in_after = λ k o i above below a lt.
           parts.in_after k o i above below a lt
           ∙ sym (get_or-set_other memory at (o * q + (k * s + i)) b []
-          (place_apart q o (k * s + i) lane column (column_below s k i below lt) high
+          (place_apart q o (k * s + i) lane column (in_lane s k i below lt) high
           (λ _ e. column_apart s slice index k i above h (sym e))));
     }
 
@@ -78,27 +74,6 @@ step_parts ctx sizes pass lane column memory before own after b st size all part
     (slice_set own (column % s) b) after) made
     (subst (λ n. AreParts ctx slice lane (slice_set memory (lane * lane_length ctx + n) b) before
     (slice_set own (column % s) b) after) (div-add-mod' column s) set)
-
--- the block of a step, by the two blocks that are read for it
-pub made_of_reads : (ctx : Context) (pass lane column word before other place : ℕ) (memory : Memory) (x y : List ℕ)
-    → x ≡ slice_index_or memory (lane * lane_length ctx + before) []
-    → lane * lane_length ctx + before ≡ previous_place ctx lane column
-    → word ≡ word_in ctx memory pass lane column
-    → y ≡ slice_index_or memory (other * lane_length ctx + place) []
-    → other ≡ (reference ctx pass lane column word).lane → place ≡ (reference ctx pass lane column word).column
-    → made_block ctx (in_memory ctx memory) pass lane column
-    ≡ (if (ctx.version == 19) && nat_lt 0 pass
-    then xor_blocks (mixed x y) (slice_index_or memory (lane * lane_length ctx + column) []) else mixed x y)
-made_of_reads ctx pass lane column word before other place memory x y hx hp hw hy ho hc =
-    let q = lane_length ctx in
-    let from = reference ctx pass lane column word in
-    let read : ℕ → List ℕ = λ n. slice_index_or memory n [] in
-    let x' : x ≡ read (previous_place ctx lane column) = hx ∙ ap read hp in
-    let y' : y ≡ read (from.lane * q + from.column) = hy ∙ ap (λ l. read (l * q + place)) ho
-    ∙ ap (λ c. read (from.lane * q + c)) hc in
-    made_by_places ctx memory pass lane column word hw
-    ∙ ap (λ b. (if (ctx.version == 19) && nat_lt 0 pass then xor_blocks b (read (lane * q + column)) else b))
-    (ap (λ b. mixed b (read (from.lane * q + from.column))) (sym x') ∙ ap (mixed x) (sym y'))
 
 -- ---- a lane that goes ahead of the others in its slice
 

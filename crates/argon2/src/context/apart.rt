@@ -4,10 +4,10 @@
 //! there are p lanes, the block of a lane and a column is at ((column / S) * p + lane) * S + column % S.
 //! A segment is filled on three parts of it: the slices before, the segment, and the slices after it.
 
-ghost use Rattle.std.specs.Prelude.{◌≡◌, ℕ, ◌*◌, ◌+◌, ◌-◌, ◌/◌, ◌<◌, ◌≤◌, ◌^◌, [], length, slice_index_or};
-ghost use Rattle.argon2_base.specs.Block.{bytes_of};
+ghost use Rattle.std.specs.Prelude.{◌≡◌, ℕ, ◌*◌, ◌+◌, ◌-◌, ◌/◌, ◌<◌, ◌≤◌, ◌^◌, ◌&&◌, ◌==◌, [], if◌then◌else◌, length, nat_lt, slice_index_or};
+ghost use Rattle.argon2_base.specs.Block.{bytes_of, xor_blocks};
 ghost use Rattle.argon2_base.specs.LongHash.{long_hash};
-ghost use Rattle.argon2.specs.Rfc9106.{AreShort, Blocks, Memory, addresses_of, block_count, first_block, lane_length, previous, reference_word, segment_length};
+ghost use Rattle.argon2.specs.Rfc9106.{AreShort, Memory, addresses_of, block_count, first_block, lane_length, segment_length};
 ghost use Rattle.argon2.specs.Segments.{AreLengths, AreParts, BeginsSlices, FillsSegment, IsPlaceFor, last_of_slice, slice_length};
 ghost use Rattle.argon2.specs.Steps.{IsStep, step};
 
@@ -134,15 +134,12 @@ impl<'a> Instance<'a> {
         ensures { FillsSegment self.now pass slice lane before.now own.old own.new after.now }
     {
         let segment = self.segment_length();
-        let column = slice * segment;
-        let start = if pass == 0 && slice == 0 { 2 } else { 0 };
-        let mut addresses = self.addresses(Step { pass, lane, column }, &mut Work::new());
+        let start = self.first_index(pass, slice);
+        let first = self.step_at(pass, slice, lane, 0);
+        let mut addresses = self.addresses(first, &mut Work::new());
         for index in start..segment {
-            let column = slice * segment + index;
-            let at = Step { pass, lane, column };
-            if index > 0 && index % 128 == 0 {
-                addresses = self.addresses(at, &mut Work::new());
-            }
+            let at = self.step_at(pass, slice, lane, index);
+            self.renew(&mut addresses, at, &mut Work::new());
             self.step_own(before, own, after, &addresses, at);
         }
     }
@@ -169,35 +166,23 @@ impl<'a> Instance<'a> {
             before.now own.new after.now }
     {
         let index = at.column % self.segment_length();
-        let previous = if at.column == 0 {
-            self.lane_length() - 1
-        } else {
-            at.column - 1
-        };
-        let x = self.block(before, own, after, at, at.lane, previous);
-        let word = self.word_after(x, addresses, at);
+        let x = self.block(before, own, after, at, at.lane, self.previous_column(at));
+        let word = self.word(x[0], addresses, at);
         let (lane, column) = self.reference(at, word);
         let y = self.block(before, own, after, at, lane, column);
-        let made = mix_words(x, y);
-        if self.xors(at.pass) {
-            xor_words(&mut own[index as usize], &made);
-        } else {
-            own[index as usize] = made;
-        }
+        let mixed = mix_words(x, y);
+        self.write_mixed(&mut own[index as usize], &mixed, at.pass);
     }
 
-    /// The word of a step: of its address block, or else the first of `x`, the previous block.
-    fn word_after(&self, x: &Words, addresses: &Option<Block>, at: Step) -> u64
-        requires { addresses.now ≡ addresses_of self.now at.pass at.lane at.column }
-        ensures { (blocks : Blocks) → x.now ≡ previous self.now blocks at.pass at.lane at.column
-            → result ≡ reference_word self.now blocks at.pass at.lane at.column }
+    /// Writes `mixed` to a step's block, or xors it into that block if the pass xors.
+    fn write_mixed(&self, block: &mut Words, mixed: &Words, pass: u32)
+        ensures { block.new ≡ (if (self.now.version == 19) && nat_lt 0 pass
+            then xor_blocks block.old mixed.now else mixed.now) }
     {
-        match addresses {
-            Some(block) => {
-                let index = at.column % self.segment_length();
-                block.as_slice()[(index % 128) as usize]
-            }
-            None => x[0],
+        if self.xors(pass) {
+            xor_words(block, mixed);
+        } else {
+            *block = *mixed;
         }
     }
 

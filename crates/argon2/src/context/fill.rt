@@ -1,11 +1,11 @@
 //! From the inputs of a hash to its matrix, step by step (RFC 9106, section 3.2, steps 1 to 6).
 
-ghost use Rattle.std.specs.Prelude.{◌≡◌, ◌+◌, ◌-◌, ◌*◌, ◌^◌, ◌<◌, ◌≤◌, [], length, slice_index, slice_index_or, slice_set};
+ghost use Rattle.std.specs.Prelude.{◌≡◌, ◌+◌, ◌-◌, ◌*◌, ◌/◌, ◌%◌, ◌^◌, ◌<◌, ◌≤◌, ◌==◌, [], if◌then◌else◌, length, slice_index, slice_index_or, slice_set};
 ghost use Rattle.argon2_base.specs.Block.{mixed};
-ghost use Rattle.argon2.specs.Rfc9106.{AreShort, FirstColumns, block_count, first_block, previous, segment_length};
+ghost use Rattle.argon2.specs.Rfc9106.{AreShort, FirstColumns, addresses_of, block_count, first_block, lane_length, previous, segment_length};
 ghost use Rattle.argon2.specs.Watching.{Fills, IsFilledFrom, begun, in_order, mixing_calls, position_index, segment_calls, slices_calls};
 ghost use Rattle.argon2.specs.Laws.{Begins};
-ghost use Rattle.argon2.specs.Steps.{in_memory, previous_place, reference_place, step, word_in, IsStep, IsStepIn};
+ghost use Rattle.argon2.specs.Steps.{in_memory, previous_place, reference_place, step, turn_count, IsStep, IsStepIn};
 
 use super::instance::Instance;
 use crate::{Block, Work};
@@ -118,19 +118,39 @@ impl<'a> Instance<'a> {
         ensures work { work.new ≡ work.old + segment_calls self.now pass slice }
     {
         let segment = self.segment_length();
-        let column = slice * segment;
-        let start = if pass == 0 && slice == 0 { 2 } else { 0 };
-        let mut addresses = self.addresses(Step { pass, lane, column }, work);
+        let start = self.first_index(pass, slice);
+        let mut addresses = self.addresses(self.step_at(pass, slice, lane, 0), work);
         for index in start..segment {
-            let column = slice * segment + index;
-            let at = Step { pass, lane, column };
-            if index > 0 && index % 128 == 0 {
-                addresses = self.addresses(at, work);
-            }
-            let word = self.word(memory, &addresses, at);
-            let reference = self.step(memory, at, word, work);
+            let at = self.step_at(pass, slice, lane, index);
+            self.renew(&mut addresses, at, work);
+            let reference = self.step(memory, &addresses, at, work);
             self.put_position(positions, at, reference);
         }
+    }
+
+    /// The index of a segment's first step: columns 0 and 1 of pass 0 are no steps.
+    pub(super) fn first_index(&self, pass: u32, slice: u32) -> u32
+        requires { 2 ≤ segment_length self.now }
+        ensures turns { result + turn_count self.now pass slice ≡ segment_length self.now }
+        ensures few { result ≤ 2 }
+        ensures later { pass ≡ 0 → 2 ≤ slice * segment_length self.now + result }
+    {
+        if pass == 0 && slice == 0 { 2 } else { 0 }
+    }
+
+    /// The step of an index of a segment.
+    pub(super) fn step_at(&self, pass: u32, slice: u32, lane: u32, index: u32) -> Step
+        requires in_slices { slice < 4 }
+        requires in_segment { index < segment_length self.now }
+        ensures pass { result.pass ≡ pass }
+        ensures lane { result.lane ≡ lane }
+        ensures column { result.column ≡ slice * segment_length self.now + index }
+        ensures slice { result.column / segment_length self.now ≡ slice }
+        ensures index { result.column % segment_length self.now ≡ index }
+        ensures in_columns { result.column < lane_length self.now }
+    {
+        let column = slice * self.segment_length() + index;
+        Step { pass, lane, column }
     }
 
     /// Writes the place of a step's reference, if there is room for it.
@@ -146,17 +166,23 @@ impl<'a> Instance<'a> {
         }
     }
 
-    /// Writes the block of a step, by the word that takes its reference, and answers the
-    /// reference's place.
+    /// Writes the block of a step, and answers the place of its reference.
     #[tactic(auto, using(crate::proofs::schedules::InMemory::place_by_word))]
-    pub(super) fn step(&self, memory: &mut [Block], at: Step, word: u64, work: &mut Work) -> u32
+    pub(super) fn step(
+        &self,
+        memory: &mut [Block],
+        addresses: &Option<Block>,
+        at: Step,
+        work: &mut Work,
+    ) -> u32
         requires place { IsStepIn self.now memory.old at.pass at.lane at.column }
-        requires word { word ≡ word_in self.now memory.old at.pass at.lane at.column }
+        requires addresses { addresses.now ≡ addresses_of self.now at.pass at.lane at.column }
         requires count { work.old < 2 ^ 128 - 1 }
         ensures step { memory.new ≡ step self.now memory.old at.pass at.lane at.column }
         ensures place { result ≡ reference_place self.now memory.old at.pass at.lane at.column }
         ensures work { work.new ≡ work.old + 1 }
     {
+        let word = self.word(self.previous_word(memory, at), addresses, at);
         let reference = self.reference_place(at, word);
         let place = self.place(at.lane, at.column) as usize;
         // Each arm mixes for itself: a result that is used once is not copied.
@@ -188,7 +214,7 @@ impl<'a> Instance<'a> {
     }
 
     /// The previous block's first word.
-    pub(super) fn previous_word(&self, memory: &[Block], at: Step) -> u64
+    fn previous_word(&self, memory: &[Block], at: Step) -> u64
         requires { IsStepIn self.now memory.now at.pass at.lane at.column }
         ensures { let blocks = in_memory self.now memory.now in
             result ≡ slice_index (previous self.now blocks at.pass at.lane at.column) 0 }
@@ -197,16 +223,26 @@ impl<'a> Instance<'a> {
         memory[previous as usize].as_slice()[0]
     }
 
-    /// The place of the previous block, which before column 0 is the lane's last.
+    /// The place of the previous block.
     fn previous_place(&self, at: Step) -> u32
         requires { IsStep self.now at.pass at.lane at.column }
         ensures value { result ≡ previous_place self.now at.lane at.column }
         ensures within { result < block_count self.now }
     {
+        self.place(at.lane, self.previous_column(at))
+    }
+
+    /// The column of the previous block, which before column 0 is the last.
+    pub(super) fn previous_column(&self, at: Step) -> u32
+        requires { at.column < lane_length self.now }
+        ensures value { result
+            ≡ (if at.column == 0 then lane_length self.now - 1 else at.column - 1) }
+        ensures within { result < lane_length self.now }
+    {
         if at.column == 0 {
-            self.place(at.lane, self.lane_length() - 1)
+            self.lane_length() - 1
         } else {
-            self.place(at.lane, at.column - 1)
+            at.column - 1
         }
     }
 }

@@ -1,9 +1,10 @@
 //! Which block a block refers to: a word of the previous block takes it, or one of address blocks,
 //! which depend on no other block (RFC 9106, sections 3.4.1 and 3.4.2).
 
-ghost use Rattle.std.specs.Prelude.{◌≡◌, ℕ, ◌+◌, ◌-◌, ◌*◌, ◌/◌, ◌^◌, ◌<◌, ◌≤◌, ◌==◌, ◌++◌, length, replicate, slice_index_or, if◌then◌else◌};
-ghost use Rattle.argon2.specs.Rfc9106.{MayReferTo, address_block, addresses_of, block_count, is_independent, lane_length, permitted, place_of, reference, reference_index, reference_lane, segment_length};
-ghost use Rattle.argon2.specs.Steps.{word_in, IsStep, IsStepIn};
+ghost use Rattle.std.specs.Prelude.{◌≡◌, ℕ, ◌+◌, ◌-◌, ◌*◌, ◌/◌, ◌%◌, ◌^◌, ◌<◌, ◌≤◌, ◌==◌, ◌++◌, length, replicate, slice_index, slice_index_or, if◌then◌else◌};
+ghost use Rattle.argon2.specs.Rfc9106.{Blocks, MayReferTo, address_block, addresses_at, addresses_of, block_count, is_independent, lane_length, permitted, place_of, previous, reference, reference_index, reference_lane, reference_word, segment_length};
+ghost use Rattle.argon2.specs.Steps.{IsStep};
+ghost use Rattle.argon2.specs.Watching.{address_mixings};
 
 use super::fill::Step;
 use super::instance::Instance;
@@ -36,23 +37,43 @@ fn reference_index(count: u32, word: u64) -> u32
 }
 
 impl<'a> Instance<'a> {
-    /// The word of a step: of its address block, or else the previous block's first.
-    pub(super) fn word(&self, memory: &[Block], addresses: &Option<Block>, at: Step) -> u64
-        requires place { IsStepIn self.now memory.now at.pass at.lane at.column }
-        requires addresses { addresses.now ≡ addresses_of self.now at.pass at.lane at.column }
-        ensures { result ≡ word_in self.now memory.now at.pass at.lane at.column }
+    /// The word of a step: of its address block, or else `first`, the previous block's first.
+    pub(super) fn word(&self, first: u64, addresses: &Option<Block>, at: Step) -> u64
+        requires { addresses.now ≡ addresses_of self.now at.pass at.lane at.column }
+        ensures { (blocks : Blocks)
+            → first ≡ slice_index (previous self.now blocks at.pass at.lane at.column) 0
+            → result ≡ reference_word self.now blocks at.pass at.lane at.column }
     {
         match addresses {
             Some(block) => {
                 let index = at.column % self.segment_length();
                 block.as_slice()[(index % 128) as usize]
             }
-            None => self.previous_word(memory, at),
+            None => first,
+        }
+    }
+
+    /// Replaces the address block of the column before by that of a step, if another begins there:
+    /// one serves 128 columns of a segment.
+    pub(super) fn renew(&self, addresses: &mut Option<Block>, at: Step, work: &mut Work)
+        requires before { let segment = segment_length self.now in
+            addresses.old ≡ addresses_at self.now at.pass at.lane (at.column / segment)
+            (at.column % segment - 1) }
+        requires count { work.old + 2 < 2 ^ 128 }
+        ensures block { addresses.new ≡ addresses_of self.now at.pass at.lane at.column }
+        ensures work { let segment = segment_length self.now in
+            let mixings = address_mixings self.now at.pass (at.column / segment) in
+            let index = at.column % segment in
+            work.new + mixings (index - 1) ≡ work.old + mixings index }
+    {
+        let index = at.column % self.segment_length();
+        if index > 0 && index % 128 == 0 {
+            *addresses = self.addresses(at, work);
         }
     }
 
     /// The address block that has the word of a step, in a slice that has address blocks.
-    #[tactic(auto, unfolding(crate::specs::Rfc9106::addresses_of))]
+    #[tactic(auto, unfolding(crate::specs::Rfc9106::addresses_at))]
     pub(super) fn addresses(&self, at: Step, work: &mut Work) -> Option<Block>
         requires { work.old + 2 < 2 ^ 128 }
         ensures block { result ≡ addresses_of self.now at.pass at.lane at.column }

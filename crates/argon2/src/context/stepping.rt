@@ -64,8 +64,7 @@ impl Argon2<'_> {
         let mut work = Work::new();
         let at = Step { pass, lane, column };
         let addresses = instance.addresses(at, &mut work);
-        let word = instance.word(blocks, &addresses, at);
-        instance.step(blocks, at, word, &mut work)
+        instance.step(blocks, &addresses, at, &mut work)
     }
 
     /// Writes the hash of the last column's exclusive or, of as many bytes as `out` has, whatever

@@ -1,5 +1,5 @@
-use Rattle.std.proofs.Common.{◌≡◌, ◌≤◌, ◌+◌, ◌-◌, ◌*◌, length}
-use Rattle.argon2.specs.Rfc9106.{FirstColumns, Memory, addresses_of, segment_length}
+use Rattle.std.proofs.Common.{◌≡◌, ◌+◌, ◌-◌, ◌*◌, length}
+use Rattle.argon2.specs.Rfc9106.{FirstColumns, Memory, addresses_at, segment_length}
 use Rattle.argon2.specs.Segments.{AreParts}
 use Rattle.argon2.specs.Watching.{HasBlocksUpTo, begun}
 use Rattle.argon2.proofs.schedules.SegmentParts.{ahead}
@@ -8,11 +8,10 @@ use Rattle.argon2.proofs.context.instance.Instance.fill_own.Given as goal
 -- the address block at hand serves the index before
 abbrev pub invariant-loop-index : goal.invariant-loop-index
 invariant-loop-index l = record {
-  later : l.pass ≡ 0 → 2 ≤ l.slice * l.segment + l.index;
   size : length l.own ≡ length l.fn.own;
   filled : (first : FirstColumns) (memory : Memory) → AreParts l.self l.slice l.lane memory l.before l.fn.own l.after
       → HasBlocksUpTo l.self first l.pass (λ _. begun l.self l.pass l.slice) memory
       → (new : Memory) × (AreParts l.self l.slice l.lane new l.before l.own l.after
-      × HasBlocksUpTo l.self first l.pass (ahead l.self l.pass l.slice l.lane (l.slice * l.segment + l.index)) new);
-  addresses : l.addresses ≡ addresses_of l.self l.pass l.lane (l.slice * segment_length l.self + (l.index - 1));
+      × HasBlocksUpTo l.self first l.pass (ahead l.self l.pass l.slice l.lane (l.slice * segment_length l.self + l.index)) new);
+  addresses : l.addresses ≡ addresses_at l.self l.pass l.lane l.slice (l.index - 1);
 }

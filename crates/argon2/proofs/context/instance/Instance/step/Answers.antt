@@ -1,9 +1,7 @@
-use Rattle.std.proofs.Common.{◌+◌, ◌*◌, [], ◌&&◌, sym, ◌∙◌, arith}
-use Rattle.std.specs.Prelude.{slice_index_or, nat_lt, ◌==◌}
+use Rattle.std.proofs.Common.{[], ◌&&◌, sym, ◌∙◌, arith}
+use Rattle.std.specs.Prelude.{nat_lt, ◌==◌}
 use Rattle.std.proofs.lemmas.Bool.{cond-true, cond-false}
 use Rattle.std.proofs.lemmas.List.{get_or_read}
-use Rattle.argon2_base.proofs.mixing.MixingLaws.{xor_blocks-comm}
-use Rattle.argon2.specs.Rfc9106.{lane_length}
 use Rattle.argon2.specs.Steps.{step}
 use Rattle.argon2.proofs.schedules.InMemory.{made_by_places}
 use Rattle.argon2.proofs.context.instance.Instance.step.Goals as goal
@@ -13,16 +11,14 @@ unfolding step
 returns-then-xors-clause-step c =
     let ctx = c.args.self.now in
     let m = c.args.memory.now in
-    let place = c.args.at.lane * lane_length ctx + c.args.at.column in
     let p = c.place-place.ensures.value in
     let r = c.reference_place-reference.ensures.value in
     let b = c.mixed_block.ensures.block in
     let old = get_or_read m c.place-place.result c.index-memory-place.result (grind arith) c.index-memory-place.is [] in
     let x = c.bitxor_assign.ensures.after in
-    let y = xor_blocks-comm (slice_index_or m place []) c.mixed_block.result in
     let yes = sym c.xors.ensures ∙ c.if-xors.true in
-    let by = made_by_places ctx m c.args.at.pass c.args.at.lane c.args.at.column c.args.word c.requires.word
-    ∙ cond-true ((ctx.version == 19) && (nat_lt 0 c.args.at.pass)) _ _ yes in
+    let by = made_by_places ctx m c.args.at.pass c.args.at.lane c.args.at.column _
+    (c.word-word.ensures _ c.previous_word.ensures) ∙ cond-true ((ctx.version == 19) && (nat_lt 0 c.args.at.pass)) _ _ yes in
     cc
 
 pub returns-else-xors-clause-step : goal.returns-else-xors-clause-step
@@ -34,6 +30,6 @@ returns-else-xors-clause-step c =
     let r = c.reference_place-reference.ensures.value in
     let b = c.mixed_block-else-xors.ensures.block in
     let no = sym c.xors.ensures ∙ c.if-xors.false in
-    let by = made_by_places ctx m c.args.at.pass c.args.at.lane c.args.at.column c.args.word c.requires.word
-    ∙ cond-false ((ctx.version == 19) && (nat_lt 0 c.args.at.pass)) _ _ no in
+    let by = made_by_places ctx m c.args.at.pass c.args.at.lane c.args.at.column _
+    (c.word-word.ensures _ c.previous_word.ensures) ∙ cond-false ((ctx.version == 19) && (nat_lt 0 c.args.at.pass)) _ _ no in
     cc
