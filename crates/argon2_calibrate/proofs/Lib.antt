@@ -1,3 +1,4 @@
+mod Choices
 mod Halving
 mod Places
 mod Trials

@@ -1,12 +1,12 @@
 -- What the program writes.
-use Rattle.std.specs.Prelude.{ℕ, ◌+◌, ◌/◌, ◌%◌, List, [], ◌∷◌, ◌++◌, codes, Bool, true, false, if◌then◌else◌, Option}
+use Rattle.std.specs.Prelude.{◌≡◌, ℕ, ◌+◌, ◌/◌, ◌%◌, List, [], ◌∷◌, ◌++◌, codes, Bool, true, false, Option, Some}
+use Rattle.std.specs.Bool.{MatchBool}
 use Rattle.std.specs.Fmt.{decimal}
 use Rattle.std.specs.Io.KnownBytes.{Appends}
+use Rattle.json.specs.Json.{Json, boolean, number, object, member, no_members, document}
 use Rattle.argon2_calibrate.specs.Choice.{IsChoice}
-use Rattle.argon2_calibrate.specs.declared.arguments.Command.{Command}
-use Rattle.argon2_calibrate.specs.declared.arguments.Command.TheVariants.{Help, Version, Calibrate}
 use Rattle.argon2_calibrate.specs.declared.choice.Found.{Found}
-use Rattle.argon2_calibrate.specs.declared.run.TheConstants.{HELP, VERSION}
+use Rattle.argon2_calibrate.specs.declared.options.Options.{Options}
 
 -- costs as a list of parameters, a line
 abbrev pub list_text : ℕ → ℕ → ℕ → List ℕ
@@ -36,18 +36,16 @@ abbrev pub lines_text : Found → ℕ → List ℕ
 lines_text found p = list_text found.choice.m_cost found.choice.t_cost p
     ++ call_text found.choice.m_cost found.choice.t_cost p ++ time_text found.choice.time ++ end_text found.busy
 
--- costs and their time as a JSON object, a line
-abbrev pub json_text : Found → ℕ → List ℕ
-json_text found p = codes "{\"m\":" ++ (decimal found.choice.m_cost ++ (codes ",\"t\":"
-    ++ (decimal found.choice.t_cost ++ (codes ",\"p\":" ++ (decimal p ++ codes ",")))))
-    ++ (codes "\"seconds\":" ++ (decimal (found.choice.time / 1000000) ++ (codes "."
-    ++ (three_places (found.choice.time / 1000 % 1000) ++ (codes ",\"busy\":"
-    ++ ((if found.busy then codes "true" else codes "false") ++ (codes "}" ++ 10 ∷ [])))))))
+-- costs and their time as a JSON object
+abbrev pub json_of : Found → ℕ → Json
+json_of found p = object (member (codes "m") (number (decimal found.choice.m_cost))
+    (member (codes "t") (number (decimal found.choice.t_cost)) (member (codes "p") (number (decimal p))
+    (member (codes "microseconds") (number (decimal found.choice.time))
+    (member (codes "busy") (boolean found.busy) no_members)))))
 
--- the help, or the version; or costs that are chosen by measured times, and how long they take
-abbrev pub IsAnswered : (ℕ → ℕ → ℕ → List ℕ → Type 0) → Command → Option (List ℕ) → Option (List ℕ) → Type 0
-IsAnswered Takes Help old new = Appends old new HELP.now
-IsAnswered Takes Version old new = Appends old new VERSION.now
-IsAnswered Takes (Calibrate options) old new = (found : Found)
-    × IsChoice (Takes options.lanes) options found.choice
-    × Appends old new (if options.json then json_text found options.lanes else lines_text found options.lanes)
+-- costs that are chosen by measured times, and how long they take: a line with a JSON object, or lines
+abbrev pub IsAnswered : (ℕ → ℕ → ℕ → Option (List ℕ) → Type 0) → Options → Option (List ℕ) → Option (List ℕ) → Type 0
+IsAnswered Takes options old new = (found : Found) × IsChoice (Takes options.lanes) options found
+    × MatchBool options.json
+    ((text : List ℕ) × (document text ≡ Some (json_of found options.lanes)) × Appends old new (text ++ 10 ∷ []))
+    (Appends old new (lines_text found options.lanes))

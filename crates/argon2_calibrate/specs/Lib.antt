@@ -1,4 +1,2 @@
 pub mod Answer
-pub mod Arguments
 pub mod Choice
-pub mod Failures

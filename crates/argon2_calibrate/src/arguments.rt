@@ -1,209 +1,111 @@
-//! What the program's arguments ask for.
-
-ghost use Rattle.std.specs.Prelude.{◌≡◌, ◌≤◌, ◌*◌, IfSome, map, string_bytes};
-ghost use Rattle.argon2_base.specs.Texts.{number_of};
-ghost use Rattle.argon2_calibrate.specs.Arguments.{IsPossible, alone_of, digit_of, milliseconds_of, page_of, thousandths_of, three_digits, within};
+//! The options of the command line.
 
 use crate::options::Options;
-use argon2::phc::read_decimal;
+use crate::run::PROGRAM;
+use argon2::Params;
+use argon2_commands::invalid;
+use clap::{Arg, ArgAction, Command, Error, value_parser};
+use std::alloc::{AllocError, Global};
+use std::num::saturating_f64_to_u64;
 
-/// What the program is asked for.
-#[derive(Clone, Copy, Debug, PartialEq, Eq)]
-pub enum Command {
-    /// `-h` or `--help`
-    Help,
-    /// `--version`
-    Version,
-    /// Options, of equal ones the last counts, a time, and the most memory.
-    Calibrate(Options),
-}
+const ABOUT: &str = "\
+Finds the costs under which a hash by Argon2id takes a given time on this machine.
 
-impl Command {
-    ghost use Rattle.std.specs.Prelude.{◌≡◌, IfSome, map, string_bytes};
-    ghost use Rattle.argon2_calibrate.specs.Arguments.{IsPossible, command_of};
+It hashes three times for each choice, and writes the least time to standard error. First it halves the
+memory, from the most on, until the least passes are within the time and the memory is there. Then it
+takes the most passes that are within the time, of up to four numbers that it tries. It writes the
+parameters as a list, as a call and with the time that was measured.
 
-    /// What the arguments ask for, if they are of the form.
-    pub fn parsed(args: &[String]) -> Option<Command>
-        ensures value { result ≡ command_of (map string_bytes args.now) }
-        ensures possible { IfSome result IsPossible }
-    {
-        if let Some(command) = alone(args) {
-            return Some(command);
-        }
-        let options = Options::DEFAULT.with_words(args)?;
-        Some(Command::Calibrate(options))
-    }
-}
+The machine is busy if the greatest of three times is above the least by more than a quarter. Then it
+measures again, at most five times in all. If some times still differ that much in the end, or the time
+of the costs is less than half of the target though a pass more may fit, a last line or the JSON object
+says so.";
 
-// What a word asks for that stands alone.
-fn alone(args: &[String]) -> Option<Command>
-    ensures value { result ≡ alone_of (map string_bytes args.now) }
-    ensures possible { IfSome result IsPossible }
-{
-    match args {
-        [word] => page(word.as_str()),
-        _ => None,
-    }
-}
+const NOTES: &str = "\
+Example: argon2-calibrate --lanes 4 0.5 1024
 
-// The page that a word asks for.
-fn page(word: &str) -> Option<Command>
-    ensures value { result ≡ page_of word.now }
-    ensures possible { IfSome result IsPossible }
-{
-    match word {
-        "-h" => Some(Command::Help),
-        "--help" => Some(Command::Help),
-        "--version" => Some(Command::Version),
-        _ => None,
-    }
-}
+The status is 0 if the costs are written, 2 if the arguments are wrong, and 3 if the clock, writing or a
+request for memory fails, which standard error says.";
 
 impl Options {
-    ghost use Rattle.std.specs.Prelude.{◌≡◌, IfSome, map, string_bytes};
-    ghost use Rattle.argon2_calibrate.specs.Arguments.{AreBounded, ArePossible, calibration_of, timed_of, with_value_of, with_words_of};
+    ghost use Rattle.std.specs.Prelude.{IfOk};
+    ghost use Rattle.argon2_calibrate.specs.Choice.{ArePossible};
 
-    // The options where arguments change them, with the time and the most memory that end the arguments.
-    fn with_words(self, args: &[String]) -> Option<Options>
-        requires { AreBounded self }
-        ensures value { result ≡ with_words_of self (map string_bytes args.now) }
-        ensures possible { IfSome result ArePossible }
+    /// The options that words spell, of equal ones the last.
+    ///
+    /// # Errors
+    /// A page that the words ask for, what is wrong with them, and out of memory.
+    pub fn parsed(alloc: Global, words: &[String]) -> Result<Options, Error>
+        ensures { IfOk result ArePossible }
     {
-        let (word, rest) = args.split_first()?;
-        let Some((value, after)) = rest.split_first() else {
-            return self.calibration(args);
-        };
-        if word.as_str() == "--json" {
-            return Options { json: true, ..self }.with_words(rest);
+        let mut command = command(alloc)?;
+        let matches = command.try_get_matches_from_mut(words)?;
+        let seconds = matches.get_one::<f64>("SECONDS").unwrap_or(0.0);
+        if !(0.001 <= seconds && seconds <= 3600.0) {
+            let value = matches.get_str("SECONDS").unwrap_or("");
+            let why = "it is not in 0.001..=3600";
+            return Err(invalid(&mut command, alloc, "<SECONDS>", value, why)?);
         }
-        match self.with_value(word.as_str(), value.as_str()) {
-            Some(changed) => changed.with_words(after),
-            None => self.calibration(args),
+        let mebibytes = matches.get_one::<u32>("MEBIBYTES").unwrap_or(64);
+        let most = mebibytes.saturating_mul(1024);
+        let lanes = matches.get_one::<u32>("lanes").unwrap_or(1);
+        let min_t = matches.get_one::<u32>("min-t");
+        if Params::new(most, min_t.unwrap_or(1), lanes, None).is_err() {
+            let value = matches.get_str("lanes").unwrap_or("");
+            let why = "the memory has less than 8 blocks of 1024 bytes for each lane";
+            return Err(invalid(&mut command, alloc, "--lanes <N>", value, why)?);
         }
-    }
-
-    // The options where an option with a number changes them.
-    fn with_value(self, name: &str, value: &str) -> Option<Options>
-        requires { AreBounded self }
-        ensures value { result ≡ with_value_of name.now value.now self }
-        ensures bounded { IfSome result AreBounded }
-    {
-        match name {
-            "--min-t" => Some(Options {
-                min_t: Some(bounded(value, 1, u32::MAX)?),
-                ..self
-            }),
-            "--lanes" => Some(Options {
-                lanes: bounded(value, 1, 16_777_215)?,
-                ..self
-            }),
-            _ => None,
-        }
-    }
-
-    // The options with a time and, where it is given, the most memory.
-    fn calibration(self, args: &[String]) -> Option<Options>
-        requires { AreBounded self }
-        ensures value { result ≡ calibration_of self (map string_bytes args.now) }
-        ensures possible { IfSome result ArePossible }
-    {
-        match args {
-            [time] => self.timed(milliseconds(time.as_str())?, 64),
-            [time, most] => self.timed(
-                milliseconds(time.as_str())?,
-                bounded(most.as_str(), 1, 4_194_303)?,
-            ),
-            _ => None,
-        }
-    }
-
-    // The options with so many milliseconds and mebibytes, where these hold the lanes.
-    fn timed(self, millis: u32, mebibytes: u32) -> Option<Options>
-        requires bounded { AreBounded self }
-        requires most { mebibytes ≤ 4194303 }
-        ensures value { result ≡ timed_of self millis mebibytes }
-        ensures possible { IfSome result ArePossible }
-    {
-        let most = 1024 * mebibytes;
-        if most < 8 * self.lanes {
-            return None;
-        }
-        let target = 1000 * u64::from(millis);
-        Some(Options {
-            target,
+        Ok(Options {
+            target: saturating_f64_to_u64(1e6 * seconds),
             most,
-            ..self
+            lanes,
+            min_t,
+            json: matches.get_flag("json"),
         })
     }
 }
 
-// The number within bounds whose decimal a text is.
-fn bounded(text: &str, low: u32, high: u32) -> Option<u32>
-    ensures value { result ≡ within low high (number_of text.now) }
-    ensures low { IfSome result (λ n. low ≤ n) }
-    ensures high { IfSome result (λ n. n ≤ high) }
-{
-    let n = number(text)?;
-    if n < low || n > high {
-        return None;
-    }
-    Some(n)
-}
-
-// The number up to 4294967295 whose decimal a text is.
-fn number(text: &str) -> Option<u32>
-    ensures { result ≡ number_of text.now }
-{
-    let Some(n) = read_decimal(text) else {
-        return None;
-    };
-    Some(n)
-}
-
-// A time of 1 millisecond to an hour: a decimal, or one with a point and one to three digits.
-fn milliseconds(text: &str) -> Option<u32>
-    ensures { result ≡ milliseconds_of text.now }
-{
-    let (seconds, part) = match text.split_once('.') {
-        Some((whole, fraction)) => (number(whole)?, thousandths(fraction.as_bytes())?),
-        None => (number(text)?, 0),
-    };
-    if seconds > 3600 {
-        return None;
-    }
-    let time = 1000 * seconds + part;
-    if time < 1 || time > 3_600_000 {
-        return None;
-    }
-    Some(time)
-}
-
-// One to three digits behind a point.
-fn thousandths(digits: &[u8]) -> Option<u32>
-    ensures value { result ≡ thousandths_of digits.now }
-    ensures max { IfSome result (λ n. n ≤ 999) }
-{
-    match digits {
-        [a] => three_digits(*a, b'0', b'0'),
-        [a, b] => three_digits(*a, *b, b'0'),
-        [a, b, c] => three_digits(*a, *b, *c),
-        _ => None,
-    }
-}
-
-fn three_digits(a: u8, b: u8, c: u8) -> Option<u32>
-    ensures value { result ≡ three_digits a b c }
-    ensures max { IfSome result (λ n. n ≤ 999) }
-{
-    Some(100 * digit(a)? + 10 * digit(b)? + digit(c)?)
-}
-
-fn digit(byte: u8) -> Option<u32>
-    ensures value { result ≡ digit_of byte }
-    ensures max { IfSome result (λ n. n ≤ 9) }
-{
-    if byte < b'0' || byte > b'9' {
-        return None;
-    }
-    Some(u32::from(byte - b'0'))
+// The program's arguments.
+fn command<'a>(alloc: Global) -> Result<Command<'a>, AllocError> {
+    let number = value_parser!(u32);
+    Command::new(alloc, PROGRAM)
+        .version("0.6.0")
+        .about("Finds the costs under which a hash takes a given time on this machine")
+        .long_about(ABOUT)
+        .after_help(NOTES)
+        .no_binary_name(true)
+        .args_override_self(true)
+        .arg(
+            Arg::new(alloc, "min-t")
+                .long("min-t")
+                .value_name("N")
+                .value_parser(number.range(1..))
+                .help("The least passes [default: 2 below 64 MiB of memory, 1 from there on]"),
+        )?
+        .arg(
+            Arg::new(alloc, "lanes")
+                .long("lanes")
+                .value_name("N")
+                .value_parser(number.range(1..=16_777_215))
+                .default_value("1")
+                .help("Lanes, with at least 8 blocks of 1024 bytes each"),
+        )?
+        .arg(
+            Arg::new(alloc, "json")
+                .long("json")
+                .action(ArgAction::SetTrue)
+                .help("Write one JSON object: m, t, p, microseconds, busy"),
+        )?
+        .arg(
+            Arg::new(alloc, "SECONDS")
+                .required(true)
+                .value_parser(value_parser!(f64))
+                .help("How long a hash may take, from 0.001 to 3600"),
+        )?
+        .arg(
+            Arg::new(alloc, "MEBIBYTES")
+                .value_parser(number.range(1..=4_194_303))
+                .default_value("64")
+                .help("The most memory of a hash, in MiB"),
+        )
 }

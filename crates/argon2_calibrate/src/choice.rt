@@ -3,15 +3,17 @@
 ghost use Rattle.std.specs.Prelude.{◌≡◌, ◌≤◌, ◌<◌, IfSome};
 ghost use Rattle.argon2_calibrate.specs.Choice.{IsGreatest, further_of, least_passes, scatter};
 
-/// Memory and passes, and how long a hash under them takes.
+/// Memory and passes, and how long three hashes under them take.
 #[derive(Clone, Copy, Debug, PartialEq, Eq)]
 pub struct Choice {
     /// Memory in blocks of 1024 bytes.
     pub m_cost: u32,
     /// Passes.
     pub t_cost: u32,
-    /// The time as it was measured, in microseconds.
+    /// The least of the three times, in microseconds.
     pub time: u64,
+    /// Whether the three times scatter.
+    pub busy: bool,
 }
 
 /// Costs that were searched for.
@@ -19,16 +21,7 @@ pub struct Choice {
 pub struct Found {
     /// The costs.
     pub choice: Choice,
-    /// Whether some of the times that the search measured still scattered at the end.
-    pub busy: bool,
-}
-
-/// The time of a hash.
-#[derive(Clone, Copy, Debug, PartialEq, Eq)]
-pub struct Timed {
-    /// The least of three times in microseconds.
-    pub time: u64,
-    /// Whether the three times scatter.
+    /// Whether the machine may have been too busy to find better ones.
     pub busy: bool,
 }
 

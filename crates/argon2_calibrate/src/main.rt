@@ -1,16 +1,17 @@
 //! `argon2-calibrate`: the costs under which a hash takes a given time on this machine.
 #![tactic(auto)]
 
-use failure::Failure;
-use std::alloc::AllocError;
-use std::env;
-use std::io::ErrorKind;
+ghost use Rattle.std.specs.Prelude.{IfOk};
+ghost use Rattle.argon2_calibrate.specs.Choice.{ArePossible};
+
+use argon2_commands::{answer, words};
+use clap::Error;
+use options::Options;
 use std::process::ExitCode;
 use stopwatch::Machine;
 
 mod arguments;
 mod choice;
-mod failure;
 mod options;
 mod run;
 mod search;
@@ -20,27 +21,21 @@ pub use run::run;
 
 fn main(rt: HostRuntime) -> ExitCode {
     let (mut output, mut errors) = (rt.stdout(), rt.stderr());
-    let status = match words(&rt) {
-        Ok(args) => {
-            let mut machine = Machine::new(rt.alloc(), &rt);
-            run(args.as_slice(), &mut machine, &mut output, &mut errors)
+    let alloc = rt.alloc();
+    let status = match asked(&rt) {
+        Ok(options) => {
+            let mut machine = Machine::new(alloc, &rt);
+            run(alloc, options, &mut machine, &mut output, &mut errors)
         }
-        Err(refused) => run::fail(&mut errors, Failure::Memory(refused)),
+        Err(error) => answer(run::PROGRAM, &error, &mut output, &mut errors),
     };
     ExitCode::from(status)
 }
 
-// The arguments after the program's name; none where one is no text, as no command has such a one.
-fn words(rt: &HostRuntime) -> Result<Vec<String>, AllocError> {
-    let mut args = Vec::new(rt.alloc());
-    match env::args(rt) {
-        Ok(words) => {
-            for word in words.skip(1) {
-                args.push(word)?;
-            }
-        }
-        Err(e) if e.kind() == ErrorKind::OutOfMemory => return Err(AllocError),
-        Err(_) => {}
-    }
-    Ok(args)
+// What the command line asks for.
+fn asked(rt: &HostRuntime) -> Result<Options, Error>
+    ensures { IfOk result ArePossible }
+{
+    let words = words(rt, run::PROGRAM)?;
+    Options::parsed(rt.alloc(), words.as_slice())
 }

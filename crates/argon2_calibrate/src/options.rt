@@ -9,19 +9,8 @@ pub struct Options {
     pub most: u32,
     /// Lanes.
     pub lanes: u32,
-    /// The least number of passes, where it is given.
+    /// The least number of passes, if it is given.
     pub min_t: Option<u32>,
     /// Whether the answer is a JSON object.
     pub json: bool,
-}
-
-impl Options {
-    /// One lane and at most 64 MiB, with no time yet.
-    pub const DEFAULT: Options = Options {
-        target: 0,
-        most: 65536,
-        lanes: 1,
-        min_t: None,
-        json: false,
-    };
 }

@@ -1,13 +1,14 @@
 //! The search for costs.
 
-ghost use Rattle.std.specs.Prelude.{◌≡◌, ◌≤◌, IfOk};
-ghost use Rattle.argon2_calibrate.specs.Arguments.{ArePossible};
-ghost use Rattle.argon2_calibrate.specs.Choice.{IsBest, IsChoice, IsFirst, IsTime, IsTimed};
+ghost use Rattle.std.specs.Prelude.{◌≡◌, ◌≤◌, IfOk, IsFalse, MatchOption, None};
+ghost use Rattle.argon2_calibrate.specs.Choice.{ArePossible, IsBest, IsChoice, IsFirst, IsMeasured};
 
-use crate::choice::{Choice, Found, Timed, further, least_passes, passes, scatter};
-use crate::failure::Failure;
+use crate::choice::{Choice, Found, further, least_passes, passes, scatter};
 use crate::options::Options;
+use crate::run::PROGRAM;
 use crate::stopwatch::Stopwatch;
+use argon2_commands::Failure;
+use std::alloc::AllocError;
 use std::io::Write;
 
 // How many numbers of passes are tried beside the least.
@@ -20,17 +21,17 @@ const MEASUREMENTS: u32 = 5;
 /// the most passes: as RFC 9106, section 4, goes about it. Each measured time is written to `errors`.
 ///
 /// # Errors
-/// Those of the stopwatch.
+/// Those of the stopwatch, and out of memory: for the least memory, or for more passes over memory that was there.
 pub fn search<S: Stopwatch, E: Write>(
     stopwatch: &mut S,
     errors: &mut E,
     options: Options,
 ) -> Result<Found, Failure>
     requires { ArePossible options }
-    ensures { IfOk result (λ found. IsChoice (S.may_take options.lanes) options found.choice) }
+    ensures { IfOk result (IsChoice (S.may_take options.lanes) options) }
 {
     let first = most_memory(stopwatch, errors, options)?;
-    most_passes(stopwatch, errors, options, first.choice, first.busy)
+    most_passes(stopwatch, errors, options, first)
 }
 
 // The least passes over the most memory, by halves, with which they take no longer than the target.
@@ -42,24 +43,45 @@ fn most_memory<S: Stopwatch, E: Write>(
     requires { ArePossible options }
     ensures some { IfOk result (λ found. 1 ≤ found.choice.t_cost) }
     ensures first { IfOk result (λ found. IsFirst (S.may_take options.lanes) options found.choice) }
+    ensures quiet { IfOk result (λ found. IsFalse found.busy → IsFalse found.choice.busy) }
 {
-    let mut m_cost = options.most;
-    let mut t_cost = least_passes(options.min_t, m_cost);
-    let once = timed(stopwatch, errors, options.lanes, m_cost, t_cost)?;
-    let (mut time, mut busy) = (once.time, once.busy);
-    while time > options.target && m_cost >= 16 * options.lanes {
+    let (mut m_cost, mut busy) = (options.most, false);
+    while m_cost >= 16 * options.lanes {
+        match measured(
+            stopwatch,
+            errors,
+            options,
+            m_cost,
+            least_passes(options.min_t, m_cost),
+        )? {
+            Some(choice) => {
+                busy |= choice.busy;
+                if choice.time <= options.target {
+                    return Ok(Found { choice, busy });
+                }
+            }
+            None => {
+                let _ = writeln!(
+                    errors,
+                    "{PROGRAM}: m={m_cost} is out of memory, trying half"
+                );
+            }
+        }
         m_cost /= 2;
-        t_cost = least_passes(options.min_t, m_cost);
-        let again = timed(stopwatch, errors, options.lanes, m_cost, t_cost)?;
-        time = again.time;
-        busy |= again.busy;
     }
-    let choice = Choice {
+    match measured(
+        stopwatch,
+        errors,
+        options,
         m_cost,
-        t_cost,
-        time,
-    };
-    Ok(Found { choice, busy })
+        least_passes(options.min_t, m_cost),
+    )? {
+        Some(choice) => Ok(Found {
+            choice,
+            busy: busy || choice.busy,
+        }),
+        None => Err(Failure::Memory(AllocError)),
+    }
 }
 
 // The most passes over the same memory that take no longer than the target. What was measured last says how
@@ -68,58 +90,68 @@ fn most_passes<S: Stopwatch, E: Write>(
     stopwatch: &mut S,
     errors: &mut E,
     options: Options,
-    first: Choice,
-    was_busy: bool,
+    found: Found,
 ) -> Result<Found, Failure>
-    requires some { 1 ≤ first.t_cost }
-    requires taken { IsTime (S.may_take options.lanes) first.m_cost first.t_cost first.time }
-    ensures { IfOk result (λ found. IsBest (S.may_take options.lanes) options.target first
-        found.choice) }
+    requires some { 1 ≤ found.choice.t_cost }
+    requires measured { IsMeasured (S.may_take options.lanes) found.choice }
+    requires quiet { IsFalse found.busy → IsFalse found.choice.busy }
+    ensures { IfOk result (IsBest (S.may_take options.lanes) options.target found.choice) }
 {
-    let (mut best, mut busy) = (first, was_busy);
+    let first = found.choice;
+    let (mut best, mut busy) = (first, found.busy);
     let (mut most, mut next) = (u32::MAX, first.t_cost.saturating_add(1));
     'trials: for _ in 0..TRIALS {
         if next <= best.t_cost {
             break;
         }
-        let trial = timed(stopwatch, errors, options.lanes, first.m_cost, next)?;
-        let time = trial.time;
+        let Some(trial) = measured(stopwatch, errors, options, first.m_cost, next)? else {
+            return Err(Failure::Memory(AllocError));
+        };
         busy |= trial.busy;
-        if time <= options.target {
-            best.t_cost = next;
-            best.time = time;
+        if trial.time <= options.target {
+            best = trial;
         } else {
             most = next - 1;
         }
-        let further = further(first, next, time);
+        let further = further(first, next, trial.time);
         next = passes(options.target, first, further).min(most);
     }
-    Ok(Found { choice: best, busy })
+    let is_short = best.time < options.target / 2 && best.t_cost < most;
+    Ok(Found {
+        choice: best,
+        busy: busy || is_short,
+    })
 }
 
-/// How many microseconds a hash takes, the least of three times, which is written to `errors` as seconds; and whether
-/// the three times scatter even where they were measured five times.
-pub fn timed<S: Stopwatch, E: Write>(
+// Costs with how long a hash takes, which is written to `errors`, or none if the memory is refused.
+fn measured<S: Stopwatch, E: Write>(
     stopwatch: &mut S,
     errors: &mut E,
-    lanes: u32,
+    options: Options,
     m_cost: u32,
     t_cost: u32,
-) -> Result<Timed, Failure>
-    ensures time { IfOk result (λ timed. IsTime (S.may_take lanes) m_cost t_cost timed.time) }
-    ensures busy { IfOk result (IsTimed (S.may_take lanes) m_cost t_cost) }
+) -> Result<Option<Choice>, Failure>
+    ensures { IfOk result (λ choice. MatchOption choice
+        (S.may_take options.lanes m_cost t_cost None)
+        (λ c. (c.m_cost ≡ m_cost) × (c.t_cost ≡ t_cost) × IsMeasured (S.may_take options.lanes) c)) }
 {
-    let [a, b, c] = times(stopwatch, errors, lanes, m_cost, t_cost)?;
-    let time = a.min(b).min(c);
-    let (seconds, millis) = (time / 1_000_000, time / 1000 % 1000);
+    let lanes = options.lanes;
+    let Some(taken) = times(stopwatch, errors, lanes, m_cost, t_cost)? else {
+        return Ok(None);
+    };
+    let [a, b, c] = taken;
+    let choice = Choice {
+        m_cost,
+        t_cost,
+        time: a.min(b).min(c),
+        busy: scatter(a, b, c),
+    };
+    let (seconds, millis) = (choice.time / 1_000_000, choice.time / 1000 % 1000);
     let _ = writeln!(
         errors,
-        "argon2-calibrate: m={m_cost},t={t_cost},p={lanes} takes {seconds}.{millis:03} seconds"
+        "{PROGRAM}: m={m_cost},t={t_cost},p={lanes} takes {seconds}.{millis:03} seconds"
     );
-    Ok(Timed {
-        time,
-        busy: scatter(a, b, c),
-    })
+    Ok(Some(choice))
 }
 
 // The times of three hashes, measured again while they scatter.
@@ -129,19 +161,19 @@ fn times<S: Stopwatch, E: Write>(
     lanes: u32,
     m_cost: u32,
     t_cost: u32,
-) -> Result<[u64; 3], Failure>
-    ensures { IfOk result (S.may_take lanes m_cost t_cost) }
+) -> Result<Option<[u64; 3]>, Failure>
+    ensures { IfOk result (λ times. S.may_take lanes m_cost t_cost times) }
 {
     let mut times = stopwatch.times(lanes, m_cost, t_cost)?;
     'again: for _ in 1..MEASUREMENTS {
-        let [a, b, c] = times;
+        let Some(taken) = times else {
+            break;
+        };
+        let [a, b, c] = taken;
         if !scatter(a, b, c) {
             break;
         }
-        let _ = writeln!(
-            errors,
-            "argon2-calibrate: the machine is busy, measuring again"
-        );
+        let _ = writeln!(errors, "{PROGRAM}: the machine is busy, measuring again");
         times = stopwatch.times(lanes, m_cost, t_cost)?;
     }
     Ok(times)

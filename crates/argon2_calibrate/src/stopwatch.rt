@@ -6,25 +6,31 @@ ghost use Rattle.argon2.specs.Settings.{AreValid, plain};
 ghost use Rattle.argon2.specs.declared.algorithm.Algorithm.TheVariants.{Argon2id};
 ghost use Rattle.argon2.specs.declared.version.Version.TheVariants.{V0x13};
 
-use crate::failure::Failure;
 use argon2::{Algorithm, Argon2, Params, Version};
+use argon2_commands::Failure;
 use std::alloc::Global;
 use std::rt::Clock;
 use std::time::Instant;
 
+const NO_CLOCK: Failure = Failure::Other("the clock can't be read");
+
+const REFUSED: Failure = Failure::Other("hashing is refused");
+
 /// What measures hashes by Argon2id.
 pub trait Stopwatch {
-    ghost use Rattle.std.specs.Prelude.{ℕ, ⊤, List, IfOk};
+    ghost use Rattle.std.specs.Prelude.{ℕ, ⊤, List, Option, IfOk, option_map};
 
-    // Hashes with so many lanes, blocks and passes may be found to take so many microseconds.
-    ghost may_take: { ℕ → ℕ → ℕ → List ℕ → Type 0 } = { λ _ _ _ _. ⊤ };
+    // Hashes with so many lanes, blocks and passes may be found to take so many microseconds; or none if their
+    // memory may be refused.
+    ghost may_take: { ℕ → ℕ → ℕ → Option (List ℕ) → Type 0 } = { λ _ _ _ _. ⊤ };
 
-    /// How many microseconds each of three hashes takes with so many lanes, blocks of 1024 bytes and passes.
+    /// How many microseconds each of three hashes takes with so many lanes, blocks of 1024 bytes and passes, or none if
+    /// their memory is refused.
     ///
     /// # Errors
-    /// Memory may be refused, and the clock may not answer.
-    fn times(&mut self, lanes: u32, m_cost: u32, t_cost: u32) -> Result<[u64; 3], Failure>
-        ensures { IfOk result (may_take lanes m_cost t_cost) };
+    /// The clock may not answer.
+    fn times(&mut self, lanes: u32, m_cost: u32, t_cost: u32) -> Result<Option<[u64; 3]>, Failure>
+        ensures { IfOk result (λ times. may_take lanes m_cost t_cost times) };
 }
 
 /// The machine that the program runs on.
@@ -40,13 +46,17 @@ impl<'a, C: Clock> Machine<'a, C> {
         Machine { alloc, clock }
     }
 
-    // How many microseconds one hash takes.
-    fn time(&self, argon2: &Argon2<'_>) -> Result<u64, Failure> {
+    // How many microseconds one hash takes, or none if its memory is refused.
+    fn time(&self, argon2: &Argon2<'_>) -> Result<Option<u64>, Failure> {
         let mut tag = [0; Params::DEFAULT_OUTPUT_LEN];
-        let begun = Instant::now(self.clock).or(Err(Failure::Clock))?;
-        argon2.hash_password_into(self.alloc, b"password", b"somesaltsomesalt", &mut tag)?;
-        let taken = begun.elapsed(self.clock).or(Err(Failure::Clock))?;
-        Ok(u64::try_from(taken.as_micros()).unwrap_or(u64::MAX))
+        let begun = Instant::now(self.clock).or(Err(NO_CLOCK))?;
+        match argon2.hash_password_into(self.alloc, b"password", b"somesaltsomesalt", &mut tag) {
+            Ok(()) => {}
+            Err(argon2::Error::OutOfMemory) => return Ok(None),
+            Err(_) => return Err(REFUSED),
+        }
+        let taken = begun.elapsed(self.clock).or(Err(NO_CLOCK))?;
+        Ok(Some(u64::try_from(taken.as_micros()).unwrap_or(u64::MAX)))
     }
 }
 
@@ -62,12 +72,15 @@ impl<C: Clock> Stopwatch for Machine<'_, C> {
     // Only valid costs have a time.
     ghost may_take = { λ lanes m_cost t_cost _. AreValid (plain m_cost t_cost lanes None) };
 
-    fn times(&mut self, lanes: u32, m_cost: u32, t_cost: u32) -> Result<[u64; 3], Failure> {
-        let argon2 = argon2id(lanes, m_cost, t_cost)?;
-        Ok([
+    fn times(&mut self, lanes: u32, m_cost: u32, t_cost: u32) -> Result<Option<[u64; 3]>, Failure> {
+        let argon2 = argon2id(lanes, m_cost, t_cost).or(Err(REFUSED))?;
+        let (Some(a), Some(b), Some(c)) = (
             self.time(&argon2)?,
             self.time(&argon2)?,
             self.time(&argon2)?,
-        ])
+        ) else {
+            return Ok(None);
+        };
+        Ok(Some([a, b, c]))
     }
 }

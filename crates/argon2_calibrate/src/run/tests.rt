@@ -1,6 +1,7 @@
 use super::run;
-use crate::failure::Failure;
+use crate::options::Options;
 use crate::stopwatch::{Machine, Stopwatch};
+use argon2_commands::{Failure, answer};
 use std::alloc::{AllocError, Global};
 use std::io;
 use std::io::{ErrorKind, Write};
@@ -17,15 +18,20 @@ struct Even {
 }
 
 impl Stopwatch for Even {
-    fn times(&mut self, _lanes: u32, m_cost: u32, t_cost: u32) -> Result<[u64; 3], Failure> {
+    fn times(
+        &mut self,
+        _lanes: u32,
+        m_cost: u32,
+        t_cost: u32,
+    ) -> Result<Option<[u64; 3]>, Failure> {
         let blocks = u64::from(m_cost).saturating_mul(u64::from(t_cost));
         let taken = (blocks.saturating_mul(self.a_block) / 1000).saturating_add(self.once);
         let close = taken.saturating_add(taken / 4);
         if self.busy == 0 {
-            return Ok([close, taken, taken]);
+            return Ok(Some([close, taken, taken]));
         }
         self.busy -= 1;
-        Ok([close, taken, close.saturating_add(1)])
+        Ok(Some([close, taken, close.saturating_add(1)]))
     }
 }
 
@@ -34,22 +40,35 @@ impl Stopwatch for Even {
 struct Uneven(u64);
 
 impl Stopwatch for Uneven {
-    fn times(&mut self, _lanes: u32, _m_cost: u32, t_cost: u32) -> Result<[u64; 3], Failure> {
+    fn times(
+        &mut self,
+        _lanes: u32,
+        _m_cost: u32,
+        t_cost: u32,
+    ) -> Result<Option<[u64; 3]>, Failure> {
         if t_cost == 2 {
-            return Ok([self.0, self.0.saturating_mul(2), self.0]);
+            return Ok(Some([self.0, self.0.saturating_mul(2), self.0]));
         }
         let taken = u64::from(t_cost).saturating_mul(10_000);
-        Ok([taken, taken, taken])
+        Ok(Some([taken, taken, taken]))
     }
 }
 
-// A machine without memory.
+// A machine with so many blocks of memory, on which each hash takes a millisecond.
 #[derive(Drop)]
-struct Full;
+struct Full(u32);
 
 impl Stopwatch for Full {
-    fn times(&mut self, _lanes: u32, _m_cost: u32, _t_cost: u32) -> Result<[u64; 3], Failure> {
-        Err(Failure::Memory(AllocError))
+    fn times(
+        &mut self,
+        _lanes: u32,
+        m_cost: u32,
+        _t_cost: u32,
+    ) -> Result<Option<[u64; 3]>, Failure> {
+        if m_cost > self.0 {
+            return Ok(None);
+        }
+        Ok(Some([1000, 1000, 1000]))
     }
 }
 
@@ -89,7 +108,10 @@ fn run_words<S: Stopwatch, W: Write, E: Write>(
     for word in words.split(' ') {
         args.push(String::from_str(alloc, word)?)?;
     }
-    Ok(run(args.as_slice(), stopwatch, output, errors))
+    Ok(match Options::parsed(alloc, args.as_slice()) {
+        Ok(options) => run(alloc, options, stopwatch, output, errors),
+        Err(error) => answer(super::PROGRAM, &error, output, errors),
+    })
 }
 
 // A pass over 64 MiB takes 65.5 ms, and 1000 ms have room for 15 of them; 20 ms have room for 2 passes over 8 MiB or
@@ -101,7 +123,7 @@ fn takes_the_most_memory_and_then_the_most_passes(rt: HostRuntime) -> Result<(),
         (
             "--json --lanes 4 0.02",
             1000,
-            "{\"m\":8192,\"t\":2,\"p\":4,\"seconds\":0.017,\"busy\":false}\n",
+            "{\"m\":8192,\"t\":2,\"p\":4,\"microseconds\":17384,\"busy\":false}\n",
         ),
         (
             "1",
@@ -234,13 +256,13 @@ the machine was busy: times may be too long\n",
             "--json 0.07",
             100,
             8,
-            "{\"m\":65536,\"t\":1,\"p\":1,\"seconds\":0.065,\"busy\":true}\n",
+            "{\"m\":65536,\"t\":1,\"p\":1,\"microseconds\":65536,\"busy\":true}\n",
         ),
         (
             "--json 0.04",
             5,
             4,
-            "{\"m\":16384,\"t\":2,\"p\":1,\"seconds\":0.032,\"busy\":true}\n",
+            "{\"m\":16384,\"t\":2,\"p\":1,\"microseconds\":32768,\"busy\":true}\n",
         ),
     ] {
         let mut stopwatch = Even {
@@ -264,50 +286,58 @@ the machine was busy: times may be too long\n",
     Ok(())
 }
 
+// What is wrong with words is named, with the argument and the value.
 #[test]
-fn prints_its_usage_where_arguments_are_of_no_form(rt: HostRuntime) -> Result<(), Fail> {
-    for words in [
-        "0 64",
-        "0.000 64",
-        "1. 64",
-        ".5 64",
-        "1.0000 64",
-        "1.x 64",
-        "1e3 64",
-        "-1 64",
-        "3600.001 64",
-        "1 0",
-        "1 064",
-        "1 4194304",
-        "1 64 1",
-        "",
-        "-h 1",
-        "--help 1",
-        "--version 1",
-        "--min-t",
-        "--min-t 1",
-        "--min-t 0 1",
-        "--min-t 4294967296 1",
-        "--lanes 1",
-        "--lanes 0 1",
-        "--lanes 16777216 1 4194303",
-        "--lanes 8193 1 64",
-        "--json",
-        "1 --json",
-        "--json --help",
-        "--passes 2 1",
-        "1 --lanes 2",
+fn says_which_argument_is_wrong(rt: HostRuntime) -> Result<(), Fail> {
+    for (words, said) in [
+        (
+            "0",
+            "error: invalid value '0' for '<SECONDS>': it is not in 0.001..=3600\n",
+        ),
+        (
+            "nan",
+            "error: invalid value 'nan' for '<SECONDS>': it is not in 0.001..=3600\n",
+        ),
+        (
+            "3600.001",
+            "error: invalid value '3600.001' for '<SECONDS>': it is",
+        ),
+        (
+            "x",
+            "error: invalid value 'x' for '<SECONDS>': invalid float literal\n",
+        ),
+        (
+            "1 0",
+            "error: invalid value '0' for '[MEBIBYTES]': 0 is not in 1..=4194303\n",
+        ),
+        ("1 64 1", "error: unexpected argument '1' found\n"),
+        ("", "error: "),
+        (
+            "1 --min-t",
+            "error: a value is required for '--min-t <N>' but none was supplied\n",
+        ),
+        (
+            "--min-t=0 1",
+            "error: invalid value '0' for '--min-t <N>': 0 is not in 1..=4294967295\n",
+        ),
+        (
+            "1 --lanes 16777216",
+            "error: invalid value '16777216' for '--lanes <N>': 16777216 is",
+        ),
+        (
+            "1 --lanes 8193 64",
+            "error: invalid value '8193' for '--lanes <N>': the memory has",
+        ),
+        (
+            "--passes 2 1",
+            "error: unexpected argument '--passes' found\n",
+        ),
     ] {
         let (mut output, mut errors) = (Vec::new(rt.alloc()), Vec::new(rt.alloc()));
-        let status = run_words(rt.alloc(), words, &mut Full, &mut output, &mut errors)?;
-        assert_eq!(rt;
-            errors.as_slice(),
-            b"usage: argon2-calibrate [--min-t N] [--lanes N] [--json] SECONDS [MEBIBYTES]
-       argon2-calibrate -h | --help | --version\n"
-                .as_slice()
-        );
-        assert_eq!(rt; output.len(), 0);
-        assert_eq!(rt; status, 2);
+        let status = run_words(rt.alloc(), words, &mut Full(0), &mut output, &mut errors)?;
+        let printed = str::from_utf8(errors.as_slice()).unwrap_or("");
+        assert!(rt; printed.starts_with(said), "{printed}");
+        assert_eq!(rt; (output.len(), status), (0, 2));
     }
     Ok(())
 }
@@ -315,32 +345,38 @@ fn prints_its_usage_where_arguments_are_of_no_form(rt: HostRuntime) -> Result<()
 #[test]
 fn reports_what_fails(rt: HostRuntime) -> Result<(), Fail> {
     let (mut output, mut errors) = (Vec::new(rt.alloc()), Vec::new(rt.alloc()));
-    let status = run_words(rt.alloc(), "3600.000", &mut Full, &mut output, &mut errors)?;
-    assert_eq!(rt;
-        errors.as_slice(),
-        b"argon2-calibrate: out of memory\n".as_slice()
-    );
-    assert_eq!(rt; (output.len(), status), (0, 1));
-    for word in ["--help", "0.001"] {
-        let mut stopwatch = Even {
-            a_block: 0,
-            once: 1,
-            busy: 0,
-        };
+    let status = run_words(rt.alloc(), "1", &mut Full(4095), &mut output, &mut errors)?;
+    let said = str::from_utf8(errors.as_slice()).unwrap_or("");
+    assert!(rt; said.starts_with("argon2-calibrate: m=65536 is out of memory, trying half\n"));
+    assert!(rt; output.as_slice().starts_with(b"m=2048,t="));
+    assert_eq!(rt; status, 0);
+    for (words, blocks, calls, said) in [
+        ("1 1", 7, 9, "argon2-calibrate: out of memory\n"),
+        (
+            "--help",
+            7,
+            0,
+            "argon2-calibrate: standard output: other error\n",
+        ),
+        (
+            "0.001",
+            65536,
+            0,
+            "argon2-calibrate: standard output: other error\n",
+        ),
+    ] {
         let mut errors = Vec::new(rt.alloc());
+        let mut output = Failing(calls);
         let status = run_words(
             rt.alloc(),
-            word,
-            &mut stopwatch,
-            &mut Failing(0),
+            words,
+            &mut Full(blocks),
+            &mut output,
             &mut errors,
         )?;
-        assert!(rt;
-            errors
-                .as_slice()
-                .ends_with(b"argon2-calibrate: standard output can't be written\n")
-        );
-        assert_eq!(rt; status, 1);
+        let printed = str::from_utf8(errors.as_slice()).unwrap_or("");
+        assert!(rt; printed.ends_with(said), "{printed}");
+        assert_eq!(rt; status, 3);
     }
     Ok(())
 }
@@ -350,7 +386,9 @@ fn reports_what_fails(rt: HostRuntime) -> Result<(), Fail> {
 fn measures_this_machine(rt: HostRuntime) -> Result<(), Fail> {
     let mut machine = Machine::new(rt.alloc(), &rt);
     assert!(rt; machine.times(2, 15, 1).is_err());
-    let [short, long] = [machine.times(1, 8, 1)?, machine.times(1, 4096, 4)?];
+    let (Some(short), Some(long)) = (machine.times(1, 8, 1)?, machine.times(1, 4096, 4)?) else {
+        return Err(Fail::from("out of memory"));
+    };
     assert!(rt;
         long.iter().min() > short.iter().min(),
         "{short:?} {long:?}"

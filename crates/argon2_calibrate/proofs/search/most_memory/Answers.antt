@@ -1,15 +1,25 @@
-use Rattle.std.proofs.Common.{arith}
+use Rattle.std.proofs.Common.{arith, inl, inr}
+use Rattle.argon2_calibrate.specs.Choice.{IsTooMuch}
 use Rattle.argon2_calibrate.proofs.Halving.{halved_more}
+use Rattle.argon2_calibrate.proofs.search.most_memory.Goals.{in-Some+else-choice-options, in-None}
 use Rattle.argon2_calibrate.proofs.search.most_memory.Goals as goal
 
-pub loop-time-preserved : goal.loop-time-preserved
-loop-time-preserved g c =
-    let (held, fits, some, least, took, so) = c.loop-time.invariant in (
-      omega arith,
-      omega arith,
-      c.least_passes-t_cost-in-loop-time.ensures.some,
-      c.least_passes-t_cost-in-loop-time.ensures.value,
-      c.in_ok-again.ensures.time,
-      halved_more (g.S.Stopwatch.may_take c.args.options.lanes) c.args.options c.loop-time.m_cost c.loop-time.time so
-          (rw least at took) (omega arith),
-    )
+pub loop-m_cost-preserved : goal.loop-m_cost-preserved
+loop-m_cost-preserved g c =
+    let Takes = g.S.Stopwatch.may_take c.args.options.lanes in
+    let m_cost = c.loop-m_cost.m_cost in
+    let (some, affordable, so) = c.loop-m_cost.invariant in
+    let enough = c.loop-m_cost-test.true in
+    let too_much : IsTooMuch Takes c.args.options m_cost = elim c.match-branch-2.branch [
+      | in-Some+else-choice-options w ↦
+          let measured = rw w.in-Some.is at c.in_ok-choice.ensures in
+          inr (
+            w.in-Some.choice,
+            measured.0,
+            rw (← c.least_passes.ensures.value) measured.1,
+            measured.2,
+            w.if-choice-options.false,
+          )
+      | in-None w ↦ inl (rw (← c.least_passes.ensures.value) (rw w.in-None.is at c.in_ok-choice.ensures))
+    ] in
+    (omega arith, omega arith, halved_more Takes c.args.options m_cost so too_much)

@@ -1,0 +1,8 @@
+-- The pages of a program.
+use Rattle.std.specs.Prelude.{◌≡◌, ◌⊎◌}
+use Rattle.clap.specs.declared.error.kind.ErrorKind.{ErrorKind}
+use Rattle.clap.specs.declared.error.kind.ErrorKind.TheVariants.{DisplayHelp, DisplayVersion}
+
+-- the help or the version was asked for
+abbrev pub IsPage : ErrorKind → Type 0
+IsPage kind = (kind ≡ DisplayHelp) ⊎ (kind ≡ DisplayVersion)

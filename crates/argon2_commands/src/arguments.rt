@@ -1,0 +1,78 @@
+//! The words of a command line, and what is written if they ask for no work.
+
+ghost use Rattle.std.specs.Prelude.{◌≡◌, ◌⊎◌};
+ghost use Rattle.std.specs.Io.KnownBytes.{Keeps};
+ghost use Rattle.clap.specs.Words.{kind_of};
+ghost use Rattle.argon2_commands.specs.Pages.{IsPage};
+
+use crate::failure::Failure;
+use clap::error::ErrorKind;
+use clap::{Command, Error};
+use std::alloc::{AllocError, Global};
+use std::io::Write;
+use std::{env, io};
+
+/// The words of the command line after the name of the program.
+///
+/// # Errors
+/// A word that is not UTF-8, and out of memory.
+pub fn words(rt: &HostRuntime, program: &str) -> Result<Vec<String>, Error> {
+    let alloc = rt.alloc();
+    match env::args(rt) {
+        Ok(words) => Ok(words.skip(1).collect(alloc)?),
+        Err(error) if error.kind() == io::ErrorKind::OutOfMemory => Err(AllocError.into()),
+        Err(_) => Err(Command::new(alloc, program).error(
+            ErrorKind::InvalidValue,
+            "an argument is not UTF-8",
+        )?),
+    }
+}
+
+/// Writes a page that the words ask for to `output`, or what is wrong with the words to `errors`.
+///
+/// The status is 0 for a page, 2 for wrong words, and 3 if memory is refused or the page can't be written. If `errors`
+/// can't be written, the status stays.
+pub fn answer<W: Write, E: Write>(
+    program: &str,
+    error: &Error,
+    output: &mut W,
+    errors: &mut E,
+) -> u8
+    ensures status { (result ≡ 0) ⊎ (result ≡ 2) ⊎ (result ≡ 3) }
+    ensures page { result ≡ 0 → IsPage (kind_of error.now) }
+    ensures wrong { result ≡ 2 → ¬ IsPage (kind_of error.now) }
+    ensures unwritten { result ≡ 2 → Keeps (W.contents output.old) (W.contents output.new) }
+{
+    match error.kind() {
+        ErrorKind::DisplayHelp | ErrorKind::DisplayVersion => match page(error, output) {
+            Ok(()) => 0,
+            Err(failed) => Failure::Output(failed).report(program, "", errors),
+        },
+        ErrorKind::OutOfMemory => Failure::Memory(AllocError).report(program, "", errors),
+        _ => {
+            let _ = write!(errors, "{error}");
+            2
+        }
+    }
+}
+
+// Writes the text of an error as a page.
+fn page<W: Write>(error: &Error, output: &mut W) -> io::Result<()> {
+    write!(output, "{error}")?;
+    output.flush()
+}
+
+/// The error of a value that an argument does not take, in the form of clap's own.
+///
+/// # Errors
+/// Out of memory.
+pub fn invalid(
+    command: &mut Command<'_>,
+    alloc: Global,
+    argument: &str,
+    value: &str,
+    why: &str,
+) -> Result<Error, AllocError> {
+    let message = format!(in alloc; "invalid value '{value}' for '{argument}': {why}")?;
+    command.error(ErrorKind::ValueValidation, message.as_str())
+}
