@@ -1,5 +1,5 @@
 -- Names with texts: what stores of them share, and what an accepted login leaves of a text.
-use Rattle.std.specs.Prelude.{◌≡◌, ◌≢◌, ℕ, List, [], ◌∷◌, map, String, string_bytes, Option, None, Result, Ok}
+use Rattle.std.specs.Prelude.{◌≡◌, ◌≢◌, ℕ, List, [], ◌∷◌, map, String, string_bytes, Option, Some, None, Result, Ok, Err}
 use Rattle.std.specs.BTreeMap.{BTreeMap}
 use Rattle.std.specs.Cmp.Lexicographic.{slice_cmp}
 use Rattle.std.specs.FinMap.{FinMap, from_entries, get, insert}
@@ -11,6 +11,7 @@ use Rattle.argon2_base.specs.PhcText.{Phc, PhcText}
 use Rattle.argon2_base.specs.declared.phc.hash.PasswordHash.{PasswordHash}
 use Rattle.argon2.specs.declared.login.answers.Accepted.{Accepted}
 use Rattle.argon2.specs.declared.login.answers.Accepted.TheVariants.{Current, Kept, Rehashed}
+use Rattle.argon2.specs.declared.login.answers.LoggedIn.{LoggedIn}
 use Rattle.argon2.specs.Made.{IsFresh, Target, sized}
 use Rattle.argon2.specs.Stored.{shown_settings}
 
@@ -57,6 +58,16 @@ abbrev pub Leaves : Target → List ℕ → List ℕ → Phc → Accepted → Ph
 Leaves target password drawn v Current w = IsCurrent target v × (w ≡ v)
 Leaves target password drawn v Rehashed w = ¬ (IsCurrent target v) × IsFresh target password drawn w
 Leaves target password drawn v Kept w = ¬ (IsCurrent target v) × (w ≡ v)
+
+-- the value after a call that made a fresh text for it, or none
+abbrev pub value_after : Phc → Option PasswordHash → Phc
+value_after v (Some fresh) = phc_of fresh
+value_after v None = v
+
+-- what a login answers, without the fresh text
+abbrev pub accepted_by : {E : Type 0} → Result LoggedIn E → Result Accepted E
+accepted_by (Ok done) = Ok done.accepted
+accepted_by (Err e) = Err e
 
 -- what the generator has left: a text is made anew of 16 bytes, also where it is not kept
 abbrev pub stream_after : {E : Type 0} → Result Accepted E → Stream → Stream

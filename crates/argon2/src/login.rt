@@ -26,7 +26,7 @@ mod answers;
 mod runs;
 mod target;
 
-pub use answers::{Accepted, LoginError};
+pub use answers::{Accepted, LoggedIn, LoginError};
 pub use runs::login_runs;
 pub use target::Target;
 
@@ -118,7 +118,7 @@ impl<'key> Login<'key> {
         let Some(text) = self.texts.get_mut(name) else {
             return Err(LoginError::NameUnknown);
         };
-        self.target.log_in(self.alloc, rng, text, password)
+        self.target.log_in_text(self.alloc, rng, text, password)
     }
 
     /// The text of a name, where it has one.

@@ -23,7 +23,7 @@ use Rattle.argon2.specs.declared.bound.Bound.{Bound}
 use Rattle.argon2.specs.declared.login.answers.Accepted.{Accepted}
 use Rattle.argon2.specs.declared.login.answers.Accepted.TheVariants.{Current, Kept, Rehashed}
 use Rattle.argon2.specs.declared.version.Version.{Version}
-use Rattle.argon2_accounts.specs.Accounts.{Adds, Admits, AreTerms, Denial, HasPassword, IsAbove, MakingRefusal, OnValue, RegisteringRefusal, Registers, Sets, Terms, stream_after_making}
+use Rattle.argon2_accounts.specs.Accounts.{Adds, Admits, AreTerms, ChangeRefusal, Denial, HasPassword, IsAbove, MakingRefusal, OnValue, RegisteringRefusal, Registers, Sets, Terms, stream_after_making}
 use Rattle.argon2.specs.NamedTexts.{IsCurrent, IsText, KeepsOthers, Leaves, Store, values_of}
 use Rattle.argon2.specs.Bound.{AsksWithin, IsWithin}
 use Rattle.argon2.specs.Made.{IsFresh}
@@ -116,6 +116,17 @@ pub passed : {X E : Type 0} (P : X → Type 0) (Q : E → Type 0) (e : E) (r : R
 passed P Q e (Ok x) is why = absurd is
 passed P Q e (Err f) is why = rw is why
 
+pub err_is : {X E : Type 0} (r : Result X E) (e : E) → IsErrAnd r (λ f. f ≡ e) → r ≡ Err e
+err_is (Ok x) e is = absurd is
+err_is (Err f) e is = ap Err is
+
+-- what changing a password answers once the old one is accepted
+pub changes : (terms : Terms) (old password drawn : List ℕ) (v : Phc) (r : Result PasswordHash AccountError)
+    → Admits terms old v → MatchResult r (λ h. IsFresh terms.target password drawn (phc_of h)) (MakingRefusal password)
+    → MatchResult r (λ h. Admits terms old v × IsFresh terms.target password drawn (phc_of h)) (ChangeRefusal terms old password v)
+changes terms old password drawn v (Ok h) admits fresh = (admits, fresh)
+changes terms old password drawn v (Err e) admits why = inr (admits, why)
+
 -- ---- a name's value
 
 pub on_value : {X : Type 0} (changes : Phc → Result X AccountError → Phc → Type 0) (o p : Option Phc) (v w : Phc)
@@ -180,10 +191,16 @@ module _ (terms : Terms) (password drawn : List ℕ) where
   registers before after name v (Err e) fresh none is =
       (rw (none, is.0) (inl refl), ap (λ m. get m name) is.1)
 
-  pub not_set : (v : Phc) (e : AccountError) (r : Result (Unit {0}) AccountError)
-      → IsErrAnd r (λ f. f ≡ e) → MakingRefusal password e → Sets terms password drawn v r v
-  not_set v e (Ok x) is why = absurd is
-  not_set v e (Err f) is why = rw is (why, refl)
+  pub not_set : (o : Option Phc) (e : AccountError) (r : Result (Unit {0}) AccountError) → IsSome o
+      → IsErrAnd r (λ f. f ≡ e) → MakingRefusal password e → OnValue (Sets terms password drawn) o r o
+  not_set None e r has is why = absurd cc
+  not_set (Some v) e (Ok x) has is why = absurd is
+  not_set (Some v) e (Err f) has is why = rw is (why, refl)
+
+  pub sets : (o p : Option Phc) (w : Phc) → IsSome o → p ≡ Some w → IsFresh terms.target password drawn w
+      → OnValue (Sets terms password drawn) o (Ok tt) p
+  sets None p w had has fresh = absurd cc
+  sets (Some v) p w had has fresh = rw has fresh
 
 pub inserted_has : (terms : Terms) (before after : Store) (name password : List ℕ) (v : Phc)
     (r : Result (Unit {0}) AccountError) → Admits terms password v → Inserts before after name v r

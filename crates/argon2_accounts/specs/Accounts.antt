@@ -91,11 +91,14 @@ abbrev pub Sets : Terms → List ℕ → List ℕ → Phc → Result (Unit {0}) 
 Sets terms password drawn v (Ok _) w = IsFresh terms.target password drawn w
 Sets terms password drawn v (Err e) w = MakingRefusal password e × (w ≡ v)
 
--- what changing a password answers, and what it makes of the value: the old one is verified first
+-- why a password is not changed: the old one is verified first
+abbrev pub ChangeRefusal : Terms → List ℕ → List ℕ → Phc → AccountError → Type 0
+ChangeRefusal terms old password v e = Denial terms old v e ⊎ (Admits terms old v × MakingRefusal password e)
+
+-- what changing a password answers, and what it makes of the value
 abbrev pub Changes : Terms → List ℕ → List ℕ → List ℕ → Phc → Result (Unit {0}) AccountError → Phc → Type 0
 Changes terms old password drawn v (Ok x) w = Admits terms old v × Sets terms password drawn v (Ok x) w
-Changes terms old password drawn v (Err e) w =
-    (Denial terms old v e ⊎ (Admits terms old v × MakingRefusal password e)) × (w ≡ v)
+Changes terms old password drawn v (Err e) w = ChangeRefusal terms old password v e × (w ≡ v)
 
 -- ---- a call, its answer, and the value of its name
 
@@ -231,8 +234,8 @@ stream_after_making (Err NameUnknown) stream = stream
 stream_after_making _ stream = (fill_bytes 16 stream).1
 
 -- after a change of this value or none: 16 bytes are drawn once the old password is accepted, and nothing where it is denied
-abbrev pub DrawsOnce :
-    Terms → List ℕ → Option Phc → Result (Unit {0}) AccountError → Stream → Stream → Type 0
+abbrev pub DrawsOnce : {X : Type 0}
+    → Terms → List ℕ → Option Phc → Result X AccountError → Stream → Stream → Type 0
 DrawsOnce terms password None answer old new = new ≡ old
 DrawsOnce terms password (Some v) answer old new =
     (Admits terms password v × (new ≡ (fill_bytes 16 old).1))

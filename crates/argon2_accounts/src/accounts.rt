@@ -1,7 +1,7 @@
 //! Names with passwords, in memory. Names are registered and removed, and passwords verified, changed
 //! and set anew.
 
-ghost use Rattle.std.specs.Prelude.{◌≡◌, ◌≢◌, ◌⊎◌, ◌↔◌, Err, Some, IfOk, IsTrue, OnOk, MatchResult, length};
+ghost use Rattle.std.specs.Prelude.{◌≡◌, ◌≢◌, ◌⊎◌, ◌↔◌, Err, Some, IsSome, IfOk, IsTrue, OnOk, MatchResult, length};
 ghost use Rattle.std.specs.FinMap.{empty, entries, get};
 ghost use Rattle.std.specs.Option.{IsSomeAnd, option_copied, option_map};
 ghost use Rattle.rand_core.specs.Stream.{fill_bytes};
@@ -18,7 +18,7 @@ use crate::error::AccountError;
 use crate::policy::Policy;
 use argon2::Argon2;
 use argon2::bound::Bound;
-use argon2::login::Accepted;
+use argon2::login::{Accepted, LoggedIn};
 use argon2::password_hash::Error;
 use argon2_base::phc::PasswordHash;
 use rand_core::Rng;
@@ -123,10 +123,15 @@ impl<'key> Accounts<'key> {
         ensures drawn { R.stream rng.new ≡ stream_after result (R.stream rng.old) }
         ensures terms { kept_terms self.new ≡ kept_terms self.old }
     {
-        let Some(text) = self.texts.get_mut(name) else {
+        let Some(text) = self.texts.get(name) else {
             return Err(AccountError::NameUnknown);
         };
-        self.policy.log_in(rng, text, password)
+        let LoggedIn { accepted, fresh } = self.policy.log_in(rng, text, password)?;
+        let Some(fresh) = fresh else {
+            return Ok(accepted);
+        };
+        self.replace(name, fresh);
+        Ok(accepted)
     }
 
     /// Gives a name a text of a new password where its text accepts the old one, as
@@ -152,10 +157,12 @@ impl<'key> Accounts<'key> {
             (get (store_of self.old) name.now) result (R.stream rng.old) (R.stream rng.new) }
         ensures terms { kept_terms self.new ≡ kept_terms self.old }
     {
-        let Some(text) = self.texts.get_mut(name) else {
+        let Some(text) = self.texts.get(name) else {
             return Err(AccountError::NameUnknown);
         };
-        self.policy.change_password(rng, text, old, new)
+        let fresh = self.policy.change_password(rng, text, old, new)?;
+        self.replace(name, fresh);
+        Ok(())
     }
 
     /// Gives a name a text of a new password, whatever text it had, as [`Policy::hash_password`]
@@ -179,10 +186,11 @@ impl<'key> Accounts<'key> {
         ensures drawn { R.stream rng.new ≡ stream_after_making result (R.stream rng.old) }
         ensures terms { kept_terms self.new ≡ kept_terms self.old }
     {
-        let Some(text) = self.texts.get_mut(name) else {
+        if !self.texts.contains_key(name) {
             return Err(AccountError::NameUnknown);
-        };
-        *text = self.policy.hash_password(rng, new)?;
+        }
+        let fresh = self.policy.hash_password(rng, new)?;
+        self.replace(name, fresh);
         Ok(())
     }
 
@@ -245,5 +253,18 @@ impl<'key> Accounts<'key> {
             return Err(AccountError::Refused(Error::OutOfMemory));
         };
         Ok(())
+    }
+
+    // Writes a text over the one that a name has.
+    fn replace(&mut self, name: &str, text: PasswordHash)
+        requires { IsSome (get (store_of self.old) name.now) }
+        ensures replaced { get (store_of self.new) name.now ≡ Some (phc_of text) }
+        ensures others { KeepsOthers name.now (store_of self.old) (store_of self.new) }
+        ensures terms { kept_terms self.new ≡ kept_terms self.old }
+    {
+        let Some(place) = self.texts.get_mut(name) else {
+            unreachable!();
+        };
+        *place = text;
     }
 }

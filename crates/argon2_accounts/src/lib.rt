@@ -7,8 +7,8 @@
 //! ```
 //!
 //! A text that asks for more than a bound accepts no password, and old texts are renewed at a login.
-//! [`Accounts`] keeps names with texts in memory. [`Policy`] does the same to a text that is kept
-//! elsewhere.
+//! [`Accounts`] keeps names with texts in memory. [`Policy`] has the calls on one text, and returns
+//! the text to be stored, for a caller that keeps texts elsewhere.
 #![tactic(auto)]
 
 mod accounts;

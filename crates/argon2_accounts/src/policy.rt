@@ -7,7 +7,7 @@ ghost use Rattle.argon2.specs.Login.{target_value};
 use crate::error::AccountError;
 use argon2::Argon2;
 use argon2::bound::Bound;
-use argon2::login::{Accepted, Target};
+use argon2::login::{LoggedIn, Target};
 use argon2::password_hash::Stored;
 use argon2_base::phc::PasswordHash;
 use rand_core::Rng;
@@ -24,15 +24,17 @@ pub struct Policy<'key> {
 }
 
 impl<'key> Policy<'key> {
-    ghost use Rattle.std.specs.Prelude.{◌≡◌, ◌≢◌, ◌⊎◌, ◌↔◌, Some, Ok, Err, IsTrue, IfOk, OnOk, MatchResult};
+    ghost use Rattle.std.specs.Prelude.{◌≡◌, ◌≢◌, ◌⊎◌, ◌↔◌, ℕ, List, Some, Ok, Err, IsSome, IfOk, MatchResult};
     ghost use Rattle.rand_core.specs.Stream.{fill_bytes};
     ghost use Rattle.argon2_base.specs.PhcFields.{phc_of};
     ghost use Rattle.argon2_base.specs.declared.error.password_hash.Error.TheVariants.{OutOfMemory};
     ghost use Rattle.argon2_accounts.specs.declared.error.AccountError.TheVariants.{Refused, TooExpensive};
-    ghost use Rattle.argon2.specs.declared.login.answers.Accepted.TheVariants.{Kept};
-    ghost use Rattle.argon2_accounts.specs.Accounts.{Admits, Changes, Denial, DrawsOnce, IsAbove, IsNewPolicy, LogsIn, MakingRefusal, terms_of};
-    ghost use Rattle.argon2.specs.NamedTexts.{IsCurrent, stream_after};
+    ghost use Rattle.argon2.specs.declared.login.answers.Accepted.TheVariants.{Kept, Rehashed};
+    ghost use Rattle.argon2_accounts.specs.Accounts.{Admits, ChangeRefusal, Denial, DrawsOnce, IsAbove, IsNewPolicy, LogsIn, MakingRefusal, terms_of};
+    ghost use Rattle.argon2.specs.NamedTexts.{IsCurrent, accepted_by, stream_after, value_after};
+    ghost use Rattle.argon2.specs.Bound.{AsksWithin};
     ghost use Rattle.argon2.specs.Made.{IsFresh, target_of};
+    ghost use Rattle.argon2.specs.Stored.{stored_of, stored_value};
 
     /// A policy of a target and a bound. Its calls allocate from `alloc`; this one allocates nothing.
     ///
@@ -85,14 +87,14 @@ impl<'key> Policy<'key> {
     }
 
     /// Verifies a password against a text that asks for no more than the bound, under the target's
-    /// secret. Where the text accepts the password and has other settings than the target, a fresh
-    /// one is made of the password, as by [`hash_password`](Policy::hash_password), and written over
-    /// it. [`Accepted`] says what was done.
+    /// secret. If the text accepts the password and has other settings than the target, a fresh one
+    /// is made of the password, as by [`hash_password`](Policy::hash_password). The caller stores it
+    /// over the old one.
     ///
     /// Nothing is drawn but for a fresh text; then 16 bytes are, even if there is no memory for it.
     ///
     /// # Errors
-    /// The text is then as before:
+    /// The first of these that holds:
     /// - [`AccountError::TooExpensive`]: the text can be read, and a cost is above the bound's,
     ///   whatever memory there is.
     /// - [`AccountError::Refused`] with the reason: the text can't be verified, or does not accept the
@@ -100,61 +102,63 @@ impl<'key> Policy<'key> {
     pub fn log_in<R: Rng>(
         &self,
         rng: &mut R,
-        text: &mut PasswordHash,
+        text: &PasswordHash,
         password: &[u8],
-    ) -> Result<Accepted, AccountError>
-        ensures step { LogsIn (terms_of self.now) password.now
-            (fill_bytes 16 (R.stream rng.old)).0 (phc_of text.old) result (phc_of text.new) }
-        ensures accepted { MatchResult result
-            (λ _. Admits (terms_of self.now) password.now (phc_of text.new))
-            (λ e. (e ≡ Refused OutOfMemory)
-            ⊎ ¬ (Admits (terms_of self.now) password.now (phc_of text.old))) }
-        ensures current { IfOk result (λ accepted. accepted ≢ Kept →
-            IsCurrent (terms_of self.now).target (phc_of text.new)) }
-        ensures expensive { IsAbove (terms_of self.now).bound (phc_of text.old)
+    ) -> Result<LoggedIn, AccountError>
+        ensures step { let v = phc_of text.now in MatchResult result
+            (λ done. LogsIn (terms_of self.now) password.now (fill_bytes 16 (R.stream rng.old)).0 v
+            (Ok done.accepted) (value_after v done.fresh))
+            (Denial (terms_of self.now) password.now v) }
+        ensures fresh { IfOk result (λ done. IsSome done.fresh ↔ (done.accepted ≡ Rehashed)) }
+        ensures accepted { let v = phc_of text.now in MatchResult result
+            (λ done. Admits (terms_of self.now) password.now (value_after v done.fresh))
+            (λ e. (e ≡ Refused OutOfMemory) ⊎ ¬ (Admits (terms_of self.now) password.now v)) }
+        ensures current { IfOk result (λ done. done.accepted ≢ Kept →
+            IsCurrent (terms_of self.now).target (value_after (phc_of text.now) done.fresh)) }
+        ensures expensive { IsAbove (terms_of self.now).bound (phc_of text.now)
             → result ≡ Err TooExpensive }
-        ensures drawn { R.stream rng.new ≡ stream_after result (R.stream rng.old) }
+        ensures drawn { R.stream rng.new ≡ stream_after (accepted_by result) (R.stream rng.old) }
     {
-        if self.verify(text, password)? {
-            return Ok(Accepted::Current);
-        }
-        Ok(self.target.renew(self.alloc, rng, text, password))
+        let stored = self.admitted(text)?;
+        Ok(self.target.log_in(self.alloc, rng, password, &stored)?)
     }
 
-    /// Writes a fresh text of a new password over a text that asks for no more than the bound and
-    /// accepts the old password. 16 bytes are drawn once the old password is accepted, and else
-    /// nothing is.
+    /// A fresh text of a new password, which the caller stores over a text that asks for no more than
+    /// the bound and accepts the old password. 16 bytes are drawn once the old password is accepted,
+    /// and else nothing is.
     ///
     /// # Errors
-    /// The text is then as before:
+    /// The first of these that holds:
     /// - those of [`log_in`](Policy::log_in) with the old password.
     /// - those of [`hash_password`](Policy::hash_password) with the new one.
     pub fn change_password<R: Rng>(
         &self,
         rng: &mut R,
-        text: &mut PasswordHash,
+        text: &PasswordHash,
         old: &[u8],
         new: &[u8],
-    ) -> Result<(), AccountError>
-        ensures step { Changes (terms_of self.now) old.now new.now
-            (fill_bytes 16 (R.stream rng.old)).0 (phc_of text.old) result (phc_of text.new) }
-        ensures accepted { OnOk result (Admits (terms_of self.now) new.now (phc_of text.new)) }
-        ensures expensive { IsAbove (terms_of self.now).bound (phc_of text.old)
+    ) -> Result<PasswordHash, AccountError>
+        ensures made { MatchResult result
+            (λ fresh. Admits (terms_of self.now) old.now (phc_of text.now)
+            × IsFresh (terms_of self.now).target new.now (fill_bytes 16 (R.stream rng.old)).0
+            (phc_of fresh))
+            (ChangeRefusal (terms_of self.now) old.now new.now (phc_of text.now)) }
+        ensures accepted { IfOk result (λ fresh. Admits (terms_of self.now) new.now (phc_of fresh)) }
+        ensures expensive { IsAbove (terms_of self.now).bound (phc_of text.now)
             → result ≡ Err TooExpensive }
-        ensures drawn { DrawsOnce (terms_of self.now) old.now (Some (phc_of text.old)) result
+        ensures drawn { DrawsOnce (terms_of self.now) old.now (Some (phc_of text.now)) result
             (R.stream rng.old) (R.stream rng.new) }
     {
-        self.verify(text, old)?;
-        *text = self.hash_password(rng, new)?;
-        Ok(())
+        self.target.verify(self.alloc, old, &self.admitted(text)?)?;
+        self.hash_password(rng, new)
     }
 
-    // Whether a text has the target's settings, where it accepts the password within the bound.
-    fn verify(&self, text: &PasswordHash, password: &[u8]) -> Result<bool, AccountError>
+    // What a text shows, if it can be read and asks for no more than the bound.
+    fn admitted<'hash>(&self, text: &'hash PasswordHash) -> Result<Stored<'hash>, AccountError>
         ensures answer { MatchResult result
-            (λ current. Admits (terms_of self.now) password.now (phc_of text.now)
-            × (IsTrue current ↔ IsCurrent (terms_of self.now).target (phc_of text.now)))
-            (Denial (terms_of self.now) password.now (phc_of text.now)) }
+            (λ stored. (stored_of (phc_of text.now) ≡ Ok (stored_value stored))
+            × AsksWithin (terms_of self.now).bound (phc_of text.now))
+            (λ e. (password : List ℕ) → Denial (terms_of self.now) password (phc_of text.now) e) }
         ensures expensive { IsAbove (terms_of self.now).bound (phc_of text.now)
             → result ≡ Err TooExpensive }
     {
@@ -162,6 +166,6 @@ impl<'key> Policy<'key> {
         if !self.bound.allows(&stored.settings.params) {
             return Err(AccountError::TooExpensive);
         }
-        Ok(self.target.accepts(self.alloc, password, &stored)?)
+        Ok(stored)
     }
 }

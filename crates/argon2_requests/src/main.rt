@@ -316,15 +316,17 @@ fn above(rt: &HostRuntime, argon2: Argon2<'_>) -> io::Result<()> {
     show(rt, "Bound::verify", answer)?;
 
     let policy = Policy::new(rt.alloc(), argon2, BOUND);
-    let (Ok(policy), Ok(mut text)) = (policy, PasswordHash::new(EXPENSIVE)) else {
+    let (Ok(policy), Ok(text)) = (policy, PasswordHash::new(EXPENSIVE)) else {
         return Err(io::Error::from(ErrorKind::InvalidInput));
     };
     let answer = BOUND.admit_hash(&text).map(|_| ());
     show(rt, "Bound::admit_hash", answer)?;
     let mut rng = ChaCha20Rng::from_seed([7; 32]);
-    let answer = policy.log_in(&mut rng, &mut text, &PASSWORD).map(|_| ());
+    let answer = policy.log_in(&mut rng, &text, &PASSWORD).map(|_| ());
     show(rt, "Policy::log_in", answer)?;
-    let answer = policy.change_password(&mut rng, &mut text, &PASSWORD, &PASSWORD);
+    let answer = policy
+        .change_password(&mut rng, &text, &PASSWORD, &PASSWORD)
+        .map(|_| ());
     show(rt, "Policy::change_password", answer)
 }
 

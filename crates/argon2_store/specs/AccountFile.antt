@@ -182,6 +182,7 @@ stream_after_login _ stream = (fill_bytes 16 stream).1
 -- after a change: as for accounts, but nothing where the file is closed, and 16 bytes also where the fresh text is not written
 abbrev pub DrawsOnce : Terms → List ℕ → Option Phc → Result (Unit {0}) FileError → Stream → Stream → Type 0
 DrawsOnce terms password before (Err Closed) old new = new ≡ old
-DrawsOnce terms password before (Err (Account e)) old new = kept.DrawsOnce terms password before (Err e) old new
+DrawsOnce terms password before (Err (Account e)) old new =
+    kept.DrawsOnce {X = Unit {0}} terms password before (Err e) old new
 DrawsOnce terms password before answer old new =
     IsSomeAnd before (Admits terms password) × (new ≡ (fill_bytes 16 old).1)

@@ -15,7 +15,7 @@ use crate::error::{FileError, OpenError};
 use crate::opening::open_path;
 use crate::table::Table;
 use argon2::bound::Bound;
-use argon2::login::Accepted;
+use argon2::login::{Accepted, LoggedIn};
 use argon2::{Argon2, PasswordHash};
 use argon2_accounts::{AccountError, Policy};
 use rand_core::Rng;
@@ -41,16 +41,6 @@ pub struct AccountFile<'key, S: Store> {
 
 /// Accounts in the file at a path. `T` stands for what the file and its log held as they were opened.
 pub type AccountsAt<'key, T> = AccountFile<'key, FileStore<FileFrom<T>>>;
-
-// The same value again.
-fn copy_of(text: &PasswordHash) -> PasswordHash
-    ensures { phc_of result ≡ phc_of text.now }
-{
-    match PasswordHash::new(text.text().as_str()) {
-        Ok(copy) => copy,
-        Err(_) => unreachable!(),
-    }
-}
 
 // What a call answers that wrote to an open file.
 fn written<X: Copy>(done: Result<(), StoreError>, answer: X) -> Result<X, FileError>
@@ -177,15 +167,14 @@ impl<'key, S: Store> AccountFile<'key, S> {
         if self.is_closed() {
             return Err(FileError::Closed);
         }
-        let Some(stored) = self.table.get(name) else {
+        let Some(text) = self.table.get(name) else {
             return Err(AccountError::NameUnknown.into());
         };
-        let mut text = copy_of(stored);
-        let accepted = self.policy.log_in(rng, &mut text, password)?;
-        if accepted != Accepted::Rehashed {
+        let LoggedIn { accepted, fresh } = self.policy.log_in(rng, text, password)?;
+        let Some(fresh) = fresh else {
             return Ok(accepted);
-        }
-        let done = self.table.replace(name, text);
+        };
+        let done = self.table.replace(name, fresh);
         if done.is_err() && !self.is_closed() {
             return Ok(Accepted::Kept);
         }
@@ -220,12 +209,11 @@ impl<'key, S: Store> AccountFile<'key, S> {
         if self.is_closed() {
             return Err(FileError::Closed);
         }
-        let Some(stored) = self.table.get(name) else {
+        let Some(text) = self.table.get(name) else {
             return Err(AccountError::NameUnknown.into());
         };
-        let mut text = copy_of(stored);
-        self.policy.change_password(rng, &mut text, old, new)?;
-        written(self.table.replace(name, text), ())
+        let fresh = self.policy.change_password(rng, text, old, new)?;
+        written(self.table.replace(name, fresh), ())
     }
 
     /// Gives a name a text of a new password, whatever text it had, as [`Policy::hash_password`]

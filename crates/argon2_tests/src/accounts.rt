@@ -120,11 +120,11 @@ fn refuses_and_leaves_the_text(rt: HostRuntime) -> Result<(), Fail> {
 fn does_the_same_to_a_text(rt: HostRuntime) -> Result<(), Fail> {
     let mut rng = Drawn(0);
     let policy = Policy::new(rt.alloc(), target(32)?, BOUND)?;
-    let mut text = PasswordHash::new(OLD)?;
-    assert!(rt; policy.log_in(&mut rng, &mut text, &PWD) == Ok(Accepted::Rehashed));
-    assert!(rt; text == policy.hash_password(&mut rng, &PWD)?);
-    assert!(rt; policy.change_password(&mut rng, &mut text, &PWD, b"other") == Ok(()));
-    assert!(rt; text == PasswordHash::new(OTHER)?);
+    let done = policy.log_in(&mut rng, &PasswordHash::new(OLD)?, &PWD)?;
+    let new = policy.hash_password(&mut rng, &PWD)?;
+    assert!(rt; done.accepted == Accepted::Rehashed && done.fresh.as_ref() == Some(&new));
+    let other = policy.change_password(&mut rng, &new, &PWD, b"other")?;
+    assert!(rt; other == PasswordHash::new(OTHER)?);
     Ok(())
 }
 

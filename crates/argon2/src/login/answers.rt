@@ -4,6 +4,7 @@ ghost use Rattle.std.specs.Prelude.{Some};
 ghost use Rattle.argon2.specs.Login.{accepted_text, login_error_text};
 
 use argon2_base::error::password_hash::Error;
+use argon2_base::phc::PasswordHash;
 use std::fmt;
 
 /// What an accepted login did with the name's text.
@@ -29,6 +30,15 @@ impl fmt::Display for Accepted {
             Accepted::Kept => f.write_str("text is kept"),
         }
     }
+}
+
+/// An accepted login, for a caller that keeps the text itself.
+#[derive(Debug, Drop)]
+pub struct LoggedIn {
+    /// What became of the text.
+    pub accepted: Accepted,
+    /// The text to be stored over the old one: one with [`Accepted::Rehashed`], none otherwise.
+    pub fresh: Option<PasswordHash>,
 }
 
 /// Why a call of the login store is refused.

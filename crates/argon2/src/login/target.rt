@@ -3,7 +3,7 @@
 ghost use Rattle.std.proofs.Props.{props};
 ghost use Rattle.argon2.specs.Made.{target_of, IsTarget};
 
-use super::{Accepted, LoginError};
+use super::{Accepted, LoggedIn, LoginError};
 use crate::context::Argon2;
 use crate::params::Params;
 use crate::password_hash::{Error, PasswordHasher, Result, Settings, Stored};
@@ -20,7 +20,7 @@ pub struct Target<'key> {
 }
 
 impl<'key> Target<'key> {
-    ghost use Rattle.std.specs.Prelude.{◌≡◌, ◌≢◌, ◌↔◌, ◌⊎◌, ℕ, List, Some, Ok, Err, IsTrue, IfOk, MatchResult};
+    ghost use Rattle.std.specs.Prelude.{◌≡◌, ◌≢◌, ◌↔◌, ◌⊎◌, ℕ, List, Some, Ok, Err, IsSome, IsTrue, IfOk, MatchResult};
     ghost use Rattle.std.specs.FinMap.{get, insert};
     ghost use Rattle.rand_core.specs.Stream.{fill_bytes};
     ghost use Rattle.argon2_base.specs.PhcFields.{phc_of};
@@ -28,10 +28,10 @@ impl<'key> Target<'key> {
     ghost use Rattle.argon2_base.specs.declared.error.password_hash.Error.TheVariants.{OutOfMemory};
     ghost use Rattle.argon2.specs.Stored.{AcceptsBy, IsVerifyAnswer, settings_value, stored_of, stored_value};
     ghost use Rattle.argon2.specs.Argon2.{settings_of};
-    ghost use Rattle.argon2.specs.NamedTexts.{IsCurrent, Leaves, Store, stream_after};
+    ghost use Rattle.argon2.specs.NamedTexts.{IsCurrent, Leaves, Store, accepted_by, stream_after, value_after};
     ghost use Rattle.argon2.specs.Login.{IsNewTarget, LoginAnswer, target_value};
     ghost use Rattle.argon2.specs.Made.{HashingRefusal, IsFresh, sized};
-    ghost use Rattle.argon2.specs.declared.login.answers.Accepted.TheVariants.{Kept};
+    ghost use Rattle.argon2.specs.declared.login.answers.Accepted.TheVariants.{Kept, Rehashed};
     ghost use Rattle.argon2.specs.declared.login.answers.LoginError.TheVariants.{Refused};
 
     /// The target that hashes as `argon2` does.
@@ -49,9 +49,8 @@ impl<'key> Target<'key> {
         Ok(Target { argon2 })
     }
 
-    // Verifies a password against a text. Where the text accepts the password and is not current, a
-    // fresh one is written over it.
-    pub(super) fn log_in<R: Rng>(
+    // Verifies a password against a text, and writes the fresh text over it, if there is one.
+    pub(super) fn log_in_text<R: Rng>(
         &self,
         alloc: Global,
         rng: &mut R,
@@ -74,52 +73,73 @@ impl<'key> Target<'key> {
             Ok(stored) => stored,
             Err(e) => return Err(LoginError::Refused(e)),
         };
-        match self.accepts(alloc, password, &stored) {
-            Ok(true) => Ok(Accepted::Current),
-            Ok(false) => Ok(self.renew(alloc, rng, text, password)),
-            Err(e) => Err(LoginError::Refused(e)),
-        }
+        let LoggedIn { accepted, fresh } = match self.log_in(alloc, rng, password, &stored) {
+            Ok(done) => done,
+            Err(e) => return Err(LoginError::Refused(e)),
+        };
+        let Some(fresh) = fresh else {
+            return Ok(accepted);
+        };
+        *text = fresh;
+        Ok(accepted)
     }
 
-    /// Whether a text has the target's algorithm, version, parameters and hash length, if it accepts
-    /// the password under the target's secret. `stored` is what the text shows. The memory of the
-    /// hash is requested from `alloc`, and returned before the call ends.
+    /// Ok if a text accepts the password under the target's secret. `stored` is what the text shows.
+    /// The memory of the hash is requested from `alloc`, and returned before the call ends.
     ///
     /// # Errors
     /// The first of these that holds:
     /// - [`Error::OutOfMemory`]: the request was refused.
     /// - [`Error::PasswordInvalid`]: the password is longer than 4294967295 bytes, or the text does
     ///   not accept it.
-    pub fn accepts(&self, alloc: Global, password: &[u8], stored: &Stored<'_>) -> Result<bool>
+    pub fn verify(&self, alloc: Global, password: &[u8], stored: &Stored<'_>) -> Result<()>
         ensures { (v : Phc) → stored_of v ≡ Ok (stored_value stored.now) → MatchResult result
-            (λ current. AcceptsBy (target_value self.now).secret password.now v
-            × (IsTrue current ↔ IsCurrent (target_value self.now) v))
+            (λ _. AcceptsBy (target_value self.now).secret password.now v)
             (λ e. IsVerifyAnswer (target_value self.now).secret password.now v (Err e)) }
     {
-        self.argon2.verify_stored(alloc, password, stored)?;
-        Ok(self.is_shown_by(&stored.settings))
+        self.argon2.verify_stored(alloc, password, stored)
     }
 
-    /// Writes a fresh text of a password over a text that is not current. The text stays if there is
-    /// no memory for a new one, or the password is longer than 4294967295 bytes. 16 bytes are drawn
-    /// from `rng` in each case.
-    pub fn renew<R: Rng>(
+    /// Verifies a password against a text, as [`verify`](Target::verify), and makes a fresh text of it,
+    /// as [`hash_password`](Target::hash_password), if the text has another algorithm, version,
+    /// parameters or hash length than the target. The fresh text is to be stored over the old one.
+    ///
+    /// Nothing is drawn but for a fresh text; then 16 bytes are, even if there is no memory for it.
+    ///
+    /// # Errors
+    /// Those of [`verify`](Target::verify).
+    pub fn log_in<R: Rng>(
         &self,
         alloc: Global,
         rng: &mut R,
-        text: &mut PasswordHash,
         password: &[u8],
-    ) -> Accepted
-        requires { ¬ (IsCurrent (target_value self.now) (phc_of text.old)) }
-        ensures renewed { Leaves (target_value self.now) password.now
-            (fill_bytes 16 (R.stream rng.old)).0 (phc_of text.old) result (phc_of text.new) }
-        ensures drawn { R.stream rng.new ≡ (fill_bytes 16 (R.stream rng.old)).1 }
+        stored: &Stored<'_>,
+    ) -> Result<LoggedIn>
+        ensures step { (v : Phc) → stored_of v ≡ Ok (stored_value stored.now) → MatchResult result
+            (λ done. AcceptsBy (target_value self.now).secret password.now v
+            × Leaves (target_value self.now) password.now (fill_bytes 16 (R.stream rng.old)).0 v
+            done.accepted (value_after v done.fresh))
+            (λ e. IsVerifyAnswer (target_value self.now).secret password.now v (Err e)) }
+        ensures fresh { IfOk result (λ done. IsSome done.fresh ↔ (done.accepted ≡ Rehashed)) }
+        ensures drawn { R.stream rng.new ≡ stream_after (accepted_by result) (R.stream rng.old) }
     {
+        self.verify(alloc, password, stored)?;
+        if self.is_shown_by(&stored.settings) {
+            return Ok(LoggedIn {
+                accepted: Accepted::Current,
+                fresh: None,
+            });
+        }
         let Ok(fresh) = self.hash_password(alloc, rng, password) else {
-            return Accepted::Kept;
+            return Ok(LoggedIn {
+                accepted: Accepted::Kept,
+                fresh: None,
+            });
         };
-        *text = fresh;
-        Accepted::Rehashed
+        Ok(LoggedIn {
+            accepted: Accepted::Rehashed,
+            fresh: Some(fresh),
+        })
     }
 
     /// A fresh text of a password, with a salt of 16 bytes that are drawn from `rng`. They are drawn

@@ -11,7 +11,7 @@ ghost use Rattle.argon2_base.specs.PhcText.{Phc, PhcText};
 use crate::failure::Failure;
 use crate::passwords::password;
 use argon2::PasswordHash;
-use argon2::login::Accepted;
+use argon2::login::{Accepted, LoggedIn};
 use argon2_accounts::Policy;
 use rand_core::Rng;
 use std::alloc::{AllocError, Global};
@@ -66,9 +66,12 @@ fn login<G: Rng>(
     ensures err { IfErr result (λ failure. status_of failure ≡ 1 → (v : Phc) → PhcText text.now v
         → ¬ (Admits (terms_of policy.now) password.now v)) }
 {
-    let mut hash = PasswordHash::new(text)?;
-    let accepted = policy.log_in(rng, &mut hash, password)?;
-    Ok((accepted, hash))
+    let hash = PasswordHash::new(text)?;
+    let LoggedIn { accepted, fresh } = policy.log_in(rng, &hash, password)?;
+    match fresh {
+        Some(fresh) => Ok((accepted, fresh)),
+        None => Ok((accepted, hash)),
+    }
 }
 
 // What is written of it.

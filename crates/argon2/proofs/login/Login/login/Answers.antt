@@ -29,7 +29,7 @@ returns g c =
     let name = c.args.name.now in
     let password = c.args.password.now in
     let text = c.in-Some.text.now in
-    let fresh = c.log_in.new.text in
+    let fresh = c.log_in_text.new.text in
     let after = c.get_mut.follows.lender fresh in
     let drawn = (fill_bytes 16 (g.R.Rng.stream c.args.rng.now)).0 in
     let had = get-found before name (Some text) (sym c.in-Some.ensures.value) in
@@ -37,15 +37,15 @@ returns g c =
     ((c.get_mut.follows.holds fresh).3 (rw (← c.in-Some.ensures.value) refl))) in
     let has = ap (λ m. get m name) set ∙ get-same (values_of before) name (phc_of fresh) in
     record {
-      step = login_step target (values_of before) name password drawn (Some (phc_of text)) c.log_in.result
+      step = login_step target (values_of before) name password drawn (Some (phc_of text)) c.log_in_text.result
           (values_of after) had
-          (subst (LoginAnswer target (values_of before) name password drawn (Some (phc_of text)) c.log_in.result)
-          (sym set) (c.log_in.ensures.step (values_of before) name had));
+          (subst (LoginAnswer target (values_of before) name password drawn (Some (phc_of text)) c.log_in_text.result)
+          (sym set) (c.log_in_text.ensures.step (values_of before) name had));
       accepted = has_accepted target (values_of before) (values_of after) name password (phc_of text) (phc_of fresh)
-          c.log_in.result had has c.log_in.ensures.accepted;
-      current = has_current target (values_of after) name (phc_of fresh) c.log_in.result has c.log_in.ensures.current;
+          c.log_in_text.result had has c.log_in_text.ensures.accepted;
+      current = has_current target (values_of after) name (phc_of fresh) c.log_in_text.result has c.log_in_text.ensures.current;
       others = λ other differs. ap (λ m. get m other) set
           ∙ get-other (values_of before) name (phc_of fresh) other differs;
-      drawn = c.log_in.ensures.drawn;
+      drawn = c.log_in_text.ensures.drawn;
       target = refl;
     }

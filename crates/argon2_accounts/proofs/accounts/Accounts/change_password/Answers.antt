@@ -1,45 +1,58 @@
-use Rattle.std.proofs.Common.{ap, refl, sym, Some, None}
-use Rattle.std.proofs.lemmas.Map.Text.{btree_map_updates_text}
-use Rattle.std.specs.FinMap.{get}
+use Rattle.std.proofs.Common.{refl, sym, Some, None}
 use Rattle.rand_core.specs.Stream.{fill_bytes}
 use Rattle.argon2_base.specs.PhcFields.{phc_of}
-use Rattle.argon2_accounts.specs.Accounts.{Changes, kept_terms}
-use Rattle.argon2.specs.NamedTexts.{values_of}
-use Rattle.argon2_accounts.proofs.AccountLemmas.{name_changes, on_none, on_value}
 use Rattle.argon2.proofs.login_store.Stores.{get-found}
+use Rattle.argon2_accounts.specs.Accounts.{Changes, kept_terms}
+use Rattle.argon2_accounts.proofs.AccountLemmas.{err_is, on_none, on_value}
 use Rattle.argon2_accounts.proofs.accounts.Accounts.change_password.Goals as goal
 
 pub returns-in_default-clause-step : goal.returns-in_default-clause-step
 returns-in_default-clause-step g c = (
   on_none (Changes (kept_terms c.args.self.now) c.args.old.now c.args.new.now
       (fill_bytes 16 (g.R.Rng.stream c.args.rng.now)).0) _ _
-      (get-found c.args.self.now.texts c.args.name.now None (sym c.in_default.ensures.value))
-      (ap (λ m. get (values_of m) c.args.name.now) c.get_mut.follows.holds-at-none),
-  λ other differs. ap (λ m. get (values_of m) other) c.get_mut.follows.holds-at-none,
+      (get-found c.args.self.now.texts c.args.name.now None (sym c.in_default.ensures.value)) refl,
+  λ other differs. refl,
 )
 
 pub returns-in_default-clause-drawn : goal.returns-in_default-clause-drawn
 returns-in_default-clause-drawn g c =
     rw (get-found c.args.self.now.texts c.args.name.now None (sym c.in_default.ensures.value)) refl
 
+pub returns-in_err-fresh : goal.returns-in_err-fresh
+returns-in_err-fresh g c =
+    let text = c.in-Some.text.now in
+    let had = get-found c.args.self.now.texts c.args.name.now (Some text) (sym c.in-Some.ensures.value) in
+    let same = err_is c.from_residual.result c.in_err-fresh.field-0.0 c.from_residual.ensures.1 in
+    rw same (record {
+      step = (
+        on_value (Changes (kept_terms c.args.self.now) c.args.old.now c.args.new.now
+            (fill_bytes 16 (g.R.Rng.stream c.args.rng.now)).0) _ _ (phc_of text) (phc_of text) _ had had
+            (c.in_err-fresh.ensures.made, refl),
+        λ other differs. refl,
+      );
+      accepted = tt;
+      drawn = rw had c.in_err-fresh.ensures.drawn;
+      terms = refl;
+    })
+
+pub replace-requires : goal.replace-requires
+replace-requires g c =
+    rw (get-found c.args.self.now.texts c.args.name.now (Some c.in-Some.text.now) (sym c.in-Some.ensures.value)) refl
+
 pub returns : goal.returns
 returns g c =
-    let before = c.args.self.now.texts in
-    let name = c.args.name.now in
     let text = c.in-Some.text.now in
-    let fresh = c.change_password.new.text in
-    let after = c.get_mut.follows.lender fresh in
-    let had = get-found before name (Some text) (sym c.in-Some.ensures.value) in
-    let changes = name_changes before after name (Some fresh) (btree_map_updates_text name before after _
-    ((c.get_mut.follows.holds fresh).3 (rw (← c.in-Some.ensures.value) refl))) in
+    let fresh = c.in_ok-fresh.fresh in
+    let had = get-found c.args.self.now.texts c.args.name.now (Some text) (sym c.in-Some.ensures.value) in
+    let has = c.replace.ensures.replaced in
     record {
       step = (
         on_value (Changes (kept_terms c.args.self.now) c.args.old.now c.args.new.now
-            (fill_bytes 16 (g.R.Rng.stream c.args.rng.now)).0) _ _ (phc_of text) (phc_of fresh) c.change_password.result
-            had changes.0 c.change_password.ensures.step,
-        changes.1,
+            (fill_bytes 16 (g.R.Rng.stream c.args.rng.now)).0) _ _ (phc_of text) (phc_of fresh) _ had has
+            c.in_ok-fresh.ensures.made,
+        c.replace.ensures.others,
       );
-      accepted = rw changes.0 c.change_password.ensures.accepted;
-      drawn = rw had c.change_password.ensures.drawn;
-      terms = refl;
+      accepted = rw (c.replace.ensures.terms, has) c.in_ok-fresh.ensures.accepted;
+      drawn = rw had c.in_ok-fresh.ensures.drawn;
+      terms = c.replace.ensures.terms;
     }

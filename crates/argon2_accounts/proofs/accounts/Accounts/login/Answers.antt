@@ -1,20 +1,19 @@
-use Rattle.std.proofs.Common.{ap, refl, sym, Some, None, inr}
-use Rattle.std.proofs.lemmas.Map.Text.{btree_map_updates_text}
-use Rattle.std.specs.FinMap.{get}
+use Rattle.std.proofs.Common.{ap, inr, refl, subst, sym, ◌≡◌, ◌≢◌, ◌∙◌, Some, None, Ok, Err}
 use Rattle.rand_core.specs.Stream.{fill_bytes}
 use Rattle.argon2_base.specs.PhcFields.{phc_of}
-use Rattle.argon2_accounts.specs.Accounts.{LogsIn, kept_terms}
-use Rattle.argon2.specs.NamedTexts.{values_of}
-use Rattle.argon2_accounts.proofs.AccountLemmas.{name_changes, on_none, on_value}
+use Rattle.argon2.specs.NamedTexts.{IsCurrent}
+use Rattle.argon2.specs.declared.login.answers.Accepted.TheVariants.{Kept}
 use Rattle.argon2.proofs.login_store.Stores.{get-found}
+use Rattle.argon2_accounts.specs.Accounts.{LogsIn, Terms, kept_terms}
+use Rattle.argon2_accounts.specs.declared.error.AccountError.TheVariants.{TooExpensive}
+use Rattle.argon2_accounts.proofs.AccountLemmas.{err_is, on_none, on_value}
 use Rattle.argon2_accounts.proofs.accounts.Accounts.login.Goals as goal
 
 pub returns-in_default-clause-step : goal.returns-in_default-clause-step
 returns-in_default-clause-step g c = (
   on_none (LogsIn (kept_terms c.args.self.now) c.args.password.now (fill_bytes 16 (g.R.Rng.stream c.args.rng.now)).0) _ _
-      (get-found c.args.self.now.texts c.args.name.now None (sym c.in_default.ensures.value))
-      (ap (λ m. get (values_of m) c.args.name.now) c.get_mut.follows.holds-at-none),
-  λ other differs. ap (λ m. get (values_of m) other) c.get_mut.follows.holds-at-none,
+      (get-found c.args.self.now.texts c.args.name.now None (sym c.in_default.ensures.value)) refl,
+  λ other differs. refl,
 )
 
 pub returns-in_default-clause-accepted : goal.returns-in_default-clause-accepted
@@ -27,25 +26,71 @@ returns-in_default-clause-expensive g c = λ above.
     let none = get-found c.args.self.now.texts c.args.name.now None (sym c.in_default.ensures.value) in
     let not = rw none at above in absurd not
 
-pub returns : goal.returns
-returns g c =
-    let before = c.args.self.now.texts in
-    let name = c.args.name.now in
-    let text = c.in-Some.text.now in
-    let fresh = c.log_in.new.text in
-    let after = c.get_mut.follows.lender fresh in
-    let had = get-found before name (Some text) (sym c.in-Some.ensures.value) in
-    let changes = name_changes before after name (Some fresh) (btree_map_updates_text name before after _
-    ((c.get_mut.follows.holds fresh).3 (rw (← c.in-Some.ensures.value) refl))) in
+pub returns-in_err-accepted-clause-step : goal.returns-in_err-accepted-clause-step
+returns-in_err-accepted-clause-step g c =
+    let v = phc_of c.in-Some.text.now in
+    let had = get-found c.args.self.now.texts c.args.name.now (Some c.in-Some.text.now) (sym c.in-Some.ensures.value) in (
+      on_value (LogsIn (kept_terms c.args.self.now) c.args.password.now (fill_bytes 16 (g.R.Rng.stream c.args.rng.now)).0)
+          _ _ v v c.from_residual.result had had
+          (rw (err_is c.from_residual.result c.in_err-accepted.field-0.0 c.from_residual.ensures.1)
+          (c.in_err-accepted.ensures.step, refl)),
+      λ other differs. refl,
+    )
+
+pub returns-in_err-accepted-clause-accepted : goal.returns-in_err-accepted-clause-accepted
+returns-in_err-accepted-clause-accepted g c =
+    let had = get-found c.args.self.now.texts c.args.name.now (Some c.in-Some.text.now) (sym c.in-Some.ensures.value) in
+    rw (err_is c.from_residual.result c.in_err-accepted.field-0.0 c.from_residual.ensures.1, had)
+    c.in_err-accepted.ensures.accepted
+
+pub returns-in_err-accepted-clause-expensive : goal.returns-in_err-accepted-clause-expensive
+returns-in_err-accepted-clause-expensive g c = λ above.
+    let had = get-found c.args.self.now.texts c.args.name.now (Some c.in-Some.text.now) (sym c.in-Some.ensures.value) in
+    let is = c.in_err-accepted.ensures.expensive (rw had at above) in
+    let same : c.in_err-accepted.field-0.0 ≡ TooExpensive = cc in
+    err_is c.from_residual.result c.in_err-accepted.field-0.0 c.from_residual.ensures.1 ∙ ap Err same
+
+pub returns-in_default-fresh : goal.returns-in_default-fresh
+returns-in_default-fresh g c =
+    let v = phc_of c.in-Some.text.now in
+    let had = get-found c.args.self.now.texts c.args.name.now (Some c.in-Some.text.now) (sym c.in-Some.ensures.value) in
+    let none = c.in_default-fresh.is in
+    let done = c.in_ok-accepted.ensures in
     record {
       step = (
         on_value (LogsIn (kept_terms c.args.self.now) c.args.password.now (fill_bytes 16 (g.R.Rng.stream c.args.rng.now)).0)
-            _ _ (phc_of text) (phc_of fresh) c.log_in.result had changes.0 c.log_in.ensures.step,
-        changes.1,
+            _ _ v v (Ok c.in_ok-accepted.field-0.accepted) had had (rw none at done.step),
+        λ other differs. refl,
       );
-      accepted = rw (had, changes.0) c.log_in.ensures.accepted;
-      current = rw changes.0 c.log_in.ensures.current;
-      expensive = rw had c.log_in.ensures.expensive;
-      drawn = c.log_in.ensures.drawn;
+      accepted = rw had (rw none at done.accepted);
+      current = rw had (rw none at done.current);
+      expensive = λ above. let no = done.expensive (rw had at above) in absurd cc;
+      drawn = done.drawn;
       terms = refl;
+    }
+
+pub replace-requires : goal.replace-requires
+replace-requires g c =
+    rw (get-found c.args.self.now.texts c.args.name.now (Some c.in-Some.text.now) (sym c.in-Some.ensures.value)) refl
+
+pub returns : goal.returns
+returns g c =
+    let v = phc_of c.in-Some.text.now in
+    let w = phc_of c.in-Some-fresh.fresh in
+    let had = get-found c.args.self.now.texts c.args.name.now (Some c.in-Some.text.now) (sym c.in-Some.ensures.value) in
+    let has = c.replace.ensures.replaced in
+    let some = c.in-Some-fresh.is in
+    let done = c.in_ok-accepted.ensures in
+    record {
+      step = (
+        on_value (LogsIn (kept_terms c.args.self.now) c.args.password.now (fill_bytes 16 (g.R.Rng.stream c.args.rng.now)).0)
+            _ _ v w (Ok c.in_ok-accepted.field-0.accepted) had has (rw some at done.step),
+        c.replace.ensures.others,
+      );
+      accepted = rw (c.replace.ensures.terms, has) (rw some at done.accepted);
+      current = rw has (subst (λ (t : Terms). c.in_ok-accepted.field-0.accepted ≢ Kept → IsCurrent t.target w)
+          (sym c.replace.ensures.terms) (rw some at done.current));
+      expensive = λ above. let no = done.expensive (rw had at above) in absurd cc;
+      drawn = done.drawn;
+      terms = c.replace.ensures.terms;
     }

@@ -1,0 +1,60 @@
+use Rattle.std.proofs.Common.{inl, refl, sym, Err}
+use Rattle.rand_core.specs.Stream.{fill_bytes}
+use Rattle.argon2_base.specs.PhcFields.{phc_of}
+use Rattle.argon2.specs.Argon2.{secret_of}
+use Rattle.argon2.specs.Login.{target_value}
+use Rattle.argon2.proofs.login_store.LoginLemmas.{leaves_accepts, leaves_current, leaves_step, refused_text}
+use Rattle.argon2.proofs.login_store.Stores.{insert-same}
+use Rattle.argon2.proofs.stored_hashes.Verified.{exact}
+use Rattle.argon2.proofs.login.target.Target.log_in_text.Goals as goal
+
+pub returns-in-Err-clause-step : goal.returns-in-Err-clause-step
+returns-in-Err-clause-step g c = λ store name has.
+    (inl (rw (← c.in-Err.ensures) refl), insert-same store name (phc_of c.args.text.now) has)
+
+pub returns-in-Err-log_in-clause-step : goal.returns-in-Err-log_in-clause-step
+returns-in-Err-log_in-clause-step g c = λ store name has.
+    let v = phc_of c.args.text.now in
+    (c.in-Err-log_in.ensures.step v (sym c.in-Ok.ensures), insert-same store name v has)
+
+pub returns-in-Err-log_in-clause-accepted : goal.returns-in-Err-log_in-clause-accepted
+returns-in-Err-log_in-clause-accepted g c =
+    let v = phc_of c.args.text.now in
+    refused_text c.in-Err-log_in.e (exact (secret_of c.args.self.now.argon2) c.args.password.now v
+    (Err c.in-Err-log_in.e)
+    (c.in-Err-log_in.ensures.step v (sym c.in-Ok.ensures)))
+
+pub returns-in_default-clause-step : goal.returns-in_default-clause-step
+returns-in_default-clause-step g c = λ store name has.
+    let v = phc_of c.args.text.now in
+    let step = rw c.in_default.is at (c.in-Ok-log_in.ensures.step v (sym c.in-Ok.ensures)) in (
+      step.0,
+      leaves_step (target_value c.args.self.now) store name c.args.password.now
+          (fill_bytes 16 (g.R.Rng.stream c.args.rng.now)).0 v v c.in-Ok-log_in.done.accepted has step.1,
+    )
+
+pub returns-clause-step : goal.returns-clause-step
+returns-clause-step g c = λ store name has.
+    let v = phc_of c.args.text.now in
+    let step = rw c.in-Some.is at (c.in-Ok-log_in.ensures.step v (sym c.in-Ok.ensures)) in (
+      step.0,
+      leaves_step (target_value c.args.self.now) store name c.args.password.now
+          (fill_bytes 16 (g.R.Rng.stream c.args.rng.now)).0 v (phc_of c.in-Some.fresh) c.in-Ok-log_in.done.accepted has
+          step.1,
+    )
+
+pub returns-clause-accepted : goal.returns-clause-accepted
+returns-clause-accepted g c =
+    let v = phc_of c.args.text.now in
+    let step = rw c.in-Some.is at (c.in-Ok-log_in.ensures.step v (sym c.in-Ok.ensures)) in
+    leaves_accepts (target_value c.args.self.now) c.args.self.now.fits c.args.password.now
+    (fill_bytes 16 (g.R.Rng.stream c.args.rng.now)).0 v (phc_of c.in-Some.fresh) c.in-Ok-log_in.done.accepted
+    step.1 step.0
+
+pub returns-clause-current : goal.returns-clause-current
+returns-clause-current g c =
+    let v = phc_of c.args.text.now in
+    let step = rw c.in-Some.is at (c.in-Ok-log_in.ensures.step v (sym c.in-Ok.ensures)) in
+    leaves_current (target_value c.args.self.now) c.args.self.now.fits c.args.password.now
+    (fill_bytes 16 (g.R.Rng.stream c.args.rng.now)).0 v (phc_of c.in-Some.fresh) c.in-Ok-log_in.done.accepted
+    step.1

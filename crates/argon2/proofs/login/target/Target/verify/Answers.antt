@@ -1,0 +1,17 @@
+use Rattle.std.proofs.Common.{ℕ, List, Result, Ok, Err}
+use Rattle.std.specs.Prelude.{MatchResult}
+use Rattle.argon2_base.specs.PhcText.{Phc}
+use Rattle.argon2_base.specs.declared.error.password_hash.Error.{Error}
+use Rattle.argon2.specs.Argon2.{secret_of}
+use Rattle.argon2.specs.Stored.{AcceptsBy, IsVerifyAnswer}
+use Rattle.argon2.proofs.stored_hashes.Verified.{exact}
+use Rattle.argon2.proofs.login.target.Target.verify.Goals as goal
+
+answered : (secret password : List ℕ) (v : Phc) (r : Result (Unit {0}) Error) → IsVerifyAnswer secret password v r
+    → MatchResult r (λ _. AcceptsBy secret password v) (λ e. IsVerifyAnswer secret password v (Err e))
+answered secret password v (Ok x) is = exact secret password v (Ok x) is
+answered secret password v (Err e) is = is
+
+pub returns : goal.returns
+returns c = λ v is.
+    answered (secret_of c.args.self.now.argon2) c.args.password.now v c.verify_stored.result (c.verify_stored.ensures v is)
