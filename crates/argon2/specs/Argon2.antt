@@ -7,6 +7,7 @@ use Rattle.argon2.specs.declared.version.Version.TheVariants.{V0x13}
 use Rattle.argon2.specs.declared.context.Secret.{Secret}
 use Rattle.argon2.specs.declared.context.Argon2.{Argon2}
 use Rattle.argon2.specs.declared.params.Params.{Params}
+use Rattle.argon2.specs.Refusals.{max_len}
 use Rattle.argon2.specs.Rfc9106.{Context, context_with}
 use Rattle.argon2.specs.Settings.{AreValid, Parameters, Settings, first_fault}
 use Rattle.argon2_base.specs.declared.error.Error.{Error}
@@ -50,8 +51,8 @@ pub record IsWith (own : Settings) (key : List ℕ) (argon2 : Argon2) : Type 0 w
 
 -- hashing under settings and a secret, or the refusal of a secret of more than 4294967295 bytes
 abbrev pub IsKeyed : Settings → List ℕ → Result Argon2 Error → Type 0
-IsKeyed own key (Ok argon2) = (length key ≤ 4294967295) × IsWith own key argon2
-IsKeyed own key (Err e) = (e ≡ SecretTooLong) × (4294967295 < length key)
+IsKeyed own key (Ok argon2) = (length key ≤ max_len) × IsWith own key argon2
+IsKeyed own key (Err e) = (e ≡ SecretTooLong) × (max_len < length key)
 
 -- Argon2id of version 0x13 with these parameters
 abbrev pub argon2id_with : Parameters → Settings

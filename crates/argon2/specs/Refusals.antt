@@ -3,6 +3,10 @@ use Rattle.std.specs.Prelude.{ℕ, Bool, List, [], ◌∷◌, ◌++◌, nat_lt, 
 use Rattle.argon2_base.specs.declared.error.Error.{Error}
 use Rattle.argon2_base.specs.declared.error.Error.TheVariants.{AdTooLong, MemoryTooLittle, OutputTooLong, OutputTooShort, PwdTooLong, SaltTooLong, SaltTooShort}
 
+-- the most bytes of an output, a password, a salt, a secret or associated data
+abbrev pub max_len : ℕ
+max_len = 4294967295
+
 -- the fault beside the first test that holds
 abbrev pub first_of : {E : Type 0} → List (Bool × E) → Option E
 first_of [] = None
@@ -17,15 +21,15 @@ answer_unless (Some fault) value = Err fault
 abbrev pub output_faults : Option ℕ → ℕ → List (Bool × Error)
 output_faults n output =
     (nat_lt output (unwrap_or n 4), OutputTooShort)
-    ∷ (nat_lt (unwrap_or n 4294967295) output, OutputTooLong)
+    ∷ (nat_lt (unwrap_or n max_len) output, OutputTooLong)
     ∷ []
 
 -- a password and a salt of so many bytes
 abbrev pub input_faults : ℕ → ℕ → List (Bool × Error)
 input_faults password salt =
-    (nat_lt 4294967295 password, PwdTooLong)
+    (nat_lt max_len password, PwdTooLong)
     ∷ (nat_lt salt 8, SaltTooShort)
-    ∷ (nat_lt 4294967295 salt, SaltTooLong)
+    ∷ (nat_lt max_len salt, SaltTooLong)
     ∷ []
 
 -- memory of so many blocks, where so many are filled
@@ -39,4 +43,4 @@ length_refusal n output password salt = first_of (output_faults n output ++ inpu
 -- the refusal with so many bytes of associated data, which are checked first
 abbrev pub data_refusal : ℕ → Option ℕ → ℕ → ℕ → ℕ → Option Error
 data_refusal associated n output password salt =
-    if nat_lt 4294967295 associated then Some AdTooLong else length_refusal n output password salt
+    if nat_lt max_len associated then Some AdTooLong else length_refusal n output password salt

@@ -210,20 +210,26 @@ address_block ctx pass lane slice counter =
     (pass ∷ lane ∷ slice ∷ block_count ctx ∷ ctx.t_cost ∷ ctx.algorithm ∷ counter
     ∷ replicate 121 0))
 
+-- the indexes of a segment whose words one address block has
+abbrev pub address_columns : ℕ
+address_columns = 128
+
 -- which address block of its segment has the word of an index, from 1 on
 abbrev pub address_counter : ℕ → ℕ
-address_counter index = index / 128 + 1
+address_counter index = index / address_columns + 1
 
 -- the word of an index of a segment
 unfoldable pub address_word : Context → ℕ → ℕ → ℕ → ℕ → ℕ
 address_word ctx pass lane slice index =
-    slice_index (address_block ctx pass lane slice (address_counter index)) (index % 128)
+    slice_index (address_block ctx pass lane slice (address_counter index))
+    (index % address_columns)
 
--- The address block that has the word of an index of a segment, in a slice that has address blocks: one
--- serves 128 indexes.
+-- the address block that has the word of an index of a segment, in a slice that has address blocks
 unfoldable pub addresses_at : Context → ℕ → ℕ → ℕ → ℕ → Option (List ℕ)
 addresses_at ctx pass lane slice index =
-    if is_independent ctx pass slice then Some (address_block ctx pass lane slice (address_counter index)) else None
+    if is_independent ctx pass slice
+    then Some (address_block ctx pass lane slice (address_counter index))
+    else None
 
 -- that of a block
 abbrev pub addresses_of : Context → ℕ → ℕ → ℕ → Option (List ℕ)

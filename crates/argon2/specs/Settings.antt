@@ -10,7 +10,7 @@ use Rattle.argon2_base.specs.declared.error.password_hash.Error.{Error as HashEr
 use Rattle.argon2_base.specs.declared.error.password_hash.Error.TheVariants.{Algorithm as NoAlgorithm}
 use Rattle.argon2.specs.declared.version.Version.{Version}
 use Rattle.argon2.specs.declared.version.Version.TheVariants.{V0x10, V0x13}
-use Rattle.argon2.specs.Refusals.{first_of}
+use Rattle.argon2.specs.Refusals.{first_of, max_len}
 
 -- ---- algorithms
 
@@ -81,7 +81,7 @@ first_fault m t p output_len = first_of (
     ∷ (nat_lt m (8 * p), MemoryTooLittle)
     ∷ (nat_lt t 1, TimeTooSmall)
     ∷ (nat_lt (unwrap_or output_len 4) 4, OutputTooShort)
-    ∷ (nat_lt 4294967295 (unwrap_or output_len 4), OutputTooLong)
+    ∷ (nat_lt max_len (unwrap_or output_len 4), OutputTooLong)
     ∷ [])
 
 -- nothing is refused

@@ -1,6 +1,6 @@
 -- The blocks in one memory, lane after lane, where a block overwrites that of the pass before; and
 -- the orders of the steps that write them.
-use Rattle.argon2.specs.Rfc9106.{Context, Memory, block_count, lane_length, made_block, place_of, reference_of, reference_word, segment_length, xor_lanes}
+use Rattle.argon2.specs.Rfc9106.{Context, Memory, block_count, lane_length, made_block, place_of, reference_of, segment_length, xor_lanes}
 use Rattle.std.specs.Prelude.{◌≡◌, ℕ, zero, suc, ◌+◌, ◌-◌, ◌*◌, ◌<◌, ◌≤◌, ◌&&◌, List, [], ◌∷◌, ◌==◌, count_by, length, slice_index_or, slice_set, if◌then◌else◌}
 use Rattle.std.specs.List.{AllByRecursion}
 
@@ -23,10 +23,6 @@ pub record IsStep (ctx : Context) (pass lane column : ℕ) : Type 0 where
 pub record IsStepIn (ctx : Context) (memory : Memory) (pass lane column : ℕ) : Type 0 where
   pub step : IsStep ctx pass lane column
   pub room : block_count ctx ≤ length memory
-
--- the word that takes its reference
-abbrev pub word_in : Context → Memory → ℕ → ℕ → ℕ → ℕ
-word_in ctx memory pass lane column = reference_word ctx (in_memory ctx memory) pass lane column
 
 -- the memory after the block of a pass, a lane and a column is written
 unfoldable pub step : Context → Memory → ℕ → ℕ → ℕ → Memory

@@ -11,6 +11,7 @@ use Rattle.argon2.specs.Settings.{Settings, algorithm_named, version_numbered}
 use Rattle.argon2.specs.Argon2.{settings_with}
 use Rattle.argon2.specs.ListedParameters.{asked_of, params_of}
 use Rattle.argon2_base.specs.declared.error.password_hash.Error.{Error}
+use Rattle.argon2.specs.Refusals.{max_len}
 use Rattle.argon2.specs.Rfc9106.{context_with, tag_of}
 
 -- ---- what a stored value shows
@@ -76,7 +77,7 @@ pub record AcceptsBy (secret password : List ℕ) (v : Phc) : Type 0 where
   pub has_parameters : params_of (Some (length hash)) v.params ≡ Ok settings.parameters
   pub has_algorithm : algorithm_named v.algorithm ≡ Some settings.algorithm
   pub has_version : version_shown v.version ≡ Some settings.version
-  pub short : length password ≤ 4294967295
+  pub short : length password ≤ max_len
   pub same_tag : hash ≡ tag_of (context_with settings secret) password salt (length hash)
 
 -- under a secret, the text accepts the password
@@ -87,7 +88,7 @@ Accepts secret password text = (v : Phc) × PhcText text v × AcceptsBy secret p
 
 -- the password isn't too long, and the hash is its tag
 abbrev pub is_tag : List ℕ → List ℕ → Stored → Bool
-is_tag secret password stored = nat_le (length password) 4294967295 && bytes_eq stored.hash
+is_tag secret password stored = nat_le (length password) max_len && bytes_eq stored.hash
     (tag_of (context_with stored.settings secret) password stored.salt (length stored.hash))
 
 -- what a value comes to: the fault of the first condition that fails, or none

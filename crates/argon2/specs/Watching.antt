@@ -1,5 +1,5 @@
 -- Which references a watched hash records, and how often it mixes.
-use Rattle.std.specs.Prelude.{◌≡◌, ℕ, suc, ◌+◌, ◌-◌, ◌*◌, ◌<◌, ◌≤◌, ◌⊎◌, ◌==◌, List, [], length, nat_lt, slice_index, slice_index_or, if◌then◌else◌, zero, ◌/◌}
+use Rattle.std.specs.Prelude.{◌≡◌, ℕ, suc, ◌+◌, ◌-◌, ◌*◌, ◌<◌, ◌≤◌, ◌⊎◌, ◌==◌, List, [], length, nat_lt, slice_index, slice_index_or, if◌then◌else◌, zero}
 use Rattle.argon2.specs.Rfc9106.{Context, FirstColumns, Memory, address_counter, block_count, block_of, is_independent, lane_length, matrix, reference_places, segment_length}
 use Rattle.argon2.specs.Steps.{IsStep, turn_count}
 
@@ -91,7 +91,7 @@ independent_segments ctx =
 unfoldable pub mixing_calls : Context → ℕ
 mixing_calls ctx =
     ctx.t_cost * block_count ctx - 2 * ctx.p_cost
-    + 2 * ((segment_length ctx + 127) / 128) * independent_segments ctx
+    + 2 * address_counter (segment_length ctx - 1) * independent_segments ctx
 
 -- the mixings of a segment's address blocks up to that of an index
 unfoldable pub address_mixings : Context → ℕ → ℕ → ℕ → ℕ

@@ -381,7 +381,7 @@ impl From<Params> for Argon2<'_> {
 
     /// Argon2id of version 0x13 with these parameters and no secret.
     fn from(params: Params) -> Self {
-        Argon2::new(Algorithm::Argon2id, Version::V0x13, params)
+        Argon2::new(Algorithm::default(), Version::default(), params)
     }
 }
 

@@ -36,7 +36,8 @@ word_not_addressed ctx blocks pass lane column e =
     other_of_option (is_independent ctx pass (column / s)) _ (column % s % 128) _ e
 
 -- the mixings of one address block more
-two_more : (b : Bool) (m n : ℕ) → n ≡ m + 1 → (if b then 2 * (n + 1) else 0) ≡ (if b then 2 * (m + 1) else 0) + (if b then 2 else 0)
+two_more : (b : Bool) (m n : ℕ) → n ≡ m + 1
+    → (if b then 2 * (n + 1) else 0) ≡ (if b then 2 * (m + 1) else 0) + (if b then 2 else 0)
 two_more true m n e = omega arith
 two_more false m n e = refl
 

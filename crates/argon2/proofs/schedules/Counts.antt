@@ -10,12 +10,7 @@ use Rattle.argon2.specs.Watching.{address_mixings, independent_segments, mixing_
 module _ (ctx : Context) (sizes : Sizes ctx) where
   -- the mixings of the address blocks of a segment that has them
   address_calls : ℕ
-  address_calls = 2 * ((segment_length ctx + 127) / 128)
-
-  -- the last index has the last of them
-  address_calls-up : 2 * address_counter (segment_length ctx - 1) ≡ address_calls
-  unfolding address_calls
-  address_calls-up = let two = sizes.two_columns in omega arith
+  address_calls = 2 * address_counter (segment_length ctx - 1)
 
   -- how many of a lane's segments have address blocks, in pass 0 and in a later pass
   independent_first : ℕ
@@ -31,12 +26,12 @@ module _ (ctx : Context) (sizes : Sizes ctx) where
   -- the mixings of a lane in pass 0
   pass_calls-first : pass_calls 0 + 2 ≡ 4 * segment_length ctx + address_calls * independent_first
   unfolding pass_calls segment_calls address_mixings is_independent address_calls independent_first
-  pass_calls-first = let two = sizes.two_columns in let up = address_calls-up in grind (arith, nat_tests)
+  pass_calls-first = let two = sizes.two_columns in grind (arith, nat_tests)
 
   -- the mixings of a lane in a later pass
   pass_calls-later : (pass : ℕ) → pass_calls (suc pass) ≡ 4 * segment_length ctx + address_calls * independent_later
   unfolding pass_calls segment_calls address_mixings is_independent address_calls independent_later
-  pass_calls-later pass = let up = address_calls-up in grind (arith, nat_tests)
+  pass_calls-later pass = grind (arith, nat_tests)
 
   -- the mixings of a pass's four slices are those of its lanes
   slices_calls-4 : (pass : ℕ) → slices_calls ctx pass 4 ≡ ctx.p_cost * pass_calls pass
@@ -131,8 +126,8 @@ mixing_calls-few ctx sizes =
     (let positive : 1 * p ≤ t * p = mul-le-mul_right p sizes.some_pass in
     cond_both (ctx.algorithm == 1) _ _ (λ x. x ≤ 4 * t * p) (λ _. omega arith) (λ _.
     cond_both (ctx.algorithm == 2) _ _ (λ x. x ≤ 4 * t * p) (λ _. omega arith) (λ _. omega arith))) in
-    let a : (s + 127) / 128 ≤ s = omega arith in
-    let h : (s + 127) / 128 * independent_segments ctx ≤ s * (4 * t * p) = mul-le-mul a n in
+    let a : (s - 1) / 128 + 1 ≤ s = omega arith in
+    let h : ((s - 1) / 128 + 1) * independent_segments ctx ≤ s * (4 * t * p) = mul-le-mul a n in
     let b : t * (p * (4 * s)) ≤ 2 ^ 32 * (p * (4 * s)) = mul-le-mul_right (p * (4 * s)) (let w = sizes.t_cost in omega arith) in
     let room = sizes.in_memory in
     let most = sizes.m_cost in

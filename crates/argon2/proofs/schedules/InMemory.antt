@@ -5,8 +5,8 @@ use Rattle.std.proofs.lemmas.Nat.{mul-add-lt}
 use Rattle.std.proofs.lemmas.Bool.{cond-false, ne_eqb}
 use Rattle.argon2_base.proofs.mixing.MixingLaws.{xor_blocks-comm}
 use Rattle.argon2_base.specs.Block.{mixed, xor_blocks}
-use Rattle.argon2.specs.Rfc9106.{Context, Memory, block_count, lane_length, made_block, place_of, previous, reference, reference_of}
-use Rattle.argon2.specs.Steps.{in_memory, previous_place, reference_place, word_in}
+use Rattle.argon2.specs.Rfc9106.{Context, Memory, block_count, lane_length, made_block, place_of, previous, reference, reference_of, reference_word}
+use Rattle.argon2.specs.Steps.{in_memory, previous_place, reference_place}
 
 -- the place of a lane and a column is within the memory
 pub place_below : (ctx : Context) (lane column : ℕ) → lane < ctx.p_cost → column < lane_length ctx
@@ -25,7 +25,7 @@ previous_in_memory ctx memory pass lane (suc column) =
 
 -- the block that a step makes, of those at their places
 pub made_by_places : (ctx : Context) (memory : Memory) (pass lane column word : ℕ)
-    → word ≡ word_in ctx memory pass lane column
+    → word ≡ reference_word ctx (in_memory ctx memory) pass lane column
     → let block = mixed (slice_index_or memory (previous_place ctx lane column) [])
     (slice_index_or memory (place_of ctx (reference ctx pass lane column word)) []) in
     made_block ctx (in_memory ctx memory) pass lane column
@@ -41,7 +41,7 @@ made_by_places ctx memory pass lane column word is =
 
 -- the place of the reference that a word takes
 pub place_by_word : (ctx : Context) (memory : Memory) (pass lane column word : ℕ)
-    → word ≡ word_in ctx memory pass lane column
+    → word ≡ reference_word ctx (in_memory ctx memory) pass lane column
     → reference_place ctx memory pass lane column ≡ place_of ctx (reference ctx pass lane column word)
 unfolding reference_place reference_of
 place_by_word ctx memory pass lane column word is = rw is refl

@@ -7,7 +7,7 @@ ghost use Rattle.argon2.specs.Watching.{Fills, IsFilledFrom, begun, in_order, mi
 ghost use Rattle.argon2.specs.Laws.{Begins};
 ghost use Rattle.argon2.specs.Steps.{in_memory, previous_place, reference_place, step, turn_count, IsStep, IsStepIn};
 
-use super::instance::Instance;
+use super::instance::{Instance, SLICES};
 use crate::{Block, Work};
 use std::convert::AsSlice;
 
@@ -67,7 +67,7 @@ impl<'a> Instance<'a> {
             memory.old memory.new positions.old positions.new }
         ensures work { work.new ≡ work.old + slices_calls self.now pass 4 }
     {
-        for slice in 0..4 {
+        for slice in 0..SLICES {
             self.fill_slice(memory, positions, pass, slice, work);
         }
     }

@@ -8,6 +8,9 @@ ghost use Rattle.argon2.specs.Argon2.{settings_with};
 use crate::{Algorithm, Params, Version};
 use std::marker::Model;
 
+/// The slices of a pass.
+pub(super) const SLICES: u32 = 4;
+
 /// A variant with its costs and its keys, and the shape of the memory that follows from them.
 #[derive(Drop)]
 pub(crate) struct Instance<'a> {
@@ -65,7 +68,7 @@ impl<'a> Instance<'a> {
             m_cost,
             t_cost: params.t_cost(),
             p_cost,
-            segment_length: m_cost / (4 * p_cost),
+            segment_length: m_cost / (SLICES * p_cost),
             secret,
             associated,
         }
@@ -96,7 +99,7 @@ impl<'a> Instance<'a> {
     pub(super) fn lane_length(&self) -> u32
         ensures { IsSize lane_length self.now result }
     {
-        4 * self.segment_length()
+        SLICES * self.segment_length()
     }
 
     /// The blocks of all lanes.

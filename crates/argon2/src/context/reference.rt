@@ -7,9 +7,12 @@ ghost use Rattle.argon2.specs.Steps.{IsStep};
 ghost use Rattle.argon2.specs.Watching.{address_mixings};
 
 use super::fill::Step;
-use super::instance::Instance;
+use super::instance::{Instance, SLICES};
 use crate::{Algorithm, Block, Work};
 use std::convert::AsSlice;
+
+/// The columns of a segment that one address block serves.
+const ADDRESS_COLUMNS: u32 = 128;
 
 /// Some words, and zeros after them.
 fn block_of_words(words: &[u64]) -> Block
@@ -47,14 +50,13 @@ impl<'a> Instance<'a> {
         match addresses {
             Some(block) => {
                 let index = at.column % self.segment_length();
-                block.as_slice()[(index % 128) as usize]
+                block.as_slice()[(index % ADDRESS_COLUMNS) as usize]
             }
             None => first,
         }
     }
 
-    /// Replaces the address block of the column before by that of a step, if another begins there:
-    /// one serves 128 columns of a segment.
+    /// Replaces the address block of the column before by that of a step, if another begins there.
     pub(super) fn renew(&self, addresses: &mut Option<Block>, at: Step, work: &mut Work)
         requires before { let segment = segment_length self.now in
             addresses.old ≡ addresses_at self.now at.pass at.lane (at.column / segment)
@@ -67,7 +69,7 @@ impl<'a> Instance<'a> {
             work.new + mixings (index - 1) ≡ work.old + mixings index }
     {
         let index = at.column % self.segment_length();
-        if index > 0 && index % 128 == 0 {
+        if index > 0 && index % ADDRESS_COLUMNS == 0 {
             *addresses = self.addresses(at, work);
         }
     }
@@ -83,7 +85,8 @@ impl<'a> Instance<'a> {
         let slice = at.column / self.segment_length();
         let index = at.column % self.segment_length();
         if self.is_independent(at.pass, slice) {
-            Some(self.address_block(at.pass, at.lane, slice, index / 128 + 1, work))
+            let counter = index / ADDRESS_COLUMNS + 1;
+            Some(self.address_block(at.pass, at.lane, slice, counter, work))
         } else {
             None
         }
@@ -181,7 +184,7 @@ impl<'a> Instance<'a> {
         let finished = if at.pass == 0 {
             at.column / segment * segment
         } else {
-            3 * segment
+            (SLICES - 1) * segment
         };
         if index == 0 {
             finished - 1

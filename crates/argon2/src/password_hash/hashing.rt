@@ -130,7 +130,7 @@ fn asked_algorithm(name: Option<&str>) -> Result<Algorithm>
     ensures { IsValueOr bad_algorithm (λ a. a) (algorithm_asked (option_copied name.entry)) result }
 {
     let Some(name) = name else {
-        return Ok(Algorithm::Argon2id);
+        return Ok(Algorithm::default());
     };
     Algorithm::try_from(name)
 }
@@ -140,7 +140,7 @@ fn asked_version(number: Option<u32>) -> Result<Version>
     ensures { IsValueOr bad_version (λ v. v) (version_asked number) result }
 {
     let Some(number) = number else {
-        return Ok(Version::V0x13);
+        return Ok(Version::default());
     };
     Ok(Version::try_from(number)?)
 }

@@ -6,13 +6,15 @@ use Rattle.argon2.proofs.context.instance.Instance.step_at.Goals as goal
 
 pub overflow_mul-column : goal.overflow_mul-column
 overflow_mul-column c =
-    let fits = column_fits _ c.args.slice c.args.index c.segment_length.ensures.sizes c.requires.in_slices c.requires.in_segment in
+    let fits = column_fits _ c.args.slice c.args.index c.segment_length.ensures.sizes c.requires.in_slices
+    c.requires.in_segment in
     let product = ap (λ n. c.args.slice * n) c.segment_length.ensures.value in
     omega arith
 
 pub overflow_add-column : goal.overflow_add-column
 overflow_add-column c =
-    let fits = column_fits _ c.args.slice c.args.index c.segment_length.ensures.sizes c.requires.in_slices c.requires.in_segment in
+    let fits = column_fits _ c.args.slice c.args.index c.segment_length.ensures.sizes c.requires.in_slices
+    c.requires.in_segment in
     let product = ap (λ n. c.args.slice * n) c.segment_length.ensures.value in
     omega arith
 
