@@ -1,42 +1,51 @@
 -- What an open finds.
-use Rattle.std.proofs.Common.{◌≡◌, ℕ, ◌≤◌, Bool, true, false, cond, List, [], ◌∷◌, Option, None, inl, inr, refl, sym, ap, ap₂, subst, subst₂, ◌∙◌, arith, IsTrue}
+use Rattle.std.proofs.Common.{◌≡◌, ℕ, ◌≤◌, Bool, true, false, cond, List, [], ◌∷◌, Option, None, inl, inr, refl, sym, ap, ap₂, subst, subst₂, ◌∙◌, arith, IsTrue, ◌↔◌}
 use Rattle.std.proofs.lemmas.Bool.{cases_eq}
 use Rattle.std.proofs.Math.Logic.{∥∥₁_elim, ∥∥₁_map}
 use Rattle.sqlite_disk.specs.declared.Disk.{Ghosts}
 use Rattle.sqlite_value.specs.Keys.{plain}
 use Rattle.sqlite_value.specs.Order.{Row, column}
+use Rattle.sqlite_wal.specs.Files.{outcomes, seen_image}
 use Rattle.sqlite_wal.specs.Format.{be32}
+use Rattle.sqlite_wal.specs.Reads.{AreClean, OnlyReadsBoth}
 use Rattle.sqlite_wal.specs.Recovery as raw
-use Rattle.sqlite_wal.specs.Recovery.{Image, IsIgnored}
+use Rattle.sqlite_wal.specs.Recovery.{AreWhole, Image, IsIgnored}
 use Rattle.sqlite_wal.proofs.RecoveryLemmas.{recovers_once as raw_once}
 use Rattle.sqlite_pages.specs.PageMap.{PageMap}
 use Rattle.sqlite_pool.specs.File.{IsSoundFile, in_use, unlocked}
 use Rattle.sqlite_pool.specs.FreeList.{live}
-use Rattle.sqlite_pool.specs.Stored.{Adopts, Recovers, reserved, stored_size}
-use Rattle.sqlite_pool.specs.StoredLaws.{recovers_once}
+use Rattle.sqlite_pool.specs.Opening.{IsBlankFile}
+use Rattle.sqlite_pool.specs.Stored.{Adopts, IsUnreadable, Recovers, RecoversAs, reserved, stored_size}
+use Rattle.sqlite_pool.specs.StoredLaws.{RecoversAs-from, readable, recovers_once, trimmed_whole}
 use Rattle.sqlite_pool.proofs.PoolLemmas.{none_of}
 use Rattle.sqlite_pool.proofs.ProbeLemmas.{not_blank, reserved_word, size_by_file, size_by_log}
 use Rattle.sqlite_pool.proofs.ResealLemmas.{adopts_of}
-use Rattle.sqlite_pool.proofs.StateLemmas.{size_is_allowed}
-use Rattle.sqlite_trees.proofs.Doubt.{clean_of}
+use Rattle.sqlite_pool.proofs.StateLemmas.{clean_if_left, clean_is, size_is_allowed}
+use Rattle.sqlite_pool.specs.Pool.{files as pool_files, state as pool_state}
+use Rattle.sqlite_trees.proofs.Doubt.{clean_of, no_doubt}
 use Rattle.sqlite_trees.specs.Objects.{catalog_tree}
 use Rattle.sqlite_trees.specs.Tree.{Trees}
 use Rattle.sqlite_trees.specs.View.{IsClean}
 use Rattle.sqlite_trees.specs.declared.store.Shape.TheVariants.{Index, Table}
 use Rattle.sqlite_btree.proofs.StoredLemmas.{stored_root_live}
+use Rattle.sqlite_store.proofs.BuildLemmas.{new_is_empty}
 use Rattle.sqlite_store.specs.Catalog.{describes, is_about, root_in}
 use Rattle.sqlite_store.specs.Db.{IsFile, roots_of, rows_at, trees_in}
-use Rattle.sqlite_store.specs.FileStore.{IsReady, reading, recovers, schema_in, schema_of, state, view}
+use Rattle.sqlite_store.specs.Calls.{IsQuietCall}
+use Rattle.sqlite_store.specs.Laws.{not_broken, settled_at}
+use Rattle.sqlite_pool.specs.declared.pool.Pool.{Pool}
+use Rattle.sqlite_wal.proofs.LogLemmas.{SeenMayStay}
+use Rattle.sqlite_store.specs.FileStore.{IsReady, files, reading, recovers, schema_in, schema_of, state, view}
 use Rattle.sqlite_store.specs.Listed.{catalog_rows, same_listing}
 use Rattle.sqlite_store.specs.Listing.{all_reals, all_shapes, all_trees, file_trees, listed_from}
 use Rattle.sqlite_store.specs.Saved.{kept_schema}
-use Rattle.sqlite_store.specs.Unopened.{image, state_of}
+use Rattle.sqlite_store.specs.Unopened.{files_of, image, state_of, wanted_by}
 use Rattle.sqlite_store.specs.Unopened as below
 use Rattle.sqlite_store.specs.declared.catalog.Wanted.{Wanted}
 use Rattle.sqlite_store.specs.declared.store.FileStore.{FileStore}
 use Rattle.sqlite_store.specs.declared.store.open.Unopened.{Unopened}
 use Rattle.argon2.specs.NamedTexts.{Store}
-use Rattle.argon2_store.specs.Opening.{HoldsNames, IsUnstarted, account}
+use Rattle.argon2_store.specs.Opening.{AreUnharmed, FoundIn, HoldsNames, IsUnstarted, MayHave, StandsFor, account}
 use Rattle.argon2_store.specs.Table.{Holds, IsFresh, catalog}
 
 -- ---- a store that is ready
@@ -59,6 +68,147 @@ pub unstarted : {D : Type 0} {g : Ghosts D} (it : Unopened D g) → below.IsUnst
     → IsUnstarted (state_of it).page_size (image it)
 unstarted it (inl blank) = inl blank
 unstarted it (inr empty) = inr (empty.0, empty.1, empty.2.0.sound, empty.2.1)
+
+-- ---- an open that fails
+
+module _ {D : Type 0} {g : Ghosts D} (old : Unopened D g) (sized : (state_of old).page_size ≡ 4096) (left : Image) where
+  abbrev pub Stays : Type 0
+  Stays = StandsFor (state_of old).may_leave (image old) left
+
+  pub as_before : below.IsAsBefore old left → Stays
+  as_before is = elim is.same [
+    | inl was ↦ inl was
+    | inr same ↦ inr (inl (
+      subst (λ n. RecoversAs n (image old) left) sized same,
+      λ none. is.unread (subst (λ n. IsUnreadable n (image old)) (sym sized) none),
+    ))
+  ]
+
+  table_there : wanted_by old ≡ account ∷ [] → below.IsOnTheWay old left → ∥ MayHave left [] ∥₁
+  unfolding all_trees
+  table_there wants (inl blank) = ∣ inr (inl (subst (λ n. IsBlankFile n left) sized blank), refl) ∣₁
+  table_there wants (inr (pages, recs, inl new)) =
+      let size = (state_of old).page_size in
+      let whole = subst (AreWhole size) recs.shows (trimmed_whole size recs.stored recs.whole) in
+      ∣ inr (
+        inr (subst (λ n. (ps : PageMap) × Recovers n left ps × IsSoundFile n ps × (rows_at n (in_use n ps) Table 1 ≡ [])) sized
+            (pages, recs, new.sound, (new_is_empty size pages whole new).1)),
+        refl,
+      ) ∣₁
+  table_there wants (inr (pages, recs, inr fresh)) = ∥∥₁_elim (size_is_allowed old.pool) squash₁ (λ allowed. ∥∥₁_map fresh (λ ours.
+      inl ((state_of old).page_size, wanted_by old, pages, allowed, recs, ours.0.file, ap (listed_from 0) wants, ours.1 0)))
+
+-- where there was no table, an open may have begun one
+pub made : {D : Type 0} {g : Ghosts D} (old mid : Unopened D g) (sized : (state_of old).page_size ≡ 4096)
+    → (state_of mid).page_size ≡ (state_of old).page_size → (left : Image) → wanted_by mid ≡ account ∷ []
+    → ∥ IsUnstarted (state_of old).page_size (image old) ∥₁ → below.IsOnTheWay mid left → Stays old sized left
+made old mid sized same left wants none way = inr (inr (
+  [],
+  ∣ inr (subst (λ n. ∥ IsUnstarted n (image old) ∥₁) sized none, refl) ∣₁,
+  table_there mid (same ∙ sized) left wants way,
+))
+
+-- after the schema was read
+module _ {D : Type 0} {g : Ghosts D} (old mid : Unopened D g) (rows : List Row) (listed : below.IsCatalogOf old mid rows)
+    (sized : (state_of mid).page_size ≡ (state_of old).page_size) where
+  pub bare : rows ≡ [] → ∥ IsUnstarted (state_of old).page_size (image old) ∥₁
+  bare none = ∥∥₁_map listed.shows.clean.sound (λ sound. inr (
+    listed.pages,
+    listed.found,
+    subst₂ IsSoundFile sized listed.shows.committed sound,
+    sym listed.lists ∙ none,
+  ))
+
+  pub after : below.Opens old (state_of mid) → (left : Image) → below.IsAsBefore mid left → below.IsAsBefore old left
+  after opens left is = record {
+    same = elim is.same [
+      | inl may ↦ (opens.crash left may).same
+      | inr same ↦ inr (λ pages was. subst (λ n. RecoversAs n (image mid) left) sized same pages
+          (RecoversAs-from _ (image old) (image mid) listed.pages listed.found listed.again pages was))
+    ];
+    unread = λ none. absurd (readable _ (image old) listed.pages listed.found none);
+  }
+
+module _ {D : Type 0} {g : Ghosts D} where
+  pub only_read : (old new : D × D) → OnlyReadsBoth g old new → AreUnharmed g old new
+  only_read old new reads clean left may = inl (reads.0.crash left.log may.0, reads.1.crash left.db may.1)
+
+  module _ (it : Pool D g) (files : D × D) (same : pool_files it ≡ files) where
+    is_clean : IsTrue (pool_state it).is_clean → AreClean g files.0 files.1
+    is_clean clean = subst (λ (p : D × D). AreClean g p.0 p.1) same (subst IsTrue (clean_is it) clean)
+
+    may_leave : AreClean g files.0 files.1 → (left : Image) → outcomes g files.0 files.1 left → (pool_state it).may_leave left
+    unfolding pool_state pool_files
+    may_leave clean left may =
+        subst (λ (p : D × D). AreClean g p.0 p.1 × outcomes g p.0 p.1 left) (sym same) (clean, may)
+
+    leaves : (left : Image) → (pool_state it).may_leave left → outcomes g files.0 files.1 left
+    unfolding pool_state pool_files
+    leaves left may = subst (λ (p : D × D). outcomes g p.0 p.1 left) same may.1
+
+  module _ (old : D × D) (it : Unopened D g) (mid : D × D) (same : files_of it ≡ mid) (reads : OnlyReadsBoth g old mid) where
+    pub image_is : image it ≡ seen_image g old.0 old.1
+    image_is = ap (λ (p : D × D). seen_image g p.0 p.1) same
+        ∙ ap₂ (λ (a b : List ℕ). record { log = a; db = b }) reads.0.seen reads.1.seen
+
+    -- what was probed says so of the files as they were
+    pub probed : (b : Bool) (size : ℕ) → (state_of it).page_size ≡ size
+        → (AreClean g mid.0 mid.1 → (IsTrue b ↔ IsBlankFile size (seen_image g old.0 old.1)))
+        → IsTrue b → IsTrue (state_of it).is_clean → IsBlankFile (state_of it).page_size (image it)
+    probed b size sized probe new clean = subst₂ IsBlankFile (sym sized) (sym image_is)
+        ((probe (is_clean it.pool mid same clean)).0 new)
+
+    pub unharmed : (state_of it).page_size ≡ 4096 → (end : Unopened D g) (new : D × D) → new ≡ files_of end
+        → ((state_of it).page_size ≡ 4096 → IsTrue (state_of end).is_clean → (left : Image) → (state_of end).may_leave left
+        → StandsFor (state_of it).may_leave (image it) left)
+        → AreUnharmed g old new
+    unharmed sized end new closed stands clean left may =
+        let within : (l : Image) → (state_of it).may_leave l → outcomes g old.0 old.1 l =
+        λ l m. (reads.0.crash l.log (leaves it.pool mid same l m).0, reads.1.crash l.db (leaves it.pool mid same l m).1) in
+        let left_so = may_leave end.pool new (sym closed) clean left may in
+        elim (stands sized (clean_if_left end.pool left left_so) left left_so) [
+          | inl was ↦ inl (within left was)
+          | inr more ↦ elim more [
+            | inl pages ↦ inr (inl (
+              subst (λ i. RecoversAs 4096 i left) image_is pages.0,
+              λ none. within left (pages.1 (subst (IsUnreadable 4096) (sym image_is) none)),
+            ))
+            | inr rows ↦ inr (inr (rows.0, subst (λ i. ∥ FoundIn 4096 i (rows.0) ∥₁) image_is rows.1, rows.2))
+          ]
+        ]
+
+-- The rows were read, or not all of them: whatever a crash leaves has those that the open found.
+pub unharmed_by_reads : {D : Type 0} {g : Ghosts D} (old : D × D) (it end : FileStore D g) (new : D × D) → SeenMayStay g
+    → IsQuietCall it end → (IsClean (view it) → IsFresh (view it))
+    → (IsClean (view it) → FoundIn 4096 (seen_image g old.0 old.1) ((view it).committed 0)) → new ≡ files end
+    → AreUnharmed g old new
+unfolding catalog
+unharmed_by_reads {D} {g} old it end new stay quiet fresh found closed clean left may =
+    let may_so = may_leave end.pool new (sym closed) clean left may in
+    let now = clean_if_left end.pool left may_so in
+    let was : IsClean (view it) = omega (arith, quiet.clean, no_doubt _ now) in
+    let first = fresh was in
+    let size = (state end).page_size in
+    inr (inr (
+      (view it).committed 0,
+      ∣ found was ∣₁,
+      ∥∥₁_elim end.safe squash₁ (λ all.
+          let (pages, recs, ours) = all left may_so in
+          let db = reading end pages in
+          let same = settled_at it stay db (not_broken _ _ first.unbroken).1
+          (quiet.outcomes db (left, pages, may_so, ∣ recs ∣₁, refl)) in
+          ∥∥₁_elim (size_is_allowed end.pool) squash₁ (λ allowed. ∥∥₁_map ours (λ ours. inl (
+            size,
+            schema_in end pages,
+            pages,
+            allowed,
+            recs,
+            ours.file,
+            sym (catalog_rows size (schema_in end pages) _) ∙ ap (λ (t : Trees). t catalog_tree) (same ∙ sym first.settled)
+                ∙ first.listed,
+            ap (λ (t : Trees). t 0) same,
+          )))),
+    ))
 
 -- ---- the size of a page
 

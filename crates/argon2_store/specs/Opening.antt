@@ -6,12 +6,15 @@ use Rattle.sqlite_value.specs.Order.{Row}
 use Rattle.sqlite_disk.specs.declared.Disk.{Ghosts}
 use Rattle.sqlite_pages.specs.PageMap.{PageMap}
 use Rattle.sqlite_pool.specs.Opening.{IsBlankFile}
-use Rattle.sqlite_pool.specs.Stored.{Recovers}
-use Rattle.sqlite_store.specs.Listing.{file_trees}
+use Rattle.sqlite_pool.specs.Stored.{IsUnreadable, Recovers, RecoversAs, stored_size}
+use Rattle.sqlite_store.specs.Listing.{file_trees, listed_from}
 use Rattle.sqlite_store.specs.declared.catalog.Wanted.{Wanted}
 use Rattle.sqlite_store.specs.Db.{IsFile, rows_at}
 use Rattle.sqlite_pool.specs.File.{IsSoundFile, in_use}
 use Rattle.sqlite_trees.specs.declared.store.Shape.TheVariants.{Index, Table}
+use Rattle.sqlite_wal.specs.Files.{outcomes, seen_image}
+use Rattle.sqlite_wal.specs.PageSize.{IsPageSize}
+use Rattle.sqlite_wal.specs.Reads.{AreClean}
 use Rattle.sqlite_wal.specs.Recovery.{Image}
 use Rattle.sqlite_value.specs.declared.value.Value.TheVariants.{Text}
 use Rattle.sqlite_value.specs.Keys.{plain}
@@ -46,3 +49,29 @@ FoundIn size image rows =
 -- the two files hold exactly these names with their texts
 abbrev pub HoldsNames : Image → Store → Type 0
 HoldsNames image names = AreTexts names × FoundIn 4096 image (rows_of names)
+
+-- ---- an open that fails
+
+-- the files recover to a database of that table alone, whatever the size of a page, which has these rows
+abbrev pub IsTableOf : Image → List Row → Type 0
+IsTableOf image rows = (size : ℕ) × (schema : List Wanted) × (pages : PageMap) × IsPageSize (stored_size size)
+    × Recovers size image pages × IsFile size schema pages × (listed_from 0 schema ≡ listed_from 0 (account ∷ []))
+    × (file_trees size schema pages 0 ≡ rows)
+
+-- An open may find these rows: those of the table, or none if there is no table yet.
+abbrev pub MayHave : Image → List Row → Type 0
+MayHave image rows = IsTableOf image rows ⊎ (IsUnstarted 4096 image × (rows ≡ []))
+
+-- What stands for two files: what stood for them before, or files that recover to the same pages, if they recover to any, or
+-- that have the same rows.
+abbrev pub StandsFor : (Image → Type 0) → Image → Image → Type 0
+StandsFor was before left =
+    was left
+    ⊎ ((RecoversAs 4096 before left × (IsUnreadable 4096 before → was left))
+    ⊎ ((rows : List Row) × ∥ FoundIn 4096 before rows ∥₁ × ∥ MayHave left rows ∥₁))
+
+-- Whatever a crash leaves of the new log and database file stands for the old ones, while the disk has given no wrong answer
+-- that was taken as true.
+abbrev pub AreUnharmed : {D : Type 0} → Ghosts D → D × D → D × D → Type 0
+AreUnharmed g old new = AreClean g new.0 new.1 → (left : Image) → outcomes g new.0 new.1 left
+    → StandsFor (outcomes g old.0 old.1) (seen_image g old.0 old.1) left

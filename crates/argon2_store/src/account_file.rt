@@ -1,29 +1,32 @@
 //! Accounts in a file.
 
-ghost use Rattle.std.specs.Prelude.{◌≡◌, ◌↔◌, Ok, Err, IsTrue, IfErr, IfOk, OnOk, MatchResult, length, map};
+ghost use Rattle.std.specs.Prelude.{◌≡◌, ◌⊎◌, ◌↔◌, Ok, Err, IsTrue, IfErr, IfOk, OnOk, MatchResult, length, map};
 ghost use Rattle.std.specs.FinMap.{entries, get};
 ghost use Rattle.std.specs.Option.{option_copied, option_map};
 ghost use Rattle.rand_core.specs.Stream.{fill_bytes};
 ghost use Rattle.argon2_base.specs.PhcFields.{phc_of};
-ghost use Rattle.argon2_accounts.specs.Accounts.{HasPassword, adding, changing, logging_in, registering, removing, setting};
+ghost use Rattle.argon2_accounts.specs.Accounts as kept;
+ghost use Rattle.argon2_accounts.specs.Accounts.{AreTerms, HasPassword, adding, changing, logging_in, registering, removing, setting};
 ghost use Rattle.argon2.specs.NamedTexts.{named_values};
 ghost use Rattle.argon2.specs.Made.{target_of};
 ghost use Rattle.argon2_store.specs.Adding.{entry_of};
-ghost use Rattle.argon2_store.specs.Errors.{answered};
+ghost use Rattle.argon2_store.specs.Errors.{IsOfDatabase, answered};
+ghost use Rattle.argon2_store.specs.declared.error.OpenError.TheVariants.{Row as NoAccount};
 
 use crate::error::{FileError, OpenError};
-use crate::opening::open_path;
+use crate::opening::{open_path, open_table};
 use crate::table::Table;
 use argon2::bound::Bound;
 use argon2::login::{Accepted, LoggedIn};
 use argon2::{Argon2, PasswordHash};
 use argon2_accounts::{AccountError, Policy};
 use rand_core::Rng;
-use sqlite_disk::Disk;
+use sqlite_disk::{Disk, Files};
 use sqlite_std_file::{FileFrom, Start};
 use sqlite_store::FileStore;
 use sqlite_trees::error::StoreError;
 use sqlite_trees::store::Store;
+use std::alloc::Global;
 use std::collections::btree_map::Iter;
 
 /// Names with passwords, each stored as a PHC text, in memory and in a file. Its calls are those of
@@ -342,11 +345,45 @@ impl<'key, T: Start> AccountsAt<'key, T> {
             Ok(policy) => policy,
             Err(error) => return Err(OpenError::Terms(error)),
         };
-        let store = open_path(rt, path, start)?;
-        Ok(AccountFile {
-            policy,
-            table: Table::open(rt.alloc(), store)?,
-        })
+        let (files, seed) = open_path(rt, path, start)?;
+        match AccountFile::open_from(rt.alloc(), files, seed, policy) {
+            Ok(file) => Ok(file),
+            Err((error, _)) => Err(error),
+        }
+    }
+}
+
+impl<'key, D: Disk + Drop> AccountFile<'key, FileStore<D>> {
+    ghost use Rattle.argon2_store.specs.AccountFile.{HasFound, IsReady};
+    ghost use Rattle.argon2_store.specs.Opening.{AreUnharmed};
+    ghost use Rattle.sqlite_wal.specs.Files.{seen_image};
+
+    /// Opens the accounts in a database file and its log, or makes them if there is no table yet.
+    /// [`open`](AccountFile::open) does so with the files at a path. `seed` is a random number, for the
+    /// log. An error comes with the files: whatever a crash leaves of them, during the call or after it,
+    /// stands for the accounts that they held.
+    ///
+    /// # Errors
+    /// [`OpenError::NotAccounts`], [`OpenError::Row`], [`OpenError::Io`], [`OpenError::Full`] and
+    /// [`OpenError::OutOfMemory`], as [`open`](AccountFile::open).
+    pub fn open_from(
+        alloc: Global,
+        files: Files<D>,
+        seed: u64,
+        policy: Policy<'key>,
+    ) -> Result<AccountFile<'key, FileStore<D>>, (OpenError, Files<D>)>
+        requires { IsTrue (D.Disk.is_usable files.log) × IsTrue (D.Disk.is_usable files.db) }
+        ensures ready { AreTerms (kept.terms_of policy.entry) →
+            IfOk result (IsReady (kept.terms_of policy.entry)) }
+        ensures found { IfOk result (HasFound (seen_image D.Disk files.log files.db)) }
+        ensures error { IfErr result (λ e. (e.0 ≡ NoAccount) ⊎ IsOfDatabase e.0) }
+        ensures unharmed { IfErr result (λ e.
+            AreUnharmed D.Disk (files.log, files.db) (e.1.log, e.1.db)) }
+    {
+        match open_table(alloc, files, seed) {
+            Ok(table) => Ok(AccountFile { policy, table }),
+            Err(failed) => Err(failed),
+        }
     }
 }
 

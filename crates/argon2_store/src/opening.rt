@@ -1,16 +1,25 @@
 //! Opening the file at a path, or making it.
 
-ghost use Rattle.std.specs.Prelude.{◌≡◌, ◌⊎◌, [], ◌∷◌, IsTrue, IfErr, IfOk, OnOk};
-ghost use Rattle.sqlite_store.specs.FileStore.{view};
-ghost use Rattle.sqlite_store.specs.Unopened.{AreUsable, image, state_of, wanted_by};
+ghost use Rattle.std.specs.Prelude.{◌≡◌, ◌⊎◌, [], ◌∷◌, true, false, IsTrue, IfErr, IfOk, OnOk};
+ghost use Rattle.sqlite_store.specs.FileStore.{recovers, view};
+ghost use Rattle.sqlite_store.specs.Unopened.{AreUsable, Creates, Opens, image, state_of, wanted_by};
 ghost use Rattle.sqlite_store.specs.Unopened as below;
+ghost use Rattle.sqlite_pool.specs.Opening.{IsBlankFile};
+ghost use Rattle.sqlite_std_file.specs.File.{IsFresh, file_is_usable};
+ghost use Rattle.sqlite_trees.specs.Tree.{Trees};
 ghost use Rattle.sqlite_trees.specs.View.{IsClean};
-ghost use Rattle.sqlite_wal.specs.Files.{image_at, seen_image};
+ghost use Rattle.sqlite_wal.specs.Files.{seen_image};
+ghost use Rattle.sqlite_wal.specs.Recovery.{Image};
 ghost use Rattle.argon2_store.specs.Errors.{IsOfDatabase, IsOfPath};
-ghost use Rattle.argon2_store.specs.Opening.{FoundIn, IsReadAs, account};
-ghost use Rattle.argon2_store.specs.Table.{IsFresh};
+ghost use Rattle.argon2_store.specs.Opening.{AreUnharmed, FoundIn, IsReadAs, StandsFor, account};
+ghost use Rattle.argon2_store.specs.Rows.{rows_of};
+ghost use Rattle.argon2_store.specs.Shown.{file_of, names_of};
+ghost use Rattle.argon2_store.specs.Table as table;
+ghost use Rattle.argon2_store.specs.Table.{Holds};
+ghost use Rattle.argon2_store.specs.declared.error.OpenError.TheVariants.{Row as NoAccount};
 
 use crate::error::OpenError;
+use crate::table::Table;
 use sqlite_disk::{Disk, Files};
 use sqlite_pager::{Options, PageSize, Pager};
 use sqlite_pool::probe_blank;
@@ -39,18 +48,22 @@ const ACCOUNT: Object<'static> = Object {
 const PAGE: usize = 4096;
 
 // Makes the table.
-fn make<D: Disk + Drop>(files: Unopened<D>) -> Result<FileStore<D>, OpenError>
+fn make<D: Disk + Drop>(files: Unopened<D>) -> Result<FileStore<D>, (OpenError, Unopened<D>)>
     requires usable { AreUsable files }
     requires schema { wanted_by files ≡ account ∷ [] }
-    ensures fresh { IfOk result (λ it. IsClean (view it) → IsFresh (view it)) }
+    ensures fresh { IfOk result (λ it. IsClean (view it) → table.IsFresh (view it)) }
     ensures honest { IfOk result (λ it. IsClean (view it) → IsTrue (state_of files).is_clean) }
     ensures empty { IfOk result (λ it. IsClean (view it) →
         ∥ below.IsUnstarted files ∥₁ × ((view it).committed 0 ≡ [])) }
-    ensures error { IfErr result IsOfDatabase }
+    ensures error { IfErr result (λ e. IsOfDatabase e.0) }
+    ensures falls { IfErr result (λ e.
+        IsTrue (state_of e.1).is_clean → IsTrue (state_of files).is_clean) }
+    ensures left { IfErr result (λ e.
+        IsTrue (state_of e.1).is_clean → Creates files (state_of e.1)) }
 {
     match files.create() {
         Ok(store) => Ok(store),
-        Err((error, _left)) => Err(error.into()),
+        Err((error, left)) => Err((error.into(), left)),
     }
 }
 
@@ -63,6 +76,8 @@ fn is_bare<D: Disk + Drop>(files: &mut Unopened<D>) -> Result<bool, OpenError>
     ensures schema { wanted_by files.new ≡ wanted_by files.old }
     ensures size { IsTrue (state_of files.new).is_clean →
         (state_of files.new).page_size ≡ (state_of files.old).page_size }
+    ensures honest { IsTrue (state_of files.new).is_clean → IsTrue (state_of files.old).is_clean }
+    ensures kept { IsTrue (state_of files.new).is_clean → Opens files.old (state_of files.new) }
     ensures error { IfErr result IsOfDatabase }
 {
     let rows = files.read_catalog()?;
@@ -70,65 +85,112 @@ fn is_bare<D: Disk + Drop>(files: &mut Unopened<D>) -> Result<bool, OpenError>
 }
 
 // Opens the table, or makes it in a database without tables, such as a first open that was cut off leaves.
-fn attach<D: Disk + Drop>(mut files: Unopened<D>) -> Result<FileStore<D>, OpenError>
+fn attach<D: Disk + Drop>(
+    mut files: Unopened<D>,
+    is_new: bool,
+) -> Result<FileStore<D>, (OpenError, Unopened<D>)>
     requires usable { AreUsable files }
     requires schema { wanted_by files ≡ account ∷ [] }
-    ensures fresh { IfOk result (λ it. IsClean (view it) → IsFresh (view it)) }
+    requires blank { IsTrue is_new → IsTrue (state_of files).is_clean →
+        IsBlankFile (state_of files).page_size (image files) }
+    ensures fresh { IfOk result (λ it. IsClean (view it) → table.IsFresh (view it)) }
     ensures found { IfOk result (λ it. IsClean (view it) →
         FoundIn (state_of files).page_size (image files) ((view it).committed 0)) }
-    ensures error { IfErr result IsOfDatabase }
+    ensures error { IfErr result (λ e. IsOfDatabase e.0) }
+    ensures falls { IfErr result (λ e.
+        IsTrue (state_of e.1).is_clean → IsTrue (state_of files).is_clean) }
+    ensures left { IfErr result (λ e. (state_of files).page_size ≡ 4096 →
+        IsTrue (state_of e.1).is_clean → (left : Image) → (state_of e.1).may_leave left →
+        StandsFor (state_of files).may_leave (image files) left) }
 {
-    if is_bare(&mut files)? {
+    if is_new {
         return make(files);
+    }
+    match is_bare(&mut files) {
+        Ok(true) => return make(files),
+        Ok(false) => {}
+        Err(error) => return Err((error, files)),
     }
     match files.open() {
         Ok(store) => Ok(store),
-        Err((error, _left)) => Err(error.into()),
+        Err((error, left)) => Err((error.into(), left)),
     }
 }
 
-// Opens two files, or makes the table in them.
+// Opens two files, or makes the table in them. An error comes with the files.
 pub(crate) fn open_files<D: Disk + Drop>(
     alloc: Global,
     mut files: Files<D>,
     seed: u64,
-) -> Result<FileStore<D>, OpenError>
+) -> Result<FileStore<D>, (OpenError, Files<D>)>
     requires { IsTrue (D.Disk.is_usable files.log) × IsTrue (D.Disk.is_usable files.db) }
-    ensures fresh { IfOk result (λ it. IsClean (view it) → IsFresh (view it)) }
+    ensures fresh { IfOk result (λ it. IsClean (view it) → table.IsFresh (view it)) }
     ensures found { IfOk result (λ it. IsClean (view it) →
         FoundIn 4096 (seen_image D.Disk files.log files.db) ((view it).committed 0)) }
-    ensures error { IfErr result IsOfDatabase }
+    ensures error { IfErr result (λ e. IsOfDatabase e.0) }
+    ensures left { IfErr result (λ e.
+        AreUnharmed D.Disk (files.log, files.db) (e.1.log, e.1.db)) }
 {
     let Some(size) = PageSize::new(PAGE) else {
-        return Err(OpenError::NotAccounts);
+        return Err((OpenError::NotAccounts, files));
     };
-    let is_new = probe_blank(alloc, &mut files, size, false)?;
+    let is_new = match probe_blank(alloc, &mut files, size, false) {
+        Ok(is_new) => is_new,
+        Err(error) => return Err((error.into(), files)),
+    };
     let pager = match Pager::new(alloc, files, size, Options::new(seed)) {
         Ok(pager) => pager,
-        Err(AllocFailed { value: _ }) => return Err(OpenError::OutOfMemory),
+        Err(AllocFailed { value }) => return Err((OpenError::OutOfMemory, value)),
     };
     let unopened = match Unopened::new(alloc, pager, &[ACCOUNT]) {
         Ok(unopened) => unopened,
-        Err(AllocFailed { value: _ }) => return Err(OpenError::OutOfMemory),
+        Err(AllocFailed { value }) => return Err((OpenError::OutOfMemory, value.close())),
     };
-    if is_new {
-        return make(unopened);
+    match attach(unopened, is_new) {
+        Ok(store) => Ok(store),
+        Err((error, left)) => Err((error, left.close())),
     }
-    attach(unopened)
 }
 
-// Opens the files at a path, or makes them.
+// Opens two files as `open_files`, and reads the accounts. An error comes with the files.
+pub(crate) fn open_table<D: Disk + Drop>(
+    alloc: Global,
+    files: Files<D>,
+    seed: u64,
+) -> Result<Table<FileStore<D>>, (OpenError, Files<D>)>
+    requires { IsTrue (D.Disk.is_usable files.log) × IsTrue (D.Disk.is_usable files.db) }
+    ensures found { IfOk result (λ it. IsClean (view (file_of it)) →
+        FoundIn 4096 (seen_image D.Disk files.log files.db) (rows_of (names_of it))) }
+    ensures open { IfOk result (λ it.
+        IsClean (view (file_of it)) → IsTrue (view (file_of it)).is_open) }
+    ensures left { IfOk result (λ it. IsClean (view (file_of it)) →
+        (db : Trees) → recovers (file_of it) db → Holds db (names_of it)) }
+    ensures error { IfErr result (λ e. (e.0 ≡ NoAccount) ⊎ IsOfDatabase e.0) }
+    ensures unharmed { IfErr result (λ e.
+        AreUnharmed D.Disk (files.log, files.db) (e.1.log, e.1.db)) }
+{
+    let store = match open_files(alloc, files, seed) {
+        Ok(store) => store,
+        Err(failed) => return Err(failed),
+    };
+    match Table::open(alloc, store) {
+        Ok(table) => Ok(table),
+        Err((error, store)) => Err((error, store.close())),
+    }
+}
+
+// Opens the files at a path, or makes them, and draws a seed.
 pub(crate) fn open_path<T: Start>(
     rt: &HostRuntime,
     path: &str,
     start: T,
-) -> Result<FileStore<FileFrom<T>>, OpenError>
-    ensures fresh { IfOk result (λ it. IsClean (view it) → IsFresh (view it)) }
-    ensures found { IfOk result (λ it. IsClean (view it) →
-        FoundIn 4096 (image_at T.Start) ((view it).committed 0)) }
-    ensures error { IfErr result (λ e. IsOfPath e ⊎ IsOfDatabase e) }
+) -> Result<(Files<FileFrom<T>>, u64), OpenError>
+    ensures log { IfOk result (λ it. IsTrue (file_is_usable T.Start it.0.log)) }
+    ensures db { IfOk result (λ it. IsTrue (file_is_usable T.Start it.0.db)) }
+    ensures fresh { IfOk result (λ it. IsFresh true it.0.log × IsFresh false it.0.db) }
+    ensures error { IfErr result IsOfPath }
 {
     let files = sqlite_std_file::open(rt, path, start)?;
     let state = RandomState::new(rt)?;
-    open_files(rt.alloc(), files, state.hash_one(&0u8))
+    Ok((files, state.hash_one(&0u8)))
 }

@@ -247,8 +247,8 @@ fn load<S: Store>(alloc: Global, store: &mut S, row: &mut Row) -> Result<Names, 
 impl<S: Store + Drop> Table<S> {
     ghost use Rattle.argon2_store.specs.Shown.{names_of as names_in, file_of as store_in};
 
-    // The names of a store in which nothing is written yet.
-    pub(crate) fn open(alloc: Global, mut store: S) -> Result<Table<S>, OpenError>
+    // The names of a store in which nothing is written yet. An error comes with the store.
+    pub(crate) fn open(alloc: Global, mut store: S) -> Result<Table<S>, (OpenError, S)>
         requires { IsHonest S.Store store → IsFresh (S.Store.view store) }
         ensures found { IfOk result (λ table. IsHonest S.Store (store_in table) →
             (S.Store.view store).committed 0 ≡ rows_of (names_in table)) }
@@ -258,16 +258,19 @@ impl<S: Store + Drop> Table<S> {
             Leaves S.Store (store_in table) (λ left. left ≡ names_in table)) }
         ensures quiet { IfOk result (λ table.
             StaysQuiet S.Store store (store_in table)) }
-        ensures error { IfErr result (λ e. (e ≡ NoAccount) ⊎ IsOfDatabase e) }
+        ensures back { IfErr result (λ e. StaysQuiet S.Store store e.1) }
+        ensures error { IfErr result (λ e. (e.0 ≡ NoAccount) ⊎ IsOfDatabase e.0) }
     {
         let mut row = Row::new(alloc);
-        let names = load(alloc, &mut store, &mut row)?;
-        Ok(Table {
-            alloc,
-            store,
-            row,
-            names,
-        })
+        match load(alloc, &mut store, &mut row) {
+            Ok(names) => Ok(Table {
+                alloc,
+                store,
+                row,
+                names,
+            }),
+            Err(error) => Err((error, store)),
+        }
     }
 }
 

@@ -1,25 +1,23 @@
-use Rattle.std.proofs.Common.{arith, subst}
-use Rattle.sqlite_store.specs.FileStore.{view}
-use Rattle.sqlite_trees.specs.View.{IsClean}
-use Rattle.sqlite_wal.specs.Files.{image_at}
-use Rattle.argon2_store.specs.Opening.{FoundIn}
-use Rattle.argon2_store.proofs.TextLemmas.{are_texts}
+use Rattle.std.proofs.Common.{ℕ, Bool, cond, List, ap₂, subst, sym}
+use Rattle.sqlite_disk.specs.Events.{Event, replay}
+use Rattle.sqlite_wal.specs.Recovery.{Image}
+use Rattle.argon2_accounts.specs.Accounts.{AreTerms}
+use Rattle.argon2_store.specs.AccountFile.{IsReady, names_of}
+use Rattle.argon2_store.specs.Opening.{HoldsNames}
 use Rattle.argon2_store.proofs.account_file.AccountsAt+T.open.Goals as goal
 
-pub open-requires : goal.open-requires
-open-requires g c = c.in_ok-store.ensures.fresh
+abbrev image : List ℕ → List ℕ → Image
+image log db = record { log = log; db = db }
 
-pub returns-clause-ready : goal.returns-clause-ready
-returns-clause-ready g c = record {
-  sound = c.in-Ok.ensures.0;
-  under = c.in-Ok.ensures.1;
-  is_open = c.in_ok-open.ensures.open;
-  left = c.in_ok-open.ensures.left;
-}
+abbrev seen : List ℕ → List ℕ → Bool → List Event → List ℕ
+seen log db is_log history = (replay (cond is_log log db) history).seen
 
-pub returns-clause-found : goal.returns-clause-found
-returns-clause-found g c clean =
-    let was : IsClean (view c.in_ok-store.store) = omega (arith, clean, c.in_ok-open.ensures.quiet.clean) in (
-      are_texts c.in_ok-open.field-0.names,
-      subst (FoundIn 4096 (image_at g.T.Start)) (c.in_ok-open.ensures.found clean) (c.in_ok-store.ensures.found was),
-    )
+pub returns-in-Ok-open_from-clause-ready : goal.returns-in-Ok-open_from-clause-ready
+returns-in-Ok-open_from-clause-ready g c = subst (λ terms. IsReady terms c.in-Ok-open_from.file) c.in-Ok.ensures.1
+    (c.in-Ok-open_from.ensures.ready (subst AreTerms (sym c.in-Ok.ensures.1) c.in-Ok.ensures.0))
+
+pub returns-in-Ok-open_from-clause-found : goal.returns-in-Ok-open_from-clause-found
+returns-in-Ok-open_from-clause-found g c clean =
+    let (log, db) = c.in_ok-files.ensures.fresh in
+    let same = ap₂ image (ap₂ (seen g.T.Start.log g.T.Start.db) log.0 log.1) (ap₂ (seen g.T.Start.log g.T.Start.db) db.0 db.1) in
+    subst (λ i. HoldsNames i (names_of c.in-Ok-open_from.file)) same (c.in-Ok-open_from.ensures.found clean)
