@@ -5,25 +5,16 @@ use Rattle.argon2_base.specs.declared.error.Error.TheVariants.{OutOfMemory}
 use Rattle.argon2.specs.declared.context.Argon2.{Argon2}
 use Rattle.argon2.specs.Argon2.{context_of, own_parameters}
 use Rattle.argon2.specs.Rfc9106.{Context, IsValid, Memory, block_count, first_block, lane_length, matrix_of, tag_of}
-use Rattle.argon2.specs.Watching.{AreReferencePlaces, mixing_calls}
+use Rattle.argon2.specs.Watching.{AreReferencePlaces, mixing_calls, place_count}
 use Rattle.argon2.specs.Laws.{Begins}
 use Rattle.argon2.specs.Refusals.{answer_unless, first_of, output_faults, input_faults, memory_faults}
 use Rattle.argon2.specs.Steps.{reference_place, step}
-pub use Rattle.argon2.specs.Watching.{place_count}
 
 -- ---- refusals
 
 -- why an output of n bytes is refused
 abbrev pub output_refusal : Argon2 → ℕ → Option Error
 output_refusal argon2 n = first_of (output_faults (own_parameters argon2).output_len n)
-
--- why a password or a salt is refused
-abbrev pub input_refusal : List ℕ → List ℕ → Option Error
-input_refusal password salt = first_of (input_faults (length password) (length salt))
-
--- why lent memory is refused
-abbrev pub memory_refusal : Argon2 → Memory → Option Error
-memory_refusal argon2 memory = first_of (memory_faults (block_count (context_of argon2)) (length memory))
 
 -- why an output of n bytes, a password, a salt or lent memory is refused
 abbrev pub refusal_of : Argon2 → ℕ → List ℕ → List ℕ → Memory → Option Error

@@ -6,10 +6,9 @@ use Rattle.std.specs.Str.{bytes_eq}
 use Rattle.argon2_base.specs.Texts.{number_of, strict_base64}
 pub use Rattle.argon2_base.specs.Texts.{short_bytes}
 use Rattle.argon2_base.specs.PhcText.{Pair, ParamsText, Phc, value_of}
-use Rattle.argon2_base.specs.declared.error.Error.{Error}
 use Rattle.argon2_base.specs.declared.error.password_hash.Error.{Error as HashError}
 use Rattle.argon2_base.specs.Error.{Fault, as_fault, bad_param, bad_params, fault_of, outcome_of}
-use Rattle.argon2.specs.Settings.{Parameters, first_fault}
+use Rattle.argon2.specs.Settings.{Parameters, first_fault, plain}
 use Rattle.argon2.specs.declared.params.text.Found.{Found}
 use Rattle.argon2.specs.Params.{data_bytes, keyid_bytes, parameters_of}
 use Rattle.argon2.specs.declared.params.Params.{Params}
@@ -70,18 +69,13 @@ abbrev pub checked : {X : Type 0} → Option Fault → Result X Fault → Result
 checked None next = next
 checked (Some fault) next = Err fault
 
--- refused by the fault of costs and an output length, if there is one
-abbrev pub cost_fault : Option Error → Option Fault
-cost_fault None = None
-cost_fault (Some e) = Some (as_fault e)
-
 -- each of m, t and p has to be there, and together they have to be valid
 abbrev pub with_costs : Option ℕ → Option ℕ → Option ℕ → List ℕ → List ℕ → Option ℕ → Result Parameters Fault
 with_costs None _ _ _ _ _ = Err bad_params
 with_costs (Some m) None _ _ _ _ = Err bad_params
 with_costs (Some m) (Some t) None _ _ _ = Err bad_params
 with_costs (Some m) (Some t) (Some p) keyid associated output_len =
-    checked (cost_fault (first_fault m t p output_len))
+    checked (option_map as_fault (first_fault m t p output_len))
     (Ok (record {
       m_cost = m;
       t_cost = t;
@@ -97,21 +91,11 @@ params_of output_len ps = checked (items_fault ps)
     (with_costs (number_at (codes "m") ps) (number_at (codes "t") ps) (number_at (codes "p") ps)
     (bytes_at 8 (codes "keyid") ps) (bytes_at 32 (codes "data") ps) output_len)
 
--- parameters with any length of output
-abbrev pub unsized : ℕ → ℕ → ℕ → List ℕ → List ℕ → Parameters
-unsized m t p keyid associated = record {
-  m_cost = m;
-  t_cost = t;
-  p_cost = p;
-  keyid = keyid;
-  associated = associated;
-  output_len = None;
-}
-
 -- valid costs with bytes, listed, are read as the same with any length of output
 abbrev pub AreReadAgain : ℕ → ℕ → ℕ → List ℕ → List ℕ → Type 0
 AreReadAgain m t p keyid associated = (output_len : Option ℕ) → IsNone (first_fault m t p output_len) →
-    params_of None (listed m t p keyid associated) ≡ Ok (unsized m t p keyid associated)
+    params_of None (listed m t p keyid associated)
+    ≡ Ok (record (plain m t p None) { keyid = keyid; associated = associated })
 
 -- ---- what has been read of a list, item after item
 

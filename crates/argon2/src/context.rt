@@ -62,8 +62,8 @@ impl<'key> Argon2<'key> {
     ghost use Rattle.argon2_base.specs.declared.error.Error.TheVariants.{OutOfMemory};
     ghost use Rattle.argon2.specs.Argon2.{context_of, context_under, own_parameters, secret_of, settings_of, settings_with, IsKeyed, IsWith};
     ghost use Rattle.argon2.specs.Rfc9106.{IsValid, block_count, tag_of};
-    ghost use Rattle.argon2.specs.Watching.{mixing_calls};
-    ghost use Rattle.argon2.specs.Hashing.{fill_refusal, place_count, refusal_of, AreReferencesOf, IsFilled, IsHashed, IsWatched, MayAnswer};
+    ghost use Rattle.argon2.specs.Watching.{mixing_calls, place_count};
+    ghost use Rattle.argon2.specs.Hashing.{fill_refusal, refusal_of, AreReferencesOf, IsFilled, IsHashed, IsWatched, MayAnswer};
     ghost use Rattle.argon2.specs.Params.{parameters_of};
     ghost use Rattle.argon2.specs.Refusals.{answer_unless, data_refusal, length_refusal};
 

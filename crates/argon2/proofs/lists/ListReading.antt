@@ -1,6 +1,6 @@
 -- Reading the items of a parameter list one after another.
 use Rattle.std.proofs.Common.{◌≡◌, ℕ, ◌&&◌, Bool, true, false, List, [], ◌∷◌, codes, length, Option, Some, None, Result, Ok, Err, ap, refl, sym, ◌∙◌}
-use Rattle.std.specs.Option.{option_or, option_and_then, IsNone}
+use Rattle.std.specs.Option.{option_or, option_and_then, option_map, IsNone}
 use Rattle.std.specs.List.{list_all}
 use Rattle.std.specs.Prelude.{if◌then◌else◌, is_none, nat_le, unwrap_or}
 use Rattle.argon2_base.specs.Texts.{number_of}
@@ -13,7 +13,7 @@ use Rattle.argon2_base.specs.declared.error.Error.{Error}
 use Rattle.argon2.specs.Settings.{Parameters, first_fault}
 use Rattle.argon2_base.specs.declared.error.password_hash.Error.{Error as HashError}
 use Rattle.argon2_base.specs.PhcText.{Pair, are_distinct, are_params, is_param, params_text, value_of}
-use Rattle.argon2.specs.ListedParameters.{Items, checked, cost_fault, item_fault, item_taken, items_fault, items_of, items_over, items_read, number_at, params_of, short_bytes, with_costs}
+use Rattle.argon2.specs.ListedParameters.{Items, checked, item_fault, item_taken, items_fault, items_of, items_over, items_read, number_at, params_of, short_bytes, with_costs}
 
 -- What was read, where `rest` is left.
 pub record Reading (list rest : List Pair) (found : Items) : Type 0 where
@@ -143,7 +143,7 @@ params_read o list items m t p h memory passes lanes =
     rw (parts.0, m_is, t_is, p_is, parts.1) refl
 
 -- valid costs are not refused
-costs_valid : {X : Type 0} (fault : Option Error) (x : X) → IsNone fault → Ok x ≡ checked (cost_fault fault) (Ok x)
+costs_valid : {X : Type 0} (fault : Option Error) (x : X) → IsNone fault → Ok x ≡ checked (option_map as_fault fault) (Ok x)
 costs_valid None x valid = refl
 costs_valid (Some e) x valid = absurd cc
 

@@ -6,8 +6,8 @@ use Rattle.std.specs.Fmt.{decimal}
 use Rattle.argon2_base.specs.Texts.{IsBytes}
 use Rattle.argon2_base.proofs.texts.Base64Lemmas.{short_bytes_again}
 use Rattle.argon2_base.proofs.texts.DecimalLemmas.{number_again}
-use Rattle.argon2.specs.ListedParameters.{listed, params_of, unsized}
-use Rattle.argon2.specs.Settings.{first_fault}
+use Rattle.argon2.specs.ListedParameters.{listed, params_of}
+use Rattle.argon2.specs.Settings.{first_fault, plain}
 
 -- costs that are valid with an output length are valid without one
 pub valid_without : (m t p : ℕ) (o : Option ℕ) → IsNone (first_fault m t p o) → first_fault m t p None ≡ None
@@ -17,7 +17,7 @@ valid_without m t p o valid = grind (arith, nat_tests)
 pub read_again : (m t p : ℕ) (k d : List ℕ) (o : Option ℕ) → m < 2 ^ 32 → t < 2 ^ 32 → p < 2 ^ 32
     → IsBytes k → IsBytes d → length k ≤ 8 → length d ≤ 32
     → first_fault m t p o ≡ None
-    → params_of o (listed m t p k d) ≡ Ok (record (unsized m t p k d) { output_len = o })
+    → params_of o (listed m t p k d) ≡ Ok (record (plain m t p o) { keyid = k; associated = d })
 read_again m t p [] [] o hm ht hp bk bd lk ld valid =
     rw (number_again (decimal m) m hm refl, number_again (decimal t) t ht refl, number_again (decimal p) p hp refl, valid) refl
 read_again m t p (x ∷ k) [] o hm ht hp bk bd lk ld valid =

@@ -3,8 +3,8 @@
 ghost use Rattle.std.specs.Prelude.{◌≡◌, ◌≤◌, OnOk, length};
 ghost use Rattle.argon2.specs.Argon2.{context_of};
 ghost use Rattle.argon2.specs.Rfc9106.{AreShort, block_count};
-ghost use Rattle.argon2.specs.Hashing.{fill_refusal, input_refusal, memory_refusal, output_refusal, refusal_of, IsOutputLength};
-ghost use Rattle.argon2.specs.Refusals.{answer_unless};
+ghost use Rattle.argon2.specs.Hashing.{fill_refusal, output_refusal, refusal_of, IsOutputLength};
+ghost use Rattle.argon2.specs.Refusals.{answer_unless, first_of, input_faults, memory_faults};
 
 use super::{Argon2, MAX_PWD_LEN, MAX_SALT_LEN, MIN_SALT_LEN};
 use crate::params::Params;
@@ -13,7 +13,8 @@ use argon2_base::error::{Error, Result};
 
 /// Refuses a password or a salt.
 fn check_inputs(pwd: &[u8], salt: &[u8]) -> Result<()>
-    ensures answer { result ≡ answer_unless (input_refusal pwd.now salt.now) tt }
+    ensures answer { result
+        ≡ answer_unless (first_of (input_faults (length pwd.now) (length salt.now))) tt }
     ensures short { OnOk result (AreShort pwd.now salt.now) }
 {
     if pwd.len() > MAX_PWD_LEN {
@@ -74,7 +75,8 @@ impl Argon2<'_> {
 
     /// Refuses lent memory.
     fn check_memory(&self, memory: &[Block]) -> Result<()>
-        ensures answer { result ≡ answer_unless (memory_refusal self.now memory.now) tt }
+        ensures answer { result ≡ answer_unless (first_of (memory_faults
+            (block_count (context_of self.now)) (length memory.now))) tt }
         ensures room { OnOk result (block_count (context_of self.now) ≤ length memory.now) }
     {
         if memory.len() < self.params.block_count() {

@@ -57,15 +57,10 @@ loop-index-preserved c =
     (λ first. let two = later first in omega arith) in
     record {
       filled = λ first old is.
-          rw (
-            c.put_position.ensures,
-            c.step-reference.ensures.place,
-            c.step-reference.ensures.step,
-            at.pass,
-            at.lane,
-            at.column,
-            ← end,
-          )
+          let position = c.put_position.ensures in
+          let place = c.step-reference.ensures.place in
+          let made = c.step-reference.ensures.step in
+          rw (position, place, made, at.pass, at.lane, at.column, ← end)
           (filled_step ctx c.segment_length-segment.ensures.sizes first c.args.pass c.args.slice c.args.lane column _ old _
           c.requires.in_passes st (a_column n c.args.slice i c.requires.in_slices below) (before.filled first old is));
       addresses = c.renew.ensures.block
