@@ -212,10 +212,10 @@ module _ {S : Type 0} {g : Ghosts S}
 -- ---- runs
 
 pub ends_run : {D : Type 0} (g : disk.Ghosts D) → SeenMayStay g → (last : AccountFile (FileStore D g) over_file) → EndsRun last
-ends_run {D} g stay last terms first calls left ready did clean may next holds =
+ends_run {D} g stay last terms first calls before ready did clean may opens left after next holds =
     let settled = λ (it : FileStore D g) (db : Trees). settled_at it stay db in
     let leaves = (reached {S = FileStore D g} {g = over_file} settled terms first ready calls last did).left clean in
-    ∥∥₁_map (next_open {g = g} (store_of last) (λ db found. (leaves db found).1.1) left may next holds) (λ found.
+    ∥∥₁_map (next_open {g = g} (store_of last) (λ db found. (leaves db found).1.1) before may opens left after next holds) (λ found.
     let (names, held, late) = leaves found.0 found.1 in
     let texts = run_texts terms ready.sound (names_of first) names (late.0 ++ flat_map events_of calls)
     (are_texts first.table.names) late.2 in
@@ -225,8 +225,8 @@ ends_run {D} g stay last terms first calls left ready did clean may next holds =
 pub runs_join : (terms : Terms) (first : Store) (runs : List Run) (names : Store) → IsFoundAfter terms first runs names
     → ∥ ((events : List AccountEvent) × AreEventsOf runs events × AccountRun terms first events names) ∥₁
 runs_join terms first [] names is = ∣ ([], refl, is) ∣₁
-runs_join terms first (run ∷ older) names (earlier, leaves, holds) =
-    ∥∥₁_elim (runs_join terms first older run.found earlier) squash₁ (λ before. ∥∥₁_map (leaves names holds) (λ now.
+runs_join terms first (run ∷ older) names (earlier, leaves, (opens, left, after, holds)) =
+    ∥∥₁_elim (runs_join terms first older run.found earlier) squash₁ (λ before. ∥∥₁_map (leaves opens left after names holds) (λ now.
     let own = flat_map events_of run.calls in (
       now.0 ++ (own ++ before.0),
       (now.0, before.0, now.1, before.1, refl),

@@ -75,3 +75,11 @@ StandsFor was before left =
 abbrev pub AreUnharmed : {D : Type 0} → Ghosts D → D × D → D × D → Type 0
 AreUnharmed g old new = AreClean g new.0 new.1 → (left : Image) → outcomes g new.0 new.1 left
     → StandsFor (outcomes g old.0 old.1) (seen_image g old.0 old.1) left
+
+-- Opens that failed, the newest first, with the files that each found: the first found `before`, and each left files that stand
+-- for those that it found. Files that have just been opened are synced, so a crash leaves just these. One during an open counts
+-- as an open that fails there.
+abbrev pub IsAfterOpens : List Image → Image → Image → Type 0
+IsAfterOpens [] before left = left ≡ before
+IsAfterOpens (found ∷ older) before left =
+    IsAfterOpens older before found × StandsFor (λ image. image ≡ found) found left

@@ -11,7 +11,7 @@ use Rattle.argon2_accounts.specs.Accounts.{AccountEvent, AccountRun, AreTerms, H
 use Rattle.argon2.specs.NamedTexts.{Store, newest}
 use Rattle.argon2.specs.declared.login.answers.Accepted.{Accepted}
 use Rattle.argon2_store.specs.AccountFile.{AddsOrNone, Call, Copies, IsReady, Serves, names_of, store_of}
-use Rattle.argon2_store.specs.Opening.{HoldsNames}
+use Rattle.argon2_store.specs.Opening.{HoldsNames, IsAfterOpens}
 use Rattle.argon2_store.specs.Table.{IsHonest}
 use Rattle.argon2_store.specs.declared.account_file.AccountFile.{AccountFile}
 use Rattle.argon2_store.specs.declared.error.FileError.{FileError}
@@ -91,9 +91,10 @@ pub record Run : Type 0 where
   pub calls : List FileCall
   pub left : Image
 
--- An open finds what the run left: the names as its calls made them, and perhaps what came late.
+-- An open finds what the run left: the names as its calls made them, and perhaps what came late. Before it, others may fail.
 abbrev pub IsFound : Terms → Run → Type 0
-IsFound terms run = (names : Store) → HoldsNames run.left names
+IsFound terms run = (opens : List Image) (left : Image) → IsAfterOpens opens run.left left
+    → (names : Store) → HoldsNames left names
     → ∥ ((late : List AccountEvent) × IsLate run.calls late
     × AccountRun terms run.found (late ++ flat_map events_of run.calls) names) ∥₁
 
@@ -116,11 +117,13 @@ EndsRun last = (terms : Terms) (first : AccountFile _ over_file) (calls : List F
 
 -- ---- runs
 
--- An open finds the names after runs, the newest first. Each found what the one before it left, and the oldest `first`.
+-- An open finds the names after runs, the newest first. Each found what the one before it left, after opens that failed, if
+-- there were any, and the oldest found `first`.
 abbrev pub IsFoundAfter : Terms → Store → List Run → Store → Type 0
 IsFoundAfter terms first [] names = names ≡ first
 IsFoundAfter terms first (run ∷ older) names =
-    IsFoundAfter terms first older run.found × IsFound terms run × HoldsNames run.left names
+    IsFoundAfter terms first older run.found × IsFound terms run
+    × ((opens : List Image) × (left : Image) × IsAfterOpens opens run.left left × HoldsNames left names)
 
 -- the events of runs, with what came late of each
 abbrev pub AreEventsOf : List Run → List AccountEvent → Type 0

@@ -322,7 +322,8 @@ impl<'key, T: Start> AccountsAt<'key, T> {
     /// `bound` are those of [`Accounts::new`](argon2_accounts::Accounts::new).
     ///
     /// The file stays open, and locked against other processes, until the value is dropped.
-    /// An open that fails leaves the accounts in the file as they were.
+    /// An open that fails leaves the accounts in the file as they were: see
+    /// [`open_from`](AccountFile::open_from).
     ///
     /// # Errors
     /// - [`OpenError::Terms`]: the target or the bound is refused, as by [`Policy::new`].

@@ -9,16 +9,18 @@ use sqlite_store::FileStore;
 
 /// Where a crash comes now, or the file is dropped, the next open finds the names as all calls on the file
 /// left them. One change may be there too: that of the last call that did not find the file closed, where
-/// it had an error of the file or the crash cut it off. Nothing is said of a crash during an open.
+/// it had an error of the file or the crash cut it off. It finds the same after any number of opens that
+/// fail, each of which leaves what [`AccountFile::open_from`] says. A crash during an open counts as one
+/// that fails there.
 pub fn next_run<D: Disk>(file: &AccountFile<'_, FileStore<D>>)
     ensures { EndsRun file.now }
 {}
 
-/// After any list of runs under one target and bound, each of which opens what the one before it left: an
-/// open finds what the calls of all runs, in their order, made of the names that the first run found. Where
-/// it found none, each name has what the last of its accepted calls gave it: the added text, a text that
-/// accepts the password, or none. In each run the last call that did not find the file closed may count as
-/// accepted, where it had an error of the file or a crash cut it off.
+/// After any list of runs under one target and bound, each of which opens what the one before it left,
+/// perhaps after opens that failed: an open finds what the calls of all runs, in their order, made of the
+/// names that the first run found. Where it found none, each name has what the last of its accepted calls
+/// gave it: the added text, a text that accepts the password, or none. In each run the last call that did
+/// not find the file closed may count as accepted, where it had an error of the file or a crash cut it off.
 pub fn account_file_runs()
     ensures events { NamesAreRun }
     ensures texts { TextsAreKept }
