@@ -105,7 +105,8 @@ module _ {D : Type 0} {g : Ghosts D} (old : Unopened D g) (sized : (state_of old
             (pages, recs, new.sound, (new_is_empty size pages whole new).1)),
         refl,
       ) ∣₁
-  table_there wants (inr (pages, recs, inr fresh)) = ∥∥₁_elim (size_is_allowed old.pool) squash₁ (λ allowed. ∥∥₁_map fresh (λ ours.
+  table_there wants (inr (pages, recs, inr fresh)) = ∥∥₁_elim (size_is_allowed old.pool) squash₁ (λ allowed.
+      ∥∥₁_map fresh (λ ours.
       inl ((state_of old).page_size, wanted_by old, pages, allowed, recs, ours.0.file, ap (listed_from 0) wants, ours.1 0)))
 
 -- where there was no table, an open may have begun one
@@ -338,7 +339,9 @@ magic size img pages recs large sound q found whole =
     let starts : begin ours.stored ≡ 83 =
     ap (λ (o : Option (List ℕ)). slice_index (unwrap_or o []) 0) word.1 ∙ word.4 in
     elim (cases_eq (stored_size size) 4096) [
-      | inl same ↦ ap begin (raw_once 4096 img q ours.stored found (subst (λ n. raw.Recovers n img ours.stored) same ours.found)) ∙ starts
+      | inl same ↦
+          let once = raw_once 4096 img q ours.stored found (subst (λ n. raw.Recovers n img ours.stored) same ours.found) in
+          ap begin once ∙ starts
       | inr other ↦
           let none : Replays 4096 img.log 0 × Replays (stored_size size) img.log 0 = elim ours.found.replays [
             | inl ignored ↦ (inl (ignored.0, refl), inl (ignored.0, refl))
@@ -375,7 +378,14 @@ carried_back : (old new : Image) → RecoversAs 4096 old new → (pages : PageMa
 carried_back old new same pages recs q found =
     let one : q ≡ recs.stored = raw_once 4096 new q recs.stored (same q found) recs.found in
     let was : raw.Recovers 4096 old recs.stored = subst (raw.Recovers 4096 old) one found in
-    record { stored = recs.stored; found = was; whole = recs.whole; sealed = recs.sealed; shows = recs.shows; present = was.present }
+    record {
+      stored = recs.stored;
+      found = was;
+      whole = recs.whole;
+      sealed = recs.sealed;
+      shows = recs.shows;
+      present = was.present;
+    }
 
 no_path : IsProp ⊥
 no_path a b = absurd a
@@ -405,7 +415,8 @@ near_table img first (size, schema, pages, allowed, recs, file, list, is) =
         | inl there ↦ ∥∥₁_elim there.2 no_path (λ theirs.
             let sized = same_size img size 4096 pages there.0 recs there.1 large (omega arith) file.sound theirs.sound in
             let one = same_pages img size 4096 pages there.0 recs there.1 large (omega arith) file.sound theirs.sound in
-            never (sym (first_tree size schema pages list ∙ ap₂ (λ n p. file_trees n (account ∷ []) p 0) sized one ∙ there.3) ∙ is))
+            let read = ap₂ (λ n p. file_trees n (account ∷ []) p 0) sized one ∙ there.3 in
+            never (sym (first_tree size schema pages list ∙ read) ∙ is))
         | inr none ↦ ∥∥₁_elim none.0 no_path (begun size schema img pages large recs file list)
       ],
       λ _ q. magic size img pages recs large file.sound q,
@@ -425,7 +436,8 @@ module _ (Q : List Row → Type 0) (old new : Image) (near : Near Q old) where
         | inr none ↦ ∥∥₁_elim none.0 no_path (λ unbegun. elim unbegun [
           | inl blank ↦
               let empty : ¬ Q [] = subst (λ (r : List Row). ¬ Q r) none.1 never in
-              let gone : IsUnreadable 4096 old = λ q was whole. not_begun new blank q (same q was) whole (near.1 empty q was whole) in
+              let gone : IsUnreadable 4096 old =
+              λ q was whole. not_begun new blank q (same q was) whole (near.1 empty q was whole) in
               near.0 [] (inr (∣ inl (subst (IsBlankFile 4096) (unread gone) blank) ∣₁, refl)) empty
           | inr bare ↦ back bare.0 bare.1
               (λ was. near.0 rows (inr (∣ inr (bare.0, was, bare.2, bare.3) ∣₁, none.1)) never)
@@ -454,7 +466,8 @@ module _ (Q : List Row → Type 0) (old new : Image) (near : Near Q old) where
         λ empty q found whole. elim (cases_eq (begin q) 83) [
           | inl is ↦ is
           | inr never ↦ absurd (∥∥₁_elim after no_path (λ may. elim may [
-            | inl table ↦ never (magic (table.0) new (table.2) (table.4) (large_size (table.0) (table.3)) (table.5).sound q found whole)
+            | inl (size, _, pages, allowed, recs, file, _, _) ↦
+                never (magic size new pages recs (large_size size allowed) file.sound q found whole)
             | inr none ↦ some (λ yes. empty (subst Q none.1 yes))
           ]))
         ],
@@ -465,8 +478,8 @@ module _ (Q : List Row → Type 0) (old new : Image) (near : Near Q old) where
   near_after (inr (inl pages)) = near_carried pages.0 pages.1
   near_after (inr (inr rows)) = near_same rows.0 rows.1 rows.2
 
-pub near_opens : (Q : List Row → Type 0) (opens : List Image) (before left : Image) → IsAfterOpens opens before left → Near Q before
-    → Near Q left
+pub near_opens : (Q : List Row → Type 0) (opens : List Image) (before left : Image) → IsAfterOpens opens before left
+    → Near Q before → Near Q left
 near_opens Q [] before left is near = subst (Near Q) (sym is) near
 near_opens Q (found ∷ older) before left (earlier, stands) near =
     near_after Q found left (near_opens Q older before found earlier near) stands
@@ -482,7 +495,8 @@ stable (gnum m) (gnum n) h = elim (cases_eq m n) [ inl same ↦ ap gnum same | i
 stable (gnum m) (gcons b c) h = absurd (h (λ e. cc))
 stable (gcons a d) gnil h = absurd (h (λ e. cc))
 stable (gcons a d) (gnum n) h = absurd (h (λ e. cc))
-stable (gcons a d) (gcons b c) h = ap₂ gcons (stable a b (λ never. h (λ e. never (cc)))) (stable d c (λ never. h (λ e. never (cc))))
+stable (gcons a d) (gcons b c) h =
+    ap₂ gcons (stable a b (λ never. h (λ e. never (cc)))) (stable d c (λ never. h (λ e. never (cc))))
 
 rows_stable : (a b : List Row) → ¬ ¬ (a ≡ b) → a ≡ b
 rows_stable a b h =

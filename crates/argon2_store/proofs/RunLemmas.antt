@@ -215,7 +215,8 @@ pub ends_run : {D : Type 0} (g : disk.Ghosts D) → SeenMayStay g → (last : Ac
 ends_run {D} g stay last terms first calls before ready did clean may opens left after next holds =
     let settled = λ (it : FileStore D g) (db : Trees). settled_at it stay db in
     let leaves = (reached {S = FileStore D g} {g = over_file} settled terms first ready calls last did).left clean in
-    ∥∥₁_map (next_open {g = g} (store_of last) (λ db found. (leaves db found).1.1) before may opens left after next holds) (λ found.
+    let listed = λ (db : Trees) (found : over_file.recovers (store_of last) db). (leaves db found).1.1 in
+    ∥∥₁_map (next_open {g = g} (store_of last) listed before may opens left after next holds) (λ found.
     let (names, held, late) = leaves found.0 found.1 in
     let texts = run_texts terms ready.sound (names_of first) names (late.0 ++ flat_map events_of calls)
     (are_texts first.table.names) late.2 in
@@ -226,7 +227,8 @@ pub runs_join : (terms : Terms) (first : Store) (runs : List Run) (names : Store
     → ∥ ((events : List AccountEvent) × AreEventsOf runs events × AccountRun terms first events names) ∥₁
 runs_join terms first [] names is = ∣ ([], refl, is) ∣₁
 runs_join terms first (run ∷ older) names (earlier, leaves, (opens, left, after, holds)) =
-    ∥∥₁_elim (runs_join terms first older run.found earlier) squash₁ (λ before. ∥∥₁_map (leaves opens left after names holds) (λ now.
+    ∥∥₁_elim (runs_join terms first older run.found earlier) squash₁ (λ before.
+    ∥∥₁_map (leaves opens left after names holds) (λ now.
     let own = flat_map events_of run.calls in (
       now.0 ++ (own ++ before.0),
       (now.0, before.0, now.1, before.1, refl),

@@ -45,7 +45,8 @@ pub if_err : {T E : Type 0} {P Q : E → Type 0} (r : Result T E) → IfErr r P 
 if_err (Ok x) p f = tt
 if_err (Err e) p f = f e p
 
-pub if_err2 : {T E : Type 0} {P R Q : E → Type 0} (r : Result T E) → IfErr r P → IfErr r R → ((e : E) → P e → R e → Q e) → IfErr r Q
+pub if_err2 : {T E : Type 0} {P R Q : E → Type 0} (r : Result T E) → IfErr r P → IfErr r R
+    → ((e : E) → P e → R e → Q e) → IfErr r Q
 if_err2 (Ok x) p q f = tt
 if_err2 (Err e) p q f = f e p q
 

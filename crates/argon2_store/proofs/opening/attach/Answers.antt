@@ -25,7 +25,8 @@ committed_as it size clean sized same = sym (
     ∙ ap (λ b. (if b then file_trees size (account ∷ []) (state it).committed else no_trees) 0) clean)
 
 pub returns-then-is_new-clause-found : goal.returns-then-is_new-clause-found
-returns-then-is_new-clause-found g c = if_ok2 c.make.result c.make.ensures.empty c.make.ensures.honest (λ store empty honest clean.
+returns-then-is_new-clause-found g c =
+    if_ok2 c.make.result c.make.ensures.empty c.make.ensures.honest (λ store empty honest clean.
     inr (∣ unstarted c.args.files (inl (c.requires.blank (search rules) (honest clean))) ∣₁, (empty clean).1))
 
 pub returns-then-is_new-clause-left : goal.returns-then-is_new-clause-left

@@ -18,6 +18,7 @@ returns-in-Ok-open-clause-left g c clean db found =
     let (names, holds, same) = c.in-Ok-open.ensures.left clean db found in subst (Holds db) same holds
 
 pub returns-in-Err-open-clause-unharmed : goal.returns-in-Err-open-clause-unharmed
-returns-in-Err-open-clause-unharmed g c = unharmed_by_reads (c.args.files.log, c.args.files.db) c.in-Ok.store c.in-Err-open.store _
+returns-in-Err-open-clause-unharmed g c =
+    unharmed_by_reads (c.args.files.log, c.args.files.db) c.in-Ok.store c.in-Err-open.store _
     g.met.D.Disk.seen_may_stay c.in-Err-open.ensures.back c.in-Ok.ensures.fresh c.in-Ok.ensures.found
     c.close.ensures
