@@ -1,14 +1,11 @@
 -- What is known before the first byte, after a line, and after the last.
-use Rattle.std.proofs.Common.{arith, Option, Some, None, Result, Ok, Err, IfOk, ◌↔◌, ◌≡◌, ◌∙◌, ◌+◌, ℕ, Bool, true, false, IsTrue, List, [], ◌∷◌, ◌++◌, ap, sym, subst, refl, inr, append_assoc, append-nil, ◌||◌}
+use Rattle.std.proofs.Common.{arith, Option, Some, None, ◌↔◌, ◌≡◌, ◌∙◌, ◌+◌, ℕ, Bool, true, false, IsTrue, List, [], ◌∷◌, ◌++◌, ap, sym, subst, refl, inr, append_assoc, append-nil, ◌||◌}
 use Rattle.std.specs.Prelude.{IfSome}
 use Rattle.argon2_audit.specs.Finding.{IsFinding, class_of, has_short_salt, salt_of}
 use Rattle.argon2_audit.specs.Line.{IsRead}
 use Rattle.argon2_audit.specs.Seen.{has_any, has_salt, is_salt}
-use Rattle.argon2_audit.specs.Session.{IsAnswer, IsAudit, IsBegun, IsPassed, IsTallied, IsTallyOf, how_many, joined, any_salt, is_repeated, repeated}
+use Rattle.argon2_audit.specs.Session.{IsAudit, IsBegun, IsTallied, IsTallyOf, how_many, joined, any_salt, is_repeated, repeated}
 use Rattle.argon2_audit.specs.Tally.{Counts, IsClean, count_of, is_class, one_if}
-use Rattle.argon2_audit.specs.declared.arguments.Command.{Command}
-use Rattle.argon2_audit.specs.declared.arguments.Command.TheVariants.{Help, Version, Audit}
-use Rattle.argon2_audit.specs.declared.failure.Failure.{Failure}
 use Rattle.argon2_audit.specs.declared.finding.Class.{Class}
 use Rattle.argon2_audit.specs.declared.finding.Class.TheVariants.{Outside, NoHash, Below, Sound, Other, Locked, Empty, Blank, Comment, Unknown}
 use Rattle.argon2_audit.specs.declared.finding.Finding.{Finding}
@@ -120,18 +117,3 @@ pub audit_of : (options : Options) (input : Option (List ℕ)) (tally : Tally) (
     → IsAudit options input clean
 audit_of options None tally clean tallied is = tt
 audit_of options (Some bytes) tally clean tallied is = (tally, tallied, is)
-
-passed_of : (options : Options) (input : Option (List ℕ)) (clean : Bool) → IsAudit options input clean → clean ≡ true
-    → IsPassed (Audit options) input
-passed_of options None clean audit is = tt
-passed_of options (Some bytes) clean audit is = (audit.0, audit.1, audit.2.0 is)
-
-pub answer_passes : (command : Command) (input : Option (List ℕ)) → IsAnswer command input true → IsPassed command input
-answer_passes Help input clean = tt
-answer_passes Version input clean = tt
-answer_passes (Audit options) input audit = passed_of options input true audit refl
-
-pub answered_by : (options : Options) (input : Option (List ℕ)) (command : Command) (r : Result Bool Failure)
-    → command ≡ Audit options → IfOk r (IsAudit options input) → IfOk r (IsAnswer command input)
-answered_by options input command (Ok clean) is audit = subst (λ k. IsAnswer k input clean) (sym is) audit
-answered_by options input command (Err failure) is audit = tt

@@ -27,8 +27,8 @@ abbrev pub scheme_of : List ℕ → Option Scheme
 scheme_of text =
     if begins_any (codes "$2$" ∷ codes "$2a$" ∷ codes "$2b$" ∷ codes "$2x$" ∷ codes "$2y$" ∷ codes "bcrypt$"
     ∷ codes "bcrypt_sha256$" ∷ []) text then Some Bcrypt
-    else if begins_any (codes "$7$" ∷ codes "$scrypt$" ∷ codes "scrypt$" ∷ codes "scrypt:" ∷ []) text then Some Scrypt
-    else if begins_any (codes "$pbkdf2" ∷ codes "pbkdf2_" ∷ codes "pbkdf2:" ∷ codes "{PBKDF2" ∷ []) text then Some Pbkdf2
+    else if begins_any (codes "$7$" ∷ codes "$scrypt$" ∷ codes "scrypt" ∷ []) text then Some Scrypt
+    else if begins_any (codes "$pbkdf2" ∷ codes "pbkdf2" ∷ codes "{PBKDF2" ∷ []) text then Some Pbkdf2
     else if begins_any (codes "$y$" ∷ codes "$gy$" ∷ []) text then Some Yescrypt
     else if begins_any (codes "$5$" ∷ []) text then Some Sha256Crypt
     else if begins_any (codes "$6$" ∷ []) text then Some Sha512Crypt

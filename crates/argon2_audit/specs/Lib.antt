@@ -1,7 +1,5 @@
-pub mod Arguments
 pub mod Claim
 pub mod Entry
-pub mod Failures
 pub mod Finding
 pub mod Line
 pub mod Place

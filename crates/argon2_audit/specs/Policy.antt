@@ -6,19 +6,6 @@ use Rattle.argon2_audit.specs.declared.entry.Entry.{Entry}
 use Rattle.argon2_audit.specs.declared.policy.Policy.{Policy}
 use Rattle.argon2_audit.specs.declared.policy.Shortfalls.{Shortfalls}
 
--- the library's own parameters, and lengths of a salt and a hash
-abbrev pub default_policy : Policy
-default_policy = record {
-  m_cost = 19456;
-  t_cost = 2;
-  p_cost = 1;
-  salt_len = 16;
-  hash_len = 32;
-  version = 0;
-  algorithm = None;
-  allows_other = false;
-}
-
 -- another algorithm is required
 abbrev pub is_refused : Option Algorithm → Algorithm → Bool
 is_refused None algorithm = false

@@ -5,8 +5,6 @@ use Rattle.argon2_audit.specs.Finding.{IsFinding, class_of, has_short_salt, salt
 use Rattle.argon2_audit.specs.Line.{IsRead}
 use Rattle.argon2_audit.specs.Seen.{has_salt, is_salt}
 use Rattle.argon2_audit.specs.Tally.{IsClean, count_of, is_class, one_if}
-use Rattle.argon2_audit.specs.declared.arguments.Command.{Command}
-use Rattle.argon2_audit.specs.declared.arguments.Command.TheVariants.{Help, Version, Audit}
 use Rattle.argon2_audit.specs.declared.finding.Class.{Class}
 use Rattle.argon2_audit.specs.declared.finding.Finding.{Finding}
 use Rattle.argon2_audit.specs.declared.line.Line.{Line}
@@ -98,16 +96,3 @@ IsAfter session bytes = IsBegun session.line session.audit.seen session.audit.op
 abbrev pub IsAudit : Options → Option (List ℕ) → Bool → Type 0
 IsAudit options input clean = IfSome input (λ bytes. (tally : Tally) × IsTallied options bytes tally
     × (IsTrue clean ↔ IsClean options.policy tally))
-
--- the help or the version was asked for; or whether the lines of a known input are clean
-abbrev pub IsAnswer : Command → Option (List ℕ) → Bool → Type 0
-IsAnswer Help input clean = IsTrue clean
-IsAnswer Version input clean = IsTrue clean
-IsAnswer (Audit options) input clean = IsAudit options input clean
-
--- the help or the version was asked for, or the lines of a known input are clean
-abbrev pub IsPassed : Command → Option (List ℕ) → Type 0
-IsPassed Help input = ⊤
-IsPassed Version input = ⊤
-IsPassed (Audit options) input = IfSome input (λ bytes. (tally : Tally) × IsTallied options bytes tally
-    × IsClean options.policy tally)

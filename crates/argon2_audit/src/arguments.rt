@@ -1,264 +1,190 @@
-//! What the program's arguments ask for.
-
-ghost use Rattle.std.specs.Prelude.{◌≡◌, ◌-◌, drop, length, map, string_bytes};
-ghost use Rattle.std.specs.List.{list_all};
-ghost use Rattle.argon2_base.specs.Texts.{number_of};
-ghost use Rattle.argon2_audit.specs.Arguments.{alone_of, command_of, file_count, is_file, page_of};
+//! The options of the command line, and the names of files.
 
 use crate::options::{Form, Options};
 use crate::place::Place;
 use crate::policy::Policy;
+use crate::run::PROGRAM;
 use argon2::Algorithm;
-use argon2::phc::read_decimal;
+use argon2_commands::invalid;
+use clap::{Arg, ArgAction, ArgMatches, Command, Error, value_parser};
+use std::alloc::{AllocError, Global};
 
-/// What the program is asked for.
-#[derive(Clone, Copy)]
-pub enum Command {
-    /// `-h` or `--help`
-    Help,
-    /// `--version`
-    Version,
-    /// Options, of equal ones the last counts, and then the names of files.
-    Audit(Options),
-}
+static ALGORITHMS: [&str; 3] = ["argon2d", "argon2i", "argon2id"];
 
-impl Command {
-    ghost use Rattle.std.specs.Prelude.{◌≡◌, map, string_bytes};
-    ghost use Rattle.argon2_audit.specs.Arguments.{command_of};
+static VERSIONS: [&str; 2] = ["16", "19"];
 
-    /// What the arguments ask for, if they are options and names of files.
-    pub fn parsed(args: &[String]) -> Option<Command>
-        ensures { result ≡ command_of (map string_bytes args.now) }
-    {
-        if let Some(command) = alone(args) {
-            return Some(command);
-        }
-        let options = Options::DEFAULT.with_options(args)?;
-        Some(Command::Audit(options))
-    }
-}
+const ABOUT: &str = "\
+Says which stored texts of passwords are below a policy.
 
-/// The arguments that name files, the last ones.
-pub fn files(args: &[String]) -> &[String]
-    ensures { let count = file_count (command_of (map string_bytes args.now)) in
-        result.now ≡ drop (length args.now - count) args.now }
-{
-    let count = match Command::parsed(args) {
-        Some(Command::Audit(options)) => options.files,
-        _ => 0,
+It reads the files one after another, or standard input if none is named or one is `-`, a text a line; of a
+line with colons, as a password file has them, the text is the second field. It writes a remark for each
+thing that keeps a line from being sound, then how many lines there are of each class, and how many of each
+algorithm, version and costs. Lines are named by their numbers, counted through all files, and nothing of
+their names, salts and hashes is written.";
+
+const NOTES: &str = "\
+Example: argon2-audit --min-m 65536 --allow-other /etc/shadow
+
+A line is sound if its text is in the grammar, names an algorithm and a version of Argon2, has valid
+parameters, a salt and a hash, and has nothing below the policy. A line may have 4096 bytes. A byte order
+mark at the start of a line and a carriage return at its end are skipped, and so is what Django, Dovecot and
+LDAP servers put before a text: argon2, {argon2}, {ARGON2}, {ARGON2I}, {ARGON2ID} and {CRYPT}. Texts of other
+schemes are named by how they begin: bcrypt, scrypt, PBKDF2, yescrypt, sha256crypt, sha512crypt, md5crypt,
+and digests of Django and LDAP. A text that begins with ! or * is locked. An empty text is never sound: some
+systems take any password for it. All salts are kept, to find equal ones.
+
+The status is 0 if each line is sound and no two salts are equal, 1 if that is not so, 2 if the arguments are
+wrong, and 3 if a file, reading, writing or a request for memory fails, which standard error says.";
+
+/// The options that words spell, of equal ones the last, and the names of files, `-` if there are none.
+///
+/// # Errors
+/// A page that the words ask for, what is wrong with them, and out of memory.
+pub fn parsed<'a>(alloc: Global, words: &'a [String]) -> Result<(Options, Vec<&'a str>), Error> {
+    let mut command = command(alloc)?;
+    let matches = command.try_get_matches_from_mut(words)?;
+    let separator = matches.get_str("separator").unwrap_or("");
+    let [byte] = separator.as_bytes() else {
+        let why = "it is not one byte";
+        return Err(invalid(&mut command, alloc, "--separator <C>", separator, why)?);
     };
-    let (_, names) = args.split_at(args.len().saturating_sub(count));
-    names
-}
-
-// What a word asks for that stands alone.
-fn alone(args: &[String]) -> Option<Command>
-    ensures { result ≡ alone_of (map string_bytes args.now) }
-{
-    match args {
-        [word] => page(word.as_str()),
-        _ => None,
+    let mut names = Vec::new(alloc);
+    for name in matches.get_strs("FILE").unwrap_or(&["-"]) {
+        names.push(*name)?;
     }
-}
-
-// The page that a word asks for.
-fn page(word: &str) -> Option<Command>
-    ensures { result ≡ page_of word.now }
-{
-    match word {
-        "-h" => Some(Command::Help),
-        "--help" => Some(Command::Help),
-        "--version" => Some(Command::Version),
-        _ => None,
-    }
-}
-
-// Whether a word names a file: `-`, or one that does not begin with a dash.
-fn is_file(word: &str) -> bool
-    ensures { result ≡ is_file word.now }
-{
-    !word.as_bytes().starts_with(b"-") || word == "-"
-}
-
-// Whether each word names a file.
-fn are_files(args: &[String]) -> bool
-    ensures { result ≡ list_all (λ word. is_file (string_bytes word)) args.now }
-{
-    args.iter().all(|word| is_file(word.as_str()))
-}
-
-// The number up to 4294967295 whose decimal a text is.
-fn number(text: &str) -> Option<u32>
-    ensures { result ≡ number_of text.now }
-{
-    let Some(n) = read_decimal(text) else {
-        return None;
+    let field = matches.get_one::<u32>("field");
+    let options = Options {
+        policy: policy(&matches),
+        place: Place {
+            before: field.and_then(|n| n.checked_sub(1)),
+            separator: *byte,
+        },
+        form: form(&matches),
     };
-    Some(n)
+    Ok((options, names))
 }
 
-impl Options {
-    ghost use Rattle.std.specs.Prelude.{◌≡◌, map, string_bytes};
-    ghost use Rattle.argon2_audit.specs.Arguments.{with_algorithm_of, with_field_of, with_files_of, with_flag_of, with_least_of, with_options_of, with_separator_of, with_value_of};
-
-    // The options where arguments change them.
-    fn with_options(self, args: &[String]) -> Option<Options>
-        ensures { result ≡ with_options_of self (map string_bytes args.now) }
-    {
-        let Some((word, rest)) = args.split_first() else {
-            return Some(self);
-        };
-        if is_file(word.as_str()) {
-            return self.with_files(args);
-        }
-        match self.with_flag(word.as_str()) {
-            Some(changed) => changed.with_options(rest),
-            None => {
-                let (value, rest) = rest.split_first()?;
-                self.with_value(word.as_str(), value.as_str())?
-                    .with_options(rest)
-            }
-        }
-    }
-
-    // The options with files, where each word names one.
-    fn with_files(self, args: &[String]) -> Option<Options>
-        ensures { result ≡ with_files_of self (map string_bytes args.now) }
-    {
-        if are_files(args) {
-            Some(Options {
-                files: args.len(),
-                ..self
-            })
-        } else {
-            None
-        }
-    }
-
-    // The options where a word changes them that has no value.
-    fn with_flag(self, word: &str) -> Option<Options>
-        ensures { result ≡ with_flag_of word.now self }
-    {
-        match word {
-            "--json" => Some(Options {
-                form: Form::Json,
-                ..self
-            }),
-            "--quiet" => Some(Options {
-                form: Form::Quiet,
-                ..self
-            }),
-            "--allow-other" => Some(Options {
-                policy: Policy {
-                    allows_other: true,
-                    ..self.policy
-                },
-                ..self
-            }),
-            _ => None,
-        }
-    }
-
-    // The options where an option with a value changes them.
-    fn with_value(self, name: &str, value: &str) -> Option<Options>
-        ensures { result ≡ with_value_of name.now value.now self }
-    {
-        match name {
-            "--field" => self.with_field(value),
-            "--separator" => self.with_separator(value.as_bytes()),
-            "--require" => self.with_algorithm(value),
-            _ => self.with_least(name, number(value)?),
-        }
-    }
-
-    // The options with the text in the field of this number, the first of which is 1.
-    fn with_field(self, value: &str) -> Option<Options>
-        ensures { result ≡ with_field_of value.now self }
-    {
-        let number = number(value)?;
-        if number == 0 {
-            return None;
-        }
-        let place = Place {
-            before: Some(number - 1),
-            ..self.place
-        };
-        Some(Options { place, ..self })
-    }
-
-    // The options with this byte between two fields.
-    fn with_separator(self, bytes: &[u8]) -> Option<Options>
-        ensures { result ≡ with_separator_of bytes.now self }
-    {
-        let [separator] = bytes else {
-            return None;
-        };
-        let place = Place {
-            separator: *separator,
-            ..self.place
-        };
-        Some(Options { place, ..self })
-    }
-
-    // The options where the algorithm of this name is required.
-    fn with_algorithm(self, name: &str) -> Option<Options>
-        ensures { result ≡ with_algorithm_of name.now self }
-    {
-        match Algorithm::new(name) {
-            Ok(algorithm) => {
-                let policy = Policy {
-                    algorithm: Some(algorithm),
-                    ..self.policy
-                };
-                Some(Options { policy, ..self })
-            }
-            Err(_) => None,
-        }
-    }
-
-    // The options where one with a number changes a bound of the policy.
-    fn with_least(self, name: &str, least: u32) -> Option<Options>
-        ensures { result ≡ with_least_of name.now least self }
-    {
-        let policy = self.policy.with_least(name, least)?;
-        Some(Options { policy, ..self })
+// The policy that options ask for.
+fn policy(matches: &ArgMatches<'_>) -> Policy {
+    Policy {
+        m_cost: number(matches, "min-m"),
+        t_cost: number(matches, "min-t"),
+        p_cost: number(matches, "min-p"),
+        salt_len: number(matches, "min-salt"),
+        hash_len: number(matches, "min-hash"),
+        version: number(matches, "min-version"),
+        algorithm: match matches.get_str("require") {
+            Some(name) => Algorithm::new(name).ok(),
+            None => None,
+        },
+        allows_other: matches.get_flag("allow-other"),
     }
 }
 
-impl Policy {
-    ghost use Rattle.std.specs.Prelude.{◌≡◌};
-    ghost use Rattle.argon2_audit.specs.Arguments.{bounded};
-
-    // The policy where an option changes a bound of it.
-    fn with_least(self, name: &str, least: u32) -> Option<Policy>
-        ensures { result ≡ bounded name.now least self }
-    {
-        match name {
-            "--min-m" => Some(Policy {
-                m_cost: least,
-                ..self
-            }),
-            "--min-t" => Some(Policy {
-                t_cost: least,
-                ..self
-            }),
-            "--min-p" => Some(Policy {
-                p_cost: least,
-                ..self
-            }),
-            "--min-salt" => Some(Policy {
-                salt_len: least,
-                ..self
-            }),
-            "--min-hash" => Some(Policy {
-                hash_len: least,
-                ..self
-            }),
-            "--min-version" => Some(Policy {
-                version: least,
-                ..self
-            }),
-            _ => None,
-        }
+// What is to be written.
+fn form(matches: &ArgMatches<'_>) -> Form {
+    if matches.get_flag("json") {
+        Form::Json
+    } else if matches.get_flag("quiet") {
+        Form::Quiet
+    } else {
+        Form::Lines
     }
+}
+
+// The number of an option, 0 if it has none.
+fn number(matches: &ArgMatches<'_>, name: &str) -> u32 {
+    matches.get_one::<u32>(name).unwrap_or(0)
+}
+
+// The program's arguments.
+fn command<'a>(alloc: Global) -> Result<Command<'a>, AllocError> {
+    let min_version = option(
+        alloc,
+        "min-version",
+        "V",
+        "The least version [default: any]",
+    );
+    let require = option(
+        alloc,
+        "require",
+        "ALGORITHM",
+        "The one sound algorithm [default: any]",
+    );
+    let field = option(
+        alloc,
+        "field",
+        "N",
+        "The text is field N, and a line without it is not sound [default: the second, or the line]",
+    );
+    let separator = option(alloc, "separator", "C", "The one byte between two fields");
+    let files = Arg::new(alloc, "FILE")
+        .num_args(0..)
+        .action(ArgAction::Append)
+        .help("Files with a text a line, `-` for standard input");
+    Command::new(alloc, PROGRAM)
+        .version("0.6.0")
+        .about("Says which stored texts of passwords are below a policy")
+        .long_about(ABOUT)
+        .after_help(NOTES)
+        .no_binary_name(true)
+        .args_override_self(true)
+        .arg(least(
+            alloc,
+            "min-m",
+            "M",
+            "19456",
+            "The least memory, in blocks of 1024 bytes",
+        ))?
+        .arg(least(alloc, "min-t", "T", "2", "The least number of passes"))?
+        .arg(least(alloc, "min-p", "P", "1", "The least number of lanes"))?
+        .arg(least(alloc, "min-salt", "N", "16", "The fewest bytes of a salt"))?
+        .arg(least(alloc, "min-hash", "N", "32", "The fewest bytes of a hash"))?
+        .arg(min_version.value_parser(VERSIONS.as_slice()))?
+        .arg(require.value_parser(ALGORITHMS.as_slice()))?
+        .arg(flag(
+            alloc,
+            "allow-other",
+            "Other schemes, locked and blank lines and comments count as sound",
+        ))?
+        .arg(field.value_parser(value_parser!(u32).range(1..)))?
+        .arg(separator.default_value(":"))?
+        .arg(flag(
+            alloc,
+            "json",
+            "Write one JSON object: findings by line, counts, table",
+        )
+        .conflicts_with("quiet")?)?
+        .arg(flag(alloc, "quiet", "Write nothing; the status says all"))?
+        .arg(files)
+}
+
+// An option with a value.
+fn option<'a>(alloc: Global, name: &'a str, value: &'a str, help: &'a str) -> Arg<'a> {
+    Arg::new(alloc, name)
+        .long(name)
+        .value_name(value)
+        .action(ArgAction::Set)
+        .help(help)
+}
+
+// An option with a least number.
+fn least<'a>(
+    alloc: Global,
+    name: &'a str,
+    value: &'a str,
+    default: &'a str,
+    help: &'a str,
+) -> Arg<'a> {
+    option(alloc, name, value, help)
+        .value_parser(value_parser!(u32))
+        .default_value(default)
+}
+
+// An option without a value.
+fn flag<'a>(alloc: Global, name: &'a str, help: &'a str) -> Arg<'a> {
+    Arg::new(alloc, name)
+        .long(name)
+        .action(ArgAction::SetTrue)
+        .help(help)
 }

@@ -129,9 +129,9 @@ fn scheme_of(text: &[u8]) -> Option<Scheme>
         ],
     ) {
         Some(Scheme::Bcrypt)
-    } else if begins_any(text, &["$7$", "$scrypt$", "scrypt$", "scrypt:"]) {
+    } else if begins_any(text, &["$7$", "$scrypt$", "scrypt"]) {
         Some(Scheme::Scrypt)
-    } else if begins_any(text, &["$pbkdf2", "pbkdf2_", "pbkdf2:", "{PBKDF2"]) {
+    } else if begins_any(text, &["$pbkdf2", "pbkdf2", "{PBKDF2"]) {
         Some(Scheme::Pbkdf2)
     } else if begins_any(text, &["$y$", "$gy$"]) {
         Some(Scheme::Yescrypt)

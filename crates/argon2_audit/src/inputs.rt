@@ -1,58 +1,89 @@
 //! What is read: files one after another.
 
 use std::fs::File;
-use std::io;
 use std::io::{Read, Stdin};
+use std::{fs, io};
+
+/// Something that is read and has a name for errors.
+pub trait Named {
+    /// The path of the file that is read or can't be opened, or `standard input`.
+    fn name(&self) -> &str;
+}
 
 /// A file, or standard input.
 #[derive(Drop)]
-pub enum Input {
+enum Input {
     Standard(Stdin),
     File(File),
 }
 
-impl Read for Input {
-    fn read(&mut self, buf: &mut [u8]) -> io::Result<usize> {
-        match self {
-            Input::Standard(input) => input.read(buf),
-            Input::File(file) => file.read(buf),
-        }
-    }
-}
-
-/// Readers one after another, the last of the list first. Where one ends within a line, a line feed ends that line.
+/// The files of these names one after another, `-` for standard input, each opened once the one before has ended. Where
+/// one ends within a line, a line feed ends that line.
 #[derive(Drop)]
-pub struct Inputs<R> {
-    left: Vec<R>,
+pub struct Inputs<'a> {
+    rt: &'a HostRuntime,
+    names: &'a [&'a str],
+    // How many of them were opened, the last of which is read.
+    opened: usize,
+    input: Option<Input>,
     ends_line: bool,
 }
 
-impl<R: Read + Drop> Inputs<R> {
-    /// These readers, the last first.
-    pub fn new(left: Vec<R>) -> Inputs<R> {
+impl<'a> Inputs<'a> {
+    /// The files of these names.
+    pub fn new(rt: &'a HostRuntime, names: &'a [&'a str]) -> Inputs<'a> {
         Inputs {
-            left,
+            rt,
+            names,
+            opened: 0,
+            input: None,
             ends_line: true,
+        }
+    }
+
+    // Opens the next file, if there is one.
+    fn open_next(&mut self) -> io::Result<bool> {
+        let Some(name) = self.names.get(self.opened) else {
+            return Ok(false);
+        };
+        self.opened = self.opened.saturating_add(1);
+        self.input = Some(if *name == "-" {
+            Input::Standard(self.rt.stdin())
+        } else {
+            Input::File(fs::open(self.rt, *name)?)
+        });
+        Ok(true)
+    }
+}
+
+impl Named for Inputs<'_> {
+    fn name(&self) -> &str {
+        match self.names.get(self.opened.saturating_sub(1)) {
+            Some(name) if *name != "-" => name,
+            _ => "standard input",
         }
     }
 }
 
-impl<R: Read + Drop> Read for Inputs<R> {
+impl Read for Inputs<'_> {
     fn read(&mut self, buf: &mut [u8]) -> io::Result<usize> {
         if buf.is_empty() {
             return Ok(0);
         }
         for _ in 0..u64::MAX {
-            let Some(input) = self.left.last_mut() else {
-                break;
+            let count = match &mut self.input {
+                Some(Input::Standard(input)) => input.read(buf)?,
+                Some(Input::File(file)) => file.read(buf)?,
+                None => 0,
             };
-            let count = input.read(buf)?;
             if count > 0 {
                 self.ends_line = buf[count - 1] == b'\n';
                 return Ok(count);
             }
-            let _ended = self.left.pop();
-            if !self.ends_line && !self.left.is_empty() {
+            if !self.open_next()? {
+                break;
+            }
+            if !self.ends_line {
                 buf[0] = b'\n';
                 self.ends_line = true;
                 return Ok(1);

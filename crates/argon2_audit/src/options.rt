@@ -4,7 +4,7 @@ use crate::place::Place;
 use crate::policy::Policy;
 
 /// What is written.
-#[derive(Clone, Copy)]
+#[derive(Clone, Copy, PartialEq, Eq)]
 pub enum Form {
     /// Remarks and a table, as lines.
     Lines,
@@ -20,16 +20,4 @@ pub struct Options {
     pub policy: Policy,
     pub place: Place,
     pub form: Form,
-    /// How many of the arguments, the last ones, name files.
-    pub files: usize,
-}
-
-impl Options {
-    /// The library's own policy for the lines of standard input.
-    pub const DEFAULT: Options = Options {
-        policy: Policy::DEFAULT,
-        place: Place::DEFAULT,
-        form: Form::Lines,
-        files: 0,
-    };
 }

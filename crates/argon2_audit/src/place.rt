@@ -19,12 +19,6 @@ pub struct Place {
 impl Place {
     ghost use Rattle.argon2_audit.specs.Place.{field_in};
 
-    /// The second of the fields between colons, or all of a line without a colon.
-    pub const DEFAULT: Place = Place {
-        before: None,
-        separator: b':',
-    };
-
     /// The field with the text, where the line has it.
     pub fn field<'a>(self, line: &'a [u8]) -> Option<&'a [u8]>
         ensures { option_copied result ≡ field_in self line.now }

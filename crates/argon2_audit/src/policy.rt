@@ -3,8 +3,7 @@
 ghost use Rattle.std.specs.Prelude.{◌≡◌};
 
 use crate::entry::Entry;
-use argon2::phc::Salt;
-use argon2::{Algorithm, Params};
+use argon2::Algorithm;
 
 /// The least costs, lengths and version, the algorithm, and whether other schemes count as sound.
 #[derive(Clone, Copy)]
@@ -41,18 +40,6 @@ pub struct Shortfalls {
 
 impl Policy {
     ghost use Rattle.argon2_audit.specs.Policy.{shortfalls_of};
-
-    /// What the library itself makes where nothing else is asked for.
-    pub const DEFAULT: Policy = Policy {
-        m_cost: Params::DEFAULT_M_COST,
-        t_cost: Params::DEFAULT_T_COST,
-        p_cost: Params::DEFAULT_P_COST,
-        salt_len: Salt::RECOMMENDED_LENGTH as u32,
-        hash_len: Params::DEFAULT_OUTPUT_LEN as u32,
-        version: 0,
-        algorithm: None,
-        allows_other: false,
-    };
 
     /// What of a text is below the policy. A salt or a hash that is missing has no bytes.
     pub fn shortfalls(&self, entry: &Entry) -> Shortfalls

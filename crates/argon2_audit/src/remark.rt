@@ -17,14 +17,14 @@ pub enum Remark<'a> {
     Cost(&'static str, u32, u32),
     Algorithm(Algorithm, Algorithm),
     Version(Version, u32),
+    NoSalt,
     SaltLen(u32, u32),
     HashLen(u32, u32),
     NoHash,
     EqualSalt,
 }
 
-/// The remark in a few words, which name nothing of the line's name, salt and hash. None has a character that JSON
-/// escapes.
+/// The remark in a few words, which name nothing of the line's name, salt and hash.
 impl fmt::Display for Remark<'_> {
     fn fmt<W: fmt::Write>(&self, f: &mut fmt::Formatter<W>) -> fmt::Result {
         match self {
@@ -38,6 +38,7 @@ impl fmt::Display for Remark<'_> {
                 let has = u32::from(*has);
                 write!(f, "v={has} is below {least}")
             }
+            Remark::NoSalt => f.write_str("no salt"),
             Remark::SaltLen(has, least) => write!(f, "a salt of {has} bytes is below {least}"),
             Remark::HashLen(has, least) => write!(f, "a hash of {has} bytes is below {least}"),
             Remark::NoHash => f.write_str("no hash"),

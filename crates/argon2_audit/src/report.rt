@@ -3,29 +3,35 @@
 use crate::audit::Audit;
 use crate::claim::Claim;
 use crate::entry::Entry;
-use crate::failure::Failure;
 use crate::finding::Finding;
 use crate::options::Form;
 use crate::policy::Policy;
 use crate::remark::Remark;
 use crate::tally::{Marks, Tally};
+use argon2_commands::{Failure, write_number};
+use json::Writer;
+use std::alloc::{AllocError, Global};
 use std::io;
 use std::io::Write;
 
-/// What was written so far, and how.
+/// What is written, and how. A JSON object is kept until it is whole.
 #[derive(Drop)]
 pub struct Report {
     form: Form,
-    // Whether a remark was written.
-    has_remarks: bool,
+    alloc: Global,
+    json: Writer,
+    // Whether the JSON object has begun.
+    has_begun: bool,
 }
 
 impl Report {
     /// A report with nothing written.
-    pub fn new(form: Form) -> Report {
+    pub fn new(alloc: Global, form: Form) -> Report {
         Report {
             form,
-            has_remarks: false,
+            alloc,
+            json: Writer::new(Vec::new(alloc)),
+            has_begun: false,
         }
     }
 
@@ -65,7 +71,7 @@ impl Report {
         number: u64,
         entry: &Entry,
         policy: &Policy,
-    ) -> io::Result<()> {
+    ) -> Result<(), Failure> {
         let (short, kind) = (policy.shortfalls(entry), &entry.kind);
         for (is_short, name, has, least) in [
             (short.memory, "m", kind.m_cost, policy.m_cost),
@@ -98,10 +104,13 @@ impl Report {
         number: u64,
         entry: &Entry,
         policy: &Policy,
-    ) -> io::Result<()> {
+    ) -> Result<(), Failure> {
         let short = policy.shortfalls(entry);
         if short.salt {
-            let remark = Remark::SaltLen(entry.salt_len(), policy.salt_len);
+            let remark = match entry.salt {
+                Some(_) => Remark::SaltLen(entry.salt_len(), policy.salt_len),
+                None => Remark::NoSalt,
+            };
             self.remark(output, number, &remark)?;
         }
         match entry.hash_len {
@@ -119,44 +128,49 @@ impl Report {
         output: &mut W,
         number: u64,
         remark: &Remark<'_>,
-    ) -> io::Result<()> {
+    ) -> Result<(), Failure> {
         match self.form {
-            Form::Lines => writeln!(output, "line {number}: {remark}"),
-            Form::Json => {
-                let before = self.before_remark();
-                self.has_remarks = true;
-                write!(
-                    output,
-                    "{before}{{\"line\":{number},\"remark\":\"{remark}\"}}"
-                )
-            }
-            Form::Quiet => Ok(()),
+            Form::Lines => writeln!(output, "line {number}: {remark}")?,
+            Form::Json => self.finding(number, remark)?,
+            Form::Quiet => {}
         }
+        Ok(())
     }
 
-    // What stands before the next remark in a JSON object.
-    fn before_remark(&self) -> &'static str {
-        if self.has_remarks {
-            ",\n"
-        } else {
-            "{\"findings\":[\n"
+    // Adds a finding to the JSON object.
+    fn finding(&mut self, number: u64, remark: &Remark<'_>) -> Result<(), AllocError> {
+        let text = format!(in self.alloc; "{remark}")?;
+        self.begin()?;
+        self.json.begin_object()?;
+        write_number(&mut self.json, "line", number)?;
+        self.json.key("remark")?;
+        self.json.string(text.as_str())?;
+        self.json.end_object()
+    }
+
+    // Begins the JSON object and its findings, once.
+    fn begin(&mut self) -> Result<(), AllocError> {
+        if !self.has_begun {
+            self.has_begun = true;
+            self.json.begin_object()?;
+            self.json.key("findings")?;
+            self.json.begin_array()?;
         }
+        Ok(())
     }
 
     /// Writes the counts, and then how many texts there are of each kind.
-    pub fn table<W: Write>(&self, output: &mut W, audit: &Audit) -> Result<(), Failure> {
+    pub fn end<W: Write>(mut self, output: &mut W, audit: &Audit) -> Result<(), Failure> {
         match self.form {
             Form::Lines => {
                 counts(output, audit)?;
                 kinds(output, audit)?;
             }
             Form::Json => {
-                if !self.has_remarks {
-                    output.write_all(self.before_remark().as_bytes())?;
-                }
-                json_counts(output, &audit.tally)?;
-                json_schemes(output, audit)?;
-                json_kinds(output, audit)?;
+                self.begin()?;
+                end_json(&mut self.json, audit)?;
+                output.write_all(self.json.into_inner().as_slice())?;
+                output.write_all(b"\n")?;
             }
             Form::Quiet => {}
         }
@@ -232,11 +246,27 @@ fn kinds<W: Write>(output: &mut W, audit: &Audit) -> io::Result<()> {
     Ok(())
 }
 
-// Ends the list of remarks of a JSON object, and writes the counts.
-fn json_counts<W: Write>(output: &mut W, tally: &Tally) -> io::Result<()> {
-    let lines = tally.lines;
-    write!(output, "\n],\n\"counts\":{{\"lines\":{lines}")?;
+// Ends the findings of a JSON object, and writes the counts, and how many texts there are of each kind.
+fn end_json(json: &mut Writer, audit: &Audit) -> Result<(), AllocError> {
+    json.end_array()?;
+    json.key("counts")?;
+    json_counts(json, &audit.tally)?;
+    json.key("schemes")?;
+    json.begin_object()?;
+    for (scheme, lines) in audit.seen.schemes.iter() {
+        write_number(json, scheme.name(), *lines)?;
+    }
+    json.end_object()?;
+    json.key("table")?;
+    json_kinds(json, audit)?;
+    json.end_object()
+}
+
+// Writes the counts.
+fn json_counts(json: &mut Writer, tally: &Tally) -> Result<(), AllocError> {
+    json.begin_object()?;
     for (name, count) in [
+        ("lines", tally.lines),
         ("sound", tally.sound),
         ("below", tally.below),
         ("no_hash", tally.no_hash),
@@ -250,51 +280,24 @@ fn json_counts<W: Write>(output: &mut W, tally: &Tally) -> io::Result<()> {
         ("short_salts", tally.short_salts),
         ("equal_salts", tally.equal_salts),
     ] {
-        write!(output, ",\"{name}\":{count}")?;
+        write_number(json, name, count)?;
     }
-    output.write_all(b"},\n")
+    json.end_object()
 }
 
-// Writes how many texts there are of each other scheme.
-fn json_schemes<W: Write>(output: &mut W, audit: &Audit) -> io::Result<()> {
-    output.write_all(b"\"schemes\":{")?;
-    let mut is_first = true;
-    for (scheme, lines) in audit.seen.schemes.iter() {
-        let name = scheme.name();
-        write_separator(output, is_first)?;
-        write!(output, "\"{name}\":{lines}")?;
-        is_first = false;
-    }
-    output.write_all(b"\n},\n")
-}
-
-// Writes how many texts of Argon2 there are of each kind, and ends the JSON object.
-fn json_kinds<W: Write>(output: &mut W, audit: &Audit) -> io::Result<()> {
-    output.write_all(b"\"table\":[")?;
-    let mut is_first = true;
+// Writes how many texts of Argon2 there are of each kind.
+fn json_kinds(json: &mut Writer, audit: &Audit) -> Result<(), AllocError> {
+    json.begin_array()?;
     for (kind, lines) in audit.seen.kinds.iter() {
-        let version = u32::from(kind.version);
-        let (algorithm, m, t, p) = (
-            kind.algorithm.as_str(),
-            kind.m_cost,
-            kind.t_cost,
-            kind.p_cost,
-        );
-        write_separator(output, is_first)?;
-        write!(
-            output,
-            "{{\"algorithm\":\"{algorithm}\",\"version\":{version},\"m\":{m},\"t\":{t},\"p\":{p},\"lines\":{lines}}}"
-        )?;
-        is_first = false;
+        json.begin_object()?;
+        json.key("algorithm")?;
+        json.string(kind.algorithm.as_str())?;
+        write_number(json, "version", u64::from(u32::from(kind.version)))?;
+        write_number(json, "m", u64::from(kind.m_cost))?;
+        write_number(json, "t", u64::from(kind.t_cost))?;
+        write_number(json, "p", u64::from(kind.p_cost))?;
+        write_number(json, "lines", *lines)?;
+        json.end_object()?;
     }
-    output.write_all(b"\n]}\n")
-}
-
-// Writes what stands between two members of a JSON object or list.
-fn write_separator<W: Write>(output: &mut W, is_first: bool) -> io::Result<()> {
-    if is_first {
-        output.write_all(b"\n")
-    } else {
-        output.write_all(b",\n")
-    }
+    json.end_array()
 }

@@ -1,10 +1,10 @@
 //! An audit of bytes as they come.
 
 use crate::audit::Audit;
-use crate::failure::Failure;
 use crate::line::Line;
 use crate::options::Options;
 use crate::report::Report;
+use argon2_commands::Failure;
 use std::alloc::Global;
 use std::io::Write;
 
@@ -30,7 +30,7 @@ impl Session {
         Session {
             audit: Audit::new(alloc, options),
             line: Line::new(alloc),
-            report: Report::new(options.form),
+            report: Report::new(alloc, options.form),
         }
     }
 
@@ -79,8 +79,8 @@ impl Session {
     }
 
     /// Writes the counts of all lines, after the last.
-    pub fn end_report<W: Write>(&self, output: &mut W) -> Result<(), Failure> {
-        self.report.table(output, &self.audit)
+    pub fn end_report<W: Write>(self, output: &mut W) -> Result<(), Failure> {
+        self.report.end(output, &self.audit)
     }
 
     // Ends a line.
