@@ -5,6 +5,7 @@
 //! - [`vault`]: a key from a passphrase.
 //! - [`arena`]: many hashes on the same memory.
 //! - [`scheduler`]: the steps of a hash in another order.
+//! - [`secret`]: a text under an old secret, made anew under the new one.
 //! - [`digest`]: BLAKE2b of a message in pieces.
 #![tactic(auto)]
 
@@ -13,4 +14,5 @@ pub mod digest;
 pub mod login;
 pub mod passwords;
 pub mod scheduler;
+pub mod secret;
 pub mod vault;
