@@ -1,5 +1,5 @@
 -- What passwords make of a value: within a bound, accepted, and as the step of a store.
-use Rattle.std.proofs.Common.{◌≡◌, ◌≢◌, ℕ, ◌*◌, ◌≤◌, List, Option, Some, None, Result, Ok, Err, ◌⊎◌, inl, inr, refl, sym, ap, ◌∙◌, arith, mul_comm, mul_left_comm, div-mul-le_self, false}
+use Rattle.std.proofs.Common.{◌≡◌, ◌≢◌, ℕ, ◌*◌, ◌≤◌, List, Option, Some, None, Result, Ok, Err, ◌⊎◌, inl, inr, refl, sym, ap, ◌∙◌, arith, mul_comm, mul_left_comm, div-mul-le_self, false, true, not}
 use Rattle.std.proofs.lemmas.Bool.{cases_Bool}
 use Rattle.std.proofs.lemmas.Map.{update_same, update_other}
 use Rattle.std.proofs.lemmas.Slice.Eq.{bytes_eq-Decides}
@@ -17,7 +17,7 @@ use Rattle.argon2_base.specs.declared.error.password_hash.Error.{Error}
 use Rattle.argon2_base.specs.declared.error.password_hash.Error.TheVariants.{EncodingInvalid, OutOfMemory}
 use Rattle.argon2_base.specs.declared.phc.hash.PasswordHash.{PasswordHash}
 use Rattle.argon2_accounts.specs.declared.error.AccountError.{AccountError}
-use Rattle.argon2_accounts.specs.declared.error.AccountError.TheVariants.{NameTaken, NameUnknown, Refused, TooExpensive}
+use Rattle.argon2_accounts.specs.declared.error.AccountError.TheVariants.{NameTaken, NameUnknown, Refused, TextChanged, TooExpensive}
 use Rattle.argon2.specs.declared.algorithm.Algorithm.{Algorithm}
 use Rattle.argon2.specs.declared.bound.Bound.{Bound}
 use Rattle.argon2.specs.declared.login.answers.Accepted.{Accepted}
@@ -104,6 +104,7 @@ pub denied : (terms : Terms) (password : List ℕ) (v : Phc) (e : AccountError) 
     → (e ≡ Refused OutOfMemory) ⊎ ¬ (Admits terms password v)
 denied terms password v NameTaken why = absurd why
 denied terms password v NameUnknown why = absurd why
+denied terms password v TextChanged why = absurd why
 denied terms password v TooExpensive why = inr (λ admits. within_not_above terms.bound v admits.0 why)
 denied terms password v (Refused e) why = elim (exact terms.target.secret password v (Err e) why.1) [
   | inl memory ↦ inl (ap Refused memory)
@@ -154,6 +155,19 @@ name_changes m n name o updates = (
       (updates other ∙ update_other bytes_eq (get_by_text m) name o other (unequal name other differs))
       ∙ sym (get-values_of m other),
 )
+
+-- ---- a text that is to be replaced
+
+pub is_text : (text old : List ℕ) (v : Phc) → PhcText text v → false ≡ not (bytes_eq text old) → PhcText old v
+is_text text old v says same = elim (cases_Bool (bytes_eq text old)) [
+  | inl hit ↦ (says.0, sym ((bytes_eq-Decides text old).0 hit) ∙ says.1)
+  | inr miss ↦ absurd (let never = rw miss at same in cc)
+]
+
+pub is_other_text : (text old : List ℕ) (v : Phc) → PhcText text v → true ≡ not (bytes_eq text old) → ¬ (PhcText old v)
+is_other_text text old v says differs is =
+    let hit = (bytes_eq-Decides text old).1 (says.1 ∙ sym is.1) in
+    let never = rw hit at differs in cc
 
 -- ---- names that are added and registered
 

@@ -9,7 +9,7 @@ use Rattle.argon2_base.specs.PhcText.{Phc, PhcText}
 use Rattle.argon2_base.specs.declared.error.password_hash.Error.TheVariants.{EncodingInvalid, OutOfMemory, OutputSize}
 use Rattle.argon2_accounts.specs.declared.accounts.Accounts.{Accounts}
 use Rattle.argon2_accounts.specs.declared.error.AccountError.{AccountError}
-use Rattle.argon2_accounts.specs.declared.error.AccountError.TheVariants.{NameTaken, NameUnknown, Refused, TooExpensive}
+use Rattle.argon2_accounts.specs.declared.error.AccountError.TheVariants.{NameTaken, NameUnknown, Refused, TextChanged, TooExpensive}
 use Rattle.argon2_accounts.specs.declared.policy.Policy.{Policy}
 use Rattle.argon2.specs.declared.bound.Bound.{Bound}
 use Rattle.argon2.specs.declared.bound.BoundError.TheVariants.{TooExpensive as AboveBound}
@@ -109,6 +109,7 @@ pub data AccountEvent : Type 0 where
   logging_in : List ℕ → List ℕ → List ℕ → Result Accepted AccountError → AccountEvent
   changing : List ℕ → List ℕ → List ℕ → List ℕ → Result (Unit {0}) AccountError → AccountEvent
   setting : List ℕ → List ℕ → List ℕ → Result (Unit {0}) AccountError → AccountEvent
+  replacing : List ℕ → List ℕ → List ℕ → Result (Unit {0}) AccountError → AccountEvent
   removing : List ℕ → Result (Unit {0}) AccountError → AccountEvent
 
 -- the name of a call
@@ -118,6 +119,7 @@ name_of (registering name password drawn answer) = name
 name_of (logging_in name password drawn answer) = name
 name_of (changing name old password drawn answer) = name
 name_of (setting name password drawn answer) = name
+name_of (replacing name old new answer) = name
 name_of (removing name answer) = name
 
 -- why a text is not added
@@ -152,6 +154,17 @@ abbrev pub OnValue : {X : Type 0} → (Phc → Result X AccountError → Phc →
 OnValue changes (Some v) answer after = IsSomeAnd after (changes v answer)
 OnValue changes None answer after = (answer ≡ Err NameUnknown) × (after ≡ None)
 
+-- why a name's text is not replaced
+abbrev pub ReplacingRefusal : List ℕ → List ℕ → Phc → AccountError → Type 0
+ReplacingRefusal old new v TextChanged = ¬ (PhcText old v)
+ReplacingRefusal old new v (Refused e) = PhcText old v × (e ≡ EncodingInvalid) × ¬ (IsText new)
+ReplacingRefusal old new v _ = ⊥
+
+-- what replacing a text answers, and what it makes of the value
+abbrev pub Replaces : List ℕ → List ℕ → Phc → Result (Unit {0}) AccountError → Phc → Type 0
+Replaces old new v (Ok _) w = PhcText old v × PhcText new w
+Replaces old new v (Err e) w = ReplacingRefusal old new v e × (w ≡ v)
+
 -- what removing answers, and the name's value after it
 abbrev pub Removes : Option Phc → Result (Unit {0}) AccountError → Option Phc → Type 0
 Removes before (Ok _) after = IsSome before × (after ≡ None)
@@ -168,6 +181,8 @@ AccountAnswer terms (changing name old password drawn answer) before after =
     OnValue (Changes terms old password drawn) before answer after
 AccountAnswer terms (setting name password drawn answer) before after =
     OnValue (Sets terms password drawn) before answer after
+AccountAnswer terms (replacing name old new answer) before after =
+    OnValue (Replaces old new) before answer after
 AccountAnswer terms (removing name answer) before after = Removes before answer after
 
 -- what a call answers, and the store after it: all other names keep their values
@@ -193,7 +208,7 @@ AccountRun terms first (event ∷ older) last =
     (before : Store) × AccountRun terms first older before × AccountStep terms before event last
 
 pub data Given : Type 0 where
-  a_text : List ℕ → Given  -- a text that was added
+  a_text : List ℕ → Given  -- a text that was added, or put in another's place
   a_password : List ℕ → Given  -- a password: registered, set, changed to, or accepted at a login
   nothing : Given  -- the name was removed
 
@@ -204,6 +219,7 @@ gives (registering name password drawn (Ok _)) = Some (a_password password)
 gives (logging_in name password drawn (Ok _)) = Some (a_password password)
 gives (changing name old password drawn (Ok _)) = Some (a_password password)
 gives (setting name password drawn (Ok _)) = Some (a_password password)
+gives (replacing name old new (Ok _)) = Some (a_text new)
 gives (removing name (Ok _)) = Some nothing
 gives _ = None
 
@@ -248,4 +264,5 @@ abbrev pub account_error_text : AccountError → List ℕ
 account_error_text NameTaken = codes "name is taken"
 account_error_text NameUnknown = codes "name is unknown"
 account_error_text TooExpensive = codes "costs are above the bound"
+account_error_text TextChanged = codes "text has changed"
 account_error_text (Refused e) = hash_error_text e

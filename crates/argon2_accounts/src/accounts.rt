@@ -10,7 +10,7 @@ ghost use Rattle.argon2_base.specs.PhcText.{Phc};
 ghost use Rattle.argon2_base.specs.declared.error.password_hash.Error.TheVariants.{OutOfMemory};
 ghost use Rattle.argon2_accounts.specs.declared.error.AccountError.TheVariants.{Refused, TooExpensive};
 ghost use Rattle.argon2.specs.declared.login.answers.Accepted.TheVariants.{Kept};
-ghost use Rattle.argon2_accounts.specs.Accounts.{AreNew, DrawsOnce, HasPassword, IsAbove, Steps, adding, changing, kept_terms, logging_in, registering, removing, setting, store_of, stream_after_making};
+ghost use Rattle.argon2_accounts.specs.Accounts.{AreNew, DrawsOnce, HasPassword, IsAbove, Steps, adding, changing, kept_terms, logging_in, registering, removing, replacing, setting, store_of, stream_after_making};
 ghost use Rattle.argon2.specs.NamedTexts.{IsCurrent, KeepsOthers, added, named_values, stream_after};
 ghost use Rattle.argon2.specs.Made.{target_of};
 
@@ -130,7 +130,7 @@ impl<'key> Accounts<'key> {
         let Some(fresh) = fresh else {
             return Ok(accepted);
         };
-        self.replace(name, fresh);
+        self.put(name, fresh);
         Ok(accepted)
     }
 
@@ -161,7 +161,7 @@ impl<'key> Accounts<'key> {
             return Err(AccountError::NameUnknown);
         };
         let fresh = self.policy.change_password(rng, text, old, new)?;
-        self.replace(name, fresh);
+        self.put(name, fresh);
         Ok(())
     }
 
@@ -190,7 +190,32 @@ impl<'key> Accounts<'key> {
             return Err(AccountError::NameUnknown);
         }
         let fresh = self.policy.hash_password(rng, new)?;
-        self.replace(name, fresh);
+        self.put(name, fresh);
+        Ok(())
+    }
+
+    /// Gives a name the text `new` if it still has the text `old`. So a caller can verify and hash by
+    /// [`Policy`] while others use the accounts, and no change is lost. The new text may ask for more
+    /// than the bound.
+    ///
+    /// # Errors
+    /// The first of these that holds; the accounts are then as before:
+    /// - [`AccountError::NameUnknown`]: the name has no text.
+    /// - [`AccountError::TextChanged`]: it has another text than `old`.
+    /// - [`AccountError::Refused`] with [`Error::EncodingInvalid`]: `new` is outside the grammar of
+    ///   PHC texts.
+    pub fn replace(&mut self, name: &str, old: &str, new: &str) -> Result<(), AccountError>
+        ensures step { Steps (replacing name.now old.now new.now result) self.old self.new }
+        ensures terms { kept_terms self.new ≡ kept_terms self.old }
+    {
+        let Some(text) = self.texts.get(name) else {
+            return Err(AccountError::NameUnknown);
+        };
+        if text.text().as_str() != old {
+            return Err(AccountError::TextChanged);
+        }
+        let fresh = PasswordHash::new(new)?;
+        self.put(name, fresh);
         Ok(())
     }
 
@@ -256,7 +281,7 @@ impl<'key> Accounts<'key> {
     }
 
     // Writes a text over the one that a name has.
-    fn replace(&mut self, name: &str, text: PasswordHash)
+    fn put(&mut self, name: &str, text: PasswordHash)
         requires { IsSome (get (store_of self.old) name.now) }
         ensures replaced { get (store_of self.new) name.now ≡ Some (phc_of text) }
         ensures others { KeepsOthers name.now (store_of self.old) (store_of self.new) }

@@ -16,6 +16,8 @@ pub enum AccountError {
     NameUnknown,
     /// The costs of the text, or of a new policy's target, are above the bound.
     TooExpensive,
+    /// The name has another text than the one that was to be replaced.
+    TextChanged,
     /// Reading, verifying or making a text fails with this error.
     Refused(Error),
 }
@@ -28,6 +30,7 @@ impl fmt::Display for AccountError {
             AccountError::NameTaken => f.write_str("name is taken"),
             AccountError::NameUnknown => f.write_str("name is unknown"),
             AccountError::TooExpensive => f.write_str("costs are above the bound"),
+            AccountError::TextChanged => f.write_str("text has changed"),
             AccountError::Refused(error) => write!(f, "{error}"),
         }
     }

@@ -19,7 +19,7 @@ use Rattle.argon2_base.proofs.texts.Base64Lemmas.{decode_of-strict_base64, stric
 use Rattle.argon2_base.proofs.texts.ParamsReading.{one_list}
 use Rattle.argon2_base.proofs.texts.PhcTextLemmas.{begins_with_dollar, first_and_left, from_params, no_item, no_list_read, no_version, none_after, same_phc}
 use Rattle.argon2.specs.NamedTexts.{Store}
-use Rattle.argon2_accounts.specs.Accounts.{AccountAnswer, AccountEvent, AccountStep, AreTerms, Changes, LogsIn, OnValue, Sets, Terms, adding, changing, logging_in, name_of, registering, removing, setting}
+use Rattle.argon2_accounts.specs.Accounts.{AccountAnswer, AccountEvent, AccountStep, AreTerms, Changes, LogsIn, OnValue, Replaces, Sets, Terms, adding, changing, logging_in, name_of, registering, removing, replacing, setting}
 use Rattle.argon2.specs.Made.{IsFresh}
 use Rattle.argon2_accounts.specs.declared.error.AccountError.{AccountError}
 use Rattle.argon2.specs.declared.login.answers.Accepted.{Accepted}
@@ -152,6 +152,11 @@ module _ (terms : Terms) (are : AreTerms terms) where
   changed old password drawn (Ok x) v w good step = fresh_text password drawn w step.1
   changed old password drawn (Err e) v w good step = rw step.1 good
 
+  replaced : (old new : List ℕ) (answer : Result (Unit {0}) AccountError) (v w : Phc) → IsPhc v
+      → Replaces old new v answer w → IsPhc w
+  replaced old new (Ok x) v w good step = step.1.0
+  replaced old new (Err e) v w good step = rw step.1 good
+
   answer_text : (event : AccountEvent) (o p : Option Phc) → AccountAnswer terms event o p → IfSome o IsPhc → IfSome p IsPhc
   answer_text (adding name text (Ok x)) o (Some v) step good = step.1.0
   answer_text (adding name text (Ok x)) o None step good = tt
@@ -165,6 +170,8 @@ module _ (terms : Terms) (are : AreTerms terms) where
       on_value (Changes terms old password drawn) answer o p (changed old password drawn answer) good step
   answer_text (setting name password drawn answer) o p step good =
       on_value (Sets terms password drawn) answer o p (set password drawn answer) good step
+  answer_text (replacing name old new answer) o p step good =
+      on_value (Replaces old new) answer o p (replaced old new answer) good step
   answer_text (removing name (Ok x)) o p step good = rw step.1 tt
   answer_text (removing name (Err e)) o p step good = rw step.2 tt
 

@@ -81,6 +81,7 @@ fn gives_a_name_passwords(rt: HostRuntime) -> Result<(), Fail> {
     assert!(rt; has(&accounts, "eve", OLD) && accounts.len() == 2);
     assert!(rt; accounts.login(&mut rng, "eve", &PWD) == Ok(Accepted::Rehashed));
     assert!(rt; has(&accounts, "eve", NEW) && rng.0 == 16);
+    assert!(rt; accounts.replace("eve", NEW, OTHER) == Ok(()) && has(&accounts, "eve", OTHER));
     assert!(rt; accounts.remove("ann") == Ok(()));
     assert!(rt; begins_with(&accounts, "eve") && accounts.len() == 1);
     Ok(())
@@ -97,12 +98,15 @@ fn refuses_and_leaves_the_text(rt: HostRuntime) -> Result<(), Fail> {
     assert!(rt; accounts.login(&mut rng, "bob", &PWD) == Err(unknown));
     assert!(rt; accounts.change_password(&mut rng, "bob", &PWD, &PWD) == Err(unknown));
     assert!(rt; accounts.set_password(&mut rng, "bob", &PWD) == Err(unknown));
+    assert!(rt; accounts.replace("bob", OLD, "x") == Err(unknown));
     assert!(rt; accounts.remove("bob") == Err(unknown));
 
     assert!(rt; accounts.add("ann", NEW) == Err(AccountError::NameTaken));
     assert!(rt; accounts.register(&mut rng, "ann", &PWD) == Err(AccountError::NameTaken));
     let text = AccountError::Refused(Error::EncodingInvalid);
     assert!(rt; accounts.add("bob", "x") == Err(text));
+    assert!(rt; accounts.replace("ann", OLD, "x") == Err(text));
+    assert!(rt; accounts.replace("ann", NEW, "x") == Err(AccountError::TextChanged));
 
     let refused = AccountError::Refused(Error::PasswordInvalid);
     assert!(rt; accounts.login(&mut rng, "ann", b"other") == Err(refused));

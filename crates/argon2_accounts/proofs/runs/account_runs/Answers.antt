@@ -9,7 +9,7 @@ use Rattle.std.specs.Ordering.{nat_cmp}
 use Rattle.std.specs.Str.{bytes_eq}
 use Rattle.argon2_base.specs.PhcText.{Phc}
 use Rattle.argon2_accounts.specs.declared.error.AccountError.{AccountError}
-use Rattle.argon2_accounts.specs.Accounts.{AccountAnswer, AccountEvent, AccountRun, Admits, AreTerms, Changes, Given, HasGiven, LogsIn, OnValue, Sets, Terms, a_password, adding, changing, given, gives, logging_in, name_of, registering, removing, setting}
+use Rattle.argon2_accounts.specs.Accounts.{AccountAnswer, AccountEvent, AccountRun, Admits, AreTerms, Changes, Given, HasGiven, LogsIn, OnValue, Replaces, Sets, Terms, a_password, adding, changing, given, gives, logging_in, name_of, registering, removing, replacing, setting}
 use Rattle.argon2.specs.NamedTexts.{Store, newest}
 use Rattle.argon2_accounts.proofs.AccountLemmas.{fresh_admits, leaves_admits}
 use Rattle.argon2_accounts.proofs.runs.account_runs.Goals as goal
@@ -52,6 +52,11 @@ module _ (terms : Terms) (are : AreTerms terms) where
       (λ v w is. fresh_admits terms are last drawn w is) step
   call_gives (setting name last drawn (Err e)) older o p step has =
       kept (Sets terms last drawn) e older o p (λ v w is. is.1) step has
+  call_gives (replacing name old new (Ok x)) older (Some v) (Some w) step has = step.1
+  call_gives (replacing name old new (Ok x)) older (Some v) None step has = absurd step
+  call_gives (replacing name old new (Ok x)) older None p step has = let never = step.0 in absurd cc
+  call_gives (replacing name old new (Err e)) older o p step has =
+      kept (Replaces old new) e older o p (λ v w is. is.1) step has
   call_gives (removing name (Ok x)) older o p step has = rw step.1 tt
   call_gives (removing name (Err e)) older o p step has = rw step.2 (rw step.1 at has)
 

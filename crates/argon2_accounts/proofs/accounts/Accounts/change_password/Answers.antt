@@ -35,8 +35,8 @@ returns-in_err-fresh g c =
       terms = refl;
     })
 
-pub replace-requires : goal.replace-requires
-replace-requires g c =
+pub put-requires : goal.put-requires
+put-requires g c =
     rw (get-found c.args.self.now.texts c.args.name.now (Some c.in-Some.text.now) (sym c.in-Some.ensures.value)) refl
 
 pub returns : goal.returns
@@ -44,15 +44,15 @@ returns g c =
     let text = c.in-Some.text.now in
     let fresh = c.in_ok-fresh.fresh in
     let had = get-found c.args.self.now.texts c.args.name.now (Some text) (sym c.in-Some.ensures.value) in
-    let has = c.replace.ensures.replaced in
+    let has = c.put.ensures.replaced in
     record {
       step = (
         on_value (Changes (kept_terms c.args.self.now) c.args.old.now c.args.new.now
             (fill_bytes 16 (g.R.Rng.stream c.args.rng.now)).0) _ _ (phc_of text) (phc_of fresh) _ had has
             c.in_ok-fresh.ensures.made,
-        c.replace.ensures.others,
+        c.put.ensures.others,
       );
-      accepted = rw (c.replace.ensures.terms, has) c.in_ok-fresh.ensures.accepted;
+      accepted = rw (c.put.ensures.terms, has) c.in_ok-fresh.ensures.accepted;
       drawn = rw had c.in_ok-fresh.ensures.drawn;
-      terms = c.replace.ensures.terms;
+      terms = c.put.ensures.terms;
     }

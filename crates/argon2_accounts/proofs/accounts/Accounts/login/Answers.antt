@@ -69,8 +69,8 @@ returns-in_default-fresh g c =
       terms = refl;
     }
 
-pub replace-requires : goal.replace-requires
-replace-requires g c =
+pub put-requires : goal.put-requires
+put-requires g c =
     rw (get-found c.args.self.now.texts c.args.name.now (Some c.in-Some.text.now) (sym c.in-Some.ensures.value)) refl
 
 pub returns : goal.returns
@@ -78,19 +78,19 @@ returns g c =
     let v = phc_of c.in-Some.text.now in
     let w = phc_of c.in-Some-fresh.fresh in
     let had = get-found c.args.self.now.texts c.args.name.now (Some c.in-Some.text.now) (sym c.in-Some.ensures.value) in
-    let has = c.replace.ensures.replaced in
+    let has = c.put.ensures.replaced in
     let some = c.in-Some-fresh.is in
     let done = c.in_ok-accepted.ensures in
     record {
       step = (
         on_value (LogsIn (kept_terms c.args.self.now) c.args.password.now (fill_bytes 16 (g.R.Rng.stream c.args.rng.now)).0)
             _ _ v w (Ok c.in_ok-accepted.field-0.accepted) had has (rw some at done.step),
-        c.replace.ensures.others,
+        c.put.ensures.others,
       );
-      accepted = rw (c.replace.ensures.terms, has) (rw some at done.accepted);
+      accepted = rw (c.put.ensures.terms, has) (rw some at done.accepted);
       current = rw has (subst (λ (t : Terms). c.in_ok-accepted.field-0.accepted ≢ Kept → IsCurrent t.target w)
-          (sym c.replace.ensures.terms) (rw some at done.current));
+          (sym c.put.ensures.terms) (rw some at done.current));
       expensive = λ above. let no = done.expensive (rw had at above) in absurd cc;
       drawn = done.drawn;
-      terms = c.replace.ensures.terms;
+      terms = c.put.ensures.terms;
     }

@@ -1,22 +1,50 @@
-use Rattle.std.proofs.Common.{◌≡◌, None, Some, refl, sym}
-use Rattle.std.proofs.lemmas.Map.Text.{btree_map_updates_text}
-use Rattle.std.specs.FinMap.{get}
-use Rattle.argon2_accounts.specs.Accounts.{store_of}
+use Rattle.std.proofs.Common.{refl, sym, ◌∙◌, Some, None}
+use Rattle.argon2_base.specs.PhcFields.{phc_of}
 use Rattle.argon2.proofs.login_store.Stores.{get-found}
-use Rattle.argon2_accounts.proofs.AccountLemmas.{name_changes}
+use Rattle.argon2_accounts.specs.Accounts.{Replaces}
+use Rattle.argon2_accounts.proofs.AccountLemmas.{err_is, is_other_text, is_text, on_none, on_value}
 use Rattle.argon2_accounts.proofs.accounts.Accounts.replace.Goals as goal
 
-pub unreachable-requires : goal.unreachable-requires
-unreachable-requires c =
-    let none : get (store_of c.args.self.now) c.args.name.now ≡ None =
-    get-found c.args.self.now.texts c.args.name.now None (sym c.in_default.ensures.value) in
-    absurd (let h = rw none at c.requires in cc)
+pub returns-in_default-clause-step : goal.returns-in_default-clause-step
+returns-in_default-clause-step c = (
+  on_none (Replaces c.args.old.now c.args.new.now) _ _
+      (get-found c.args.self.now.texts c.args.name.now None (sym c.in_default.ensures.value)) refl,
+  λ other differs. refl,
+)
 
-pub returns : goal.returns
-returns c =
-    let before = c.args.self.now.texts in
-    let name = c.args.name.now in
-    let after = c.get_mut.follows.lender c.args.text in
-    let changes = name_changes before after name (Some c.args.text) (btree_map_updates_text name before after _
-    ((c.get_mut.follows.holds c.args.text).3 (rw (← c.in-Some.ensures.value) refl))) in
-    record { replaced = changes.0; others = changes.1; terms = refl }
+pub returns-then-ne-clause-step : goal.returns-then-ne-clause-step
+returns-then-ne-clause-step c =
+    let text = c.in-Some.text.now in
+    let had = get-found c.args.self.now.texts c.args.name.now (Some text) (sym c.in-Some.ensures.value) in
+    let differs = rw c.as_str.ensures.value at (sym c.if-ne.true ∙ c.ne.ensures) in
+    let never = is_other_text _ c.args.old.now (phc_of text) c.text.ensures differs in (
+      on_value (Replaces c.args.old.now c.args.new.now) _ _ (phc_of text) (phc_of text) _ had had (never, refl),
+      λ other differs. refl,
+    )
+
+pub returns-in_err-fresh-clause-step : goal.returns-in_err-fresh-clause-step
+returns-in_err-fresh-clause-step c =
+    let text = c.in-Some.text.now in
+    let had = get-found c.args.self.now.texts c.args.name.now (Some text) (sym c.in-Some.ensures.value) in
+    let same = rw c.as_str.ensures.value at (sym c.if-ne.false ∙ c.ne.ensures) in
+    let is = is_text _ c.args.old.now (phc_of text) c.text.ensures same in
+    rw (err_is c.from_residual.result _ c.from_residual.ensures.1) (
+      on_value (Replaces c.args.old.now c.args.new.now) _ _ (phc_of text) (phc_of text) _ had had
+          ((is, c.in_err-fresh.ensures.invalid, λ spelt. c.in_err-fresh.ensures.only spelt.0 spelt.1), refl),
+      λ other differs. refl,
+    )
+
+pub put-requires : goal.put-requires
+put-requires c =
+    rw (get-found c.args.self.now.texts c.args.name.now (Some c.in-Some.text.now) (sym c.in-Some.ensures.value)) refl
+
+pub returns-clause-step : goal.returns-clause-step
+returns-clause-step c =
+    let text = c.in-Some.text.now in
+    let had = get-found c.args.self.now.texts c.args.name.now (Some text) (sym c.in-Some.ensures.value) in
+    let same = rw c.as_str.ensures.value at (sym c.if-ne.false ∙ c.ne.ensures) in (
+      on_value (Replaces c.args.old.now c.args.new.now) _ _ (phc_of text) (phc_of c.in_ok-fresh.fresh) _ had
+          c.put.ensures.replaced
+          (is_text _ c.args.old.now (phc_of text) c.text.ensures same, c.in_ok-fresh.ensures.found),
+      c.put.ensures.others,
+    )

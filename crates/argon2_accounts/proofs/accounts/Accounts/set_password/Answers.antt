@@ -22,8 +22,8 @@ returns-in_err-fresh-clause-step g c = (
   λ other differs. refl,
 )
 
-pub replace-requires : goal.replace-requires
-replace-requires g c =
+pub put-requires : goal.put-requires
+put-requires g c =
     present c.args.self.now.texts c.args.name.now (sym c.contains_key.ensures ∙ c.if-not-contains_key.false)
 
 pub returns-clause-step : goal.returns-clause-step
@@ -31,10 +31,10 @@ returns-clause-step g c = (
   sets (kept_terms c.args.self.now) c.args.new.now (fill_bytes 16 (g.R.Rng.stream c.args.rng.now)).0 _ _
       (phc_of c.in_ok-fresh.fresh)
       (present c.args.self.now.texts c.args.name.now (sym c.contains_key.ensures ∙ c.if-not-contains_key.false))
-      c.replace.ensures.replaced c.in_ok-fresh.ensures.made,
-  c.replace.ensures.others,
+      c.put.ensures.replaced c.in_ok-fresh.ensures.made,
+  c.put.ensures.others,
 )
 
 pub returns-clause-accepted : goal.returns-clause-accepted
 returns-clause-accepted g c =
-    rw (c.replace.ensures.terms, c.replace.ensures.replaced) c.in_ok-fresh.ensures.accepted
+    rw (c.put.ensures.terms, c.put.ensures.replaced) c.in_ok-fresh.ensures.accepted

@@ -1,0 +1,22 @@
+use Rattle.std.proofs.Common.{◌≡◌, None, Some, refl, sym}
+use Rattle.std.proofs.lemmas.Map.Text.{btree_map_updates_text}
+use Rattle.std.specs.FinMap.{get}
+use Rattle.argon2_accounts.specs.Accounts.{store_of}
+use Rattle.argon2.proofs.login_store.Stores.{get-found}
+use Rattle.argon2_accounts.proofs.AccountLemmas.{name_changes}
+use Rattle.argon2_accounts.proofs.accounts.Accounts.put.Goals as goal
+
+pub unreachable-requires : goal.unreachable-requires
+unreachable-requires c =
+    let none : get (store_of c.args.self.now) c.args.name.now ≡ None =
+    get-found c.args.self.now.texts c.args.name.now None (sym c.in_default.ensures.value) in
+    absurd (let h = rw none at c.requires in cc)
+
+pub returns : goal.returns
+returns c =
+    let before = c.args.self.now.texts in
+    let name = c.args.name.now in
+    let after = c.get_mut.follows.lender c.args.text in
+    let changes = name_changes before after name (Some c.args.text) (btree_map_updates_text name before after _
+    ((c.get_mut.follows.holds c.args.text).3 (rw (← c.in-Some.ensures.value) refl))) in
+    record { replaced = changes.0; others = changes.1; terms = refl }
