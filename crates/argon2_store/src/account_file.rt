@@ -6,7 +6,7 @@ ghost use Rattle.std.specs.Option.{option_copied, option_map};
 ghost use Rattle.rand_core.specs.Stream.{fill_bytes};
 ghost use Rattle.argon2_base.specs.PhcFields.{phc_of};
 ghost use Rattle.argon2_accounts.specs.Accounts as kept;
-ghost use Rattle.argon2_accounts.specs.Accounts.{AreTerms, HasPassword, adding, changing, logging_in, registering, removing, setting};
+ghost use Rattle.argon2_accounts.specs.Accounts.{AreTerms, HasPassword, adding, changing, logging_in, registering, removing, replacing, setting};
 ghost use Rattle.argon2.specs.NamedTexts.{named_values};
 ghost use Rattle.argon2.specs.Made.{target_of};
 ghost use Rattle.argon2_store.specs.Adding.{entry_of};
@@ -248,6 +248,33 @@ impl<'key, S: Store> AccountFile<'key, S> {
         }
         let text = self.policy.hash_password(rng, new)?;
         written(self.table.replace(name, text), ())
+    }
+
+    /// Gives a name the text `new` if it still has the text `old`, as
+    /// [`Accounts::replace`](argon2_accounts::Accounts::replace).
+    ///
+    /// # Errors
+    /// The first of these that holds:
+    /// - [`FileError::Closed`]: the file has to be opened again.
+    /// - [`FileError::Account`] with [`AccountError::NameUnknown`]: the name has no text.
+    /// - [`FileError::Account`] with [`AccountError::TextChanged`]: it has another text than `old`.
+    /// - [`FileError::Account`] with [`Error::EncodingInvalid`](argon2::password_hash::Error::EncodingInvalid):
+    ///   `new` is outside the grammar of PHC texts.
+    /// - those of writing, as [`add`](AccountFile::add).
+    pub fn replace(&mut self, name: &str, old: &str, new: &str) -> Result<(), FileError>
+        ensures { Serves (replacing name.now old.now new.now) result self.old self.new }
+    {
+        if self.is_closed() {
+            return Err(FileError::Closed);
+        }
+        let Some(text) = self.table.get(name) else {
+            return Err(AccountError::NameUnknown.into());
+        };
+        if text.text().as_str() != old {
+            return Err(AccountError::TextChanged.into());
+        }
+        let fresh = PasswordHash::new(new)?;
+        written(self.table.replace(name, fresh), ())
     }
 
     /// Removes a name and its text.

@@ -29,6 +29,7 @@ struct Answers {
     added: Answer,
     added_again: Answer,
     has_ann: bool,
+    replaced: Answer,
     copied: Answer,
 }
 
@@ -47,6 +48,7 @@ fn main(rt: HostRuntime) -> io::Result<()> {
             show(&rt, "add", &answers.added)?;
             show(&rt, "add again", &answers.added_again)?;
             println!(rt; "has ann alone: {}", answers.has_ann)?;
+            show(&rt, "replace", &answers.replaced)?;
             show(&rt, "checkpoint", &answers.copied)?;
             if answers.copied.result.is_ok() {
                 fs::remove_file(&rt, "accounts.db-wal")?;
@@ -81,6 +83,11 @@ fn answers_of<D: Disk + Drop>(mut file: AccountFile<'_, FileStore<D>>) -> Answer
         is_closed: file.is_closed(),
     };
     let has_ann = has_ann(&file);
+    let result = file.replace("ann", TEXT, TEXT);
+    let replaced = Answer {
+        result,
+        is_closed: file.is_closed(),
+    };
     let result = file.checkpoint();
     let copied = Answer {
         result,
@@ -91,6 +98,7 @@ fn answers_of<D: Disk + Drop>(mut file: AccountFile<'_, FileStore<D>>) -> Answer
         added,
         added_again,
         has_ann,
+        replaced,
         copied,
     }
 }
