@@ -102,7 +102,8 @@ impl<'key> Accounts<'key> {
     ///
     /// # Errors
     /// The first of these that holds; the accounts are then as before:
-    /// - [`AccountError::NameUnknown`]: the name has no text.
+    /// - [`AccountError::NameUnknown`]: the name has no text. The password is hashed all the same, as
+    ///   [`Policy::hash_for_nobody`] does.
     /// - those of [`Policy::log_in`].
     pub fn login<R: Rng>(
         &mut self,
@@ -124,6 +125,7 @@ impl<'key> Accounts<'key> {
         ensures terms { kept_terms self.new ≡ kept_terms self.old }
     {
         let Some(text) = self.texts.get(name) else {
+            self.policy.hash_for_nobody(password);
             return Err(AccountError::NameUnknown);
         };
         let LoggedIn { accepted, fresh } = self.policy.log_in(rng, text, password)?;
@@ -140,7 +142,8 @@ impl<'key> Accounts<'key> {
     ///
     /// # Errors
     /// The first of these that holds; the accounts are then as before:
-    /// - [`AccountError::NameUnknown`]: the name has no text.
+    /// - [`AccountError::NameUnknown`]: the name has no text. The old password is hashed all the same, as
+    ///   [`Policy::hash_for_nobody`] does.
     /// - those of [`Policy::change_password`].
     pub fn change_password<R: Rng>(
         &mut self,
@@ -158,6 +161,7 @@ impl<'key> Accounts<'key> {
         ensures terms { kept_terms self.new ≡ kept_terms self.old }
     {
         let Some(text) = self.texts.get(name) else {
+            self.policy.hash_for_nobody(old);
             return Err(AccountError::NameUnknown);
         };
         let fresh = self.policy.change_password(rng, text, old, new)?;

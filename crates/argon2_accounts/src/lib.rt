@@ -15,6 +15,7 @@ mod accounts;
 mod error;
 mod policy;
 mod runs;
+mod zeros;
 
 pub use accounts::Accounts;
 pub use error::AccountError;

@@ -5,6 +5,7 @@ ghost use Rattle.argon2.specs.Bound.{IsWithin};
 ghost use Rattle.argon2.specs.Login.{target_value};
 
 use crate::error::AccountError;
+use crate::zeros::Zeros;
 use argon2::Argon2;
 use argon2::bound::Bound;
 use argon2::login::{LoggedIn, Target};
@@ -151,6 +152,13 @@ impl<'key> Policy<'key> {
     {
         self.target.verify(self.alloc, old, &self.admitted(text)?)?;
         self.hash_password(rng, new)
+    }
+
+    /// Hashes a password as [`hash_password`](Policy::hash_password) does, with a salt of zeros, and drops
+    /// the text. A caller that refuses a name that it does not know calls it first, so that the refusal
+    /// takes as long as that of a wrong password. No contract says so: time is not proved.
+    pub fn hash_for_nobody(&self, password: &[u8]) {
+        let _ = self.hash_password(&mut Zeros, password);
     }
 
     // What a text shows, if it can be read and asks for no more than the bound.

@@ -330,11 +330,14 @@ fn above(rt: &HostRuntime, argon2: Argon2<'_>) -> io::Result<()> {
     show(rt, "Policy::change_password", answer)
 }
 
-// A name that is registered and gets the same password again, and one with a text that is above the bound.
+// A name that is unknown, is registered and gets the same password again, and one with a text that is above the bound.
 fn accounts(rt: &HostRuntime) -> io::Result<()> {
     let Ok(Ok(mut accounts)) = known().map(|argon2| Accounts::new(rt.alloc(), argon2, BOUND)) else {
         return Err(io::Error::from(ErrorKind::InvalidInput));
     };
+    let mut rng = ChaCha20Rng::from_seed([7; 32]);
+    let answer = accounts.login(&mut rng, "kim", &PASSWORD).map(|_| ());
+    answered(rt, "a login of kim", answer, rng, &accounts)?;
     let mut rng = ChaCha20Rng::from_seed([7; 32]);
     let answer = accounts.register(&mut rng, "kim", &PASSWORD);
     answered(rt, "register kim", answer, rng, &accounts)?;

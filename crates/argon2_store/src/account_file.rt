@@ -148,7 +148,8 @@ impl<'key, S: Store> AccountFile<'key, S> {
     /// # Errors
     /// The first of these that holds:
     /// - [`FileError::Closed`]: the file has to be opened again.
-    /// - [`FileError::Account`] with [`AccountError::NameUnknown`]: the name has no text.
+    /// - [`FileError::Account`] with [`AccountError::NameUnknown`]: the name has no text. The password is
+    ///   hashed all the same, as [`Policy::hash_for_nobody`] does.
     /// - [`FileError::Account`] with those of [`Policy::log_in`].
     /// - those of writing, as [`add`](AccountFile::add): the password is right, and writing the fresh text
     ///   has closed the file.
@@ -171,6 +172,7 @@ impl<'key, S: Store> AccountFile<'key, S> {
             return Err(FileError::Closed);
         }
         let Some(text) = self.table.get(name) else {
+            self.policy.hash_for_nobody(password);
             return Err(AccountError::NameUnknown.into());
         };
         let LoggedIn { accepted, fresh } = self.policy.log_in(rng, text, password)?;
@@ -191,7 +193,8 @@ impl<'key, S: Store> AccountFile<'key, S> {
     /// # Errors
     /// The first of these that holds:
     /// - [`FileError::Closed`]: the file has to be opened again.
-    /// - [`FileError::Account`] with [`AccountError::NameUnknown`]: the name has no text.
+    /// - [`FileError::Account`] with [`AccountError::NameUnknown`]: the name has no text. The old password
+    ///   is hashed all the same, as [`Policy::hash_for_nobody`] does.
     /// - [`FileError::Account`] with those of [`Policy::change_password`].
     /// - those of writing, as [`add`](AccountFile::add).
     pub fn change_password<R: Rng>(
@@ -213,6 +216,7 @@ impl<'key, S: Store> AccountFile<'key, S> {
             return Err(FileError::Closed);
         }
         let Some(text) = self.table.get(name) else {
+            self.policy.hash_for_nobody(old);
             return Err(AccountError::NameUnknown.into());
         };
         let fresh = self.policy.change_password(rng, text, old, new)?;

@@ -1,4 +1,4 @@
-use Rattle.std.proofs.Common.{rules, ◌≡◌, ◌∙◌, Result, Some, Ok, refl, sym}
+use Rattle.std.proofs.Common.{rules, ◌≡◌, ◌∙◌, Result, Some, refl, sym}
 use Rattle.rand_core.specs.Stream.{Stream, fill_bytes}
 use Rattle.sqlite_trees.specs.declared.error.StoreError.{StoreError}
 use Rattle.argon2_base.specs.PhcFields.{phc_of}
