@@ -140,6 +140,10 @@ abbrev pub RefusesLine : {S : Type 0} {g : Ghosts S} → Failure → List (List 
 RefusesLine failure es before after = (k : ℕ) × (why : AccountError) × (failure ≡ Line (k + 1) why)
     × IsFirstRefused (names_of before) es k why × AddsOrNone es (Err (Account why)) before after
 
+-- the entries were to be added, and this is some answer to it
+abbrev pub IsAdded : {S : Type 0} {g : Ghosts S} → List (List ℕ × List ℕ) → AccountFile S g → AccountFile S g → Type 0
+IsAdded es before after = (answer : Result (Unit {0}) FileError) × AddsOrNone es answer before after
+
 -- a file at a path that was opened under these terms
 abbrev pub IsOpened : {S : Type 0} {g : Ghosts S} → (List ℕ → Store → Type 0) → List ℕ → Terms → AccountFile S g → Type 0
 IsOpened Has path terms file = IsReady terms file × Has path (names_of file)
@@ -213,3 +217,13 @@ module _ {S : Type 0} (g : Ghosts S) (Holds : List ℕ → List ℕ → Type 0) 
   IsRefused (show choices path view) input Becomes = IsRefusedBy Holds choices (λ terms. ⊥) × Becomes None
   IsRefused (import choices path) input Becomes = (IsRefusedBy Holds choices (λ terms. ⊥) × Becomes None)
       ⊎ ((failure : Failure) × IsImported choices path (RefusesLine failure) input Becomes)
+
+  -- all that was done with a file, whatever the status: it was not opened, or one call was made, with some answer
+  abbrev pub IsOnce : Asked → Option (List ℕ) → (Option S → Type 0) → Type 0
+  IsOnce (verify choices path name) input Becomes =
+      Becomes None ⊎ ((answer : Result Accepted FileError) × IsLogin choices path name answer input Becomes)
+  IsOnce (edit choices path act name) input Becomes =
+      Becomes None ⊎ ((answer : Result (Unit {0}) FileError) × IsEdited choices path act name answer input Becomes)
+  IsOnce (show choices path view) input Becomes = Becomes None ⊎ IsRead choices path (λ names. ⊤) Becomes
+  IsOnce (import choices path) input Becomes = Becomes None ⊎ IsImported choices path IsAdded input Becomes
+  IsOnce _ input Becomes = Becomes None

@@ -5,7 +5,7 @@ use failure::Failure;
 use place::Machine;
 use std::alloc::AllocError;
 use std::env;
-use std::io::ErrorKind;
+use std::io::{BufWriter, ErrorKind};
 use std::process::ExitCode;
 
 mod arguments;
@@ -19,7 +19,10 @@ mod run;
 pub use run::run;
 
 fn main(rt: HostRuntime) -> ExitCode {
-    let (mut output, mut errors) = (rt.stdout(), rt.stderr());
+    let mut errors = rt.stderr();
+    let Ok(mut output) = BufWriter::new(rt.alloc(), rt.stdout()) else {
+        return ExitCode::from(run::fail(&mut errors, Failure::Memory(AllocError)));
+    };
     let mut left = None;
     let status = match words(&rt) {
         Ok(args) => run(

@@ -5,7 +5,7 @@ ghost use Rattle.std.specs.Io.KnownBytes.{Appends, Keeps};
 ghost use Rattle.argon2_accounts.specs.Accounts.{AreTerms, terms_of};
 ghost use Rattle.argon2.specs.Login.{accepted_text};
 ghost use Rattle.argon2.specs.Made.{target_of};
-ghost use Rattle.argon2_passwd.specs.Answers.{Denies, HasNone, IsAnswered, IsCheckReply, IsHashReply, IsLeft, IsRefused, IsRefusedBy, IsSecret, terms_by};
+ghost use Rattle.argon2_passwd.specs.Answers.{Denies, HasNone, IsAnswered, IsCheckReply, IsHashReply, IsLeft, IsOnce, IsRefused, IsRefusedBy, IsSecret, terms_by};
 ghost use Rattle.argon2_passwd.specs.Arguments.{asked, asked_by, choices_of};
 ghost use Rattle.argon2_passwd.specs.Failures.{status_of};
 
@@ -84,7 +84,8 @@ fails. Where it is not 0, standard error says why.
 /// the usage lines, which `errors` gets, and neither `input` nor `output` is touched. Status 3: a file, a
 /// stream, random bytes or a request for memory failed.
 /// With 1 and 3 the failure's text is written to `errors`, and with 1 nothing to `output`. Where `errors`
-/// can't be written, the status stays. `left` is the store of the file that was opened.
+/// can't be written, the status stays. `left` is the store of the file that was opened; whatever the status, one call
+/// of the command is all that was done with it.
 pub fn run<P: Place, R: BufRead, W: Write, E: Write>(
     alloc: Global,
     args: &[String],
@@ -108,6 +109,8 @@ pub fn run<P: Place, R: BufRead, W: Write, E: Write>(
         (λ asked. IsRefused P.File.Store P.holds P.keeps asked (R.remaining input.old)
         (IsLeft (P.unopened place.new) left.new))
         × Keeps (W.contents output.old) (W.contents output.new) }
+    ensures once { IfSome (asked_by (map string_bytes args.now)) (λ asked. IsOnce P.File.Store
+        P.holds P.keeps asked (R.remaining input.old) (IsLeft (P.unopened place.new) left.new)) }
 {
     let Some(command) = Command::parsed(args) else {
         let _ = writeln!(errors, "{USAGE}");
@@ -145,6 +148,8 @@ fn answer<P: Place, R: BufRead, W: Write>(
         → IsRefused P.File.Store P.holds P.keeps (asked command.entry) (R.remaining input.old)
         (IsLeft (P.unopened place.new) left.new)
         × Keeps (W.contents output.old) (W.contents output.new)) }
+    ensures once { IsOnce P.File.Store P.holds P.keeps (asked command.entry)
+        (R.remaining input.old) (IsLeft (P.unopened place.new) left.new) }
 {
     match command {
         Command::Help => page(output, HELP),

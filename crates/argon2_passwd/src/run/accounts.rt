@@ -8,7 +8,7 @@ ghost use Rattle.argon2_accounts.specs.Accounts.{AreTerms};
 ghost use Rattle.argon2_base.specs.PhcFields.{phc_of};
 ghost use Rattle.argon2_store.specs.AccountFile.{AddsOrNone, Serves, names_of};
 ghost use Rattle.argon2_store.specs.Adding.{entry_of};
-ghost use Rattle.argon2_passwd.specs.Answers.{AreRead, AreUnread, IsEdited, IsImported, IsLeft, IsLogin, IsOpened, IsRead, IsRefused, IsRefusedBy, RefusesLine, breaks_lines, call_of, entry_line, lines_of, terms_by};
+ghost use Rattle.argon2_passwd.specs.Answers.{AreRead, AreUnread, IsAdded, IsEdited, IsImported, IsLeft, IsLogin, IsOnce, IsOpened, IsRead, IsRefused, IsRefusedBy, RefusesLine, breaks_lines, call_of, entry_line, lines_of, terms_by};
 ghost use Rattle.argon2_passwd.specs.Arguments.{Asked, choices_of};
 ghost use Rattle.argon2_passwd.specs.Failures.{status_of};
 
@@ -46,6 +46,9 @@ pub fn verify<P: Place, R: BufRead>(
         → IsRefused P.File.Store P.holds P.keeps
         (Asked.verify (choices_of options.now) file.now name.now) (R.remaining input.old)
         (IsLeft (P.unopened place.new) left.new)) }
+    ensures once { IsOnce P.File.Store P.holds P.keeps
+        (Asked.verify (choices_of options.now) file.now name.now) (R.remaining input.old)
+        (IsLeft (P.unopened place.new) left.new) }
 {
     let password = password(alloc, input)?;
     let secret = secret(alloc, place, options)?;
@@ -75,6 +78,9 @@ pub fn edit<P: Place, R: BufRead>(
         → IsRefused P.File.Store P.holds P.keeps
         (Asked.edit (choices_of options.now) file.now edit name.now) (R.remaining input.old)
         (IsLeft (P.unopened place.new) left.new)) }
+    ensures once { IsOnce P.File.Store P.holds P.keeps
+        (Asked.edit (choices_of options.now) file.now edit name.now) (R.remaining input.old)
+        (IsLeft (P.unopened place.new) left.new) }
 {
     if breaks_lines(edit, name) {
         return Err(Failure::Name);
@@ -114,6 +120,9 @@ pub fn show<P: Place, W: Write>(
         (Asked.show (choices_of options.now) file.now view) None
         (IsLeft (P.unopened place.new) left.new)
         × Keeps (W.contents output.old) (W.contents output.new)) }
+    ensures once { IsOnce P.File.Store P.holds P.keeps
+        (Asked.show (choices_of options.now) file.now view) None
+        (IsLeft (P.unopened place.new) left.new) }
 {
     let secret = secret(alloc, place, options)?;
     let accounts = open(options, place, file, secret.as_slice())?;
@@ -139,6 +148,9 @@ pub fn import<P: Place, R: BufRead>(
         → (IsRefusedBy P.holds (choices_of options.now) (λ terms. ⊥) × P.unopened place.new)
         ⊎ IsImported P.File.Store P.holds P.keeps (choices_of options.now) file.now
         (RefusesLine failure) (R.remaining input.old) (IsLeft (P.unopened place.new) left.new)) }
+    ensures once { IsOnce P.File.Store P.holds P.keeps
+        (Asked.import (choices_of options.now) file.now) (R.remaining input.old)
+        (IsLeft (P.unopened place.new) left.new) }
 {
     let bytes = read_all(alloc, input)?;
     let entries = entries(alloc, bytes.as_slice())?;
@@ -226,6 +238,7 @@ fn add_all<S: Store>(
         (AddsOrNone (map entry_of entries.now) (Ok tt) accounts.old accounts.new) }
     ensures err { IfErr result (λ failure. status_of failure ≡ 1
         → RefusesLine failure (map entry_of entries.now) accounts.old accounts.new) }
+    ensures once { IsAdded (map entry_of entries.now) accounts.old accounts.new }
 {
     match accounts.add_all(entries) {
         Ok(()) => Ok(()),

@@ -52,3 +52,18 @@ returns-in-Import-clause-ok g c =
 pub returns-in-Import-clause-err : goal.returns-in-Import-clause-err
 returns-in-Import-clause-err g c = rw c.in-Import.is (err_then _ c.import.ensures.err
     (λ failure no. (⊎_elim inl (λ refused. inr (failure, refused)) no, keeps_same _)))
+
+pub returns-in_err-accepted-in-Verify-clause-once : goal.returns-in_err-accepted-in-Verify-clause-once
+returns-in_err-accepted-in-Verify-clause-once g c = rw c.in-Verify.is c.in_err-accepted-in-Verify.ensures.once
+
+pub returns-in_ok-accepted-in-Verify-clause-once : goal.returns-in_ok-accepted-in-Verify-clause-once
+returns-in_ok-accepted-in-Verify-clause-once g c = rw c.in-Verify.is c.in_ok-accepted-in-Verify.ensures.once
+
+pub returns-in-Edit-clause-once : goal.returns-in-Edit-clause-once
+returns-in-Edit-clause-once g c = rw c.in-Edit.is c.edit.ensures.once
+
+pub returns-in-Show-clause-once : goal.returns-in-Show-clause-once
+returns-in-Show-clause-once g c = rw c.in-Show.is c.show.ensures.once
+
+pub returns-in-Import-clause-once : goal.returns-in-Import-clause-once
+returns-in-Import-clause-once g c = rw c.in-Import.is c.import.ensures.once

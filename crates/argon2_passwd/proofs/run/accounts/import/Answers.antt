@@ -50,3 +50,20 @@ returns-clause-err g c =
         ap Some c.into_store.ensures,
       ),
     ))
+
+pub returns-clause-once : goal.returns-clause-once
+returns-clause-once g c = inr (
+  map entry_of c.in_ok-entries.entries.items,
+  of_known (g.R.Read.remaining c.args.input.now) _ _ _ c.in_ok-bytes.ensures.ok c.as_slice.ensures.value
+      c.in_ok-entries.ensures,
+  (
+    c.in_ok-secret.secret.items,
+    [],
+    c.in_ok-accounts.accounts,
+    c.add_all-added.new.accounts,
+    c.in_ok-secret.ensures.ok,
+    (rw c.as_slice-2.ensures.value at c.in_ok-accounts.ensures.ok),
+    (rw c.as_slice-3.ensures.value at c.add_all-added.ensures.once),
+    ap Some c.into_store.ensures,
+  ),
+)

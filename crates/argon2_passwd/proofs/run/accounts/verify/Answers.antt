@@ -38,3 +38,41 @@ returns-clause-ok g c = (
     ap Some c.into_store.ensures,
   ),
 )
+
+pub returns-in_err-done-clause-once : goal.returns-in_err-done-clause-once
+returns-in_err-done-clause-once g c = inr (
+  _,
+  (
+    c.in_ok-password.password.items,
+    c.in_ok-password.ensures.found,
+    (
+      c.in_ok-secret.secret.items,
+      _,
+      c.in_ok-accounts.accounts,
+      c.login-done.new.self,
+      c.in_ok-secret.ensures.ok,
+      (rw c.as_slice.ensures.value at c.in_ok-accounts.ensures.ok),
+      (rw c.as_slice-2.ensures.value at c.in_err-done.ensures.call),
+      ap Some c.into_store.ensures,
+    ),
+  ),
+)
+
+pub returns-clause-once : goal.returns-clause-once
+returns-clause-once g c = inr (
+  _,
+  (
+    c.in_ok-password.password.items,
+    c.in_ok-password.ensures.found,
+    (
+      c.in_ok-secret.secret.items,
+      _,
+      c.in_ok-accounts.accounts,
+      c.login-done.new.self,
+      c.in_ok-secret.ensures.ok,
+      (rw c.as_slice.ensures.value at c.in_ok-accounts.ensures.ok),
+      (rw c.as_slice-2.ensures.value at c.in_ok-done.ensures.call),
+      ap Some c.into_store.ensures,
+    ),
+  ),
+)
