@@ -173,31 +173,31 @@ ARGON2_PUBLIC int argon2i_ctx(argon2_context *context);
 ARGON2_PUBLIC int argon2id_ctx(argon2_context *context);
 
 /* Hashes, and writes the tag, the text with a zero byte behind it, or both: a pointer may be NULL. */
-ARGON2_PUBLIC int argon2_hash(const uint32_t t_cost, const uint32_t m_cost, const uint32_t parallelism,
+ARGON2_PUBLIC int argon2_hash(const uint32_t t_cost, const uint32_t m_cost, const uint32_t lanes,
     const void *pwd, const size_t pwdlen, const void *salt, const size_t saltlen, void *hash,
     const size_t hashlen, char *encoded, const size_t encodedlen, argon2_type type, const uint32_t version);
 
 /* The text at version 0x13. */
-ARGON2_PUBLIC int argon2d_hash_encoded(const uint32_t t_cost, const uint32_t m_cost, const uint32_t parallelism,
+ARGON2_PUBLIC int argon2d_hash_encoded(const uint32_t t_cost, const uint32_t m_cost, const uint32_t lanes,
     const void *pwd, const size_t pwdlen, const void *salt, const size_t saltlen, const size_t hashlen,
     char *encoded, const size_t encodedlen);
-ARGON2_PUBLIC int argon2i_hash_encoded(const uint32_t t_cost, const uint32_t m_cost, const uint32_t parallelism,
+ARGON2_PUBLIC int argon2i_hash_encoded(const uint32_t t_cost, const uint32_t m_cost, const uint32_t lanes,
     const void *pwd, const size_t pwdlen, const void *salt, const size_t saltlen, const size_t hashlen,
     char *encoded, const size_t encodedlen);
-ARGON2_PUBLIC int argon2id_hash_encoded(const uint32_t t_cost, const uint32_t m_cost, const uint32_t parallelism,
+ARGON2_PUBLIC int argon2id_hash_encoded(const uint32_t t_cost, const uint32_t m_cost, const uint32_t lanes,
     const void *pwd, const size_t pwdlen, const void *salt, const size_t saltlen, const size_t hashlen,
     char *encoded, const size_t encodedlen);
 
 /* The tag at version 0x13. */
-ARGON2_PUBLIC int argon2d_hash_raw(const uint32_t t_cost, const uint32_t m_cost, const uint32_t parallelism,
+ARGON2_PUBLIC int argon2d_hash_raw(const uint32_t t_cost, const uint32_t m_cost, const uint32_t lanes,
     const void *pwd, const size_t pwdlen, const void *salt, const size_t saltlen, void *hash, const size_t hashlen);
-ARGON2_PUBLIC int argon2i_hash_raw(const uint32_t t_cost, const uint32_t m_cost, const uint32_t parallelism,
+ARGON2_PUBLIC int argon2i_hash_raw(const uint32_t t_cost, const uint32_t m_cost, const uint32_t lanes,
     const void *pwd, const size_t pwdlen, const void *salt, const size_t saltlen, void *hash, const size_t hashlen);
-ARGON2_PUBLIC int argon2id_hash_raw(const uint32_t t_cost, const uint32_t m_cost, const uint32_t parallelism,
+ARGON2_PUBLIC int argon2id_hash_raw(const uint32_t t_cost, const uint32_t m_cost, const uint32_t lanes,
     const void *pwd, const size_t pwdlen, const void *salt, const size_t saltlen, void *hash, const size_t hashlen);
 
 /* The bytes of a text at version 0x13 with its zero byte; 0 where there is no such variant. */
-ARGON2_PUBLIC size_t argon2_encodedlen(uint32_t t_cost, uint32_t m_cost, uint32_t parallelism,
+ARGON2_PUBLIC size_t argon2_encodedlen(uint32_t t_cost, uint32_t m_cost, uint32_t lanes,
     uint32_t saltlen, uint32_t hashlen, argon2_type type);
 
 /* ---- verifying: ARGON2_OK where it is the password's, ARGON2_VERIFY_MISMATCH where it is not */

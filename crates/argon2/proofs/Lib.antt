@@ -1,8 +1,8 @@
 pub mod InitialHashing
 mod LentMemory
 mod RefusalLemmas
-pub mod lists
-pub mod login_store
+pub mod params_lemmas
+pub mod login_lemmas
 pub mod recurrence
-pub mod schedules
-pub mod stored_hashes
+pub mod context_lemmas
+pub mod password_hash_lemmas

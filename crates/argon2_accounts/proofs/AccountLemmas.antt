@@ -30,10 +30,10 @@ use Rattle.argon2.specs.Made.{IsFresh}
 use Rattle.argon2.specs.Rfc9106.{segment_length_for}
 use Rattle.argon2.specs.Settings.{Parameters, Settings}
 use Rattle.argon2.specs.Stored.{Stored, found, read, shown_settings, stored_of}
-use Rattle.argon2.proofs.login_store.Stores.{get-found, get-values_of}
-use Rattle.argon2.proofs.stored_hashes.Answered.{stored_shows}
-use Rattle.argon2.proofs.stored_hashes.MadeValues.{made_accepts, made_shows}
-use Rattle.argon2.proofs.stored_hashes.Verified.{exact}
+use Rattle.argon2.proofs.login_lemmas.Stores.{get-found, get-values_of}
+use Rattle.argon2.proofs.password_hash_lemmas.Answered.{stored_shows}
+use Rattle.argon2.proofs.password_hash_lemmas.MadeValues.{made_accepts, made_shows}
+use Rattle.argon2.proofs.password_hash_lemmas.Verified.{exact}
 
 -- ---- the bound
 

@@ -8,7 +8,7 @@ use Rattle.std.specs.Str.{bytes_eq}
 use Rattle.argon2_base.specs.PhcText.{Phc, PhcText}
 use Rattle.argon2.specs.NamedTexts.{KeepsOthers, Store}
 use Rattle.argon2_accounts.specs.declared.error.AccountError.{AccountError}
-use Rattle.argon2.proofs.login_store.Stores.{get-other, get-same}
+use Rattle.argon2.proofs.login_lemmas.Stores.{get-other, get-same}
 use Rattle.argon2_store.specs.Adding.{AddsAll, AddsName}
 use Rattle.argon2_store.proofs.NameLemmas.{remove-insert, same}
 

@@ -15,7 +15,7 @@ use Rattle.argon2_accounts.specs.Accounts.{AccountAnswer, AccountEvent, AccountS
 use Rattle.argon2.specs.NamedTexts.{Store}
 use Rattle.argon2_accounts.specs.declared.error.AccountError.{AccountError}
 use Rattle.argon2_accounts.specs.declared.error.AccountError.TheVariants.{NameUnknown}
-use Rattle.argon2.proofs.login_store.Stores.{get-other, get-same}
+use Rattle.argon2.proofs.login_lemmas.Stores.{get-other, get-same}
 use Rattle.argon2_store.specs.AccountFile.{Answers, Call, HasCause, IfRefused, IsBeforeOrAfter, IsClosed, IsErrorAt, Runs, Serves, names_of, store_of, terms_of}
 use Rattle.argon2_store.specs.Errors.{answered, unwritten}
 use Rattle.argon2_store.specs.Table.{Changes, IsHonest, IsLong, IsOpen, Leaves, changed}

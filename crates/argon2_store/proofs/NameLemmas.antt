@@ -14,7 +14,7 @@ use Rattle.argon2_base.specs.PhcFields.{phc_of}
 use Rattle.argon2_base.specs.PhcText.{Phc}
 use Rattle.argon2_base.specs.declared.phc.hash.PasswordHash.{PasswordHash}
 use Rattle.argon2.specs.NamedTexts.{KeepsOthers, Store, values_of}
-use Rattle.argon2.proofs.login_store.Stores.{get-same, get-set, get-values_of}
+use Rattle.argon2.proofs.login_lemmas.Stores.{get-same, get-set, get-values_of}
 
 pub same : (m n : Store) → ((q : List ℕ) → get m q ≡ get n q) → m ≡ n
 same m n = same_map nat_list_cmp_total (slice_cmp-IsAntisymmetric nat_cmp-IsAntisymmetric) m n

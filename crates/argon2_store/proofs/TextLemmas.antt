@@ -24,8 +24,8 @@ use Rattle.argon2.specs.Made.{IsFresh}
 use Rattle.argon2_accounts.specs.declared.error.AccountError.{AccountError}
 use Rattle.argon2.specs.declared.login.answers.Accepted.{Accepted}
 use Rattle.argon2.specs.declared.login.answers.Accepted.TheVariants.{Current, Kept, Rehashed}
-use Rattle.argon2.proofs.login_store.Stores.{get-values_of}
-use Rattle.argon2.proofs.stored_hashes.MadeValues.{made_is_phc}
+use Rattle.argon2.proofs.login_lemmas.Stores.{get-values_of}
+use Rattle.argon2.proofs.password_hash_lemmas.MadeValues.{made_is_phc}
 use Rattle.argon2_store.specs.Names.{values_in}
 use Rattle.argon2_store.specs.Rows.{AreTexts, row_of, rows_of}
 use Rattle.argon2_store.specs.declared.names.Names.{Names}

@@ -2,7 +2,7 @@
 use Rattle.std.proofs.Common.{◌≡◌, ℕ, zero, suc, ◌+◌, ◌-◌, ◌*◌, ◌<◌, ◌≤◌, inl, inr, List, ◌++◌, refl, ap, ◌∙◌, subst, mul-le-mul_right, arith}
 use Rattle.std.proofs.lemmas.Bool.{cases_eq}
 use Rattle.std.specs.List.{AllByRecursion, range_with_len}
-use Rattle.argon2.proofs.schedules.Schedules.{turns-same, turns-other, turns-append}
+use Rattle.argon2.proofs.context_lemmas.Schedules.{turns-same, turns-other, turns-append}
 use Rattle.argon2.specs.Rfc9106.{Context, Memory, segment_length}
 use Rattle.argon2.specs.Steps.{IsSchedule, run, step, turns, turn_count}
 use Rattle.argon2_uses.specs.Scheduler.{rounds, lanes_in_rounds}

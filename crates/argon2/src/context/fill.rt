@@ -167,7 +167,7 @@ impl<'a> Instance<'a> {
     }
 
     /// Writes the block of a step, and answers the place of its reference.
-    #[tactic(auto, using(crate::proofs::schedules::InMemory::place_by_word))]
+    #[tactic(auto, using(crate::proofs::context_lemmas::InMemory::place_by_word))]
     pub(super) fn step(
         &self,
         memory: &mut [Block],

@@ -3,9 +3,9 @@ use Rattle.argon2_base.specs.Block.{bytes_of}
 use Rattle.argon2_base.specs.LongHash.{long_hash}
 use Rattle.argon2.specs.Rfc9106.{first_block, tag_of}
 use Rattle.argon2.proofs.recurrence.Validity.{sizes-valid}
-use Rattle.argon2.proofs.schedules.Schedules.{schedules_agree}
-use Rattle.argon2.proofs.schedules.Filling.{schedules_fill}
-use Rattle.argon2.proofs.schedules.LastColumn.{steps_give_last}
+use Rattle.argon2.proofs.context_lemmas.Schedules.{schedules_agree}
+use Rattle.argon2.proofs.context_lemmas.Filling.{schedules_fill}
+use Rattle.argon2.proofs.context_lemmas.LastColumn.{steps_give_last}
 use Rattle.argon2.proofs.laws.slice_interleaving.Goals as goal
 
 pub returns-clause-agree : goal.returns-clause-agree

@@ -8,8 +8,8 @@ use Rattle.argon2.specs.Argon2.{context_of, context_under}
 use Rattle.argon2.specs.Rfc9106.{Context, Memory, Sizes, first_block, xor_lanes}
 use Rattle.argon2.specs.Segments.{BeginsSlices, last_of_slice, slice_length}
 use Rattle.argon2.specs.Watching.{HasBlocksUpTo, begun}
-use Rattle.argon2.proofs.schedules.Filling.{next_pass}
-use Rattle.argon2.proofs.schedules.SegmentLaw.{in_lanes, slice_fills, slices_begun, slices_give_tag}
+use Rattle.argon2.proofs.context_lemmas.Filling.{next_pass}
+use Rattle.argon2.proofs.context_lemmas.SegmentLaw.{in_lanes, slice_fills, slices_begun, slices_give_tag}
 use Rattle.argon2_c.specs.Memory.{FillsSlice}
 use Rattle.argon2_c.specs.Requests.{asked}
 use Rattle.argon2_c.proofs.hash.argon2_c_hash.Goals as goal

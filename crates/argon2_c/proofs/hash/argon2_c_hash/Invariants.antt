@@ -1,7 +1,7 @@
 use Rattle.std.proofs.Common.{◌≡◌, length}
 use Rattle.argon2.specs.Rfc9106.{first_block}
 use Rattle.argon2.specs.Watching.{HasBlocksUpTo, begun}
-use Rattle.argon2.proofs.schedules.SegmentLaw.{in_lanes}
+use Rattle.argon2.proofs.context_lemmas.SegmentLaw.{in_lanes}
 use Rattle.argon2_c.specs.Requests.{asked}
 use Rattle.argon2_c.proofs.hash.argon2_c_hash.Given as goal
 

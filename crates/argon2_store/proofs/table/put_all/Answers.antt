@@ -6,7 +6,7 @@ use Rattle.std.specs.Option.{option_copied, option_map}
 use Rattle.std.proofs.lemmas.List.{drop_more, get_or-map, length-map}
 use Rattle.argon2_base.specs.PhcFields.{phc_of}
 use Rattle.argon2.specs.NamedTexts.{Store}
-use Rattle.argon2.proofs.login_store.Stores.{get-same}
+use Rattle.argon2.proofs.login_lemmas.Stores.{get-same}
 use Rattle.argon2_store.specs.Adding.{AddsAll, entry_of}
 use Rattle.argon2_store.specs.Names.{values_in}
 use Rattle.argon2_store.specs.Table.{IsLong, Writes, changed}

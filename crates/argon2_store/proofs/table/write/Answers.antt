@@ -2,7 +2,7 @@ use Rattle.std.proofs.Common.{ap, ◌∙◌, subst}
 use Rattle.std.specs.FinMap.{empty, insert, remove}
 use Rattle.std.specs.Option.{option_copied, option_map}
 use Rattle.argon2_base.specs.PhcFields.{phc_of}
-use Rattle.argon2.proofs.login_store.Stores.{get-same}
+use Rattle.argon2.proofs.login_lemmas.Stores.{get-same}
 use Rattle.argon2_store.specs.Table.{IsLong, Writes}
 use Rattle.argon2_store.proofs.NameLemmas.{get-gone-same}
 use Rattle.argon2_store.proofs.TableLemmas.{changed-remove, keeps_shape, writes_then}

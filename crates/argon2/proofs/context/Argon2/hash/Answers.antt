@@ -4,7 +4,7 @@ use Rattle.argon2.specs.Rfc9106.{Sizes, block_count, matrix_of}
 use Rattle.argon2.specs.Watching.{mixing_calls}
 use Rattle.argon2.proofs.LentMemory.{is_hashed}
 use Rattle.argon2.proofs.RefusalLemmas.{ok_with_any_value, passed_on, err_with_any_value}
-use Rattle.argon2.proofs.schedules.LastColumn.{tag_of_matrix}
+use Rattle.argon2.proofs.context_lemmas.LastColumn.{tag_of_matrix}
 use Rattle.argon2.proofs.context.Argon2.hash.Goals as goal
 
 pub returns-in_err-check : goal.returns-in_err-check

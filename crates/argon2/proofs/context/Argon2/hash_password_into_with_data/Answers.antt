@@ -1,7 +1,7 @@
 use Rattle.std.proofs.Common.{◌∙◌}
 use Rattle.argon2.specs.Argon2.{context_under}
 use Rattle.argon2.specs.Rfc9106.{matrix_of}
-use Rattle.argon2.proofs.schedules.LastColumn.{tag_of_matrix}
+use Rattle.argon2.proofs.context_lemmas.LastColumn.{tag_of_matrix}
 use Rattle.argon2.proofs.recurrence.Validity.{sizes_of_valid}
 use Rattle.argon2.proofs.context.Argon2.hash_password_into_with_data.Goals as goal
 

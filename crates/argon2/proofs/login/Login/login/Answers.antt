@@ -6,8 +6,8 @@ use Rattle.argon2_base.specs.PhcFields.{phc_of}
 use Rattle.argon2.specs.declared.login.answers.LoginError.TheVariants.{NameUnknown}
 use Rattle.argon2.specs.Login.{LoginAnswer, store_of, login_target}
 use Rattle.argon2.specs.NamedTexts.{values_of}
-use Rattle.argon2.proofs.login_store.LoginLemmas.{has_accepted, has_current, no_text, login_step}
-use Rattle.argon2.proofs.login_store.Stores.{get-found, get-other, get-same, values_of-set}
+use Rattle.argon2.proofs.login_lemmas.LoginLemmas.{has_accepted, has_current, no_text, login_step}
+use Rattle.argon2.proofs.login_lemmas.Stores.{get-found, get-other, get-same, values_of-set}
 use Rattle.argon2.proofs.login.Login.login.Goals as goal
 
 pub returns-in_default-clause-step : goal.returns-in_default-clause-step

@@ -1,6 +1,6 @@
 use Rattle.std.proofs.Common.{◌∙◌}
 use Rattle.argon2.specs.ListedParameters.{found_of}
-use Rattle.argon2.proofs.lists.ListReading.{list_refused, params_made, params_refused, passed_as_fault, passed_on}
+use Rattle.argon2.proofs.params_lemmas.ListReading.{list_refused, params_made, params_refused, passed_as_fault, passed_on}
 use Rattle.argon2.proofs.params.Params.read.Goals as goal
 
 pub returns : goal.returns

@@ -2,8 +2,8 @@ use Rattle.std.proofs.Common.{ℕ, ◌≤◌, Fits, ◌++◌, ◌≡◌, ◌∙�
 use Rattle.std.specs.Prelude.{IsTrue}
 use Rattle.argon2_base.specs.PhcText.{Pair, are_params}
 use Rattle.argon2.specs.ListedParameters.{bytes_item}
-use Rattle.argon2.proofs.lists.ListedLemmas.{Fronts, cost_item, listed_fronts}
-use Rattle.argon2.proofs.lists.ReadAgain.{read_again, valid_without}
+use Rattle.argon2.proofs.params_lemmas.ListedLemmas.{Fronts, cost_item, listed_fronts}
+use Rattle.argon2.proofs.params_lemmas.ReadAgain.{read_again, valid_without}
 use Rattle.argon2.proofs.params.text.params_string.Goals as goal
 
 -- the list as it grows, by what the arguments' types say

@@ -1,5 +1,5 @@
 use Rattle.std.proofs.Common.{arith, refl}
-use Rattle.argon2.proofs.lists.ValuesRead.{data_read, text_refused}
+use Rattle.argon2.proofs.params_lemmas.ValuesRead.{data_read, text_refused}
 use Rattle.argon2.proofs.params.text.take_data.Goals as goal
 
 pub returns : goal.returns

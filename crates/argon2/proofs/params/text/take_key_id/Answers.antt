@@ -1,5 +1,5 @@
 use Rattle.std.proofs.Common.{arith, refl}
-use Rattle.argon2.proofs.lists.ValuesRead.{key_id_read, text_refused}
+use Rattle.argon2.proofs.params_lemmas.ValuesRead.{key_id_read, text_refused}
 use Rattle.argon2.proofs.params.text.take_key_id.Goals as goal
 
 pub returns : goal.returns

@@ -1,5 +1,5 @@
 use Rattle.std.proofs.Common.{ap, option_copied}
-use Rattle.argon2.proofs.stored_hashes.Asked.{named_asked}
+use Rattle.argon2.proofs.password_hash_lemmas.Asked.{named_asked}
 use Rattle.argon2.proofs.password_hash.hashing.asked_algorithm.Goals as goal
 
 pub returns : goal.returns

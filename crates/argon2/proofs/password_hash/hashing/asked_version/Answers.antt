@@ -1,5 +1,5 @@
 use Rattle.std.proofs.Common.{rules}
-use Rattle.argon2.proofs.lists.Named.{version_numbered-no}
+use Rattle.argon2.proofs.params_lemmas.Named.{version_numbered-no}
 use Rattle.argon2.proofs.password_hash.hashing.asked_version.Goals as goal
 
 pub returns-in_err-try_from : goal.returns-in_err-try_from

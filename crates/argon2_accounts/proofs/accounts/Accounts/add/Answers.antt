@@ -2,7 +2,7 @@ use Rattle.std.proofs.Common.{refl, sym, ◌∙◌}
 use Rattle.argon2_base.specs.PhcFields.{phc_of}
 use Rattle.argon2_accounts.specs.Accounts.{store_of}
 use Rattle.argon2_accounts.proofs.AccountLemmas.{adds, not_added}
-use Rattle.argon2.proofs.login_store.Stores.{absent, present}
+use Rattle.argon2.proofs.login_lemmas.Stores.{absent, present}
 use Rattle.argon2_accounts.proofs.accounts.Accounts.add.Goals as goal
 
 pub returns-in_err-parsed-clause-step : goal.returns-in_err-parsed-clause-step

@@ -1,7 +1,7 @@
 use Rattle.std.proofs.Common.{refl, sym, Some, None}
 use Rattle.rand_core.specs.Stream.{fill_bytes}
 use Rattle.argon2_base.specs.PhcFields.{phc_of}
-use Rattle.argon2.proofs.login_store.Stores.{get-found}
+use Rattle.argon2.proofs.login_lemmas.Stores.{get-found}
 use Rattle.argon2_accounts.specs.Accounts.{Changes, kept_terms}
 use Rattle.argon2_accounts.proofs.AccountLemmas.{err_is, on_none, on_value}
 use Rattle.argon2_accounts.proofs.accounts.Accounts.change_password.Goals as goal

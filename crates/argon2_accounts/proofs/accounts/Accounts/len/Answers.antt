@@ -1,6 +1,6 @@
 use Rattle.std.proofs.Common.{ap, sym, ◌∙◌, length}
 use Rattle.std.proofs.lemmas.List.{length-map}
-use Rattle.argon2.proofs.login_store.Stores.{entries-values_of}
+use Rattle.argon2.proofs.login_lemmas.Stores.{entries-values_of}
 use Rattle.argon2_accounts.proofs.accounts.Accounts.len.Goals as goal
 
 pub returns : goal.returns

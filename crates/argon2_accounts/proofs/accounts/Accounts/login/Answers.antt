@@ -3,7 +3,7 @@ use Rattle.rand_core.specs.Stream.{fill_bytes}
 use Rattle.argon2_base.specs.PhcFields.{phc_of}
 use Rattle.argon2.specs.NamedTexts.{IsCurrent}
 use Rattle.argon2.specs.declared.login.answers.Accepted.TheVariants.{Kept}
-use Rattle.argon2.proofs.login_store.Stores.{get-found}
+use Rattle.argon2.proofs.login_lemmas.Stores.{get-found}
 use Rattle.argon2_accounts.specs.Accounts.{LogsIn, Terms, kept_terms}
 use Rattle.argon2_accounts.specs.declared.error.AccountError.TheVariants.{TooExpensive}
 use Rattle.argon2_accounts.proofs.AccountLemmas.{err_is, on_none, on_value}

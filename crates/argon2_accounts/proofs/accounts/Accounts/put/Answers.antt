@@ -2,7 +2,7 @@ use Rattle.std.proofs.Common.{◌≡◌, None, Some, refl, sym}
 use Rattle.std.proofs.lemmas.Map.Text.{btree_map_updates_text}
 use Rattle.std.specs.FinMap.{get}
 use Rattle.argon2_accounts.specs.Accounts.{store_of}
-use Rattle.argon2.proofs.login_store.Stores.{get-found}
+use Rattle.argon2.proofs.login_lemmas.Stores.{get-found}
 use Rattle.argon2_accounts.proofs.AccountLemmas.{name_changes}
 use Rattle.argon2_accounts.proofs.accounts.Accounts.put.Goals as goal
 

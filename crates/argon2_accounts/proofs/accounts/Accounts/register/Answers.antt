@@ -3,7 +3,7 @@ use Rattle.rand_core.specs.Stream.{fill_bytes}
 use Rattle.argon2_base.specs.PhcFields.{phc_of}
 use Rattle.argon2_accounts.specs.Accounts.{kept_terms, store_of}
 use Rattle.argon2_accounts.proofs.AccountLemmas.{inserted_drawn, inserted_has, not_registered, registers, taken}
-use Rattle.argon2.proofs.login_store.Stores.{absent, present}
+use Rattle.argon2.proofs.login_lemmas.Stores.{absent, present}
 use Rattle.argon2_accounts.proofs.accounts.Accounts.register.Goals as goal
 
 pub returns-then-contains_key-clause-step : goal.returns-then-contains_key-clause-step

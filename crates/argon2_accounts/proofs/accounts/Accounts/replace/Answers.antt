@@ -1,6 +1,6 @@
 use Rattle.std.proofs.Common.{refl, sym, ◌∙◌, Some, None}
 use Rattle.argon2_base.specs.PhcFields.{phc_of}
-use Rattle.argon2.proofs.login_store.Stores.{get-found}
+use Rattle.argon2.proofs.login_lemmas.Stores.{get-found}
 use Rattle.argon2_accounts.specs.Accounts.{Replaces}
 use Rattle.argon2_accounts.proofs.AccountLemmas.{err_is, is_other_text, is_text, on_none, on_value}
 use Rattle.argon2_accounts.proofs.accounts.Accounts.replace.Goals as goal

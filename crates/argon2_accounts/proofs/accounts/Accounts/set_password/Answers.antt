@@ -1,7 +1,7 @@
 use Rattle.std.proofs.Common.{refl, sym, ◌∙◌}
 use Rattle.rand_core.specs.Stream.{fill_bytes}
 use Rattle.argon2_base.specs.PhcFields.{phc_of}
-use Rattle.argon2.proofs.login_store.Stores.{absent, present}
+use Rattle.argon2.proofs.login_lemmas.Stores.{absent, present}
 use Rattle.argon2_accounts.specs.Accounts.{Sets, kept_terms}
 use Rattle.argon2_accounts.proofs.AccountLemmas.{not_set, on_none, sets}
 use Rattle.argon2_accounts.proofs.accounts.Accounts.set_password.Goals as goal

@@ -1,7 +1,7 @@
 use Rattle.std.proofs.Common.{ap, sym, ◌∙◌}
 use Rattle.std.specs.Option.{option_map}
 use Rattle.argon2_base.specs.PhcFields.{phc_of}
-use Rattle.argon2.proofs.login_store.Stores.{get-values_of}
+use Rattle.argon2.proofs.login_lemmas.Stores.{get-values_of}
 use Rattle.argon2_accounts.proofs.accounts.Accounts.text_of.Goals as goal
 
 pub returns : goal.returns

@@ -1,7 +1,7 @@
 use Rattle.std.proofs.Common.{ap, sym, ◌∙◌}
 use Rattle.std.specs.FinMap.{empty}
 use Rattle.argon2.specs.NamedTexts.{added, named_values}
-use Rattle.argon2.proofs.login_store.Stores.{added-values_of, entries-values_of}
+use Rattle.argon2.proofs.login_lemmas.Stores.{added-values_of, entries-values_of}
 use Rattle.argon2_accounts.proofs.accounts.Accounts.texts.Goals as goal
 
 pub returns-clause-texts : goal.returns-clause-texts

@@ -1,8 +1,8 @@
 use Rattle.std.proofs.Common.{sym}
 use Rattle.argon2_base.specs.PhcFields.{phc_of}
 use Rattle.argon2.specs.Stored.{stored_value}
-use Rattle.argon2.proofs.login_store.LoginLemmas.{false_refutes}
-use Rattle.argon2.proofs.stored_hashes.Answered.{stored_shows}
+use Rattle.argon2.proofs.login_lemmas.LoginLemmas.{false_refutes}
+use Rattle.argon2.proofs.password_hash_lemmas.Answered.{stored_shows}
 use Rattle.argon2_accounts.proofs.AccountLemmas.{asks_above, asks_within, within_not_above}
 use Rattle.argon2_accounts.proofs.policy.Policy.admitted.Goals as goal
 

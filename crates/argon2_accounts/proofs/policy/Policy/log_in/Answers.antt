@@ -1,7 +1,7 @@
 use Rattle.rand_core.specs.Stream.{fill_bytes}
 use Rattle.argon2_base.specs.PhcFields.{phc_of}
 use Rattle.argon2.specs.NamedTexts.{value_after}
-use Rattle.argon2.proofs.login_store.LoginLemmas.{leaves_current}
+use Rattle.argon2.proofs.login_lemmas.LoginLemmas.{leaves_current}
 use Rattle.argon2_accounts.specs.Accounts.{terms_of}
 use Rattle.argon2_accounts.specs.declared.error.AccountError.TheVariants.{Refused}
 use Rattle.argon2_accounts.proofs.AccountLemmas.{denied, leaves_admits, passed, within_not_above}

@@ -2,7 +2,7 @@ use Rattle.std.proofs.Common.{rules, ap, ◌∙◌, string_bytes}
 use Rattle.std.proofs.lemmas.Map.Text.{btree_map_updates_text}
 use Rattle.std.specs.FinMap.{insert}
 use Rattle.argon2_base.specs.PhcFields.{phc_of}
-use Rattle.argon2.proofs.login_store.Stores.{values_of-set}
+use Rattle.argon2.proofs.login_lemmas.Stores.{values_of-set}
 use Rattle.argon2_store.specs.Names.{values_in}
 use Rattle.argon2_store.proofs.names.Names.insert.Goals as goal
 

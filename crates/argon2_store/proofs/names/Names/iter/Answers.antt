@@ -1,6 +1,6 @@
 use Rattle.std.proofs.Common.{ap, sym, ◌∙◌}
 use Rattle.argon2.specs.NamedTexts.{named_values}
-use Rattle.argon2.proofs.login_store.Stores.{entries-values_of}
+use Rattle.argon2.proofs.login_lemmas.Stores.{entries-values_of}
 use Rattle.argon2_store.proofs.names.Names.iter.Goals as goal
 
 pub returns : goal.returns

@@ -1,6 +1,6 @@
 use Rattle.std.proofs.Common.{ap, length, sym, ◌∙◌}
 use Rattle.std.proofs.lemmas.List.{length-map}
-use Rattle.argon2.proofs.login_store.Stores.{entries-values_of}
+use Rattle.argon2.proofs.login_lemmas.Stores.{entries-values_of}
 use Rattle.argon2_store.proofs.names.Names.len.Goals as goal
 
 pub returns : goal.returns

@@ -1,7 +1,7 @@
 use Rattle.std.proofs.Common.{◌≡◌, None, refl, sym}
 use Rattle.std.proofs.lemmas.Map.Text.{btree_map_updates_text}
 use Rattle.std.specs.FinMap.{get}
-use Rattle.argon2.proofs.login_store.Stores.{get-found, values_of-set}
+use Rattle.argon2.proofs.login_lemmas.Stores.{get-found, values_of-set}
 use Rattle.argon2_store.specs.Names.{values_in}
 use Rattle.argon2_store.proofs.names.Names.replace.Goals as goal
 

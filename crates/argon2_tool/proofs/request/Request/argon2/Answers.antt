@@ -1,5 +1,5 @@
 use Rattle.std.proofs.Common.{rules}
-use Rattle.argon2.proofs.lists.Named.{algorithm_named-no, version_numbered-no}
+use Rattle.argon2.proofs.params_lemmas.Named.{algorithm_named-no, version_numbered-no}
 use Rattle.argon2_tool.proofs.request.Request.argon2.Goals as goal
 
 pub returns-in_err-algorithm : goal.returns-in_err-algorithm

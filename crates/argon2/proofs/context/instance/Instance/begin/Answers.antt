@@ -1,6 +1,6 @@
 use Rattle.std.proofs.Common.{◌≡◌, ◌+◌, ◌*◌, ◌<◌, ◌≤◌, length, ap, refl, ◌∙◌, arith}
 use Rattle.argon2.specs.Rfc9106.{block_after, first_block, lane_length}
-use Rattle.argon2.proofs.schedules.FirstColumns.{with_pair-lanes, with_pair-other}
+use Rattle.argon2.proofs.context_lemmas.FirstColumns.{with_pair-lanes, with_pair-other}
 use Rattle.argon2.proofs.context.instance.Instance.begin.Goals as goal
 
 pub loop-lane-init : goal.loop-lane-init

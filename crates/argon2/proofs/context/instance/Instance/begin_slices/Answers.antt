@@ -1,7 +1,7 @@
 use Rattle.std.proofs.Common.{◌≡◌, ◌+◌, ◌*◌, ◌<◌, length, ap, ◌∙◌, arith}
 use Rattle.std.proofs.lemmas.List.{length-set}
 use Rattle.argon2.specs.Rfc9106.{block_after, first_block, segment_length}
-use Rattle.argon2.proofs.schedules.FirstColumns.{with_pair-lanes, with_pair-other}
+use Rattle.argon2.proofs.context_lemmas.FirstColumns.{with_pair-lanes, with_pair-other}
 use Rattle.argon2.proofs.context.instance.Instance.begin_slices.Goals as goal
 
 pub loop-lane-preserved : goal.loop-lane-preserved

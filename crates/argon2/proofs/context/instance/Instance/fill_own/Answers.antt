@@ -4,9 +4,9 @@ use Rattle.argon2.specs.Rfc9106.{addresses_at, segment_length}
 use Rattle.argon2.specs.Steps.{step}
 use Rattle.argon2.specs.Watching.{begun}
 use Rattle.argon2.proofs.recurrence.Addresses.{same_addresses}
-use Rattle.argon2.proofs.schedules.Filling.{HasBlocksUpTo-like}
-use Rattle.argon2.proofs.schedules.SegmentColumns.{a_column, a_step, in_lane}
-use Rattle.argon2.proofs.schedules.SegmentParts.{ahead, ahead-first, ahead_step}
+use Rattle.argon2.proofs.context_lemmas.Filling.{HasBlocksUpTo-like}
+use Rattle.argon2.proofs.context_lemmas.SegmentColumns.{a_column, a_step, in_lane}
+use Rattle.argon2.proofs.context_lemmas.SegmentParts.{ahead, ahead-first, ahead_step}
 use Rattle.argon2.proofs.context.instance.Instance.fill_own.Goals as goal
 
 pub loop-index-init : goal.loop-index-init

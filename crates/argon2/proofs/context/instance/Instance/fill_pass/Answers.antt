@@ -1,6 +1,6 @@
 use Rattle.std.proofs.Common.{◌≡◌, suc, add-one, arith}
 use Rattle.argon2.specs.Watching.{slices_calls}
-use Rattle.argon2.proofs.schedules.Counts.{slices_calls-le}
+use Rattle.argon2.proofs.context_lemmas.Counts.{slices_calls-le}
 use Rattle.argon2.proofs.context.instance.Instance.fill_pass.Goals as goal
 
 pub loop-slice-init : goal.loop-slice-init

@@ -2,8 +2,8 @@ use Rattle.std.proofs.Common.{◌≡◌, ◌+◌, ◌-◌, ◌*◌, ◌/◌, ap,
 use Rattle.argon2.specs.Rfc9106.{addresses_at, segment_length}
 use Rattle.argon2.specs.Watching.{address_mixings, begun, segment_calls}
 use Rattle.argon2.proofs.recurrence.Addresses.{few_mixings, first_mixings, same_addresses, same_mixings}
-use Rattle.argon2.proofs.schedules.InOrder.{filled_step}
-use Rattle.argon2.proofs.schedules.SegmentColumns.{a_column, a_step}
+use Rattle.argon2.proofs.context_lemmas.InOrder.{filled_step}
+use Rattle.argon2.proofs.context_lemmas.SegmentColumns.{a_column, a_step}
 use Rattle.argon2.proofs.context.instance.Instance.fill_segment.Goals as goal
 
 pub loop-index-init : goal.loop-index-init

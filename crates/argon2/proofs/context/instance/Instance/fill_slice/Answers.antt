@@ -1,5 +1,5 @@
 use Rattle.std.proofs.Common.{arith}
-use Rattle.argon2.proofs.schedules.InOrder.{in_order-first, in_order-last, in_order-next, IsFilledUpTo-like}
+use Rattle.argon2.proofs.context_lemmas.InOrder.{in_order-first, in_order-last, in_order-next, IsFilledUpTo-like}
 use Rattle.argon2.proofs.context.instance.Instance.fill_slice.Goals as goal
 
 pub loop-lane-init : goal.loop-lane-init

@@ -1,6 +1,6 @@
 use Rattle.std.proofs.Common.{ℕ, ◌+◌, ◌*◌, ◌^◌, ◌<◌, ap, arith}
 use Rattle.argon2.specs.Rfc9106.{Context, IsSize, lane_length}
-use Rattle.argon2.proofs.schedules.InMemory.{place_below}
+use Rattle.argon2.proofs.context_lemmas.InMemory.{place_below}
 use Rattle.argon2.proofs.context.instance.Instance.place.Goals as goal
 
 -- the place of a lane and a column is a number of 32 bits

@@ -1,6 +1,6 @@
 use Rattle.std.proofs.Common.{[], rules}
 use Rattle.std.proofs.lemmas.List.{get_or_read}
-use Rattle.argon2.proofs.schedules.InMemory.{previous_in_memory}
+use Rattle.argon2.proofs.context_lemmas.InMemory.{previous_in_memory}
 use Rattle.argon2.proofs.context.instance.Instance.previous_word.Goals as goal
 
 pub returns : goal.returns

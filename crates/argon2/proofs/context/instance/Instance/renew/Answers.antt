@@ -1,7 +1,7 @@
 use Rattle.std.proofs.Common.{◌≡◌, ◌+◌, ◌-◌, ◌/◌, ◌%◌, inl, inr, ap, ◌∙◌, arith}
 use Rattle.argon2.specs.Rfc9106.{segment_length}
 use Rattle.argon2.proofs.recurrence.Addresses.{next_mixings, same_addresses, same_mixings}
-use Rattle.argon2.proofs.schedules.SegmentColumns.{serves_next, serves_on}
+use Rattle.argon2.proofs.context_lemmas.SegmentColumns.{serves_next, serves_on}
 use Rattle.argon2.proofs.context.instance.Instance.renew.Goals as goal
 use Rattle.argon2.proofs.context.instance.Instance.renew.Goals.{else-index-gt0-via-then-index-gt0+else-index-eq0, else-index-gt0-via-else-index-gt0}
 

@@ -3,7 +3,7 @@ use Rattle.std.specs.Prelude.{nat_lt, ◌==◌}
 use Rattle.std.proofs.lemmas.Bool.{cond-true, cond-false}
 use Rattle.std.proofs.lemmas.List.{get_or_read}
 use Rattle.argon2.specs.Steps.{step}
-use Rattle.argon2.proofs.schedules.InMemory.{made_by_places}
+use Rattle.argon2.proofs.context_lemmas.InMemory.{made_by_places}
 use Rattle.argon2.proofs.context.instance.Instance.step.Goals as goal
 
 pub returns-then-xors-clause-step : goal.returns-then-xors-clause-step

@@ -1,7 +1,7 @@
 use Rattle.std.proofs.Common.{◌+◌, ◌*◌, ◌/◌, ◌%◌, refl, ap, ◌∙◌, arith}
 use Rattle.std.proofs.lemmas.Nat.{div-mul-add, mod-mul-add}
 use Rattle.argon2.specs.Rfc9106.{segment_length}
-use Rattle.argon2.proofs.schedules.SegmentColumns.{column_fits, in_lane}
+use Rattle.argon2.proofs.context_lemmas.SegmentColumns.{column_fits, in_lane}
 use Rattle.argon2.proofs.context.instance.Instance.step_at.Goals as goal
 
 pub overflow_mul-column : goal.overflow_mul-column

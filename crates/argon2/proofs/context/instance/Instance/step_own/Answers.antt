@@ -5,8 +5,8 @@ use Rattle.std.proofs.lemmas.Nat.{div-add-mod'}
 use Rattle.argon2.specs.Rfc9106.{lane_length, made_block, previous, segment_length}
 use Rattle.argon2.specs.Steps.{in_memory}
 use Rattle.argon2.proofs.recurrence.Sources.{Reads-place, reference_reads}
-use Rattle.argon2.proofs.schedules.InMemory.{made_by_places, previous_in_memory}
-use Rattle.argon2.proofs.schedules.SegmentParts.{step_parts}
+use Rattle.argon2.proofs.context_lemmas.InMemory.{made_by_places, previous_in_memory}
+use Rattle.argon2.proofs.context_lemmas.SegmentParts.{step_parts}
 use Rattle.argon2.proofs.context.instance.Instance.step_own.Goals as goal
 
 pub block-y-requires-clause-place : goal.block-y-requires-clause-place

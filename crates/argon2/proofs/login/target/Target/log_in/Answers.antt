@@ -1,7 +1,7 @@
 use Rattle.std.proofs.Common.{ap, refl, sym, ◌∙◌, Ok}
 use Rattle.argon2.specs.Stored.{stored_value}
-use Rattle.argon2.proofs.login_store.LoginLemmas.{false_refutes, shown_once}
-use Rattle.argon2.proofs.stored_hashes.Answered.{stored_shows}
+use Rattle.argon2.proofs.login_lemmas.LoginLemmas.{false_refutes, shown_once}
+use Rattle.argon2.proofs.password_hash_lemmas.Answered.{stored_shows}
 use Rattle.argon2.proofs.login.target.Target.log_in.Goals as goal
 
 pub returns-then-is_shown_by-clause-step : goal.returns-then-is_shown_by-clause-step

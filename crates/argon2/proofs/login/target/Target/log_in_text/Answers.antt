@@ -3,9 +3,9 @@ use Rattle.rand_core.specs.Stream.{fill_bytes}
 use Rattle.argon2_base.specs.PhcFields.{phc_of}
 use Rattle.argon2.specs.Argon2.{secret_of}
 use Rattle.argon2.specs.Login.{target_value}
-use Rattle.argon2.proofs.login_store.LoginLemmas.{leaves_accepts, leaves_current, leaves_step, refused_text}
-use Rattle.argon2.proofs.login_store.Stores.{insert-same}
-use Rattle.argon2.proofs.stored_hashes.Verified.{exact}
+use Rattle.argon2.proofs.login_lemmas.LoginLemmas.{leaves_accepts, leaves_current, leaves_step, refused_text}
+use Rattle.argon2.proofs.login_lemmas.Stores.{insert-same}
+use Rattle.argon2.proofs.password_hash_lemmas.Verified.{exact}
 use Rattle.argon2.proofs.login.target.Target.log_in_text.Goals as goal
 
 pub returns-in-Err-clause-step : goal.returns-in-Err-clause-step

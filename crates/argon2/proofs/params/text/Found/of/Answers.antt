@@ -1,5 +1,5 @@
 use Rattle.std.proofs.Common.{◌∙◌}
-use Rattle.argon2.proofs.lists.ListReading.{nothing_read, one_more, item_refused, passed_on}
+use Rattle.argon2.proofs.params_lemmas.ListReading.{nothing_read, one_more, item_refused, passed_on}
 use Rattle.argon2.proofs.params.text.Found.of.Goals as goal
 
 pub loop-name-init : goal.loop-name-init

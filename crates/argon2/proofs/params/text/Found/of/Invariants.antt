@@ -1,5 +1,5 @@
 use Rattle.argon2.specs.ListedParameters.{found_of}
-use Rattle.argon2.proofs.lists.ListReading.{Reading}
+use Rattle.argon2.proofs.params_lemmas.ListReading.{Reading}
 use Rattle.argon2.proofs.params.text.Found.of.Given as goal
 
 abbrev pub invariant-loop-name : goal.invariant-loop-name

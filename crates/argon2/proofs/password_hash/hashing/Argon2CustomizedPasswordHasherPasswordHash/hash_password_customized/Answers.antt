@@ -6,7 +6,7 @@ use Rattle.argon2.specs.Stored.{Accepts}
 use Rattle.argon2.specs.Argon2.{secret_of, settings_of}
 use Rattle.argon2.specs.Made.{settings_asked}
 use Rattle.argon2.specs.Params.{parameters_of}
-use Rattle.argon2.proofs.stored_hashes.Asked.{asked_refused, hashed_asked}
+use Rattle.argon2.proofs.password_hash_lemmas.Asked.{asked_refused, hashed_asked}
 use Rattle.argon2.proofs.password_hash.hashing.Argon2CustomizedPasswordHasherPasswordHash.hash_password_customized.Goals as goal
 
 pub returns-in_err-with_asked-clause-answer : goal.returns-in_err-with_asked-clause-answer

@@ -4,8 +4,8 @@ use Rattle.argon2.specs.Settings.{algorithm_name, version_number}
 use Rattle.argon2.specs.Argon2.{settings_of}
 use Rattle.argon2.specs.Made.{tag_length, target_of}
 use Rattle.argon2.specs.Params.{parameters_of}
-use Rattle.argon2.proofs.stored_hashes.Hashed.{answer_bad_salt, answer_no_tag, answer_made}
-use Rattle.argon2.proofs.stored_hashes.MadeValues.{is_made, is_target, made_accepted, made_shows}
+use Rattle.argon2.proofs.password_hash_lemmas.Hashed.{answer_bad_salt, answer_no_tag, answer_made}
+use Rattle.argon2.proofs.password_hash_lemmas.MadeValues.{is_made, is_target, made_accepted, made_shows}
 use Rattle.argon2.proofs.password_hash.hashing.Argon2PasswordHasherPasswordHash.hash_password_with_salt.Goals as goal
 
 pub returns-in_err-salt-clause-answer : goal.returns-in_err-salt-clause-answer

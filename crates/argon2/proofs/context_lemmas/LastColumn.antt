@@ -9,7 +9,7 @@ use Rattle.argon2.specs.Rfc9106.{Context, FirstColumns, Memory, Sizes, block_cou
 use Rattle.argon2_base.specs.Block.{bytes_of, xor_blocks, zero_block}
 use Rattle.argon2.specs.Steps.{run_passes, last_column}
 use Rattle.argon2.specs.Laws.{Begins, AreSchedules}
-use Rattle.argon2.proofs.schedules.Filling.{schedules_fill}
+use Rattle.argon2.proofs.context_lemmas.Filling.{schedules_fill}
 
 -- the matrix has the last pass's blocks at their places
 matrix_at : (ctx : Context) → Sizes ctx → (first : FirstColumns) (lane column : ℕ)

@@ -12,7 +12,7 @@ use Rattle.argon2.specs.Watching.{begun, HasBlocksUpTo}
 use Rattle.argon2.specs.Laws.{Begins, AreSchedules}
 use Rattle.argon2.proofs.recurrence.PermittedPlaces.{InSlice}
 use Rattle.argon2.proofs.recurrence.Sources.{AgreeOn, made_cong, reference_of_cong}
-use Rattle.argon2.proofs.schedules.Schedules.{turn_column, turns-same, turns-other, MayRun, MayRun-tail, MayRun-from, head_step, turn_count-le, place_apart}
+use Rattle.argon2.proofs.context_lemmas.Schedules.{turn_column, turns-same, turns-other, MayRun, MayRun-tail, MayRun-from, head_step, turn_count-le, place_apart}
 use Rattle.argon2.proofs.recurrence.History.{first_columns, made_blocks}
 
 -- equal counts of made columns say the same

@@ -7,8 +7,8 @@ use Rattle.std.proofs.lemmas.Bool.{cases_eq}
 use Rattle.argon2.specs.Rfc9106.{Context, FirstColumns, Sizes, block_count, lane_length, reference_places, segment_length}
 use Rattle.argon2.specs.Steps.{IsStep, turn_count}
 use Rattle.argon2.specs.Watching.{begun, place_count, position_index, HasPositionsUpTo}
-use Rattle.argon2.proofs.schedules.Filling.{turn_count-later_slice, turn_count-later_pass}
-use Rattle.argon2.proofs.schedules.InMemory.{place_below}
+use Rattle.argon2.proofs.context_lemmas.Filling.{turn_count-later_slice, turn_count-later_pass}
+use Rattle.argon2.proofs.context_lemmas.InMemory.{place_below}
 
 -- blocks of one index are one block
 position_index-same : (ctx : Context) (pass lane column r l c : ℕ) → lane < ctx.p_cost → column < lane_length ctx

@@ -16,7 +16,7 @@ use Rattle.argon2.specs.Login.{Event, adding, logging_in, AddStep, LoginAnswer, 
 use Rattle.argon2.specs.NamedTexts.{IsCurrent, Store, newest}
 use Rattle.argon2.specs.Made.{Target, made}
 use Rattle.argon2.specs.Runs.{Run, source, accepted, IsFrom}
-use Rattle.argon2.proofs.login_store.Stores.{get-set}
+use Rattle.argon2.proofs.login_lemmas.Stores.{get-set}
 
 -- what is known of the text of a name after an accepted login
 abbrev Reached : Target → Option (List ℕ × Accepted) → Option Phc → Type 0

@@ -13,11 +13,11 @@ use Rattle.argon2.specs.Rfc9106.{Context, FirstColumns, Memory, Sizes, block_cou
 use Rattle.argon2.specs.Segments.{AreParts, BeginsSlices, FillsSegment, IsFilledBySegments, last_of_slice, segment_in, slice_length, slices_after, slices_before}
 use Rattle.argon2.specs.Watching.{HasBlocksUpTo, begun}
 use Rattle.argon2.proofs.recurrence.PermittedPlaces.{in_slice}
-use Rattle.argon2.proofs.schedules.Filling.{filled_at_first, next_pass, turn_count-later_pass, turn_count-later_slice}
-use Rattle.argon2.proofs.schedules.InMemory.{place_below}
-use Rattle.argon2.proofs.schedules.LastColumn.{xor_lanes_cong}
-use Rattle.argon2.proofs.schedules.Schedules.{turn_count-le}
-use Rattle.argon2.proofs.schedules.SegmentColumns.{in_lane}
+use Rattle.argon2.proofs.context_lemmas.Filling.{filled_at_first, next_pass, turn_count-later_pass, turn_count-later_slice}
+use Rattle.argon2.proofs.context_lemmas.InMemory.{place_below}
+use Rattle.argon2.proofs.context_lemmas.LastColumn.{xor_lanes_cong}
+use Rattle.argon2.proofs.context_lemmas.Schedules.{turn_count-le}
+use Rattle.argon2.proofs.context_lemmas.SegmentColumns.{in_lane}
 
 -- a memory that stands slice after slice, lane after lane
 pub in_lanes : Context → Memory → Memory

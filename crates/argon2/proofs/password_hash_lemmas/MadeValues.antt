@@ -20,10 +20,10 @@ use Rattle.argon2.specs.Settings.{Parameters, algorithm_name, first_fault, versi
 use Rattle.argon2.specs.Rfc9106.{context_with, tag_of}
 use Rattle.argon2.specs.ListedParameters.{list_of, params_of}
 use Rattle.argon2.specs.Made.{Target, IsTarget, target_of, tag_length, sized, made}
-use Rattle.argon2.proofs.lists.ListedLemmas.{listed_good}
-use Rattle.argon2.proofs.lists.Named.{algorithm_named-name, version_numbered-number}
-use Rattle.argon2.proofs.lists.ReadAgain.{read_again}
-use Rattle.argon2.proofs.stored_hashes.TagBytes.{tag_bytes}
+use Rattle.argon2.proofs.params_lemmas.ListedLemmas.{listed_good}
+use Rattle.argon2.proofs.params_lemmas.Named.{algorithm_named-name, version_numbered-number}
+use Rattle.argon2.proofs.params_lemmas.ReadAgain.{read_again}
+use Rattle.argon2.proofs.password_hash_lemmas.TagBytes.{tag_bytes}
 
 none_of : {X : Type 0} (o : Option X) → IsNone o → o ≡ None
 none_of None h = refl

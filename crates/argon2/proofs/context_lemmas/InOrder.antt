@@ -8,9 +8,9 @@ use Rattle.argon2.specs.Laws.{Begins}
 use Rattle.argon2.specs.Watching.{begun, in_order, position_index, IsFilledFrom, IsFilledUpTo}
 use Rattle.argon2.specs.Steps.{IsStep, reference_place, step}
 use Rattle.argon2.proofs.recurrence.PermittedPlaces.{InSlice}
-use Rattle.argon2.proofs.schedules.Filling.{filled_at_first, filled_at_last, next_pass, step_answers, step_fills, turn_count-later_slice, HasBlocksUpTo-like}
-use Rattle.argon2.proofs.schedules.ReferencePlaces.{first_positions, next_positions, step_positions, HasPositionsUpTo-like}
-use Rattle.argon2.proofs.schedules.Schedules.{turn_count-le}
+use Rattle.argon2.proofs.context_lemmas.Filling.{filled_at_first, filled_at_last, next_pass, step_answers, step_fills, turn_count-later_slice, HasBlocksUpTo-like}
+use Rattle.argon2.proofs.context_lemmas.ReferencePlaces.{first_positions, next_positions, step_positions, HasPositionsUpTo-like}
+use Rattle.argon2.proofs.context_lemmas.Schedules.{turn_count-le}
 
 -- counts of made columns that agree say the same
 pub IsFilledUpTo-like : (ctx : Context) (first : FirstColumns) (pass : ℕ) (done done' : ℕ → ℕ) (memory : Memory)

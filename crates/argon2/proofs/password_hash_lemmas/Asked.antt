@@ -9,8 +9,8 @@ use Rattle.argon2.specs.declared.algorithm.Algorithm.{Algorithm}
 use Rattle.argon2.specs.Settings.{IsNamedInText, Settings}
 use Rattle.argon2.specs.ListedParameters.{IsValueOr}
 use Rattle.argon2.specs.Made.{algorithm_asked, IsAskedAnswer, IsHashAnswer}
-use Rattle.argon2.proofs.lists.Named.{algorithm_named-text}
-use Rattle.argon2.proofs.stored_hashes.Answered.{passed_on}
+use Rattle.argon2.proofs.params_lemmas.Named.{algorithm_named-text}
+use Rattle.argon2.proofs.password_hash_lemmas.Answered.{passed_on}
 
 -- an algorithm that is asked for by its name
 pub named_asked : (name : List ℕ) (o : Option (List ℕ)) (r : Result Algorithm Error) → o ≡ Some name → IsNamedInText name r

@@ -11,10 +11,10 @@ use Rattle.argon2.specs.Segments.{AreParts}
 use Rattle.argon2.specs.Steps.{IsStep, in_memory, step}
 use Rattle.argon2.specs.Watching.{HasBlocksUpTo, begun}
 use Rattle.argon2.proofs.recurrence.PermittedPlaces.{InSlice, in_slice}
-use Rattle.argon2.proofs.schedules.Filling.{step_fills}
-use Rattle.argon2.proofs.schedules.InMemory.{place_below}
-use Rattle.argon2.proofs.schedules.Schedules.{place_apart, turn_count-le}
-use Rattle.argon2.proofs.schedules.SegmentColumns.{in_lane}
+use Rattle.argon2.proofs.context_lemmas.Filling.{step_fills}
+use Rattle.argon2.proofs.context_lemmas.InMemory.{place_below}
+use Rattle.argon2.proofs.context_lemmas.Schedules.{place_apart, turn_count-le}
+use Rattle.argon2.proofs.context_lemmas.SegmentColumns.{in_lane}
 
 -- indexes of other slices are other columns
 column_apart : (s k i slice index : ℕ) → k < slice → i < s → k * s + i ≢ slice * s + index

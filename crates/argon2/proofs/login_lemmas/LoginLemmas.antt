@@ -18,8 +18,8 @@ use Rattle.argon2.specs.Login.{AcceptedStep, HasPassword, LoginAnswer, LoginStep
 use Rattle.argon2.specs.NamedTexts.{Store, IsCurrent, Leaves}
 use Rattle.argon2.specs.Made.{Target, IsTarget, made, IsHashAnswer}
 use Rattle.argon2.specs.Settings.{Settings}
-use Rattle.argon2.proofs.login_store.Stores.{insert-same}
-use Rattle.argon2.proofs.stored_hashes.MadeValues.{made_accepts, made_shows}
+use Rattle.argon2.proofs.login_lemmas.Stores.{insert-same}
+use Rattle.argon2.proofs.password_hash_lemmas.MadeValues.{made_accepts, made_shows}
 
 -- a login of a name whose text is known is a step
 pub login_step : (target : Target) (before : Store) (name password drawn : List ℕ) (o : Option Phc)
