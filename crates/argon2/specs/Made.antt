@@ -15,7 +15,7 @@ use Rattle.argon2.specs.Settings.{AreValid, Parameters, Settings, algorithm_name
 use Rattle.argon2.specs.Argon2.{context_of, secret_of, settings_of}
 use Rattle.argon2.specs.Rfc9106.{context_with, tag_of}
 use Rattle.argon2.specs.ListedParameters.{checked, list_of}
-use Rattle.argon2.specs.Refusals.{first_of}
+use Rattle.argon2.specs.Refusals.{first_of, max_len}
 use Rattle.argon2.specs.Stored.{found}
 
 -- what hashes are made under
@@ -39,11 +39,11 @@ sized settings = record settings {
 
 -- why no hash is made: no memory, or a password of more than 4294967295 bytes
 abbrev pub HashingRefusal : List ℕ → Error → Type 0
-HashingRefusal password e = (e ≡ OutOfMemory) ⊎ ((e ≡ PasswordInvalid) × (4294967295 < length password))
+HashingRefusal password e = (e ≡ OutOfMemory) ⊎ ((e ≡ PasswordInvalid) × (max_len < length password))
 
 -- the tag of that length, or the refusal
 abbrev pub IsTagAnswer : Argon2 → List ℕ → List ℕ → Result (List ℕ) Error → Type 0
-IsTagAnswer argon2 password salt (Ok hash) = (length password ≤ 4294967295)
+IsTagAnswer argon2 password salt (Ok hash) = (length password ≤ max_len)
     × (hash ≡ tag_of (context_of argon2) password salt (tag_length (settings_of argon2)))
 IsTagAnswer argon2 password salt (Err e) = HashingRefusal password e
 
@@ -60,7 +60,7 @@ made target password salt = record {
 -- the value is a fresh one: it is made of the password and these drawn bytes
 abbrev pub IsFresh : Target → List ℕ → List ℕ → Phc → Type 0
 IsFresh target password drawn v =
-    HasBytes 8 48 drawn × (length password ≤ 4294967295) × (v ≡ made target password drawn)
+    HasBytes 8 48 drawn × (length password ≤ max_len) × (v ≡ made target password drawn)
 
 -- settings whose hashes fit into texts
 pub record IsTarget (target : Target) : Type 0 where
@@ -83,7 +83,7 @@ text_faults salt hash =
 
 -- a password of so many bytes
 abbrev pub password_faults : ℕ → List (Bool × Fault)
-password_faults password = (nat_lt 4294967295 password, bad_password) ∷ []
+password_faults password = (nat_lt max_len password, bad_password) ∷ []
 
 -- the value that is made, or the fault of the first length that is refused
 abbrev pub hashed : Target → List ℕ → List ℕ → Result Phc Fault

@@ -72,12 +72,16 @@ pub record Parameters : Type 0 where
   pub associated : List ℕ
   pub output_len : Option ℕ
 
+-- the most lanes
+abbrev pub max_lanes : ℕ
+max_lanes = 16777215
+
 -- why costs and an output length are refused
 abbrev pub first_fault : ℕ → ℕ → ℕ → Option ℕ → Option Error
 first_fault m t p output_len = first_of (
     (nat_lt m 8, MemoryTooLittle)
     ∷ (nat_lt p 1, ThreadsTooFew)
-    ∷ (nat_lt 16777215 p, ThreadsTooMany)
+    ∷ (nat_lt max_lanes p, ThreadsTooMany)
     ∷ (nat_lt m (8 * p), MemoryTooLittle)
     ∷ (nat_lt t 1, TimeTooSmall)
     ∷ (nat_lt (unwrap_or output_len 4) 4, OutputTooShort)

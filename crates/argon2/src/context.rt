@@ -1,6 +1,7 @@
 //! Hashing by Argon2 (RFC 9106, section 3), on memory that the caller lends or that is asked for.
 
 ghost use Rattle.std.specs.Prelude.{◌≡◌, ◌≤◌, length};
+ghost use Rattle.argon2.specs.Refusals.{max_len};
 
 use crate::algorithm::Algorithm;
 use crate::params::Params;
@@ -43,7 +44,7 @@ pub const MAX_AD_LEN: usize = 4294967295;
 #[derive(Clone, Copy)]
 struct Secret<'key> {
     bytes: &'key [u8],
-    ghost short: { length bytes.now ≤ 4294967295 },
+    ghost short: { length bytes.now ≤ max_len },
 }
 
 /// What passwords are hashed under: an algorithm, its version, parameters, and a secret if there

@@ -1,7 +1,9 @@
 -- What a C caller asks for: what its hash depends on, and why it is refused.
 use Rattle.std.specs.Prelude.{◌≡◌, ◌⊎◌, ℕ, ◌*◌, ◌-◌, ◌≤◌, ◌&&◌, not, nat_lt, ◌==◌, Bool, ℤ, List, [], ◌∷◌}
 use Rattle.argon2.specs.Rfc9106.{Context, segment_length}
+use Rattle.argon2.specs.Refusals.{max_len}
 use Rattle.argon2.specs.Segments.{slice_length}
+use Rattle.argon2.specs.Settings.{max_lanes}
 use Rattle.argon2_c.specs.declared.code.TheConstants.{OUTPUT_PTR_NULL, OUTPUT_TOO_SHORT, OUTPUT_TOO_LONG, PWD_TOO_LONG, SALT_TOO_SHORT, SALT_TOO_LONG, AD_TOO_LONG, SECRET_TOO_LONG, TIME_TOO_SMALL, MEMORY_TOO_LITTLE, LANES_TOO_FEW, LANES_TOO_MANY, PWD_PTR_MISMATCH, SALT_PTR_MISMATCH, SECRET_PTR_MISMATCH, AD_PTR_MISMATCH, FREE_MEMORY_CBK_NULL, ALLOCATE_MEMORY_CBK_NULL, INCORRECT_TYPE, THREADS_TOO_FEW, THREADS_TOO_MANY}
 use Rattle.argon2_c.specs.declared.request.Request.{Request}
 
@@ -23,23 +25,23 @@ abbrev pub request_faults : Request → ℕ → ℕ → ℕ → ℕ → ℕ → 
 request_faults r output password salt secret associated =
     (r.lacks_output, OUTPUT_PTR_NULL)
     ∷ (nat_lt output 4, OUTPUT_TOO_SHORT)
-    ∷ (nat_lt 4294967295 output, OUTPUT_TOO_LONG)
+    ∷ (nat_lt max_len output, OUTPUT_TOO_LONG)
     ∷ (r.lacks_pwd, PWD_PTR_MISMATCH)
-    ∷ (nat_lt 4294967295 password, PWD_TOO_LONG)
+    ∷ (nat_lt max_len password, PWD_TOO_LONG)
     ∷ (r.lacks_salt, SALT_PTR_MISMATCH)
     ∷ (nat_lt salt 8, SALT_TOO_SHORT)
-    ∷ (nat_lt 4294967295 salt, SALT_TOO_LONG)
+    ∷ (nat_lt max_len salt, SALT_TOO_LONG)
     ∷ (r.lacks_secret, SECRET_PTR_MISMATCH)
-    ∷ (nat_lt 4294967295 secret, SECRET_TOO_LONG)
+    ∷ (nat_lt max_len secret, SECRET_TOO_LONG)
     ∷ (r.lacks_associated, AD_PTR_MISMATCH)
-    ∷ (nat_lt 4294967295 associated, AD_TOO_LONG)
+    ∷ (nat_lt max_len associated, AD_TOO_LONG)
     ∷ (nat_lt r.m_cost 8, MEMORY_TOO_LITTLE)
     ∷ (nat_lt r.m_cost (8 * r.lanes), MEMORY_TOO_LITTLE)
     ∷ (nat_lt r.t_cost 1, TIME_TOO_SMALL)
     ∷ (nat_lt r.lanes 1, LANES_TOO_FEW)
-    ∷ (nat_lt 16777215 r.lanes, LANES_TOO_MANY)
+    ∷ (nat_lt max_lanes r.lanes, LANES_TOO_MANY)
     ∷ (nat_lt r.threads 1, THREADS_TOO_FEW)
-    ∷ (nat_lt 16777215 r.threads, THREADS_TOO_MANY)
+    ∷ (nat_lt max_lanes r.threads, THREADS_TOO_MANY)
     ∷ (r.has_allocate && not r.has_free, FREE_MEMORY_CBK_NULL)
     ∷ (not r.has_allocate && r.has_free, ALLOCATE_MEMORY_CBK_NULL)
     ∷ (nat_lt 2 r.algorithm, INCORRECT_TYPE)
@@ -49,25 +51,25 @@ request_faults r output password salt secret associated =
 -- why lengths that argon2_hash was given are refused before all else
 abbrev pub length_faults : ℕ → ℕ → ℕ → List (Bool × ℤ)
 length_faults output password salt =
-    (nat_lt 4294967295 password, PWD_TOO_LONG)
-    ∷ (nat_lt 4294967295 salt, SALT_TOO_LONG)
-    ∷ (nat_lt 4294967295 output, OUTPUT_TOO_LONG)
+    (nat_lt max_len password, PWD_TOO_LONG)
+    ∷ (nat_lt max_len salt, SALT_TOO_LONG)
+    ∷ (nat_lt max_len output, OUTPUT_TOO_LONG)
     ∷ (nat_lt output 4, OUTPUT_TOO_SHORT)
     ∷ []
 
 -- what is known of a request that is not refused
 pub record IsFaultless (r : Request) (output password salt secret associated : ℕ) : Type 0 where
   pub out_least : 4 ≤ output
-  pub out_most : output ≤ 4294967295
-  pub pwd_most : password ≤ 4294967295
+  pub out_most : output ≤ max_len
+  pub pwd_most : password ≤ max_len
   pub salt_least : 8 ≤ salt
-  pub salt_most : salt ≤ 4294967295
-  pub secret_most : secret ≤ 4294967295
-  pub associated_most : associated ≤ 4294967295
+  pub salt_most : salt ≤ max_len
+  pub secret_most : secret ≤ max_len
+  pub associated_most : associated ≤ max_len
   pub memory_least : 8 * r.lanes ≤ r.m_cost
   pub some_pass : 1 ≤ r.t_cost
   pub some_lane : 1 ≤ r.lanes
-  pub lanes_most : r.lanes ≤ 16777215
+  pub lanes_most : r.lanes ≤ max_lanes
   pub is_variant : r.algorithm ≤ 2
   pub is_version : (r.version ≡ 16) ⊎ (r.version ≡ 19)
 

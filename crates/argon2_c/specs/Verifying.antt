@@ -1,7 +1,7 @@
 -- What verifying a text answers.
 use Rattle.std.specs.Prelude.{ℕ, ◌*◌, ◌==◌, ◌||◌, nat_lt, not, Bool, false, ℤ, Option, if◌then◌else◌, List, [], ◌∷◌, length, unwrap_or}
 use Rattle.std.specs.Str.{bytes_eq}
-use Rattle.argon2.specs.Refusals.{first_of}
+use Rattle.argon2.specs.Refusals.{first_of, max_len}
 use Rattle.argon2.specs.Rfc9106.{tag_of}
 use Rattle.argon2.specs.Segments.{slice_length}
 use Rattle.argon2_c.specs.declared.code.TheConstants.{OK, PWD_TOO_LONG, DECODING_FAIL, INCORRECT_PARAMETER, INCORRECT_TYPE, MEMORY_ALLOCATION_ERROR, VERIFY_MISMATCH}
@@ -13,9 +13,9 @@ use Rattle.argon2_c.specs.declared.request.Request.{Request}
 -- what the text says
 abbrev pub call_refusal : ℕ → Bool → ℕ → ℕ → ℕ → ℕ → Option ℤ
 call_refusal algorithm has_text text password absent room = first_of (
-    (nat_lt 4294967295 password || nat_lt 4294967295 absent, PWD_TOO_LONG)
+    (nat_lt max_len password || nat_lt max_len absent, PWD_TOO_LONG)
     ∷ (not has_text, DECODING_FAIL)
-    ∷ (nat_lt 4294967295 text, DECODING_FAIL)
+    ∷ (nat_lt max_len text, DECODING_FAIL)
     ∷ (nat_lt 2 algorithm, INCORRECT_TYPE)
     ∷ (nat_lt room (2 * text), MEMORY_ALLOCATION_ERROR)
     ∷ [])

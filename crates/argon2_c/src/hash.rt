@@ -2,9 +2,9 @@
 
 ghost use Rattle.std.specs.Prelude.{◌≡◌, ◌≢◌, ◌≤◌, ◌<◌, ◌==◌, ◌*◌, ◌-◌, ◌^◌, ◌⊎◌, ℕ, None, [], length, unwrap_or, if◌then◌else◌};
 ghost use Rattle.std.specs.Str.{bytes_eq};
-ghost use Rattle.argon2.specs.Settings.{algorithm_number, version_number};
+ghost use Rattle.argon2.specs.Settings.{algorithm_number, max_lanes, version_number};
 ghost use Rattle.argon2.specs.Argon2.{context_of, context_under, own_parameters};
-ghost use Rattle.argon2.specs.Refusals.{first_of};
+ghost use Rattle.argon2.specs.Refusals.{first_of, max_len};
 ghost use Rattle.argon2.specs.Rfc9106.{tag_of};
 ghost use Rattle.argon2.specs.Segments.{FillsSegment, slice_length};
 ghost use Rattle.argon2_c.specs.Memory.{FillsSlice, segment_of};
@@ -81,7 +81,7 @@ fn fill_slice(
     slice: u32,
 )
     requires data { length associated.now < 2 ^ 32 }
-    requires lanes { (1 ≤ request.now.lanes) × (request.now.lanes ≤ 16777215) }
+    requires lanes { (1 ≤ request.now.lanes) × (request.now.lanes ≤ max_lanes) }
     requires context { context_under argon2.now associated.now
         ≡ asked request.now (context_of argon2.now).secret associated.now }
     requires slice { slice < 4 }
@@ -109,7 +109,7 @@ fn fill_lanes(
     slice: u32,
 )
     requires data { length associated.now < 2 ^ 32 }
-    requires lanes { (1 ≤ request.now.lanes) × (request.now.lanes ≤ 16777215) }
+    requires lanes { (1 ≤ request.now.lanes) × (request.now.lanes ≤ max_lanes) }
     requires context { context_under argon2.now associated.now
         ≡ asked request.now (context_of argon2.now).secret associated.now }
     requires slice { slice < 4 }
@@ -131,9 +131,9 @@ fn fill_lanes(
 
 /// Hashing as asked for, without associated data, where nothing is refused.
 pub fn hashing<'key>(request: &Request, secret: &'key [u8]) -> Argon2<'key>
-    requires secret { length secret.now ≤ 4294967295 }
+    requires secret { length secret.now ≤ max_len }
     requires costs { (8 * request.now.lanes ≤ request.now.m_cost) × (1 ≤ request.now.t_cost)
-        × (1 ≤ request.now.lanes) × (request.now.lanes ≤ 16777215) }
+        × (1 ≤ request.now.lanes) × (request.now.lanes ≤ max_lanes) }
     requires numbers { (request.now.algorithm ≤ 2)
         × ((request.now.version ≡ 16) ⊎ (request.now.version ≡ 19)) }
     ensures context { context_of result ≡ asked request.now secret.now [] }

@@ -98,13 +98,13 @@ pub fn refusal(
     if request.lanes < 1 {
         return Some(LANES_TOO_FEW);
     }
-    if request.lanes > 16777215 {
+    if request.lanes > Params::MAX_P_COST {
         return Some(LANES_TOO_MANY);
     }
     if request.threads < 1 {
         return Some(THREADS_TOO_FEW);
     }
-    if request.threads > 16777215 {
+    if request.threads > Params::MAX_P_COST {
         return Some(THREADS_TOO_MANY);
     }
     if request.has_allocate && !request.has_free {

@@ -9,6 +9,7 @@ ghost use Rattle.argon2_base.specs.Block.{bytes_of};
 ghost use Rattle.argon2_base.specs.LongHash.{long_hash};
 ghost use Rattle.argon2.specs.Rfc9106.{first_block, segment_length};
 ghost use Rattle.argon2.specs.Refusals.{first_of};
+ghost use Rattle.argon2.specs.Settings.{max_lanes};
 ghost use Rattle.argon2.specs.Segments.{AreLengths, BeginsSlices, FillsSegment, last_of_slice, slice_length};
 ghost use Rattle.argon2_c.specs.Requests.{asked, are_lengths, request_faults};
 
@@ -117,7 +118,7 @@ pub extern "C" fn argon2_c_finish(request: &Request, last: &[Words], out: &mut [
 
 /// How many blocks a segment has.
 pub fn segment_len(request: &Request) -> u32
-    requires { (1 ≤ request.now.lanes) × (request.now.lanes ≤ 16777215) }
+    requires { (1 ≤ request.now.lanes) × (request.now.lanes ≤ max_lanes) }
     ensures { result ≡ segment_length (asked request.now [] []) }
 {
     request.m_cost / (4 * request.lanes)
@@ -125,7 +126,7 @@ pub fn segment_len(request: &Request) -> u32
 
 /// How many blocks a slice has.
 pub fn slice_len(request: &Request) -> u32
-    requires { (1 ≤ request.now.lanes) × (request.now.lanes ≤ 16777215) }
+    requires { (1 ≤ request.now.lanes) × (request.now.lanes ≤ max_lanes) }
     ensures value { result ≡ slice_length (asked request.now [] []) }
     ensures within { 4 * result ≤ request.now.m_cost }
 {
@@ -135,7 +136,7 @@ pub fn slice_len(request: &Request) -> u32
 // Whether there is such a segment, and these are the lengths of the slices before it, of the segment, and of
 // the slices after it.
 fn fits(request: &Request, before: usize, own: usize, after: usize, slice: u32, lane: u32) -> bool
-    requires { (1 ≤ request.now.lanes) × (request.now.lanes ≤ 16777215) }
+    requires { (1 ≤ request.now.lanes) × (request.now.lanes ≤ max_lanes) }
     ensures value { result ≡ are_lengths (asked request.now [] []) slice lane before own after }
     ensures lengths { IsTrue result → AreLengths (asked request.now [] []) slice lane before own
         after }
