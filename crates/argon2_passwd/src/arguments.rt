@@ -1,237 +1,192 @@
-//! What the program's arguments ask for.
+//! The options of the command line, and the command.
 
-ghost use Rattle.std.specs.Prelude.{◌≡◌, map, string_bytes};
-ghost use Rattle.std.specs.Option.{option_map};
-ghost use Rattle.argon2_base.specs.Texts.{number_of};
-ghost use Rattle.argon2.specs.Params.{parameters_of};
-ghost use Rattle.argon2_passwd.specs.Arguments.{alone_by, asked, cost_of, costs_of, edit_of, is_option, page_of, params_of, view_of};
-
-use crate::options::Options;
 use argon2::Params;
 use argon2::bound::Bound;
 use argon2::phc::read_decimal;
+use argon2_commands::invalid;
+use argon2_passwd_commands::run::PROGRAM;
+use argon2_passwd_commands::{Command, Edit, Options, View};
+use clap::error::ErrorKind;
+use clap::{Arg, ArgAction, Error};
+use std::alloc::{AllocError, Global};
 
-/// What the program is asked for.
-#[derive(Clone, Copy)]
-pub enum Command<'a> {
-    /// `-h` or `--help`
-    Help,
-    /// `--version`
-    Version,
-    /// `hash`: a text for a password.
-    Hash(Options<'a>),
-    /// `check TEXT`: whether a text accepts a password.
-    Check(Options<'a>, &'a str),
-    /// `FILE verify NAME`: whether the text of a name in a file accepts a password.
-    Verify(Options<'a>, &'a str, &'a str),
-    /// `FILE register NAME` and others: a change of the text of a name in a file.
-    Edit(Options<'a>, &'a str, Edit, &'a str),
-    /// `FILE list` or `FILE export`: what a file has.
-    Show(Options<'a>, &'a str, View),
-    /// `FILE import`: names with their texts for a file.
-    Import(Options<'a>, &'a str),
-}
+const USAGE: &str = "\
+argon2-passwd [OPTIONS] hash
+       argon2-passwd [OPTIONS] check TEXT
+       argon2-passwd [OPTIONS] register|verify|change|set|remove FILE NAME
+       argon2-passwd [OPTIONS] list|export|import FILE";
 
-/// What is done to the text of a name.
-#[derive(Clone, Copy)]
-pub enum Edit {
-    /// A new name gets a text of a password.
-    Register,
-    /// The name gets a text of another password, where its text accepts the old one.
-    Change,
-    /// The name gets a text of another password.
-    Set,
-    /// The name and its text are removed.
-    Remove,
-}
+const ABOUT: &str = "\
+Makes a PHC text of a password by Argon2id, checks a password by such a text, and keeps names with such
+texts in a file.
 
-/// What is written of a file.
-#[derive(Clone, Copy)]
-pub enum View {
-    /// The names.
-    Names,
-    /// The names with their texts.
-    Texts,
-}
+The password is the first line of standard input. The line's end, LF or CR LF, is no part of it. It has at
+most 4096 bytes.
 
-impl<'a> Command<'a> {
-    ghost use Rattle.std.specs.Prelude.{◌≡◌, map, string_bytes};
-    ghost use Rattle.std.specs.Option.{option_map};
-    ghost use Rattle.argon2_passwd.specs.Arguments.{asked, asked_by};
+  hash                write a text of the password, with a salt of 16 bytes from the system
+  check TEXT          accept or refuse the password; write \"text is current\" if it is accepted and TEXT
+                      was made under the parameters, and \"text is renewed\" and a new text if it was not
+  register FILE NAME  give a new name, which has no line break and no colon, a text of the password
+  verify FILE NAME    accept or refuse the password; write \"text is current\" if it is accepted, or
+                      \"text is renewed\" once FILE has a new text in place of one under other parameters
+  change FILE NAME    give the name a text of the second line if the first line is accepted
+  set FILE NAME       give a name that is there a text of the password
+  remove FILE NAME    remove the name with its text
+  list FILE           write the names, one a line, in the order of their bytes
+  export FILE         write the same lines with a colon and the text behind each name
+  import FILE         add all names and texts of standard input, in the form that export writes, or none
 
-    /// What the arguments ask for, if they are of the form.
-    pub fn parsed(args: &'a [String]) -> Option<Command<'a>>
-        ensures { option_map asked result ≡ asked_by (map string_bytes args.now) }
-    {
-        if let Some(command) = alone(args) {
-            return Some(command);
+FILE is a SQLite database that survives a crash at any moment. It is made if there is none. It may also
+stand before the command's word. A path that is such a word is written with ./ before it.";
+
+const NOTES: &str = "\
+Example: argon2-passwd register accounts.db ann
+
+The status is 0 if a text is written, the password is accepted or the command on FILE is done. It is 1 if it
+is refused: the password is wrong, too long or missing, a text is outside the grammar or above the bound, the
+parameters are above the bound, or the name is taken, unknown or not allowed. It is 2 if the arguments are
+wrong, and 3 if a file, a stream, random bytes or a request for memory fails. If it is not 0, standard error
+says why.";
+
+/// What words ask for, of equal options the last.
+///
+/// # Errors
+/// A page that the words ask for, what is wrong with them, and out of memory.
+pub fn parsed<'a>(alloc: Global, words: &'a [String]) -> Result<Command<'a>, Error> {
+    let mut command = command(alloc)?;
+    let matches = command.try_get_matches_from_mut(words)?;
+    let mut options = Options {
+        secret_file: matches.get_str("secret-file"),
+        ..Options::DEFAULT
+    };
+    if let Some(value) = matches.get_str("params") {
+        let Some(params) = params(value) else {
+            let why = "it is not m=M,t=T,p=P with valid parameters";
+            return Err(invalid(&mut command, alloc, "--params <COSTS>", value, why)?);
+        };
+        options.params = params;
+    }
+    if let Some(value) = matches.get_str("bound") {
+        options.bound = costs(value);
+        if options.bound.is_none() {
+            let why = "it is not m=M,t=T,p=P with numbers up to 4294967295";
+            return Err(invalid(&mut command, alloc, "--bound <COSTS>", value, why)?);
         }
-        Options::DEFAULT.with_words(args)
+    }
+    let words = matches.get_strs("COMMAND").unwrap_or(&[]);
+    match task(options, words) {
+        Some(task) => Ok(task),
+        None => Err(unknown(&mut command, alloc, words)?),
     }
 }
 
-// The page that a word asks for that stands alone.
-fn alone<'a>(args: &[String]) -> Option<Command<'a>>
-    ensures { option_map asked result ≡ alone_by (map string_bytes args.now) }
-{
-    match args {
-        [word] => page(word.as_str()),
+// The error of words that are no command.
+fn unknown(
+    command: &mut clap::Command<'_>,
+    alloc: Global,
+    words: &[&str],
+) -> Result<Error, AllocError> {
+    let mut message = String::from_str(alloc, "no command has this form:")?;
+    for word in words {
+        message.push(' ')?;
+        message.push_str(word)?;
+    }
+    command.error(ErrorKind::InvalidValue, message.as_str())
+}
+
+// What words ask for under these options.
+fn task<'a>(options: Options<'a>, words: &[&'a str]) -> Option<Command<'a>> {
+    match words {
+        [word] if *word == "hash" => Some(Command::Hash(options)),
+        [word, text] if *word == "check" => Some(Command::Check(options, text)),
+        [first, second] => { on_file(options, first, second).or(on_file(options, second, first)) }
+        [first, second, name] => {
+            on_name(options, first, second, name).or(on_name(options, second, first, name))
+        }
         _ => None,
     }
 }
 
-// The page that a word asks for.
-fn page<'a>(word: &str) -> Option<Command<'a>>
-    ensures { option_map asked result ≡ page_of word.now }
-{
+// What a word asks for of a file.
+fn on_file<'a>(options: Options<'a>, word: &str, file: &'a str) -> Option<Command<'a>> {
     match word {
-        "-h" => Some(Command::Help),
-        "--help" => Some(Command::Help),
-        "--version" => Some(Command::Version),
+        "list" => Some(Command::Show(options, file, View::Names)),
+        "export" => Some(Command::Show(options, file, View::Texts)),
+        "import" => Some(Command::Import(options, file)),
         _ => None,
     }
 }
 
-// Whether a word is an option's name.
-fn is_option(word: &str) -> bool
-    ensures { result ≡ is_option word.now }
-{
-    word.as_bytes().starts_with(b"-")
+// What a word asks for of a name in a file.
+fn on_name<'a>(
+    options: Options<'a>,
+    word: &str,
+    file: &'a str,
+    name: &'a str,
+) -> Option<Command<'a>> {
+    let edit = match word {
+        "verify" => return Some(Command::Verify(options, file, name)),
+        "register" => Edit::Register,
+        "change" => Edit::Change,
+        "set" => Edit::Set,
+        "remove" => Edit::Remove,
+        _ => return None,
+    };
+    Some(Command::Edit(options, file, edit, name))
 }
 
-impl<'a> Options<'a> {
-    ghost use Rattle.std.specs.Prelude.{◌≡◌, map, string_bytes};
-    ghost use Rattle.std.specs.Option.{option_map};
-    ghost use Rattle.argon2_passwd.specs.Arguments.{asked, choices_of, on_name_of, task_by, with_value_of, words_by};
-
-    // What the arguments ask for, where options are followed by a task.
-    fn with_words(self, args: &'a [String]) -> Option<Command<'a>>
-        ensures { option_map asked result ≡ words_by (choices_of self.entry) (map string_bytes args.now) }
-    {
-        let (word, rest) = args.split_first()?;
-        if !is_option(word.as_str()) {
-            return self.task(args);
-        }
-        let (value, after) = rest.split_first()?;
-        match self.with_value(word.as_str(), value.as_str()) {
-            Some(changed) => changed.with_words(after),
-            None => None,
-        }
-    }
-
-    // The options where one with a value changes them.
-    fn with_value(self, name: &str, value: &'a str) -> Option<Options<'a>>
-        ensures { option_map choices_of result
-            ≡ with_value_of name.now value.now (choices_of self.entry) }
-    {
-        match name {
-            "--params" => Some(Options {
-                params: params(value)?,
-                ..self
-            }),
-            "--bound" => Some(Options {
-                bound: Some(costs(value)?),
-                ..self
-            }),
-            "--secret-file" => Some(Options {
-                secret_file: Some(value),
-                ..self
-            }),
-            _ => None,
-        }
-    }
-
-    // What words ask for under these options.
-    fn task(self, args: &'a [String]) -> Option<Command<'a>>
-        ensures { option_map asked result ≡ task_by (choices_of self.entry) (map string_bytes args.now) }
-    {
-        match args {
-            [word] if word.as_str() == "hash" => Some(Command::Hash(self)),
-            [word, text] if word.as_str() == "check" => Some(Command::Check(self, text.as_str())),
-            [file, word] if word.as_str() == "import" => Some(Command::Import(self, file.as_str())),
-            [file, word] => Some(Command::Show(self, file.as_str(), view_by(word.as_str())?)),
-            [file, word, name] => self.on_name(file.as_str(), word.as_str(), name.as_str()),
-            _ => None,
-        }
-    }
-
-    // What a word asks for that stands between a file and a name.
-    fn on_name(self, file: &'a str, word: &str, name: &'a str) -> Option<Command<'a>>
-        ensures { option_map asked result
-            ≡ on_name_of (choices_of self.entry) file.now word.now name.now }
-    {
-        match word {
-            "verify" => Some(Command::Verify(self, file, name)),
-            _ => Some(Command::Edit(self, file, edit_by(word)?, name)),
-        }
-    }
-}
-
-// The change that a word asks for.
-fn edit_by(word: &str) -> Option<Edit>
-    ensures { result ≡ edit_of word.now }
-{
-    match word {
-        "register" => Some(Edit::Register),
-        "change" => Some(Edit::Change),
-        "set" => Some(Edit::Set),
-        "remove" => Some(Edit::Remove),
-        _ => None,
-    }
-}
-
-// What a word asks to write.
-fn view_by(word: &str) -> Option<View>
-    ensures { result ≡ view_of word.now }
-{
-    match word {
-        "list" => Some(View::Names),
-        "export" => Some(View::Texts),
-        _ => None,
-    }
-}
-
-// The parameters that costs are, where they are valid.
-fn params(text: &str) -> Option<Params>
-    ensures { option_map parameters_of result ≡ params_of (costs_of text.now) }
-{
+// The parameters that costs are, if they are valid.
+fn params(text: &str) -> Option<Params> {
     let costs = costs(text)?;
-    match Params::new(costs.m_cost, costs.t_cost, costs.p_cost, None) {
-        Ok(params) => Some(params),
-        Err(_) => None,
-    }
+    Params::new(costs.m_cost, costs.t_cost, costs.p_cost, None).ok()
 }
 
 // The costs that `m=..,t=..,p=..` says.
-fn costs(text: &str) -> Option<Bound>
-    ensures { result ≡ costs_of text.now }
-{
+fn costs(text: &str) -> Option<Bound> {
     let (m, rest) = text.split_once(',')?;
     let (t, p) = rest.split_once(',')?;
     Some(Bound {
-        m_cost: cost("m", m)?,
-        t_cost: cost("t", t)?,
-        p_cost: cost("p", p)?,
+        m_cost: read_decimal(m.strip_prefix("m=")?)?,
+        t_cost: read_decimal(t.strip_prefix("t=")?)?,
+        p_cost: read_decimal(p.strip_prefix("p=")?)?,
     })
 }
 
-// The number of an item with this name.
-fn cost(name: &str, item: &str) -> Option<u32>
-    ensures { result ≡ cost_of name.now item.now }
-{
-    let (found, value) = item.split_once('=')?;
-    if found != name {
-        return None;
-    }
-    number(value)
-}
-
-// The number up to 4294967295 whose decimal a text is.
-fn number(text: &str) -> Option<u32>
-    ensures { result ≡ number_of text.now }
-{
-    let Some(n) = read_decimal(text) else {
-        return None;
-    };
-    Some(n)
+// The program's arguments.
+fn command<'a>(alloc: Global) -> Result<clap::Command<'a>, AllocError> {
+    clap::Command::new(alloc, PROGRAM)
+        .version("0.6.0")
+        .about("Makes texts of passwords, checks passwords by them, and keeps accounts in a file")
+        .long_about(ABOUT)
+        .after_help(NOTES)
+        .override_usage(USAGE)
+        .no_binary_name(true)
+        .args_override_self(true)
+        .arg(
+            Arg::new(alloc, "params")
+                .long("params")
+                .value_name("COSTS")
+                .help("What new texts are made under [default: m=19456,t=2,p=1]"),
+        )?
+        .arg(
+            Arg::new(alloc, "bound")
+                .long("bound")
+                .value_name("COSTS")
+                .help(
+                    "The most that a text may ask for [default: m=2097152,t=64,p=64, or the parameters]",
+                ),
+        )?
+        .arg(
+            Arg::new(alloc, "secret-file")
+                .long("secret-file")
+                .value_name("PATH")
+                .help("The file's bytes, 1 to 4096 of them, are the secret of all texts"),
+        )?
+        .arg(
+            Arg::new(alloc, "COMMAND")
+                .required(true)
+                .num_args(1..)
+                .action(ArgAction::Append)
+                .help("A command with its text, or its file and name"),
+        )
 }

@@ -1,55 +1,35 @@
 //! `argon2-passwd`: texts for passwords, and what they say of a password.
 #![tactic(auto)]
 
-use failure::Failure;
-use place::Machine;
+use argon2_commands::{Failure, answer, words};
+use argon2_passwd_commands::Machine;
+use argon2_passwd_commands::run::{PROGRAM, run};
 use std::alloc::AllocError;
-use std::env;
-use std::io::{BufWriter, ErrorKind};
+use std::io::BufWriter;
 use std::process::ExitCode;
 
 mod arguments;
-mod entries;
-mod failure;
-mod options;
-mod passwords;
-mod place;
-mod run;
-
-pub use run::run;
 
 fn main(rt: HostRuntime) -> ExitCode {
     let mut errors = rt.stderr();
     let Ok(mut output) = BufWriter::new(rt.alloc(), rt.stdout()) else {
-        return ExitCode::from(run::fail(&mut errors, Failure::Memory(AllocError)));
+        return ExitCode::from(Failure::Memory(AllocError).report(PROGRAM, "", &mut errors));
     };
-    let mut left = None;
-    let status = match words(&rt) {
-        Ok(args) => run(
+    let words = match words(&rt, PROGRAM) {
+        Ok(words) => words,
+        Err(error) => return ExitCode::from(answer(PROGRAM, &error, &mut output, &mut errors)),
+    };
+    let status = match arguments::parsed(rt.alloc(), words.as_slice()) {
+        Ok(command) => run(
             rt.alloc(),
-            args.as_slice(),
+            command,
             &mut Machine::new(&rt),
-            &mut left,
+            &mut None,
             &mut rt.reader(),
             &mut output,
             &mut errors,
         ),
-        Err(refused) => run::fail(&mut errors, Failure::Memory(refused)),
+        Err(error) => answer(PROGRAM, &error, &mut output, &mut errors),
     };
     ExitCode::from(status)
-}
-
-// The arguments after the program's name; none of them where one is not UTF-8, as no command has such a word.
-fn words(rt: &HostRuntime) -> Result<Vec<String>, AllocError> {
-    let mut args = Vec::new(rt.alloc());
-    match env::args(rt) {
-        Ok(words) => {
-            for word in words.skip(1) {
-                args.push(word)?;
-            }
-        }
-        Err(e) if e.kind() == ErrorKind::OutOfMemory => return Err(AllocError),
-        Err(_) => {}
-    }
-    Ok(args)
 }

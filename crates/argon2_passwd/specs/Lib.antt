@@ -1,4 +1,0 @@
-pub mod Answers
-pub mod Arguments
-pub mod Failures
-pub mod Passwords

@@ -1,0 +1,69 @@
+use Rattle.std.proofs.Common.{◌≡◌, ◌∙◌, ℕ, List, [], Option, Some, None, Ok, ap, inr, map}
+use Rattle.std.specs.Prelude.{IfSome}
+use Rattle.argon2_store.specs.AccountFile.{AddsOrNone}
+use Rattle.argon2_store.specs.Adding.{entry_of}
+use Rattle.argon2_passwd_commands.specs.Answers.{IsImported, IsLeft, entries_in}
+use Rattle.argon2_passwd_commands.specs.Asked.{choices_of}
+use Rattle.argon2_passwd_commands.proofs.Refusals.{err_then, ok_then}
+use Rattle.argon2_passwd_commands.proofs.run.accounts.import.Goals as goal
+
+-- the entries are those of a known input
+of_known : (input : Option (List ℕ)) (bytes slice : List ℕ) (es : List (List ℕ × List ℕ))
+    → IfSome input (λ known. bytes ≡ known) → slice ≡ bytes → es ≡ entries_in slice
+    → IfSome input (λ known. es ≡ entries_in known)
+of_known None bytes slice es all same is = tt
+of_known (Some known) bytes slice es all same is = is ∙ ap entries_in (same ∙ all)
+
+pub returns-clause-ok : goal.returns-clause-ok
+returns-clause-ok g c =
+    let input = g.R.Read.remaining c.args.input.now in
+    ok_then {Q = IsImported g.P.File.Store g.P.Outside.holds g.P.Outside.keeps (choices_of c.args.options.now) c.args.file.now
+    (λ es. AddsOrNone es (Ok tt)) input (IsLeft (g.P.Outside.unopened c.open.new.outside) (Some c.into_store.result))} _ c.add_all-added.ensures.ok (λ added. (
+      map entry_of c.in_ok-entries.entries.items,
+      of_known input _ _ _ c.in_ok-bytes.ensures.ok c.as_slice.ensures.value c.in_ok-entries.ensures,
+      (
+        c.in_ok-secret.secret.items,
+        [],
+        c.in_ok-accounts.accounts,
+        c.add_all-added.new.accounts,
+        c.in_ok-secret.ensures.ok,
+        (rw c.as_slice-2.ensures.value at c.in_ok-accounts.ensures.ok),
+        (rw c.as_slice-3.ensures.value at added),
+        ap Some c.into_store.ensures,
+      ),
+    ))
+
+pub returns-clause-err : goal.returns-clause-err
+returns-clause-err g c =
+    err_then _ c.add_all-added.ensures.err (λ failure refused. inr (
+      map entry_of c.in_ok-entries.entries.items,
+      of_known (g.R.Read.remaining c.args.input.now) _ _ _ c.in_ok-bytes.ensures.ok c.as_slice.ensures.value
+          c.in_ok-entries.ensures,
+      (
+        c.in_ok-secret.secret.items,
+        [],
+        c.in_ok-accounts.accounts,
+        c.add_all-added.new.accounts,
+        c.in_ok-secret.ensures.ok,
+        (rw c.as_slice-2.ensures.value at c.in_ok-accounts.ensures.ok),
+        (rw c.as_slice-3.ensures.value at refused),
+        ap Some c.into_store.ensures,
+      ),
+    ))
+
+pub returns-clause-once : goal.returns-clause-once
+returns-clause-once g c = inr (
+  map entry_of c.in_ok-entries.entries.items,
+  of_known (g.R.Read.remaining c.args.input.now) _ _ _ c.in_ok-bytes.ensures.ok c.as_slice.ensures.value
+      c.in_ok-entries.ensures,
+  (
+    c.in_ok-secret.secret.items,
+    [],
+    c.in_ok-accounts.accounts,
+    c.add_all-added.new.accounts,
+    c.in_ok-secret.ensures.ok,
+    (rw c.as_slice-2.ensures.value at c.in_ok-accounts.ensures.ok),
+    (rw c.as_slice-3.ensures.value at c.add_all-added.ensures.once),
+    ap Some c.into_store.ensures,
+  ),
+)

@@ -1,0 +1,38 @@
+use Rattle.std.proofs.Common.{[], Some, ap, inr, refl}
+use Rattle.argon2_passwd_commands.proofs.run.accounts.show.Goals as goal
+
+pub returns-clause-ok : goal.returns-clause-ok
+returns-clause-ok g c = (
+  c.in_ok-secret.secret.items,
+  [],
+  c.in_ok-accounts.accounts,
+  c.in_ok-accounts.accounts,
+  c.in_ok-secret.ensures.ok,
+  (rw c.as_slice.ensures.value at c.in_ok-accounts.ensures.ok),
+  (refl, c.in_ok-written.ensures),
+  ap Some c.into_store.ensures,
+)
+
+pub returns-in_err-written-clause-once : goal.returns-in_err-written-clause-once
+returns-in_err-written-clause-once g c = inr (
+  c.in_ok-secret.secret.items,
+  [],
+  c.in_ok-accounts.accounts,
+  c.in_ok-accounts.accounts,
+  c.in_ok-secret.ensures.ok,
+  (rw c.as_slice.ensures.value at c.in_ok-accounts.ensures.ok),
+  (refl, tt),
+  ap Some c.into_store.ensures,
+)
+
+pub returns-clause-once : goal.returns-clause-once
+returns-clause-once g c = inr (
+  c.in_ok-secret.secret.items,
+  [],
+  c.in_ok-accounts.accounts,
+  c.in_ok-accounts.accounts,
+  c.in_ok-secret.ensures.ok,
+  (rw c.as_slice.ensures.value at c.in_ok-accounts.ensures.ok),
+  (refl, tt),
+  ap Some c.into_store.ensures,
+)

@@ -1,0 +1,224 @@
+-- What the program answers.
+use Rattle.std.specs.Prelude.{◌≡◌, ◌⊎◌, ⊤, ℕ, ◌==◌, false, Bool, ◌||◌, ◌+◌, IsTrue, List, [], ◌∷◌, ◌++◌, map, if◌then◌else◌, Option, Some, None, IfSome, Result, Ok, Err}
+use Rattle.std.specs.FinMap.{entries}
+use Rattle.std.specs.Io.BufRead.{drop_through}
+use Rattle.std.specs.List.{after_first, before_first, list_any}
+use Rattle.std.specs.Option.{option_map}
+use Rattle.std.specs.Io.KnownBytes.{Appends, Keeps}
+use Rattle.std.specs.Str.{is_utf8}
+use Rattle.std.specs.Str.Lines.{lines}
+use Rattle.argon2_base.specs.PhcText.{Phc, PhcText, phc_text}
+use Rattle.sqlite_trees.specs.declared.store.Store.{Ghosts}
+use Rattle.argon2_accounts.specs.Accounts.{Admits, AreTerms, LogsIn, Terms, changing, logging_in, registering, removing, setting}
+use Rattle.argon2.specs.Argon2.{argon2id_with}
+use Rattle.argon2.specs.Login.{accepted_text}
+use Rattle.argon2.specs.NamedTexts.{Store}
+use Rattle.argon2.specs.Made.{IsFresh}
+use Rattle.argon2.specs.declared.login.answers.Accepted.{Accepted}
+use Rattle.argon2.specs.declared.login.answers.Accepted.TheVariants.{Rehashed}
+use Rattle.argon2_accounts.specs.declared.error.AccountError.{AccountError}
+use Rattle.argon2_store.specs.AccountFile.{AddsOrNone, Call, IsReady, Serves, names_of, store_of}
+use Rattle.argon2_store.specs.Adding.{IsFirstRefused}
+use Rattle.argon2_store.specs.declared.account_file.AccountFile.{AccountFile}
+use Rattle.argon2_store.specs.declared.error.FileError.{FileError}
+use Rattle.argon2_store.specs.declared.error.FileError.TheVariants.{Account}
+use Rattle.argon2_passwd_commands.specs.Asked.{Asked, Choices, bound_of, check, edit, hash, import, show, verify}
+use Rattle.argon2_passwd_commands.specs.declared.command.Edit.{Edit}
+use Rattle.argon2_passwd_commands.specs.declared.command.Edit.TheVariants.{Register, Change, Set, Remove}
+use Rattle.argon2_passwd_commands.specs.declared.command.View.{View}
+use Rattle.argon2_passwd_commands.specs.declared.command.View.TheVariants.{Names, Texts}
+use Rattle.argon2_passwd_commands.specs.Passwords.{password_of}
+use Rattle.argon2_passwd_commands.specs.declared.failure.Failure.{Failure}
+use Rattle.argon2_passwd_commands.specs.declared.failure.Failure.TheVariants.{Line}
+
+-- a fact of a password, the first line of a known input
+abbrev pub OfPassword : (List ℕ → Type 0) → Option (List ℕ) → Type 0
+OfPassword P input =
+    (password : List ℕ) × IfSome input (λ bytes. password_of bytes ≡ Some password) × P password
+
+-- a fresh text of the password
+abbrev pub IsHashReply : Terms → List ℕ → Option (List ℕ) → List ℕ → Type 0
+IsHashReply terms drawn input reply =
+    OfPassword (λ password. (v : Phc) × IsFresh terms.target password drawn v × (reply ≡ phc_text v)) input
+
+-- what a login did with a text, and a line with the fresh one where there is one
+abbrev pub login_text : Accepted → Phc → List ℕ
+login_text Rehashed fresh = accepted_text Rehashed ++ 10 ∷ phc_text fresh
+login_text accepted fresh = accepted_text accepted
+
+-- a login with the password and the text
+abbrev pub IsCheckReply : Terms → List ℕ → List ℕ → Option (List ℕ) → List ℕ → Type 0
+IsCheckReply terms drawn text input reply =
+    OfPassword (λ password. (v : Phc) × (accepted : Accepted) × (w : Phc) × PhcText text v
+    × LogsIn terms password drawn v (Ok accepted) w × (reply ≡ login_text accepted w)) input
+
+-- a known input has no password
+abbrev pub HasNone : Option (List ℕ) → Type 0
+HasNone input = IfSome input (λ bytes. password_of bytes ≡ None)
+
+-- the text does not accept a known password within the bound
+abbrev pub Denies : Terms → List ℕ → Option (List ℕ) → Type 0
+Denies terms text input = IfSome input (λ bytes. (password : List ℕ) (v : Phc)
+    → password_of bytes ≡ Some password → PhcText text v → ¬ (Admits terms password v))
+
+-- the secret of the file at a path, where there is one
+abbrev pub IsSecret : (List ℕ → List ℕ → Type 0) → Option (List ℕ) → List ℕ → Type 0
+IsSecret Holds None secret = secret ≡ []
+IsSecret Holds (Some path) secret = Holds path secret
+
+-- Argon2id of version 0x13 under choices and a secret
+abbrev pub terms_by : Choices → List ℕ → Terms
+terms_by choices secret = record {
+  target = record { settings = argon2id_with choices.parameters; secret = secret };
+  bound = bound_of choices;
+}
+
+-- a line that is appended is a reply under the choices and their secret
+abbrev pub IsReplied : (List ℕ → List ℕ → Type 0) → Choices → (Terms → List ℕ → List ℕ → Type 0)
+    → Option (List ℕ) → Option (List ℕ) → Type 0
+IsReplied Holds choices IsReply old new = (secret drawn line : List ℕ) × IsSecret Holds choices.secret_file secret
+    × IsReply (terms_by choices secret) drawn line × Appends old new (line ++ 10 ∷ [])
+
+-- a refusal under the choices and their secret: the parameters are above the bound, or this holds
+abbrev pub IsRefusedBy : (List ℕ → List ℕ → Type 0) → Choices → (Terms → Type 0) → Type 0
+IsRefusedBy Holds choices Why = (secret : List ℕ) × IsSecret Holds choices.secret_file secret
+    × (AreTerms (terms_by choices secret) → Why (terms_by choices secret))
+
+-- ---- accounts in a file
+
+-- what an input has behind its first line
+abbrev pub behind : Option (List ℕ) → Option (List ℕ)
+behind input = option_map (drop_through 10) input
+
+-- the passwords that a change takes
+abbrev pub AreRead : Edit → Option (List ℕ) → List ℕ → List ℕ → Type 0
+AreRead Remove input first second = ⊤
+AreRead Change input first second = IfSome input (λ bytes. password_of bytes ≡ Some first)
+    × IfSome (behind input) (λ bytes. password_of bytes ≡ Some second)
+AreRead act input first second = IfSome input (λ bytes. password_of bytes ≡ Some first)
+
+-- a known input does not have them
+abbrev pub AreUnread : Edit → Option (List ℕ) → Type 0
+AreUnread Remove input = ⊥
+AreUnread Change input = HasNone input ⊎ HasNone (behind input)
+AreUnread act input = HasNone input
+
+-- the name of a new text would break the lines that show it
+abbrev pub breaks_lines : Edit → List ℕ → Bool
+breaks_lines Register name = list_any (λ b. b == 10) name || list_any (λ b. b == 58) name
+breaks_lines act name = false
+
+-- the call of a change, but for its answer
+abbrev pub call_of : Edit → List ℕ → List ℕ → List ℕ → List ℕ → Call (Unit {0})
+call_of Register name first second drawn = registering name first drawn
+call_of Change name first second drawn = changing name first second drawn
+call_of Set name first second drawn = setting name first drawn
+call_of Remove name first second drawn = removing name
+
+-- the line of a name with its text
+abbrev pub entry_line : View → List ℕ × Phc → List ℕ
+entry_line Names e = e.0 ++ 10 ∷ []
+entry_line Texts e = e.0 ++ 58 ∷ phc_text e.1 ++ 10 ∷ []
+
+-- those of all names
+abbrev pub lines_of : View → List (List ℕ × Phc) → List ℕ
+lines_of view [] = []
+lines_of view (e ∷ es) = entry_line view e ++ lines_of view es
+
+-- the name and the text of a line: no text where it has no colon, and neither where it is not UTF-8
+abbrev pub entry_in : List ℕ → List ℕ × List ℕ
+entry_in line = if is_utf8 line then (before_first (λ b. b == 58) line, after_first (λ b. b == 58) line) else ([], [])
+
+-- those of all lines
+abbrev pub entries_in : List ℕ → List (List ℕ × List ℕ)
+entries_in input = map entry_in (lines input)
+
+-- one of the entries is the first that is refused, and none is added; the failure has its line and the reason
+abbrev pub RefusesLine : {S : Type 0} {g : Ghosts S} → Failure → List (List ℕ × List ℕ) → AccountFile S g → AccountFile S g
+    → Type 0
+RefusesLine failure es before after = (k : ℕ) × (why : AccountError) × (failure ≡ Line (k + 1) why)
+    × IsFirstRefused (names_of before) es k why × AddsOrNone es (Err (Account why)) before after
+
+-- the entries were to be added, and this is some answer to it
+abbrev pub IsAdded : {S : Type 0} {g : Ghosts S} → List (List ℕ × List ℕ) → AccountFile S g → AccountFile S g → Type 0
+IsAdded es before after = (answer : Result (Unit {0}) FileError) × AddsOrNone es answer before after
+
+-- a file at a path that was opened under these terms
+abbrev pub IsOpened : {S : Type 0} {g : Ghosts S} → (List ℕ → Store → Type 0) → List ℕ → Terms → AccountFile S g → Type 0
+IsOpened Has path terms file = IsReady terms file × Has path (names_of file)
+
+-- no file was opened, or its store was left as this one
+abbrev pub IsLeft : {S : Type 0} → Type 0 → Option S → Option S → Type 0
+IsLeft Unopened left None = Unopened
+IsLeft Unopened left (Some store) = left ≡ Some store
+
+module _ {S : Type 0} (g : Ghosts S) (Holds : List ℕ → List ℕ → Type 0) (Has : List ℕ → Store → Type 0) where
+  -- all that was done with the file at a path, which was opened under the choices and their secret
+  abbrev pub IsDone : Choices → List ℕ → (List ℕ → AccountFile S g → AccountFile S g → Type 0) → (Option S → Type 0) → Type 0
+  IsDone choices path Does Becomes = (secret drawn : List ℕ) × (before after : AccountFile S g)
+      × IsSecret Holds choices.secret_file secret × IsOpened Has path (terms_by choices secret) before
+      × Does drawn before after × Becomes (Some (store_of after))
+
+  -- that was one call
+  abbrev pub IsCalled : {X : Type 0} → Choices → List ℕ → (List ℕ → Call X) → Result X FileError → (Option S → Type 0) → Type 0
+  IsCalled choices path call result = IsDone choices path (λ drawn. Serves (call drawn) result)
+
+  -- that was a login with the password
+  abbrev pub IsLogin : Choices → List ℕ → List ℕ → Result Accepted FileError → Option (List ℕ) → (Option S → Type 0) → Type 0
+  IsLogin choices path name result input Becomes =
+      OfPassword (λ password. IsCalled choices path (logging_in name password) result Becomes) input
+
+  -- that was a change of the text of a name, by the passwords that are read
+  abbrev pub IsEdited : Choices → List ℕ → Edit → List ℕ → Result (Unit {0}) FileError → Option (List ℕ) → (Option S → Type 0) → Type 0
+  IsEdited choices path act name result input Becomes = (breaks_lines act name ≡ false) × (first second : List ℕ)
+      × AreRead act input first second × IsCalled choices path (call_of act name first second) result Becomes
+
+  -- nothing was done with it, and this is a fact of its names
+  abbrev pub IsRead : Choices → List ℕ → (Store → Type 0) → (Option S → Type 0) → Type 0
+  IsRead choices path Shows = IsDone choices path (λ drawn before after. (after ≡ before) × Shows (names_of before))
+
+  -- that was the addition of the entries that a known input has, and the answer to it
+  abbrev pub IsImported : Choices → List ℕ → (List (List ℕ × List ℕ) → AccountFile S g → AccountFile S g → Type 0)
+      → Option (List ℕ) → (Option S → Type 0) → Type 0
+  IsImported choices path Adds input Becomes = (es : List (List ℕ × List ℕ))
+      × IfSome input (λ bytes. es ≡ entries_in bytes) × IsDone choices path (λ drawn. Adds es) Becomes
+
+  -- what is asked for is answered
+  abbrev pub IsAnswered : Asked → Option (List ℕ) → Option (List ℕ) → Option (List ℕ) → (Option S → Type 0) → Type 0
+  IsAnswered (hash choices) input old new Becomes =
+      IsReplied Holds choices (λ terms drawn line. IsHashReply terms drawn input line) old new × Becomes None
+  IsAnswered (check choices text) input old new Becomes =
+      IsReplied Holds choices (λ terms drawn line. IsCheckReply terms drawn text input line) old new × Becomes None
+  IsAnswered (verify choices path name) input old new Becomes = (accepted : Accepted)
+      × IsLogin choices path name (Ok accepted) input Becomes × Appends old new (accepted_text accepted ++ 10 ∷ [])
+  IsAnswered (edit choices path act name) input old new Becomes =
+      IsEdited choices path act name (Ok tt) input Becomes × Keeps old new
+  IsAnswered (show choices path view) input old new Becomes =
+      IsRead choices path (λ names. Appends old new (lines_of view (entries names))) Becomes
+  IsAnswered (import choices path) input old new Becomes =
+      IsImported choices path (λ es. AddsOrNone es (Ok tt)) input Becomes × Keeps old new
+
+  -- what is asked for is refused
+  abbrev pub IsRefused : Asked → Option (List ℕ) → (Option S → Type 0) → Type 0
+  IsRefused (hash choices) input Becomes = IsRefusedBy Holds choices (λ terms. HasNone input) × Becomes None
+  IsRefused (check choices text) input Becomes =
+      IsRefusedBy Holds choices (λ terms. Denies terms text input) × Becomes None
+  IsRefused (verify choices path name) input Becomes =
+      ((HasNone input ⊎ IsRefusedBy Holds choices (λ terms. ⊥)) × Becomes None)
+      ⊎ ((e : AccountError) × IsLogin choices path name (Err (Account e)) input Becomes)
+  IsRefused (edit choices path act name) input Becomes =
+      ((IsTrue (breaks_lines act name) ⊎ AreUnread act input ⊎ IsRefusedBy Holds choices (λ terms. ⊥)) × Becomes None)
+      ⊎ ((e : AccountError) × IsEdited choices path act name (Err (Account e)) input Becomes)
+  IsRefused (show choices path view) input Becomes = IsRefusedBy Holds choices (λ terms. ⊥) × Becomes None
+  IsRefused (import choices path) input Becomes = (IsRefusedBy Holds choices (λ terms. ⊥) × Becomes None)
+      ⊎ ((failure : Failure) × IsImported choices path (RefusesLine failure) input Becomes)
+
+  -- all that was done with a file, whatever the status: it was not opened, or one call was made, with some answer
+  abbrev pub IsOnce : Asked → Option (List ℕ) → (Option S → Type 0) → Type 0
+  IsOnce (verify choices path name) input Becomes =
+      Becomes None ⊎ ((answer : Result Accepted FileError) × IsLogin choices path name answer input Becomes)
+  IsOnce (edit choices path act name) input Becomes =
+      Becomes None ⊎ ((answer : Result (Unit {0}) FileError) × IsEdited choices path act name answer input Becomes)
+  IsOnce (show choices path view) input Becomes = Becomes None ⊎ IsRead choices path (λ names. ⊤) Becomes
+  IsOnce (import choices path) input Becomes = Becomes None ⊎ IsImported choices path IsAdded input Becomes
+  IsOnce _ input Becomes = Becomes None

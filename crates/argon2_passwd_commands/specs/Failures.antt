@@ -1,0 +1,41 @@
+-- Why the program fails.
+use Rattle.std.specs.Prelude.{◌≡◌, ◌≢◌, ⊤, ℕ}
+use Rattle.argon2_base.specs.declared.error.password_hash.Error.TheVariants.{OutOfMemory}
+use Rattle.argon2_accounts.specs.declared.error.AccountError.{AccountError}
+use Rattle.argon2_accounts.specs.declared.error.AccountError.TheVariants.{Refused}
+use Rattle.argon2_passwd_commands.specs.declared.failure.Failure.{Failure}
+use Rattle.argon2_passwd_commands.specs.declared.failure.Failure.TheVariants.{NoPassword, LongPassword, Name, Account, Line, Memory}
+use Rattle.argon2_store.specs.declared.error.FileError.{FileError}
+use Rattle.argon2_store.specs.declared.error.FileError.TheVariants as file
+use Rattle.argon2_store.specs.declared.error.OpenError.{OpenError}
+use Rattle.argon2_store.specs.declared.error.OpenError.TheVariants.{Terms}
+
+-- 1 where the answer is no, 3 where a file, a stream or a request for memory fails
+abbrev pub status_of : Failure → ℕ
+status_of NoPassword = 1
+status_of LongPassword = 1
+status_of Name = 1
+status_of (Account error) = 1
+status_of (Line number error) = 1
+status_of _ = 3
+
+-- a request for memory was refused
+abbrev pub IsMemory : Failure → Type 0
+IsMemory (Memory refused) = ⊤
+IsMemory _ = ⊥
+
+-- the failure by a call that refuses: out of memory is reported as that
+abbrev pub IsOfAccount : AccountError → Failure → Type 0
+IsOfAccount refusal (Memory refused) = refusal ≡ Refused OutOfMemory
+IsOfAccount refusal (Account error) = (error ≡ refusal) × (refusal ≢ Refused OutOfMemory)
+IsOfAccount refusal _ = ⊥
+
+-- the failure by a call on a file
+abbrev pub IsOfFile : FileError → Failure → Type 0
+IsOfFile (file.Account refusal) failure = IsOfAccount refusal failure
+IsOfFile error failure = status_of failure ≡ 3
+
+-- the failure by an open
+abbrev pub IsOfOpen : OpenError → Failure → Type 0
+IsOfOpen (Terms refusal) failure = IsOfAccount refusal failure
+IsOfOpen error failure = status_of failure ≡ 3

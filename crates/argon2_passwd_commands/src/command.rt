@@ -1,0 +1,42 @@
+//! What the program is asked for.
+
+use crate::options::Options;
+
+/// What the program is asked for.
+#[derive(Clone, Copy)]
+pub enum Command<'a> {
+    /// `hash`: a text for a password.
+    Hash(Options<'a>),
+    /// `check TEXT`: whether a text accepts a password.
+    Check(Options<'a>, &'a str),
+    /// `verify FILE NAME`: whether the text of a name in a file accepts a password.
+    Verify(Options<'a>, &'a str, &'a str),
+    /// `register FILE NAME` and others: a change of the text of a name in a file.
+    Edit(Options<'a>, &'a str, Edit, &'a str),
+    /// `list FILE` or `export FILE`: what a file has.
+    Show(Options<'a>, &'a str, View),
+    /// `import FILE`: names with their texts for a file.
+    Import(Options<'a>, &'a str),
+}
+
+/// What is done to the text of a name.
+#[derive(Clone, Copy)]
+pub enum Edit {
+    /// A new name gets a text of a password.
+    Register,
+    /// The name gets a text of another password, where its text accepts the old one.
+    Change,
+    /// The name gets a text of another password.
+    Set,
+    /// The name and its text are removed.
+    Remove,
+}
+
+/// What is written of a file.
+#[derive(Clone, Copy)]
+pub enum View {
+    /// The names.
+    Names,
+    /// The names with their texts.
+    Texts,
+}

@@ -1,0 +1,14 @@
+//! What `argon2-passwd` does for each command.
+#![tactic(auto)]
+
+mod command;
+mod entries;
+mod failure;
+mod options;
+mod outside;
+mod passwords;
+pub mod run;
+
+pub use command::{Command, Edit, View};
+pub use options::Options;
+pub use outside::{Machine, Outside};

@@ -1,0 +1,135 @@
+//! Where the program finds the secret, random bytes and accounts.
+
+use crate::failure::Failure;
+use argon2::Argon2;
+use argon2::bound::Bound;
+use argon2_store::{AccountFile, AccountsAt};
+use sqlite_std_file::{FileFrom, Wary};
+use sqlite_store::FileStore;
+use sqlite_trees::store::Store;
+use std::alloc::AllocError;
+use std::fs;
+use std::io::{ErrorKind, Read};
+use std::random::RandomSource;
+
+// The most bytes that a secret may have.
+const LONGEST_SECRET: usize = 4096;
+
+/// Where the program finds the secret, random bytes and accounts. It opens one file.
+pub trait Outside {
+    ghost use Rattle.std.specs.Prelude.{◌≡◌, ℕ, List, IfErr, IfOk, OnErr};
+    ghost use Rattle.argon2_accounts.specs.Accounts.{AreTerms};
+    ghost use Rattle.argon2.specs.NamedTexts.{Store as Texts};
+    ghost use Rattle.argon2.specs.Made.{target_of};
+    ghost use Rattle.argon2_store.specs.AccountFile.{IsReady, names_of};
+    ghost use Rattle.argon2_passwd_commands.specs.Failures.{status_of};
+
+    /// The store of a file with accounts.
+    type File: Store + Drop;
+
+    // The file at a path has these bytes.
+    ghost holds: { List ℕ → List ℕ → Type 0 };
+
+    // The file at a path has these names with their texts.
+    ghost keeps: { List ℕ → Texts → Type 0 };
+
+    // No file with accounts was opened.
+    ghost unopened: { Self → Type 0 };
+
+    /// The secret in the file at a path.
+    ///
+    /// # Errors
+    /// The file can't be read, or has not 1 to 4096 bytes.
+    fn secret(&self, path: &str) -> Result<Vec<u8>, Failure>
+        ensures held { IfOk result (λ secret. holds path.now secret.items) }
+        ensures failed { IfErr result (λ failure. status_of failure ≡ 3) };
+
+    /// Random bytes to start a generator with.
+    ///
+    /// # Errors
+    /// The system gives none.
+    fn seed(&self) -> Result<[u8; 32], Failure>
+        ensures { IfErr result (λ failure. status_of failure ≡ 3) };
+
+    /// The accounts in the file at a path, which is made where there is none.
+    ///
+    /// # Errors
+    /// The target asks for more than the bound, and the file is left alone; or the file can't be opened.
+    fn open<'key>(
+        &mut self,
+        path: &str,
+        target: Argon2<'key>,
+        bound: Bound,
+    ) -> Result<AccountFile<'key, Self::File>, Failure>
+        requires { unopened self.old }
+        ensures kept { IfOk result (λ file. keeps path.now (names_of file)) }
+        ensures ready { IfOk result
+            (IsReady (record { target = target_of target.entry; bound = bound })) }
+        ensures refused { IfErr result (λ failure. status_of failure ≡ 1
+            → ¬ (AreTerms (record { target = target_of target.entry; bound = bound }))) }
+        ensures untouched { OnErr result (unopened self.new) };
+}
+
+/// The machine that the program runs on.
+#[derive(Drop)]
+pub struct Machine<'a> {
+    rt: &'a HostRuntime,
+}
+
+impl<'a> Machine<'a> {
+    /// The machine of this runtime.
+    pub fn new(rt: &'a HostRuntime) -> Machine<'a> {
+        Machine { rt }
+    }
+}
+
+impl Outside for Machine<'_> {
+    ghost use Rattle.std.specs.Prelude.{◌≤◌, length, ⊤};
+
+    type File = FileStore<FileFrom<Wary>>;
+
+    // Of a secret only the length is known.
+    ghost holds = { λ path secret. (1 ≤ length secret) × (length secret ≤ 4096) };
+
+    // Of names nothing is known.
+    ghost keeps = { λ path names. ⊤ };
+
+    ghost unopened = { λ machine. ⊤ };
+
+    fn secret(&self, path: &str) -> Result<Vec<u8>, Failure> {
+        let mut secret = Vec::new(self.rt.alloc());
+        let file = fs::open(self.rt, path).or(Err(Failure::Secret))?;
+        match file
+            .take(LONGEST_SECRET as u64 + 1)
+            .read_to_end(&mut secret)
+        {
+            Ok(_) => {}
+            Err(e) if e.kind() == ErrorKind::OutOfMemory => return Err(Failure::from(AllocError)),
+            Err(_) => return Err(Failure::Secret),
+        }
+        if secret.is_empty() || secret.len() > LONGEST_SECRET {
+            return Err(Failure::SecretLength);
+        }
+        Ok(secret)
+    }
+
+    fn seed(&self) -> Result<[u8; 32], Failure> {
+        let mut seed = [0; 32];
+        match self.rt.fill_bytes(&mut seed) {
+            Ok(()) => Ok(seed),
+            Err(_) => Err(Failure::Random),
+        }
+    }
+
+    fn open<'key>(
+        &mut self,
+        path: &str,
+        target: Argon2<'key>,
+        bound: Bound,
+    ) -> Result<AccountsAt<'key, Wary>, Failure> {
+        match AccountFile::open(self.rt, path, Wary, target, bound) {
+            Ok(accounts) => Ok(accounts),
+            Err(error) => Err(Failure::from(error)),
+        }
+    }
+}

@@ -1,0 +1,221 @@
+//! The program over any world outside it and any streams.
+
+ghost use Rattle.std.specs.Prelude.{◌≡◌, ◌⊎◌, ◌++◌, ◌∷◌, [], ℕ, List, IfErr, IfOk, OnOk, string_bytes};
+ghost use Rattle.std.specs.Io.KnownBytes.{Appends, Keeps};
+ghost use Rattle.argon2_accounts.specs.Accounts.{AreTerms, terms_of};
+ghost use Rattle.argon2.specs.Login.{accepted_text};
+ghost use Rattle.argon2.specs.Made.{target_of};
+ghost use Rattle.argon2_passwd_commands.specs.Answers.{Denies, HasNone, IsAnswered, IsCheckReply, IsHashReply, IsLeft, IsOnce, IsRefused, IsRefusedBy, IsSecret, terms_by};
+ghost use Rattle.argon2_passwd_commands.specs.Asked.{asked, choices_of};
+ghost use Rattle.argon2_passwd_commands.specs.Failures.{status_of};
+
+use crate::command::Command;
+use crate::failure::Failure;
+use crate::options::Options;
+use crate::outside::Outside;
+use argon2::login::Accepted;
+use argon2::{Algorithm, Argon2, Version};
+use argon2_accounts::Policy;
+use rand_chacha::ChaCha20Rng;
+use rand_core::SeedableRng;
+use std::alloc::Global;
+use std::io::{BufRead, Write};
+
+mod accounts;
+mod texts;
+
+/// The name of the program.
+pub const PROGRAM: &str = "argon2-passwd";
+
+/// Answers a command, and returns the exit status.
+///
+/// Status 0: the answer is written to `output`, and nothing to `errors`. Status 1: the password, the name
+/// or a line is refused, or the parameters are above the bound. Status 3: a file, a stream, random bytes or a
+/// request for memory failed.
+/// With 1 and 3 the failure's text is written to `errors`, and with 1 nothing to `output`. If `errors`
+/// can't be written, the status stays. `left` is the store of the file that was opened; whatever the status, one call
+/// of the command is all that was done with it.
+pub fn run<P: Outside, R: BufRead, W: Write, E: Write>(
+    alloc: Global,
+    command: Command<'_>,
+    outside: &mut P,
+    left: &mut Option<P::File>,
+    input: &mut R,
+    output: &mut W,
+    errors: &mut E,
+) -> u8
+    requires { P.unopened outside.old }
+    ensures status { (result ≡ 0) ⊎ (result ≡ 1) ⊎ (result ≡ 3) }
+    ensures answered { result ≡ 0 → IsAnswered P.File.Store P.holds P.keeps (asked command.entry)
+        (R.remaining input.old) (W.contents output.old) (W.contents output.new)
+        (IsLeft (P.unopened outside.new) left.new) }
+    ensures quiet { result ≡ 0 → Keeps (E.contents errors.old) (E.contents errors.new) }
+    ensures refused { result ≡ 1 → IsRefused P.File.Store P.holds P.keeps (asked command.entry)
+        (R.remaining input.old) (IsLeft (P.unopened outside.new) left.new)
+        × Keeps (W.contents output.old) (W.contents output.new) }
+    ensures once { IsOnce P.File.Store P.holds P.keeps (asked command.entry)
+        (R.remaining input.old) (IsLeft (P.unopened outside.new) left.new) }
+{
+    match answer(alloc, command, outside, left, input, output) {
+        Ok(()) => 0,
+        Err(failure) => fail(errors, &failure),
+    }
+}
+
+// Says why the program fails, and returns the exit status.
+fn fail<E: Write>(errors: &mut E, failure: &Failure) -> u8
+    ensures value { result ≡ status_of failure.now }
+    ensures one { (result ≡ 1) ⊎ (result ≡ 3) }
+{
+    let _ = writeln!(errors, "{PROGRAM}: {failure}");
+    failure.status()
+}
+
+// Answers a command.
+fn answer<P: Outside, R: BufRead, W: Write>(
+    alloc: Global,
+    command: Command<'_>,
+    outside: &mut P,
+    left: &mut Option<P::File>,
+    input: &mut R,
+    output: &mut W,
+) -> Result<(), Failure>
+    requires { P.unopened outside.old }
+    ensures ok { OnOk result (IsAnswered P.File.Store P.holds P.keeps (asked command.entry)
+        (R.remaining input.old) (W.contents output.old) (W.contents output.new)
+        (IsLeft (P.unopened outside.new) left.new)) }
+    ensures err { IfErr result (λ failure. status_of failure ≡ 1
+        → IsRefused P.File.Store P.holds P.keeps (asked command.entry) (R.remaining input.old)
+        (IsLeft (P.unopened outside.new) left.new)
+        × Keeps (W.contents output.old) (W.contents output.new)) }
+    ensures once { IsOnce P.File.Store P.holds P.keeps (asked command.entry)
+        (R.remaining input.old) (IsLeft (P.unopened outside.new) left.new) }
+{
+    match command {
+        Command::Hash(options) => {
+            let text = hash(alloc, &options, outside, input)?;
+            write_line(output, text.as_str())
+        }
+        Command::Check(options, text) => {
+            let reply = check(alloc, &options, outside, text, input)?;
+            write_line(output, reply.as_str())
+        }
+        Command::Verify(options, file, name) => {
+            let accepted = accounts::verify(alloc, &options, outside, left, file, name, input)?;
+            write_accepted(output, accepted)
+        }
+        Command::Edit(options, file, edit, name) => accounts::edit(
+            alloc, &options, outside, left, file, edit, name, input,
+        ),
+        Command::Show(options, file, view) => accounts::show(
+            alloc, &options, outside, left, file, view, output,
+        ),
+        Command::Import(options, file) => accounts::import(
+            alloc, &options, outside, left, file, input,
+        ),
+    }
+}
+
+// A text for the next password.
+fn hash<P: Outside, R: BufRead>(
+    alloc: Global,
+    options: &Options<'_>,
+    outside: &P,
+    input: &mut R,
+) -> Result<String, Failure>
+    ensures ok { IfOk result (λ text. (secret drawn : List ℕ)
+        × IsSecret P.holds (choices_of options.now).secret_file secret
+        × IsHashReply (terms_by (choices_of options.now) secret) drawn (R.remaining input.old)
+        (string_bytes text)) }
+    ensures err { IfErr result (λ failure. status_of failure ≡ 1
+        → IsRefusedBy P.holds (choices_of options.now)
+        (λ terms. HasNone (R.remaining input.old))) }
+{
+    let secret = secret(alloc, outside, options)?;
+    let policy = policy(alloc, options, secret.as_slice())?;
+    let mut rng = ChaCha20Rng::from_seed(outside.seed()?);
+    texts::hash(alloc, &policy, &mut rng, input)
+}
+
+// What a text does with the next password.
+fn check<P: Outside, R: BufRead>(
+    alloc: Global,
+    options: &Options<'_>,
+    outside: &P,
+    text: &str,
+    input: &mut R,
+) -> Result<String, Failure>
+    ensures ok { IfOk result (λ reply. (secret drawn : List ℕ)
+        × IsSecret P.holds (choices_of options.now).secret_file secret
+        × IsCheckReply (terms_by (choices_of options.now) secret) drawn text.now
+        (R.remaining input.old) (string_bytes reply)) }
+    ensures err { IfErr result (λ failure. status_of failure ≡ 1
+        → IsRefusedBy P.holds (choices_of options.now)
+        (λ terms. Denies terms text.now (R.remaining input.old))) }
+{
+    let secret = secret(alloc, outside, options)?;
+    let policy = policy(alloc, options, secret.as_slice())?;
+    let mut rng = ChaCha20Rng::from_seed(outside.seed()?);
+    texts::check(alloc, &policy, &mut rng, text, input)
+}
+
+// The secret that the options name, none where they name no file.
+fn secret<P: Outside>(alloc: Global, outside: &P, options: &Options<'_>) -> Result<Vec<u8>, Failure>
+    ensures ok { IfOk result (λ secret.
+        IsSecret P.holds (choices_of options.now).secret_file secret.items) }
+    ensures err { IfErr result (λ failure. status_of failure ≡ 3) }
+{
+    match options.secret_file {
+        None => Ok(Vec::new(alloc)),
+        Some(path) => outside.secret(path),
+    }
+}
+
+// What new texts are made under.
+fn target<'key>(options: &Options<'_>, secret: &'key [u8]) -> Result<Argon2<'key>, Failure>
+    ensures ok { IfOk result (λ argon2.
+        target_of argon2 ≡ (terms_by (choices_of options.now) secret.now).target) }
+    ensures err { IfErr result (λ failure. status_of failure ≡ 3) }
+{
+    let (algorithm, version) = (Algorithm::Argon2id, Version::V0x13);
+    match Argon2::new_with_secret(secret, algorithm, version, options.params) {
+        Ok(argon2) => Ok(argon2),
+        Err(_) => Err(Failure::SecretLength),
+    }
+}
+
+// What new texts are made under, and the bound.
+fn policy<'key>(
+    alloc: Global,
+    options: &Options<'_>,
+    secret: &'key [u8],
+) -> Result<Policy<'key>, Failure>
+    ensures ok { IfOk result (λ policy.
+        terms_of policy ≡ terms_by (choices_of options.now) secret.now) }
+    ensures err { IfErr result (λ failure. status_of failure ≡ 1
+        → ¬ (AreTerms (terms_by (choices_of options.now) secret.now))) }
+{
+    Ok(Policy::new(alloc, target(options, secret)?, options.bound())?)
+}
+
+// Writes a line.
+fn write_line<W: Write>(output: &mut W, text: &str) -> Result<(), Failure>
+    ensures err { IfErr result (λ failure. failure ≡ Failure.Output) }
+    ensures ok { OnOk result (Appends (W.contents output.old) (W.contents output.new)
+        (text.now ++ 10 ∷ [])) }
+{
+    writeln!(output, "{text}")?;
+    output.flush()?;
+    Ok(())
+}
+
+// Writes what a login did.
+fn write_accepted<W: Write>(output: &mut W, accepted: Accepted) -> Result<(), Failure>
+    ensures err { IfErr result (λ failure. failure ≡ Failure.Output) }
+    ensures ok { OnOk result (Appends (W.contents output.old) (W.contents output.new)
+        (accepted_text accepted ++ 10 ∷ [])) }
+{
+    writeln!(output, "{accepted}")?;
+    output.flush()?;
+    Ok(())
+}

@@ -1,0 +1,281 @@
+//! Accounts in a file.
+
+ghost use Rattle.std.specs.Prelude.{◌≡◌, ◌⊎◌, Ok, None, IfErr, IfOk, OnErr, OnOk, map};
+ghost use Rattle.std.specs.FinMap.{entries};
+ghost use Rattle.std.specs.Io.KnownBytes.{Appends, Keeps};
+ghost use Rattle.rand_core.specs.Stream.{fill_bytes};
+ghost use Rattle.argon2_accounts.specs.Accounts.{AreTerms};
+ghost use Rattle.argon2_base.specs.PhcFields.{phc_of};
+ghost use Rattle.argon2_store.specs.AccountFile.{AddsOrNone, Serves, names_of};
+ghost use Rattle.argon2_store.specs.Adding.{entry_of};
+ghost use Rattle.argon2_passwd_commands.specs.Answers.{AreRead, AreUnread, IsAdded, IsEdited, IsImported, IsLeft, IsLogin, IsOnce, IsOpened, IsRead, IsRefused, IsRefusedBy, RefusesLine, breaks_lines, call_of, entry_line, lines_of, terms_by};
+ghost use Rattle.argon2_passwd_commands.specs.Asked.{Asked, choices_of};
+ghost use Rattle.argon2_passwd_commands.specs.Failures.{status_of};
+
+use super::{secret, target};
+use crate::command::{Edit, View};
+use crate::entries::{entries, read_all};
+use crate::failure::Failure;
+use crate::options::Options;
+use crate::outside::Outside;
+use crate::passwords::password;
+use argon2::PasswordHash;
+use argon2::login::Accepted;
+use argon2_store::{AccountFile, FileError};
+use rand_chacha::ChaCha20Rng;
+use rand_core::{Rng, SeedableRng};
+use sqlite_trees::store::Store;
+use std::alloc::Global;
+use std::io::{self, BufRead, Write};
+
+/// What a name's text in a file does with the next password, where it accepts it.
+pub fn verify<P: Outside, R: BufRead>(
+    alloc: Global,
+    options: &Options<'_>,
+    outside: &mut P,
+    left: &mut Option<P::File>,
+    file: &str,
+    name: &str,
+    input: &mut R,
+) -> Result<Accepted, Failure>
+    requires { P.unopened outside.old }
+    ensures ok { IfOk result (λ accepted. IsLogin P.File.Store P.holds P.keeps
+        (choices_of options.now) file.now name.now (Ok accepted) (R.remaining input.old)
+        (IsLeft (P.unopened outside.new) left.new)) }
+    ensures err { IfErr result (λ failure. status_of failure ≡ 1
+        → IsRefused P.File.Store P.holds P.keeps
+        (Asked.verify (choices_of options.now) file.now name.now) (R.remaining input.old)
+        (IsLeft (P.unopened outside.new) left.new)) }
+    ensures once { IsOnce P.File.Store P.holds P.keeps
+        (Asked.verify (choices_of options.now) file.now name.now) (R.remaining input.old)
+        (IsLeft (P.unopened outside.new) left.new) }
+{
+    let password = password(alloc, input)?;
+    let secret = secret(alloc, outside, options)?;
+    let mut rng = ChaCha20Rng::from_seed(outside.seed()?);
+    let mut accounts = open(options, outside, file, secret.as_slice())?;
+    let done = accounts.login(&mut rng, name, password.as_slice());
+    *left = Some(accounts.into_store());
+    Ok(done?)
+}
+
+/// Changes the text of a name in a file, by the next passwords.
+pub fn edit<P: Outside, R: BufRead>(
+    alloc: Global,
+    options: &Options<'_>,
+    outside: &mut P,
+    left: &mut Option<P::File>,
+    file: &str,
+    edit: Edit,
+    name: &str,
+    input: &mut R,
+) -> Result<(), Failure>
+    requires { P.unopened outside.old }
+    ensures ok { OnOk result (IsEdited P.File.Store P.holds P.keeps (choices_of options.now)
+        file.now edit name.now (Ok tt) (R.remaining input.old)
+        (IsLeft (P.unopened outside.new) left.new)) }
+    ensures err { IfErr result (λ failure. status_of failure ≡ 1
+        → IsRefused P.File.Store P.holds P.keeps
+        (Asked.edit (choices_of options.now) file.now edit name.now) (R.remaining input.old)
+        (IsLeft (P.unopened outside.new) left.new)) }
+    ensures once { IsOnce P.File.Store P.holds P.keeps
+        (Asked.edit (choices_of options.now) file.now edit name.now) (R.remaining input.old)
+        (IsLeft (P.unopened outside.new) left.new) }
+{
+    if breaks_lines(edit, name) {
+        return Err(Failure::Name);
+    }
+    let (first, second) = passwords(alloc, edit, input)?;
+    let secret = secret(alloc, outside, options)?;
+    let mut rng = ChaCha20Rng::from_seed(outside.seed()?);
+    let mut accounts = open(options, outside, file, secret.as_slice())?;
+    let done = call(
+        &mut accounts,
+        &mut rng,
+        edit,
+        name,
+        first.as_slice(),
+        second.as_slice(),
+    );
+    *left = Some(accounts.into_store());
+    Ok(done?)
+}
+
+/// Writes what a file has, a line for each name.
+pub fn show<P: Outside, W: Write>(
+    alloc: Global,
+    options: &Options<'_>,
+    outside: &mut P,
+    left: &mut Option<P::File>,
+    file: &str,
+    view: View,
+    output: &mut W,
+) -> Result<(), Failure>
+    requires { P.unopened outside.old }
+    ensures ok { OnOk result (IsRead P.File.Store P.holds P.keeps (choices_of options.now)
+        file.now (λ names. Appends (W.contents output.old) (W.contents output.new)
+        (lines_of view (entries names))) (IsLeft (P.unopened outside.new) left.new)) }
+    ensures err { IfErr result (λ failure. status_of failure ≡ 1
+        → IsRefused P.File.Store P.holds P.keeps
+        (Asked.show (choices_of options.now) file.now view) None
+        (IsLeft (P.unopened outside.new) left.new)
+        × Keeps (W.contents output.old) (W.contents output.new)) }
+    ensures once { IsOnce P.File.Store P.holds P.keeps
+        (Asked.show (choices_of options.now) file.now view) None
+        (IsLeft (P.unopened outside.new) left.new) }
+{
+    let secret = secret(alloc, outside, options)?;
+    let accounts = open(options, outside, file, secret.as_slice())?;
+    let written = write_all(&accounts, view, output);
+    *left = Some(accounts.into_store());
+    Ok(written?)
+}
+
+/// Adds all names and texts of the input, each a line, to a file, or none.
+pub fn import<P: Outside, R: BufRead>(
+    alloc: Global,
+    options: &Options<'_>,
+    outside: &mut P,
+    left: &mut Option<P::File>,
+    file: &str,
+    input: &mut R,
+) -> Result<(), Failure>
+    requires { P.unopened outside.old }
+    ensures ok { OnOk result (IsImported P.File.Store P.holds P.keeps (choices_of options.now)
+        file.now (λ es. AddsOrNone es (Ok tt)) (R.remaining input.old)
+        (IsLeft (P.unopened outside.new) left.new)) }
+    ensures err { IfErr result (λ failure. status_of failure ≡ 1
+        → (IsRefusedBy P.holds (choices_of options.now) (λ terms. ⊥) × P.unopened outside.new)
+        ⊎ IsImported P.File.Store P.holds P.keeps (choices_of options.now) file.now
+        (RefusesLine failure) (R.remaining input.old) (IsLeft (P.unopened outside.new) left.new)) }
+    ensures once { IsOnce P.File.Store P.holds P.keeps
+        (Asked.import (choices_of options.now) file.now) (R.remaining input.old)
+        (IsLeft (P.unopened outside.new) left.new) }
+{
+    let bytes = read_all(alloc, input)?;
+    let entries = entries(alloc, bytes.as_slice())?;
+    let secret = secret(alloc, outside, options)?;
+    let mut accounts = open(options, outside, file, secret.as_slice())?;
+    let added = add_all(&mut accounts, entries.as_slice());
+    *left = Some(accounts.into_store());
+    added
+}
+
+// The accounts in a file, which is left alone where the parameters are above the bound.
+fn open<'key, P: Outside>(
+    options: &Options<'_>,
+    outside: &mut P,
+    file: &str,
+    secret: &'key [u8],
+) -> Result<AccountFile<'key, P::File>, Failure>
+    requires { P.unopened outside.old }
+    ensures ok { IfOk result (IsOpened P.keeps file.now
+        (terms_by (choices_of options.now) secret.now)) }
+    ensures err { IfErr result (λ failure. status_of failure ≡ 1
+        → ¬ (AreTerms (terms_by (choices_of options.now) secret.now))) }
+    ensures untouched { OnErr result (P.unopened outside.new) }
+{
+    outside.open(file, target(options, secret)?, options.bound())
+}
+
+// Whether the name of a new text would break the lines that show it.
+fn breaks_lines(edit: Edit, name: &str) -> bool
+    ensures { result ≡ breaks_lines edit name.now }
+{
+    match edit {
+        Edit::Register => name.as_bytes().contains(&b'\n') || name.as_bytes().contains(&b':'),
+        _ => false,
+    }
+}
+
+// The passwords that a change takes: the first line, and the one after it where there are two.
+fn passwords<R: BufRead>(
+    alloc: Global,
+    edit: Edit,
+    input: &mut R,
+) -> Result<(Vec<u8>, Vec<u8>), Failure>
+    ensures ok { IfOk result (λ read.
+        AreRead edit (R.remaining input.old) read.0.items read.1.items) }
+    ensures err { IfErr result (λ failure. status_of failure ≡ 1
+        → AreUnread edit (R.remaining input.old)) }
+{
+    match edit {
+        Edit::Remove => Ok((Vec::new(alloc), Vec::new(alloc))),
+        Edit::Change => {
+            let old = password(alloc, input)?;
+            Ok((old, password(alloc, input)?))
+        }
+        _ => Ok((password(alloc, input)?, Vec::new(alloc))),
+    }
+}
+
+// Changes the text of a name.
+fn call<S: Store, G: Rng>(
+    accounts: &mut AccountFile<'_, S>,
+    rng: &mut G,
+    edit: Edit,
+    name: &str,
+    first: &[u8],
+    second: &[u8],
+) -> Result<(), FileError>
+    ensures { Serves (call_of edit name.now first.now second.now
+        (fill_bytes 16 (G.stream rng.old)).0) result accounts.old accounts.new }
+{
+    match edit {
+        Edit::Register => accounts.register(rng, name, first),
+        Edit::Change => accounts.change_password(rng, name, first, second),
+        Edit::Set => accounts.set_password(rng, name, first),
+        Edit::Remove => accounts.remove(name),
+    }
+}
+
+// Adds all entries, each a line, or none.
+fn add_all<S: Store>(
+    accounts: &mut AccountFile<'_, S>,
+    entries: &[(&str, &str)],
+) -> Result<(), Failure>
+    ensures ok { OnOk result
+        (AddsOrNone (map entry_of entries.now) (Ok tt) accounts.old accounts.new) }
+    ensures err { IfErr result (λ failure. status_of failure ≡ 1
+        → RefusesLine failure (map entry_of entries.now) accounts.old accounts.new) }
+    ensures once { IsAdded (map entry_of entries.now) accounts.old accounts.new }
+{
+    match accounts.add_all(entries) {
+        Ok(()) => Ok(()),
+        Err((index, error)) => match Failure::from(error) {
+            Failure::Account(why) => Err(Failure::Line(index + 1, why)),
+            failure => Err(failure),
+        },
+    }
+}
+
+// Writes a line for each name.
+fn write_all<S: Store, W: Write>(
+    accounts: &AccountFile<'_, S>,
+    view: View,
+    output: &mut W,
+) -> io::Result<()>
+    ensures { OnOk result (Appends (W.contents output.old) (W.contents output.new)
+        (lines_of view (entries (names_of accounts.now)))) }
+{
+    for (name, hash) in accounts.texts() {
+        write_entry(view, name.as_str(), hash, output)?;
+    }
+    output.flush()
+}
+
+// Writes the line of a name.
+fn write_entry<W: Write>(
+    view: View,
+    name: &str,
+    hash: &PasswordHash,
+    output: &mut W,
+) -> io::Result<()>
+    ensures { OnOk result (Appends (W.contents output.old) (W.contents output.new)
+        (entry_line view (name.now, phc_of hash.now))) }
+{
+    match view {
+        View::Names => writeln!(output, "{name}"),
+        View::Texts => writeln!(output, "{name}:{hash}"),
+    }
+}
