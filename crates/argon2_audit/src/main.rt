@@ -1,7 +1,8 @@
 //! `argon2-audit`: says which lines of its input store passwords below a policy.
 #![tactic(auto)]
 
-use argon2_commands::{Failure, answer, words};
+use argon2_commands::{answer, words};
+use argon2_failure::Failure;
 use inputs::Inputs;
 use run::PROGRAM;
 use std::alloc::AllocError;

@@ -7,7 +7,7 @@ ghost use Rattle.argon2_audit.specs.Session.{IsAudit, IsTallied};
 use crate::inputs::Named;
 use crate::options::Options;
 use crate::session::Session;
-use argon2_commands::Failure;
+use argon2_failure::Failure;
 use std::alloc::Global;
 use std::io::{ErrorKind, Read, Write};
 

@@ -4,7 +4,7 @@ use crate::audit::Audit;
 use crate::line::Line;
 use crate::options::Options;
 use crate::report::Report;
-use argon2_commands::Failure;
+use argon2_failure::Failure;
 use std::alloc::Global;
 use std::io::Write;
 

@@ -10,7 +10,7 @@ use crate::choice::Found;
 use crate::options::Options;
 use crate::search::search;
 use crate::stopwatch::Stopwatch;
-use argon2_commands::Failure;
+use argon2_failure::Failure;
 use json::Writer;
 use std::alloc::{AllocError, Global};
 use std::io::Write;

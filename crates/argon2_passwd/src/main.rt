@@ -1,7 +1,8 @@
 //! `argon2-passwd`: texts for passwords, and what they say of a password.
 #![tactic(auto)]
 
-use argon2_commands::{Failure, answer, words};
+use argon2_commands::{answer, words};
+use argon2_failure::Failure;
 use argon2_passwd_commands::Machine;
 use argon2_passwd_commands::run::{PROGRAM, run};
 use std::alloc::AllocError;

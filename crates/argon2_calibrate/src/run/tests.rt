@@ -1,7 +1,8 @@
 use super::run;
 use crate::options::Options;
 use crate::stopwatch::{Machine, Stopwatch};
-use argon2_commands::{Failure, answer};
+use argon2_commands::answer;
+use argon2_failure::Failure;
 use std::alloc::{AllocError, Global};
 use std::io;
 use std::io::{ErrorKind, Write};

@@ -1,4 +1,5 @@
-//! Why a program fails.
+//! Why the programs fail, and what they print then.
+#![tactic(auto)]
 
 ghost use Rattle.std.specs.Prelude.{◌≡◌};
 
@@ -45,7 +46,7 @@ impl Failure {
 }
 
 impl From<AllocError> for Failure {
-    ghost use Rattle.argon2_commands.specs.declared.failure.Failure.TheVariants.{Memory};
+    ghost use Rattle.argon2_failure.specs.declared.Failure.TheVariants.{Memory};
 
     ghost from_gives = { λ refused failure. failure ≡ Memory refused };
 
@@ -55,7 +56,7 @@ impl From<AllocError> for Failure {
 }
 
 impl From<io::Error> for Failure {
-    ghost use Rattle.argon2_commands.specs.declared.failure.Failure.TheVariants.{Output};
+    ghost use Rattle.argon2_failure.specs.declared.Failure.TheVariants.{Output};
 
     ghost from_gives = { λ error failure. failure ≡ Output error };
 
