@@ -1,10 +1,8 @@
 //! The options of the command line, and the names of files.
 
-use crate::options::{Form, Options};
-use crate::place::Place;
-use crate::policy::Policy;
-use crate::run::PROGRAM;
 use argon2::Algorithm;
+use argon2_audit_report::run::PROGRAM;
+use argon2_audit_report::{Form, Options, Place, Policy};
 use argon2_commands::invalid;
 use clap::{Arg, ArgAction, ArgMatches, Command, Error, value_parser};
 use std::alloc::{AllocError, Global};

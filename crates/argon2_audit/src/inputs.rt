@@ -1,14 +1,9 @@
 //! What is read: files one after another.
 
+use argon2_audit_report::run::Named;
 use std::fs::File;
 use std::io::{Read, Stdin};
 use std::{fs, io};
-
-/// Something that is read and has a name for errors.
-pub trait Named {
-    /// The path of the file that is read or can't be opened, or `standard input`.
-    fn name(&self) -> &str;
-}
 
 /// A file, or standard input.
 #[derive(Drop)]

@@ -1,32 +1,16 @@
 //! `argon2-audit`: says which lines of its input store passwords below a policy.
 #![tactic(auto)]
 
+use argon2_audit_report::run::{PROGRAM, run};
 use argon2_commands::{answer, words};
 use argon2_failure::Failure;
 use inputs::Inputs;
-use run::PROGRAM;
 use std::alloc::AllocError;
 use std::io::{BufWriter, IsTerminal};
 use std::process::ExitCode;
 
 mod arguments;
-mod audit;
-mod claim;
-mod entry;
-mod finding;
 mod inputs;
-mod line;
-mod options;
-mod place;
-mod policy;
-mod remark;
-mod report;
-mod run;
-mod seen;
-mod session;
-mod tally;
-
-pub use run::run;
 
 fn main(rt: HostRuntime) -> ExitCode {
     let mut errors = rt.stderr();

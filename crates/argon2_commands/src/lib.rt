@@ -1,8 +1,6 @@
-//! What the programs share: their arguments, and members of JSON objects.
+//! The arguments of the programs.
 #![tactic(auto)]
 
 mod arguments;
-mod members;
 
 pub use arguments::{answer, invalid, words};
-pub use members::write_number;

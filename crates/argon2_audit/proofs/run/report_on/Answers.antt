@@ -1,7 +1,0 @@
-use Rattle.argon2_audit.proofs.Sessions.{audit_of}
-use Rattle.argon2_audit.proofs.run.report_on.Goals as goal
-
-pub returns-clause-audit : goal.returns-clause-audit
-returns-clause-audit g c =
-    audit_of c.args.options (g.R.Read.remaining c.args.input.now) _ c.is_clean.result c.in_ok-session.ensures.session
-    c.is_clean.ensures

@@ -1,9 +1,0 @@
-pub mod Claim
-pub mod Entry
-pub mod Finding
-pub mod Line
-pub mod Place
-pub mod Policy
-pub mod Seen
-pub mod Session
-pub mod Tally

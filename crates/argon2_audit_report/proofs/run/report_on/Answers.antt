@@ -1,0 +1,7 @@
+use Rattle.argon2_audit_report.proofs.Sessions.{audit_of}
+use Rattle.argon2_audit_report.proofs.run.report_on.Goals as goal
+
+pub returns-clause-audit : goal.returns-clause-audit
+returns-clause-audit g c =
+    audit_of c.args.options (g.R.Read.remaining c.args.input.now) _ c.is_clean.result c.in_ok-session.ensures.session
+    c.is_clean.ensures

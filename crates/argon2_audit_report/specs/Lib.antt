@@ -1,0 +1,11 @@
+pub mod Claim
+pub mod Entry
+pub mod Finding
+pub mod Line
+pub mod Members
+pub mod Place
+pub mod Policy
+pub mod Prefixes
+pub mod Seen
+pub mod Session
+pub mod Tally

@@ -1,0 +1,15 @@
+-- How a text begins.
+use Rattle.std.specs.Prelude.{ℕ, ◌==◌, Bool, List, [], ◌∷◌, drop, length, if◌then◌else◌}
+use Rattle.std.specs.List.{list_any, starts_with}
+
+abbrev pub begins : List ℕ → List ℕ → Bool
+begins text prefix = starts_with (λ a b. a == b) text prefix
+
+-- the text begins with one of these
+abbrev pub begins_any : List (List ℕ) → List ℕ → Bool
+begins_any prefixes text = list_any (begins text) prefixes
+
+-- what stands after the first of these that the text begins with, or all where there is none
+abbrev pub after_any : List (List ℕ) → List ℕ → List ℕ
+after_any [] text = text
+after_any (prefix ∷ prefixes) text = if begins text prefix then drop (length prefix) text else after_any prefixes text

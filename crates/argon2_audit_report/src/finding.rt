@@ -1,0 +1,149 @@
+//! What is found in a line.
+
+ghost use Rattle.std.specs.Prelude.{◌≤◌, length};
+ghost use Rattle.argon2_audit_report.specs.Finding.{IsFinding, IsTextFinding};
+
+use crate::claim::{Claim, claim_of, stored};
+use crate::entry::{Entry, shown};
+use crate::place::Place;
+use crate::policy::Policy;
+use argon2::password_hash::Error;
+
+/// What is found in a line.
+#[derive(Drop)]
+pub enum Finding {
+    /// The line has more bytes than any line may have.
+    TooLong,
+    /// The line claims to store something else than a text of Argon2.
+    Claimed(Claim),
+    /// The text claims to be Argon2's, and is not UTF-8.
+    NotUtf8,
+    /// The text claims to be Argon2's, and is outside the grammar, or shows what Argon2 does not have.
+    Refused(Error),
+    /// What the text shows.
+    Shown(Entry),
+}
+
+/// What a line counts as.
+#[derive(Clone, Copy)]
+pub enum Class {
+    /// It is too long, or its text claims to be Argon2's and is not.
+    Outside,
+    /// Its text has no hash.
+    NoHash,
+    /// Something of its text is below the policy.
+    Below,
+    /// Nothing of its text is.
+    Sound,
+    /// Its text is of another scheme.
+    Other,
+    /// It is locked.
+    Locked,
+    /// Its text is empty.
+    Empty,
+    /// It is blank.
+    Blank,
+    /// It is a comment.
+    Comment,
+    /// Its text is of no known scheme, or it lacks the field.
+    Unknown,
+}
+
+/// What is found in a line that is not too long.
+pub fn found(line: &[u8], place: Place) -> Finding
+    requires { length line.now ≤ 4096 }
+    ensures { IsFinding place line.now result }
+{
+    match claim_of(line, place) {
+        Claim::Argon2 => found_text(stored(line, place)),
+        claim => Finding::Claimed(claim),
+    }
+}
+
+// What is found in a text that claims to be Argon2's.
+fn found_text(text: &[u8]) -> Finding
+    ensures { IsTextFinding text.now result }
+{
+    let Ok(text) = str::from_utf8(text) else {
+        return Finding::NotUtf8;
+    };
+    match shown(text) {
+        Ok(entry) => Finding::Shown(entry),
+        Err(error) => Finding::Refused(error),
+    }
+}
+
+impl Finding {
+    ghost use Rattle.std.specs.Prelude.{◌≡◌};
+    ghost use Rattle.argon2_audit_report.specs.Finding.{class_of};
+
+    /// What a line of this finding counts as.
+    pub fn class(&self, policy: &Policy) -> Class
+        ensures { result ≡ class_of policy.now self.now }
+    {
+        match self {
+            Finding::Claimed(claim) => claim.class(),
+            Finding::Shown(entry) => {
+                if entry.hash_len.is_none() {
+                    Class::NoHash
+                } else if policy.shortfalls(entry).any() {
+                    Class::Below
+                } else {
+                    Class::Sound
+                }
+            }
+            _ => Class::Outside,
+        }
+    }
+}
+
+impl Class {
+    ghost use Rattle.std.specs.Prelude.{◌≡◌, ◌≤◌};
+    ghost use Rattle.argon2_audit_report.specs.Tally.{class_number, is_class, one_if};
+
+    /// 1 where this is the other class, and 0 where it is not.
+    pub fn one_if(self, other: Class) -> u64
+        ensures value { result ≡ one_if (is_class self other) }
+        ensures max { result ≤ 1 }
+    {
+        u64::from(self.number() == other.number())
+    }
+
+    // A number that no other class has.
+    fn number(self) -> u8
+        ensures { result ≡ class_number self }
+    {
+        match self {
+            Class::Outside => 0,
+            Class::NoHash => 1,
+            Class::Below => 2,
+            Class::Sound => 3,
+            Class::Other => 4,
+            Class::Locked => 5,
+            Class::Empty => 6,
+            Class::Blank => 7,
+            Class::Comment => 8,
+            Class::Unknown => 9,
+        }
+    }
+}
+
+impl Claim {
+    ghost use Rattle.std.specs.Prelude.{◌≡◌};
+    ghost use Rattle.argon2_audit_report.specs.Finding.{class_of_claim};
+
+    // What a line with this claim counts as.
+    fn class(self) -> Class
+        ensures { result ≡ class_of_claim self }
+    {
+        match self {
+            Claim::Argon2 => Class::Outside,
+            Claim::Other(_) => Class::Other,
+            Claim::Locked => Class::Locked,
+            Claim::Empty => Class::Empty,
+            Claim::Blank => Class::Blank,
+            Claim::Comment => Class::Comment,
+            Claim::NoField | Claim::Unknown => Class::Unknown,
+        }
+    }
+}

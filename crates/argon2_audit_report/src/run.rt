@@ -1,0 +1,111 @@
+//! The program over any streams.
+
+ghost use Rattle.std.specs.Prelude.{◌≡◌, ◌⊎◌, IfOk, IfSome, IsFalse, true, false};
+ghost use Rattle.std.specs.Io.KnownBytes.{Keeps};
+ghost use Rattle.argon2_audit_report.specs.Session.{IsAudit, IsTallied};
+
+use crate::options::Options;
+use crate::session::Session;
+use argon2_failure::Failure;
+use std::alloc::Global;
+use std::io::{ErrorKind, Read, Write};
+
+/// Something that is read and has a name for errors.
+pub trait Named {
+    /// The path of the file that is read or can't be opened, or `standard input`.
+    fn name(&self) -> &str;
+}
+
+/// The program's name.
+pub const PROGRAM: &str = "argon2-audit";
+
+// How many bytes are read at once.
+const PIECE: usize = 65536;
+
+// How often at the most, so that lines can be counted.
+const PIECES: u64 = 1 << 47;
+
+// How many pieces are read between two lines of progress.
+const STRIDE: u64 = 256;
+
+/// Audits the lines of `input`, and returns the exit status.
+///
+/// Status 0: the report is written, each line counts as sound and no two salts are equal. A text of another scheme, a
+/// locked line, a blank one and a comment count as sound only if the policy allows other schemes. Status 1: the report
+/// is written, and that is not so. Status 3: the failure's text is written to `errors`, which gets none if nobody reads
+/// `output` any more. If progress is to be shown, `errors` gets the number of lines read so far from time to time. If
+/// `errors` can't be written, the status stays.
+pub fn run<R: Read + Named, W: Write, E: Write>(
+    alloc: Global,
+    options: Options,
+    input: &mut R,
+    output: &mut W,
+    errors: &mut E,
+    shows_progress: bool,
+) -> u8
+    ensures status { (result ≡ 0) ⊎ (result ≡ 1) ⊎ (result ≡ 3) }
+    ensures passed { result ≡ 0 → IsAudit options (R.remaining input.old) true }
+    ensures refused { result ≡ 1 → IsAudit options (R.remaining input.old) false }
+    ensures quiet { IsFalse shows_progress → result ≡ 0
+        → Keeps (E.contents errors.old) (E.contents errors.new) }
+{
+    match report_on(alloc, options, input, output, errors, shows_progress) {
+        Ok(true) => 0,
+        Ok(false) => 1,
+        Err(failure) => failure.report(PROGRAM, input.name(), errors),
+    }
+}
+
+// Reads all lines, writes the report, and returns whether each line is sound and no two salts are equal.
+fn report_on<R: Read, W: Write, E: Write>(
+    alloc: Global,
+    options: Options,
+    input: &mut R,
+    output: &mut W,
+    errors: &mut E,
+    shows_progress: bool,
+) -> Result<bool, Failure>
+    ensures audit { IfOk result (IsAudit options (R.remaining input.old)) }
+    ensures quiet { IsFalse shows_progress → Keeps (E.contents errors.old) (E.contents errors.new) }
+{
+    let session = session_of(alloc, options, input, output, errors, shows_progress)?;
+    let tally = session.audit.tally;
+    session.end_report(output)?;
+    Ok(tally.is_clean(&options.policy))
+}
+
+// The session after all that is left in `input`.
+fn session_of<R: Read, W: Write, E: Write>(
+    alloc: Global,
+    options: Options,
+    input: &mut R,
+    output: &mut W,
+    errors: &mut E,
+    shows_progress: bool,
+) -> Result<Session, Failure>
+    ensures session { IfOk result (λ session. IfSome (R.remaining input.old)
+        (λ bytes. IsTallied options bytes session.audit.tally)) }
+    ensures quiet { IsFalse shows_progress → Keeps (E.contents errors.old) (E.contents errors.new) }
+{
+    let mut session = Session::new(alloc, options);
+    let mut piece = [0u8; PIECE];
+    'pieces: for turn in 0..PIECES {
+        match input.read(&mut piece) {
+            Ok(0) => {
+                session.finish(output)?;
+                return Ok(session);
+            }
+            Ok(count) => session.add(&piece[..count], output)?,
+            Err(e) => {
+                if e.kind() != ErrorKind::Interrupted {
+                    return Err(Failure::of_reading(e));
+                }
+            }
+        }
+        if shows_progress && turn % STRIDE == STRIDE - 1 {
+            let lines = session.audit.tally.lines;
+            let _ = writeln!(errors, "{PROGRAM}: {lines} lines");
+        }
+    }
+    Err(Failure::Other("the input has too many pieces"))
+}

@@ -1,0 +1,74 @@
+//! What texts there were so far.
+
+ghost use Rattle.std.specs.Prelude.{◌≡◌};
+
+use crate::claim::Scheme;
+use crate::entry::{Entry, Kind};
+use argon2::phc::Salt;
+use arrayvec::ArrayVec;
+use std::alloc::{AllocError, Global};
+use std::collections::{BTreeMap, BTreeSet};
+
+/// How many texts there were of each kind, and their salts. Its memory grows by a salt a text.
+#[derive(Drop)]
+pub struct Seen {
+    pub kinds: BTreeMap<Kind, u64>,
+    /// How many texts there were of each other scheme.
+    pub schemes: BTreeMap<Scheme, u64>,
+    salts: BTreeSet<ArrayVec<u8, 48>>,
+}
+
+impl Seen {
+    ghost use Rattle.std.specs.Prelude.{◌≡◌, ◌||◌, ℕ, List, false, IfOk, OnOk};
+    ghost use Rattle.argon2_audit_report.specs.Seen.{has_any, has_salt, is_salt};
+
+    /// No texts.
+    pub fn new(alloc: Global) -> Seen
+        ensures { (salt : List ℕ) → has_salt result salt ≡ false }
+    {
+        Seen {
+            kinds: BTreeMap::new(alloc),
+            schemes: BTreeMap::new(alloc),
+            salts: BTreeSet::new(alloc),
+        }
+    }
+
+    /// Counts a text, and returns whether its salt was there before.
+    ///
+    /// # Errors
+    /// Memory may be refused. The salt may be kept then, and the text is not counted.
+    pub fn add(&mut self, entry: &Entry) -> Result<bool, AllocError>
+        ensures equal { IfOk result (λ equal. equal ≡ has_any self.old entry.now.salt) }
+        ensures kept { OnOk result ((salt : List ℕ)
+            → has_salt self.new salt ≡ (is_salt entry.now.salt salt || has_salt self.old salt)) }
+    {
+        let is_equal = match &entry.salt {
+            Some(salt) => !self.salts.insert(key(salt))?,
+            None => false,
+        };
+        let count = self.kinds.entry(entry.kind)?.or_insert(0);
+        *count = count.saturating_add(1);
+        Ok(is_equal)
+    }
+
+    /// Counts a text of another scheme.
+    ///
+    /// # Errors
+    /// Memory may be refused, and the text is not counted then.
+    pub fn add_other(&mut self, scheme: Scheme) -> Result<(), AllocError>
+        ensures { (salt : List ℕ) → has_salt self.new salt ≡ has_salt self.old salt }
+    {
+        let count = self.schemes.entry(scheme)?.or_insert(0);
+        *count = count.saturating_add(1);
+        Ok(())
+    }
+}
+
+// The bytes of a salt.
+fn key(salt: &Salt) -> ArrayVec<u8, 48>
+    ensures { result.items ≡ salt.now }
+{
+    let mut key = ArrayVec::new();
+    let _fits = key.try_extend_from_slice(salt.as_bytes());
+    key
+}

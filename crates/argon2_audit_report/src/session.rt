@@ -1,0 +1,103 @@
+//! An audit of bytes as they come.
+
+use crate::audit::Audit;
+use crate::line::Line;
+use crate::options::Options;
+use crate::report::Report;
+use argon2_failure::Failure;
+use std::alloc::Global;
+use std::io::Write;
+
+/// The audit of the lines so far, and the line that is being read.
+#[derive(Drop)]
+pub struct Session {
+    pub audit: Audit,
+    line: Line,
+    report: Report,
+}
+
+impl Session {
+    ghost use Rattle.std.specs.Prelude.{◌≡◌, ◌<◌, ◌≤◌, ◌+◌, ◌^◌, ◌-◌, ℕ, List, [], ◌∷◌, ◌++◌, length, OnOk};
+    ghost use Rattle.argon2_audit_report.specs.Line.{IsRead};
+    ghost use Rattle.argon2_audit_report.specs.Session.{IsAfter, IsBegun, IsTallied};
+
+    /// An audit of no bytes.
+    pub fn new(alloc: Global, options: Options) -> Session
+        ensures options { result.audit.options ≡ options }
+        ensures lines { result.audit.tally.lines ≡ 0 }
+        ensures after { IsAfter result [] }
+    {
+        Session {
+            audit: Audit::new(alloc, options),
+            line: Line::new(alloc),
+            report: Report::new(alloc, options.form),
+        }
+    }
+
+    /// Takes more bytes, and writes remarks on the lines that end in them.
+    pub fn add<W: Write>(&mut self, bytes: &[u8], output: &mut W) -> Result<(), Failure>
+        requires { self.old.audit.tally.lines + length bytes.now < 2 ^ 64 }
+        ensures options { OnOk result (self.new.audit.options ≡ self.old.audit.options) }
+        ensures lines { OnOk result
+            (self.new.audit.tally.lines ≤ self.old.audit.tally.lines + length bytes.now) }
+        ensures after { OnOk result ((before : List ℕ) → IsAfter self.old before
+            → IsAfter self.new (before ++ bytes.now)) }
+    {
+        for byte in bytes {
+            self.add_byte(*byte, output)?;
+        }
+        Ok(())
+    }
+
+    // Takes one more byte.
+    fn add_byte<W: Write>(&mut self, byte: u8, output: &mut W) -> Result<(), Failure>
+        requires { self.old.audit.tally.lines < 2 ^ 64 - 1 }
+        ensures options { OnOk result (self.new.audit.options ≡ self.old.audit.options) }
+        ensures lines { OnOk result
+            (self.new.audit.tally.lines ≤ self.old.audit.tally.lines + 1) }
+        ensures after { OnOk result ((before : List ℕ) → IsAfter self.old before
+            → IsAfter self.new (before ++ byte ∷ [])) }
+    {
+        if byte == b'\n' {
+            self.end_line(output)
+        } else {
+            self.line.push(byte)?;
+            Ok(())
+        }
+    }
+
+    /// Ends the last line, where it has no line feed.
+    pub fn finish<W: Write>(&mut self, output: &mut W) -> Result<(), Failure>
+        requires { self.old.audit.tally.lines < 2 ^ 64 - 1 }
+        ensures { OnOk result ((bytes : List ℕ) → IsAfter self.old bytes
+            → IsTallied self.old.audit.options bytes self.new.audit.tally) }
+    {
+        if !self.line.is_empty() {
+            self.end_line(output)?;
+        }
+        Ok(())
+    }
+
+    /// Writes the counts of all lines, after the last.
+    pub fn end_report<W: Write>(self, output: &mut W) -> Result<(), Failure> {
+        self.report.end(output, &self.audit)
+    }
+
+    // Ends a line.
+    fn end_line<W: Write>(&mut self, output: &mut W) -> Result<(), Failure>
+        requires { self.old.audit.tally.lines < 2 ^ 64 - 1 }
+        ensures options { OnOk result (self.new.audit.options ≡ self.old.audit.options) }
+        ensures lines { OnOk result
+            (self.new.audit.tally.lines ≡ self.old.audit.tally.lines + 1) }
+        ensures after { OnOk result ((before : List ℕ) → IsAfter self.old before
+            → IsAfter self.new (before ++ 10 ∷ [])) }
+        ensures whole { OnOk result ((bytes : List ℕ) → IsAfter self.old bytes
+            → ¬ IsRead self.old.line []
+            → IsTallied self.old.audit.options bytes self.new.audit.tally) }
+    {
+        let finding = self.line.end(self.audit.options.place);
+        let marks = self.audit.add(&finding)?;
+        let number = self.audit.tally.lines;
+        self.report.remarks(output, number, &finding, &self.audit.options.policy, marks)
+    }
+}
