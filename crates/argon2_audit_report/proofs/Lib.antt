@@ -1,3 +1,4 @@
 mod Classes
 mod First
+mod Objects
 mod Sessions

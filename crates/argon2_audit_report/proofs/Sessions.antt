@@ -1,5 +1,5 @@
 -- What is known before the first byte, after a line, and after the last.
-use Rattle.std.proofs.Common.{arith, Option, Some, None, ◌↔◌, ◌≡◌, ◌∙◌, ◌+◌, ℕ, Bool, true, false, IsTrue, List, [], ◌∷◌, ◌++◌, ap, sym, subst, refl, inr, append_assoc, append-nil, ◌||◌}
+use Rattle.std.proofs.Common.{arith, Option, Some, None, ◌↔◌, ◌≡◌, ◌∙◌, ◌+◌, ℕ, Bool, false, IsTrue, List, [], ◌∷◌, ◌++◌, ap, sym, subst, refl, inr, append_assoc, append-nil, ◌||◌}
 use Rattle.std.specs.Prelude.{IfSome}
 use Rattle.argon2_audit_report.specs.Finding.{IsFinding, class_of, has_short_salt, salt_of}
 use Rattle.argon2_audit_report.specs.Line.{IsRead}

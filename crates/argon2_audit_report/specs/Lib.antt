@@ -2,7 +2,7 @@ pub mod Claim
 pub mod Entry
 pub mod Finding
 pub mod Line
-pub mod Members
+pub mod Object
 pub mod Place
 pub mod Policy
 pub mod Prefixes

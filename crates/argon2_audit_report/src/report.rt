@@ -4,188 +4,133 @@ use crate::audit::Audit;
 use crate::claim::Claim;
 use crate::entry::Entry;
 use crate::finding::Finding;
-use crate::members::write_number;
-use crate::options::Form;
 use crate::policy::Policy;
 use crate::remark::Remark;
-use crate::tally::{Marks, Tally};
+use crate::tally::Marks;
 use argon2_failure::Failure;
-use json::Writer;
-use std::alloc::{AllocError, Global};
 use std::io;
 use std::io::Write;
 
-/// What is written, and how. A JSON object is kept until it is whole.
+/// What takes remarks on lines.
+pub trait Remarks {
+    /// Takes a remark on a line.
+    fn add(&mut self, number: u64, remark: &Remark<'_>) -> Result<(), Failure>;
+}
+
+/// Each remark is written as a line.
 #[derive(Drop)]
-pub struct Report {
-    form: Form,
-    alloc: Global,
-    json: Writer,
-    // Whether the JSON object has begun.
-    has_begun: bool,
+pub struct Lines<'a, W: Write> {
+    pub output: &'a mut W,
 }
 
-impl Report {
-    /// A report with nothing written.
-    pub fn new(alloc: Global, form: Form) -> Report {
-        Report {
-            form,
-            alloc,
-            json: Writer::new(Vec::new(alloc)),
-            has_begun: false,
-        }
-    }
-
-    /// Says of a line what keeps it from counting as sound. Nothing of the line itself is written.
-    pub fn remarks<W: Write>(
-        &mut self,
-        output: &mut W,
-        number: u64,
-        finding: &Finding,
-        policy: &Policy,
-        marks: Marks,
-    ) -> Result<(), Failure> {
-        match finding {
-            Finding::TooLong => self.remark(output, number, &Remark::TooLong)?,
-            Finding::NotUtf8 => self.remark(output, number, &Remark::NotUtf8)?,
-            Finding::Refused(error) => self.remark(output, number, &Remark::Refused(error))?,
-            Finding::Claimed(claim) => {
-                if !(policy.allows_other && is_allowed(*claim)) {
-                    self.remark(output, number, &Remark::Claimed(*claim))?;
-                }
-            }
-            Finding::Shown(entry) => {
-                self.costs(output, number, entry, policy)?;
-                self.lengths(output, number, entry, policy)?;
-            }
-        }
-        if marks.equal_salt {
-            self.remark(output, number, &Remark::EqualSalt)?;
-        }
-        Ok(())
-    }
-
-    // Says which algorithm, version and costs are below the policy.
-    fn costs<W: Write>(
-        &mut self,
-        output: &mut W,
-        number: u64,
-        entry: &Entry,
-        policy: &Policy,
-    ) -> Result<(), Failure> {
-        let (short, kind) = (policy.shortfalls(entry), &entry.kind);
-        for (is_short, name, has, least) in [
-            (short.memory, "m", kind.m_cost, policy.m_cost),
-            (short.passes, "t", kind.t_cost, policy.t_cost),
-            (short.lanes, "p", kind.p_cost, policy.p_cost),
-        ] {
-            if is_short {
-                self.remark(output, number, &Remark::Cost(name, has, least))?;
-            }
-        }
-        if short.version {
-            self.remark(
-                output,
-                number,
-                &Remark::Version(kind.version, policy.version),
-            )?;
-        }
-        match policy.algorithm {
-            Some(required) if short.algorithm => {
-                self.remark(output, number, &Remark::Algorithm(kind.algorithm, required))
-            }
-            _ => Ok(()),
-        }
-    }
-
-    // Says which lengths are below the policy.
-    fn lengths<W: Write>(
-        &mut self,
-        output: &mut W,
-        number: u64,
-        entry: &Entry,
-        policy: &Policy,
-    ) -> Result<(), Failure> {
-        let short = policy.shortfalls(entry);
-        if short.salt {
-            let remark = match entry.salt {
-                Some(_) => Remark::SaltLen(entry.salt_len(), policy.salt_len),
-                None => Remark::NoSalt,
-            };
-            self.remark(output, number, &remark)?;
-        }
-        match entry.hash_len {
-            None => self.remark(output, number, &Remark::NoHash),
-            Some(len) if short.hash => {
-                self.remark(output, number, &Remark::HashLen(len, policy.hash_len))
-            }
-            Some(_) => Ok(()),
-        }
-    }
-
-    // Writes a remark on a line.
-    fn remark<W: Write>(
-        &mut self,
-        output: &mut W,
-        number: u64,
-        remark: &Remark<'_>,
-    ) -> Result<(), Failure> {
-        match self.form {
-            Form::Lines => writeln!(output, "line {number}: {remark}")?,
-            Form::Json => self.finding(number, remark)?,
-            Form::Quiet => {}
-        }
-        Ok(())
-    }
-
-    // Adds a finding to the JSON object.
-    fn finding(&mut self, number: u64, remark: &Remark<'_>) -> Result<(), AllocError> {
-        let text = format!(in self.alloc; "{remark}")?;
-        self.begin()?;
-        self.json.begin_object()?;
-        write_number(&mut self.json, "line", number)?;
-        self.json.key("remark")?;
-        self.json.string(text.as_str())?;
-        self.json.end_object()
-    }
-
-    // Begins the JSON object and its findings, once.
-    fn begin(&mut self) -> Result<(), AllocError> {
-        if !self.has_begun {
-            self.has_begun = true;
-            self.json.begin_object()?;
-            self.json.key("findings")?;
-            self.json.begin_array()?;
-        }
-        Ok(())
-    }
-
-    /// Writes the counts, and then how many texts there are of each kind.
-    pub fn end<W: Write>(mut self, output: &mut W, audit: &Audit) -> Result<(), Failure> {
-        match self.form {
-            Form::Lines => {
-                counts(output, audit)?;
-                kinds(output, audit)?;
-            }
-            Form::Json => {
-                self.begin()?;
-                end_json(&mut self.json, audit)?;
-                output.write_all(self.json.into_inner().as_slice())?;
-                output.write_all(b"\n")?;
-            }
-            Form::Quiet => {}
-        }
-        output.flush()?;
+impl<W: Write> Remarks for Lines<'_, W> {
+    fn add(&mut self, number: u64, remark: &Remark<'_>) -> Result<(), Failure> {
+        writeln!(self.output, "line {number}: {remark}")?;
         Ok(())
     }
 }
 
-// Whether a line with this claim counts as sound where other schemes do.
+/// No remark is written.
+#[derive(Drop)]
+pub struct Nothing;
+
+impl Remarks for Nothing {
+    fn add(&mut self, _number: u64, _remark: &Remark<'_>) -> Result<(), Failure> {
+        Ok(())
+    }
+}
+
+/// Says of a line what keeps it from counting as sound. Nothing of the line itself is said.
+pub fn remark_on<S: Remarks>(
+    remarks: &mut S,
+    number: u64,
+    finding: &Finding,
+    policy: &Policy,
+    marks: Marks,
+) -> Result<(), Failure> {
+    match finding {
+        Finding::TooLong => remarks.add(number, &Remark::TooLong)?,
+        Finding::NotUtf8 => remarks.add(number, &Remark::NotUtf8)?,
+        Finding::Refused(error) => remarks.add(number, &Remark::Refused(error))?,
+        Finding::Claimed(claim) => {
+            if !(policy.allows_other && is_allowed(*claim)) {
+                remarks.add(number, &Remark::Claimed(*claim))?;
+            }
+        }
+        Finding::Shown(entry) => {
+            remark_on_costs(remarks, number, entry, policy)?;
+            remark_on_lengths(remarks, number, entry, policy)?;
+        }
+    }
+    if marks.equal_salt {
+        remarks.add(number, &Remark::EqualSalt)?;
+    }
+    Ok(())
+}
+
+// Says which algorithm, version and costs are below the policy.
+fn remark_on_costs<S: Remarks>(
+    remarks: &mut S,
+    number: u64,
+    entry: &Entry,
+    policy: &Policy,
+) -> Result<(), Failure> {
+    let (short, kind) = (policy.shortfalls(entry), &entry.kind);
+    for (is_short, name, has, least) in [
+        (short.memory, "m", kind.m_cost, policy.m_cost),
+        (short.passes, "t", kind.t_cost, policy.t_cost),
+        (short.lanes, "p", kind.p_cost, policy.p_cost),
+    ] {
+        if is_short {
+            remarks.add(number, &Remark::Cost(name, has, least))?;
+        }
+    }
+    if short.version {
+        remarks.add(number, &Remark::Version(kind.version, policy.version))?;
+    }
+    match policy.algorithm {
+        Some(required) if short.algorithm => {
+            remarks.add(number, &Remark::Algorithm(kind.algorithm, required))
+        }
+        _ => Ok(()),
+    }
+}
+
+// Says which lengths are below the policy.
+fn remark_on_lengths<S: Remarks>(
+    remarks: &mut S,
+    number: u64,
+    entry: &Entry,
+    policy: &Policy,
+) -> Result<(), Failure> {
+    let short = policy.shortfalls(entry);
+    if short.salt {
+        let remark = match entry.salt {
+            Some(_) => Remark::SaltLen(entry.salt_len(), policy.salt_len),
+            None => Remark::NoSalt,
+        };
+        remarks.add(number, &remark)?;
+    }
+    match entry.hash_len {
+        None => remarks.add(number, &Remark::NoHash),
+        Some(len) if short.hash => remarks.add(number, &Remark::HashLen(len, policy.hash_len)),
+        Some(_) => Ok(()),
+    }
+}
+
+// Whether a line with this claim counts as sound if other schemes do.
 fn is_allowed(claim: Claim) -> bool {
     matches!(
         claim,
         Claim::Other(_) | Claim::Locked | Claim::Blank | Claim::Comment
     )
+}
+
+/// Writes the counts, and then how many texts of Argon2 there are of each kind.
+pub fn write_table<W: Write>(output: &mut W, audit: &Audit) -> io::Result<()> {
+    counts(output, audit)?;
+    kinds(output, audit)?;
+    output.flush()
 }
 
 // Writes the counts, one a line; those of lines that store no text of Argon2 only where there are such lines.
@@ -245,60 +190,4 @@ fn kinds<W: Write>(output: &mut W, audit: &Audit) -> io::Result<()> {
         )?;
     }
     Ok(())
-}
-
-// Ends the findings of a JSON object, and writes the counts, and how many texts there are of each kind.
-fn end_json(json: &mut Writer, audit: &Audit) -> Result<(), AllocError> {
-    json.end_array()?;
-    json.key("counts")?;
-    json_counts(json, &audit.tally)?;
-    json.key("schemes")?;
-    json.begin_object()?;
-    for (scheme, lines) in audit.seen.schemes.iter() {
-        write_number(json, scheme.name(), *lines)?;
-    }
-    json.end_object()?;
-    json.key("table")?;
-    json_kinds(json, audit)?;
-    json.end_object()
-}
-
-// Writes the counts.
-fn json_counts(json: &mut Writer, tally: &Tally) -> Result<(), AllocError> {
-    json.begin_object()?;
-    for (name, count) in [
-        ("lines", tally.lines),
-        ("sound", tally.sound),
-        ("below", tally.below),
-        ("no_hash", tally.no_hash),
-        ("outside", tally.outside),
-        ("locked", tally.locked),
-        ("empty", tally.empty),
-        ("blank", tally.blank),
-        ("comments", tally.comment),
-        ("unknown", tally.unknown),
-        ("other", tally.other),
-        ("short_salts", tally.short_salts),
-        ("equal_salts", tally.equal_salts),
-    ] {
-        write_number(json, name, count)?;
-    }
-    json.end_object()
-}
-
-// Writes how many texts of Argon2 there are of each kind.
-fn json_kinds(json: &mut Writer, audit: &Audit) -> Result<(), AllocError> {
-    json.begin_array()?;
-    for (kind, lines) in audit.seen.kinds.iter() {
-        json.begin_object()?;
-        json.key("algorithm")?;
-        json.string(kind.algorithm.as_str())?;
-        write_number(json, "version", u64::from(u32::from(kind.version)))?;
-        write_number(json, "m", u64::from(kind.m_cost))?;
-        write_number(json, "t", u64::from(kind.t_cost))?;
-        write_number(json, "p", u64::from(kind.p_cost))?;
-        write_number(json, "lines", *lines)?;
-        json.end_object()?;
-    }
-    json.end_array()
 }

@@ -1,11 +1,15 @@
 //! The program over any streams.
 
-ghost use Rattle.std.specs.Prelude.{◌≡◌, ◌⊎◌, IfOk, IfSome, IsFalse, true, false};
-ghost use Rattle.std.specs.Io.KnownBytes.{Keeps};
+ghost use Rattle.std.specs.Prelude.{◌≡◌, ◌⊎◌, ◌∷◌, ◌++◌, [], ℕ, List, IfOk, IfSome, IsFalse, OnOk, true, false};
+ghost use Rattle.std.specs.Io.KnownBytes.{Appends, Keeps};
+ghost use Rattle.argon2_audit_report.specs.Object.{IsObject, IsReport, IsReported};
 ghost use Rattle.argon2_audit_report.specs.Session.{IsAudit, IsTallied};
 
-use crate::options::Options;
+use crate::findings::Findings;
+use crate::options::{Form, Options};
+use crate::report::{Lines, Nothing, Remarks, write_table};
 use crate::session::Session;
+use crate::tally::Tally;
 use argon2_failure::Failure;
 use std::alloc::Global;
 use std::io::{ErrorKind, Read, Write};
@@ -33,8 +37,10 @@ const STRIDE: u64 = 256;
 /// Status 0: the report is written, each line counts as sound and no two salts are equal. A text of another scheme, a
 /// locked line, a blank one and a comment count as sound only if the policy allows other schemes. Status 1: the report
 /// is written, and that is not so. Status 3: the failure's text is written to `errors`, which gets none if nobody reads
-/// `output` any more. If progress is to be shown, `errors` gets the number of lines read so far from time to time. If
-/// `errors` can't be written, the status stays.
+/// `output` any more.
+///
+/// The JSON report is a line with one object, which is written once it is whole. If progress is to be shown, `errors`
+/// gets the number of lines read so far from time to time. If `errors` can't be written, the status stays.
 pub fn run<R: Read + Named, W: Write, E: Write>(
     alloc: Global,
     options: Options,
@@ -46,6 +52,8 @@ pub fn run<R: Read + Named, W: Write, E: Write>(
     ensures status { (result ≡ 0) ⊎ (result ≡ 1) ⊎ (result ≡ 3) }
     ensures passed { result ≡ 0 → IsAudit options (R.remaining input.old) true }
     ensures refused { result ≡ 1 → IsAudit options (R.remaining input.old) false }
+    ensures object { (result ≡ 0) ⊎ (result ≡ 1) → IsReported options (R.remaining input.old)
+        (W.contents output.old) (W.contents output.new) }
     ensures quiet { IsFalse shows_progress → result ≡ 0
         → Keeps (E.contents errors.old) (E.contents errors.new) }
 {
@@ -66,20 +74,98 @@ fn report_on<R: Read, W: Write, E: Write>(
     shows_progress: bool,
 ) -> Result<bool, Failure>
     ensures audit { IfOk result (IsAudit options (R.remaining input.old)) }
+    ensures object { OnOk result (IsReported options (R.remaining input.old)
+        (W.contents output.old) (W.contents output.new)) }
     ensures quiet { IsFalse shows_progress → Keeps (E.contents errors.old) (E.contents errors.new) }
 {
-    let session = session_of(alloc, options, input, output, errors, shows_progress)?;
-    let tally = session.audit.tally;
-    session.end_report(output)?;
+    let tally = write_report(alloc, options, input, output, errors, shows_progress)?;
     Ok(tally.is_clean(&options.policy))
 }
 
-// The session after all that is left in `input`.
-fn session_of<R: Read, W: Write, E: Write>(
+// Writes the report on all lines, and returns the counts.
+fn write_report<R: Read, W: Write, E: Write>(
     alloc: Global,
     options: Options,
     input: &mut R,
     output: &mut W,
+    errors: &mut E,
+    shows_progress: bool,
+) -> Result<Tally, Failure>
+    ensures tally { IfOk result (λ tally. IfSome (R.remaining input.old)
+        (λ bytes. IsTallied options bytes tally)) }
+    ensures object { IfOk result (λ tally. IsReport options tally
+        (W.contents output.old) (W.contents output.new)) }
+    ensures quiet { IsFalse shows_progress → Keeps (E.contents errors.old) (E.contents errors.new) }
+{
+    match options.form {
+        Form::Lines => write_lines(alloc, options, input, output, errors, shows_progress),
+        Form::Json => write_object(alloc, options, input, output, errors, shows_progress),
+        Form::Quiet => {
+            let silent = &mut Nothing;
+            let session = session_of(alloc, options, input, silent, errors, shows_progress)?;
+            Ok(session.audit.tally)
+        }
+    }
+}
+
+// Writes the report as lines, and returns the counts.
+fn write_lines<R: Read, W: Write, E: Write>(
+    alloc: Global,
+    options: Options,
+    input: &mut R,
+    output: &mut W,
+    errors: &mut E,
+    shows_progress: bool,
+) -> Result<Tally, Failure>
+    ensures tally { IfOk result (λ tally. IfSome (R.remaining input.old)
+        (λ bytes. IsTallied options bytes tally)) }
+    ensures quiet { IsFalse shows_progress → Keeps (E.contents errors.old) (E.contents errors.new) }
+{
+    let mut lines = Lines { output };
+    let session = session_of(alloc, options, input, &mut lines, errors, shows_progress)?;
+    write_table(lines.output, &session.audit)?;
+    Ok(session.audit.tally)
+}
+
+// Writes the report as a line with a JSON object, and returns the counts.
+fn write_object<R: Read, W: Write, E: Write>(
+    alloc: Global,
+    options: Options,
+    input: &mut R,
+    output: &mut W,
+    errors: &mut E,
+    shows_progress: bool,
+) -> Result<Tally, Failure>
+    ensures tally { IfOk result (λ tally. IfSome (R.remaining input.old)
+        (λ bytes. IsTallied options bytes tally)) }
+    ensures object { IfOk result (λ tally. (text : List ℕ) × IsObject tally text
+        × Appends (W.contents output.old) (W.contents output.new) (text ++ 10 ∷ [])) }
+    ensures quiet { IsFalse shows_progress → Keeps (E.contents errors.old) (E.contents errors.new) }
+{
+    let mut findings = Findings::new(alloc)?;
+    let session = session_of(alloc, options, input, &mut findings, errors, shows_progress)?;
+    let text = findings.object(&session.audit)?;
+    write_line(output, text.as_slice())?;
+    Ok(session.audit.tally)
+}
+
+// Writes a text as a line.
+fn write_line<W: Write>(output: &mut W, text: &[u8]) -> Result<(), Failure>
+    ensures { OnOk result (Appends (W.contents output.old) (W.contents output.new)
+        (text.now ++ 10 ∷ [])) }
+{
+    output.write_all(text)?;
+    output.write_all(b"\n")?;
+    output.flush()?;
+    Ok(())
+}
+
+// The session after all that is left in `input`.
+fn session_of<R: Read, S: Remarks, E: Write>(
+    alloc: Global,
+    options: Options,
+    input: &mut R,
+    remarks: &mut S,
     errors: &mut E,
     shows_progress: bool,
 ) -> Result<Session, Failure>
@@ -92,10 +178,10 @@ fn session_of<R: Read, W: Write, E: Write>(
     'pieces: for turn in 0..PIECES {
         match input.read(&mut piece) {
             Ok(0) => {
-                session.finish(output)?;
+                session.finish(remarks)?;
                 return Ok(session);
             }
-            Ok(count) => session.add(&piece[..count], output)?,
+            Ok(count) => session.add(&piece[..count], remarks)?,
             Err(e) => {
                 if e.kind() != ErrorKind::Interrupted {
                     return Err(Failure::of_reading(e));

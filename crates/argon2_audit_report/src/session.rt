@@ -3,17 +3,15 @@
 use crate::audit::Audit;
 use crate::line::Line;
 use crate::options::Options;
-use crate::report::Report;
+use crate::report::{Remarks, remark_on};
 use argon2_failure::Failure;
 use std::alloc::Global;
-use std::io::Write;
 
 /// The audit of the lines so far, and the line that is being read.
 #[derive(Drop)]
 pub struct Session {
     pub audit: Audit,
     line: Line,
-    report: Report,
 }
 
 impl Session {
@@ -30,12 +28,11 @@ impl Session {
         Session {
             audit: Audit::new(alloc, options),
             line: Line::new(alloc),
-            report: Report::new(alloc, options.form),
         }
     }
 
-    /// Takes more bytes, and writes remarks on the lines that end in them.
-    pub fn add<W: Write>(&mut self, bytes: &[u8], output: &mut W) -> Result<(), Failure>
+    /// Takes more bytes, with remarks on the lines that end in them.
+    pub fn add<S: Remarks>(&mut self, bytes: &[u8], remarks: &mut S) -> Result<(), Failure>
         requires { self.old.audit.tally.lines + length bytes.now < 2 ^ 64 }
         ensures options { OnOk result (self.new.audit.options ≡ self.old.audit.options) }
         ensures lines { OnOk result
@@ -44,13 +41,13 @@ impl Session {
             → IsAfter self.new (before ++ bytes.now)) }
     {
         for byte in bytes {
-            self.add_byte(*byte, output)?;
+            self.add_byte(*byte, remarks)?;
         }
         Ok(())
     }
 
     // Takes one more byte.
-    fn add_byte<W: Write>(&mut self, byte: u8, output: &mut W) -> Result<(), Failure>
+    fn add_byte<S: Remarks>(&mut self, byte: u8, remarks: &mut S) -> Result<(), Failure>
         requires { self.old.audit.tally.lines < 2 ^ 64 - 1 }
         ensures options { OnOk result (self.new.audit.options ≡ self.old.audit.options) }
         ensures lines { OnOk result
@@ -59,7 +56,7 @@ impl Session {
             → IsAfter self.new (before ++ byte ∷ [])) }
     {
         if byte == b'\n' {
-            self.end_line(output)
+            self.end_line(remarks)
         } else {
             self.line.push(byte)?;
             Ok(())
@@ -67,24 +64,19 @@ impl Session {
     }
 
     /// Ends the last line, where it has no line feed.
-    pub fn finish<W: Write>(&mut self, output: &mut W) -> Result<(), Failure>
+    pub fn finish<S: Remarks>(&mut self, remarks: &mut S) -> Result<(), Failure>
         requires { self.old.audit.tally.lines < 2 ^ 64 - 1 }
         ensures { OnOk result ((bytes : List ℕ) → IsAfter self.old bytes
             → IsTallied self.old.audit.options bytes self.new.audit.tally) }
     {
         if !self.line.is_empty() {
-            self.end_line(output)?;
+            self.end_line(remarks)?;
         }
         Ok(())
     }
 
-    /// Writes the counts of all lines, after the last.
-    pub fn end_report<W: Write>(self, output: &mut W) -> Result<(), Failure> {
-        self.report.end(output, &self.audit)
-    }
-
     // Ends a line.
-    fn end_line<W: Write>(&mut self, output: &mut W) -> Result<(), Failure>
+    fn end_line<S: Remarks>(&mut self, remarks: &mut S) -> Result<(), Failure>
         requires { self.old.audit.tally.lines < 2 ^ 64 - 1 }
         ensures options { OnOk result (self.new.audit.options ≡ self.old.audit.options) }
         ensures lines { OnOk result
@@ -98,6 +90,6 @@ impl Session {
         let finding = self.line.end(self.audit.options.place);
         let marks = self.audit.add(&finding)?;
         let number = self.audit.tally.lines;
-        self.report.remarks(output, number, &finding, &self.audit.options.policy, marks)
+        remark_on(remarks, number, &finding, &self.audit.options.policy, marks)
     }
 }

@@ -13,7 +13,7 @@ returns-clause-after g c =
     let new = c.add.new.self in
     let next = c.end-finding.new.self in
     let ensured = c.in_ok-marks.ensures in
-    on_ok_always c.remarks.result _ (λ before after.
+    on_ok_always c.remark_on.result _ (λ before after.
     subst (λ p. IsBegun next new.seen p (before ++ 10 ∷ []) new.tally) (sym ensured.options)
     (line_more old.line next old.audit.seen new.seen old.audit.options old.audit.tally new.tally before c.end-finding.result
     c.in_ok-marks.marks c.end-finding.ensures.finding c.end-finding.ensures.next ensured.counts ensured.class ensured.short
@@ -23,6 +23,6 @@ pub returns-clause-whole : goal.returns-clause-whole
 returns-clause-whole g c =
     let old = c.args.self.now in
     let ensured = c.in_ok-marks.ensures in
-    on_ok_always c.remarks.result _ (λ bytes after some.
+    on_ok_always c.remark_on.result _ (λ bytes after some.
     line_last old.line old.audit.seen old.audit.options old.audit.tally c.add.new.self.tally bytes c.end-finding.result
     c.in_ok-marks.marks c.end-finding.ensures.finding ensured.counts ensured.class ensured.short ensured.equal some after)
