@@ -28,7 +28,8 @@ parameters, a salt and a hash, and has nothing below the policy. A line may have
 mark at the start of a line and a carriage return at its end are skipped, and so is what Django, Dovecot and
 LDAP servers put before a text: argon2, {argon2}, {ARGON2}, {ARGON2I}, {ARGON2ID} and {CRYPT}. Texts of other
 schemes are named by how they begin: bcrypt, scrypt, PBKDF2, yescrypt, sha256crypt, sha512crypt, md5crypt,
-and digests of Django and LDAP. A text that begins with ! or * is locked. An empty text is never sound: some
+and digests of Django and LDAP. A line `scrypt:N:R:P$..` or `pbkdf2:sha256:N$..` is a text of Werkzeug
+without a name. A text that begins with ! or * is locked. An empty text is never sound: some
 systems take any password for it. All salts are kept, to find equal ones.
 
 The status is 0 if each line is sound and no two salts are equal, 1 if that is not so, 2 if the arguments are
