@@ -1,6 +1,6 @@
 //! The report as a JSON object.
 
-ghost use Rattle.std.specs.Prelude.{◌∷◌, [], ℕ, List, IfOk, OnOk, IsTrue, decimal};
+ghost use Rattle.std.specs.Prelude.{◌∷◌, [], IfOk, OnOk, IsTrue, decimal};
 ghost use Rattle.json.specs.Json.{Items, Json, Members, array, object};
 ghost use Rattle.json.specs.Print.{IsNumber};
 ghost use Rattle.json.specs.Token.{key, number};

@@ -17,7 +17,7 @@ pub struct Session {
 impl Session {
     ghost use Rattle.std.specs.Prelude.{◌≡◌, ◌<◌, ◌≤◌, ◌+◌, ◌^◌, ◌-◌, ℕ, List, [], ◌∷◌, ◌++◌, length, OnOk};
     ghost use Rattle.argon2_audit_report.specs.Line.{IsRead};
-    ghost use Rattle.argon2_audit_report.specs.Session.{IsAfter, IsBegun, IsTallied};
+    ghost use Rattle.argon2_audit_report.specs.Session.{IsAfter, IsTallied};
 
     /// An audit of no bytes.
     pub fn new(alloc: Global, options: Options) -> Session
