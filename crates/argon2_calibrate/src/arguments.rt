@@ -1,8 +1,10 @@
 //! The options of the command line.
 
-use crate::options::Options;
-use crate::run::PROGRAM;
-use argon2::Params;
+ghost use Rattle.std.specs.Prelude.{IfOk};
+ghost use Rattle.argon2_calibrate_search.specs.Choice.{ArePossible};
+
+use argon2_calibrate_search::Options;
+use argon2_calibrate_search::run::PROGRAM;
 use argon2_commands::invalid;
 use clap::{Arg, ArgAction, Command, Error, value_parser};
 use std::alloc::{AllocError, Global};
@@ -27,42 +29,35 @@ Example: argon2-calibrate --lanes 4 0.5 1024
 The status is 0 if the costs are written, 2 if the arguments are wrong, and 3 if the clock, writing or a
 request for memory fails, which standard error says.";
 
-impl Options {
-    ghost use Rattle.std.specs.Prelude.{IfOk};
-    ghost use Rattle.argon2_calibrate.specs.Choice.{ArePossible};
-
-    /// The options that words spell, of equal ones the last.
-    ///
-    /// # Errors
-    /// A page that the words ask for, what is wrong with them, and out of memory.
-    pub fn parsed(alloc: Global, words: &[String]) -> Result<Options, Error>
-        ensures { IfOk result ArePossible }
-    {
-        let mut command = command(alloc)?;
-        let matches = command.try_get_matches_from_mut(words)?;
-        let seconds = matches.get_one::<f64>("SECONDS").unwrap_or(0.0);
-        if !(0.001 <= seconds && seconds <= 3600.0) {
-            let value = matches.get_str("SECONDS").unwrap_or("");
-            let why = "it is not in 0.001..=3600";
-            return Err(invalid(&mut command, alloc, "<SECONDS>", value, why)?);
-        }
-        let mebibytes = matches.get_one::<u32>("MEBIBYTES").unwrap_or(64);
-        let most = mebibytes.saturating_mul(1024);
-        let lanes = matches.get_one::<u32>("lanes").unwrap_or(1);
-        let min_t = matches.get_one::<u32>("min-t");
-        if Params::new(most, min_t.unwrap_or(1), lanes, None).is_err() {
-            let value = matches.get_str("lanes").unwrap_or("");
-            let why = "the memory has less than 8 blocks of 1024 bytes for each lane";
-            return Err(invalid(&mut command, alloc, "--lanes <N>", value, why)?);
-        }
-        Ok(Options {
-            target: saturating_f64_to_u64(1e6 * seconds),
-            most,
-            lanes,
-            min_t,
-            json: matches.get_flag("json"),
-        })
+/// The options that words spell, of equal ones the last.
+///
+/// # Errors
+/// A page that the words ask for, what is wrong with them, and out of memory.
+pub fn parsed(alloc: Global, words: &[String]) -> Result<Options, Error>
+    ensures { IfOk result ArePossible }
+{
+    let mut command = command(alloc)?;
+    let matches = command.try_get_matches_from_mut(words)?;
+    let seconds = matches.get_one::<f64>("SECONDS").unwrap_or(0.0);
+    if !(0.001 <= seconds && seconds <= 3600.0) {
+        let value = matches.get_str("SECONDS").unwrap_or("");
+        let why = "it is not in 0.001..=3600";
+        return Err(invalid(&mut command, alloc, "<SECONDS>", value, why)?);
     }
+    let mebibytes = matches.get_one::<u32>("MEBIBYTES").unwrap_or(64);
+    let options = Options {
+        target: saturating_f64_to_u64(1e6 * seconds),
+        most: mebibytes.saturating_mul(1024),
+        lanes: matches.get_one::<u32>("lanes").unwrap_or(1),
+        min_t: matches.get_one::<u32>("min-t"),
+        json: matches.get_flag("json"),
+    };
+    if !options.are_possible() {
+        let value = matches.get_str("lanes").unwrap_or("");
+        let why = "the memory has less than 8 blocks of 1024 bytes for each lane";
+        return Err(invalid(&mut command, alloc, "--lanes <N>", value, why)?);
+    }
+    Ok(options)
 }
 
 // The program's arguments.

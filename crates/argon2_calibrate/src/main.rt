@@ -2,22 +2,15 @@
 #![tactic(auto)]
 
 ghost use Rattle.std.specs.Prelude.{IfOk};
-ghost use Rattle.argon2_calibrate.specs.Choice.{ArePossible};
+ghost use Rattle.argon2_calibrate_search.specs.Choice.{ArePossible};
 
+use argon2_calibrate_search::run::{PROGRAM, run};
+use argon2_calibrate_search::{Machine, Options};
 use argon2_commands::{answer, words};
 use clap::Error;
-use options::Options;
 use std::process::ExitCode;
-use stopwatch::Machine;
 
 mod arguments;
-mod choice;
-mod options;
-mod run;
-mod search;
-mod stopwatch;
-
-pub use run::run;
 
 fn main(rt: HostRuntime) -> ExitCode {
     let (mut output, mut errors) = (rt.stdout(), rt.stderr());
@@ -27,7 +20,7 @@ fn main(rt: HostRuntime) -> ExitCode {
             let mut machine = Machine::new(alloc, &rt);
             run(alloc, options, &mut machine, &mut output, &mut errors)
         }
-        Err(error) => answer(run::PROGRAM, &error, &mut output, &mut errors),
+        Err(error) => answer(PROGRAM, &error, &mut output, &mut errors),
     };
     ExitCode::from(status)
 }
@@ -36,6 +29,6 @@ fn main(rt: HostRuntime) -> ExitCode {
 fn asked(rt: &HostRuntime) -> Result<Options, Error>
     ensures { IfOk result ArePossible }
 {
-    let words = words(rt, run::PROGRAM)?;
-    Options::parsed(rt.alloc(), words.as_slice())
+    let words = words(rt, PROGRAM)?;
+    arguments::parsed(rt.alloc(), words.as_slice())
 }

@@ -1,0 +1,144 @@
+//! The program over any stopwatch and streams.
+
+ghost use Rattle.std.specs.Prelude.{◌≡◌, ◌⊎◌, ◌++◌, ◌∷◌, [], ℕ, List, IfOk, OnOk, Some};
+ghost use Rattle.std.specs.Io.KnownBytes.{Appends};
+ghost use Rattle.json.specs.Json.{document};
+ghost use Rattle.argon2_calibrate_search.specs.Answer.{IsAnswered, call_text, end_text, json_of, lines_text, list_text, time_text};
+ghost use Rattle.argon2_calibrate_search.specs.Choice.{ArePossible};
+
+use crate::choice::Found;
+use crate::options::Options;
+use crate::search::search;
+use crate::stopwatch::Stopwatch;
+use argon2_failure::Failure;
+use json::Writer;
+use std::alloc::{AllocError, Global};
+use std::io::Write;
+
+/// The program's name.
+pub const PROGRAM: &str = "argon2-calibrate";
+
+/// Writes the costs that options ask for to `output`, and returns the exit status: 0, or 3 if that fails, for the reason
+/// that is written to `errors`. If `errors` can't be written, the status stays.
+pub fn run<S: Stopwatch, W: Write, E: Write>(
+    alloc: Global,
+    options: Options,
+    stopwatch: &mut S,
+    output: &mut W,
+    errors: &mut E,
+) -> u8
+    requires { ArePossible options }
+    ensures status { (result ≡ 0) ⊎ (result ≡ 3) }
+    ensures answered { result ≡ 0
+        → IsAnswered S.may_take options (W.contents output.old) (W.contents output.new) }
+{
+    match calibrate(alloc, options, stopwatch, output, errors) {
+        Ok(()) => 0,
+        Err(failure) => failure.report(PROGRAM, "", errors),
+    }
+}
+
+// Writes the costs that options ask for.
+fn calibrate<S: Stopwatch, W: Write, E: Write>(
+    alloc: Global,
+    options: Options,
+    stopwatch: &mut S,
+    output: &mut W,
+    errors: &mut E,
+) -> Result<(), Failure>
+    requires { ArePossible options }
+    ensures { OnOk result
+        (IsAnswered S.may_take options (W.contents output.old) (W.contents output.new)) }
+{
+    let found = search(stopwatch, errors, options)?;
+    if options.json {
+        write_json(alloc, output, found, options.lanes)
+    } else {
+        write_lines(output, found, options.lanes)
+    }
+}
+
+// Writes costs and their time as a JSON object, a line.
+fn write_json<W: Write>(alloc: Global, output: &mut W, found: Found, p: u32) -> Result<(), Failure>
+    ensures { OnOk result ((text : List ℕ) × (document text ≡ Some (json_of found p))
+        × Appends (W.contents output.old) (W.contents output.new) (text ++ 10 ∷ [])) }
+{
+    let text = json_text(alloc, found, p)?;
+    output.write_all(text.as_slice())?;
+    output.write_all(b"\n")?;
+    output.flush()?;
+    Ok(())
+}
+
+// Costs and their time as a JSON object.
+fn json_text(alloc: Global, found: Found, p: u32) -> Result<Vec<u8>, AllocError>
+    ensures { IfOk result (λ text. document text.items ≡ Some (json_of found p)) }
+{
+    let choice = found.choice;
+    let mut json = Writer::new(Vec::new(alloc));
+    json.begin_object()?;
+    json.key("m")?;
+    json.u64(u64::from(choice.m_cost))?;
+    json.key("t")?;
+    json.u64(u64::from(choice.t_cost))?;
+    json.key("p")?;
+    json.u64(u64::from(p))?;
+    json.key("microseconds")?;
+    json.u64(choice.time)?;
+    json.key("busy")?;
+    json.boolean(found.busy)?;
+    json.end_object()?;
+    Ok(json.into_inner())
+}
+
+// Writes costs and their time as lines.
+fn write_lines<W: Write>(output: &mut W, found: Found, p: u32) -> Result<(), Failure>
+    ensures { OnOk result (Appends (W.contents output.old) (W.contents output.new)
+        (lines_text found p)) }
+{
+    let (m, t) = (found.choice.m_cost, found.choice.t_cost);
+    write_list(output, m, t, p)?;
+    write_call(output, m, t, p)?;
+    write_time(output, found.choice.time)?;
+    write_end(output, found.busy)
+}
+
+// Writes costs as a list of parameters, a line.
+fn write_list<W: Write>(output: &mut W, m: u32, t: u32, p: u32) -> Result<(), Failure>
+    ensures { OnOk result (Appends (W.contents output.old) (W.contents output.new)
+        (list_text m t p)) }
+{
+    writeln!(output, "m={m},t={t},p={p}")?;
+    Ok(())
+}
+
+// Writes costs as a call, a line.
+fn write_call<W: Write>(output: &mut W, m: u32, t: u32, p: u32) -> Result<(), Failure>
+    ensures { OnOk result (Appends (W.contents output.old) (W.contents output.new)
+        (call_text m t p)) }
+{
+    writeln!(output, "Params::new({m}, {t}, {p}, None)")?;
+    Ok(())
+}
+
+// Writes so many microseconds as seconds, a line.
+fn write_time<W: Write>(output: &mut W, time: u64) -> Result<(), Failure>
+    ensures { OnOk result (Appends (W.contents output.old) (W.contents output.new)
+        (time_text time)) }
+{
+    let (seconds, millis) = (time / 1_000_000, time / 1000 % 1000);
+    writeln!(output, "{seconds}.{millis:03} seconds")?;
+    Ok(())
+}
+
+// Writes a line if the machine was busy.
+fn write_end<W: Write>(output: &mut W, busy: bool) -> Result<(), Failure>
+    ensures { OnOk result (Appends (W.contents output.old) (W.contents output.new)
+        (end_text busy)) }
+{
+    if busy {
+        writeln!(output, "the machine was busy: times may be too long")?;
+    }
+    output.flush()?;
+    Ok(())
+}
