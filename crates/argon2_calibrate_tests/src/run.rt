@@ -69,7 +69,7 @@ fn written<S: Stopwatch>(
     }
 }
 
-// What a machine that takes a microsecond a block and pass, and so many beside, makes of the options.
+// Whether this is the answer on a machine that takes a microsecond a block and pass, and so many beside.
 fn answers(alloc: Global, options: Options, once: u64, answer: &str) -> Result<bool, Fail> {
     let mut stopwatch = Even {
         a_block: 1000,
@@ -168,8 +168,8 @@ fn takes_the_most_memory_and_then_the_most_passes(rt: HostRuntime) -> Result<(),
     Ok(())
 }
 
-// Whether the machine's errors and answer are those of half a second for 50 passes, though so many microseconds for
-// two passes have others tried first.
+// Whether the answer is 50 passes in half a second, and others are tried first, as two passes take so many
+// microseconds.
 fn corrects(alloc: Global, both: u64, tried: &str) -> Result<bool, Fail> {
     let options = Options {
         target: 500_000,
@@ -218,7 +218,7 @@ argon2-calibrate: m=524288,t=2,p=1 takes 1.048 seconds
     Ok(())
 }
 
-// Whether a machine that is so often busy gives the answer, and says so many times that it measures again.
+// Whether this is the answer on a machine that is so often busy, and errors say so many times that it measures again.
 fn repeats(
     alloc: Global,
     options: Options,
@@ -293,7 +293,7 @@ the machine was busy: times may be too long\n",
 fn halves_memory_that_is_refused(rt: HostRuntime) -> Result<(), Fail> {
     let mut stopwatch = Full {
         blocks: 4095,
-        often: 100,
+        measurements: 100,
     };
     let (output, errors) = written(rt.alloc(), ONE, &mut stopwatch)?;
     let printed = "argon2-calibrate: m=65536 is out of memory, trying half
@@ -308,7 +308,7 @@ argon2-calibrate: m=2048,t=2,p=1 takes 0.001 seconds
     Ok(())
 }
 
-// Whether a run whose output takes so many calls ends with status 3, and says last why.
+// Whether a run whose output takes so many calls ends with status 3, and errors end with why.
 fn fails<S: Stopwatch>(
     alloc: Global,
     options: Options,
@@ -335,16 +335,19 @@ fn reports_what_fails(rt: HostRuntime) -> Result<(), Fail> {
     };
     let refused = "argon2-calibrate: out of memory\n";
     let unwritten = "argon2-calibrate: standard output: other error\n";
-    for (options, blocks, often, calls, why) in [
+    for (options, blocks, measurements, calls, why) in [
         (small, 7, 100, 9, refused),
         (small, 1024, 1, 9, refused),
         (short, 65536, 100, 0, unwritten),
         (json, 65536, 100, 1, unwritten),
     ] {
-        let mut full = Full { blocks, often };
+        let mut full = Full {
+            blocks,
+            measurements,
+        };
         assert!(rt;
             fails(rt.alloc(), options, &mut full, calls, why)?,
-            "{blocks} {often} {calls} {why}"
+            "{blocks} {measurements} {calls} {why}"
         );
     }
     let stopped = "argon2-calibrate: the clock can't be read\n";
@@ -352,13 +355,12 @@ fn reports_what_fails(rt: HostRuntime) -> Result<(), Fail> {
     Ok(())
 }
 
-// Errors that can't be written leave the status as it is.
 #[test]
-fn goes_on_without_errors(rt: HostRuntime) -> Result<(), Fail> {
+fn keeps_the_status_if_errors_are_not_written(rt: HostRuntime) -> Result<(), Fail> {
     let mut output = Vec::new(rt.alloc());
     let mut full = Full {
         blocks: 1024,
-        often: 100,
+        measurements: 100,
     };
     let status = status(rt.alloc(), ONE, &mut full, &mut output, &mut Failing(0))?;
     assert_eq!(rt; status, 0);

@@ -49,11 +49,12 @@ impl Stopwatch for Uneven {
     }
 }
 
-/// A machine with so many blocks of memory, so often, on which each hash takes a millisecond.
+/// A machine with so many blocks of memory, on which each hash takes a millisecond. After so many measurements it has
+/// no memory left.
 #[derive(Drop)]
 pub(crate) struct Full {
     pub(crate) blocks: u32,
-    pub(crate) often: u32,
+    pub(crate) measurements: u32,
 }
 
 impl Stopwatch for Full {
@@ -63,10 +64,10 @@ impl Stopwatch for Full {
         m_cost: u32,
         _t_cost: u32,
     ) -> Result<Option<[u64; 3]>, Failure> {
-        if m_cost > self.blocks || self.often == 0 {
+        if m_cost > self.blocks || self.measurements == 0 {
             return Ok(None);
         }
-        self.often -= 1;
+        self.measurements -= 1;
         Ok(Some([1000, 1000, 1000]))
     }
 }
