@@ -3,6 +3,7 @@
 import os
 import subprocess
 import sys
+import time
 
 CRATES = os.path.join(os.path.dirname(os.path.realpath(__file__)), "../crates")
 
@@ -34,10 +35,12 @@ def built(crate):
     It is built where there is none, or where a source is newer.
     """
     program = f"{CRATES}/{crate}/out/{crate}"
-    newest = newest_source()
-    if not os.path.exists(program) or os.path.getmtime(program) < newest:
+    if not os.path.exists(program) or os.path.getmtime(program) < newest_source():
+        begun = time.time()
         how = {"stdin": subprocess.DEVNULL, "capture_output": True, "text": True}
         ran = subprocess.run(["rt", "run"], cwd=f"{CRATES}/{crate}", **how)
-        if not os.path.exists(program) or os.path.getmtime(program) < newest:
+        if "rt: running " not in ran.stdout + ran.stderr:
             sys.exit(f"rt run built no {crate}:\n{ran.stdout}{ran.stderr}")
+        # (rt leaves the file as it is if the newer source is none of this program's)
+        os.utime(program, (begun, begun))
     return program
