@@ -1,4 +1,5 @@
 pub mod AddLemmas
+pub mod ChainLemmas
 pub mod FileLemmas
 pub mod LoadLemmas
 pub mod NameLemmas

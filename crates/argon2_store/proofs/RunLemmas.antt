@@ -21,7 +21,7 @@ use Rattle.argon2_store.specs.declared.account_file.AccountFile.{AccountFile}
 use Rattle.argon2_store.specs.declared.error.FileError.{FileError}
 use Rattle.argon2_store.specs.declared.error.FileError.TheVariants.{Account, OutOfMemory, Io, Damaged, Full, TooLong, Closed}
 use Rattle.argon2_store.proofs.TableLemmas.{leaves_kept}
-use Rattle.argon2_store.proofs.OpenLemmas.{next_open}
+use Rattle.argon2_store.proofs.ChainLemmas.{next_open}
 use Rattle.argon2_store.proofs.TextLemmas.{are_texts, rows_of-once, step_texts}
 
 -- ---- events

@@ -4,6 +4,7 @@ use Rattle.sqlite_store.specs.Unopened.{IsCatalogOf}
 use Rattle.sqlite_store.specs.declared.store.open.Unopened.{Unopened}
 use Rattle.sqlite_value.specs.Order.{Row}
 use Rattle.sqlite_disk.specs.declared.Disk.{Ghosts}
+use Rattle.sqlite_disk.specs.Disk.{Only}
 use Rattle.sqlite_pages.specs.PageMap.{PageMap}
 use Rattle.sqlite_pool.specs.Opening.{IsBlankFile}
 use Rattle.sqlite_pool.specs.Stored.{IsUnreadable, Recovers, RecoversAs, stored_size}
@@ -76,6 +77,10 @@ abbrev pub AreUnharmed : {D : Type 0} → Ghosts D → D × D → D × D → Typ
 AreUnharmed g old new = AreClean g new.0 new.1 → (left : Image) → outcomes g new.0 new.1 left
     → StandsFor (outcomes g old.0 old.1) (seen_image g old.0 old.1) left
 
+-- a crash leaves just what the two files hold
+abbrev pub AreSynced : {D : Type 0} → Ghosts D → D × D → Type 0
+AreSynced g files = Only (g.seen files.0) (g.may_leave files.0) × Only (g.seen files.1) (g.may_leave files.1)
+
 -- Opens that failed, the newest first, with the files that each found: the first found `before`, and each left files that stand
 -- for those that it found. Files that have just been opened are synced, so a crash leaves just these. One during an open counts
 -- as an open that fails there.
@@ -83,3 +88,12 @@ abbrev pub IsAfterOpens : List Image → Image → Image → Type 0
 IsAfterOpens [] before left = left ≡ before
 IsAfterOpens (found ∷ older) before left =
     IsAfterOpens older before found × StandsFor (λ image. image ≡ found) found left
+
+-- What a crash leaves of files that were synced counts as one more open that failed, and an open finds there no other names than
+-- before all of these.
+abbrev pub LeavesNames : {D : Type 0} → Ghosts D → D × D → D × D → Type 0
+LeavesNames g old new = AreSynced g old → AreUnharmed g old new
+    → AreClean g new.0 new.1 → (left : Image) → outcomes g new.0 new.1 left
+    → (opens : List Image) (before : Image) → IsAfterOpens opens before (seen_image g old.0 old.1)
+    → IsAfterOpens (seen_image g old.0 old.1 ∷ opens) before left
+    × ((names found : Store) → HoldsNames before names → HoldsNames left found → found ≡ names)

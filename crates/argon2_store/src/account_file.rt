@@ -354,7 +354,7 @@ impl<'key, T: Start> AccountsAt<'key, T> {
     ///
     /// The file stays open, and locked against other processes, until the value is dropped.
     /// An open that fails leaves the accounts in the file as they were: see
-    /// [`open_from`](AccountFile::open_from).
+    /// [`failed_open`](crate::failed_open).
     ///
     /// # Errors
     /// - [`OpenError::Terms`]: the target or the bound is refused, as by [`Policy::new`].

@@ -28,4 +28,4 @@ mod table;
 
 pub use account_file::{AccountFile, AccountsAt};
 pub use error::{FileError, OpenError};
-pub use runs::{account_file_runs, next_run};
+pub use runs::{account_file_runs, failed_open, next_run};

@@ -11,7 +11,7 @@ ghost use Rattle.sqlite_trees.specs.View.{IsClean};
 ghost use Rattle.sqlite_wal.specs.Files.{seen_image};
 ghost use Rattle.sqlite_wal.specs.Recovery.{Image};
 ghost use Rattle.argon2_store.specs.Errors.{IsOfDatabase, IsOfPath};
-ghost use Rattle.argon2_store.specs.Opening.{AreUnharmed, FoundIn, IsReadAs, StandsFor, account};
+ghost use Rattle.argon2_store.specs.Opening.{AreSynced, AreUnharmed, FoundIn, IsReadAs, StandsFor, account};
 ghost use Rattle.argon2_store.specs.Rows.{rows_of};
 ghost use Rattle.argon2_store.specs.Shown.{file_of, names_of};
 ghost use Rattle.argon2_store.specs.Table as table;
@@ -188,6 +188,7 @@ pub(crate) fn open_path<T: Start>(
     ensures log { IfOk result (λ it. IsTrue (file_is_usable T.Start it.0.log)) }
     ensures db { IfOk result (λ it. IsTrue (file_is_usable T.Start it.0.db)) }
     ensures fresh { IfOk result (λ it. IsFresh true it.0.log × IsFresh false it.0.db) }
+    ensures synced { IfOk result (λ it. AreSynced ⟦<FileFrom<T> as Disk>⟧ (it.0.log, it.0.db)) }
     ensures error { IfErr result IsOfPath }
 {
     let files = sqlite_std_file::open(rt, path, start)?;

@@ -1,19 +1,26 @@
 //! What the next open finds.
 
+ghost use Rattle.argon2_store.specs.Opening.{LeavesNames};
 ghost use Rattle.argon2_store.specs.Runs.{EndsRun, NamesAreRun, TextsAreKept};
 
 use crate::account_file::AccountFile;
 use argon2_accounts::account_runs;
-use sqlite_disk::Disk;
+use sqlite_disk::{Disk, Files};
 use sqlite_store::FileStore;
 
 /// Where a crash comes now, or the file is dropped, the next open finds the names as all calls on the file
 /// left them. One change may be there too: that of the last call that did not find the file closed, where
 /// it had an error of the file or the crash cut it off. It finds the same after any number of opens that
-/// fail, each of which leaves what [`AccountFile::open_from`] says. A crash during an open counts as one
-/// that fails there.
+/// fail, each as [`failed_open`] says. A crash during an open counts as one that fails there.
 pub fn next_run<D: Disk>(file: &AccountFile<'_, FileStore<D>>)
     ensures { EndsRun file.now }
+{}
+
+/// An [`AccountFile::open_from`] that fails leaves the names of synced files, such as those that
+/// [`AccountFile::open`] opens. What a crash leaves of them, now `new`, counts as one more of the failed
+/// opens of which [`next_run`] speaks. An open finds no other names there than before all of these.
+pub fn failed_open<D: Disk>(old: &Files<D>, new: &Files<D>)
+    ensures { LeavesNames D.Disk (old.now.log, old.now.db) (new.now.log, new.now.db) }
 {}
 
 /// After any list of runs under one target and bound, each of which opens what the one before it left,
