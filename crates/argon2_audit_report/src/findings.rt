@@ -46,7 +46,7 @@ impl Findings {
         })
     }
 
-    // Adds a finding. If that fails, the object is never whole.
+    // Adds a finding. If its write fails, the object is never whole.
     fn write(&mut self, line: u64, remark: &Remark<'_>) -> Result<(), AllocError> {
         let text = format!(in self.alloc; "{remark}")?;
         let was_whole = self.is_whole;
