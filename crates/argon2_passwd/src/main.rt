@@ -21,15 +21,23 @@ fn main(rt: HostRuntime) -> ExitCode {
         Err(error) => return ExitCode::from(answer(PROGRAM, &error, &mut output, &mut errors)),
     };
     let status = match arguments::parsed(rt.alloc(), words.as_slice()) {
-        Ok(command) => run(
-            rt.alloc(),
-            command,
-            &mut Machine::new(&rt),
-            &mut None,
-            &mut rt.reader(),
-            &mut output,
-            &mut errors,
-        ),
+        Ok(command) => {
+            let mut left = None;
+            let status = run(
+                rt.alloc(),
+                command,
+                &mut Machine::new(&rt),
+                &mut left,
+                &mut rt.reader(),
+                &mut output,
+                &mut errors,
+            );
+            if let (Some(store), 0) = (&mut left, status) {
+                // The log has all accounts too, so a copy that fails loses none.
+                let _ = store.checkpoint();
+            }
+            status
+        }
         Err(error) => answer(PROGRAM, &error, &mut output, &mut errors),
     };
     ExitCode::from(status)

@@ -1,6 +1,5 @@
 -- What the program answers.
 use Rattle.std.specs.Prelude.{◌≡◌, ◌⊎◌, ⊤, ℕ, ◌==◌, false, Bool, ◌||◌, ◌+◌, IsTrue, List, [], ◌∷◌, ◌++◌, map, if◌then◌else◌, Option, Some, None, IfSome, Result, Ok, Err}
-use Rattle.std.specs.FinMap.{entries}
 use Rattle.std.specs.Io.BufRead.{drop_through}
 use Rattle.std.specs.List.{after_first, before_first, list_any}
 use Rattle.std.specs.Option.{option_map}
@@ -17,16 +16,16 @@ use Rattle.argon2.specs.Made.{IsFresh}
 use Rattle.argon2.specs.declared.login.answers.Accepted.{Accepted}
 use Rattle.argon2.specs.declared.login.answers.Accepted.TheVariants.{Rehashed}
 use Rattle.argon2_accounts.specs.declared.error.AccountError.{AccountError}
-use Rattle.argon2_store.specs.AccountFile.{AddsOrNone, Call, IsReady, Serves, names_of, store_of}
+use Rattle.argon2_store.specs.AccountFile.{AddsOrNone, Call, HasNames, IsReady, Serves, Stays, store_of}
 use Rattle.argon2_store.specs.Adding.{IsFirstRefused}
+use Rattle.argon2_store.specs.Rows.{lines_of}
+use Rattle.argon2_store.specs.Table.{IsHonest}
 use Rattle.argon2_store.specs.declared.account_file.AccountFile.{AccountFile}
 use Rattle.argon2_store.specs.declared.error.FileError.{FileError}
 use Rattle.argon2_store.specs.declared.error.FileError.TheVariants.{Account}
 use Rattle.argon2_passwd_commands.specs.Asked.{Asked, Choices, bound_of, check, edit, hash, import, show, verify}
 use Rattle.argon2_passwd_commands.specs.declared.command.Edit.{Edit}
 use Rattle.argon2_passwd_commands.specs.declared.command.Edit.TheVariants.{Register, Change, Set, Remove}
-use Rattle.argon2_passwd_commands.specs.declared.command.View.{View}
-use Rattle.argon2_passwd_commands.specs.declared.command.View.TheVariants.{Names, Texts}
 use Rattle.argon2_passwd_commands.specs.Passwords.{password_of}
 use Rattle.argon2_passwd_commands.specs.declared.failure.Failure.{Failure}
 use Rattle.argon2_passwd_commands.specs.declared.failure.Failure.TheVariants.{Line}
@@ -115,16 +114,6 @@ call_of Change name first second drawn = changing name first second drawn
 call_of Set name first second drawn = setting name first drawn
 call_of Remove name first second drawn = removing name
 
--- the line of a name with its text
-abbrev pub entry_line : View → List ℕ × Phc → List ℕ
-entry_line Names e = e.0 ++ 10 ∷ []
-entry_line Texts e = e.0 ++ 58 ∷ phc_text e.1 ++ 10 ∷ []
-
--- those of all names
-abbrev pub lines_of : View → List (List ℕ × Phc) → List ℕ
-lines_of view [] = []
-lines_of view (e ∷ es) = entry_line view e ++ lines_of view es
-
 -- the name and the text of a line: no text where it has no colon, and neither where it is not UTF-8
 abbrev pub entry_in : List ℕ → List ℕ × List ℕ
 entry_in line = if is_utf8 line then (before_first (λ b. b == 58) line, after_first (λ b. b == 58) line) else ([], [])
@@ -136,16 +125,17 @@ entries_in input = map entry_in (lines input)
 -- one of the entries is the first that is refused, and none is added; the failure has its line and the reason
 abbrev pub RefusesLine : {S : Type 0} {g : Ghosts S} → Failure → List (List ℕ × List ℕ) → AccountFile S g → AccountFile S g
     → Type 0
-RefusesLine failure es before after = (k : ℕ) × (why : AccountError) × (failure ≡ Line (k + 1) why)
-    × IsFirstRefused (names_of before) es k why × AddsOrNone es (Err (Account why)) before after
+RefusesLine {g} failure es before after = (number : ℕ) × (why : AccountError) × (failure ≡ Line number why)
+    × ((names : Store) → HasNames before names → IsHonest g (store_of after)
+    → (k : ℕ) × (number ≡ k + 1) × IsFirstRefused names es k why) × AddsOrNone es (Err (Account why)) before after
 
 -- the entries were to be added, and this is some answer to it
 abbrev pub IsAdded : {S : Type 0} {g : Ghosts S} → List (List ℕ × List ℕ) → AccountFile S g → AccountFile S g → Type 0
 IsAdded es before after = (answer : Result (Unit {0}) FileError) × AddsOrNone es answer before after
 
--- a file at a path that was opened under these terms
+-- a file at a path that was opened under these terms, with its names
 abbrev pub IsOpened : {S : Type 0} {g : Ghosts S} → (List ℕ → Store → Type 0) → List ℕ → Terms → AccountFile S g → Type 0
-IsOpened Has path terms file = IsReady terms file × Has path (names_of file)
+IsOpened Has path terms file = (names : Store) × Has path names × IsReady terms names file
 
 -- no file was opened, or its store was left as this one
 abbrev pub IsLeft : {S : Type 0} → Type 0 → Option S → Option S → Type 0
@@ -173,9 +163,10 @@ module _ {S : Type 0} (g : Ghosts S) (Holds : List ℕ → List ℕ → Type 0) 
   IsEdited choices path act name result input Becomes = (breaks_lines act name ≡ false) × (first second : List ℕ)
       × AreRead act input first second × IsCalled choices path (call_of act name first second) result Becomes
 
-  -- nothing was done with it, and this is a fact of its names
-  abbrev pub IsRead : Choices → List ℕ → (Store → Type 0) → (Option S → Type 0) → Type 0
-  IsRead choices path Shows = IsDone choices path (λ drawn before after. (after ≡ before) × Shows (names_of before))
+  -- no name was changed, with this error of the file if there was one, and this is a fact of its names
+  abbrev pub IsRead : Choices → List ℕ → Option FileError → (Store → Type 0) → (Option S → Type 0) → Type 0
+  IsRead choices path error Shows = IsDone choices path (λ drawn before after. (names : Store) → HasNames before names
+      → Stays error names before after × (IsHonest g (store_of after) → Shows names))
 
   -- that was the addition of the entries that a known input has, and the answer to it
   abbrev pub IsImported : Choices → List ℕ → (List (List ℕ × List ℕ) → AccountFile S g → AccountFile S g → Type 0)
@@ -194,7 +185,7 @@ module _ {S : Type 0} (g : Ghosts S) (Holds : List ℕ → List ℕ → Type 0) 
   IsAnswered (edit choices path act name) input old new Becomes =
       IsEdited choices path act name (Ok tt) input Becomes × Keeps old new
   IsAnswered (show choices path view) input old new Becomes =
-      IsRead choices path (λ names. Appends old new (lines_of view (entries names))) Becomes
+      IsRead choices path None (λ names. Appends old new (lines_of view names)) Becomes
   IsAnswered (import choices path) input old new Becomes =
       IsImported choices path (λ es. AddsOrNone es (Ok tt)) input Becomes × Keeps old new
 
@@ -219,6 +210,7 @@ module _ {S : Type 0} (g : Ghosts S) (Holds : List ℕ → List ℕ → Type 0) 
       Becomes None ⊎ ((answer : Result Accepted FileError) × IsLogin choices path name answer input Becomes)
   IsOnce (edit choices path act name) input Becomes =
       Becomes None ⊎ ((answer : Result (Unit {0}) FileError) × IsEdited choices path act name answer input Becomes)
-  IsOnce (show choices path view) input Becomes = Becomes None ⊎ IsRead choices path (λ names. ⊤) Becomes
+  IsOnce (show choices path view) input Becomes =
+      Becomes None ⊎ ((error : Option FileError) × IsRead choices path error (λ names. ⊤) Becomes)
   IsOnce (import choices path) input Becomes = Becomes None ⊎ IsImported choices path IsAdded input Becomes
   IsOnce _ input Becomes = Becomes None

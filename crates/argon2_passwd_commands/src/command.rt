@@ -1,6 +1,7 @@
 //! What the program is asked for.
 
 use crate::options::Options;
+use argon2_store::View;
 
 /// What the program is asked for.
 #[derive(Clone, Copy)]
@@ -30,13 +31,4 @@ pub enum Edit {
     Set,
     /// The name and its text are removed.
     Remove,
-}
-
-/// What is written of a file.
-#[derive(Clone, Copy)]
-pub enum View {
-    /// The names.
-    Names,
-    /// The names with their texts.
-    Texts,
 }

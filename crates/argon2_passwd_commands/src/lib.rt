@@ -9,6 +9,6 @@ mod outside;
 mod passwords;
 pub mod run;
 
-pub use command::{Command, Edit, View};
+pub use command::{Command, Edit};
 pub use options::Options;
 pub use outside::{Machine, Outside};

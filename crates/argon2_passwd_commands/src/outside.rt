@@ -21,7 +21,7 @@ pub trait Outside {
     ghost use Rattle.argon2_accounts.specs.Accounts.{AreTerms};
     ghost use Rattle.argon2.specs.NamedTexts.{Store as Texts};
     ghost use Rattle.argon2.specs.Made.{target_of};
-    ghost use Rattle.argon2_store.specs.AccountFile.{IsReady, names_of};
+    ghost use Rattle.argon2_passwd_commands.specs.Answers.{IsOpened};
     ghost use Rattle.argon2_passwd_commands.specs.Failures.{status_of};
 
     /// The store of a file with accounts.
@@ -62,9 +62,8 @@ pub trait Outside {
         bound: Bound,
     ) -> Result<AccountFile<'key, Self::File>, Failure>
         requires { unopened self.old }
-        ensures kept { IfOk result (λ file. keeps path.now (names_of file)) }
-        ensures ready { IfOk result
-            (IsReady (record { target = target_of target.entry; bound = bound })) }
+        ensures ready { IfOk result (IsOpened keeps path.now
+            (record { target = target_of target.entry; bound = bound })) }
         ensures refused { IfErr result (λ failure. status_of failure ≡ 1
             → ¬ (AreTerms (record { target = target_of target.entry; bound = bound }))) }
         ensures untouched { OnErr result (unopened self.new) };

@@ -1,44 +1,36 @@
 -- What a call on an account file does, where it is refused, writes nothing, or writes one name.
-use Rattle.std.proofs.Common.{◌≡◌, ◌⊎◌, inl, inr, ℕ, List, Option, Some, None, Result, Ok, Err, Bool, true, false, Bor, refl, sym, ap, subst, ◌∙◌, IsTrue}
+use Rattle.std.proofs.Common.{arith, ◌≡◌, ◌⊎◌, inl, inr, ℕ, List, Option, Some, None, Result, Ok, Err, Bool, true, false, refl, sym, ap, subst, ◌∙◌, IsTrue}
 use Rattle.std.specs.FinMap.{get, insert}
-use Rattle.std.specs.Option.{is_some, option_copied, option_map}
-use Rattle.std.specs.Prelude.{◌↔◌, IfErr, IsErr, IsErrAnd, MatchResult, OnErr, OnOk, length}
+use Rattle.rand_core.specs.Stream.{Stream}
+use Rattle.std.specs.Option.{is_some, option_map}
+use Rattle.argon2_base.specs.PhcFields.{phc_of}
+use Rattle.argon2_base.specs.declared.phc.hash.PasswordHash.{PasswordHash}
+use Rattle.std.specs.Prelude.{◌↔◌, IsSome, IfErr, IfSome, IsErr, IsErrAnd, MatchResult, OnErr, OnOk, length}
 use Rattle.sqlite_trees.specs.Tree.{Trees}
 use Rattle.sqlite_trees.specs.declared.error.StoreError.{StoreError}
 use Rattle.sqlite_trees.specs.declared.error.StoreError.TheVariants as below
 use Rattle.sqlite_trees.specs.declared.store.Store.{Ghosts}
 use Rattle.sqlite_trees.specs.View as view
-use Rattle.argon2_base.specs.PhcFields.{phc_of}
 use Rattle.argon2_base.specs.PhcText.{Phc}
-use Rattle.argon2_base.specs.declared.phc.hash.PasswordHash.{PasswordHash}
 use Rattle.argon2_accounts.specs.Accounts.{AccountAnswer, AccountEvent, AccountStep, Admits, HasPassword, Terms, name_of}
 use Rattle.argon2.specs.NamedTexts.{Store}
 use Rattle.argon2_accounts.specs.declared.error.AccountError.{AccountError}
 use Rattle.argon2_accounts.specs.declared.error.AccountError.TheVariants.{NameUnknown}
 use Rattle.argon2.proofs.login_lemmas.Stores.{get-other, get-same}
-use Rattle.argon2_store.specs.AccountFile.{Answers, Call, HasCause, IfRefused, IsBeforeOrAfter, IsClosed, IsErrorAt, Runs, Serves, names_of, store_of, terms_of}
-use Rattle.argon2_store.specs.Errors.{answered, unwritten}
-use Rattle.argon2_store.specs.Table.{Changes, IsHonest, IsLong, IsOpen, Leaves, changed}
+use Rattle.argon2_store.specs.AccountFile.{Answers, Call, DrawsForText, error_of, HasCause, HasFailed, HasNames, IfRefused, IsBeforeOrAfter, IsClosed, IsErrorAt, IsOfFile, Runs, Stays, store_of, terms_of}
+use Rattle.argon2_store.specs.Errors.{answered, read_of, unwritten}
+use Rattle.argon2_store.specs.Table as rows
+use Rattle.argon2_store.specs.Table.{Changes, IsHonest, IsLong, IsOpen, KeepsNames, Leaves, StaysQuiet, changed}
 use Rattle.argon2_store.specs.declared.account_file.AccountFile.{AccountFile}
 use Rattle.argon2_store.specs.declared.error.FileError.{FileError}
-use Rattle.argon2_store.specs.declared.error.FileError.TheVariants.{Account}
+use Rattle.argon2_store.specs.declared.error.FileError.TheVariants.{Account, OutOfMemory, Io, Damaged, Full, TooLong, Closed}
 use Rattle.argon2_store.proofs.NameLemmas.{get-gone-other, get-gone-same}
-use Rattle.argon2_store.proofs.TableLemmas.{err_is, leaves_kept}
+use Rattle.argon2_store.proofs.TableLemmas.{err_is, leaves_kept, more_earlier, on_all, quiet_itself}
+use Rattle.argon2_store.proofs.TextLemmas.{rows_of-once}
 
-open_of : (b : Bool) → (b ≡ false → ⊥) → IsTrue b
+pub open_of : (b : Bool) → (b ≡ false → ⊥) → IsTrue b
 open_of true h = refl
 open_of false h = absurd (h refl)
-
--- a name that was found has a text
-pub has_text : (o : Option (Bor PasswordHash)) (m : Option Phc) → is_some o ≡ true → option_map phc_of (option_copied o) ≡ m
-    → (v : Phc) × (m ≡ Some v)
-has_text (Some text) m found is = (phc_of text.now, sym is)
-has_text None m found is = absurd cc
-
-pub unnamed : (done : Result (Unit {0}) StoreError) (before now after : Store) → IsErr done
-    → MatchResult done (λ _. now ≡ after) (λ _. now ≡ before) → now ≡ before
-unnamed (Ok x) before now after failed is = absurd cc
-unnamed (Err e) before now after failed is = is
 
 unwritten_step : (X : Type 0) (terms : Terms) (before after : Store) (call : Call X) (e : StoreError) → after ≡ before
     → Answers terms before call (Err (unwritten e)) after
@@ -49,14 +41,14 @@ unwritten_step X terms before after call below.Full same = same
 unwritten_step X terms before after call below.Broken same = same
 unwritten_step X terms before after call below.Unstorable same = same
 
-unwritten_cause : (v : view.View) (closed fault long : Type 0) → (IsTrue v.is_broken → ⊥) → (e : StoreError)
-    → view.HasCause v fault long e → HasCause closed fault long (unwritten e)
-unwritten_cause v closed fault long sound below.OutOfMemory h = tt
-unwritten_cause v closed fault long sound below.Io h = h
-unwritten_cause v closed fault long sound below.Corrupt h = h
-unwritten_cause v closed fault long sound below.Full h = h
-unwritten_cause v closed fault long sound below.Broken h = absurd (sound h)
-unwritten_cause v closed fault long sound below.Unstorable h = h
+pub unwritten_cause : (v : view.View) (closed fault more long : Type 0) → (IsTrue v.is_broken → ⊥) → (fault → more)
+    → (e : StoreError) → view.HasCause v fault long e → HasCause closed more long (unwritten e)
+unwritten_cause v closed fault more long sound f below.OutOfMemory h = tt
+unwritten_cause v closed fault more long sound f below.Io h = f h
+unwritten_cause v closed fault more long sound f below.Corrupt h = f h
+unwritten_cause v closed fault more long sound f below.Full h = f h
+unwritten_cause v closed fault more long sound f below.Broken h = absurd (sound h)
+unwritten_cause v closed fault more long sound f below.Unstorable h = h
 
 -- names where one is changed: it has what it was given, and the others keep what they have
 step_of : (terms : Terms) (before : Store) (event : AccountEvent) (p : Option Phc)
@@ -75,6 +67,75 @@ refused_cause : {X : Type 0} (closed fault long : Type 0) (r : Result X FileErro
     → IfErr r (λ f. (e : AccountError) × (f ≡ Account e)) → IfErr r (HasCause closed fault long)
 refused_cause closed fault long (Ok x) why = tt
 refused_cause closed fault long (Err f) why = rw why.1 tt
+
+pub is_there : (o : Option PasswordHash) → is_some o ≡ true → IsSome (option_map phc_of o)
+is_there (Some text) there = refl
+is_there None there = absurd cc
+
+pub is_nowhere : (o : Option PasswordHash) → is_some o ≡ false → option_map phc_of o ≡ None
+is_nowhere (Some text) gone = absurd cc
+is_nowhere None gone = refl
+
+-- ---- errors of the file
+
+is_of_file : (f : StoreError) → IsOfFile (unwritten f)
+is_of_file below.OutOfMemory = tt
+is_of_file below.Io = tt
+is_of_file below.Corrupt = tt
+is_of_file below.Full = tt
+is_of_file below.Broken = tt
+is_of_file below.Unstorable = tt
+
+pub of_file : {X : Type 0} (done : Result X StoreError) (r : Result X FileError) → r ≡ read_of done → IfErr r IsOfFile
+of_file (Ok x) r is = rw is tt
+of_file (Err e) r is = rw is (is_of_file e)
+
+-- a file that can't be read draws nothing
+pub undrawn : (e : FileError) (r : Result (Unit {0}) FileError) → IsErrAnd r (λ f. f ≡ e) → IsOfFile e → (s : Stream)
+    → DrawsForText r s s
+undrawn e r is of_file s = rw (err_is r e is) (go e of_file)
+  where
+    go : (e : FileError) → IsOfFile e → DrawsForText (Err e) s s
+    go (Account e) of_file = absurd of_file
+    go OutOfMemory of_file = inl refl
+    go Io of_file = inl refl
+    go Damaged of_file = inl refl
+    go Full of_file = inl refl
+    go TooLong of_file = inl refl
+    go Closed of_file = refl
+
+pub kept_err : {Q : Type 0} (P : Type 0) (done : Result (Unit {0}) StoreError) → IsErr done → MatchResult done (λ _. P)
+    (λ _. Q) → Q
+kept_err P (Ok x) failed is = absurd cc
+kept_err P (Err e) failed is = is
+
+unread_step : (X : Type 0) (terms : Terms) (before : Store) (call : Call X) (e : FileError) → IsOfFile e
+    → Answers terms before call (Err e) before
+unread_step X terms before call (Account e) of_file = absurd of_file
+unread_step X terms before call OutOfMemory of_file = refl
+unread_step X terms before call Io of_file = refl
+unread_step X terms before call Damaged of_file = refl
+unread_step X terms before call Full of_file = refl
+unread_step X terms before call TooLong of_file = refl
+unread_step X terms before call Closed of_file = refl
+
+pub unread_refused : (P : Type 0) (e : FileError) → IsOfFile e → IfRefused P e
+unread_refused P (Account e) of_file = absurd of_file
+unread_refused P OutOfMemory of_file = tt
+unread_refused P Io of_file = tt
+unread_refused P Damaged of_file = tt
+unread_refused P Full of_file = tt
+unread_refused P TooLong of_file = tt
+unread_refused P Closed of_file = tt
+
+unread_cause : (closed fault long : Type 0) (e : FileError) → HasCause closed fault ⊥ e → HasCause closed fault long e
+unread_cause closed fault long (Account e) h = tt
+unread_cause closed fault long OutOfMemory h = tt
+unread_cause closed fault long Io h = h
+unread_cause closed fault long Damaged h = h
+unread_cause closed fault long Full h = h
+unread_cause closed fault long TooLong h = absurd h
+unread_cause closed fault long Closed h = h
 
 refused_same : {X P : Type 0} (r : Result X FileError) → IfErr r (λ f. (e : AccountError) × (f ≡ Account e)) → P
     → IfErr r (IfRefused P)
@@ -113,166 +174,346 @@ err_if : {X E P : Type 0} (r : Result X E) → P → OnErr r P
 err_if (Ok x) p = tt
 err_if (Err e) p = p
 
--- A call on a file that is not closed.
+-- a store that is open has one map of names
+pub same_names : {S : Type 0} (g : Ghosts S) (s : S) (a b : Store) → rows.HasNames g s a → rows.HasNames g s b → IsHonest g s
+    → IsOpen g s → a ≡ b
+same_names g s a b (good, kept) (fine, held) clean is_open =
+    rows_of-once a b good fine (sym (kept.seen clean is_open).0 ∙ (held.seen clean is_open).0)
+
+-- a file whose test says so is not closed
+pub live_of : {S : Type 0} {g : Ghosts S} (old : AccountFile S g) {b : Bool}
+    → (IsHonest g (store_of old) → IsTrue b ↔ IsClosed old)
+    → b ≡ false → IsHonest g (store_of old) → IsClosed old → ⊥
+live_of old tests shut clean is = absurd (let hit = (tests clean).1 is in cc)
+
+-- a file that is closed
+pub shut_out : {S : Type 0} {g : Ghosts S}
+    → ((s : S) (db : Trees) → IsTrue (g.view s).is_open → g.recovers s db → db ≡ (g.view s).committed)
+    → (old : AccountFile S g) (before : Store) → HasNames old before
+    → {b : Bool} → (IsHonest g (store_of old) → IsTrue b ↔ IsClosed old) → b ≡ true → Stays (Some Closed) before old old
+shut_out {S} {g} settled old before has tests shut = record {
+  has = has;
+  terms = refl;
+  quiet = quiet_itself g (store_of old);
+  left = leaves_kept g (store_of old) before (settled (store_of old)) has.1;
+  closed = λ clean is. refl;
+  is_open = λ none. absurd cc;
+  of_file = tt;
+  cause = λ clean. (tests clean).0 shut;
+}
+
+-- a call that reads an open file
+pub reads_of : {S : Type 0} {g : Ghosts S} {X : Type 0}
+    → ((s : S) (db : Trees) → IsTrue (g.view s).is_open → g.recovers s db → db ≡ (g.view s).committed)
+    → (old new : AccountFile S g) (names : Store) → HasNames old names → (IsHonest g (store_of old) → IsClosed old → ⊥)
+    → terms_of new ≡ terms_of old → (done : Result X StoreError) → KeepsNames g (store_of old) (store_of new) names done
+    → (r : Result X FileError) → r ≡ read_of done → Stays (error_of r) names old new
+reads_of {g = g} {X = X} settled old new names has live terms done read r e = rw e (go done read)
+  where
+    stays : (d : Result X StoreError) → KeepsNames g (store_of old) (store_of new) names d
+        → (error_of (read_of d) ≡ None → IsHonest g (store_of new) → IsOpen g (store_of new))
+        → IfSome (error_of (read_of d)) IsOfFile
+        → (IsHonest g (store_of new) → IfSome (error_of (read_of d)) (HasCause (IsClosed old) (HasFailed old new) ⊥))
+        → Stays (error_of (read_of d)) names old new
+    stays d read is_open of_file cause = record {
+      has = read.has;
+      terms = terms;
+      quiet = read.quiet;
+      left = λ clean is_open db found. leaves_kept g (store_of old) names (settled (store_of old)) has.1
+          (omega (arith, clean, read.quiet.clean)) is_open db (read.quiet.outcomes db found);
+      closed = λ clean is. absurd (live (omega (arith, clean, read.quiet.clean)) is);
+      is_open = is_open;
+      of_file = of_file;
+      cause = cause;
+    }
+
+    go : (d : Result X StoreError) → KeepsNames g (store_of old) (store_of new) names d → Stays (error_of (read_of d)) names old new
+    go (Ok x) read = stays (Ok x) read (λ none. read.is_open) tt (λ clean. tt)
+    go (Err f) read = stays (Err f) read (λ none. absurd cc) (is_of_file f) (λ clean.
+        let first : IsHonest g (store_of old) = omega (arith, clean, read.quiet.clean) in
+        let sound = has.1.sound first (open_of _ (live first)) in
+        unwritten_cause (g.view (store_of old)) _ _ _ _
+        (λ b. let h : IsTrue (g.view (store_of old)).is_broken = b in cc) (λ more. more) f (read.cause clean))
+
+-- the store does nothing
+pub unread : {S : Type 0} {g : Ghosts S}
+    → ((s : S) (db : Trees) → IsTrue (g.view s).is_open → g.recovers s db → db ≡ (g.view s).committed)
+    → (old : AccountFile S g) (before : Store) → HasNames old before → (IsHonest g (store_of old) → IsClosed old → ⊥)
+    → Stays None before old old
+unread {S} {g} settled old before has live = record {
+  has = has;
+  terms = refl;
+  quiet = quiet_itself g (store_of old);
+  left = leaves_kept g (store_of old) before (settled (store_of old)) has.1;
+  closed = λ clean is. absurd (live clean is);
+  is_open = λ none clean. open_of _ (live clean);
+  of_file = tt;
+  cause = λ clean. tt;
+}
+
+-- A call on a file that is not closed, which has read it.
 module _ {S : Type 0} {g : Ghosts S}
     (settled : (s : S) (db : Trees) → IsTrue (g.view s).is_open → g.recovers s db → db ≡ (g.view s).committed)
-    (old : AccountFile S g) {b : Bool} (tests : IsHonest g (store_of old) → IsTrue b ↔ IsClosed old) (no : b ≡ false)
-    {X : Type 0} (answers : Result X FileError → Store → Type 0) (May : Store → Type 0) (long : Type 0) where
-  live : IsHonest g (store_of old) → IsClosed old → ⊥
-  live clean is = absurd (let yes = (tests clean).1 is in cc)
+    (old mid : AccountFile S g) (before : Store) (live : IsHonest g (store_of old) → IsClosed old → ⊥)
+    (reads : Stays None before old mid) {X : Type 0} (answers : Result X FileError → Store → Type 0) (May : Store → Type 0)
+    (long : Type 0) where
+  was_honest : IsHonest g (store_of mid) → IsHonest g (store_of old)
+  was_honest clean = omega (arith, clean, reads.quiet.clean)
 
-  -- a crash leaves the names of a store that is open
-  still_left : IsHonest g (store_of old) → IsOpen g (store_of old) → Leaves g (store_of old) (λ left. left ≡ names_of old)
-  still_left = leaves_kept g (store_of old) (names_of old) (settled (store_of old)) old.table.kept
+  was_open : IsHonest g (store_of mid) → IsOpen g (store_of old)
+  was_open clean = open_of _ (live (was_honest clean))
 
   -- nothing is written
-  pub writes_none : (new : AccountFile S g) → store_of new ≡ store_of old → terms_of new ≡ terms_of old
-      → names_of new ≡ names_of old → May (names_of old) → (r : Result X FileError) → answers r (names_of old)
-      → IfErr r (λ f. (e : AccountError) × (f ≡ Account e)) → Runs answers May long r old new
-  writes_none new stored same named may r step why = record {
-    step = subst (answers r) (sym named) step;
-    terms = same;
-    honest = rw stored (λ clean. clean);
-    unchanged = err_if r named;
-    refused = refused_same r why stored;
-    crash = rw stored (λ clean is_open db found.
-        let left = still_left clean is_open db found in (left.0, left.1, subst May (sym left.2) may));
-    durable = ok_if r (rw stored (λ clean db found.
-        let left = still_left clean (open_of _ (live clean)) db found in (left.0, left.1, left.2 ∙ sym named)));
+  pub writes_none : May before → (r : Result X FileError) → (IsHonest g (store_of mid) → answers r before)
+      → IfErr r (λ f. (e : AccountError) × (f ≡ Account e)) → Runs answers May long r old mid before before
+  writes_none may r step why = record {
+    has = reads.has;
+    step = step;
+    terms = reads.terms;
+    honest = was_honest;
+    unchanged = err_if r refl;
+    refused = refused_same r why reads.quiet;
+    crash = λ clean is_open db found.
+        let left = reads.left clean is_open db found in (left.0, left.1, subst May (sym left.2) may);
+    durable = ok_if r (λ clean. reads.left clean (was_open clean));
     closed = λ clean h. absurd (live clean h);
-    closes = λ clean is_open. inl (rw stored is_open);
+    closes = λ clean is_open. inl (reads.is_open refl clean);
     cause = λ clean. refused_cause _ _ long r why;
   }
 
-  may_leave : (new : AccountFile S g) (to : Store) → May (names_of old) → May to
-      → (IsHonest g (store_of new) → Leaves g (store_of new) (λ left. (left ≡ names_of old) ⊎ (left ≡ to)))
+  may_leave : (new : AccountFile S g) (to : Store) → May before → (IsHonest g (store_of new) → May to)
+      → (IsHonest g (store_of new) → Leaves g (store_of new) (λ left. (left ≡ before) ⊎ (left ≡ to)))
       → IsHonest g (store_of new) → Leaves g (store_of new) May
-  may_leave new to before after crash clean db found =
+  may_leave new to first then crash clean db found =
       let left = crash clean db found in
-      (left.0, left.1, elim left.2 [ inl b ↦ subst May (sym b) before | inr a ↦ subst May (sym a) after ])
+      (left.0, left.1, elim left.2 [ inl b ↦ subst May (sym b) first | inr a ↦ subst May (sym a) (then clean) ])
+
+  closes_then : (new : AccountFile S g) → (IsHonest g (store_of new) → IsOpen g (store_of new) ⊎ HasFailed mid new)
+      → IsHonest g (store_of new) → IsOpen g (store_of new) ⊎ HasFailed old new
+  closes_then new closes clean = elim (closes clean) [
+    | inl yet ↦ inl yet
+    | inr more ↦ inr (more_earlier (g.faults (store_of old)) (g.faults (store_of mid)) (g.faults (store_of new))
+        reads.quiet.counts
+        more)
+  ]
 
   -- names are written, or stay as they were
-  pub writes_all : (new : AccountFile S g) (to : Store) (x : X) → terms_of new ≡ terms_of old → answers (Ok x) to
-      → ((e : StoreError) → answers (Err (unwritten e)) (names_of old)) → May (names_of old) → May to
-      → (done : Result (Unit {0}) StoreError) → Changes g (store_of old) (store_of new) (names_of old) to long done
-      → MatchResult done (λ _. names_of new ≡ to) (λ _. names_of new ≡ names_of old)
-      → (r : Result X FileError) → r ≡ answered done x → Runs answers May long r old new
-  writes_all new to x same step failed before after (Ok _) change is r e = rw e (record {
-    step = subst (answers (Ok x)) (sym is) step;
-    terms = same;
-    honest = change.honest;
-    unchanged = tt;
-    refused = tt;
-    crash = λ clean is_open. may_leave new to before after change.crash clean;
-    durable = λ clean db found. let left = (change.durable clean).1 db found in (left.0, left.1, left.2 ∙ sym is);
-    closed = λ clean h. absurd (live clean h);
-    closes = λ clean is_open. change.closes clean;
-    cause = λ clean. tt;
-  })
-  writes_all new to x same step failed before after (Err f) change is r e = rw e (record {
-    step = subst (answers (Err (unwritten f))) (sym is) (failed f);
-    terms = same;
-    honest = change.honest;
-    unchanged = is;
-    refused = not_refused _ f;
-    crash = λ clean is_open. may_leave new to before after change.crash clean;
-    durable = tt;
-    closed = λ clean h. absurd (live clean h);
-    closes = λ clean is_open. change.closes clean;
-    cause = λ clean.
-        let first = change.honest clean in
-        let sound = old.table.kept.sound first (open_of _ (live first)) in
-        unwritten_cause (g.view (store_of old)) _ _ _
-        (λ b. let h : IsTrue (g.view (store_of old)).is_broken = b in cc) f (change.cause clean);
-  })
+  pub writes_all : (new : AccountFile S g) (to : Store) (x : X) → terms_of new ≡ terms_of mid
+      → ((e : StoreError) → answers (Err (unwritten e)) before) → May before → (IsHonest g (store_of new) → May to)
+      → (done : Result (Unit {0}) StoreError) → OnOk done (IsHonest g (store_of new) → answers (Ok x) to)
+      → Changes g (store_of mid) (store_of new) before to long done
+      → (r : Result X FileError) → r ≡ answered done x → (after : Store) × Runs answers May long r old new before after
+  writes_all new to x same failed first then (Ok _) step change r e = (
+    to,
+    rw e (record {
+      has = change.kept;
+      step = step;
+      terms = same ∙ reads.terms;
+      honest = λ clean. was_honest (change.honest clean);
+      unchanged = tt;
+      refused = tt;
+      crash = λ clean is_open. may_leave new to first then change.crash clean;
+      durable = λ clean. (change.durable clean).1;
+      closed = λ clean h. absurd (live clean h);
+      closes = λ clean is_open. closes_then new change.closes clean;
+      cause = λ clean. tt;
+    }),
+  )
+  writes_all new to x same failed first then (Err f) step change r e = (
+    before,
+    rw e (record {
+      has = change.kept;
+      step = λ clean. failed f;
+      terms = same ∙ reads.terms;
+      honest = λ clean. was_honest (change.honest clean);
+      unchanged = refl;
+      refused = not_refused _ f;
+      crash = λ clean is_open. may_leave new to first then change.crash clean;
+      durable = tt;
+      closed = λ clean h. absurd (live clean h);
+      closes = λ clean is_open. closes_then new change.closes clean;
+      cause = λ clean.
+          let first = change.honest clean in
+          let sound = reads.has.1.sound first (reads.is_open refl first) in
+          unwritten_cause (g.view (store_of mid)) _ _ _ _
+          (λ b. let h : IsTrue (g.view (store_of mid)).is_broken = b in cc)
+          (more_earlier (g.faults (store_of old)) (g.faults (store_of mid)) (g.faults (store_of new)) reads.quiet.counts)
+          f (change.cause clean);
+    }),
+  )
 
 -- A call on a name that has this text or none, in a file that is not closed.
 module _ {S : Type 0} {g : Ghosts S}
     (settled : (s : S) (db : Trees) → IsTrue (g.view s).is_open → g.recovers s db → db ≡ (g.view s).committed)
     {X : Type 0} (call : Call X) (name : List ℕ) (calls : (answer : Result X AccountError) → name_of (call answer) ≡ name)
-    (old : AccountFile S g) {b : Bool} (tests : IsHonest g (store_of old) → IsTrue b ↔ IsClosed old) (no : b ≡ false)
-    (o : Option Phc) (had : get (names_of old) name ≡ o) where
+    (old mid : AccountFile S g) (before : Store) (live : IsHonest g (store_of old) → IsClosed old → ⊥)
+    (reads : Stays None before old mid) where
   abbrev answers : Result X FileError → Store → Type 0
-  answers = Answers (terms_of old) (names_of old) call
+  answers = Answers (terms_of old) before call
 
   abbrev May : Store → Type 0
-  May = IsBeforeOrAfter X (terms_of old) (names_of old) call
+  May = IsBeforeOrAfter X (terms_of old) before call
 
   abbrev long : Type 0
   long = IsLong (name_of (call (Err NameUnknown)))
 
-  now_has : (answer : Result X AccountError) → get (names_of old) (name_of (call answer)) ≡ o
-  now_has answer = ap (get (names_of old)) (calls answer) ∙ had
+  -- the call runs, with some names after it
+  abbrev Ends : Result X FileError → AccountFile S g → Type 0
+  Ends r new = (after : Store) × Runs answers May long r old new before after
 
-  stays : (answer : Result X AccountError) → AccountAnswer (terms_of old) (call answer) o o
-      → AccountStep (terms_of old) (names_of old) (call answer) (names_of old)
-  stays answer is =
-      let here = subst (λ (p : Option Phc). AccountAnswer (terms_of old) (call answer) p p) (sym (now_has answer)) is in
-      (here, λ other differs. refl)
+  module _ (o : Option Phc) (had : IsHonest g (store_of mid) → get before name ≡ o) where
+    now_has : (answer : Result X AccountError) → IsHonest g (store_of mid) → get before (name_of (call answer)) ≡ o
+    now_has answer clean = ap (get before) (calls answer) ∙ had clean
 
-  -- a call that the accounts refuse
-  pub refuses : (e : AccountError) (r : Result X FileError) → IsErrAnd r (λ f. f ≡ Account e)
-      → AccountAnswer (terms_of old) (call (Err e)) o o → Serves call r old old
-  refuses e r is answer = rw (err_is r (Account e) is)
-      (writes_none settled old tests no answers May long old refl refl refl (inl refl) (Err (Account e)) (stays (Err e) answer)
-      (e, refl))
+    under_old : (answer : Result X AccountError) (p : Option Phc) → AccountAnswer (terms_of mid) (call answer) o p
+        → AccountAnswer (terms_of old) (call answer) o p
+    under_old answer p = subst (λ (t : Terms). AccountAnswer t (call answer) o p) reads.terms
 
-  -- an accepted call that writes nothing
-  pub accepts : (x : X) → AccountAnswer (terms_of old) (call (Ok x)) o o → Serves call (Ok x) old old
-  accepts x answer =
-      writes_none settled old tests no answers May long old refl refl refl (inl refl) (Ok x) (stays (Ok x) answer) tt
+    stays : (answer : Result X AccountError) → AccountAnswer (terms_of mid) (call answer) o o → IsHonest g (store_of mid)
+        → AccountStep (terms_of old) before (call answer) before
+    stays answer is clean =
+        let here = subst (λ (p : Option Phc). AccountAnswer (terms_of old) (call answer) p p) (sym (now_has answer clean))
+        (under_old answer o is) in
+        (here, λ other differs. refl)
 
-  moves_to : (p : Option Phc) (x : X) → AccountAnswer (terms_of old) (call (Ok x)) o p
-      → AccountStep (terms_of old) (names_of old) (call (Ok x)) (changed (names_of old) name p)
-  moves_to p x answer =
-      subst (λ (n : List ℕ). AccountStep (terms_of old) (names_of old) (call (Ok x)) (changed (names_of old) n p)) (calls (Ok x))
-      (step_of (terms_of old) (names_of old) (call (Ok x)) p
-      (subst (λ (q : Option Phc). AccountAnswer (terms_of old) (call (Ok x)) q p) (sym (now_has (Ok x))) answer))
+    -- a call that the accounts refuse
+    pub refuses : (e : AccountError) (r : Result X FileError) → IsErrAnd r (λ f. f ≡ Account e)
+        → AccountAnswer (terms_of mid) (call (Err e)) o o → Ends r mid
+    refuses e r is answer = rw (err_is r (Account e) is) (
+      before,
+      writes_none settled old mid before live reads answers May
+          long (inl refl) (Err (Account e)) (stays (Err e) answer) (e, refl),
+    )
 
-  -- an accepted call that could not write its name's text, where the file is still open
-  pub keeps : (new : AccountFile S g) (p : Option Phc) (did x : X) → terms_of new ≡ terms_of old → names_of new ≡ names_of old
-      → AccountAnswer (terms_of old) (call (Ok did)) o p → AccountAnswer (terms_of old) (call (Ok x)) o o
-      → (done : Result (Unit {0}) StoreError)
-      → Changes g (store_of old) (store_of new) (names_of old) (changed (names_of old) name p) (IsLong name) done
-      → {later : Bool} → (IsHonest g (store_of new) → IsTrue later ↔ IsClosed new) → later ≡ false → Serves call (Ok x) old new
-  keeps new p did x same named wrote answer done change still shut =
-      let is_open : IsHonest g (store_of new) → IsOpen g (store_of new) = λ clean.
-      open_of _ (λ is. absurd (let yes = (still clean).1 is in cc)) in
-      record {
-        step = subst (AccountStep (terms_of old) (names_of old) (call (Ok x))) (sym named) (stays (Ok x) answer);
-        terms = same;
-        honest = change.honest;
-        unchanged = tt;
-        refused = tt;
-        crash = λ clean was_open. may_leave settled old tests no answers May long new (changed (names_of old) name p) (inl refl)
-            (inr (did, moves_to p did wrote)) change.crash clean;
-        durable = λ clean. leaves_kept g (store_of new) (names_of new) (settled (store_of new)) new.table.kept clean
-            (is_open clean);
-        closed = λ clean h. absurd (live settled old tests no answers May long clean h);
-        closes = λ clean was_open. inl (is_open clean);
-        cause = λ clean. tt;
-      }
+    -- an accepted call that writes nothing
+    pub accepts : (x : X) → AccountAnswer (terms_of mid) (call (Ok x)) o o → Ends (Ok x) mid
+    accepts x answer = (
+      before,
+      writes_none settled old mid before live reads answers May long (inl refl) (Ok x)
+          (stays (Ok x) answer) tt,
+    )
 
-  -- an accepted call that writes its name's text
-  pub writes : (new : AccountFile S g) (p : Option Phc) (x : X) → terms_of new ≡ terms_of old
-      → AccountAnswer (terms_of old) (call (Ok x)) o p → (done : Result (Unit {0}) StoreError)
-      → Changes g (store_of old) (store_of new) (names_of old) (changed (names_of old) name p) (IsLong name) done
-      → MatchResult done (λ _. names_of new ≡ changed (names_of old) name p) (λ _. names_of new ≡ names_of old)
-      → (r : Result X FileError) → r ≡ answered done x → Serves call r old new
-  writes new p x same answer done change is r e =
-      let before = names_of old in
-      let to = changed before name p in
-      let moves = moves_to p x answer in
-      writes_all settled old tests no answers May long new to x same moves
-      (λ f. unwritten_step X (terms_of old) before before call f refl) (inl refl) (inr (x, moves)) done
-      (subst (λ (n : List ℕ). Changes g (store_of old) (store_of new) before to (IsLong n) done)
-      (sym (calls (Err NameUnknown))) change) is r e
+    moves_to : (p : Option Phc) (x : X) → AccountAnswer (terms_of mid) (call (Ok x)) o p → IsHonest g (store_of mid)
+        → AccountStep (terms_of old) before (call (Ok x)) (changed before name p)
+    moves_to p x answer clean =
+        subst (λ (n : List ℕ). AccountStep (terms_of old) before (call (Ok x)) (changed before n p)) (calls (Ok x))
+        (step_of (terms_of old) before (call (Ok x)) p
+        (subst (λ (q : Option Phc). AccountAnswer (terms_of old) (call (Ok x)) q p) (sym (now_has (Ok x) clean))
+        (under_old (Ok x) p answer)))
 
--- the name has the text that was written, and a password that it admits
-pub has_written : (terms : Terms) (before after : Store) (name password : List ℕ) (v : Phc) {X : Type 0} (x : X)
-    (done : Result (Unit {0}) StoreError) → MatchResult done (λ _. after ≡ insert before name v) (λ _. after ≡ before)
-    → Admits terms password v → (r : Result X FileError) → r ≡ answered done x → OnOk r (HasPassword terms after name password)
-has_written terms before after name password v x (Ok _) is admits r e =
-    let has : get after name ≡ Some v = ap (λ s. get s name) is ∙ get-same before name v in
-    rw (e, has) admits
-has_written terms before after name password v x (Err f) is admits r e = rw e tt
+    -- an accepted call that could not write its name's text, where the file is still open
+    pub keeps : (new : AccountFile S g) (p : Option Phc) (did x : X) → terms_of new ≡ terms_of mid
+        → AccountAnswer (terms_of mid) (call (Ok did)) o p → AccountAnswer (terms_of mid) (call (Ok x)) o o
+        → (done : Result (Unit {0}) StoreError) → IsErr done
+        → Changes g (store_of mid) (store_of new) before (changed before name p) (IsLong name) done
+        → {later : Bool} → (IsHonest g (store_of new) → IsTrue later ↔ IsClosed new) → later ≡ false → Ends (Ok x) new
+    keeps new p did x same wrote answer (Ok _) failed change tests shut = absurd cc
+    keeps new p did x same wrote answer (Err f) failed change tests shut =
+        let is_open : IsHonest g (store_of new) → IsOpen g (store_of new) = λ clean.
+        open_of _ (λ is. absurd (let hit = (tests clean).1 is in cc)) in (
+          before,
+          record {
+            has = change.kept;
+            step = λ clean. stays (Ok x) answer (change.honest clean);
+            terms = same ∙ reads.terms;
+            honest = λ clean. was_honest settled old mid before live reads answers May long (change.honest clean);
+            unchanged = tt;
+            refused = tt;
+            crash = λ clean was_open. may_leave settled old mid before live reads answers May long new (changed before name p)
+                (inl refl) (λ now. inr (did, moves_to p did wrote (change.honest now))) change.crash clean;
+            durable = λ clean. leaves_kept g (store_of new) before (settled (store_of new)) change.kept.1 clean (is_open clean);
+            closed = λ clean h. absurd (live clean h);
+            closes = λ clean was_open. inl (is_open clean);
+            cause = λ clean. tt;
+          },
+        )
+
+    -- an accepted call that writes its name's text
+    pub writes : (new : AccountFile S g) (p : Option Phc) (x : X) → terms_of new ≡ terms_of mid
+        → AccountAnswer (terms_of mid) (call (Ok x)) o p → (done : Result (Unit {0}) StoreError)
+        → Changes g (store_of mid) (store_of new) before (changed before name p) (IsLong name) done
+        → (r : Result X FileError) → r ≡ answered done x → Ends r new
+    writes new p x same answer done change r e =
+        let to = changed before name p in
+        let moves : IsHonest g (store_of new) → AccountStep (terms_of old) before (call (Ok x)) to = λ clean.
+        moves_to p x answer (change.honest clean) in
+        writes_all settled old mid before live reads answers May long new to x same
+        (λ f. unwritten_step X (terms_of old) before before call f refl) (inl refl) (λ clean. inr (x, moves clean)) done
+        (on_all done moves)
+        (subst (λ (n : List ℕ). Changes g (store_of mid) (store_of new) before to (IsLong n) done)
+        (sym (calls (Err NameUnknown))) change) r e
+
+-- a call with an error that leaves the names
+pub ends_with : {S : Type 0} {g : Ghosts S} {X : Type 0}
+    → ((s : S) (db : Trees) → IsTrue (g.view s).is_open → g.recovers s db → db ≡ (g.view s).committed)
+    → (answers : Result X FileError → Store → Type 0) (May : Store → Type 0) (long : Type 0) (old new : AccountFile S g)
+    (before : Store) (e : FileError) → HasNames old before → HasNames new before → terms_of new ≡ terms_of old
+    → StaysQuiet g (store_of old) (store_of new) → (IsHonest g (store_of new) → answers (Err e) before) → May before
+    → IfRefused (StaysQuiet g (store_of old) (store_of new)) e
+    → (IsHonest g (store_of old) → IsClosed old → (e ≡ Closed) × (store_of new ≡ store_of old))
+    → (IsHonest g (store_of new) → HasCause (IsClosed old) (HasFailed old new) long e)
+    → Runs answers May long (Err e) old new before before
+ends_with {g = g} settled answers May long old new before e had has terms quiet step may refused closed cause = record {
+  has = has;
+  step = step;
+  terms = terms;
+  honest = λ clean. omega (arith, clean, quiet.clean);
+  unchanged = refl;
+  refused = refused;
+  crash = λ clean is_open db found.
+      let left = leaves_kept g (store_of old) before (settled (store_of old)) had.1 (omega (arith, clean, quiet.clean))
+      is_open db
+      (quiet.outcomes db found) in
+      (left.0, left.1, subst May (sym left.2) may);
+  durable = tt;
+  closed = λ clean is. let h = closed clean is in (ap Err h.0, h.1);
+  closes = quiet.closes;
+  cause = cause;
+}
+
+-- a call on a file that can't be read
+pub fails : {S : Type 0} {g : Ghosts S} {X : Type 0}
+    → ((s : S) (db : Trees) → IsTrue (g.view s).is_open → g.recovers s db → db ≡ (g.view s).committed)
+    → (answers : Result X FileError → Store → Type 0) (May : Store → Type 0) (long : Type 0) (old mid : AccountFile S g)
+    (before : Store) (e : FileError) → HasNames old before → answers (Err e) before → May before → Stays (Some e) before old mid
+    → (IsHonest g (store_of old) → IsClosed old → (e ≡ Closed) × (store_of mid ≡ store_of old))
+    → Runs answers May long (Err e) old mid before before
+fails {g = g} settled answers May long old mid before e had step may reads closed =
+    ends_with {g = g} settled answers May long old mid before e had reads.has reads.terms reads.quiet (λ clean. step) may
+    (unread_refused _ e reads.of_file) closed (λ clean. unread_cause _ _ long e (reads.cause clean))
+
+-- and one on a name in it
+pub cannot_serve : {S : Type 0} {g : Ghosts S} {X : Type 0}
+    → ((s : S) (db : Trees) → IsTrue (g.view s).is_open → g.recovers s db → db ≡ (g.view s).committed)
+    → (call : Call X) (old mid : AccountFile S g) (before : Store) → HasNames old before
+    → (e : FileError) (r : Result X FileError) → IsErrAnd r (λ f. f ≡ e) → Stays (Some e) before old mid
+    → (IsHonest g (store_of old) → IsClosed old → (e ≡ Closed) × (store_of mid ≡ store_of old))
+    → (after : Store) × Runs (Answers (terms_of old) before call) (IsBeforeOrAfter X (terms_of old) before call)
+    (IsLong (name_of (call (Err NameUnknown)))) r old mid before after
+cannot_serve {X = X} settled call old mid before has e r is reads closed = rw (err_is r e is) (
+  before,
+  fails settled _ _ _ old mid
+      before e has
+      (unread_step X (terms_of old) before call e reads.of_file) (inl refl) reads closed,
+)
+
+-- ---- the password of a name
+
+-- the name has a text that was written, and a password that it admits
+pub has_written : {S : Type 0} (g : Ghosts S) (s new : S) (terms : Terms) (before after : Store) (name password : List ℕ)
+    (v : Phc) (long : Type 0) {X : Type 0} (x : X) (done : Result (Unit {0}) StoreError)
+    → Changes g s new before (insert before name v) long done → rows.HasNames g new after → Admits terms password v
+    → (r : Result X FileError) → r ≡ answered done x → OnOk r (IsHonest g new → HasPassword terms after name password)
+has_written g s new terms before after name password v long x (Ok _) change has admits r e = rw e (λ clean.
+    let same = same_names g new (insert before name v) after change.kept has clean (change.durable clean).0 in
+    subst (λ names. HasPassword terms names name password) same (rw (get-same before name v) admits))
+has_written g s new terms before after name password v long x (Err f) change has admits r e = rw e tt
+
+-- the name still has its text, which admits the password
+pub has_kept : {S : Type 0} (g : Ghosts S) (new : S) (terms : Terms) (before after : Store) (name password : List ℕ) (v : Phc)
+    → rows.HasNames g new before → rows.HasNames g new after → (IsHonest g new → IsOpen g new)
+    → (IsHonest g new → get before name ≡ Some v) → Admits terms password v
+    → IsHonest g new → HasPassword terms after name password
+has_kept g new terms before after name password v has held is_open had admits clean =
+    let same = same_names g new before after has held clean (is_open clean) in
+    subst (λ names. HasPassword terms names name password) same (rw (had clean) admits)

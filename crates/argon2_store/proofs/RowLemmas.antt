@@ -90,8 +90,11 @@ none_above : (k n : List ℕ) (u : Phc) (es : List (List ℕ × Phc)) → order 
     → AllByRecursion (λ e. order k e.0 ≡ Equal → e.1 ≡ u) es
 none_above k n u [] t h = tt
 none_above k n u (e ∷ es) t h =
-    let parts = and_parts (is_lt (order n e.0)) _ h in
-    (λ is. absurd (let apart = sym is ∙ nat_list_cmp_total.congr k n e.0 t ∙ less _ parts.0 in cc), none_above k n u es t parts.1)
+    let parts = and_parts (is_lt (order n e.0)) _ h in (
+      λ is. absurd (let apart = sym is ∙ nat_list_cmp_total.congr k n e.0 t ∙ less _ parts.0 in cc),
+      none_above k n u es t
+          parts.1,
+    )
 
 found_once : (k : List ℕ) (u : Phc) (es : List (List ℕ × Phc)) → is_sorted order es ≡ true → find order k es ≡ Some u
     → AllByRecursion (λ e. order k e.0 ≡ Equal → e.1 ≡ u) es

@@ -1,9 +1,9 @@
 -- What calls make of a file, and what an open finds after them.
-use Rattle.std.proofs.Common.{◌≡◌, ℕ, Bool, true, false, List, [], ◌∷◌, ◌++◌, map, Result, Ok, Err, inl, inr, refl, sym, subst, ◌∙◌, append_assoc, IsTrue}
+use Rattle.std.proofs.Common.{arith, ◌≡◌, ℕ, Bool, true, false, List, [], ◌∷◌, ◌++◌, map, Result, Ok, Err, inl, inr, refl, sym, subst, ◌∙◌, append_assoc, IsTrue}
 use Rattle.std.proofs.lemmas.List.{reverse-append}
 use Rattle.std.proofs.Math.Logic.{∥∥₁_elim, ∥∥₁_map}
 use Rattle.std.specs.List.{flat_map}
-use Rattle.std.specs.Prelude.{◌⊎◌, IsErr}
+use Rattle.std.specs.Prelude.{◌⊎◌, Option, IsSome}
 use Rattle.sqlite_disk.specs.declared.Disk as disk
 use Rattle.sqlite_wal.proofs.LogLemmas.{SeenMayStay}
 use Rattle.sqlite_store.specs.Laws.{settled_at}
@@ -12,17 +12,17 @@ use Rattle.sqlite_trees.specs.Tree.{Trees}
 use Rattle.sqlite_trees.specs.declared.store.Store.{Ghosts}
 use Rattle.argon2_accounts.specs.Accounts.{AccountEvent, AccountRun, AccountStep, AreTerms, Terms, adding}
 use Rattle.argon2.specs.NamedTexts.{Store}
-use Rattle.argon2_store.specs.AccountFile.{AddsOrNone, Call, Copies, IsBeforeOrAfter, IsClosed, IsReady, Runs, Serves, names_of, store_of, terms_of}
+use Rattle.argon2_store.specs.AccountFile.{AddsOrNone, Call, HasNames, IsBeforeOrAfter, IsClosed, IsReady, Runs, Serves, Stays, store_of, terms_of}
 use Rattle.argon2_store.specs.Adding.{AddsAll}
 use Rattle.argon2_store.specs.Rows.{AreTexts}
-use Rattle.argon2_store.specs.Runs.{AreEventsOf, Did, Does, EndsRun, FileCall, IsFoundAfter, IsLate, IsLateEvent, IsLateOf, IsShutOut, Run, add_all, added, checkpoint, event_of, events_of, login, on_name, over_file}
-use Rattle.argon2_store.specs.Table.{IsHonest, IsOpen, Leaves}
+use Rattle.argon2_store.specs.Runs.{AreEventsOf, Did, Does, EndsRun, FileCall, IsFoundAfter, IsLate, IsLateEvent, IsLateOf, IsShutOut, Run, add_all, added, event_of, events_of, login, on_name, over_file, reads}
+use Rattle.argon2_store.specs.Table.{IsHonest, IsOpen, Leaves, StaysQuiet}
 use Rattle.argon2_store.specs.declared.account_file.AccountFile.{AccountFile}
 use Rattle.argon2_store.specs.declared.error.FileError.{FileError}
 use Rattle.argon2_store.specs.declared.error.FileError.TheVariants.{Account, OutOfMemory, Io, Damaged, Full, TooLong, Closed}
 use Rattle.argon2_store.proofs.TableLemmas.{leaves_kept}
 use Rattle.argon2_store.proofs.ChainLemmas.{next_open}
-use Rattle.argon2_store.proofs.TextLemmas.{are_texts, rows_of-once, step_texts}
+use Rattle.argon2_store.proofs.TextLemmas.{rows_of-once, step_texts}
 
 -- ---- events
 
@@ -51,13 +51,15 @@ added_run terms (e ∷ es) before after (mid, step, adds) =
 
 module _ {S : Type 0} {g : Ghosts S}
     (settled : (s : S) (db : Trees) → IsTrue (g.view s).is_open → g.recovers s db → db ≡ (g.view s).committed)
-    (terms : Terms) (first : AccountFile S g) where
-  -- what these events made of it, and what a crash leaves: that, or some that come late too
+    (terms : Terms) (first : Store) where
+  -- what these events made of the first names, and what a crash leaves: that, or some that come late too
   pub record Reached (events : List AccountEvent) (Late : List AccountEvent → Type 0) (file : AccountFile S g) : Type 0 where
+    pub names : Store
+    pub has : HasNames file names
     pub under : terms_of file ≡ terms
-    pub run : AccountRun terms (names_of first) events (names_of file)
+    pub run : IsHonest g (store_of file) → AccountRun terms first events names
     pub left : IsHonest g (store_of file) → Leaves g (store_of file)
-        (λ left. (late : List AccountEvent) × Late late × AccountRun terms (names_of first) (late ++ events) left)
+        (λ left. (late : List AccountEvent) × Late late × AccountRun terms first (late ++ events) left)
 
   module _ (calls : List FileCall) (old new : AccountFile S g)
       (before : Reached (flat_map events_of calls) (IsLate calls) old) where
@@ -76,27 +78,29 @@ module _ {S : Type 0} {g : Ghosts S}
         go false is = if_closed is
 
     -- the names are as they were, and a crash leaves them, or with some events that come late
-    stays : (Late : List AccountEvent → Type 0) (Shut : Type 0) → terms_of new ≡ terms_of old → names_of new ≡ names_of old
+    stays : (Late : List AccountEvent → Type 0) (Shut : Type 0) → HasNames new before.names → terms_of new ≡ terms_of old
         → (IsHonest g (store_of new) → IsHonest g (store_of old))
         → (IsHonest g (store_of new) → IsOpen g (store_of old) → Leaves g (store_of new)
-        (λ left. (left ≡ names_of old) ⊎ ((late : List AccountEvent) × Late late × AccountRun terms (names_of old) late left)))
+        (λ left. (left ≡ before.names) ⊎ ((late : List AccountEvent) × Late late × AccountRun terms before.names late left)))
         → (IsHonest g (store_of new) → IsClosed old
         → Shut × ((db : Trees) → g.recovers (store_of new) db → g.recovers (store_of old) db))
         → Reached events (Now Late Shut) new
-    stays Late Shut same named honest crash closed = record {
+    stays Late Shut has same honest crash closed = record {
+      names = before.names;
+      has = has;
       under = same ∙ before.under;
-      run = subst (AccountRun terms (names_of first) events) (sym named) before.run;
+      run = λ clean. before.run (honest clean);
       left = λ clean. open_or_not
           (λ is_open db found.
           let (names, has, left) = crash clean is_open db found in (
             names,
             has,
             elim left [
-              | inl is ↦ ([], inl refl, subst (AccountRun terms (names_of first) events) (sym is) before.run)
+              | inl is ↦ ([], inl refl, subst (AccountRun terms first events) (sym is) (before.run (honest clean)))
               | inr more ↦ (
                 more.0,
                 inr (inl more.1),
-                run_then terms (names_of first) (names_of old) names more.0 events before.run more.2,
+                run_then terms first before.names names more.0 events (before.run (honest clean)) more.2,
               )
             ],
           ))
@@ -107,121 +111,171 @@ module _ {S : Type 0} {g : Ghosts S}
     }
 
     -- events that are in the file
-    lasts : (Late : List AccountEvent → Type 0) (Shut : Type 0) (newer : List AccountEvent) → terms_of new ≡ terms_of old
-        → AccountRun terms (names_of old) newer (names_of new)
-        → (IsHonest g (store_of new) → Leaves g (store_of new) (λ left. left ≡ names_of new))
+    lasts : (Late : List AccountEvent → Type 0) (Shut : Type 0) (newer : List AccountEvent) (after : Store)
+        → HasNames new after → terms_of new ≡ terms_of old → (IsHonest g (store_of new) → IsHonest g (store_of old))
+        → (IsHonest g (store_of new) → AccountRun terms before.names newer after)
+        → (IsHonest g (store_of new) → Leaves g (store_of new) (λ left. left ≡ after))
         → Reached (newer ++ events) (Now Late Shut) new
-    lasts Late Shut newer same later left =
-        let run = run_then terms (names_of first) (names_of old) (names_of new) newer events before.run later in
+    lasts Late Shut newer after has same honest later left =
+        let run : IsHonest g (store_of new) → AccountRun terms first (newer ++ events) after = λ clean.
+        run_then terms first before.names after newer events (before.run (honest clean)) (later clean) in
         record {
+          names = after;
+          has = has;
           under = same ∙ before.under;
           run = run;
           left = λ clean db found.
               let (names, has, is) = left clean db found in
-              (names, has, ([], inl refl, subst (AccountRun terms (names_of first) (newer ++ events)) (sym is) run));
+              (names, has, ([], inl refl, subst (AccountRun terms first (newer ++ events)) (sym is) (run clean)));
         }
 
     -- a call with an error of the file
     cut : {X : Type 0} {answers : Result X FileError → Store → Type 0} {May : Store → Type 0} {long : Type 0}
-        (Late : List AccountEvent → Type 0) (e : FileError)
+        (Late : List AccountEvent → Type 0) (e : FileError) (after : Store)
         → ((left : Store) → May left
-        → (left ≡ names_of old) ⊎ ((late : List AccountEvent) × Late late × AccountRun terms (names_of old) late left))
-        → Runs answers May long (Err e) old new
+        → (left ≡ before.names) ⊎ ((late : List AccountEvent) × Late late × AccountRun terms before.names late left))
+        → Runs answers May long (Err e) old new before.names after
         → Reached events (Now Late (◌≡◌ {A = Result X FileError} (Err e) (Err Closed))) new
-    cut Late e may does = stays Late _ does.terms does.unchanged does.honest
+    cut Late e after may does = stays Late _ (subst (HasNames new) does.unchanged does.has) does.terms does.honest
         (λ clean is_open db found. let (names, has, left) = does.crash clean is_open db found in (names, has, may names left))
         (λ clean is_closed. let (shut, same) = does.closed (does.honest clean) is_closed in
         (shut, λ db found. subst (λ s. g.recovers s db) same found))
 
-    late_call : {X : Type 0} (call : Call X) (left : Store) → IsBeforeOrAfter X (terms_of old) (names_of old) call left
-        → (left ≡ names_of old) ⊎ ((late : List AccountEvent) × ((x : X) × (late ≡ call (Ok x) ∷ []))
-        × AccountRun terms (names_of old) late left)
+    late_call : {X : Type 0} (call : Call X) (left : Store) → IsBeforeOrAfter X (terms_of old) before.names call left
+        → (left ≡ before.names) ⊎ ((late : List AccountEvent) × ((x : X) × (late ≡ call (Ok x) ∷ []))
+        × AccountRun terms before.names late left)
     late_call call left (inl is) = inl is
     late_call call left (inr (x, step)) = inr (
       call (Ok x) ∷ [],
       (x, refl),
-      (names_of old, refl, subst (λ t. AccountStep t (names_of old) (call (Ok x)) left) before.under step),
+      (before.names, refl, subst (λ t. AccountStep t before.names (call (Ok x)) left) before.under step),
     )
 
-    late_names : (es : List (List ℕ × List ℕ)) (left : Store) → (left ≡ names_of old) ⊎ AddsAll (names_of old) es left
-        → (left ≡ names_of old) ⊎ ((late : List AccountEvent) × (late ≡ added es) × AccountRun terms (names_of old) late left)
+    late_names : (es : List (List ℕ × List ℕ)) (left : Store) → (left ≡ before.names) ⊎ AddsAll before.names es left
+        → (left ≡ before.names) ⊎ ((late : List AccountEvent) × (late ≡ added es) × AccountRun terms before.names late left)
     late_names es left (inl is) = inl is
-    late_names es left (inr adds) = inr (added es, refl, added_run terms es (names_of old) left adds)
+    late_names es left (inr adds) = inr (added es, refl, added_run terms es before.names left adds)
+
+    -- a refusal leaves what was there
+    refused_left : StaysQuiet g (store_of old) (store_of new) → IsHonest g (store_of old) → IsOpen g (store_of old)
+        → Leaves g (store_of new) (λ left. left ≡ before.names)
+    refused_left quiet clean is_open db found =
+        leaves_kept g (store_of old) before.names (settled (store_of old)) before.has.1 clean is_open db
+        (quiet.outcomes db found)
 
     -- a call on one name
     serves : {X : Type 0} (call : Call X) (result : Result X FileError) → Serves call result old new
         → Reached (event_of call result ++ events) (Now (IsLateEvent call result) (result ≡ Err Closed)) new
-    serves call (Ok x) does = lasts (λ late. ⊥) _ (call (Ok x) ∷ []) does.terms
-        (names_of old, refl, subst (λ t. AccountStep t (names_of old) (call (Ok x)) (names_of new)) before.under does.step)
+    serves call (Ok x) serve =
+        let (after, does) = serve before.names before.has in
+        lasts (λ late. ⊥) _ (call (Ok x) ∷ []) after does.has does.terms does.honest
+        (λ clean. (
+          before.names,
+          refl,
+          subst (λ t. AccountStep t before.names (call (Ok x)) after) before.under
+              (does.step clean),
+        ))
         does.durable
-    serves call (Err (Account e)) does = lasts (λ late. ⊥) _ (call (Err e) ∷ []) does.terms
-        (names_of old, refl, subst (λ t. AccountStep t (names_of old) (call (Err e)) (names_of new)) before.under does.step)
+    serves call (Err (Account e)) serve =
+        let (after, does) = serve before.names before.has in
+        lasts (λ late. ⊥) _ (call (Err e) ∷ []) after does.has does.terms does.honest
+        (λ clean. (
+          before.names,
+          refl,
+          subst (λ t. AccountStep t before.names (call (Err e)) after) before.under
+              (does.step clean),
+        ))
         (λ clean. open_or_not
         (λ is_open db found.
-        let (names, has, is) = leaves_kept g (store_of old) (names_of old) (settled (store_of old)) old.table.kept
-        (does.honest clean) is_open db (subst (λ s. g.recovers s db) does.refused found) in
+        let (names, has, is) = refused_left does.refused (does.honest clean) is_open db found in
         (names, has, is ∙ sym does.unchanged))
-        (λ is_closed. let no = (does.closed (does.honest clean) is_closed).0 in absurd cc))
-    serves call (Err OutOfMemory) does = cut (IsLateEvent call (Err OutOfMemory)) OutOfMemory (late_call call) does
-    serves call (Err Io) does = cut (IsLateEvent call (Err Io)) Io (late_call call) does
-    serves call (Err Damaged) does = cut (IsLateEvent call (Err Damaged)) Damaged (late_call call) does
-    serves call (Err Full) does = cut (IsLateEvent call (Err Full)) Full (late_call call) does
-    serves call (Err TooLong) does = cut (IsLateEvent call (Err TooLong)) TooLong (late_call call) does
-    serves call (Err Closed) does = cut (IsLateEvent call (Err Closed)) Closed (late_call call) does
+        (λ is_closed. let never = (does.closed (does.honest clean) is_closed).0 in absurd cc))
+    serves call (Err OutOfMemory) serve =
+        let (after, does) = serve before.names before.has in cut (IsLateEvent call (Err OutOfMemory)) OutOfMemory after
+        (late_call call) does
+    serves call (Err Io) serve =
+        let (after, does) = serve before.names before.has in cut (IsLateEvent call (Err Io)) Io after (late_call call) does
+    serves call (Err Damaged) serve =
+        let (after, does) = serve before.names before.has in cut (IsLateEvent call (Err Damaged)) Damaged after
+        (late_call call) does
+    serves call (Err Full) serve =
+        let (after, does) = serve before.names before.has in cut (IsLateEvent call (Err Full)) Full after (late_call call) does
+    serves call (Err TooLong) serve =
+        let (after, does) = serve before.names before.has in cut (IsLateEvent call (Err TooLong)) TooLong after
+        (late_call call) does
+    serves call (Err Closed) serve =
+        let (after, does) = serve before.names before.has in cut (IsLateEvent call (Err Closed)) Closed after (late_call call)
+        does
 
     adds : (es : List (List ℕ × List ℕ)) (result : Result (Unit {0}) FileError) → AddsOrNone es result old new
         → Reached (events_of (add_all es result) ++ events) (Now (IsLateOf (add_all es result)) (result ≡ Err Closed)) new
-    adds es (Ok x) does = lasts (λ late. ⊥) _ (added es) does.terms (added_run terms es (names_of old) (names_of new) does.step)
-        does.durable
-    adds es (Err (Account e)) does = stays (λ late. ⊥) _ does.terms does.unchanged does.honest
+    adds es (Ok x) add =
+        let (after, does) = add before.names before.has in
+        lasts (λ late. ⊥) _ (added es) after does.has does.terms does.honest
+        (λ clean. added_run terms es before.names after (does.step clean)) does.durable
+    adds es (Err (Account e)) add =
+        let (after, does) = add before.names before.has in
+        stays (λ late. ⊥) _ (subst (HasNames new) does.unchanged does.has) does.terms does.honest
         (λ clean is_open db found.
-        let (names, has, is) = leaves_kept g (store_of old) (names_of old) (settled (store_of old)) old.table.kept
-        (does.honest clean) is_open db (subst (λ s. g.recovers s db) does.refused found) in
-        (names, has, inl is))
-        (λ clean is_closed.
-        ((does.closed (does.honest clean) is_closed).0, λ db found. subst (λ s. g.recovers s db) does.refused found))
-    adds es (Err OutOfMemory) does = cut (IsLateOf (add_all es (Err OutOfMemory))) OutOfMemory (late_names es) does
-    adds es (Err Io) does = cut (IsLateOf (add_all es (Err Io))) Io (late_names es) does
-    adds es (Err Damaged) does = cut (IsLateOf (add_all es (Err Damaged))) Damaged (late_names es) does
-    adds es (Err Full) does = cut (IsLateOf (add_all es (Err Full))) Full (late_names es) does
-    adds es (Err TooLong) does = cut (IsLateOf (add_all es (Err TooLong))) TooLong (late_names es) does
-    adds es (Err Closed) does = cut (IsLateOf (add_all es (Err Closed))) Closed (late_names es) does
+        let (names, has, is) = refused_left does.refused (does.honest clean) is_open db found in (names, has, inl is))
+        (λ clean is_closed. ((does.closed (does.honest clean) is_closed).0, does.refused.outcomes))
+    adds es (Err OutOfMemory) add =
+        let (after, does) = add before.names before.has in cut (IsLateOf (add_all es (Err OutOfMemory))) OutOfMemory after
+        (late_names es) does
+    adds es (Err Io) add =
+        let (after, does) = add before.names before.has in cut (IsLateOf (add_all es (Err Io))) Io after (late_names es) does
+    adds es (Err Damaged) add =
+        let (after, does) = add before.names before.has in cut (IsLateOf (add_all es (Err Damaged))) Damaged after
+        (late_names es) does
+    adds es (Err Full) add =
+        let (after, does) = add before.names before.has in cut (IsLateOf (add_all es (Err Full))) Full after (late_names es)
+        does
+    adds es (Err TooLong) add =
+        let (after, does) = add before.names before.has in cut (IsLateOf (add_all es (Err TooLong))) TooLong after
+        (late_names es) does
+    adds es (Err Closed) add =
+        let (after, does) = add before.names before.has in cut (IsLateOf (add_all es (Err Closed))) Closed after
+        (late_names es) does
 
-    copies : (result : Result (Unit {0}) FileError) → Copies result old new
-        → Reached events (Now (λ late. ⊥) (IsErr result)) new
-    copies result does = stays (λ late. ⊥) _ does.terms does.names does.honest
+    keeps : (error : Option FileError) → ((names : Store) → HasNames old names → Stays error names old new)
+        → Reached events (Now (λ late. ⊥) (IsSome error)) new
+    keeps error stay =
+        let does = stay before.names before.has in
+        stays (λ late. ⊥) _ does.has does.terms (λ clean. omega (arith, clean, does.quiet.clean))
         (λ clean is_open db found. let (names, has, is) = does.left clean is_open db found in (names, has, inl is))
-        (λ clean is_closed. (does.closed clean is_closed, does.outcomes))
+        (λ clean is_closed. (does.closed clean is_closed, does.quiet.outcomes))
 
     pub one_more : (call : FileCall) → Does call old new
         → Reached (events_of call ++ events) (Now (IsLateOf call) (IsShutOut call)) new
     one_more (on_name call result) does = serves call result does
     one_more (login call result) does = serves call result does
     one_more (add_all es result) does = adds es result does
-    one_more (checkpoint result) does = copies result does
+    one_more (reads error) does = keeps error does
 
-  pub reached : IsReady terms first → (calls : List FileCall) (last : AccountFile S g) → Did calls first last
-      → Reached (flat_map events_of calls) (IsLate calls) last
-  reached ready [] last is = subst (Reached [] (IsLate [])) (sym is) (record {
+  pub reached : (begun : AccountFile S g) → IsReady terms first begun → (calls : List FileCall) (last : AccountFile S g)
+      → Did calls begun last → Reached (flat_map events_of calls) (IsLate calls) last
+  reached begun ready [] last is = subst (Reached [] (IsLate [])) (sym is) (record {
+    names = first;
+    has = ready.has;
     under = ready.under;
-    run = refl;
+    run = λ clean. refl;
     left = λ clean db found. let (names, has, same) = ready.left clean db found in (names, has, ([], refl, same));
   })
-  reached ready (call ∷ older) last (mid, did, does) = one_more older mid last (reached ready older mid did) call does
+  reached begun ready (call ∷ older) last (mid, did, does) = one_more older mid last (reached begun ready older mid did) call
+      does
 
 -- ---- runs
 
 pub ends_run : {D : Type 0} (g : disk.Ghosts D) → SeenMayStay g → (last : AccountFile (FileStore D g) over_file) → EndsRun last
-ends_run {D} g stay last terms first calls before ready did clean may opens left after next holds =
+ends_run {D} g stay last terms names first calls before ready did clean may opens left after next holds =
     let settled = λ (it : FileStore D g) (db : Trees). settled_at it stay db in
-    let leaves = (reached {S = FileStore D g} {g = over_file} settled terms first ready calls last did).left clean in
+    let leaves = (reached {S = FileStore D g} {g = over_file} settled terms names first ready calls last did).left clean in
     let listed = λ (db : Trees) (found : over_file.recovers (store_of last) db). (leaves db found).1.1 in
     ∥∥₁_map (next_open {g = g} (store_of last) listed before may opens left after next holds) (λ found.
-    let (names, held, late) = leaves found.0 found.1 in
-    let texts = run_texts terms ready.sound (names_of first) names (late.0 ++ flat_map events_of calls)
-    (are_texts first.table.names) late.2 in
-    let same = rows_of-once names next texts holds.0 (sym held.0 ∙ found.2.0) in
-    (late.0, late.1, subst (AccountRun terms (names_of first) (late.0 ++ flat_map events_of calls)) same late.2))
+    let (left_names, held, late) = leaves found.0 found.1 in
+    let texts = run_texts terms ready.sound names left_names (late.0 ++ flat_map events_of calls) ready.has.0 late.2 in
+    let same = rows_of-once left_names next texts holds.0 (sym held.0 ∙ found.2.0) in
+    (late.0, late.1, subst (AccountRun terms names (late.0 ++ flat_map events_of calls)) same late.2))
 
 pub runs_join : (terms : Terms) (first : Store) (runs : List Run) (names : Store) → IsFoundAfter terms first runs names
     → ∥ ((events : List AccountEvent) × AreEventsOf runs events × AccountRun terms first events names) ∥₁

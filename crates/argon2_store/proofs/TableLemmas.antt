@@ -1,9 +1,13 @@
 -- What the rows of a table are after each step of a change.
-use Rattle.std.proofs.Common.{◌≡◌, ℕ, zero, suc, ◌+◌, ◌^◌, nat_lt, ◌≤◌, List, length, Option, Some, None, Result, Ok, Err, Bool, true, false, refl, sym, ap, ap₂, subst, ◌∙◌, IsTrue, arith, inl, inr}
+use Rattle.std.proofs.Common.{◌≡◌, ℕ, zero, suc, ◌+◌, ◌^◌, nat_lt, ◌≤◌, List, length, Option, Some, None, Result, Ok, Err, Bool, true, false, cond, refl, sym, ap, ap₂, subst, ◌∙◌, IsTrue, arith, inl, inr}
 use Rattle.std.proofs.lemmas.Bool.Decides.{nat_tests}
 use Rattle.std.specs.Float.{NotNan}
 use Rattle.std.specs.Float.Ieee
-use Rattle.std.specs.Prelude.{◌⊎◌, All, IsErrAnd, IfErr, IfOk, MatchResult, OnOk}
+use Rattle.std.specs.Prelude.{◌⊎◌, All, IsErrAnd, IfErr, IfOk, IfSome, MatchResult, OnOk}
+use Rattle.std.specs.Coded.{Coded-set}
+use Rattle.std.specs.Str.{bytes_eq}
+use Rattle.std.proofs.Math.Logic.{∥∥₁_elim, ∥∥₁_map}
+use Rattle.sqlite_trees.specs.contracts.store.Shape.{the_row}
 use Rattle.std.specs.FinMap.{get, insert, remove}
 use Rattle.sqlite_disk.specs.Disk.{MoreFaults}
 use Rattle.sqlite_value.specs.Keys.{plain}
@@ -16,11 +20,12 @@ use Rattle.sqlite_trees.specs.declared.store.Store.{Ghosts}
 use Rattle.sqlite_trees.specs.Objects.{catalog_tree}
 use Rattle.sqlite_trees.specs.Tree.{Trees, insert_entry, order_of, remove_entry}
 use Rattle.sqlite_trees.specs.View.{View, Commits, HasCause, IsFailure, IsStorable, KeepsSchema, OnlyWrites, SetsTree, doubt, is_int}
-use Rattle.argon2_base.specs.PhcText.{Phc, phc_text}
+use Rattle.argon2_base.specs.PhcText.{IsPhc, Phc, phc_text}
 use Rattle.argon2.specs.NamedTexts.{Store}
-use Rattle.argon2_store.specs.Rows.{row_of}
-use Rattle.argon2_store.specs.Table.{Changes, HasBegun, Holds, IsHonest, IsKept, IsLong, IsOpen, Leaves, Sees, StaysQuiet, Writes, changed}
-use Rattle.argon2_store.proofs.NameLemmas.{get-gone-same, insert-remove, known, remove-none}
+use Rattle.argon2.proofs.login_lemmas.Stores.{get-set}
+use Rattle.argon2_store.specs.Rows.{AreTexts, row_of}
+use Rattle.argon2_store.specs.Table.{Changes, HasBegun, HasNames, HasSome, Holds, IsHonest, IsKept, IsLong, IsOpen, KeepsNames, Leaves, Sees, StaysQuiet, Writes, changed, done_of}
+use Rattle.argon2_store.proofs.NameLemmas.{get-gone, get-gone-same, insert-remove, remove-none}
 use Rattle.argon2_store.proofs.RowLemmas.{insert_entry-rows_of, remove_entry-rows_of}
 
 -- ---- answers
@@ -28,6 +33,17 @@ use Rattle.argon2_store.proofs.RowLemmas.{insert_entry-rows_of, remove_entry-row
 pub on_ok : {T E P Q : Type 0} (r : Result T E) → OnOk r P → (P → Q) → OnOk r Q
 on_ok (Ok x) p f = f p
 on_ok (Err e) p f = tt
+
+pub on_all : {T E P : Type 0} (r : Result T E) → P → OnOk r P
+on_all (Ok x) p = p
+on_all (Err e) p = tt
+
+-- what a commit keeps of what was written
+pub committed : {H P Q : Type 0} (A : Type 0) (done result : Result (Unit {0}) StoreError) → OnOk done P
+    → (H → MatchResult done (λ _. A) (λ e. result ≡ Err e)) → (H → P → Q) → OnOk result (H → Q)
+committed A (Ok x) result p later f = on_all result (λ h. f h p)
+committed A (Err e) (Ok x) p later f = λ h. absurd (let is = later h in cc)
+committed A (Err e) (Err d) p later f = tt
 
 pub on_ok_later : {T E P : Type 0} (Q : Type 0) (r : Result T E) → (P → OnOk r Q) → OnOk r (P → Q)
 on_ok_later Q (Ok x) f = f
@@ -55,6 +71,11 @@ err_is (Ok x) e h = absurd h
 err_is (Err f) e h = ap Err h
 
 -- ---- views
+
+-- a store that was read shows the same, but for its cursors
+pub was_seen : (old new : View) (names : Store) → new ≡ record old { cursors = new.cursors } → Holds new.trees names
+    → Holds old.trees names
+was_seen old new names same holds = subst (λ (v : View). Holds v.trees names) same holds
 
 -- a store that is sound is open
 pub open_if_sound : (v : View) → (v.is_open ≡ false → IsTrue v.is_broken) → v.is_broken ≡ false → IsTrue v.is_open
@@ -93,11 +114,6 @@ pub same_broken : (old new : View) (tree : ℕ) (edit : List Row → List Row)
     → SetsTree old new tree edit → new.is_broken ≡ old.is_broken
 same_broken old new tree edit set = ap (λ (w : View). w.is_broken) set.is
 
-pub put_none : (v : View) (names : Store) (name : List ℕ) (o : Option Phc) → o ≡ None → get names name ≡ None
-    → Sees v names → Sees v (changed names name o)
-put_none v names name o is none sees unbroken =
-    subst (Holds v.trees) (sym (ap (changed names name) is ∙ remove-none names name none)) (sees unbroken)
-
 -- a crash leaves the names of a store that is open
 pub leaves_kept : {S : Type 0} (g : Ghosts S) (s : S) (names : Store)
     → ((db : Trees) → IsOpen g s → g.recovers s db → db ≡ (g.view s).committed)
@@ -108,16 +124,10 @@ leaves_kept g s names settled kept clean is_open db found =
 -- ---- names
 
 -- a change of a name that was taken out is a change of the name
-pub changed-remove : (names : Store) (name : List ℕ) (o : Option Phc) → changed (remove names name) name o ≡ changed names name o
+pub changed-remove : (names : Store) (name : List ℕ) (o : Option Phc) → changed (remove names name) name o ≡ changed names
+    name o
 changed-remove names name None = remove-none (remove names name) name (get-gone-same names name)
 changed-remove names name (Some v) = insert-remove names name v
-
--- a change that wrote what the names in memory had is that of the text set there
-pub has_set : {S : Type 0} (g : Ghosts S) (old new : S) (before after : Store) (name : List ℕ) (v : Phc) (o : Option Phc)
-    (long : Type 0) (result : Result (Unit {0}) StoreError) → o ≡ get after name → after ≡ insert before name v
-    → Changes g old new before (changed before name o) long result → Changes g old new before (insert before name v) long result
-has_set g old new before after name v o long result has is =
-    subst (λ s. Changes g old new before s long result) (ap (changed before name) (known before after name v o has is))
 
 -- ---- causes
 
@@ -150,7 +160,7 @@ cause_after old mid f m n P (Err e) result first later same cause is = rw is
 -- ---- writing
 
 module _ {S : Type 0} (g : Ghosts S) where
-  quiet_itself : (s : S) → StaysQuiet g s s
+  pub quiet_itself : (s : S) → StaysQuiet g s s
   quiet_itself s = record {
     shield = λ h. h;
     clean = omega arith;
@@ -159,7 +169,7 @@ module _ {S : Type 0} (g : Ghosts S) where
     outcomes = λ db found. found;
   }
 
-  quiet_then : (a b c : S) → StaysQuiet g a b → StaysQuiet g b c → StaysQuiet g a c
+  pub quiet_then : (a b c : S) → StaysQuiet g a b → StaysQuiet g b c → StaysQuiet g a c
   quiet_then a b c x y = record {
     shield = λ h. y.shield (x.shield h);
     clean = omega (arith, x.clean, y.clean);
@@ -188,10 +198,10 @@ module _ {S : Type 0} (g : Ghosts S) where
 
   -- a call that writes no row
   pub writes_nothing : (s : S) (before after : Store) (long : Type 0) (r : Result (Unit {0}) StoreError)
-      → OnOk r (after ≡ before) → IfErr r (λ e. e ≡ OutOfMemory) → Writes g s s before after long r
+      → OnOk r (IsHonest g s → after ≡ before) → IfErr r (λ e. e ≡ OutOfMemory) → Writes g s s before after long r
   writes_nothing s before after long (Ok x) same why = record {
     begun = λ names clean begun. begun;
-    sees = λ clean sees. rw same sees;
+    sees = λ clean sees. rw (same clean) sees;
     broken = λ clean. refl;
     cause = λ clean. tt;
     schema = schema_itself (g.view s);
@@ -214,7 +224,8 @@ module _ {S : Type 0} (g : Ghosts S) where
 
   -- a call on the store that writes a row
   pub writes_row : (old new : S) (before after : Store) (long : Type 0) (r : Result (Unit {0}) StoreError)
-      → OnOk r (IsHonest g new → OnlyWrites (g.view old) (g.view new)) → IfErr r (IsFailure (g.view old) (g.view new))
+      → OnOk r (IsHonest g new → OnlyWrites (g.view old) (g.view new))
+      → (IsHonest g new → IfErr r (IsFailure (g.view old) (g.view new)))
       → OnOk r (IsHonest g new → Sees (g.view old) before → Sees (g.view new) after)
       → (IsHonest g new → IfErr r (HasCause (g.view old) (MoreFaults (g.faults old) (g.faults new)) long))
       → KeepsSchema (g.view old) (g.view new) → StaysQuiet g old new → Writes g old new before after long r
@@ -223,7 +234,7 @@ module _ {S : Type 0} (g : Ghosts S) where
       indexed = ap (λ (f : ℕ → Shape). f 0) schema.shape ∙ begun.indexed;
       shapes = schema.shape ∙ begun.shapes ∙ sym schema.committed_shape;
       committed = λ is_open.
-          let still = still_committed (g.view old) (g.view new) r (on_ok r frame (λ f. f clean)) failed is_open in
+          let still = still_committed (g.view old) (g.view new) r (on_ok r frame (λ f. f clean)) (failed clean) is_open in
           subst (λ t. Holds t names) (sym still.1) (begun.committed still.0);
       left = λ db found. begun.left db (quiet.outcomes db found);
     };
@@ -251,6 +262,18 @@ module _ {S : Type 0} (g : Ghosts S) where
         quiet = quiet_then a b c first.quiet later.quiet;
       }
 
+  pub writes_more : (a b : S) (x y : Store) (P Q : Type 0) (r : Result (Unit {0}) StoreError) → Writes g a b x y P r → (P → Q)
+      → Writes g a b x y Q r
+  writes_more a b x y P Q r wrote more = record {
+    begun = wrote.begun;
+    sees = wrote.sees;
+    broken = wrote.broken;
+    cause = λ clean. if_err r (wrote.cause clean) (cause_map (g.view a) (g.view a) (MoreFaults (g.faults a) (g.faults b))
+        (MoreFaults (g.faults a) (g.faults b)) P Q (λ b. b) (λ f. f) more);
+    schema = wrote.schema;
+    quiet = wrote.quiet;
+  }
+
   -- where rows are not all written, nothing is said of the names
   pub writes_less : (a b : S) (x y z : Store) (P Q : Type 0) (e : StoreError) → Writes g a b x y P (Err e) → (P → Q)
       → Writes g a b x z Q (Err e)
@@ -270,50 +293,197 @@ module _ {S : Type 0} (g : Ghosts S) where
   keeps_shape a b x y P r wrote had clean =
       ap (λ (f : ℕ → Shape). f 0) wrote.schema.shape ∙ had (omega (arith, clean, wrote.quiet.clean))
 
-  -- rows that are written, and then committed or taken back
-  pub changes_of : (old mid new : S) (before after : Store) (long : Type 0) (done result : Result (Unit {0}) StoreError)
-      → ((db : Trees) → IsOpen g old → g.recovers old db → db ≡ (g.view old).committed)
-      → IsKept g old before → (IsHonest g old → IsOpen g old) → Writes g old mid before after long done
-      → ((IsHonest g new → HasBegun g mid before × OnOk done (Sees (g.view mid) after))
-      → MatchResult result (λ _. IsKept g new after) (λ _. IsKept g new before))
-      → (IsHonest g new → HasBegun g mid before → OnOk done (Sees (g.view mid) after)
-      → Leaves g new (λ left. (left ≡ before) ⊎ (left ≡ after)))
-      → (IsHonest g new → OnOk done (Sees (g.view mid) after) → OnOk result (IsOpen g new × Leaves g new (λ left. left ≡ after)))
-      → (IsHonest g new → MatchResult done
-      (λ _. IfErr result (HasCause (g.view mid) (MoreFaults (g.faults mid) (g.faults new)) ⊥)) (λ e. result ≡ Err e))
-      → (IsHonest g new → IsOpen g mid → IsOpen g new ⊎ MoreFaults (g.faults mid) (g.faults new))
-      → doubt (g.view mid).is_clean ≤ doubt (g.view new).is_clean → g.faults mid ≤ g.faults new
-      → Changes g old new before after long result
-  changes_of old mid new before after long done result settled kept is_open wrote keeps left durable cause closes clean counts =
-      let to_mid : IsHonest g new → IsHonest g mid = λ now. omega (arith, now, clean) in
-      let to_old : IsHonest g new → IsHonest g old = λ now. omega (arith, now, clean, wrote.quiet.clean) in
-      let begun : IsHonest g new → HasBegun g mid before = λ now.
-      let first = to_old now in
-      let was = is_open first in
-      wrote.begun before (to_mid now) (record {
-        indexed = kept.indexed first was;
-        shapes = kept.shapes first was;
-        committed = kept.committed first;
-        left = λ db found. subst (λ t. Holds t before) (sym (settled db was found)) (kept.committed first was);
-      }) in
-      let sees : IsHonest g new → OnOk done (Sees (g.view mid) after) = λ now. on_ok done wrote.sees (λ f.
-      f (to_mid now) (λ unbroken. kept.seen (to_old now) (is_open (to_old now)))) in
+  -- a call that reads
+  pub reads_row : {X : Type 0} (old new : S) (names : Store) (r : Result X StoreError)
+      → OnOk r (IsHonest g new → g.view new ≡ record (g.view old) { cursors = (g.view new).cursors })
+      → (IsHonest g new → IfErr r (IsFailure (g.view old) (g.view new)))
+      → (IsHonest g new → IfErr r (HasCause (g.view old) (MoreFaults (g.faults old) (g.faults new)) ⊥))
+      → KeepsSchema (g.view old) (g.view new) → StaysQuiet g old new → Writes g old new names names ⊥ (done_of r)
+  reads_row old new names (Ok x) same failed cause schema quiet = writes_row old new names names ⊥ (Ok tt)
+      (λ clean. only (g.view old) (g.view new) (same clean)) (λ clean. tt)
+      (λ clean sees. subst (λ (v : View). Sees v names) (sym (same clean)) sees) (λ clean. tt) schema quiet
+    where
+      only : (v w : View) → w ≡ record v { cursors = w.cursors } → OnlyWrites v w
+      only v w is = subst (λ (u : View). u ≡ record v { trees = u.trees; cursors = u.cursors }) (sym is) refl
+  reads_row old new names (Err e) same failed cause schema quiet =
+      writes_row old new names names ⊥ (Err e) tt failed tt cause schema quiet
+
+  -- rows that are read no further
+  pub writes_stop : (a b : S) (x : Store) (P : Type 0) → Writes g a b x x P (Ok tt) → Writes g a b x x P (Err OutOfMemory)
+  writes_stop a b x P wrote = record {
+    begun = wrote.begun;
+    sees = tt;
+    broken = tt;
+    cause = λ clean. tt;
+    schema = wrote.schema;
+    quiet = wrote.quiet;
+  }
+
+  -- ---- a store with names
+
+  module _ (settled : (s : S) (db : Trees) → IsOpen g s → g.recovers s db → db ≡ (g.view s).committed) where
+    -- nothing is written yet
+    begun_over : (s : S) (names : Store) → IsKept g s names → IsHonest g s → IsOpen g s → HasBegun g s names
+    begun_over s names kept clean is_open = record {
+      indexed = kept.indexed clean is_open;
+      shapes = kept.shapes clean is_open;
+      committed = kept.committed clean;
+      left = λ db found. subst (λ t. Holds t names) (sym (settled s db is_open found)) (kept.committed clean is_open);
+    }
+
+    -- names stay while rows are read
+    pub read_done : {X : Type 0} (old new : S) (names : Store) (x : X)
+        → ((s : S) → (g.view s).is_open ≡ false → IsTrue (g.view s).is_broken)
+        → HasNames g old names → (IsHonest g old → IsOpen g old) → Writes g old new names names ⊥ (Ok tt)
+        → KeepsNames g old new names (Ok x)
+    read_done old new names x shut (texts, kept) was_open wrote =
+        let earlier : IsHonest g new → IsHonest g old = λ clean. omega (arith, clean, wrote.quiet.clean) in
+        let sound : IsHonest g new → (g.view new).is_broken ≡ false = λ clean.
+        wrote.broken clean ∙ kept.sound (earlier clean) (was_open (earlier clean)) in
+        let begun : IsHonest g new → HasBegun g new names = λ clean.
+        wrote.begun names clean (begun_over old names kept (earlier clean) (was_open (earlier clean))) in
+        record {
+          has = (
+            texts,
+            record {
+              indexed = λ clean is_open. (begun clean).indexed;
+              shapes = λ clean is_open. (begun clean).shapes;
+              sound = λ clean is_open. sound clean;
+              seen = λ clean is_open. wrote.sees clean (λ unbroken. kept.seen (earlier clean) (was_open (earlier clean)))
+                  (sound clean);
+              committed = λ clean. (begun clean).committed;
+            },
+          );
+          is_open = λ clean. open_if_sound (g.view new) (shut new) (sound clean);
+          cause = λ clean. tt;
+          quiet = wrote.quiet;
+        }
+
+    -- what was written is taken back
+    pub taken_back : (old mid new : S) (before after : Store) (long : Type 0) (r : Result (Unit {0}) StoreError)
+        → HasNames g old before → (IsHonest g old → IsOpen g old) → Writes g old mid before after long r
+        → ((IsHonest g new → HasBegun g mid before) → IsKept g new before) → StaysQuiet g mid new → HasNames g new before
+    taken_back old mid new before after long r (texts, kept) was_open wrote undone quiet = (
+      texts,
+      undone (λ clean.
+          let first : IsHonest g old = omega (arith, clean, quiet.clean, wrote.quiet.clean) in
+          wrote.begun before (omega (arith, clean, quiet.clean)) (begun_over old before kept first (was_open first))),
+    )
+
+    -- and if reading fails and is taken back
+    pub read_failed : {X : Type 0} (old mid new : S) (names : Store) (e : StoreError) (r : Result X StoreError) → r ≡ Err e
+        → HasNames g old names → (IsHonest g old → IsOpen g old) → Writes g old mid names names ⊥ (Err e)
+        → ((IsHonest g new → HasBegun g mid names) → IsKept g new names) → StaysQuiet g mid new
+        → KeepsNames g old new names r
+    read_failed old mid new names e r is has was_open wrote undone quiet = rw is (
+        record {
+          has = taken_back old mid new names names ⊥ (Err e) has was_open wrote undone quiet;
+          is_open = tt;
+          cause = λ clean. cause_map (g.view old) (g.view old) (MoreFaults (g.faults old) (g.faults mid))
+              (MoreFaults (g.faults old) (g.faults new)) ⊥ ⊥ (λ b. b)
+              (λ more. more_later (g.faults old) (g.faults mid) (g.faults new) more quiet.counts) (λ h. h) e
+              (wrote.cause (omega (arith, clean, quiet.clean)));
+          quiet = quiet_then old mid new wrote.quiet quiet;
+        })
+
+    -- rows that are written, and then committed or taken back
+    pub changes_of : (old mid new : S) (before after : Store) (long : Type 0) (done result : Result (Unit {0}) StoreError)
+        → HasNames g old before → AreTexts after → (IsHonest g old → IsOpen g old) → Writes g old mid before after long done
+        → ((IsHonest g new → HasBegun g mid before × OnOk done (Sees (g.view mid) after))
+        → MatchResult result (λ _. IsKept g new after) (λ _. IsKept g new before))
+        → (IsHonest g new → HasBegun g mid before → OnOk done (Sees (g.view mid) after)
+        → Leaves g new (λ left. (left ≡ before) ⊎ (left ≡ after)))
+        → (IsHonest g new → OnOk done (Sees (g.view mid) after) → OnOk result
+        (IsOpen g new × Leaves g new (λ left. left ≡ after)))
+        → (IsHonest g new → MatchResult done
+        (λ _. IfErr result (HasCause (g.view mid) (MoreFaults (g.faults mid) (g.faults new)) ⊥)) (λ e. result ≡ Err e))
+        → (IsHonest g new → IsOpen g mid → IsOpen g new ⊎ MoreFaults (g.faults mid) (g.faults new))
+        → doubt (g.view mid).is_clean ≤ doubt (g.view new).is_clean → g.faults mid ≤ g.faults new
+        → Changes g old new before after long result
+    changes_of old mid new before after long done result (texts, kept) fine is_open wrote keeps left durable cause closes
+        clean counts =
+        let to_mid : IsHonest g new → IsHonest g mid = λ now. omega (arith, now, clean) in
+        let to_old : IsHonest g new → IsHonest g old = λ now. omega (arith, now, clean, wrote.quiet.clean) in
+        let begun : IsHonest g new → HasBegun g mid before = λ now.
+        wrote.begun before (to_mid now) (begun_over old before kept (to_old now) (is_open (to_old now))) in
+        let sees : IsHonest g new → OnOk done (Sees (g.view mid) after) = λ now. on_ok done wrote.sees (λ f.
+        f (to_mid now) (λ unbroken. kept.seen (to_old now) (is_open (to_old now)))) in
+        record {
+          honest = to_old;
+          kept = with_texts result (keeps (λ now. (begun now, sees now)));
+          crash = λ now. left now (begun now) (sees now);
+          durable = on_ok_later _ result (λ now. durable now (sees now));
+          cause = λ now. cause_after (g.view old) (g.view mid) (g.faults old) (g.faults mid) (g.faults new) long done result
+              wrote.quiet.counts counts (on_ok done wrote.broken (λ same. same (to_mid now))) (wrote.cause (to_mid now))
+              (cause now);
+          closes = λ now. elim (wrote.quiet.closes (to_mid now) (is_open (to_old now))) [
+            | inl still ↦ elim (closes now still) [
+              | inl yet ↦ inl yet
+              | inr more ↦ inr (more_earlier (g.faults old) (g.faults mid) (g.faults new) wrote.quiet.counts more)
+            ]
+            | inr more ↦ inr (more_later (g.faults old) (g.faults mid) (g.faults new) more counts)
+          ];
+        }
+      where
+        with_texts : (r : Result (Unit {0}) StoreError) → MatchResult r (λ _. IsKept g new after) (λ _. IsKept g new before)
+            → MatchResult r (λ _. HasNames g new after) (λ _. HasNames g new before)
+        with_texts (Ok x) is = (fine, is)
+        with_texts (Err e) is = (texts, is)
+
+  pub some_kept : (old new : S) → HasSome g old → ((names : Store) → HasNames g old names → HasNames g new names) → HasSome g
+      new
+  some_kept old new some keeps = ∥∥₁_map some (λ it. (it.0, keeps it.0 it.1))
+
+  -- several rows are written, or none counts
+  pub all_or_none : (old new : S) (before after : Store) (long : Type 0) (done : Result (Unit {0}) StoreError)
+      (All : Store → Type 0)
+      → AreTexts before → AreTexts after → Writes g old new before after long done → OnOk done (IsHonest g new → All after)
+      → (to : Store) × AreTexts to × Writes g old new before to long done × (IsHonest g new → (to ≡ before) ⊎ All to)
+      × OnOk done (IsHonest g new → All to)
+  all_or_none old new before after long (Ok x) All texts good wrote all = (after, good, wrote, λ clean. inr (all clean), all)
+  all_or_none old new before after long (Err e) All texts good wrote all =
+      (before, texts, writes_less old new before after before long long e wrote (λ l. l), λ clean. inl refl, tt)
+
+  -- after a change it has either names
+  pub has_either : (old new : S) (before after : Store) (long : Type 0) (result : Result (Unit {0}) StoreError)
+      → Changes g old new before after long result → (names : Store) × HasNames g new names
+  has_either old new before after long (Ok x) change = (after, change.kept)
+  has_either old new before after long (Err e) change = (before, change.kept)
+
+  -- a store that shows the same has the same names
+  pub kept_same : (old new : S) (names : Store) → (IsHonest g new → IsHonest g old) → (IsOpen g new → g.view new ≡ g.view old)
+      → IsKept g old names → IsKept g new names
+  kept_same old new names honest same kept =
+      let was : IsOpen g new → IsOpen g old = λ is. subst (λ (v : View). IsTrue v.is_open) (same is) is in
       record {
-        honest = to_old;
-        kept = keeps (λ now. (begun now, sees now));
-        crash = λ now. left now (begun now) (sees now);
-        durable = on_ok_later _ result (λ now. durable now (sees now));
-        cause = λ now. cause_after (g.view old) (g.view mid) (g.faults old) (g.faults mid) (g.faults new) long done result
-            wrote.quiet.counts counts (on_ok done wrote.broken (λ same. same (to_mid now))) (wrote.cause (to_mid now))
-            (cause now);
-        closes = λ now. elim (wrote.quiet.closes (to_mid now) (is_open (to_old now))) [
-          | inl still ↦ elim (closes now still) [
-            | inl yet ↦ inl yet
-            | inr more ↦ inr (more_earlier (g.faults old) (g.faults mid) (g.faults new) wrote.quiet.counts more)
-          ]
-          | inr more ↦ inr (more_later (g.faults old) (g.faults mid) (g.faults new) more counts)
-        ];
+        indexed = λ clean is. ap (λ (v : View). v.shape 0) (same is) ∙ kept.indexed (honest clean) (was is);
+        shapes = λ clean is. subst (λ (v : View). v.shape ≡ v.committed_shape) (sym (same is))
+            (kept.shapes (honest clean) (was is));
+        sound = λ clean is. ap (λ (v : View). v.is_broken) (same is) ∙ kept.sound (honest clean) (was is);
+        seen = λ clean is. subst (λ (v : View). Holds v.trees names) (sym (same is)) (kept.seen (honest clean) (was is));
+        committed = λ clean is. subst (λ (v : View). Holds v.committed names) (sym (same is))
+            (kept.committed (honest clean) (was is));
       }
+
+  -- a store that has names is a tree in their order
+  pub shape_of : (s : S) → HasSome g s → (IsHonest g s → IsOpen g s) → IsHonest g s → (g.view s).shape 0 ≡ Index plain
+  shape_of s some is_open clean =
+      ∥∥₁_elim some (Coded-set the_row.coded _ _) (λ it. it.1.1.indexed clean (is_open clean))
+
+from_either : (b : Bool) (p q : Option Phc) (v : Phc) → cond b p q ≡ Some v → IfSome p IsPhc → (q ≡ Some v → IsPhc v) → IsPhc v
+from_either true (Some w) q v is good other = let same : w ≡ v = cc in subst IsPhc same good
+from_either true None q v is good other = absurd cc
+from_either false p q v is good other = other is
+
+-- names that are changed still are texts
+pub texts_changed : (names : Store) (name : List ℕ) (o : Option Phc) → AreTexts names → IfSome o IsPhc
+    → AreTexts (changed names name o)
+texts_changed names name None texts good other v has =
+    from_either (bytes_eq other name) None (get names other) v (sym (get-gone names name other) ∙ has) tt
+    (texts other v)
+texts_changed names name (Some w) texts good other v has =
+    from_either (bytes_eq other name) (Some w) (get names other) v (sym (get-set names name w other) ∙ has) good
+    (texts other v)
 
 -- ---- rows
 

@@ -10,11 +10,9 @@ use Rattle.std.specs.Fmt.{decimal}
 use Rattle.std.specs.Ordering.{eq_by_cmp, nat_cmp}
 use Rattle.std.specs.Prelude.{IfSome, IsNone}
 use Rattle.std.specs.Str.{bytes_eq}
-use Rattle.std.specs.Option.{option_map}
-use Rattle.argon2_base.specs.PhcFields.{NoItemFirst, NoVersionFirst, fields_of, phc_of}
+use Rattle.argon2_base.specs.PhcFields.{NoItemFirst, NoVersionFirst, fields_of}
 use Rattle.argon2_base.specs.PhcText.{HasBytes, IsPhc, Pair, Phc, are_params, field, list_field, params_text, phc_text, version_text}
 use Rattle.argon2_base.specs.Texts.{strict_base64}
-use Rattle.argon2_base.specs.declared.phc.hash.PasswordHash.{PasswordHash}
 use Rattle.argon2_base.proofs.texts.Base64Lemmas.{decode_of-strict_base64, strict_base64_unique}
 use Rattle.argon2_base.proofs.texts.ParamsReading.{one_list}
 use Rattle.argon2_base.proofs.texts.PhcTextLemmas.{begins_with_dollar, first_and_left, from_params, no_item, no_list_read, no_version, none_after, same_phc}
@@ -24,11 +22,8 @@ use Rattle.argon2.specs.Made.{IsFresh}
 use Rattle.argon2_accounts.specs.declared.error.AccountError.{AccountError}
 use Rattle.argon2.specs.declared.login.answers.Accepted.{Accepted}
 use Rattle.argon2.specs.declared.login.answers.Accepted.TheVariants.{Current, Kept, Rehashed}
-use Rattle.argon2.proofs.login_lemmas.Stores.{get-values_of}
 use Rattle.argon2.proofs.password_hash_lemmas.MadeValues.{made_is_phc}
-use Rattle.argon2_store.specs.Names.{values_in}
 use Rattle.argon2_store.specs.Rows.{AreTexts, row_of, rows_of}
-use Rattle.argon2_store.specs.declared.names.Names.{Names}
 use Rattle.argon2_store.proofs.NameLemmas.{same}
 
 -- ---- the fields of a text
@@ -116,13 +111,6 @@ rows_of-once a b good fine one = same a b (λ name. get-entries a name ∙ find_
     ∙ sym (get-entries b name))
 
 -- ---- names whose values are what texts say
-
-of_hash : (o : Option PasswordHash) (v : Phc) → option_map phc_of o ≡ Some v → IsPhc v
-of_hash None v is = absurd cc
-of_hash (Some hash) v is = let same : phc_of hash ≡ v = cc in rw (← same) hash.grammatical
-
-pub are_texts : (names : Names) → AreTexts (values_in names)
-are_texts names name v has = of_hash _ v (sym (get-values_of names.texts name) ∙ has)
 
 module _ (terms : Terms) (are : AreTerms terms) where
   fresh_text : (password drawn : List ℕ) (v : Phc) → IsFresh terms.target password drawn v → IsPhc v

@@ -1,24 +1,21 @@
 -- What callers see of accounts in a file, and what each call does.
-use Rattle.std.specs.Prelude.{◌≡◌, ◌⊎◌, ℕ, List, false, Any, Option, IsSomeAnd, Result, Ok, Err, IsErr, IfErr, OnOk, OnErr, ⊤, length}
+use Rattle.std.specs.Prelude.{◌≡◌, ◌⊎◌, ℕ, List, false, Any, Option, Some, None, IsSome, IsSomeAnd, IfSome, Result, Ok, Err, IfErr, OnOk, OnErr, ⊤, length}
 use Rattle.rand_core.specs.Stream.{Stream, fill_bytes}
-use Rattle.sqlite_disk.specs.Disk.{MoreFaults}
-use Rattle.sqlite_trees.specs.declared.error.StoreError.{StoreError}
-use Rattle.sqlite_trees.specs.Tree.{Trees}
 use Rattle.sqlite_trees.specs.declared.store.Store.{Ghosts}
 use Rattle.sqlite_wal.specs.Recovery.{Image}
 use Rattle.argon2_base.specs.PhcText.{Phc}
 use Rattle.argon2_accounts.specs.Accounts as kept
-use Rattle.argon2_accounts.specs.Accounts.{AccountEvent, AccountStep, Admits, AreTerms, PolicyRefusal, Terms, name_of}
+use Rattle.argon2_accounts.specs.Accounts.{AccountEvent, AccountStep, Admits, AreTerms, HasPassword, PolicyRefusal, Terms, name_of}
 use Rattle.argon2.specs.NamedTexts.{Store}
 use Rattle.argon2_accounts.specs.declared.error.AccountError.{AccountError}
-use Rattle.argon2_accounts.specs.declared.error.AccountError.TheVariants.{NameTaken, NameUnknown}
+use Rattle.argon2_accounts.specs.declared.error.AccountError.TheVariants.{NameUnknown}
 use Rattle.argon2.specs.declared.login.answers.Accepted.{Accepted}
 use Rattle.argon2.specs.declared.login.answers.Accepted.TheVariants.{Current}
 use Rattle.argon2_store.specs.Adding.{AddsAll, IsFirstRefused}
-use Rattle.argon2_store.specs.Errors.{named}
 use Rattle.argon2_store.specs.Opening.{HoldsNames}
 use Rattle.argon2_store.specs.Shown as table
-use Rattle.argon2_store.specs.Table.{IsHonest, IsLong, IsOpen, Leaves}
+use Rattle.argon2_store.specs.Table as rows
+use Rattle.argon2_store.specs.Table.{IsHonest, IsLong, IsOpen, Leaves, StaysQuiet}
 use Rattle.argon2_store.specs.declared.account_file.AccountFile.{AccountFile}
 use Rattle.argon2_store.specs.declared.error.FileError.{FileError}
 use Rattle.argon2_store.specs.declared.error.OpenError.{OpenError}
@@ -44,6 +41,11 @@ IsBeforeOrAfter X terms before call left =
 abbrev pub unindexed : {X : Type 0} → Result X (ℕ × FileError) → Result X FileError
 unindexed (Ok x) = Ok x
 unindexed (Err e) = Err e.1
+
+-- the error of an answer
+abbrev pub error_of : {X : Type 0} → Result X FileError → Option FileError
+error_of (Ok x) = None
+error_of (Err e) = Some e
 
 -- what adding all of several names answers, and the names after it
 abbrev pub AnswersAll : Store → List (List ℕ × List ℕ) → Result (Unit {0}) FileError → Store → Type 0
@@ -77,14 +79,20 @@ HasCause closed fault too_long Full = fault
 HasCause closed fault too_long TooLong = too_long
 HasCause closed fault too_long Closed = closed
 
-module _ {S : Type 0} {g : Ghosts S} where
-  -- the texts that the names have
-  abbrev pub names_of : AccountFile S g → Store
-  names_of file = table.names_of file.table
+-- it is an error of the file
+abbrev pub IsOfFile : FileError → Type 0
+IsOfFile (Account e) = ⊥
+IsOfFile _ = ⊤
 
-  -- the store that holds them
+module _ {S : Type 0} {g : Ghosts S} where
+  -- the store that holds the names
   abbrev pub store_of : AccountFile S g → S
   store_of file = table.file_of file.table
+
+  -- The names that a file has, each with its text. While the file is open and the disk has given no wrong answer that was
+  -- taken as true, they are those of its rows, and nothing else.
+  abbrev pub HasNames : AccountFile S g → Store → Type 0
+  HasNames file names = rows.HasNames g (store_of file) names
 
   -- what passwords are hashed and verified under
   abbrev pub terms_of : AccountFile S g → Terms
@@ -94,95 +102,115 @@ module _ {S : Type 0} {g : Ghosts S} where
   abbrev pub IsClosed : AccountFile S g → Type 0
   IsClosed file = (g.view (store_of file)).is_open ≡ false
 
-  -- A file that was opened under these terms: it is not closed, and a crash leaves its names.
-  pub record IsReady (terms : Terms) (file : AccountFile S g) : Type 0 where
+  -- the disk failed or refused from the one to the other
+  abbrev pub HasFailed : AccountFile S g → AccountFile S g → Type 0
+  HasFailed old new = rows.HasFailed g (store_of old) (store_of new)
+
+  -- A file that was opened under these terms and has these names: it is not closed, and a crash leaves its names.
+  pub record IsReady (terms : Terms) (names : Store) (file : AccountFile S g) : Type 0 where
     pub sound : AreTerms terms
     pub under : terms_of file ≡ terms
+    pub has : HasNames file names
     pub is_open : IsHonest g (store_of file) → IsOpen g (store_of file)
-    pub left : IsHonest g (store_of file) → Leaves g (store_of file) (λ left. left ≡ names_of file)
+    pub left : IsHonest g (store_of file) → Leaves g (store_of file) (λ left. left ≡ names)
+
+  -- a file that was opened, with the names that the two files held
+  abbrev pub IsFrom : Terms → Image → AccountFile S g → Type 0
+  IsFrom terms image file =
+      (names : Store) × IsReady terms names file × (IsHonest g (store_of file) → HoldsNames image names)
 
   -- a file that was opened, the refusal of the terms, or another error under sound terms
-  abbrev pub Opens : Terms → Result (AccountFile S g) OpenError → Type 0
-  Opens terms (Ok file) = IsReady terms file
-  Opens terms (Err (NoPolicy why)) = PolicyRefusal terms why
-  Opens terms (Err e) = AreTerms terms
+  abbrev pub Opens : Terms → Image → Result (AccountFile S g) OpenError → Type 0
+  Opens terms image (Ok file) = IsFrom terms image file
+  Opens terms image (Err (NoPolicy why)) = PolicyRefusal terms why
+  Opens terms image (Err e) = AreTerms terms
 
-  -- it has the names that the two files hold
-  abbrev pub HasFound : Image → AccountFile S g → Type 0
-  HasFound image file = IsHonest g (store_of file) → HoldsNames image (names_of file)
-
-  -- What a copy of the log into the file does, while the disk has given no wrong answer that was taken as true.
-  pub record Copies (result : Result (Unit {0}) FileError) (old new : AccountFile S g) : Type 0 where
-    pub names : names_of new ≡ names_of old
+  -- What a call does that changes no name, with its error if it failed. The clauses on the file hold while the disk has
+  -- given no wrong answer that was taken as true.
+  pub record Stays (error : Option FileError) (names : Store) (old new : AccountFile S g) : Type 0 where
+    pub has : HasNames new names
     pub terms : terms_of new ≡ terms_of old
-    pub honest : IsHonest g (store_of new) → IsHonest g (store_of old)
-    -- a crash has no new outcome
-    pub outcomes : (db : Trees) → g.recovers (store_of new) db → g.recovers (store_of old) db
-    -- it leaves the names, at any moment of the call and after it
-    pub left : IsHonest g (store_of new) → IsOpen g (store_of old) → Leaves g (store_of new) (λ left. left ≡ names_of old)
-    -- a file that is closed is refused, and nothing but a failure of the disk closes it
-    pub closed : IsHonest g (store_of new) → IsClosed old → IsErr result
-    pub closes : IsHonest g (store_of new) → IsOpen g (store_of old) →
-        IsOpen g (store_of new) ⊎ MoreFaults (g.faults (store_of old)) (g.faults (store_of new))
-    pub cause : IsHonest g (store_of new) → IfErr result
-        (HasCause (IsClosed old) (MoreFaults (g.faults (store_of old)) (g.faults (store_of new))) ⊥)
-    -- it is an error of the file
-    pub of_file : IfErr result (λ e. (why : StoreError) × (e ≡ named why))
+    -- no fault is forgotten, a crash has no new outcome, and nothing but a failure of the disk closes the file
+    pub quiet : StaysQuiet g (store_of old) (store_of new)
+    -- a crash leaves the names, at any moment of the call and after it
+    pub left : IsHonest g (store_of new) → IsOpen g (store_of old) → Leaves g (store_of new) (λ left. left ≡ names)
+    -- a file that is closed is refused
+    pub closed : IsHonest g (store_of new) → IsClosed old → IsSome error
+    -- after a success it is open
+    pub is_open : error ≡ None → IsHonest g (store_of new) → IsOpen g (store_of new)
+    -- an error is one of the file, and has its cause
+    pub of_file : IfSome error IsOfFile
+    pub cause : IsHonest g (store_of new) → IfSome error (HasCause (IsClosed old) (HasFailed old new) ⊥)
+
+  -- a call that changes no name
+  abbrev pub Reads : {X : Type 0} → Result X FileError → AccountFile S g → AccountFile S g → Type 0
+  Reads result old new = (names : Store) → HasNames old names → Stays (error_of result) names old new
 
   -- What a call does that answers so. The clauses on the file hold while the disk has given no wrong answer that was
   -- taken as true.
   pub record Runs {X : Type 0} (answers : Result X FileError → Store → Type 0) (May : Store → Type 0) (too_long : Type 0)
-      (result : Result X FileError) (old new : AccountFile S g) : Type 0 where
-    pub step : answers result (names_of new)
+      (result : Result X FileError) (old new : AccountFile S g) (before after : Store) : Type 0 where
+    pub has : HasNames new after
+    pub step : IsHonest g (store_of new) → answers result after
     pub terms : terms_of new ≡ terms_of old
     pub honest : IsHonest g (store_of new) → IsHonest g (store_of old)
     -- an error leaves all as it was
-    pub unchanged : OnErr result (names_of new ≡ names_of old)
-    -- a refusal of the accounts leaves the file too
-    pub refused : IfErr result (IfRefused (store_of new ≡ store_of old))
+    pub unchanged : OnErr result (after ≡ before)
+    -- a refusal of the accounts writes nothing: no fault is forgotten, and a crash has no new outcome
+    pub refused : IfErr result (IfRefused (StaysQuiet g (store_of old) (store_of new)))
     -- what a crash at any moment of the call may leave
     pub crash : IsHonest g (store_of new) → IsOpen g (store_of old) → Leaves g (store_of new) May
     -- once it has returned `Ok`, every crash leaves the names that there are now
-    pub durable : OnOk result (IsHonest g (store_of new) → Leaves g (store_of new) (λ left. left ≡ names_of new))
+    pub durable : OnOk result (IsHonest g (store_of new) → Leaves g (store_of new) (λ left. left ≡ after))
     -- a file that is closed stays so, and is as it was
     pub closed : IsHonest g (store_of old) → IsClosed old → (result ≡ Err Closed) × (store_of new ≡ store_of old)
     -- nothing but a failure of the disk closes it
-    pub closes : IsHonest g (store_of new) → IsOpen g (store_of old) →
-        IsOpen g (store_of new) ⊎ MoreFaults (g.faults (store_of old)) (g.faults (store_of new))
+    pub closes : IsHonest g (store_of new) → IsOpen g (store_of old) → IsOpen g (store_of new) ⊎ HasFailed old new
     -- each error has its cause
-    pub cause : IsHonest g (store_of new) → IfErr result
-        (HasCause (IsClosed old) (MoreFaults (g.faults (store_of old)) (g.faults (store_of new))) too_long)
+    pub cause : IsHonest g (store_of new) → IfErr result (HasCause (IsClosed old) (HasFailed old new) too_long)
 
   -- A call on one name. A crash leaves the names from before it, or those that it was to leave.
   abbrev pub Serves : {X : Type 0} → Call X → Result X FileError → AccountFile S g → AccountFile S g → Type 0
-  Serves {X} call result old new = Runs (Answers (terms_of old) (names_of old) call)
-      (IsBeforeOrAfter X (terms_of old) (names_of old) call) (IsLong (name_of (call (Err NameUnknown)))) result old new
+  Serves {X} call result old new = (before : Store) → HasNames old before → (after : Store)
+      × Runs (Answers (terms_of old) before call) (IsBeforeOrAfter X (terms_of old) before call)
+      (IsLong (name_of (call (Err NameUnknown)))) result old new before after
 
   -- An addition of several names. A crash leaves the names from before it, or all of the new ones too.
   abbrev pub AddsOrNone : List (List ℕ × List ℕ) → Result (Unit {0}) FileError → AccountFile S g → AccountFile S g → Type 0
-  AddsOrNone es result old new = Runs (AnswersAll (names_of old) es)
-      (λ left. (left ≡ names_of old) ⊎ AddsAll (names_of old) es left) (Any (λ e. IsLong e.0) es) result old new
+  AddsOrNone es result old new = (before : Store) → HasNames old before → (after : Store)
+      × Runs (AnswersAll before es) (λ left. (left ≡ before) ⊎ AddsAll before es left) (Any (λ e. IsLong e.0) es)
+      result old new before after
+
+  -- once a call is accepted, the name has a text that accepts the password
+  abbrev pub Grants : {X : Type 0} → List ℕ → List ℕ → Result X FileError → AccountFile S g → AccountFile S g → Type 0
+  Grants name password result old new = (before after : Store) → HasNames old before → HasNames new after →
+      OnOk result (IsHonest g (store_of new) → HasPassword (terms_of new) after name password)
 
 -- ---- what the generator has left
 
+-- nothing was drawn, or 16 bytes
+abbrev pub MayDraw : Stream → Stream → Type 0
+MayDraw old new = (new ≡ old) ⊎ (new ≡ (fill_bytes 16 old).1)
+
 -- after a text was to be made: 16 bytes are drawn, unless the file is closed or the name is the reason of a refusal
-abbrev pub stream_after_making : Result (Unit {0}) FileError → Stream → Stream
-stream_after_making (Err Closed) stream = stream
-stream_after_making (Err (Account NameTaken)) stream = stream
-stream_after_making (Err (Account NameUnknown)) stream = stream
-stream_after_making _ stream = (fill_bytes 16 stream).1
+abbrev pub DrawsForText : Result (Unit {0}) FileError → Stream → Stream → Type 0
+DrawsForText (Ok x) old new = new ≡ (fill_bytes 16 old).1
+DrawsForText (Err Closed) old new = new ≡ old
+DrawsForText (Err (Account e)) old new = new ≡ kept.stream_after_making (Err e) old
+DrawsForText (Err e) old new = MayDraw old new
 
 -- after a login: 16 bytes are drawn for a fresh text, also if there is no memory for it or it is not written
-abbrev pub stream_after_login : Result Accepted FileError → Stream → Stream
-stream_after_login (Ok Current) stream = stream
-stream_after_login (Err (Account e)) stream = stream
-stream_after_login (Err Closed) stream = stream
-stream_after_login _ stream = (fill_bytes 16 stream).1
+abbrev pub DrawsForLogin : Result Accepted FileError → Stream → Stream → Type 0
+DrawsForLogin (Ok Current) old new = new ≡ old
+DrawsForLogin (Ok did) old new = new ≡ (fill_bytes 16 old).1
+DrawsForLogin (Err Closed) old new = new ≡ old
+DrawsForLogin (Err (Account e)) old new = new ≡ old
+DrawsForLogin (Err e) old new = MayDraw old new
 
--- after a change: as for accounts, but nothing where the file is closed, and 16 bytes also where the fresh text is not written
+-- after a change: as for accounts, but nothing if the file is closed
 abbrev pub DrawsOnce : Terms → List ℕ → Option Phc → Result (Unit {0}) FileError → Stream → Stream → Type 0
+DrawsOnce terms password before (Ok x) old new = IsSomeAnd before (Admits terms password) × (new ≡ (fill_bytes 16 old).1)
 DrawsOnce terms password before (Err Closed) old new = new ≡ old
 DrawsOnce terms password before (Err (Account e)) old new =
     kept.DrawsOnce {X = Unit {0}} terms password before (Err e) old new
-DrawsOnce terms password before answer old new =
-    IsSomeAnd before (Admits terms password) × (new ≡ (fill_bytes 16 old).1)
+DrawsOnce terms password before (Err e) old new = MayDraw old new

@@ -24,10 +24,15 @@ named below.Full = Full
 named below.Broken = Closed
 named below.Unstorable = TooLong
 
--- why a change of an open file fails: only a disk that lies breaks it without an error
+-- why a read or a change of an open file fails: only a disk that lies breaks it without an error
 abbrev pub unwritten : StoreError → FileError
 unwritten below.Broken = Damaged
 unwritten e = named e
+
+-- what a call answers that read an open file
+abbrev pub read_of : {X : Type 0} → Result X StoreError → Result X FileError
+read_of (Ok x) = Ok x
+read_of (Err e) = Err (unwritten e)
 
 -- what a call answers that wrote to an open file
 abbrev pub answered : {X : Type 0} → Result (Unit {0}) StoreError → X → Result X FileError

@@ -1,10 +1,12 @@
 -- How a tree of rows holds names with their texts.
-use Rattle.std.specs.Prelude.{◌≡◌, ℕ, List, [], ◌∷◌, map, Some, None}
-use Rattle.std.specs.FinMap.{entries, get, insert}
+use Rattle.std.specs.Prelude.{◌≡◌, ℕ, Bool, true, false, List, [], ◌∷◌, ◌++◌, map, Some, None}
+use Rattle.std.specs.FinMap.{entries, get}
 use Rattle.sqlite_value.specs.declared.value.Value.TheVariants.{Text}
 use Rattle.sqlite_value.specs.Order.{Row}
 use Rattle.argon2_base.specs.PhcText.{IsPhc, Phc, phc_text}
 use Rattle.argon2.specs.NamedTexts.{Store}
+use Rattle.argon2_store.specs.declared.view.View.{View}
+use Rattle.argon2_store.specs.declared.view.View.TheVariants.{Names, Texts}
 
 -- the row of a name and what its text says
 abbrev pub row_of : List ℕ × Phc → Row
@@ -18,7 +20,26 @@ rows_of names = map row_of (entries names)
 abbrev pub AreTexts : Store → Type 0
 AreTexts names = (name : List ℕ) (v : Phc) → get names name ≡ Some v → IsPhc v
 
--- the row is that of a new name, which is one of the names after it
-abbrev pub TakesRow : Row → Store → Store → Type 0
-TakesRow row before after =
-    (name : List ℕ) × (v : Phc) × (row ≡ row_of (name, v)) × (get before name ≡ None) × (after ≡ insert before name v)
+-- the name has a text, and this is its row, or it has none
+abbrev pub IsFoundAs : Store → List ℕ → Bool → Row → Type 0
+IsFoundAs names name true row = (v : Phc) × (get names name ≡ Some v) × (row ≡ row_of (name, v))
+IsFoundAs names name false row = get names name ≡ None
+
+-- the row is that of a name with a text
+abbrev pub IsAccount : Row → Type 0
+IsAccount row = (e : List ℕ × Phc) × IsPhc e.1 × (row ≡ row_of e)
+
+-- ---- lines
+
+-- the line of a name with its text
+abbrev pub line : View → List ℕ × Phc → List ℕ
+line Names e = e.0 ++ 10 ∷ []
+line Texts e = e.0 ++ 58 ∷ phc_text e.1 ++ 10 ∷ []
+
+-- those of all names
+abbrev pub lines : View → List (List ℕ × Phc) → List ℕ
+lines view [] = []
+lines view (e ∷ es) = line view e ++ lines view es
+
+abbrev pub lines_of : View → Store → List ℕ
+lines_of view names = lines view (entries names)

@@ -1,5 +1,5 @@
 -- Runs on an account file, each of which opens what the last one left.
-use Rattle.std.specs.Prelude.{◌≡◌, ◌⊎◌, ℕ, List, [], ◌∷◌, ◌++◌, map, reverse, Result, Ok, Err, IsErr}
+use Rattle.std.specs.Prelude.{◌≡◌, ◌⊎◌, ℕ, List, [], ◌∷◌, ◌++◌, map, reverse, Option, IsSome, Result, Ok, Err}
 use Rattle.std.specs.FinMap.{empty, get}
 use Rattle.std.specs.List.{flat_map}
 use Rattle.sqlite_disk.specs.declared.Disk as disk
@@ -10,7 +10,7 @@ use Rattle.sqlite_wal.specs.Recovery.{Image}
 use Rattle.argon2_accounts.specs.Accounts.{AccountEvent, AccountRun, AreTerms, HasGiven, Terms, adding, given}
 use Rattle.argon2.specs.NamedTexts.{Store, newest}
 use Rattle.argon2.specs.declared.login.answers.Accepted.{Accepted}
-use Rattle.argon2_store.specs.AccountFile.{AddsOrNone, Call, Copies, IsReady, Serves, names_of, store_of}
+use Rattle.argon2_store.specs.AccountFile.{AddsOrNone, Call, HasNames, IsReady, Serves, Stays, store_of}
 use Rattle.argon2_store.specs.Opening.{HoldsNames, IsAfterOpens}
 use Rattle.argon2_store.specs.Table.{IsHonest}
 use Rattle.argon2_store.specs.declared.account_file.AccountFile.{AccountFile}
@@ -23,7 +23,7 @@ pub data FileCall : Type 0 where
   on_name : Call (Unit {0}) → Result (Unit {0}) FileError → FileCall
   login : Call Accepted → Result Accepted FileError → FileCall
   add_all : List (List ℕ × List ℕ) → Result (Unit {0}) FileError → FileCall
-  checkpoint : Result (Unit {0}) FileError → FileCall
+  reads : Option FileError → FileCall  -- one that changes no name, with its error if it failed
 
 -- ---- the events of calls, the newest first
 
@@ -42,7 +42,7 @@ events_of (on_name call result) = event_of call result
 events_of (login call result) = event_of call result
 events_of (add_all es (Ok _)) = added es
 events_of (add_all es (Err e)) = []
-events_of (checkpoint result) = []
+events_of (reads error) = []
 
 -- A call with an error of the file may come late: its change is in the file all the same, as if it was accepted.
 abbrev pub IsLateEvent : {X : Type 0} → Call X → Result X FileError → List AccountEvent → Type 0
@@ -56,14 +56,14 @@ IsLateOf (login call result) late = IsLateEvent call result late
 IsLateOf (add_all es (Ok _)) late = ⊥
 IsLateOf (add_all es (Err (Account e))) late = ⊥
 IsLateOf (add_all es (Err e)) late = late ≡ added es
-IsLateOf (checkpoint result) late = ⊥
+IsLateOf (reads error) late = ⊥
 
 -- it was refused since the file was closed
 abbrev pub IsShutOut : FileCall → Type 0
 IsShutOut (on_name call result) = result ≡ Err Closed
 IsShutOut (login call result) = result ≡ Err Closed
 IsShutOut (add_all es result) = result ≡ Err Closed
-IsShutOut (checkpoint result) = IsErr result
+IsShutOut (reads error) = IsSome error
 
 -- what comes late of calls, the newest first: nothing, or the last of them that was not shut out
 abbrev pub IsLate : List FileCall → List AccountEvent → Type 0
@@ -78,7 +78,7 @@ module _ {S : Type 0} {g : Ghosts S} where
   Does (on_name call result) old new = Serves call result old new
   Does (login call result) old new = Serves call result old new
   Does (add_all es result) old new = AddsOrNone es result old new
-  Does (checkpoint result) old new = Copies result old new
+  Does (reads error) old new = (names : Store) → HasNames old names → Stays error names old new
 
   -- calls, the newest first, took the old file to the new one
   abbrev pub Did : List FileCall → AccountFile S g → AccountFile S g → Type 0
@@ -111,9 +111,9 @@ over_file = record {
 
 -- Whatever calls led to the file, an open finds what a crash leaves of it now.
 abbrev pub EndsRun : {D : Type 0} {g : disk.Ghosts D} → AccountFile (FileStore D g) over_file → Type 0
-EndsRun last = (terms : Terms) (first : AccountFile _ over_file) (calls : List FileCall) (left : Image) →
-    IsReady terms first → Did calls first last → IsHonest over_file (store_of last) → (state (store_of last)).may_leave left
-    → IsFound terms (record { found = names_of first; calls = calls; left = left })
+EndsRun last = (terms : Terms) (names : Store) (first : AccountFile _ over_file) (calls : List FileCall) (left : Image) →
+    IsReady terms names first → Did calls first last → IsHonest over_file (store_of last)
+    → (state (store_of last)).may_leave left → IsFound terms (record { found = names; calls = calls; left = left })
 
 -- ---- runs
 

@@ -1,25 +1,20 @@
 -- What a table of names shows, and what a change of it leaves in the file.
-use Rattle.std.specs.Prelude.{◌≡◌, ◌⊎◌, ℕ, ◌^◌, ◌+◌, ◌<◌, List, [], ◌∷◌, ◌++◌, length, false, Option, Some, None, Result, IsTrue, IfErr, OnOk, MatchResult}
-use Rattle.std.specs.Coded.{Coded-set, →_prop}
+use Rattle.std.specs.Prelude.{◌≡◌, ◌⊎◌, ℕ, ◌^◌, ◌+◌, ◌<◌, List, [], ◌∷◌, ◌++◌, length, false, Option, Some, None, Result, Ok, Err, IsTrue, IfErr, OnOk, MatchResult}
 use Rattle.std.specs.FinMap.{insert, remove}
-use mathlib.Core.Bool.{Bool-set}
-use mathlib.Core.HLevel.{×_prop, Π_set}
 use Rattle.sqlite_disk.specs.Disk.{MoreFaults}
 use Rattle.sqlite_value.specs.Keys.{plain}
 use Rattle.sqlite_value.specs.Order.{Row}
-use Rattle.sqlite_trees.specs.contracts.store.Shape.{the_row}
 use Rattle.sqlite_trees.specs.declared.error.StoreError.{StoreError}
 use Rattle.sqlite_trees.specs.declared.store.Shape.TheVariants.{Index}
 use Rattle.sqlite_trees.specs.declared.store.Store.{Ghosts}
 use Rattle.sqlite_trees.specs.Objects.{catalog_tree}
-use Rattle.sqlite_trees.specs.Props.{rows_set}
 use Rattle.sqlite_trees.specs.Tree.{Trees}
 use Rattle.sqlite_trees.specs.View.{View, IsClean, IsQuiet, HasCause, KeepsSchema}
 use Rattle.argon2_base.specs.PhcText.{Phc}
 use Rattle.sqlite_store.specs.Listing.{listed_from}
 use Rattle.argon2.specs.NamedTexts.{Store}
 use Rattle.argon2_store.specs.Opening.{account}
-use Rattle.argon2_store.specs.Rows.{rows_of}
+use Rattle.argon2_store.specs.Rows.{AreTexts, rows_of}
 
 -- the names with this one's text set, or with this one taken out
 abbrev pub changed : Store → List ℕ → Option Phc → Store
@@ -49,7 +44,17 @@ pub record IsFresh (v : View) : Type 0 where
   pub shapes : v.shape ≡ v.committed_shape
   pub listed : v.trees catalog_tree ≡ catalog
 
--- some of the tree's rows are read, and the names are theirs
+-- whether a call succeeded, without what it answered
+abbrev pub done_of : {X : Type 0} → Result X StoreError → Result (Unit {0}) StoreError
+done_of (Ok x) = Ok tt
+done_of (Err e) = Err e
+
+-- what writing answered, if it was not refused
+abbrev pub written_of : {E : Type 0} → Result (Result (Unit {0}) StoreError) E → Result (Unit {0}) StoreError
+written_of (Ok done) = done
+written_of (Err e) = Ok tt
+
+-- Some of the tree's rows are read, and the names are theirs.
 pub record IsReading (first now : View) (names : Store) : Type 0 where
   pub same : now ≡ record first { cursors = now.cursors }
   pub rest : List Row
@@ -68,7 +73,7 @@ module _ {S : Type 0} (g : Ghosts S) where
   abbrev pub Leaves : S → (Store → Type 0) → Type 0
   Leaves s P = (db : Trees) → g.recovers s db → (names : Store) × Holds db names × P names
 
-  -- While the store is open, the file and the memory have the same names, and nothing waits to be committed.
+  -- While the store is open, its rows are those of these names, and nothing waits to be committed.
   pub record IsKept (s : S) (names : Store) : Type 0 where
     pub indexed : IsHonest s → IsOpen s → (g.view s).shape 0 ≡ Index plain
     pub shapes : IsHonest s → IsOpen s → (g.view s).shape ≡ (g.view s).committed_shape
@@ -76,14 +81,13 @@ module _ {S : Type 0} (g : Ghosts S) where
     pub seen : IsHonest s → IsOpen s → Holds (g.view s).trees names
     pub committed : IsHonest s → IsOpen s → Holds (g.view s).committed names
 
-  pub IsKept-prop : (s : S) (names : Store) → IsProp (IsKept s names)
-  IsKept-prop s names a b = λ i. record {
-    indexed = →_prop (→_prop (Coded-set the_row.coded _ _)) a.indexed b.indexed i;
-    shapes = →_prop (→_prop (Π_set (λ _. Coded-set the_row.coded) _ _)) a.shapes b.shapes i;
-    sound = →_prop (→_prop (Bool-set _ _)) a.sound b.sound i;
-    seen = →_prop (→_prop (×_prop (rows_set _ _) (rows_set _ _))) a.seen b.seen i;
-    committed = →_prop (→_prop (×_prop (rows_set _ _) (rows_set _ _))) a.committed b.committed i;
-  }
+  -- they are the names of its rows
+  abbrev pub HasNames : S → Store → Type 0
+  HasNames s names = AreTexts names × IsKept s names
+
+  -- it has names
+  abbrev pub HasSome : S → Type 0
+  HasSome s = ∥ ((names : Store) × HasNames s names) ∥₁
 
   -- A transaction has begun over these names: they are committed, and a crash leaves them.
   pub record HasBegun (s : S) (names : Store) : Type 0 where
@@ -114,8 +118,15 @@ module _ {S : Type 0} (g : Ghosts S) where
   pub record Changes (old new : S) (before after : Store) (too_long : Type 0) (result : Result (Unit {0}) StoreError)
       : Type 0 where
     pub honest : IsHonest new → IsHonest old
-    pub kept : MatchResult result (λ _. IsKept new after) (λ _. IsKept new before)
+    pub kept : MatchResult result (λ _. HasNames new after) (λ _. HasNames new before)
     pub crash : IsHonest new → Leaves new (λ left. (left ≡ before) ⊎ (left ≡ after))
     pub durable : OnOk result (IsHonest new → IsOpen new × Leaves new (λ left. left ≡ after))
     pub cause : IsHonest new → IfErr result (HasCause (g.view old) (HasFailed old new) too_long)
     pub closes : IsHonest new → IsOpen new ⊎ HasFailed old new
+
+  -- A call that reads: the names stay.
+  pub record KeepsNames {X : Type 0} (old new : S) (names : Store) (result : Result X StoreError) : Type 0 where
+    pub has : HasNames new names
+    pub is_open : OnOk result (IsHonest new → IsOpen new)
+    pub cause : IsHonest new → IfErr result (HasCause (g.view old) (HasFailed old new) ⊥)
+    pub quiet : StaysQuiet old new

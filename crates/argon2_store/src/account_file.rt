@@ -1,21 +1,24 @@
 //! Accounts in a file.
 
-ghost use Rattle.std.specs.Prelude.{◌≡◌, ◌⊎◌, ◌↔◌, Ok, Err, IsTrue, IfErr, IfOk, OnOk, MatchResult, length, map};
-ghost use Rattle.std.specs.FinMap.{entries, get};
-ghost use Rattle.std.specs.Option.{option_copied, option_map};
+ghost use Rattle.std.specs.Prelude.{◌≡◌, ◌⊎◌, ◌↔◌, Ok, Err, IsTrue, IfErr, IfOk, OnOk, MatchResult, map};
+ghost use Rattle.std.specs.FinMap.{get};
+ghost use Rattle.std.specs.Io.KnownBytes.{Appends};
+ghost use Rattle.std.specs.Option.{option_map};
 ghost use Rattle.rand_core.specs.Stream.{fill_bytes};
 ghost use Rattle.argon2_base.specs.PhcFields.{phc_of};
 ghost use Rattle.argon2_accounts.specs.Accounts as kept;
-ghost use Rattle.argon2_accounts.specs.Accounts.{AreTerms, HasPassword, adding, changing, logging_in, registering, removing, replacing, setting};
-ghost use Rattle.argon2.specs.NamedTexts.{named_values};
+ghost use Rattle.argon2_accounts.specs.Accounts.{AreTerms, adding, changing, logging_in, registering, removing, replacing, setting};
+ghost use Rattle.argon2.specs.NamedTexts.{Store as Named};
 ghost use Rattle.argon2.specs.Made.{target_of};
 ghost use Rattle.argon2_store.specs.Adding.{entry_of};
-ghost use Rattle.argon2_store.specs.Errors.{IsOfDatabase, answered};
+ghost use Rattle.argon2_store.specs.Errors.{IsOfDatabase, answered, read_of};
+ghost use Rattle.argon2_store.specs.Rows.{lines_of};
 ghost use Rattle.argon2_store.specs.declared.error.OpenError.TheVariants.{Row as NoAccount};
 
 use crate::error::{FileError, OpenError};
 use crate::opening::{open_path, open_table};
 use crate::table::Table;
+use crate::view::View;
 use argon2::bound::Bound;
 use argon2::login::{Accepted, LoggedIn};
 use argon2::{Argon2, PasswordHash};
@@ -27,15 +30,15 @@ use sqlite_store::FileStore;
 use sqlite_trees::error::StoreError;
 use sqlite_trees::store::Store;
 use std::alloc::Global;
-use std::collections::btree_map::Iter;
+use std::io::{self, Write};
 
-/// Names with passwords, each stored as a PHC text, in memory and in a file. Its calls are those of
+/// Names with passwords, each stored as a PHC text, in a file. Its calls are those of
 /// [`Accounts`](argon2_accounts::Accounts). Once one that changes a text returns `Ok`, the file holds the
-/// change, past any crash.
+/// change, past any crash. No name is kept in memory: each call looks its name up in the file.
 ///
-/// A name is any text. Where a call returns an error, the accounts are as before it, in memory and in
-/// the file. One exception: where the disk fails during a commit, the file may hold the change or not. Then
-/// [`FileError::Closed`] refuses every later call that may write, until the file is opened again.
+/// A name is any text. If a call returns an error, the accounts are as before it. One exception: if the disk
+/// fails, the file may have to be opened again. Then [`FileError::Closed`] refuses every later call, and after
+/// a failed commit the file may hold the change or not.
 #[derive(Drop)]
 pub struct AccountFile<'key, S: Store> {
     policy: Policy<'key>,
@@ -45,21 +48,29 @@ pub struct AccountFile<'key, S: Store> {
 /// Accounts in the file at a path. `T` stands for what the file and its log held as they were opened.
 pub type AccountsAt<'key, T> = AccountFile<'key, FileStore<FileFrom<T>>>;
 
-// What a call answers that wrote to an open file.
-fn written<X: Copy>(done: Result<(), StoreError>, answer: X) -> Result<X, FileError>
-    ensures { result ≡ answered done answer }
+// What a call answers that read an open file.
+fn read<X>(done: Result<X, StoreError>) -> Result<X, FileError>
+    ensures { result ≡ read_of done }
 {
     match done {
-        Ok(()) => Ok(answer),
+        Ok(answer) => Ok(answer),
         // Only a wrong answer of the disk breaks a store that was open.
         Err(StoreError::Broken) => Err(FileError::Damaged),
         Err(error) => Err(error.into()),
     }
 }
 
+// What a call answers that wrote to an open file.
+fn written<X: Copy>(done: Result<(), StoreError>, answer: X) -> Result<X, FileError>
+    ensures { result ≡ answered done answer }
+{
+    read(done)?;
+    Ok(answer)
+}
+
 impl<'key, S: Store> AccountFile<'key, S> {
-    ghost use Rattle.argon2_store.specs.AccountFile.{AddsOrNone, DrawsOnce, IfOfFile, IsClosed, IsErrorAt, Serves, names_of, store_of, stream_after_login, stream_after_making, terms_of, unindexed};
-    ghost use Rattle.argon2_store.specs.Table.{IsHonest};
+    ghost use Rattle.argon2_store.specs.AccountFile.{AddsOrNone, DrawsForLogin, DrawsForText, DrawsOnce, Grants, HasNames, IfOfFile, IsClosed, IsErrorAt, IsOfFile, Reads, Serves, store_of, terms_of, unindexed};
+    ghost use Rattle.argon2_store.specs.Table.{IsHonest, IsOpen};
 
     /// Gives a new name a text, which may ask for more than the bound.
     ///
@@ -68,6 +79,7 @@ impl<'key, S: Store> AccountFile<'key, S> {
     /// - [`FileError::Closed`]: the file has to be opened again.
     /// - [`FileError::Account`] with [`Error::EncodingInvalid`](argon2::password_hash::Error::EncodingInvalid):
     ///   the text is outside the grammar of PHC texts.
+    /// - those of [`text_of`](AccountFile::text_of): the name can't be looked up.
     /// - [`FileError::Account`] with [`AccountError::NameTaken`]: the name has a text.
     /// - [`FileError::OutOfMemory`], [`FileError::Io`], [`FileError::Damaged`], [`FileError::Full`] or
     ///   [`FileError::TooLong`]: the change can't be written.
@@ -78,24 +90,25 @@ impl<'key, S: Store> AccountFile<'key, S> {
             return Err(FileError::Closed);
         }
         let parsed = PasswordHash::new(text)?;
-        if self.table.get(name).is_some() {
+        if self.text_of(name)?.is_some() {
             return Err(AccountError::NameTaken.into());
         }
-        written(self.table.insert(name, parsed), ())
+        written(self.table.change(name, None, Some(&parsed)), ())
     }
 
     /// Adds all of these new names with their texts, as [`add`](AccountFile::add) in order, or none. They
     /// are written together: after a crash in the middle of the call the file holds all of them or none.
     ///
     /// # Errors
-    /// Each comes with an index into `new`. The first of these that holds:
+    /// Each comes with an index into `new`. The entries are taken in order, and the first error ends the call:
     /// - [`FileError::Closed`]: the file has to be opened again. The index is 0.
-    /// - [`FileError::Account`]: the entry at the index is the first that `add` refuses, for this reason. With
-    ///   [`Error::OutOfMemory`](argon2::password_hash::Error::OutOfMemory) there is no memory for it.
-    /// - those of writing, as [`add`](AccountFile::add). The index is then the number of entries.
+    /// - [`FileError::Account`]: the entry at the index is the first that `add` refuses, for this reason.
+    /// - those of reading and writing, as [`add`](AccountFile::add). The index is then the number of entries.
     pub fn add_all(&mut self, new: &[(&str, &str)]) -> Result<(), (usize, FileError)>
         ensures call { AddsOrNone (map entry_of new.now) (unindexed result) self.old self.new }
-        ensures refused { IfErr result (IsErrorAt (names_of self.old) (map entry_of new.now)) }
+        ensures refused { (names : Named) → HasNames self.old names →
+            IsHonest S.Store (store_of self.new) →
+            IfErr result (IsErrorAt names (map entry_of new.now)) }
     {
         if self.is_closed() {
             return Err((0, FileError::Closed));
@@ -110,11 +123,11 @@ impl<'key, S: Store> AccountFile<'key, S> {
     }
 
     /// Gives a new name a text of a password, as [`Policy::hash_password`] makes it. 16 bytes are
-    /// drawn from `rng`, unless the file is closed or the name is taken.
+    /// drawn from `rng`, unless the file is closed or can't be read, or the name is taken.
     ///
     /// # Errors
     /// The first of these that holds:
-    /// - [`FileError::Closed`]: the file has to be opened again.
+    /// - those of [`text_of`](AccountFile::text_of): the file has to be opened again, or can't be read.
     /// - [`FileError::Account`] with [`AccountError::NameTaken`]: the name has a text.
     /// - [`FileError::Account`] with those of [`Policy::hash_password`].
     /// - those of writing, as [`add`](AccountFile::add).
@@ -127,18 +140,14 @@ impl<'key, S: Store> AccountFile<'key, S> {
         ensures call { Serves
             (registering name.now password.now (fill_bytes 16 (R.stream rng.old)).0)
             result self.old self.new }
-        ensures accepted { OnOk result
-            (HasPassword (terms_of self.new) (names_of self.new) name.now password.now) }
-        ensures drawn { R.stream rng.new ≡ stream_after_making result (R.stream rng.old) }
+        ensures accepted { Grants name.now password.now result self.old self.new }
+        ensures drawn { DrawsForText result (R.stream rng.old) (R.stream rng.new) }
     {
-        if self.is_closed() {
-            return Err(FileError::Closed);
-        }
-        if self.table.get(name).is_some() {
+        if self.text_of(name)?.is_some() {
             return Err(AccountError::NameTaken.into());
         }
         let text = self.policy.hash_password(rng, password)?;
-        written(self.table.insert(name, text), ())
+        written(self.table.change(name, None, Some(&text)), ())
     }
 
     /// Verifies a password against the text of a name, and renews the text, as [`Policy::log_in`]. It
@@ -147,7 +156,7 @@ impl<'key, S: Store> AccountFile<'key, S> {
     ///
     /// # Errors
     /// The first of these that holds:
-    /// - [`FileError::Closed`]: the file has to be opened again.
+    /// - those of [`text_of`](AccountFile::text_of): the file has to be opened again, or can't be read.
     /// - [`FileError::Account`] with [`AccountError::NameUnknown`]: the name has no text. The password is
     ///   hashed all the same, as [`Policy::hash_for_nobody`] does.
     /// - [`FileError::Account`] with those of [`Policy::log_in`].
@@ -162,37 +171,33 @@ impl<'key, S: Store> AccountFile<'key, S> {
         ensures call { Serves
             (logging_in name.now password.now (fill_bytes 16 (R.stream rng.old)).0)
             result self.old self.new }
-        ensures accepted { OnOk result
-            (HasPassword (terms_of self.new) (names_of self.new) name.now password.now) }
-        ensures drawn { R.stream rng.new ≡ stream_after_login result (R.stream rng.old) }
-        ensures served { IsHonest S.Store (store_of self.new) →
-            IfErr result (IfOfFile (IsClosed self.new)) }
+        ensures accepted { Grants name.now password.now result self.old self.new }
+        ensures drawn { DrawsForLogin result (R.stream rng.old) (R.stream rng.new) }
+        ensures served { IsHonest S.Store (store_of self.new) → IfErr result
+            (IfOfFile (IsClosed self.new ⊎ (R.stream rng.new ≡ R.stream rng.old))) }
     {
-        if self.is_closed() {
-            return Err(FileError::Closed);
-        }
-        let Some(text) = self.table.get(name) else {
+        let Some(text) = self.text_of(name)? else {
             self.policy.hash_for_nobody(password);
             return Err(AccountError::NameUnknown.into());
         };
-        let LoggedIn { accepted, fresh } = self.policy.log_in(rng, text, password)?;
+        let LoggedIn { accepted, fresh } = self.policy.log_in(rng, &text, password)?;
         let Some(fresh) = fresh else {
             return Ok(accepted);
         };
-        let done = self.table.replace(name, fresh);
+        let done = self.table.change(name, Some(&text), Some(&fresh));
         if done.is_err() && !self.is_closed() {
             return Ok(Accepted::Kept);
         }
         written(done, accepted)
     }
 
-    /// Gives a name a text of a new password where its text accepts the old one, as
-    /// [`Policy::change_password`]. 16 bytes are drawn from `rng` once the old password is accepted,
-    /// also where the new text can't be written. Else nothing is drawn, as where the file is closed.
+    /// Gives a name a text of a new password if its text accepts the old one, as
+    /// [`Policy::change_password`]. 16 bytes are drawn from `rng` once the old password is accepted, even
+    /// if the new text can't be written. Otherwise nothing is drawn.
     ///
     /// # Errors
     /// The first of these that holds:
-    /// - [`FileError::Closed`]: the file has to be opened again.
+    /// - those of [`text_of`](AccountFile::text_of): the file has to be opened again, or can't be read.
     /// - [`FileError::Account`] with [`AccountError::NameUnknown`]: the name has no text. The old password
     ///   is hashed all the same, as [`Policy::hash_for_nobody`] does.
     /// - [`FileError::Account`] with those of [`Policy::change_password`].
@@ -207,28 +212,25 @@ impl<'key, S: Store> AccountFile<'key, S> {
         ensures call { Serves
             (changing name.now old.now new.now (fill_bytes 16 (R.stream rng.old)).0)
             result self.old self.new }
-        ensures accepted { OnOk result
-            (HasPassword (terms_of self.new) (names_of self.new) name.now new.now) }
-        ensures drawn { DrawsOnce (terms_of self.old) old.now
-            (get (names_of self.old) name.now) result (R.stream rng.old) (R.stream rng.new) }
+        ensures accepted { Grants name.now new.now result self.old self.new }
+        ensures drawn { (names : Named) → HasNames self.old names →
+            IsHonest S.Store (store_of self.new) → DrawsOnce (terms_of self.old) old.now
+            (get names name.now) result (R.stream rng.old) (R.stream rng.new) }
     {
-        if self.is_closed() {
-            return Err(FileError::Closed);
-        }
-        let Some(text) = self.table.get(name) else {
+        let Some(text) = self.text_of(name)? else {
             self.policy.hash_for_nobody(old);
             return Err(AccountError::NameUnknown.into());
         };
-        let fresh = self.policy.change_password(rng, text, old, new)?;
-        written(self.table.replace(name, fresh), ())
+        let fresh = self.policy.change_password(rng, &text, old, new)?;
+        written(self.table.change(name, Some(&text), Some(&fresh)), ())
     }
 
     /// Gives a name a text of a new password, whatever text it had, as [`Policy::hash_password`]
-    /// makes it. 16 bytes are drawn from `rng`, unless the file is closed or the name is unknown.
+    /// makes it. 16 bytes are drawn from `rng`, unless the file is closed or can't be read, or the name is unknown.
     ///
     /// # Errors
     /// The first of these that holds:
-    /// - [`FileError::Closed`]: the file has to be opened again.
+    /// - those of [`text_of`](AccountFile::text_of): the file has to be opened again, or can't be read.
     /// - [`FileError::Account`] with [`AccountError::NameUnknown`]: the name has no text.
     /// - [`FileError::Account`] with those of [`Policy::hash_password`].
     /// - those of writing, as [`add`](AccountFile::add).
@@ -240,18 +242,14 @@ impl<'key, S: Store> AccountFile<'key, S> {
     ) -> Result<(), FileError>
         ensures call { Serves (setting name.now new.now (fill_bytes 16 (R.stream rng.old)).0)
             result self.old self.new }
-        ensures accepted { OnOk result
-            (HasPassword (terms_of self.new) (names_of self.new) name.now new.now) }
-        ensures drawn { R.stream rng.new ≡ stream_after_making result (R.stream rng.old) }
+        ensures accepted { Grants name.now new.now result self.old self.new }
+        ensures drawn { DrawsForText result (R.stream rng.old) (R.stream rng.new) }
     {
-        if self.is_closed() {
-            return Err(FileError::Closed);
-        }
-        if self.table.get(name).is_none() {
+        let Some(text) = self.text_of(name)? else {
             return Err(AccountError::NameUnknown.into());
-        }
-        let text = self.policy.hash_password(rng, new)?;
-        written(self.table.replace(name, text), ())
+        };
+        let fresh = self.policy.hash_password(rng, new)?;
+        written(self.table.change(name, Some(&text), Some(&fresh)), ())
     }
 
     /// Gives a name the text `new` if it still has the text `old`, as
@@ -259,7 +257,7 @@ impl<'key, S: Store> AccountFile<'key, S> {
     ///
     /// # Errors
     /// The first of these that holds:
-    /// - [`FileError::Closed`]: the file has to be opened again.
+    /// - those of [`text_of`](AccountFile::text_of): the file has to be opened again, or can't be read.
     /// - [`FileError::Account`] with [`AccountError::NameUnknown`]: the name has no text.
     /// - [`FileError::Account`] with [`AccountError::TextChanged`]: it has another text than `old`.
     /// - [`FileError::Account`] with [`Error::EncodingInvalid`](argon2::password_hash::Error::EncodingInvalid):
@@ -268,50 +266,81 @@ impl<'key, S: Store> AccountFile<'key, S> {
     pub fn replace(&mut self, name: &str, old: &str, new: &str) -> Result<(), FileError>
         ensures { Serves (replacing name.now old.now new.now) result self.old self.new }
     {
-        if self.is_closed() {
-            return Err(FileError::Closed);
-        }
-        let Some(text) = self.table.get(name) else {
+        let Some(text) = self.text_of(name)? else {
             return Err(AccountError::NameUnknown.into());
         };
         if text.text().as_str() != old {
             return Err(AccountError::TextChanged.into());
         }
         let fresh = PasswordHash::new(new)?;
-        written(self.table.replace(name, fresh), ())
+        written(self.table.change(name, Some(&text), Some(&fresh)), ())
     }
 
     /// Removes a name and its text.
     ///
     /// # Errors
     /// The first of these that holds:
-    /// - [`FileError::Closed`]: the file has to be opened again.
+    /// - those of [`text_of`](AccountFile::text_of): the file has to be opened again, or can't be read.
     /// - [`FileError::Account`] with [`AccountError::NameUnknown`]: the name has no text.
     /// - those of writing, as [`add`](AccountFile::add).
     pub fn remove(&mut self, name: &str) -> Result<(), FileError>
         ensures { Serves (removing name.now) result self.old self.new }
     {
-        if self.is_closed() {
-            return Err(FileError::Closed);
-        }
-        if self.table.get(name).is_none() {
+        let Some(text) = self.text_of(name)? else {
             return Err(AccountError::NameUnknown.into());
-        }
-        written(self.table.remove(name), ())
+        };
+        written(self.table.change(name, Some(&text), None), ())
     }
 
-    /// Whether the file has to be opened again, since the disk failed during a commit.
+    /// Whether the file has to be opened again, since the disk failed.
     pub fn is_closed(&self) -> bool
         ensures { IsHonest S.Store (store_of self.now) → IsTrue result ↔ IsClosed self.now }
     {
         self.table.is_closed()
     }
 
-    /// The text of a name, where it has one.
-    pub fn text_of(&self, name: &str) -> Option<&PasswordHash>
-        ensures { option_map phc_of (option_copied result) ≡ get (names_of self.now) name.now }
+    /// The text of a name, if it has one.
+    ///
+    /// # Errors
+    /// The first of these that holds:
+    /// - [`FileError::Closed`]: the file has to be opened again.
+    /// - [`FileError::OutOfMemory`], [`FileError::Io`], [`FileError::Damaged`], [`FileError::Full`]: the file
+    ///   can't be read. It stays open, unless [`is_closed`](AccountFile::is_closed) says otherwise.
+    pub fn text_of(&mut self, name: &str) -> Result<Option<PasswordHash>, FileError>
+        ensures reads { Reads result self.old self.new }
+        ensures shows { (names : Named) → HasNames self.new names → IfOk result (λ text.
+            IsHonest S.Store (store_of self.new) → get names name.now ≡ option_map phc_of text) }
+        ensures open { OnOk result (IsHonest S.Store (store_of self.new) →
+            IsOpen S.Store (store_of self.new)) }
+        ensures error { IfErr result IsOfFile }
+        ensures closed { IsHonest S.Store (store_of self.old) → IsClosed self.old →
+            (result ≡ Err FileError.Closed) × (store_of self.new ≡ store_of self.old) }
     {
-        self.table.get(name)
+        if self.is_closed() {
+            return Err(FileError::Closed);
+        }
+        read(self.table.get(name))
+    }
+
+    /// Writes a line for each name, in the order of the names' bytes, and flushes `output`. The inner result is
+    /// that of writing; after its error some lines may be written.
+    ///
+    /// # Errors
+    /// As [`text_of`](AccountFile::text_of).
+    pub fn write_lines<W: Write>(
+        &mut self,
+        view: View,
+        output: &mut W,
+    ) -> Result<io::Result<()>, FileError>
+        ensures reads { Reads result self.old self.new }
+        ensures shows { (names : Named) → HasNames self.old names → IfOk result (λ done.
+            IsHonest S.Store (store_of self.new) → OnOk done
+            (Appends (W.contents output.old) (W.contents output.new) (lines_of view names))) }
+    {
+        if self.is_closed() {
+            return Err(FileError::Closed);
+        }
+        read(self.table.write_lines(view, output))
     }
 
     /// The store that holds the names.
@@ -320,32 +349,11 @@ impl<'key, S: Store> AccountFile<'key, S> {
     {
         self.table.store
     }
-
-    /// The names and their texts, in the order of the names' bytes.
-    pub fn texts(&self) -> Iter<'_, String, PasswordHash>
-        ensures { named_values result ≡ entries (names_of self.now) }
-    {
-        self.table.iter()
-    }
-
-    /// How many names there are.
-    pub fn len(&self) -> usize
-        ensures { result ≡ length (entries (names_of self.now)) }
-    {
-        self.table.len()
-    }
-
-    /// Whether there are no names.
-    pub fn is_empty(&self) -> bool
-        ensures { IsTrue result ↔ (length (entries (names_of self.now)) ≡ 0) }
-    {
-        self.len() == 0
-    }
 }
 
 impl<'key, T: Start> AccountsAt<'key, T> {
     ghost use Rattle.sqlite_wal.specs.Files.{image_at};
-    ghost use Rattle.argon2_store.specs.AccountFile.{HasFound, Opens};
+    ghost use Rattle.argon2_store.specs.AccountFile.{Opens};
 
     /// Opens the accounts in the SQLite file at a path, or makes the file. Its log lies beside it, under
     /// the same name with `-wal` at its end. `start` stands for what the two files hold: one value of each
@@ -370,8 +378,8 @@ impl<'key, T: Start> AccountsAt<'key, T> {
         target: Argon2<'key>,
         bound: Bound,
     ) -> Result<AccountsAt<'key, T>, OpenError>
-        ensures ready { Opens (record { target = target_of target.entry; bound = bound }) result }
-        ensures found { IfOk result (HasFound (image_at T.Start)) }
+        ensures { Opens (record { target = target_of target.entry; bound = bound })
+            (image_at T.Start) result }
     {
         let policy = match Policy::new(rt.alloc(), target, bound) {
             Ok(policy) => policy,
@@ -386,7 +394,7 @@ impl<'key, T: Start> AccountsAt<'key, T> {
 }
 
 impl<'key, D: Disk + Drop> AccountFile<'key, FileStore<D>> {
-    ghost use Rattle.argon2_store.specs.AccountFile.{HasFound, IsReady};
+    ghost use Rattle.argon2_store.specs.AccountFile.{IsFrom};
     ghost use Rattle.argon2_store.specs.Opening.{AreUnharmed};
     ghost use Rattle.sqlite_wal.specs.Files.{seen_image};
 
@@ -405,9 +413,8 @@ impl<'key, D: Disk + Drop> AccountFile<'key, FileStore<D>> {
         policy: Policy<'key>,
     ) -> Result<AccountFile<'key, FileStore<D>>, (OpenError, Files<D>)>
         requires { IsTrue (D.Disk.is_usable files.log) × IsTrue (D.Disk.is_usable files.db) }
-        ensures ready { AreTerms (kept.terms_of policy.entry) →
-            IfOk result (IsReady (kept.terms_of policy.entry)) }
-        ensures found { IfOk result (HasFound (seen_image D.Disk files.log files.db)) }
+        ensures ready { AreTerms (kept.terms_of policy.entry) → IfOk result
+            (IsFrom (kept.terms_of policy.entry) (seen_image D.Disk files.log files.db)) }
         ensures error { IfErr result (λ e. (e.0 ≡ NoAccount) ⊎ IsOfDatabase e.0) }
         ensures unharmed { IfErr result (λ e.
             AreUnharmed D.Disk (files.log, files.db) (e.1.log, e.1.db)) }
@@ -421,7 +428,7 @@ impl<'key, D: Disk + Drop> AccountFile<'key, FileStore<D>> {
 
 impl<'key, D: Disk> AccountFile<'key, FileStore<D>> {
     ghost use Rattle.sqlite_store.specs.FileStore.{HasSpilled, log_frames};
-    ghost use Rattle.argon2_store.specs.AccountFile.{Copies, store_of};
+    ghost use Rattle.argon2_store.specs.AccountFile.{Reads, store_of};
 
     /// Copies the log into the file, so that the file alone has all accounts, and empties the log. To drop
     /// the value without it loses nothing: the next open reads the log.
@@ -431,7 +438,7 @@ impl<'key, D: Disk> AccountFile<'key, FileStore<D>> {
     /// - [`FileError::OutOfMemory`], [`FileError::Io`], [`FileError::Damaged`], [`FileError::Full`]: the
     ///   copy fails. The file and its log still hold all accounts.
     pub fn checkpoint(&mut self) -> Result<(), FileError>
-        ensures call { Copies result self.old self.new }
+        ensures call { Reads result self.old self.new }
         ensures copied { OnOk result
             (¬ HasSpilled (store_of self.old) → log_frames (store_of self.new) ≡ 0) }
     {

@@ -12,8 +12,7 @@ use sqlite_wal::Error as LogError;
 use std::alloc::AllocError;
 use std::{fmt, io};
 
-/// Why a call on an account file fails. The accounts are then as before the call, in memory and, unless the disk failed
-/// during a commit, in the file.
+/// Why a call on an account file fails. The accounts are then as before the call, unless the disk failed during a commit.
 #[derive(Clone, Copy, Debug, PartialEq, Eq)]
 pub enum FileError {
     /// The accounts refuse the call; nothing was written.

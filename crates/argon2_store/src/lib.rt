@@ -8,8 +8,8 @@
 //!
 //! Once a call has returned `Ok`, the file holds its change, whatever happens to the process or to the
 //! machine. After a crash in the middle of a call the file holds the accounts from before it, or with its
-//! change. All names and texts are kept in memory too, so that only a change touches the disk: each is a
-//! transaction, which is synced to the disk before the call returns.
+//! change. Nothing is kept in memory: a call looks its name up in the file. Each change is a transaction,
+//! which is synced to the disk before the call returns.
 //!
 //! A name is any text, empty or not. Two names are the same where their bytes are.
 //!
@@ -21,11 +21,13 @@
 
 mod account_file;
 mod error;
-mod names;
 mod opening;
+mod rows;
 mod runs;
 mod table;
+mod view;
 
 pub use account_file::{AccountFile, AccountsAt};
 pub use error::{FileError, OpenError};
 pub use runs::{account_file_runs, failed_open, next_run};
+pub use view::View;

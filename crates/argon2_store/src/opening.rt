@@ -1,21 +1,22 @@
 //! Opening the file at a path, or making it.
 
 ghost use Rattle.std.specs.Prelude.{◌≡◌, ◌⊎◌, [], ◌∷◌, true, false, IsTrue, IfErr, IfOk, OnOk};
-ghost use Rattle.sqlite_store.specs.FileStore.{recovers, view};
+ghost use Rattle.sqlite_store.specs.FileStore.{view};
 ghost use Rattle.sqlite_store.specs.Unopened.{AreUsable, Creates, Opens, image, state_of, wanted_by};
 ghost use Rattle.sqlite_store.specs.Unopened as below;
 ghost use Rattle.sqlite_pool.specs.Opening.{IsBlankFile};
 ghost use Rattle.sqlite_std_file.specs.File.{IsFresh, file_is_usable};
-ghost use Rattle.sqlite_trees.specs.Tree.{Trees};
 ghost use Rattle.sqlite_trees.specs.View.{IsClean};
 ghost use Rattle.sqlite_wal.specs.Files.{seen_image};
 ghost use Rattle.sqlite_wal.specs.Recovery.{Image};
 ghost use Rattle.argon2_store.specs.Errors.{IsOfDatabase, IsOfPath};
 ghost use Rattle.argon2_store.specs.Opening.{AreSynced, AreUnharmed, FoundIn, IsReadAs, StandsFor, account};
 ghost use Rattle.argon2_store.specs.Rows.{rows_of};
-ghost use Rattle.argon2_store.specs.Shown.{file_of, names_of};
+ghost use Rattle.argon2.specs.NamedTexts.{Store};
+ghost use Rattle.argon2_store.specs.Runs.{over_file};
+ghost use Rattle.argon2_store.specs.Shown.{file_of};
 ghost use Rattle.argon2_store.specs.Table as table;
-ghost use Rattle.argon2_store.specs.Table.{Holds};
+ghost use Rattle.argon2_store.specs.Table.{HasNames};
 ghost use Rattle.argon2_store.specs.declared.error.OpenError.TheVariants.{Row as NoAccount};
 
 use crate::error::OpenError;
@@ -159,12 +160,11 @@ pub(crate) fn open_table<D: Disk + Drop>(
     seed: u64,
 ) -> Result<Table<FileStore<D>>, (OpenError, Files<D>)>
     requires { IsTrue (D.Disk.is_usable files.log) × IsTrue (D.Disk.is_usable files.db) }
-    ensures found { IfOk result (λ it. IsClean (view (file_of it)) →
-        FoundIn 4096 (seen_image D.Disk files.log files.db) (rows_of (names_of it))) }
+    ensures found { IfOk result (λ it. (names : Store)
+        × HasNames over_file (file_of it) names × (IsClean (view (file_of it)) →
+        FoundIn 4096 (seen_image D.Disk files.log files.db) (rows_of names))) }
     ensures open { IfOk result (λ it.
         IsClean (view (file_of it)) → IsTrue (view (file_of it)).is_open) }
-    ensures left { IfOk result (λ it. IsClean (view (file_of it)) →
-        (db : Trees) → recovers (file_of it) db → Holds db (names_of it)) }
     ensures error { IfErr result (λ e. (e.0 ≡ NoAccount) ⊎ IsOfDatabase e.0) }
     ensures unharmed { IfErr result (λ e.
         AreUnharmed D.Disk (files.log, files.db) (e.1.log, e.1.db)) }

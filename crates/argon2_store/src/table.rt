@@ -1,61 +1,44 @@
-//! Names with their texts, in a tree of a store and in memory.
+//! Names with their texts, in a tree of a store.
 
-ghost use Rattle.std.specs.Prelude.{◌≡◌, ◌≤◌, ◌⊎◌, ◌↔◌, false, Any, Err, Some, None, IsSome, IsTrue, OnOk, IfErr, IfOk, MatchResult, length, map};
-ghost use Rattle.std.specs.FinMap.{entries, get, insert, remove};
+ghost use Rattle.std.specs.Prelude.{◌≡◌, ◌≤◌, ◌⊎◌, ◌↔◌, false, Any, Ok, Err, None, Some, IsTrue, OnErr, OnOk, IfErr, IfOk, MatchResult, length, map};
+ghost use Rattle.std.specs.FinMap.{get, remove};
+ghost use Rattle.std.specs.Io.KnownBytes.{Appends};
 ghost use Rattle.std.specs.Option.{option_copied, option_map};
 ghost use Rattle.sqlite_disk.specs.Disk.{MoreFaults};
 ghost use Rattle.sqlite_value.specs.Keys.{plain};
-ghost use Rattle.sqlite_trees.specs.View.{HasCause, doubt};
+ghost use Rattle.sqlite_trees.specs.View.{HasCause, KeepsSchema, doubt};
 ghost use Rattle.sqlite_trees.specs.declared.store.Shape.TheVariants.{Index};
 ghost use Rattle.argon2_base.specs.PhcFields.{phc_of};
-ghost use Rattle.argon2_base.specs.PhcText.{phc_text};
-ghost use Rattle.argon2.specs.NamedTexts.{Store as Named, named_values};
-ghost use Rattle.argon2_store.specs.Adding.{AddsAll, IsFirstRefused, entry_of};
+ghost use Rattle.argon2.specs.NamedTexts.{Store as Named};
+ghost use Rattle.argon2_store.specs.Adding.{AddsAll, AddsName, IsFirstRefused, entry_of};
 ghost use Rattle.argon2_store.specs.Errors.{IsOfDatabase};
-ghost use Rattle.argon2_store.specs.Names.{values_in};
-ghost use Rattle.argon2_store.specs.Rows.{TakesRow, row_of, rows_of};
+ghost use Rattle.argon2_store.specs.Rows.{AreTexts, lines_of, rows_of};
 ghost use Rattle.argon2_store.specs.declared.error.OpenError.TheVariants.{Row as NoAccount};
-ghost use Rattle.argon2_store.specs.Table.{Changes, HasBegun, HasFailed, IsFresh, IsHonest, IsKept, IsKept-prop, IsOpen, IsLong, Leaves, Sees, StaysQuiet, Writes, changed};
+ghost use Rattle.argon2_store.specs.Table.{Changes, HasBegun, HasFailed, HasNames, HasSome, IsFresh, IsHonest, IsKept, IsOpen, IsLong, Leaves, Sees, StaysQuiet, Writes, changed, written_of};
 
 use crate::error::OpenError;
-use crate::names::Names;
+use crate::rows::{ACCOUNTS, lay, load, look_up, write_rows};
+use crate::view::View;
 use argon2::PasswordHash;
 use argon2_accounts::AccountError;
 use sqlite_disk::Disk;
 use sqlite_store::FileStore;
 use sqlite_trees::error::StoreError;
-use sqlite_trees::store::{Direction, Shape, Store};
-use sqlite_value::keys::Order;
+use sqlite_trees::store::Store;
 use sqlite_value::row::Row;
-use sqlite_value::value::ValueRef;
-use std::alloc::{AllocError, Global};
-use std::collections::btree_map::Iter;
+use std::alloc::Global;
+use std::io::{self, Write};
 
-// The tree of the accounts.
-const ACCOUNTS: u32 = 0;
-
-// Names with their texts, and the store that holds the same.
+// Names with their texts in a store, and two rows to read and to look up with.
 #[derive(Drop)]
 pub(crate) struct Table<S: Store> {
-    alloc: Global,
     pub(crate) store: S,
     row: Row,
-    names: Names,
-    ghost kept: { IsKept S.Store store (values_in names) } by { IsKept-prop S.Store store (values_in names) },
+    key: Row,
+    ghost kept: { HasSome S.Store store } by { squash₁ },
 }
 
-// The row of a name with its text.
-fn lay(row: &mut Row, name: &str, hash: &PasswordHash) -> Result<(), AllocError>
-    ensures row { OnOk result (row.new ≡ row_of (name.now, phc_of hash.now)) }
-    ensures short { length (phc_text (phc_of hash.now)) ≤ 326 }
-{
-    let text = hash.text();
-    row.clear();
-    row.push(ValueRef::Text(name.as_bytes()))?;
-    row.push(ValueRef::Text(text.as_str().as_bytes()))
-}
-
-// Writes the row of a name that has none, where there is a text for it.
+// Writes the row of a name that has none, if there is a text for it.
 fn put<S: Store>(
     store: &mut S,
     row: &mut Row,
@@ -63,7 +46,9 @@ fn put<S: Store>(
     new: Option<&PasswordHash>,
 ) -> Result<(), StoreError>
     requires { IsHonest S.Store store.old → (S.Store.view store.old).shape 0 ≡ Index plain }
-    ensures { (names : Named) → get names name.now ≡ None →
+    ensures schema { KeepsSchema (S.Store.view store.old) (S.Store.view store.new) }
+    ensures quiet { StaysQuiet S.Store store.old store.new }
+    ensures writes { (names : Named) → (IsHonest S.Store store.old → get names name.now ≡ None) →
         Writes S.Store store.old store.new names
         (changed names name.now (option_map phc_of (option_copied new.entry)))
         (IsLong name.now) result }
@@ -83,14 +68,15 @@ fn take_out<S: Store>(
     hash: &PasswordHash,
 ) -> Result<(), StoreError>
     requires { IsHonest S.Store store.old → (S.Store.view store.old).shape 0 ≡ Index plain }
-    ensures { (names : Named) → get names name.now ≡ Some (phc_of hash.now) →
+    ensures { (names : Named) →
+        (IsHonest S.Store store.old → get names name.now ≡ Some (phc_of hash.now)) →
         Writes S.Store store.old store.new names (remove names name.now) ⊥ result }
 {
     lay(row, name, hash)?;
     store.remove(ACCOUNTS, row)
 }
 
-// Takes a name's row out where it has one, and writes another where there is one.
+// Takes a name's row out if it has one, and writes another if there is one.
 fn write<S: Store>(
     store: &mut S,
     row: &mut Row,
@@ -99,7 +85,8 @@ fn write<S: Store>(
     new: Option<&PasswordHash>,
 ) -> Result<(), StoreError>
     requires { IsHonest S.Store store.old → (S.Store.view store.old).shape 0 ≡ Index plain }
-    ensures { (names : Named) → get names name.now ≡ option_map phc_of (option_copied old.entry) →
+    ensures { (names : Named) → (IsHonest S.Store store.old →
+        get names name.now ≡ option_map phc_of (option_copied old.entry)) →
         Writes S.Store store.old store.new names
         (changed names name.now (option_map phc_of (option_copied new.entry)))
         (IsLong name.now) result }
@@ -111,25 +98,74 @@ fn write<S: Store>(
     put(store, row, name, new)
 }
 
-// Writes the rows of new names, with their texts in memory.
-fn put_all<S: Store>(
+// Writes the row of a new name with its text, unless it is refused.
+fn add<S: Store>(
     store: &mut S,
     row: &mut Row,
-    names: &Names,
-    new: &[(&str, &str)],
-) -> Result<(), StoreError>
+    key: &mut Row,
+    name: &str,
+    text: &str,
+) -> Result<Result<(), StoreError>, AccountError>
     requires { IsHonest S.Store store.old → (S.Store.view store.old).shape 0 ≡ Index plain }
-    ensures { (before : Named) → AddsAll before (map entry_of new.now) (values_in names.now) →
-        Writes S.Store store.old store.new before (values_in names.now)
-        (Any (λ e. IsLong e.0) (map entry_of new.now)) result }
+    ensures schema { KeepsSchema (S.Store.view store.old) (S.Store.view store.new) }
+    ensures quiet { StaysQuiet S.Store store.old store.new }
+    ensures writes { (before : Named) → AreTexts before →
+        (IsHonest S.Store store.old → Sees (S.Store.view store.old) before) →
+        (after : Named) × AreTexts after
+        × Writes S.Store store.old store.new before after (IsLong name.now) (written_of result)
+        × MatchResult result
+        (λ done. OnOk done (IsHonest S.Store store.new →
+        AddsName before (name.now, text.now) (Ok tt) after))
+        (λ why. IsHonest S.Store store.new →
+        AddsName before (name.now, text.now) (Err why) before) }
 {
-    for &(name, _) in new {
-        put(store, row, name, names.get(name))?;
+    let hash = PasswordHash::new(text)?;
+    match look_up(store, row, key, name) {
+        Ok(None) => Ok(put(store, row, name, Some(&hash))),
+        Ok(Some(_)) => Err(AccountError::NameTaken),
+        Err(error) => Ok(Err(error)),
     }
-    Ok(())
 }
 
-// Commits what was written, or takes it back where that has failed.
+// Writes the rows of new names with their texts, up to the first that is refused. With the refusal comes its index.
+fn add_each<S: Store>(
+    store: &mut S,
+    row: &mut Row,
+    key: &mut Row,
+    new: &[(&str, &str)],
+) -> Result<Result<(), StoreError>, (usize, AccountError)>
+    requires { IsHonest S.Store store.old → (S.Store.view store.old).shape 0 ≡ Index plain }
+    ensures quiet { StaysQuiet S.Store store.old store.new }
+    ensures writes { (before : Named) → AreTexts before →
+        (IsHonest S.Store store.old → Sees (S.Store.view store.old) before) →
+        (after : Named) × AreTexts after × Writes S.Store store.old store.new before after
+        (Any (λ e. IsLong e.0) (map entry_of new.now)) (written_of result)
+        × MatchResult result
+        (λ done. OnOk done (IsHonest S.Store store.new →
+        AddsAll before (map entry_of new.now) after))
+        (λ e. IsHonest S.Store store.new →
+        IsFirstRefused before (map entry_of new.now) e.0 e.1) }
+{
+    for (k, &(name, text)) in new.iter().enumerate() {
+        match add(store, row, key, name, text) {
+            Ok(Ok(())) => {}
+            Ok(Err(error)) => return Ok(Err(error)),
+            Err(why) => return Err((k, why)),
+        }
+    }
+    Ok(Ok(()))
+}
+
+// Takes back what was written.
+fn undo<S: Store>(store: &mut S)
+    ensures kept { (before : Named) → (IsHonest S.Store store.new →
+        HasBegun S.Store store.old before) → IsKept S.Store store.new before }
+    ensures quiet { StaysQuiet S.Store store.old store.new }
+{
+    store.rollback();
+}
+
+// Commits what was written, or takes it back if that has failed.
 fn finish<S: Store>(store: &mut S, done: Result<(), StoreError>) -> Result<(), StoreError>
     ensures kept { (before after : Named) → (IsHonest S.Store store.new →
         HasBegun S.Store store.old before × OnOk done (Sees (S.Store.view store.old) after)) →
@@ -155,234 +191,140 @@ fn finish<S: Store>(store: &mut S, done: Result<(), StoreError>) -> Result<(), S
     match done {
         Ok(()) => store.commit(),
         Err(error) => {
-            store.rollback();
+            undo(store);
             Err(error)
         }
     }
 }
 
-// Changes what a name has, and commits. The store is open.
-fn change<S: Store>(
-    store: &mut S,
-    row: &mut Row,
-    name: &str,
-    old: Option<&PasswordHash>,
-    new: Option<&PasswordHash>,
-) -> Result<(), StoreError>
-    requires shape { IsHonest S.Store store.old → (S.Store.view store.old).shape 0 ≡ Index plain }
-    requires open { IsHonest S.Store store.old → IsOpen S.Store store.old }
-    ensures { (before : Named) → get before name.now ≡ option_map phc_of (option_copied old.entry) →
-        IsKept S.Store store.old before →
-        Changes S.Store store.old store.new before
-        (changed before name.now (option_map phc_of (option_copied new.entry)))
-        (IsLong name.now) result }
-{
-    let done = write(store, row, name, old, new);
-    finish(store, done)
-}
-
-// Writes the rows of new names, with their texts in memory, and commits. The store is open.
-fn change_all<S: Store>(
-    store: &mut S,
-    row: &mut Row,
-    names: &Names,
-    new: &[(&str, &str)],
-) -> Result<(), StoreError>
-    requires shape { IsHonest S.Store store.old → (S.Store.view store.old).shape 0 ≡ Index plain }
-    requires open { IsHonest S.Store store.old → IsOpen S.Store store.old }
-    ensures { (before : Named) → AddsAll before (map entry_of new.now) (values_in names.now) →
-        IsKept S.Store store.old before →
-        Changes S.Store store.old store.new before (values_in names.now)
-        (Any (λ e. IsLong e.0) (map entry_of new.now)) result }
-{
-    let done = put_all(store, row, names, new);
-    finish(store, done)
-}
-
-// Takes in the name of a row that was read.
-fn take(alloc: Global, row: &Row, names: &mut Names) -> Result<(), OpenError>
-    ensures taken { OnOk result (TakesRow row.now (values_in names.old) (values_in names.new)) }
-    ensures error { IfErr result (λ e. (e ≡ NoAccount) ⊎ IsOfDatabase e) }
-{
-    let (ValueRef::Text(name), ValueRef::Text(text)) = (row.get(0), row.get(1)) else {
-        return Err(OpenError::Row);
-    };
-    let (Ok(name), Ok(text)) = (str::from_utf8(name), str::from_utf8(text)) else {
-        return Err(OpenError::Row);
-    };
-    let Ok(hash) = PasswordHash::new(text) else {
-        return Err(OpenError::Row);
-    };
-    if row.len() != 2 || names.get(name).is_some() {
-        return Err(OpenError::Row);
-    }
-    Ok(names.insert(alloc, name, hash)?)
-}
-
-// Reads the rows of the tree.
-fn load<S: Store>(alloc: Global, store: &mut S, row: &mut Row) -> Result<Names, OpenError>
-    requires { IsHonest S.Store store.old → IsFresh (S.Store.view store.old) }
-    ensures kept { IfOk result (λ names. IsKept S.Store store.new (values_in names)) }
-    ensures found { IfOk result (λ names. IsHonest S.Store store.new →
-        (S.Store.view store.old).committed 0 ≡ rows_of (values_in names)) }
-    ensures open { OnOk result (IsHonest S.Store store.new → IsOpen S.Store store.new) }
-    ensures quiet { StaysQuiet S.Store store.old store.new }
-    ensures error { IfErr result (λ e. (e ≡ NoAccount) ⊎ IsOfDatabase e) }
-{
-    if store.shape(ACCOUNTS) != Shape::Index(Order::PLAIN) {
-        return Err(OpenError::NotAccounts);
-    }
-    let mut names = Names::new(alloc);
-    row.clear();
-    store.seek(0, ACCOUNTS, row, Direction::Forward)?;
-    for _ in 0..u64::MAX {
-        if !store.next(0, row)? {
-            return Ok(names);
-        }
-        take(alloc, row, &mut names)?;
-    }
-    Err(OpenError::Row)
-}
-
 impl<S: Store + Drop> Table<S> {
-    ghost use Rattle.argon2_store.specs.Shown.{names_of as names_in, file_of as store_in};
+    ghost use Rattle.argon2_store.specs.Shown.{file_of as store_in};
 
     // The names of a store in which nothing is written yet. An error comes with the store.
     pub(crate) fn open(alloc: Global, mut store: S) -> Result<Table<S>, (OpenError, S)>
         requires { IsHonest S.Store store → IsFresh (S.Store.view store) }
-        ensures found { IfOk result (λ table. IsHonest S.Store (store_in table) →
-            (S.Store.view store).committed 0 ≡ rows_of (names_in table)) }
+        ensures found { IfOk result (λ table. (names : Named)
+            × HasNames S.Store (store_in table) names
+            × (IsHonest S.Store (store_in table) →
+            (S.Store.view store).committed 0 ≡ rows_of names)) }
         ensures open { IfOk result (λ table. IsHonest S.Store (store_in table) →
             IsOpen S.Store (store_in table)) }
-        ensures left { IfOk result (λ table. IsHonest S.Store (store_in table) →
-            Leaves S.Store (store_in table) (λ left. left ≡ names_in table)) }
         ensures quiet { IfOk result (λ table.
             StaysQuiet S.Store store (store_in table)) }
         ensures back { IfErr result (λ e. StaysQuiet S.Store store e.1) }
         ensures error { IfErr result (λ e. (e.0 ≡ NoAccount) ⊎ IsOfDatabase e.0) }
     {
-        let mut row = Row::new(alloc);
-        match load(alloc, &mut store, &mut row) {
-            Ok(names) => Ok(Table {
-                alloc,
-                store,
-                row,
-                names,
-            }),
+        let (mut row, mut key) = (Row::new(alloc), Row::new(alloc));
+        match load(&mut store, &mut row, &mut key) {
+            Ok(()) => Ok(Table { store, row, key }),
             Err(error) => Err((error, store)),
         }
     }
 }
 
 impl<S: Store> Table<S> {
-    ghost use Rattle.argon2_store.specs.Shown.{names_of, file_of};
+    ghost use Rattle.argon2_store.specs.Shown.{file_of};
+    ghost use Rattle.argon2_store.specs.Table.{KeepsNames};
 
-    // Gives a new name its text.
-    pub(crate) fn insert(&mut self, name: &str, hash: PasswordHash) -> Result<(), StoreError>
-        requires new { get (names_of self.old) name.now ≡ None }
-        requires open { IsHonest S.Store (file_of self.old) → IsOpen S.Store (file_of self.old) }
-        ensures file { Changes S.Store (file_of self.old) (file_of self.new) (names_of self.old)
-            (insert (names_of self.old) name.now (phc_of hash)) (IsLong name.now) result }
-        ensures names { MatchResult result
-            (λ _. names_of self.new ≡ insert (names_of self.old) name.now (phc_of hash))
-            (λ _. names_of self.new ≡ names_of self.old) }
+    // The text of a name.
+    pub(crate) fn get(&mut self, name: &str) -> Result<Option<PasswordHash>, StoreError>
+        requires { IsHonest S.Store (file_of self.old) → IsOpen S.Store (file_of self.old) }
+        ensures reads { (names : Named) → HasNames S.Store (file_of self.old) names →
+            KeepsNames S.Store (file_of self.old) (file_of self.new) names result }
+        ensures quiet { StaysQuiet S.Store (file_of self.old) (file_of self.new) }
+        ensures open { OnOk result (IsHonest S.Store (file_of self.new) →
+            IsOpen S.Store (file_of self.new)) }
+        ensures found { (names : Named) → HasNames S.Store (file_of self.new) names →
+            IfOk result (λ text. IsHonest S.Store (file_of self.new) →
+            get names name.now ≡ option_map phc_of text) }
     {
-        let Ok(()) = self.names.insert(self.alloc, name, hash) else {
-            return Err(StoreError::OutOfMemory);
-        };
-        let new = self.names.get(name);
-        match change(&mut self.store, &mut self.row, name, None, new) {
-            Ok(()) => Ok(()),
+        match look_up(&mut self.store, &mut self.row, &mut self.key, name) {
+            Ok(text) => Ok(text),
             Err(error) => {
-                self.names.remove(name);
+                undo(&mut self.store);
                 Err(error)
             }
         }
     }
 
-    // Gives new names their texts. Where one is refused, none is written.
+    // Writes a line for each name.
+    pub(crate) fn write_lines<W: Write>(
+        &mut self,
+        view: View,
+        output: &mut W,
+    ) -> Result<io::Result<()>, StoreError>
+        requires { IsHonest S.Store (file_of self.old) → IsOpen S.Store (file_of self.old) }
+        ensures reads { (names : Named) → HasNames S.Store (file_of self.old) names →
+            KeepsNames S.Store (file_of self.old) (file_of self.new) names result }
+        ensures quiet { StaysQuiet S.Store (file_of self.old) (file_of self.new) }
+        ensures shows { (names : Named) → HasNames S.Store (file_of self.old) names →
+            IfOk result (λ done. IsHonest S.Store (file_of self.new) → OnOk done
+            (Appends (W.contents output.old) (W.contents output.new) (lines_of view names))) }
+    {
+        match write_rows(&mut self.store, &mut self.row, view, output) {
+            Ok(done) => Ok(done),
+            Err(error) => {
+                undo(&mut self.store);
+                Err(error)
+            }
+        }
+    }
+
+    // Changes what a name has, and commits.
+    pub(crate) fn change(
+        &mut self,
+        name: &str,
+        old: Option<&PasswordHash>,
+        new: Option<&PasswordHash>,
+    ) -> Result<(), StoreError>
+        requires open { IsHonest S.Store (file_of self.old) → IsOpen S.Store (file_of self.old) }
+        requires known { (names : Named) → HasNames S.Store (file_of self.old) names →
+            IsHonest S.Store (file_of self.old) →
+            get names name.now ≡ option_map phc_of (option_copied old) }
+        ensures { (before : Named) → HasNames S.Store (file_of self.old) before →
+            Changes S.Store (file_of self.old) (file_of self.new) before
+            (changed before name.now (option_map phc_of (option_copied new.entry)))
+            (IsLong name.now) result }
+    {
+        let done = write(&mut self.store, &mut self.row, name, old, new);
+        finish(&mut self.store, done)
+    }
+
+    // Gives new names their texts, and commits. If one is refused, nothing is written, and its index comes with the refusal.
     pub(crate) fn add_all(
         &mut self,
         new: &[(&str, &str)],
     ) -> Result<Result<(), StoreError>, (usize, AccountError)>
         requires { IsHonest S.Store (file_of self.old) → IsOpen S.Store (file_of self.old) }
-        ensures added { IfOk result (λ done. (after : Named)
-            × AddsAll (names_of self.old) (map entry_of new.now) after
-            × Changes S.Store (file_of self.old) (file_of self.new) (names_of self.old) after
-            (Any (λ e. IsLong e.0) (map entry_of new.now)) done
-            × MatchResult done (λ _. names_of self.new ≡ after)
-            (λ _. names_of self.new ≡ names_of self.old)) }
-        ensures refused { IfErr result (λ e.
-            IsFirstRefused (names_of self.old) (map entry_of new.now) e.0 e.1
-            × (names_of self.new ≡ names_of self.old) × (file_of self.new ≡ file_of self.old)) }
+        ensures added { (before : Named) → HasNames S.Store (file_of self.old) before →
+            IfOk result (λ done. (after : Named)
+            × (IsHonest S.Store (file_of self.new) →
+            (after ≡ before) ⊎ AddsAll before (map entry_of new.now) after)
+            × OnOk done (IsHonest S.Store (file_of self.new) →
+            AddsAll before (map entry_of new.now) after)
+            × Changes S.Store (file_of self.old) (file_of self.new) before after
+            (Any (λ e. IsLong e.0) (map entry_of new.now)) done) }
+        ensures refused { (before : Named) → HasNames S.Store (file_of self.old) before →
+            IfErr result (λ e. HasNames S.Store (file_of self.new) before
+            × (IsHonest S.Store (file_of self.new) →
+            IsFirstRefused before (map entry_of new.now) e.0 e.1)) }
+        ensures quiet { OnErr result (StaysQuiet S.Store (file_of self.old) (file_of self.new)) }
     {
-        self.names.add_all(self.alloc, new)?;
-        match change_all(&mut self.store, &mut self.row, &self.names, new) {
-            Ok(()) => Ok(Ok(())),
-            Err(error) => {
-                self.names.remove_all(new);
-                Ok(Err(error))
+        match add_each(&mut self.store, &mut self.row, &mut self.key, new) {
+            Ok(done) => Ok(finish(&mut self.store, done)),
+            Err(refused) => {
+                undo(&mut self.store);
+                Err(refused)
             }
         }
     }
 
-    // Writes a text over the one that a name has.
-    pub(crate) fn replace(&mut self, name: &str, hash: PasswordHash) -> Result<(), StoreError>
-        requires known { IsSome (get (names_of self.old) name.now) }
-        requires open { IsHonest S.Store (file_of self.old) → IsOpen S.Store (file_of self.old) }
-        ensures file { Changes S.Store (file_of self.old) (file_of self.new) (names_of self.old)
-            (insert (names_of self.old) name.now (phc_of hash)) (IsLong name.now) result }
-        ensures names { MatchResult result
-            (λ _. names_of self.new ≡ insert (names_of self.old) name.now (phc_of hash))
-            (λ _. names_of self.new ≡ names_of self.old) }
-    {
-        let old = self.names.get(name);
-        change(&mut self.store, &mut self.row, name, old, Some(&hash))?;
-        self.names.replace(name, hash);
-        Ok(())
-    }
-
-    // Takes a name out.
-    pub(crate) fn remove(&mut self, name: &str) -> Result<(), StoreError>
-        requires { IsHonest S.Store (file_of self.old) → IsOpen S.Store (file_of self.old) }
-        ensures file { Changes S.Store (file_of self.old) (file_of self.new) (names_of self.old)
-            (remove (names_of self.old) name.now) (IsLong name.now) result }
-        ensures names { MatchResult result
-            (λ _. names_of self.new ≡ remove (names_of self.old) name.now)
-            (λ _. names_of self.new ≡ names_of self.old) }
-    {
-        let old = self.names.get(name);
-        change(&mut self.store, &mut self.row, name, old, None)?;
-        self.names.remove(name);
-        Ok(())
-    }
-
-    // Whether the file has to be opened again, since the disk failed during a commit.
+    // Whether the file has to be opened again, since the disk failed.
     pub(crate) fn is_closed(&self) -> bool
         ensures { IsHonest S.Store (file_of self.now) →
             IsTrue result ↔ ((S.Store.view (file_of self.now)).is_open ≡ false) }
     {
         self.store.is_broken()
-    }
-
-    // What a name's text says.
-    pub(crate) fn get(&self, name: &str) -> Option<&PasswordHash>
-        ensures { option_map phc_of (option_copied result) ≡ get (names_of self.now) name.now }
-    {
-        self.names.get(name)
-    }
-
-    // The names and their texts, in the order of the names' bytes.
-    pub(crate) fn iter(&self) -> Iter<'_, String, PasswordHash>
-        ensures { named_values result ≡ entries (names_of self.now) }
-    {
-        self.names.iter()
-    }
-
-    pub(crate) fn len(&self) -> usize
-        ensures { result ≡ length (entries (names_of self.now)) }
-    {
-        self.names.len()
     }
 }
 
@@ -390,11 +332,13 @@ impl<D: Disk> Table<FileStore<D>> {
     ghost use Rattle.sqlite_store.specs.Calls.{IsQuietCall};
     ghost use Rattle.sqlite_store.specs.FileStore.{HasSpilled, faults, log_frames, view};
     ghost use Rattle.sqlite_trees.specs.View.{IsClean};
-    ghost use Rattle.argon2_store.specs.Shown.{file_of, names_of};
+    ghost use Rattle.argon2_store.specs.Runs.{over_file};
+    ghost use Rattle.argon2_store.specs.Shown.{file_of};
 
     // Copies the log into the file.
     pub(crate) fn checkpoint(&mut self) -> Result<(), StoreError>
-        ensures names { names_of self.new ≡ names_of self.old }
+        ensures names { (names : Named) → HasNames over_file (file_of self.old) names →
+            HasNames over_file (file_of self.new) names }
         ensures same { IsTrue (view (file_of self.new)).is_open →
             view (file_of self.new) ≡ view (file_of self.old) }
         ensures open { OnOk result (IsClean (view (file_of self.new)) →

@@ -25,10 +25,10 @@ const BOUND: Bound = Bound {
 // What a file answers that begins with no names.
 #[derive(Clone, Copy)]
 struct Answers {
-    was_empty: bool,
+    had_ann: Result<bool, FileError>,
     added: Answer,
     added_again: Answer,
-    has_ann: bool,
+    has_ann: Result<bool, FileError>,
     replaced: Answer,
     copied: Answer,
 }
@@ -44,10 +44,10 @@ fn main(rt: HostRuntime) -> io::Result<()> {
     match open(&rt, Wary) {
         Ok(file) => {
             let answers = answers_of(file);
-            println!(rt; "is_empty: {}", answers.was_empty)?;
+            show_ann(&rt, &answers.had_ann)?;
             show(&rt, "add", &answers.added)?;
             show(&rt, "add again", &answers.added_again)?;
-            println!(rt; "has ann alone: {}", answers.has_ann)?;
+            show_ann(&rt, &answers.has_ann)?;
             show(&rt, "replace", &answers.replaced)?;
             show(&rt, "checkpoint", &answers.copied)?;
             if answers.copied.result.is_ok() {
@@ -57,7 +57,7 @@ fn main(rt: HostRuntime) -> io::Result<()> {
         Err(error) => println!(rt; "open: {error}")?,
     }
     match open(&rt, Wary) {
-        Ok(file) => println!(rt; "has ann alone: {}", has_ann(&file)),
+        Ok(file) => show_ann(&rt, &found_ann(file)),
         Err(error) => println!(rt; "open again: {error}"),
     }
 }
@@ -71,7 +71,7 @@ fn open<T: Start>(rt: &HostRuntime, start: T) -> Result<AccountsAt<'static, T>, 
 }
 
 fn answers_of<D: Disk + Drop>(mut file: AccountFile<'_, FileStore<D>>) -> Answers {
-    let was_empty = file.is_empty();
+    let had_ann = has_ann(&mut file);
     let result = file.add("ann", TEXT);
     let added = Answer {
         result,
@@ -82,7 +82,7 @@ fn answers_of<D: Disk + Drop>(mut file: AccountFile<'_, FileStore<D>>) -> Answer
         result,
         is_closed: file.is_closed(),
     };
-    let has_ann = has_ann(&file);
+    let has_ann = has_ann(&mut file);
     let result = file.replace("ann", TEXT, TEXT);
     let replaced = Answer {
         result,
@@ -94,7 +94,7 @@ fn answers_of<D: Disk + Drop>(mut file: AccountFile<'_, FileStore<D>>) -> Answer
         is_closed: file.is_closed(),
     };
     Answers {
-        was_empty,
+        had_ann,
         added,
         added_again,
         has_ann,
@@ -103,13 +103,24 @@ fn answers_of<D: Disk + Drop>(mut file: AccountFile<'_, FileStore<D>>) -> Answer
     }
 }
 
-// Whether a file has the name ann alone, with its text.
-fn has_ann<S: Store>(file: &AccountFile<'_, S>) -> bool {
-    let is_text = match file.text_of("ann") {
-        Some(hash) => hash.text().as_str() == TEXT,
-        None => false,
-    };
-    is_text && file.len() == 1
+// Whether a file has the name ann with its text.
+fn has_ann<S: Store>(file: &mut AccountFile<'_, S>) -> Result<bool, FileError> {
+    match file.text_of("ann")? {
+        Some(hash) => Ok(hash.text().as_str() == TEXT),
+        None => Ok(false),
+    }
+}
+
+// The same of a file that was opened.
+fn found_ann<S: Store + Drop>(mut file: AccountFile<'_, S>) -> Result<bool, FileError> {
+    has_ann(&mut file)
+}
+
+fn show_ann(rt: &impl Print, has: &Result<bool, FileError>) -> io::Result<()> {
+    match has {
+        Ok(has) => println!(rt; "has ann: {has}"),
+        Err(error) => println!(rt; "has ann: {error}"),
+    }
 }
 
 fn show(rt: &impl Print, call: &str, answer: &Answer) -> io::Result<()> {

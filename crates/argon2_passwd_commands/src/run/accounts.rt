@@ -1,32 +1,30 @@
 //! Accounts in a file.
 
 ghost use Rattle.std.specs.Prelude.{◌≡◌, ◌⊎◌, Ok, None, IfErr, IfOk, OnErr, OnOk, map};
-ghost use Rattle.std.specs.FinMap.{entries};
 ghost use Rattle.std.specs.Io.KnownBytes.{Appends, Keeps};
 ghost use Rattle.rand_core.specs.Stream.{fill_bytes};
 ghost use Rattle.argon2_accounts.specs.Accounts.{AreTerms};
-ghost use Rattle.argon2_base.specs.PhcFields.{phc_of};
-ghost use Rattle.argon2_store.specs.AccountFile.{AddsOrNone, Serves, names_of};
+ghost use Rattle.argon2_store.specs.AccountFile.{AddsOrNone, Serves};
 ghost use Rattle.argon2_store.specs.Adding.{entry_of};
-ghost use Rattle.argon2_passwd_commands.specs.Answers.{AreRead, AreUnread, IsAdded, IsEdited, IsImported, IsLeft, IsLogin, IsOnce, IsOpened, IsRead, IsRefused, IsRefusedBy, RefusesLine, breaks_lines, call_of, entry_line, lines_of, terms_by};
+ghost use Rattle.argon2_store.specs.Rows.{lines_of};
+ghost use Rattle.argon2_passwd_commands.specs.Answers.{AreRead, AreUnread, IsAdded, IsEdited, IsImported, IsLeft, IsLogin, IsOnce, IsOpened, IsRead, IsRefused, IsRefusedBy, RefusesLine, breaks_lines, call_of, terms_by};
 ghost use Rattle.argon2_passwd_commands.specs.Asked.{Asked, choices_of};
 ghost use Rattle.argon2_passwd_commands.specs.Failures.{status_of};
 
 use super::{secret, target};
-use crate::command::{Edit, View};
+use crate::command::Edit;
 use crate::entries::{entries, read_all};
 use crate::failure::Failure;
 use crate::options::Options;
 use crate::outside::Outside;
 use crate::passwords::password;
-use argon2::PasswordHash;
 use argon2::login::Accepted;
-use argon2_store::{AccountFile, FileError};
+use argon2_store::{AccountFile, FileError, View};
 use rand_chacha::ChaCha20Rng;
 use rand_core::{Rng, SeedableRng};
 use sqlite_trees::store::Store;
 use std::alloc::Global;
-use std::io::{self, BufRead, Write};
+use std::io::{BufRead, Write};
 
 /// What a name's text in a file does with the next password, where it accepts it.
 pub fn verify<P: Outside, R: BufRead>(
@@ -113,8 +111,8 @@ pub fn show<P: Outside, W: Write>(
 ) -> Result<(), Failure>
     requires { P.unopened outside.old }
     ensures ok { OnOk result (IsRead P.File.Store P.holds P.keeps (choices_of options.now)
-        file.now (λ names. Appends (W.contents output.old) (W.contents output.new)
-        (lines_of view (entries names))) (IsLeft (P.unopened outside.new) left.new)) }
+        file.now None (λ names. Appends (W.contents output.old) (W.contents output.new)
+        (lines_of view names)) (IsLeft (P.unopened outside.new) left.new)) }
     ensures err { IfErr result (λ failure. status_of failure ≡ 1
         → IsRefused P.File.Store P.holds P.keeps
         (Asked.show (choices_of options.now) file.now view) None
@@ -125,10 +123,10 @@ pub fn show<P: Outside, W: Write>(
         (IsLeft (P.unopened outside.new) left.new) }
 {
     let secret = secret(alloc, outside, options)?;
-    let accounts = open(options, outside, file, secret.as_slice())?;
-    let written = write_all(&accounts, view, output);
+    let mut accounts = open(options, outside, file, secret.as_slice())?;
+    let written = accounts.write_lines(view, output);
     *left = Some(accounts.into_store());
-    Ok(written?)
+    Ok(written??)
 }
 
 /// Adds all names and texts of the input, each a line, to a file, or none.
@@ -243,39 +241,8 @@ fn add_all<S: Store>(
     match accounts.add_all(entries) {
         Ok(()) => Ok(()),
         Err((index, error)) => match Failure::from(error) {
-            Failure::Account(why) => Err(Failure::Line(index + 1, why)),
+            Failure::Account(why) => Err(Failure::Line(index.saturating_add(1), why)),
             failure => Err(failure),
         },
-    }
-}
-
-// Writes a line for each name.
-fn write_all<S: Store, W: Write>(
-    accounts: &AccountFile<'_, S>,
-    view: View,
-    output: &mut W,
-) -> io::Result<()>
-    ensures { OnOk result (Appends (W.contents output.old) (W.contents output.new)
-        (lines_of view (entries (names_of accounts.now)))) }
-{
-    for (name, hash) in accounts.texts() {
-        write_entry(view, name.as_str(), hash, output)?;
-    }
-    output.flush()
-}
-
-// Writes the line of a name.
-fn write_entry<W: Write>(
-    view: View,
-    name: &str,
-    hash: &PasswordHash,
-    output: &mut W,
-) -> io::Result<()>
-    ensures { OnOk result (Appends (W.contents output.old) (W.contents output.new)
-        (entry_line view (name.now, phc_of hash.now))) }
-{
-    match view {
-        View::Names => writeln!(output, "{name}"),
-        View::Texts => writeln!(output, "{name}:{hash}"),
     }
 }

@@ -40,7 +40,8 @@ returns-then-is_new-clause-left g c =
 
 pub returns-in-Ok-true-clause-found : goal.returns-in-Ok-true-clause-found
 returns-in-Ok-true-clause-found g c =
-    if_ok2 c.make-in-Ok-true.result c.make-in-Ok-true.ensures.empty c.make-in-Ok-true.ensures.honest (λ store empty honest clean.
+    if_ok2 c.make-in-Ok-true.result c.make-in-Ok-true.ensures.empty c.make-in-Ok-true.ensures.honest
+    (λ store empty honest clean.
     let found = c.is_bare.ensures.read (honest clean) in
     let read : IsReadAs c.args.files c.is_bare.new.files true = search rules in
     inr (

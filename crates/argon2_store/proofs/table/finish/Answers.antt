@@ -27,4 +27,4 @@ returns-in-Ok-clause-durable g c after clean sees = on_ok c.commit.result c.comm
 -- what a failed change has written is taken back
 pub returns-in-Err-clause-left : goal.returns-in-Err-clause-left
 returns-in-Err-clause-left g c before after clean begun sees db found =
-    (before, begun.left db (c.rollback.ensures.quiet.outcomes db found), inl refl)
+    (before, begun.left db (c.undo.ensures.quiet.outcomes db found), inl refl)

@@ -1,14 +1,20 @@
 use Rattle.std.proofs.Common.{refl}
-use Rattle.argon2_store.proofs.TextLemmas.{are_texts}
+use Rattle.sqlite_store.specs.Laws.{settled_at}
+use Rattle.argon2_store.specs.Runs.{over_file}
+use Rattle.argon2_store.proofs.TableLemmas.{leaves_kept}
 use Rattle.argon2_store.proofs.account_file.AccountFile+FileStore+D.open_from.Goals as goal
 
 pub returns-in-Ok-clause-ready : goal.returns-in-Ok-clause-ready
-returns-in-Ok-clause-ready g c sound = record {
-  sound = sound;
-  under = refl;
-  is_open = c.in-Ok.ensures.open;
-  left = λ clean db found. (_, c.in-Ok.ensures.left clean db found, refl);
-}
-
-pub returns-in-Ok-clause-found : goal.returns-in-Ok-clause-found
-returns-in-Ok-clause-found g c clean = (are_texts c.in-Ok.table.names, c.in-Ok.ensures.found clean)
+returns-in-Ok-clause-ready g c sound =
+    let (names, has, found) = c.in-Ok.ensures.found in (
+      names,
+      record {
+        sound = sound;
+        under = refl;
+        has = has;
+        is_open = c.in-Ok.ensures.«open»;
+        left = λ clean. leaves_kept (over_file {g = g.D.Disk}) c.in-Ok.table.store names
+            (settled_at c.in-Ok.table.store g.met.D.Disk.seen_may_stay) has.1 clean (c.in-Ok.ensures.«open» clean);
+      },
+      λ clean. (has.0, found clean),
+    )

@@ -1,31 +1,65 @@
-use Rattle.std.proofs.Common.{rules, ◌≡◌, Some, None, inl, refl}
-use Rattle.std.specs.Prelude.{IsSome}
-use Rattle.std.specs.FinMap.{get}
+use Rattle.std.proofs.Common.{◌∙◌, Err, Some, None, inl, refl, sym}
+use Rattle.std.specs.Option.{option_map}
 use Rattle.argon2_base.specs.PhcFields.{phc_of}
 use Rattle.argon2_accounts.specs.Accounts.{adding}
 use Rattle.argon2_accounts.specs.declared.error.AccountError.TheVariants.{NameTaken, Refused}
-use Rattle.argon2_store.specs.AccountFile.{names_of}
-use Rattle.argon2_store.proofs.FileLemmas.{refuses, writes}
+use Rattle.argon2_store.proofs.FileLemmas.{cannot_serve, is_nowhere, is_there, live_of, refuses, shut_out, unread, writes}
+use Rattle.argon2_store.specs.declared.error.FileError.TheVariants.{Closed}
 use Rattle.argon2_store.proofs.account_file.AccountFile.add.Goals as goal
 
+pub returns-then-is_closed : goal.returns-then-is_closed
+returns-then-is_closed g c before has =
+    cannot_serve {g = g.S.Store} g.met.S.Store.settled (adding c.args.name.now c.args.text.now) c.args.self.now
+    c.args.self.now before has
+    Closed (Err Closed) refl (shut_out g.met.S.Store.settled c.args.self.now before has c.is_closed.ensures c.if-is_closed.true)
+    (λ clean is. (refl, refl))
+
 pub returns-in_err-parsed : goal.returns-in_err-parsed
-returns-in_err-parsed g c =
-    refuses g.met.S.Store.settled (adding c.args.name.now c.args.text.now)
-    c.args.name.now (λ answer. refl) _ c.is_closed.ensures c.if-is_closed.false _ refl
+returns-in_err-parsed g c before has =
+    let live = live_of {g = g.S.Store} c.args.self.now c.is_closed.ensures c.if-is_closed.false in
+    refuses {g = g.S.Store} g.met.S.Store.settled (adding c.args.name.now c.args.text.now) c.args.name.now (λ answer. refl)
+    c.args.self.now c.args.self.now before
+    live (unread g.met.S.Store.settled c.args.self.now before has live) _ (λ clean. refl)
     (Refused c.in_err-parsed.field-0.0) _ c.from_residual.ensures.1
     (inl (c.in_err-parsed.ensures.invalid, λ is. c.in_err-parsed.ensures.only is.0 is.1), refl)
 
+pub returns-in_err-text_of : goal.returns-in_err-text_of
+returns-in_err-text_of g c before has =
+    cannot_serve {g = g.S.Store} g.met.S.Store.settled (adding c.args.name.now c.args.text.now) c.args.self.now
+    c.text_of.new.self before has c.in_err-text_of.field-0.0 _
+    c.from_residual-in_err-text_of.ensures.1 (c.in_err-text_of.ensures.reads before has)
+    (λ clean is. let shut = c.in_err-text_of.ensures.closed clean is in (cc, shut.1))
+
 pub returns-then-is_some : goal.returns-then-is_some
-returns-then-is_some g c =
-    let has : IsSome (get (names_of c.args.self.now) c.args.name.now) = search rules in
-    refuses g.met.S.Store.settled (adding c.args.name.now c.args.text.now)
-    c.args.name.now (λ answer. refl) _ c.is_closed.ensures c.if-is_closed.false _ refl
-    NameTaken _ c.into.ensures (((phc_of c.in_ok-parsed.parsed, c.in_ok-parsed.ensures.found), has), refl)
+returns-then-is_some g c before has =
+    refuses {g = g.S.Store} g.met.S.Store.settled (adding c.args.name.now c.args.text.now) c.args.name.now (λ answer. refl)
+    c.args.self.now
+    c.text_of.new.self before (λ clean is. absurd (let never = (c.in_ok-text_of.ensures.closed clean is).0 in cc))
+    (c.in_ok-text_of.ensures.reads before has)
+    (option_map phc_of c.in_ok-text_of.field-0)
+    (λ clean. c.in_ok-text_of.ensures.shows before (c.in_ok-text_of.ensures.reads before has).has clean)
+    NameTaken _ c.into.ensures (
+      (
+        (phc_of c.in_ok-parsed.parsed, c.in_ok-parsed.ensures.found),
+        is_there _ (sym c.is_some.ensures ∙ c.if-is_some.true),
+      ),
+      refl,
+    )
+
+pub change-requires-clause-open : goal.change-requires-clause-open
+change-requires-clause-open g c = c.in_ok-text_of.ensures.«open»
+
+pub change-requires-clause-known : goal.change-requires-clause-known
+change-requires-clause-known g c names has clean = c.in_ok-text_of.ensures.shows names has clean ∙ is_nowhere _
+    (sym c.is_some.ensures ∙ c.if-is_some.false)
 
 pub returns : goal.returns
-returns g c =
-    let none : get (names_of c.args.self.now) c.args.name.now ≡ None = search rules in
-    writes g.met.S.Store.settled (adding c.args.name.now c.args.text.now)
-    c.args.name.now (λ answer. refl) _ c.is_closed.ensures c.if-is_closed.false _ none
-    _ (Some (phc_of c.in_ok-parsed.parsed)) tt refl (refl, c.in_ok-parsed.ensures.found)
-    _ c.insert.ensures.file c.insert.ensures.names _ c.written.ensures
+returns g c before has =
+    writes {g = g.S.Store} g.met.S.Store.settled (adding c.args.name.now c.args.text.now) c.args.name.now (λ answer. refl)
+    c.args.self.now
+    c.text_of.new.self before (λ clean is. absurd (let never = (c.in_ok-text_of.ensures.closed clean is).0 in cc))
+    (c.in_ok-text_of.ensures.reads before has)
+    None (λ clean. c.in_ok-text_of.ensures.shows before (c.in_ok-text_of.ensures.reads before has).has clean
+    ∙ is_nowhere _ (sym c.is_some.ensures ∙ c.if-is_some.false))
+    _ (Some (phc_of c.in_ok-parsed.parsed)) tt refl (refl, c.in_ok-parsed.ensures.found) _
+    (c.change.ensures before (c.in_ok-text_of.ensures.reads before has).has) _ c.written.ensures

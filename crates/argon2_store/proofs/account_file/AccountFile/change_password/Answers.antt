@@ -1,51 +1,95 @@
-use Rattle.std.proofs.Common.{rules, ℕ, List, Some, Result, Ok, refl, sym}
+use Rattle.std.proofs.Common.{ℕ, List, Result, ◌≡◌, ◌∙◌, Ok, Err, Some, None, ap, inl, inr, refl, subst}
+use Rattle.std.specs.FinMap.{get}
+use Rattle.std.specs.Option.{option_map}
 use Rattle.rand_core.specs.Stream.{Stream, fill_bytes}
-use Rattle.sqlite_trees.specs.declared.error.StoreError.{StoreError}
 use Rattle.argon2_base.specs.PhcFields.{phc_of}
-use Rattle.argon2_base.specs.PhcText.{Phc}
 use Rattle.argon2_accounts.specs.Accounts as kept
-use Rattle.argon2_accounts.specs.Accounts.{Terms, changing}
+use Rattle.argon2_accounts.specs.Accounts.{Admits, Terms, changing}
 use Rattle.argon2_accounts.specs.declared.error.AccountError.TheVariants.{NameUnknown}
-use Rattle.argon2_store.specs.AccountFile.{DrawsOnce, names_of, terms_of}
+use Rattle.sqlite_trees.specs.declared.error.StoreError.{StoreError}
+use Rattle.sqlite_trees.specs.declared.error.StoreError.TheVariants.{OutOfMemory, Io, Corrupt, Full, Broken, Unstorable}
+use Rattle.argon2_base.specs.PhcText.{Phc}
+use Rattle.argon2_store.specs.AccountFile.{DrawsOnce, terms_of}
 use Rattle.argon2_store.specs.Errors.{answered}
-use Rattle.argon2_store.proofs.FileLemmas.{has_written, refuses, writes}
+use Rattle.argon2_store.proofs.FileLemmas.{cannot_serve, has_written, refuses, writes}
 use Rattle.argon2_store.proofs.account_file.AccountFile.change_password.Goals as goal
 
 -- an accepted change draws, whether it is written or not
-drawn_written : {X : Type 0} (x : X) (terms : Terms) (password : List ℕ) (v : Phc) (old new : Stream)
+drawn_written : {X : Type 0} (x : X) (terms first : Terms) → terms ≡ first → (password : List ℕ) (v : Phc) (old new : Stream)
     → kept.DrawsOnce terms password (Some v) (Ok x) old new → (done : Result (Unit {0}) StoreError)
-    → DrawsOnce terms password (Some v) (answered done tt) old new
-drawn_written x terms password v old new drawn done = search rules
+    → DrawsOnce first password (Some v) (answered done tt) old new
+drawn_written x terms first same password v old new (inl (admits, drawn)) (Ok y) =
+    (subst (λ t. Admits t password v) same admits, drawn)
+drawn_written x terms first same password v old new (inl (admits, drawn)) (Err OutOfMemory) = inr drawn
+drawn_written x terms first same password v old new (inl (admits, drawn)) (Err Io) = inr drawn
+drawn_written x terms first same password v old new (inl (admits, drawn)) (Err Corrupt) = inr drawn
+drawn_written x terms first same password v old new (inl (admits, drawn)) (Err Full) = inr drawn
+drawn_written x terms first same password v old new (inl (admits, drawn)) (Err Broken) = inr drawn
+drawn_written x terms first same password v old new (inl (admits, drawn)) (Err Unstorable) = inr drawn
+drawn_written x terms first same password v old new (inr (denied, nothing)) done = absurd denied
+
+pub returns-in_err-text-clause-call : goal.returns-in_err-text-clause-call
+returns-in_err-text-clause-call g c before has =
+    cannot_serve {g = g.S.Store} g.met.S.Store.settled
+    (changing c.args.name.now c.args.old.now c.args.new.now (fill_bytes 16 (g.R.Rng.stream c.args.rng.now)).0)
+    c.args.self.now c.text_of.new.self before has c.in_err-text.field-0.0 _
+    c.from_residual.ensures.1 (c.in_err-text.ensures.reads before has)
+    (λ clean is. let shut = c.in_err-text.ensures.closed clean is in (cc, shut.1))
 
 pub returns-in_default-clause-call : goal.returns-in_default-clause-call
-returns-in_default-clause-call g c =
-    refuses g.met.S.Store.settled (changing c.args.name.now c.args.old.now c.args.new.now
-    (fill_bytes 16 (g.R.Rng.stream c.args.rng.now)).0)
-    c.args.name.now (λ answer. refl) _ c.is_closed.ensures c.if-is_closed.false
-    _ (sym c.in_default.ensures) NameUnknown _ c.into.ensures (refl, refl)
+returns-in_default-clause-call g c before has =
+    refuses {g = g.S.Store} g.met.S.Store.settled
+    (changing c.args.name.now c.args.old.now c.args.new.now (fill_bytes 16 (g.R.Rng.stream c.args.rng.now)).0)
+    c.args.name.now (λ answer. refl) c.args.self.now
+    c.text_of.new.self before (λ clean is. absurd (let never = (c.in_ok-text.ensures.closed clean is).0 in cc))
+    (c.in_ok-text.ensures.reads before has)
+    None (λ clean. c.in_ok-text.ensures.shows before (c.in_ok-text.ensures.reads before has).has clean
+    ∙ ap (option_map phc_of) c.in_default.is)
+    NameUnknown _ c.into.ensures (refl, refl)
 
 pub returns-in_err-fresh-clause-call : goal.returns-in_err-fresh-clause-call
-returns-in_err-fresh-clause-call g c =
-    refuses g.met.S.Store.settled (changing c.args.name.now c.args.old.now c.args.new.now
-    (fill_bytes 16 (g.R.Rng.stream c.args.rng.now)).0)
-    c.args.name.now (λ answer. refl) _ c.is_closed.ensures c.if-is_closed.false
-    _ (sym c.in-Some.ensures)
-    c.in_err-fresh.field-0.0 _ c.from_residual.ensures.1 (c.in_err-fresh.ensures.made, refl)
+returns-in_err-fresh-clause-call g c before has =
+    refuses {g = g.S.Store} g.met.S.Store.settled
+    (changing c.args.name.now c.args.old.now c.args.new.now (fill_bytes 16 (g.R.Rng.stream c.args.rng.now)).0)
+    c.args.name.now (λ answer. refl) c.args.self.now
+    c.text_of.new.self before (λ clean is. absurd (let never = (c.in_ok-text.ensures.closed clean is).0 in cc))
+    (c.in_ok-text.ensures.reads before has)
+    (Some (phc_of c.in-Some.text)) (λ clean. c.in_ok-text.ensures.shows before (c.in_ok-text.ensures.reads before has).has clean
+    ∙ ap (option_map phc_of) c.in-Some.is)
+    c.in_err-fresh.field-0.0 _ c.from_residual-in_err-fresh.ensures.1 (c.in_err-fresh.ensures.made, refl)
+
+pub change-requires-clause-open : goal.change-requires-clause-open
+change-requires-clause-open g c = c.in_ok-text.ensures.«open»
+
+pub change-requires-clause-known : goal.change-requires-clause-known
+change-requires-clause-known g c names has clean = c.in_ok-text.ensures.shows names has clean ∙ ap (option_map phc_of)
+    c.in-Some.is
 
 pub returns-clause-call : goal.returns-clause-call
-returns-clause-call g c =
-    writes g.met.S.Store.settled (changing c.args.name.now c.args.old.now c.args.new.now
-    (fill_bytes 16 (g.R.Rng.stream c.args.rng.now)).0)
-    c.args.name.now (λ answer. refl) _ c.is_closed.ensures c.if-is_closed.false
-    _ (sym c.in-Some.ensures)
-    _ (Some (phc_of c.in_ok-fresh.fresh)) tt refl c.in_ok-fresh.ensures.made
-    _ c.replace.ensures.file c.replace.ensures.names _ c.written.ensures
+returns-clause-call g c before has =
+    writes {g = g.S.Store} g.met.S.Store.settled
+    (changing c.args.name.now c.args.old.now c.args.new.now (fill_bytes 16 (g.R.Rng.stream c.args.rng.now)).0)
+    c.args.name.now (λ answer. refl) c.args.self.now
+    c.text_of.new.self before (λ clean is. absurd (let never = (c.in_ok-text.ensures.closed clean is).0 in cc))
+    (c.in_ok-text.ensures.reads before has)
+    (Some (phc_of c.in-Some.text)) (λ clean. c.in_ok-text.ensures.shows before (c.in_ok-text.ensures.reads before has).has clean
+    ∙ ap (option_map phc_of) c.in-Some.is)
+    _ (Some (phc_of c.in_ok-fresh.fresh)) tt refl c.in_ok-fresh.ensures.made _
+    (c.change.ensures before (c.in_ok-text.ensures.reads before has).has) _ c.written.ensures
 
 pub returns-clause-accepted : goal.returns-clause-accepted
-returns-clause-accepted g c =
-    has_written (terms_of c.args.self.now) (names_of c.args.self.now) _ c.args.name.now c.args.new.now
-    (phc_of c.in_ok-fresh.fresh) tt _ c.replace.ensures.names c.in_ok-fresh.ensures.accepted _ c.written.ensures
+returns-clause-accepted g c before after has held =
+    has_written g.S.Store c.text_of.new.self.table.store c.change.new.self.store (terms_of c.text_of.new.self) before after
+    c.args.name.now c.args.new.now (phc_of c.in_ok-fresh.fresh) _ tt _
+    (c.change.ensures before (c.in_ok-text.ensures.reads before has).has) held c.in_ok-fresh.ensures.accepted _
+    c.written.ensures
 
 pub returns-clause-drawn : goal.returns-clause-drawn
-returns-clause-drawn g c = rw (← c.in-Some.ensures, c.written.ensures)
-    (drawn_written c.in_ok-fresh.fresh (terms_of c.args.self.now) c.args.old.now _ _ _ c.in_ok-fresh.ensures.drawn c.replace.result)
+returns-clause-drawn g c names has clean =
+    let reads = c.in_ok-text.ensures.reads names has in
+    let change = c.change.ensures names reads.has in
+    let had : get names c.args.name.now ≡ Some (phc_of c.in-Some.text) =
+    c.in_ok-text.ensures.shows names reads.has (change.honest clean) ∙ ap (option_map phc_of) c.in-Some.is in
+    rw (had, c.written.ensures)
+    (drawn_written c.in_ok-fresh.fresh _ (terms_of c.args.self.now) reads.terms c.args.old.now _ _ _ c.in_ok-fresh.ensures.drawn
+    c.change.result)

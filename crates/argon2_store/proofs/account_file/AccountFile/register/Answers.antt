@@ -1,41 +1,70 @@
-use Rattle.std.proofs.Common.{rules, ◌≡◌, Some, None, refl}
-use Rattle.std.specs.Prelude.{IsSome}
-use Rattle.std.specs.FinMap.{get}
+use Rattle.std.proofs.Common.{◌∙◌, Some, None, refl, sym}
+use Rattle.std.specs.Option.{option_map}
 use Rattle.rand_core.specs.Stream.{fill_bytes}
 use Rattle.argon2_base.specs.PhcFields.{phc_of}
 use Rattle.argon2_accounts.specs.Accounts.{registering}
 use Rattle.argon2_accounts.specs.declared.error.AccountError.TheVariants.{NameTaken}
 use Rattle.argon2_accounts.proofs.AccountLemmas.{taken}
-use Rattle.argon2_store.specs.AccountFile.{names_of, terms_of}
-use Rattle.argon2_store.proofs.FileLemmas.{has_written, refuses, writes}
+use Rattle.argon2_store.specs.AccountFile.{terms_of}
+use Rattle.argon2_store.proofs.FileLemmas.{cannot_serve, has_written, is_nowhere, is_there, refuses, undrawn, writes}
 use Rattle.argon2_store.proofs.account_file.AccountFile.register.Goals as goal
 
+pub returns-in_err-text_of-clause-call : goal.returns-in_err-text_of-clause-call
+returns-in_err-text_of-clause-call g c before has =
+    cannot_serve {g = g.S.Store} g.met.S.Store.settled
+    (registering c.args.name.now c.args.password.now (fill_bytes 16 (g.R.Rng.stream c.args.rng.now)).0) c.args.self.now
+    c.text_of.new.self before has c.in_err-text_of.field-0.0 _
+    c.from_residual.ensures.1 (c.in_err-text_of.ensures.reads before has)
+    (λ clean is. let shut = c.in_err-text_of.ensures.closed clean is in (cc, shut.1))
+
+pub returns-in_err-text_of-clause-drawn : goal.returns-in_err-text_of-clause-drawn
+returns-in_err-text_of-clause-drawn g c =
+    undrawn c.in_err-text_of.field-0.0 _ c.from_residual.ensures.1 c.in_err-text_of.ensures.error _
+
 pub returns-then-is_some-clause-call : goal.returns-then-is_some-clause-call
-returns-then-is_some-clause-call g c =
-    let has : IsSome (get (names_of c.args.self.now) c.args.name.now) = search rules in
-    refuses g.met.S.Store.settled (registering c.args.name.now c.args.password.now
-    (fill_bytes 16 (g.R.Rng.stream c.args.rng.now)).0)
-    c.args.name.now (λ answer. refl) _ c.is_closed.ensures c.if-is_closed.false _ refl
-    NameTaken _ c.into.ensures (taken c.args.password.now _ has, refl)
+returns-then-is_some-clause-call g c before has =
+    refuses {g = g.S.Store} g.met.S.Store.settled
+    (registering c.args.name.now c.args.password.now (fill_bytes 16 (g.R.Rng.stream c.args.rng.now)).0) c.args.name.now
+    (λ answer. refl) c.args.self.now
+    c.text_of.new.self before (λ clean is. absurd (let never = (c.in_ok-text_of.ensures.closed clean is).0 in cc))
+    (c.in_ok-text_of.ensures.reads before has)
+    (option_map phc_of c.in_ok-text_of.field-0)
+    (λ clean. c.in_ok-text_of.ensures.shows before (c.in_ok-text_of.ensures.reads before has).has clean)
+    NameTaken _ c.into.ensures (taken c.args.password.now _ (is_there _ (sym c.is_some.ensures ∙ c.if-is_some.true)), refl)
 
 pub returns-in_err-text-clause-call : goal.returns-in_err-text-clause-call
-returns-in_err-text-clause-call g c =
-    let none : get (names_of c.args.self.now) c.args.name.now ≡ None = search rules in
-    refuses g.met.S.Store.settled (registering c.args.name.now c.args.password.now
-    (fill_bytes 16 (g.R.Rng.stream c.args.rng.now)).0)
-    c.args.name.now (λ answer. refl) _ c.is_closed.ensures c.if-is_closed.false _ none
-    c.in_err-text.field-0.0 _ c.from_residual.ensures.1 (c.in_err-text.ensures.made, refl)
+returns-in_err-text-clause-call g c before has =
+    refuses {g = g.S.Store} g.met.S.Store.settled
+    (registering c.args.name.now c.args.password.now (fill_bytes 16 (g.R.Rng.stream c.args.rng.now)).0) c.args.name.now
+    (λ answer. refl) c.args.self.now
+    c.text_of.new.self before (λ clean is. absurd (let never = (c.in_ok-text_of.ensures.closed clean is).0 in cc))
+    (c.in_ok-text_of.ensures.reads before has)
+    None (λ clean. c.in_ok-text_of.ensures.shows before (c.in_ok-text_of.ensures.reads before has).has clean
+    ∙ is_nowhere _ (sym c.is_some.ensures ∙ c.if-is_some.false))
+    c.in_err-text.field-0.0 _ c.from_residual-in_err-text.ensures.1 (c.in_err-text.ensures.made, refl)
+
+pub change-requires-clause-open : goal.change-requires-clause-open
+change-requires-clause-open g c = c.in_ok-text_of.ensures.«open»
+
+pub change-requires-clause-known : goal.change-requires-clause-known
+change-requires-clause-known g c names has clean = c.in_ok-text_of.ensures.shows names has clean ∙ is_nowhere _
+    (sym c.is_some.ensures ∙ c.if-is_some.false)
 
 pub returns-clause-call : goal.returns-clause-call
-returns-clause-call g c =
-    let none : get (names_of c.args.self.now) c.args.name.now ≡ None = search rules in
-    writes g.met.S.Store.settled (registering c.args.name.now c.args.password.now
-    (fill_bytes 16 (g.R.Rng.stream c.args.rng.now)).0)
-    c.args.name.now (λ answer. refl) _ c.is_closed.ensures c.if-is_closed.false _ none
-    _ (Some (phc_of c.in_ok-text.text)) tt refl (refl, c.in_ok-text.ensures.made)
-    _ c.insert.ensures.file c.insert.ensures.names _ c.written.ensures
+returns-clause-call g c before has =
+    writes {g = g.S.Store} g.met.S.Store.settled
+    (registering c.args.name.now c.args.password.now (fill_bytes 16 (g.R.Rng.stream c.args.rng.now)).0) c.args.name.now
+    (λ answer. refl) c.args.self.now
+    c.text_of.new.self before (λ clean is. absurd (let never = (c.in_ok-text_of.ensures.closed clean is).0 in cc))
+    (c.in_ok-text_of.ensures.reads before has)
+    None (λ clean. c.in_ok-text_of.ensures.shows before (c.in_ok-text_of.ensures.reads before has).has clean
+    ∙ is_nowhere _ (sym c.is_some.ensures ∙ c.if-is_some.false))
+    _ (Some (phc_of c.in_ok-text.text)) tt refl (refl, c.in_ok-text.ensures.made) _
+    (c.change.ensures before (c.in_ok-text_of.ensures.reads before has).has) _ c.written.ensures
 
 pub returns-clause-accepted : goal.returns-clause-accepted
-returns-clause-accepted g c =
-    has_written (terms_of c.args.self.now) (names_of c.args.self.now) _ c.args.name.now c.args.password.now
-    (phc_of c.in_ok-text.text) tt _ c.insert.ensures.names c.in_ok-text.ensures.accepted _ c.written.ensures
+returns-clause-accepted g c before after has held =
+    has_written g.S.Store c.text_of.new.self.table.store c.change.new.self.store (terms_of c.text_of.new.self) before after
+    c.args.name.now c.args.password.now (phc_of c.in_ok-text.text) _ tt _
+    (c.change.ensures before (c.in_ok-text_of.ensures.reads before has).has) held c.in_ok-text.ensures.accepted _
+    c.written.ensures

@@ -1,22 +1,39 @@
-use Rattle.std.proofs.Common.{rules, ◌≡◌, None, refl}
-use Rattle.std.specs.Prelude.{IsSome}
-use Rattle.std.specs.FinMap.{get}
+use Rattle.std.proofs.Common.{◌∙◌, Some, None, ap, refl}
+use Rattle.std.specs.Option.{option_map}
+use Rattle.argon2_base.specs.PhcFields.{phc_of}
 use Rattle.argon2_accounts.specs.Accounts.{removing}
 use Rattle.argon2_accounts.specs.declared.error.AccountError.TheVariants.{NameUnknown}
-use Rattle.argon2_store.specs.AccountFile.{names_of}
-use Rattle.argon2_store.proofs.FileLemmas.{refuses, writes}
+use Rattle.argon2_store.proofs.FileLemmas.{cannot_serve, refuses, writes}
 use Rattle.argon2_store.proofs.account_file.AccountFile.remove.Goals as goal
 
-pub returns-then-is_none : goal.returns-then-is_none
-returns-then-is_none g c =
-    let none : get (names_of c.args.self.now) c.args.name.now ≡ None = search rules in
-    refuses g.met.S.Store.settled (removing c.args.name.now)
-    c.args.name.now (λ answer. refl) _ c.is_closed.ensures c.if-is_closed.false _ none
+pub returns-in_err-text : goal.returns-in_err-text
+returns-in_err-text g c before has =
+    cannot_serve {g = g.S.Store} g.met.S.Store.settled (removing c.args.name.now) c.args.self.now c.text_of.new.self before
+    has c.in_err-text.field-0.0 _
+    c.from_residual.ensures.1 (c.in_err-text.ensures.reads before has)
+    (λ clean is. let shut = c.in_err-text.ensures.closed clean is in (cc, shut.1))
+
+pub returns-in_default : goal.returns-in_default
+returns-in_default g c before has =
+    refuses {g = g.S.Store} g.met.S.Store.settled (removing c.args.name.now) c.args.name.now (λ answer. refl) c.args.self.now
+    c.text_of.new.self before (λ clean is. absurd (let never = (c.in_ok-text.ensures.closed clean is).0 in cc))
+    (c.in_ok-text.ensures.reads before has)
+    None (λ clean. c.in_ok-text.ensures.shows before (c.in_ok-text.ensures.reads before has).has clean
+    ∙ ap (option_map phc_of) c.in_default.is)
     NameUnknown _ c.into.ensures (refl, refl, refl)
 
+pub change-requires-clause-open : goal.change-requires-clause-open
+change-requires-clause-open g c = c.in_ok-text.ensures.«open»
+
+pub change-requires-clause-known : goal.change-requires-clause-known
+change-requires-clause-known g c names has clean = c.in_ok-text.ensures.shows names has clean ∙ ap (option_map phc_of)
+    c.in-Some.is
+
 pub returns : goal.returns
-returns g c =
-    let has : IsSome (get (names_of c.args.self.now) c.args.name.now) = search rules in
-    writes g.met.S.Store.settled (removing c.args.name.now)
-    c.args.name.now (λ answer. refl) _ c.is_closed.ensures c.if-is_closed.false _ refl
-    _ None tt refl (has, refl) _ c.remove.ensures.file c.remove.ensures.names _ c.written.ensures
+returns g c before has =
+    writes {g = g.S.Store} g.met.S.Store.settled (removing c.args.name.now) c.args.name.now (λ answer. refl) c.args.self.now
+    c.text_of.new.self before (λ clean is. absurd (let never = (c.in_ok-text.ensures.closed clean is).0 in cc))
+    (c.in_ok-text.ensures.reads before has)
+    (Some (phc_of c.in-Some.text)) (λ clean. c.in_ok-text.ensures.shows before (c.in_ok-text.ensures.reads before has).has clean
+    ∙ ap (option_map phc_of) c.in-Some.is)
+    _ None tt refl (refl, refl) _ (c.change.ensures before (c.in_ok-text.ensures.reads before has).has) _ c.written.ensures

@@ -1,38 +1,70 @@
-use Rattle.std.proofs.Common.{refl, sym, ◌∙◌, Some}
+use Rattle.std.proofs.Common.{◌∙◌, Some, None, ap, refl, sym}
+use Rattle.std.specs.Option.{option_map}
 use Rattle.argon2_base.specs.PhcFields.{phc_of}
 use Rattle.argon2_accounts.specs.Accounts.{replacing}
 use Rattle.argon2_accounts.specs.declared.error.AccountError.TheVariants.{NameUnknown, TextChanged, Refused}
 use Rattle.argon2_accounts.proofs.AccountLemmas.{is_other_text, is_text}
-use Rattle.argon2_store.proofs.FileLemmas.{refuses, writes}
+use Rattle.argon2_store.proofs.FileLemmas.{cannot_serve, refuses, writes}
 use Rattle.argon2_store.proofs.account_file.AccountFile.replace.Goals as goal
 
+pub returns-in_err-text : goal.returns-in_err-text
+returns-in_err-text g c before has =
+    cannot_serve {g = g.S.Store} g.met.S.Store.settled (replacing c.args.name.now c.args.old.now c.args.new.now)
+    c.args.self.now c.text_of.new.self before has c.in_err-text.field-0.0 _
+    c.from_residual.ensures.1 (c.in_err-text.ensures.reads before has)
+    (λ clean is. let shut = c.in_err-text.ensures.closed clean is in (cc, shut.1))
+
 pub returns-in_default : goal.returns-in_default
-returns-in_default g c =
-    refuses g.met.S.Store.settled (replacing c.args.name.now c.args.old.now c.args.new.now) c.args.name.now (λ answer. refl)
-    _ c.is_closed.ensures c.if-is_closed.false _ (sym c.in_default.ensures) NameUnknown _ c.into.ensures (refl, refl)
+returns-in_default g c before has =
+    refuses {g = g.S.Store} g.met.S.Store.settled (replacing c.args.name.now c.args.old.now c.args.new.now) c.args.name.now
+    (λ answer. refl) c.args.self.now
+    c.text_of.new.self before (λ clean is. absurd (let never = (c.in_ok-text.ensures.closed clean is).0 in cc))
+    (c.in_ok-text.ensures.reads before has)
+    None (λ clean. c.in_ok-text.ensures.shows before (c.in_ok-text.ensures.reads before has).has clean
+    ∙ ap (option_map phc_of) c.in_default.is)
+    NameUnknown _ c.into.ensures (refl, refl)
 
 pub returns-then-ne : goal.returns-then-ne
-returns-then-ne g c =
+returns-then-ne g c before has =
     let differs = rw c.as_str.ensures.value at (sym c.if-ne.true ∙ c.ne.ensures) in
-    let never = is_other_text _ c.args.old.now (phc_of c.in-Some.text.now) c.text.ensures differs in
-    refuses g.met.S.Store.settled (replacing c.args.name.now c.args.old.now c.args.new.now) c.args.name.now (λ answer. refl)
-    _ c.is_closed.ensures c.if-is_closed.false _ (sym c.in-Some.ensures) TextChanged _ c.into-then-ne.ensures
-    (never, refl)
+    let never = is_other_text _ c.args.old.now (phc_of c.in-Some.text) c.text.ensures differs in
+    refuses {g = g.S.Store} g.met.S.Store.settled (replacing c.args.name.now c.args.old.now c.args.new.now) c.args.name.now
+    (λ answer. refl) c.args.self.now
+    c.text_of.new.self before (λ clean is. absurd (let never = (c.in_ok-text.ensures.closed clean is).0 in cc))
+    (c.in_ok-text.ensures.reads before has)
+    (Some (phc_of c.in-Some.text)) (λ clean. c.in_ok-text.ensures.shows before (c.in_ok-text.ensures.reads before has).has clean
+    ∙ ap (option_map phc_of) c.in-Some.is)
+    TextChanged _ c.into-then-ne.ensures (never, refl)
 
 pub returns-in_err-fresh : goal.returns-in_err-fresh
-returns-in_err-fresh g c =
+returns-in_err-fresh g c before has =
     let same = rw c.as_str.ensures.value at (sym c.if-ne.false ∙ c.ne.ensures) in
-    let is = is_text _ c.args.old.now (phc_of c.in-Some.text.now) c.text.ensures same in
-    refuses g.met.S.Store.settled (replacing c.args.name.now c.args.old.now c.args.new.now) c.args.name.now (λ answer. refl)
-    _ c.is_closed.ensures c.if-is_closed.false _ (sym c.in-Some.ensures) (Refused c.in_err-fresh.field-0.0) _
-    c.from_residual.ensures.1
+    let is = is_text _ c.args.old.now (phc_of c.in-Some.text) c.text.ensures same in
+    refuses {g = g.S.Store} g.met.S.Store.settled (replacing c.args.name.now c.args.old.now c.args.new.now) c.args.name.now
+    (λ answer. refl) c.args.self.now
+    c.text_of.new.self before (λ clean is. absurd (let never = (c.in_ok-text.ensures.closed clean is).0 in cc))
+    (c.in_ok-text.ensures.reads before has)
+    (Some (phc_of c.in-Some.text)) (λ clean. c.in_ok-text.ensures.shows before (c.in_ok-text.ensures.reads before has).has clean
+    ∙ ap (option_map phc_of) c.in-Some.is)
+    (Refused c.in_err-fresh.field-0.0) _ c.from_residual-in_err-fresh.ensures.1
     ((is, c.in_err-fresh.ensures.invalid, λ spelt. c.in_err-fresh.ensures.only spelt.0 spelt.1), refl)
 
+pub change-requires-clause-open : goal.change-requires-clause-open
+change-requires-clause-open g c = c.in_ok-text.ensures.«open»
+
+pub change-requires-clause-known : goal.change-requires-clause-known
+change-requires-clause-known g c names has clean = c.in_ok-text.ensures.shows names has clean ∙ ap (option_map phc_of)
+    c.in-Some.is
+
 pub returns : goal.returns
-returns g c =
+returns g c before has =
     let same = rw c.as_str.ensures.value at (sym c.if-ne.false ∙ c.ne.ensures) in
-    let is = is_text _ c.args.old.now (phc_of c.in-Some.text.now) c.text.ensures same in
-    writes g.met.S.Store.settled (replacing c.args.name.now c.args.old.now c.args.new.now) c.args.name.now (λ answer. refl)
-    _ c.is_closed.ensures c.if-is_closed.false _ (sym c.in-Some.ensures)
-    _ (Some (phc_of c.in_ok-fresh.fresh)) tt refl (is, c.in_ok-fresh.ensures.found)
-    _ c.replace.ensures.file c.replace.ensures.names _ c.written.ensures
+    let is = is_text _ c.args.old.now (phc_of c.in-Some.text) c.text.ensures same in
+    writes {g = g.S.Store} g.met.S.Store.settled (replacing c.args.name.now c.args.old.now c.args.new.now) c.args.name.now
+    (λ answer. refl) c.args.self.now
+    c.text_of.new.self before (λ clean is. absurd (let never = (c.in_ok-text.ensures.closed clean is).0 in cc))
+    (c.in_ok-text.ensures.reads before has)
+    (Some (phc_of c.in-Some.text)) (λ clean. c.in_ok-text.ensures.shows before (c.in_ok-text.ensures.reads before has).has clean
+    ∙ ap (option_map phc_of) c.in-Some.is)
+    _ (Some (phc_of c.in_ok-fresh.fresh)) tt refl (is, c.in_ok-fresh.ensures.found) _
+    (c.change.ensures before (c.in_ok-text.ensures.reads before has).has) _ c.written.ensures

@@ -1,36 +1,69 @@
-use Rattle.std.proofs.Common.{rules, ◌≡◌, Some, None, refl}
-use Rattle.std.specs.FinMap.{get}
+use Rattle.std.proofs.Common.{◌∙◌, Some, None, ap, refl}
+use Rattle.std.specs.Option.{option_map}
 use Rattle.rand_core.specs.Stream.{fill_bytes}
 use Rattle.argon2_base.specs.PhcFields.{phc_of}
 use Rattle.argon2_accounts.specs.Accounts.{setting}
 use Rattle.argon2_accounts.specs.declared.error.AccountError.TheVariants.{NameUnknown}
-use Rattle.argon2_store.specs.AccountFile.{names_of, terms_of}
-use Rattle.argon2_store.proofs.FileLemmas.{has_text, has_written, refuses, writes}
+use Rattle.argon2_store.specs.AccountFile.{terms_of}
+use Rattle.argon2_store.proofs.FileLemmas.{cannot_serve, has_written, refuses, undrawn, writes}
 use Rattle.argon2_store.proofs.account_file.AccountFile.set_password.Goals as goal
 
-pub returns-then-is_none-clause-call : goal.returns-then-is_none-clause-call
-returns-then-is_none-clause-call g c =
-    let none : get (names_of c.args.self.now) c.args.name.now ≡ None = search rules in
-    refuses g.met.S.Store.settled (setting c.args.name.now c.args.new.now (fill_bytes 16 (g.R.Rng.stream c.args.rng.now)).0)
-    c.args.name.now (λ answer. refl) _ c.is_closed.ensures c.if-is_closed.false _ none
+pub returns-in_err-text-clause-call : goal.returns-in_err-text-clause-call
+returns-in_err-text-clause-call g c before has =
+    cannot_serve {g = g.S.Store} g.met.S.Store.settled
+    (setting c.args.name.now c.args.new.now (fill_bytes 16 (g.R.Rng.stream c.args.rng.now)).0) c.args.self.now
+    c.text_of.new.self before has c.in_err-text.field-0.0 _
+    c.from_residual.ensures.1 (c.in_err-text.ensures.reads before has)
+    (λ clean is. let shut = c.in_err-text.ensures.closed clean is in (cc, shut.1))
+
+pub returns-in_err-text-clause-drawn : goal.returns-in_err-text-clause-drawn
+returns-in_err-text-clause-drawn g c =
+    undrawn c.in_err-text.field-0.0 _ c.from_residual.ensures.1 c.in_err-text.ensures.error _
+
+pub returns-in_default-clause-call : goal.returns-in_default-clause-call
+returns-in_default-clause-call g c before has =
+    refuses {g = g.S.Store} g.met.S.Store.settled
+    (setting c.args.name.now c.args.new.now (fill_bytes 16 (g.R.Rng.stream c.args.rng.now)).0) c.args.name.now
+    (λ answer. refl) c.args.self.now
+    c.text_of.new.self before (λ clean is. absurd (let never = (c.in_ok-text.ensures.closed clean is).0 in cc))
+    (c.in_ok-text.ensures.reads before has)
+    None (λ clean. c.in_ok-text.ensures.shows before (c.in_ok-text.ensures.reads before has).has clean
+    ∙ ap (option_map phc_of) c.in_default.is)
     NameUnknown _ c.into.ensures (refl, refl)
 
-pub returns-in_err-text-clause-call : goal.returns-in_err-text-clause-call
-returns-in_err-text-clause-call g c =
-    refuses g.met.S.Store.settled (setting c.args.name.now c.args.new.now (fill_bytes 16 (g.R.Rng.stream c.args.rng.now)).0)
-    c.args.name.now (λ answer. refl) _ c.is_closed.ensures c.if-is_closed.false
-    _ (has_text _ _ c.if-is_none.ensures c.get.ensures).1
-    c.in_err-text.field-0.0 _ c.from_residual.ensures.1 (c.in_err-text.ensures.made, refl)
+pub returns-in_err-fresh-clause-call : goal.returns-in_err-fresh-clause-call
+returns-in_err-fresh-clause-call g c before has =
+    refuses {g = g.S.Store} g.met.S.Store.settled
+    (setting c.args.name.now c.args.new.now (fill_bytes 16 (g.R.Rng.stream c.args.rng.now)).0) c.args.name.now
+    (λ answer. refl) c.args.self.now
+    c.text_of.new.self before (λ clean is. absurd (let never = (c.in_ok-text.ensures.closed clean is).0 in cc))
+    (c.in_ok-text.ensures.reads before has)
+    (Some (phc_of c.in-Some.text)) (λ clean. c.in_ok-text.ensures.shows before (c.in_ok-text.ensures.reads before has).has clean
+    ∙ ap (option_map phc_of) c.in-Some.is)
+    c.in_err-fresh.field-0.0 _ c.from_residual-in_err-fresh.ensures.1 (c.in_err-fresh.ensures.made, refl)
+
+pub change-requires-clause-open : goal.change-requires-clause-open
+change-requires-clause-open g c = c.in_ok-text.ensures.«open»
+
+pub change-requires-clause-known : goal.change-requires-clause-known
+change-requires-clause-known g c names has clean = c.in_ok-text.ensures.shows names has clean ∙ ap (option_map phc_of)
+    c.in-Some.is
 
 pub returns-clause-call : goal.returns-clause-call
-returns-clause-call g c =
-    writes g.met.S.Store.settled (setting c.args.name.now c.args.new.now (fill_bytes 16 (g.R.Rng.stream c.args.rng.now)).0)
-    c.args.name.now (λ answer. refl) _ c.is_closed.ensures c.if-is_closed.false
-    _ (has_text _ _ c.if-is_none.ensures c.get.ensures).1
-    _ (Some (phc_of c.in_ok-text.text)) tt refl c.in_ok-text.ensures.made
-    _ c.replace.ensures.file c.replace.ensures.names _ c.written.ensures
+returns-clause-call g c before has =
+    writes {g = g.S.Store} g.met.S.Store.settled
+    (setting c.args.name.now c.args.new.now (fill_bytes 16 (g.R.Rng.stream c.args.rng.now)).0) c.args.name.now
+    (λ answer. refl) c.args.self.now
+    c.text_of.new.self before (λ clean is. absurd (let never = (c.in_ok-text.ensures.closed clean is).0 in cc))
+    (c.in_ok-text.ensures.reads before has)
+    (Some (phc_of c.in-Some.text)) (λ clean. c.in_ok-text.ensures.shows before (c.in_ok-text.ensures.reads before has).has clean
+    ∙ ap (option_map phc_of) c.in-Some.is)
+    _ (Some (phc_of c.in_ok-fresh.fresh)) tt refl c.in_ok-fresh.ensures.made _
+    (c.change.ensures before (c.in_ok-text.ensures.reads before has).has) _ c.written.ensures
 
 pub returns-clause-accepted : goal.returns-clause-accepted
-returns-clause-accepted g c =
-    has_written (terms_of c.args.self.now) (names_of c.args.self.now) _ c.args.name.now c.args.new.now
-    (phc_of c.in_ok-text.text) tt _ c.replace.ensures.names c.in_ok-text.ensures.accepted _ c.written.ensures
+returns-clause-accepted g c before after has held =
+    has_written g.S.Store c.text_of.new.self.table.store c.change.new.self.store (terms_of c.text_of.new.self) before after
+    c.args.name.now c.args.new.now (phc_of c.in_ok-fresh.fresh) _ tt _
+    (c.change.ensures before (c.in_ok-text.ensures.reads before has).has) held c.in_ok-fresh.ensures.accepted _
+    c.written.ensures

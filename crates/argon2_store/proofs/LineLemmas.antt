@@ -1,0 +1,106 @@
+-- Rows of names, one by one, and their lines.
+use Rattle.std.proofs.Common.{◌≡◌, ℕ, List, [], ◌∷◌, ◌++◌, map, append_assoc, append-nil, Option, Some, None, true, false, refl, sym, ap, subst, ◌∙◌}
+use Rattle.std.specs.FinMap.{entries}
+use Rattle.std.specs.Io.KnownBytes.{Appends, Keeps}
+use Rattle.std.specs.Option.{is_some}
+use Rattle.std.specs.Prelude.{IfSome}
+use Rattle.sqlite_value.specs.Order.{Row}
+use Rattle.argon2_base.specs.PhcFields.{phc_of}
+use Rattle.argon2_base.specs.PhcText.{Phc}
+use Rattle.argon2_base.specs.declared.phc.hash.PasswordHash.{PasswordHash}
+use Rattle.argon2.specs.NamedTexts.{Store}
+use Rattle.sqlite_value.specs.Keys.{plain}
+use Rattle.sqlite_trees.specs.declared.store.Shape.{Shape}
+use Rattle.sqlite_trees.specs.declared.store.Shape.TheVariants.{Index}
+use Rattle.sqlite_trees.specs.declared.store.Direction.TheVariants.{Forward}
+use Rattle.sqlite_trees.specs.Tree.{order_of, sought}
+use Rattle.sqlite_trees.specs.View.{View as Shown, Advances, with_cursor}
+use Rattle.argon2_store.proofs.LoadLemmas.{from_none}
+use Rattle.argon2_store.specs.Rows.{IsAccount, line, lines, lines_of, row_of, rows_of}
+use Rattle.argon2_store.specs.declared.view.View.{View}
+
+pub an_account : (row : Row) (o : Option PasswordHash) → is_some o ≡ true
+    → IfSome o (λ hash. (name : List ℕ) × (row ≡ row_of (name, phc_of hash))) → IsAccount row
+an_account row (Some hash) some (name, is) = ((name, phc_of hash), hash.grammatical, is)
+an_account row None some found = absurd cc
+
+pub appends_then : (a b c : Option (List ℕ)) (xs ys : List ℕ) → Appends a b xs → Appends b c ys → Appends a c (xs ++ ys)
+appends_then None b c xs ys first then = tt
+appends_then (Some ls) None c xs ys first then = absurd first
+appends_then (Some ls) (Some ms) None xs ys first then = absurd then
+appends_then (Some ls) (Some ms) (Some ns) xs ys first then = then ∙ ap (λ l. l ++ ys) first ∙ append_assoc ls xs ys
+
+-- the next row is that of the next name
+pub next_name : (es : List (List ℕ × Phc)) (row : Row) (left : List Row) → Some (map row_of es) ≡ Some (row ∷ left)
+    → (e : List ℕ × Phc) × (fs : List (List ℕ × Phc)) × (es ≡ e ∷ fs) × (row ≡ row_of e) × (left ≡ map row_of fs)
+next_name [] row left is = absurd cc
+next_name (e ∷ fs) row left is = (e, fs, refl, cc, cc)
+
+pub no_more : (es : List (List ℕ × Phc)) → Some (map row_of es) ≡ Some [] → es ≡ []
+no_more [] is = refl
+no_more (e ∷ es) is = absurd cc
+
+pub lines-append : (view : View) (es fs : List (List ℕ × Phc)) → lines view (es ++ fs) ≡ lines view es ++ lines view fs
+lines-append view [] fs = refl
+lines-append view (e ∷ es) fs = ap (λ l. line view e ++ l) (lines-append view es fs) ∙ sym (append_assoc (line view e) _ _)
+
+-- the names of some rows are written, and the cursor has the rest
+pub record IsWriting (view : View) (first now : Shown) (names : Store) (old new : Option (List ℕ)) : Type 0 where
+  pub done : List (List ℕ × Phc)
+  pub left : List (List ℕ × Phc)
+  pub all : entries names ≡ done ++ left
+  pub rows : now.cursors 0 ≡ Some (map row_of left)
+  pub written : Appends old new (lines view done)
+
+pub begin_lines : (view : View) (first now : Shown) (names : Store) (out : Option (List ℕ)) → first.shape 0 ≡ Index plain
+    → now ≡ with_cursor first 0 (sought (order_of (first.shape 0)) Forward [] (first.trees 0)) → first.trees 0 ≡ rows_of names
+    → IsWriting view first now names out out
+begin_lines view first now names out shape is rows = record {
+  done = [];
+  left = entries names;
+  all = refl;
+  rows = ap (λ (w : Shown). w.cursors 0) is
+      ∙ ap (λ (s : Shape). Some (sought (order_of s) Forward [] (first.trees 0))) shape
+      ∙ ap Some (from_none (first.trees 0)) ∙ ap Some rows;
+  written = appends_none out;
+}
+  where
+    appends_none : (o : Option (List ℕ)) → Appends o o []
+    appends_none None = tt
+    appends_none (Some xs) = sym (append-nil xs)
+
+-- one row more
+pub next_row : (view : View) (first now next : Shown) (names : Store) (old mid new : Option (List ℕ)) (row : Row)
+    → IsWriting view first now names old mid → Advances now next 0 row true
+    → ((e : List ℕ × Phc) → row ≡ row_of e → Appends mid new (line view e)) → IsWriting view first next names old new
+next_row view first now next names old mid new row writing moves wrote =
+    let (e, fs, cut, at, rest) = next_name writing.left row moves.0 (sym writing.rows ∙ moves.1) in
+    record {
+      done = writing.done ++ e ∷ [];
+      left = fs;
+      all = writing.all ∙ ap (λ l. writing.done ++ l) cut ∙ sym (append_assoc writing.done (e ∷ []) fs);
+      rows = ap (λ (w : Shown). w.cursors 0) moves.2 ∙ ap Some rest;
+      written = subst (Appends old new) (sym (lines-append view writing.done (e ∷ [])
+          ∙ ap (λ l. lines view writing.done ++ l) (append-nil (line view e))))
+          (appends_then old mid new _ _ writing.written (wrote e at));
+    }
+
+pub its_name : (view : View) (first now next : Shown) (names : Store) (old mid : Option (List ℕ)) (row : Row)
+    → IsWriting view first now names old mid → Advances now next 0 row true → (e : List ℕ × Phc) × (row ≡ row_of e)
+its_name view first now next names old mid row writing moves =
+    let (e, fs, cut, at, rest) = next_name writing.left row moves.0 (sym writing.rows ∙ moves.1) in (e, at)
+
+-- the last row was written, and the output is flushed
+pub all_lines : (view : View) (first now next : Shown) (names : Store) (old mid new : Option (List ℕ)) (row : Row)
+    → IsWriting view first now names old mid → Advances now next 0 row false → Keeps mid new
+    → Appends old new (lines_of view names)
+all_lines view first now next names old mid new row writing ended kept =
+    let none = no_more writing.left (sym writing.rows ∙ ended.0) in
+    let all : entries names ≡ writing.done = writing.all ∙ ap (λ l. writing.done ++ l) none ∙ append-nil writing.done in
+    subst (λ es. Appends old new (lines view es)) (sym all) (flushed old mid new _ writing.written kept)
+  where
+    flushed : (a b c : Option (List ℕ)) (xs : List ℕ) → Appends a b xs → Keeps b c → Appends a c xs
+    flushed None b c xs first then = tt
+    flushed (Some ls) None c xs first then = absurd first
+    flushed (Some ls) (Some ms) None xs first then = absurd then
+    flushed (Some ls) (Some ms) (Some ns) xs first then = then ∙ first

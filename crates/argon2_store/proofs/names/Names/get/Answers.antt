@@ -1,8 +1,0 @@
-use Rattle.std.proofs.Common.{ap, sym, ◌∙◌}
-use Rattle.std.specs.Option.{option_map}
-use Rattle.argon2_base.specs.PhcFields.{phc_of}
-use Rattle.argon2.proofs.login_lemmas.Stores.{get-values_of}
-use Rattle.argon2_store.proofs.names.Names.get.Goals as goal
-
-pub returns : goal.returns
-returns c = ap (option_map phc_of) c.get.ensures.value ∙ sym (get-values_of c.args.self.now.texts c.args.name.now)

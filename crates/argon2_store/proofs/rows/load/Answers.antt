@@ -1,0 +1,54 @@
+use Rattle.std.proofs.Common.{rules, arith, ◌∙◌, ◌≡◌, subst, sym}
+use Rattle.std.specs.FinMap.{empty, entries, insert}
+use Rattle.sqlite_trees.specs.View.{IsClean}
+use Rattle.argon2_store.proofs.LoadLemmas.{LastIs, all_read, begin, last-empty, rows_of-empty, step, texts-empty, texts_step}
+use Rattle.argon2_store.proofs.rows.load.Goals as goal
+
+pub loop-init : goal.loop-init
+loop-init g c = (
+  c.in_ok-seek.ensures.live,
+  c.seek.ensures.quiet,
+  (
+    empty,
+    texts-empty,
+    λ clean. (
+      begin _ _ empty (search rules) (rw c.clear.ensures at (c.in_ok-seek.ensures.ok clean)) rows_of-empty,
+      last-empty _,
+    ),
+  ),
+)
+
+pub loop-preserved : goal.loop-preserved
+loop-preserved g c =
+    let (names, texts, read) = c.loop.invariant.2 in
+    let is = c.is_account.ensures c.if-not-is_account.false in (
+      search rules,
+      search rules,
+      (
+        insert names is.0.0 is.0.1,
+        texts_step names _ is texts,
+        λ clean.
+            let later : IsClean (g.S.Store.view c.next.new.self) = clean in
+            let then : IsClean (g.S.Store.view c.loop.store) = omega (arith, c.next.ensures.quiet.clean, later) in
+            let first : IsClean (g.S.Store.view c.args.store.now) = omega (arith, c.loop.invariant.1.clean, then) in
+            let reading = read then in
+            let more = step (g.S.Store.view c.args.store.now) (g.S.Store.view c.loop.store) (g.S.Store.view c.next.new.self)
+            c.next.new.row c.loop.last names (g.met.S.Store.ordered c.args.store.now (c.requires first).unbroken) (search rules)
+            reading.0 reading.1 (rw c.if-not-branch.false at (c.in_ok-next.ensures.ok later)) is
+            (λ same. absurd (
+            let hit = c.is_same.ensures.1 (c.get.ensures ∙ same ∙ sym c.get-else-not-is_account.ensures) in
+            let miss = c.if-is_same.false in cc)) in
+            let turned : c.swap.new.y ≡ c.next.new.row = search rules in
+            (more.0, subst (LastIs (entries (insert names is.0.0 is.0.1))) (sym turned) more.1),
+      ),
+    )
+
+pub returns-then-not-branch-clause-found : goal.returns-then-not-branch-clause-found
+returns-then-not-branch-clause-found g c =
+    let (names, texts, read) = c.loop.invariant.2 in
+    let mid : IsClean (g.S.Store.view c.next.new.self) → IsClean (g.S.Store.view c.loop.store) = λ clean.
+    omega (arith, c.next.ensures.quiet.clean, clean) in
+    let all = all_read g.S.Store c.args.store.now c.next.new.self names c.next.new.row
+    (λ clean. omega (arith, c.loop.invariant.1.clean, mid clean)) c.requires (search rules) c.loop.store
+    (λ clean. (read (mid clean)).0) (λ clean. rw c.if-not-branch.true at (c.in_ok-next.ensures.ok clean)) in
+    (names, (texts, all.0), all.1)

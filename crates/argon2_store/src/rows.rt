@@ -1,0 +1,227 @@
+//! The rows of the tree of the accounts.
+
+ghost use Rattle.std.specs.Prelude.{◌≡◌, ◌≤◌, ◌⊎◌, [], ◌∷◌, ℕ, List, false, IsSomeAnd, IsTrue, IfErr, IfOk, IfSome, OnOk, length};
+ghost use Rattle.std.specs.Io.KnownBytes.{Appends};
+ghost use Rattle.std.specs.Option.{option_map};
+ghost use Rattle.std.specs.FinMap.{get};
+ghost use Rattle.sqlite_value.specs.Keys.{plain};
+ghost use Rattle.sqlite_value.specs.declared.value.Value.TheVariants.{Text};
+ghost use Rattle.sqlite_trees.specs.View.{HasCause, IsFailure, KeepsSchema};
+ghost use Rattle.sqlite_trees.specs.declared.store.Shape.TheVariants.{Index};
+ghost use Rattle.argon2_base.specs.PhcFields.{phc_of};
+ghost use Rattle.argon2_base.specs.PhcText.{IsPhc, Phc, phc_text};
+ghost use Rattle.argon2.specs.NamedTexts.{Store as Named};
+ghost use Rattle.argon2_store.specs.Errors.{IsOfDatabase};
+ghost use Rattle.argon2_store.specs.Rows.{AreTexts, IsAccount, IsFoundAs, line, lines_of, row_of, rows_of};
+ghost use Rattle.argon2_store.specs.Table.{HasFailed, HasNames, IsFresh, IsHonest, IsOpen, Sees, StaysQuiet, Writes, done_of};
+ghost use Rattle.argon2_store.specs.declared.error.OpenError.TheVariants.{Row as NoAccount};
+
+use crate::error::OpenError;
+use crate::view::View;
+use argon2::PasswordHash;
+use sqlite_trees::error::StoreError;
+use sqlite_trees::store::{Direction, Shape, Store};
+use sqlite_value::keys::Order;
+use sqlite_value::order::is_same;
+use sqlite_value::row::Row;
+use sqlite_value::value::ValueRef;
+use std::alloc::AllocError;
+use std::io::{self, Write};
+use std::mem;
+
+// The tree of the accounts.
+pub(crate) const ACCOUNTS: u32 = 0;
+
+// The row of a name with its text.
+pub(crate) fn lay(row: &mut Row, name: &str, hash: &PasswordHash) -> Result<(), AllocError>
+    ensures row { OnOk result (row.new ≡ row_of (name.now, phc_of hash.now)) }
+    ensures short { length (phc_text (phc_of hash.now)) ≤ 326 }
+{
+    let text = hash.text();
+    row.clear();
+    row.push(ValueRef::Text(name.as_bytes()))?;
+    row.push(ValueRef::Text(text.as_str().as_bytes()))
+}
+
+// The two texts of a row that has nothing else.
+fn texts_in(row: &Row) -> Option<(&[u8], &[u8])>
+    ensures found { IfSome result (λ it. row.now ≡ Text it.0.now ∷ Text it.1.now ∷ []) }
+    ensures only { (name text : List ℕ) → row.now ≡ Text name ∷ Text text ∷ [] →
+        IsSomeAnd result (λ it. (it.0.now ≡ name) × (it.1.now ≡ text)) }
+{
+    if row.len() != 2 {
+        return None;
+    }
+    match (row.get(0), row.get(1)) {
+        (ValueRef::Text(name), ValueRef::Text(text)) => Some((name, text)),
+        _ => None,
+    }
+}
+
+// The PHC text of a row that is a name with one.
+fn text_in(row: &Row) -> Option<PasswordHash>
+    ensures found { IfSome result (λ hash.
+        (name : List ℕ) × (row.now ≡ row_of (name, phc_of hash))) }
+    ensures only { (e : List ℕ × Phc) → IsPhc e.1 → row.now ≡ row_of e →
+        IsSomeAnd result (λ hash. phc_of hash ≡ e.1) }
+{
+    let (_, text) = texts_in(row)?;
+    match str::from_utf8(text) {
+        Ok(text) => match PasswordHash::new(text) {
+            Ok(hash) => Some(hash),
+            Err(_) => None,
+        },
+        Err(_) => None,
+    }
+}
+
+// Whether a row is that of a name with a PHC text.
+fn is_account(row: &Row) -> bool
+    ensures { IsTrue result → IsAccount row.now }
+{
+    match texts_in(row) {
+        Some((name, _)) => str::from_utf8(name).is_ok() && text_in(row).is_some(),
+        None => false,
+    }
+}
+
+// Whether the tree has a row of the name, which is then in `row`.
+fn find<S: Store>(
+    store: &mut S,
+    row: &mut Row,
+    key: &mut Row,
+    name: &str,
+) -> Result<bool, StoreError>
+    requires { IsHonest S.Store store.old → (S.Store.view store.old).shape 0 ≡ Index plain }
+    ensures found { (names : Named) → IfOk result (λ is. IsHonest S.Store store.new →
+        (S.Store.view store.old).trees 0 ≡ rows_of names → IsFoundAs names name.now is row.new) }
+    ensures same { OnOk result (IsHonest S.Store store.new → S.Store.view store.new
+        ≡ record (S.Store.view store.old) { cursors = (S.Store.view store.new).cursors }) }
+    ensures sound { OnOk result (IsHonest S.Store store.new →
+        (S.Store.view store.old).is_broken ≡ false) }
+    ensures err { IsHonest S.Store store.new → IfErr result
+        (IsFailure (S.Store.view store.old) (S.Store.view store.new)) }
+    ensures cause { IsHonest S.Store store.new → IfErr result
+        (HasCause (S.Store.view store.old) (HasFailed S.Store store.old store.new) ⊥) }
+    ensures schema { KeepsSchema (S.Store.view store.old) (S.Store.view store.new) }
+    ensures quiet { StaysQuiet S.Store store.old store.new }
+{
+    key.clear();
+    key.push(ValueRef::Text(name.as_bytes()))?;
+    store.seek(1, ACCOUNTS, key, Direction::Forward)?;
+    Ok(store.next(1, row)? && is_same(row.get(0), key.get(0)))
+}
+
+// The text of a name, if the tree has a row of it.
+pub(crate) fn look_up<S: Store>(
+    store: &mut S,
+    row: &mut Row,
+    key: &mut Row,
+    name: &str,
+) -> Result<Option<PasswordHash>, StoreError>
+    requires { IsHonest S.Store store.old → (S.Store.view store.old).shape 0 ≡ Index plain }
+    ensures found { (names : Named) → AreTexts names → Sees (S.Store.view store.old) names →
+        IfOk result (λ text. IsHonest S.Store store.new →
+        get names name.now ≡ option_map phc_of text) }
+    ensures same { OnOk result (IsHonest S.Store store.new → S.Store.view store.new
+        ≡ record (S.Store.view store.old) { cursors = (S.Store.view store.new).cursors }) }
+    ensures sound { OnOk result (IsHonest S.Store store.new →
+        (S.Store.view store.old).is_broken ≡ false) }
+    ensures schema { KeepsSchema (S.Store.view store.old) (S.Store.view store.new) }
+    ensures quiet { StaysQuiet S.Store store.old store.new }
+    ensures reads { (names : Named) → AreTexts names →
+        (IsHonest S.Store store.old → Sees (S.Store.view store.old) names) →
+        Writes S.Store store.old store.new names names ⊥ (done_of result) }
+{
+    if !find(store, row, key, name)? {
+        return Ok(None);
+    }
+    match text_in(row) {
+        Some(hash) => Ok(Some(hash)),
+        None => Err(StoreError::Corrupt),
+    }
+}
+
+// Reads all rows once: each is that of a name with a PHC text, and no name has two.
+pub(crate) fn load<S: Store>(store: &mut S, row: &mut Row, last: &mut Row) -> Result<(), OpenError>
+    requires { IsHonest S.Store store.old → IsFresh (S.Store.view store.old) }
+    ensures found { OnOk result ((names : Named) × HasNames S.Store store.new names
+        × (IsHonest S.Store store.new →
+        (S.Store.view store.old).committed 0 ≡ rows_of names)) }
+    ensures open { OnOk result (IsHonest S.Store store.new → IsOpen S.Store store.new) }
+    ensures quiet { StaysQuiet S.Store store.old store.new }
+    ensures error { IfErr result (λ e. (e ≡ NoAccount) ⊎ IsOfDatabase e) }
+{
+    if store.shape(ACCOUNTS) != Shape::Index(Order::PLAIN) {
+        return Err(OpenError::NotAccounts);
+    }
+    row.clear();
+    last.clear();
+    store.seek(0, ACCOUNTS, row, Direction::Forward)?;
+    for _ in 0..u64::MAX {
+        if !store.next(0, row)? {
+            return Ok(());
+        }
+        if !is_account(row) || is_same(row.get(0), last.get(0)) {
+            return Err(OpenError::Row);
+        }
+        mem::swap(row, last);
+    }
+    Err(OpenError::Row)
+}
+
+// Writes the line of a row, if it has two texts and nothing else.
+fn write_line<W: Write>(row: &Row, view: View, output: &mut W) -> Option<io::Result<()>>
+    ensures { (e : List ℕ × Phc) → row.now ≡ row_of e → IsSomeAnd result (λ done.
+        OnOk done (Appends (W.contents output.old) (W.contents output.new) (line view e))) }
+{
+    let (name, text) = texts_in(row)?;
+    Some(write_texts(name, text, view, output))
+}
+
+// Writes the line of a name with its text.
+fn write_texts<W: Write>(name: &[u8], text: &[u8], view: View, output: &mut W) -> io::Result<()>
+    ensures { (e : List ℕ × Phc) → name.now ≡ e.0 → text.now ≡ phc_text e.1 →
+        OnOk result (Appends (W.contents output.old) (W.contents output.new) (line view e)) }
+{
+    output.write_all(name)?;
+    if let View::Texts = view {
+        output.write_all(b":")?;
+        output.write_all(text)?;
+    }
+    output.write_all(b"\n")
+}
+
+// Writes a line for each row.
+pub(crate) fn write_rows<S: Store, W: Write>(
+    store: &mut S,
+    row: &mut Row,
+    view: View,
+    output: &mut W,
+) -> Result<io::Result<()>, StoreError>
+    requires { IsHonest S.Store store.old → (S.Store.view store.old).shape 0 ≡ Index plain }
+    ensures shows { (names : Named) → AreTexts names → Sees (S.Store.view store.old) names →
+        IfOk result (λ done. IsHonest S.Store store.new → OnOk done
+        (Appends (W.contents output.old) (W.contents output.new) (lines_of view names))) }
+    ensures sound { OnOk result (IsHonest S.Store store.new →
+        (S.Store.view store.old).is_broken ≡ false) }
+    ensures quiet { StaysQuiet S.Store store.old store.new }
+    ensures reads { (names : Named) → AreTexts names →
+        (IsHonest S.Store store.old → Sees (S.Store.view store.old) names) →
+        Writes S.Store store.old store.new names names ⊥ (done_of result) }
+{
+    row.clear();
+    store.seek(0, ACCOUNTS, row, Direction::Forward)?;
+    for _ in 0..u64::MAX {
+        if !store.next(0, row)? {
+            return Ok(output.flush());
+        }
+        match write_line(row, view, output) {
+            Some(Ok(())) => {}
+            Some(Err(error)) => return Ok(Err(error)),
+            None => return Err(StoreError::Corrupt),
+        }
+    }
+    // (No file has so many rows.)
+    Err(StoreError::OutOfMemory)
+}
