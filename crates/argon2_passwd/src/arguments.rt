@@ -37,8 +37,8 @@ most 4096 bytes.
   export FILE         write the same lines with a colon and the text behind each name
   import FILE         add all names and texts of standard input, in the form that export writes, or none
 
-FILE is a SQLite database that survives a crash at any moment. It is made if there is none. It may also
-stand before the command's word. A path that is such a word is written with ./ before it.";
+FILE is a SQLite database that survives a crash at any moment. register and import make it if there is none.
+It may also stand before the command's word. A path that is such a word is written with ./ before it.";
 
 const NOTES: &str = "\
 Example: argon2-passwd register accounts.db ann

@@ -3,9 +3,10 @@
 
 use argon2_commands::{answer, words};
 use argon2_failure::Failure;
-use argon2_passwd_commands::Machine;
 use argon2_passwd_commands::run::{PROGRAM, run};
+use argon2_passwd_commands::{Command, Edit, Machine};
 use std::alloc::AllocError;
+use std::fs;
 use std::io::BufWriter;
 use std::process::ExitCode;
 
@@ -22,6 +23,12 @@ fn main(rt: HostRuntime) -> ExitCode {
     };
     let status = match arguments::parsed(rt.alloc(), words.as_slice()) {
         Ok(command) => {
+            if let Some(path) = wanted(&command)
+                && let Err(error) = fs::metadata(&rt, path)
+            {
+                let failure = Failure::of_reading(error);
+                return ExitCode::from(failure.report(PROGRAM, path, &mut errors));
+            }
             let mut left = None;
             let status = run(
                 rt.alloc(),
@@ -41,4 +48,15 @@ fn main(rt: HostRuntime) -> ExitCode {
         Err(error) => answer(PROGRAM, &error, &mut output, &mut errors),
     };
     ExitCode::from(status)
+}
+
+// The file that a command needs, unless it makes one.
+fn wanted<'a>(command: &Command<'a>) -> Option<&'a str> {
+    match command {
+        Command::Edit(_, _, Edit::Register, _) => None,
+        Command::Verify(_, file, _) | Command::Edit(_, file, _, _) | Command::Show(_, file, _) => {
+            Some(file)
+        }
+        _ => None,
+    }
 }
