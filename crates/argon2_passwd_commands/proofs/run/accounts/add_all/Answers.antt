@@ -29,8 +29,8 @@ returns-in-Account-clause-err g c =
       c.in-Account.why,
       refl,
       (λ names has honest.
-      let refused = rw same at c.in-Err.ensures.refused names has honest in
-      (c.in-Err.index, grind (arith, rules, common_steps), refused)),
+          let refused = rw same at c.in-Err.ensures.refused names has honest in
+          (c.in-Err.index, grind (arith, rules, common_steps), refused)),
       (rw same at c.in-Err.ensures.call),
     )
 
