@@ -32,15 +32,6 @@ pub open_of : (b : Bool) → (b ≡ false → ⊥) → IsTrue b
 open_of true h = refl
 open_of false h = absurd (h refl)
 
-unwritten_step : (X : Type 0) (terms : Terms) (before after : Store) (call : Call X) (e : StoreError) → after ≡ before
-    → Answers terms before call (Err (unwritten e)) after
-unwritten_step X terms before after call below.OutOfMemory same = same
-unwritten_step X terms before after call below.Io same = same
-unwritten_step X terms before after call below.Corrupt same = same
-unwritten_step X terms before after call below.Full same = same
-unwritten_step X terms before after call below.Broken same = same
-unwritten_step X terms before after call below.Unstorable same = same
-
 pub unwritten_cause : (v : view.View) (closed fault more long : Type 0) → (IsTrue v.is_broken → ⊥) → (fault → more)
     → (e : StoreError) → view.HasCause v fault long e → HasCause closed more long (unwritten e)
 unwritten_cause v closed fault more long sound f below.OutOfMemory h = tt
@@ -158,18 +149,6 @@ writes_at before es k is (Ok x) error same = absurd cc
 writes_at before es k is (Err e) error same =
     let called : error ≡ unwritten e = cc in rw called (at_end before es k is e)
 
-not_refused : (P : Type 0) (e : StoreError) → IfRefused P (unwritten e)
-not_refused P below.OutOfMemory = tt
-not_refused P below.Io = tt
-not_refused P below.Corrupt = tt
-not_refused P below.Full = tt
-not_refused P below.Broken = tt
-not_refused P below.Unstorable = tt
-
-ok_if : {X E P : Type 0} (r : Result X E) → P → OnOk r P
-ok_if (Ok x) p = p
-ok_if (Err e) p = tt
-
 err_if : {X E P : Type 0} (r : Result X E) → P → OnErr r P
 err_if (Ok x) p = tt
 err_if (Err e) p = p
@@ -275,7 +254,7 @@ module _ {S : Type 0} {g : Ghosts S}
     refused = refused_same r why reads.quiet;
     crash = λ clean is_open db found.
         let left = reads.left clean is_open db found in (left.0, left.1, subst May (sym left.2) may);
-    durable = ok_if r (λ clean. reads.left clean (was_open clean));
+    durable = on_all r (λ clean. reads.left clean (was_open clean));
     closed = λ clean h. absurd (live clean h);
     closes = λ clean is_open. inl (reads.is_open refl clean);
     cause = λ clean. refused_cause _ _ long r why;
@@ -327,7 +306,7 @@ module _ {S : Type 0} {g : Ghosts S}
       terms = same ∙ reads.terms;
       honest = λ clean. was_honest (change.honest clean);
       unchanged = refl;
-      refused = not_refused _ f;
+      refused = unread_refused _ (unwritten f) (is_of_file f);
       crash = λ clean is_open. may_leave new to first then change.crash clean;
       durable = tt;
       closed = λ clean h. absurd (live clean h);
@@ -438,7 +417,7 @@ module _ {S : Type 0} {g : Ghosts S}
         let moves : IsHonest g (store_of new) → AccountStep (terms_of old) before (call (Ok x)) to = λ clean.
         moves_to p x answer (change.honest clean) in
         writes_all settled old mid before live reads answers May long new to x same
-        (λ f. unwritten_step X (terms_of old) before before call f refl) (inl refl) (λ clean. inr (x, moves clean)) done
+        (λ f. unread_step X (terms_of old) before call (unwritten f) (is_of_file f)) (inl refl) (λ clean. inr (x, moves clean)) done
         (on_all done moves)
         (subst (λ (n : List ℕ). Changes g (store_of mid) (store_of new) before to (IsLong n) done)
         (sym (calls (Err NameUnknown))) change) r e

@@ -120,16 +120,16 @@ none_at k (e ∷ es) h =
     let above : order k e.0 ≡ Greater = nat_list_cmp_total.antisymm k e.0 ∙ ap ordering_reverse h.0 in
     rw above (none_at k es h.1)
 
-pub step : (first now next : View) (row last : Row) (before : Store) → IsOrdered first.shape first.trees
+pub step : (first now next : View) (met last : Row) (before : Store) → IsOrdered first.shape first.trees
     → first.shape 0 ≡ Index plain → IsReading first now before → LastIs (entries before) last
-    → Advances now next 0 row true → (is : IsAccount row) → (column row 0 ≡ column last 0 → ⊥)
-    → IsReading first next (insert before is.0.0 is.0.1) × LastIs (entries (insert before is.0.0 is.0.1)) row
-step first now next row last before ordered shape reading ended moves ((k, v), good, at) apart =
-    let rest = tails reading.rest (row ∷ moves.0) (sym reading.left ∙ moves.1) in
-    let all : rows_of before ++ row ∷ moves.0 ≡ first.trees 0 = ap (λ l. rows_of before ++ l) (sym rest) ∙ reading.all in
+    → Advances now next 0 met true → (is : IsAccount met) → (column met 0 ≡ column last 0 → ⊥)
+    → IsReading first next (insert before is.0.0 is.0.1) × LastIs (entries (insert before is.0.0 is.0.1)) met
+step first now next met last before ordered shape reading ended moves ((k, v), good, at) apart =
+    let rest = tails reading.rest (met ∷ moves.0) (sym reading.left ∙ moves.1) in
+    let all : rows_of before ++ met ∷ moves.0 ≡ first.trees 0 = ap (λ l. rows_of before ++ l) (sym rest) ∙ reading.all in
     let index : IsIndex plain (first.trees 0) = rw shape at (ordered 0) in
     let here = subst (λ r. AllByRecursion (λ x. entry_cmp plain x r ≡ Less) (rows_of before)) at
-    (below (rows_of before) row moves.0 (subst (IsIndex plain) (sym all) index)) in
+    (below (rows_of before) met moves.0 (subst (IsIndex plain) (sym all) index)) in
     let sorted = is_true (is_sorted order (entries before)) (entries_sorted before) in
     let none : find order k (entries before) ≡ None = none_at k (entries before)
     (lower k v (entries before) last sorted ended (λ is. apart (ap (λ r. column r 0) at ∙ is)) here) in
@@ -144,23 +144,23 @@ step first now next row last before ordered shape reading ended moves ((k, v), g
         rest = moves.0;
         left = ap (λ (w : View). w.cursors 0) moves.2;
         all = ap (λ l. l ++ moves.0) (last_rows ∙ ap (λ r. rows_of before ++ r ∷ []) (sym at))
-            ∙ append_assoc (rows_of before) (row ∷ []) moves.0 ∙ all;
+            ∙ append_assoc (rows_of before) (met ∷ []) moves.0 ∙ all;
       },
-      subst (λ es. LastIs es row) (sym after) (subst (LastIs (entries before ++ (k, v) ∷ [])) (sym at)
+      subst (λ es. LastIs es met) (sym after) (subst (LastIs (entries before ++ (k, v) ∷ [])) (sym at)
           (last_of (entries before) (k, v))),
     )
 
 -- one name more is that of a text
-pub texts_step : (before : Store) (row : Row) (is : IsAccount row) → AreTexts before → AreTexts (insert before is.0.0 is.0.1)
-texts_step before row ((k, v), good, at) texts = texts_changed before k (Some v) texts good
+pub texts_step : (before : Store) (met : Row) (is : IsAccount met) → AreTexts before → AreTexts (insert before is.0.0 is.0.1)
+texts_step before met ((k, v), good, at) texts = texts_changed before k (Some v) texts good
 
 -- all rows are read
-pub all_read : {S : Type 0} (g : Ghosts S) (old new : S) (names : Store) (row : Row)
+pub all_read : {S : Type 0} (g : Ghosts S) (old new : S) (names : Store) (met : Row)
     → (IsHonest g new → IsHonest g old) → (IsHonest g old → IsFresh (g.view old))
     → (g.view old).shape 0 ≡ Index plain → (mid : S) → (IsHonest g new → IsReading (g.view old) (g.view mid) names)
-    → (IsHonest g new → Advances (g.view mid) (g.view new) 0 row false)
+    → (IsHonest g new → Advances (g.view mid) (g.view new) 0 met false)
     → IsKept g new names × (IsHonest g new → (g.view old).committed 0 ≡ rows_of names)
-all_read g old new names row earlier fresh shape mid reading ended =
+all_read g old new names met earlier fresh shape mid reading ended =
     let rows : IsHonest g new → rows_of names ≡ (g.view old).trees 0 = λ clean.
     let last = tails (reading clean).rest [] (sym (reading clean).left ∙ (ended clean).0) in
     sym (append-nil (rows_of names)) ∙ ap (λ l. rows_of names ++ l) (sym last) ∙ (reading clean).all in

@@ -118,9 +118,6 @@ module _ {D : Type 0} {g : Ghosts D} (old mid : Unopened D g) (rows : List Row) 
   }
 
 module _ {D : Type 0} {g : Ghosts D} where
-  pub only_read : (old new : D × D) → OnlyReadsBoth g old new → AreUnharmed g old new
-  only_read old new reads clean left may = inl (reads.0.crash left.log may.0, reads.1.crash left.db may.1)
-
   module _ (it : Pool D g) (files : D × D) (same : pool_files it ≡ files) where
     is_clean : IsTrue (pool_state it).is_clean → AreClean g files.0 files.1
     is_clean clean = subst (λ (p : D × D). AreClean g p.0 p.1) same (subst IsTrue (clean_is it) clean)

@@ -1,6 +1,10 @@
--- The rows of names, where one name more is set, or one is taken out.
-use Rattle.std.proofs.Common.{◌≡◌, ℕ, List, [], ◌∷◌, map, Option, Some, None, Bool, T, true, false, not, cond, refl, sym, ap, ap₂, ◌∙◌, Ordering, Less, Equal, Greater, is_eq}
+-- The rows of names, if one name more is set or one is taken out, and which rows are too long.
+use Rattle.std.proofs.Common.{◌≡◌, ℕ, zero, suc, ◌+◌, ◌^◌, nat_lt, ◌≤◌, arith, length, List, [], ◌∷◌, map, Option, Some, None, Bool, T, true, false, not, cond, refl, sym, ap, ap₂, ◌∙◌, Ordering, Less, Equal, Greater, is_eq}
 use Rattle.std.proofs.lemmas.Bool.{and_parts}
+use Rattle.std.proofs.lemmas.Bool.Decides.{nat_tests}
+use Rattle.std.specs.Float.{NotNan}
+use Rattle.std.specs.Float.Ieee
+use Rattle.std.specs.Prelude.{All}
 use Rattle.std.proofs.lemmas.Cmp.{tied_itself, alike_right, eq_by_cmp_equiv}
 use Rattle.std.specs.Cmp.Lexicographic.{slice_cmp, nat_list_cmp_total}
 use Rattle.std.specs.FinMap.{get, get-entries, get-from_sorted, get-remove, insert, remove, entries, entries-from_sorted, entries-insert, entries_sorted, find, from_sorted, put, is_sorted, same_map, slice_cmp-IsAntisymmetric, nat_cmp-IsAntisymmetric}
@@ -9,14 +13,16 @@ use Rattle.std.specs.List.{AllByRecursion, filter}
 use Rattle.std.specs.Ordering.{eq_by_cmp, is_lt, match_ordering, nat_cmp, ordering_reverse, ordering_then}
 use Rattle.sqlite_value.specs.declared.value.Value.TheVariants.{Text}
 use Rattle.sqlite_value.specs.Keys.{plain, entry_cmp}
-use Rattle.sqlite_value.specs.Order.{row_cmp}
+use Rattle.sqlite_value.specs.Order.{Row, column, number, row_cmp}
 use Rattle.sqlite_value.proofs.KeyLemmas.{entry_cmp-plain}
 use Rattle.sqlite_value.proofs.OrderLemmas.{value_cmp-Text}
 use Rattle.sqlite_trees.specs.Tree.{insert_entry, remove_entry}
+use Rattle.sqlite_trees.specs.View.{IsStorable, is_int}
 use Rattle.sqlite_trees.proofs.ListLemmas.{filter-map}
 use Rattle.argon2_base.specs.PhcText.{Phc, phc_text}
 use Rattle.argon2.specs.NamedTexts.{Store}
 use Rattle.argon2_store.specs.Rows.{row_of, rows_of}
+use Rattle.argon2_store.specs.Table.{IsLong}
 
 abbrev order : List ℕ → List ℕ → Ordering
 order = slice_cmp nat_cmp
@@ -149,3 +155,32 @@ remove_entry-rows_of names name u has =
     ∙ ap (map row_of) (filter_same _ _ (entries names)
     (all_ties name u (entries names) (found_once name u (entries names) sorted (sym (get-entries names name) ∙ has)))
     ∙ sym (entries-remove names name))
+
+-- ---- long rows
+
+no_int : (e : List ℕ × Phc) (c : ℕ) → is_int (column (row_of e) c) ≡ false
+no_int e zero = refl
+no_int e (suc zero) = refl
+no_int e (suc (suc c)) = refl
+
+numbers : (e : List ℕ × Phc) → All (λ v. NotNan (number v)) (row_of e)
+unfolding Ieee.is_nan
+numbers e zero d h = tt
+numbers e (suc zero) d h = tt
+numbers e (suc (suc c)) d h = absurd (omega (arith, h))
+
+-- a row that may not be stored is long
+pub is_long : (reals : ℕ) (row : Row) (name : List ℕ) (v : Phc) → row ≡ row_of (name, v) → length (phc_text v) ≤ 326
+    → ¬ (IsStorable reals row) → IsLong name
+is_long reals row name v is short not = go (nat_lt (10 ^ 9) (362 + length name)) refl
+  where
+    go : (b : Bool) → nat_lt (10 ^ 9) (362 + length name) ≡ b → IsLong name
+    go true e = grind (arith, nat_tests)
+    go false e =
+        let few : 362 + length name ≤ 10 ^ 9 = grind (arith, nat_tests) in
+        absurd (not (rw is (record {
+          typed = λ c h. no_int (name, v) c;
+          columns = (omega arith, omega arith);
+          numbers = numbers (name, v);
+          short = omega (arith, few, short);
+        })))

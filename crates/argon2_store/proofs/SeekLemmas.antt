@@ -45,7 +45,7 @@ none_below k n (e ∷ es) low h =
 -- where a seek by a name stands: at the end, and the name has no text, or at the first row that is not below it
 abbrev Stands : List ℕ → List (List ℕ × Phc) → List Row → Type 0
 Stands k es [] = find order k es ≡ None
-Stands k es (row ∷ left) = (e : List ℕ × Phc) × (row ≡ row_of e)
+Stands k es (met ∷ left) = (e : List ℕ × Phc) × (met ≡ row_of e)
     × (find order k es ≡ cond (eq_by_cmp order k e.0) (Some e.1) None)
 
 stands : (k : List ℕ) (es : List (List ℕ × Phc)) → is_sorted order es ≡ true
@@ -65,7 +65,7 @@ stands k (e ∷ es) sorted =
       where
         past : (rows : List Row) → order k e.0 ≡ Greater → Stands k es rows → Stands k (e ∷ es) rows
         past [] h s = rw h s
-        past (row ∷ left) h s = (s.0, s.1, rw h (s.2))
+        past (met ∷ left) h s = (s.0, s.1, rw h (s.2))
     go Equal at p is flip later none = rw at (e, refl, rw (is, flip) refl)
     go Greater at p is flip later none = rw at (e, refl, rw (is, flip) (none (is ∙ flip)))
 
@@ -81,10 +81,10 @@ stood names k rows h = subst (Stands k (entries names)) h
 pub no_row : (names : Store) (k : List ℕ) → from_key plain (Text k ∷ []) (rows_of names) ≡ [] → get names k ≡ None
 no_row names k h = get-entries names k ∙ stood names k [] h
 
-pub its_row : (names : Store) (k : List ℕ) (row : Row) (left : List Row)
-    → from_key plain (Text k ∷ []) (rows_of names) ≡ row ∷ left → column row 0 ≡ Text k → IsFoundAs names k true row
-its_row names k row left h is =
-    let s = stood names k (row ∷ left) h in
+pub its_row : (names : Store) (k : List ℕ) (met : Row) (left : List Row)
+    → from_key plain (Text k ∷ []) (rows_of names) ≡ met ∷ left → column met 0 ≡ Text k → IsFoundAs names k true met
+its_row names k met left h is =
+    let s = stood names k (met ∷ left) h in
     let e = s.0 in
     let first : column (row_of e) 0 ≡ Text k = ap (λ r. column r 0) (sym s.1) ∙ is in
     let named : e.0 ≡ k = cc first in
@@ -94,10 +94,10 @@ its_row names k row left h is =
       s.1 ∙ ap (λ n. row_of (n, e.1)) named,
     )
 
-pub other_row : (names : Store) (k : List ℕ) (row : Row) (left : List Row)
-    → from_key plain (Text k ∷ []) (rows_of names) ≡ row ∷ left → (column row 0 ≡ Text k → ⊥) → get names k ≡ None
-other_row names k row left h apart =
-    let s = stood names k (row ∷ left) h in
+pub other_row : (names : Store) (k : List ℕ) (met : Row) (left : List Row)
+    → from_key plain (Text k ∷ []) (rows_of names) ≡ met ∷ left → (column met 0 ≡ Text k → ⊥) → get names k ≡ None
+other_row names k met left h apart =
+    let s = stood names k (met ∷ left) h in
     let e = s.0 in
     get-entries names k ∙ s.2 ∙ go (order k e.0) refl e.1
     (λ tied. apart (ap (λ r. column r 0) s.1 ∙ ap Text (sym (slice_cmp-IsAntisymmetric nat_cmp-IsAntisymmetric k e.0 tied))))
@@ -122,25 +122,25 @@ placed old mid names k key shape rows at is =
 the_rows : (xs ys : List Row) → Some xs ≡ Some ys → xs ≡ ys
 the_rows xs ys h = cc
 
-pub gives : (old mid new : View) (names : Store) (k : List ℕ) (key row : Row) → old.shape 0 ≡ Index plain
+pub gives : (old mid new : View) (names : Store) (k : List ℕ) (key met : Row) → old.shape 0 ≡ Index plain
     → old.trees 0 ≡ rows_of names → key ≡ Text k ∷ []
     → mid ≡ with_cursor old 1 (sought (order_of (old.shape 0)) Forward key (old.trees 0))
-    → Advances mid new 1 row true → (b : Bool) → (IsTrue b → column row 0 ≡ column key 0)
-    → (column row 0 ≡ column key 0 → IsTrue b) → IsFoundAs names k b row
-gives old mid new names k key row shape rows at is moves b same back =
-    let head = the_rows _ (row ∷ moves.0) (sym (placed old mid names k key shape rows at is) ∙ moves.1) in
+    → Advances mid new 1 met true → (b : Bool) → (IsTrue b → column met 0 ≡ column key 0)
+    → (column met 0 ≡ column key 0 → IsTrue b) → IsFoundAs names k b met
+gives old mid new names k key met shape rows at is moves b same back =
+    let head = the_rows _ (met ∷ moves.0) (sym (placed old mid names k key shape rows at is) ∙ moves.1) in
     let first : column key 0 ≡ Text k = ap (λ r. column r 0) at in
     go b same back head first
   where
-    go : (b : Bool) → (IsTrue b → column row 0 ≡ column key 0) → (column row 0 ≡ column key 0 → IsTrue b)
-        → from_key plain (Text k ∷ []) (rows_of names) ≡ row ∷ moves.0 → column key 0 ≡ Text k → IsFoundAs names k b row
-    go true same back head first = its_row names k row moves.0 head (same refl ∙ first)
+    go : (b : Bool) → (IsTrue b → column met 0 ≡ column key 0) → (column met 0 ≡ column key 0 → IsTrue b)
+        → from_key plain (Text k ∷ []) (rows_of names) ≡ met ∷ moves.0 → column key 0 ≡ Text k → IsFoundAs names k b met
+    go true same back head first = its_row names k met moves.0 head (same refl ∙ first)
     go false same back head first =
-        other_row names k row moves.0 head (λ is. absurd (let wrong = back (is ∙ sym first) in cc))
+        other_row names k met moves.0 head (λ is. absurd (let wrong = back (is ∙ sym first) in cc))
 
-pub ends : (old mid new : View) (names : Store) (k : List ℕ) (key row : Row) → old.shape 0 ≡ Index plain
+pub ends : (old mid new : View) (names : Store) (k : List ℕ) (key met : Row) → old.shape 0 ≡ Index plain
     → old.trees 0 ≡ rows_of names → key ≡ Text k ∷ []
     → mid ≡ with_cursor old 1 (sought (order_of (old.shape 0)) Forward key (old.trees 0))
-    → Advances mid new 1 row false → get names k ≡ None
-ends old mid new names k key row shape rows at is moves =
+    → Advances mid new 1 met false → get names k ≡ None
+ends old mid new names k key met shape rows at is moves =
     no_row names k (the_rows _ [] (sym (placed old mid names k key shape rows at is) ∙ moves.0))

@@ -1,8 +1,5 @@
 -- What the rows of a table are after each step of a change.
-use Rattle.std.proofs.Common.{◌≡◌, ℕ, zero, suc, ◌+◌, ◌^◌, nat_lt, ◌≤◌, List, length, Option, Some, None, Result, Ok, Err, Bool, true, false, cond, refl, sym, ap, ap₂, subst, ◌∙◌, IsTrue, arith, inl, inr}
-use Rattle.std.proofs.lemmas.Bool.Decides.{nat_tests}
-use Rattle.std.specs.Float.{NotNan}
-use Rattle.std.specs.Float.Ieee
+use Rattle.std.proofs.Common.{◌≡◌, ℕ, ◌≤◌, List, Option, Some, None, Result, Ok, Err, Bool, true, false, cond, refl, sym, ap, ap₂, subst, ◌∙◌, IsTrue, arith, inl, inr}
 use Rattle.std.specs.Prelude.{◌⊎◌, All, IsErrAnd, IfErr, IfOk, IfSome, MatchResult, OnOk}
 use Rattle.std.specs.Coded.{Coded-set}
 use Rattle.std.specs.Str.{bytes_eq}
@@ -11,7 +8,7 @@ use Rattle.sqlite_trees.specs.contracts.store.Shape.{the_row}
 use Rattle.std.specs.FinMap.{get, insert, remove}
 use Rattle.sqlite_disk.specs.Disk.{MoreFaults}
 use Rattle.sqlite_value.specs.Keys.{plain}
-use Rattle.sqlite_value.specs.Order.{Row, column, number}
+use Rattle.sqlite_value.specs.Order.{Row}
 use Rattle.sqlite_trees.specs.declared.error.StoreError.{StoreError}
 use Rattle.sqlite_trees.specs.declared.error.StoreError.TheVariants.{OutOfMemory, Io, Corrupt, Full, Broken, Unstorable}
 use Rattle.sqlite_trees.specs.declared.store.Shape.{Shape}
@@ -19,12 +16,12 @@ use Rattle.sqlite_trees.specs.declared.store.Shape.TheVariants.{Index}
 use Rattle.sqlite_trees.specs.declared.store.Store.{Ghosts}
 use Rattle.sqlite_trees.specs.Objects.{catalog_tree}
 use Rattle.sqlite_trees.specs.Tree.{Trees, insert_entry, order_of, remove_entry}
-use Rattle.sqlite_trees.specs.View.{View, Commits, HasCause, IsFailure, IsStorable, KeepsSchema, OnlyWrites, SetsTree, doubt, is_int}
-use Rattle.argon2_base.specs.PhcText.{IsPhc, Phc, phc_text}
+use Rattle.sqlite_trees.specs.View.{View, Commits, HasCause, IsFailure, KeepsSchema, OnlyWrites, SetsTree, doubt}
+use Rattle.argon2_base.specs.PhcText.{IsPhc, Phc}
 use Rattle.argon2.specs.NamedTexts.{Store}
 use Rattle.argon2.proofs.login_lemmas.Stores.{get-set}
 use Rattle.argon2_store.specs.Rows.{AreTexts, row_of}
-use Rattle.argon2_store.specs.Table.{Changes, HasBegun, HasNames, HasSome, Holds, IsHonest, IsKept, IsLong, IsOpen, KeepsNames, Leaves, Sees, StaysQuiet, Writes, changed, done_of}
+use Rattle.argon2_store.specs.Table.{Changes, HasBegun, HasNames, HasSome, Holds, IsHonest, IsKept, IsOpen, KeepsNames, Leaves, Sees, StaysQuiet, Writes, changed, done_of}
 use Rattle.argon2_store.proofs.NameLemmas.{get-gone, get-gone-same, insert-remove, remove-none}
 use Rattle.argon2_store.proofs.RowLemmas.{insert_entry-rows_of, remove_entry-rows_of}
 
@@ -48,10 +45,6 @@ committed A (Err e) (Err d) p later f = tt
 pub on_ok_later : {T E P : Type 0} (Q : Type 0) (r : Result T E) → (P → OnOk r Q) → OnOk r (P → Q)
 on_ok_later Q (Ok x) f = f
 on_ok_later Q (Err e) f = tt
-
-pub if_ok : {T E : Type 0} {P Q : T → Type 0} (r : Result T E) → IfOk r P → ((x : T) → P x → Q x) → IfOk r Q
-if_ok (Ok x) p f = f x p
-if_ok (Err e) p f = tt
 
 pub if_ok2 : {T E : Type 0} {P R Q : T → Type 0} (r : Result T E) → IfOk r P → IfOk r R → ((x : T) → P x → R x → Q x) → IfOk r Q
 if_ok2 (Ok x) p q f = f x p q
@@ -109,10 +102,6 @@ gone_seen old new row names name v shape set is has sees unbroken = (
       ∙ ap₂ (remove_entry plain) is (sees set.sound).0 ∙ remove_entry-rows_of names name v has,
   ap (λ (w : View). w.trees catalog_tree) set.is ∙ (sees set.sound).1,
 )
-
-pub same_broken : (old new : View) (tree : ℕ) (edit : List Row → List Row)
-    → SetsTree old new tree edit → new.is_broken ≡ old.is_broken
-same_broken old new tree edit set = ap (λ (w : View). w.is_broken) set.is
 
 -- a crash leaves the names of a store that is open
 pub leaves_kept : {S : Type 0} (g : Ghosts S) (s : S) (names : Store)
@@ -484,32 +473,3 @@ texts_changed names name None texts good other v has =
 texts_changed names name (Some w) texts good other v has =
     from_either (bytes_eq other name) (Some w) (get names other) v (sym (get-set names name w other) ∙ has) good
     (texts other v)
-
--- ---- rows
-
-no_int : (e : List ℕ × Phc) (c : ℕ) → is_int (column (row_of e) c) ≡ false
-no_int e zero = refl
-no_int e (suc zero) = refl
-no_int e (suc (suc c)) = refl
-
-numbers : (e : List ℕ × Phc) → All (λ v. NotNan (number v)) (row_of e)
-unfolding Ieee.is_nan
-numbers e zero d h = tt
-numbers e (suc zero) d h = tt
-numbers e (suc (suc c)) d h = absurd (omega (arith, h))
-
--- a row that may not be stored is long
-pub is_long : (reals : ℕ) (row : Row) (name : List ℕ) (v : Phc) → row ≡ row_of (name, v) → length (phc_text v) ≤ 326
-    → ¬ (IsStorable reals row) → IsLong name
-is_long reals row name v is short not = go (nat_lt (10 ^ 9) (362 + length name)) refl
-  where
-    go : (b : Bool) → nat_lt (10 ^ 9) (362 + length name) ≡ b → IsLong name
-    go true e = grind (arith, nat_tests)
-    go false e =
-        let few : 362 + length name ≤ 10 ^ 9 = grind (arith, nat_tests) in
-        absurd (not (rw is (record {
-          typed = λ c h. no_int (name, v) c;
-          columns = (omega arith, omega arith);
-          numbers = numbers (name, v);
-          short = omega (arith, few, short);
-        })))

@@ -4,7 +4,8 @@ use Rattle.sqlite_disk.specs.Disk.{MoreFaults}
 use Rattle.argon2_base.specs.PhcFields.{phc_of}
 use Rattle.argon2_store.specs.Table.{IsHonest, Sees, changed}
 use Rattle.argon2_store.proofs.NameLemmas.{remove-none}
-use Rattle.argon2_store.proofs.TableLemmas.{cause_map, if_err, is_long, on_ok, quiet_itself, set_seen, writes_nothing, writes_row}
+use Rattle.argon2_store.proofs.RowLemmas.{is_long}
+use Rattle.argon2_store.proofs.TableLemmas.{cause_map, if_err, on_ok, quiet_itself, set_seen, writes_nothing, writes_row}
 use Rattle.argon2_store.proofs.table.put.Goals as goal
 
 pub returns-in_default-clause-writes : goal.returns-in_default-clause-writes
