@@ -1,14 +1,14 @@
 -- Lent memory after its first blocks were written.
-use Rattle.std.proofs.Common.{◌≡◌, ℕ, ◌+◌, ◌*◌, ◌++◌, ◌≤◌, List, [], length, take, drop, sym, ap, subst, ◌∙◌, arith}
-use Rattle.std.proofs.lemmas.List.{get_or_append_left, get_or-take, length-take-le}
+use Rattle.std.proofs.Common.{◌≡◌, ℕ, ◌+◌, ◌*◌, ◌++◌, ◌≤◌, List, [], length, map, take, drop, sym, ap, subst, ◌∙◌, arith}
+use Rattle.std.proofs.lemmas.List.{drop-map, get_or_append_left, get_or-take, length-take-le, map-append, map-id}
 use Rattle.std.proofs.lemmas.List.FromFn.{length-map-range_with_len}
 use Rattle.std.proofs.lemmas.Nat.{mul-add-lt}
 use Rattle.std.proofs.lemmas.Slice.{drop-append-drop}
 use Rattle.std.proofs.Math.Seq.{take-append_seam}
 use Rattle.argon2.specs.declared.context.Argon2.{Argon2}
 use Rattle.argon2.specs.Argon2.{context_of}
-use Rattle.argon2.specs.Rfc9106.{Context, IsValid, Memory, block_count, first_block, lane_length, matrix, matrix_of, tag_of}
-use Rattle.argon2.specs.Hashing.{blocks_of, KeepsOtherColumns, KeepsRest, IsBegun, IsFilled, IsHashed}
+use Rattle.argon2.specs.Rfc9106.{Context, IsValid, Memory, block_count, first_block, lane_length, matrix, matrix_of}
+use Rattle.argon2.specs.Hashing.{blocks_of, KeepsOtherColumns, KeepsRest, FillsFront, IsBegun}
 use Rattle.argon2.specs.Laws.{Begins}
 use Rattle.argon2.specs.Steps.{step}
 
@@ -18,10 +18,7 @@ length-matrix_of : (ctx : Context) (password salt : List ℕ) (n : ℕ)
 unfolding matrix_of matrix
 length-matrix_of ctx password salt n = length-map-range_with_len _ 0 (block_count ctx)
 
-module _ (argon2 : Argon2) (count : ℕ) (all : count ≡ block_count (context_of argon2)) (old blocks : Memory) where
-  abbrev ctx : Context
-  ctx = context_of argon2
-
+module _ (ctx : Context) (count : ℕ) (all : count ≡ block_count ctx) (old blocks : Memory) where
   -- the blocks that are filled come first
   blocks_of-front : length blocks ≡ block_count ctx → blocks_of ctx (blocks ++ drop count old) ≡ blocks
   blocks_of-front size = ap (λ n. take n (blocks ++ drop count old)) (sym size) ∙ take-append_seam blocks (drop count old)
@@ -48,32 +45,37 @@ module _ (argon2 : Argon2) (count : ℕ) (all : count ≡ block_count (context_o
       let size : length blocks ≡ block_count ctx = long ∙ length-take-le count old (omega (arith, room, all)) ∙ all in
       (blocks_of-front size ∙ made ∙ ap (λ n. step ctx (take n old) pass lane column) all, KeepsRest-behind size)
 
-  -- a fill that begins in the first blocks begins in the memory
-  pub is_begun : IsValid ctx → (password salt : List ℕ) (n : ℕ) → Begins ctx (first_block ctx password salt n) blocks
-      → KeepsOtherColumns ctx (take count old) blocks → IsBegun argon2 password salt n old (blocks ++ drop count old)
-  is_begun valid password salt n begins same = record {
-    valid = valid;
-    begins = subst (Begins ctx (first_block ctx password salt n)) (sym (blocks_of-front begins.size)) begins;
-    others = KeepsOtherColumns-front begins.size same;
-    rest = KeepsRest-behind begins.size;
-  }
-
-  -- where the first blocks are the matrix, the memory is filled
-  pub is_filled : (password salt : List ℕ) (n : ℕ) → blocks ≡ matrix_of ctx password salt n
-      → IsFilled argon2 password salt n old (blocks ++ drop count old)
-  is_filled password salt n filled =
+  -- where the first blocks are the matrix, it is in the memory, and the rest is as before
+  pub has_matrix : (password salt : List ℕ) (n : ℕ) → blocks ≡ matrix_of ctx password salt n
+      → (blocks_of ctx (blocks ++ drop count old) ≡ matrix_of ctx password salt n)
+      × KeepsRest ctx old (blocks ++ drop count old)
+  has_matrix password salt n filled =
       let size : length blocks ≡ block_count ctx = ap length filled ∙ length-matrix_of ctx password salt n in
-      record { matrix = blocks_of-front size ∙ filled; rest = KeepsRest-behind size }
+      (blocks_of-front size ∙ filled, KeepsRest-behind size)
 
-  -- where the first blocks are the matrix and the output is the tag, a password is hashed
-  pub is_hashed : IsValid ctx → (password salt output : List ℕ) (n : ℕ) → length output ≡ n
-      → output ≡ tag_of ctx password salt n
-      → blocks ≡ matrix_of ctx password salt n → IsHashed argon2 password salt output old (blocks ++ drop count old)
-  is_hashed valid password salt output n size tag filled =
-      let left = is_filled password salt n filled in
-      record {
-        valid = valid;
-        tag = tag ∙ ap (tag_of ctx password salt) (sym size);
-        matrix = left.matrix ∙ ap (matrix_of ctx password salt) (sym size);
-        rest = left.rest;
-      }
+-- the words of lent blocks whose first were written
+pub words_behind : {B : Type 0} (words : B → List ℕ) (front old : List B) (count : ℕ)
+    → map words (front ++ drop count old) ≡ map words front ++ drop count (map words old)
+words_behind words front old count =
+    map-append words front (drop count old) ∙ ap (λ (rest : Memory). map words front ++ rest) (sym (drop-map words count old))
+
+-- what is filled by words is filled
+pub fills_words : (ctx : Context) (password salt : List ℕ) (n : ℕ) (old new : Memory) (places places' : List ℕ)
+    → FillsFront ctx password salt n (map (λ block. block) old) (map (λ block. block) new) places places'
+    → FillsFront ctx password salt n old new places places'
+fills_words ctx password salt n old new places places' is = rw (map-id old, map-id new) at is
+
+-- a fill that begins in the first blocks begins in the memory
+pub is_begun : (argon2 : Argon2) (count : ℕ) → count ≡ block_count (context_of argon2) → (old blocks : Memory)
+    → IsValid (context_of argon2) → (password salt : List ℕ) (n : ℕ)
+    → Begins (context_of argon2) (first_block (context_of argon2) password salt n) blocks
+    → KeepsOtherColumns (context_of argon2) (take count old) blocks
+    → IsBegun argon2 password salt n old (blocks ++ drop count old)
+is_begun argon2 count all old blocks valid password salt n begins same =
+    let ctx = context_of argon2 in
+    record {
+      valid = valid;
+      begins = subst (Begins ctx (first_block ctx password salt n)) (sym (blocks_of-front ctx count all old blocks begins.size)) begins;
+      others = KeepsOtherColumns-front ctx count all old blocks begins.size same;
+      rest = KeepsRest-behind ctx count all old blocks begins.size;
+    }

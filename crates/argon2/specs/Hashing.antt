@@ -4,7 +4,7 @@ use Rattle.argon2_base.specs.declared.error.Error.{Error}
 use Rattle.argon2_base.specs.declared.error.Error.TheVariants.{OutOfMemory}
 use Rattle.argon2.specs.declared.context.Argon2.{Argon2}
 use Rattle.argon2.specs.Argon2.{context_of, own_parameters}
-use Rattle.argon2.specs.Rfc9106.{Context, IsValid, Memory, block_count, first_block, lane_length, matrix_of, tag_of}
+use Rattle.argon2.specs.Rfc9106.{Context, IsValid, Memory, Sizes, block_count, first_block, lane_length, matrix_of, tag_of}
 use Rattle.argon2.specs.Watching.{AreReferencePlaces, mixing_calls, place_count}
 use Rattle.argon2.specs.Laws.{Begins}
 use Rattle.argon2.specs.Refusals.{answer_unless, first_of, output_faults, input_faults, memory_faults}
@@ -54,6 +54,16 @@ KeepsOtherColumns ctx old new =
     (lane column : ℕ) → lane < ctx.p_cost → 2 ≤ column → column < lane_length ctx →
     slice_index_or new (lane * lane_length ctx + column) []
     ≡ slice_index_or old (lane * lane_length ctx + column) []
+
+-- costs that are not refused, the matrix for a tag of n bytes in the first blocks, each block's reference if the list
+-- has a place for each, and the blocks behind as before
+pub record FillsFront (ctx : Context) (password salt : List ℕ) (n : ℕ) (old new : Memory) (places places' : List ℕ) : Type 0
+  where
+    pub sizes : Sizes ctx
+    pub matrix : blocks_of ctx new ≡ matrix_of ctx password salt n
+    pub positions : length places ≡ place_count ctx →
+        AreReferencePlaces ctx (first_block ctx password salt n) places places'
+    pub rest : KeepsRest ctx old new
 
 -- ---- what a call leaves
 

@@ -6,7 +6,7 @@ ghost use Rattle.argon2.specs.Refusals.{max_len};
 use crate::algorithm::Algorithm;
 use crate::params::Params;
 use crate::version::Version;
-use argon2_base::block::{Block, Work};
+use argon2_base::block::{Block, Words, Work};
 use argon2_base::error::{Error, Result};
 use std::alloc::Allocator;
 use std::fmt;
@@ -16,6 +16,7 @@ mod ends;
 mod fill;
 mod instance;
 mod lengths;
+mod memory_block;
 mod reference;
 mod stepping;
 
@@ -58,13 +59,13 @@ pub struct Argon2<'key> {
 }
 
 impl<'key> Argon2<'key> {
-    ghost use Rattle.std.specs.Prelude.{◌≡◌, ◌≤◌, [], IfOk, IfErr, OnOk, OnErr, length, replicate};
+    ghost use Rattle.std.specs.Prelude.{◌≡◌, ◌^◌, ◌<◌, ◌≤◌, [], IfOk, IfErr, OnOk, OnErr, length, replicate};
     ghost use Rattle.argon2_base.specs.Block.{zero_block};
     ghost use Rattle.argon2_base.specs.declared.error.Error.TheVariants.{OutOfMemory};
     ghost use Rattle.argon2.specs.Argon2.{context_of, context_under, own_parameters, secret_of, settings_of, settings_with, IsKeyed, IsWith};
-    ghost use Rattle.argon2.specs.Rfc9106.{IsValid, block_count, tag_of};
+    ghost use Rattle.argon2.specs.Rfc9106.{IsValid, block_count, matrix_of, tag_of};
     ghost use Rattle.argon2.specs.Watching.{mixing_calls, place_count};
-    ghost use Rattle.argon2.specs.Hashing.{fill_refusal, refusal_of, AreReferencesOf, IsFilled, IsHashed, IsWatched, MayAnswer};
+    ghost use Rattle.argon2.specs.Hashing.{blocks_of, fill_refusal, refusal_of, AreReferencesOf, IsFilled, IsHashed, IsWatched, KeepsRest, MayAnswer};
     ghost use Rattle.argon2.specs.Params.{parameters_of};
     ghost use Rattle.argon2.specs.Refusals.{answer_unless, data_refusal, length_refusal};
 
@@ -147,6 +148,40 @@ impl<'key> Argon2<'key> {
         Ok(())
     }
 
+    /// Writes the tag as [`hash_password_into_with_memory`](Argon2::hash_password_into_with_memory)
+    /// does, on the words of blocks, as a C caller lends them, and under this associated data in
+    /// place of the parameters': 0 to 4294967295 bytes.
+    ///
+    /// # Errors
+    /// Those of [`hash_password_into_with_memory`](Argon2::hash_password_into_with_memory), in
+    /// their order. Output and memory are then as before.
+    pub fn hash_password_into_with_words(
+        &self,
+        associated: &[u8],
+        pwd: &[u8],
+        salt: &[u8],
+        out: &mut [u8],
+        memory: &mut [Words],
+    ) -> Result<()>
+        requires data { length associated.now < 2 ^ 32 }
+        ensures answer { result
+            ≡ answer_unless (refusal_of self.now (length out.old) pwd.now salt.now memory.old) tt }
+
+        ensures tag { let ctx = context_under self.now associated.now in OnOk result
+            (out.new ≡ tag_of ctx pwd.now salt.now (length out.old)) }
+        ensures matrix { let ctx = context_under self.now associated.now in OnOk result
+            (blocks_of ctx memory.new ≡ matrix_of ctx pwd.now salt.now (length out.old)) }
+        ensures rest { let ctx = context_under self.now associated.now in OnOk result
+            (KeepsRest ctx memory.old memory.new) }
+
+        ensures same { OnErr result ((out.new ≡ out.old) × (memory.new ≡ memory.old)) }
+    {
+        self.check(out.len(), pwd, salt, memory.len())?;
+        let instance = self.instance_under(associated);
+        instance.hash(pwd, salt, out, memory, &mut [], &mut Work::new());
+        Ok(())
+    }
+
     /// Writes the tag of a password and a salt into `out`, on memory that it allocates: one request to
     /// `alloc` for [`block_count`](Params::block_count) blocks of 1024 bytes, which are given back
     /// before the call returns.
@@ -205,17 +240,9 @@ impl<'key> Argon2<'key> {
         }
         let mut memory = self.zeroed_blocks(alloc)?;
         let blocks = memory.as_mut_slice();
-        self.check(out.len(), pwd, salt, blocks)?;
+        self.check(out.len(), pwd, salt, blocks.len())?;
         let instance = self.instance_under(associated);
-        instance.fill_blocks(
-            pwd,
-            salt,
-            out.len() as u32,
-            blocks,
-            &mut [],
-            &mut Work::new(),
-        );
-        instance.write_tag(blocks, out);
+        instance.hash(pwd, salt, out, blocks, &mut [], &mut Work::new());
         Ok(())
     }
 
@@ -272,10 +299,9 @@ impl<'key> Argon2<'key> {
         ensures filled { OnOk result (IsFilled self.now pwd.now salt.now 0 memory.old memory.new) }
         ensures same { OnErr result (memory.new ≡ memory.old) }
     {
-        self.check_filling(pwd, salt, memory)?;
-        let instance = self.instance();
-        let matrix = &mut memory[..instance.block_count()];
-        instance.fill_blocks(pwd, salt, 0, matrix, &mut [], &mut Work::new());
+        self.check_filling(pwd, salt, memory.len())?;
+        self.instance()
+            .fill_blocks(pwd, salt, 0, memory, &mut [], &mut Work::new());
         Ok(())
     }
 
@@ -292,12 +318,10 @@ impl<'key> Argon2<'key> {
         ensures { IsWatched self.now pwd.now salt.now out.old out.new memory.old memory.new
             positions.old positions.new result }
     {
-        self.check(out.len(), pwd, salt, memory)?;
-        let instance = self.instance();
-        let blocks = &mut memory[..instance.block_count()];
+        self.check(out.len(), pwd, salt, memory.len())?;
         let mut work = Work::new();
-        instance.fill_blocks(pwd, salt, out.len() as u32, blocks, positions, &mut work);
-        instance.write_tag(blocks, out);
+        self.instance()
+            .hash(pwd, salt, out, memory, positions, &mut work);
         Ok(work)
     }
 

@@ -154,7 +154,7 @@ impl BitXorAssign<&Block> for Block {
     }
 }
 
-/// A count of mixings. Nothing but [`Block::mix`] adds to it, and it cannot be copied.
+/// A count of mixings. Nothing but [`Block::mix`] and [`mix_words`] adds to it, and it cannot be copied.
 #[derive(Debug, Drop)]
 pub struct Work {
     mixes: u128,
@@ -182,10 +182,13 @@ impl Work {
     }
 }
 
-/// Mixes two blocks that are given by their words, as [`Block::mix`] does, and counts nothing.
-pub fn mix_words(x: &Words, y: &Words) -> Words
-    ensures { result ≡ mixed x.now y.now }
+/// Mixes two blocks that are given by their words, as [`Block::mix`] does.
+pub fn mix_words(x: &Words, y: &Words, work: &mut Work) -> Words
+    requires { work.old < 2 ^ 128 - 1 }
+    ensures words { result ≡ mixed x.now y.now }
+    ensures counted { work.new ≡ work.old + 1 }
 {
+    work.mixes += 1;
     kernel::mix(x, y)
 }
 

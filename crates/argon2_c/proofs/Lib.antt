@@ -2,4 +2,3 @@ mod Appending
 mod Lengths
 mod Marks
 mod Utf8
-mod Written

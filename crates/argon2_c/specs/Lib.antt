@@ -1,4 +1,3 @@
-pub mod Memory
 pub mod Requests
 pub mod Texts
 pub mod Verifying

@@ -1,19 +1,18 @@
 //! Hashing, and comparing what was hashed.
 
-ghost use Rattle.std.specs.Prelude.{◌≡◌, ◌≢◌, ◌≤◌, ◌<◌, ◌==◌, ◌*◌, ◌-◌, ◌^◌, ◌⊎◌, ℕ, None, [], length, unwrap_or, if◌then◌else◌};
+ghost use Rattle.std.specs.Prelude.{◌≡◌, ◌≢◌, ◌≤◌, ◌==◌, ◌*◌, ◌⊎◌, None, [], length, unwrap_or, if◌then◌else◌};
 ghost use Rattle.std.specs.Str.{bytes_eq};
 ghost use Rattle.argon2.specs.Settings.{algorithm_number, max_lanes, version_number};
-ghost use Rattle.argon2.specs.Argon2.{context_of, context_under, own_parameters};
+ghost use Rattle.argon2.specs.Argon2.{context_of, own_parameters};
 ghost use Rattle.argon2.specs.Refusals.{first_of, max_len};
 ghost use Rattle.argon2.specs.Rfc9106.{tag_of};
-ghost use Rattle.argon2.specs.Segments.{FillsSegment, slice_length};
-ghost use Rattle.argon2_c.specs.Memory.{FillsSlice, segment_of};
+ghost use Rattle.argon2.specs.Segments.{slice_length};
 ghost use Rattle.argon2_c.specs.Requests.{asked, request_faults};
 ghost use Rattle.argon2_c.specs.Texts.{name_numbered};
 
 use crate::code::{INCORRECT_PARAMETER, OK, VERIFY_MISMATCH};
 use crate::request::{Request, refusal};
-use crate::segments::{segment_len, slice_len};
+use crate::segments::slice_len;
 use argon2::{Algorithm, Argon2, ParamsBuilder, Version};
 use argon2_base::block::Words;
 use argon2_base::phc::are_equal;
@@ -50,83 +49,13 @@ pub extern "C" fn argon2_c_hash(
     if let Some(code) = refusal {
         return code;
     }
-    let width = slice_len(request) as usize;
-    if memory.len() != 4 * width {
+    if memory.len() != 4 * slice_len(request) as usize {
         return INCORRECT_PARAMETER;
     }
-    let argon2 = hashing(request, secret);
-    argon2.begin_slices(
-        associated,
-        pwd,
-        salt,
-        out.len() as u32,
-        &mut memory[..width],
-    );
-    for pass in 0..request.t_cost {
-        for slice in 0..4 {
-            fill_slice(&argon2, associated, request, memory, pass, slice);
-        }
-    }
-    argon2.finish_slices(&memory[3 * width..], out);
+    hashing(request, secret)
+        .hash_password_into_with_words(associated, pwd, salt, out, memory)
+        .unwrap();
     OK
-}
-
-// Fills the segments of a slice.
-fn fill_slice(
-    argon2: &Argon2<'_>,
-    associated: &[u8],
-    request: &Request,
-    memory: &mut [Words],
-    pass: u32,
-    slice: u32,
-)
-    requires data { length associated.now < 2 ^ 32 }
-    requires lanes { (1 ≤ request.now.lanes) × (request.now.lanes ≤ max_lanes) }
-    requires context { context_under argon2.now associated.now
-        ≡ asked request.now (context_of argon2.now).secret associated.now }
-    requires slice { slice < 4 }
-    requires size { length memory.old ≡ 4 * slice_length (asked request.now [] []) }
-    ensures { let ctx = asked request.now (context_of argon2.now).secret associated.now in
-        FillsSlice ctx pass slice memory.old memory.new }
-{
-    let width = slice_len(request) as usize;
-    let (before, rest) = memory.split_at_mut(slice as usize * width);
-    let (here, after) = rest.split_at_mut(width);
-    fill_lanes(
-        argon2, associated, request, before, here, after, pass, slice,
-    );
-}
-
-// Fills the segments of a slice, one lane after the other.
-fn fill_lanes(
-    argon2: &Argon2<'_>,
-    associated: &[u8],
-    request: &Request,
-    before: &[Words],
-    here: &mut [Words],
-    after: &[Words],
-    pass: u32,
-    slice: u32,
-)
-    requires data { length associated.now < 2 ^ 32 }
-    requires lanes { (1 ≤ request.now.lanes) × (request.now.lanes ≤ max_lanes) }
-    requires context { context_under argon2.now associated.now
-        ≡ asked request.now (context_of argon2.now).secret associated.now }
-    requires slice { slice < 4 }
-    requires before { length before.now ≡ slice * slice_length (asked request.now [] []) }
-    requires here { length here.old ≡ slice_length (asked request.now [] []) }
-    requires after { length after.now ≡ (3 - slice) * slice_length (asked request.now [] []) }
-    ensures size { length here.new ≡ length here.old }
-    ensures fills { let ctx = asked request.now (context_of argon2.now).secret associated.now in
-        (lane : ℕ) → lane < request.now.lanes → FillsSegment ctx pass slice lane before.now
-        (segment_of ctx lane here.old) (segment_of ctx lane here.new) after.now }
-{
-    let segment = segment_len(request) as usize;
-    for lane in 0..request.lanes {
-        let start = lane as usize * segment;
-        let own = &mut here[start..start + segment];
-        argon2.fill_segment(associated, before, own, after, pass, slice, lane);
-    }
 }
 
 /// Hashing as asked for, without associated data, where nothing is refused.

@@ -1,8 +1,9 @@
 -- What a step reads of a memory, by places.
-use Rattle.std.proofs.Common.{◌≡◌, ℕ, zero, suc, ◌+◌, ◌-◌, ◌*◌, ◌<◌, ◌&&◌, [], refl, sym, ap, ◌∙◌, arith}
+use Rattle.std.proofs.Common.{◌≡◌, ℕ, zero, suc, ◌+◌, ◌-◌, ◌*◌, ◌<◌, ◌&&◌, List, [], length, map, refl, sym, ap, ◌∙◌, arith}
 use Rattle.std.specs.Prelude.{slice_index_or, nat_lt, ◌==◌, if◌then◌else◌}
 use Rattle.std.proofs.lemmas.Nat.{mul-add-lt}
 use Rattle.std.proofs.lemmas.Bool.{cond-false, ne_eqb}
+use Rattle.std.proofs.lemmas.List.{get_or-map}
 use Rattle.argon2_base.proofs.mixing.MixingLaws.{xor_blocks-comm}
 use Rattle.argon2_base.specs.Block.{mixed, xor_blocks}
 use Rattle.argon2.specs.Rfc9106.{Context, Memory, block_count, lane_length, made_block, place_of, previous, reference, reference_of, reference_word}
@@ -12,6 +13,11 @@ use Rattle.argon2.specs.Steps.{in_memory, previous_place, reference_place}
 pub place_below : (ctx : Context) (lane column : ℕ) → lane < ctx.p_cost → column < lane_length ctx
     → lane * lane_length ctx + column < block_count ctx
 place_below ctx lane column a b = let h = mul-add-lt lane (lane_length ctx) column ctx.p_cost a b in omega arith
+
+-- the words of a block that is read stand at its place
+pub words_read : {B : Type 0} (words : B → List ℕ) (memory : List B) (place : ℕ) (block : B) → place < length memory
+    → block ≡ slice_index_or memory place block → words block ≡ slice_index_or (map words memory) place []
+words_read words memory place block below is = ap words is ∙ sym (get_or-map words memory place block [] below)
 
 -- the previous block is at the previous place
 pub previous_in_memory : (ctx : Context) (memory : Memory) (pass lane column : ℕ)

@@ -15,10 +15,10 @@ use super::Argon2;
 use super::ends::block_after;
 use super::fill::Step;
 use super::instance::Instance;
+use super::memory_block::MemoryBlock;
 use crate::{Block, Work};
 use argon2_base::blake2b_long::blake2b_long;
 use argon2_base::block::{Words, mix_words, xor_words};
-use std::convert::AsSlice;
 
 impl Argon2<'_> {
     ghost use Rattle.std.specs.Prelude.{◌≡◌, ◌<◌, ◌≤◌, ◌^◌, length};
@@ -97,9 +97,9 @@ impl<'a> Instance<'a> {
         let hash = self.initial_hash(pwd, salt, out_len);
         for lane in 0..self.lanes() {
             let place = self.place_in_slices(0, lane, 0) as usize;
-            first[place].copy_from_slice(block_after(&hash, lane, 0).as_slice());
+            first[place] = Words::of(block_after(&hash, lane, 0));
             let place = self.place_in_slices(0, lane, 1) as usize;
-            first[place].copy_from_slice(block_after(&hash, lane, 1).as_slice());
+            first[place] = Words::of(block_after(&hash, lane, 1));
         }
     }
 
@@ -113,9 +113,7 @@ impl<'a> Instance<'a> {
         for lane in 0..self.lanes() {
             xor_words(&mut all, &last[self.place_in_slices(0, lane, end) as usize]);
         }
-        let mut block = Block::new();
-        block.as_mut_slice().copy_from_slice(&all);
-        block
+        all.block()
     }
 
     /// Makes the steps of a lane in a slice. `own` is its segment, `before` has the slices before it,
@@ -170,7 +168,7 @@ impl<'a> Instance<'a> {
         let word = self.word(x[0], addresses, at);
         let (lane, column) = self.reference(at, word);
         let y = self.block(before, own, after, at, lane, column);
-        let mixed = mix_words(x, y);
+        let mixed = mix_words(x, y, &mut Work::new());
         self.write_mixed(&mut own[index as usize], &mixed, at.pass);
     }
 

@@ -1,16 +1,17 @@
 //! The two ends of a hash: the first two columns, which are made of its inputs, and the tag, which
 //! is made of the last column (RFC 9106, section 3.2, steps 1 to 4, 7 and 8).
 
-ghost use Rattle.std.specs.Prelude.{◌≡◌, ◌+◌, ◌<◌, ◌≤◌, ◌^◌, length};
+ghost use Rattle.std.specs.Prelude.{◌≡◌, ◌+◌, ◌<◌, ◌≤◌, ◌^◌, length, map};
 ghost use Rattle.argon2_base.specs.Block.{bytes_of};
 ghost use Rattle.argon2_base.specs.Hasher.{Appends};
 ghost use Rattle.argon2_base.specs.LongHash.{long_hash};
 ghost use Rattle.argon2.specs.Rfc9106.{AreShort, block_after, block_count, first_block, initial_hash, number, with_length};
-ghost use Rattle.argon2.specs.Hashing.{KeepsOtherColumns};
+ghost use Rattle.argon2.specs.Hashing.{blocks_of, KeepsOtherColumns};
 ghost use Rattle.argon2.specs.Laws.{Begins};
 ghost use Rattle.argon2.specs.Steps.{last_column};
 
 use super::instance::Instance;
+use super::memory_block::MemoryBlock;
 use argon2_base::blake2b::Blake2b;
 use argon2_base::blake2b_long::blake2b_long;
 use argon2_base::block::Block;
@@ -72,42 +73,50 @@ impl Instance<'_> {
     }
 
     /// Writes columns 0 and 1 of each lane for an output of `out_len` bytes, and no other block.
-    pub(super) fn begin(&self, pwd: &[u8], salt: &[u8], out_len: u32, blocks: &mut [Block])
+    pub(super) fn begin<B: MemoryBlock>(
+        &self,
+        pwd: &[u8],
+        salt: &[u8],
+        out_len: u32,
+        blocks: &mut [B],
+    )
         requires inputs { AreShort pwd.now salt.now }
         requires size { length blocks.old ≡ block_count self.now }
         ensures begins { Begins self.now (first_block self.now pwd.now salt.now out_len)
-            blocks.new }
-        ensures others { KeepsOtherColumns self.now blocks.old blocks.new }
+            (map B.words blocks.new) }
+        ensures others { KeepsOtherColumns self.now (map B.words blocks.old)
+            (map B.words blocks.new) }
     {
         let hash = self.initial_hash(pwd, salt, out_len);
         for lane in 0..self.lanes() {
-            blocks[self.place(lane, 0) as usize] = block_after(&hash, lane, 0);
-            blocks[self.place(lane, 1) as usize] = block_after(&hash, lane, 1);
+            blocks[self.place(lane, 0) as usize] = B::of(block_after(&hash, lane, 0));
+            blocks[self.place(lane, 1) as usize] = B::of(block_after(&hash, lane, 1));
         }
     }
 
     /// Writes the hash of the last column's exclusive or, of as many bytes as `out` has.
-    pub(super) fn write_tag(&self, memory: &[Block], out: &mut [u8])
+    pub(super) fn write_tag<B: MemoryBlock>(&self, memory: &[B], out: &mut [u8])
         requires room { block_count self.now ≤ length memory.now }
         requires some { 1 ≤ length out.old }
         requires few { length out.old < 2 ^ 32 }
         ensures { out.new
-            ≡ long_hash (length out.old) (bytes_of (last_column self.now memory.now)) }
+            ≡ long_hash (length out.old)
+            (bytes_of (last_column self.now (blocks_of self.now (map B.words memory.now)))) }
     {
-        let last = self.last_column(memory);
+        let last = self.last_column(&memory[..self.block_count()]);
         blake2b_long(&[&last.to_bytes()], out).unwrap();
     }
 
     /// The exclusive or of the last column's blocks, whatever the memory holds.
-    fn last_column(&self, memory: &[Block]) -> Block
+    fn last_column<B: MemoryBlock>(&self, memory: &[B]) -> Block
         requires { block_count self.now ≤ length memory.now }
-        ensures { result ≡ last_column self.now memory.now }
+        ensures { result ≡ last_column self.now (map B.words memory.now) }
     {
         let last = self.lane_length() - 1;
-        let mut all = Block::new();
+        let mut all = B::of(Block::new());
         for lane in 0..self.lanes() {
-            all ^= &memory[self.place(lane, last) as usize];
+            all.xor(&memory[self.place(lane, last) as usize]);
         }
-        all
+        all.block()
     }
 }

@@ -1,15 +1,16 @@
 //! From the inputs of a hash to its matrix, step by step (RFC 9106, section 3.2, steps 1 to 6).
 
-ghost use Rattle.std.specs.Prelude.{◌≡◌, ◌+◌, ◌-◌, ◌*◌, ◌/◌, ◌%◌, ◌^◌, ◌<◌, ◌≤◌, ◌==◌, [], if◌then◌else◌, length, slice_index, slice_index_or, slice_set};
+ghost use Rattle.std.specs.Prelude.{◌≡◌, ◌+◌, ◌-◌, ◌*◌, ◌/◌, ◌%◌, ◌^◌, ◌<◌, ◌≤◌, ◌==◌, [], if◌then◌else◌, length, map, slice_index, slice_index_or, slice_set};
 ghost use Rattle.argon2_base.specs.Block.{mixed};
-ghost use Rattle.argon2.specs.Rfc9106.{AreShort, FirstColumns, addresses_of, block_count, first_block, lane_length, previous, segment_length};
+ghost use Rattle.argon2.specs.Rfc9106.{AreShort, FirstColumns, addresses_of, block_count, lane_length, previous, segment_length, tag_of};
+ghost use Rattle.argon2.specs.Hashing.{FillsFront, IsOutputLength};
 ghost use Rattle.argon2.specs.Watching.{Fills, IsFilledFrom, begun, in_order, mixing_calls, position_index, segment_calls, slices_calls};
 ghost use Rattle.argon2.specs.Laws.{Begins};
 ghost use Rattle.argon2.specs.Steps.{in_memory, previous_place, reference_place, step, turn_count, IsStep, IsStepIn};
 
 use super::instance::{Instance, SLICES};
+use super::memory_block::MemoryBlock;
 use crate::{Block, Work};
-use std::convert::AsSlice;
 
 /// Which block a step writes.
 #[derive(Clone, Copy)]
@@ -20,36 +21,60 @@ pub(super) struct Step {
 }
 
 impl<'a> Instance<'a> {
-    /// Makes the matrix for an output of `out_len` bytes, and counts each mixing. `positions` has a
-    /// place for each block of each pass, where the place of the block's reference is written; or
-    /// it is empty.
-    pub(super) fn fill_blocks(
+    /// Fills the memory for an output of the length of `out`, and writes the tag into it.
+    pub(super) fn hash<B: MemoryBlock>(
         &self,
         pwd: &[u8],
         salt: &[u8],
-        out_len: u32,
-        blocks: &mut [Block],
+        out: &mut [u8],
+        memory: &mut [B],
         positions: &mut [u32],
         work: &mut Work,
     )
         requires inputs { AreShort pwd.now salt.now }
-        requires size { length blocks.old ≡ block_count self.now }
+        requires output { IsOutputLength (length out.old) }
+        requires room { block_count self.now ≤ length memory.old }
         requires count { work.old < 2 ^ 126 }
-        ensures filled { IsFilledFrom self.now (first_block self.now pwd.now salt.now out_len)
-            blocks.new positions.old positions.new }
+        ensures tag { out.new ≡ tag_of self.now pwd.now salt.now (length out.old) }
+        ensures filled { FillsFront self.now pwd.now salt.now (length out.old)
+            (map B.words memory.old) (map B.words memory.new) positions.old positions.new }
         ensures work { work.new ≡ work.old + mixing_calls self.now }
     {
+        self.fill_blocks(pwd, salt, out.len() as u32, memory, positions, work);
+        self.write_tag(memory, out);
+    }
+
+    /// Makes the matrix for an output of `out_len` bytes in the first blocks of the memory, and
+    /// counts each mixing. `positions` has a place for each block of each pass, where the place of
+    /// the block's reference is written; or it is empty.
+    pub(super) fn fill_blocks<B: MemoryBlock>(
+        &self,
+        pwd: &[u8],
+        salt: &[u8],
+        out_len: u32,
+        memory: &mut [B],
+        positions: &mut [u32],
+        work: &mut Work,
+    )
+        requires inputs { AreShort pwd.now salt.now }
+        requires room { block_count self.now ≤ length memory.old }
+        requires count { work.old < 2 ^ 126 }
+        ensures filled { FillsFront self.now pwd.now salt.now out_len
+            (map B.words memory.old) (map B.words memory.new) positions.old positions.new }
+        ensures work { work.new ≡ work.old + mixing_calls self.now }
+    {
+        let blocks = &mut memory[..self.block_count()];
         self.begin(pwd, salt, out_len, blocks);
         self.fill(blocks, positions, work);
     }
 
     /// All passes. `positions` has a place for each block of each pass, where the place of the
     /// block's reference is written; or it is empty.
-    fn fill(&self, memory: &mut [Block], positions: &mut [u32], work: &mut Work)
+    fn fill<B: MemoryBlock>(&self, memory: &mut [B], positions: &mut [u32], work: &mut Work)
         requires room { length memory.old ≡ block_count self.now }
         requires count { work.old < 2 ^ 126 }
-        ensures filled { (first : FirstColumns) → Begins self.now first memory.old
-            → IsFilledFrom self.now first memory.new positions.old positions.new }
+        ensures filled { (first : FirstColumns) → Begins self.now first (map B.words memory.old)
+            → IsFilledFrom self.now first (map B.words memory.new) positions.old positions.new }
         ensures work { work.new ≡ work.old + mixing_calls self.now }
     {
         for pass in 0..self.passes() {
@@ -58,13 +83,19 @@ impl<'a> Instance<'a> {
     }
 
     /// The four slices of a pass.
-    fn fill_pass(&self, memory: &mut [Block], positions: &mut [u32], pass: u32, work: &mut Work)
+    fn fill_pass<B: MemoryBlock>(
+        &self,
+        memory: &mut [B],
+        positions: &mut [u32],
+        pass: u32,
+        work: &mut Work,
+    )
         requires in_passes { pass < self.now.t_cost }
         requires room { block_count self.now ≤ length memory.old }
         requires count { work.old + slices_calls self.now pass 4 < 2 ^ 127 }
         ensures filled { Fills self.now pass
             (λ _. begun self.now pass 0) (λ _. begun self.now pass 4)
-            memory.old memory.new positions.old positions.new }
+            (map B.words memory.old) (map B.words memory.new) positions.old positions.new }
         ensures work { work.new ≡ work.old + slices_calls self.now pass 4 }
     {
         for slice in 0..SLICES {
@@ -73,9 +104,9 @@ impl<'a> Instance<'a> {
     }
 
     /// The segments of a slice, one lane after the other.
-    fn fill_slice(
+    fn fill_slice<B: MemoryBlock>(
         &self,
-        memory: &mut [Block],
+        memory: &mut [B],
         positions: &mut [u32],
         pass: u32,
         slice: u32,
@@ -87,7 +118,7 @@ impl<'a> Instance<'a> {
         requires count { work.old + self.now.p_cost * segment_calls self.now pass slice < 2 ^ 127 }
         ensures filled { Fills self.now pass
             (λ _. begun self.now pass slice) (λ _. begun self.now pass (slice + 1))
-            memory.old memory.new positions.old positions.new }
+            (map B.words memory.old) (map B.words memory.new) positions.old positions.new }
         ensures work { work.new ≡ work.old + self.now.p_cost * segment_calls self.now pass slice }
     {
         for lane in 0..self.lanes() {
@@ -97,9 +128,9 @@ impl<'a> Instance<'a> {
 
     /// The steps of a lane in a slice. `positions` has a place for each block of each pass, where
     /// the place of the block's reference is written; or it is empty.
-    fn fill_segment(
+    fn fill_segment<B: MemoryBlock>(
         &self,
-        memory: &mut [Block],
+        memory: &mut [B],
         positions: &mut [u32],
         pass: u32,
         slice: u32,
@@ -114,7 +145,7 @@ impl<'a> Instance<'a> {
         ensures filled { Fills self.now pass
             (in_order self.now pass slice lane (begun self.now pass slice))
             (in_order self.now pass slice lane ((slice + 1) * segment_length self.now))
-            memory.old memory.new positions.old positions.new }
+            (map B.words memory.old) (map B.words memory.new) positions.old positions.new }
         ensures work { work.new ≡ work.old + segment_calls self.now pass slice }
     {
         let segment = self.segment_length();
@@ -168,18 +199,20 @@ impl<'a> Instance<'a> {
 
     /// Writes the block of a step, and answers the place of its reference.
     #[tactic(auto, using(crate::proofs::context_lemmas::InMemory::place_by_word))]
-    pub(super) fn step(
+    pub(super) fn step<B: MemoryBlock>(
         &self,
-        memory: &mut [Block],
+        memory: &mut [B],
         addresses: &Option<Block>,
         at: Step,
         work: &mut Work,
     ) -> u32
-        requires place { IsStepIn self.now memory.old at.pass at.lane at.column }
+        requires place { IsStepIn self.now (length memory.old) at.pass at.lane at.column }
         requires addresses { addresses.now ≡ addresses_of self.now at.pass at.lane at.column }
         requires count { work.old < 2 ^ 128 - 1 }
-        ensures step { memory.new ≡ step self.now memory.old at.pass at.lane at.column }
-        ensures place { result ≡ reference_place self.now memory.old at.pass at.lane at.column }
+        ensures step { map B.words memory.new
+            ≡ step self.now (map B.words memory.old) at.pass at.lane at.column }
+        ensures place { result
+            ≡ reference_place self.now (map B.words memory.old) at.pass at.lane at.column }
         ensures work { work.new ≡ work.old + 1 }
     {
         let word = self.word(self.previous_word(memory, at), addresses, at);
@@ -188,7 +221,7 @@ impl<'a> Instance<'a> {
         // Each arm mixes for itself: a result that is used once is not copied.
         if self.xors(at.pass) {
             let block = &self.mixed_block(memory, at, reference, work);
-            memory[place] ^= block;
+            memory[place].xor(block);
         } else {
             memory[place] = self.mixed_block(memory, at, reference, work);
         }
@@ -196,17 +229,23 @@ impl<'a> Instance<'a> {
     }
 
     /// The previous block mixed with that of a place.
-    fn mixed_block(&self, memory: &[Block], at: Step, reference: u32, work: &mut Work) -> Block
-        requires place { IsStepIn self.now memory.now at.pass at.lane at.column }
+    fn mixed_block<B: MemoryBlock>(
+        &self,
+        memory: &[B],
+        at: Step,
+        reference: u32,
+        work: &mut Work,
+    ) -> B
+        requires place { IsStepIn self.now (length memory.now) at.pass at.lane at.column }
         requires within { reference < block_count self.now }
         requires count { work.old < 2 ^ 128 - 1 }
-        ensures block { result ≡ mixed
-            (slice_index_or memory.now (previous_place self.now at.lane at.column) [])
-            (slice_index_or memory.now reference []) }
+        ensures block { let blocks = map B.words memory.now in B.words result ≡ mixed
+            (slice_index_or blocks (previous_place self.now at.lane at.column) [])
+            (slice_index_or blocks reference []) }
         ensures work { work.new ≡ work.old + 1 }
     {
         let previous = self.previous_place(at);
-        Block::mix(
+        B::mixed(
             &memory[previous as usize],
             &memory[reference as usize],
             work,
@@ -214,13 +253,13 @@ impl<'a> Instance<'a> {
     }
 
     /// The previous block's first word.
-    fn previous_word(&self, memory: &[Block], at: Step) -> u64
-        requires { IsStepIn self.now memory.now at.pass at.lane at.column }
-        ensures { let blocks = in_memory self.now memory.now in
+    fn previous_word<B: MemoryBlock>(&self, memory: &[B], at: Step) -> u64
+        requires { IsStepIn self.now (length memory.now) at.pass at.lane at.column }
+        ensures { let blocks = in_memory self.now (map B.words memory.now) in
             result ≡ slice_index (previous self.now blocks at.pass at.lane at.column) 0 }
     {
         let previous = self.previous_place(at);
-        memory[previous as usize].as_slice()[0]
+        memory[previous as usize].first_word()
     }
 
     /// The place of the previous block.

@@ -8,6 +8,7 @@ ghost use Rattle.argon2.specs.Watching.{address_mixings};
 
 use super::fill::Step;
 use super::instance::{Instance, SLICES};
+use super::memory_block::MemoryBlock;
 use crate::{Algorithm, Block, Work};
 use std::convert::AsSlice;
 
@@ -21,9 +22,7 @@ fn block_of_words(words: &[u64]) -> Block
 {
     let mut all = [0; 128];
     all[..words.len()].copy_from_slice(words);
-    let mut block = Block::new();
-    block.as_mut_slice().copy_from_slice(&all);
-    block
+    all.block()
 }
 
 /// Which of `count` blocks a word takes.

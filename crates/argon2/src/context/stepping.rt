@@ -35,7 +35,7 @@ impl Argon2<'_> {
             memory.new) }
         ensures same { OnErr result (memory.new ≡ memory.old) }
     {
-        self.check(out_len, pwd, salt, memory)?;
+        self.check(out_len, pwd, salt, memory.len())?;
         let instance = self.instance();
         let blocks = &mut memory[..instance.block_count()];
         instance.begin(pwd, salt, out_len as u32, blocks);
@@ -79,7 +79,6 @@ impl Argon2<'_> {
         ensures { let ctx = context_of self.now in out.new
             ≡ long_hash (length out.old) (bytes_of (last_column ctx (blocks_of ctx memory.now))) }
     {
-        let instance = self.instance();
-        instance.write_tag(&memory[..instance.block_count()], out);
+        self.instance().write_tag(memory, out);
     }
 }

@@ -1,4 +1,5 @@
-use Rattle.std.proofs.Common.{ap, arith, ◌∙◌}
+use Rattle.std.proofs.Common.{ap, arith, take, ◌∙◌}
+use Rattle.std.proofs.lemmas.List.{map-id}
 use Rattle.argon2.specs.Rfc9106.{block_count}
 use Rattle.argon2.proofs.LentMemory.{is_begun}
 use Rattle.argon2.proofs.RefusalLemmas.{passed_on}
@@ -10,7 +11,8 @@ returns-clause-begun c =
     let count = c.block_count.ensures.value ∙ ap block_count same in
     is_begun c.args.self.now c.block_count.result count c.args.memory.now c.begin.new.blocks
     c.instance-instance.ensures.valid c.args.pwd.now c.args.salt.now c.args.out_len
-    (rw same at c.begin.ensures.begins) (rw same at c.begin.ensures.others)
+    (rw (map-id c.begin.new.blocks, same) at c.begin.ensures.begins)
+    (rw (map-id c.begin.new.blocks, map-id (take c.block_count.result c.args.memory.now), same) at c.begin.ensures.others)
 
 pub returns-in_err-check-clause-answer : goal.returns-in_err-check-clause-answer
 returns-in_err-check-clause-answer c =

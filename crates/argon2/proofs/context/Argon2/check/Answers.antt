@@ -9,7 +9,7 @@ pub returns-clause-answer : goal.returns-clause-answer
 returns-clause-answer c =
     let output = output_faults (own_parameters c.args.self.now).output_len c.args.out_len in
     let inputs = input_faults (length c.args.pwd.now) (length c.args.salt.now) in
-    let memory = memory_faults (block_count (context_of c.args.self.now)) (length c.args.memory.now) in
+    let memory = memory_faults (block_count (context_of c.args.self.now)) c.args.blocks in
     let rest = first_of_rest output (inputs ++ memory) (not_refused _ _ _ c.in_ok-check_output.ensures.answer) in
     c.check_filling.ensures.answer ∙ sym (ap (λ refusal. answer_unless refusal tt) rest)
 
@@ -17,7 +17,7 @@ pub returns-in_err-check_output-clause-answer : goal.returns-in_err-check_output
 returns-in_err-check_output-clause-answer c =
     let output = output_faults (own_parameters c.args.self.now).output_len c.args.out_len in
     let inputs = input_faults (length c.args.pwd.now) (length c.args.salt.now) in
-    let memory = memory_faults (block_count (context_of c.args.self.now)) (length c.args.memory.now) in
+    let memory = memory_faults (block_count (context_of c.args.self.now)) c.args.blocks in
     passed_on c.from_residual.result _ c.from_residual.ensures
     ∙ first_refused output (inputs ++ memory) tt tt _ c.in_err-check_output.ensures.answer
 

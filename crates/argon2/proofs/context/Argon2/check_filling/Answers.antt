@@ -8,14 +8,14 @@ use Rattle.argon2.proofs.context.Argon2.check_filling.Goals as goal
 pub returns-clause-answer : goal.returns-clause-answer
 returns-clause-answer c =
     let inputs = input_faults (length c.args.pwd.now) (length c.args.salt.now) in
-    let memory = memory_faults (block_count (context_of c.args.self.now)) (length c.args.memory.now) in
+    let memory = memory_faults (block_count (context_of c.args.self.now)) c.args.blocks in
     let rest = first_of_rest inputs memory (not_refused _ _ _ c.in_ok-check_inputs.ensures.answer) in
     c.check_memory.ensures.answer ∙ sym (ap (λ refusal. answer_unless refusal tt) rest)
 
 pub returns-in_err-check_inputs-clause-answer : goal.returns-in_err-check_inputs-clause-answer
 returns-in_err-check_inputs-clause-answer c =
     let inputs = input_faults (length c.args.pwd.now) (length c.args.salt.now) in
-    let memory = memory_faults (block_count (context_of c.args.self.now)) (length c.args.memory.now) in
+    let memory = memory_faults (block_count (context_of c.args.self.now)) c.args.blocks in
     passed_on c.from_residual.result _ c.from_residual.ensures
     ∙ first_refused inputs memory tt tt _ c.in_err-check_inputs.ensures.answer
 

@@ -1,10 +1,9 @@
-use Rattle.std.proofs.Common.{◌≡◌, ◌+◌, arith, length, ap, refl, subst, ◌∙◌}
+use Rattle.std.proofs.Common.{◌≡◌, ◌+◌, arith, refl, sym, ap, ◌∙◌}
 use Rattle.argon2.specs.Argon2.{context_of}
-use Rattle.argon2.specs.Rfc9106.{Sizes, block_count, matrix_of}
+use Rattle.argon2.specs.Rfc9106.{matrix_of, tag_of}
 use Rattle.argon2.specs.Watching.{mixing_calls}
-use Rattle.argon2.proofs.LentMemory.{is_hashed}
+use Rattle.argon2.proofs.LentMemory.{fills_words}
 use Rattle.argon2.proofs.RefusalLemmas.{ok_with_any_value, passed_on, err_with_any_value}
-use Rattle.argon2.proofs.context_lemmas.LastColumn.{tag_of_matrix}
 use Rattle.argon2.proofs.context.Argon2.hash.Goals as goal
 
 pub returns-in_err-check : goal.returns-in_err-check
@@ -16,30 +15,23 @@ returns-in_err-check c =
       same = (refl, refl, refl);
     })
 
-pub overflow_cast-out : goal.overflow_cast-out
-overflow_cast-out c = omega (arith, c.in_ok-check.ensures.output)
-
-pub write_tag-requires-clause-some : goal.write_tag-requires-clause-some
-write_tag-requires-clause-some c = omega (arith, c.in_ok-check.ensures.output)
-
 pub returns : goal.returns
-unfolding matrix_of
 returns c =
     let ctx = context_of c.args.self.now in
-    let same = c.instance-instance.ensures.value in
+    let same = c.instance.ensures.value in
     let all : 0 + mixing_calls ctx ≡ mixing_calls ctx = omega arith in
-    let count = c.block_count.ensures.value ∙ ap block_count same in
-    let made = rw same at c.fill_blocks.ensures.filled.matrix in
-    let tag = rw same at c.write_tag.ensures
-    ∙ tag_of_matrix ctx (subst Sizes same c.block_count.ensures.sizes) c.args.pwd.now c.args.salt.now _ _ made in
+    let filled = fills_words ctx _ _ _ _ _ _ _ (rw same at c.hash.ensures.filled) in
+    let size = sym c.hash.auto.out in
     record {
       answer =
           ok_with_any_value _ _ _ _ _ c.in_ok-check.ensures.answer
-          ((rw (c.new-work.ensures, same) at c.fill_blocks.ensures.work) ∙ all);
-      hashed =
-          is_hashed c.args.self.now c.block_count.result count c.args.memory.now c.fill_blocks.new.blocks
-          c.instance-instance.ensures.valid c.args.pwd.now c.args.salt.now c.write_tag.new.out (length c.args.out.now)
-          c.write_tag.auto.out tag made;
-      positions = rw same at c.fill_blocks.ensures.filled.positions;
+          ((rw (c.new-work.ensures, same) at c.hash.ensures.work) ∙ all);
+      hashed = record {
+        valid = c.instance.ensures.valid;
+        tag = (rw same at c.hash.ensures.tag) ∙ ap (tag_of ctx c.args.pwd.now c.args.salt.now) size;
+        matrix = filled.matrix ∙ ap (matrix_of ctx c.args.pwd.now c.args.salt.now) size;
+        rest = filled.rest;
+      };
+      positions = filled.positions;
       same = tt;
     }

@@ -19,9 +19,8 @@ loop-lane-preserved c =
     let slice = c.requires.slice in
     let size = before.size in
     let room : n * s + 1 < length c.loop-lane.first = omega arith in
-    let one = c.copy_from_slice.ensures.after ∙ c.as_slice.ensures.items ∙ c.block_after.ensures in
-    let other = c.copy_from_slice-in-loop-lane.ensures.after ∙ c.as_slice-in-loop-lane.ensures.items
-    ∙ c.block_after-in-loop-lane.ensures in
+    let one = c.of.ensures ∙ c.block_after.ensures in
+    let other = c.of-in-loop-lane.ensures ∙ c.block_after-in-loop-lane.ensures in
     rw (place, place', one, other) (record {
       size = length-set _ (n * s + 1) (f n 1) ∙ length-set _ (n * s + 0) (f n 0) ∙ size;
       begun = with_pair-lanes s n two c.loop-lane.first f room before.begun;

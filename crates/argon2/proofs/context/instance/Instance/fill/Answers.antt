@@ -6,14 +6,14 @@ use Rattle.argon2.proofs.context.instance.Instance.fill.Goals as goal
 
 pub loop-pass-init : goal.loop-pass-init
 unfolding passes_calls
-loop-pass-init c = record {
+loop-pass-init g c = record {
   filled = λ first begins. filled_first _ c.passes-pass-end.ensures.sizes first _ _ begins;
   work = omega arith;
 }
 
 pub fill_pass-requires-clause-count : goal.fill_pass-requires-clause-count
 unfolding passes_calls
-fill_pass-requires-clause-count c =
+fill_pass-requires-clause-count g c =
     let ctx = c.args.self.now in
     let sizes = c.passes-pass-end.ensures.sizes in
     let more = passes_calls-le ctx (suc c.loop-pass.pass) ctx.t_cost (omega arith) in
@@ -24,7 +24,7 @@ fill_pass-requires-clause-count c =
 
 pub loop-pass-preserved : goal.loop-pass-preserved
 unfolding passes_calls
-loop-pass-preserved c =
+loop-pass-preserved g c =
     let work = c.fill_pass.ensures.work in
     let before = c.loop-pass.invariant in
     let made = before.work in
@@ -34,11 +34,11 @@ loop-pass-preserved c =
     }
 
 pub returns-clause-filled : goal.returns-clause-filled
-returns-clause-filled c = λ first begins.
+returns-clause-filled g c = λ first begins.
     filled_last _ c.passes-pass-end.ensures.sizes first _ _ _ _ (omega arith) (c.loop-pass.invariant.filled first begins)
 
 pub returns-clause-work : goal.returns-clause-work
-returns-clause-work c =
+returns-clause-work g c =
     let ctx = c.args.self.now in
     let all : c.loop-pass.pass ≡ ctx.t_cost = omega arith in
     let calls = ap (passes_calls ctx) all ∙ passes_calls-all ctx c.passes-pass-end.ensures.sizes in

@@ -1,6 +1,24 @@
-use Rattle.argon2.specs.Rfc9106.{first_block}
+use Rattle.std.proofs.Common.{drop, map, ap, ◌∙◌}
+use Rattle.argon2.specs.Rfc9106.{block_count, first_block, matrix_of}
+use Rattle.argon2.specs.Hashing.{blocks_of}
+use Rattle.argon2.proofs.LentMemory.{has_matrix, words_behind}
 use Rattle.argon2.proofs.context.instance.Instance.fill_blocks.Goals as goal
 
 pub returns-clause-filled : goal.returns-clause-filled
-returns-clause-filled c =
-    c.fill.ensures.filled (first_block c.args.self.now c.args.pwd.now c.args.salt.now c.args.out_len) c.begin.ensures.begins
+unfolding matrix_of
+returns-clause-filled g c =
+    let ctx = c.args.self.now in
+    let words = g.B.MemoryBlock.words in
+    let old = c.args.memory.now in
+    let new = c.fill.new.memory in
+    let count = c.block_count.result in
+    let filled = c.fill.ensures.filled (first_block ctx c.args.pwd.now c.args.salt.now c.args.out_len) c.begin.ensures.begins in
+    let left = has_matrix ctx count c.block_count.ensures.value (map words old) (map words new)
+    c.args.pwd.now c.args.salt.now c.args.out_len filled.matrix in
+    let behind = words_behind words new old count in
+    record {
+      sizes = c.block_count.ensures.sizes;
+      matrix = ap (blocks_of ctx) behind ∙ left.0;
+      positions = filled.positions;
+      rest = ap (drop (block_count ctx)) behind ∙ left.1;
+    }

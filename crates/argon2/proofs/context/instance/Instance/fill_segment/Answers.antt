@@ -7,7 +7,7 @@ use Rattle.argon2.proofs.context_lemmas.SegmentColumns.{a_column, a_step}
 use Rattle.argon2.proofs.context.instance.Instance.fill_segment.Goals as goal
 
 pub loop-index-init : goal.loop-index-init
-loop-index-init c =
+loop-index-init g c =
     let ctx = c.args.self.now in
     let at = c.step_at.ensures in
     let start = c.first_index-start.ensures in
@@ -27,13 +27,13 @@ loop-index-init c =
     }
 
 pub renew-requires-clause-count : goal.renew-requires-clause-count
-renew-requires-clause-count c =
+renew-requires-clause-count g c =
     let few = few_mixings c.args.self.now c.args.pass c.args.slice (c.loop-index.index - 1) in
     let work = c.loop-index.invariant.work in
     omega arith
 
 pub step-reference-requires-clause-count : goal.step-reference-requires-clause-count
-step-reference-requires-clause-count c =
+step-reference-requires-clause-count g c =
     let few = few_mixings c.args.self.now c.args.pass c.args.slice (c.loop-index.index - 1) in
     let few' = few_mixings c.args.self.now c.args.pass c.args.slice c.loop-index.index in
     let work = c.loop-index.invariant.work in
@@ -42,7 +42,7 @@ step-reference-requires-clause-count c =
     omega arith
 
 pub loop-index-preserved : goal.loop-index-preserved
-loop-index-preserved c =
+loop-index-preserved g c =
     let ctx = c.args.self.now in
     let i = c.loop-index.index in
     let n = segment_length ctx in
@@ -72,7 +72,7 @@ loop-index-preserved c =
     }
 
 pub returns-clause-filled : goal.returns-clause-filled
-returns-clause-filled c =
+returns-clause-filled g c =
     let turns = c.first_index-start.ensures.turns in
     let s = c.segment_length-segment.ensures.value in
     let end : c.args.slice * segment_length c.args.self.now + c.loop-index.index
@@ -81,7 +81,7 @@ returns-clause-filled c =
 
 pub returns-clause-work : goal.returns-clause-work
 unfolding segment_calls
-returns-clause-work c =
+returns-clause-work g c =
     let turns = c.first_index-start.ensures.turns in
     let s = c.segment_length-segment.ensures.value in
     let end : c.loop-index.index ≡ segment_length c.args.self.now = omega arith in

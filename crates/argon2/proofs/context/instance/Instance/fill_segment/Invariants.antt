@@ -1,14 +1,16 @@
-use Rattle.std.proofs.Common.{◌≡◌, ◌+◌, ◌-◌, ◌*◌}
+use Rattle.std.proofs.Common.{◌≡◌, ◌+◌, ◌-◌, ◌*◌, map}
 use Rattle.argon2.specs.Rfc9106.{addresses_at, segment_length}
 use Rattle.argon2.specs.Watching.{address_mixings, begun, in_order, Fills}
 use Rattle.argon2.proofs.context.instance.Instance.fill_segment.Given as goal
 
 -- the address block at hand serves the index before
 abbrev pub invariant-loop-index : goal.invariant-loop-index
-invariant-loop-index l = record {
-  filled : Fills l.self l.pass (in_order l.self l.pass l.slice l.lane (begun l.self l.pass l.slice))
-      (in_order l.self l.pass l.slice l.lane (l.slice * segment_length l.self + l.index)) l.fn.memory l.memory
-      l.fn.positions l.positions;
-  addresses : l.addresses ≡ addresses_at l.self l.pass l.lane l.slice (l.index - 1);
-  work : l.work ≡ l.fn.work + address_mixings l.self l.pass l.slice (l.index - 1) + (l.index - l.start);
-}
+invariant-loop-index g l =
+    let blocks = map g.B.MemoryBlock.words in
+    record {
+      filled : Fills l.self l.pass (in_order l.self l.pass l.slice l.lane (begun l.self l.pass l.slice))
+          (in_order l.self l.pass l.slice l.lane (l.slice * segment_length l.self + l.index)) (blocks l.fn.memory) (blocks l.memory)
+          l.fn.positions l.positions;
+      addresses : l.addresses ≡ addresses_at l.self l.pass l.lane l.slice (l.index - 1);
+      work : l.work ≡ l.fn.work + address_mixings l.self l.pass l.slice (l.index - 1) + (l.index - l.start);
+    }

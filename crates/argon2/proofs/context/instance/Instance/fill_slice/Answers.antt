@@ -3,14 +3,14 @@ use Rattle.argon2.proofs.context_lemmas.InOrder.{in_order-first, in_order-last, 
 use Rattle.argon2.proofs.context.instance.Instance.fill_slice.Goals as goal
 
 pub loop-lane-init : goal.loop-lane-init
-loop-lane-init c = record {
+loop-lane-init g c = record {
   filled = λ first old.
       IsFilledUpTo-like _ first _ _ _ _ old _ (λ l _. in_order-first c.args.self.now c.args.pass c.args.slice l);
   work = omega arith;
 }
 
 pub loop-lane-preserved : goal.loop-lane-preserved
-loop-lane-preserved c =
+loop-lane-preserved g c =
     let work = c.fill_segment.ensures.work in
     let before = c.loop-lane.invariant in
     let made = before.work in
@@ -23,7 +23,7 @@ loop-lane-preserved c =
     }
 
 pub returns-clause-filled : goal.returns-clause-filled
-returns-clause-filled c = λ first old is.
+returns-clause-filled g c = λ first old is.
     IsFilledUpTo-like _ first _ _ _ _ old _
     (λ l below. in_order-last c.args.self.now c.args.pass c.args.slice c.loop-lane.lane l (omega arith))
     (c.loop-lane.invariant.filled first old is)

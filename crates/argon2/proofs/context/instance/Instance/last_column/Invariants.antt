@@ -7,7 +7,7 @@ use Rattle.argon2.proofs.context.instance.Instance.last_column.Given as goal
 
 -- the lanes so far
 abbrev pub invariant-loop-lane : goal.invariant-loop-lane
-invariant-loop-lane l =
-    l.all ≡ fold xor_blocks zero_block
-    (map (λ (lane : ℕ). slice_index_or l.memory (lane * lane_length l.self + (lane_length l.self - 1)) [])
+invariant-loop-lane g l =
+    g.B.MemoryBlock.words l.all ≡ fold xor_blocks zero_block
+    (map (λ (lane : ℕ). slice_index_or (map g.B.MemoryBlock.words l.memory) (lane * lane_length l.self + (lane_length l.self - 1)) [])
     (range_with_len 0 l.lane))

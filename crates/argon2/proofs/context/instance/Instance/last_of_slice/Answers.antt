@@ -31,5 +31,5 @@ unfolding xor_lanes
 returns c =
     let e : c.loop-lane.lane ≡ c.args.self.now.p_cost = omega arith in
     let i = c.loop-lane.invariant in
-    let copied = c.copy_from_slice.ensures.after in
+    let b = c.block.ensures in
     cc

@@ -1,35 +1,39 @@
-use Rattle.std.proofs.Common.{[], ◌&&◌, sym, ◌∙◌, arith}
+use Rattle.std.proofs.Common.{map, ◌&&◌, sym, ◌∙◌, arith}
 use Rattle.std.specs.Prelude.{nat_lt, ◌==◌}
 use Rattle.std.proofs.lemmas.Bool.{cond-true, cond-false}
-use Rattle.std.proofs.lemmas.List.{get_or_read}
+use Rattle.std.proofs.lemmas.List.{map-set}
 use Rattle.argon2.specs.Steps.{step}
-use Rattle.argon2.proofs.context_lemmas.InMemory.{made_by_places}
+use Rattle.argon2.proofs.context_lemmas.InMemory.{made_by_places, words_read}
 use Rattle.argon2.proofs.context.instance.Instance.step.Goals as goal
 
 pub returns-then-xors-clause-step : goal.returns-then-xors-clause-step
 unfolding step
-returns-then-xors-clause-step c =
+returns-then-xors-clause-step g c =
     let ctx = c.args.self.now in
+    let f = g.B.MemoryBlock.words in
     let m = c.args.memory.now in
     let p = c.place-place.ensures.value in
     let r = c.reference_place-reference.ensures.value in
     let b = c.mixed_block.ensures.block in
-    let old = get_or_read m c.place-place.result c.index-memory-place.result (grind arith) c.index-memory-place.is [] in
-    let x = c.bitxor_assign.ensures.after in
+    let old = words_read f m c.place-place.result c.index-memory-place.result (grind arith) c.index-memory-place.is in
+    let x = c.xor.ensures in
+    let set = map-set f m c.place-place.result c.xor.new.self in
     let yes = sym c.xors.ensures ∙ c.if-xors.true in
-    let by = made_by_places ctx m c.args.at.pass c.args.at.lane c.args.at.column _
+    let by = made_by_places ctx (map f m) c.args.at.pass c.args.at.lane c.args.at.column _
     (c.word-word.ensures _ c.previous_word.ensures) ∙ cond-true ((ctx.version == 19) && (nat_lt 0 c.args.at.pass)) _ _ yes in
     cc
 
 pub returns-else-xors-clause-step : goal.returns-else-xors-clause-step
 unfolding step
-returns-else-xors-clause-step c =
+returns-else-xors-clause-step g c =
     let ctx = c.args.self.now in
+    let f = g.B.MemoryBlock.words in
     let m = c.args.memory.now in
     let p = c.place-place.ensures.value in
     let r = c.reference_place-reference.ensures.value in
     let b = c.mixed_block-else-xors.ensures.block in
+    let set = map-set f m c.place-place.result c.mixed_block-else-xors.result in
     let no = sym c.xors.ensures ∙ c.if-xors.false in
-    let by = made_by_places ctx m c.args.at.pass c.args.at.lane c.args.at.column _
+    let by = made_by_places ctx (map f m) c.args.at.pass c.args.at.lane c.args.at.column _
     (c.word-word.ensures _ c.previous_word.ensures) ∙ cond-false ((ctx.version == 19) && (nat_lt 0 c.args.at.pass)) _ _ no in
     cc

@@ -36,7 +36,7 @@ returns-clause-step c = λ memory all parts.
     let by = made_by_places ctx memory pass lane column c.word-word.result word in
     let own = parts.in_own (column % segment_length ctx) (let two = sizes.two_columns in mod-lt column (omega arith)) in
     let own' = ap (λ n. slice_index_or memory (lane * lane_length ctx + n) []) (div-add-mod' column (segment_length ctx)) in
-    let made = c.mix_words-mixed.ensures in
+    let made = c.mix_words-mixed.ensures.words in
     let written = c.write_mixed.ensures in
     let is : c.write_mixed.new.block ≡ made_block ctx (in_memory ctx memory) pass lane column = cc in
     rw s (step_parts ctx sizes pass lane column memory c.args.before.now c.args.own.now c.args.after.now _ c.requires.step
