@@ -1,10 +1,13 @@
 -- Adding several names with their texts, one after the other.
-use Rattle.std.specs.Prelude.{◌≡◌, ℕ, ◌<◌, List, [], ◌∷◌, length, slice_index_or, take, Result, Ok, Err}
+use Rattle.std.specs.Prelude.{◌≡◌, ◌⊎◌, ℕ, ◌<◌, List, [], ◌∷◌, length, slice_index_or, take, Any, Result, Ok, Err, IfErr, IfOk, OnErr, OnOk}
 use Rattle.std.specs.Borrow.{Bor}
 use Rattle.std.specs.FinMap.{get}
+use Rattle.sqlite_trees.specs.declared.error.StoreError.{StoreError}
+use Rattle.sqlite_trees.specs.declared.store.Store.{Ghosts}
 use Rattle.argon2_accounts.specs.Accounts.{Adds}
 use Rattle.argon2.specs.NamedTexts.{KeepsOthers, Store}
 use Rattle.argon2_accounts.specs.declared.error.AccountError.{AccountError}
+use Rattle.argon2_store.specs.Table.{Changes, HasNames, IsHonest, IsLong, StaysQuiet}
 
 -- a name and its text
 abbrev pub entry_of : Bor (List ℕ) × Bor (List ℕ) → List ℕ × List ℕ
@@ -24,3 +27,14 @@ abbrev pub IsFirstRefused : Store → List (List ℕ × List ℕ) → ℕ → Ac
 IsFirstRefused before es k why =
     (mid : Store) × AddsAll before (take k es) mid × (k < length es)
     × AddsName mid (slice_index_or es k ([], [])) (Err why) mid
+
+-- A change that adds all of several names, or a refusal with the index of the first that is refused, which changes nothing.
+pub record WritesAll {S : Type 0} (g : Ghosts S) (old new : S) (es : List (List ℕ × List ℕ))
+    (result : Result (Result (Unit {0}) StoreError) (ℕ × AccountError)) : Type 0 where
+  pub added : (before : Store) → HasNames g old before → IfOk result (λ done. (after : Store)
+      × (IsHonest g new → (after ≡ before) ⊎ AddsAll before es after)
+      × OnOk done (IsHonest g new → AddsAll before es after)
+      × Changes g old new before after (Any (λ e. IsLong e.0) es) done)
+  pub refused : (before : Store) → HasNames g old before → IfErr result (λ e. HasNames g new before
+      × (IsHonest g new → IsFirstRefused before es e.0 e.1))
+  pub quiet : OnErr result (StaysQuiet g old new)

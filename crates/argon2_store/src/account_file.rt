@@ -98,9 +98,11 @@ impl<'key, S: Store> AccountFile<'key, S> {
 
     /// Adds all of these new names with their texts, as [`add`](AccountFile::add) in order, or none. They
     /// are written together: after a crash in the middle of the call the file holds all of them or none.
+    /// They are written in the order of the names. If they are not listed in it, this takes a copy of `new`,
+    /// and without memory for the copy they are written as they are listed, which takes longer.
     ///
     /// # Errors
-    /// Each comes with an index into `new`. The entries are taken in order, and the first error ends the call:
+    /// Each comes with an index into `new`:
     /// - [`FileError::Closed`]: the file has to be opened again. The index is 0.
     /// - [`FileError::Account`]: the entry at the index is the first that `add` refuses, for this reason.
     /// - those of reading and writing, as [`add`](AccountFile::add). The index is then the number of entries.

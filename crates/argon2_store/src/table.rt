@@ -10,7 +10,7 @@ ghost use Rattle.sqlite_trees.specs.View.{HasCause, KeepsSchema, doubt};
 ghost use Rattle.sqlite_trees.specs.declared.store.Shape.TheVariants.{Index};
 ghost use Rattle.argon2_base.specs.PhcFields.{phc_of};
 ghost use Rattle.argon2.specs.NamedTexts.{Store as Named};
-ghost use Rattle.argon2_store.specs.Adding.{AddsAll, AddsName, IsFirstRefused, entry_of};
+ghost use Rattle.argon2_store.specs.Adding.{AddsAll, AddsName, IsFirstRefused, WritesAll, entry_of};
 ghost use Rattle.argon2_store.specs.Errors.{IsOfDatabase};
 ghost use Rattle.argon2_store.specs.Rows.{AreTexts, lines_of, rows_of};
 ghost use Rattle.argon2_store.specs.declared.error.OpenError.TheVariants.{Row as NoAccount};
@@ -35,6 +35,7 @@ pub(crate) struct Table<S: Store> {
     pub(crate) store: S,
     row: Row,
     key: Row,
+    alloc: Global,
     ghost kept: { HasSome S.Store store } by { squash₁ },
 }
 
@@ -216,7 +217,12 @@ impl<S: Store + Drop> Table<S> {
     {
         let (mut row, mut key) = (Row::new(alloc), Row::new(alloc));
         match load(&mut store, &mut row, &mut key) {
-            Ok(()) => Ok(Table { store, row, key }),
+            Ok(()) => Ok(Table {
+                store,
+                row,
+                key,
+                alloc,
+            }),
             Err(error) => Err((error, store)),
         }
     }
@@ -291,24 +297,13 @@ impl<S: Store> Table<S> {
     }
 
     // Gives new names their texts, and commits. If one is refused, nothing is written, and its index comes with the refusal.
-    pub(crate) fn add_all(
+    fn add_listed(
         &mut self,
         new: &[(&str, &str)],
     ) -> Result<Result<(), StoreError>, (usize, AccountError)>
         requires { IsHonest S.Store (file_of self.old) → IsOpen S.Store (file_of self.old) }
-        ensures added { (before : Named) → HasNames S.Store (file_of self.old) before →
-            IfOk result (λ done. (after : Named)
-            × (IsHonest S.Store (file_of self.new) →
-            (after ≡ before) ⊎ AddsAll before (map entry_of new.now) after)
-            × OnOk done (IsHonest S.Store (file_of self.new) →
-            AddsAll before (map entry_of new.now) after)
-            × Changes S.Store (file_of self.old) (file_of self.new) before after
-            (Any (λ e. IsLong e.0) (map entry_of new.now)) done) }
-        ensures refused { (before : Named) → HasNames S.Store (file_of self.old) before →
-            IfErr result (λ e. HasNames S.Store (file_of self.new) before
-            × (IsHonest S.Store (file_of self.new) →
-            IsFirstRefused before (map entry_of new.now) e.0 e.1)) }
-        ensures quiet { OnErr result (StaysQuiet S.Store (file_of self.old) (file_of self.new)) }
+        ensures { WritesAll S.Store (file_of self.old) (file_of self.new) (map entry_of new.now)
+            result }
     {
         match add_each(&mut self.store, &mut self.row, &mut self.key, new) {
             Ok(done) => Ok(finish(&mut self.store, done)),
@@ -317,6 +312,33 @@ impl<S: Store> Table<S> {
                 Err(refused)
             }
         }
+    }
+
+    // The same, written in the order of the names, so that each page is written once. They are written as they are listed
+    // if they are in order, if there is no memory for a list in order, or to find the first that is refused.
+    pub(crate) fn add_all(
+        &mut self,
+        new: &[(&str, &str)],
+    ) -> Result<Result<(), StoreError>, (usize, AccountError)>
+        requires { IsHonest S.Store (file_of self.old) → IsOpen S.Store (file_of self.old) }
+        ensures { WritesAll S.Store (file_of self.old) (file_of self.new) (map entry_of new.now)
+            result }
+    {
+        if new.is_sorted() {
+            return self.add_listed(new);
+        }
+        let Ok(mut sorted) = Vec::from_slice(self.alloc, new) else {
+            return self.add_listed(new);
+        };
+        sorted.sort_unstable();
+        if let Ok(done) = self.add_listed(sorted.as_slice()) {
+            return Ok(done);
+        }
+        // Only a failure of the disk closes the file as the rows are taken back.
+        if self.is_closed() {
+            return Ok(Err(StoreError::Io));
+        }
+        self.add_listed(new)
     }
 
     // Whether the file has to be opened again, since the disk failed.

@@ -1,70 +1,30 @@
-use Rattle.std.proofs.Common.{arith, map}
-use Rattle.std.proofs.Math.Logic.{∥∥₁_map}
-use Rattle.std.specs.Prelude.{Any}
-use Rattle.argon2_store.specs.Adding.{AddsAll, entry_of}
-use Rattle.argon2_store.specs.Table.{IsHonest, IsLong}
-use Rattle.argon2_store.proofs.TableLemmas.{all_or_none, changes_of, committed, has_either, quiet_then, shape_of, some_kept, taken_back}
+use Rattle.std.proofs.Common.{IsPermutation}
+use Rattle.argon2_store.specs.Table.{IsHonest, IsOpen}
+use Rattle.argon2_store.proofs.AddLemmas.{reordered, unwritten, written_later}
+use Rattle.argon2_store.proofs.FileLemmas.{open_of}
 use Rattle.argon2_store.proofs.table.Table.add_all.Goals as goal
 
-pub add_each-requires : goal.add_each-requires
-add_each-requires g c = shape_of g.S.Store c.args.self.now.store c.args.self.now.kept c.requires
+pub returns-in-Ok-add_listed : goal.returns-in-Ok-add_listed
+returns-in-Ok-add_listed g c =
+    let moved : IsPermutation c.args.new.now c.as_slice.result.now =
+    rw (c.as_slice.ensures.value, ← c.in-Ok.ensures.items) c.sort_unstable.ensures.permutation in
+    reordered g.S.Store c.args.self.now.store c.add_listed-2.new.self.store c.args.new.now c.as_slice.result.now
+    c.in-Ok-add_listed.done c.requires moved c.in-Ok-add_listed.ensures
 
-pub returns-in-Ok-clause-added : goal.returns-in-Ok-clause-added
-returns-in-Ok-clause-added g c before has =
-    let old = c.args.self.now.store in
-    let mid = c.add_each.new.store in
-    let new = c.finish.new.store in
-    let long = Any (λ e. IsLong e.0) (map entry_of c.args.new.now) in
-    let (after, good, wrote, all) = c.in-Ok.ensures.writes before has.0
-    (λ clean unbroken. has.1.seen clean (c.requires clean)) in
-    let (to, fine, written, may, then) = all_or_none g.S.Store old mid before after long c.in-Ok.done
-    (AddsAll before (map entry_of c.args.new.now)) has.0 good wrote all in
-    let end = c.finish.ensures in
-    let change = changes_of g.S.Store g.met.S.Store.settled old mid new before to long c.in-Ok.done c.finish.result has fine
-    c.requires written (end.kept before to) (end.left before to) (end.durable to) end.cause end.closes end.clean end.counts in
-    let to_mid : IsHonest g.S.Store new → IsHonest g.S.Store mid = λ clean. omega (arith, clean, end.clean) in (
-      to,
-      λ clean. may (to_mid clean),
-      committed _ c.in-Ok.done c.finish.result then end.cause (λ clean adds. adds (to_mid clean)),
-      change,
-    )
+pub returns-then-is_closed : goal.returns-then-is_closed
+returns-then-is_closed g c =
+    let refused = (rw c.in_default-add_listed.is at c.add_listed-2.ensures) in
+    unwritten g.S.Store c.args.self.now.store c.add_listed-2.new.self.store _ g.met.S.Store.settled refused.quiet
+    (λ names has. (refused.refused names has).0) c.requires (λ clean. (c.is_closed.ensures clean).0 c.if-is_closed.true)
 
-pub invariant_of-self : goal.invariant_of-self
-invariant_of-self g c = record {
-  kept = ∥∥₁_map c.args.self.now.kept (λ it.
-      let before = it.0 in
-      let has = it.1 in
-      let old = c.args.self.now.store in
-      let mid = c.add_each.new.store in
-      let new = c.finish.new.store in
-      let long = Any (λ e. IsLong e.0) (map entry_of c.args.new.now) in
-      let (after, good, wrote, all) = c.in-Ok.ensures.writes before has.0
-      (λ clean unbroken. has.1.seen clean (c.requires clean)) in
-      let (to, fine, written, may, then) = all_or_none g.S.Store old mid before after long c.in-Ok.done
-      (AddsAll before (map entry_of c.args.new.now)) has.0 good wrote all in
-      let end = c.finish.ensures in
-      let change = changes_of g.S.Store g.met.S.Store.settled old mid new before to long c.in-Ok.done c.finish.result has fine
-      c.requires written (end.kept before to) (end.left before to) (end.durable to) end.cause end.closes end.clean end.counts in
-      has_either g.S.Store old new before to long c.finish.result change);
-}
+pub add_listed-requires-3 : goal.add_listed-requires-3
+add_listed-requires-3 g c clean = open_of _ (λ shut. let hit = (c.is_closed.ensures clean).1 shut in
+    let no = c.if-is_closed.false in cc)
 
-pub returns-in-Err-clause-refused : goal.returns-in-Err-clause-refused
-returns-in-Err-clause-refused g c before has =
-    let (after, good, wrote, why) = c.in-Err.ensures.writes before has.0
-    (λ clean unbroken. has.1.seen clean (c.requires clean)) in (
-      taken_back g.S.Store g.met.S.Store.settled c.args.self.now.store c.add_each.new.store c.undo.new.store before _ _ _ has
-          c.requires wrote (c.undo.ensures.kept before) c.undo.ensures.quiet,
-      λ clean. why (omega (arith, clean, c.undo.ensures.quiet.clean)),
-    )
-
-pub returns-in-Err-clause-quiet : goal.returns-in-Err-clause-quiet
-returns-in-Err-clause-quiet g c = quiet_then g.S.Store _ _ _ c.add_each.ensures.quiet c.undo.ensures.quiet
-
-pub invariant_of-self-in-Err : goal.invariant_of-self-in-Err
-invariant_of-self-in-Err g c = record {
-  kept = some_kept g.S.Store c.args.self.now.store c.undo.new.store c.args.self.now.kept (λ before has.
-      let (after, good, wrote, why) = c.in-Err.ensures.writes before has.0
-      (λ clean unbroken. has.1.seen clean (c.requires clean)) in
-      taken_back g.S.Store g.met.S.Store.settled c.args.self.now.store c.add_each.new.store c.undo.new.store before _ _ _ has
-      c.requires wrote (c.undo.ensures.kept before) c.undo.ensures.quiet);
-}
+pub returns : goal.returns
+returns g c =
+    let refused = (rw c.in_default-add_listed.is at c.add_listed-2.ensures) in
+    let is_open : IsHonest g.S.Store c.add_listed-2.new.self.store → IsOpen g.S.Store c.add_listed-2.new.self.store = λ clean.
+    open_of _ (λ shut. let hit = (c.is_closed.ensures clean).1 shut in let no = c.if-is_closed.false in cc) in
+    written_later g.S.Store c.args.self.now.store c.add_listed-2.new.self.store c.add_listed-3.new.self.store _
+    c.add_listed-3.result refused.quiet (λ names has. (refused.refused names has).0) is_open c.add_listed-3.ensures
