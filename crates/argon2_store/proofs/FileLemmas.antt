@@ -23,7 +23,7 @@ use Rattle.argon2_store.specs.Table as rows
 use Rattle.argon2_store.specs.Table.{Changes, IsHonest, IsLong, IsOpen, KeepsNames, Leaves, StaysQuiet, changed}
 use Rattle.argon2_store.specs.declared.account_file.AccountFile.{AccountFile}
 use Rattle.argon2_store.specs.declared.error.FileError.{FileError}
-use Rattle.argon2_store.specs.declared.error.FileError.TheVariants.{Account, OutOfMemory, Io, Damaged, Full, TooLong, Closed}
+use Rattle.argon2_store.specs.declared.error.FileError.TheVariants.{Account, OutOfMemory, TooLong, Closed}
 use Rattle.argon2_store.proofs.NameLemmas.{get-gone-other, get-gone-same}
 use Rattle.argon2_store.proofs.TableLemmas.{err_is, leaves_kept, more_earlier, on_all, quiet_itself}
 use Rattle.argon2_store.proofs.TextLemmas.{rows_of-once}
@@ -35,11 +35,9 @@ open_of false h = absurd (h refl)
 pub unwritten_cause : (v : view.View) (closed fault more long : Type 0) → (IsTrue v.is_broken → ⊥) → (fault → more)
     → (e : StoreError) → view.HasCause v fault long e → HasCause closed more long (unwritten e)
 unwritten_cause v closed fault more long sound f below.OutOfMemory h = tt
-unwritten_cause v closed fault more long sound f below.Io h = f h
-unwritten_cause v closed fault more long sound f below.Corrupt h = f h
-unwritten_cause v closed fault more long sound f below.Full h = f h
 unwritten_cause v closed fault more long sound f below.Broken h = absurd (sound h)
 unwritten_cause v closed fault more long sound f below.Unstorable h = h
+unwritten_cause v closed fault more long sound f e h = f h
 
 -- names where one is changed: it has what it was given, and the others keep what they have
 step_of : (terms : Terms) (before : Store) (event : AccountEvent) (p : Option Phc)
@@ -70,16 +68,17 @@ is_nowhere None gone = refl
 -- ---- errors of the file
 
 is_of_file : (f : StoreError) → IsOfFile (unwritten f)
-is_of_file below.OutOfMemory = tt
-is_of_file below.Io = tt
-is_of_file below.Corrupt = tt
-is_of_file below.Full = tt
 is_of_file below.Broken = tt
-is_of_file below.Unstorable = tt
+is_of_file f = tt
 
 pub of_file : {X : Type 0} (done : Result X StoreError) (r : Result X FileError) → r ≡ read_of done → IfErr r IsOfFile
 of_file (Ok x) r is = rw is tt
 of_file (Err e) r is = rw is (is_of_file e)
+
+pub on_read : {X : Type 0} (P : Type 0) (done : Result X StoreError) (r : Result X FileError) → r ≡ read_of done → OnOk done P
+    → OnOk r P
+on_read P (Ok x) r is p = rw is p
+on_read P (Err e) r is p = rw is tt
 
 -- a file that can't be read draws nothing
 pub undrawn : (e : FileError) (r : Result (Unit {0}) FileError) → IsErrAnd r (λ f. f ≡ e) → IsOfFile e → (s : Stream)
@@ -88,12 +87,8 @@ undrawn e r is of_file s = rw (err_is r e is) (go e of_file)
   where
     go : (e : FileError) → IsOfFile e → DrawsForText (Err e) s s
     go (Account e) of_file = absurd of_file
-    go OutOfMemory of_file = inl refl
-    go Io of_file = inl refl
-    go Damaged of_file = inl refl
-    go Full of_file = inl refl
-    go TooLong of_file = inl refl
     go Closed of_file = refl
+    go e of_file = inl refl
 
 pub kept_err : {Q : Type 0} (P : Type 0) (done : Result (Unit {0}) StoreError) → IsErr done → MatchResult done (λ _. P)
     (λ _. Q) → Q
@@ -103,30 +98,17 @@ kept_err P (Err e) failed is = is
 unread_step : (X : Type 0) (terms : Terms) (before : Store) (call : Call X) (e : FileError) → IsOfFile e
     → Answers terms before call (Err e) before
 unread_step X terms before call (Account e) of_file = absurd of_file
-unread_step X terms before call OutOfMemory of_file = refl
-unread_step X terms before call Io of_file = refl
-unread_step X terms before call Damaged of_file = refl
-unread_step X terms before call Full of_file = refl
-unread_step X terms before call TooLong of_file = refl
-unread_step X terms before call Closed of_file = refl
+unread_step X terms before call e of_file = refl
 
 pub unread_refused : (P : Type 0) (e : FileError) → IsOfFile e → IfRefused P e
 unread_refused P (Account e) of_file = absurd of_file
-unread_refused P OutOfMemory of_file = tt
-unread_refused P Io of_file = tt
-unread_refused P Damaged of_file = tt
-unread_refused P Full of_file = tt
-unread_refused P TooLong of_file = tt
-unread_refused P Closed of_file = tt
+unread_refused P e of_file = tt
 
 unread_cause : (closed fault long : Type 0) (e : FileError) → HasCause closed fault ⊥ e → HasCause closed fault long e
 unread_cause closed fault long (Account e) h = tt
 unread_cause closed fault long OutOfMemory h = tt
-unread_cause closed fault long Io h = h
-unread_cause closed fault long Damaged h = h
-unread_cause closed fault long Full h = h
 unread_cause closed fault long TooLong h = absurd h
-unread_cause closed fault long Closed h = h
+unread_cause closed fault long e h = h
 
 refused_same : {X P : Type 0} (r : Result X FileError) → IfErr r (λ f. (e : AccountError) × (f ≡ Account e)) → P
     → IfErr r (IfRefused P)
@@ -136,12 +118,8 @@ refused_same (Err f) why p = rw why.1 p
 -- an error of writing comes with the number of entries
 at_end : (before : Store) (es : List (List ℕ × List ℕ)) (k : ℕ) → k ≡ length es → (e : StoreError)
     → IsErrorAt before es (k, unwritten e)
-at_end before es k is below.OutOfMemory = is
-at_end before es k is below.Io = is
-at_end before es k is below.Corrupt = is
-at_end before es k is below.Full = is
 at_end before es k is below.Broken = is
-at_end before es k is below.Unstorable = is
+at_end before es k is e = is
 
 pub writes_at : (before : Store) (es : List (List ℕ × List ℕ)) (k : ℕ) → k ≡ length es → (done : Result (Unit {0}) StoreError)
     (error : FileError) → ◌≡◌ {A = Result (Unit {0}) FileError} (Err error) (answered done tt) → IsErrorAt before es (k, error)
@@ -175,7 +153,7 @@ shut_out {S} {g} settled old before has tests shut = record {
   terms = refl;
   quiet = quiet_itself g (store_of old);
   left = leaves_kept g (store_of old) before (settled (store_of old)) has.1;
-  closed = λ clean is. refl;
+  closed = λ clean is. (refl, refl);
   is_open = λ none. absurd cc;
   of_file = tt;
   cause = λ clean. (tests clean).0 shut;
@@ -200,7 +178,7 @@ reads_of {g = g} {X = X} settled old new names has live terms done read r e = rw
       quiet = read.quiet;
       left = λ clean is_open db found. leaves_kept g (store_of old) names (settled (store_of old)) has.1
           (omega (arith, clean, read.quiet.clean)) is_open db (read.quiet.outcomes db found);
-      closed = λ clean is. absurd (live (omega (arith, clean, read.quiet.clean)) is);
+      closed = λ clean is. absurd (live clean is);
       is_open = is_open;
       of_file = of_file;
       cause = cause;
@@ -233,9 +211,11 @@ unread {S} {g} settled old before has live = record {
 -- A call on a file that is not closed, which has read it.
 module _ {S : Type 0} {g : Ghosts S}
     (settled : (s : S) (db : Trees) → IsTrue (g.view s).is_open → g.recovers s db → db ≡ (g.view s).committed)
-    (old mid : AccountFile S g) (before : Store) (live : IsHonest g (store_of old) → IsClosed old → ⊥)
-    (reads : Stays None before old mid) {X : Type 0} (answers : Result X FileError → Store → Type 0) (May : Store → Type 0)
+    (old mid : AccountFile S g) (before : Store) (reads : Stays None before old mid) {X : Type 0} (answers : Result X FileError → Store → Type 0) (May : Store → Type 0)
     (long : Type 0) where
+  live : IsHonest g (store_of old) → IsClosed old → ⊥
+  live clean is = let never = (reads.closed clean is).0 in cc
+
   was_honest : IsHonest g (store_of mid) → IsHonest g (store_of old)
   was_honest clean = omega (arith, clean, reads.quiet.clean)
 
@@ -325,8 +305,7 @@ module _ {S : Type 0} {g : Ghosts S}
 module _ {S : Type 0} {g : Ghosts S}
     (settled : (s : S) (db : Trees) → IsTrue (g.view s).is_open → g.recovers s db → db ≡ (g.view s).committed)
     {X : Type 0} (call : Call X) (name : List ℕ) (calls : (answer : Result X AccountError) → name_of (call answer) ≡ name)
-    (old mid : AccountFile S g) (before : Store) (live : IsHonest g (store_of old) → IsClosed old → ⊥)
-    (reads : Stays None before old mid) where
+    (old mid : AccountFile S g) (before : Store) (reads : Stays None before old mid) where
   abbrev answers : Result X FileError → Store → Type 0
   answers = Answers (terms_of old) before call
 
@@ -360,7 +339,7 @@ module _ {S : Type 0} {g : Ghosts S}
         → AccountAnswer (terms_of mid) (call (Err e)) o o → Ends r mid
     refuses e r is answer = rw (err_is r (Account e) is) (
       before,
-      writes_none settled old mid before live reads answers May
+      writes_none settled old mid before reads answers May
           long (inl refl) (Err (Account e)) (stays (Err e) answer) (e, refl),
     )
 
@@ -368,7 +347,7 @@ module _ {S : Type 0} {g : Ghosts S}
     pub accepts : (x : X) → AccountAnswer (terms_of mid) (call (Ok x)) o o → Ends (Ok x) mid
     accepts x answer = (
       before,
-      writes_none settled old mid before live reads answers May long (inl refl) (Ok x)
+      writes_none settled old mid before reads answers May long (inl refl) (Ok x)
           (stays (Ok x) answer) tt,
     )
 
@@ -395,13 +374,13 @@ module _ {S : Type 0} {g : Ghosts S}
             has = change.kept;
             step = λ clean. stays (Ok x) answer (change.honest clean);
             terms = same ∙ reads.terms;
-            honest = λ clean. was_honest settled old mid before live reads answers May long (change.honest clean);
+            honest = λ clean. was_honest settled old mid before reads answers May long (change.honest clean);
             unchanged = tt;
             refused = tt;
-            crash = λ clean was_open. may_leave settled old mid before live reads answers May long new (changed before name p)
+            crash = λ clean was_open. may_leave settled old mid before reads answers May long new (changed before name p)
                 (inl refl) (λ now. inr (did, moves_to p did wrote (change.honest now))) change.crash clean;
             durable = λ clean. leaves_kept g (store_of new) before (settled (store_of new)) change.kept.1 clean (is_open clean);
-            closed = λ clean h. absurd (live clean h);
+            closed = λ clean h. absurd (live settled old mid before reads answers May long clean h);
             closes = λ clean was_open. inl (is_open clean);
             cause = λ clean. tt;
           },
@@ -416,7 +395,7 @@ module _ {S : Type 0} {g : Ghosts S}
         let to = changed before name p in
         let moves : IsHonest g (store_of new) → AccountStep (terms_of old) before (call (Ok x)) to = λ clean.
         moves_to p x answer (change.honest clean) in
-        writes_all settled old mid before live reads answers May long new to x same
+        writes_all settled old mid before reads answers May long new to x same
         (λ f. unread_step X (terms_of old) before call (unwritten f) (is_of_file f)) (inl refl) (λ clean. inr (x, moves clean)) done
         (on_all done moves)
         (subst (λ (n : List ℕ). Changes g (store_of mid) (store_of new) before to (IsLong n) done)
@@ -455,25 +434,23 @@ pub fails : {S : Type 0} {g : Ghosts S} {X : Type 0}
     → ((s : S) (db : Trees) → IsTrue (g.view s).is_open → g.recovers s db → db ≡ (g.view s).committed)
     → (answers : Result X FileError → Store → Type 0) (May : Store → Type 0) (long : Type 0) (old mid : AccountFile S g)
     (before : Store) (e : FileError) → HasNames old before → answers (Err e) before → May before → Stays (Some e) before old mid
-    → (IsHonest g (store_of old) → IsClosed old → (e ≡ Closed) × (store_of mid ≡ store_of old))
     → Runs answers May long (Err e) old mid before before
-fails {g = g} settled answers May long old mid before e had step may reads closed =
+fails {g = g} settled answers May long old mid before e had step may reads =
     ends_with {g = g} settled answers May long old mid before e had reads.has reads.terms reads.quiet (λ clean. step) may
-    (unread_refused _ e reads.of_file) closed (λ clean. unread_cause _ _ long e (reads.cause clean))
+    (unread_refused _ e reads.of_file) (λ clean is. let shut = reads.closed clean is in (cc, shut.1)) (λ clean. unread_cause _ _ long e (reads.cause clean))
 
 -- and one on a name in it
 pub cannot_serve : {S : Type 0} {g : Ghosts S} {X : Type 0}
     → ((s : S) (db : Trees) → IsTrue (g.view s).is_open → g.recovers s db → db ≡ (g.view s).committed)
     → (call : Call X) (old mid : AccountFile S g) (before : Store) → HasNames old before
     → (e : FileError) (r : Result X FileError) → IsErrAnd r (λ f. f ≡ e) → Stays (Some e) before old mid
-    → (IsHonest g (store_of old) → IsClosed old → (e ≡ Closed) × (store_of mid ≡ store_of old))
     → (after : Store) × Runs (Answers (terms_of old) before call) (IsBeforeOrAfter X (terms_of old) before call)
     (IsLong (name_of (call (Err NameUnknown)))) r old mid before after
-cannot_serve {X = X} settled call old mid before has e r is reads closed = rw (err_is r e is) (
+cannot_serve {X = X} settled call old mid before has e r is reads = rw (err_is r e is) (
   before,
   fails settled _ _ _ old mid
       before e has
-      (unread_step X (terms_of old) before call e reads.of_file) (inl refl) reads closed,
+      (unread_step X (terms_of old) before call e reads.of_file) (inl refl) reads,
 )
 
 -- ---- the password of a name

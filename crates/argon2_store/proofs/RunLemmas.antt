@@ -19,7 +19,7 @@ use Rattle.argon2_store.specs.Runs.{AreEventsOf, Did, Does, EndsRun, FileCall, I
 use Rattle.argon2_store.specs.Table.{IsHonest, IsOpen, Leaves, StaysQuiet}
 use Rattle.argon2_store.specs.declared.account_file.AccountFile.{AccountFile}
 use Rattle.argon2_store.specs.declared.error.FileError.{FileError}
-use Rattle.argon2_store.specs.declared.error.FileError.TheVariants.{Account, OutOfMemory, Io, Damaged, Full, TooLong, Closed}
+use Rattle.argon2_store.specs.declared.error.FileError.TheVariants.{Account, Closed}
 use Rattle.argon2_store.proofs.TableLemmas.{leaves_kept}
 use Rattle.argon2_store.proofs.ChainLemmas.{next_open}
 use Rattle.argon2_store.proofs.TextLemmas.{rows_of-once, step_texts}
@@ -190,22 +190,8 @@ module _ {S : Type 0} {g : Ghosts S}
         let (names, has, is) = refused_left does.refused (does.honest clean) is_open db found in
         (names, has, is ∙ sym does.unchanged))
         (λ is_closed. let never = (does.closed (does.honest clean) is_closed).0 in absurd cc))
-    serves call (Err OutOfMemory) serve =
-        let (after, does) = serve before.names before.has in cut (IsLateEvent call (Err OutOfMemory)) OutOfMemory after
-        (late_call call) does
-    serves call (Err Io) serve =
-        let (after, does) = serve before.names before.has in cut (IsLateEvent call (Err Io)) Io after (late_call call) does
-    serves call (Err Damaged) serve =
-        let (after, does) = serve before.names before.has in cut (IsLateEvent call (Err Damaged)) Damaged after
-        (late_call call) does
-    serves call (Err Full) serve =
-        let (after, does) = serve before.names before.has in cut (IsLateEvent call (Err Full)) Full after (late_call call) does
-    serves call (Err TooLong) serve =
-        let (after, does) = serve before.names before.has in cut (IsLateEvent call (Err TooLong)) TooLong after
-        (late_call call) does
-    serves call (Err Closed) serve =
-        let (after, does) = serve before.names before.has in cut (IsLateEvent call (Err Closed)) Closed after (late_call call)
-        does
+    serves call (Err e) serve =
+        let (after, does) = serve before.names before.has in cut (IsLateEvent call (Err e)) e after (late_call call) does
 
     adds : (es : List (List ℕ × List ℕ)) (result : Result (Unit {0}) FileError) → AddsOrNone es result old new
         → Reached (events_of (add_all es result) ++ events) (Now (IsLateOf (add_all es result)) (result ≡ Err Closed)) new
@@ -219,23 +205,9 @@ module _ {S : Type 0} {g : Ghosts S}
         (λ clean is_open db found.
         let (names, has, is) = refused_left does.refused (does.honest clean) is_open db found in (names, has, inl is))
         (λ clean is_closed. ((does.closed (does.honest clean) is_closed).0, does.refused.outcomes))
-    adds es (Err OutOfMemory) add =
-        let (after, does) = add before.names before.has in cut (IsLateOf (add_all es (Err OutOfMemory))) OutOfMemory after
-        (late_names es) does
-    adds es (Err Io) add =
-        let (after, does) = add before.names before.has in cut (IsLateOf (add_all es (Err Io))) Io after (late_names es) does
-    adds es (Err Damaged) add =
-        let (after, does) = add before.names before.has in cut (IsLateOf (add_all es (Err Damaged))) Damaged after
-        (late_names es) does
-    adds es (Err Full) add =
-        let (after, does) = add before.names before.has in cut (IsLateOf (add_all es (Err Full))) Full after (late_names es)
-        does
-    adds es (Err TooLong) add =
-        let (after, does) = add before.names before.has in cut (IsLateOf (add_all es (Err TooLong))) TooLong after
-        (late_names es) does
-    adds es (Err Closed) add =
-        let (after, does) = add before.names before.has in cut (IsLateOf (add_all es (Err Closed))) Closed after
-        (late_names es) does
+    adds es (Err e) add =
+        let (after, does) = add before.names before.has in
+        cut (IsLateOf (add_all es (Err e))) e after (late_names es) does
 
     keeps : (error : Option FileError) → ((names : Store) → HasNames old names → Stays error names old new)
         → Reached events (Now (λ late. ⊥) (IsSome error)) new
@@ -243,7 +215,9 @@ module _ {S : Type 0} {g : Ghosts S}
         let does = stay before.names before.has in
         stays (λ late. ⊥) _ does.has does.terms (λ clean. omega (arith, clean, does.quiet.clean))
         (λ clean is_open db found. let (names, has, is) = does.left clean is_open db found in (names, has, inl is))
-        (λ clean is_closed. (does.closed clean is_closed, does.quiet.outcomes))
+        (λ clean is_closed.
+        let shut = does.closed (omega (arith, clean, does.quiet.clean)) is_closed in
+        (subst IsSome (sym shut.0) refl, does.quiet.outcomes))
 
     pub one_more : (call : FileCall) → Does call old new
         → Reached (events_of call ++ events) (Now (IsLateOf call) (IsShutOut call)) new

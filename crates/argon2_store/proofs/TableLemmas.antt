@@ -10,7 +10,7 @@ use Rattle.sqlite_disk.specs.Disk.{MoreFaults}
 use Rattle.sqlite_value.specs.Keys.{plain}
 use Rattle.sqlite_value.specs.Order.{Row}
 use Rattle.sqlite_trees.specs.declared.error.StoreError.{StoreError}
-use Rattle.sqlite_trees.specs.declared.error.StoreError.TheVariants.{OutOfMemory, Io, Corrupt, Full, Broken, Unstorable}
+use Rattle.sqlite_trees.specs.declared.error.StoreError.TheVariants.{OutOfMemory, Broken, Unstorable}
 use Rattle.sqlite_trees.specs.declared.store.Shape.{Shape}
 use Rattle.sqlite_trees.specs.declared.store.Shape.TheVariants.{Index}
 use Rattle.sqlite_trees.specs.declared.store.Store.{Ghosts}
@@ -130,11 +130,9 @@ more_earlier old mid new le more = omega (arith, le, more)
 pub cause_map : (old new : View) (P Q R U : Type 0) → (IsTrue old.is_broken → IsTrue new.is_broken) → (P → Q) → (R → U)
     → (e : StoreError) → HasCause old P R e → HasCause new Q U e
 cause_map old new P Q R U b f h OutOfMemory cause = tt
-cause_map old new P Q R U b f h Io cause = f cause
-cause_map old new P Q R U b f h Corrupt cause = f cause
-cause_map old new P Q R U b f h Full cause = f cause
 cause_map old new P Q R U b f h Broken cause = b cause
 cause_map old new P Q R U b f h Unstorable cause = h cause
+cause_map old new P Q R U b f h e cause = f cause
 
 -- the cause of an error of a change, of those of its steps
 pub cause_after : (old mid : View) (f m n : ℕ) (P : Type 0) (done result : Result (Unit {0}) StoreError) → f ≤ m → m ≤ n

@@ -1,5 +1,5 @@
 -- What callers see of accounts in a file, and what each call does.
-use Rattle.std.specs.Prelude.{◌≡◌, ◌⊎◌, ℕ, List, false, Any, Option, Some, None, IsSome, IsSomeAnd, IfSome, Result, Ok, Err, IfErr, OnOk, OnErr, ⊤, length}
+use Rattle.std.specs.Prelude.{◌≡◌, ◌⊎◌, ℕ, List, false, Any, Option, Some, None, IsSomeAnd, IfSome, Result, Ok, Err, IfErr, OnOk, OnErr, ⊤, length}
 use Rattle.rand_core.specs.Stream.{Stream, fill_bytes}
 use Rattle.sqlite_trees.specs.declared.store.Store.{Ghosts}
 use Rattle.sqlite_wal.specs.Recovery.{Image}
@@ -134,8 +134,8 @@ module _ {S : Type 0} {g : Ghosts S} where
     pub quiet : StaysQuiet g (store_of old) (store_of new)
     -- a crash leaves the names, at any moment of the call and after it
     pub left : IsHonest g (store_of new) → IsOpen g (store_of old) → Leaves g (store_of new) (λ left. left ≡ names)
-    -- a file that is closed is refused
-    pub closed : IsHonest g (store_of new) → IsClosed old → IsSome error
+    -- a file that is closed stays so, and is as it was
+    pub closed : IsHonest g (store_of old) → IsClosed old → (error ≡ Some Closed) × (store_of new ≡ store_of old)
     -- after a success it is open
     pub is_open : error ≡ None → IsHonest g (store_of new) → IsOpen g (store_of new)
     -- an error is one of the file, and has its cause

@@ -338,6 +338,8 @@ impl<'key, S: Store> AccountFile<'key, S> {
         ensures shows { (names : Named) → HasNames self.old names → IfOk result (λ done.
             IsHonest S.Store (store_of self.new) → OnOk done
             (Appends (W.contents output.old) (W.contents output.new) (lines_of view names))) }
+        ensures closed { IsHonest S.Store (store_of self.old) → IsClosed self.old →
+            output.new ≡ output.old }
     {
         if self.is_closed() {
             return Err(FileError::Closed);
@@ -444,6 +446,9 @@ impl<'key, D: Disk> AccountFile<'key, FileStore<D>> {
         ensures copied { OnOk result
             (¬ HasSpilled (store_of self.old) → log_frames (store_of self.new) ≡ 0) }
     {
-        Ok(self.table.checkpoint()?)
+        if self.is_closed() {
+            return Err(FileError::Closed);
+        }
+        read(self.table.checkpoint())
     }
 }

@@ -351,26 +351,17 @@ impl<S: Store> Table<S> {
 }
 
 impl<D: Disk> Table<FileStore<D>> {
-    ghost use Rattle.sqlite_store.specs.Calls.{IsQuietCall};
-    ghost use Rattle.sqlite_store.specs.FileStore.{HasSpilled, faults, log_frames, view};
-    ghost use Rattle.sqlite_trees.specs.View.{IsClean};
+    ghost use Rattle.sqlite_store.specs.FileStore.{HasSpilled, log_frames};
     ghost use Rattle.argon2_store.specs.Runs.{over_file};
     ghost use Rattle.argon2_store.specs.Shown.{file_of};
+    ghost use Rattle.argon2_store.specs.Table.{KeepsNames};
 
     // Copies the log into the file.
     pub(crate) fn checkpoint(&mut self) -> Result<(), StoreError>
-        ensures names { (names : Named) → HasNames over_file (file_of self.old) names →
-            HasNames over_file (file_of self.new) names }
-        ensures same { IsTrue (view (file_of self.new)).is_open →
-            view (file_of self.new) ≡ view (file_of self.old) }
-        ensures open { OnOk result (IsClean (view (file_of self.new)) →
-            IsTrue (view (file_of self.new)).is_open) }
+        ensures reads { (names : Named) → HasNames over_file (file_of self.old) names →
+            KeepsNames over_file (file_of self.old) (file_of self.new) names result }
         ensures copied { OnOk result
             (¬ HasSpilled (file_of self.old) → log_frames (file_of self.new) ≡ 0) }
-        ensures cause { IsClean (view (file_of self.new)) → IfErr result
-            (HasCause (view (file_of self.old))
-            (MoreFaults (faults (file_of self.old)) (faults (file_of self.new))) ⊥) }
-        ensures quiet { IsQuietCall (file_of self.old) (file_of self.new) }
     {
         self.store.checkpoint()
     }

@@ -12,14 +12,13 @@ returns-then-is_closed g c before has =
     cannot_serve {g = g.S.Store} g.met.S.Store.settled (adding c.args.name.now c.args.text.now) c.args.self.now
     c.args.self.now before has
     Closed (Err Closed) refl (shut_out g.met.S.Store.settled c.args.self.now before has c.is_closed.ensures c.if-is_closed.true)
-    (λ clean is. (refl, refl))
 
 pub returns-in_err-parsed : goal.returns-in_err-parsed
 returns-in_err-parsed g c before has =
     let live = live_of {g = g.S.Store} c.args.self.now c.is_closed.ensures c.if-is_closed.false in
     refuses {g = g.S.Store} g.met.S.Store.settled (adding c.args.name.now c.args.text.now) c.args.name.now (λ answer. refl)
     c.args.self.now c.args.self.now before
-    live (unread g.met.S.Store.settled c.args.self.now before has live) _ (λ clean. refl)
+    (unread g.met.S.Store.settled c.args.self.now before has live) _ (λ clean. refl)
     (Refused c.in_err-parsed.field-0.0) _ c.from_residual.ensures.1
     (inl (c.in_err-parsed.ensures.invalid, λ is. c.in_err-parsed.ensures.only is.0 is.1), refl)
 
@@ -28,13 +27,12 @@ returns-in_err-text_of g c before has =
     cannot_serve {g = g.S.Store} g.met.S.Store.settled (adding c.args.name.now c.args.text.now) c.args.self.now
     c.text_of.new.self before has c.in_err-text_of.field-0.0 _
     c.from_residual-in_err-text_of.ensures.1 (c.in_err-text_of.ensures.reads before has)
-    (λ clean is. let shut = c.in_err-text_of.ensures.closed clean is in (cc, shut.1))
 
 pub returns-then-is_some : goal.returns-then-is_some
 returns-then-is_some g c before has =
     refuses {g = g.S.Store} g.met.S.Store.settled (adding c.args.name.now c.args.text.now) c.args.name.now (λ answer. refl)
     c.args.self.now
-    c.text_of.new.self before (λ clean is. absurd (let never = (c.in_ok-text_of.ensures.closed clean is).0 in cc))
+    c.text_of.new.self before
     (c.in_ok-text_of.ensures.reads before has)
     (option_map phc_of c.in_ok-text_of.field-0)
     (λ clean. c.in_ok-text_of.ensures.shows before (c.in_ok-text_of.ensures.reads before has).has clean)
@@ -57,7 +55,7 @@ pub returns : goal.returns
 returns g c before has =
     writes {g = g.S.Store} g.met.S.Store.settled (adding c.args.name.now c.args.text.now) c.args.name.now (λ answer. refl)
     c.args.self.now
-    c.text_of.new.self before (λ clean is. absurd (let never = (c.in_ok-text_of.ensures.closed clean is).0 in cc))
+    c.text_of.new.self before
     (c.in_ok-text_of.ensures.reads before has)
     None (λ clean. c.in_ok-text_of.ensures.shows before (c.in_ok-text_of.ensures.reads before has).has clean
     ∙ is_nowhere _ (sym c.is_some.ensures ∙ c.if-is_some.false))

@@ -15,7 +15,7 @@ returns-then-is_closed-clause-call g c before has =
       before,
       fails {g = g.S.Store} g.met.S.Store.settled (AnswersAll before es) (λ left. (left ≡ before) ⊎ AddsAll before es left)
           (Any (λ e. IsLong e.0) es) old old before Closed has refl (inl refl)
-          (shut_out g.met.S.Store.settled old before has c.is_closed.ensures c.if-is_closed.true) (λ clean is. (refl, refl)),
+          (shut_out g.met.S.Store.settled old before has c.is_closed.ensures c.if-is_closed.true),
     )
 
 pub returns-in-Ok-written-clause-call : goal.returns-in-Ok-written-clause-call
@@ -24,7 +24,7 @@ returns-in-Ok-written-clause-call g c before has =
     let es = map entry_of c.args.new.now in
     let live = live_of {g = g.S.Store} old c.is_closed.ensures c.if-is_closed.false in
     let (to, may, all, change) = c.in-Ok.ensures.added before has in
-    writes_all {g = g.S.Store} g.met.S.Store.settled old old before live (unread g.met.S.Store.settled old before has live)
+    writes_all {g = g.S.Store} g.met.S.Store.settled old old before (unread g.met.S.Store.settled old before has live)
     (AnswersAll before es) (λ left. (left ≡ before) ⊎ AddsAll before es left) (Any (λ e. IsLong e.0) es) _ to tt refl
     (λ why. refl) (inl refl) may c.in-Ok.done all change (Ok tt) c.in-Ok-written.ensures
 
@@ -34,7 +34,7 @@ returns-in-Err-written-clause-call g c before has =
     let es = map entry_of c.args.new.now in
     let live = live_of {g = g.S.Store} old c.is_closed.ensures c.if-is_closed.false in
     let (to, may, all, change) = c.in-Ok.ensures.added before has in
-    writes_all {g = g.S.Store} g.met.S.Store.settled old old before live (unread g.met.S.Store.settled old before has live)
+    writes_all {g = g.S.Store} g.met.S.Store.settled old old before (unread g.met.S.Store.settled old before has live)
     (AnswersAll before es) (λ left. (left ≡ before) ⊎ AddsAll before es left) (Any (λ e. IsLong e.0) es) _ to tt refl
     (λ why. refl) (inl refl) may c.in-Ok.done all change (Err c.in-Err-written.error) c.in-Err-written.ensures
 

@@ -17,14 +17,13 @@ returns-in_err-text-clause-call g c before has =
     (logging_in c.args.name.now c.args.password.now (fill_bytes 16 (g.R.Rng.stream c.args.rng.now)).0) c.args.self.now
     c.text_of.new.self before has c.in_err-text.field-0.0 _
     c.from_residual.ensures.1 (c.in_err-text.ensures.reads before has)
-    (λ clean is. let shut = c.in_err-text.ensures.closed clean is in (cc, shut.1))
 
 pub returns-in_default-clause-call : goal.returns-in_default-clause-call
 returns-in_default-clause-call g c before has =
     refuses {g = g.S.Store} g.met.S.Store.settled
     (logging_in c.args.name.now c.args.password.now (fill_bytes 16 (g.R.Rng.stream c.args.rng.now)).0) c.args.name.now
     (λ answer. refl) c.args.self.now
-    c.text_of.new.self before (λ clean is. absurd (let never = (c.in_ok-text.ensures.closed clean is).0 in cc))
+    c.text_of.new.self before
     (c.in_ok-text.ensures.reads before has)
     None (λ clean. c.in_ok-text.ensures.shows before (c.in_ok-text.ensures.reads before has).has clean
     ∙ ap (option_map phc_of) c.in_default.is)
@@ -35,7 +34,7 @@ returns-in_err-accepted-clause-call g c before has =
     refuses {g = g.S.Store} g.met.S.Store.settled
     (logging_in c.args.name.now c.args.password.now (fill_bytes 16 (g.R.Rng.stream c.args.rng.now)).0) c.args.name.now
     (λ answer. refl) c.args.self.now
-    c.text_of.new.self before (λ clean is. absurd (let never = (c.in_ok-text.ensures.closed clean is).0 in cc))
+    c.text_of.new.self before
     (c.in_ok-text.ensures.reads before has)
     (Some (phc_of c.in-Some.text)) (λ clean. c.in_ok-text.ensures.shows before (c.in_ok-text.ensures.reads before has).has clean
     ∙ ap (option_map phc_of) c.in-Some.is)
@@ -46,7 +45,7 @@ returns-in_default-fresh-clause-call g c before has =
     accepts {g = g.S.Store} g.met.S.Store.settled
     (logging_in c.args.name.now c.args.password.now (fill_bytes 16 (g.R.Rng.stream c.args.rng.now)).0) c.args.name.now
     (λ answer. refl) c.args.self.now
-    c.text_of.new.self before (λ clean is. absurd (let never = (c.in_ok-text.ensures.closed clean is).0 in cc))
+    c.text_of.new.self before
     (c.in_ok-text.ensures.reads before has)
     (Some (phc_of c.in-Some.text)) (λ clean. c.in_ok-text.ensures.shows before (c.in_ok-text.ensures.reads before has).has clean
     ∙ ap (option_map phc_of) c.in-Some.is)
@@ -75,7 +74,7 @@ returns-then-not-is_closed-clause-call g c before has =
     keeps {g = g.S.Store} g.met.S.Store.settled
     (logging_in c.args.name.now c.args.password.now (fill_bytes 16 (g.R.Rng.stream c.args.rng.now)).0) c.args.name.now
     (λ answer. refl) c.args.self.now
-    c.text_of.new.self before (λ clean is. absurd (let never = (c.in_ok-text.ensures.closed clean is).0 in cc))
+    c.text_of.new.self before
     (c.in_ok-text.ensures.reads before has)
     (Some (phc_of c.in-Some.text)) (λ clean. c.in_ok-text.ensures.shows before (c.in_ok-text.ensures.reads before has).has clean
     ∙ ap (option_map phc_of) c.in-Some.is)
@@ -104,7 +103,7 @@ returns-clause-call g c before has =
     writes {g = g.S.Store} g.met.S.Store.settled
     (logging_in c.args.name.now c.args.password.now (fill_bytes 16 (g.R.Rng.stream c.args.rng.now)).0) c.args.name.now
     (λ answer. refl) c.args.self.now
-    c.text_of.new.self before (λ clean is. absurd (let never = (c.in_ok-text.ensures.closed clean is).0 in cc))
+    c.text_of.new.self before
     (c.in_ok-text.ensures.reads before has)
     (Some (phc_of c.in-Some.text)) (λ clean. c.in_ok-text.ensures.shows before (c.in_ok-text.ensures.reads before has).has clean
     ∙ ap (option_map phc_of) c.in-Some.is)

@@ -15,7 +15,6 @@ returns-in_err-text_of-clause-call g c before has =
     (registering c.args.name.now c.args.password.now (fill_bytes 16 (g.R.Rng.stream c.args.rng.now)).0) c.args.self.now
     c.text_of.new.self before has c.in_err-text_of.field-0.0 _
     c.from_residual.ensures.1 (c.in_err-text_of.ensures.reads before has)
-    (λ clean is. let shut = c.in_err-text_of.ensures.closed clean is in (cc, shut.1))
 
 pub returns-in_err-text_of-clause-drawn : goal.returns-in_err-text_of-clause-drawn
 returns-in_err-text_of-clause-drawn g c =
@@ -26,7 +25,7 @@ returns-then-is_some-clause-call g c before has =
     refuses {g = g.S.Store} g.met.S.Store.settled
     (registering c.args.name.now c.args.password.now (fill_bytes 16 (g.R.Rng.stream c.args.rng.now)).0) c.args.name.now
     (λ answer. refl) c.args.self.now
-    c.text_of.new.self before (λ clean is. absurd (let never = (c.in_ok-text_of.ensures.closed clean is).0 in cc))
+    c.text_of.new.self before
     (c.in_ok-text_of.ensures.reads before has)
     (option_map phc_of c.in_ok-text_of.field-0)
     (λ clean. c.in_ok-text_of.ensures.shows before (c.in_ok-text_of.ensures.reads before has).has clean)
@@ -37,7 +36,7 @@ returns-in_err-text-clause-call g c before has =
     refuses {g = g.S.Store} g.met.S.Store.settled
     (registering c.args.name.now c.args.password.now (fill_bytes 16 (g.R.Rng.stream c.args.rng.now)).0) c.args.name.now
     (λ answer. refl) c.args.self.now
-    c.text_of.new.self before (λ clean is. absurd (let never = (c.in_ok-text_of.ensures.closed clean is).0 in cc))
+    c.text_of.new.self before
     (c.in_ok-text_of.ensures.reads before has)
     None (λ clean. c.in_ok-text_of.ensures.shows before (c.in_ok-text_of.ensures.reads before has).has clean
     ∙ is_nowhere _ (sym c.is_some.ensures ∙ c.if-is_some.false))
@@ -55,7 +54,7 @@ returns-clause-call g c before has =
     writes {g = g.S.Store} g.met.S.Store.settled
     (registering c.args.name.now c.args.password.now (fill_bytes 16 (g.R.Rng.stream c.args.rng.now)).0) c.args.name.now
     (λ answer. refl) c.args.self.now
-    c.text_of.new.self before (λ clean is. absurd (let never = (c.in_ok-text_of.ensures.closed clean is).0 in cc))
+    c.text_of.new.self before
     (c.in_ok-text_of.ensures.reads before has)
     None (λ clean. c.in_ok-text_of.ensures.shows before (c.in_ok-text_of.ensures.reads before has).has clean
     ∙ is_nowhere _ (sym c.is_some.ensures ∙ c.if-is_some.false))

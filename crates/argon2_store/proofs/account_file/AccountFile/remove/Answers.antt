@@ -11,12 +11,11 @@ returns-in_err-text g c before has =
     cannot_serve {g = g.S.Store} g.met.S.Store.settled (removing c.args.name.now) c.args.self.now c.text_of.new.self before
     has c.in_err-text.field-0.0 _
     c.from_residual.ensures.1 (c.in_err-text.ensures.reads before has)
-    (λ clean is. let shut = c.in_err-text.ensures.closed clean is in (cc, shut.1))
 
 pub returns-in_default : goal.returns-in_default
 returns-in_default g c before has =
     refuses {g = g.S.Store} g.met.S.Store.settled (removing c.args.name.now) c.args.name.now (λ answer. refl) c.args.self.now
-    c.text_of.new.self before (λ clean is. absurd (let never = (c.in_ok-text.ensures.closed clean is).0 in cc))
+    c.text_of.new.self before
     (c.in_ok-text.ensures.reads before has)
     None (λ clean. c.in_ok-text.ensures.shows before (c.in_ok-text.ensures.reads before has).has clean
     ∙ ap (option_map phc_of) c.in_default.is)
@@ -32,7 +31,7 @@ change-requires-clause-known g c names has clean = c.in_ok-text.ensures.shows na
 pub returns : goal.returns
 returns g c before has =
     writes {g = g.S.Store} g.met.S.Store.settled (removing c.args.name.now) c.args.name.now (λ answer. refl) c.args.self.now
-    c.text_of.new.self before (λ clean is. absurd (let never = (c.in_ok-text.ensures.closed clean is).0 in cc))
+    c.text_of.new.self before
     (c.in_ok-text.ensures.reads before has)
     (Some (phc_of c.in-Some.text)) (λ clean. c.in_ok-text.ensures.shows before (c.in_ok-text.ensures.reads before has).has clean
     ∙ ap (option_map phc_of) c.in-Some.is)

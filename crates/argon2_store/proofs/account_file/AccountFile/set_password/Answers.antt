@@ -14,7 +14,6 @@ returns-in_err-text-clause-call g c before has =
     (setting c.args.name.now c.args.new.now (fill_bytes 16 (g.R.Rng.stream c.args.rng.now)).0) c.args.self.now
     c.text_of.new.self before has c.in_err-text.field-0.0 _
     c.from_residual.ensures.1 (c.in_err-text.ensures.reads before has)
-    (λ clean is. let shut = c.in_err-text.ensures.closed clean is in (cc, shut.1))
 
 pub returns-in_err-text-clause-drawn : goal.returns-in_err-text-clause-drawn
 returns-in_err-text-clause-drawn g c =
@@ -25,7 +24,7 @@ returns-in_default-clause-call g c before has =
     refuses {g = g.S.Store} g.met.S.Store.settled
     (setting c.args.name.now c.args.new.now (fill_bytes 16 (g.R.Rng.stream c.args.rng.now)).0) c.args.name.now
     (λ answer. refl) c.args.self.now
-    c.text_of.new.self before (λ clean is. absurd (let never = (c.in_ok-text.ensures.closed clean is).0 in cc))
+    c.text_of.new.self before
     (c.in_ok-text.ensures.reads before has)
     None (λ clean. c.in_ok-text.ensures.shows before (c.in_ok-text.ensures.reads before has).has clean
     ∙ ap (option_map phc_of) c.in_default.is)
@@ -36,7 +35,7 @@ returns-in_err-fresh-clause-call g c before has =
     refuses {g = g.S.Store} g.met.S.Store.settled
     (setting c.args.name.now c.args.new.now (fill_bytes 16 (g.R.Rng.stream c.args.rng.now)).0) c.args.name.now
     (λ answer. refl) c.args.self.now
-    c.text_of.new.self before (λ clean is. absurd (let never = (c.in_ok-text.ensures.closed clean is).0 in cc))
+    c.text_of.new.self before
     (c.in_ok-text.ensures.reads before has)
     (Some (phc_of c.in-Some.text)) (λ clean. c.in_ok-text.ensures.shows before (c.in_ok-text.ensures.reads before has).has clean
     ∙ ap (option_map phc_of) c.in-Some.is)
@@ -54,7 +53,7 @@ returns-clause-call g c before has =
     writes {g = g.S.Store} g.met.S.Store.settled
     (setting c.args.name.now c.args.new.now (fill_bytes 16 (g.R.Rng.stream c.args.rng.now)).0) c.args.name.now
     (λ answer. refl) c.args.self.now
-    c.text_of.new.self before (λ clean is. absurd (let never = (c.in_ok-text.ensures.closed clean is).0 in cc))
+    c.text_of.new.self before
     (c.in_ok-text.ensures.reads before has)
     (Some (phc_of c.in-Some.text)) (λ clean. c.in_ok-text.ensures.shows before (c.in_ok-text.ensures.reads before has).has clean
     ∙ ap (option_map phc_of) c.in-Some.is)

@@ -1,9 +1,9 @@
 use Rattle.std.proofs.Common.{◌≡◌, Result, Ok, Err, refl}
-use Rattle.std.specs.Prelude.{IfOk, OnOk}
+use Rattle.std.specs.Prelude.{IfOk}
 use Rattle.sqlite_trees.specs.declared.error.StoreError.{StoreError}
 use Rattle.argon2_store.specs.Errors.{read_of}
 use Rattle.argon2_store.specs.declared.error.FileError.{FileError}
-use Rattle.argon2_store.proofs.FileLemmas.{live_of, of_file, reads_of}
+use Rattle.argon2_store.proofs.FileLemmas.{live_of, of_file, on_read, reads_of}
 use Rattle.argon2_store.proofs.account_file.AccountFile.text_of.Goals as goal
 
 pub returns-clause-reads : goal.returns-clause-reads
@@ -11,11 +11,6 @@ returns-clause-reads g c names has =
     reads_of g.met.S.Store.settled c.args.self.now _ names has
     (live_of c.args.self.now c.is_closed.ensures c.if-is_closed.false)
     refl c.get.result (c.get.ensures.reads names has) _ c.read.ensures
-
-on_read : {X : Type 0} (P : Type 0) (done : Result X StoreError) (r : Result X FileError) → r ≡ read_of done → OnOk done P
-    → OnOk r P
-on_read P (Ok x) r is p = rw is p
-on_read P (Err e) r is p = rw is tt
 
 if_read : {X : Type 0} (P : X → Type 0) (done : Result X StoreError) (r : Result X FileError) → r ≡ read_of done → IfOk done P
     → IfOk r P

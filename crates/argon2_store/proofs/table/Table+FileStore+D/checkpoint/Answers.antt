@@ -3,12 +3,17 @@ use Rattle.argon2_store.specs.Runs.{over_file}
 use Rattle.argon2_store.proofs.TableLemmas.{kept_same, some_kept}
 use Rattle.argon2_store.proofs.table.Table+FileStore+D.checkpoint.Goals as goal
 
-pub returns-clause-names : goal.returns-clause-names
-returns-clause-names g c names has = (
-  has.0,
-  kept_same (over_file {g = g.D.Disk}) c.args.self.now.store c.checkpoint.new.self names
-      (λ clean. omega (arith, clean, c.checkpoint.ensures.quiet.clean)) c.checkpoint.ensures.same has.1,
-)
+pub returns-clause-reads : goal.returns-clause-reads
+returns-clause-reads g c names has = record {
+  has = (
+    has.0,
+    kept_same (over_file {g = g.D.Disk}) c.args.self.now.store c.checkpoint.new.self names
+        (λ clean. omega (arith, clean, c.checkpoint.ensures.quiet.clean)) c.checkpoint.ensures.same has.1,
+  );
+  is_open = c.checkpoint.ensures.«open»;
+  cause = c.checkpoint.ensures.cause;
+  quiet = c.checkpoint.ensures.quiet;
+}
 
 pub invariant_of-self : goal.invariant_of-self
 invariant_of-self g c = record {
