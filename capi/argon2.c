@@ -57,7 +57,10 @@ static _Alignas(block) uint8_t nothing[1];
 
 static uint8_t *some(const void *at) { return at ? (uint8_t *)at : nothing; }
 static size_t length(const void *at, size_t n) { return at ? n : 0; }
-static size_t absent(const void *at, size_t n) { return at ? 0 : n; }
+
+/* The inputs of a context of which nothing is refused: what is not there has length 0. */
+#define SECRET_AND_DATA(c) some((c)->secret), (c)->secretlen, some((c)->ad), (c)->adlen
+#define INPUTS(c) some((c)->pwd), (c)->pwdlen, some((c)->salt), (c)->saltlen, SECRET_AND_DATA(c)
 
 /* ---- wiping */
 
@@ -112,10 +115,8 @@ static struct request requested(const argon2_context *c, argon2_type type) {
         .algorithm = type, .version = c->version,
         .m_cost = c->m_cost, .t_cost = c->t_cost, .lanes = c->lanes, .threads = c->threads,
         .lacks_output = !c->out,
-        .lacks_pwd = absent(c->pwd, c->pwdlen) != 0,
-        .lacks_salt = absent(c->salt, c->saltlen) != 0,
-        .lacks_secret = absent(c->secret, c->secretlen) != 0,
-        .lacks_associated = absent(c->ad, c->adlen) != 0,
+        .lacks_pwd = !c->pwd && c->pwdlen, .lacks_salt = !c->salt && c->saltlen,
+        .lacks_secret = !c->secret && c->secretlen, .lacks_associated = !c->ad && c->adlen,
         .has_allocate = c->allocate_cbk != NULL, .has_free = c->free_cbk != NULL,
     };
 }
@@ -132,9 +133,7 @@ static int hash_on(const argon2_context *c, argon2_type type, uint8_t *out, bloc
     const uint32_t workers = worker_count(c);
     const size_t n = block_count(c);
     const int answer = workers > 1 ? hash_in_threads(c, &request, out, memory, wipes, workers)
-        : argon2_c_hash(&request, some(c->pwd), length(c->pwd, c->pwdlen), some(c->salt), length(c->salt, c->saltlen),
-            some(c->secret), length(c->secret, c->secretlen), some(c->ad), length(c->ad, c->adlen), memory, n, out,
-            c->outlen);
+        : argon2_c_hash(&request, INPUTS(c), memory, n, out, c->outlen);
     if (wipes && workers == 1) wipe(memory, n * sizeof(block));
     wipe_stack();
     return answer;
@@ -151,8 +150,8 @@ static int hash_into(const argon2_context *c, argon2_type type, uint8_t *out) {
 }
 
 static int encode(const argon2_context *c, argon2_type type, uint8_t *text, size_t room) {
-    const int answer = argon2_c_encode(type, c->version, c->m_cost, c->t_cost, c->lanes, some(c->salt),
-        length(c->salt, c->saltlen), c->out, c->outlen, text, room);
+    const int answer = argon2_c_encode(type, c->version, c->m_cost, c->t_cost, c->lanes, c->salt, c->saltlen, c->out,
+        c->outlen, text, room);
     wipe_stack();
     return answer;
 }
@@ -226,45 +225,37 @@ size_t argon2_encodedlen(uint32_t t_cost, uint32_t m_cost, uint32_t lanes, uint3
 
 /* ---- verifying */
 
-/* A text to verify, and the room for what it says and for the tag that is made. */
-struct verifying {
-    argon2_type type;
-    const char *text;
-    size_t length;
-    const void *pwd;
-    size_t pwdlen;
-    uint8_t *room;
-    struct shown shown;
-};
-
-static int verify_on(struct verifying *v, block *memory, size_t n) {
-    return argon2_c_verify(v->type, v->text != NULL, some(v->text), v->length, some(v->pwd), length(v->pwd, v->pwdlen),
-        absent(v->pwd, v->pwdlen), &v->shown, some(v->room), length(v->room, 2 * v->length), memory, n);
+/* `room` is for what the text says, and for the tag that is made: two bytes for each of the text. */
+static int verify_on(argon2_type type, const char *text, size_t n, const void *pwd, size_t pwdlen, struct shown *shown,
+    uint8_t *room, block *memory, size_t blocks) {
+    return argon2_c_verify(type, text != NULL, some(text), n, some(pwd), length(pwd, pwdlen), pwd ? 0 : pwdlen, shown,
+        some(room), length(room, 2 * n), memory, blocks);
 }
 
 int argon2_verify(const char *encoded, const void *pwd, const size_t pwdlen, argon2_type type) {
     const size_t n = encoded ? strlen(encoded) : 0;
-    struct verifying v = {type, encoded, n, pwd, pwdlen, malloc(2 * n), {0}};
-    int answer = verify_on(&v, (block *)nothing, 0);
+    uint8_t *const room = malloc(2 * n);
+    struct shown shown = {0};
+    int answer = verify_on(type, encoded, n, pwd, pwdlen, &shown, room, (block *)nothing, 0);
     if (answer == ARGON2_INCORRECT_PARAMETER) { /* nothing is wrong but that there was no memory */
         const argon2_context c = {
-            .out = v.room + n, .outlen = v.shown.tag, .pwd = (uint8_t *)pwd, .pwdlen = pwdlen, .salt = v.room,
-            .saltlen = v.shown.salt, .t_cost = v.shown.t_cost, .m_cost = v.shown.m_cost, .lanes = v.shown.lanes,
-            .threads = v.shown.lanes, .version = v.shown.version,
+            .out = room + n, .outlen = shown.tag, .pwd = (uint8_t *)pwd, .pwdlen = pwdlen, .salt = room,
+            .saltlen = shown.salt, .t_cost = shown.t_cost, .m_cost = shown.m_cost, .lanes = shown.lanes,
+            .threads = shown.lanes, .version = shown.version,
         };
         block *const memory = new_blocks(block_count(&c));
         if (!memory) {
             answer = ARGON2_MEMORY_ALLOCATION_ERROR;
         } else if (worker_count(&c) > 1) {
             answer = hash_on(&c, type, c.out, memory, true);
-            if (answer == ARGON2_OK) answer = argon2_c_compare(v.room + c.saltlen, c.outlen, c.out, c.outlen);
+            if (answer == ARGON2_OK) answer = argon2_c_compare(room + c.saltlen, c.outlen, c.out, c.outlen);
         } else {
-            answer = verify_on(&v, memory, block_count(&c));
+            answer = verify_on(type, encoded, n, pwd, pwdlen, &shown, room, memory, block_count(&c));
             wipe(memory, block_count(&c) * sizeof(block));
         }
         free(memory);
     }
-    if (v.room) wipe_and_free(v.room, 2 * n);
+    if (room) wipe_and_free(room, 2 * n);
     wipe_stack();
     return answer;
 }
@@ -311,42 +302,19 @@ const char *argon2_type2string(argon2_type type, int uppercase) {
 
 const char *argon2_error_message(int code) {
     static const char *const texts[] = {
-        "OK",
-        "Output pointer is NULL",
-        "Output is too short",
-        "Output is too long",
-        "Password is too short",
-        "Password is too long",
-        "Salt is too short",
-        "Salt is too long",
-        "Associated data is too short",
-        "Associated data is too long",
-        "Secret is too short",
-        "Secret is too long",
-        "Time cost is too small",
-        "Time cost is too large",
-        "Memory cost is too small",
-        "Memory cost is too large",
-        "Too few lanes",
-        "Too many lanes",
-        "Password pointer is NULL, but password length is not 0",
-        "Salt pointer is NULL, but salt length is not 0",
-        "Secret pointer is NULL, but secret length is not 0",
-        "Associated data pointer is NULL, but ad length is not 0",
-        "Memory allocation error",
-        "The free memory callback is NULL",
-        "The allocate memory callback is NULL",
+        "OK", "Output pointer is NULL", "Output is too short", "Output is too long",
+        "Password is too short", "Password is too long", "Salt is too short", "Salt is too long",
+        "Associated data is too short", "Associated data is too long", "Secret is too short", "Secret is too long",
+        "Time cost is too small", "Time cost is too large", "Memory cost is too small", "Memory cost is too large",
+        "Too few lanes", "Too many lanes",
+        "Password pointer is NULL, but password length is not 0", "Salt pointer is NULL, but salt length is not 0",
+        "Secret pointer is NULL, but secret length is not 0", "Associated data pointer is NULL, but ad length is not 0",
+        "Memory allocation error", "The free memory callback is NULL", "The allocate memory callback is NULL",
         "Argon2_Context context is NULL",
-        "There is no such version of Argon2",
-        "Output pointer mismatch",
-        "Not enough threads",
-        "Too many threads",
-        "Missing arguments",
-        "Encoding failed",
-        "Decoding failed",
-        "Threading failure",
-        "Some of encoded parameters are too long or too short",
-        "The password does not match the supplied hash",
+        "There is no such version of Argon2", "Output pointer mismatch",
+        "Not enough threads", "Too many threads", "Missing arguments",
+        "Encoding failed", "Decoding failed", "Threading failure",
+        "Some of encoded parameters are too long or too short", "The password does not match the supplied hash",
     };
     return code <= 0 && code >= ARGON2_VERIFY_MISMATCH ? texts[-code] : "Unknown error code";
 }

@@ -24,7 +24,6 @@ struct filling {
     block *blocks;
     size_t segment; /* its columns */
     uint32_t workers; /* threads, with the caller's */
-    bool wipes;
     pthread_mutex_t lock; /* for what follows */
     pthread_cond_t changed;
     uint32_t pass, slice;
@@ -55,9 +54,8 @@ static int fill_segments(const struct filling *f, uint32_t pass, uint32_t slice,
     block *here = f->blocks + slice * width;
     int answer = ARGON2_OK;
     for (uint32_t end = lane + n; lane < end && answer == ARGON2_OK; lane++)
-        answer = argon2_c_segment(f->request, some(c->secret), length(c->secret, c->secretlen), some(c->ad),
-            length(c->ad, c->adlen), f->blocks, slice * width, here + lane * f->segment, f->segment, here + width,
-            (3 - slice) * width, pass, slice, lane);
+        answer = argon2_c_segment(f->request, SECRET_AND_DATA(c), f->blocks, slice * width, here + lane * f->segment,
+            f->segment, here + width, (3 - slice) * width, pass, slice, lane);
     return answer;
 }
 
@@ -136,40 +134,31 @@ static uint32_t start_threads(struct filling *f, pthread_t *threads) {
     return started;
 }
 
-/* Fills all slices and writes the tag into `out`. The threads have ended when this returns. */
-static __attribute__((noinline)) int fill_and_finish(struct filling *f, uint8_t *out) {
-    const size_t width = f->segment * f->context->lanes;
-    block *last = f->blocks + 3 * width;
+/* Hashes as `argon2_c_hash` does, with so many threads. They have ended when this returns. */
+static __attribute__((noinline)) int hash_in_threads(const argon2_context *c, const struct request *request, uint8_t *out,
+    block *memory, bool wipes, uint32_t workers) {
+    const size_t width = block_count(c) / 4;
+    block *const last = memory + 3 * width;
+    struct filling f = {
+        .context = c, .request = request, .blocks = memory, .segment = width / c->lanes, .workers = workers,
+        .unwiped = wipes ? 3 * c->lanes : 0, .lock = PTHREAD_MUTEX_INITIALIZER, .changed = PTHREAD_COND_INITIALIZER,
+    };
     pthread_t threads[CPU_SETSIZE];
-    uint32_t started;
-    int answer, cancelling;
+    uint32_t started = 0;
+    int cancelling, answer = argon2_c_begin(request, INPUTS(c), c->outlen, memory, width);
     pthread_setcancelstate(PTHREAD_CANCEL_DISABLE, &cancelling);
-    started = start_threads(f, threads);
-    answer = fill_slices(f);
     if (answer == ARGON2_OK) {
-        answer = argon2_c_finish(f->request, last, width, out, f->context->outlen);
-        if (f->wipes) wipe(last, width * sizeof *last);
-        wipe_slices(f);
+        started = start_threads(&f, threads);
+        answer = fill_slices(&f);
+    }
+    if (answer == ARGON2_OK) {
+        answer = argon2_c_finish(request, last, width, out, c->outlen);
+        if (wipes) wipe(last, width * sizeof *last);
+        wipe_slices(&f);
     }
     while (started > 0) pthread_join(threads[--started], NULL);
     pthread_setcancelstate(cancelling, NULL);
     wipe_stack();
-    return answer;
-}
-
-/* Hashes as `argon2_c_hash` does, with so many threads. */
-static int hash_in_threads(const argon2_context *c, const struct request *request, uint8_t *out, block *memory, bool wipes,
-    uint32_t workers) {
-    const size_t n = block_count(c);
-    struct filling f = {
-        .context = c, .request = request, .blocks = memory, .segment = n / 4 / c->lanes, .workers = workers,
-        .wipes = wipes, .unwiped = wipes ? 3 * c->lanes : 0,
-        .lock = PTHREAD_MUTEX_INITIALIZER, .changed = PTHREAD_COND_INITIALIZER,
-    };
-    int answer = argon2_c_begin(request, some(c->pwd), length(c->pwd, c->pwdlen), some(c->salt),
-        length(c->salt, c->saltlen), some(c->secret), length(c->secret, c->secretlen), some(c->ad),
-        length(c->ad, c->adlen), c->outlen, memory, n / 4);
-    if (answer == ARGON2_OK) answer = fill_and_finish(&f, out);
-    if (wipes && answer != ARGON2_OK) wipe(memory, n * sizeof(block));
+    if (wipes && answer != ARGON2_OK) wipe(memory, 4 * width * sizeof(block));
     return answer;
 }
