@@ -1,17 +1,30 @@
 /*
- * Hashes whose lanes several threads fill, for capi/check-races, under ThreadSanitizer or helgrind. ThreadSanitizer does
- * not see into the crate, so each call of the crate says there what it reads and writes, and is held against the order that
- * the crate asks for. Prints what fails, and last 'N passed, M failed'.
+ * Hashes whose lanes several threads fill, for capi/check-races, under ThreadSanitizer or helgrind, with the C of the
+ * library. ThreadSanitizer does not see into the crate, so each call of the crate says there what it reads and writes, and
+ * is held against the order that the crate asks for. Prints what fails, and last 'N passed, M failed'.
  */
-#define _GNU_SOURCE
-#include "argon2.h"
+#define argon2_c_begin watched_begin
+#define argon2_c_segment watched_segment
+#define argon2_c_finish watched_finish
+#include "argon2.c"
+#undef argon2_c_begin
+#undef argon2_c_segment
+#undef argon2_c_finish
 
-#include <sched.h>
 #include <stdatomic.h>
-#include <stdbool.h>
 #include <stdio.h>
-#include <string.h>
 #include <unistd.h>
+
+__typeof__(watched_begin) argon2_c_begin;
+__typeof__(watched_segment) argon2_c_segment;
+__typeof__(watched_finish) argon2_c_finish;
+
+/* 1 for ThreadSanitizer, 0 for helgrind, which would see what is counted here. */
+#ifndef ANNOTATES
+#define ANNOTATES 0
+#endif
+void __tsan_read_range(void *, long);
+void __tsan_write_range(void *, long);
 
 static int passed, failed;
 
@@ -33,59 +46,41 @@ enum { MOST_PASSES = 2, MOST_LANES = 9 };
 static uint32_t lanes;
 static atomic_uint made[4 * MOST_PASSES][MOST_LANES], filled[4 * MOST_PASSES], wrong;
 
-typedef struct {
-    uint64_t words[128];
-} block;
-typedef const uint8_t *bytes;
-
-int32_t __real_argon2_c_segment(const void *, bytes, size_t, bytes, size_t, const block *, size_t, block *, size_t,
-    const block *, size_t, uint32_t, uint32_t, uint32_t);
-
-#ifdef ANNOTATES
-void __tsan_read_range(void *, long);
-void __tsan_write_range(void *, long);
-int32_t __real_argon2_c_begin(const void *, bytes, size_t, bytes, size_t, bytes, size_t, bytes, size_t, size_t, block *,
-    size_t);
-int32_t __real_argon2_c_finish(const void *, const block *, size_t, uint8_t *, size_t);
-
 static void once(bool holds) {
     if (!holds) atomic_fetch_add_explicit(&wrong, 1, memory_order_relaxed);
 }
 
-int32_t __wrap_argon2_c_begin(const void *request, bytes pwd, size_t pwdlen, bytes salt, size_t saltlen, bytes secret,
+int32_t watched_begin(const struct request *request, bytes pwd, size_t pwdlen, bytes salt, size_t saltlen, bytes secret,
     size_t secretlen, bytes ad, size_t adlen, size_t outlen, block *first, size_t width) {
-    __tsan_write_range(first, width * sizeof *first);
-    return __real_argon2_c_begin(request, pwd, pwdlen, salt, saltlen, secret, secretlen, ad, adlen, outlen, first, width);
+    if (ANNOTATES) __tsan_write_range(first, width * sizeof *first);
+    return argon2_c_begin(request, pwd, pwdlen, salt, saltlen, secret, secretlen, ad, adlen, outlen, first, width);
 }
 
-int32_t __wrap_argon2_c_finish(const void *request, const block *last, size_t width, uint8_t *out, size_t outlen) {
-    __tsan_read_range((block *)last, width * sizeof *last);
-    return __real_argon2_c_finish(request, last, width, out, outlen);
+int32_t watched_finish(const struct request *request, const block *last, size_t width, uint8_t *out, size_t outlen) {
+    if (ANNOTATES) __tsan_read_range((block *)last, width * sizeof *last);
+    return argon2_c_finish(request, last, width, out, outlen);
 }
-#endif
 
 /* The first segment waits, so that other threads are there to fill the others. */
-int32_t __wrap_argon2_c_segment(const void *request, bytes secret, size_t secretlen, bytes ad, size_t adlen,
+int32_t watched_segment(const struct request *request, bytes secret, size_t secretlen, bytes ad, size_t adlen,
     const block *before, size_t before_n, block *own, size_t n, const block *after, size_t after_n, uint32_t pass,
     uint32_t slice, uint32_t lane) {
-    int32_t answer;
-    if (pass == 0 && slice == 0 && lane == 0) usleep(20000);
-#ifdef ANNOTATES
     const size_t width = n * lanes;
     const uint32_t step = 4 * pass + slice;
-    once(own == before + slice * width + lane * n && before_n == slice * width);
-    once(after == before + (slice + 1) * width && after_n == (3 - slice) * width);
-    once(atomic_fetch_add_explicit(&made[step][lane], 1, memory_order_relaxed) == 0);
-    once(step == 0 || atomic_load_explicit(&filled[step - 1], memory_order_relaxed) == lanes);
-    __tsan_read_range((block *)before, before_n * sizeof *before);
-    __tsan_write_range(own, n * sizeof *own);
-    __tsan_read_range((block *)after, after_n * sizeof *after);
-#endif
-    answer = __real_argon2_c_segment(request, secret, secretlen, ad, adlen, before, before_n, own, n, after, after_n, pass,
-        slice, lane);
-#ifdef ANNOTATES
-    atomic_fetch_add_explicit(&filled[step], 1, memory_order_relaxed);
-#endif
+    int32_t answer;
+    if (step == 0 && lane == 0) usleep(20000);
+    if (ANNOTATES) {
+        once(own == before + slice * width + lane * n && before_n == slice * width);
+        once(after == before + (slice + 1) * width && after_n == (3 - slice) * width);
+        once(atomic_fetch_add_explicit(&made[step][lane], 1, memory_order_relaxed) == 0);
+        once(step == 0 || atomic_load_explicit(&filled[step - 1], memory_order_relaxed) == lanes);
+        __tsan_read_range((block *)before, before_n * sizeof *before);
+        __tsan_write_range(own, n * sizeof *own);
+        __tsan_read_range((block *)after, after_n * sizeof *after);
+    }
+    answer = argon2_c_segment(request, secret, secretlen, ad, adlen, before, before_n, own, n, after, after_n, pass, slice,
+        lane);
+    if (ANNOTATES) atomic_fetch_add_explicit(&filled[step], 1, memory_order_relaxed);
     return answer;
 }
 
