@@ -149,13 +149,6 @@ static int hash_into(const argon2_context *c, argon2_type type, uint8_t *out) {
     return answer;
 }
 
-static int encode(const argon2_context *c, argon2_type type, uint8_t *text, size_t room) {
-    const int answer = argon2_c_encode(type, c->version, c->m_cost, c->t_cost, c->lanes, c->salt, c->saltlen, c->out,
-        c->outlen, text, room);
-    wipe_stack();
-    return answer;
-}
-
 /* Clears an input as a flag asks, and its length in the caller's context. */
 static void clear_input(uint8_t *at, uint32_t n, uint32_t *context_length) {
     if (at) explicit_bzero(at, n);
@@ -192,9 +185,8 @@ int argon2_ctx(argon2_context *context, argon2_type type) {
     return answer;
 }
 
-int argon2_hash(const uint32_t t_cost, const uint32_t m_cost, const uint32_t lanes, const void *pwd,
-    const size_t pwdlen, const void *salt, const size_t saltlen, void *hash, const size_t hashlen,
-    char *encoded, const size_t encodedlen, argon2_type type, const uint32_t version) {
+int argon2_hash(uint32_t t_cost, uint32_t m_cost, uint32_t lanes, const void *pwd, size_t pwdlen, const void *salt,
+    size_t saltlen, void *hash, size_t hashlen, char *encoded, size_t encodedlen, argon2_type type, uint32_t version) {
     argon2_context c = {
         .out = nothing /* while it may be refused */, .outlen = hashlen, .pwd = (uint8_t *)pwd, .pwdlen = pwdlen,
         .salt = (uint8_t *)salt, .saltlen = saltlen, .t_cost = t_cost, .m_cost = m_cost, .lanes = lanes,
@@ -211,10 +203,12 @@ int argon2_hash(const uint32_t t_cost, const uint32_t m_cost, const uint32_t lan
     c.out = malloc(hashlen + room);
     if (!c.out) return ARGON2_MEMORY_ALLOCATION_ERROR;
     answer = hash_into(&c, type, c.out);
-    if (answer == ARGON2_OK && room) answer = encode(&c, type, c.out + hashlen, room);
+    if (answer == ARGON2_OK && room)
+        answer = argon2_c_encode(type, version, m_cost, t_cost, lanes, salt, saltlen, c.out, hashlen, c.out + hashlen, room);
     if (answer == ARGON2_OK && hash) memcpy(hash, c.out, hashlen);
     if (answer == ARGON2_OK && room) memcpy(encoded, c.out + hashlen, room);
     wipe_and_free(c.out, hashlen + room);
+    wipe_stack();
     return answer;
 }
 
@@ -232,7 +226,7 @@ static int verify_on(argon2_type type, const char *text, size_t n, const void *p
         some(room), length(room, 2 * n), memory, blocks);
 }
 
-int argon2_verify(const char *encoded, const void *pwd, const size_t pwdlen, argon2_type type) {
+int argon2_verify(const char *encoded, const void *pwd, size_t pwdlen, argon2_type type) {
     const size_t n = encoded ? strlen(encoded) : 0;
     uint8_t *const room = malloc(2 * n);
     struct shown shown = {0};
@@ -274,17 +268,16 @@ int argon2_verify_ctx(argon2_context *c, const char *hash, argon2_type type) {
     int prefix##_verify_ctx(argon2_context *context, const char *hash) { \
         return argon2_verify_ctx(context, hash, type); \
     } \
-    int prefix##_verify(const char *encoded, const void *pwd, const size_t pwdlen) { \
+    int prefix##_verify(const char *encoded, const void *pwd, size_t pwdlen) { \
         return argon2_verify(encoded, pwd, pwdlen, type); \
     } \
-    int prefix##_hash_raw(const uint32_t t_cost, const uint32_t m_cost, const uint32_t lanes, const void *pwd, \
-        const size_t pwdlen, const void *salt, const size_t saltlen, void *hash, const size_t hashlen) { \
+    int prefix##_hash_raw(uint32_t t_cost, uint32_t m_cost, uint32_t lanes, const void *pwd, size_t pwdlen, \
+        const void *salt, size_t saltlen, void *hash, size_t hashlen) { \
         return argon2_hash(t_cost, m_cost, lanes, pwd, pwdlen, salt, saltlen, hash, hashlen, NULL, 0, type, \
             ARGON2_VERSION_NUMBER); \
     } \
-    int prefix##_hash_encoded(const uint32_t t_cost, const uint32_t m_cost, const uint32_t lanes, \
-        const void *pwd, const size_t pwdlen, const void *salt, const size_t saltlen, const size_t hashlen, \
-        char *encoded, const size_t encodedlen) { \
+    int prefix##_hash_encoded(uint32_t t_cost, uint32_t m_cost, uint32_t lanes, const void *pwd, size_t pwdlen, \
+        const void *salt, size_t saltlen, size_t hashlen, char *encoded, size_t encodedlen) { \
         return argon2_hash(t_cost, m_cost, lanes, pwd, pwdlen, salt, saltlen, NULL, hashlen, encoded, encodedlen, \
             type, ARGON2_VERSION_NUMBER); \
     }

@@ -8,7 +8,8 @@
  * What each function answers is the contract of a function of the crate argon2_c; docs/DIFFERENCES.md
  * lists what differs from the reference. Where an answer is not ARGON2_OK, nothing was written, except that
  * argon2_verify_ctx writes the tag of a password that does not match. Outputs may overlap inputs and each other.
- * All functions may be called by several threads at once. A call takes up to 32 KiB of the caller's stack.
+ * All functions may be called by several threads at once. A call takes up to 32 KiB of the caller's stack, and 256 KiB
+ * for the stack of each thread that it starts.
  */
 #ifndef ARGON2_H
 #define ARGON2_H
@@ -76,42 +77,18 @@ extern int FLAG_clear_internal_memory;
 
 typedef enum Argon2_ErrorCodes {
     ARGON2_OK = 0,
-
-    ARGON2_OUTPUT_PTR_NULL = -1,
-    ARGON2_OUTPUT_TOO_SHORT = -2,
-    ARGON2_OUTPUT_TOO_LONG = -3,
-    ARGON2_PWD_TOO_SHORT = -4,
-    ARGON2_PWD_TOO_LONG = -5,
-    ARGON2_SALT_TOO_SHORT = -6,
-    ARGON2_SALT_TOO_LONG = -7,
-    ARGON2_AD_TOO_SHORT = -8,
-    ARGON2_AD_TOO_LONG = -9,
-    ARGON2_SECRET_TOO_SHORT = -10,
-    ARGON2_SECRET_TOO_LONG = -11,
-    ARGON2_TIME_TOO_SMALL = -12,
-    ARGON2_TIME_TOO_LARGE = -13,
-    ARGON2_MEMORY_TOO_LITTLE = -14,
-    ARGON2_MEMORY_TOO_MUCH = -15,
-    ARGON2_LANES_TOO_FEW = -16,
-    ARGON2_LANES_TOO_MANY = -17,
-    ARGON2_PWD_PTR_MISMATCH = -18,
-    ARGON2_SALT_PTR_MISMATCH = -19,
-    ARGON2_SECRET_PTR_MISMATCH = -20,
-    ARGON2_AD_PTR_MISMATCH = -21,
-    ARGON2_MEMORY_ALLOCATION_ERROR = -22,
-    ARGON2_FREE_MEMORY_CBK_NULL = -23,
-    ARGON2_ALLOCATE_MEMORY_CBK_NULL = -24,
-    ARGON2_INCORRECT_PARAMETER = -25,
-    ARGON2_INCORRECT_TYPE = -26,
-    ARGON2_OUT_PTR_MISMATCH = -27,
-    ARGON2_THREADS_TOO_FEW = -28,
-    ARGON2_THREADS_TOO_MANY = -29,
-    ARGON2_MISSING_ARGS = -30,
-    ARGON2_ENCODING_FAIL = -31,
-    ARGON2_DECODING_FAIL = -32,
-    ARGON2_THREAD_FAIL = -33,
-    ARGON2_DECODING_LENGTH_FAIL = -34,
-    ARGON2_VERIFY_MISMATCH = -35
+    ARGON2_OUTPUT_PTR_NULL = -1, ARGON2_OUTPUT_TOO_SHORT = -2, ARGON2_OUTPUT_TOO_LONG = -3,
+    ARGON2_PWD_TOO_SHORT = -4, ARGON2_PWD_TOO_LONG = -5, ARGON2_SALT_TOO_SHORT = -6, ARGON2_SALT_TOO_LONG = -7,
+    ARGON2_AD_TOO_SHORT = -8, ARGON2_AD_TOO_LONG = -9, ARGON2_SECRET_TOO_SHORT = -10, ARGON2_SECRET_TOO_LONG = -11,
+    ARGON2_TIME_TOO_SMALL = -12, ARGON2_TIME_TOO_LARGE = -13, ARGON2_MEMORY_TOO_LITTLE = -14, ARGON2_MEMORY_TOO_MUCH = -15,
+    ARGON2_LANES_TOO_FEW = -16, ARGON2_LANES_TOO_MANY = -17,
+    ARGON2_PWD_PTR_MISMATCH = -18, ARGON2_SALT_PTR_MISMATCH = -19,
+    ARGON2_SECRET_PTR_MISMATCH = -20, ARGON2_AD_PTR_MISMATCH = -21,
+    ARGON2_MEMORY_ALLOCATION_ERROR = -22, ARGON2_FREE_MEMORY_CBK_NULL = -23, ARGON2_ALLOCATE_MEMORY_CBK_NULL = -24,
+    ARGON2_INCORRECT_PARAMETER = -25, ARGON2_INCORRECT_TYPE = -26,
+    ARGON2_OUT_PTR_MISMATCH = -27, ARGON2_THREADS_TOO_FEW = -28, ARGON2_THREADS_TOO_MANY = -29,
+    ARGON2_MISSING_ARGS = -30, ARGON2_ENCODING_FAIL = -31, ARGON2_DECODING_FAIL = -32, ARGON2_THREAD_FAIL = -33,
+    ARGON2_DECODING_LENGTH_FAIL = -34, ARGON2_VERIFY_MISMATCH = -35
 } argon2_error_codes;
 
 /* ---- what a hash is made of */
@@ -173,28 +150,25 @@ ARGON2_PUBLIC int argon2i_ctx(argon2_context *context);
 ARGON2_PUBLIC int argon2id_ctx(argon2_context *context);
 
 /* Hashes, and writes the tag, the text with a zero byte behind it, or both: a pointer may be NULL. */
-ARGON2_PUBLIC int argon2_hash(const uint32_t t_cost, const uint32_t m_cost, const uint32_t lanes,
-    const void *pwd, const size_t pwdlen, const void *salt, const size_t saltlen, void *hash,
-    const size_t hashlen, char *encoded, const size_t encodedlen, argon2_type type, const uint32_t version);
+ARGON2_PUBLIC int argon2_hash(uint32_t t_cost, uint32_t m_cost, uint32_t lanes, const void *pwd, size_t pwdlen,
+    const void *salt, size_t saltlen, void *hash, size_t hashlen, char *encoded, size_t encodedlen, argon2_type type,
+    uint32_t version);
 
 /* The text at version 0x13. */
-ARGON2_PUBLIC int argon2d_hash_encoded(const uint32_t t_cost, const uint32_t m_cost, const uint32_t lanes,
-    const void *pwd, const size_t pwdlen, const void *salt, const size_t saltlen, const size_t hashlen,
-    char *encoded, const size_t encodedlen);
-ARGON2_PUBLIC int argon2i_hash_encoded(const uint32_t t_cost, const uint32_t m_cost, const uint32_t lanes,
-    const void *pwd, const size_t pwdlen, const void *salt, const size_t saltlen, const size_t hashlen,
-    char *encoded, const size_t encodedlen);
-ARGON2_PUBLIC int argon2id_hash_encoded(const uint32_t t_cost, const uint32_t m_cost, const uint32_t lanes,
-    const void *pwd, const size_t pwdlen, const void *salt, const size_t saltlen, const size_t hashlen,
-    char *encoded, const size_t encodedlen);
+ARGON2_PUBLIC int argon2d_hash_encoded(uint32_t t_cost, uint32_t m_cost, uint32_t lanes, const void *pwd,
+    size_t pwdlen, const void *salt, size_t saltlen, size_t hashlen, char *encoded, size_t encodedlen);
+ARGON2_PUBLIC int argon2i_hash_encoded(uint32_t t_cost, uint32_t m_cost, uint32_t lanes, const void *pwd,
+    size_t pwdlen, const void *salt, size_t saltlen, size_t hashlen, char *encoded, size_t encodedlen);
+ARGON2_PUBLIC int argon2id_hash_encoded(uint32_t t_cost, uint32_t m_cost, uint32_t lanes, const void *pwd,
+    size_t pwdlen, const void *salt, size_t saltlen, size_t hashlen, char *encoded, size_t encodedlen);
 
 /* The tag at version 0x13. */
-ARGON2_PUBLIC int argon2d_hash_raw(const uint32_t t_cost, const uint32_t m_cost, const uint32_t lanes,
-    const void *pwd, const size_t pwdlen, const void *salt, const size_t saltlen, void *hash, const size_t hashlen);
-ARGON2_PUBLIC int argon2i_hash_raw(const uint32_t t_cost, const uint32_t m_cost, const uint32_t lanes,
-    const void *pwd, const size_t pwdlen, const void *salt, const size_t saltlen, void *hash, const size_t hashlen);
-ARGON2_PUBLIC int argon2id_hash_raw(const uint32_t t_cost, const uint32_t m_cost, const uint32_t lanes,
-    const void *pwd, const size_t pwdlen, const void *salt, const size_t saltlen, void *hash, const size_t hashlen);
+ARGON2_PUBLIC int argon2d_hash_raw(uint32_t t_cost, uint32_t m_cost, uint32_t lanes, const void *pwd,
+    size_t pwdlen, const void *salt, size_t saltlen, void *hash, size_t hashlen);
+ARGON2_PUBLIC int argon2i_hash_raw(uint32_t t_cost, uint32_t m_cost, uint32_t lanes, const void *pwd,
+    size_t pwdlen, const void *salt, size_t saltlen, void *hash, size_t hashlen);
+ARGON2_PUBLIC int argon2id_hash_raw(uint32_t t_cost, uint32_t m_cost, uint32_t lanes, const void *pwd,
+    size_t pwdlen, const void *salt, size_t saltlen, void *hash, size_t hashlen);
 
 /* The bytes of a text at version 0x13 with its zero byte; 0 where there is no such variant. */
 ARGON2_PUBLIC size_t argon2_encodedlen(uint32_t t_cost, uint32_t m_cost, uint32_t lanes,
@@ -203,10 +177,10 @@ ARGON2_PUBLIC size_t argon2_encodedlen(uint32_t t_cost, uint32_t m_cost, uint32_
 /* ---- verifying: ARGON2_OK where it is the password's, ARGON2_VERIFY_MISMATCH where it is not */
 
 /* Of a text. */
-ARGON2_PUBLIC int argon2_verify(const char *encoded, const void *pwd, const size_t pwdlen, argon2_type type);
-ARGON2_PUBLIC int argon2d_verify(const char *encoded, const void *pwd, const size_t pwdlen);
-ARGON2_PUBLIC int argon2i_verify(const char *encoded, const void *pwd, const size_t pwdlen);
-ARGON2_PUBLIC int argon2id_verify(const char *encoded, const void *pwd, const size_t pwdlen);
+ARGON2_PUBLIC int argon2_verify(const char *encoded, const void *pwd, size_t pwdlen, argon2_type type);
+ARGON2_PUBLIC int argon2d_verify(const char *encoded, const void *pwd, size_t pwdlen);
+ARGON2_PUBLIC int argon2i_verify(const char *encoded, const void *pwd, size_t pwdlen);
+ARGON2_PUBLIC int argon2id_verify(const char *encoded, const void *pwd, size_t pwdlen);
 
 /* Of a tag: hashes as the context says, and compares what it wrote with as many bytes of `hash`. */
 ARGON2_PUBLIC int argon2_verify_ctx(argon2_context *context, const char *hash, argon2_type type);

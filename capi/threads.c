@@ -6,11 +6,10 @@
 #include <sched.h>
 #include <signal.h>
 
-/* With less memory than this, in blocks, no thread pays. */
-enum { FROM_HERE_IN_THREADS = 4 << 10 };
-
-/* The stack of each thread, which the default of a program may be too small for. */
-enum { STACK = 256 << 10 };
+enum {
+    FROM_HERE_IN_THREADS = 4 << 10, /* blocks: with less memory no thread pays */
+    STACK = 256 << 10, /* of each thread, as the default of a program may be too small */
+};
 
 /* 1 in a build of capi/check-races, in which no slice waits for the one before it. */
 #ifndef RACES
