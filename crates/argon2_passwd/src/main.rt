@@ -7,7 +7,8 @@ use argon2_passwd_commands::run::{PROGRAM, run};
 use argon2_passwd_commands::{Command, Edit, Machine};
 use std::alloc::AllocError;
 use std::fs;
-use std::io::BufWriter;
+use std::io::{BufWriter, ErrorKind, Write};
+use std::os::unix::fs::MetadataExt;
 use std::process::ExitCode;
 
 mod arguments;
@@ -23,11 +24,8 @@ fn main(rt: HostRuntime) -> ExitCode {
     };
     let status = match arguments::parsed(rt.alloc(), words.as_slice()) {
         Ok(command) => {
-            if let Some(path) = wanted(&command)
-                && let Err(error) = fs::metadata(&rt, path)
-            {
-                let failure = Failure::of_reading(error);
-                return ExitCode::from(failure.report(PROGRAM, path, &mut errors));
+            if let Some(status) = unfit(&rt, &command, &mut errors) {
+                return ExitCode::from(status);
             }
             let mut left = None;
             let status = run(
@@ -50,13 +48,31 @@ fn main(rt: HostRuntime) -> ExitCode {
     ExitCode::from(status)
 }
 
-// The file that a command needs, unless it makes one.
-fn wanted<'a>(command: &Command<'a>) -> Option<&'a str> {
-    match command {
-        Command::Edit(_, _, Edit::Register, _) => None,
-        Command::Verify(_, file, _) | Command::Edit(_, file, _, _) | Command::Show(_, file, _) => {
-            Some(file)
+// Says why a command's file can't have accounts, and returns the status, if what is there is no such file, or if nothing
+// is there and the command makes none.
+fn unfit<E: Write>(rt: &HostRuntime, command: &Command<'_>, errors: &mut E) -> Option<u8> {
+    let path = command.file()?;
+    let why = match fs::metadata(rt, path) {
+        Ok(found) if found.is_dir() => "is a directory",
+        Ok(found) if !found.is_file() => "is no regular file",
+        Ok(found) if found.nlink() > 1 => "has a second name (a hard link)",
+        Ok(_) => return None,
+        Err(error) if error.kind() == ErrorKind::NotFound && makes(command) => {
+            if fs::symlink_metadata(rt, path).is_err() {
+                return None;
+            }
+            "is a link to a file that is not there"
         }
-        _ => None,
+        Err(error) => return Some(Failure::of_reading(error).report(PROGRAM, path, errors)),
+    };
+    let _ = writeln!(errors, "{PROGRAM}: {path}: {why}");
+    Some(3)
+}
+
+// Whether a command makes its file.
+fn makes(command: &Command<'_>) -> bool {
+    match command {
+        Command::Edit(_, _, Edit::Register, _) | Command::Import(..) => true,
+        _ => false,
     }
 }

@@ -20,6 +20,19 @@ pub enum Command<'a> {
     Import(Options<'a>, &'a str),
 }
 
+impl<'a> Command<'a> {
+    /// The path of the file with accounts, if the command is on one.
+    pub fn file(&self) -> Option<&'a str> {
+        match self {
+            Command::Hash(_) | Command::Check(..) => None,
+            Command::Verify(_, file, _)
+            | Command::Edit(_, file, _, _)
+            | Command::Show(_, file, _)
+            | Command::Import(_, file) => Some(file),
+        }
+    }
+}
+
 /// What is done to the text of a name.
 #[derive(Clone, Copy)]
 pub enum Edit {

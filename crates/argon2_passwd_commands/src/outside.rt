@@ -8,9 +8,12 @@ use sqlite_std_file::{FileFrom, Wary};
 use sqlite_store::FileStore;
 use sqlite_trees::store::Store;
 use std::alloc::AllocError;
-use std::fs;
+use std::fs::{self, OpenOptions};
 use std::io::{ErrorKind, Read};
+use std::os::unix::fs::OpenOptionsExt;
 use std::random::RandomSource;
+use std::thread;
+use std::time::Duration;
 
 // The most bytes that a secret may have.
 const LONGEST_SECRET: usize = 4096;
@@ -67,6 +70,9 @@ pub trait Outside {
         ensures refused { IfErr result (λ failure. status_of failure ≡ 1
             → ¬ (AreTerms (record { target = target_of target.entry; bound = bound }))) }
         ensures untouched { OnErr result (unopened self.new) };
+
+    /// Waits for 10 milliseconds.
+    fn pause(&self);
 }
 
 /// The machine that the program runs on.
@@ -126,9 +132,21 @@ impl Outside for Machine<'_> {
         target: Argon2<'key>,
         bound: Bound,
     ) -> Result<AccountsAt<'key, Wary>, Failure> {
+        // A new file is for its owner alone. If it can't be made, the open says why.
+        if bound.allows(target.params()) {
+            let _ = OpenOptions::new()
+                .write(true)
+                .create_new(true)
+                .mode(0o600)
+                .open(self.rt, path);
+        }
         match AccountFile::open(self.rt, path, Wary, target, bound) {
             Ok(accounts) => Ok(accounts),
             Err(error) => Err(Failure::from(error)),
         }
+    }
+
+    fn pause(&self) {
+        thread::sleep(self.rt, Duration::from_millis(10))
     }
 }

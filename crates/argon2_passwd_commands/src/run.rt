@@ -58,16 +58,21 @@ pub fn run<P: Outside, R: BufRead, W: Write, E: Write>(
 {
     match answer(alloc, command, outside, left, input, output) {
         Ok(()) => 0,
-        Err(failure) => fail(errors, &failure),
+        Err(failure) => fail(errors, command.file(), &failure),
     }
 }
 
-// Says why the program fails, and returns the exit status.
-fn fail<E: Write>(errors: &mut E, failure: &Failure) -> u8
+// Says why the program fails, with the path of the file that does, and returns the exit status.
+fn fail<E: Write>(errors: &mut E, file: Option<&str>, failure: &Failure) -> u8
     ensures value { result ≡ status_of failure.now }
     ensures one { (result ≡ 1) ⊎ (result ≡ 3) }
 {
-    let _ = writeln!(errors, "{PROGRAM}: {failure}");
+    let _ = match (failure, file) {
+        (Failure::Unopened(_) | Failure::File(_), Some(path)) => {
+            writeln!(errors, "{PROGRAM}: {path}: {failure}")
+        }
+        _ => writeln!(errors, "{PROGRAM}: {failure}"),
+    };
     failure.status()
 }
 

@@ -19,12 +19,15 @@ use crate::options::Options;
 use crate::outside::Outside;
 use crate::passwords::password;
 use argon2::login::Accepted;
-use argon2_store::{AccountFile, FileError, View};
+use argon2_store::{AccountFile, FileError, OpenError, View};
 use rand_chacha::ChaCha20Rng;
 use rand_core::{Rng, SeedableRng};
 use sqlite_trees::store::Store;
 use std::alloc::Global;
 use std::io::{BufRead, Write};
+
+// How often a file is tried again that another process has open.
+const PAUSES: u32 = 500;
 
 /// What a name's text in a file does with the next password, where it accepts it.
 pub fn verify<P: Outside, R: BufRead>(
@@ -159,7 +162,8 @@ pub fn import<P: Outside, R: BufRead>(
     added
 }
 
-// The accounts in a file, which is left alone where the parameters are above the bound.
+// The accounts in a file, which is left alone where the parameters are above the bound. While another process has it open,
+// the open is tried again for 5 seconds.
 fn open<'key, P: Outside>(
     options: &Options<'_>,
     outside: &mut P,
@@ -173,6 +177,12 @@ fn open<'key, P: Outside>(
         → ¬ (AreTerms (terms_by (choices_of options.now) secret.now))) }
     ensures untouched { OnErr result (P.unopened outside.new) }
 {
+    for _ in 0..PAUSES {
+        match outside.open(file, target(options, secret)?, options.bound()) {
+            Err(Failure::Unopened(OpenError::Busy)) => outside.pause(),
+            done => return done,
+        }
+    }
     outside.open(file, target(options, secret)?, options.bound())
 }
 
