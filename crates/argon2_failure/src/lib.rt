@@ -2,6 +2,7 @@
 #![tactic(auto)]
 
 ghost use Rattle.std.specs.Prelude.{◌≡◌};
+ghost use Rattle.argon2_failure.specs.Failures.{IsOfReading};
 
 use std::alloc::AllocError;
 use std::io;
@@ -37,7 +38,9 @@ impl Failure {
     }
 
     /// The failure of a read: out of memory is reported as that.
-    pub fn of_reading(error: io::Error) -> Failure {
+    pub fn of_reading(error: io::Error) -> Failure
+        ensures { IsOfReading error result }
+    {
         match error.kind() {
             ErrorKind::OutOfMemory => Failure::Memory(AllocError),
             _ => Failure::Input(error),
