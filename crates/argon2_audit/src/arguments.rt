@@ -2,7 +2,7 @@
 
 use argon2::Algorithm;
 use argon2_audit_report::run::PROGRAM;
-use argon2_audit_report::{Form, Options, Place, Policy};
+use argon2_audit_report::{Field, Form, Limits, Options};
 use argon2_commands::invalid;
 use clap::{Arg, ArgAction, ArgMatches, Command, Error, value_parser};
 use std::alloc::{AllocError, Global};
@@ -53,8 +53,8 @@ pub fn parsed<'a>(alloc: Global, words: &'a [String]) -> Result<(Options, Vec<&'
     }
     let field = matches.get_one::<u32>("field");
     let options = Options {
-        policy: policy(&matches),
-        place: Place {
+        limits: limits(&matches),
+        field: Field {
             before: field.and_then(|n| n.checked_sub(1)),
             separator: *byte,
         },
@@ -63,9 +63,9 @@ pub fn parsed<'a>(alloc: Global, words: &'a [String]) -> Result<(Options, Vec<&'
     Ok((options, names))
 }
 
-// The policy that options ask for.
-fn policy(matches: &ArgMatches<'_>) -> Policy {
-    Policy {
+// The limits that options ask for.
+fn limits(matches: &ArgMatches<'_>) -> Limits {
+    Limits {
         m_cost: number(matches, "min-m"),
         t_cost: number(matches, "min-t"),
         p_cost: number(matches, "min-p"),

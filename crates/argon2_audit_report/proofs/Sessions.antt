@@ -43,16 +43,16 @@ repeated_by seen findings None known = refl
 repeated_by seen findings (Some salt) known = known salt
 
 finding_more : (seen : Seen) (options : Options) (findings : List Finding) (finding : Finding) (marks : Marks) (old new : Tally)
-    → IsTallyOf options findings old → Counts marks old new → marks.class ≡ class_of options.policy finding
-    → marks.short_salt ≡ has_short_salt options.policy finding → marks.equal_salt ≡ has_any seen (salt_of finding)
+    → IsTallyOf options findings old → Counts marks old new → marks.class ≡ class_of options.limits finding
+    → marks.short_salt ≡ has_short_salt options.limits finding → marks.equal_salt ≡ has_any seen (salt_of finding)
     → ((s : List ℕ) → has_salt seen s ≡ any_salt s findings) → IsTallyOf options (finding ∷ findings) new
 finding_more seen options findings finding marks old new of counts class_is short_is equal_is known = record {
   all = let all = of.all in let lines = counts.lines in omega arith;
   classes = λ class. counts.classes class
       ∙ ap (λ n. n + one_if (is_class marks.class class)) (of.classes class)
-      ∙ ap (λ k. how_many (λ f. is_class (class_of options.policy f) class) findings + one_if (is_class k class)) class_is;
+      ∙ ap (λ k. how_many (λ f. is_class (class_of options.limits f) class) findings + one_if (is_class k class)) class_is;
   short_salts = counts.short_salts ∙ ap (λ n. n + one_if marks.short_salt) of.short_salts
-      ∙ ap (λ b. how_many (has_short_salt options.policy) findings + one_if b) short_is;
+      ∙ ap (λ b. how_many (has_short_salt options.limits) findings + one_if b) short_is;
   equal_salts = counts.equal_salts ∙ ap (λ n. n + one_if marks.equal_salt) of.equal_salts
       ∙ ap (λ b. repeated findings + one_if b) (equal_is ∙ repeated_by seen findings (salt_of finding) known);
 }
@@ -76,8 +76,8 @@ nothing_yet kept seen options tally read none unknown = record {
 
 pub line_more : (kept next : Line) (seen more : Seen) (options : Options) (old new : Tally) (bytes : List ℕ)
     (finding : Finding) (marks : Marks)
-    → ((line : List ℕ) → IsRead kept line → IsFinding options.place line finding) → IsRead next [] → Counts marks old new
-    → marks.class ≡ class_of options.policy finding → marks.short_salt ≡ has_short_salt options.policy finding
+    → ((line : List ℕ) → IsRead kept line → IsFinding options.field line finding) → IsRead next [] → Counts marks old new
+    → marks.class ≡ class_of options.limits finding → marks.short_salt ≡ has_short_salt options.limits finding
     → marks.equal_salt ≡ has_any seen (salt_of finding)
     → ((salt : List ℕ) → has_salt more salt ≡ (is_salt (salt_of finding) salt || has_salt seen salt))
     → IsBegun kept seen options bytes old → IsBegun next more options (bytes ++ 10 ∷ []) new
@@ -97,8 +97,8 @@ line_more kept next seen more options old new bytes finding marks finds none cou
 
 pub line_last : (kept : Line) (seen : Seen) (options : Options) (old new : Tally) (bytes : List ℕ)
     (finding : Finding) (marks : Marks)
-    → ((line : List ℕ) → IsRead kept line → IsFinding options.place line finding) → Counts marks old new
-    → marks.class ≡ class_of options.policy finding → marks.short_salt ≡ has_short_salt options.policy finding
+    → ((line : List ℕ) → IsRead kept line → IsFinding options.field line finding) → Counts marks old new
+    → marks.class ≡ class_of options.limits finding → marks.short_salt ≡ has_short_salt options.limits finding
     → marks.equal_salt ≡ has_any seen (salt_of finding) → (IsRead kept [] → ⊥) → IsBegun kept seen options bytes old
     → IsTallied options bytes new
 line_last kept seen options old new bytes finding marks finds counts class_is short_is equal_is some b = record {
@@ -113,7 +113,7 @@ line_last kept seen options old new bytes finding marks finds counts class_is sh
 -- ---- the end
 
 pub audit_of : (options : Options) (input : Option (List ℕ)) (tally : Tally) (clean : Bool)
-    → IfSome input (λ bytes. IsTallied options bytes tally) → (IsTrue clean ↔ IsClean options.policy tally)
+    → IfSome input (λ bytes. IsTallied options bytes tally) → (IsTrue clean ↔ IsClean options.limits tally)
     → IsAudit options input clean
 audit_of options None tally clean tallied is = tt
 audit_of options (Some bytes) tally clean tallied is = (tally, tallied, is)

@@ -3,13 +3,13 @@ use Rattle.std.specs.Prelude.{ℕ, ◌==◌, ◌||◌, Bool, List, [], ◌∷◌
 use Rattle.std.specs.List.{list_all}
 use Rattle.std.specs.Option.{unwrap_or, option_map}
 use Rattle.std.specs.Io.BufRead.{strip_last}
-use Rattle.argon2_audit_report.specs.Place.{field_in}
-use Rattle.argon2_audit_report.specs.Prefixes.{after_any, begins_any}
+use Rattle.argon2_audit_report.specs.Field.{field_in}
+use Rattle.argon2_prefixes.specs.Prefixes.{after_any, bare, begins_any}
 use Rattle.argon2_audit_report.specs.declared.claim.Claim.{Claim}
 use Rattle.argon2_audit_report.specs.declared.claim.Claim.TheVariants.{Argon2, Other, Locked, Empty, Blank, Comment, NoField, Unknown}
 use Rattle.argon2_audit_report.specs.declared.claim.Scheme.{Scheme}
 use Rattle.argon2_audit_report.specs.declared.claim.Scheme.TheVariants.{Bcrypt, Scrypt, Pbkdf2, Yescrypt, Sha256Crypt, Sha512Crypt, Md5Crypt, Django, Ldap}
-use Rattle.argon2_audit_report.specs.declared.place.Place.{Place}
+use Rattle.argon2_audit_report.specs.declared.field.Field.{Field}
 
 -- the scheme whose prefix the text has
 abbrev pub scheme_of : List ℕ → Option Scheme
@@ -25,11 +25,6 @@ scheme_of text =
     else if begins_any (codes "md5$" ∷ codes "sha1$" ∷ []) text then Some Django
     else if begins_any (codes "{MD5}" ∷ codes "{SMD5}" ∷ codes "{SHA" ∷ codes "{SSHA" ∷ []) text then Some Ldap
     else None
-
--- a text without what Django, Dovecot and LDAP servers put before one
-abbrev pub bare : List ℕ → List ℕ
-bare text = after_any (codes "argon2" ∷ codes "{argon2}" ∷ codes "{ARGON2}" ∷ codes "{ARGON2I}" ∷ codes "{ARGON2ID}"
-    ∷ codes "{CRYPT}" ∷ codes "{crypt}" ∷ []) text
 
 -- a line without the byte order mark U+FEFF at its start and a carriage return at its end
 abbrev pub trimmed : List ℕ → List ℕ
@@ -54,12 +49,12 @@ claim_of_field None = NoField
 claim_of_field (Some text) = claim_of_text (bare text)
 
 -- a line of spaces and tabs is blank, one that begins with `#` is a comment, and any other claims what its field does
-abbrev pub claim_of : Place → List ℕ → Claim
-claim_of place line =
+abbrev pub claim_of : Field → List ℕ → Claim
+claim_of field line =
     if list_all is_space (trimmed line) then Blank
     else if begins_any (codes "#" ∷ []) (trimmed line) then Comment
-    else claim_of_field (field_in place (trimmed line))
+    else claim_of_field (field_in field (trimmed line))
 
 -- the text of a line, empty where it lacks the field
-abbrev pub stored_in : Place → List ℕ → List ℕ
-stored_in place line = unwrap_or (option_map bare (field_in place (trimmed line))) []
+abbrev pub stored_in : Field → List ℕ → List ℕ
+stored_in field line = unwrap_or (option_map bare (field_in field (trimmed line))) []

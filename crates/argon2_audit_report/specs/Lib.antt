@@ -3,9 +3,8 @@ pub mod Entry
 pub mod Finding
 pub mod Line
 pub mod Object
-pub mod Place
-pub mod Policy
-pub mod Prefixes
+pub mod Field
+pub mod Limits
 pub mod Seen
 pub mod Session
 pub mod Tally

@@ -60,8 +60,8 @@ repeated (finding ∷ earlier) = repeated earlier + one_if (is_repeated (salt_of
 pub record IsTallyOf (options : Options) (findings : List Finding) (tally : Tally) : Type 0 where
   pub all : tally.lines ≡ length findings
   pub classes : (class : Class)
-      → count_of class tally ≡ how_many (λ finding. is_class (class_of options.policy finding) class) findings
-  pub short_salts : tally.short_salts ≡ how_many (has_short_salt options.policy) findings
+      → count_of class tally ≡ how_many (λ finding. is_class (class_of options.limits finding) class) findings
+  pub short_salts : tally.short_salts ≡ how_many (has_short_salt options.limits) findings
   pub equal_salts : tally.equal_salts ≡ repeated findings
 
 -- the counts are those of the lines of a text
@@ -70,7 +70,7 @@ pub record IsTallied (options : Options) (bytes : List ℕ) (counts : Tally) : T
   pub findings : List Finding
   pub feeds : AllTrue has_no_feed lines
   pub split : IsJoined bytes lines
-  pub found : AllZip (IsFinding options.place) lines findings
+  pub found : AllZip (IsFinding options.field) lines findings
   pub tally : IsTallyOf options findings counts
 
 -- the counts are those of the lines of a text but for its end, which is kept
@@ -81,7 +81,7 @@ pub record IsBegun (kept : Line) (seen : Seen) (options : Options) (bytes : List
   pub feeds : AllTrue has_no_feed lines
   pub feed : IsTrue (has_no_feed rest)
   pub split : bytes ≡ joined lines ++ rest
-  pub found : AllZip (IsFinding options.place) lines findings
+  pub found : AllZip (IsFinding options.field) lines findings
   pub tally : IsTallyOf options findings counts
   pub read : IsRead kept rest
   pub salts : (salt : List ℕ) → has_salt seen salt ≡ any_salt salt findings
@@ -95,4 +95,4 @@ IsAfter session bytes = IsBegun session.line session.audit.seen session.audit.op
 -- where the input is known, its lines are counted, and are clean or not
 abbrev pub IsAudit : Options → Option (List ℕ) → Bool → Type 0
 IsAudit options input clean = IfSome input (λ bytes. (tally : Tally) × IsTallied options bytes tally
-    × (IsTrue clean ↔ IsClean options.policy tally))
+    × (IsTrue clean ↔ IsClean options.limits tally))

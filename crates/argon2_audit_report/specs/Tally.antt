@@ -2,7 +2,7 @@
 use Rattle.std.specs.Prelude.{◌≡◌, ℕ, ◌+◌, ◌==◌, Bool, if◌then◌else◌}
 use Rattle.argon2_audit_report.specs.declared.finding.Class.{Class}
 use Rattle.argon2_audit_report.specs.declared.finding.Class.TheVariants.{Outside, NoHash, Below, Sound, Other, Locked, Empty, Blank, Comment, Unknown}
-use Rattle.argon2_audit_report.specs.declared.policy.Policy.{Policy}
+use Rattle.argon2_audit_report.specs.declared.limits.Limits.{Limits}
 use Rattle.argon2_audit_report.specs.declared.tally.Marks.{Marks}
 use Rattle.argon2_audit_report.specs.declared.tally.Tally.{Tally}
 
@@ -44,11 +44,11 @@ pub record Counts (marks : Marks) (old new : Tally) : Type 0 where
   pub short_salts : new.short_salts ≡ old.short_salts + one_if marks.short_salt
   pub equal_salts : new.equal_salts ≡ old.equal_salts + one_if marks.equal_salt
 
--- how many lines count as sound: of other schemes and with no password too where a policy allows them
-abbrev pub accepted : Policy → Tally → ℕ
-accepted policy tally = tally.sound
-    + (if policy.allows_other then tally.other + tally.locked + tally.blank + tally.comment else 0)
+-- how many lines count as sound: of other schemes and with no password too where the limits allow them
+abbrev pub accepted : Limits → Tally → ℕ
+accepted limits tally = tally.sound
+    + (if limits.allows_other then tally.other + tally.locked + tally.blank + tally.comment else 0)
 
 -- each line counts as sound, and no salt was there before
-abbrev pub IsClean : Policy → Tally → Type 0
-IsClean policy tally = (accepted policy tally ≡ tally.lines) × (tally.equal_salts ≡ 0)
+abbrev pub IsClean : Limits → Tally → Type 0
+IsClean limits tally = (accepted limits tally ≡ tally.lines) × (tally.equal_salts ≡ 0)

@@ -7,7 +7,7 @@ use crate::seen::Seen;
 use crate::tally::{Marks, Tally};
 use std::alloc::{AllocError, Global};
 
-/// The counts under a policy, and what texts there were.
+/// The counts under limits, and what texts there were.
 #[derive(Drop)]
 pub struct Audit {
     pub options: Options,
@@ -43,9 +43,9 @@ impl Audit {
         ensures options { self.new.options ≡ self.old.options }
         ensures counts { IfOk result (λ marks. Counts marks self.old.tally self.new.tally) }
         ensures class { IfOk result
-            (λ marks. marks.class ≡ class_of self.old.options.policy finding.now) }
+            (λ marks. marks.class ≡ class_of self.old.options.limits finding.now) }
         ensures short { IfOk result
-            (λ marks. marks.short_salt ≡ has_short_salt self.old.options.policy finding.now) }
+            (λ marks. marks.short_salt ≡ has_short_salt self.old.options.limits finding.now) }
         ensures equal { IfOk result
             (λ marks. marks.equal_salt ≡ has_any self.old.seen (salt_of finding.now)) }
         ensures kept { OnOk result ((salt : List ℕ) → has_salt self.new.seen salt
@@ -53,13 +53,13 @@ impl Audit {
         ensures refused { OnErr result (self.new.tally ≡ self.old.tally) }
     {
         let mut marks = Marks {
-            class: finding.class(&self.options.policy),
+            class: finding.class(&self.options.limits),
             short_salt: false,
             equal_salt: false,
         };
         match finding {
             Finding::Shown(entry) => {
-                marks.short_salt = self.options.policy.shortfalls(entry).salt;
+                marks.short_salt = self.options.limits.shortfalls(entry).salt;
                 marks.equal_salt = self.seen.add(entry)?;
             }
             Finding::Claimed(Claim::Other(scheme)) => self.seen.add_other(*scheme)?,

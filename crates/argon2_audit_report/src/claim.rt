@@ -3,10 +3,10 @@
 ghost use Rattle.std.specs.Prelude.{◌≡◌};
 ghost use Rattle.std.specs.List.{list_all};
 ghost use Rattle.std.specs.Option.{option_copied};
-ghost use Rattle.argon2_audit_report.specs.Claim.{bare, claim_of, claim_of_field, claim_of_text, is_space, scheme_of, stored_in, trimmed};
+ghost use Rattle.argon2_audit_report.specs.Claim.{claim_of, claim_of_field, claim_of_text, is_space, scheme_of, stored_in, trimmed};
 
-use crate::place::Place;
-use crate::prefixes::{after_any, begins_any};
+use crate::field::Field;
+use argon2_prefixes::{after_any, bare, begins_any};
 
 /// A scheme other than Argon2.
 #[derive(Clone, Copy, PartialEq, Eq, PartialOrd, Ord)]
@@ -63,8 +63,8 @@ pub enum Claim {
 }
 
 /// What a line claims to store.
-pub fn claim_of(line: &[u8], place: Place) -> Claim
-    ensures { result ≡ claim_of place line.now }
+pub fn claim_of(line: &[u8], field: Field) -> Claim
+    ensures { result ≡ claim_of field line.now }
 {
     let line = trimmed(line);
     if is_blank(line) {
@@ -73,14 +73,14 @@ pub fn claim_of(line: &[u8], place: Place) -> Claim
     if begins_any(line, &["#"]) {
         return Claim::Comment;
     }
-    claim_of_field(place.field(line))
+    claim_of_field(field.text(line))
 }
 
 /// The text of a line, without what other programs put before a text of Argon2.
-pub fn stored<'a>(line: &'a [u8], place: Place) -> &'a [u8]
-    ensures { result.now ≡ stored_in place line.now }
+pub fn stored<'a>(line: &'a [u8], field: Field) -> &'a [u8]
+    ensures { result.now ≡ stored_in field line.now }
 {
-    match place.field(trimmed(line)) {
+    match field.text(trimmed(line)) {
         Some(text) => bare(text),
         None => &[],
     }
@@ -168,22 +168,4 @@ fn trimmed(line: &[u8]) -> &[u8]
     } else {
         line
     }
-}
-
-// The text without the first that it begins with of what may stand before a text.
-fn bare(text: &[u8]) -> &[u8]
-    ensures { result.now ≡ bare text.now }
-{
-    after_any(
-        text,
-        &[
-            "argon2",
-            "{argon2}",
-            "{ARGON2}",
-            "{ARGON2I}",
-            "{ARGON2ID}",
-            "{CRYPT}",
-            "{crypt}",
-        ],
-    )
 }

@@ -5,8 +5,8 @@ ghost use Rattle.argon2_audit_report.specs.Finding.{IsFinding, IsTextFinding};
 
 use crate::claim::{Claim, claim_of, stored};
 use crate::entry::{Entry, shown};
-use crate::place::Place;
-use crate::policy::Policy;
+use crate::field::Field;
+use crate::limits::Limits;
 use argon2::password_hash::Error;
 
 /// What is found in a line.
@@ -31,7 +31,7 @@ pub enum Class {
     Outside,
     /// Its text has no hash.
     NoHash,
-    /// Something of its text is below the policy.
+    /// Something of its text is below the limits.
     Below,
     /// Nothing of its text is.
     Sound,
@@ -50,12 +50,12 @@ pub enum Class {
 }
 
 /// What is found in a line that is not too long.
-pub fn found(line: &[u8], place: Place) -> Finding
+pub fn found(line: &[u8], field: Field) -> Finding
     requires { length line.now ≤ 4096 }
-    ensures { IsFinding place line.now result }
+    ensures { IsFinding field line.now result }
 {
-    match claim_of(line, place) {
-        Claim::Argon2 => found_text(stored(line, place)),
+    match claim_of(line, field) {
+        Claim::Argon2 => found_text(stored(line, field)),
         claim => Finding::Claimed(claim),
     }
 }
@@ -78,15 +78,15 @@ impl Finding {
     ghost use Rattle.argon2_audit_report.specs.Finding.{class_of};
 
     /// What a line of this finding counts as.
-    pub fn class(&self, policy: &Policy) -> Class
-        ensures { result ≡ class_of policy.now self.now }
+    pub fn class(&self, limits: &Limits) -> Class
+        ensures { result ≡ class_of limits.now self.now }
     {
         match self {
             Finding::Claimed(claim) => claim.class(),
             Finding::Shown(entry) => {
                 if entry.hash_len.is_none() {
                     Class::NoHash
-                } else if policy.shortfalls(entry).any() {
+                } else if limits.shortfalls(entry).any() {
                     Class::Below
                 } else {
                     Class::Sound

@@ -4,13 +4,12 @@
 mod audit;
 mod claim;
 mod entry;
+mod field;
 mod finding;
 mod findings;
+mod limits;
 mod line;
 mod options;
-mod place;
-mod policy;
-mod prefixes;
 mod remark;
 mod report;
 pub mod run;
@@ -18,6 +17,6 @@ mod seen;
 mod session;
 mod tally;
 
+pub use field::Field;
+pub use limits::Limits;
 pub use options::{Form, Options};
-pub use place::Place;
-pub use policy::Policy;

@@ -3,8 +3,8 @@
 ghost use Rattle.std.specs.Prelude.{◌≡◌, ◌≤◌, IsTrue, vec_len};
 ghost use Rattle.argon2_audit_report.specs.declared.line.TheConstants.{LONGEST};
 
+use crate::field::Field;
 use crate::finding::{Finding, found};
-use crate::place::Place;
 use std::alloc::{AllocError, Global};
 
 /// The most bytes that a line may have, without its line feed.
@@ -47,15 +47,15 @@ impl Line {
         Ok(())
     }
 
-    /// What is found in the line, with the text at this place of it. Nothing of the next line is read yet.
-    pub fn end(&mut self, place: Place) -> Finding
-        ensures finding { (line : List ℕ) → IsRead self.old line → IsFinding place line result }
+    /// What is found in the line, with the text in this field. Nothing of the next line is read yet.
+    pub fn end(&mut self, field: Field) -> Finding
+        ensures finding { (line : List ℕ) → IsRead self.old line → IsFinding field line result }
         ensures next { IsRead self.new [] }
     {
         let finding = if self.is_long {
             Finding::TooLong
         } else {
-            found(self.bytes.as_slice(), place)
+            found(self.bytes.as_slice(), field)
         };
         self.bytes.clear();
         self.is_long = false;

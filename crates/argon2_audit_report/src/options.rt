@@ -1,7 +1,7 @@
 //! What an audit is asked for.
 
-use crate::place::Place;
-use crate::policy::Policy;
+use crate::field::Field;
+use crate::limits::Limits;
 
 /// What is written.
 #[derive(Clone, Copy, PartialEq, Eq)]
@@ -17,7 +17,7 @@ pub enum Form {
 /// What an audit is asked for.
 #[derive(Clone, Copy)]
 pub struct Options {
-    pub policy: Policy,
-    pub place: Place,
+    pub limits: Limits,
+    pub field: Field,
     pub form: Form,
 }

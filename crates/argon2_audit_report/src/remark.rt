@@ -6,7 +6,7 @@ use argon2::password_hash::Error;
 use argon2::{Algorithm, Version};
 use std::fmt;
 
-/// What keeps a line from being sound, and what it has beside what a policy asks for.
+/// What keeps a line from being sound, and what it has beside what the limits ask for.
 #[derive(Drop)]
 pub enum Remark<'a> {
     TooLong,

@@ -4,7 +4,7 @@ use crate::audit::Audit;
 use crate::claim::Claim;
 use crate::entry::Entry;
 use crate::finding::Finding;
-use crate::policy::Policy;
+use crate::limits::Limits;
 use crate::remark::Remark;
 use crate::tally::Marks;
 use argon2_failure::Failure;
@@ -45,7 +45,7 @@ pub fn remark_on<S: Remarks>(
     remarks: &mut S,
     number: u64,
     finding: &Finding,
-    policy: &Policy,
+    limits: &Limits,
     marks: Marks,
 ) -> Result<(), Failure> {
     match finding {
@@ -53,13 +53,13 @@ pub fn remark_on<S: Remarks>(
         Finding::NotUtf8 => remarks.add(number, &Remark::NotUtf8)?,
         Finding::Refused(error) => remarks.add(number, &Remark::Refused(error))?,
         Finding::Claimed(claim) => {
-            if !(policy.allows_other && is_allowed(*claim)) {
+            if !(limits.allows_other && is_allowed(*claim)) {
                 remarks.add(number, &Remark::Claimed(*claim))?;
             }
         }
         Finding::Shown(entry) => {
-            remark_on_costs(remarks, number, entry, policy)?;
-            remark_on_lengths(remarks, number, entry, policy)?;
+            remark_on_costs(remarks, number, entry, limits)?;
+            remark_on_lengths(remarks, number, entry, limits)?;
         }
     }
     if marks.equal_salt {
@@ -68,27 +68,27 @@ pub fn remark_on<S: Remarks>(
     Ok(())
 }
 
-// Says which algorithm, version and costs are below the policy.
+// Says which algorithm, version and costs are below the limits.
 fn remark_on_costs<S: Remarks>(
     remarks: &mut S,
     number: u64,
     entry: &Entry,
-    policy: &Policy,
+    limits: &Limits,
 ) -> Result<(), Failure> {
-    let (short, kind) = (policy.shortfalls(entry), &entry.kind);
+    let (short, kind) = (limits.shortfalls(entry), &entry.kind);
     for (is_short, name, has, least) in [
-        (short.memory, "m", kind.m_cost, policy.m_cost),
-        (short.passes, "t", kind.t_cost, policy.t_cost),
-        (short.lanes, "p", kind.p_cost, policy.p_cost),
+        (short.memory, "m", kind.m_cost, limits.m_cost),
+        (short.passes, "t", kind.t_cost, limits.t_cost),
+        (short.lanes, "p", kind.p_cost, limits.p_cost),
     ] {
         if is_short {
             remarks.add(number, &Remark::Cost(name, has, least))?;
         }
     }
     if short.version {
-        remarks.add(number, &Remark::Version(kind.version, policy.version))?;
+        remarks.add(number, &Remark::Version(kind.version, limits.version))?;
     }
-    match policy.algorithm {
+    match limits.algorithm {
         Some(required) if short.algorithm => {
             remarks.add(number, &Remark::Algorithm(kind.algorithm, required))
         }
@@ -96,24 +96,24 @@ fn remark_on_costs<S: Remarks>(
     }
 }
 
-// Says which lengths are below the policy.
+// Says which lengths are below the limits.
 fn remark_on_lengths<S: Remarks>(
     remarks: &mut S,
     number: u64,
     entry: &Entry,
-    policy: &Policy,
+    limits: &Limits,
 ) -> Result<(), Failure> {
-    let short = policy.shortfalls(entry);
+    let short = limits.shortfalls(entry);
     if short.salt {
         let remark = match entry.salt {
-            Some(_) => Remark::SaltLen(entry.salt_len(), policy.salt_len),
+            Some(_) => Remark::SaltLen(entry.salt_len(), limits.salt_len),
             None => Remark::NoSalt,
         };
         remarks.add(number, &remark)?;
     }
     match entry.hash_len {
         None => remarks.add(number, &Remark::NoHash),
-        Some(len) if short.hash => remarks.add(number, &Remark::HashLen(len, policy.hash_len)),
+        Some(len) if short.hash => remarks.add(number, &Remark::HashLen(len, limits.hash_len)),
         Some(_) => Ok(()),
     }
 }

@@ -35,7 +35,7 @@ const STRIDE: u64 = 256;
 /// Audits the lines of `input`, and returns the exit status.
 ///
 /// Status 0: the report is written, each line counts as sound and no two salts are equal. A text of another scheme, a
-/// locked line, a blank one and a comment count as sound only if the policy allows other schemes. Status 1: the report
+/// locked line, a blank one and a comment count as sound only if the limits allow other schemes. Status 1: the report
 /// is written, and that is not so. Status 3: the failure's text is written to `errors`, which gets none if nobody reads
 /// `output` any more.
 ///
@@ -79,7 +79,7 @@ fn report_on<R: Read, W: Write, E: Write>(
     ensures quiet { IsFalse shows_progress → Keeps (E.contents errors.old) (E.contents errors.new) }
 {
     let tally = write_report(alloc, options, input, output, errors, shows_progress)?;
-    Ok(tally.is_clean(&options.policy))
+    Ok(tally.is_clean(&options.limits))
 }
 
 // Writes the report on all lines, and returns the counts.

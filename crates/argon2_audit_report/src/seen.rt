@@ -1,6 +1,8 @@
 //! What texts there were so far.
 
-ghost use Rattle.std.specs.Prelude.{◌≡◌};
+ghost use Rattle.std.specs.Prelude.{◌≡◌, ◌≤◌, ◌||◌, ℕ, List, IfOk, OnOk, length, not};
+ghost use Rattle.std.specs.Str.{bytes_eq};
+ghost use Rattle.argon2_audit_report.specs.Seen.{has_key};
 
 use crate::claim::Scheme;
 use crate::entry::{Entry, Kind};
@@ -15,11 +17,14 @@ pub struct Seen {
     pub kinds: BTreeMap<Kind, u64>,
     /// How many texts there were of each other scheme.
     pub schemes: BTreeMap<Scheme, u64>,
-    salts: BTreeSet<ArrayVec<u8, 48>>,
+    // Salts of up to 24 bytes, as most are, and longer ones.
+    short: BTreeSet<ArrayVec<u8, 24>>,
+    long: BTreeSet<ArrayVec<u8, 48>>,
 }
 
 impl Seen {
-    ghost use Rattle.std.specs.Prelude.{◌≡◌, ◌||◌, ℕ, List, false, IfOk, OnOk};
+    ghost use Rattle.std.specs.Prelude.{◌≡◌, ◌||◌, ℕ, List, false, IfOk, OnOk, not};
+    ghost use Rattle.std.specs.Str.{bytes_eq};
     ghost use Rattle.argon2_audit_report.specs.Seen.{has_any, has_salt, is_salt};
 
     /// No texts.
@@ -29,7 +34,8 @@ impl Seen {
         Seen {
             kinds: BTreeMap::new(alloc),
             schemes: BTreeMap::new(alloc),
-            salts: BTreeSet::new(alloc),
+            short: BTreeSet::new(alloc),
+            long: BTreeSet::new(alloc),
         }
     }
 
@@ -43,12 +49,25 @@ impl Seen {
             → has_salt self.new salt ≡ (is_salt entry.now.salt salt || has_salt self.old salt)) }
     {
         let is_equal = match &entry.salt {
-            Some(salt) => !self.salts.insert(key(salt))?,
+            Some(salt) => !self.keep(salt)?,
             None => false,
         };
         let count = self.kinds.entry(entry.kind)?.or_insert(0);
         *count = count.saturating_add(1);
         Ok(is_equal)
+    }
+
+    // Keeps a salt, and returns whether it is new.
+    fn keep(&mut self, salt: &Salt) -> Result<bool, AllocError>
+        ensures new { IfOk result (λ new. new ≡ not (has_salt self.old salt.now)) }
+        ensures kept { OnOk result ((other : List ℕ)
+            → has_salt self.new other ≡ (bytes_eq salt.now other || has_salt self.old other)) }
+    {
+        if salt.len() <= 24 {
+            insert(&mut self.short, salt.as_bytes())
+        } else {
+            insert(&mut self.long, salt.as_bytes())
+        }
     }
 
     /// Counts a text of another scheme.
@@ -64,11 +83,17 @@ impl Seen {
     }
 }
 
-// The bytes of a salt.
-fn key(salt: &Salt) -> ArrayVec<u8, 48>
-    ensures { result.items ≡ salt.now }
+// Adds a key with these bytes, and returns whether it is new.
+fn insert<const N: usize>(
+    keys: &mut BTreeSet<ArrayVec<u8, N>>,
+    bytes: &[u8],
+) -> Result<bool, AllocError>
+    requires { length bytes.now ≤ N }
+    ensures new { IfOk result (λ new. new ≡ not (has_key keys.old bytes.now)) }
+    ensures kept { OnOk result ((other : List ℕ)
+        → has_key keys.new other ≡ (bytes_eq bytes.now other || has_key keys.old other)) }
 {
     let mut key = ArrayVec::new();
-    let _fits = key.try_extend_from_slice(salt.as_bytes());
-    key
+    let _fits = key.try_extend_from_slice(bytes);
+    Ok(keys.insert(key)?)
 }

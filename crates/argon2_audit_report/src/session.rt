@@ -87,9 +87,9 @@ impl Session {
             → ¬ IsRead self.old.line []
             → IsTallied self.old.audit.options bytes self.new.audit.tally) }
     {
-        let finding = self.line.end(self.audit.options.place);
+        let finding = self.line.end(self.audit.options.field);
         let marks = self.audit.add(&finding)?;
         let number = self.audit.tally.lines;
-        remark_on(remarks, number, &finding, &self.audit.options.policy, marks)
+        remark_on(remarks, number, &finding, &self.audit.options.limits, marks)
     }
 }

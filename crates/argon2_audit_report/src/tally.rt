@@ -3,13 +3,13 @@
 ghost use Rattle.std.specs.Prelude.{◌≡◌, ◌≤◌, ◌+◌};
 
 use crate::finding::Class;
-use crate::policy::Policy;
+use crate::limits::Limits;
 
 /// What a line is counted as.
 #[derive(Clone, Copy)]
 pub struct Marks {
     pub class: Class,
-    /// The salt is shorter than the policy's, or missing.
+    /// The salt is shorter than the limits ask for, or missing.
     pub short_salt: bool,
     /// The salt is that of an earlier line.
     pub equal_salt: bool,
@@ -83,11 +83,11 @@ impl Tally {
     }
 
     /// Whether each line counts as sound, and no salt was there before.
-    pub fn is_clean(&self, policy: &Policy) -> bool
-        ensures { IsTrue result ↔ IsClean policy.now self.now }
+    pub fn is_clean(&self, limits: &Limits) -> bool
+        ensures { IsTrue result ↔ IsClean limits.now self.now }
     {
         let mut accepted = self.sound;
-        if policy.allows_other {
+        if limits.allows_other {
             accepted += self.other + self.locked + self.blank + self.comment;
         }
         accepted == self.lines && self.equal_salts == 0

@@ -1,4 +1,4 @@
-use Rattle.std.proofs.Common.{arith}
+use Rattle.std.proofs.Common.{arith, rules}
 use Rattle.argon2_audit_report.proofs.Objects.{at_last, further, one}
 use Rattle.argon2_audit_report.proofs.findings.write_counts.Goals as goal
 
@@ -19,47 +19,5 @@ returns c =
           c.in_ok-write_number-11.ensures.added)
           c.in_ok-write_number-12.ensures.added)
           c.in_ok-write_number-13.ensures.added) last,
-      (
-        (
-          c.write_number.ensures.number,
-          (
-            c.write_number-2.ensures.number,
-            (
-              c.write_number-3.ensures.number,
-              (
-                c.write_number-4.ensures.number,
-                (
-                  c.write_number-5.ensures.number,
-                  (
-                    c.write_number-6.ensures.number,
-                    (
-                      c.write_number-7.ensures.number,
-                      (
-                        c.write_number-8.ensures.number,
-                        (
-                          c.write_number-9.ensures.number,
-                          (
-                            c.write_number-10.ensures.number,
-                            (
-                              c.write_number-11.ensures.number,
-                              (
-                                c.write_number-12.ensures.number,
-                                (
-                                  c.write_number-13.ensures.number,
-                                  tt,
-                                ),
-                              ),
-                            ),
-                          ),
-                        ),
-                      ),
-                    ),
-                  ),
-                ),
-              ),
-            ),
-          ),
-        ),
-        omega arith,
-      ),
+      (search rules, omega arith),
     ))

@@ -1,5 +1,5 @@
 -- How a text begins.
-use Rattle.std.specs.Prelude.{ℕ, ◌==◌, Bool, List, [], ◌∷◌, drop, length, if◌then◌else◌}
+use Rattle.std.specs.Prelude.{ℕ, ◌==◌, Bool, List, [], ◌∷◌, codes, drop, length, if◌then◌else◌}
 use Rattle.std.specs.List.{list_any, starts_with}
 
 abbrev pub begins : List ℕ → List ℕ → Bool
@@ -13,3 +13,8 @@ begins_any prefixes text = list_any (begins text) prefixes
 abbrev pub after_any : List (List ℕ) → List ℕ → List ℕ
 after_any [] text = text
 after_any (prefix ∷ prefixes) text = if begins text prefix then drop (length prefix) text else after_any prefixes text
+
+-- a text without what Django, Dovecot and LDAP servers put before one
+abbrev pub bare : List ℕ → List ℕ
+bare text = after_any (codes "argon2" ∷ codes "{argon2}" ∷ codes "{ARGON2}" ∷ codes "{ARGON2I}" ∷ codes "{ARGON2ID}"
+    ∷ codes "{CRYPT}" ∷ codes "{crypt}" ∷ []) text

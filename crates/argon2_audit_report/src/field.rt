@@ -1,27 +1,27 @@
-//! Where the text stands in a line.
+//! Which field of a line is its text.
 
 ghost use Rattle.std.specs.Prelude.{◌≡◌, ◌==◌, ◌≤◌, length};
 ghost use Rattle.std.specs.Option.{option_copied};
 ghost use Rattle.std.specs.List.{list_all, position_or_len};
-ghost use Rattle.argon2_audit_report.specs.Place.{field_numbered, has_numbers, is_number, is_werkzeug, second_or_all};
+ghost use Rattle.argon2_audit_report.specs.Field.{field_numbered, has_numbers, is_number, is_werkzeug, second_or_all};
 
-use crate::prefixes::{after_any, begins_any};
+use argon2_prefixes::{after_any, begins_any};
 use memchr::memchr;
 
 /// Which of a line's fields is its text.
 #[derive(Clone, Copy)]
-pub struct Place {
+pub struct Field {
     /// How many fields stand before it; none where it is the second, or all of a line with one field or of a text of Werkzeug.
     pub before: Option<u32>,
     /// The byte between two fields.
     pub separator: u8,
 }
 
-impl Place {
-    ghost use Rattle.argon2_audit_report.specs.Place.{field_in};
+impl Field {
+    ghost use Rattle.argon2_audit_report.specs.Field.{field_in};
 
-    /// The field with the text, where the line has it.
-    pub fn field<'a>(self, line: &'a [u8]) -> Option<&'a [u8]>
+    /// The text in the field, where the line has it.
+    pub fn text<'a>(self, line: &'a [u8]) -> Option<&'a [u8]>
         ensures { option_copied result ≡ field_in self line.now }
     {
         match self.before {

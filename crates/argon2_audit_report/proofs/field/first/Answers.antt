@@ -1,6 +1,6 @@
 use Rattle.std.proofs.Common.{ℕ, Bool, ◌==◌, rules}
 use Rattle.argon2_audit_report.proofs.First.{first_place}
-use Rattle.argon2_audit_report.proofs.place.first.Goals as goal
+use Rattle.argon2_audit_report.proofs.field.first.Goals as goal
 
 pub returns-clause-value : goal.returns-clause-value
 returns-clause-value c =

@@ -1,9 +1,9 @@
--- Where the text stands in a line.
+-- Which field of a line is its text.
 use Rattle.std.specs.Prelude.{ℕ, zero, suc, ◌==◌, nat_lt, ◌&&◌, ◌||◌, Bool, List, [], ◌∷◌, codes, get_or, length, if◌then◌else◌, Option, Some, None}
 use Rattle.std.specs.Char.{is_ascii_digit}
 use Rattle.std.specs.List.{after_first, before_first, list_all, position_or_len}
-use Rattle.argon2_audit_report.specs.Prefixes.{after_any, begins_any}
-use Rattle.argon2_audit_report.specs.declared.place.Place.{Place}
+use Rattle.argon2_prefixes.specs.Prefixes.{after_any, begins_any}
+use Rattle.argon2_audit_report.specs.declared.field.Field.{Field}
 
 -- a separator stands in the line
 abbrev pub is_cut : ℕ → List ℕ → Bool
@@ -41,5 +41,5 @@ abbrev pub field_by : Option ℕ → ℕ → List ℕ → Option (List ℕ)
 field_by None separator line = Some (if is_werkzeug line then line else second_or_all separator line)
 field_by (Some before) separator line = field_numbered before separator line
 
-abbrev pub field_in : Place → List ℕ → Option (List ℕ)
-field_in place line = field_by place.before place.separator line
+abbrev pub field_in : Field → List ℕ → Option (List ℕ)
+field_in field line = field_by field.before field.separator line

@@ -1,4 +1,4 @@
-use Rattle.argon2_audit_report.proofs.place.+field_numbered.Given as goal
+use Rattle.argon2_audit_report.proofs.field.+field_numbered.Given as goal
 
 abbrev pub decreases-field_numbered : goal.decreases-field_numbered
 decreases-field_numbered l = l.before

@@ -1,6 +1,6 @@
 use Rattle.std.proofs.Common.{◌≡◌, ◌∙◌, Bool, false, List, ℕ, ◌∷◌, drop, length, map, ap, sym, if◌then◌else◌}
-use Rattle.argon2_audit_report.specs.Prefixes.{after_any, begins}
-use Rattle.argon2_audit_report.proofs.prefixes.+after_any.Goals as goal
+use Rattle.argon2_prefixes.specs.Prefixes.{after_any, begins}
+use Rattle.argon2_prefixes.proofs.+after_any.Goals as goal
 
 pub returns-then-not-starts_with : goal.returns-then-not-starts_with
 returns-then-not-starts_with t c =

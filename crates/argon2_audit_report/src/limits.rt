@@ -7,7 +7,7 @@ use argon2::Algorithm;
 
 /// The least costs, lengths and version, the algorithm, and whether other schemes count as sound.
 #[derive(Clone, Copy)]
-pub struct Policy {
+pub struct Limits {
     /// Memory in blocks of 1024 bytes.
     pub m_cost: u32,
     /// Passes.
@@ -26,7 +26,7 @@ pub struct Policy {
     pub allows_other: bool,
 }
 
-/// What of a text is below a policy.
+/// What of a text is below limits.
 #[derive(Clone, Copy)]
 pub struct Shortfalls {
     pub memory: bool,
@@ -38,10 +38,10 @@ pub struct Shortfalls {
     pub algorithm: bool,
 }
 
-impl Policy {
-    ghost use Rattle.argon2_audit_report.specs.Policy.{shortfalls_of};
+impl Limits {
+    ghost use Rattle.argon2_audit_report.specs.Limits.{shortfalls_of};
 
-    /// What of a text is below the policy. A salt or a hash that is missing has no bytes.
+    /// What of a text is below the limits. A salt or a hash that is missing has no bytes.
     pub fn shortfalls(&self, entry: &Entry) -> Shortfalls
         ensures { result ≡ shortfalls_of self.now entry.now }
     {
@@ -59,8 +59,8 @@ impl Policy {
     }
 }
 
-impl Policy {
-    ghost use Rattle.argon2_audit_report.specs.Policy.{is_refused};
+impl Limits {
+    ghost use Rattle.argon2_audit_report.specs.Limits.{is_refused};
 
     // Whether another algorithm is required.
     fn refuses(&self, algorithm: Algorithm) -> bool
@@ -74,9 +74,9 @@ impl Policy {
 }
 
 impl Shortfalls {
-    ghost use Rattle.argon2_audit_report.specs.Policy.{is_any};
+    ghost use Rattle.argon2_audit_report.specs.Limits.{is_any};
 
-    /// Whether anything is below the policy.
+    /// Whether anything is below the limits.
     pub fn any(&self) -> bool
         ensures { result ≡ is_any self.now }
     {
