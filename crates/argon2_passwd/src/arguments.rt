@@ -35,7 +35,8 @@ most 4096 bytes.
   remove FILE NAME    remove the name with its text
   list FILE           write the names, one a line, in the order of their bytes
   export FILE         write the same lines with a colon and the text behind each name
-  import FILE         add all names and texts of standard input, in the form that export writes, or none
+  import FILE         add all names and texts of standard input, in the form that export writes, or none;
+                      texts are Argon2's, unless --any-text is given
 
 FILE is a SQLite database that survives a crash at any moment. register and import make it if there is none.
 It may also stand before the command's word. A path that is such a word is written with ./ before it.";
@@ -75,7 +76,7 @@ pub fn parsed<'a>(alloc: Global, words: &'a [String]) -> Result<Command<'a>, Err
         }
     }
     let words = matches.get_strs("COMMAND").unwrap_or(&[]);
-    match task(options, words) {
+    match task(options, matches.get_flag("any-text"), words) {
         Some(task) => Ok(task),
         None => Err(unknown(&mut command, alloc, words)?),
     }
@@ -96,11 +97,13 @@ fn unknown(
 }
 
 // What words ask for under these options.
-fn task<'a>(options: Options<'a>, words: &[&'a str]) -> Option<Command<'a>> {
+fn task<'a>(options: Options<'a>, any_text: bool, words: &[&'a str]) -> Option<Command<'a>> {
     match words {
         [word] if *word == "hash" => Some(Command::Hash(options)),
         [word, text] if *word == "check" => Some(Command::Check(options, text)),
-        [first, second] => { on_file(options, first, second).or(on_file(options, second, first)) }
+        [first, second] => on_file(options, any_text, first, second).or(on_file(
+            options, any_text, second, first,
+        )),
         [first, second, name] => {
             on_name(options, first, second, name).or(on_name(options, second, first, name))
         }
@@ -109,11 +112,16 @@ fn task<'a>(options: Options<'a>, words: &[&'a str]) -> Option<Command<'a>> {
 }
 
 // What a word asks for of a file.
-fn on_file<'a>(options: Options<'a>, word: &str, file: &'a str) -> Option<Command<'a>> {
+fn on_file<'a>(
+    options: Options<'a>,
+    any_text: bool,
+    word: &str,
+    file: &'a str,
+) -> Option<Command<'a>> {
     match word {
         "list" => Some(Command::Show(options, file, View::Names)),
         "export" => Some(Command::Show(options, file, View::Texts)),
-        "import" => Some(Command::Import(options, file)),
+        "import" => Some(Command::Import(options, file, any_text)),
         _ => None,
     }
 }
@@ -182,6 +190,12 @@ fn command<'a>(alloc: Global) -> Result<clap::Command<'a>, AllocError> {
                 .long("secret-file")
                 .value_name("PATH")
                 .help("The file's bytes, 1 to 4096 of them, are the secret of all texts"),
+        )?
+        .arg(
+            Arg::new(alloc, "any-text")
+                .long("any-text")
+                .action(ArgAction::SetTrue)
+                .help("`import` takes texts of other schemes too"),
         )?
         .arg(
             Arg::new(alloc, "COMMAND")

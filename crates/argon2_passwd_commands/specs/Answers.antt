@@ -1,7 +1,7 @@
 -- What the program answers.
-use Rattle.std.specs.Prelude.{◌≡◌, ◌⊎◌, ⊤, ℕ, ◌==◌, false, Bool, ◌||◌, ◌+◌, IsTrue, List, [], ◌∷◌, ◌++◌, map, if◌then◌else◌, Option, Some, None, IfSome, Result, Ok, Err}
+use Rattle.std.specs.Prelude.{◌≡◌, ◌⊎◌, ⊤, ℕ, ◌==◌, false, Bool, ◌||◌, ◌+◌, IsOk, IsTrue, List, [], ◌∷◌, ◌++◌, if◌then◌else◌, Option, Some, None, IfSome, Result, Ok, Err}
 use Rattle.std.specs.Io.BufRead.{drop_through}
-use Rattle.std.specs.List.{after_first, before_first, list_any}
+use Rattle.std.specs.List.{AllZip, after_first, before_first, list_any}
 use Rattle.std.specs.Option.{option_map}
 use Rattle.std.specs.Io.KnownBytes.{Appends, Keeps}
 use Rattle.std.specs.Str.{is_utf8}
@@ -13,9 +13,11 @@ use Rattle.argon2.specs.Argon2.{argon2id_with}
 use Rattle.argon2.specs.Login.{accepted_text}
 use Rattle.argon2.specs.NamedTexts.{Store}
 use Rattle.argon2.specs.Made.{IsFresh}
+use Rattle.argon2.specs.Stored.{shown_settings}
 use Rattle.argon2.specs.declared.login.answers.Accepted.{Accepted}
 use Rattle.argon2.specs.declared.login.answers.Accepted.TheVariants.{Rehashed}
 use Rattle.argon2_accounts.specs.declared.error.AccountError.{AccountError}
+use Rattle.argon2_prefixes.specs.Prefixes.{bare}
 use Rattle.argon2_store.specs.AccountFile.{AddsOrNone, Call, HasNames, IsReady, Serves, Stays, store_of}
 use Rattle.argon2_store.specs.Adding.{IsFirstRefused}
 use Rattle.argon2_store.specs.Rows.{lines_of}
@@ -114,13 +116,26 @@ call_of Change name first second drawn = changing name first second drawn
 call_of Set name first second drawn = setting name first drawn
 call_of Remove name first second drawn = removing name
 
--- the name and the text of a line: no text where it has no colon, and neither where it is not UTF-8
-abbrev pub entry_in : List ℕ → List ℕ × List ℕ
-entry_in line = if is_utf8 line then (before_first (λ b. b == 58) line, after_first (λ b. b == 58) line) else ([], [])
+-- the parts of a line at its first colon: no text where it has none, and neither where it is not UTF-8
+abbrev pub parts_of : List ℕ → List ℕ × List ℕ
+parts_of line = if is_utf8 line then (before_first (λ b. b == 58) line, after_first (λ b. b == 58) line) else ([], [])
+
+-- the text of a value that shows settings of Argon2
+abbrev pub IsArgon2 : List ℕ → Type 0
+IsArgon2 text = (v : Phc) × PhcText text v × IsOk (shown_settings v)
+
+-- the text that is added for one without what other programs put before it: none unless it is Argon2's or any is taken
+abbrev pub IsTaken : Bool → List ℕ → List ℕ → Type 0
+IsTaken any_text text taken = ((taken ≡ text) × (IsTrue any_text ⊎ IsArgon2 text))
+    ⊎ ((taken ≡ []) × (any_text ≡ false) × ¬ (IsArgon2 text))
+
+-- the name of a line, and the text that is added for its text
+abbrev pub IsEntry : Bool → List ℕ → List ℕ × List ℕ → Type 0
+IsEntry any_text line e = (e.0 ≡ (parts_of line).0) × IsTaken any_text (bare (parts_of line).1) e.1
 
 -- those of all lines
-abbrev pub entries_in : List ℕ → List (List ℕ × List ℕ)
-entries_in input = map entry_in (lines input)
+abbrev pub AreEntries : Bool → List ℕ → List (List ℕ × List ℕ) → Type 0
+AreEntries any_text input es = AllZip (IsEntry any_text) (lines input) es
 
 -- one of the entries is the first that is refused, and none is added; the failure has its line and the reason
 abbrev pub RefusesLine : {S : Type 0} {g : Ghosts S} → Failure → List (List ℕ × List ℕ) → AccountFile S g → AccountFile S g
@@ -169,10 +184,10 @@ module _ {S : Type 0} (g : Ghosts S) (Holds : List ℕ → List ℕ → Type 0) 
       → Stays error names before after × (IsHonest g (store_of after) → Shows names))
 
   -- that was the addition of the entries that a known input has, and the answer to it
-  abbrev pub IsImported : Choices → List ℕ → (List (List ℕ × List ℕ) → AccountFile S g → AccountFile S g → Type 0)
+  abbrev pub IsImported : Choices → List ℕ → Bool → (List (List ℕ × List ℕ) → AccountFile S g → AccountFile S g → Type 0)
       → Option (List ℕ) → (Option S → Type 0) → Type 0
-  IsImported choices path Adds input Becomes = (es : List (List ℕ × List ℕ))
-      × IfSome input (λ bytes. es ≡ entries_in bytes) × IsDone choices path (λ drawn. Adds es) Becomes
+  IsImported choices path any_text Adds input Becomes = (es : List (List ℕ × List ℕ))
+      × IfSome input (λ bytes. AreEntries any_text bytes es) × IsDone choices path (λ drawn. Adds es) Becomes
 
   -- what is asked for is answered
   abbrev pub IsAnswered : Asked → Option (List ℕ) → Option (List ℕ) → Option (List ℕ) → (Option S → Type 0) → Type 0
@@ -186,8 +201,8 @@ module _ {S : Type 0} (g : Ghosts S) (Holds : List ℕ → List ℕ → Type 0) 
       IsEdited choices path act name (Ok tt) input Becomes × Keeps old new
   IsAnswered (show choices path view) input old new Becomes =
       IsRead choices path None (λ names. Appends old new (lines_of view names)) Becomes
-  IsAnswered (import choices path) input old new Becomes =
-      IsImported choices path (λ es. AddsOrNone es (Ok tt)) input Becomes × Keeps old new
+  IsAnswered (import choices path any_text) input old new Becomes =
+      IsImported choices path any_text (λ es. AddsOrNone es (Ok tt)) input Becomes × Keeps old new
 
   -- what is asked for is refused
   abbrev pub IsRefused : Asked → Option (List ℕ) → (Option S → Type 0) → Type 0
@@ -201,8 +216,8 @@ module _ {S : Type 0} (g : Ghosts S) (Holds : List ℕ → List ℕ → Type 0) 
       ((IsTrue (breaks_lines act name) ⊎ AreUnread act input ⊎ IsRefusedBy Holds choices (λ terms. ⊥)) × Becomes None)
       ⊎ ((e : AccountError) × IsEdited choices path act name (Err (Account e)) input Becomes)
   IsRefused (show choices path view) input Becomes = IsRefusedBy Holds choices (λ terms. ⊥) × Becomes None
-  IsRefused (import choices path) input Becomes = (IsRefusedBy Holds choices (λ terms. ⊥) × Becomes None)
-      ⊎ ((failure : Failure) × IsImported choices path (RefusesLine failure) input Becomes)
+  IsRefused (import choices path any_text) input Becomes = (IsRefusedBy Holds choices (λ terms. ⊥) × Becomes None)
+      ⊎ ((failure : Failure) × IsImported choices path any_text (RefusesLine failure) input Becomes)
 
   -- all that was done with a file, whatever the status: it was not opened, or one call was made, with some answer
   abbrev pub IsOnce : Asked → Option (List ℕ) → (Option S → Type 0) → Type 0
@@ -212,5 +227,5 @@ module _ {S : Type 0} (g : Ghosts S) (Holds : List ℕ → List ℕ → Type 0) 
       Becomes None ⊎ ((answer : Result (Unit {0}) FileError) × IsEdited choices path act name answer input Becomes)
   IsOnce (show choices path view) input Becomes =
       Becomes None ⊎ ((error : Option FileError) × IsRead choices path error (λ names. ⊤) Becomes)
-  IsOnce (import choices path) input Becomes = Becomes None ⊎ IsImported choices path IsAdded input Becomes
+  IsOnce (import choices path any_text) input Becomes = Becomes None ⊎ IsImported choices path any_text IsAdded input Becomes
   IsOnce _ input Becomes = Becomes None

@@ -1,5 +1,5 @@
 -- What the program is asked for.
-use Rattle.std.specs.Prelude.{List, ℕ, Option, max, unwrap_or}
+use Rattle.std.specs.Prelude.{Bool, List, ℕ, Option, max, unwrap_or}
 use Rattle.std.specs.Option.{option_copied}
 use Rattle.argon2.specs.Params.{parameters_of}
 use Rattle.argon2.specs.Settings.{Parameters}
@@ -23,7 +23,7 @@ pub data Asked : Type 0 where
   verify : Choices → List ℕ → List ℕ → Asked
   edit : Choices → List ℕ → Edit → List ℕ → Asked
   show : Choices → List ℕ → View → Asked
-  import : Choices → List ℕ → Asked
+  import : Choices → List ℕ → Bool → Asked
 
 abbrev pub choices_of : Options → Choices
 choices_of options = record {
@@ -38,7 +38,7 @@ asked (Check options text) = check (choices_of options) text.now
 asked (Verify options file name) = verify (choices_of options) file.now name.now
 asked (Edits options file change name) = edit (choices_of options) file.now change name.now
 asked (Show options file view) = show (choices_of options) file.now view
-asked (Import options file) = import (choices_of options) file.now
+asked (Import options file any_text) = import (choices_of options) file.now any_text
 
 -- the bound that is given, or 2 GiB, 64 passes and 64 lanes, and no less than the parameters
 abbrev pub bound_of : Choices → Bound

@@ -16,8 +16,8 @@ pub enum Command<'a> {
     Edit(Options<'a>, &'a str, Edit, &'a str),
     /// `list FILE` or `export FILE`: what a file has.
     Show(Options<'a>, &'a str, View),
-    /// `import FILE`: names with their texts for a file.
-    Import(Options<'a>, &'a str),
+    /// `import FILE`: names with their texts for a file, also texts of other schemes if this is true.
+    Import(Options<'a>, &'a str, bool),
 }
 
 impl<'a> Command<'a> {

@@ -1,12 +1,15 @@
 //! Names with their texts, each a line of standard input.
 
-ghost use Rattle.std.specs.Prelude.{◌≡◌, IfErr, IfOk, IfSome, map};
+ghost use Rattle.std.specs.Prelude.{◌≡◌, ◌↔◌, IfErr, IfOk, IfSome, IsTrue, map};
 ghost use Rattle.argon2_store.specs.Adding.{entry_of};
-ghost use Rattle.argon2_passwd_commands.specs.Answers.{entries_in, entry_in};
+ghost use Rattle.argon2_passwd_commands.specs.Answers.{AreEntries, IsArgon2, IsEntry, parts_of};
 ghost use Rattle.argon2_passwd_commands.specs.Failures.{status_of};
 
 use crate::failure::{Failure, of_reading};
 use crate::passwords::line_len;
+use argon2::PasswordHash;
+use argon2::password_hash::Settings;
+use argon2_prefixes::bare_str;
 use std::alloc::{AllocError, Global};
 use std::io::BufRead;
 use std::str;
@@ -25,22 +28,53 @@ pub fn read_all<R: BufRead>(alloc: Global, input: &mut R) -> Result<Vec<u8>, Fai
 }
 
 /// The name and the text of each line.
-pub fn entries<'a>(alloc: Global, input: &'a [u8]) -> Result<Vec<(&'a str, &'a str)>, AllocError>
-    ensures { IfOk result (λ found. map entry_of found.items ≡ entries_in input.now) }
+pub fn entries<'a>(
+    alloc: Global,
+    input: &'a [u8],
+    any_text: bool,
+) -> Result<Vec<(&'a str, &'a str)>, AllocError>
+    ensures { IfOk result (λ found. AreEntries any_text input.now (map entry_of found.items)) }
 {
     let mut found = Vec::new(alloc);
     for line in input.split_inclusive(|byte| *byte == b'\n') {
-        found.push(entry(&line[..line_len(line)]))?;
+        found.push(entry(&line[..line_len(line)], any_text))?;
     }
     Ok(found)
 }
 
-// The name and the text of a line: no text where it has no colon, and neither where it is not UTF-8.
-fn entry(line: &[u8]) -> (&str, &str)
-    ensures { entry_of result ≡ entry_in line.now }
+// The name and the text of a line, without what other programs put before a text. The text is empty, which no file takes,
+// unless it is one of Argon2 or any text is taken.
+fn entry(line: &[u8], any_text: bool) -> (&str, &str)
+    ensures { IsEntry any_text line.now (entry_of result) }
+{
+    let (name, text) = parts(line);
+    let text = bare_str(text);
+    if any_text {
+        return (name, text);
+    }
+    if is_argon2(text) {
+        (name, text)
+    } else {
+        (name, "")
+    }
+}
+
+// The parts of a line at its first colon: no text where it has none, and neither where it is not UTF-8.
+fn parts(line: &[u8]) -> (&str, &str)
+    ensures { entry_of result ≡ parts_of line.now }
 {
     match str::from_utf8(line) {
         Ok(line) => line.split_once(':').unwrap_or((line, "")),
         Err(_) => ("", ""),
+    }
+}
+
+// Whether a text is of Argon2, with valid parameters.
+fn is_argon2(text: &str) -> bool
+    ensures { IsTrue result ↔ IsArgon2 text.now }
+{
+    match PasswordHash::new(text) {
+        Ok(hash) => Settings::try_from(&hash).is_ok(),
+        Err(_) => false,
     }
 }

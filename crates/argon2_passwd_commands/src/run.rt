@@ -115,8 +115,8 @@ fn answer<P: Outside, R: BufRead, W: Write>(
         Command::Show(options, file, view) => accounts::show(
             alloc, &options, outside, left, file, view, output,
         ),
-        Command::Import(options, file) => accounts::import(
-            alloc, &options, outside, left, file, input,
+        Command::Import(options, file, any_text) => accounts::import(
+            alloc, &options, outside, left, file, any_text, input,
         ),
     }
 }

@@ -139,22 +139,23 @@ pub fn import<P: Outside, R: BufRead>(
     outside: &mut P,
     left: &mut Option<P::File>,
     file: &str,
+    any_text: bool,
     input: &mut R,
 ) -> Result<(), Failure>
     requires { P.unopened outside.old }
     ensures ok { OnOk result (IsImported P.File.Store P.holds P.keeps (choices_of options.now)
-        file.now (λ es. AddsOrNone es (Ok tt)) (R.remaining input.old)
+        file.now any_text (λ es. AddsOrNone es (Ok tt)) (R.remaining input.old)
         (IsLeft (P.unopened outside.new) left.new)) }
     ensures err { IfErr result (λ failure. status_of failure ≡ 1
         → (IsRefusedBy P.holds (choices_of options.now) (λ terms. ⊥) × P.unopened outside.new)
-        ⊎ IsImported P.File.Store P.holds P.keeps (choices_of options.now) file.now
+        ⊎ IsImported P.File.Store P.holds P.keeps (choices_of options.now) file.now any_text
         (RefusesLine failure) (R.remaining input.old) (IsLeft (P.unopened outside.new) left.new)) }
     ensures once { IsOnce P.File.Store P.holds P.keeps
-        (Asked.import (choices_of options.now) file.now) (R.remaining input.old)
+        (Asked.import (choices_of options.now) file.now any_text) (R.remaining input.old)
         (IsLeft (P.unopened outside.new) left.new) }
 {
     let bytes = read_all(alloc, input)?;
-    let entries = entries(alloc, bytes.as_slice())?;
+    let entries = entries(alloc, bytes.as_slice(), any_text)?;
     let secret = secret(alloc, outside, options)?;
     let mut accounts = open(options, outside, file, secret.as_slice())?;
     let added = add_all(&mut accounts, entries.as_slice());

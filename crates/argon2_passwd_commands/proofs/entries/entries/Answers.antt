@@ -1,12 +1,14 @@
-use Rattle.std.proofs.Common.{rules, arith, ◌≡◌, ◌∙◌, ◌+◌, ◌<◌, ◌==◌, min, ℕ, length, List, [], ◌∷◌, ◌++◌, ap, sym, refl, ⊎_elim, false, take}
+use Rattle.std.proofs.Common.{rules, arith, ◌≡◌, ◌∙◌, ◌+◌, ◌<◌, ◌==◌, min, ℕ, length, Bool, Bor, List, [], ◌∷◌, ◌++◌, map, ap, append-nil, subst, sym, refl, ⊎_elim, false, take}
 use Rattle.std.specs.Prelude.{All}
 use Rattle.std.proofs.lemmas.Bool.{cases_lt}
 use Rattle.std.proofs.lemmas.Grind.{common_steps}
 use Rattle.std.proofs.lemmas.List.Sorted.{answers_always}
 use Rattle.std.proofs.lemmas.List.Splits.{length-slice_split, slice_split_at, slice_split_none}
 use Rattle.std.specs.Io.BufRead.{strip_last}
-use Rattle.std.specs.List.{IsFirstMatchOrLen, slice_split}
+use Rattle.std.specs.List.{AllZip, IsFirstMatchOrLen, slice_split}
 use Rattle.std.specs.Str.Lines.{lines, lines_of_parts, strip_carriage_return}
+use Rattle.argon2_store.specs.Adding.{entry_of}
+use Rattle.argon2_passwd_commands.specs.Answers.{AreEntries, IsEntry}
 use Rattle.argon2_passwd_commands.specs.Passwords.{line_of}
 use Rattle.argon2_passwd_commands.proofs.entries.entries.Goals as goal
 
@@ -48,10 +50,30 @@ lines_first rest line after i some whole long first = ⊎_elim
     rw (all, end) (lines-last line (grind (arith, common_steps)) (λ k d below. grind (arith, common_steps, first.0 k d))))
     (cases_lt i (length rest))
 
+-- an entry more, and none
+pushed : (found : List (Bor (List ℕ) × Bor (List ℕ))) (x : Bor (List ℕ) × Bor (List ℕ)) (rest : List (List ℕ × List ℕ))
+    → map entry_of found ++ entry_of x ∷ rest ≡ map entry_of (found ++ x ∷ []) ++ rest
+pushed [] x rest = refl
+pushed (y ∷ found) x rest = ap (λ es. entry_of y ∷ es) (pushed found x rest)
+
+none_left : (any_text : Bool) (bytes : List ℕ) → length bytes ≡ 0 → AreEntries any_text bytes []
+none_left any_text [] none = tt
+none_left any_text (b ∷ bytes) none = absurd (omega arith)
+
 pub loop-line-preserved : goal.loop-line-preserved
 loop-line-preserved c =
     let steps = c.in-Some.ensures.steps in
     let (always, first) = steps.1.2 (λ b. b == 10) (answers_always _ _ _ (λ f a r g h. search rules)) in
     let line = lines_first _ _ _ _ steps.2 steps.0 steps.1.1 first in
-    let stripped = c.line_len.ensures.value in
-    grind (rules, common_steps)
+    let e = entry_of c.entry.result in
+    let one = subst (λ l. IsEntry c.args.any_text l e) c.line_len.ensures.value c.entry.ensures in
+    λ rest are.
+    let all = c.loop-line.invariant (e ∷ rest)
+    (subst (λ ls. AllZip (IsEntry c.args.any_text) ls (e ∷ rest)) (sym line) (one, are)) in
+    rw c.in_ok-push.ensures.items
+    (subst (AreEntries c.args.any_text c.args.input.now) (pushed c.loop-line.found.items c.entry.result rest) all)
+
+pub returns : goal.returns
+returns c =
+    subst (AreEntries c.args.any_text c.args.input.now) (append-nil _)
+    (c.loop-line.invariant [] (none_left _ _ c.in-None.ensures.steps.0))

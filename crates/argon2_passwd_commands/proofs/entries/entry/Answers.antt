@@ -1,27 +1,12 @@
-use Rattle.std.proofs.Common.{arith, rules, ◌≡◌, ◌∙◌, ℕ, ◌==◌, true, List, [], Option, Some, None, Bor, ap, lit<, refl}
-use Rattle.std.proofs.lemmas.Grind.{common_steps}
-use Rattle.std.proofs.lemmas.Str.{is_utf8-from_IsUtf8, IsUtf8-from_is_utf8}
-use Rattle.std.proofs.lemmas.Str.Pattern.{IsSplitOnceResult, split_once_first}
-use Rattle.std.specs.List.{after_first, before_first}
-use Rattle.std.specs.Option.{unwrap_or}
-use Rattle.std.specs.Str.{is_utf8}
-use Rattle.argon2_store.specs.Adding.{entry_of}
+use Rattle.std.proofs.Common.{◌∙◌, ℕ, List, ap, inl, inr, subst}
+use Rattle.argon2_prefixes.specs.Prefixes.{bare}
+use Rattle.argon2_passwd_commands.specs.Answers.{IsArgon2}
 use Rattle.argon2_passwd_commands.proofs.entries.entry.Goals as goal
 
--- a text at its first colon
-cut : (line : List ℕ) (r : Option (Bor (List ℕ) × Bor (List ℕ))) (other : Bor (List ℕ) × Bor (List ℕ))
-    → IsSplitOnceResult 58 line r → other.0.now ≡ line → other.1.now ≡ []
-    → entry_of (unwrap_or r other) ≡ (before_first (λ b. b == 58) line, after_first (λ b. b == 58) line)
-cut line None other is name text = let none = split_once_first 58 line None is (lit< tt) in grind (arith, common_steps)
-cut line (Some x) other is name text = let some = split_once_first 58 line (Some x) is (lit< tt) in cc
-
-pub returns-in-Ok : goal.returns-in-Ok
-returns-in-Ok c =
-    let (same, utf8) = c.in-Ok.ensures.cases in
-    let is = is_utf8-from_IsUtf8 _ utf8 in
-    ap entry_of c.unwrap_or.ensures ∙ cut _ c.split_once.result _ c.split_once.ensures.cases refl refl ∙ grind rules
-
-pub returns-in-Err : goal.returns-in-Err
-returns-in-Err c =
-    let isnt : ¬ (is_utf8 c.args.line.now ≡ true) = λ is. c.in-Err.ensures.cases.0 (IsUtf8-from_is_utf8 _ is) in
-    grind rules
+pub returns-then-is_argon2 : goal.returns-then-is_argon2
+returns-then-is_argon2 c =
+    let parts = c.parts.ensures in
+    let text = c.bare_str-text.ensures ∙ ap (λ (e : List ℕ × List ℕ). bare e.1) parts in (
+      ap (λ (e : List ℕ × List ℕ). e.0) parts,
+      inl (text, inr (subst IsArgon2 text (c.is_argon2.ensures.0 c.if-is_argon2.true))),
+    )

@@ -1,26 +1,26 @@
-use Rattle.std.proofs.Common.{◌≡◌, ◌∙◌, ℕ, List, [], Option, Some, None, Ok, ap, inr, map}
+use Rattle.std.proofs.Common.{◌≡◌, ◌∙◌, ℕ, Bool, List, [], Option, Some, None, Ok, ap, inr, map, subst}
 use Rattle.std.specs.Prelude.{IfSome}
 use Rattle.argon2_store.specs.AccountFile.{AddsOrNone}
 use Rattle.argon2_store.specs.Adding.{entry_of}
-use Rattle.argon2_passwd_commands.specs.Answers.{IsImported, IsLeft, entries_in}
+use Rattle.argon2_passwd_commands.specs.Answers.{AreEntries, IsImported, IsLeft}
 use Rattle.argon2_passwd_commands.specs.Asked.{choices_of}
 use Rattle.argon2_passwd_commands.proofs.Refusals.{err_then, ok_then}
 use Rattle.argon2_passwd_commands.proofs.run.accounts.import.Goals as goal
 
 -- the entries are those of a known input
-of_known : (input : Option (List ℕ)) (bytes slice : List ℕ) (es : List (List ℕ × List ℕ))
-    → IfSome input (λ known. bytes ≡ known) → slice ≡ bytes → es ≡ entries_in slice
-    → IfSome input (λ known. es ≡ entries_in known)
-of_known None bytes slice es all same is = tt
-of_known (Some known) bytes slice es all same is = is ∙ ap entries_in (same ∙ all)
+of_known : (any_text : Bool) (input : Option (List ℕ)) (bytes slice : List ℕ) (es : List (List ℕ × List ℕ))
+    → IfSome input (λ known. bytes ≡ known) → slice ≡ bytes → AreEntries any_text slice es
+    → IfSome input (λ known. AreEntries any_text known es)
+of_known any_text None bytes slice es all same is = tt
+of_known any_text (Some known) bytes slice es all same is = subst (λ input. AreEntries any_text input es) (same ∙ all) is
 
 pub returns-clause-ok : goal.returns-clause-ok
 returns-clause-ok g c =
     let input = g.R.Read.remaining c.args.input.now in
-    ok_then {Q = IsImported g.P.File.Store g.P.Outside.holds g.P.Outside.keeps (choices_of c.args.options.now) c.args.file.now
+    ok_then {Q = IsImported g.P.File.Store g.P.Outside.holds g.P.Outside.keeps (choices_of c.args.options.now) c.args.file.now c.args.any_text
     (λ es. AddsOrNone es (Ok tt)) input (IsLeft (g.P.Outside.unopened c.open.new.outside) (Some c.into_store.result))} _ c.add_all-added.ensures.ok (λ added. (
       map entry_of c.in_ok-entries.entries.items,
-      of_known input _ _ _ c.in_ok-bytes.ensures.ok c.as_slice.ensures.value c.in_ok-entries.ensures,
+      of_known c.args.any_text input _ _ _ c.in_ok-bytes.ensures.ok c.as_slice.ensures.value c.in_ok-entries.ensures,
       (
         c.in_ok-secret.secret.items,
         [],
@@ -37,7 +37,7 @@ pub returns-clause-err : goal.returns-clause-err
 returns-clause-err g c =
     err_then _ c.add_all-added.ensures.err (λ failure refused. inr (
       map entry_of c.in_ok-entries.entries.items,
-      of_known (g.R.Read.remaining c.args.input.now) _ _ _ c.in_ok-bytes.ensures.ok c.as_slice.ensures.value
+      of_known c.args.any_text (g.R.Read.remaining c.args.input.now) _ _ _ c.in_ok-bytes.ensures.ok c.as_slice.ensures.value
           c.in_ok-entries.ensures,
       (
         c.in_ok-secret.secret.items,
@@ -54,7 +54,7 @@ returns-clause-err g c =
 pub returns-clause-once : goal.returns-clause-once
 returns-clause-once g c = inr (
   map entry_of c.in_ok-entries.entries.items,
-  of_known (g.R.Read.remaining c.args.input.now) _ _ _ c.in_ok-bytes.ensures.ok c.as_slice.ensures.value
+  of_known c.args.any_text (g.R.Read.remaining c.args.input.now) _ _ _ c.in_ok-bytes.ensures.ok c.as_slice.ensures.value
       c.in_ok-entries.ensures,
   (
     c.in_ok-secret.secret.items,
