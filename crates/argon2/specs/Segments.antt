@@ -41,15 +41,18 @@ pub record IsPlaceFor (ctx : Context) (lane column other place : ℕ) : Type 0 w
 
 -- ---- what calls write
 
--- costs that are not refused, columns 0 and 1 of each lane in the first slice, and all other blocks as before
-pub record BeginsSlices (ctx : Context) (first : FirstColumns) (old new : Memory) : Type 0 where
+-- costs that are not refused, columns 0 and 1 of each lane where each has so many blocks, and all other blocks as before
+pub record BeginsLanes (ctx : Context) (width : ℕ) (first : FirstColumns) (old new : Memory) : Type 0 where
   pub sizes : Sizes ctx
   pub size : length new ≡ length old
   pub columns : (lane column : ℕ) → lane < ctx.p_cost → column < 2 →
-      slice_index_or new (lane * segment_length ctx + column) [] ≡ first lane column
-  pub others : (lane column : ℕ) → lane < ctx.p_cost → 2 ≤ column → column < segment_length ctx →
-      slice_index_or new (lane * segment_length ctx + column) []
-      ≡ slice_index_or old (lane * segment_length ctx + column) []
+      slice_index_or new (lane * width + column) [] ≡ first lane column
+  pub others : (lane column : ℕ) → lane < ctx.p_cost → 2 ≤ column → column < width →
+      slice_index_or new (lane * width + column) [] ≡ slice_index_or old (lane * width + column) []
+
+-- that in the first slice
+abbrev pub BeginsSlices : Context → FirstColumns → Memory → Memory → Type 0
+BeginsSlices ctx first old new = BeginsLanes ctx (segment_length ctx) first old new
 
 -- Where the parts are those of a memory in which all slices before are made, the segment is made.
 pub record FillsSegment (ctx : Context) (pass slice lane : ℕ) (before old new after : Memory) : Type 0

@@ -1,9 +1,21 @@
 -- Writing the first two columns of a lane after those of the lanes before.
-use Rattle.std.proofs.Common.{◌≡◌, ℕ, ◌+◌, ◌*◌, ◌<◌, ◌≤◌, ◌≢◌, inl, inr, List, [], length, ◌∙◌, arith}
+use Rattle.std.proofs.Common.{◌≡◌, ℕ, ◌+◌, ◌*◌, ◌^◌, ◌<◌, ◌≤◌, ◌≢◌, inl, inr, List, [], length, ◌∙◌, arith}
 use Rattle.std.specs.Prelude.{slice_index_or, slice_set}
 use Rattle.std.proofs.lemmas.Bool.{cases_eq}
 use Rattle.std.proofs.lemmas.List.{get_or-set_other, get_or-set_same, length-set}
 use Rattle.std.proofs.lemmas.Nat.{same_from_place}
+use Rattle.std.proofs.Math.Nat.{mul-le-mul_left, mul-le-mul_right}
+use Rattle.argon2.specs.Rfc9106.{Context, Sizes, lane_length}
+
+-- lanes that have no more blocks than they have columns end where a number of 32 bits does
+pub lane_fits : (ctx : Context) → Sizes ctx → (lane width : ℕ) → lane < ctx.p_cost → width ≤ lane_length ctx
+    → (lane * width + width ≤ ctx.p_cost * width) × (ctx.p_cost * width < 2 ^ 32)
+lane_fits ctx sizes lane width below most =
+    let end : (lane + 1) * width ≤ ctx.p_cost * width = mul-le-mul_right width (omega arith) in
+    let all : ctx.p_cost * width ≤ ctx.p_cost * lane_length ctx = mul-le-mul_left ctx.p_cost most in
+    let memory = sizes.in_memory in
+    let small = sizes.m_cost in
+    (omega arith, omega arith)
 
 -- a memory with two blocks written at the start of a lane of q columns
 abbrev pub with_pair : ℕ → ℕ → List (List ℕ) → (ℕ → List ℕ) → List (List ℕ)

@@ -12,12 +12,9 @@ ghost use Rattle.argon2.specs.Segments.{AreLengths, AreParts, BeginsSlices, Fill
 ghost use Rattle.argon2.specs.Steps.{IsStep, step};
 
 use super::Argon2;
-use super::ends::block_after;
 use super::fill::Step;
 use super::instance::Instance;
-use super::memory_block::MemoryBlock;
 use crate::{Block, Work};
-use argon2_base::blake2b_long::blake2b_long;
 use argon2_base::block::{Words, mix_words, xor_words};
 
 impl Argon2<'_> {
@@ -46,7 +43,7 @@ impl Argon2<'_> {
             BeginsSlices ctx (first_block ctx pwd.now salt.now out_len) first.old first.new }
     {
         let instance = self.instance_under(associated);
-        instance.begin_slices(pwd, salt, out_len, first);
+        instance.begin_lanes(pwd, salt, out_len, instance.segment_length(), first);
     }
 
     /// Writes the blocks of a lane in a slice of a pass into `own`, its segment, under this associated
@@ -81,41 +78,12 @@ impl Argon2<'_> {
         ensures { out.new
             ≡ long_hash (length out.old) (bytes_of (last_of_slice (context_of self.now) last.now)) }
     {
-        let block = self.instance().last_of_slice(last);
-        blake2b_long(&[&block.to_bytes()], out).unwrap();
+        let instance = self.instance();
+        instance.write_tag_of_lanes(instance.segment_length(), last, out);
     }
 }
 
 impl<'a> Instance<'a> {
-    /// Writes columns 0 and 1 of each lane into the first slice, and no other block.
-    fn begin_slices(&self, pwd: &[u8], salt: &[u8], out_len: u32, first: &mut [Words])
-        requires inputs { AreShort pwd.now salt.now }
-        requires slice { length first.old ≡ slice_length self.now }
-        ensures { BeginsSlices self.now (first_block self.now pwd.now salt.now out_len) first.old
-            first.new }
-    {
-        let hash = self.initial_hash(pwd, salt, out_len);
-        for lane in 0..self.lanes() {
-            let place = self.place_in_slices(0, lane, 0) as usize;
-            first[place] = Words::of(block_after(&hash, lane, 0));
-            let place = self.place_in_slices(0, lane, 1) as usize;
-            first[place] = Words::of(block_after(&hash, lane, 1));
-        }
-    }
-
-    /// The exclusive or of the last column's blocks, which are in the last slice.
-    fn last_of_slice(&self, last: &[Words]) -> Block
-        requires { length last.now ≡ slice_length self.now }
-        ensures { result ≡ last_of_slice self.now last.now }
-    {
-        let end = self.segment_length() - 1;
-        let mut all = [0; 128];
-        for lane in 0..self.lanes() {
-            xor_words(&mut all, &last[self.place_in_slices(0, lane, end) as usize]);
-        }
-        all.block()
-    }
-
     /// Makes the steps of a lane in a slice. `own` is its segment, `before` has the slices before it,
     /// and `after` those after it.
     fn fill_own(

@@ -1,13 +1,14 @@
 //! The two ends of a hash: the first two columns, which are made of its inputs, and the tag, which
 //! is made of the last column (RFC 9106, section 3.2, steps 1 to 4, 7 and 8).
 
-ghost use Rattle.std.specs.Prelude.{◌≡◌, ◌+◌, ◌<◌, ◌≤◌, ◌^◌, length, map};
+ghost use Rattle.std.specs.Prelude.{◌≡◌, ◌+◌, ◌-◌, ◌*◌, ◌<◌, ◌≤◌, ◌^◌, [], length, map, slice_index_or};
 ghost use Rattle.argon2_base.specs.Block.{bytes_of};
 ghost use Rattle.argon2_base.specs.Hasher.{Appends};
 ghost use Rattle.argon2_base.specs.LongHash.{long_hash};
-ghost use Rattle.argon2.specs.Rfc9106.{AreShort, block_after, block_count, first_block, initial_hash, number, with_length};
+ghost use Rattle.argon2.specs.Rfc9106.{AreShort, block_after, block_count, first_block, initial_hash, lane_length, number, with_length, xor_lanes};
 ghost use Rattle.argon2.specs.Hashing.{blocks_of, KeepsOtherColumns};
 ghost use Rattle.argon2.specs.Laws.{Begins};
+ghost use Rattle.argon2.specs.Segments.{BeginsLanes};
 ghost use Rattle.argon2.specs.Steps.{last_column};
 
 use super::instance::Instance;
@@ -87,10 +88,30 @@ impl Instance<'_> {
         ensures others { KeepsOtherColumns self.now (map B.words blocks.old)
             (map B.words blocks.new) }
     {
+        self.begin_lanes(pwd, salt, out_len, self.lane_length(), blocks);
+    }
+
+    /// The same where each lane has `width` blocks, the first of its columns.
+    pub(super) fn begin_lanes<B: MemoryBlock>(
+        &self,
+        pwd: &[u8],
+        salt: &[u8],
+        out_len: u32,
+        width: u32,
+        blocks: &mut [B],
+    )
+        requires inputs { AreShort pwd.now salt.now }
+        requires two { 2 ≤ width }
+        requires most { width ≤ lane_length self.now }
+        requires size { length blocks.old ≡ self.now.p_cost * width }
+        ensures { BeginsLanes self.now width (first_block self.now pwd.now salt.now out_len)
+            (map B.words blocks.old) (map B.words blocks.new) }
+    {
         let hash = self.initial_hash(pwd, salt, out_len);
         for lane in 0..self.lanes() {
-            blocks[self.place(lane, 0) as usize] = B::of(block_after(&hash, lane, 0));
-            blocks[self.place(lane, 1) as usize] = B::of(block_after(&hash, lane, 1));
+            let first = (lane * width) as usize;
+            blocks[first] = B::of(block_after(&hash, lane, 0));
+            blocks[first + 1] = B::of(block_after(&hash, lane, 1));
         }
     }
 
@@ -103,20 +124,32 @@ impl Instance<'_> {
             ≡ long_hash (length out.old)
             (bytes_of (last_column self.now (blocks_of self.now (map B.words memory.now)))) }
     {
-        let last = self.last_column(&memory[..self.block_count()]);
-        blake2b_long(&[&last.to_bytes()], out).unwrap();
+        let blocks = &memory[..self.block_count()];
+        self.write_tag_of_lanes(self.lane_length(), blocks, out);
     }
 
-    /// The exclusive or of the last column's blocks, whatever the memory holds.
-    fn last_column<B: MemoryBlock>(&self, memory: &[B]) -> Block
-        requires { block_count self.now ≤ length memory.now }
-        ensures { result ≡ last_column self.now (map B.words memory.now) }
+    /// The same where each lane has `width` blocks, the last of its columns.
+    pub(super) fn write_tag_of_lanes<B: MemoryBlock>(
+        &self,
+        width: u32,
+        blocks: &[B],
+        out: &mut [u8],
+    )
+        requires one { 1 ≤ width }
+        requires most { width ≤ lane_length self.now }
+        requires size { length blocks.now ≡ self.now.p_cost * width }
+        requires some { 1 ≤ length out.old }
+        requires few { length out.old < 2 ^ 32 }
+        ensures { let blocks = map B.words blocks.now in
+            let last = xor_lanes self.now (λ lane.
+            slice_index_or blocks (lane * width + (width - 1)) []) in
+            out.new ≡ long_hash (length out.old) (bytes_of last) }
     {
-        let last = self.lane_length() - 1;
         let mut all = B::of(Block::new());
         for lane in 0..self.lanes() {
-            all.xor(&memory[self.place(lane, last) as usize]);
+            let place = lane * width + (width - 1);
+            all.xor(&blocks[place as usize]);
         }
-        all.block()
+        blake2b_long(&[&all.block().to_bytes()], out).unwrap();
     }
 }

@@ -1,0 +1,13 @@
+use Rattle.std.proofs.Common.{◌≡◌, ℕ, ◌+◌, ◌*◌, ◌<◌, ◌≤◌, [], map}
+use Rattle.std.specs.Prelude.{slice_index_or}
+use Rattle.argon2.specs.Rfc9106.{block_after}
+use Rattle.argon2.proofs.context.instance.Instance.begin_lanes.Given as goal
+
+abbrev pub invariant-loop-lane : goal.invariant-loop-lane
+invariant-loop-lane g l =
+    let words = map g.B.MemoryBlock.words in
+    record {
+      begun : (k c : ℕ) → k < l.lane → c < 2 → slice_index_or (words l.blocks) (k * l.width + c) [] ≡ block_after l.hash k c;
+      others : (k c : ℕ) → k < l.self.p_cost → 2 ≤ c → c < l.width
+          → slice_index_or (words l.blocks) (k * l.width + c) [] ≡ slice_index_or (words l.fn.blocks) (k * l.width + c) [];
+    }

@@ -1,0 +1,12 @@
+use Rattle.std.proofs.Common.{◌≡◌, ℕ, ◌+◌, ◌-◌, ◌*◌, [], map, fold}
+use Rattle.std.specs.Prelude.{slice_index_or}
+use Rattle.std.specs.List.{range_with_len}
+use Rattle.argon2_base.specs.Block.{xor_blocks, zero_block}
+use Rattle.argon2.proofs.context.instance.Instance.write_tag_of_lanes.Given as goal
+
+-- the lanes so far
+abbrev pub invariant-loop-lane : goal.invariant-loop-lane
+invariant-loop-lane g l =
+    let words = g.B.MemoryBlock.words in
+    words l.all ≡ fold xor_blocks zero_block
+    (map (λ (lane : ℕ). slice_index_or (map words l.blocks) (lane * l.width + (l.width - 1)) []) (range_with_len 0 l.lane))
