@@ -94,9 +94,8 @@ impl Block {
         ensures block { result ≡ mixed x.now y.now }
         ensures counted { work.new ≡ work.old + 1 }
     {
-        work.mixes += 1;
         Block {
-            words: kernel::mix(&x.words, &y.words),
+            words: mix_words(&x.words, &y.words, work),
         }
     }
 }
@@ -154,7 +153,8 @@ impl BitXorAssign<&Block> for Block {
     }
 }
 
-/// A count of mixings. Nothing but [`Block::mix`] and [`mix_words`] adds to it, and it cannot be copied.
+/// A count of mixings. Nothing but [`mix_words`] adds to it, by which [`Block::mix`] mixes, and it
+/// cannot be copied.
 #[derive(Debug, Drop)]
 pub struct Work {
     mixes: u128,
