@@ -1,3 +1,3 @@
-pub mod hashing
-pub mod mixing
-pub mod texts
+pub mod blake2b_lemmas
+pub mod block_lemmas
+pub mod phc_lemmas

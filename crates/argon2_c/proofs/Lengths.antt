@@ -1,7 +1,7 @@
 -- How long texts are.
 use Rattle.std.proofs.Common.{◌≡◌, ℕ, ◌+◌, ◌*◌, ◌/◌, ◌≤◌, ◌++◌, ◌∷◌, List, length, refl, arith, length-append, Option, Some, None}
 use Rattle.std.specs.Fmt.{decimal, digits}
-use Rattle.argon2_base.proofs.texts.Base64Lemmas.{length-strict_base64}
+use Rattle.argon2_base.proofs.phc_lemmas.Base64Lemmas.{length-strict_base64}
 use Rattle.argon2_c.specs.Texts.{Said, costs_part, joined, said_with, spelling, version_part}
 
 pub length_19 : length (decimal 19) ≡ 2

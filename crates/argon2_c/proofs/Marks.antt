@@ -5,9 +5,9 @@ use Rattle.std.specs.Fmt.{decimal}
 use Rattle.std.proofs.lemmas.Bool.{ne_eqb}
 use Rattle.std.proofs.lemmas.Fmt.{decimal_by_steps}
 use Rattle.argon2_base.specs.Texts.{IsBytes, is_value_char, strict_base64}
-use Rattle.argon2_base.proofs.texts.Characters.{lacks_by}
-use Rattle.argon2_base.proofs.texts.Separators.{Lacks, Lacks-append, Lacks_at}
-use Rattle.argon2_base.proofs.texts.ValueCharacters.{base64_chars}
+use Rattle.argon2_base.proofs.phc_lemmas.Characters.{lacks_by}
+use Rattle.argon2_base.proofs.phc_lemmas.Separators.{Lacks, Lacks-append, Lacks_at}
+use Rattle.argon2_base.proofs.phc_lemmas.ValueCharacters.{base64_chars}
 
 -- no `$` in Base64
 pub base64_no_dollar : (b : List ℕ) → IsBytes b →

@@ -8,7 +8,7 @@ use Rattle.std.proofs.lemmas.Bool.{and_parts, ltb-true}
 use Rattle.std.proofs.lemmas.Fmt.{IsAscii-decimal}
 use Rattle.std.proofs.lemmas.Str.{IsUtf8-append, IsUtf8-from_ascii}
 use Rattle.argon2_base.specs.Texts.{strict_base64}
-use Rattle.argon2_base.proofs.texts.Base64Lemmas.{IsUtf8-strict_base64}
+use Rattle.argon2_base.proofs.phc_lemmas.Base64Lemmas.{IsUtf8-strict_base64}
 use Rattle.argon2_c.specs.Texts.{Said, IsSaid, name_numbered, spelling, version_part}
 
 is_ascii_by : (s : List ℕ) → list_all (λ x. nat_lt x 128) s ≡ true → IsAscii s

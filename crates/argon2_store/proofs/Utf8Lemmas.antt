@@ -9,9 +9,9 @@ use Rattle.std.proofs.lemmas.Str.Ascii.{IsAscii-cons, IsAscii-from_all, IsAscii-
 use Rattle.std.specs.List.{list_all}
 use Rattle.argon2_base.specs.PhcText.{IsPhc, Pair, Phc, field, fields_text, is_param, item, list_field, params_text, phc_text, version_text}
 use Rattle.argon2_base.specs.Texts.{is_value, is_value_char, strict_base64}
-use Rattle.argon2_base.proofs.texts.Base64Lemmas.{IsUtf8-strict_base64}
-use Rattle.argon2_base.proofs.texts.Characters.{IsUtf8-name, tests_give}
-use Rattle.argon2_base.proofs.texts.ParamsTextLemmas.{all_params, param_name, param_value}
+use Rattle.argon2_base.proofs.phc_lemmas.Base64Lemmas.{IsUtf8-strict_base64}
+use Rattle.argon2_base.proofs.phc_lemmas.Characters.{IsUtf8-name, tests_give}
+use Rattle.argon2_base.proofs.phc_lemmas.ParamsTextLemmas.{all_params, param_name, param_value}
 
 -- text behind an ASCII character is text
 behind : {c : ℕ} {s : List ℕ} → T (ltb c 128) → IsUtf8 s → IsUtf8 (c ∷ s)

@@ -4,7 +4,7 @@ use Rattle.std.specs.Prelude.{slice_index_or, nat_lt, ◌==◌, if◌then◌else
 use Rattle.std.proofs.lemmas.Nat.{mul-add-lt}
 use Rattle.std.proofs.lemmas.Bool.{cond-false, ne_eqb}
 use Rattle.std.proofs.lemmas.List.{get_or-map}
-use Rattle.argon2_base.proofs.mixing.MixingLaws.{xor_blocks-comm}
+use Rattle.argon2_base.proofs.block_lemmas.MixingLaws.{xor_blocks-comm}
 use Rattle.argon2_base.specs.Block.{mixed, xor_blocks}
 use Rattle.argon2.specs.Rfc9106.{Context, Memory, block_count, lane_length, made_block, place_of, previous, reference, reference_of, reference_word}
 use Rattle.argon2.specs.Steps.{in_memory, previous_place, reference_place}

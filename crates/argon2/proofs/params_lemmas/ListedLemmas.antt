@@ -8,9 +8,9 @@ use Rattle.std.proofs.lemmas.List.Sums.{sum_by-cons}
 use Rattle.argon2_base.specs.Texts.{IsBytes, is_value, is_value_char, strict_base64}
 use Rattle.argon2_base.specs.PhcText.{Pair, are_params, params_text, is_param, are_distinct, item}
 use Rattle.argon2.specs.ListedParameters.{bytes_item, listed}
-use Rattle.argon2_base.proofs.texts.Base64Lemmas.{length-strict_base64}
-use Rattle.argon2_base.proofs.texts.ParamsReading.{params_front}
-use Rattle.argon2_base.proofs.texts.ValueCharacters.{decimal_chars, base64_chars}
+use Rattle.argon2_base.proofs.phc_lemmas.Base64Lemmas.{length-strict_base64}
+use Rattle.argon2_base.proofs.phc_lemmas.ParamsReading.{params_front}
+use Rattle.argon2_base.proofs.phc_lemmas.ValueCharacters.{decimal_chars, base64_chars}
 
 -- a cost under its name
 abbrev pub cost_item : List ℕ → ℕ → Pair

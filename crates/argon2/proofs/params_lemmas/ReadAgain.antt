@@ -4,8 +4,8 @@ use Rattle.std.proofs.lemmas.Bool.Decides.{nat_tests}
 use Rattle.std.specs.Prelude.{IsNone}
 use Rattle.std.specs.Fmt.{decimal}
 use Rattle.argon2_base.specs.Texts.{IsBytes}
-use Rattle.argon2_base.proofs.texts.Base64Lemmas.{short_bytes_again}
-use Rattle.argon2_base.proofs.texts.DecimalLemmas.{number_again}
+use Rattle.argon2_base.proofs.phc_lemmas.Base64Lemmas.{short_bytes_again}
+use Rattle.argon2_base.proofs.phc_lemmas.DecimalLemmas.{number_again}
 use Rattle.argon2.specs.ListedParameters.{listed, params_of}
 use Rattle.argon2.specs.Settings.{first_fault, plain}
 

@@ -5,7 +5,7 @@ use Rattle.argon2_base.specs.Texts.{IsBytes, short_bytes}
 use Rattle.argon2_base.specs.ByteList.{base64_length}
 use Rattle.argon2_base.specs.declared.error.Error.{Error}
 use Rattle.argon2_base.specs.declared.error.Error.TheVariants.{B64Encoding}
-use Rattle.argon2_base.proofs.texts.Base64Lemmas.{short_bytes_again, short_bytes_refused}
+use Rattle.argon2_base.proofs.phc_lemmas.Base64Lemmas.{short_bytes_again, short_bytes_refused}
 use Rattle.argon2.specs.declared.params.key_id.KeyId.{KeyId}
 use Rattle.argon2.specs.declared.params.associated_data.AssociatedData.{AssociatedData}
 use Rattle.argon2.specs.Params.{keyid_bytes, data_bytes, IsBase64Fault, IsKeyIdOfText, IsAssociatedDataOfText}

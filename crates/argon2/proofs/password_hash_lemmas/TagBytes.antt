@@ -7,7 +7,7 @@ use Rattle.argon2_base.specs.Texts.{IsBytes}
 use Rattle.argon2_base.specs.Blake2b.{blake2b, blocks, compress, hash_blocks, initial_state}
 use Rattle.argon2_base.specs.Block.{bytes_of}
 use Rattle.argon2_base.specs.LongHash.{long_hash}
-use Rattle.argon2_base.proofs.hashing.Pieces.{long_hash_short}
+use Rattle.argon2_base.proofs.blake2b_lemmas.Pieces.{long_hash_short}
 use Rattle.argon2.specs.Rfc9106.{Context, first_block, last_block, tag_of}
 
 -- ---- lists of bytes

@@ -1,6 +1,6 @@
 use Rattle.std.proofs.Common.{◌≡◌, length, ◌∙◌, ap, arith, refl}
 use Rattle.argon2_base.specs.Hasher.{blocks_before, hash_on}
-use Rattle.argon2_base.proofs.hashing.HasherFields.{hash_on_next}
+use Rattle.argon2_base.proofs.blake2b_lemmas.HasherFields.{hash_on_next}
 use Rattle.argon2_base.proofs.blake2b.compress_all_but_last.Goals as goal
 
 pub blocks-2-init : goal.blocks-2-init

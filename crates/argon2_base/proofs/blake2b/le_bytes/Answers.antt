@@ -2,7 +2,7 @@ use Rattle.std.proofs.Common.{◌∙◌, ◌*◌, ap, sym, arith}
 use Rattle.std.proofs.lemmas.List.{take_all}
 use Rattle.std.specs.Int.{w64, to_le_bytes}
 use Rattle.std.specs.List.{flat_map}
-use Rattle.argon2_base.proofs.mixing.WordBytes.{one_more_word}
+use Rattle.argon2_base.proofs.block_lemmas.WordBytes.{one_more_word}
 use Rattle.argon2_base.proofs.blake2b.le_bytes.Goals as goal
 use borrow.Rule.Slice.PartMut.{same_len_mid}
 

@@ -1,5 +1,5 @@
 use Rattle.std.proofs.Common.{◌≡◌, length, arith}
-use Rattle.argon2_base.proofs.hashing.Pieces.{long_hash_short, long_hash_pieces}
+use Rattle.argon2_base.proofs.blake2b_lemmas.Pieces.{long_hash_short, long_hash_pieces}
 use Rattle.argon2_base.proofs.blake2b_long.blake2b_long.Goals as goal
 
 pub returns-then-out-le64-clause-written : goal.returns-then-out-le64-clause-written

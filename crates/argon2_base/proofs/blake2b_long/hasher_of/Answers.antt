@@ -1,6 +1,6 @@
 use Rattle.std.proofs.Common.{◌≡◌, take, arith}
 use Rattle.std.proofs.lemmas.List.{take_all}
-use Rattle.argon2_base.proofs.hashing.Pieces.{input_fits}
+use Rattle.argon2_base.proofs.blake2b_lemmas.Pieces.{input_fits}
 use Rattle.argon2_base.proofs.blake2b_long.hasher_of.Goals as goal
 
 pub update-requires-in-inputs : goal.update-requires-in-inputs

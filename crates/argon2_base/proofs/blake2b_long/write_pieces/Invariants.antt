@@ -1,6 +1,6 @@
 use Rattle.std.proofs.Common.{◌≡◌, ℕ, List, ◌*◌, length, take}
 use Rattle.argon2_base.specs.LongHash.{chain}
-use Rattle.argon2_base.proofs.hashing.Pieces.{first_halves}
+use Rattle.argon2_base.proofs.blake2b_lemmas.Pieces.{first_halves}
 use Rattle.argon2_base.proofs.blake2b_long.write_pieces.Given as goal
 
 abbrev pub invariant-pieces : goal.invariant-pieces

@@ -5,7 +5,7 @@ use Rattle.std.proofs.lemmas.List.{take-append-drop}
 use Rattle.base64.specs.Decode.{IsWrittenOver}
 use Rattle.base64.proofs.EngineFacts.{front_bytes}
 use Rattle.argon2_base.specs.Texts.{IsBytes}
-use Rattle.argon2_base.proofs.texts.Base64Lemmas.{strict_base64_decoded, strict_base64_unique, strict_base64_never_refused}
+use Rattle.argon2_base.proofs.phc_lemmas.Base64Lemmas.{strict_base64_decoded, strict_base64_unique, strict_base64_never_refused}
 use Rattle.argon2_c.proofs.decode.bytes.Goals as goal
 
 -- what differs from what was there is the front

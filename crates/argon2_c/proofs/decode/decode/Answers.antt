@@ -2,7 +2,7 @@ use Rattle.std.proofs.Common.{◌-◌, length, length-drop, refl, sym, ap, ◌�
 use Rattle.std.specs.Prelude.{drop, unwrap_or}
 use Rattle.std.proofs.Math.Seq.{length-take-le}
 use Rattle.std.specs.Str.{IsUtf8}
-use Rattle.argon2_base.proofs.texts.Base64Lemmas.{length-strict_base64}
+use Rattle.argon2_base.proofs.phc_lemmas.Base64Lemmas.{length-strict_base64}
 use Rattle.argon2_c.specs.Texts.{IsSaid, Said, parts_of}
 use Rattle.argon2_c.proofs.Appending.{put_behind}
 use Rattle.argon2_c.proofs.Lengths.{length-joined}

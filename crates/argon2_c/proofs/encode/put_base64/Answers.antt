@@ -7,7 +7,7 @@ use Rattle.base64.specs.Decode.{IsWrittenOver}
 use Rattle.base64.specs.Engines.{standard_no_pad}
 use Rattle.base64.specs.GeneralPurpose.{encoded_size_of}
 use Rattle.argon2_base.specs.Texts.{strict_base64}
-use Rattle.argon2_base.proofs.texts.Base64Lemmas.{length-strict_base64, strict_base64_written}
+use Rattle.argon2_base.proofs.phc_lemmas.Base64Lemmas.{length-strict_base64, strict_base64_written}
 use Rattle.argon2_c.proofs.Appending.{put_appends}
 use Rattle.argon2_c.proofs.encode.put_base64.Goals as goal
 

@@ -1,4 +1,4 @@
-use Rattle.argon2_base.proofs.hashing.Rounds.{one_more}
+use Rattle.argon2_base.proofs.blake2b_lemmas.Rounds.{one_more}
 use Rattle.argon2_base.proofs.blake2b.compression.rounds_0_to_3.Goals as goal
 
 pub returns : goal.returns

@@ -1,6 +1,6 @@
 use Rattle.std.proofs.Common.{◌≡◌, ap, sym, ◌∙◌, arith, refl}
 use Rattle.std.proofs.lemmas.List.{take_all, length-set}
-use Rattle.argon2_base.proofs.hashing.Rounds.{first_words, first_words_more}
+use Rattle.argon2_base.proofs.blake2b_lemmas.Rounds.{first_words, first_words_more}
 use Rattle.argon2_base.proofs.blake2b.compression.xor_halves.Goals as goal
 
 pub words-init : goal.words-init

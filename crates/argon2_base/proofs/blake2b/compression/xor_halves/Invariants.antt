@@ -1,5 +1,5 @@
 use Rattle.std.proofs.Common.{◌≡◌, length, take}
-use Rattle.argon2_base.proofs.hashing.Rounds.{first_words}
+use Rattle.argon2_base.proofs.blake2b_lemmas.Rounds.{first_words}
 use Rattle.argon2_base.proofs.blake2b.compression.xor_halves.Given as goal
 
 abbrev pub invariant-words : goal.invariant-words

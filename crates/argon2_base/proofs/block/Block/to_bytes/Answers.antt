@@ -1,7 +1,7 @@
 use Rattle.std.proofs.Common.{◌∙◌, ap, sym, refl, arith}
 use Rattle.std.proofs.lemmas.List.{take_all}
 use Rattle.argon2_base.specs.Block.{bytes_of}
-use Rattle.argon2_base.proofs.mixing.WordBytes.{one_more_word}
+use Rattle.argon2_base.proofs.block_lemmas.WordBytes.{one_more_word}
 use Rattle.argon2_base.proofs.block.Block.to_bytes.Goals as goal
 use borrow.Rule.Slice.PartMut.{same_len_mid}
 

@@ -1,4 +1,4 @@
-use Rattle.argon2_base.proofs.mixing.LaneLemmas.{add_mul_lanes}
+use Rattle.argon2_base.proofs.block_lemmas.LaneLemmas.{add_mul_lanes}
 use Rattle.argon2_base.proofs.block.kernel.add_mul.Goals as goal
 
 pub returns : goal.returns

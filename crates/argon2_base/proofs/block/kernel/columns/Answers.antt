@@ -1,4 +1,4 @@
-use Rattle.argon2_base.proofs.mixing.LaneLemmas.{columns_from}
+use Rattle.argon2_base.proofs.block_lemmas.LaneLemmas.{columns_from}
 use Rattle.argon2_base.proofs.block.kernel.columns.Goals as goal
 
 pub returns : goal.returns

@@ -1,4 +1,4 @@
-use Rattle.argon2_base.proofs.mixing.LaneLemmas.{exchanged_fours}
+use Rattle.argon2_base.proofs.block_lemmas.LaneLemmas.{exchanged_fours}
 use Rattle.argon2_base.proofs.block.kernel.exchange_fours.Goals as goal
 
 pub returns-clause-left : goal.returns-clause-left

@@ -1,7 +1,7 @@
 use Rattle.std.proofs.Common.{◌≡◌, ◌∙◌, length, arith, bit_xor}
 use Rattle.std.proofs.lemmas.Simd.{length-zip2}
 use Rattle.argon2_base.specs.Block.{xor_blocks}
-use Rattle.argon2_base.proofs.mixing.LaneLemmas.{below_sixteen, in_eights}
+use Rattle.argon2_base.proofs.block_lemmas.LaneLemmas.{below_sixteen, in_eights}
 use Rattle.argon2_base.proofs.block.kernel.exclusive_or.Goals as goal
 
 pub returns : goal.returns

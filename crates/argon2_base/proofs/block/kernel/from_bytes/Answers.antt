@@ -1,6 +1,6 @@
 use Rattle.std.proofs.Common.{◌≡◌, ◌^◌, ◌*◌, ◌∙◌, length, w8, refl, arith}
 use Rattle.std.proofs.lemmas.Simd.{below_from_Fits, get_or_wider}
-use Rattle.argon2_base.proofs.texts.ByteLemmas.{number_l-chunk}
+use Rattle.argon2_base.proofs.phc_lemmas.ByteLemmas.{number_l-chunk}
 use Rattle.argon2_base.proofs.block.kernel.from_bytes.Goals as goal
 
 pub returns : goal.returns

@@ -1,5 +1,5 @@
 use Rattle.std.proofs.Common.{◌≡◌, length, arith}
-use Rattle.argon2_base.proofs.mixing.MixingLemmas.{lane-gb_at}
+use Rattle.argon2_base.proofs.block_lemmas.MixingLemmas.{lane-gb_at}
 use Rattle.argon2_base.proofs.block.kernel.gb_at.Goals as goal
 
 pub returns : goal.returns

@@ -1,4 +1,4 @@
-use Rattle.argon2_base.proofs.mixing.LaneLemmas.{interleaved_words}
+use Rattle.argon2_base.proofs.block_lemmas.LaneLemmas.{interleaved_words}
 use Rattle.argon2_base.proofs.block.kernel.interleave.Goals as goal
 
 pub returns-clause-left : goal.returns-clause-left

@@ -1,5 +1,5 @@
 use Rattle.argon2_base.specs.Lanes.{lane}
-use Rattle.argon2_base.proofs.mixing.MixingLemmas.{perm_steps}
+use Rattle.argon2_base.proofs.block_lemmas.MixingLemmas.{perm_steps}
 use Rattle.argon2_base.proofs.block.kernel.perm.Goals as goal
 
 pub returns : goal.returns

@@ -1,6 +1,6 @@
 use Rattle.std.proofs.Common.{◌∙◌, ◌≡◌, ◌<◌, ℕ, [], ◌∷◌, ap₂}
 use Rattle.argon2_base.specs.Lanes.{lane_word, twos_left, twos_right, fours_left, fours_right}
-use Rattle.argon2_base.proofs.mixing.LaneLemmas.{below_eight, turned_lanes}
+use Rattle.argon2_base.proofs.block_lemmas.LaneLemmas.{below_eight, turned_lanes}
 use Rattle.argon2_base.proofs.block.kernel.transpose.Goals as goal
 
 -- each vector by the words of the eight, once the three exchanges are put into one another

@@ -1,4 +1,4 @@
-use Rattle.argon2_base.proofs.texts.ByteLemmas.{turned_bytes}
+use Rattle.argon2_base.proofs.phc_lemmas.ByteLemmas.{turned_bytes}
 use Rattle.argon2_base.proofs.block.kernel.turn_bytes.Goals as goal
 
 pub returns : goal.returns

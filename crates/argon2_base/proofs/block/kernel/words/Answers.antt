@@ -1,8 +1,8 @@
 use Rattle.std.proofs.Common.{◌*◌, ◌+◌, ◌∙◌, inl, inr, sym, ap, arith, bit_xor}
 use Rattle.std.proofs.lemmas.Bool.{cases_lt}
 use Rattle.argon2_base.specs.Lanes.{words_in_eights}
-use Rattle.argon2_base.proofs.mixing.LaneLemmas.{word_in_eights}
-use Rattle.argon2_base.proofs.mixing.MixingLemmas.{row_stored}
+use Rattle.argon2_base.proofs.block_lemmas.LaneLemmas.{word_in_eights}
+use Rattle.argon2_base.proofs.block_lemmas.MixingLemmas.{row_stored}
 use Rattle.argon2_base.proofs.block.kernel.words.Goals as goal
 
 pub rows-preserved : goal.rows-preserved

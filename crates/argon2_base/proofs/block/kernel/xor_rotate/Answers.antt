@@ -1,4 +1,4 @@
-use Rattle.argon2_base.proofs.mixing.LaneLemmas.{shifts_rotate}
+use Rattle.argon2_base.proofs.block_lemmas.LaneLemmas.{shifts_rotate}
 use Rattle.argon2_base.proofs.block.kernel.xor_rotate.Goals as goal
 
 pub returns : goal.returns

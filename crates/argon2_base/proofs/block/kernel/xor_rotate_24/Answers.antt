@@ -2,7 +2,7 @@ use Rattle.std.proofs.Common.{◌≡◌, ◌<◌, ◌+◌, ◌*◌, ◌/◌, ◌
 use Rattle.std.proofs.lemmas.Nat.{xor_lt}
 use Rattle.std.proofs.lemmas.Simd.{below_from_Fits, Each1-get_or, get_or-zip2}
 use Rattle.argon2_base.specs.Block.{xor_rotate}
-use Rattle.argon2_base.proofs.texts.ByteLemmas.{word_from-turned}
+use Rattle.argon2_base.proofs.phc_lemmas.ByteLemmas.{word_from-turned}
 use Rattle.argon2_base.proofs.block.kernel.xor_rotate_24.Goals as goal
 
 pub returns : goal.returns

@@ -1,5 +1,5 @@
 use Rattle.std.proofs.Common.{rules}
-use Rattle.argon2_base.proofs.texts.ByteListLemmas.{drop-filled}
+use Rattle.argon2_base.proofs.phc_lemmas.ByteListLemmas.{drop-filled}
 use Rattle.argon2_base.proofs.byte_list.ByteList.new.Goals as goal
 
 pub invariant_of-result-clause-zeros : goal.invariant_of-result-clause-zeros

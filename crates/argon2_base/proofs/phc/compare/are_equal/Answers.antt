@@ -3,7 +3,7 @@ use Rattle.std.proofs.lemmas.Bool.Decides.{same_from_decides, Decides-eqb}
 use Rattle.std.proofs.lemmas.Grind.{same_number_lists}
 use Rattle.std.proofs.lemmas.Slice.Eq.{bytes_eq-Decides}
 use Rattle.std.specs.Str.{bytes_eq}
-use Rattle.argon2_base.proofs.texts.Compared.{no_difference, difference_none}
+use Rattle.argon2_base.proofs.phc_lemmas.Compared.{no_difference, difference_none}
 use Rattle.argon2_base.proofs.phc.compare.are_equal.Goals as goal
 
 pub loop-i-preserved : goal.loop-i-preserved

@@ -1,8 +1,8 @@
 use Rattle.std.proofs.Common.{◌∙◌, ap, arith}
 use Rattle.std.proofs.lemmas.List.{length-take}
 use Rattle.argon2_base.specs.PhcFields.{fields_left}
-use Rattle.argon2_base.proofs.texts.Base64Lemmas.{refused_text}
-use Rattle.argon2_base.proofs.texts.PhcTextLemmas.{bytes_read, bytes_refused}
+use Rattle.argon2_base.proofs.phc_lemmas.Base64Lemmas.{refused_text}
+use Rattle.argon2_base.proofs.phc_lemmas.PhcTextLemmas.{bytes_read, bytes_refused}
 use Rattle.argon2_base.proofs.phc.fields.bytes_field.Goals as goal
 
 pub returns-in-Ok : goal.returns-in-Ok

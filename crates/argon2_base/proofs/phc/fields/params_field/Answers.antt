@@ -1,6 +1,6 @@
 use Rattle.std.proofs.Common.{sym, ◌∙◌, ap}
 use Rattle.argon2_base.specs.PhcFields.{fields_left}
-use Rattle.argon2_base.proofs.texts.PhcTextLemmas.{no_list_read, list_read}
+use Rattle.argon2_base.proofs.phc_lemmas.PhcTextLemmas.{no_list_read, list_read}
 use Rattle.argon2_base.proofs.phc.fields.params_field.Goals as goal
 
 pub returns-in_default-split_item-clause-only : goal.returns-in_default-split_item-clause-only

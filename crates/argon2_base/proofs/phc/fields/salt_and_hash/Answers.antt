@@ -2,7 +2,7 @@ use Rattle.std.proofs.Common.{[], refl, sym, ◌∙◌}
 use Rattle.std.proofs.lemmas.List.{append-nil}
 use Rattle.argon2_base.specs.Texts.{strict_base64}
 use Rattle.argon2_base.specs.PhcText.{field}
-use Rattle.argon2_base.proofs.texts.PhcTextLemmas.{none_after, left_none, none_left, salt_before_hash, both_read}
+use Rattle.argon2_base.proofs.phc_lemmas.PhcTextLemmas.{none_after, left_none, none_left, salt_before_hash, both_read}
 use Rattle.argon2_base.proofs.phc.fields.salt_and_hash.Goals as goal
 
 pub returns-in_err-salt-clause-only : goal.returns-in_err-salt-clause-only

@@ -1,4 +1,4 @@
-use Rattle.argon2_base.proofs.texts.ParamsTextLemmas.{split_found, split_none}
+use Rattle.argon2_base.proofs.phc_lemmas.ParamsTextLemmas.{split_found, split_none}
 use Rattle.argon2_base.proofs.phc.list.split_item.Goals as goal
 
 pub returns-clause-found : goal.returns-clause-found

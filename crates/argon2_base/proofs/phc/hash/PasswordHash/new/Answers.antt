@@ -1,7 +1,7 @@
 use Rattle.std.proofs.Common.{◌≡◌, ◌∙◌, lit<, Some, None, true, false}
 use Rattle.std.proofs.lemmas.Str.Pattern.{strip_prefix_char}
 use Rattle.argon2_base.specs.Texts.{is_name}
-use Rattle.argon2_base.proofs.texts.PhcTextLemmas.{first_and_left, begins_with_dollar, text_of_fields, from_params, from_salt, no_version, no_item, same_phc, fields_of_parts}
+use Rattle.argon2_base.proofs.phc_lemmas.PhcTextLemmas.{first_and_left, begins_with_dollar, text_of_fields, from_params, from_salt, no_version, no_item, same_phc, fields_of_parts}
 use Rattle.argon2_base.proofs.phc.hash.PasswordHash.new.Goals as goal
 
 pub returns-in_default-clause-only : goal.returns-in_default-clause-only

@@ -2,8 +2,8 @@ use Rattle.std.proofs.Common.{rules, ◌≡◌, length, ap, arith}
 use Rattle.argon2_base.specs.Texts.{strict_base64}
 use Rattle.argon2_base.specs.PhcFields.{phc_of}
 use Rattle.argon2_base.specs.PhcText.{field}
-use Rattle.argon2_base.proofs.texts.PhcTextLemmas.{text_of_printed}
-use Rattle.argon2_base.proofs.texts.Characters.{name_length}
+use Rattle.argon2_base.proofs.phc_lemmas.PhcTextLemmas.{text_of_printed}
+use Rattle.argon2_base.proofs.phc_lemmas.Characters.{name_length}
 use Rattle.argon2_base.proofs.phc.hash.PasswordHash.text.Goals as goal
 
 pub push_field-requires : goal.push_field-requires

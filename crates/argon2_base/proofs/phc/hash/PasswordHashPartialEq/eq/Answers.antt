@@ -1,7 +1,7 @@
 use Rattle.std.proofs.Common.{rules, ◌≡◌}
 use Rattle.argon2_base.specs.PhcFields.{phc_of}
 use Rattle.argon2_base.specs.PhcText.{phc_eq}
-use Rattle.argon2_base.proofs.texts.Equalities.{equal_phcs}
+use Rattle.argon2_base.proofs.phc_lemmas.Equalities.{equal_phcs}
 use Rattle.argon2_base.proofs.phc.hash.PasswordHashPartialEq.eq.Goals as goal
 
 pub returns-then-eq-4-clause-same : goal.returns-then-eq-4-clause-same

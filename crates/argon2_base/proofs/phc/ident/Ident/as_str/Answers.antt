@@ -1,4 +1,4 @@
-use Rattle.argon2_base.proofs.texts.Characters.{IsUtf8-name}
+use Rattle.argon2_base.proofs.phc_lemmas.Characters.{IsUtf8-name}
 use Rattle.argon2_base.proofs.phc.ident.Ident.as_str.Goals as goal
 
 pub unreachable-requires : goal.unreachable-requires

@@ -1,8 +1,8 @@
 use Rattle.std.proofs.Common.{arith}
 use Rattle.argon2_base.specs.Texts.{strict_base64}
-use Rattle.argon2_base.proofs.texts.Base64Lemmas.{length-strict_base64}
-use Rattle.argon2_base.proofs.texts.ParamsTextLemmas.{refused_param}
-use Rattle.argon2_base.proofs.texts.ParamsReading.{long_value}
+use Rattle.argon2_base.proofs.phc_lemmas.Base64Lemmas.{length-strict_base64}
+use Rattle.argon2_base.proofs.phc_lemmas.ParamsTextLemmas.{refused_param}
+use Rattle.argon2_base.proofs.phc_lemmas.ParamsReading.{long_value}
 use Rattle.argon2_base.proofs.phc.list.ParamsString.add_b64_bytes.Goals as goal
 
 pub returns-then-bytes-gt-MAX_VALUE_BYTES-clause-when : goal.returns-then-bytes-gt-MAX_VALUE_BYTES-clause-when

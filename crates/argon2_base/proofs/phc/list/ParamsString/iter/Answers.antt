@@ -1,6 +1,6 @@
 use Rattle.std.proofs.Common.{◌<◌, length, arith, refl}
 use Rattle.std.proofs.lemmas.Bool.Decides.{nat_tests}
-use Rattle.argon2_base.proofs.texts.ParamsTextLemmas.{starts_ok}
+use Rattle.argon2_base.proofs.phc_lemmas.ParamsTextLemmas.{starts_ok}
 use Rattle.argon2_base.proofs.phc.list.ParamsString.iter.Goals as goal
 use Rattle.argon2_base.proofs.phc.list.ParamsString.iter.Goals.{then-is_empty, else-is_empty}
 

@@ -1,7 +1,7 @@
 use Rattle.std.proofs.Common.{◌≡◌, ℕ, ◌<◌, [], ◌∷◌, ◌++◌, length, map, ap, arith, true, false, ◌==◌, Ok}
 use Rattle.std.proofs.lemmas.Bool.Decides.{nat_tests}
 use Rattle.argon2_base.specs.PhcText.{item, items_of, items_left, are_params}
-use Rattle.argon2_base.proofs.texts.ParamsReading.{empty_list, one_list, read_at_end, items_from_here, is_item, fits_here}
+use Rattle.argon2_base.proofs.phc_lemmas.ParamsReading.{empty_list, one_list, read_at_end, items_from_here, is_item, fits_here}
 use Rattle.argon2_base.proofs.phc.list.ParamsString.read.Goals as goal
 
 pub returns-then-is_empty-clause-only : goal.returns-then-is_empty-clause-only

@@ -3,8 +3,8 @@ use Rattle.std.proofs.lemmas.Bool.Decides.{same_from_decides}
 use Rattle.std.proofs.lemmas.Slice.Eq.{bytes_eq-Decides}
 use Rattle.std.specs.Str.{bytes_eq}
 use Rattle.argon2_base.specs.PhcText.{params_text, pairs_eq}
-use Rattle.argon2_base.proofs.texts.Equalities.{pairs_eq-Decides}
-use Rattle.argon2_base.proofs.texts.ParamsReading.{one_list}
+use Rattle.argon2_base.proofs.phc_lemmas.Equalities.{pairs_eq-Decides}
+use Rattle.argon2_base.proofs.phc_lemmas.ParamsReading.{one_list}
 use Rattle.argon2_base.proofs.phc.list.ParamsStringPartialEq.eq.Goals as goal
 
 pub returns : goal.returns

@@ -5,7 +5,7 @@ use Rattle.std.specs.Simd.Lanes.{chunk, number_l, pick_l}
 use Rattle.std.proofs.lemmas.Nat.{or_comm, or_shifted}
 use Rattle.std.proofs.lemmas.Simd.{get_or-chunk, length-chunk, pick_l_left}
 use Rattle.argon2_base.specs.Lanes.{word_from}
-use Rattle.argon2_base.proofs.mixing.LaneLemmas.{below_eight, eight_lanes}
+use Rattle.argon2_base.proofs.block_lemmas.LaneLemmas.{below_eight, eight_lanes}
 
 number_of_eight : (bs : List ℕ) → length bs ≡ 8 → number_l 256 bs ≡ word_from bs 0
 number_of_eight =

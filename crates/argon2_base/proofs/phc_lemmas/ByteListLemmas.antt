@@ -10,7 +10,7 @@ use Rattle.base64.specs.declared.decode.DecodeError.{DecodeError}
 use Rattle.base64.specs.declared.decode.DecodeSliceError.{DecodeSliceError}
 use Rattle.base64.specs.declared.decode.DecodeSliceError.TheVariants.{OutputSliceTooSmall}
 use Rattle.argon2_base.specs.Texts.{IsBytes, strict_base64}
-use Rattle.argon2_base.proofs.texts.Base64Lemmas.{decode_of-strict_base64, length-strict_base64, strict_base64_decoded}
+use Rattle.argon2_base.proofs.phc_lemmas.Base64Lemmas.{decode_of-strict_base64, length-strict_base64, strict_base64_decoded}
 use Rattle.argon2_base.specs.ByteList.{base64_length}
 
 -- behind the k bytes ys that were copied, the rest of n zeros is left

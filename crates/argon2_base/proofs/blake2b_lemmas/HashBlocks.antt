@@ -4,7 +4,7 @@ use Rattle.std.proofs.lemmas.List.{drop-append-le, take_all, drop-drop, length-r
 use Rattle.std.specs.Simd.{first_chunks}
 use Rattle.argon2_base.specs.Blake2b.{block_count, blocks, compress, hash_blocks}
 use Rattle.argon2_base.specs.Hasher.{hash_after, blocks_before}
-use Rattle.argon2_base.proofs.hashing.Absorbing.{held, IsAbsorbed, hash_after-append, hash_after_next}
+use Rattle.argon2_base.proofs.blake2b_lemmas.Absorbing.{held, IsAbsorbed, hash_after-append, hash_after_next}
 
 -- one block is the last
 hash_blocks_one : (l t : ℕ) (h b : List ℕ)

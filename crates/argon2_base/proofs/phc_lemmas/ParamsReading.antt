@@ -9,7 +9,7 @@ use Rattle.std.specs.Str.{bytes_eq}
 use Rattle.std.specs.Prelude.{is_none}
 use Rattle.argon2_base.specs.Texts.{is_value}
 use Rattle.argon2_base.specs.PhcText.{Pair, item, params_text, value_of, are_distinct, is_param, are_params, ParamsText, pair_of, items_of, pairs_of}
-use Rattle.argon2_base.proofs.texts.ParamsTextLemmas.{all_params, pairs_again, items_again_long, map_again, text_long, param_value}
+use Rattle.argon2_base.proofs.phc_lemmas.ParamsTextLemmas.{all_params, pairs_again, items_again_long, map_again, text_long, param_value}
 
 -- the list of the empty text
 pub empty_list : (ps : List Pair) → length (params_text ps) ≡ 0 → ps ≡ []

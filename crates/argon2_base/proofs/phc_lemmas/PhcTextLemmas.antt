@@ -13,11 +13,11 @@ use Rattle.argon2_base.specs.Texts.{IsBytes, is_name, is_name_char, is_value, is
 use Rattle.argon2_base.specs.PhcText.{HasBytes, IsPhc, Pair, Phc, PhcText, are_params, field, fields, fields_text, is_param, item, list_field, pair_of, params_text, phc_text, version_text}
 use Rattle.argon2_base.specs.PhcFields.{fields_of, fields_left, IsBytesField, NoVersionFirst, NoItemFirst}
 use Rattle.argon2_base.specs.declared.error.password_hash.Error.TheVariants.{EncodingInvalid}
-use Rattle.argon2_base.proofs.texts.Base64Lemmas.{decode_of-strict_base64, strict_base64_unique}
-use Rattle.argon2_base.proofs.texts.Characters.{lacks_by}
-use Rattle.argon2_base.proofs.texts.Separators.{Lacks, Lacks-append, Lacks_not, cut_joined}
-use Rattle.argon2_base.proofs.texts.ParamsTextLemmas.{all_params, name_lacks, item_lacks, pair_again, param_name}
-use Rattle.argon2_base.proofs.texts.ValueCharacters.{decimal_chars, base64_chars}
+use Rattle.argon2_base.proofs.phc_lemmas.Base64Lemmas.{decode_of-strict_base64, strict_base64_unique}
+use Rattle.argon2_base.proofs.phc_lemmas.Characters.{lacks_by}
+use Rattle.argon2_base.proofs.phc_lemmas.Separators.{Lacks, Lacks-append, Lacks_not, cut_joined}
+use Rattle.argon2_base.proofs.phc_lemmas.ParamsTextLemmas.{all_params, name_lacks, item_lacks, pair_again, param_name}
+use Rattle.argon2_base.proofs.phc_lemmas.ValueCharacters.{decimal_chars, base64_chars}
 
 -- ---- no field has a `$`
 

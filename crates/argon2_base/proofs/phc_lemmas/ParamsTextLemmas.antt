@@ -10,8 +10,8 @@ use Rattle.std.specs.Borrow.{Bor}
 use Rattle.std.specs.Prelude.{is_none, is_some, IfSome, IfNone, Option}
 use Rattle.argon2_base.specs.Texts.{is_name, is_value, is_name_char, is_value_char}
 use Rattle.argon2_base.specs.PhcText.{Pair, item, params_text, value_of, are_distinct, is_param, are_params, pair_of, items_of, pairs_of, with_item}
-use Rattle.argon2_base.proofs.texts.Characters.{name_chars, lacks_by}
-use Rattle.argon2_base.proofs.texts.Separators.{Lacks, Lacks-append, Lacks_from, Lacks_not, cut_joined}
+use Rattle.argon2_base.proofs.phc_lemmas.Characters.{name_chars, lacks_by}
+use Rattle.argon2_base.proofs.phc_lemmas.Separators.{Lacks, Lacks-append, Lacks_from, Lacks_not, cut_joined}
 
 -- the parts of an item
 pub pair_again : (n v : List ℕ) → Lacks 61 n → pair_of (n ++ 61 ∷ v) ≡ (n, v)

@@ -7,7 +7,7 @@ use Rattle.std.proofs.lemmas.List.FromFn.{get_or-map-range_with_len, length-map-
 use Rattle.std.proofs.lemmas.Simd.{get_or-zip2, length-zip2}
 use Rattle.argon2_base.specs.Block.{by_columns, by_rows, column, gb, gb_at, mix_columns, mix_diagonals, perm, row, xor_blocks}
 use Rattle.argon2_base.specs.Lanes.{lane, lane_word}
-use Rattle.argon2_base.proofs.mixing.LaneLemmas.{below_two, lane_is, slice_index-lane}
+use Rattle.argon2_base.proofs.block_lemmas.LaneLemmas.{below_two, lane_is, slice_index-lane}
 
 -- a lane of the vectors once one of them is replaced
 lane-slice_set : (x : List (List ℕ)) (i n : ℕ) (y : List ℕ) → i < 16 → length x ≡ 16
