@@ -48,8 +48,8 @@ fn main(rt: HostRuntime) -> ExitCode {
     ExitCode::from(status)
 }
 
-// Says why a command's file can't have accounts, and returns the status, if what is there is no such file, or if nothing
-// is there and the command makes none.
+// Says why a command's file can't have accounts, and returns the status, if what is there is no such
+// file, or if nothing is there and the command makes none.
 fn unfit<E: Write>(rt: &HostRuntime, command: &Command<'_>, errors: &mut E) -> Option<u8> {
     let path = command.file()?;
     let why = match fs::metadata(rt, path) {

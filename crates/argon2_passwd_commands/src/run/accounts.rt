@@ -1,29 +1,33 @@
 //! Accounts in a file.
 
-ghost use Rattle.std.specs.Prelude.{◌≡◌, ◌⊎◌, Ok, None, IfErr, IfOk, OnErr, OnOk, map};
+ghost use Rattle.std.specs.Prelude.{◌≡◌, ◌⊎◌, ℕ, List, Ok, None, IfErr, IfOk, OnErr, OnOk, map};
 ghost use Rattle.std.specs.Io.KnownBytes.{Appends, Keeps};
 ghost use Rattle.rand_core.specs.Stream.{fill_bytes};
-ghost use Rattle.argon2_accounts.specs.Accounts.{AreTerms};
-ghost use Rattle.argon2_store.specs.AccountFile.{AddsOrNone, Serves};
+ghost use Rattle.argon2_base.specs.PhcFields.{phc_of};
+ghost use Rattle.argon2_accounts.specs.Accounts.{AreTerms, registering, setting, terms_of as policy_terms};
+ghost use Rattle.argon2.specs.Made.{IsFresh};
+ghost use Rattle.argon2_store.specs.AccountFile.{AddsOrNone, Serves, terms_of};
 ghost use Rattle.argon2_store.specs.Adding.{entry_of};
 ghost use Rattle.argon2_store.specs.Rows.{lines_of};
-ghost use Rattle.argon2_passwd_commands.specs.Answers.{AreRead, AreUnread, IsAdded, IsEdited, IsImported, IsLeft, IsLogin, IsOnce, IsOpened, IsRead, IsRefused, IsRefusedBy, RefusesLine, breaks_lines, call_of, terms_by};
+ghost use Rattle.argon2_passwd_commands.specs.Answers.{AreRead, AreUnread, IsAdded, IsCalled, IsEdited, IsImported, IsLeft, IsLogin, IsOnce, IsOpened, IsRead, IsRefused, IsRefusedBy, IsSecret, RefusesLine, breaks_lines, call_of, terms_by};
 ghost use Rattle.argon2_passwd_commands.specs.Asked.{Asked, choices_of};
 ghost use Rattle.argon2_passwd_commands.specs.Failures.{status_of};
 
-use super::{secret, target};
+use super::{policy, secret, target};
 use crate::command::Edit;
 use crate::entries::{entries, read_all};
 use crate::failure::Failure;
 use crate::options::Options;
 use crate::outside::Outside;
 use crate::passwords::password;
+use argon2::PasswordHash;
 use argon2::login::Accepted;
+use argon2_accounts::{AccountError, Policy};
 use argon2_store::{AccountFile, FileError, OpenError, View};
 use rand_chacha::ChaCha20Rng;
 use rand_core::{Rng, SeedableRng};
 use sqlite_trees::store::Store;
-use std::alloc::Global;
+use std::alloc::{AllocError, Global};
 use std::io::{BufRead, Write};
 
 // How often a file is tried again that another process has open.
@@ -88,18 +92,22 @@ pub fn edit<P: Outside, R: BufRead>(
     }
     let (first, second) = passwords(alloc, edit, input)?;
     let secret = secret(alloc, outside, options)?;
+    let policy = policy(alloc, options, secret.as_slice())?;
     let mut rng = ChaCha20Rng::from_seed(outside.seed()?);
-    let mut accounts = open(options, outside, file, secret.as_slice())?;
-    let done = call(
-        &mut accounts,
-        &mut rng,
+    let done = act(
+        options,
+        outside,
+        left,
+        file,
         edit,
         name,
+        secret.as_slice(),
+        &policy,
+        &mut rng,
         first.as_slice(),
         second.as_slice(),
     );
-    *left = Some(accounts.into_store());
-    Ok(done?)
+    Ok(done??)
 }
 
 /// Writes what a file has, a line for each name.
@@ -163,8 +171,8 @@ pub fn import<P: Outside, R: BufRead>(
     added
 }
 
-// The accounts in a file, which is left alone where the parameters are above the bound. While another process has it open,
-// the open is tried again for 5 seconds.
+// The accounts in a file, which is left alone where the parameters are above the bound. While
+// another process has it open, the open is tried again for 5 seconds.
 fn open<'key, P: Outside>(
     options: &Options<'_>,
     outside: &mut P,
@@ -218,24 +226,101 @@ fn passwords<R: BufRead>(
     }
 }
 
-// Changes the text of a name.
-fn call<S: Store, G: Rng>(
-    accounts: &mut AccountFile<'_, S>,
-    rng: &mut G,
+// Changes the text of a name. A text that is made of the new password alone is made before the file
+// is opened.
+fn act<P: Outside, G: Rng>(
+    options: &Options<'_>,
+    outside: &mut P,
+    left: &mut Option<P::File>,
+    file: &str,
     edit: Edit,
     name: &str,
+    secret: &[u8],
+    policy: &Policy<'_>,
+    rng: &mut G,
     first: &[u8],
     second: &[u8],
-) -> Result<(), FileError>
-    ensures { Serves (call_of edit name.now first.now second.now
-        (fill_bytes 16 (G.stream rng.old)).0) result accounts.old accounts.new }
+) -> Result<Result<(), FileError>, Failure>
+    requires unopened { P.unopened outside.old }
+    requires held { IsSecret P.holds (choices_of options.now).secret_file secret.now }
+    requires under { policy_terms policy.now ≡ terms_by (choices_of options.now) secret.now }
+    ensures ok { IfOk result (λ done. IsCalled P.File.Store P.holds P.keeps (choices_of options.now)
+        file.now (call_of edit name.now first.now second.now) done
+        (IsLeft (P.unopened outside.new) left.new)) }
+    ensures err { IfErr result (λ failure. status_of failure ≡ 1
+        → ¬ (AreTerms (terms_by (choices_of options.now) secret.now))) }
+    ensures untouched { OnErr result (P.unopened outside.new) }
 {
     match edit {
-        Edit::Register => accounts.register(rng, name, first),
-        Edit::Change => accounts.change_password(rng, name, first, second),
-        Edit::Set => accounts.set_password(rng, name, first),
-        Edit::Remove => accounts.remove(name),
+        Edit::Register => {
+            let text = fresh(policy, rng, first)?;
+            let mut accounts = open(options, outside, file, secret)?;
+            let done = add_text(&mut accounts, name, &text);
+            *left = Some(accounts.into_store());
+            Ok(done)
+        }
+        Edit::Change => {
+            let mut accounts = open(options, outside, file, secret)?;
+            let done = accounts.change_password(rng, name, first, second);
+            *left = Some(accounts.into_store());
+            Ok(done)
+        }
+        Edit::Set => {
+            let text = fresh(policy, rng, first)?;
+            let mut accounts = open(options, outside, file, secret)?;
+            let done = set_text(&mut accounts, name, &text);
+            *left = Some(accounts.into_store());
+            Ok(done)
+        }
+        Edit::Remove => {
+            let mut accounts = open(options, outside, file, secret)?;
+            let done = accounts.remove(name);
+            *left = Some(accounts.into_store());
+            Ok(done)
+        }
     }
+}
+
+// A fresh text of a password.
+fn fresh<G: Rng>(policy: &Policy<'_>, rng: &mut G, password: &[u8]) -> Result<PasswordHash, Failure>
+    ensures ok { IfOk result (λ text. IsFresh (policy_terms policy.now).target password.now
+        (fill_bytes 16 (G.stream rng.old)).0 (phc_of text)) }
+    ensures err { IfErr result (λ failure. status_of failure ≡ 3) }
+{
+    match policy.hash_password(rng, password) {
+        Ok(text) => Ok(text),
+        // A password that was read is short enough, so that only memory is refused.
+        Err(_) => Err(Failure::Memory(AllocError)),
+    }
+}
+
+// Gives a new name this text.
+fn add_text<S: Store>(
+    accounts: &mut AccountFile<'_, S>,
+    name: &str,
+    fresh: &PasswordHash,
+) -> Result<(), FileError>
+    ensures { (password drawn : List ℕ) →
+        IsFresh (terms_of accounts.old).target password drawn (phc_of fresh.now) →
+        Serves (registering name.now password drawn) result accounts.old accounts.new }
+{
+    accounts.add(name, fresh.text().as_str())
+}
+
+// Gives a name that is there this text, whatever text it had.
+fn set_text<S: Store>(
+    accounts: &mut AccountFile<'_, S>,
+    name: &str,
+    fresh: &PasswordHash,
+) -> Result<(), FileError>
+    ensures { (password drawn : List ℕ) →
+        IsFresh (terms_of accounts.old).target password drawn (phc_of fresh.now) →
+        Serves (setting name.now password drawn) result accounts.old accounts.new }
+{
+    let Some(text) = accounts.text_of(name)? else {
+        return Err(AccountError::NameUnknown.into());
+    };
+    accounts.replace(name, text.text().as_str(), fresh.text().as_str())
 }
 
 // Adds all entries, each a line, or none.

@@ -1,10 +1,10 @@
-use Rattle.std.proofs.Common.{Some, ap, inr, sym, ◌∙◌}
+use Rattle.std.proofs.Common.{inr, sym, ◌∙◌}
 use Rattle.argon2_passwd_commands.proofs.Refusals.{refused}
 use Rattle.argon2_passwd_commands.proofs.run.accounts.edit.Goals as goal
 
-pub returns-in_err-done-clause-err : goal.returns-in_err-done-clause-err
-returns-in_err-done-clause-err g c =
-    refused _ c.in_err-done.field-0.0 _ c.from_residual-in_err-done.ensures.1
+pub returns-in_err-branch-clause-err : goal.returns-in_err-branch-clause-err
+returns-in_err-branch-clause-err g c =
+    refused _ c.in_err-branch.field-0.0 _ c.from_residual-in_err-branch.ensures.1
     (λ refusal is. inr (
       refusal,
       (
@@ -12,16 +12,7 @@ returns-in_err-done-clause-err g c =
         c.in_ok-first.first.items,
         c.in_ok-first.second.items,
         c.in_ok-first.ensures.ok,
-        (
-          c.in_ok-secret.secret.items,
-          _,
-          c.in_ok-accounts.accounts,
-          c.call-done.new.accounts,
-          c.in_ok-secret.ensures.ok,
-          (rw c.as_slice.ensures.value at c.in_ok-accounts.ensures.ok),
-          (rw (c.as_slice-2.ensures.value, c.as_slice-3.ensures.value, is) at c.in_err-done.ensures),
-          ap Some c.into_store.ensures,
-        ),
+        (rw (c.as_slice-3.ensures.value, c.as_slice-4.ensures.value, c.in_err-branch.was, is) at c.in_ok-done.ensures.ok),
       ),
     ))
 
@@ -31,36 +22,18 @@ returns-clause-ok g c = (
   c.in_ok-first.first.items,
   c.in_ok-first.second.items,
   c.in_ok-first.ensures.ok,
-  (
-    c.in_ok-secret.secret.items,
-    _,
-    c.in_ok-accounts.accounts,
-    c.call-done.new.accounts,
-    c.in_ok-secret.ensures.ok,
-    (rw c.as_slice.ensures.value at c.in_ok-accounts.ensures.ok),
-    (rw (c.as_slice-2.ensures.value, c.as_slice-3.ensures.value) at c.in_ok-done.ensures),
-    ap Some c.into_store.ensures,
-  ),
+  (rw (c.as_slice-3.ensures.value, c.as_slice-4.ensures.value, c.in_ok-branch.was) at c.in_ok-done.ensures.ok),
 )
 
-pub returns-in_err-done-clause-once : goal.returns-in_err-done-clause-once
-returns-in_err-done-clause-once g c = inr (
+pub returns-in_err-branch-clause-once : goal.returns-in_err-branch-clause-once
+returns-in_err-branch-clause-once g c = inr (
   _,
   (
     sym c.breaks_lines.ensures ∙ c.if-breaks_lines.false,
     c.in_ok-first.first.items,
     c.in_ok-first.second.items,
     c.in_ok-first.ensures.ok,
-    (
-      c.in_ok-secret.secret.items,
-      _,
-      c.in_ok-accounts.accounts,
-      c.call-done.new.accounts,
-      c.in_ok-secret.ensures.ok,
-      (rw c.as_slice.ensures.value at c.in_ok-accounts.ensures.ok),
-      (rw (c.as_slice-2.ensures.value, c.as_slice-3.ensures.value) at c.in_err-done.ensures),
-      ap Some c.into_store.ensures,
-    ),
+    (rw (c.as_slice-3.ensures.value, c.as_slice-4.ensures.value) at c.in_ok-done.ensures.ok),
   ),
 )
 
@@ -72,15 +45,6 @@ returns-clause-once g c = inr (
     c.in_ok-first.first.items,
     c.in_ok-first.second.items,
     c.in_ok-first.ensures.ok,
-    (
-      c.in_ok-secret.secret.items,
-      _,
-      c.in_ok-accounts.accounts,
-      c.call-done.new.accounts,
-      c.in_ok-secret.ensures.ok,
-      (rw c.as_slice.ensures.value at c.in_ok-accounts.ensures.ok),
-      (rw (c.as_slice-2.ensures.value, c.as_slice-3.ensures.value) at c.in_ok-done.ensures),
-      ap Some c.into_store.ensures,
-    ),
+    (rw (c.as_slice-3.ensures.value, c.as_slice-4.ensures.value) at c.in_ok-done.ensures.ok),
   ),
 )

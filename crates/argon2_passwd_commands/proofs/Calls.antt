@@ -1,0 +1,149 @@
+-- A call that is given a text of a password does what the call does that makes it.
+use Rattle.std.proofs.Common.{arith, ◌≡◌, ◌∙◌, ℕ, List, Option, Some, None, Result, Ok, Err, inl, inr, refl, sym, subst}
+use Rattle.std.specs.Prelude.{IfErr, IsSomeAnd}
+use Rattle.std.specs.FinMap.{get}
+use Rattle.sqlite_trees.specs.declared.store.Store.{Ghosts}
+use Rattle.argon2_base.specs.PhcText.{Phc, PhcText}
+use Rattle.argon2_accounts.specs.Accounts.{Adds, AccountEvent, OnValue, Registers, Replaces, Sets, Terms, adding, registering, replacing, setting}
+use Rattle.argon2_accounts.specs.declared.error.AccountError.{AccountError}
+use Rattle.argon2_accounts.specs.declared.error.AccountError.TheVariants.{NameTaken, NameUnknown, Refused, TextChanged, TooExpensive}
+use Rattle.argon2.specs.Made.{IsFresh}
+use Rattle.argon2.specs.NamedTexts.{Store}
+use Rattle.argon2_store.specs.AccountFile.{Answers, HasCause, HasFailed, HasNames, IfRefused, IsBeforeOrAfter, IsClosed, Runs, Serves, Stays, store_of, terms_of}
+use Rattle.argon2_store.specs.Table.{IsHonest, IsOpen, StaysQuiet}
+use Rattle.argon2_store.specs.declared.account_file.AccountFile.{AccountFile}
+use Rattle.argon2_store.specs.declared.error.FileError.{FileError}
+use Rattle.argon2_store.specs.declared.error.FileError.TheVariants.{Account, OutOfMemory, Io, Damaged, Full, TooLong, Closed}
+use Rattle.argon2_store.proofs.TableLemmas.{more_earlier, quiet_then}
+use Rattle.argon2_passwd_commands.proofs.Once.{phc_once}
+
+-- the text of a value that was made of the password
+module _ (terms : Terms) (password drawn text : List ℕ) (w : Phc) (says : PhcText text w)
+    (fresh : IsFresh terms.target password drawn w) where
+  -- another value of the text is the same
+  is_fresh : (q : Option Phc) → IsSomeAnd q (PhcText text) → IsSomeAnd q (IsFresh terms.target password drawn)
+  is_fresh (Some u) is = subst (IsFresh terms.target password drawn) (phc_once w u says.0 is.0 (sym says.1 ∙ is.1)) fresh
+  is_fresh None is = is
+
+  registers_value : (p q : Option Phc) (r : Result (Unit {0}) AccountError) → Adds text p r q
+      → Registers terms password drawn p r q
+  registers_value p q (Ok x) is = (is.0, is_fresh q is.1)
+  registers_value (Some v) q (Err NameTaken) is = (tt, is.1)
+  registers_value None q (Err NameTaken) is = absurd (let never = is.0.1 in cc)
+  registers_value p q (Err (Refused e)) (inl outside, same) = absurd (outside.1 (w, says))
+  registers_value (Some v) q (Err (Refused e)) (inr memory, same) = absurd (let never = memory.2 in cc)
+  registers_value None q (Err (Refused e)) (inr memory, same) = (inl memory.0, same)
+  registers_value p q (Err e) is = absurd is.0
+
+  sets_value : (was : List ℕ) (v : Phc) → PhcText was v → (p q : Option Phc) (r : Result (Unit {0}) AccountError) → p ≡ Some v
+      → OnValue (Replaces was text) p r q → OnValue (Sets terms password drawn) p r q
+  sets_value was v old p (Some u) (Ok x) had is = rw had (is_fresh (Some u) (rw had at is).1)
+  sets_value was v old p None (Ok x) had is = absurd (rw had at is)
+  sets_value was v old p (Some u) (Err TextChanged) had is = absurd ((rw had at is).0 old)
+  sets_value was v old p (Some u) (Err (Refused e)) had is = absurd ((rw had at is).0.2 (w, says))
+  sets_value was v old p (Some u) (Err e) had is = absurd (rw had at is).0
+  sets_value was v old p None (Err e) had is = absurd (rw had at is)
+
+  registers_step : (before after : Store) (name : List ℕ) (r : Result (Unit {0}) FileError)
+      → Answers terms before (adding name text) r after → Answers terms before (registering name password drawn) r after
+  registers_step before after name (Ok x) is = (registers_value (get before name) (get after name) (Ok x) is.0, is.1)
+  registers_step before after name (Err (Account e)) is =
+      (registers_value (get before name) (get after name) (Err e) is.0, is.1)
+  registers_step before after name (Err OutOfMemory) is = is
+  registers_step before after name (Err Io) is = is
+  registers_step before after name (Err Damaged) is = is
+  registers_step before after name (Err Full) is = is
+  registers_step before after name (Err TooLong) is = is
+  registers_step before after name (Err Closed) is = is
+
+  sets_step : (first : Terms) (before after : Store) (name was : List ℕ) (v : Phc) → PhcText was v → get before name ≡ Some v
+      → (r : Result (Unit {0}) FileError)
+      → Answers first before (replacing name was text) r after → Answers terms before (setting name password drawn) r after
+  sets_step first before after name was v old had (Ok x) is =
+      (sets_value was v old (get before name) (get after name) (Ok x) had is.0, is.1)
+  sets_step first before after name was v old had (Err (Account e)) is =
+      (sets_value was v old (get before name) (get after name) (Err e) had is.0, is.1)
+  sets_step first before after name was v old had (Err OutOfMemory) is = is
+  sets_step first before after name was v old had (Err Io) is = is
+  sets_step first before after name was v old had (Err Damaged) is = is
+  sets_step first before after name was v old had (Err Full) is = is
+  sets_step first before after name was v old had (Err TooLong) is = is
+  sets_step first before after name was v old had (Err Closed) is = is
+
+-- a name is added with a text of its password
+pub registers : {S : Type 0} {g : Ghosts S} (old new : AccountFile S g) (name text password drawn : List ℕ) (w : Phc)
+    → PhcText text w → IsFresh (terms_of old).target password drawn w → (r : Result (Unit {0}) FileError)
+    → Serves (adding name text) r old new → Serves (registering name password drawn) r old new
+registers {g = g} old new name text password drawn w says fresh r serves before has =
+    let (after, run) = serves before has in
+    let step = registers_step (terms_of old) password drawn text w says fresh before in (
+      after,
+      record {
+        has = run.has;
+        step = λ clean. step after name r (run.step clean);
+        terms = run.terms;
+        honest = run.honest;
+        unchanged = run.unchanged;
+        refused = run.refused;
+        crash = λ clean is_open db found.
+            let left = run.crash clean is_open db found in
+            (left.0, left.1, elim left.2 [ inl same ↦ inl same | inr (x, is) ↦ inr (x, step left.0 name (Ok x) is) ]);
+        durable = run.durable;
+        closed = run.closed;
+        closes = run.closes;
+        cause = run.cause;
+      },
+    )
+
+refused_then : (P Q : Type 0) (r : Result (Unit {0}) FileError) → (P → Q) → IfErr r (IfRefused P) → IfErr r (IfRefused Q)
+refused_then P Q (Ok x) then is = tt
+refused_then P Q (Err (Account e)) then is = then is
+refused_then P Q (Err OutOfMemory) then is = tt
+refused_then P Q (Err Io) then is = tt
+refused_then P Q (Err Damaged) then is = tt
+refused_then P Q (Err Full) then is = tt
+refused_then P Q (Err TooLong) then is = tt
+refused_then P Q (Err Closed) then is = tt
+
+cause_then : (shut closed more fault long : Type 0) (r : Result (Unit {0}) FileError) → (shut → closed) → (more → fault)
+    → IfErr r (HasCause shut more long) → IfErr r (HasCause closed fault long)
+cause_then shut closed more fault long (Ok x) f h is = tt
+cause_then shut closed more fault long (Err (Account e)) f h is = tt
+cause_then shut closed more fault long (Err OutOfMemory) f h is = tt
+cause_then shut closed more fault long (Err Io) f h is = h is
+cause_then shut closed more fault long (Err Damaged) f h is = h is
+cause_then shut closed more fault long (Err Full) f h is = h is
+cause_then shut closed more fault long (Err TooLong) f h is = is
+cause_then shut closed more fault long (Err Closed) f h is = f is
+
+-- a name's text is read, and replaced by a text of its password
+pub sets : {S : Type 0} {g : Ghosts S} (old mid new : AccountFile S g) (name was text password drawn : List ℕ) (v w : Phc)
+    → PhcText was v → PhcText text w → IsFresh (terms_of old).target password drawn w → (r : Result (Unit {0}) FileError)
+    → (IsHonest g (store_of old) → IsClosed old → ⊥) → ((names : Store) → HasNames old names → Stays None names old mid)
+    → ((names : Store) → HasNames mid names → IsHonest g (store_of mid) → get names name ≡ Some v)
+    → Serves (replacing name was text) r mid new → Serves (setting name password drawn) r old new
+sets {g = g} old mid new name was text password drawn v w old_says says fresh r live reading had serves before has =
+    let reads = reading before has in
+    let (after, run) = serves before reads.has in
+    let open_then : IsHonest g (store_of new) → IsOpen g (store_of mid) = λ clean. reads.is_open refl (run.honest clean) in
+    let earlier = more_earlier (g.faults (store_of old)) (g.faults (store_of mid)) (g.faults (store_of new)) reads.quiet.counts in
+    let step = λ (clean : IsHonest g (store_of new)) (left : Store).
+    sets_step (terms_of old) password drawn text w says fresh (terms_of mid) before left name was v old_says
+    (had before reads.has (run.honest clean)) in (
+      after,
+      record {
+        has = run.has;
+        step = λ clean. step clean after r (run.step clean);
+        terms = run.terms ∙ reads.terms;
+        honest = λ clean. omega (arith, run.honest clean, reads.quiet.clean);
+        unchanged = run.unchanged;
+        refused = refused_then _ _ r (quiet_then g (store_of old) (store_of mid) (store_of new) reads.quiet) run.refused;
+        crash = λ clean is_open db found.
+            let left = run.crash clean (open_then clean) db found in
+            (left.0, left.1, elim left.2 [ inl same ↦ inl same | inr (x, is) ↦ inr (x, step clean left.0 (Ok x) is) ]);
+        durable = run.durable;
+        closed = λ clean is. absurd (live clean is);
+        closes = λ clean is_open. elim (run.closes clean (open_then clean)) [ inl yet ↦ inl yet | inr more ↦ inr (earlier more) ];
+        cause = λ clean. cause_then _ _ _ _ _ r (λ shut. absurd (let yet = open_then clean in cc)) earlier (run.cause clean);
+      },
+    )

@@ -1,0 +1,31 @@
+use Rattle.std.proofs.Common.{◌∙◌, Some, None, ap, refl}
+use Rattle.std.specs.Option.{option_map}
+use Rattle.argon2_base.specs.PhcFields.{phc_of}
+use Rattle.argon2_accounts.specs.Accounts.{setting}
+use Rattle.argon2_accounts.specs.declared.error.AccountError.TheVariants.{NameUnknown}
+use Rattle.argon2_store.proofs.FileLemmas.{cannot_serve, refuses}
+use Rattle.argon2_passwd_commands.proofs.Calls.{sets}
+use Rattle.argon2_passwd_commands.proofs.run.accounts.set_text.Goals as goal
+
+pub returns-in_err-text : goal.returns-in_err-text
+returns-in_err-text g c password drawn fresh before has =
+    cannot_serve {g = g.S.Store} g.met.S.Store.settled (setting c.args.name.now password drawn) c.args.accounts.now
+    c.text_of.new.self before has c.in_err-text.field-0.0 _ c.from_residual.ensures.1 (c.in_err-text.ensures.reads before has)
+    (λ clean is. let shut = c.in_err-text.ensures.closed clean is in (cc, shut.1))
+
+pub returns-in_default : goal.returns-in_default
+returns-in_default g c password drawn fresh before has =
+    refuses {g = g.S.Store} g.met.S.Store.settled (setting c.args.name.now password drawn) c.args.name.now
+    (λ answer. refl) c.args.accounts.now c.text_of.new.self before
+    (λ clean is. absurd (let never = (c.in_ok-text.ensures.closed clean is).0 in cc)) (c.in_ok-text.ensures.reads before has)
+    None (λ clean. c.in_ok-text.ensures.shows before (c.in_ok-text.ensures.reads before has).has clean
+    ∙ ap (option_map phc_of) c.in_default.is)
+    NameUnknown _ c.into.ensures (refl, refl)
+
+pub returns : goal.returns
+returns g c password drawn fresh =
+    sets {g = g.S.Store} c.args.accounts.now c.text_of.new.self c.replace.new.self c.args.name.now _ _ password drawn
+    (phc_of c.in-Some.text) (phc_of c.args.fresh.now) c.text.ensures c.text-2.ensures fresh _
+    (λ clean is. absurd (let never = (c.in_ok-text.ensures.closed clean is).0 in cc)) c.in_ok-text.ensures.reads
+    (λ names has clean. c.in_ok-text.ensures.shows names has clean ∙ ap (option_map phc_of) c.in-Some.is)
+    (rw (c.as_str.ensures.value, c.as_str-2.ensures.value) at c.replace.ensures)
