@@ -7,9 +7,9 @@ use Rattle.std.specs.Prelude.{IfSome, IsNone}
 use Rattle.argon2_base.specs.PhcFields.{NoItemFirst, NoVersionFirst, fields_of}
 use Rattle.argon2_base.specs.PhcText.{HasBytes, IsPhc, Pair, Phc, are_params, field, list_field, params_text, phc_text, version_text}
 use Rattle.argon2_base.specs.Texts.{strict_base64}
-use Rattle.argon2_base.proofs.texts.Base64Lemmas.{decode_of-strict_base64, strict_base64_unique}
-use Rattle.argon2_base.proofs.texts.ParamsReading.{one_list}
-use Rattle.argon2_base.proofs.texts.PhcTextLemmas.{begins_with_dollar, first_and_left, from_params, no_item, no_list_read, no_version, none_after, same_phc}
+use Rattle.argon2_base.proofs.phc_lemmas.Base64Lemmas.{decode_of-strict_base64, strict_base64_unique}
+use Rattle.argon2_base.proofs.phc_lemmas.ParamsReading.{one_list}
+use Rattle.argon2_base.proofs.phc_lemmas.PhcTextLemmas.{begins_with_dollar, first_and_left, from_params, no_item, no_list_read, no_version, none_after, same_phc}
 
 -- ---- the fields of a text
 

@@ -4,7 +4,7 @@ use Rattle.std.proofs.Math.Logic.{∥∥₁_elim, ∥∥₁_map}
 use Rattle.sqlite_disk.specs.declared.Disk.{Ghosts}
 use Rattle.sqlite_value.specs.Order.{Row}
 use Rattle.sqlite_wal.specs.Files.{outcomes, seen_image}
-use Rattle.sqlite_wal.specs.Reads.{AreClean, OnlyReadsBoth}
+use Rattle.sqlite_wal.specs.Reads.{AreClean, OnlyReads, OnlyReadsBoth}
 use Rattle.sqlite_wal.specs.Recovery.{AreWhole, Image}
 use Rattle.sqlite_pages.specs.PageMap.{PageMap}
 use Rattle.sqlite_pool.specs.File.{IsSoundFile, in_use}
@@ -23,6 +23,7 @@ use Rattle.sqlite_store.specs.Db.{rows_at}
 use Rattle.sqlite_store.specs.Calls.{IsQuietCall}
 use Rattle.sqlite_store.specs.Laws.{not_broken, settled_at}
 use Rattle.sqlite_pool.specs.declared.pool.Pool.{Pool}
+use Rattle.sqlite_wal.proofs.CleanLemmas.{both_clean}
 use Rattle.sqlite_wal.proofs.LogLemmas.{SeenMayStay}
 use Rattle.sqlite_store.specs.FileStore.{IsReady, files, reading, schema_in, schema_of, state, view}
 use Rattle.sqlite_store.specs.Listed.{catalog_rows}
@@ -57,6 +58,27 @@ unstarted it (inl blank) = inl blank
 unstarted it (inr empty) = inr (empty.0, empty.1, empty.2.0.sound, empty.2.1)
 
 -- ---- an open that fails
+
+-- what stands for two files stands for those that they were before they were read
+stands_for : (was first : Image → Type 0) (i j left : Image) → ((l : Image) → was l → first l) → i ≡ j → StandsFor was i left
+    → StandsFor first j left
+stands_for was first i j left within same (inl may) = inl (within left may)
+stands_for was first i j left within same (inr (inl pages)) = inr (inl (
+  subst (λ k. RecoversAs 4096 k left) same pages.0,
+  λ none. within left (pages.1 (subst (IsUnreadable 4096) (sym same) none)),
+))
+stands_for was first i j left within same (inr (inr rows)) =
+    inr (inr (rows.0, subst (λ k. ∥ FoundIn 4096 k (rows.0) ∥₁) same rows.1, rows.2))
+
+-- the log was read before
+pub seen_same : {D : Type 0} {g : Ghosts D} (old mid db : D) → OnlyReads g old mid → seen_image g mid db ≡ seen_image g old db
+seen_same {D} {g} old mid db reads = ap (λ (log : List ℕ). record { log = log; db = g.seen db }) reads.seen
+
+pub unharmed_then : {D : Type 0} {g : Ghosts D} (old mid db : D) (new : D × D) → OnlyReads g old mid → AreUnharmed g (mid, db) new
+    → AreUnharmed g (old, db) new
+unharmed_then {D} {g} old mid db new reads unharmed clean left may =
+    stands_for (outcomes g mid db) (outcomes g old db) (seen_image g mid db) (seen_image g old db) left
+    (λ l out. (reads.crash l.log out.0, out.1)) (seen_same old mid db reads) (unharmed clean left may)
 
 module _ {D : Type 0} {g : Ghosts D} (old : Unopened D g) (sized : (state_of old).page_size ≡ 4096) (left : Image) where
   abbrev pub Stays : Type 0
@@ -136,6 +158,10 @@ module _ {D : Type 0} {g : Ghosts D} where
     image_is = ap (λ (p : D × D). seen_image g p.0 p.1) same
         ∙ ap₂ (λ (a b : List ℕ). record { log = a; db = b }) reads.0.seen reads.1.seen
 
+    pub was_clean : IsTrue (state_of it).is_clean → AreClean g old.0 old.1
+    was_clean clean = both_clean (g.is_clean old.0) (g.is_clean old.1) (g.is_clean mid.0) (g.is_clean mid.1) reads.0.clean
+        reads.1.clean (is_clean it.pool mid same clean)
+
     -- what was probed says so of the files as they were
     pub probed : (b : Bool) (size : ℕ) → (state_of it).page_size ≡ size
         → (AreClean g mid.0 mid.1 → (IsTrue b ↔ IsBlankFile size (seen_image g old.0 old.1)))
@@ -151,16 +177,7 @@ module _ {D : Type 0} {g : Ghosts D} where
         let within : (l : Image) → (state_of it).may_leave l → outcomes g old.0 old.1 l =
         λ l m. (reads.0.crash l.log (leaves it.pool mid same l m).0, reads.1.crash l.db (leaves it.pool mid same l m).1) in
         let left_so = may_leave end.pool new (sym closed) clean left may in
-        elim (stands sized (clean_if_left end.pool left left_so) left left_so) [
-          | inl was ↦ inl (within left was)
-          | inr more ↦ elim more [
-            | inl pages ↦ inr (inl (
-              subst (λ i. RecoversAs 4096 i left) image_is pages.0,
-              λ none. within left (pages.1 (subst (IsUnreadable 4096) (sym image_is) none)),
-            ))
-            | inr rows ↦ inr (inr (rows.0, subst (λ i. ∥ FoundIn 4096 i (rows.0) ∥₁) image_is rows.1, rows.2))
-          ]
-        ]
+        stands_for _ _ _ _ left within image_is (stands sized (clean_if_left end.pool left left_so) left left_so)
 
 -- The rows were read, or not all of them: whatever a crash leaves has those that the open found.
 pub unharmed_by_reads : {D : Type 0} {g : Ghosts D} (old : D × D) (it end : FileStore D g) (new : D × D) → SeenMayStay g

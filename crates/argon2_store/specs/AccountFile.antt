@@ -12,7 +12,7 @@ use Rattle.argon2_accounts.specs.declared.error.AccountError.TheVariants.{NameUn
 use Rattle.argon2.specs.declared.login.answers.Accepted.{Accepted}
 use Rattle.argon2.specs.declared.login.answers.Accepted.TheVariants.{Current}
 use Rattle.argon2_store.specs.Adding.{AddsAll, IsFirstRefused}
-use Rattle.argon2_store.specs.Opening.{HoldsNames}
+use Rattle.argon2_store.specs.Opening.{HoldsNames, IsDamaged}
 use Rattle.argon2_store.specs.Shown as table
 use Rattle.argon2_store.specs.Table as rows
 use Rattle.argon2_store.specs.Table.{IsHonest, IsLong, IsOpen, Leaves, StaysQuiet}
@@ -114,10 +114,11 @@ module _ {S : Type 0} {g : Ghosts S} where
     pub is_open : IsHonest g (store_of file) → IsOpen g (store_of file)
     pub left : IsHonest g (store_of file) → Leaves g (store_of file) (λ left. left ≡ names)
 
-  -- a file that was opened, with the names that the two files held
+  -- a file that was opened, with the names that the two files held, and not behind a damaged log
   abbrev pub IsFrom : Terms → Image → AccountFile S g → Type 0
   IsFrom terms image file =
       (names : Store) × IsReady terms names file × (IsHonest g (store_of file) → HoldsNames image names)
+      × (IsHonest g (store_of file) → ¬ IsDamaged image.log)
 
   -- a file that was opened, the refusal of the terms, or another error under sound terms
   abbrev pub Opens : Terms → Image → Result (AccountFile S g) OpenError → Type 0

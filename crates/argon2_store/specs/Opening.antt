@@ -1,5 +1,5 @@
 -- What opening a file finds.
-use Rattle.std.specs.Prelude.{◌≡◌, ◌⊎◌, ℕ, Bool, List, [], ◌∷◌, IsTrue, codes}
+use Rattle.std.specs.Prelude.{◌≡◌, ◌⊎◌, ◌≤◌, ℕ, Bool, List, [], ◌∷◌, length, slice_index, IsTrue, codes}
 use Rattle.sqlite_store.specs.Unopened.{IsCatalogOf}
 use Rattle.sqlite_store.specs.declared.store.open.Unopened.{Unopened}
 use Rattle.sqlite_value.specs.Order.{Row}
@@ -16,7 +16,8 @@ use Rattle.sqlite_trees.specs.declared.store.Shape.TheVariants.{Index, Table}
 use Rattle.sqlite_wal.specs.Files.{outcomes, seen_image}
 use Rattle.sqlite_wal.specs.PageSize.{IsPageSize}
 use Rattle.sqlite_wal.specs.Reads.{AreClean}
-use Rattle.sqlite_wal.specs.Recovery.{Image}
+use Rattle.sqlite_wal.specs.Format.{IsSigned}
+use Rattle.sqlite_wal.specs.Recovery.{Image, header}
 use Rattle.sqlite_value.specs.declared.value.Value.TheVariants.{Text}
 use Rattle.sqlite_value.specs.Keys.{plain}
 use Rattle.argon2.specs.NamedTexts.{Store}
@@ -52,6 +53,11 @@ abbrev pub HoldsNames : Image → Store → Type 0
 HoldsNames image names = AreTexts names × FoundIn 4096 image (rows_of names)
 
 -- ---- an open that fails
+
+-- The log has room for a frame, and its header fails its test behind the right first byte. That byte is taken away before the
+-- others are written and comes back last, so no crash leaves this.
+abbrev pub IsDamaged : List ℕ → Type 0
+IsDamaged log = (56 ≤ length log) × (slice_index log 0 ≡ 0x37) × (¬ IsSigned (header log))
 
 -- the files recover to a database of that table alone, whatever the size of a page, which has these rows
 abbrev pub IsTableOf : Image → List Row → Type 0

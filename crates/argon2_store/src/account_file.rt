@@ -13,7 +13,7 @@ ghost use Rattle.argon2.specs.Made.{target_of};
 ghost use Rattle.argon2_store.specs.Adding.{entry_of};
 ghost use Rattle.argon2_store.specs.Errors.{IsOfDatabase, answered, read_of};
 ghost use Rattle.argon2_store.specs.Rows.{lines_of};
-ghost use Rattle.argon2_store.specs.declared.error.OpenError.TheVariants.{Row as NoAccount};
+ghost use Rattle.argon2_store.specs.declared.error.OpenError.TheVariants.{DamagedLog, Row as NoAccount};
 
 use crate::error::{FileError, OpenError};
 use crate::opening::{open_path, open_table};
@@ -373,6 +373,7 @@ impl<'key, T: Start> AccountsAt<'key, T> {
     /// - [`OpenError::Path`]: the system refuses to open or to make the file.
     /// - [`OpenError::Busy`]: another process has it open.
     /// - [`OpenError::HotJournal`]: SQLite was stopped in the middle of a change.
+    /// - [`OpenError::DamagedLog`]: the header of its log is damaged. Nothing is written.
     /// - [`OpenError::NotAccounts`], [`OpenError::Row`]: it holds something else than accounts.
     /// - [`OpenError::Io`], [`OpenError::Full`], [`OpenError::OutOfMemory`].
     pub fn open(
@@ -399,8 +400,9 @@ impl<'key, T: Start> AccountsAt<'key, T> {
 
 impl<'key, D: Disk + Drop> AccountFile<'key, FileStore<D>> {
     ghost use Rattle.argon2_store.specs.AccountFile.{IsFrom};
-    ghost use Rattle.argon2_store.specs.Opening.{AreUnharmed};
+    ghost use Rattle.argon2_store.specs.Opening.{AreUnharmed, IsDamaged};
     ghost use Rattle.sqlite_wal.specs.Files.{seen_image};
+    ghost use Rattle.sqlite_wal.specs.Reads.{OnlyReads};
 
     /// Opens the accounts in a database file and its log, or makes them if there is no table yet.
     /// [`open`](AccountFile::open) does so with the files at a path. `seed` is a random number, for the
@@ -408,8 +410,8 @@ impl<'key, D: Disk + Drop> AccountFile<'key, FileStore<D>> {
     /// stands for the accounts that they held.
     ///
     /// # Errors
-    /// [`OpenError::NotAccounts`], [`OpenError::Row`], [`OpenError::Io`], [`OpenError::Full`] and
-    /// [`OpenError::OutOfMemory`], as [`open`](AccountFile::open).
+    /// [`OpenError::DamagedLog`], [`OpenError::NotAccounts`], [`OpenError::Row`], [`OpenError::Io`],
+    /// [`OpenError::Full`] and [`OpenError::OutOfMemory`], as [`open`](AccountFile::open).
     pub fn open_from(
         alloc: Global,
         files: Files<D>,
@@ -419,7 +421,11 @@ impl<'key, D: Disk + Drop> AccountFile<'key, FileStore<D>> {
         requires { IsTrue (D.Disk.is_usable files.log) × IsTrue (D.Disk.is_usable files.db) }
         ensures ready { AreTerms (kept.terms_of policy.entry) → IfOk result
             (IsFrom (kept.terms_of policy.entry) (seen_image D.Disk files.log files.db)) }
-        ensures error { IfErr result (λ e. (e.0 ≡ NoAccount) ⊎ IsOfDatabase e.0) }
+        ensures error { IfErr result (λ e.
+            (e.0 ≡ NoAccount) ⊎ ((e.0 ≡ DamagedLog) ⊎ IsOfDatabase e.0)) }
+        ensures damaged { IfErr result (λ e. e.0 ≡ DamagedLog →
+            (IsTrue (D.Disk.is_clean e.1.log) → IsDamaged (D.Disk.seen files.log))
+            × OnlyReads D.Disk files.log e.1.log × (e.1.db ≡ files.db)) }
         ensures unharmed { IfErr result (λ e.
             AreUnharmed D.Disk (files.log, files.db) (e.1.log, e.1.db)) }
     {

@@ -102,6 +102,8 @@ pub enum OpenError {
     Io,
     /// The disk or the file has no room.
     Full,
+    /// The log beside the file is damaged: its header is not what was written, and no crash leaves it so.
+    DamagedLog,
     /// The file is no SQLite database, is damaged, or has other tables than that of the accounts.
     NotAccounts,
     /// A row is not a name with a PHC text.
@@ -120,6 +122,7 @@ impl fmt::Display for OpenError {
             OpenError::OutOfMemory => f.write_str("out of memory"),
             OpenError::Io => f.write_str("the disk failed"),
             OpenError::Full => f.write_str("the disk or the file is full"),
+            OpenError::DamagedLog => f.write_str("the log is damaged"),
             OpenError::NotAccounts => f.write_str("the file does not hold accounts"),
             OpenError::Row => f.write_str("a row is no name with a PHC text"),
         }

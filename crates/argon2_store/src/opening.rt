@@ -1,6 +1,6 @@
 //! Opening the file at a path, or making it.
 
-ghost use Rattle.std.specs.Prelude.{◌≡◌, ◌⊎◌, [], ◌∷◌, true, false, IsTrue, IfErr, IfOk, OnOk};
+ghost use Rattle.std.specs.Prelude.{◌≡◌, ◌+◌, ◌≤◌, ◌⊎◌, ◌↔◌, [], ◌∷◌, true, false, IsTrue, IfErr, IfOk, OnOk};
 ghost use Rattle.sqlite_store.specs.FileStore.{view};
 ghost use Rattle.sqlite_store.specs.Unopened.{AreUsable, Creates, Opens, image, state_of, wanted_by};
 ghost use Rattle.sqlite_store.specs.Unopened as below;
@@ -8,16 +8,18 @@ ghost use Rattle.sqlite_pool.specs.Opening.{IsBlankFile};
 ghost use Rattle.sqlite_std_file.specs.File.{IsFresh, file_is_usable};
 ghost use Rattle.sqlite_trees.specs.View.{IsClean};
 ghost use Rattle.sqlite_wal.specs.Files.{seen_image};
+ghost use Rattle.sqlite_wal.specs.Format.{IsSigned, be32};
+ghost use Rattle.sqlite_wal.specs.Reads.{AreClean, OnlyReads};
 ghost use Rattle.sqlite_wal.specs.Recovery.{Image};
 ghost use Rattle.argon2_store.specs.Errors.{IsOfDatabase, IsOfPath};
-ghost use Rattle.argon2_store.specs.Opening.{AreSynced, AreUnharmed, FoundIn, IsReadAs, StandsFor, account};
+ghost use Rattle.argon2_store.specs.Opening.{AreSynced, AreUnharmed, FoundIn, IsDamaged, IsReadAs, StandsFor, account};
 ghost use Rattle.argon2_store.specs.Rows.{rows_of};
 ghost use Rattle.argon2.specs.NamedTexts.{Store};
 ghost use Rattle.argon2_store.specs.Runs.{over_file};
 ghost use Rattle.argon2_store.specs.Shown.{file_of};
 ghost use Rattle.argon2_store.specs.Table as table;
 ghost use Rattle.argon2_store.specs.Table.{HasNames};
-ghost use Rattle.argon2_store.specs.declared.error.OpenError.TheVariants.{Row as NoAccount};
+ghost use Rattle.argon2_store.specs.declared.error.OpenError.TheVariants.{DamagedLog, Row as NoAccount};
 
 use crate::error::OpenError;
 use crate::table::Table;
@@ -29,8 +31,10 @@ use sqlite_store::{FileStore, Unopened};
 use sqlite_trees::schema::Object;
 use sqlite_trees::store::Shape;
 use sqlite_value::keys::Order;
+use sqlite_wal::checksum_of;
 use std::alloc::{AllocFailed, Global};
 use std::hash::{BuildHasher, RandomState};
+use std::io;
 
 const SQL: &str =
     "CREATE TABLE account (name TEXT NOT NULL PRIMARY KEY, phc TEXT NOT NULL) WITHOUT ROWID";
@@ -47,6 +51,12 @@ const ACCOUNT: Object<'static> = Object {
 
 // The bytes of a page.
 const PAGE: usize = 4096;
+
+// The bytes of a log's header and of the one of its first frame.
+const HEADERS: usize = 56;
+
+// The first byte of a log's magic number.
+const MAGIC: u8 = 0x37;
 
 // Makes the table.
 fn make<D: Disk + Drop>(files: Unopened<D>) -> Result<FileStore<D>, (OpenError, Unopened<D>)>
@@ -95,6 +105,7 @@ fn attach<D: Disk + Drop>(
     requires blank { IsTrue is_new → IsTrue (state_of files).is_clean →
         IsBlankFile (state_of files).page_size (image files) }
     ensures fresh { IfOk result (λ it. IsClean (view it) → table.IsFresh (view it)) }
+    ensures honest { IfOk result (λ it. IsClean (view it) → IsTrue (state_of files).is_clean) }
     ensures found { IfOk result (λ it. IsClean (view it) →
         FoundIn (state_of files).page_size (image files) ((view it).committed 0)) }
     ensures error { IfErr result (λ e. IsOfDatabase e.0) }
@@ -126,6 +137,7 @@ pub(crate) fn open_files<D: Disk + Drop>(
 ) -> Result<FileStore<D>, (OpenError, Files<D>)>
     requires { IsTrue (D.Disk.is_usable files.log) × IsTrue (D.Disk.is_usable files.db) }
     ensures fresh { IfOk result (λ it. IsClean (view it) → table.IsFresh (view it)) }
+    ensures honest { IfOk result (λ it. IsClean (view it) → AreClean D.Disk files.log files.db) }
     ensures found { IfOk result (λ it. IsClean (view it) →
         FoundIn 4096 (seen_image D.Disk files.log files.db) ((view it).committed 0)) }
     ensures error { IfErr result (λ e. IsOfDatabase e.0) }
@@ -153,10 +165,50 @@ pub(crate) fn open_files<D: Disk + Drop>(
     }
 }
 
+// Four bytes of a log's header as a number, the highest first.
+fn number_at(head: &[u8; 32], at: usize) -> u32
+    requires { at + 4 ≤ 32 }
+    ensures { result ≡ be32 head.now at }
+{
+    head[at] as u32 * 0x100_0000
+        + head[at + 1] as u32 * 0x1_0000
+        + head[at + 2] as u32 * 0x100
+        + head[at + 3] as u32
+}
+
+// Whether a log's header passes SQLite's test: it begins with the magic number and ends with its checksum.
+fn is_signed(head: &[u8; 32]) -> bool
+    ensures { IsTrue result ↔ IsSigned head.now }
+{
+    if head[0] != MAGIC || head[1] != 0x7f || head[2] != 0x06 {
+        return false;
+    }
+    if head[3] != 0x82 && head[3] != 0x83 {
+        return false;
+    }
+    let sum = checksum_of(head[3] == 0x83, (0, 0), &head[..24]);
+    sum == (number_at(head, 24), number_at(head, 28))
+}
+
+// Whether a log that is long enough to have a frame has a damaged header.
+fn is_damaged<D: Disk>(log: &mut D) -> io::Result<bool>
+    requires { IsTrue (D.Disk.is_usable log.old) }
+    ensures found { IfOk result (λ is. IsTrue (D.Disk.is_clean log.new) →
+        IsTrue is ↔ IsDamaged (D.Disk.seen log.old)) }
+    ensures same { OnlyReads D.Disk log.old log.new }
+{
+    if log.len()? < HEADERS {
+        return Ok(false);
+    }
+    let mut head = [0; 32];
+    log.read_at(0, &mut head)?;
+    Ok(head[0] == MAGIC && !is_signed(&head))
+}
+
 // Opens two files as `open_files`, and reads the accounts. An error comes with the files.
 pub(crate) fn open_table<D: Disk + Drop>(
     alloc: Global,
-    files: Files<D>,
+    mut files: Files<D>,
     seed: u64,
 ) -> Result<Table<FileStore<D>>, (OpenError, Files<D>)>
     requires { IsTrue (D.Disk.is_usable files.log) × IsTrue (D.Disk.is_usable files.db) }
@@ -165,10 +217,21 @@ pub(crate) fn open_table<D: Disk + Drop>(
         FoundIn 4096 (seen_image D.Disk files.log files.db) (rows_of names))) }
     ensures open { IfOk result (λ it.
         IsClean (view (file_of it)) → IsTrue (view (file_of it)).is_open) }
-    ensures error { IfErr result (λ e. (e.0 ≡ NoAccount) ⊎ IsOfDatabase e.0) }
+    ensures whole { IfOk result (λ it.
+        IsClean (view (file_of it)) → ¬ IsDamaged (D.Disk.seen files.log)) }
+    ensures error { IfErr result (λ e.
+        (e.0 ≡ NoAccount) ⊎ ((e.0 ≡ DamagedLog) ⊎ IsOfDatabase e.0)) }
+    ensures damaged { IfErr result (λ e. e.0 ≡ DamagedLog →
+        (IsTrue (D.Disk.is_clean e.1.log) → IsDamaged (D.Disk.seen files.log))
+        × OnlyReads D.Disk files.log e.1.log × (e.1.db ≡ files.db)) }
     ensures unharmed { IfErr result (λ e.
         AreUnharmed D.Disk (files.log, files.db) (e.1.log, e.1.db)) }
 {
+    match is_damaged(&mut files.log) {
+        Ok(false) => {}
+        Ok(true) => return Err((OpenError::DamagedLog, files)),
+        Err(_) => return Err((OpenError::Io, files)),
+    }
     let store = match open_files(alloc, files, seed) {
         Ok(store) => store,
         Err(failed) => return Err(failed),

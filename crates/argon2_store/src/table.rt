@@ -1,10 +1,9 @@
 //! Names with their texts, in a tree of a store.
 
-ghost use Rattle.std.specs.Prelude.{◌≡◌, ◌≤◌, ◌⊎◌, ◌↔◌, false, Any, Ok, Err, None, Some, IsTrue, OnErr, OnOk, IfErr, IfOk, MatchResult, length, map};
+ghost use Rattle.std.specs.Prelude.{◌≡◌, ◌≤◌, ◌⊎◌, ◌↔◌, false, Any, Ok, Err, None, Some, IsTrue, OnOk, IfErr, IfOk, MatchResult, map};
 ghost use Rattle.std.specs.FinMap.{get, remove};
 ghost use Rattle.std.specs.Io.KnownBytes.{Appends};
 ghost use Rattle.std.specs.Option.{option_copied, option_map};
-ghost use Rattle.sqlite_disk.specs.Disk.{MoreFaults};
 ghost use Rattle.sqlite_value.specs.Keys.{plain};
 ghost use Rattle.sqlite_trees.specs.View.{HasCause, KeepsSchema, doubt};
 ghost use Rattle.sqlite_trees.specs.declared.store.Shape.TheVariants.{Index};

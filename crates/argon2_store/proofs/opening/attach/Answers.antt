@@ -82,6 +82,13 @@ pub returns-in-Ok-clause-fresh : goal.returns-in-Ok-clause-fresh
 returns-in-Ok-clause-fresh g c = fresh c.in-Ok.store c.in-Ok.ensures.ready
     (c.in-Ok.ensures.schema ∙ c.is_bare.ensures.schema ∙ c.requires.schema)
 
+pub returns-in-Ok-clause-honest : goal.returns-in-Ok-clause-honest
+returns-in-Ok-clause-honest g c clean = c.is_bare.ensures.honest (c.in-Ok.ensures.honest (clean_of _ clean))
+
+pub returns-in-Ok-true-clause-honest : goal.returns-in-Ok-true-clause-honest
+returns-in-Ok-true-clause-honest g c = if_ok2 c.make-in-Ok-true.result c.make-in-Ok-true.ensures.honest c.make-in-Ok-true.ensures.honest (λ store honest again clean.
+    c.is_bare.ensures.honest (honest clean))
+
 pub returns-in-Ok-clause-found : goal.returns-in-Ok-clause-found
 returns-in-Ok-clause-found g c clean =
     let now = clean_of _ clean in

@@ -1,10 +1,17 @@
-use Rattle.std.proofs.Common.{arith, subst}
+use Rattle.std.proofs.Common.{arith, ◌≡◌, ◌⊎◌, inl, inr, subst, subst₂, sym, ◌∙◌}
 use Rattle.sqlite_store.specs.FileStore.{view}
 use Rattle.sqlite_trees.specs.View.{IsClean}
-use Rattle.sqlite_wal.specs.Files.{seen_image}
+use Rattle.sqlite_wal.proofs.CleanLemmas.{halves}
+use Rattle.argon2_store.specs.Errors.{IsOfDatabase}
 use Rattle.argon2_store.specs.Opening.{FoundIn}
-use Rattle.argon2_store.proofs.OpenLemmas.{unharmed_by_reads}
+use Rattle.argon2_store.specs.declared.error.OpenError.{OpenError}
+use Rattle.argon2_store.specs.declared.error.OpenError.TheVariants.{DamagedLog, Row as NoAccount}
+use Rattle.argon2_store.proofs.OpenLemmas.{seen_same, unharmed_by_reads, unharmed_then}
 use Rattle.argon2_store.proofs.opening.open_table.Goals as goal
+
+not_log : (e : OpenError) → (e ≡ NoAccount) ⊎ IsOfDatabase e → e ≡ DamagedLog → ⊥
+not_log e (inl row) is = let both : NoAccount ≡ DamagedLog = sym row ∙ is in cc
+not_log e (inr of_database) is = subst IsOfDatabase is of_database
 
 pub returns-in-Ok-open-clause-found : goal.returns-in-Ok-open-clause-found
 returns-in-Ok-open-clause-found g c =
@@ -13,11 +20,27 @@ returns-in-Ok-open-clause-found g c =
       has,
       λ clean.
           let was : IsClean (view c.in-Ok.store) = omega (arith, clean, c.in-Ok-open.ensures.quiet.clean) in
-          subst (FoundIn 4096 (seen_image g.D.Disk c.args.files.log c.args.files.db)) (rows clean) (c.in-Ok.ensures.found was),
+          subst₂ (FoundIn 4096) (seen_same c.args.files.log c.is_damaged.new.log c.args.files.db c.is_damaged.ensures.same)
+          (rows clean) (c.in-Ok.ensures.found was),
     )
+
+pub returns-in-Ok-open-clause-whole : goal.returns-in-Ok-open-clause-whole
+returns-in-Ok-open-clause-whole g c clean damaged =
+    let was : IsClean (view c.in-Ok.store) = omega (arith, clean, c.in-Ok-open.ensures.quiet.clean) in
+    let known = halves g.D.Disk c.is_damaged.new.log c.args.files.db (c.in-Ok.ensures.honest was) in
+    let yes = (c.in-Ok-false.ensures.found known.0).1 damaged in cc
+
+pub returns-in-Err-open_files-clause-unharmed : goal.returns-in-Err-open_files-clause-unharmed
+returns-in-Err-open_files-clause-unharmed g c =
+    unharmed_then c.args.files.log c.is_damaged.new.log c.args.files.db _ c.is_damaged.ensures.same
+    c.in-Err-open_files.ensures.left
+
+pub returns-in-Err-open-clause-damaged : goal.returns-in-Err-open-clause-damaged
+returns-in-Err-open-clause-damaged g c is = absurd (not_log _ c.in-Err-open.ensures.error is)
 
 pub returns-in-Err-open-clause-unharmed : goal.returns-in-Err-open-clause-unharmed
 returns-in-Err-open-clause-unharmed g c =
-    unharmed_by_reads (c.args.files.log, c.args.files.db) c.in-Ok.store c.in-Err-open.store _
+    unharmed_then c.args.files.log c.is_damaged.new.log c.args.files.db _ c.is_damaged.ensures.same
+    (unharmed_by_reads (c.is_damaged.new.log, c.args.files.db) c.in-Ok.store c.in-Err-open.store _
     g.met.D.Disk.seen_may_stay c.in-Err-open.ensures.back c.in-Ok.ensures.fresh c.in-Ok.ensures.found
-    c.close.ensures
+    c.close.ensures)

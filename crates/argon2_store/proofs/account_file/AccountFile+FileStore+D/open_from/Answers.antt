@@ -17,4 +17,5 @@ returns-in-Ok-clause-ready g c sound =
             (settled_at c.in-Ok.table.store g.met.D.Disk.seen_may_stay) has.1 clean (c.in-Ok.ensures.«open» clean);
       },
       λ clean. (has.0, found clean),
+      c.in-Ok.ensures.whole,
     )
