@@ -3,7 +3,8 @@
  *
  *   comparing requests COUNT OTHER OURS    random contexts, a third with faults
  *   comparing texts COUNT OTHER OURS       texts, half of them damaged, and writing them
- *   comparing times ROUNDS LIBRARY..       memory and passes of some kinds, one lane and four, in turns
+ *   comparing times ROUNDS LIBRARY..       memory and passes of some kinds, one lane and four, in turns, each the third hash
+ *                                          of a process, so that no library gets memory that another has used
  *
  * The first two print a line of counts, after those in which the libraries differ; the last prints lines of
  * memory, passes, lanes, and each library's least milliseconds of wall time and of processor time.
@@ -16,7 +17,9 @@
 #include <stdlib.h>
 #include <string.h>
 #include <sys/resource.h>
+#include <sys/wait.h>
 #include <time.h>
+#include <unistd.h>
 
 enum { MOST = 8 };
 
@@ -158,6 +161,27 @@ static double processor(void) {
     return (used.ru_utime.tv_sec + used.ru_stime.tv_sec) * 1e3 + (used.ru_utime.tv_usec + used.ru_stime.tv_usec) / 1e3;
 }
 
+/* Milliseconds of wall time and of processor time of the third hash of a new process. */
+static int measured(const struct library *it, uint32_t m, uint32_t t, uint32_t lanes, double found[2]) {
+    int ends[2], status;
+    if (pipe(ends)) return 1;
+    const pid_t child = fork();
+    if (child < 0) return 1;
+    if (!child) {
+        for (int i = 0; i < 3; i++) {
+            uint8_t out[32];
+            const double begun = wall(), used = processor();
+            if (it->hash(t, m, lanes, "password", 8, "somesaltsomesalt", 16, out, 32, NULL, 0, Argon2_id, 0x13)) _exit(1);
+            found[0] = wall() - begun, found[1] = processor() - used;
+        }
+        _exit(write(ends[1], found, 2 * sizeof *found) < 0);
+    }
+    close(ends[1]);
+    const ssize_t n = read(ends[0], found, 2 * sizeof *found);
+    close(ends[0]);
+    return waitpid(child, &status, 0) != child || n != 2 * sizeof *found;
+}
+
 static int times(long rounds, int count) {
     static const uint32_t costs[][2] = {{4096, 1}, {19456, 2}, {65536, 3}, {1 << 18, 1}, {1 << 20, 1}};
     for (int row = 0; row < 10; row++) {
@@ -165,18 +189,15 @@ static int times(long rounds, int count) {
         double least[MOST][2];
         for (int k = 0; k < count; k++) least[k][0] = least[k][1] = 1e9;
         for (long i = 0; i < count * rounds; i++) {
-            int k = i % count;
-            uint8_t out[32];
-            double begun = wall(), used = processor();
-            if (tried[k].hash(t, m, lanes, "password", 8, "somesaltsomesalt", 16, out, 32, NULL, 0, Argon2_id, 0x13))
-                return 1;
-            begun = wall() - begun, used = processor() - used;
-            if (begun < least[k][0]) least[k][0] = begun;
-            if (used < least[k][1]) least[k][1] = used;
+            double found[2];
+            if (measured(&tried[i % count], m, t, lanes, found)) return 1;
+            for (int j = 0; j < 2; j++)
+                if (found[j] < least[i % count][j]) least[i % count][j] = found[j];
         }
         printf("%u %u %u", m, t, lanes);
         for (int k = 0; k < count; k++) printf(" %.1f %.1f", least[k][0], least[k][1]);
         puts("");
+        fflush(stdout);
     }
     return 0;
 }
