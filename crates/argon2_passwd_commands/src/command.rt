@@ -28,7 +28,7 @@ impl<'a> Command<'a> {
             Command::Verify(_, file, _)
             | Command::Edit(_, file, _, _)
             | Command::Show(_, file, _)
-            | Command::Import(_, file) => Some(file),
+            | Command::Import(_, file, _) => Some(file),
         }
     }
 }
