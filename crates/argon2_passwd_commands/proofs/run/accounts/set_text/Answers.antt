@@ -11,13 +11,12 @@ pub returns-in_err-text : goal.returns-in_err-text
 returns-in_err-text g c password drawn fresh before has =
     cannot_serve {g = g.S.Store} g.met.S.Store.settled (setting c.args.name.now password drawn) c.args.accounts.now
     c.text_of.new.self before has c.in_err-text.field-0.0 _ c.from_residual.ensures.1 (c.in_err-text.ensures.reads before has)
-    (λ clean is. let shut = c.in_err-text.ensures.closed clean is in (cc, shut.1))
 
 pub returns-in_default : goal.returns-in_default
 returns-in_default g c password drawn fresh before has =
     refuses {g = g.S.Store} g.met.S.Store.settled (setting c.args.name.now password drawn) c.args.name.now
     (λ answer. refl) c.args.accounts.now c.text_of.new.self before
-    (λ clean is. absurd (let never = (c.in_ok-text.ensures.closed clean is).0 in cc)) (c.in_ok-text.ensures.reads before has)
+    (c.in_ok-text.ensures.reads before has)
     None (λ clean. c.in_ok-text.ensures.shows before (c.in_ok-text.ensures.reads before has).has clean
     ∙ ap (option_map phc_of) c.in_default.is)
     NameUnknown _ c.into.ensures (refl, refl)
