@@ -4,18 +4,18 @@ use Rattle.std.specs.Prelude.{IfErr, IsSomeAnd}
 use Rattle.std.specs.FinMap.{get}
 use Rattle.sqlite_trees.specs.declared.store.Store.{Ghosts}
 use Rattle.argon2_base.specs.PhcText.{Phc, PhcText}
-use Rattle.argon2_accounts.specs.Accounts.{Adds, AccountEvent, OnValue, Registers, Replaces, Sets, Terms, adding, registering, replacing, setting}
+use Rattle.argon2_accounts.specs.Accounts.{Adds, OnValue, Registers, Replaces, Sets, Terms, adding, registering, replacing, setting}
 use Rattle.argon2_accounts.specs.declared.error.AccountError.{AccountError}
-use Rattle.argon2_accounts.specs.declared.error.AccountError.TheVariants.{NameTaken, NameUnknown, Refused, TextChanged, TooExpensive}
+use Rattle.argon2_accounts.specs.declared.error.AccountError.TheVariants.{NameTaken, Refused, TextChanged}
 use Rattle.argon2.specs.Made.{IsFresh}
 use Rattle.argon2.specs.NamedTexts.{Store}
-use Rattle.argon2_store.specs.AccountFile.{Answers, HasCause, HasFailed, HasNames, IfRefused, IsBeforeOrAfter, IsClosed, Runs, Serves, Stays, store_of, terms_of}
-use Rattle.argon2_store.specs.Table.{IsHonest, IsOpen, StaysQuiet}
+use Rattle.argon2_store.specs.AccountFile.{Answers, HasCause, HasNames, IfRefused, IsClosed, Serves, Stays, store_of, terms_of}
+use Rattle.argon2_store.specs.Table.{IsHonest, IsOpen}
 use Rattle.argon2_store.specs.declared.account_file.AccountFile.{AccountFile}
 use Rattle.argon2_store.specs.declared.error.FileError.{FileError}
 use Rattle.argon2_store.specs.declared.error.FileError.TheVariants.{Account, OutOfMemory, Io, Damaged, Full, TooLong, Closed}
 use Rattle.argon2_store.proofs.TableLemmas.{more_earlier, quiet_then}
-use Rattle.argon2_passwd_commands.proofs.Once.{phc_once}
+use Rattle.argon2_store.proofs.TextLemmas.{phc_once}
 
 -- the text of a value that was made of the password
 module _ (terms : Terms) (password drawn text : List ℕ) (w : Phc) (says : PhcText text w)

@@ -60,7 +60,7 @@ bytes_once low high (Some a) (Some b) xs ys good fine h k e =
     (ap Some (strict_base64_unique (strict_base64 b) a b good.0 (sym text) (decode_of-strict_base64 b fine.0)), cc e)
 
 -- values of one text are one
-phc_once : (v w : Phc) → IsPhc v → IsPhc w → phc_text v ≡ phc_text w → v ≡ w
+pub phc_once : (v w : Phc) → IsPhc v → IsPhc w → phc_text v ≡ phc_text w → v ≡ w
 phc_once v w good fine one =
     let begun = begins_with_dollar (phc_text v) v (good, refl) in
     go begun.0 begun.1 (fields_of begun.0) refl

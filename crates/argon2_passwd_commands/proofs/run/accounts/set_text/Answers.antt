@@ -1,4 +1,4 @@
-use Rattle.std.proofs.Common.{◌∙◌, Some, None, ap, refl}
+use Rattle.std.proofs.Common.{◌∙◌, None, ap, refl}
 use Rattle.std.specs.Option.{option_map}
 use Rattle.argon2_base.specs.PhcFields.{phc_of}
 use Rattle.argon2_accounts.specs.Accounts.{setting}

@@ -1,4 +1,4 @@
-use Rattle.std.proofs.Common.{[], Some, ap, inr, refl}
+use Rattle.std.proofs.Common.{[], Some, ap, inr}
 use Rattle.argon2_passwd_commands.proofs.run.accounts.show.Goals as goal
 
 pub returns-clause-ok : goal.returns-clause-ok
