@@ -14,6 +14,9 @@ pub use associated_data::AssociatedData;
 pub use builder::ParamsBuilder;
 pub use key_id::KeyId;
 
+// The slices of a pass (RFC 9106, section 3.4).
+pub(crate) const SLICES: u32 = 4;
+
 /// Parameters of a hash, which are valid by this type.
 #[derive(Clone, Copy, Debug, PartialEq, Eq)]
 pub struct Params {
@@ -168,7 +171,7 @@ impl Params {
         ensures in_memory { result ≤ (parameters_of self.now).m_cost }
         ensures small { result < 2 ^ 32 }
     {
-        let segments = 4 * self.p_cost as usize;
+        let segments = SLICES as usize * self.p_cost as usize;
         self.m_cost as usize / segments * segments
     }
 
@@ -178,7 +181,7 @@ impl Params {
         ensures { result ≡ lane_length_for (parameters_of self.now).m_cost
             (parameters_of self.now).p_cost }
     {
-        4 * (self.m_cost / (4 * self.p_cost))
+        SLICES * (self.m_cost / (SLICES * self.p_cost))
     }
 }
 

@@ -8,8 +8,9 @@ ghost use Rattle.argon2.specs.Watching.{Fills, IsFilledFrom, begun, in_order, mi
 ghost use Rattle.argon2.specs.Laws.{Begins};
 ghost use Rattle.argon2.specs.Steps.{in_memory, previous_place, reference_place, step, turn_count, IsStep, IsStepIn};
 
-use super::instance::{Instance, SLICES};
+use super::instance::Instance;
 use super::memory_block::MemoryBlock;
+use crate::params::SLICES;
 use crate::{Block, Work};
 
 /// Which block a step writes.

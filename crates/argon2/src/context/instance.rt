@@ -5,11 +5,9 @@ ghost use Rattle.argon2.specs.Settings.{algorithm_number};
 ghost use Rattle.argon2.specs.Rfc9106.{context_with, segment_length, lane_length, block_count, IsSize};
 ghost use Rattle.argon2.specs.Argon2.{settings_with};
 
+use crate::params::SLICES;
 use crate::{Algorithm, Params, Version};
 use std::marker::Model;
-
-/// The slices of a pass.
-pub(super) const SLICES: u32 = 4;
 
 /// A variant with its costs and its keys, and the shape of the memory that follows from them.
 #[derive(Drop)]

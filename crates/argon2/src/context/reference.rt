@@ -7,8 +7,9 @@ ghost use Rattle.argon2.specs.Steps.{IsStep};
 ghost use Rattle.argon2.specs.Watching.{address_mixings};
 
 use super::fill::Step;
-use super::instance::{Instance, SLICES};
+use super::instance::Instance;
 use super::memory_block::MemoryBlock;
+use crate::params::SLICES;
 use crate::{Algorithm, Block, Work};
 use std::convert::AsSlice;
 
