@@ -6,6 +6,7 @@
 #define _GNU_SOURCE
 #include "argon2.h"
 
+#include <malloc.h>
 #include <stdbool.h>
 #include <stdlib.h>
 #include <string.h>
@@ -83,13 +84,14 @@ static __attribute__((noinline)) void wipe_stack(void) {
 
 /* ---- memory */
 
-enum { HUGE_PAGE = 2 << 20, LARGE = 4 << 20 };
+enum { HUGE_PAGE = 2 << 20, LARGE = 4 << 20, MAPPED = 32 << 20 };
 
 /* The blocks of a hash. Large memory is in huge pages, which saves most page faults; without huge pages nothing is lost.
- * It comes from malloc, which gives the same memory to the next hash below 32 MiB, and so no fault at all. */
+ * Below 32 MiB malloc gives the same memory to the next hash, without a fault. From there on it maps memory anew for each
+ * hash, which begins with a huge page. */
 static block *new_blocks(size_t n) {
     const size_t whole = n * sizeof(block);
-    uint8_t *const at = malloc(whole);
+    uint8_t *const at = whole < MAPPED ? malloc(whole) : memalign(HUGE_PAGE, whole);
     const size_t before = -(uintptr_t)at % HUGE_PAGE; /* the bytes up to the first huge page */
     if (at && whole >= LARGE) (void)madvise(at + before, (whole - before) / HUGE_PAGE * HUGE_PAGE, MADV_HUGEPAGE);
     return (block *)at;
