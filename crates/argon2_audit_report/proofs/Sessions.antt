@@ -1,10 +1,15 @@
 -- What is known before the first byte, after a line, and after the last.
-use Rattle.std.proofs.Common.{arith, Option, Some, None, ◌↔◌, ◌≡◌, ◌∙◌, ◌+◌, ℕ, Bool, false, IsTrue, List, [], ◌∷◌, ◌++◌, ap, sym, subst, refl, inr, append_assoc, append-nil, ◌||◌}
+use Rattle.std.proofs.Common.{arith, Option, Some, None, ◌↔◌, ◌≡◌, ◌∙◌, ◌+◌, ◌<◌, ◌==◌, ℕ, suc, Bool, true, false, not, IsTrue, List, [], ◌∷◌, ◌++◌, take, drop, length, get_or, cond, ap, sym, subst, refl, inr, append_assoc, append-nil, ◌||◌, ◌&&◌}
+use Rattle.std.proofs.Math.Seq.{split_at}
+use Rattle.std.proofs.lemmas.Bool.{eqb-true}
+use Rattle.std.proofs.lemmas.List.Folds.{list_all-append}
+use Rattle.std.proofs.lemmas.List.Sums.{passes_at_first}
+use Rattle.std.specs.List.{list_all, position_or_len, prefix_len}
 use Rattle.std.specs.Prelude.{IfSome}
 use Rattle.argon2_audit_report.specs.Finding.{IsFinding, class_of, has_short_salt, salt_of}
 use Rattle.argon2_audit_report.specs.Line.{IsRead}
 use Rattle.argon2_audit_report.specs.Seen.{has_any, has_salt, is_salt}
-use Rattle.argon2_audit_report.specs.Session.{IsAudit, IsBegun, IsTallied, IsTallyOf, how_many, joined, any_salt, is_repeated, repeated}
+use Rattle.argon2_audit_report.specs.Session.{IsAudit, IsBegun, IsTallied, IsTallyOf, has_no_feed, how_many, joined, any_salt, is_repeated, repeated}
 use Rattle.argon2_audit_report.specs.Tally.{Counts, IsClean, count_of, is_class, one_if}
 use Rattle.argon2_audit_report.specs.declared.finding.Class.{Class}
 use Rattle.argon2_audit_report.specs.declared.finding.Class.TheVariants.{Outside, NoHash, Below, Sound, Other, Locked, Empty, Blank, Comment, Unknown}
@@ -74,6 +79,22 @@ nothing_yet kept seen options tally read none unknown = record {
   salts = unknown;
 }
 
+pub part_more : (kept next : Line) (seen : Seen) (options : Options) (tally : Tally) (bytes part : List ℕ)
+    → ((line : List ℕ) → IsRead kept line → IsRead next (line ++ part)) → IsTrue (has_no_feed part)
+    → IsBegun kept seen options bytes tally → IsBegun next seen options (bytes ++ part) tally
+part_more kept next seen options tally bytes part reads feed b = record {
+  lines = b.lines;
+  findings = b.findings;
+  rest = b.rest ++ part;
+  feeds = b.feeds;
+  feed = list_all-append (λ byte. not (byte == 10)) b.rest part ∙ ap (λ passes. passes && has_no_feed part) b.feed ∙ feed;
+  split = ap (λ l. l ++ part) b.split ∙ append_assoc (joined b.lines) b.rest part;
+  found = b.found;
+  tally = b.tally;
+  read = reads b.rest b.read;
+  salts = b.salts;
+}
+
 pub line_more : (kept next : Line) (seen more : Seen) (options : Options) (old new : Tally) (bytes : List ℕ)
     (finding : Finding) (marks : Marks)
     → ((line : List ℕ) → IsRead kept line → IsFinding options.field line finding) → IsRead next [] → Counts marks old new
@@ -109,6 +130,33 @@ line_last kept seen options old new bytes finding marks finds counts class_is sh
   found = (finds b.rest b.read, b.found);
   tally = finding_more seen options b.findings finding marks old new b.tally counts class_is short_is equal_is b.salts;
 }
+
+-- ---- line feeds
+
+passed_more : (b : Bool) (test : ℕ → Bool) (x : ℕ) (xs : List ℕ) → test x ≡ b
+    → list_all test (take (prefix_len test xs) xs) ≡ true
+    → list_all test (take (cond b (1 + prefix_len test xs) 0) (x ∷ xs)) ≡ true
+passed_more true test x xs is rest = grind arith
+passed_more false test x xs is rest = refl
+
+passed : (test : ℕ → Bool) (xs : List ℕ) → list_all test (take (prefix_len test xs) xs) ≡ true
+passed test [] = refl
+passed test (x ∷ xs) = passed_more (test x) test x xs refl (passed test xs)
+
+-- none comes before the first
+pub none_before : (bytes : List ℕ) (end : ℕ) → end ≡ position_or_len (λ byte. byte == 10) bytes
+    → IsTrue (has_no_feed (take end bytes))
+none_before bytes end is = rw is (passed (λ byte. not (byte == 10)) bytes)
+
+-- the bytes before the first line feed, and behind it
+pub at_feed : (bytes : List ℕ) (end : ℕ) → end ≡ position_or_len (λ byte. byte == 10) bytes → end < length bytes
+    → bytes ≡ take end bytes ++ 10 ∷ drop (end + 1) bytes
+at_feed bytes end is below =
+    let passes : (get_or bytes end 0 == 10) ≡ true = rw is (passes_at_first (λ byte. byte == 10) bytes 0 (rw (← is) below)) in
+    let feed : get_or bytes end 0 ≡ 10 = eqb-true _ _ passes in
+    let next : suc end ≡ end + 1 = omega arith in
+    split_at bytes end 0 below ∙ ap (λ n. take end bytes ++ get_or bytes end 0 ∷ drop n bytes) next
+    ∙ ap (λ byte. take end bytes ++ byte ∷ drop (end + 1) bytes) feed
 
 -- ---- the end
 

@@ -34,16 +34,14 @@ impl Line {
         }
     }
 
-    /// Adds a byte to the line.
-    pub fn push(&mut self, byte: u8) -> Result<(), AllocError>
+    /// Adds bytes to the line.
+    pub fn extend(&mut self, bytes: &[u8]) -> Result<(), AllocError>
         ensures { OnOk result
-            ((line : List ℕ) → IsRead self.old line → IsRead self.new (line ++ byte ∷ [])) }
+            ((line : List ℕ) → IsRead self.old line → IsRead self.new (line ++ bytes.now)) }
     {
-        if self.bytes.len() == LONGEST {
-            self.is_long = true;
-        } else {
-            self.bytes.push(byte)?;
-        }
+        let kept = bytes.len().min(LONGEST - self.bytes.len());
+        self.bytes.extend_from_slice(&bytes[..kept])?;
+        self.is_long |= kept < bytes.len();
         Ok(())
     }
 

@@ -1,6 +1,7 @@
 //! An audit of bytes as they come.
 
 use crate::audit::Audit;
+use crate::field::first;
 use crate::line::Line;
 use crate::options::Options;
 use crate::report::{Remarks, remark_on};
@@ -40,26 +41,15 @@ impl Session {
         ensures after { OnOk result ((before : List ℕ) → IsAfter self.old before
             → IsAfter self.new (before ++ bytes.now)) }
     {
-        for byte in bytes {
-            self.add_byte(*byte, remarks)?;
-        }
-        Ok(())
-    }
-
-    // Takes one more byte.
-    fn add_byte<S: Remarks>(&mut self, byte: u8, remarks: &mut S) -> Result<(), Failure>
-        requires { self.old.audit.tally.lines < 2 ^ 64 - 1 }
-        ensures options { OnOk result (self.new.audit.options ≡ self.old.audit.options) }
-        ensures lines { OnOk result
-            (self.new.audit.tally.lines ≤ self.old.audit.tally.lines + 1) }
-        ensures after { OnOk result ((before : List ℕ) → IsAfter self.old before
-            → IsAfter self.new (before ++ byte ∷ [])) }
-    {
-        if byte == b'\n' {
-            self.end_line(remarks)
-        } else {
-            self.line.push(byte)?;
-            Ok(())
+        let mut rest = bytes;
+        'lines: loop {
+            let end = first(rest, b'\n');
+            self.line.extend(&rest[..end])?;
+            if end == rest.len() {
+                return Ok(());
+            }
+            self.end_line(remarks)?;
+            rest = &rest[end + 1..];
         }
     }
 
