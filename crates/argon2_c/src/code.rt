@@ -1,4 +1,4 @@
-//! The codes of `argon2.h` that are answered here.
+//! The codes of `argon2.h` that this crate returns.
 
 /// All went well.
 pub const OK: i32 = 0;

@@ -14,7 +14,7 @@ use base64::engine::general_purpose::STANDARD_NO_PAD;
 #[repr(C)]
 #[derive(Clone, Copy)]
 pub struct Shown {
-    /// The version, 16 where the text has none.
+    /// The version, 16 if the text has none.
     pub version: u32,
     /// The memory cost.
     pub m_cost: u32,
@@ -28,7 +28,7 @@ pub struct Shown {
     pub tag: usize,
 }
 
-/// Reads a text of this variant, and writes its salt and then its hash to the front of `room`. Where it
+/// Reads a text of this variant, and writes its salt and then its hash to the front of `room`. If it
 /// is no such text, `room` may hold anything.
 pub fn decode(algorithm: u32, text: &[u8], room: &mut [u8]) -> Option<Shown>
     requires variant { algorithm ≤ 2 }
@@ -58,7 +58,7 @@ pub fn decode(algorithm: u32, text: &[u8], room: &mut [u8]) -> Option<Shown>
 /// The parts of a text.
 #[derive(Drop)]
 pub struct Parts<'a> {
-    /// The version, where the text has one.
+    /// The version, if the text has one.
     pub version: Option<u32>,
     /// The memory cost.
     pub m_cost: u32,
@@ -114,7 +114,7 @@ fn behind<'a>(text: &'a str, front: &str) -> Option<&'a str>
     text.strip_prefix(front)
 }
 
-// The version, where there is one, and what follows.
+// The version, if there is one, and what follows.
 fn version(text: &str) -> Option<(Option<u32>, &str)>
     ensures found { IfSome result (λ x. text.now ≡ version_part x.0 x.1.now) }
     ensures only { (o : Option ℕ) (left : List ℕ) → IfSome o (λ n. n < 2 ^ 32)

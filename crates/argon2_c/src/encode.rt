@@ -9,7 +9,7 @@ use crate::code::{ENCODING_FAIL, OK};
 use crate::hash::name;
 use base64::engine::general_purpose::STANDARD_NO_PAD;
 
-/// Writes a hash as a text with a zero byte behind it, and returns 0. Returns -31 where there is no such
+/// Writes a hash as a text with a zero byte behind it, and returns 0. Returns -31 if there is no such
 /// variant or too little room; `out` is then as before.
 #[unsafe(no_mangle)]
 pub extern "C" fn argon2_c_encode(
@@ -89,7 +89,7 @@ fn put_base64(bytes: &[u8], out: &mut [u8], at: usize) -> usize
     end
 }
 
-/// How many bytes a text takes with the zero byte behind it, at version 19; 0 where there is no such
+/// How many bytes a text takes with the zero byte behind it, at version 19; 0 if there is no such
 /// variant.
 #[unsafe(no_mangle)]
 pub extern "C" fn argon2_c_encoded_length(

@@ -34,6 +34,8 @@ pub extern "C" fn argon2_c_hash(
         (length pwd.now) (length salt.now) (length secret.now) (length associated.now)))
         (if length memory.old == 4 * slice_length (asked request.now [] []) then OK
         else INCORRECT_PARAMETER) }
+    ensures faultless { result ≡ OK → first_of (request_faults request.now (length out.old)
+        (length pwd.now) (length salt.now) (length secret.now) (length associated.now)) ≡ None }
     ensures tag { result ≡ OK → out.new
         ≡ tag_of (asked request.now secret.now associated.now) pwd.now salt.now (length out.old) }
     ensures same { result ≢ OK → (out.new ≡ out.old) × (memory.new ≡ memory.old) }
@@ -58,7 +60,7 @@ pub extern "C" fn argon2_c_hash(
     OK
 }
 
-/// Hashing as asked for, without associated data, where nothing is refused.
+/// Hashing as asked for, without associated data, if nothing is refused.
 pub fn hashing<'key>(request: &Request, secret: &'key [u8]) -> Argon2<'key>
     requires secret { length secret.now ≤ max_len }
     requires costs { (8 * request.now.lanes ≤ request.now.m_cost) × (1 ≤ request.now.t_cost)
@@ -110,7 +112,7 @@ fn version(number: u32) -> Version
     }
 }
 
-/// Whether two slices are equal: 0, or -35. Where they have one length, each byte of both is looked at.
+/// Whether two slices are equal: 0, or -35. If they have one length, it reads each byte of both.
 #[unsafe(no_mangle)]
 pub extern "C" fn argon2_c_compare(a: &[u8], b: &[u8]) -> i32
     ensures { result ≡ (if bytes_eq a.now b.now then OK else VERIFY_MISMATCH) }

@@ -19,7 +19,7 @@ use crate::request::{Request, refusal};
 use argon2_base::block::Words;
 
 /// Writes columns 0 and 1 of each lane into the first slice, and returns 0. Returns the code of the
-/// request's first fault, or -25 where `slice` has another length than a slice; nothing is then written.
+/// request's first fault, or -25 if `slice` has another length than a slice; nothing is then written.
 /// It allocates nothing.
 #[unsafe(no_mangle)]
 pub extern "C" fn argon2_c_begin(
@@ -59,8 +59,8 @@ pub extern "C" fn argon2_c_begin(
 }
 
 /// Fills segment `slice` of a lane in a pass, and returns 0. `before` has the slices before it, `own` is the
-/// segment, and `after` has the slices after it. Returns the code of the request's first fault, where the
-/// lengths of output, password and salt count as valid, or -25 where there is no such segment or one of the
+/// segment, and `after` has the slices after it. Returns the code of the request's first fault, for which the
+/// lengths of output, password and salt count as valid, or -25 if there is no such segment or one of the
 /// three has another length; nothing is then written. It allocates nothing.
 #[unsafe(no_mangle)]
 pub extern "C" fn argon2_c_segment(
@@ -94,7 +94,7 @@ pub extern "C" fn argon2_c_segment(
 }
 
 /// Writes the tag into `out`, and returns 0. `last` is the last slice. Returns the code of the request's
-/// first fault, where the lengths of the inputs count as valid, or -25 where `last` has another length than
+/// first fault, for which the lengths of the inputs count as valid, or -25 if `last` has another length than
 /// a slice; nothing is then written. It allocates nothing.
 #[unsafe(no_mangle)]
 pub extern "C" fn argon2_c_finish(request: &Request, last: &[Words], out: &mut [u8]) -> i32
@@ -119,7 +119,8 @@ pub extern "C" fn argon2_c_finish(request: &Request, last: &[Words], out: &mut [
 /// How many blocks a segment has.
 pub fn segment_len(request: &Request) -> u32
     requires { (1 ≤ request.now.lanes) × (request.now.lanes ≤ max_lanes) }
-    ensures { result ≡ segment_length (asked request.now [] []) }
+    ensures value { result ≡ segment_length (asked request.now [] []) }
+    ensures within { 4 * (request.now.lanes * result) ≤ request.now.m_cost }
 {
     request.m_cost / (4 * request.lanes)
 }

@@ -1,28 +1,12 @@
-use Rattle.std.proofs.Common.{rules, w32, to_z, of_z, ◌≡◌, ◌≢◌, ◌*◌, ◌==◌, ℤ, pos, negsuc, Bool, true, false, List, [], ◌∷◌, Option, Some, None, length, if◌then◌else◌, refl, sym, ap, ◌∙◌}
+use Rattle.std.proofs.Common.{rules, w32, to_z, of_z, ◌≡◌, ◌≢◌, ◌*◌, ◌==◌, ℤ, Bool, true, false, [], Option, Some, None, length, if◌then◌else◌, refl, sym, ap, ◌∙◌}
 use Rattle.std.specs.Prelude.{unwrap_or}
-use Rattle.std.specs.List.{list_all}
 use Rattle.std.specs.Str.{bytes_eq}
-use Rattle.std.proofs.lemmas.Bool.{and_parts}
 use Rattle.argon2.specs.Refusals.{first_of}
 use Rattle.argon2.specs.Rfc9106.{tag_of}
 use Rattle.argon2.specs.Segments.{slice_length}
 use Rattle.argon2_c.specs.declared.code.TheConstants.{OK, INCORRECT_PARAMETER, VERIFY_MISMATCH}
 use Rattle.argon2_c.specs.Requests.{asked, request_faults}
 use Rattle.argon2_c.proofs.verify.compared.Goals as goal
-
-is_negative : ℤ → Bool
-is_negative (pos n) = false
-is_negative (negsuc n) = true
-
--- the first of some negative codes is negative
-first_negative : (faults : List (Bool × ℤ)) (e : ℤ) → list_all (λ fault. is_negative fault.1) faults ≡ true
-    → first_of faults ≡ Some e → is_negative e ≡ true
-first_negative [] e all is = absurd (cc is)
-first_negative ((true, code) ∷ rest) e all is =
-    let same : code ≡ e = cc is in
-    ap is_negative (sym same) ∙ (and_parts (is_negative code) (list_all (λ fault. is_negative fault.1) rest) all).0
-first_negative ((false, code) ∷ rest) e all is =
-    first_negative rest e (and_parts (is_negative code) (list_all (λ fault. is_negative fault.1) rest) all).1 is
 
 -- the code of a hash that was not made says so too of what follows it
 not_made : (o : Option ℤ) (b : Bool) (x : ℤ) → unwrap_or o (if b then OK else INCORRECT_PARAMETER) ≢ OK
@@ -31,14 +15,11 @@ not_made (Some e) b x h = refl
 not_made None false x h = refl
 not_made None true x h = absurd (h refl)
 
-made : (o : Option ℤ) (b : Bool) (x : ℤ) → ((e : ℤ) → o ≡ Some e → is_negative e ≡ true)
-    → unwrap_or o (if b then OK else INCORRECT_PARAMETER) ≡ OK → x ≡ unwrap_or o (if b then x else INCORRECT_PARAMETER)
-unfolding is_negative
-made (Some e) b x negative ok =
-    let wrong : false ≡ true = ap is_negative (sym ok) ∙ negative e refl in
-    absurd (cc wrong)
-made None false x negative ok = absurd (cc ok)
-made None true x negative ok = refl
+made : (o : Option ℤ) (b : Bool) (x : ℤ) → o ≡ None → unwrap_or o (if b then OK else INCORRECT_PARAMETER) ≡ OK
+    → x ≡ unwrap_or o (if b then x else INCORRECT_PARAMETER)
+made (Some e) b x none ok = absurd (cc none)
+made None false x none ok = absurd (cc ok)
+made None true x none ok = refl
 
 pub returns-then-code-ne-OK-clause-answer : goal.returns-then-code-ne-OK-clause-answer
 returns-then-code-ne-OK-clause-answer c =
@@ -53,7 +34,6 @@ returns-then-code-ne-OK-clause-answer c =
     (λ ok. c.if-code-ne-OK.true (ap (of_z w32) (answer ∙ ok)))
 
 pub returns-clause-answer : goal.returns-clause-answer
-unfolding is_negative
 returns-clause-answer c =
     let a = c.args in
     let ctx = asked a.request.now [] [] in
@@ -62,8 +42,9 @@ returns-clause-answer c =
     let code : to_z w32 (of_z w32 c.argon2_c_hash-code.result) ≡ c.argon2_c_hash-code.result = search rules in
     let ok : c.argon2_c_hash-code.result ≡ OK = sym code ∙ ap (to_z w32) c.if-code-ne-OK.false in
     let answer = rw c.requires at c.argon2_c_hash-code.ensures.answer in
+    let none = rw c.requires at (c.argon2_c_hash-code.ensures.faultless ok) in
     let tag = rw c.requires at (c.argon2_c_hash-code.ensures.tag ok) in
     whole ∙ rw tag at c.argon2_c_compare.ensures
     ∙ made (first_of faults) (length a.memory.now == 4 * slice_length ctx)
     (if bytes_eq a.tag.now (tag_of ctx a.pwd.now a.salt.now (length a.tag.now)) then OK else VERIFY_MISMATCH)
-    (λ e. first_negative faults e refl) (sym answer ∙ ok)
+    none (sym answer ∙ ok)
