@@ -5,9 +5,9 @@
  * Argon2 (RFC 9106) for C, over a proved library: the names, numbers and layouts of libargon2's argon2.h,
  * so that a program that was written for the one runs on the other without a change.
  *
- * What each function answers is the contract of a function of the crate argon2_c; docs/DIFFERENCES.md
- * lists what differs from the reference. Where an answer is not ARGON2_OK, nothing was written, except that
- * argon2_verify_ctx writes the tag of a password that does not match. Outputs may overlap inputs and each other.
+ * Contracts of the crate argon2_c state what each function returns; docs/DIFFERENCES.md lists what differs from the
+ * reference. A function that does not return ARGON2_OK writes nothing, except that argon2_verify_ctx writes the tag
+ * of a password that does not match. Outputs may overlap inputs and each other.
  * All functions may be called by several threads at once. A call takes up to 32 KiB of the caller's stack, and 256 KiB
  * for the stack of each thread that it starts.
  */
@@ -73,7 +73,7 @@ extern "C" {
 /* Whether memory is wiped before it is given back; 1 unless a program sets it to 0. */
 extern int FLAG_clear_internal_memory;
 
-/* ---- answers */
+/* ---- codes */
 
 typedef enum Argon2_ErrorCodes {
     ARGON2_OK = 0,
@@ -93,12 +93,12 @@ typedef enum Argon2_ErrorCodes {
 
 /* ---- what a hash is made of */
 
-/* Writes the address of so many bytes of memory, aligned as malloc's, into the first argument, or leaves NULL there.
- * The result is ignored. A callback may call each function of this library, and may leave by longjmp or an
- * exception. What it changes in the context changes nothing of the call. */
+/* Writes the address of so many bytes of memory, aligned as malloc's, into the first argument, or leaves NULL there
+ * if there is none. The result is ignored. A callback may call each function of this library, and may leave by longjmp
+ * or an exception. If it changes the context, the call does not change. */
 typedef int (*allocate_fptr)(uint8_t **memory, size_t bytes_to_allocate);
 
-/* Takes the memory back, last of all that a call does. */
+/* Takes the memory back. A call does this last. */
 typedef void (*deallocate_fptr)(uint8_t *memory, size_t bytes_to_allocate);
 
 typedef struct Argon2_Context {
@@ -124,7 +124,7 @@ typedef struct Argon2_Context {
 
     uint32_t version; /* 0x10 or 0x13 */
 
-    allocate_fptr allocate_cbk; /* both or neither; malloc and free where there are none */
+    allocate_fptr allocate_cbk; /* both or neither; malloc and free if there are none */
     deallocate_fptr free_cbk;
 
     uint32_t flags;
@@ -140,7 +140,7 @@ typedef enum Argon2_version {
 
 /* ---- hashing */
 
-/* The name of a variant, with a capital letter where asked for, or NULL. */
+/* The name of a variant, with a capital letter if `uppercase` is not 0; NULL if there is no such variant. */
 ARGON2_PUBLIC const char *argon2_type2string(argon2_type type, int uppercase);
 
 /* Hashes as a context says. */
@@ -154,7 +154,7 @@ ARGON2_PUBLIC int argon2_hash(uint32_t t_cost, uint32_t m_cost, uint32_t lanes, 
     const void *salt, size_t saltlen, void *hash, size_t hashlen, char *encoded, size_t encodedlen, argon2_type type,
     uint32_t version);
 
-/* The text at version 0x13. */
+/* Writes the text at version 0x13. */
 ARGON2_PUBLIC int argon2d_hash_encoded(uint32_t t_cost, uint32_t m_cost, uint32_t lanes, const void *pwd,
     size_t pwdlen, const void *salt, size_t saltlen, size_t hashlen, char *encoded, size_t encodedlen);
 ARGON2_PUBLIC int argon2i_hash_encoded(uint32_t t_cost, uint32_t m_cost, uint32_t lanes, const void *pwd,
@@ -162,7 +162,7 @@ ARGON2_PUBLIC int argon2i_hash_encoded(uint32_t t_cost, uint32_t m_cost, uint32_
 ARGON2_PUBLIC int argon2id_hash_encoded(uint32_t t_cost, uint32_t m_cost, uint32_t lanes, const void *pwd,
     size_t pwdlen, const void *salt, size_t saltlen, size_t hashlen, char *encoded, size_t encodedlen);
 
-/* The tag at version 0x13. */
+/* Writes the tag at version 0x13. */
 ARGON2_PUBLIC int argon2d_hash_raw(uint32_t t_cost, uint32_t m_cost, uint32_t lanes, const void *pwd,
     size_t pwdlen, const void *salt, size_t saltlen, void *hash, size_t hashlen);
 ARGON2_PUBLIC int argon2i_hash_raw(uint32_t t_cost, uint32_t m_cost, uint32_t lanes, const void *pwd,
@@ -170,25 +170,25 @@ ARGON2_PUBLIC int argon2i_hash_raw(uint32_t t_cost, uint32_t m_cost, uint32_t la
 ARGON2_PUBLIC int argon2id_hash_raw(uint32_t t_cost, uint32_t m_cost, uint32_t lanes, const void *pwd,
     size_t pwdlen, const void *salt, size_t saltlen, void *hash, size_t hashlen);
 
-/* The bytes of a text at version 0x13 with its zero byte; 0 where there is no such variant. */
+/* The bytes of a text at version 0x13 with its zero byte; 0 if there is no such variant. */
 ARGON2_PUBLIC size_t argon2_encodedlen(uint32_t t_cost, uint32_t m_cost, uint32_t lanes,
     uint32_t saltlen, uint32_t hashlen, argon2_type type);
 
-/* ---- verifying: ARGON2_OK where it is the password's, ARGON2_VERIFY_MISMATCH where it is not */
+/* ---- verifying: returns ARGON2_OK if the password matches, ARGON2_VERIFY_MISMATCH if it does not */
 
-/* Of a text. */
+/* Verifies a text. */
 ARGON2_PUBLIC int argon2_verify(const char *encoded, const void *pwd, size_t pwdlen, argon2_type type);
 ARGON2_PUBLIC int argon2d_verify(const char *encoded, const void *pwd, size_t pwdlen);
 ARGON2_PUBLIC int argon2i_verify(const char *encoded, const void *pwd, size_t pwdlen);
 ARGON2_PUBLIC int argon2id_verify(const char *encoded, const void *pwd, size_t pwdlen);
 
-/* Of a tag: hashes as the context says, and compares what it wrote with as many bytes of `hash`. */
+/* Verifies a tag: hashes as the context says, and compares the tag with as many bytes of `hash`. */
 ARGON2_PUBLIC int argon2_verify_ctx(argon2_context *context, const char *hash, argon2_type type);
 ARGON2_PUBLIC int argon2d_verify_ctx(argon2_context *context, const char *hash);
 ARGON2_PUBLIC int argon2i_verify_ctx(argon2_context *context, const char *hash);
 ARGON2_PUBLIC int argon2id_verify_ctx(argon2_context *context, const char *hash);
 
-/* The reference's message for a code. */
+/* The message for a code, as in the reference. */
 ARGON2_PUBLIC const char *argon2_error_message(int error_code);
 
 #ifdef __cplusplus
