@@ -7,17 +7,13 @@ use Rattle.std.proofs.lemmas.Simd.{get_or-chunk, length-chunk, pick_l_left}
 use Rattle.argon2_base.specs.Lanes.{word_from}
 use Rattle.argon2_base.proofs.block_lemmas.LaneLemmas.{below_eight, eight_lanes}
 
-number_of_eight : (bs : List ℕ) → length bs ≡ 8 → number_l 256 bs ≡ word_from bs 0
-number_of_eight =
-    eight_lanes (λ bs. number_l 256 bs ≡ word_from bs 0) (λ a b c d e f g h. omega arith)
-
 -- the number that eight bytes of a list write
 pub number_l-chunk : (bs : List ℕ) (i : ℕ) → i + 8 ≤ length bs → number_l 256 (chunk i 8 bs) ≡ word_from bs i
 number_l-chunk bs i le =
     let byte : (k : ℕ) → k < 8 → slice_index (chunk i 8 bs) k ≡ slice_index bs (i + k) =
     λ k h. get_or-chunk i 8 bs k 0 h
     in
-    number_of_eight (chunk i 8 bs) (length-chunk i 8 bs le)
+    eight_lanes (λ bs. number_l 256 bs ≡ word_from bs 0) (λ a b c d e f g h. omega arith) (chunk i 8 bs) (length-chunk i 8 bs le)
     ∙ rw (
       byte 0 (lit< tt),
       byte 1 (lit< tt),

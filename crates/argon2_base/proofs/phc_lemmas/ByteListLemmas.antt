@@ -70,12 +70,6 @@ decoded_into_zeros s t new room wide n same length_is text_bytes ok bytes' writt
       fits = omega (arith, parts.1, parts.2);
     }
 
--- what decodes to so few bytes is never refused
-decode_slice_fits : (s b : List ℕ) (room : ℕ) (f : DecodeSliceError) → decode_of standard_no_pad s ≡ Ok b → length b ≤ room
-    → length s ≤ base64_length room → decode_slice_of standard_no_pad s room ≡ Err f → ⊥
-decode_slice_fits s b room f ok fits short err =
-    answer_err _ _ _ _ b room f ok fits (le-ltb (room / 3) (groups_before_last (length s)) (omega arith)) err
-
 -- no text of bytes is refused that is no longer than that of as many bytes as there is room for
 pub decode_slice_err : (s t b : List ℕ) (room wide : ℕ) (f : DecodeSliceError) → t ≡ s → wide ≡ room
     → IsBytes b → s ≡ strict_base64 b → length s ≤ base64_length room
@@ -84,4 +78,4 @@ decode_slice_err s t b room wide f same length_is bytes is short err' =
     let err : decode_slice_of standard_no_pad s room ≡ Err f = rw (same, length_is) at (sym err') in
     let ok : decode_of standard_no_pad s ≡ Ok b = rw is (decode_of-strict_base64 b bytes) in
     let fits : length b ≤ room = omega (arith, ap length is, length-strict_base64 b) in
-    decode_slice_fits s b room f ok fits short err
+    answer_err _ _ _ _ b room f ok fits (le-ltb (room / 3) (groups_before_last (length s)) (omega arith)) err

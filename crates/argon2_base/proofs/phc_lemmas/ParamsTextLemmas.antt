@@ -28,17 +28,13 @@ param_name p h = (and_parts (is_name p.0) _ (and_parts _ (is_value p.1) h).0).0
 pub param_value : (p : Pair) → is_param p ≡ true → is_value p.1 ≡ true
 param_value p h = (and_parts _ (is_value p.1) h).1
 
--- the characters of a value
-value_chars : (s : List ℕ) → is_value s ≡ true → list_all is_value_char s ≡ true
-value_chars s h = (and_parts _ (list_all is_value_char s) h).1
-
 -- a name lacks what is no character of names
 pub name_lacks : (c : ℕ) → is_name_char c ≡ false → (s : List ℕ) → is_name s ≡ true → Lacks c s
 name_lacks c fails s h = lacks_by is_name_char c fails s (name_chars s h)
 
 -- a value lacks what is no character of values
 pub value_lacks : (c : ℕ) → is_value_char c ≡ false → (s : List ℕ) → is_value s ≡ true → Lacks c s
-value_lacks c fails s h = lacks_by is_value_char c fails s (value_chars s h)
+value_lacks c fails s h = lacks_by is_value_char c fails s (and_parts _ (list_all is_value_char s) h).1
 
 -- an item is read as its parameter
 pub param_again : (p : Pair) → is_param p ≡ true → pair_of (item p) ≡ p
@@ -115,10 +111,6 @@ params_text-more (q ∷ r ∷ ps) p =
     ap (λ (t : List ℕ). item q ++ 44 ∷ t) rest ∙ sym (append_assoc (item q) (44 ∷ params_text (r ∷ ps)) (44 ∷ item p))
     ∙ sym (with_item_some (params_text (q ∷ r ∷ ps)) p (text_long q (r ∷ ps)))
 
--- texts are equal both ways
-bytes_eq_sym : (a b : List ℕ) → bytes_eq a b ≡ bytes_eq b a
-bytes_eq_sym a b = nat_list_eq_equiv.symm a b
-
 -- whether a name is there
 value_of-more : (n : List ℕ) (ps : List Pair) (p : Pair)
     → is_none (value_of n (ps ++ p ∷ [])) ≡ (is_none (value_of n ps) && not (bytes_eq p.0 n))
@@ -150,7 +142,8 @@ and_swap false b c d = refl
 pub are_distinct-more : (ps : List Pair) (p : Pair) → are_distinct (ps ++ p ∷ []) ≡ (are_distinct ps && is_none (value_of p.0 ps))
 are_distinct-more [] p = refl
 are_distinct-more (q ∷ ps) p =
-    rw (value_of-more q.0 ps p, are_distinct-more ps p, value_of-first p.0 q ps, bytes_eq_sym p.0 q.0)
+    let symmetric : bytes_eq p.0 q.0 ≡ bytes_eq q.0 p.0 = nat_list_eq_equiv.symm p.0 q.0 in
+    rw (value_of-more q.0 ps p, are_distinct-more ps p, value_of-first p.0 q ps, symmetric)
     (and_swap (is_none (value_of q.0 ps)) (not (bytes_eq q.0 p.0)) (are_distinct ps) (is_none (value_of p.0 ps)))
 
 -- a test and true are the test

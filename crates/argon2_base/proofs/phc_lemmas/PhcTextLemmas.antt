@@ -34,10 +34,6 @@ params_text_lacks c a b d e (p ∷ q ∷ ps) h =
 base64_lacks : (c : ℕ) → is_value_char c ≡ false → (b : List ℕ) → IsBytes b → Lacks c (strict_base64 b)
 base64_lacks c fails b bytes = lacks_by is_value_char c fails (strict_base64 b) (base64_chars b bytes)
 
--- a version has no `$`
-version_lacks : (n : ℕ) → n < 2 ^ 32 → Lacks 36 (version_text n)
-version_lacks n small = (refl, (refl, lacks_by is_value_char 36 refl (decimal n) (decimal_chars n (omega arith))))
-
 -- two lists of texts without the character, joined
 and_then : (c : ℕ) (xs ys : List (List ℕ)) → AllByRecursion (Lacks c) xs → AllByRecursion (Lacks c) ys
     → AllByRecursion (Lacks c) (xs ++ ys)
@@ -47,7 +43,8 @@ and_then c (x ∷ xs) ys h k = (h.0, and_then c xs ys h.1 k)
 -- the field of a version has no `$`
 version_field_lacks : (o : Option ℕ) → IfSome o (λ n. n < 2 ^ 32) → AllByRecursion (Lacks 36) (field version_text o)
 version_field_lacks None h = tt
-version_field_lacks (Some n) h = (version_lacks n h, tt)
+version_field_lacks (Some n) h =
+    ((refl, (refl, lacks_by is_value_char 36 refl (decimal n) (decimal_chars n (omega arith)))), tt)
 
 -- the field of bytes has no `$`
 bytes_field_lacks : (low high : ℕ) (o : Option (List ℕ)) → IfSome o (HasBytes low high)
@@ -132,10 +129,6 @@ bytes_no_item (Some b) r h k = λ p more e. base64_no_item b p h.0 cc
 pub no_item : (v : Phc) → IsPhc v → NoItemFirst (from_salt v)
 no_item v h = bytes_no_item v.salt v.hash h.salt h.hash
 
--- no parameter is named `v`
-not_v : (p : Pair) → is_param p ≡ true → bytes_eq p.0 (codes "v") ≡ false
-not_v p h = not-true _ (and_parts (is_name p.0) _ (and_parts _ (is_value p.1) h).0).1
-
 -- a list is no version
 list_no_version : (ps : List Pair) (rest : List (List ℕ)) → are_params ps ≡ true → NoItemFirst rest
     → NoVersionFirst (list_field ps ++ rest)
@@ -148,7 +141,9 @@ list_no_version (p ∷ ps) rest h k d more e =
     let pairs : ◌≡◌ {A = Pair} (p.0, t.0) (codes "v", d) =
     sym (pair_again p.0 t.0 (name_lacks 61 refl p.0 (param_name p one.0))) ∙ ap pair_of same in
     let named : p.0 ≡ codes "v" = ap (λ (q : Pair). q.0) pairs in
-    let differs : bytes_eq (codes "v") (codes "v") ≡ false = rw named at (not_v p one.0) in
+    let differs : bytes_eq p.0 (codes "v") ≡ false =
+    not-true _ (and_parts (is_name p.0) _ (and_parts _ (is_value p.1) one.0).0).1 in
+    let never : bytes_eq (codes "v") (codes "v") ≡ false = rw named at differs in
     absurd cc
 
 -- behind the version there is no version
