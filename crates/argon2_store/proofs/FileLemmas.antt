@@ -319,9 +319,10 @@ module _ {S : Type 0} {g : Ghosts S}
   abbrev Ends : Result X FileError → AccountFile S g → Type 0
   Ends r new = (after : Store) × Runs answers May long r old new before after
 
-  module _ (o : Option Phc) (had : IsHonest g (store_of mid) → get before name ≡ o) where
+  module _ {found o : Option Phc} (shows : HasNames mid before → IsHonest g (store_of mid) → get before name ≡ found)
+      (is : found ≡ o) where
     now_has : (answer : Result X AccountError) → IsHonest g (store_of mid) → get before (name_of (call answer)) ≡ o
-    now_has answer clean = ap (get before) (calls answer) ∙ had clean
+    now_has answer clean = ap (get before) (calls answer) ∙ (shows reads.has clean ∙ is)
 
     under_old : (answer : Result X AccountError) (p : Option Phc) → AccountAnswer (terms_of mid) (call answer) o p
         → AccountAnswer (terms_of old) (call answer) o p
@@ -329,15 +330,15 @@ module _ {S : Type 0} {g : Ghosts S}
 
     stays : (answer : Result X AccountError) → AccountAnswer (terms_of mid) (call answer) o o → IsHonest g (store_of mid)
         → AccountStep (terms_of old) before (call answer) before
-    stays answer is clean =
+    stays answer same clean =
         let here = subst (λ (p : Option Phc). AccountAnswer (terms_of old) (call answer) p p) (sym (now_has answer clean))
-        (under_old answer o is) in
+        (under_old answer o same) in
         (here, λ other differs. refl)
 
     -- a call that the accounts refuse
     pub refuses : (e : AccountError) (r : Result X FileError) → IsErrAnd r (λ f. f ≡ Account e)
         → AccountAnswer (terms_of mid) (call (Err e)) o o → Ends r mid
-    refuses e r is answer = rw (err_is r (Account e) is) (
+    refuses e r failed answer = rw (err_is r (Account e) failed) (
       before,
       writes_none settled old mid before reads answers May
           long (inl refl) (Err (Account e)) (stays (Err e) answer) (e, refl),

@@ -1,4 +1,4 @@
-use Rattle.std.proofs.Common.{◌∙◌, None, ap, refl}
+use Rattle.std.proofs.Common.{◌∙◌, ap, refl}
 use Rattle.std.specs.Option.{option_map}
 use Rattle.argon2_base.specs.PhcFields.{phc_of}
 use Rattle.argon2_accounts.specs.Accounts.{setting}
@@ -15,11 +15,8 @@ returns-in_err-text g c password drawn fresh before has =
 pub returns-in_default : goal.returns-in_default
 returns-in_default g c password drawn fresh before has =
     refuses {g = g.S.Store} g.met.S.Store.settled (setting c.args.name.now password drawn) c.args.name.now
-    (λ answer. refl) c.args.accounts.now c.text_of.new.self before
-    (c.in_ok-text.ensures.reads before has)
-    None (λ clean. c.in_ok-text.ensures.shows before (c.in_ok-text.ensures.reads before has).has clean
-    ∙ ap (option_map phc_of) c.in_default.is)
-    NameUnknown _ c.into.ensures (refl, refl)
+    (λ answer. refl) c.args.accounts.now c.text_of.new.self before (c.in_ok-text.ensures.reads before has)
+    (c.in_ok-text.ensures.shows before) (ap (option_map phc_of) c.in_default.is) NameUnknown _ c.into.ensures (refl, refl)
 
 pub returns : goal.returns
 returns g c password drawn fresh =

@@ -1,5 +1,4 @@
-use Rattle.std.proofs.Common.{◌∙◌, Err, Some, None, inl, refl, sym}
-use Rattle.std.specs.Option.{option_map}
+use Rattle.std.proofs.Common.{◌∙◌, Err, Some, inl, refl, sym}
 use Rattle.argon2_base.specs.PhcFields.{phc_of}
 use Rattle.argon2_accounts.specs.Accounts.{adding}
 use Rattle.argon2_accounts.specs.declared.error.AccountError.TheVariants.{NameTaken, Refused}
@@ -18,7 +17,7 @@ returns-in_err-parsed g c before has =
     let live = live_of {g = g.S.Store} c.args.self.now c.is_closed.ensures c.if-is_closed.false in
     refuses {g = g.S.Store} g.met.S.Store.settled (adding c.args.name.now c.args.text.now) c.args.name.now (λ answer. refl)
     c.args.self.now c.args.self.now before
-    (unread g.met.S.Store.settled c.args.self.now before has live) _ (λ clean. refl)
+    (unread g.met.S.Store.settled c.args.self.now before has live) (λ there clean. refl) refl
     (Refused c.in_err-parsed.field-0.0) _ c.from_residual.ensures.1
     (inl (c.in_err-parsed.ensures.invalid, λ is. c.in_err-parsed.ensures.only is.0 is.1), refl)
 
@@ -32,10 +31,7 @@ pub returns-then-is_some : goal.returns-then-is_some
 returns-then-is_some g c before has =
     refuses {g = g.S.Store} g.met.S.Store.settled (adding c.args.name.now c.args.text.now) c.args.name.now (λ answer. refl)
     c.args.self.now
-    c.text_of.new.self before
-    (c.in_ok-text_of.ensures.reads before has)
-    (option_map phc_of c.in_ok-text_of.field-0)
-    (λ clean. c.in_ok-text_of.ensures.shows before (c.in_ok-text_of.ensures.reads before has).has clean)
+    c.text_of.new.self before (c.in_ok-text_of.ensures.reads before has) (c.in_ok-text_of.ensures.shows before) refl
     NameTaken _ c.into.ensures (
       (
         (phc_of c.in_ok-parsed.parsed, c.in_ok-parsed.ensures.found),
@@ -44,20 +40,10 @@ returns-then-is_some g c before has =
       refl,
     )
 
-pub change-requires-clause-open : goal.change-requires-clause-open
-change-requires-clause-open g c = c.in_ok-text_of.ensures.«open»
-
-pub change-requires-clause-known : goal.change-requires-clause-known
-change-requires-clause-known g c names has clean = c.in_ok-text_of.ensures.shows names has clean ∙ is_nowhere _
-    (sym c.is_some.ensures ∙ c.if-is_some.false)
-
 pub returns : goal.returns
 returns g c before has =
     writes {g = g.S.Store} g.met.S.Store.settled (adding c.args.name.now c.args.text.now) c.args.name.now (λ answer. refl)
-    c.args.self.now
-    c.text_of.new.self before
-    (c.in_ok-text_of.ensures.reads before has)
-    None (λ clean. c.in_ok-text_of.ensures.shows before (c.in_ok-text_of.ensures.reads before has).has clean
-    ∙ is_nowhere _ (sym c.is_some.ensures ∙ c.if-is_some.false))
+    c.args.self.now c.text_of.new.self before (c.in_ok-text_of.ensures.reads before has) (c.in_ok-text_of.ensures.shows before)
+    (is_nowhere _ (sym c.is_some.ensures ∙ c.if-is_some.false))
     _ (Some (phc_of c.in_ok-parsed.parsed)) tt refl (refl, c.in_ok-parsed.ensures.found) _
     (c.change.ensures before (c.in_ok-text_of.ensures.reads before has).has) _ c.written.ensures

@@ -1,4 +1,4 @@
-use Rattle.std.proofs.Common.{◌≡◌, ◌∙◌, Some, None, ap, refl, sym}
+use Rattle.std.proofs.Common.{◌≡◌, ◌∙◌, Some, ap, refl, sym}
 use Rattle.std.specs.FinMap.{get}
 use Rattle.std.specs.Option.{option_map}
 use Rattle.rand_core.specs.Stream.{fill_bytes}
@@ -15,29 +15,23 @@ pub returns-in_err-text-clause-call : goal.returns-in_err-text-clause-call
 returns-in_err-text-clause-call g c before has =
     cannot_serve {g = g.S.Store} g.met.S.Store.settled
     (logging_in c.args.name.now c.args.password.now (fill_bytes 16 (g.R.Rng.stream c.args.rng.now)).0) c.args.self.now
-    c.text_of.new.self before has c.in_err-text.field-0.0 _
-    c.from_residual.ensures.1 (c.in_err-text.ensures.reads before has)
+    c.text_of.new.self before has c.in_err-text.field-0.0 _ c.from_residual.ensures.1 (c.in_err-text.ensures.reads before has)
 
 pub returns-in_default-clause-call : goal.returns-in_default-clause-call
 returns-in_default-clause-call g c before has =
     refuses {g = g.S.Store} g.met.S.Store.settled
     (logging_in c.args.name.now c.args.password.now (fill_bytes 16 (g.R.Rng.stream c.args.rng.now)).0) c.args.name.now
     (λ answer. refl) c.args.self.now
-    c.text_of.new.self before
-    (c.in_ok-text.ensures.reads before has)
-    None (λ clean. c.in_ok-text.ensures.shows before (c.in_ok-text.ensures.reads before has).has clean
-    ∙ ap (option_map phc_of) c.in_default.is)
-    NameUnknown _ c.into.ensures (refl, refl)
+    c.text_of.new.self before (c.in_ok-text.ensures.reads before has) (c.in_ok-text.ensures.shows before)
+    (ap (option_map phc_of) c.in_default.is) NameUnknown _ c.into.ensures (refl, refl)
 
 pub returns-in_err-accepted-clause-call : goal.returns-in_err-accepted-clause-call
 returns-in_err-accepted-clause-call g c before has =
     refuses {g = g.S.Store} g.met.S.Store.settled
     (logging_in c.args.name.now c.args.password.now (fill_bytes 16 (g.R.Rng.stream c.args.rng.now)).0) c.args.name.now
     (λ answer. refl) c.args.self.now
-    c.text_of.new.self before
-    (c.in_ok-text.ensures.reads before has)
-    (Some (phc_of c.in-Some.text)) (λ clean. c.in_ok-text.ensures.shows before (c.in_ok-text.ensures.reads before has).has clean
-    ∙ ap (option_map phc_of) c.in-Some.is)
+    c.text_of.new.self before (c.in_ok-text.ensures.reads before has) (c.in_ok-text.ensures.shows before)
+    (ap (option_map phc_of) c.in-Some.is)
     c.in_err-accepted.field-0.0 _ c.from_residual-in_err-accepted.ensures.1 (c.in_err-accepted.ensures.step, refl)
 
 pub returns-in_default-fresh-clause-call : goal.returns-in_default-fresh-clause-call
@@ -45,10 +39,8 @@ returns-in_default-fresh-clause-call g c before has =
     accepts {g = g.S.Store} g.met.S.Store.settled
     (logging_in c.args.name.now c.args.password.now (fill_bytes 16 (g.R.Rng.stream c.args.rng.now)).0) c.args.name.now
     (λ answer. refl) c.args.self.now
-    c.text_of.new.self before
-    (c.in_ok-text.ensures.reads before has)
-    (Some (phc_of c.in-Some.text)) (λ clean. c.in_ok-text.ensures.shows before (c.in_ok-text.ensures.reads before has).has clean
-    ∙ ap (option_map phc_of) c.in-Some.is)
+    c.text_of.new.self before (c.in_ok-text.ensures.reads before has) (c.in_ok-text.ensures.shows before)
+    (ap (option_map phc_of) c.in-Some.is)
     c.in_ok-accepted.field-0.accepted (rw c.in_default-fresh.is at c.in_ok-accepted.ensures.step)
 
 pub returns-in_default-fresh-clause-accepted : goal.returns-in_default-fresh-clause-accepted
@@ -59,13 +51,6 @@ returns-in_default-fresh-clause-accepted g c before after has held =
     (λ clean. c.in_ok-text.ensures.shows before (c.in_ok-text.ensures.reads before has).has clean
     ∙ ap (option_map phc_of) c.in-Some.is) (rw c.in_default-fresh.is at c.in_ok-accepted.ensures.accepted)
 
-pub change-done-requires-clause-open : goal.change-done-requires-clause-open
-change-done-requires-clause-open g c = c.in_ok-text.ensures.«open»
-
-pub change-done-requires-clause-known : goal.change-done-requires-clause-known
-change-done-requires-clause-known g c names has clean = c.in_ok-text.ensures.shows names has clean ∙ ap (option_map phc_of)
-    c.in-Some.is
-
 pub returns-then-not-is_closed-clause-call : goal.returns-then-not-is_closed-clause-call
 returns-then-not-is_closed-clause-call g c before has =
     let did = c.in_ok-accepted.field-0.accepted in
@@ -74,14 +59,11 @@ returns-then-not-is_closed-clause-call g c before has =
     keeps {g = g.S.Store} g.met.S.Store.settled
     (logging_in c.args.name.now c.args.password.now (fill_bytes 16 (g.R.Rng.stream c.args.rng.now)).0) c.args.name.now
     (λ answer. refl) c.args.self.now
-    c.text_of.new.self before
-    (c.in_ok-text.ensures.reads before has)
-    (Some (phc_of c.in-Some.text)) (λ clean. c.in_ok-text.ensures.shows before (c.in_ok-text.ensures.reads before has).has clean
-    ∙ ap (option_map phc_of) c.in-Some.is)
+    c.text_of.new.self before (c.in_ok-text.ensures.reads before has) (c.in_ok-text.ensures.shows before)
+    (ap (option_map phc_of) c.in-Some.is)
     _ (Some (phc_of c.in-Some-fresh.fresh)) did Kept refl step (step.0, ((rw rehashed at step.1).0, refl))
     c.change-done.result (sym c.is_err.ensures.value ∙ c.if-is_err.true)
-    (c.change-done.ensures before (c.in_ok-text.ensures.reads before has).has)
-    c.is_closed.ensures c.if-not-is_closed.true
+    (c.change-done.ensures before (c.in_ok-text.ensures.reads before has).has) c.is_closed.ensures c.if-not-is_closed.true
 
 pub returns-then-not-is_closed-clause-accepted : goal.returns-then-not-is_closed-clause-accepted
 returns-then-not-is_closed-clause-accepted g c before after has held =
@@ -103,11 +85,8 @@ returns-clause-call g c before has =
     writes {g = g.S.Store} g.met.S.Store.settled
     (logging_in c.args.name.now c.args.password.now (fill_bytes 16 (g.R.Rng.stream c.args.rng.now)).0) c.args.name.now
     (λ answer. refl) c.args.self.now
-    c.text_of.new.self before
-    (c.in_ok-text.ensures.reads before has)
-    (Some (phc_of c.in-Some.text)) (λ clean. c.in_ok-text.ensures.shows before (c.in_ok-text.ensures.reads before has).has clean
-    ∙ ap (option_map phc_of) c.in-Some.is)
-    _ (Some (phc_of c.in-Some-fresh.fresh)) c.in_ok-accepted.field-0.accepted refl
+    c.text_of.new.self before (c.in_ok-text.ensures.reads before has) (c.in_ok-text.ensures.shows before)
+    (ap (option_map phc_of) c.in-Some.is) _ (Some (phc_of c.in-Some-fresh.fresh)) c.in_ok-accepted.field-0.accepted refl
     (rw c.in-Some-fresh.is at c.in_ok-accepted.ensures.step) c.change-done.result
     (c.change-done.ensures before (c.in_ok-text.ensures.reads before has).has) _ c.written.ensures
 

@@ -1,5 +1,4 @@
-use Rattle.std.proofs.Common.{◌∙◌, Some, None, refl, sym}
-use Rattle.std.specs.Option.{option_map}
+use Rattle.std.proofs.Common.{◌∙◌, Some, refl, sym}
 use Rattle.rand_core.specs.Stream.{fill_bytes}
 use Rattle.argon2_base.specs.PhcFields.{phc_of}
 use Rattle.argon2_accounts.specs.Accounts.{registering}
@@ -25,10 +24,7 @@ returns-then-is_some-clause-call g c before has =
     refuses {g = g.S.Store} g.met.S.Store.settled
     (registering c.args.name.now c.args.password.now (fill_bytes 16 (g.R.Rng.stream c.args.rng.now)).0) c.args.name.now
     (λ answer. refl) c.args.self.now
-    c.text_of.new.self before
-    (c.in_ok-text_of.ensures.reads before has)
-    (option_map phc_of c.in_ok-text_of.field-0)
-    (λ clean. c.in_ok-text_of.ensures.shows before (c.in_ok-text_of.ensures.reads before has).has clean)
+    c.text_of.new.self before (c.in_ok-text_of.ensures.reads before has) (c.in_ok-text_of.ensures.shows before) refl
     NameTaken _ c.into.ensures (taken c.args.password.now _ (is_there _ (sym c.is_some.ensures ∙ c.if-is_some.true)), refl)
 
 pub returns-in_err-text-clause-call : goal.returns-in_err-text-clause-call
@@ -36,28 +32,17 @@ returns-in_err-text-clause-call g c before has =
     refuses {g = g.S.Store} g.met.S.Store.settled
     (registering c.args.name.now c.args.password.now (fill_bytes 16 (g.R.Rng.stream c.args.rng.now)).0) c.args.name.now
     (λ answer. refl) c.args.self.now
-    c.text_of.new.self before
-    (c.in_ok-text_of.ensures.reads before has)
-    None (λ clean. c.in_ok-text_of.ensures.shows before (c.in_ok-text_of.ensures.reads before has).has clean
-    ∙ is_nowhere _ (sym c.is_some.ensures ∙ c.if-is_some.false))
+    c.text_of.new.self before (c.in_ok-text_of.ensures.reads before has) (c.in_ok-text_of.ensures.shows before)
+    (is_nowhere _ (sym c.is_some.ensures ∙ c.if-is_some.false))
     c.in_err-text.field-0.0 _ c.from_residual-in_err-text.ensures.1 (c.in_err-text.ensures.made, refl)
-
-pub change-requires-clause-open : goal.change-requires-clause-open
-change-requires-clause-open g c = c.in_ok-text_of.ensures.«open»
-
-pub change-requires-clause-known : goal.change-requires-clause-known
-change-requires-clause-known g c names has clean = c.in_ok-text_of.ensures.shows names has clean ∙ is_nowhere _
-    (sym c.is_some.ensures ∙ c.if-is_some.false)
 
 pub returns-clause-call : goal.returns-clause-call
 returns-clause-call g c before has =
     writes {g = g.S.Store} g.met.S.Store.settled
     (registering c.args.name.now c.args.password.now (fill_bytes 16 (g.R.Rng.stream c.args.rng.now)).0) c.args.name.now
     (λ answer. refl) c.args.self.now
-    c.text_of.new.self before
-    (c.in_ok-text_of.ensures.reads before has)
-    None (λ clean. c.in_ok-text_of.ensures.shows before (c.in_ok-text_of.ensures.reads before has).has clean
-    ∙ is_nowhere _ (sym c.is_some.ensures ∙ c.if-is_some.false))
+    c.text_of.new.self before (c.in_ok-text_of.ensures.reads before has) (c.in_ok-text_of.ensures.shows before)
+    (is_nowhere _ (sym c.is_some.ensures ∙ c.if-is_some.false))
     _ (Some (phc_of c.in_ok-text.text)) tt refl (refl, c.in_ok-text.ensures.made) _
     (c.change.ensures before (c.in_ok-text_of.ensures.reads before has).has) _ c.written.ensures
 

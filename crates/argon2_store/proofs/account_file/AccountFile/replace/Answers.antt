@@ -1,4 +1,4 @@
-use Rattle.std.proofs.Common.{◌∙◌, Some, None, ap, refl, sym}
+use Rattle.std.proofs.Common.{◌∙◌, Some, ap, refl, sym}
 use Rattle.std.specs.Option.{option_map}
 use Rattle.argon2_base.specs.PhcFields.{phc_of}
 use Rattle.argon2_accounts.specs.Accounts.{replacing}
@@ -17,11 +17,8 @@ pub returns-in_default : goal.returns-in_default
 returns-in_default g c before has =
     refuses {g = g.S.Store} g.met.S.Store.settled (replacing c.args.name.now c.args.old.now c.args.new.now) c.args.name.now
     (λ answer. refl) c.args.self.now
-    c.text_of.new.self before
-    (c.in_ok-text.ensures.reads before has)
-    None (λ clean. c.in_ok-text.ensures.shows before (c.in_ok-text.ensures.reads before has).has clean
-    ∙ ap (option_map phc_of) c.in_default.is)
-    NameUnknown _ c.into.ensures (refl, refl)
+    c.text_of.new.self before (c.in_ok-text.ensures.reads before has) (c.in_ok-text.ensures.shows before)
+    (ap (option_map phc_of) c.in_default.is) NameUnknown _ c.into.ensures (refl, refl)
 
 pub returns-then-ne : goal.returns-then-ne
 returns-then-ne g c before has =
@@ -29,11 +26,8 @@ returns-then-ne g c before has =
     let never = is_other_text _ c.args.old.now (phc_of c.in-Some.text) c.text.ensures differs in
     refuses {g = g.S.Store} g.met.S.Store.settled (replacing c.args.name.now c.args.old.now c.args.new.now) c.args.name.now
     (λ answer. refl) c.args.self.now
-    c.text_of.new.self before
-    (c.in_ok-text.ensures.reads before has)
-    (Some (phc_of c.in-Some.text)) (λ clean. c.in_ok-text.ensures.shows before (c.in_ok-text.ensures.reads before has).has clean
-    ∙ ap (option_map phc_of) c.in-Some.is)
-    TextChanged _ c.into-then-ne.ensures (never, refl)
+    c.text_of.new.self before (c.in_ok-text.ensures.reads before has) (c.in_ok-text.ensures.shows before)
+    (ap (option_map phc_of) c.in-Some.is) TextChanged _ c.into-then-ne.ensures (never, refl)
 
 pub returns-in_err-fresh : goal.returns-in_err-fresh
 returns-in_err-fresh g c before has =
@@ -41,19 +35,9 @@ returns-in_err-fresh g c before has =
     let is = is_text _ c.args.old.now (phc_of c.in-Some.text) c.text.ensures same in
     refuses {g = g.S.Store} g.met.S.Store.settled (replacing c.args.name.now c.args.old.now c.args.new.now) c.args.name.now
     (λ answer. refl) c.args.self.now
-    c.text_of.new.self before
-    (c.in_ok-text.ensures.reads before has)
-    (Some (phc_of c.in-Some.text)) (λ clean. c.in_ok-text.ensures.shows before (c.in_ok-text.ensures.reads before has).has clean
-    ∙ ap (option_map phc_of) c.in-Some.is)
-    (Refused c.in_err-fresh.field-0.0) _ c.from_residual-in_err-fresh.ensures.1
+    c.text_of.new.self before (c.in_ok-text.ensures.reads before has) (c.in_ok-text.ensures.shows before)
+    (ap (option_map phc_of) c.in-Some.is) (Refused c.in_err-fresh.field-0.0) _ c.from_residual-in_err-fresh.ensures.1
     ((is, c.in_err-fresh.ensures.invalid, λ spelt. c.in_err-fresh.ensures.only spelt.0 spelt.1), refl)
-
-pub change-requires-clause-open : goal.change-requires-clause-open
-change-requires-clause-open g c = c.in_ok-text.ensures.«open»
-
-pub change-requires-clause-known : goal.change-requires-clause-known
-change-requires-clause-known g c names has clean = c.in_ok-text.ensures.shows names has clean ∙ ap (option_map phc_of)
-    c.in-Some.is
 
 pub returns : goal.returns
 returns g c before has =
@@ -61,9 +45,6 @@ returns g c before has =
     let is = is_text _ c.args.old.now (phc_of c.in-Some.text) c.text.ensures same in
     writes {g = g.S.Store} g.met.S.Store.settled (replacing c.args.name.now c.args.old.now c.args.new.now) c.args.name.now
     (λ answer. refl) c.args.self.now
-    c.text_of.new.self before
-    (c.in_ok-text.ensures.reads before has)
-    (Some (phc_of c.in-Some.text)) (λ clean. c.in_ok-text.ensures.shows before (c.in_ok-text.ensures.reads before has).has clean
-    ∙ ap (option_map phc_of) c.in-Some.is)
-    _ (Some (phc_of c.in_ok-fresh.fresh)) tt refl (is, c.in_ok-fresh.ensures.found) _
+    c.text_of.new.self before (c.in_ok-text.ensures.reads before has) (c.in_ok-text.ensures.shows before)
+    (ap (option_map phc_of) c.in-Some.is) _ (Some (phc_of c.in_ok-fresh.fresh)) tt refl (is, c.in_ok-fresh.ensures.found) _
     (c.change.ensures before (c.in_ok-text.ensures.reads before has).has) _ c.written.ensures

@@ -1,4 +1,4 @@
-use Rattle.std.proofs.Common.{◌∙◌, Some, None, ap, refl}
+use Rattle.std.proofs.Common.{Some, ap, refl}
 use Rattle.std.specs.Option.{option_map}
 use Rattle.rand_core.specs.Stream.{fill_bytes}
 use Rattle.argon2_base.specs.PhcFields.{phc_of}
@@ -12,8 +12,7 @@ pub returns-in_err-text-clause-call : goal.returns-in_err-text-clause-call
 returns-in_err-text-clause-call g c before has =
     cannot_serve {g = g.S.Store} g.met.S.Store.settled
     (setting c.args.name.now c.args.new.now (fill_bytes 16 (g.R.Rng.stream c.args.rng.now)).0) c.args.self.now
-    c.text_of.new.self before has c.in_err-text.field-0.0 _
-    c.from_residual.ensures.1 (c.in_err-text.ensures.reads before has)
+    c.text_of.new.self before has c.in_err-text.field-0.0 _ c.from_residual.ensures.1 (c.in_err-text.ensures.reads before has)
 
 pub returns-in_err-text-clause-drawn : goal.returns-in_err-text-clause-drawn
 returns-in_err-text-clause-drawn g c =
@@ -24,40 +23,25 @@ returns-in_default-clause-call g c before has =
     refuses {g = g.S.Store} g.met.S.Store.settled
     (setting c.args.name.now c.args.new.now (fill_bytes 16 (g.R.Rng.stream c.args.rng.now)).0) c.args.name.now
     (λ answer. refl) c.args.self.now
-    c.text_of.new.self before
-    (c.in_ok-text.ensures.reads before has)
-    None (λ clean. c.in_ok-text.ensures.shows before (c.in_ok-text.ensures.reads before has).has clean
-    ∙ ap (option_map phc_of) c.in_default.is)
-    NameUnknown _ c.into.ensures (refl, refl)
+    c.text_of.new.self before (c.in_ok-text.ensures.reads before has) (c.in_ok-text.ensures.shows before)
+    (ap (option_map phc_of) c.in_default.is) NameUnknown _ c.into.ensures (refl, refl)
 
 pub returns-in_err-fresh-clause-call : goal.returns-in_err-fresh-clause-call
 returns-in_err-fresh-clause-call g c before has =
     refuses {g = g.S.Store} g.met.S.Store.settled
     (setting c.args.name.now c.args.new.now (fill_bytes 16 (g.R.Rng.stream c.args.rng.now)).0) c.args.name.now
     (λ answer. refl) c.args.self.now
-    c.text_of.new.self before
-    (c.in_ok-text.ensures.reads before has)
-    (Some (phc_of c.in-Some.text)) (λ clean. c.in_ok-text.ensures.shows before (c.in_ok-text.ensures.reads before has).has clean
-    ∙ ap (option_map phc_of) c.in-Some.is)
+    c.text_of.new.self before (c.in_ok-text.ensures.reads before has) (c.in_ok-text.ensures.shows before)
+    (ap (option_map phc_of) c.in-Some.is)
     c.in_err-fresh.field-0.0 _ c.from_residual-in_err-fresh.ensures.1 (c.in_err-fresh.ensures.made, refl)
-
-pub change-requires-clause-open : goal.change-requires-clause-open
-change-requires-clause-open g c = c.in_ok-text.ensures.«open»
-
-pub change-requires-clause-known : goal.change-requires-clause-known
-change-requires-clause-known g c names has clean = c.in_ok-text.ensures.shows names has clean ∙ ap (option_map phc_of)
-    c.in-Some.is
 
 pub returns-clause-call : goal.returns-clause-call
 returns-clause-call g c before has =
     writes {g = g.S.Store} g.met.S.Store.settled
     (setting c.args.name.now c.args.new.now (fill_bytes 16 (g.R.Rng.stream c.args.rng.now)).0) c.args.name.now
     (λ answer. refl) c.args.self.now
-    c.text_of.new.self before
-    (c.in_ok-text.ensures.reads before has)
-    (Some (phc_of c.in-Some.text)) (λ clean. c.in_ok-text.ensures.shows before (c.in_ok-text.ensures.reads before has).has clean
-    ∙ ap (option_map phc_of) c.in-Some.is)
-    _ (Some (phc_of c.in_ok-fresh.fresh)) tt refl c.in_ok-fresh.ensures.made _
+    c.text_of.new.self before (c.in_ok-text.ensures.reads before has) (c.in_ok-text.ensures.shows before)
+    (ap (option_map phc_of) c.in-Some.is) _ (Some (phc_of c.in_ok-fresh.fresh)) tt refl c.in_ok-fresh.ensures.made _
     (c.change.ensures before (c.in_ok-text.ensures.reads before has).has) _ c.written.ensures
 
 pub returns-clause-accepted : goal.returns-clause-accepted
