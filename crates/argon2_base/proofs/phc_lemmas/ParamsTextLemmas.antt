@@ -1,6 +1,7 @@
 -- What a list says, and what longer lists are.
 use Rattle.std.proofs.Common.{◌≡◌, ◌≢◌, ℕ, ◌<◌, Bool, true, false, not, ◌&&◌, List, [], ◌∷◌, ◌++◌, length, map, refl, sym, ap, ◌∙◌, arith, inl, inr, ◌==◌, nat_le, Some, None, length-append, append_assoc, lit<}
 use Rattle.std.specs.Cmp.Lexicographic.{nat_list_eq_equiv}
+use Rattle.std.proofs.Math.Bool.{and-false, and-true}
 use Rattle.std.proofs.lemmas.Bool.{cases_Bool, and_parts}
 use Rattle.std.specs.List.{list_all, AllByRecursion}
 use Rattle.std.proofs.lemmas.List.Folds.{list_all-append}
@@ -146,14 +147,9 @@ are_distinct-more (q ∷ ps) p =
     rw (value_of-more q.0 ps p, are_distinct-more ps p, value_of-first p.0 q ps, symmetric)
     (and_swap (is_none (value_of q.0 ps)) (not (bytes_eq q.0 p.0)) (are_distinct ps) (is_none (value_of p.0 ps)))
 
--- a test and true are the test
-and_true : (b : Bool) → (b && true) ≡ b
-and_true true = refl
-and_true false = refl
-
 -- whether all are parameters with one more
 list_all-more : (ps : List Pair) (p : Pair) → list_all is_param (ps ++ p ∷ []) ≡ (list_all is_param ps && is_param p)
-list_all-more ps p = list_all-append is_param ps (p ∷ []) ∙ ap (λ b. list_all is_param ps && b) (and_true (is_param p))
+list_all-more ps p = list_all-append is_param ps (p ∷ []) ∙ ap (λ b. list_all is_param ps && b) (and-true (is_param p))
 
 -- when a list may get one more
 pub are_params-more : (ps : List Pair) (p : Pair) → are_params ps ≡ true
@@ -195,31 +191,17 @@ starts_ok text long good is =
 
 -- ---- one more parameter, or a refusal
 
--- a test and false are false
-and_false : (b : Bool) → (b && false) ≡ false
-and_false true = refl
-and_false false = refl
-
 -- a list with what is no parameter is refused
 pub refused_param : (ps : List Pair) (p : Pair) → is_param p ≡ false → false ≡ are_params (ps ++ p ∷ [])
-refused_param ps p h = sym (rw (list_all-more ps p, h, and_false (list_all is_param ps)) refl)
-
--- where there is something, not nothing
-is_none-some : (o : Option (List ℕ)) → is_some o ≡ true → is_none o ≡ false
-is_none-some None h = absurd cc
-is_none-some (Some x) h = refl
-
--- where there is nothing
-is_none-none : (o : Option (List ℕ)) → is_some o ≡ false → is_none o ≡ true
-is_none-none None h = refl
-is_none-none (Some x) h = absurd cc
+refused_param ps p h = sym (rw (list_all-more ps p, h, and-false (list_all is_param ps)) refl)
 
 -- a list with a name twice is refused
 pub refused_name : (ps : List Pair) (p : Pair) → is_some (value_of p.0 ps) ≡ true → false ≡ are_params (ps ++ p ∷ [])
 refused_name ps p h =
+    let some : is_none (value_of p.0 ps) ≡ false = ap not h in
     let one : are_distinct (ps ++ p ∷ []) ≡ false =
-    are_distinct-more ps p ∙ rw (is_none-some (value_of p.0 ps) h) (and_false (are_distinct ps)) in
-    sym (rw (one, and_false (list_all is_param (ps ++ p ∷ []))) refl)
+    are_distinct-more ps p ∙ rw some (and-false (are_distinct ps)) in
+    sym (rw (one, and-false (list_all is_param (ps ++ p ∷ []))) refl)
 
 -- what a list is after an item was appended, or didn't fit
 pub record Grows (text new : List ℕ) (p : Pair) : Type 0 where
@@ -234,8 +216,9 @@ pub params_grown : (text new : List ℕ) (p : Pair) → are_params (pairs_of tex
     → new ≡ with_item text p → Grows text new p
 params_grown text new p h is param name fits e =
     let ps : List Pair = pairs_of text in
+    let none : is_none (value_of p.0 ps) ≡ true = ap not name in
     let good : are_params (ps ++ p ∷ []) ≡ true =
-    rw (are_params-more ps p h, param, is_none-none (value_of p.0 ps) name, ← is) fits in
+    rw (are_params-more ps p h, param, none, ← is) fits in
     let whole : new ≡ params_text (ps ++ p ∷ []) = e ∙ ap (λ (t : List ℕ). with_item t p) is ∙ sym (params_text-more ps p) in
     record {
       good = good;
@@ -249,4 +232,4 @@ pub refused_long : (text : List ℕ) (p : Pair) → are_params (pairs_of text) �
     → nat_le (length (with_item text p)) 127 ≡ false → false ≡ are_params (pairs_of text ++ p ∷ [])
 refused_long text p h is long =
     let ps : List Pair = pairs_of text in
-    sym (are_params-more ps p h ∙ rw (← is, long) (and_false (is_param p && is_none (value_of p.0 ps))))
+    sym (are_params-more ps p h ∙ rw (← is, long) (and-false (is_param p && is_none (value_of p.0 ps))))
