@@ -13,10 +13,6 @@ pub tests_give : (p : ℕ → Bool) (P : ℕ → Type 0) (gives : (c : ℕ) → 
 tests_give p P gives [] h = tt
 tests_give p P gives (x ∷ s) h = let b = and_parts (p x) (list_all p s) h in (gives x b.0, tests_give p P gives s b.1)
 
--- a character of names is ASCII
-pub name_char_small : (c : ℕ) → is_name_char c ≡ true → c < 128
-name_char_small c h = grind (arith, nat_tests)
-
 -- characters that pass such a test are ASCII text
 ascii_by : (p : ℕ → Bool) (gives : (c : ℕ) → p c ≡ true → c < 128) (s : List ℕ) → list_all p s ≡ true → IsAscii s
 ascii_by p gives [] h i = omega arith
@@ -35,7 +31,7 @@ name_length {s = s} e h =
 
 -- a name is text
 pub IsUtf8-name : (s : List ℕ) → is_name s ≡ true → IsUtf8 s
-IsUtf8-name s h = IsUtf8-from_ascii s (ascii_by is_name_char name_char_small s (name_chars s h))
+IsUtf8-name s h = IsUtf8-from_ascii s (ascii_by is_name_char (λ c small. grind (arith, nat_tests)) s (name_chars s h))
 
 -- a character that doesn't pass is in no list of those that do
 pub lacks_by : (p : ℕ → Bool) (c : ℕ) → p c ≡ false → (s : List ℕ) → list_all p s ≡ true

@@ -3,18 +3,15 @@ use Rattle.std.proofs.Common.{◌≡◌, ◌∙◌, ℕ, ◌≤◌, sym, ap, ari
 use Rattle.std.specs.Int.Bits.{bit_or, bit_xor, xor_zero_l, xor_zero_r, xor_self, xor_assoc}
 use Rattle.std.proofs.lemmas.Nat.{le_or_l, le_or_r}
 
--- numbers that differ in no bit are equal
-same_by_xor : (x y : ℕ) → bit_xor x y ≡ 0 → x ≡ y
-same_by_xor x y h =
-    sym (xor_zero_r x) ∙ ap (bit_xor x) (sym (xor_self y)) ∙ sym (xor_assoc x y y) ∙ ap (λ (z : ℕ). bit_xor z y) h ∙ xor_zero_l y
-
 -- where no difference is noted after two bytes, none was before them, and they are equal
 pub no_difference : (d x y : ℕ) → bit_or d (bit_xor x y) ≡ 0 → (d ≡ 0) × (x ≡ y)
 no_difference d x y h =
     let left : d ≤ bit_or d (bit_xor x y) = le_or_l d (bit_xor x y) in
     let right : bit_xor x y ≤ bit_or d (bit_xor x y) = le_or_r d (bit_xor x y) in
-    let none : bit_xor x y ≡ 0 = omega arith in
-    (omega arith, same_by_xor x y none)
+    let none : bit_xor x y ≡ 0 = omega arith in (
+      omega arith,
+      sym (xor_zero_r x) ∙ ap (bit_xor x) (sym (xor_self y)) ∙ sym (xor_assoc x y y) ∙ ap (λ (z : ℕ). bit_xor z y) none ∙ xor_zero_l y,
+    )
 
 -- equal bytes add no difference
 pub difference_none : (d x y : ℕ) → d ≡ 0 → x ≡ y → bit_or d (bit_xor x y) ≡ 0
