@@ -1,12 +1,12 @@
 -- Reading the rows of a table one by one.
-use Rattle.std.proofs.Common.{◌≡◌, ℕ, List, [], ◌∷◌, ◌++◌, map, append_assoc, append-nil, Some, None, Bool, T, true, false, cond, Ordering, Less, Equal, Greater, arith, is_eq, length, refl, sym, ap, subst, ◌∙◌}
-use Rattle.std.specs.Cmp.Lexicographic.{slice_cmp, nat_list_cmp_total}
+use Rattle.std.proofs.Common.{◌≡◌, ℕ, List, [], ◌∷◌, ◌++◌, map, append_assoc, append-nil, Some, None, true, false, cond, Ordering, Less, Equal, Greater, arith, is_eq, length, refl, sym, ap, subst, ◌∙◌}
+use Rattle.std.specs.Cmp.Lexicographic.{nat_list_cmp_total}
 use Rattle.std.specs.FinMap.{empty, entries, entries-insert, entries_sorted, find, is_sorted, len-empty, len-entries, get-empty, insert, put, slice_cmp-IsAntisymmetric, nat_cmp-IsAntisymmetric}
 use Rattle.std.specs.FinMap.Entries.{below_all, by_order}
 use Rattle.std.specs.Prelude.{⊤}
 use Rattle.std.proofs.lemmas.Bool.{and_parts}
 use Rattle.std.specs.List.{AllByRecursion}
-use Rattle.std.specs.Ordering.{is_lt, nat_cmp, ordering_reverse, ordering_then}
+use Rattle.std.specs.Ordering.{is_lt, ordering_reverse, ordering_then}
 use Rattle.sqlite_value.specs.declared.value.Value.TheVariants.{Text}
 use Rattle.sqlite_value.specs.Keys.{plain, entry_cmp}
 use Rattle.sqlite_value.specs.Order.{Row, column, row_cmp}
@@ -20,11 +20,8 @@ use Rattle.argon2_base.specs.PhcText.{Phc, phc_text}
 use Rattle.argon2.specs.NamedTexts.{Store}
 use Rattle.argon2_store.specs.Rows.{AreTexts, IsAccount, row_of, rows_of}
 use Rattle.argon2_store.specs.Table.{Holds, IsFresh, IsHonest, IsKept, IsReading}
-use Rattle.argon2_store.proofs.RowLemmas.{row_cmp-row_of}
+use Rattle.argon2_store.proofs.RowLemmas.{is_true, less, order, row_cmp-row_of}
 use Rattle.argon2_store.proofs.TableLemmas.{texts_changed}
-
-abbrev order : List ℕ → List ℕ → Ordering
-order = slice_cmp nat_cmp
 
 -- what stands before a row in an ascending list is below it
 below : (xs : List Row) (y : Row) (zs : List Row) → IsIndex plain (xs ++ y ∷ zs)
@@ -74,15 +71,6 @@ begin first now names shape is none = record {
 
 tails : (xs ys : List Row) → Some xs ≡ Some ys → xs ≡ ys
 tails xs ys h = cc
-
-is_true : (b : Bool) → T b → b ≡ true
-is_true true h = refl
-is_true false h = absurd h
-
-less : (o : Ordering) → is_lt o ≡ true → o ≡ Less
-less Less h = refl
-less Equal h = absurd cc
-less Greater h = absurd cc
 
 -- the last row that was read is that of the last name, if there is one
 abbrev pub LastIs : List (List ℕ × Phc) → Row → Type 0

@@ -24,7 +24,7 @@ use Rattle.argon2.specs.NamedTexts.{Store}
 use Rattle.argon2_store.specs.Rows.{row_of, rows_of}
 use Rattle.argon2_store.specs.Table.{IsLong}
 
-abbrev order : List ℕ → List ℕ → Ordering
+abbrev pub order : List ℕ → List ℕ → Ordering
 order = slice_cmp nat_cmp
 
 -- two rows compare by their names, and then by their texts
@@ -72,7 +72,7 @@ filter_same : (p q : List ℕ × Phc → Bool) (es : List (List ℕ × Phc)) →
 filter_same p q [] h = refl
 filter_same p q (e ∷ es) h = ap₂ (λ b rest. cond b (e ∷ rest) rest) h.0 (filter_same p q es h.1)
 
-less : (o : Ordering) → is_lt o ≡ true → o ≡ Less
+pub less : (o : Ordering) → is_lt o ≡ true → o ≡ Less
 less Less h = refl
 less Equal h = absurd cc
 less Greater h = absurd cc
@@ -143,7 +143,7 @@ entries-remove names name =
     ∙ ap₂ (λ b o. cond b None o) ((eq_by_cmp_equiv nat_list_cmp_total).symm name q) (sym (get-entries names q)))) in
     ap entries same ∙ entries-from_sorted order es sorted
 
-is_true : (b : Bool) → T b → b ≡ true
+pub is_true : (b : Bool) → T b → b ≡ true
 is_true true h = refl
 is_true false h = absurd h
 

@@ -1,11 +1,11 @@
 -- A seek by a name stands at its row, or it has none.
-use Rattle.std.proofs.Common.{◌≡◌, ℕ, List, [], ◌∷◌, map, Some, None, Bool, T, true, false, cond, refl, sym, ap, subst, ◌∙◌, Ordering, Less, Equal, Greater, is_eq, IsTrue}
+use Rattle.std.proofs.Common.{◌≡◌, ℕ, List, [], ◌∷◌, map, Some, None, Bool, true, false, cond, refl, sym, ap, subst, ◌∙◌, Ordering, Less, Equal, Greater, is_eq, IsTrue}
 use Rattle.std.proofs.lemmas.Bool.{and_parts}
 use Rattle.std.proofs.lemmas.Cmp.{tied_itself}
-use Rattle.std.specs.Cmp.Lexicographic.{slice_cmp, nat_list_cmp_total}
+use Rattle.std.specs.Cmp.Lexicographic.{nat_list_cmp_total}
 use Rattle.std.specs.FinMap.{get, get-entries, entries, entries_sorted, find, is_sorted, slice_cmp-IsAntisymmetric, nat_cmp-IsAntisymmetric}
 use Rattle.std.specs.FinMap.Entries.{below_all}
-use Rattle.std.specs.Ordering.{eq_by_cmp, is_lt, nat_cmp, ordering_reverse}
+use Rattle.std.specs.Ordering.{eq_by_cmp, is_lt, ordering_reverse}
 use Rattle.sqlite_value.specs.declared.value.Value.TheVariants.{Text}
 use Rattle.sqlite_value.specs.Keys.{plain, prefix_cmp}
 use Rattle.sqlite_value.specs.Order.{Row, column}
@@ -18,20 +18,12 @@ use Rattle.sqlite_trees.specs.View.{View, Advances, with_cursor}
 use Rattle.sqlite_trees.proofs.TreeLemmas.{prefix_cmp-one}
 use Rattle.argon2_base.specs.PhcText.{Phc, phc_text}
 use Rattle.argon2.specs.NamedTexts.{Store}
-use Rattle.argon2_store.specs.Rows.{row_of, rows_of}
-use Rattle.argon2_store.specs.Rows.{IsFoundAs}
-
-abbrev order : List ℕ → List ℕ → Ordering
-order = slice_cmp nat_cmp
+use Rattle.argon2_store.specs.Rows.{IsFoundAs, row_of, rows_of}
+use Rattle.argon2_store.proofs.RowLemmas.{is_true, less, order}
 
 -- over the name's column alone, a row compares with a key as its name does
 row_by_name : (e : List ℕ × Phc) (k : List ℕ) → prefix_cmp plain (row_of e) (Text k ∷ []) ≡ order e.0 k
 row_by_name e k = prefix_cmp-one (Text e.0) (Text (phc_text e.1) ∷ []) (Text k) ∙ value_cmp-Text e.0 k
-
-less : (o : Ordering) → is_lt o ≡ true → o ≡ Less
-less Less h = refl
-less Equal h = absurd cc
-less Greater h = absurd cc
 
 -- a name below one that all others are above has no text
 none_below : (k n : List ℕ) (es : List (List ℕ × Phc)) → order k n ≡ Less → below_all order n es ≡ true
@@ -68,10 +60,6 @@ stands k (e ∷ es) sorted =
         past (met ∷ left) h s = (s.0, s.1, rw h (s.2))
     go Equal at p is flip later none = rw at (e, refl, rw (is, flip) refl)
     go Greater at p is flip later none = rw at (e, refl, rw (is, flip) (none (is ∙ flip)))
-
-is_true : (b : Bool) → T b → b ≡ true
-is_true true h = refl
-is_true false h = absurd h
 
 stood : (names : Store) (k : List ℕ) (rows : List Row) → from_key plain (Text k ∷ []) (rows_of names) ≡ rows
     → Stands k (entries names) rows
