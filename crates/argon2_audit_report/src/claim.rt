@@ -2,11 +2,9 @@
 
 ghost use Rattle.std.specs.Prelude.{◌≡◌};
 ghost use Rattle.std.specs.List.{list_all};
-ghost use Rattle.std.specs.Option.{option_copied};
-ghost use Rattle.argon2_audit_report.specs.Claim.{claim_of, claim_of_field, claim_of_text, is_space, scheme_of, stored_in, trimmed};
+ghost use Rattle.argon2_audit_report.specs.Claim.{claim_of_text, is_space, scheme_of, trimmed};
 
-use crate::field::Field;
-use argon2_prefixes::{after_any, bare, begins_any};
+use argon2_prefixes::{after_any, begins_any};
 
 /// A scheme other than Argon2.
 #[derive(Clone, Copy, PartialEq, Eq, PartialOrd, Ord)]
@@ -62,40 +60,8 @@ pub enum Claim {
     Unknown,
 }
 
-/// What a line claims to store.
-pub fn claim_of(line: &[u8], field: Field) -> Claim
-    ensures { result ≡ claim_of field line.now }
-{
-    let line = trimmed(line);
-    if is_blank(line) {
-        return Claim::Blank;
-    }
-    if begins_any(line, &["#"]) {
-        return Claim::Comment;
-    }
-    claim_of_field(field.text(line))
-}
-
-/// The text of a line, without what other programs put before a text of Argon2.
-pub fn stored<'a>(line: &'a [u8], field: Field) -> &'a [u8]
-    ensures { result.now ≡ stored_in field line.now }
-{
-    match field.text(trimmed(line)) {
-        Some(text) => bare(text),
-        None => &[],
-    }
-}
-
-fn claim_of_field(field: Option<&[u8]>) -> Claim
-    ensures { result ≡ claim_of_field (option_copied field.entry) }
-{
-    match field {
-        Some(text) => claim_of_text(bare(text)),
-        None => Claim::NoField,
-    }
-}
-
-fn claim_of_text(text: &[u8]) -> Claim
+/// What a text claims to be.
+pub fn claim_of_text(text: &[u8]) -> Claim
     ensures { result ≡ claim_of_text text.now }
 {
     if begins_any(text, &["$argon2"]) {
@@ -151,15 +117,15 @@ fn scheme_of(text: &[u8]) -> Option<Scheme>
     }
 }
 
-// Whether a line has only spaces and tabs.
-fn is_blank(line: &[u8]) -> bool
+/// Whether a line has only spaces and tabs.
+pub fn is_blank(line: &[u8]) -> bool
     ensures { result ≡ list_all is_space line.now }
 {
     line.iter().all(|byte| *byte == b' ' || *byte == b'\t')
 }
 
-// The line without a byte order mark at its start and a carriage return at its end.
-fn trimmed(line: &[u8]) -> &[u8]
+/// The line without a byte order mark at its start and a carriage return at its end.
+pub fn trimmed(line: &[u8]) -> &[u8]
     ensures { result.now ≡ trimmed line.now }
 {
     let line = after_any(line, &["\u{feff}"]);

@@ -3,11 +3,12 @@
 ghost use Rattle.std.specs.Prelude.{◌≤◌, length};
 ghost use Rattle.argon2_audit_report.specs.Finding.{IsFinding, IsTextFinding};
 
-use crate::claim::{Claim, claim_of, stored};
+use crate::claim::{Claim, claim_of_text, is_blank, trimmed};
 use crate::entry::{Entry, shown};
 use crate::field::Field;
 use crate::limits::Limits;
 use argon2::password_hash::Error;
+use argon2_prefixes::{bare, begins_any};
 
 /// What is found in a line.
 #[derive(Drop)]
@@ -54,8 +55,19 @@ pub fn found(line: &[u8], field: Field) -> Finding
     requires { length line.now ≤ 4096 }
     ensures { IsFinding field line.now result }
 {
-    match claim_of(line, field) {
-        Claim::Argon2 => found_text(stored(line, field)),
+    let line = trimmed(line);
+    if is_blank(line) {
+        return Finding::Claimed(Claim::Blank);
+    }
+    if begins_any(line, &["#"]) {
+        return Finding::Claimed(Claim::Comment);
+    }
+    let Some(text) = field.text(line) else {
+        return Finding::Claimed(Claim::NoField);
+    };
+    let text = bare(text);
+    match claim_of_text(text) {
+        Claim::Argon2 => found_text(text),
         claim => Finding::Claimed(claim),
     }
 }
