@@ -1,5 +1,6 @@
 -- What a stored text asks for, and whether a bound admits it.
 use Rattle.std.specs.Prelude.{◌≡◌, ◌⊎◌, ℕ, ◌≤◌, ◌*◌, List, codes, Result, Ok, Err, IsErrAnd}
+use Rattle.std.specs.Result.{result_map_both}
 use Rattle.argon2_base.specs.Error.{fault_of, hash_error_text}
 use Rattle.argon2_base.specs.PhcText.{Phc, PhcText}
 use Rattle.argon2_base.specs.declared.error.password_hash.Error.{Error}
@@ -47,17 +48,13 @@ BoundRefusal bound text error = ((v : Phc) → PhcText text v → HashRefusal bo
 
 -- ---- verifying
 
--- an answer of verifying, with its error as a bound's
-abbrev pub as_bounds : Result (Unit {0}) Error → Result (Unit {0}) BoundError
-as_bounds (Ok x) = Ok x
-as_bounds (Err e) = Err (Refused e)
-
--- what verifying within a bound answers: why the text is not admitted, or what verifying its value does
+-- what verifying within a bound answers: why the text is not admitted, or what verifying its value does, with its
+-- error as a bound's
 abbrev pub IsBoundAnswer : Bound → List ℕ → List ℕ → List ℕ → Result (Unit {0}) BoundError → Type 0
-IsBoundAnswer bound secret password text r =
-    IsErrAnd r (BoundRefusal bound text)
+IsBoundAnswer bound secret password text r = IsErrAnd r (BoundRefusal bound text)
     ⊎ ((v : Phc) × PhcText text v × AsksWithin bound v
-    × (answer : Result (Unit {0}) Error) × IsVerifyAnswer secret password v answer × (r ≡ as_bounds answer))
+    × (answer : Result (Unit {0}) Error) × IsVerifyAnswer secret password v answer
+    × (r ≡ result_map_both (λ x. x) Refused answer))
 
 -- what it says by Ok
 abbrev pub AcceptsWithin : Bound → List ℕ → List ℕ → List ℕ → Type 0

@@ -25,8 +25,7 @@ refusal_of argon2 n password salt memory = first_of (
 
 -- why filling memory is refused, which has no output
 abbrev pub fill_refusal : Argon2 → List ℕ → List ℕ → Memory → Option Error
-fill_refusal argon2 password salt memory = first_of (
-    input_faults (length password) (length salt)
+fill_refusal argon2 password salt memory = first_of (input_faults (length password) (length salt)
     ++ memory_faults (block_count (context_of argon2)) (length memory))
 
 -- what a call that asks for memory may answer: Ok without a refusal, else that refusal or that there is no memory
@@ -77,13 +76,11 @@ pub record IsBegun (argon2 : Argon2) (password salt : List ℕ) (n : ℕ) (old n
     pub rest : KeepsRest (context_of argon2) old new
 
 -- the block of a pass, a lane and a column, the rest as before, and the place of its reference
-pub record IsStepped (argon2 : Argon2) (pass lane column : ℕ) (old new : Memory) (referred : ℕ) : Type 0
+pub record IsStepped (ctx : Context) (pass lane column : ℕ) (old new : Memory) (referred : ℕ) : Type 0
   where
-    pub step : let ctx = context_of argon2 in
-        blocks_of ctx new ≡ step ctx (blocks_of ctx old) pass lane column
-    pub rest : KeepsRest (context_of argon2) old new
-    pub place : let ctx = context_of argon2 in
-        referred ≡ reference_place ctx (blocks_of ctx old) pass lane column
+    pub step : blocks_of ctx new ≡ step ctx (blocks_of ctx old) pass lane column
+    pub rest : KeepsRest ctx old new
+    pub place : referred ≡ reference_place ctx (blocks_of ctx old) pass lane column
 
 -- the matrix for a tag of n bytes, and the rest as before
 pub record IsFilled (argon2 : Argon2) (password salt : List ℕ) (n : ℕ) (old new : Memory) : Type 0
@@ -102,19 +99,12 @@ pub record IsHashed (argon2 : Argon2) (password salt output : List ℕ) (old new
 
 -- ---- watching
 
--- each block's reference in a hash for a tag of n bytes
-abbrev pub AreReferencesOf : Argon2 → List ℕ → List ℕ → ℕ → List ℕ → List ℕ → Type 0
-AreReferencesOf argon2 password salt n old new =
-    let ctx = context_of argon2 in
-    AreReferencePlaces ctx (first_block ctx password salt n) old new
-
 -- what a watched hash on lent memory answers, and leaves of an output, a memory and places for references
 pub record IsWatched (argon2 : Argon2) (password salt output output' : List ℕ) (memory memory' : Memory)
-    (places places' : List ℕ) (result : Result ℕ Error) : Type 0
-  where
-    pub answer : result ≡ answer_unless (refusal_of argon2 (length output) password salt memory)
-        (mixing_calls (context_of argon2))
-    pub hashed : OnOk result (IsHashed argon2 password salt output' memory memory')
-    pub positions : OnOk result (length places ≡ place_count (context_of argon2) →
-        AreReferencesOf argon2 password salt (length output) places places')
-    pub same : OnErr result ((output' ≡ output) × (memory' ≡ memory) × (places' ≡ places))
+    (places places' : List ℕ) (result : Result ℕ Error) : Type 0 where
+  pub answer : result ≡ answer_unless (refusal_of argon2 (length output) password salt memory)
+      (mixing_calls (context_of argon2))
+  pub hashed : OnOk result (IsHashed argon2 password salt output' memory memory')
+  pub positions : let ctx = context_of argon2 in OnOk result (length places ≡ place_count ctx →
+      AreReferencePlaces ctx (first_block ctx password salt (length output)) places places')
+  pub same : OnErr result ((output' ≡ output) × (memory' ≡ memory) × (places' ≡ places))

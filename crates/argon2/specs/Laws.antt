@@ -58,8 +58,7 @@ pub record Begins (ctx : Context) (first : FirstColumns) (memory : Memory) : Typ
 
 -- one schedule for each pass and slice
 abbrev pub AreSchedules : Context → (ℕ → ℕ → List ℕ) → Type 0
-AreSchedules ctx schedules =
-    (pass slice : ℕ) → pass < ctx.t_cost → slice < 4 →
+AreSchedules ctx schedules = (pass slice : ℕ) → pass < ctx.t_cost → slice < 4 →
     IsSchedule ctx pass slice (schedules pass slice)
 
 -- From the first two columns, any schedules lead to the matrix.

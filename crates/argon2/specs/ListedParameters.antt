@@ -151,22 +151,14 @@ items_read ps = checked (items_fault ps) (Ok (items_of ps))
 
 -- ---- what reading and listing answer
 
--- the answer for a list
-abbrev pub IsListAnswer : List Pair → Result Params HashError → Type 0
-IsListAnswer ps r = outcome_of parameters_of r ≡ params_of None ps
-
 -- the parameters that a PHC text's value asks for, whose output length is the hash's, or why it has none
 abbrev pub asked_of : Phc → Result Parameters Fault
 asked_of v = params_of (option_map length v.hash) v.params
 
--- the answer for a PHC text's value
-abbrev pub IsPhcAnswer : Phc → Result Params HashError → Type 0
-IsPhcAnswer v r = outcome_of parameters_of r ≡ asked_of v
-
 -- the answer for a text: that of its list, or `ParamsInvalid` where it is no list's
 abbrev pub IsTextAnswer : List ℕ → Result Params HashError → Type 0
 IsTextAnswer text r =
-    ((ps : List Pair) → ParamsText text ps → IsListAnswer ps r)
+    ((ps : List Pair) → ParamsText text ps → outcome_of parameters_of r ≡ params_of None ps)
     × (((ps : List Pair) × ParamsText text ps)
     ⊎ (((ps : List Pair) → ParamsText text ps → ⊥) × (outcome_of parameters_of r ≡ Err bad_params)))
 

@@ -76,10 +76,8 @@ pub record IsTarget (target : Target) : Type 0 where
 -- a salt and a hash of so many bytes
 abbrev pub text_faults : ℕ → ℕ → List (Bool × Fault)
 text_faults salt hash =
-    (nat_lt salt 8, bad_salt)
-    ∷ (nat_lt 48 salt, bad_salt)
-    ∷ (nat_lt 64 hash, bad_output_size)
-    ∷ []
+    (nat_lt salt 8, bad_salt) ∷ (nat_lt 48 salt, bad_salt)
+    ∷ (nat_lt 64 hash, bad_output_size) ∷ []
 
 -- a password of so many bytes
 abbrev pub password_faults : ℕ → List (Bool × Fault)
@@ -89,13 +87,11 @@ password_faults password = (nat_lt max_len password, bad_password) ∷ []
 abbrev pub hashed : Target → List ℕ → List ℕ → Result Phc Fault
 hashed target password salt =
     checked (first_of (text_faults (length salt) (tag_length target.settings)
-    ++ password_faults (length password)))
-    (Ok (made target password salt))
+    ++ password_faults (length password))) (Ok (made target password salt))
 
 -- what hashing to a text may answer: memory is wanted only where salt and hash fit into a text
 abbrev pub IsHashAnswer : Target → List ℕ → List ℕ → Result PasswordHash Error → Type 0
-IsHashAnswer target password salt r =
-    (outcome_of phc_of r ≡ hashed target password salt)
+IsHashAnswer target password salt r = (outcome_of phc_of r ≡ hashed target password salt)
     ⊎ ((outcome_of phc_of r ≡ Err no_memory)
     × IsNone (first_of (text_faults (length salt) (tag_length target.settings))))
 
@@ -113,8 +109,7 @@ version_asked (Some number) = version_numbered number
 
 -- the settings of a name, a number and parameters, or the fault of the first that there is not
 abbrev pub settings_asked : Option (List ℕ) → Option ℕ → Parameters → Result Settings Fault
-settings_asked name number parameters =
-    found (algorithm_asked name) bad_algorithm (λ algorithm.
+settings_asked name number parameters = found (algorithm_asked name) bad_algorithm (λ algorithm.
     found (version_asked number) bad_version (λ version.
     Ok (record { algorithm = algorithm; version = version; parameters = parameters })))
 

@@ -7,9 +7,9 @@ use Rattle.argon2.specs.declared.params.associated_data.AssociatedData.{Associat
 use Rattle.argon2_base.specs.Texts.{IsBytes, strict_base64}
 use Rattle.argon2_base.specs.ByteList.{list_bytes, IsBase64Cause}
 use Rattle.argon2_base.specs.declared.error.Error.{Error}
-use Rattle.argon2_base.specs.declared.error.Error.TheVariants.{AdTooLong, B64Encoding, KeyIdTooLong}
+use Rattle.argon2_base.specs.declared.error.Error.TheVariants.{B64Encoding}
 use Rattle.argon2.specs.declared.params.Params.{Params}
-use Rattle.argon2.specs.Settings.{AreValid, Parameters, default_parameters, first_fault}
+use Rattle.argon2.specs.Settings.{AreValid, Parameters, default_parameters, first_fault, plain}
 use Rattle.argon2.specs.declared.params.builder.ParamsBuilder.{ParamsBuilder}
 
 -- ---- key identifiers and associated data
@@ -27,31 +27,20 @@ pub record AreBytes (most : ℕ) (own bytes : List ℕ) : Type 0 where
   pub value : bytes ≡ own
   pub fits : length own ≤ most
 
--- the key identifier of these bytes, or the refusal of more than 8
-abbrev pub IsKeyIdOf : List ℕ → Result KeyId Error → Type 0
-IsKeyIdOf bytes (Ok keyid) = keyid_bytes keyid ≡ bytes
-IsKeyIdOf bytes (Err e) = (e ≡ KeyIdTooLong) × (8 < length bytes)
-
--- the associated data of these bytes, or the refusal of more than 32
-abbrev pub IsAssociatedDataOf : List ℕ → Result AssociatedData Error → Type 0
-IsAssociatedDataOf bytes (Ok associated) = data_bytes associated ≡ bytes
-IsAssociatedDataOf bytes (Err e) = (e ≡ AdTooLong) × (32 < length bytes)
+-- a key identifier or associated data of these bytes, or this refusal of more than so many
+abbrev pub IsOfBytes : {X : Type 0} → (X → List ℕ) → ℕ → Error → List ℕ → Result X Error → Type 0
+IsOfBytes view most fault bytes (Ok x) = view x ≡ bytes
+IsOfBytes view most fault bytes (Err e) = (e ≡ fault) × (most < length bytes)
 
 -- why a text whose greatest length is given is refused, as a fault of hashing
 abbrev pub IsBase64Fault : ℕ → List ℕ → Error → Type 0
 IsBase64Fault longest text (B64Encoding cause) = IsBase64Cause longest text cause
 IsBase64Fault longest text _ = ⊥
 
--- the key identifier that the text is of, or why there is none
-abbrev pub IsKeyIdOfText : List ℕ → Result KeyId Error → Type 0
-IsKeyIdOfText text (Ok keyid) = IsBytes (keyid_bytes keyid) × (text ≡ strict_base64 (keyid_bytes keyid))
-IsKeyIdOfText text (Err e) = IsBase64Fault 11 text e
-
--- the associated data that the text is of, or why there is none
-abbrev pub IsAssociatedDataOfText : List ℕ → Result AssociatedData Error → Type 0
-IsAssociatedDataOfText text (Ok associated) =
-    IsBytes (data_bytes associated) × (text ≡ strict_base64 (data_bytes associated))
-IsAssociatedDataOfText text (Err e) = IsBase64Fault 43 text e
+-- a key identifier or associated data whose Base64 the text is, or why there is none
+abbrev pub IsOfText : {X : Type 0} → (X → List ℕ) → ℕ → List ℕ → Result X Error → Type 0
+IsOfText view longest text (Ok x) = IsBytes (view x) × (text ≡ strict_base64 (view x))
+IsOfText view longest text (Err e) = IsBase64Fault longest text e
 
 -- ---- parameters
 
@@ -117,11 +106,5 @@ default_settings = record {
 
 -- the parameters of settings, where bytes that are not set are none
 abbrev pub built : BuilderSettings → Parameters
-built s = record {
-  m_cost = s.m_cost;
-  t_cost = s.t_cost;
-  p_cost = s.p_cost;
-  keyid = unwrap_or s.keyid [];
-  associated = unwrap_or s.associated [];
-  output_len = s.output_len;
-}
+built s = record (plain s.m_cost s.t_cost s.p_cost s.output_len)
+    { keyid = unwrap_or s.keyid []; associated = unwrap_or s.associated [] }

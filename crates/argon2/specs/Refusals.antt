@@ -21,16 +21,13 @@ answer_unless (Some fault) value = Err fault
 abbrev pub output_faults : Option ℕ → ℕ → List (Bool × Error)
 output_faults n output =
     (nat_lt output (unwrap_or n 4), OutputTooShort)
-    ∷ (nat_lt (unwrap_or n max_len) output, OutputTooLong)
-    ∷ []
+    ∷ (nat_lt (unwrap_or n max_len) output, OutputTooLong) ∷ []
 
 -- a password and a salt of so many bytes
 abbrev pub input_faults : ℕ → ℕ → List (Bool × Error)
 input_faults password salt =
     (nat_lt max_len password, PwdTooLong)
-    ∷ (nat_lt salt 8, SaltTooShort)
-    ∷ (nat_lt max_len salt, SaltTooLong)
-    ∷ []
+    ∷ (nat_lt salt 8, SaltTooShort) ∷ (nat_lt max_len salt, SaltTooLong) ∷ []
 
 -- memory of so many blocks, where so many are filled
 abbrev pub memory_faults : ℕ → ℕ → List (Bool × Error)

@@ -205,8 +205,7 @@ is_independent ctx pass slice =
 -- 128 words made of numbers alone; the counter is that of the address block in its segment
 -- (RFC 9106, section 3.4.1.2)
 unfoldable pub address_block : Context → ℕ → ℕ → ℕ → ℕ → List ℕ
-address_block ctx pass lane slice counter =
-    mixed zero_block (mixed zero_block
+address_block ctx pass lane slice counter = mixed zero_block (mixed zero_block
     (pass ∷ lane ∷ slice ∷ block_count ctx ∷ ctx.t_cost ∷ ctx.algorithm ∷ counter
     ∷ replicate 121 0))
 

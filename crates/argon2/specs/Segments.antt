@@ -26,8 +26,7 @@ pub record AreParts (ctx : Context) (slice lane : ℕ) (memory before own after 
   pub in_before : (k l i : ℕ) → k < slice → l < ctx.p_cost → i < segment_length ctx →
       slice_index_or before ((k * ctx.p_cost + l) * segment_length ctx + i) []
       ≡ slice_index_or memory (l * lane_length ctx + (k * segment_length ctx + i)) []
-  pub in_own : (i : ℕ) → i < segment_length ctx →
-      slice_index_or own i []
+  pub in_own : (i : ℕ) → i < segment_length ctx → slice_index_or own i []
       ≡ slice_index_or memory (lane * lane_length ctx + (slice * segment_length ctx + i)) []
   pub in_after : (k l i : ℕ) → slice < k → k < 4 → l < ctx.p_cost → i < segment_length ctx →
       slice_index_or after (((k - suc slice) * ctx.p_cost + l) * segment_length ctx + i) []
@@ -90,8 +89,7 @@ pub record IsFilledBySegments (ctx : Context) (first : FirstColumns) (memory : �
   where
     pub begins : (old : Memory) × BeginsSlices ctx first old (take (slice_length ctx) (memory 0 0))
     pub fills : (pass slice lane : ℕ) → pass < ctx.t_cost → slice < 4 → lane < ctx.p_cost →
-        FillsSegment ctx pass slice lane
-        (slices_before ctx slice (memory pass slice))
+        FillsSegment ctx pass slice lane (slices_before ctx slice (memory pass slice))
         (segment_in ctx slice lane (memory pass slice))
         (segment_in ctx slice lane (memory pass (suc slice)))
         (slices_after ctx slice (memory pass slice))

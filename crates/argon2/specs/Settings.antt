@@ -5,9 +5,7 @@ use Rattle.std.specs.Str.{bytes_eq}
 use Rattle.argon2.specs.declared.algorithm.Algorithm.{Algorithm}
 use Rattle.argon2.specs.declared.algorithm.Algorithm.TheVariants.{Argon2d, Argon2i, Argon2id}
 use Rattle.argon2_base.specs.declared.error.Error.{Error}
-use Rattle.argon2_base.specs.declared.error.Error.TheVariants.{AlgorithmInvalid, MemoryTooLittle, OutputTooLong, OutputTooShort, ThreadsTooFew, ThreadsTooMany, TimeTooSmall, VersionInvalid}
-use Rattle.argon2_base.specs.declared.error.password_hash.Error.{Error as HashError}
-use Rattle.argon2_base.specs.declared.error.password_hash.Error.TheVariants.{Algorithm as NoAlgorithm}
+use Rattle.argon2_base.specs.declared.error.Error.TheVariants.{MemoryTooLittle, OutputTooLong, OutputTooShort, ThreadsTooFew, ThreadsTooMany, TimeTooSmall}
 use Rattle.argon2.specs.declared.version.Version.{Version}
 use Rattle.argon2.specs.declared.version.Version.TheVariants.{V0x10, V0x13}
 use Rattle.argon2.specs.Refusals.{first_of, max_len}
@@ -31,18 +29,6 @@ abbrev pub algorithm_named : List ℕ → Option Algorithm
 algorithm_named name =
     find (λ algorithm. bytes_eq name (algorithm_name algorithm)) (Argon2d ∷ Argon2i ∷ Argon2id ∷ [])
 
--- the variant of this name, or the refusal of a name that no variant has
-abbrev pub IsNamed : List ℕ → Result Algorithm Error → Type 0
-IsNamed name (Ok algorithm) = name ≡ algorithm_name algorithm
-IsNamed name (Err e) =
-    (e ≡ AlgorithmInvalid) × ((algorithm : Algorithm) → name ≢ algorithm_name algorithm)
-
--- the same for a caller that asked for a text
-abbrev pub IsNamedInText : List ℕ → Result Algorithm HashError → Type 0
-IsNamedInText name (Ok algorithm) = name ≡ algorithm_name algorithm
-IsNamedInText name (Err e) =
-    (e ≡ NoAlgorithm) × ((algorithm : Algorithm) → name ≢ algorithm_name algorithm)
-
 -- ---- versions
 
 -- the number v of a version (RFC 9106, section 3.2)
@@ -54,11 +40,12 @@ version_number V0x13 = 19
 abbrev pub version_numbered : ℕ → Option Version
 version_numbered number = find (λ version. number == version_number version) (V0x10 ∷ V0x13 ∷ [])
 
--- the version of this number, or the refusal of a number that no version has
-abbrev pub IsNumbered : ℕ → Result Version Error → Type 0
-IsNumbered number (Ok version) = number ≡ version_number version
-IsNumbered number (Err e) =
-    (e ≡ VersionInvalid) × ((version : Version) → number ≢ version_number version)
+-- ---- names and numbers that are read
+
+-- the variant of this name, or the version of this number; or this refusal of one that none has
+abbrev pub IsReadBy : {X Y E : Type 0} → (X → Y) → E → Y → Result X E → Type 0
+IsReadBy name fault given (Ok x) = given ≡ name x
+IsReadBy {X} name fault given (Err e) = (e ≡ fault) × ((x : X) → given ≢ name x)
 
 -- ---- parameters
 
@@ -80,13 +67,10 @@ max_lanes = 16777215
 abbrev pub first_fault : ℕ → ℕ → ℕ → Option ℕ → Option Error
 first_fault m t p output_len = first_of (
     (nat_lt m 8, MemoryTooLittle)
-    ∷ (nat_lt p 1, ThreadsTooFew)
-    ∷ (nat_lt max_lanes p, ThreadsTooMany)
-    ∷ (nat_lt m (8 * p), MemoryTooLittle)
-    ∷ (nat_lt t 1, TimeTooSmall)
+    ∷ (nat_lt p 1, ThreadsTooFew) ∷ (nat_lt max_lanes p, ThreadsTooMany)
+    ∷ (nat_lt m (8 * p), MemoryTooLittle) ∷ (nat_lt t 1, TimeTooSmall)
     ∷ (nat_lt (unwrap_or output_len 4) 4, OutputTooShort)
-    ∷ (nat_lt max_len (unwrap_or output_len 4), OutputTooLong)
-    ∷ [])
+    ∷ (nat_lt max_len (unwrap_or output_len 4), OutputTooLong) ∷ [])
 
 -- nothing is refused
 abbrev pub AreValid : Parameters → Type 0

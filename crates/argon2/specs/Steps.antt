@@ -26,8 +26,7 @@ pub record IsStepIn (ctx : Context) (blocks pass lane column : ℕ) : Type 0 whe
 
 -- the memory after the block of a pass, a lane and a column is written
 unfoldable pub step : Context → Memory → ℕ → ℕ → ℕ → Memory
-step ctx memory pass lane column =
-    slice_set memory (lane * lane_length ctx + column)
+step ctx memory pass lane column = slice_set memory (lane * lane_length ctx + column)
     (made_block ctx (in_memory ctx memory) pass lane column)
 
 -- the place of the block that the step refers to

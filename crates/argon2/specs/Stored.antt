@@ -27,11 +27,8 @@ settings_value own = settings_with own.algorithm own.version own.params
 
 -- what a contract sees of the code's stored hash
 abbrev pub stored_value : StoredHash → Stored
-stored_value own = record {
-  settings = settings_value own.settings;
-  salt = own.salt.now;
-  hash = own.hash.now;
-}
+stored_value own =
+    record { settings = settings_value own.settings; salt = own.salt.now; hash = own.hash.now }
 
 -- something found, or else the fault
 abbrev pub found : {X Y : Type 0} → Option X → Fault → (X → Result Y Fault) → Result Y Fault
@@ -51,16 +48,14 @@ version_shown (Some number) = version_numbered number
 -- the settings that a value shows: parameters with the hash's length, an algorithm and a version; or
 -- the fault of the first that is not there
 abbrev pub shown_settings : Phc → Result Settings Fault
-shown_settings v =
-    read (asked_of v) (λ parameters.
+shown_settings v = read (asked_of v) (λ parameters.
     found (algorithm_named v.algorithm) bad_algorithm (λ algorithm.
     found (version_shown v.version) bad_version (λ version.
     Ok (record { algorithm = algorithm; version = version; parameters = parameters }))))
 
 -- a salt, a hash and settings, or the fault of the first that is not there
 abbrev pub stored_of : Phc → Result Stored Fault
-stored_of v =
-    found v.salt bad_password (λ salt.
+stored_of v = found v.salt bad_password (λ salt.
     found v.hash bad_password (λ hash.
     read (shown_settings v) (λ settings.
     Ok (record { settings = settings; salt = salt; hash = hash }))))
@@ -98,8 +93,7 @@ verified secret password v =
 
 -- what verifying a value may answer: memory is wanted only for a value that can be checked
 abbrev pub IsVerifyAnswer : List ℕ → List ℕ → Phc → Result (Unit {0}) Error → Type 0
-IsVerifyAnswer secret password v r =
-    (outcome_of (λ x. x) r ≡ verified secret password v)
+IsVerifyAnswer secret password v r = (outcome_of (λ x. x) r ≡ verified secret password v)
     ⊎ ((outcome_of (λ x. x) r ≡ Err no_memory) × IsOk (stored_of v))
 
 -- what verifying a text may answer: that of its value, or `EncodingInvalid` where it is no value's

@@ -16,8 +16,7 @@ position_index ctx pass lane column = pass * block_count ctx + (lane * lane_leng
 -- The list after all steps: each block's reference, and as before at columns 0 and 1 of pass 0.
 pub record AreReferencePlaces (ctx : Context) (first : FirstColumns) (old new : List ℕ) : Type 0
   where
-    pub of_steps : (pass lane column : ℕ) →
-        pass < ctx.t_cost → IsStep ctx pass lane column →
+    pub of_steps : (pass lane column : ℕ) → pass < ctx.t_cost → IsStep ctx pass lane column →
         slice_index new (position_index ctx pass lane column)
         ≡ reference_places ctx first pass lane column
     pub of_first_columns : (lane column : ℕ) → lane < ctx.p_cost → column < 2 →
@@ -56,15 +55,13 @@ pub record HasPositionsUpTo (ctx : Context) (first : FirstColumns) (pass : ℕ) 
 
 -- Both hold, the second where the list has a place for each reference.
 pub record IsFilledUpTo (ctx : Context) (first : FirstColumns) (pass : ℕ) (done : ℕ → ℕ) (memory : Memory)
-    (old new : List ℕ) : Type 0
-  where
-    pub blocks : HasBlocksUpTo ctx first pass done memory
-    pub positions : length old ≡ place_count ctx → HasPositionsUpTo ctx first pass done old new
+    (old new : List ℕ) : Type 0 where
+  pub blocks : HasBlocksUpTo ctx first pass done memory
+  pub positions : length old ≡ place_count ctx → HasPositionsUpTo ctx first pass done old new
 
 -- A memory and a list go from one such moment of a pass to another.
 abbrev pub Fills : Context → ℕ → (ℕ → ℕ) → (ℕ → ℕ) → Memory → Memory → List ℕ → List ℕ → Type 0
-Fills ctx pass done done' memory memory' places places' =
-    (first : FirstColumns) (old : List ℕ) →
+Fills ctx pass done done' memory memory' places places' = (first : FirstColumns) (old : List ℕ) →
     IsFilledUpTo ctx first pass done memory old places → IsFilledUpTo ctx first pass done' memory' old places'
 
 -- how many columns of each lane are made when a slice begins
@@ -75,8 +72,7 @@ begun ctx pass slice = (slice + 1) * segment_length ctx - turn_count ctx pass sl
 abbrev pub in_order : Context → ℕ → ℕ → ℕ → ℕ → ℕ → ℕ
 in_order ctx pass slice lane column other =
     if nat_lt other lane then (slice + 1) * segment_length ctx
-    else if other == lane then column
-    else begun ctx pass slice
+    else if other == lane then column else begun ctx pass slice
 
 -- ---- the mixings
 
@@ -84,13 +80,11 @@ in_order ctx pass slice lane column other =
 unfoldable pub independent_segments : Context → ℕ
 independent_segments ctx =
     if ctx.algorithm == 1 then 4 * ctx.t_cost * ctx.p_cost
-    else if ctx.algorithm == 2 then 2 * ctx.p_cost
-    else 0
+    else if ctx.algorithm == 2 then 2 * ctx.p_cost else 0
 
 -- how often is mixed: once for each block but the first two columns, twice for each address block
 unfoldable pub mixing_calls : Context → ℕ
-mixing_calls ctx =
-    ctx.t_cost * block_count ctx - 2 * ctx.p_cost
+mixing_calls ctx = ctx.t_cost * block_count ctx - 2 * ctx.p_cost
     + 2 * address_counter (segment_length ctx - 1) * independent_segments ctx
 
 -- the mixings of a segment's address blocks up to that of an index

@@ -2,7 +2,9 @@
 
 ghost use Rattle.std.specs.Prelude.{◌≡◌, Some};
 ghost use Rattle.argon2_base.specs.PhcText.{ident_text};
-ghost use Rattle.argon2.specs.Settings.{algorithm_name, IsNamed, IsNamedInText};
+ghost use Rattle.argon2_base.specs.declared.error.Error.TheVariants.{AlgorithmInvalid};
+ghost use Rattle.argon2_base.specs.declared.error.password_hash.Error.TheVariants.{Algorithm as NoAlgorithm};
+ghost use Rattle.argon2.specs.Settings.{algorithm_name, IsReadBy};
 
 use argon2_base::error::{Error, Result, password_hash};
 use argon2_base::phc::Ident;
@@ -28,7 +30,7 @@ impl Algorithm {
     /// The variant of this name: `argon2d`, `argon2i` or `argon2id`. Any other name is
     /// [`Error::AlgorithmInvalid`].
     pub fn new(name: &str) -> Result<Algorithm>
-        ensures { IsNamed name.now result }
+        ensures { IsReadBy algorithm_name AlgorithmInvalid name.now result }
     {
         match name {
             "argon2d" => Ok(Algorithm::Argon2d),
@@ -80,7 +82,7 @@ impl fmt::Display for Algorithm {
 impl FromStr for Algorithm {
     type Err = Error;
 
-    ghost from_str_gives = { IsNamed };
+    ghost from_str_gives = { IsReadBy algorithm_name AlgorithmInvalid };
 
     fn from_str(name: &str) -> Result<Algorithm> {
         Algorithm::new(name)
@@ -90,7 +92,7 @@ impl FromStr for Algorithm {
 impl TryFrom<&str> for Algorithm {
     type Error = password_hash::Error;
 
-    ghost try_from_gives = { λ name r. IsNamedInText name.now r };
+    ghost try_from_gives = { λ name r. IsReadBy algorithm_name NoAlgorithm name.now r };
 
     fn try_from(name: &str) -> password_hash::Result<Algorithm> {
         Ok(Algorithm::new(name)?)

@@ -63,9 +63,9 @@ impl<'key> Argon2<'key> {
     ghost use Rattle.argon2_base.specs.Block.{zero_block};
     ghost use Rattle.argon2_base.specs.declared.error.Error.TheVariants.{OutOfMemory};
     ghost use Rattle.argon2.specs.Argon2.{context_of, context_under, own_parameters, secret_of, settings_of, settings_with, IsKeyed, IsWith};
-    ghost use Rattle.argon2.specs.Rfc9106.{IsValid, block_count, matrix_of, tag_of};
-    ghost use Rattle.argon2.specs.Watching.{mixing_calls, place_count};
-    ghost use Rattle.argon2.specs.Hashing.{blocks_of, fill_refusal, refusal_of, AreReferencesOf, IsFilled, IsHashed, IsWatched, KeepsRest, MayAnswer};
+    ghost use Rattle.argon2.specs.Rfc9106.{IsValid, block_count, first_block, matrix_of, tag_of};
+    ghost use Rattle.argon2.specs.Watching.{AreReferencePlaces, mixing_calls, place_count};
+    ghost use Rattle.argon2.specs.Hashing.{blocks_of, fill_refusal, refusal_of, IsFilled, IsHashed, IsWatched, KeepsRest, MayAnswer};
     ghost use Rattle.argon2.specs.Params.{parameters_of};
     ghost use Rattle.argon2.specs.Refusals.{answer_unless, data_refusal, length_refusal};
 
@@ -229,9 +229,8 @@ impl<'key> Argon2<'key> {
             (own_parameters self.now).output_len
             (length out.old) (length pwd.now) (length salt.now)) result }
 
-        ensures tag { OnOk result
-            (out.new ≡ tag_of (context_under self.now associated.now) pwd.now salt.now
-            (length out.old)) }
+        ensures tag { let ctx = context_under self.now associated.now in OnOk result
+            (out.new ≡ tag_of ctx pwd.now salt.now (length out.old)) }
 
         ensures same { OnErr result (out.new ≡ out.old) }
     {
@@ -268,15 +267,13 @@ impl<'key> Argon2<'key> {
         positions: &mut [u32],
     ) -> Result<Work>
         requires { length positions.old ≡ place_count (context_of self.now) }
-        ensures answer { result ≡ answer_unless
-            (refusal_of self.now (length out.old) pwd.now salt.now memory.old)
-            (mixing_calls (context_of self.now)) }
+        ensures answer { result ≡ answer_unless (refusal_of self.now (length out.old) pwd.now
+            salt.now memory.old) (mixing_calls (context_of self.now)) }
 
         ensures hashed { OnOk result (IsHashed self.now pwd.now salt.now out.new memory.old
             memory.new) }
-        ensures positions { OnOk result
-            (AreReferencesOf self.now pwd.now salt.now (length out.old) positions.old
-            positions.new) }
+        ensures positions { let ctx = context_of self.now in OnOk result (AreReferencePlaces ctx
+            (first_block ctx pwd.now salt.now (length out.old)) positions.old positions.new) }
 
         ensures same { OnErr result ((out.new ≡ out.old) × (memory.new ≡ memory.old)
             × (positions.new ≡ positions.old)) }

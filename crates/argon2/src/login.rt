@@ -1,6 +1,6 @@
 //! A login store that renews old texts: names with PHC texts, and what new texts are made under.
 
-ghost use Rattle.std.specs.Prelude.{◌≡◌, ◌≢◌, ◌⊎◌, ℕ, List, Some, IfOk, OnOk, MatchResult};
+ghost use Rattle.std.specs.Prelude.{◌≡◌, ◌≢◌, ◌⊎◌, Some, IfOk, OnOk, MatchResult};
 ghost use Rattle.std.specs.FinMap.{empty, entries, get, insert};
 ghost use Rattle.std.specs.Option.{IsSomeAnd, option_copied, option_map};
 ghost use Rattle.rand_core.specs.Stream.{fill_bytes};

@@ -1,7 +1,8 @@
 //! The versions of Argon2.
 
 ghost use Rattle.std.specs.Prelude.{◌≡◌};
-ghost use Rattle.argon2.specs.Settings.{version_number, IsNumbered};
+ghost use Rattle.argon2_base.specs.declared.error.Error.TheVariants.{VersionInvalid};
+ghost use Rattle.argon2.specs.Settings.{version_number, IsReadBy};
 
 use argon2_base::error::{Error, Result};
 
@@ -18,7 +19,7 @@ pub enum Version {
 impl TryFrom<u32> for Version {
     type Error = Error;
 
-    ghost try_from_gives = { IsNumbered };
+    ghost try_from_gives = { IsReadBy version_number VersionInvalid };
 
     /// The version of this number, 16 or 19. Any other number is [`Error::VersionInvalid`].
     fn try_from(number: u32) -> Result<Version> {

@@ -8,8 +8,9 @@ use Rattle.argon2.specs.declared.algorithm.Algorithm.{Algorithm}
 use Rattle.argon2.specs.declared.algorithm.Algorithm.TheVariants.{Argon2d, Argon2i, Argon2id}
 use Rattle.argon2.specs.declared.version.Version.{Version}
 use Rattle.argon2.specs.declared.version.Version.TheVariants.{V0x10, V0x13}
-use Rattle.argon2.specs.Settings.{IsNamedInText, algorithm_name, algorithm_named, version_number, version_numbered}
+use Rattle.argon2.specs.Settings.{IsReadBy, algorithm_name, algorithm_named, version_number, version_numbered}
 use Rattle.argon2_base.specs.declared.error.password_hash.Error.{Error as HashError}
+use Rattle.argon2_base.specs.declared.error.password_hash.Error.TheVariants.{Algorithm as NoAlgorithm}
 
 -- a test of what does not hold fails
 false_by_decides : {P : Type 0} (test : Bool) → Decides test P → (P → ⊥) → test ≡ false
@@ -44,7 +45,7 @@ version_numbered-no number other =
     rw (old, new) refl
 
 -- what a name in a text is answered is what is found by it
-pub algorithm_named-text : (name : List ℕ) (r : Result Algorithm HashError) → IsNamedInText name r
-    → algorithm_named name ≡ result_ok r
+pub algorithm_named-text : (name : List ℕ) (r : Result Algorithm HashError)
+    → IsReadBy algorithm_name NoAlgorithm name r → algorithm_named name ≡ result_ok r
 algorithm_named-text name (Ok algorithm) is = rw is (algorithm_named-name algorithm)
 algorithm_named-text name (Err e) not = algorithm_named-no name not.1

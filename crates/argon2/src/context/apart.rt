@@ -119,9 +119,8 @@ impl<'a> Instance<'a> {
         addresses: &Option<Block>,
         at: Step,
     )
-        requires parts { let slice = at.column / segment_length self.now in
-            AreLengths self.now slice at.lane (length before.now) (length own.old)
-            (length after.now) }
+        requires parts { let slice = at.column / segment_length self.now in AreLengths self.now
+            slice at.lane (length before.now) (length own.old) (length after.now) }
         requires step { IsStep self.now at.pass at.lane at.column }
         requires addresses { addresses.now ≡ addresses_of self.now at.pass at.lane at.column }
         ensures size { length own.new ≡ length own.old }
@@ -162,9 +161,8 @@ impl<'a> Instance<'a> {
         lane: u32,
         column: u32,
     ) -> &'m Words
-        requires parts { let slice = at.column / segment_length self.now in
-            AreLengths self.now slice at.lane (length before.now) (length own.now)
-            (length after.now) }
+        requires parts { let slice = at.column / segment_length self.now in AreLengths self.now
+            slice at.lane (length before.now) (length own.now) (length after.now) }
         requires place { IsPlaceFor self.now at.lane at.column lane column }
         ensures { let slice = at.column / segment_length self.now in
             (memory : Memory)

@@ -120,8 +120,7 @@ impl Instance<'_> {
         requires room { block_count self.now ≤ length memory.now }
         requires some { 1 ≤ length out.old }
         requires few { length out.old < 2 ^ 32 }
-        ensures { out.new
-            ≡ long_hash (length out.old)
+        ensures { out.new ≡ long_hash (length out.old)
             (bytes_of (last_column self.now (blocks_of self.now (map B.words memory.now)))) }
     {
         let blocks = &memory[..self.block_count()];

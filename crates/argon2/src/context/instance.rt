@@ -1,6 +1,6 @@
 //! What a hash depends on beside the password and the salt.
 
-ghost use Rattle.std.specs.Prelude.{◌≡◌, ◌+◌, ◌*◌, ◌^◌, ◌<◌, ◌≤◌, ◌&&◌, ◌==◌, length, nat_lt};
+ghost use Rattle.std.specs.Prelude.{◌≡◌, ◌+◌, ◌*◌, ◌^◌, ◌<◌, ◌&&◌, ◌==◌, length, nat_lt};
 ghost use Rattle.argon2.specs.Settings.{algorithm_number};
 ghost use Rattle.argon2.specs.Rfc9106.{context_with, segment_length, lane_length, block_count, IsSize};
 ghost use Rattle.argon2.specs.Argon2.{settings_with};
@@ -23,7 +23,7 @@ pub(crate) struct Instance<'a> {
 }
 
 impl<'a> Model for Instance<'a> {
-    ghost use Rattle.std.specs.Prelude.{◌≡◌, ◌<◌, ◌≤◌, ◌*◌, ◌/◌, ◌^◌, length, None, IsNone};
+    ghost use Rattle.std.specs.Prelude.{◌≡◌, ◌<◌, ◌*◌, ◌/◌, ◌^◌, length, None, IsNone};
     ghost use Rattle.argon2.specs.Settings.{algorithm_number, first_fault, version_number};
     ghost use Rattle.argon2.specs.Rfc9106.{Context};
 

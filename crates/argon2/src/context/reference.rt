@@ -58,9 +58,8 @@ impl<'a> Instance<'a> {
 
     /// Replaces the address block of the column before by that of a step, if another begins there.
     pub(super) fn renew(&self, addresses: &mut Option<Block>, at: Step, work: &mut Work)
-        requires before { let segment = segment_length self.now in
-            addresses.old ≡ addresses_at self.now at.pass at.lane (at.column / segment)
-            (at.column % segment - 1) }
+        requires before { let segment = segment_length self.now in addresses.old ≡ addresses_at
+            self.now at.pass at.lane (at.column / segment) (at.column % segment - 1) }
         requires count { work.old + 2 < 2 ^ 128 }
         ensures block { addresses.new ≡ addresses_of self.now at.pass at.lane at.column }
         ensures work { let segment = segment_length self.now in

@@ -57,7 +57,7 @@ impl Argon2<'_> {
         requires in_passes { pass < (context_of self.now).t_cost }
         requires step { IsStep (context_of self.now) pass lane column }
         requires room { block_count (context_of self.now) ≤ length memory.old }
-        ensures { IsStepped self.now pass lane column memory.old memory.new result }
+        ensures { IsStepped (context_of self.now) pass lane column memory.old memory.new result }
     {
         let instance = self.instance();
         let blocks = &mut memory[..instance.block_count()];

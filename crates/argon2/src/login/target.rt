@@ -156,10 +156,8 @@ impl<'key> Target<'key> {
         rng: &mut R,
         password: &[u8],
     ) -> Result<PasswordHash>
-        ensures made { MatchResult result
-            (λ text. IsFresh (target_value self.now) password.now
-            (fill_bytes 16 (R.stream rng.old)).0 (phc_of text))
-            (HashingRefusal password.now) }
+        ensures made { MatchResult result (λ text. IsFresh (target_value self.now) password.now
+            (fill_bytes 16 (R.stream rng.old)).0 (phc_of text)) (HashingRefusal password.now) }
         ensures drawn { R.stream rng.new ≡ (fill_bytes 16 (R.stream rng.old)).1 }
     {
         self.argon2.hash_password(alloc, rng, password)

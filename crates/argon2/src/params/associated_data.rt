@@ -3,6 +3,7 @@
 ghost use Rattle.std.specs.Prelude.{◌≡◌, ◌↔◌, [], IsTrue, length};
 ghost use Rattle.argon2_base.specs.Texts.{IsBytes};
 ghost use Rattle.argon2_base.specs.ByteList.{list_bytes};
+ghost use Rattle.argon2_base.specs.declared.error.Error.TheVariants.{AdTooLong};
 
 use argon2_base::byte_list::ByteList;
 use argon2_base::error::{Error, Result};
@@ -18,7 +19,7 @@ pub struct AssociatedData {
 }
 
 impl AssociatedData {
-    ghost use Rattle.argon2.specs.Params.{data_bytes, AreBytes, IsAssociatedDataOf, IsAssociatedDataOfText};
+    ghost use Rattle.argon2.specs.Params.{data_bytes, AreBytes, IsOfBytes, IsOfText};
 
     /// The most bytes of associated data.
     pub const MAX_LEN: usize = 32;
@@ -33,7 +34,7 @@ impl AssociatedData {
 
     /// The associated data of these bytes. More than 32 are [`Error::AdTooLong`].
     pub fn new(source: &[u8]) -> Result<AssociatedData>
-        ensures { IsAssociatedDataOf source.now result }
+        ensures { IsOfBytes data_bytes 32 AdTooLong source.now result }
     {
         match ByteList::new(source) {
             Some(bytes) => Ok(AssociatedData { bytes }),
@@ -48,7 +49,7 @@ impl AssociatedData {
     /// [`Error::B64Encoding`], of `InvalidLength` where the text has more than 43 bytes, else of
     /// `InvalidEncoding` where it is the Base64 of no bytes.
     pub fn from_b64(text: &str) -> Result<AssociatedData>
-        ensures { IsAssociatedDataOfText text.now result }
+        ensures { IsOfText data_bytes 43 text.now result }
     {
         let bytes = ByteList::from_b64(text)?;
         Ok(AssociatedData { bytes })
@@ -98,11 +99,11 @@ impl AsSlice<u8> for AssociatedData {
 }
 
 impl FromStr for AssociatedData {
-    ghost use Rattle.argon2.specs.Params.{IsAssociatedDataOfText};
+    ghost use Rattle.argon2.specs.Params.{data_bytes, IsOfText};
 
     type Err = Error;
 
-    ghost from_str_gives = { IsAssociatedDataOfText };
+    ghost from_str_gives = { IsOfText data_bytes 43 };
 
     fn from_str(text: &str) -> Result<AssociatedData> {
         AssociatedData::from_b64(text)
@@ -110,11 +111,11 @@ impl FromStr for AssociatedData {
 }
 
 impl TryFrom<&[u8]> for AssociatedData {
-    ghost use Rattle.argon2.specs.Params.{IsAssociatedDataOf};
+    ghost use Rattle.argon2.specs.Params.{data_bytes, IsOfBytes};
 
     type Error = Error;
 
-    ghost try_from_gives = { λ source r. IsAssociatedDataOf source.now r };
+    ghost try_from_gives = { λ source r. IsOfBytes data_bytes 32 AdTooLong source.now r };
 
     fn try_from(source: &[u8]) -> Result<AssociatedData> {
         AssociatedData::new(source)

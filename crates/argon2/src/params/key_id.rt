@@ -3,6 +3,7 @@
 ghost use Rattle.std.specs.Prelude.{◌≡◌, ◌↔◌, [], IsTrue, length};
 ghost use Rattle.argon2_base.specs.Texts.{IsBytes};
 ghost use Rattle.argon2_base.specs.ByteList.{list_bytes};
+ghost use Rattle.argon2_base.specs.declared.error.Error.TheVariants.{KeyIdTooLong};
 
 use argon2_base::byte_list::ByteList;
 use argon2_base::error::{Error, Result};
@@ -18,7 +19,7 @@ pub struct KeyId {
 }
 
 impl KeyId {
-    ghost use Rattle.argon2.specs.Params.{keyid_bytes, AreBytes, IsKeyIdOf, IsKeyIdOfText};
+    ghost use Rattle.argon2.specs.Params.{keyid_bytes, AreBytes, IsOfBytes, IsOfText};
 
     /// The most bytes of a key identifier.
     pub const MAX_LEN: usize = 8;
@@ -33,7 +34,7 @@ impl KeyId {
 
     /// The key identifier of these bytes. More than 8 are [`Error::KeyIdTooLong`].
     pub fn new(source: &[u8]) -> Result<KeyId>
-        ensures { IsKeyIdOf source.now result }
+        ensures { IsOfBytes keyid_bytes 8 KeyIdTooLong source.now result }
     {
         match ByteList::new(source) {
             Some(bytes) => Ok(KeyId { bytes }),
@@ -48,7 +49,7 @@ impl KeyId {
     /// [`Error::B64Encoding`], of `InvalidLength` where the text has more than 11 bytes, else of
     /// `InvalidEncoding` where it is the Base64 of no bytes.
     pub fn from_b64(text: &str) -> Result<KeyId>
-        ensures { IsKeyIdOfText text.now result }
+        ensures { IsOfText keyid_bytes 11 text.now result }
     {
         let bytes = ByteList::from_b64(text)?;
         Ok(KeyId { bytes })
@@ -98,11 +99,11 @@ impl AsSlice<u8> for KeyId {
 }
 
 impl FromStr for KeyId {
-    ghost use Rattle.argon2.specs.Params.{IsKeyIdOfText};
+    ghost use Rattle.argon2.specs.Params.{keyid_bytes, IsOfText};
 
     type Err = Error;
 
-    ghost from_str_gives = { IsKeyIdOfText };
+    ghost from_str_gives = { IsOfText keyid_bytes 11 };
 
     fn from_str(text: &str) -> Result<KeyId> {
         KeyId::from_b64(text)
@@ -110,11 +111,11 @@ impl FromStr for KeyId {
 }
 
 impl TryFrom<&[u8]> for KeyId {
-    ghost use Rattle.argon2.specs.Params.{IsKeyIdOf};
+    ghost use Rattle.argon2.specs.Params.{keyid_bytes, IsOfBytes};
 
     type Error = Error;
 
-    ghost try_from_gives = { λ source r. IsKeyIdOf source.now r };
+    ghost try_from_gives = { λ source r. IsOfBytes keyid_bytes 8 KeyIdTooLong source.now r };
 
     fn try_from(source: &[u8]) -> Result<KeyId> {
         KeyId::new(source)

@@ -214,11 +214,14 @@ impl Params {
 /// `ParamsInvalid`. Then `ParamsInvalid` where `m`, `t` or `p` is missing, and then the fault of
 /// [`Params::new`].
 impl TryFrom<&ParamsString> for Params {
-    ghost use Rattle.argon2.specs.ListedParameters.{IsListAnswer};
+    ghost use Rattle.std.specs.Prelude.{◌≡◌, None};
+    ghost use Rattle.argon2_base.specs.Error.{outcome_of};
+    ghost use Rattle.argon2.specs.ListedParameters.{params_of};
+    ghost use Rattle.argon2.specs.Params.{parameters_of};
 
     type Error = Error;
 
-    ghost try_from_gives = { λ list r. IsListAnswer list.now r };
+    ghost try_from_gives = { λ list r. outcome_of parameters_of r ≡ params_of None list.now };
 
     fn try_from(list: &ParamsString) -> Result<Params> {
         Params::read(list, None)
@@ -229,11 +232,14 @@ impl TryFrom<&ParamsString> for Params {
 /// hash, where the text has one.
 impl TryFrom<&PasswordHash> for Params {
     ghost use Rattle.argon2_base.specs.PhcFields.{phc_of};
-    ghost use Rattle.argon2.specs.ListedParameters.{IsPhcAnswer};
+    ghost use Rattle.std.specs.Prelude.{◌≡◌};
+    ghost use Rattle.argon2_base.specs.Error.{outcome_of};
+    ghost use Rattle.argon2.specs.ListedParameters.{asked_of};
+    ghost use Rattle.argon2.specs.Params.{parameters_of};
 
     type Error = Error;
 
-    ghost try_from_gives = { λ hash r. IsPhcAnswer (phc_of hash.now) r };
+    ghost try_from_gives = { λ hash r. outcome_of parameters_of r ≡ asked_of (phc_of hash.now) };
 
     fn try_from(hash: &PasswordHash) -> Result<Params> {
         let output_len = hash.hash.as_ref().map(|bytes| bytes.len());
