@@ -1,6 +1,6 @@
 //! Hashing, and comparing what was hashed.
 
-ghost use Rattle.std.specs.Prelude.{◌≡◌, ◌≢◌, ◌≤◌, ◌==◌, ◌*◌, ◌⊎◌, None, [], length, unwrap_or, if◌then◌else◌};
+ghost use Rattle.std.specs.Prelude.{◌≡◌, ◌≢◌, ◌≤◌, ◌==◌, ◌*◌, ◌⊎◌, None, true, [], length, unwrap_or, if◌then◌else◌};
 ghost use Rattle.std.specs.Str.{bytes_eq};
 ghost use Rattle.argon2.specs.Settings.{algorithm_number, max_lanes, version_number};
 ghost use Rattle.argon2.specs.Argon2.{context_of, own_parameters};
@@ -36,6 +36,8 @@ pub extern "C" fn argon2_c_hash(
         else INCORRECT_PARAMETER) }
     ensures faultless { result ≡ OK → first_of (request_faults request.now (length out.old)
         (length pwd.now) (length salt.now) (length secret.now) (length associated.now)) ≡ None }
+    ensures fits { result ≡ OK → (length memory.old == 4 * slice_length (asked request.now [] []))
+        ≡ true }
     ensures tag { result ≡ OK → out.new
         ≡ tag_of (asked request.now secret.now associated.now) pwd.now salt.now (length out.old) }
     ensures same { result ≢ OK → (out.new ≡ out.old) × (memory.new ≡ memory.old) }

@@ -15,12 +15,6 @@ not_made (Some e) b x h = refl
 not_made None false x h = refl
 not_made None true x h = absurd (h refl)
 
-made : (o : Option ℤ) (b : Bool) (x : ℤ) → o ≡ None → unwrap_or o (if b then OK else INCORRECT_PARAMETER) ≡ OK
-    → x ≡ unwrap_or o (if b then x else INCORRECT_PARAMETER)
-made (Some e) b x none ok = absurd (cc none)
-made None false x none ok = absurd (cc ok)
-made None true x none ok = refl
-
 pub returns-then-code-ne-OK-clause-answer : goal.returns-then-code-ne-OK-clause-answer
 returns-then-code-ne-OK-clause-answer c =
     let a = c.args in
@@ -35,16 +29,9 @@ returns-then-code-ne-OK-clause-answer c =
 
 pub returns-clause-answer : goal.returns-clause-answer
 returns-clause-answer c =
-    let a = c.args in
-    let ctx = asked a.request.now [] [] in
-    let faults = request_faults a.request.now (length a.tag.now) (length a.pwd.now) (length a.salt.now) 0 0 in
     let whole : to_z w32 (of_z w32 c.argon2_c_compare.result) ≡ c.argon2_c_compare.result = search rules in
     let code : to_z w32 (of_z w32 c.argon2_c_hash-code.result) ≡ c.argon2_c_hash-code.result = search rules in
     let ok : c.argon2_c_hash-code.result ≡ OK = sym code ∙ ap (to_z w32) c.if-code-ne-OK.false in
-    let answer = rw c.requires at c.argon2_c_hash-code.ensures.answer in
     let none = rw c.requires at (c.argon2_c_hash-code.ensures.faultless ok) in
     let tag = rw c.requires at (c.argon2_c_hash-code.ensures.tag ok) in
-    whole ∙ rw tag at c.argon2_c_compare.ensures
-    ∙ made (first_of faults) (length a.memory.now == 4 * slice_length ctx)
-    (if bytes_eq a.tag.now (tag_of ctx a.pwd.now a.salt.now (length a.tag.now)) then OK else VERIFY_MISMATCH)
-    none (sym answer ∙ ok)
+    whole ∙ rw tag at c.argon2_c_compare.ensures ∙ rw (none, c.argon2_c_hash-code.ensures.fits ok) refl
