@@ -57,29 +57,11 @@ pub fn run<R: Read + Named, W: Write, E: Write>(
     ensures quiet { IsFalse shows_progress → result ≡ 0
         → Keeps (E.contents errors.old) (E.contents errors.new) }
 {
-    match report_on(alloc, options, input, output, errors, shows_progress) {
-        Ok(true) => 0,
-        Ok(false) => 1,
+    match write_report(alloc, options, input, output, errors, shows_progress) {
+        Ok(tally) if tally.is_clean(&options.limits) => 0,
+        Ok(_) => 1,
         Err(failure) => failure.report(PROGRAM, input.name(), errors),
     }
-}
-
-// Reads all lines, writes the report, and returns whether each line is sound and no two salts are equal.
-fn report_on<R: Read, W: Write, E: Write>(
-    alloc: Global,
-    options: Options,
-    input: &mut R,
-    output: &mut W,
-    errors: &mut E,
-    shows_progress: bool,
-) -> Result<bool, Failure>
-    ensures audit { IfOk result (IsAudit options (R.remaining input.old)) }
-    ensures object { OnOk result (IsReported options (R.remaining input.old)
-        (W.contents output.old) (W.contents output.new)) }
-    ensures quiet { IsFalse shows_progress → Keeps (E.contents errors.old) (E.contents errors.new) }
-{
-    let tally = write_report(alloc, options, input, output, errors, shows_progress)?;
-    Ok(tally.is_clean(&options.limits))
 }
 
 // Writes the report on all lines, and returns the counts.
@@ -98,7 +80,12 @@ fn write_report<R: Read, W: Write, E: Write>(
     ensures quiet { IsFalse shows_progress → Keeps (E.contents errors.old) (E.contents errors.new) }
 {
     match options.form {
-        Form::Lines => write_lines(alloc, options, input, output, errors, shows_progress),
+        Form::Lines => {
+            let mut lines = Lines { output };
+            let session = session_of(alloc, options, input, &mut lines, errors, shows_progress)?;
+            write_table(lines.output, &session.audit)?;
+            Ok(session.audit.tally)
+        }
         Form::Json => write_object(alloc, options, input, output, errors, shows_progress),
         Form::Quiet => {
             let silent = &mut Nothing;
@@ -106,25 +93,6 @@ fn write_report<R: Read, W: Write, E: Write>(
             Ok(session.audit.tally)
         }
     }
-}
-
-// Writes the report as lines, and returns the counts.
-fn write_lines<R: Read, W: Write, E: Write>(
-    alloc: Global,
-    options: Options,
-    input: &mut R,
-    output: &mut W,
-    errors: &mut E,
-    shows_progress: bool,
-) -> Result<Tally, Failure>
-    ensures tally { IfOk result (λ tally. IfSome (R.remaining input.old)
-        (λ bytes. IsTallied options bytes tally)) }
-    ensures quiet { IsFalse shows_progress → Keeps (E.contents errors.old) (E.contents errors.new) }
-{
-    let mut lines = Lines { output };
-    let session = session_of(alloc, options, input, &mut lines, errors, shows_progress)?;
-    write_table(lines.output, &session.audit)?;
-    Ok(session.audit.tally)
 }
 
 // Writes the report as a line with a JSON object, and returns the counts.

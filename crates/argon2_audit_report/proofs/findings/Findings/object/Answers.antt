@@ -18,7 +18,10 @@ returns c =
     let schemes = c.in_ok-write_schemes.ensures in
     let table = c.in_ok-write_kinds.ensures in
     let whole = object_of tally findings.0 schemes.0 table.0 in
-    let added = further (further (further (further (further (further (further (one c.end_array.ensures c.in_ok-end_array.ensures.ok) (one c.key.ensures c.in_ok-key.ensures.ok)) counts.0) (one c.key-2.ensures c.in_ok-key-2.ensures.ok)) schemes.1.0) (one c.key-3.ensures c.in_ok-key-3.ensures.ok)) table.1.0) (one c.end_object.ensures c.in_ok-end_object.ensures.ok) in
+    let ended = further (one c.end_array.ensures c.in_ok-end_array.ensures.ok) (one c.key.ensures c.in_ok-key.ensures.ok) in
+    let counted = further (further ended counts.0) (one c.key-2.ensures c.in_ok-key-2.ensures.ok) in
+    let named = further (further counted schemes.1.0) (one c.key-3.ensures c.in_ok-key-3.ensures.ok) in
+    let added = further (further named table.1.0) (one c.end_object.ensures c.in_ok-end_object.ensures.ok) in
     let tokens : c.end_object.new.self.tokens ≡ json_tokens whole =
     behind added has.1.2
     ∙ ap (λ tokens. begin_object ∷ key (codes "findings") ∷ begin_array ∷ tokens)

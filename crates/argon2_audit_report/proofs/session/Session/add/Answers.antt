@@ -11,7 +11,8 @@ returns-then-end-rest-clause-after g c = λ bytes after.
     let rest = c.lines.rest.now in
     let end = c.first-end.result in
     subst (λ all. IsBegun c.extend.new.self old.audit.seen old.audit.options all old.audit.tally)
-    (append_assoc bytes before.0 (take end rest) ∙ ap (λ l. bytes ++ (before.0 ++ l)) (take_all end rest (omega arith)) ∙ ap (λ l. bytes ++ l) (sym before.1))
+    (append_assoc bytes before.0 (take end rest) ∙ ap (λ l. bytes ++ (before.0 ++ l)) (take_all end rest (omega arith))
+    ∙ ap (λ l. bytes ++ l) (sym before.1))
     (part_more old.line c.extend.new.self old.audit.seen old.audit.options old.audit.tally (bytes ++ before.0) (take end rest)
     c.in_ok-extend.ensures (none_before rest end c.first-end.ensures.value) (before.4 bytes after))
 

@@ -1,0 +1,20 @@
+use Rattle.std.proofs.Common.{subst}
+use Rattle.argon2_audit_report.specs.Session.{IsAudit}
+use Rattle.argon2_audit_report.proofs.Sessions.{audit_of}
+use Rattle.argon2_audit_report.proofs.run.run.Goals as goal
+
+pub returns-in-Ok-clause-passed : goal.returns-in-Ok-clause-passed
+returns-in-Ok-clause-passed g c = λ _.
+    subst (IsAudit c.args.options (g.R.Read.remaining c.args.input.now)) c.if-is_clean.true
+    (audit_of c.args.options (g.R.Read.remaining c.args.input.now) _ c.is_clean.result c.in-Ok.ensures.tally c.is_clean.ensures)
+
+pub returns-in-Ok-clause-object : goal.returns-in-Ok-clause-object
+returns-in-Ok-clause-object g c = λ _. (c.in-Ok.tally, c.in-Ok.ensures.tally, c.in-Ok.ensures.object)
+
+pub returns-in-Ok-2-clause-refused : goal.returns-in-Ok-2-clause-refused
+returns-in-Ok-2-clause-refused g c = λ _.
+    subst (IsAudit c.args.options (g.R.Read.remaining c.args.input.now)) c.if-is_clean.false
+    (audit_of c.args.options (g.R.Read.remaining c.args.input.now) _ c.is_clean.result c.in-Ok.ensures.tally c.is_clean.ensures)
+
+pub returns-in-Ok-2-clause-object : goal.returns-in-Ok-2-clause-object
+returns-in-Ok-2-clause-object g c = λ _. (c.in-Ok.tally, c.in-Ok.ensures.tally, c.in-Ok.ensures.object)
