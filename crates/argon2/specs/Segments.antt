@@ -1,8 +1,6 @@
 -- The memory slice after slice, in each slice lane after lane, and the parts of it on which a segment is filled.
 use Rattle.std.specs.Prelude.{◌≡◌, ◌≢◌, ◌⊎◌, ℕ, suc, ◌+◌, ◌-◌, ◌*◌, ◌/◌, ◌<◌, ◌≤◌, List, [], drop, length, slice_index_or, take}
-use Rattle.argon2_base.specs.Block.{bytes_of}
-use Rattle.argon2_base.specs.LongHash.{long_hash}
-use Rattle.argon2.specs.Rfc9106.{Context, FirstColumns, Memory, Sizes, block_of, first_block, lane_length, segment_length, tag_of, xor_lanes}
+use Rattle.argon2.specs.Rfc9106.{Context, FirstColumns, Memory, Sizes, block_of, lane_length, segment_length, xor_lanes}
 use Rattle.argon2.specs.Watching.{HasBlocksUpTo, begun}
 
 -- the blocks of a slice
@@ -98,10 +96,3 @@ pub record IsFilledBySegments (ctx : Context) (first : FirstColumns) (memory : �
     pub after : (pass slice : ℕ) → pass < ctx.t_cost → slice < 4 →
         slices_after ctx slice (memory pass (suc slice)) ≡ slices_after ctx slice (memory pass slice)
     pub next : (pass : ℕ) → suc pass < ctx.t_cost → memory (suc pass) 0 ≡ memory pass 4
-
--- Then the last column of its last slice gives the tag.
-abbrev pub SegmentsGiveTag : Type 0
-SegmentsGiveTag = (ctx : Context) (password salt : List ℕ) (n : ℕ) (memory : ℕ → ℕ → Memory) →
-    IsFilledBySegments ctx (first_block ctx password salt n) memory →
-    long_hash n (bytes_of (last_of_slice ctx (slices_after ctx 2 (memory (ctx.t_cost - 1) 4))))
-    ≡ tag_of ctx password salt n

@@ -1,13 +1,30 @@
 //! What is true of a login store after every list of calls.
 
-ghost use Rattle.argon2.specs.Runs.{TextsAreAddedOrMade, LastPasswordIsAccepted, TargetIsReached};
+ghost use Rattle.std.specs.Prelude.{◌≡◌, ◌≢◌, ℕ, List, Some, IsSomeAnd};
+ghost use Rattle.std.specs.FinMap.{get};
+ghost use Rattle.argon2_base.specs.PhcText.{phc_text};
+ghost use Rattle.argon2.specs.declared.login.answers.Accepted.{Accepted};
+ghost use Rattle.argon2.specs.declared.login.answers.Accepted.TheVariants.{Kept};
+ghost use Rattle.argon2.specs.Login.{Event};
+ghost use Rattle.argon2.specs.Made.{Target, IsTarget};
+ghost use Rattle.argon2.specs.NamedTexts.{Store, IsCurrent, newest};
+ghost use Rattle.argon2.specs.Runs.{IsFrom, Run, accepted, source};
+ghost use Rattle.argon2.specs.Stored.{Accepts};
 
 /// After every list of calls on a new store: exactly the names that were added have a text, the one
 /// that was added, or the one that the last login that renewed it made; where a name has an
 /// accepted login, its text accepts the password of the last of them; and unless that login
 /// answered [`Kept`](super::Accepted::Kept), the text has the settings of the target.
 pub fn login_runs()
-    ensures texts { TextsAreAddedOrMade }
-    ensures passwords { LastPasswordIsAccepted }
-    ensures target { TargetIsReached }
+    ensures texts { (target : Target) → IsTarget target → (events : List Event) (store : Store)
+        → Run target events store → (name : List ℕ)
+        → IsFrom target (newest (source name) events) (get store name) }
+    ensures passwords { (target : Target) → IsTarget target → (events : List Event) (store : Store)
+        → Run target events store → (name given : List ℕ) (did : Accepted)
+        → newest (accepted name) events ≡ Some (given, did)
+        → IsSomeAnd (get store name) (λ v. Accepts target.secret given (phc_text v)) }
+    ensures target { (target : Target) → IsTarget target → (events : List Event) (store : Store)
+        → Run target events store → (name given : List ℕ) (did : Accepted)
+        → newest (accepted name) events ≡ Some (given, did)
+        → did ≢ Kept → IsSomeAnd (get store name) (IsCurrent target) }
 {}
