@@ -14,6 +14,7 @@ ghost use Rattle.argon2.specs.Steps.{IsStep, step};
 use super::Argon2;
 use super::fill::Step;
 use super::instance::Instance;
+use crate::params::SLICES;
 use crate::{Block, Work};
 use argon2_base::block::{Words, mix_words, xor_words};
 
@@ -184,7 +185,7 @@ impl<'a> Instance<'a> {
 
     /// The place of a block in some slices, one after the other.
     fn place_in_slices(&self, slice: u32, lane: u32, index: u32) -> u32
-        requires in_slices { slice < 4 }
+        requires in_slices { slice < SLICES }
         requires in_lanes { lane < self.now.p_cost }
         requires in_segment { index < segment_length self.now }
         ensures value { result

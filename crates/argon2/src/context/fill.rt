@@ -93,11 +93,11 @@ impl<'a> Instance<'a> {
     )
         requires in_passes { pass < self.now.t_cost }
         requires room { block_count self.now ≤ length memory.old }
-        requires count { work.old + slices_calls self.now pass 4 < 2 ^ 127 }
+        requires count { work.old + slices_calls self.now pass SLICES < 2 ^ 127 }
         ensures filled { Fills self.now pass
-            (λ _. begun self.now pass 0) (λ _. begun self.now pass 4)
+            (λ _. begun self.now pass 0) (λ _. begun self.now pass SLICES)
             (map B.words memory.old) (map B.words memory.new) positions.old positions.new }
-        ensures work { work.new ≡ work.old + slices_calls self.now pass 4 }
+        ensures work { work.new ≡ work.old + slices_calls self.now pass SLICES }
     {
         for slice in 0..SLICES {
             self.fill_slice(memory, positions, pass, slice, work);
@@ -114,7 +114,7 @@ impl<'a> Instance<'a> {
         work: &mut Work,
     )
         requires in_passes { pass < self.now.t_cost }
-        requires in_slices { slice < 4 }
+        requires in_slices { slice < SLICES }
         requires room { block_count self.now ≤ length memory.old }
         requires count { work.old + self.now.p_cost * segment_calls self.now pass slice < 2 ^ 127 }
         ensures filled { Fills self.now pass
@@ -139,7 +139,7 @@ impl<'a> Instance<'a> {
         work: &mut Work,
     )
         requires in_passes { pass < self.now.t_cost }
-        requires in_slices { slice < 4 }
+        requires in_slices { slice < SLICES }
         requires in_lanes { lane < self.now.p_cost }
         requires room { block_count self.now ≤ length memory.old }
         requires count { work.old < 2 ^ 127 }
@@ -172,7 +172,7 @@ impl<'a> Instance<'a> {
 
     /// The step of an index of a segment.
     pub(super) fn step_at(&self, pass: u32, slice: u32, lane: u32, index: u32) -> Step
-        requires in_slices { slice < 4 }
+        requires in_slices { slice < SLICES }
         requires in_segment { index < segment_length self.now }
         ensures pass { result.pass ≡ pass }
         ensures lane { result.lane ≡ lane }
