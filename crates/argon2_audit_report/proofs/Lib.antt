@@ -1,4 +1,3 @@
 mod Classes
-mod First
 mod Objects
 mod Sessions

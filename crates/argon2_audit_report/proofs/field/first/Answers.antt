@@ -1,9 +1,25 @@
-use Rattle.std.proofs.Common.{ℕ, Bool, ◌==◌, rules}
-use Rattle.argon2_audit_report.proofs.First.{first_place}
+use Rattle.std.proofs.Common.{arith, rules, ◌==◌, ◌≡◌, ℕ, Bool, true, false, List, length, Option, Some, None, slice_index_or, sym, refl}
+use Rattle.std.specs.Option.{unwrap_or}
+use Rattle.std.specs.List.{position_or_len}
+use Rattle.std.proofs.lemmas.List.Sums.{position_or_len_is}
+use Rattle.memchr.specs.Find.{IsFirstByte}
 use Rattle.argon2_audit_report.proofs.field.first.Goals as goal
+
+not_true : (b : Bool) → (b ≡ true → ⊥) → b ≡ false
+not_true true never = absurd (never refl)
+not_true false _ = refl
+
+-- where the first byte stands that passes, or the length
+first_place : (test : ℕ → Bool) (bytes : List ℕ) (found : Option ℕ) → IsFirstByte test bytes found
+    → unwrap_or found (length bytes) ≡ position_or_len test bytes
+first_place test bytes None never =
+    sym (position_or_len_is test bytes (length bytes) 0 (omega arith)
+    (λ k below. not_true (test (slice_index_or bytes k 0)) (never k (omega arith) below)) (λ past. absurd (omega arith)))
+first_place test bytes (Some k) first =
+    sym (position_or_len_is test bytes k 0 (let high = first.0.high in omega arith)
+    (λ i below. not_true (test (slice_index_or bytes i 0)) (first.0.before i (omega arith) below)) (λ _. first.1))
 
 pub returns-clause-value : goal.returns-clause-value
 returns-clause-value c =
-    let is_separator : ℕ → Bool = λ byte. byte == c.args.separator in
-    let place = first_place is_separator c.args.bytes.now c.memchr.result c.memchr.ensures in
+    let place = first_place (λ byte. byte == c.args.separator) c.args.bytes.now c.memchr.result c.memchr.ensures in
     search rules
