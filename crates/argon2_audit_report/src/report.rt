@@ -52,11 +52,9 @@ pub fn remark_on<S: Remarks>(
         Finding::TooLong => remarks.add(number, &Remark::TooLong)?,
         Finding::NotUtf8 => remarks.add(number, &Remark::NotUtf8)?,
         Finding::Refused(error) => remarks.add(number, &Remark::Refused(error))?,
-        Finding::Claimed(claim) => {
-            if !(limits.allows_other && is_allowed(*claim)) {
-                remarks.add(number, &Remark::Claimed(*claim))?;
-            }
-        }
+        Finding::Claimed(Claim::Other(_) | Claim::Locked | Claim::Blank | Claim::Comment)
+            if limits.allows_other => {}
+        Finding::Claimed(claim) => remarks.add(number, &Remark::Claimed(*claim))?,
         Finding::Shown(entry) => {
             remark_on_costs(remarks, number, entry, limits)?;
             remark_on_lengths(remarks, number, entry, limits)?;
@@ -116,14 +114,6 @@ fn remark_on_lengths<S: Remarks>(
         Some(len) if short.hash => remarks.add(number, &Remark::HashLen(len, limits.hash_len)),
         Some(_) => Ok(()),
     }
-}
-
-// Whether a line with this claim counts as sound if other schemes do.
-fn is_allowed(claim: Claim) -> bool {
-    matches!(
-        claim,
-        Claim::Other(_) | Claim::Locked | Claim::Blank | Claim::Comment
-    )
 }
 
 /// Writes the counts, and then how many texts of Argon2 there are of each kind.
