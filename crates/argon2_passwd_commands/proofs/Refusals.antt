@@ -1,7 +1,7 @@
 -- What is passed on: answers, refusals, and refusals by a file.
 use Rattle.std.proofs.Common.{◌≡◌, ℕ, refl, subst, List, Option, Some, None, Result, Ok, Err}
 use Rattle.std.specs.Io.KnownBytes.{Keeps}
-use Rattle.std.specs.Prelude.{IfErr, IsErrAnd, OnOk}
+use Rattle.std.specs.Prelude.{IfErr, IfOk, IsErrAnd, OnErr, OnOk}
 use Rattle.argon2_accounts.specs.declared.error.AccountError.{AccountError}
 use Rattle.argon2_store.specs.declared.error.FileError.{FileError}
 use Rattle.argon2_store.specs.declared.error.FileError.TheVariants.{Account}
@@ -22,6 +22,15 @@ refused P e (Err f) is why = λ one. of_account P e f is one why
 pub ok_then : {X : Type 0} {E : Type 0} {P : Type 0} {Q : Type 0} → (r : Result X E) → OnOk r P → (P → Q) → OnOk r Q
 ok_then (Ok x) is next = next is
 ok_then (Err e) is next = tt
+
+pub if_ok_then : {X : Type 0} {E : Type 0} {P : X → Type 0} {Q : X → Type 0} → (r : Result X E) → IfOk r P
+    → ((x : X) → P x → Q x) → IfOk r Q
+if_ok_then (Ok x) is next = next x is
+if_ok_then (Err e) is next = tt
+
+pub on_err_then : {X : Type 0} {E : Type 0} {P : Type 0} {Q : Type 0} → (r : Result X E) → OnErr r P → (P → Q) → OnErr r Q
+on_err_then (Ok x) is next = tt
+on_err_then (Err e) is next = next is
 
 pub err_then : {X : Type 0} {P : Failure → Type 0} {Q : Failure → Type 0} → (r : Result X Failure)
     → IfErr r (λ f. status_of f ≡ 1 → P f) → ((f : Failure) → P f → Q f) → IfErr r (λ f. status_of f ≡ 1 → Q f)

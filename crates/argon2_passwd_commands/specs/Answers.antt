@@ -1,30 +1,33 @@
 -- What the program answers.
-use Rattle.std.specs.Prelude.{◌≡◌, ◌⊎◌, ⊤, ℕ, ◌==◌, false, Bool, ◌||◌, ◌+◌, IsOk, IsTrue, List, [], ◌∷◌, ◌++◌, if◌then◌else◌, Option, Some, None, IfSome, Result, Ok, Err}
+use Rattle.std.specs.Prelude.{◌≡◌, ◌⊎◌, ⊤, ℕ, ◌==◌, true, false, Bool, ◌||◌, ◌+◌, IsOk, IsTrue, List, [], ◌∷◌, ◌++◌, if◌then◌else◌, Option, Some, None, IfSome, Result, Ok, Err, IfOk}
 use Rattle.std.specs.Io.BufRead.{drop_through}
 use Rattle.std.specs.List.{AllZip, after_first, before_first, list_any}
 use Rattle.std.specs.Option.{option_map}
 use Rattle.std.specs.Io.KnownBytes.{Appends, Keeps}
 use Rattle.std.specs.Str.{is_utf8}
 use Rattle.std.specs.Str.Lines.{lines}
+use Rattle.std.specs.FinMap.{get}
+use Rattle.argon2_base.specs.PhcFields.{phc_of}
 use Rattle.argon2_base.specs.PhcText.{Phc, PhcText, phc_text}
+use Rattle.argon2_base.specs.declared.phc.hash.PasswordHash.{PasswordHash}
 use Rattle.sqlite_trees.specs.declared.store.Store.{Ghosts}
-use Rattle.argon2_accounts.specs.Accounts.{Admits, AreTerms, LogsIn, Terms, changing, logging_in, registering, removing, setting}
+use Rattle.argon2_accounts.specs.Accounts.{AccountAnswer, Admits, AreTerms, LogsIn, Terms, changing, logging_in, registering, removing, replacing, setting}
 use Rattle.argon2.specs.Argon2.{argon2id_with}
 use Rattle.argon2.specs.Login.{accepted_text}
 use Rattle.argon2.specs.NamedTexts.{Store}
 use Rattle.argon2.specs.Made.{IsFresh}
 use Rattle.argon2.specs.Stored.{shown_settings}
 use Rattle.argon2.specs.declared.login.answers.Accepted.{Accepted}
-use Rattle.argon2.specs.declared.login.answers.Accepted.TheVariants.{Rehashed}
+use Rattle.argon2.specs.declared.login.answers.Accepted.TheVariants.{Kept, Rehashed}
 use Rattle.argon2_accounts.specs.declared.error.AccountError.{AccountError}
 use Rattle.argon2_prefixes.specs.Prefixes.{bare}
-use Rattle.argon2_store.specs.AccountFile.{AddsOrNone, Call, HasNames, IsReady, Serves, Stays, store_of}
+use Rattle.argon2_store.specs.AccountFile.{AddsOrNone, Call, HasNames, IsReady, Serves, Stays, error_of, store_of}
 use Rattle.argon2_store.specs.Adding.{IsFirstRefused}
 use Rattle.argon2_store.specs.Rows.{lines_of}
 use Rattle.argon2_store.specs.Table.{IsHonest}
 use Rattle.argon2_store.specs.declared.account_file.AccountFile.{AccountFile}
 use Rattle.argon2_store.specs.declared.error.FileError.{FileError}
-use Rattle.argon2_store.specs.declared.error.FileError.TheVariants.{Account}
+use Rattle.argon2_store.specs.declared.error.FileError.TheVariants.{Account, Io}
 use Rattle.argon2_passwd_commands.specs.Asked.{Asked, Choices, bound_of, check, edit, hash, import, show, verify}
 use Rattle.argon2_passwd_commands.specs.declared.command.Edit.{Edit}
 use Rattle.argon2_passwd_commands.specs.declared.command.Edit.TheVariants.{Register, Change, Set, Remove}
@@ -152,49 +155,116 @@ IsAdded es before after = (answer : Result (Unit {0}) FileError) × AddsOrNone e
 abbrev pub IsOpened : {S : Type 0} {g : Ghosts S} → (List ℕ → Store → Type 0) → List ℕ → Terms → AccountFile S g → Type 0
 IsOpened Has path terms file = (names : Store) × Has path names × IsReady terms names file
 
--- no file was opened, or its store was left as this one
-abbrev pub IsLeft : {S : Type 0} → Type 0 → Option S → Option S → Type 0
-IsLeft Unopened left None = Unopened
-IsLeft Unopened left (Some store) = left ≡ Some store
+-- a first file was closed with this store, if one was, and the store of the last file was left as this one, if there is one
+abbrev pub IsLeft : {S : Type 0} → (Option S → Bool → Type 0) → Option S → Option S → Option S → Type 0
+IsLeft Was left read None = Was read false
+IsLeft Was left read (Some store) = Was read true × (left ≡ Some store)
+
+-- what the text says that was found for a name
+abbrev pub value_of : Result (Option PasswordHash) FileError → Result (Option Phc) FileError
+value_of (Ok text) = Ok (option_map phc_of text)
+value_of (Err e) = Err e
+
+-- How far a call on a name came: its text can't be read; or the accounts decide the call, and no text is replaced; or they
+-- accept it, and this answers the replacement of the text.
+pub data Outcome (X : Type 0) : Type 0 where
+  unread : FileError → Outcome X
+  decided : Result X AccountError → Outcome X
+  replaced : X → Result (Unit {0}) FileError → Outcome X
+
+-- what an accepted login did whose fresh text is not written
+abbrev pub unwritten : Accepted → Accepted
+unwritten Rehashed = Kept
+unwritten accepted = accepted
+
+-- what a login answers
+abbrev pub login_answer : Outcome Accepted → Result Accepted FileError
+login_answer (unread e) = Err e
+login_answer (decided (Ok accepted)) = Ok (unwritten accepted)
+login_answer (decided (Err e)) = Err (Account e)
+login_answer (replaced accepted (Ok _)) = Ok accepted
+login_answer (replaced accepted (Err e)) = Ok (unwritten accepted)
+
+-- what a change answers: that the file can't be opened again is an error of the file
+abbrev pub change_answer : Outcome (Unit {0}) → Result (Unit {0}) FileError
+change_answer (unread e) = Err e
+change_answer (decided (Ok _)) = Err Io
+change_answer (decided (Err e)) = Err (Account e)
+change_answer (replaced _ done) = done
 
 module _ {S : Type 0} (g : Ghosts S) (Holds : List ℕ → List ℕ → Type 0) (Has : List ℕ → Store → Type 0) where
   -- all that was done with the file at a path, which was opened under the choices and their secret
-  abbrev pub IsDone : Choices → List ℕ → (List ℕ → AccountFile S g → AccountFile S g → Type 0) → (Option S → Type 0) → Type 0
+  abbrev pub IsDone : Choices → List ℕ → (List ℕ → AccountFile S g → AccountFile S g → Type 0) → (Option S → Option S → Type 0) → Type 0
   IsDone choices path Does Becomes = (secret drawn : List ℕ) × (before after : AccountFile S g)
       × IsSecret Holds choices.secret_file secret × IsOpened Has path (terms_by choices secret) before
-      × Does drawn before after × Becomes (Some (store_of after))
+      × Does drawn before after × Becomes None (Some (store_of after))
 
   -- that was one call
-  abbrev pub IsCalled : {X : Type 0} → Choices → List ℕ → (List ℕ → Call X) → Result X FileError → (Option S → Type 0) → Type 0
+  abbrev pub IsCalled : {X : Type 0} → Choices → List ℕ → (List ℕ → Call X) → Result X FileError → (Option S → Option S → Type 0) → Type 0
   IsCalled choices path call result = IsDone choices path (λ drawn. Serves (call drawn) result)
 
+  -- the value of a name was read in the file at a path, which was opened under these terms and closed again
+  abbrev pub IsLooked : Terms → List ℕ → List ℕ → Result (Option Phc) FileError → (S → Type 0) → Type 0
+  IsLooked terms path name found Next = (before after : AccountFile S g) × IsOpened Has path terms before
+      × ((names : Store) → HasNames before names → Stays (error_of found) names before after
+      × IfOk found (λ value. IsHonest g (store_of after) → get names name ≡ value)) × Next (store_of after)
+
+  -- the text of a name was replaced in the file at a path, if it was still that of the first value
+  abbrev pub IsReplaced : Terms → List ℕ → List ℕ → Phc → Phc → Result (Unit {0}) FileError → (Option S → Type 0) → Type 0
+  IsReplaced terms path name v w done Becomes = (before after : AccountFile S g) × IsOpened Has path terms before
+      × Serves (replacing name (phc_text v) (phc_text w)) done before after × Becomes (Some (store_of after))
+
+  -- what was done with the file at a path for a call on a name, and that it was decided by the value that was read
+  abbrev pub IsOutcome : {X : Type 0} → Terms → List ℕ → List ℕ → Call X → Outcome X → (Option S → Option S → Type 0) → Type 0
+  IsOutcome terms path name call (unread e) Becomes = IsLooked terms path name (Err e) (λ read. Becomes (Some read) None)
+  IsOutcome terms path name call (decided answer) Becomes = (o p : Option Phc) × AccountAnswer terms (call answer) o p
+      × IsLooked terms path name (Ok o) (λ read. Becomes (Some read) None)
+  IsOutcome terms path name call (replaced x done) Becomes = (v w : Phc) × AccountAnswer terms (call (Ok x)) (Some v) (Some w)
+      × IsLooked terms path name (Ok (Some v)) (λ read. IsReplaced terms path name v w done (Becomes (Some read)))
+
+  -- all that was done with it, under the choices and their secret, for a call that is decided while the file is closed
+  abbrev pub IsVisited : {X : Type 0} → Choices → List ℕ → List ℕ → (List ℕ → Call X) → (Outcome X → Type 0)
+      → (Option S → Option S → Type 0) → Type 0
+  IsVisited {X} choices path name call Answers Becomes = (secret drawn : List ℕ) × (outcome : Outcome X)
+      × IsSecret Holds choices.secret_file secret × Answers outcome
+      × IsOutcome (terms_by choices secret) path name (call drawn) outcome Becomes
+
+  -- that was a change of this kind
+  abbrev pub IsAct : Choices → List ℕ → Edit → List ℕ → List ℕ → List ℕ → Result (Unit {0}) FileError
+      → (Option S → Option S → Type 0) → Type 0
+  IsAct choices path Change name first second result Becomes =
+      IsVisited choices path name (call_of Change name first second) (λ outcome. change_answer outcome ≡ result) Becomes
+  IsAct choices path act name first second result Becomes =
+      IsCalled choices path (call_of act name first second) result Becomes
+
   -- that was a login with the password
-  abbrev pub IsLogin : Choices → List ℕ → List ℕ → Result Accepted FileError → Option (List ℕ) → (Option S → Type 0) → Type 0
+  abbrev pub IsLogin : Choices → List ℕ → List ℕ → Result Accepted FileError → Option (List ℕ) → (Option S → Option S → Type 0) → Type 0
   IsLogin choices path name result input Becomes =
-      OfPassword (λ password. IsCalled choices path (logging_in name password) result Becomes) input
+      OfPassword (λ password. IsVisited choices path name (logging_in name password)
+      (λ outcome. login_answer outcome ≡ result) Becomes) input
 
   -- that was a change of the text of a name, by the passwords that are read
-  abbrev pub IsEdited : Choices → List ℕ → Edit → List ℕ → Result (Unit {0}) FileError → Option (List ℕ) → (Option S → Type 0) → Type 0
+  abbrev pub IsEdited : Choices → List ℕ → Edit → List ℕ → Result (Unit {0}) FileError → Option (List ℕ) → (Option S → Option S → Type 0) → Type 0
   IsEdited choices path act name result input Becomes = (breaks_lines act name ≡ false) × (first second : List ℕ)
-      × AreRead act input first second × IsCalled choices path (call_of act name first second) result Becomes
+      × AreRead act input first second × IsAct choices path act name first second result Becomes
 
   -- no name was changed, with this error of the file if there was one, and this is a fact of its names
-  abbrev pub IsRead : Choices → List ℕ → Option FileError → (Store → Type 0) → (Option S → Type 0) → Type 0
+  abbrev pub IsRead : Choices → List ℕ → Option FileError → (Store → Type 0) → (Option S → Option S → Type 0) → Type 0
   IsRead choices path error Shows = IsDone choices path (λ drawn before after. (names : Store) → HasNames before names
       → Stays error names before after × (IsHonest g (store_of after) → Shows names))
 
   -- that was the addition of the entries that a known input has, and the answer to it
   abbrev pub IsImported : Choices → List ℕ → Bool → (List (List ℕ × List ℕ) → AccountFile S g → AccountFile S g → Type 0)
-      → Option (List ℕ) → (Option S → Type 0) → Type 0
+      → Option (List ℕ) → (Option S → Option S → Type 0) → Type 0
   IsImported choices path any_text Adds input Becomes = (es : List (List ℕ × List ℕ))
       × IfSome input (λ bytes. AreEntries any_text bytes es) × IsDone choices path (λ drawn. Adds es) Becomes
 
   -- what is asked for is answered
-  abbrev pub IsAnswered : Asked → Option (List ℕ) → Option (List ℕ) → Option (List ℕ) → (Option S → Type 0) → Type 0
+  abbrev pub IsAnswered : Asked → Option (List ℕ) → Option (List ℕ) → Option (List ℕ) → (Option S → Option S → Type 0) → Type 0
   IsAnswered (hash choices) input old new Becomes =
-      IsReplied Holds choices (λ terms drawn line. IsHashReply terms drawn input line) old new × Becomes None
+      IsReplied Holds choices (λ terms drawn line. IsHashReply terms drawn input line) old new × Becomes None None
   IsAnswered (check choices text) input old new Becomes =
-      IsReplied Holds choices (λ terms drawn line. IsCheckReply terms drawn text input line) old new × Becomes None
+      IsReplied Holds choices (λ terms drawn line. IsCheckReply terms drawn text input line) old new × Becomes None None
   IsAnswered (verify choices path name) input old new Becomes = (accepted : Accepted)
       × IsLogin choices path name (Ok accepted) input Becomes × Appends old new (accepted_text accepted ++ 10 ∷ [])
   IsAnswered (edit choices path act name) input old new Becomes =
@@ -205,27 +275,27 @@ module _ {S : Type 0} (g : Ghosts S) (Holds : List ℕ → List ℕ → Type 0) 
       IsImported choices path any_text (λ es. AddsOrNone es (Ok tt)) input Becomes × Keeps old new
 
   -- what is asked for is refused
-  abbrev pub IsRefused : Asked → Option (List ℕ) → (Option S → Type 0) → Type 0
-  IsRefused (hash choices) input Becomes = IsRefusedBy Holds choices (λ terms. HasNone input) × Becomes None
+  abbrev pub IsRefused : Asked → Option (List ℕ) → (Option S → Option S → Type 0) → Type 0
+  IsRefused (hash choices) input Becomes = IsRefusedBy Holds choices (λ terms. HasNone input) × Becomes None None
   IsRefused (check choices text) input Becomes =
-      IsRefusedBy Holds choices (λ terms. Denies terms text input) × Becomes None
+      IsRefusedBy Holds choices (λ terms. Denies terms text input) × Becomes None None
   IsRefused (verify choices path name) input Becomes =
-      ((HasNone input ⊎ IsRefusedBy Holds choices (λ terms. ⊥)) × Becomes None)
+      ((HasNone input ⊎ IsRefusedBy Holds choices (λ terms. ⊥)) × Becomes None None)
       ⊎ ((e : AccountError) × IsLogin choices path name (Err (Account e)) input Becomes)
   IsRefused (edit choices path act name) input Becomes =
-      ((IsTrue (breaks_lines act name) ⊎ AreUnread act input ⊎ IsRefusedBy Holds choices (λ terms. ⊥)) × Becomes None)
+      ((IsTrue (breaks_lines act name) ⊎ AreUnread act input ⊎ IsRefusedBy Holds choices (λ terms. ⊥)) × Becomes None None)
       ⊎ ((e : AccountError) × IsEdited choices path act name (Err (Account e)) input Becomes)
-  IsRefused (show choices path view) input Becomes = IsRefusedBy Holds choices (λ terms. ⊥) × Becomes None
-  IsRefused (import choices path any_text) input Becomes = (IsRefusedBy Holds choices (λ terms. ⊥) × Becomes None)
+  IsRefused (show choices path view) input Becomes = IsRefusedBy Holds choices (λ terms. ⊥) × Becomes None None
+  IsRefused (import choices path any_text) input Becomes = (IsRefusedBy Holds choices (λ terms. ⊥) × Becomes None None)
       ⊎ ((failure : Failure) × IsImported choices path any_text (RefusesLine failure) input Becomes)
 
-  -- all that was done with a file, whatever the status: it was not opened, or one call was made, with some answer
-  abbrev pub IsOnce : Asked → Option (List ℕ) → (Option S → Type 0) → Type 0
+  -- all that was done with a file, whatever the status: it was not opened, or the command was served, with some answer
+  abbrev pub IsOnce : Asked → Option (List ℕ) → (Option S → Option S → Type 0) → Type 0
   IsOnce (verify choices path name) input Becomes =
-      Becomes None ⊎ ((answer : Result Accepted FileError) × IsLogin choices path name answer input Becomes)
+      Becomes None None ⊎ ((answer : Result Accepted FileError) × IsLogin choices path name answer input Becomes)
   IsOnce (edit choices path act name) input Becomes =
-      Becomes None ⊎ ((answer : Result (Unit {0}) FileError) × IsEdited choices path act name answer input Becomes)
+      Becomes None None ⊎ ((answer : Result (Unit {0}) FileError) × IsEdited choices path act name answer input Becomes)
   IsOnce (show choices path view) input Becomes =
-      Becomes None ⊎ ((error : Option FileError) × IsRead choices path error (λ names. ⊤) Becomes)
-  IsOnce (import choices path any_text) input Becomes = Becomes None ⊎ IsImported choices path any_text IsAdded input Becomes
-  IsOnce _ input Becomes = Becomes None
+      Becomes None None ⊎ ((error : Option FileError) × IsRead choices path error (λ names. ⊤) Becomes)
+  IsOnce (import choices path any_text) input Becomes = Becomes None None ⊎ IsImported choices path any_text IsAdded input Becomes
+  IsOnce _ input Becomes = Becomes None None

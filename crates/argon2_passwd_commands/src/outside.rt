@@ -18,9 +18,10 @@ use std::time::Duration;
 // The most bytes that a secret may have.
 const LONGEST_SECRET: usize = 4096;
 
-/// Where the program finds the secret, random bytes and accounts. It opens one file.
+/// Where the program finds the secret, random bytes and accounts. It opens one file, and once more if
+/// the first is closed.
 pub trait Outside {
-    ghost use Rattle.std.specs.Prelude.{◌≡◌, ℕ, List, IfErr, IfOk, OnErr};
+    ghost use Rattle.std.specs.Prelude.{◌≡◌, ℕ, List, Bool, true, false, Option, Some, None, IfErr, IfOk, OnErr, OnOk};
     ghost use Rattle.argon2_accounts.specs.Accounts.{AreTerms};
     ghost use Rattle.argon2.specs.NamedTexts.{Store as Texts};
     ghost use Rattle.argon2.specs.Made.{target_of};
@@ -36,8 +37,8 @@ pub trait Outside {
     // The file at a path has these names with their texts.
     ghost keeps: { List ℕ → Texts → Type 0 };
 
-    // No file with accounts was opened.
-    ghost unopened: { Self → Type 0 };
+    // The store that a first file was closed with, if one was, and whether a file was opened that was not closed.
+    ghost was: { Self → Option Self.File → Bool → Type 0 };
 
     /// The secret in the file at a path.
     ///
@@ -64,12 +65,20 @@ pub trait Outside {
         target: Argon2<'key>,
         bound: Bound,
     ) -> Result<AccountFile<'key, Self::File>, Failure>
-        requires { unopened self.old }
+        requires { (read : Option Self.File) × was self.old read false }
         ensures ready { IfOk result (IsOpened keeps path.now
             (record { target = target_of target.entry; bound = bound })) }
         ensures refused { IfErr result (λ failure. status_of failure ≡ 1
             → ¬ (AreTerms (record { target = target_of target.entry; bound = bound }))) }
-        ensures untouched { OnErr result (unopened self.new) };
+        ensures opened { OnOk result
+            ((read : Option Self.File) → was self.old read false → was self.new read true) }
+        ensures untouched { OnErr result
+            ((read : Option Self.File) → was self.old read false → was self.new read false) };
+
+    /// Closes the first file, and copies its log into it.
+    fn close(&mut self, store: Self::File)
+        requires { was self.old None true }
+        ensures { was self.new (Some store) false };
 
     /// Waits for 10 milliseconds.
     fn pause(&self);
@@ -99,7 +108,7 @@ impl Outside for Machine<'_> {
     // Of names nothing is known.
     ghost keeps = { λ path names. ⊤ };
 
-    ghost unopened = { λ machine. ⊤ };
+    ghost was = { λ machine read is_open. ⊤ };
 
     fn secret(&self, path: &str) -> Result<Vec<u8>, Failure> {
         let mut secret = Vec::new(self.rt.alloc());
@@ -144,6 +153,11 @@ impl Outside for Machine<'_> {
             Ok(accounts) => Ok(accounts),
             Err(error) => Err(Failure::from(error)),
         }
+    }
+
+    fn close(&mut self, mut store: FileStore<FileFrom<Wary>>) {
+        // The log has all accounts too, so a copy that fails loses none.
+        let _ = store.checkpoint();
     }
 
     fn pause(&self) {

@@ -1,6 +1,6 @@
 //! The program over any world outside it and any streams.
 
-ghost use Rattle.std.specs.Prelude.{◌≡◌, ◌⊎◌, ◌++◌, ◌∷◌, [], ℕ, List, IfErr, IfOk, OnOk, string_bytes};
+ghost use Rattle.std.specs.Prelude.{◌≡◌, ◌⊎◌, ◌++◌, ◌∷◌, [], ℕ, false, None, List, IfErr, IfOk, OnOk, string_bytes};
 ghost use Rattle.std.specs.Io.KnownBytes.{Appends, Keeps};
 ghost use Rattle.argon2_accounts.specs.Accounts.{AreTerms, terms_of};
 ghost use Rattle.argon2.specs.Login.{accepted_text};
@@ -33,8 +33,8 @@ pub const PROGRAM: &str = "argon2-passwd";
 /// or a line is refused, or the parameters are above the bound. Status 3: a file, a stream, random bytes or a
 /// request for memory failed.
 /// With 1 and 3 the failure's text is written to `errors`, and with 1 nothing to `output`. If `errors`
-/// can't be written, the status stays. `left` is the store of the file that was opened; whatever the status, one call
-/// of the command is all that was done with it.
+/// can't be written, the status stays. `left` is the store of the file that was opened and not closed again;
+/// whatever the status, the command is all that was done with it.
 pub fn run<P: Outside, R: BufRead, W: Write, E: Write>(
     alloc: Global,
     command: Command<'_>,
@@ -44,17 +44,17 @@ pub fn run<P: Outside, R: BufRead, W: Write, E: Write>(
     output: &mut W,
     errors: &mut E,
 ) -> u8
-    requires { P.unopened outside.old }
+    requires { P.was outside.old None false }
     ensures status { (result ≡ 0) ⊎ (result ≡ 1) ⊎ (result ≡ 3) }
     ensures answered { result ≡ 0 → IsAnswered P.File.Store P.holds P.keeps (asked command.entry)
         (R.remaining input.old) (W.contents output.old) (W.contents output.new)
-        (IsLeft (P.unopened outside.new) left.new) }
+        (IsLeft (P.was outside.new) left.new) }
     ensures quiet { result ≡ 0 → Keeps (E.contents errors.old) (E.contents errors.new) }
     ensures refused { result ≡ 1 → IsRefused P.File.Store P.holds P.keeps (asked command.entry)
-        (R.remaining input.old) (IsLeft (P.unopened outside.new) left.new)
+        (R.remaining input.old) (IsLeft (P.was outside.new) left.new)
         × Keeps (W.contents output.old) (W.contents output.new) }
     ensures once { IsOnce P.File.Store P.holds P.keeps (asked command.entry)
-        (R.remaining input.old) (IsLeft (P.unopened outside.new) left.new) }
+        (R.remaining input.old) (IsLeft (P.was outside.new) left.new) }
 {
     match answer(alloc, command, outside, left, input, output) {
         Ok(()) => 0,
@@ -85,16 +85,16 @@ fn answer<P: Outside, R: BufRead, W: Write>(
     input: &mut R,
     output: &mut W,
 ) -> Result<(), Failure>
-    requires { P.unopened outside.old }
+    requires { P.was outside.old None false }
     ensures ok { OnOk result (IsAnswered P.File.Store P.holds P.keeps (asked command.entry)
         (R.remaining input.old) (W.contents output.old) (W.contents output.new)
-        (IsLeft (P.unopened outside.new) left.new)) }
+        (IsLeft (P.was outside.new) left.new)) }
     ensures err { IfErr result (λ failure. status_of failure ≡ 1
         → IsRefused P.File.Store P.holds P.keeps (asked command.entry) (R.remaining input.old)
-        (IsLeft (P.unopened outside.new) left.new)
+        (IsLeft (P.was outside.new) left.new)
         × Keeps (W.contents output.old) (W.contents output.new)) }
     ensures once { IsOnce P.File.Store P.holds P.keeps (asked command.entry)
-        (R.remaining input.old) (IsLeft (P.unopened outside.new) left.new) }
+        (R.remaining input.old) (IsLeft (P.was outside.new) left.new) }
 {
     match command {
         Command::Hash(options) => {

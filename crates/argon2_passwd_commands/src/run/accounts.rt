@@ -1,6 +1,6 @@
 //! Accounts in a file.
 
-ghost use Rattle.std.specs.Prelude.{◌≡◌, ◌⊎◌, ℕ, List, Ok, None, IfErr, IfOk, OnErr, OnOk, map};
+ghost use Rattle.std.specs.Prelude.{◌≡◌, ◌⊎◌, ℕ, List, true, false, Ok, Err, Option, Some, None, IfErr, IfOk, OnErr, OnOk, map};
 ghost use Rattle.std.specs.Io.KnownBytes.{Appends, Keeps};
 ghost use Rattle.rand_core.specs.Stream.{fill_bytes};
 ghost use Rattle.argon2_base.specs.PhcFields.{phc_of};
@@ -9,7 +9,7 @@ ghost use Rattle.argon2.specs.Made.{IsFresh};
 ghost use Rattle.argon2_store.specs.AccountFile.{AddsOrNone, Serves, terms_of};
 ghost use Rattle.argon2_store.specs.Adding.{entry_of};
 ghost use Rattle.argon2_store.specs.Rows.{lines_of};
-ghost use Rattle.argon2_passwd_commands.specs.Answers.{AreRead, AreUnread, IsAdded, IsCalled, IsEdited, IsImported, IsLeft, IsLogin, IsOnce, IsOpened, IsRead, IsRefused, IsRefusedBy, IsSecret, RefusesLine, breaks_lines, call_of, terms_by};
+ghost use Rattle.argon2_passwd_commands.specs.Answers.{AreRead, AreUnread, IsAct, IsAdded, IsEdited, IsImported, IsLeft, IsLogin, IsLooked, IsOnce, IsOpened, IsRead, IsRefused, IsRefusedBy, IsReplaced, IsSecret, RefusesLine, breaks_lines, terms_by, value_of};
 ghost use Rattle.argon2_passwd_commands.specs.Asked.{Asked, choices_of};
 ghost use Rattle.argon2_passwd_commands.specs.Failures.{status_of};
 
@@ -21,7 +21,7 @@ use crate::options::Options;
 use crate::outside::Outside;
 use crate::passwords::password;
 use argon2::PasswordHash;
-use argon2::login::Accepted;
+use argon2::login::{Accepted, LoggedIn};
 use argon2_accounts::{AccountError, Policy};
 use argon2_store::{AccountFile, FileError, OpenError, View};
 use rand_chacha::ChaCha20Rng;
@@ -43,25 +43,45 @@ pub fn verify<P: Outside, R: BufRead>(
     name: &str,
     input: &mut R,
 ) -> Result<Accepted, Failure>
-    requires { P.unopened outside.old }
+    requires { P.was outside.old None false }
     ensures ok { IfOk result (λ accepted. IsLogin P.File.Store P.holds P.keeps
         (choices_of options.now) file.now name.now (Ok accepted) (R.remaining input.old)
-        (IsLeft (P.unopened outside.new) left.new)) }
+        (IsLeft (P.was outside.new) left.new)) }
     ensures err { IfErr result (λ failure. status_of failure ≡ 1
         → IsRefused P.File.Store P.holds P.keeps
         (Asked.verify (choices_of options.now) file.now name.now) (R.remaining input.old)
-        (IsLeft (P.unopened outside.new) left.new)) }
+        (IsLeft (P.was outside.new) left.new)) }
     ensures once { IsOnce P.File.Store P.holds P.keeps
         (Asked.verify (choices_of options.now) file.now name.now) (R.remaining input.old)
-        (IsLeft (P.unopened outside.new) left.new) }
+        (IsLeft (P.was outside.new) left.new) }
 {
     let password = password(alloc, input)?;
     let secret = secret(alloc, outside, options)?;
+    let policy = policy(alloc, options, secret.as_slice())?;
     let mut rng = ChaCha20Rng::from_seed(outside.seed()?);
-    let mut accounts = open(options, outside, file, secret.as_slice())?;
-    let done = accounts.login(&mut rng, name, password.as_slice());
-    *left = Some(accounts.into_store());
-    Ok(done?)
+    let Some(text) = look(options, outside, file, name, secret.as_slice())?? else {
+        policy.hash_for_nobody(password.as_slice());
+        return Err(Failure::Account(AccountError::NameUnknown));
+    };
+    let LoggedIn { accepted, fresh } = policy.log_in(&mut rng, &text, password.as_slice())?;
+    let Some(fresh) = fresh else {
+        return Ok(accepted);
+    };
+    // The password is accepted, whether the fresh text can be written or not.
+    match replace(
+        options,
+        outside,
+        left,
+        file,
+        name,
+        secret.as_slice(),
+        &text,
+        &fresh,
+    ) {
+        Ok(Ok(())) => Ok(accepted),
+        Ok(Err(_)) => Ok(Accepted::Kept),
+        Err(_) => Ok(Accepted::Kept),
+    }
 }
 
 /// Changes the text of a name in a file, by the next passwords.
@@ -75,17 +95,17 @@ pub fn edit<P: Outside, R: BufRead>(
     name: &str,
     input: &mut R,
 ) -> Result<(), Failure>
-    requires { P.unopened outside.old }
+    requires { P.was outside.old None false }
     ensures ok { OnOk result (IsEdited P.File.Store P.holds P.keeps (choices_of options.now)
         file.now edit name.now (Ok tt) (R.remaining input.old)
-        (IsLeft (P.unopened outside.new) left.new)) }
+        (IsLeft (P.was outside.new) left.new)) }
     ensures err { IfErr result (λ failure. status_of failure ≡ 1
         → IsRefused P.File.Store P.holds P.keeps
         (Asked.edit (choices_of options.now) file.now edit name.now) (R.remaining input.old)
-        (IsLeft (P.unopened outside.new) left.new)) }
+        (IsLeft (P.was outside.new) left.new)) }
     ensures once { IsOnce P.File.Store P.holds P.keeps
         (Asked.edit (choices_of options.now) file.now edit name.now) (R.remaining input.old)
-        (IsLeft (P.unopened outside.new) left.new) }
+        (IsLeft (P.was outside.new) left.new) }
 {
     if breaks_lines(edit, name) {
         return Err(Failure::Name);
@@ -120,18 +140,18 @@ pub fn show<P: Outside, W: Write>(
     view: View,
     output: &mut W,
 ) -> Result<(), Failure>
-    requires { P.unopened outside.old }
+    requires { P.was outside.old None false }
     ensures ok { OnOk result (IsRead P.File.Store P.holds P.keeps (choices_of options.now)
         file.now None (λ names. Appends (W.contents output.old) (W.contents output.new)
-        (lines_of view names)) (IsLeft (P.unopened outside.new) left.new)) }
+        (lines_of view names)) (IsLeft (P.was outside.new) left.new)) }
     ensures err { IfErr result (λ failure. status_of failure ≡ 1
         → IsRefused P.File.Store P.holds P.keeps
         (Asked.show (choices_of options.now) file.now view) None
-        (IsLeft (P.unopened outside.new) left.new)
+        (IsLeft (P.was outside.new) left.new)
         × Keeps (W.contents output.old) (W.contents output.new)) }
     ensures once { IsOnce P.File.Store P.holds P.keeps
         (Asked.show (choices_of options.now) file.now view) None
-        (IsLeft (P.unopened outside.new) left.new) }
+        (IsLeft (P.was outside.new) left.new) }
 {
     let secret = secret(alloc, outside, options)?;
     let mut accounts = open(options, outside, file, secret.as_slice())?;
@@ -150,17 +170,17 @@ pub fn import<P: Outside, R: BufRead>(
     any_text: bool,
     input: &mut R,
 ) -> Result<(), Failure>
-    requires { P.unopened outside.old }
+    requires { P.was outside.old None false }
     ensures ok { OnOk result (IsImported P.File.Store P.holds P.keeps (choices_of options.now)
         file.now any_text (λ es. AddsOrNone es (Ok tt)) (R.remaining input.old)
-        (IsLeft (P.unopened outside.new) left.new)) }
+        (IsLeft (P.was outside.new) left.new)) }
     ensures err { IfErr result (λ failure. status_of failure ≡ 1
-        → (IsRefusedBy P.holds (choices_of options.now) (λ terms. ⊥) × P.unopened outside.new)
+        → (IsRefusedBy P.holds (choices_of options.now) (λ terms. ⊥) × P.was outside.new None false)
         ⊎ IsImported P.File.Store P.holds P.keeps (choices_of options.now) file.now any_text
-        (RefusesLine failure) (R.remaining input.old) (IsLeft (P.unopened outside.new) left.new)) }
+        (RefusesLine failure) (R.remaining input.old) (IsLeft (P.was outside.new) left.new)) }
     ensures once { IsOnce P.File.Store P.holds P.keeps
         (Asked.import (choices_of options.now) file.now any_text) (R.remaining input.old)
-        (IsLeft (P.unopened outside.new) left.new) }
+        (IsLeft (P.was outside.new) left.new) }
 {
     let bytes = read_all(alloc, input)?;
     let entries = entries(alloc, bytes.as_slice(), any_text)?;
@@ -179,12 +199,15 @@ fn open<'key, P: Outside>(
     file: &str,
     secret: &'key [u8],
 ) -> Result<AccountFile<'key, P::File>, Failure>
-    requires { P.unopened outside.old }
+    requires { (read : Option P.File) × P.was outside.old read false }
     ensures ok { IfOk result (IsOpened P.keeps file.now
         (terms_by (choices_of options.now) secret.now)) }
     ensures err { IfErr result (λ failure. status_of failure ≡ 1
         → ¬ (AreTerms (terms_by (choices_of options.now) secret.now))) }
-    ensures untouched { OnErr result (P.unopened outside.new) }
+    ensures opened { OnOk result ((read : Option P.File) →
+        P.was outside.old read false → P.was outside.new read true) }
+    ensures untouched { OnErr result ((read : Option P.File) →
+        P.was outside.old read false → P.was outside.new read false) }
 {
     for _ in 0..PAUSES {
         match outside.open(file, target(options, secret)?, options.bound()) {
@@ -241,15 +264,19 @@ fn act<P: Outside, G: Rng>(
     first: &[u8],
     second: &[u8],
 ) -> Result<Result<(), FileError>, Failure>
-    requires unopened { P.unopened outside.old }
+    requires unopened { P.was outside.old None false }
     requires held { IsSecret P.holds (choices_of options.now).secret_file secret.now }
     requires under { policy_terms policy.now ≡ terms_by (choices_of options.now) secret.now }
-    ensures ok { IfOk result (λ done. IsCalled P.File.Store P.holds P.keeps (choices_of options.now)
-        file.now (call_of edit name.now first.now second.now) done
-        (IsLeft (P.unopened outside.new) left.new)) }
+    ensures ok { IfOk result (λ done. IsAct P.File.Store P.holds P.keeps (choices_of options.now)
+        file.now edit name.now first.now second.now done
+        (IsLeft (P.was outside.new) left.new)) }
     ensures err { IfErr result (λ failure. status_of failure ≡ 1
-        → ¬ (AreTerms (terms_by (choices_of options.now) secret.now))) }
-    ensures untouched { OnErr result (P.unopened outside.new) }
+        → ¬ (AreTerms (terms_by (choices_of options.now) secret.now))
+        × P.was outside.new None false) }
+    ensures once { OnErr result (P.was outside.new None false
+        ⊎ IsAct P.File.Store P.holds P.keeps (choices_of options.now)
+        file.now edit name.now first.now second.now (Err FileError.Io)
+        (IsLeft (P.was outside.new) left.new)) }
 {
     match edit {
         Edit::Register => {
@@ -260,10 +287,9 @@ fn act<P: Outside, G: Rng>(
             Ok(done)
         }
         Edit::Change => {
-            let mut accounts = open(options, outside, file, secret)?;
-            let done = accounts.change_password(rng, name, first, second);
-            *left = Some(accounts.into_store());
-            Ok(done)
+            change(
+                options, outside, left, file, name, secret, policy, rng, first, second,
+            )
         }
         Edit::Set => {
             let text = fresh(policy, rng, first)?;
@@ -279,6 +305,97 @@ fn act<P: Outside, G: Rng>(
             Ok(done)
         }
     }
+}
+
+// The text of a name in a file, which is closed again.
+fn look<P: Outside>(
+    options: &Options<'_>,
+    outside: &mut P,
+    file: &str,
+    name: &str,
+    secret: &[u8],
+) -> Result<Result<Option<PasswordHash>, FileError>, Failure>
+    requires { P.was outside.old None false }
+    ensures ok { IfOk result (λ found. IsLooked P.File.Store P.holds P.keeps
+        (terms_by (choices_of options.now) secret.now) file.now name.now (value_of found)
+        (λ read. P.was outside.new (Some read) false)) }
+    ensures err { IfErr result (λ failure. status_of failure ≡ 1
+        → ¬ (AreTerms (terms_by (choices_of options.now) secret.now))) }
+    ensures untouched { OnErr result (P.was outside.new None false) }
+{
+    let mut accounts = open(options, outside, file, secret)?;
+    let found = accounts.text_of(name);
+    outside.close(accounts.into_store());
+    Ok(found)
+}
+
+// Replaces the text of a name in a file that was closed, if it is still the one that was read.
+fn replace<P: Outside>(
+    options: &Options<'_>,
+    outside: &mut P,
+    left: &mut Option<P::File>,
+    file: &str,
+    name: &str,
+    secret: &[u8],
+    old: &PasswordHash,
+    new: &PasswordHash,
+) -> Result<Result<(), FileError>, Failure>
+    requires { (read : P.File) × P.was outside.old (Some read) false }
+    ensures ok { IfOk result (λ done. (read : P.File) → P.was outside.old (Some read) false
+        → IsReplaced P.File.Store P.holds P.keeps (terms_by (choices_of options.now) secret.now)
+        file.now name.now (phc_of old.now) (phc_of new.now) done
+        (IsLeft (P.was outside.new) left.new (Some read))) }
+    ensures err { IfErr result (λ failure. status_of failure ≡ 1
+        → ¬ (AreTerms (terms_by (choices_of options.now) secret.now))) }
+    ensures untouched { OnErr result ((read : P.File) →
+        P.was outside.old (Some read) false → P.was outside.new (Some read) false) }
+{
+    let mut accounts = open(options, outside, file, secret)?;
+    let done = accounts.replace(name, old.text().as_str(), new.text().as_str());
+    *left = Some(accounts.into_store());
+    Ok(done)
+}
+
+// Changes the text of a name if it accepts the first password. No file is open while passwords are hashed.
+fn change<P: Outside, G: Rng>(
+    options: &Options<'_>,
+    outside: &mut P,
+    left: &mut Option<P::File>,
+    file: &str,
+    name: &str,
+    secret: &[u8],
+    policy: &Policy<'_>,
+    rng: &mut G,
+    first: &[u8],
+    second: &[u8],
+) -> Result<Result<(), FileError>, Failure>
+    requires unopened { P.was outside.old None false }
+    requires held { IsSecret P.holds (choices_of options.now).secret_file secret.now }
+    requires under { policy_terms policy.now ≡ terms_by (choices_of options.now) secret.now }
+    ensures ok { IfOk result (λ done. IsAct P.File.Store P.holds P.keeps (choices_of options.now)
+        file.now Edit.Change name.now first.now second.now done
+        (IsLeft (P.was outside.new) left.new)) }
+    ensures err { IfErr result (λ failure. status_of failure ≡ 1
+        → ¬ (AreTerms (terms_by (choices_of options.now) secret.now))
+        × P.was outside.new None false) }
+    ensures once { OnErr result (P.was outside.new None false
+        ⊎ IsAct P.File.Store P.holds P.keeps (choices_of options.now)
+        file.now Edit.Change name.now first.now second.now (Err FileError.Io)
+        (IsLeft (P.was outside.new) left.new)) }
+{
+    let text = match look(options, outside, file, name, secret)? {
+        Ok(Some(text)) => text,
+        Ok(None) => {
+            policy.hash_for_nobody(first);
+            return Ok(Err(FileError::Account(AccountError::NameUnknown)));
+        }
+        Err(error) => return Ok(Err(error)),
+    };
+    let fresh = match policy.change_password(rng, &text, first, second) {
+        Ok(fresh) => fresh,
+        Err(error) => return Ok(Err(FileError::Account(error))),
+    };
+    replace(options, outside, left, file, name, secret, &text, &fresh)
 }
 
 // A fresh text of a password.

@@ -16,7 +16,7 @@ returns-in_ok-reply-in-Check-clause-ok g c =
     let done = c.in_ok-reply-in-Check.ensures.ok in
     ok_then {Q = IsAnswered g.P.File.Store g.P.Outside.holds g.P.Outside.keeps (asked c.args.command)
     (g.R.Read.remaining c.args.input.now) (g.W.Write.contents c.args.output.now)
-    (g.W.Write.contents c.write_line-in-Check.new.output) (IsLeft (g.P.Outside.unopened c.args.outside.now) c.args.left.now)}
+    (g.W.Write.contents c.write_line-in-Check.new.output) (IsLeft (g.P.Outside.was c.args.outside.now) c.args.left.now)}
     _ c.write_line-in-Check.ensures.ok
     (λ appended. rw c.in-Check.is ((done.0, done.1, _, done.2, done.3, (rw c.as_str-in-Check.ensures.value at appended)), c.requires))
 
@@ -24,7 +24,7 @@ pub returns-in_ok-accepted-in-Verify-clause-ok : goal.returns-in_ok-accepted-in-
 returns-in_ok-accepted-in-Verify-clause-ok g c =
     ok_then {Q = IsAnswered g.P.File.Store g.P.Outside.holds g.P.Outside.keeps (asked c.args.command)
     (g.R.Read.remaining c.args.input.now) (g.W.Write.contents c.args.output.now)
-    (g.W.Write.contents c.write_accepted.new.output) (IsLeft (g.P.Outside.unopened c.verify.new.outside) c.verify.new.left)}
+    (g.W.Write.contents c.write_accepted.new.output) (IsLeft (g.P.Outside.was c.verify.new.outside) c.verify.new.left)}
     _ c.write_accepted.ensures.ok
     (λ appended. rw c.in-Verify.is
     (c.in_ok-accepted-in-Verify.accepted, c.in_ok-accepted-in-Verify.ensures.ok, appended))
@@ -33,7 +33,7 @@ pub returns-in-Edit-clause-ok : goal.returns-in-Edit-clause-ok
 returns-in-Edit-clause-ok g c =
     ok_then {Q = IsAnswered g.P.File.Store g.P.Outside.holds g.P.Outside.keeps (asked c.args.command)
     (g.R.Read.remaining c.args.input.now) (g.W.Write.contents c.args.output.now)
-    (g.W.Write.contents c.args.output.now) (IsLeft (g.P.Outside.unopened c.edit.new.outside) c.edit.new.left)}
+    (g.W.Write.contents c.args.output.now) (IsLeft (g.P.Outside.was c.edit.new.outside) c.edit.new.left)}
     _ c.edit.ensures.ok (λ done. rw c.in-Edit.is (done, keeps_same _))
 
 pub returns-in-Edit-clause-err : goal.returns-in-Edit-clause-err
@@ -46,7 +46,7 @@ pub returns-in-Import-clause-ok : goal.returns-in-Import-clause-ok
 returns-in-Import-clause-ok g c =
     ok_then {Q = IsAnswered g.P.File.Store g.P.Outside.holds g.P.Outside.keeps (asked c.args.command)
     (g.R.Read.remaining c.args.input.now) (g.W.Write.contents c.args.output.now)
-    (g.W.Write.contents c.args.output.now) (IsLeft (g.P.Outside.unopened c.import.new.outside) c.import.new.left)}
+    (g.W.Write.contents c.args.output.now) (IsLeft (g.P.Outside.was c.import.new.outside) c.import.new.left)}
     _ c.import.ensures.ok (λ done. rw c.in-Import.is (done, keeps_same _))
 
 pub returns-in-Import-clause-err : goal.returns-in-Import-clause-err

@@ -1,4 +1,4 @@
-use Rattle.std.proofs.Common.{◌≡◌, ◌∙◌, List, [], ℕ, Some, ap, subst, sym}
+use Rattle.std.proofs.Common.{◌≡◌, ◌∙◌, List, [], ℕ, Some, None, ap, subst, sym}
 use Rattle.argon2_accounts.specs.Accounts.{Terms}
 use Rattle.argon2.specs.Made.{IsFresh}
 use Rattle.argon2_base.specs.PhcText.{Phc}
@@ -20,19 +20,7 @@ returns-in_ok-accounts-in-Register-clause-ok g c = rw c.in-Register.is (
   c.in_ok-accounts-in-Register.ensures.ok,
   (c.add_text-done.ensures c.args.first.now _ (under _ _ _ _ _ _ c.requires.under c.in_ok-accounts-in-Register.ensures.ok.2.under
       c.in_ok-text-in-Register.ensures.ok)),
-  ap Some c.into_store.ensures,
-)
-
-pub returns-in_ok-accounts-in-Change-clause-ok : goal.returns-in_ok-accounts-in-Change-clause-ok
-returns-in_ok-accounts-in-Change-clause-ok g c = rw c.in-Change.is (
-  c.args.secret.now,
-  _,
-  c.in_ok-accounts-in-Change.accounts,
-  c.change_password-done.new.self,
-  c.requires.held,
-  c.in_ok-accounts-in-Change.ensures.ok,
-  c.change_password-done.ensures.call,
-  ap Some c.into_store-in-Change.ensures,
+  (c.in_ok-accounts-in-Register.ensures.opened None c.requires.unopened, ap Some c.into_store.ensures),
 )
 
 pub returns-in_ok-accounts-in-Set-clause-ok : goal.returns-in_ok-accounts-in-Set-clause-ok
@@ -45,7 +33,7 @@ returns-in_ok-accounts-in-Set-clause-ok g c = rw c.in-Set.is (
   c.in_ok-accounts-in-Set.ensures.ok,
   (c.set_text-done.ensures c.args.first.now _ (under _ _ _ _ _ _ c.requires.under c.in_ok-accounts-in-Set.ensures.ok.2.under
       c.in_ok-text-in-Set.ensures.ok)),
-  ap Some c.into_store-in-Set.ensures,
+  (c.in_ok-accounts-in-Set.ensures.opened None c.requires.unopened, ap Some c.into_store-in-Set.ensures),
 )
 
 pub returns-in_ok-accounts-in-Remove-clause-ok : goal.returns-in_ok-accounts-in-Remove-clause-ok
@@ -57,5 +45,5 @@ returns-in_ok-accounts-in-Remove-clause-ok g c = rw c.in-Remove.is (
   c.requires.held,
   c.in_ok-accounts-in-Remove.ensures.ok,
   c.remove-done.ensures,
-  ap Some c.into_store-in-Remove.ensures,
+  (c.in_ok-accounts-in-Remove.ensures.opened None c.requires.unopened, ap Some c.into_store-in-Remove.ensures),
 )

@@ -1,4 +1,4 @@
-use Rattle.std.proofs.Common.{inr, sym, ◌∙◌}
+use Rattle.std.proofs.Common.{inl, inr, sym, ◌∙◌, ⊎_elim}
 use Rattle.argon2_passwd_commands.proofs.Refusals.{refused}
 use Rattle.argon2_passwd_commands.proofs.run.accounts.edit.Goals as goal
 
@@ -48,3 +48,17 @@ returns-clause-once g c = inr (
     (rw (c.as_slice-3.ensures.value, c.as_slice-4.ensures.value) at c.in_ok-done.ensures.ok),
   ),
 )
+
+pub returns-in_err-done-clause-once : goal.returns-in_err-done-clause-once
+returns-in_err-done-clause-once g c =
+    ⊎_elim inl (λ done. inr (
+      _,
+      (
+        sym c.breaks_lines.ensures ∙ c.if-breaks_lines.false,
+        c.in_ok-first.first.items,
+        c.in_ok-first.second.items,
+        c.in_ok-first.ensures.ok,
+        done,
+      ),
+    ))
+    (rw (c.as_slice-3.ensures.value, c.as_slice-4.ensures.value) at c.in_err-done.ensures.once)

@@ -18,7 +18,7 @@ pub returns-clause-ok : goal.returns-clause-ok
 returns-clause-ok g c =
     let input = g.R.Read.remaining c.args.input.now in
     ok_then {Q = IsImported g.P.File.Store g.P.Outside.holds g.P.Outside.keeps (choices_of c.args.options.now) c.args.file.now c.args.any_text
-    (λ es. AddsOrNone es (Ok tt)) input (IsLeft (g.P.Outside.unopened c.open.new.outside) (Some c.into_store.result))} _ c.add_all-added.ensures.ok (λ added. (
+    (λ es. AddsOrNone es (Ok tt)) input (IsLeft (g.P.Outside.was c.open.new.outside) (Some c.into_store.result))} _ c.add_all-added.ensures.ok (λ added. (
       map entry_of c.in_ok-entries.entries.items,
       of_known c.args.any_text input _ _ _ c.in_ok-bytes.ensures.ok c.as_slice.ensures.value c.in_ok-entries.ensures,
       (
@@ -29,7 +29,7 @@ returns-clause-ok g c =
         c.in_ok-secret.ensures.ok,
         (rw c.as_slice-2.ensures.value at c.in_ok-accounts.ensures.ok),
         (rw c.as_slice-3.ensures.value at added),
-        ap Some c.into_store.ensures,
+        (c.in_ok-accounts.ensures.opened None c.requires, ap Some c.into_store.ensures),
       ),
     ))
 
@@ -47,7 +47,7 @@ returns-clause-err g c =
         c.in_ok-secret.ensures.ok,
         (rw c.as_slice-2.ensures.value at c.in_ok-accounts.ensures.ok),
         (rw c.as_slice-3.ensures.value at refused),
-        ap Some c.into_store.ensures,
+        (c.in_ok-accounts.ensures.opened None c.requires, ap Some c.into_store.ensures),
       ),
     ))
 
@@ -64,6 +64,6 @@ returns-clause-once g c = inr (
     c.in_ok-secret.ensures.ok,
     (rw c.as_slice-2.ensures.value at c.in_ok-accounts.ensures.ok),
     (rw c.as_slice-3.ensures.value at c.add_all-added.ensures.once),
-    ap Some c.into_store.ensures,
+    (c.in_ok-accounts.ensures.opened None c.requires, ap Some c.into_store.ensures),
   ),
 )

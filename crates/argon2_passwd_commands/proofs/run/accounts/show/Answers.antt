@@ -1,4 +1,4 @@
-use Rattle.std.proofs.Common.{[], Some, ap, inr}
+use Rattle.std.proofs.Common.{[], Some, None, ap, inr}
 use Rattle.argon2_passwd_commands.proofs.run.accounts.show.Goals as goal
 
 pub returns-clause-ok : goal.returns-clause-ok
@@ -13,7 +13,7 @@ returns-clause-ok g c = (
     c.in_ok-written.ensures.reads names has,
     λ honest. rw c.in_ok-branch.was at c.in_ok-written.ensures.shows names has honest,
   )),
-  ap Some c.into_store.ensures,
+  (c.in_ok-accounts.ensures.opened None c.requires, ap Some c.into_store.ensures),
 )
 
 pub returns-in_err-branch-clause-once : goal.returns-in_err-branch-clause-once
@@ -27,7 +27,7 @@ returns-in_err-branch-clause-once g c = inr (
     c.in_ok-secret.ensures.ok,
     (rw c.as_slice.ensures.value at c.in_ok-accounts.ensures.ok),
     (λ names has. (c.in_ok-written.ensures.reads names has, λ honest. tt)),
-    ap Some c.into_store.ensures,
+    (c.in_ok-accounts.ensures.opened None c.requires, ap Some c.into_store.ensures),
   ),
 )
 
@@ -42,7 +42,7 @@ returns-in_err-written-clause-once g c = inr (
     c.in_ok-secret.ensures.ok,
     (rw c.as_slice.ensures.value at c.in_ok-accounts.ensures.ok),
     (λ names has. (c.in_err-written.ensures.reads names has, λ honest. tt)),
-    ap Some c.into_store.ensures,
+    (c.in_ok-accounts.ensures.opened None c.requires, ap Some c.into_store.ensures),
   ),
 )
 
@@ -57,6 +57,6 @@ returns-clause-once g c = inr (
     c.in_ok-secret.ensures.ok,
     (rw c.as_slice.ensures.value at c.in_ok-accounts.ensures.ok),
     (λ names has. (c.in_ok-written.ensures.reads names has, λ honest. tt)),
-    ap Some c.into_store.ensures,
+    (c.in_ok-accounts.ensures.opened None c.requires, ap Some c.into_store.ensures),
   ),
 )

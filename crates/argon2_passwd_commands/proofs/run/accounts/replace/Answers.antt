@@ -1,0 +1,11 @@
+use Rattle.std.proofs.Common.{Some, ap}
+use Rattle.argon2_passwd_commands.proofs.run.accounts.replace.Goals as goal
+
+pub returns-clause-ok : goal.returns-clause-ok
+returns-clause-ok g c = λ read was. (
+  c.in_ok-accounts.accounts,
+  c.replace-done.new.self,
+  c.in_ok-accounts.ensures.ok,
+  (rw (c.as_str.ensures.value, c.as_str-2.ensures.value, c.text.ensures.1, c.text-2.ensures.1) at c.replace-done.ensures),
+  (c.in_ok-accounts.ensures.opened (Some read) was, ap Some c.into_store.ensures),
+)
