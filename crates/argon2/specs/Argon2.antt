@@ -58,14 +58,8 @@ IsKeyed own key (Err e) = (e ≡ SecretTooLong) × (max_len < length key)
 abbrev pub argon2id_with : Parameters → Settings
 argon2id_with parameters = record { algorithm = Argon2id; version = V0x13; parameters = parameters }
 
--- Argon2id of version 0x13 with these parameters and no secret
-abbrev pub IsArgon2idWith : Parameters → Argon2 → Type 0
-IsArgon2idWith parameters argon2 =
-    (settings_of argon2 ≡ argon2id_with parameters) × (secret_of argon2 ≡ [])
-
 -- hashing with these parameters, which are valid, and no secret, or their first fault
 abbrev pub IsContextOf : Algorithm → Version → Parameters → Result Argon2 Error → Type 0
-IsContextOf algorithm version v (Ok argon2) = AreValid v
-    × (settings_of argon2 ≡ record { algorithm = algorithm; version = version; parameters = v })
-    × (secret_of argon2 ≡ [])
+IsContextOf algorithm version v (Ok argon2) =
+    AreValid v × IsWith (record { algorithm = algorithm; version = version; parameters = v }) [] argon2
 IsContextOf algorithm version v (Err e) = first_fault v.m_cost v.t_cost v.p_cost v.output_len ≡ Some e

@@ -14,10 +14,6 @@ use Rattle.argon2.specs.NamedTexts.{IsText}
 use Rattle.argon2.specs.Settings.{Parameters}
 use Rattle.argon2.specs.Rfc9106.{block_count_for}
 
--- the bytes of the memory that is filled
-abbrev pub bytes_filled : Parameters → ℕ
-bytes_filled parameters = 1024 * block_count_for parameters.m_cost parameters.p_cost
-
 -- no cost is above the bound's
 abbrev pub IsWithin : Bound → Parameters → Type 0
 IsWithin bound parameters = (parameters.m_cost ≤ bound.m_cost)
@@ -28,7 +24,7 @@ pub record AsksWithin (bound : Bound) (v : Phc) : Type 0 where
   pub parameters : Parameters
   pub asked : asked_of v ≡ Ok parameters
   pub within : IsWithin bound parameters
-  pub memory : bytes_filled parameters ≤ 1024 * bound.m_cost
+  pub memory : 1024 * block_count_for parameters.m_cost parameters.p_cost ≤ 1024 * bound.m_cost
 
 -- the value asks for costs within the bound, and for so many blocks
 abbrev pub AsksBlocksWithin : Bound → Phc → ℕ → Type 0

@@ -16,17 +16,17 @@ use Rattle.argon2.specs.Steps.{reference_place, step}
 abbrev pub output_refusal : Argon2 → ℕ → Option Error
 output_refusal argon2 n = first_of (output_faults (own_parameters argon2).output_len n)
 
--- why an output of n bytes, a password, a salt or lent memory is refused
-abbrev pub refusal_of : Argon2 → ℕ → List ℕ → List ℕ → Memory → Option Error
-refusal_of argon2 n password salt memory = first_of (
+-- why an output of n bytes, a password, a salt or so many blocks of lent memory are refused
+abbrev pub refusal_of : Argon2 → ℕ → List ℕ → List ℕ → ℕ → Option Error
+refusal_of argon2 n password salt blocks = first_of (
     output_faults (own_parameters argon2).output_len n
     ++ input_faults (length password) (length salt)
-    ++ memory_faults (block_count (context_of argon2)) (length memory))
+    ++ memory_faults (block_count (context_of argon2)) blocks)
 
 -- why filling memory is refused, which has no output
-abbrev pub fill_refusal : Argon2 → List ℕ → List ℕ → Memory → Option Error
-fill_refusal argon2 password salt memory = first_of (input_faults (length password) (length salt)
-    ++ memory_faults (block_count (context_of argon2)) (length memory))
+abbrev pub fill_refusal : Argon2 → List ℕ → List ℕ → ℕ → Option Error
+fill_refusal argon2 password salt blocks = first_of (input_faults (length password) (length salt)
+    ++ memory_faults (block_count (context_of argon2)) blocks)
 
 -- what a call that asks for memory may answer: Ok without a refusal, else that refusal or that there is no memory
 abbrev pub MayAnswer : Option Error → Result (Unit {0}) Error → Type 0
@@ -102,7 +102,7 @@ pub record IsHashed (argon2 : Argon2) (password salt output : List ℕ) (old new
 -- what a watched hash on lent memory answers, and leaves of an output, a memory and places for references
 pub record IsWatched (argon2 : Argon2) (password salt output output' : List ℕ) (memory memory' : Memory)
     (places places' : List ℕ) (result : Result ℕ Error) : Type 0 where
-  pub answer : result ≡ answer_unless (refusal_of argon2 (length output) password salt memory)
+  pub answer : result ≡ answer_unless (refusal_of argon2 (length output) password salt (length memory))
       (mixing_calls (context_of argon2))
   pub hashed : OnOk result (IsHashed argon2 password salt output' memory memory')
   pub positions : let ctx = context_of argon2 in OnOk result (length places ≡ place_count ctx →

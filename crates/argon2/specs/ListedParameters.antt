@@ -1,5 +1,5 @@
 -- What a list of parameters stands for, item after item, and how parameters print.
-use Rattle.std.specs.Prelude.{◌≡◌, ℕ, List, [], ◌∷◌, ◌++◌, codes, if◌then◌else◌, Option, Some, None, IsNone, Result, Ok, Err, unwrap_or, option_and_then, ◌⊎◌, length}
+use Rattle.std.specs.Prelude.{◌≡◌, ℕ, List, [], ◌∷◌, ◌++◌, codes, if◌then◌else◌, Option, Some, None, IsNone, Result, Ok, Err, ok_or, unwrap_or, option_and_then, ◌⊎◌, length}
 use Rattle.std.specs.Fmt.{decimal}
 use Rattle.std.specs.Option.{option_or, option_and_then, option_map}
 use Rattle.std.specs.Str.{bytes_eq}
@@ -7,7 +7,7 @@ use Rattle.argon2_base.specs.Texts.{number_of, strict_base64}
 pub use Rattle.argon2_base.specs.Texts.{short_bytes}
 use Rattle.argon2_base.specs.PhcText.{Pair, ParamsText, Phc, value_of}
 use Rattle.argon2_base.specs.declared.error.password_hash.Error.{Error as HashError}
-use Rattle.argon2_base.specs.Error.{Fault, as_fault, bad_param, bad_params, fault_of, outcome_of}
+use Rattle.argon2_base.specs.Error.{Fault, as_fault, bad_param, bad_params, outcome_of}
 use Rattle.argon2.specs.Settings.{Parameters, first_fault, plain}
 use Rattle.argon2.specs.declared.params.text.Found.{Found}
 use Rattle.argon2.specs.Params.{data_bytes, keyid_bytes, parameters_of}
@@ -37,11 +37,6 @@ abbrev pub unless_read : {X : Type 0} → Option X → List ℕ → Option Fault
 unless_read (Some x) name = None
 unless_read None name = Some (bad_param name)
 
--- a value that was read, or the fault where there is none
-abbrev pub IsValueOr : {A X : Type 0} → Fault → (A → X) → Option X → Result A HashError → Type 0
-IsValueOr fault view value (Ok x) = value ≡ Some (view x)
-IsValueOr fault view value (Err e) = (value ≡ None) × (fault_of e ≡ fault)
-
 -- why an item is refused
 abbrev pub item_fault : Pair → Option Fault
 item_fault p =
@@ -69,27 +64,25 @@ abbrev pub checked : {X : Type 0} → Option Fault → Result X Fault → Result
 checked None next = next
 checked (Some fault) next = Err fault
 
--- each of m, t and p has to be there, and together they have to be valid
-abbrev pub with_costs : Option ℕ → Option ℕ → Option ℕ → List ℕ → List ℕ → Option ℕ → Result Parameters Fault
-with_costs None _ _ _ _ _ = Err bad_params
-with_costs (Some m) None _ _ _ _ = Err bad_params
-with_costs (Some m) (Some t) None _ _ _ = Err bad_params
-with_costs (Some m) (Some t) (Some p) keyid associated output_len =
-    checked (option_map as_fault (first_fault m t p output_len))
-    (Ok (record {
+-- something read, or else its fault
+abbrev pub read : {X Y : Type 0} → Result X Fault → (X → Result Y Fault) → Result Y Fault
+read (Ok x) next = next x
+read (Err fault) next = Err fault
+
+-- the parameters of a list, with this output length, or the first fault: each of m, t and p has to be there, and
+-- together they have to be valid
+abbrev pub params_of : Option ℕ → List Pair → Result Parameters Fault
+params_of output_len ps = checked (items_fault ps) (read (ok_or (number_at (codes "m") ps) bad_params) (λ m.
+    read (ok_or (number_at (codes "t") ps) bad_params) (λ t.
+    read (ok_or (number_at (codes "p") ps) bad_params) (λ p.
+    checked (option_map as_fault (first_fault m t p output_len)) (Ok (record {
       m_cost = m;
       t_cost = t;
       p_cost = p;
-      keyid = keyid;
-      associated = associated;
+      keyid = bytes_at 8 (codes "keyid") ps;
+      associated = bytes_at 32 (codes "data") ps;
       output_len = output_len;
-    }))
-
--- the parameters of a list, with this output length, or the first fault
-abbrev pub params_of : Option ℕ → List Pair → Result Parameters Fault
-params_of output_len ps = checked (items_fault ps)
-    (with_costs (number_at (codes "m") ps) (number_at (codes "t") ps) (number_at (codes "p") ps)
-    (bytes_at 8 (codes "keyid") ps) (bytes_at 32 (codes "data") ps) output_len)
+    }))))))
 
 -- valid costs with bytes, listed, are read as the same with any length of output
 abbrev pub AreReadAgain : ℕ → ℕ → ℕ → List ℕ → List ℕ → Type 0
@@ -135,11 +128,6 @@ items_over ps before = record {
   keyid = option_or (items_of ps).keyid before.keyid;
   associated = option_or (items_of ps).associated before.associated;
 }
-
--- a value that was read, or the fault where there is none
-abbrev pub value_taken : {X : Type 0} → Fault → Option X → Result (Option X) Fault
-value_taken fault (Some x) = Ok (Some x)
-value_taken fault None = Err fault
 
 -- one item more, or why it is refused
 abbrev pub item_taken : Pair → Items → Result Items Fault

@@ -1,5 +1,5 @@
 -- The value that hashing makes, and what hashing to a text answers.
-use Rattle.std.specs.Prelude.{◌≡◌, ◌≤◌, ◌<◌, ◌^◌, ◌⊎◌, ℕ, Bool, List, [], ◌∷◌, ◌++◌, length, nat_lt, Option, Some, None, IsNone, Result, Ok, Err, unwrap_or}
+use Rattle.std.specs.Prelude.{◌≡◌, ◌≤◌, ◌<◌, ◌^◌, ◌⊎◌, ℕ, Bool, List, [], ◌∷◌, ◌++◌, length, nat_lt, Option, Some, IsNone, Result, Ok, Err, codes, ok_or, unwrap_or}
 use Rattle.argon2_base.specs.Error.{Fault, bad_algorithm, bad_output_size, bad_password, bad_salt, bad_version, no_memory, outcome_of}
 use Rattle.argon2_base.specs.PhcFields.{phc_of}
 use Rattle.argon2_base.specs.PhcText.{Phc, HasBytes}
@@ -7,16 +7,13 @@ use Rattle.argon2_base.specs.declared.error.password_hash.Error.{Error}
 use Rattle.argon2_base.specs.declared.error.password_hash.Error.TheVariants.{OutOfMemory, PasswordInvalid}
 use Rattle.argon2_base.specs.declared.phc.hash.PasswordHash.{PasswordHash}
 use Rattle.argon2.specs.declared.algorithm.Algorithm.{Algorithm}
-use Rattle.argon2.specs.declared.algorithm.Algorithm.TheVariants.{Argon2id}
 use Rattle.argon2.specs.declared.context.Argon2.{Argon2}
 use Rattle.argon2.specs.declared.version.Version.{Version}
-use Rattle.argon2.specs.declared.version.Version.TheVariants.{V0x13}
 use Rattle.argon2.specs.Settings.{AreValid, Parameters, Settings, algorithm_name, algorithm_named, version_number, version_numbered}
 use Rattle.argon2.specs.Argon2.{context_of, secret_of, settings_of}
 use Rattle.argon2.specs.Rfc9106.{context_with, tag_of}
-use Rattle.argon2.specs.ListedParameters.{checked, list_of}
+use Rattle.argon2.specs.ListedParameters.{checked, list_of, read}
 use Rattle.argon2.specs.Refusals.{first_of, max_len}
-use Rattle.argon2.specs.Stored.{found}
 
 -- what hashes are made under
 pub record Target : Type 0 where
@@ -97,20 +94,18 @@ IsHashAnswer target password salt r = (outcome_of phc_of r ≡ hashed target pas
 
 -- ---- settings that the caller gives
 
--- the algorithm of this name, Argon2id where none is given
-abbrev pub algorithm_asked : Option (List ℕ) → Option Algorithm
-algorithm_asked None = Some Argon2id
-algorithm_asked (Some name) = algorithm_named name
+-- the algorithm of this name, Argon2id if none is given, or the fault
+abbrev pub algorithm_asked : Option (List ℕ) → Result Algorithm Fault
+algorithm_asked name = ok_or (algorithm_named (unwrap_or name (codes "argon2id"))) bad_algorithm
 
--- the version of this number, 0x13 where none is given
-abbrev pub version_asked : Option ℕ → Option Version
-version_asked None = Some V0x13
-version_asked (Some number) = version_numbered number
+-- the version of this number, 0x13 if none is given, or the fault
+abbrev pub version_asked : Option ℕ → Result Version Fault
+version_asked number = ok_or (version_numbered (unwrap_or number 19)) bad_version
 
 -- the settings of a name, a number and parameters, or the fault of the first that there is not
 abbrev pub settings_asked : Option (List ℕ) → Option ℕ → Parameters → Result Settings Fault
-settings_asked name number parameters = found (algorithm_asked name) bad_algorithm (λ algorithm.
-    found (version_asked number) bad_version (λ version.
+settings_asked name number parameters = read (algorithm_asked name) (λ algorithm.
+    read (version_asked number) (λ version.
     Ok (record { algorithm = algorithm; version = version; parameters = parameters })))
 
 -- what hashing under such settings may answer

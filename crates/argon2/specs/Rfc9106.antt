@@ -130,10 +130,6 @@ finished_segments ctx (suc pass) slice =
     columns pass ((slice + 1) * segment_length ctx) (lane_length ctx)
     ++ columns (suc pass) 0 (slice * segment_length ctx)
 
--- the list without its last entry
-unfoldable pub without_last : List (ℕ × ℕ) → List (ℕ × ℕ)
-without_last xs = take (length xs - 1) xs
-
 -- The pairs (pass, column) of a lane `other` that the block of a pass, a lane and a column may
 -- refer to, oldest first: the finished segments, and of the lane itself the segment so far but for the
 -- previous block. At a segment's start the last of them is left out.
@@ -142,7 +138,7 @@ permitted ctx pass lane column other =
     let slice = column / segment_length ctx in
     let finished = finished_segments ctx pass slice in
     if column % segment_length ctx == 0
-    then without_last finished
+    then take (length finished - 1) finished
     else finished
     ++ (if other == lane then columns pass (slice * segment_length ctx) (column - 1) else [])
 

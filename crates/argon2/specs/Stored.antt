@@ -1,15 +1,14 @@
 -- What a stored value shows, and when it accepts a password.
-use Rattle.std.specs.Prelude.{ℕ, List, length, Option, Some, None, Result, Ok, Err, ◌≡◌, ◌≤◌, ◌&&◌, nat_le, Bool, if◌then◌else◌, IsOk, ◌⊎◌}
+use Rattle.std.specs.Prelude.{ℕ, List, length, Some, Result, Ok, Err, ok_or, unwrap_or, ◌≡◌, ◌≤◌, ◌&&◌, nat_le, Bool, if◌then◌else◌, IsOk, ◌⊎◌}
 use Rattle.std.specs.Str.{bytes_eq}
 use Rattle.argon2_base.specs.Error.{Fault, bad_algorithm, bad_encoding, bad_password, bad_version, no_memory, outcome_of}
 use Rattle.argon2_base.specs.PhcText.{Phc, PhcText}
 use Rattle.argon2.specs.declared.password_hash.stored.Settings.{Settings as StoredSettings}
 use Rattle.argon2.specs.declared.password_hash.stored.Stored.{Stored as StoredHash}
-use Rattle.argon2.specs.declared.version.Version.{Version}
-use Rattle.argon2.specs.declared.version.Version.TheVariants.{V0x10}
 use Rattle.argon2.specs.Settings.{Settings, algorithm_named, version_numbered}
 use Rattle.argon2.specs.Argon2.{settings_with}
 use Rattle.argon2.specs.ListedParameters.{asked_of, params_of}
+pub use Rattle.argon2.specs.ListedParameters.{read}
 use Rattle.argon2_base.specs.declared.error.password_hash.Error.{Error}
 use Rattle.argon2.specs.Refusals.{max_len}
 use Rattle.argon2.specs.Rfc9106.{context_with, tag_of}
@@ -30,33 +29,18 @@ abbrev pub stored_value : StoredHash → Stored
 stored_value own =
     record { settings = settings_value own.settings; salt = own.salt.now; hash = own.hash.now }
 
--- something found, or else the fault
-abbrev pub found : {X Y : Type 0} → Option X → Fault → (X → Result Y Fault) → Result Y Fault
-found (Some x) fault next = next x
-found None fault next = Err fault
-
--- something read, or else its fault
-abbrev pub read : {X Y : Type 0} → Result X Fault → (X → Result Y Fault) → Result Y Fault
-read (Ok x) next = next x
-read (Err fault) next = Err fault
-
--- the version that a text shows: version 0x10 where it has none
-abbrev pub version_shown : Option ℕ → Option Version
-version_shown None = Some V0x10
-version_shown (Some number) = version_numbered number
-
--- the settings that a value shows: parameters with the hash's length, an algorithm and a version; or
--- the fault of the first that is not there
+-- the settings that a value shows: parameters with the hash's length, an algorithm and a version, 16 if it has
+-- none; or the fault of the first that is not there
 abbrev pub shown_settings : Phc → Result Settings Fault
 shown_settings v = read (asked_of v) (λ parameters.
-    found (algorithm_named v.algorithm) bad_algorithm (λ algorithm.
-    found (version_shown v.version) bad_version (λ version.
+    read (ok_or (algorithm_named v.algorithm) bad_algorithm) (λ algorithm.
+    read (ok_or (version_numbered (unwrap_or v.version 16)) bad_version) (λ version.
     Ok (record { algorithm = algorithm; version = version; parameters = parameters }))))
 
 -- a salt, a hash and settings, or the fault of the first that is not there
 abbrev pub stored_of : Phc → Result Stored Fault
-stored_of v = found v.salt bad_password (λ salt.
-    found v.hash bad_password (λ hash.
+stored_of v = read (ok_or v.salt bad_password) (λ salt.
+    read (ok_or v.hash bad_password) (λ hash.
     read (shown_settings v) (λ settings.
     Ok (record { settings = settings; salt = salt; hash = hash }))))
 
@@ -71,7 +55,7 @@ pub record AcceptsBy (secret password : List ℕ) (v : Phc) : Type 0 where
   pub has_hash : v.hash ≡ Some hash
   pub has_parameters : params_of (Some (length hash)) v.params ≡ Ok settings.parameters
   pub has_algorithm : algorithm_named v.algorithm ≡ Some settings.algorithm
-  pub has_version : version_shown v.version ≡ Some settings.version
+  pub has_version : version_numbered (unwrap_or v.version 16) ≡ Some settings.version
   pub short : length password ≤ max_len
   pub same_tag : hash ≡ tag_of (context_with settings secret) password salt (length hash)
 

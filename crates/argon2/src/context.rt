@@ -136,8 +136,8 @@ impl<'key> Argon2<'key> {
         out: &mut [u8],
         memory: &mut [Block],
     ) -> Result<()>
-        ensures answer { result
-            ≡ answer_unless (refusal_of self.now (length out.old) pwd.now salt.now memory.old) tt }
+        ensures answer { result ≡ answer_unless (refusal_of self.now (length out.old) pwd.now
+            salt.now (length memory.old)) tt }
 
         ensures hashed { OnOk result (IsHashed self.now pwd.now salt.now out.new memory.old
             memory.new) }
@@ -164,8 +164,8 @@ impl<'key> Argon2<'key> {
         memory: &mut [Words],
     ) -> Result<()>
         requires data { length associated.now < 2 ^ 32 }
-        ensures answer { result
-            ≡ answer_unless (refusal_of self.now (length out.old) pwd.now salt.now memory.old) tt }
+        ensures answer { result ≡ answer_unless (refusal_of self.now (length out.old) pwd.now
+            salt.now (length memory.old)) tt }
 
         ensures tag { let ctx = context_under self.now associated.now in OnOk result
             (out.new ≡ tag_of ctx pwd.now salt.now (length out.old)) }
@@ -268,7 +268,7 @@ impl<'key> Argon2<'key> {
     ) -> Result<Work>
         requires { length positions.old ≡ place_count (context_of self.now) }
         ensures answer { result ≡ answer_unless (refusal_of self.now (length out.old) pwd.now
-            salt.now memory.old) (mixing_calls (context_of self.now)) }
+            salt.now (length memory.old)) (mixing_calls (context_of self.now)) }
 
         ensures hashed { OnOk result (IsHashed self.now pwd.now salt.now out.new memory.old
             memory.new) }
@@ -291,8 +291,8 @@ impl<'key> Argon2<'key> {
     /// - [`Error::SaltTooLong`]: the salt is longer than 4294967295 bytes.
     /// - [`Error::MemoryTooLittle`]: `memory` has fewer blocks than are filled.
     pub fn fill_memory(&self, pwd: &[u8], salt: &[u8], memory: &mut [Block]) -> Result<()>
-        ensures answer { result ≡ answer_unless (fill_refusal self.now pwd.now salt.now memory.old)
-            tt }
+        ensures answer { result
+            ≡ answer_unless (fill_refusal self.now pwd.now salt.now (length memory.old)) tt }
         ensures filled { OnOk result (IsFilled self.now pwd.now salt.now 0 memory.old memory.new) }
         ensures same { OnErr result (memory.new ≡ memory.old) }
     {
@@ -384,10 +384,11 @@ impl<'key> Argon2<'key> {
 }
 
 impl Default for Argon2<'_> {
-    ghost use Rattle.argon2.specs.Argon2.{IsArgon2idWith};
+    ghost use Rattle.std.specs.Prelude.{[]};
+    ghost use Rattle.argon2.specs.Argon2.{IsWith, argon2id_with};
     ghost use Rattle.argon2.specs.Settings.{default_parameters};
 
-    ghost is_default = { IsArgon2idWith default_parameters };
+    ghost is_default = { IsWith (argon2id_with default_parameters) [] };
 
     /// Argon2id of version 0x13 with the default parameters and no secret.
     fn default() -> Self {
@@ -396,10 +397,11 @@ impl Default for Argon2<'_> {
 }
 
 impl From<Params> for Argon2<'_> {
-    ghost use Rattle.argon2.specs.Argon2.{IsArgon2idWith};
+    ghost use Rattle.std.specs.Prelude.{[]};
+    ghost use Rattle.argon2.specs.Argon2.{IsWith, argon2id_with};
     ghost use Rattle.argon2.specs.Params.{parameters_of};
 
-    ghost from_gives = { λ params. IsArgon2idWith (parameters_of params) };
+    ghost from_gives = { λ params. IsWith (argon2id_with (parameters_of params)) [] };
 
     /// Argon2id of version 0x13 with these parameters and no secret.
     fn from(params: Params) -> Self {
@@ -408,10 +410,11 @@ impl From<Params> for Argon2<'_> {
 }
 
 impl From<&Params> for Argon2<'_> {
-    ghost use Rattle.argon2.specs.Argon2.{IsArgon2idWith};
+    ghost use Rattle.std.specs.Prelude.{[]};
+    ghost use Rattle.argon2.specs.Argon2.{IsWith, argon2id_with};
     ghost use Rattle.argon2.specs.Params.{parameters_of};
 
-    ghost from_gives = { λ params. IsArgon2idWith (parameters_of params.now) };
+    ghost from_gives = { λ params. IsWith (argon2id_with (parameters_of params.now)) [] };
 
     /// Argon2id of version 0x13 with these parameters and no secret.
     fn from(params: &Params) -> Self {

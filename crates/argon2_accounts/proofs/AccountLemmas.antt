@@ -7,7 +7,7 @@ use Rattle.std.specs.BTreeMap.{BTreeMap, get_by_text}
 use Rattle.std.specs.FinMap.{get}
 use Rattle.std.specs.Map.{update}
 use Rattle.std.specs.Option.{option_map}
-use Rattle.std.specs.Prelude.{String, IsErrAnd, IsSome, MatchResult, OnOk}
+use Rattle.std.specs.Prelude.{String, IsErrAnd, IsSome, MatchResult, OnOk, ok_or}
 use Rattle.std.specs.Str.{bytes_eq}
 use Rattle.rand_core.specs.Stream.{Stream, fill_bytes}
 use Rattle.argon2_base.specs.Error.{Fault, bad_algorithm, bad_version}
@@ -29,7 +29,7 @@ use Rattle.argon2.specs.Bound.{AsksWithin, IsWithin}
 use Rattle.argon2.specs.Made.{IsFresh}
 use Rattle.argon2.specs.Rfc9106.{segment_length_for}
 use Rattle.argon2.specs.Settings.{Parameters, Settings}
-use Rattle.argon2.specs.Stored.{Stored, found, read, shown_settings, stored_of}
+use Rattle.argon2.specs.Stored.{Stored, read, shown_settings, stored_of}
 use Rattle.argon2.proofs.login_lemmas.Stores.{get-found, get-values_of}
 use Rattle.argon2.proofs.password_hash_lemmas.Answered.{stored_shows}
 use Rattle.argon2.proofs.password_hash_lemmas.MadeValues.{made_accepts, made_shows}
@@ -46,8 +46,8 @@ filled_within m p most within =
     omega (arith, same, least, within)
 
 shown_parameters : (r : Result Parameters Fault) (algorithm : Option Algorithm) (version : Option Version)
-    (settings : Settings) → read r (λ parameters. found algorithm bad_algorithm (λ own.
-    found version bad_version (λ number.
+    (settings : Settings) → read r (λ parameters. read (ok_or algorithm bad_algorithm) (λ own.
+    read (ok_or version bad_version) (λ number.
     Ok (record { algorithm = own; version = number; parameters = parameters })))) ≡ Ok settings
     → r ≡ Ok settings.parameters
 shown_parameters (Err fault) algorithm version settings is = absurd cc

@@ -1,11 +1,9 @@
 -- A PHC text, cut at its `$`.
-use Rattle.std.specs.Prelude.{◌≡◌, ◌==◌, ℕ, List, [], ◌∷◌, ◌++◌, codes, Option, Some, None, Result, Ok, Err, IfOk, IfErr, IfSome, IsNone, IsOkAnd}
+use Rattle.std.specs.Prelude.{◌≡◌, ◌==◌, ℕ, List, [], ◌∷◌, ◌++◌, codes, Option, Some, None, Result, IfOk, IfErr, IfSome, IsNone, IsOkAnd}
 use Rattle.std.specs.List.{slice_split}
 use Rattle.std.specs.Borrow.{Bor}
 use Rattle.argon2_base.specs.Texts.{strict_base64}
-use Rattle.argon2_base.specs.ByteList.{list_bytes}
 use Rattle.argon2_base.specs.PhcText.{HasBytes, Pair, Phc, field, item, phc_with}
-use Rattle.argon2_base.specs.declared.byte_list.ByteList.{ByteList}
 use Rattle.argon2_base.specs.declared.error.password_hash.Error.{Error}
 use Rattle.argon2_base.specs.declared.error.password_hash.Error.TheVariants.{EncodingInvalid}
 use Rattle.argon2_base.specs.declared.phc.hash.PasswordHash.{PasswordHash}
@@ -26,13 +24,6 @@ NoVersionFirst fs = (d : List ℕ) (more : List (List ℕ)) → fs ≡ item (cod
 -- no item stands first
 abbrev pub NoItemFirst : List (List ℕ) → Type 0
 NoItemFirst fs = (p : Pair) (more : List (List ℕ)) → fs ≡ item p ∷ more → ⊥
-
--- an answer that has a list, as one that has its bytes
-abbrev pub with_bytes : {N : ℕ} → Result (Option (ByteList N) × Option (Bor (List ℕ))) Error
-    → Result (Option (List ℕ) × Option (Bor (List ℕ))) Error
-with_bytes (Ok (Some list, left)) = Ok (Some (list_bytes list), left)
-with_bytes (Ok (None, left)) = Ok (None, left)
-with_bytes (Err e) = Err e
 
 -- The answer of a reader of bytes, at least low and at most high of them, where fields are left: the
 -- bytes where strict Base64 of so many stands first, none where nothing is left, else a refusal.

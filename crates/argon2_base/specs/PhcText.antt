@@ -17,10 +17,6 @@ use Rattle.argon2_base.specs.Texts.{IsBytes, is_name, is_value, strict_base64}
 abbrev pub ident_text : Ident → List ℕ
 ident_text i = list_bytes i.bytes
 
--- a parameter as `iter` gives it: the name's characters, and the value
-abbrev pub shown_pair : Ident × List ℕ → List ℕ × List ℕ
-shown_pair p = (ident_text p.0, p.1)
-
 -- ---- parameter lists
 
 -- a name and a value

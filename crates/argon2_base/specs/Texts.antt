@@ -19,14 +19,11 @@ alphabet = codes "ABCDEFGHIJKLMNOPQRSTUVWXYZabcdefghijklmnopqrstuvwxyz0123456789
 unfoldable pub strict_base64 : List ℕ → List ℕ
 strict_base64 bytes = encode_symbols alphabet bytes
 
--- a number that is a byte
-abbrev pub is_byte : ℕ → Bool
-is_byte x = nat_lt x 256
-
 -- The bytes, at most so many, whose strict Base64 the text is: `short_bytes_found` and `short_bytes_again` of
 -- proofs/texts/Base64Lemmas say so. The library's decoder stands here so that it computes.
 abbrev pub short_bytes : ℕ → List ℕ → Option (List ℕ)
-short_bytes most text = option_and_then (λ b. if nat_le (length b) most && list_all is_byte b then Some b else None)
+short_bytes most text = option_and_then
+    (λ b. if nat_le (length b) most && list_all (λ x. nat_lt x 256) b then Some b else None)
     (decoded_of standard_no_pad text)
 
 -- ---- decimals

@@ -1,5 +1,5 @@
 -- The tag of an input, and why it is refused.
-use Rattle.std.specs.Prelude.{◌≡◌, ℕ, List, Some}
+use Rattle.std.specs.Prelude.{◌≡◌, ℕ, List, Some, length}
 use Rattle.argon2.specs.Rfc9106.{Context, Memory, tag_of}
 use Rattle.argon2.specs.Hashing.{refusal_of}
 use Rattle.argon2.specs.base_declared.error.Error.{Error}
@@ -13,4 +13,4 @@ input_tag ctx input = tag_of ctx input.password.now input.salt.now 32
 -- the input is refused on the arena for this reason
 abbrev pub IsRefused : Argon2 → Memory → Input → Error → Type 0
 IsRefused argon2 arena input e =
-    refusal_of argon2 32 input.password.now input.salt.now arena ≡ Some e
+    refusal_of argon2 32 input.password.now input.salt.now (length arena) ≡ Some e

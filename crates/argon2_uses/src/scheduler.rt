@@ -26,8 +26,8 @@ pub fn hash_in_rounds(
     out: &mut [u8],
     memory: &mut [Block],
 ) -> Result<()>
-    ensures answer { result ≡ answer_unless
-        (refusal_of argon2.now (length out.old) password.now salt.now memory.old) tt }
+    ensures answer { result ≡ answer_unless (refusal_of argon2.now (length out.old) password.now
+        salt.now (length memory.old)) tt }
     ensures tag { OnOk result (out.new
         ≡ tag_of (context_of argon2.now) password.now salt.now (length out.old)) }
     ensures same_output { OnErr result (out.new ≡ out.old) }

@@ -10,10 +10,10 @@ use Rattle.std.proofs.lemmas.Slice.Eq.{bytes_eq-Decides}
 use Rattle.std.specs.Result.{IsErr, IsErrAnd}
 use Rattle.argon2_base.specs.Error.{Fault, as_fault, fault_of, outcome_of}
 use Rattle.argon2_base.specs.declared.error.Error.{Error}
-use Rattle.argon2.specs.Settings.{Parameters, first_fault}
+use Rattle.argon2.specs.Settings.{Parameters, first_fault, plain}
 use Rattle.argon2_base.specs.declared.error.password_hash.Error.{Error as HashError}
 use Rattle.argon2_base.specs.PhcText.{Pair, are_distinct, are_params, is_param, params_text, value_of}
-use Rattle.argon2.specs.ListedParameters.{Items, checked, item_fault, item_taken, items_fault, items_of, items_over, items_read, number_at, params_of, short_bytes, with_costs}
+use Rattle.argon2.specs.ListedParameters.{Items, checked, item_fault, item_taken, items_fault, items_of, items_over, items_read, number_at, params_of, short_bytes}
 
 -- What was read, where `rest` is left.
 pub record Reading (list rest : List Pair) (found : Items) : Type 0 where
@@ -134,7 +134,8 @@ passed_as_fault view (Err e') e h = rw h.1 refl
 -- what the costs of a list that was read say
 params_read : (o : Option ℕ) (list : List Pair) (items : Items) (m t p : ℕ) → Ok items ≡ items_read list
     → items.m ≡ Some m → items.t ≡ Some t → items.p ≡ Some p
-    → params_of o list ≡ with_costs (Some m) (Some t) (Some p) (unwrap_or items.keyid []) (unwrap_or items.associated []) o
+    → params_of o list ≡ checked (option_map as_fault (first_fault m t p o))
+    (Ok (record (plain m t p o) { keyid = unwrap_or items.keyid []; associated = unwrap_or items.associated [] }))
 params_read o list items m t p h memory passes lanes =
     let parts = taken_parts (items_fault list) items (items_of list) h in
     let m_is : number_at (codes "m") list ≡ Some m = sym (ap (λ (i : Items). i.m) parts.1) ∙ memory in
@@ -149,14 +150,9 @@ costs_valid (Some e) x valid = absurd cc
 
 pub params_made : (o : Option ℕ) (list : List Pair) (items : Items) (m t p : ℕ) (v : Parameters) → Ok items ≡ items_read list
     → items.m ≡ Some m → items.t ≡ Some t → items.p ≡ Some p
-    → IsNone (first_fault m t p o) × (v ≡ record {
-      m_cost = m;
-      t_cost = t;
-      p_cost = p;
-      keyid = unwrap_or items.keyid [];
-      associated = unwrap_or items.associated [];
-      output_len = o;
-    }) → Ok v ≡ params_of o list
+    → IsNone (first_fault m t p o)
+    × (v ≡ record (plain m t p o) { keyid = unwrap_or items.keyid []; associated = unwrap_or items.associated [] })
+    → Ok v ≡ params_of o list
 params_made o list items m t p v h memory passes lanes made =
     rw (params_read o list items m t p h memory passes lanes, ← made.1) (costs_valid (first_fault m t p o) v made.0)
 

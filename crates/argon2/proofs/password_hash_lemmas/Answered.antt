@@ -1,16 +1,16 @@
 -- What reading a stored value gives.
 use Rattle.std.proofs.Common.{◌≡◌, ℕ, List, length, Option, Some, None, Result, Ok, Err, refl, sym, ap, ◌∙◌}
 use Rattle.std.specs.Option.{option_map}
-use Rattle.std.specs.Prelude.{codes}
+use Rattle.std.specs.Prelude.{codes, ok_or, unwrap_or}
 use Rattle.std.specs.Result.{IsErrAnd}
-use Rattle.argon2_base.specs.Error.{Fault, bad_algorithm, bad_password, bad_version, fault_of, outcome_of}
+use Rattle.argon2_base.specs.Error.{Fault, as_fault, bad_algorithm, bad_params, bad_password, bad_version, fault_of, outcome_of}
 use Rattle.argon2_base.specs.PhcText.{Pair, Phc}
 use Rattle.argon2_base.specs.declared.error.password_hash.Error.{Error}
 use Rattle.argon2.specs.declared.algorithm.Algorithm.{Algorithm}
 use Rattle.argon2.specs.declared.version.Version.{Version}
-use Rattle.argon2.specs.Settings.{Parameters, Settings, algorithm_named}
-use Rattle.argon2.specs.ListedParameters.{bytes_at, checked, items_fault, number_at, params_of, with_costs}
-use Rattle.argon2.specs.Stored.{Stored, found, read, shown_settings, stored_of, version_shown}
+use Rattle.argon2.specs.Settings.{Parameters, Settings, algorithm_named, first_fault, plain, version_numbered}
+use Rattle.argon2.specs.ListedParameters.{bytes_at, checked, items_fault, number_at, params_of}
+use Rattle.argon2.specs.Stored.{Stored, read, shown_settings, stored_of}
 
 -- a fault that was passed on
 pub passed_on : {A X : Type 0} (view : A → X) (e : Error) (r : Result A Error) → IsErrAnd r (λ f. f ≡ e)
@@ -23,7 +23,10 @@ checked_length None p q is = let same : q ≡ p = cc in ap (λ (r : Parameters).
 checked_length (Some fault) p q is = absurd cc
 
 costs_length : (fault : Option Fault) (m t p : Option ℕ) (keyid associated : List ℕ) (output_len : Option ℕ) (q : Parameters)
-    → Ok q ≡ checked fault (with_costs m t p keyid associated output_len) → q.output_len ≡ output_len
+    → Ok q ≡ checked fault (read (ok_or m bad_params) (λ m. read (ok_or t bad_params) (λ t. read (ok_or p bad_params) (λ p.
+    checked (option_map as_fault (first_fault m t p output_len))
+    (Ok (record (plain m t p output_len) { keyid = keyid; associated = associated }))))))
+    → q.output_len ≡ output_len
 costs_length (Some fault) m t p keyid associated output_len q is = absurd cc
 costs_length None None t p keyid associated output_len q is = absurd cc
 costs_length None (Some m) None p keyid associated output_len q is = absurd cc
@@ -39,7 +42,7 @@ read_length output_len ps q is =
 
 shown_length_with : (r : Result Parameters Fault) (algorithm : Option Algorithm) (version : Option Version)
     (output_len : Option ℕ) (settings : Settings) → ((q : Parameters) → Ok q ≡ r → q.output_len ≡ output_len)
-    → Ok settings ≡ read r (λ parameters. found algorithm bad_algorithm (λ own. found version bad_version (λ number.
+    → Ok settings ≡ read r (λ parameters. read (ok_or algorithm bad_algorithm) (λ own. read (ok_or version bad_version) (λ number.
     Ok (record { algorithm = own; version = number; parameters = parameters }))))
     → settings.parameters.output_len ≡ output_len
 shown_length_with (Err fault) algorithm version output_len settings same is = absurd cc
@@ -53,15 +56,15 @@ shown_length_with (Ok q) (Some own) (Some number) output_len settings same is =
 pub shown_length : (v : Phc) (settings : Settings) → Ok settings ≡ shown_settings v
     → settings.parameters.output_len ≡ option_map length v.hash
 shown_length v settings is = shown_length_with (params_of (option_map length v.hash) v.params)
-    (algorithm_named v.algorithm) (version_shown v.version) (option_map length v.hash) settings
+    (algorithm_named v.algorithm) (version_numbered (unwrap_or v.version 16)) (option_map length v.hash) settings
     (read_length (option_map length v.hash) v.params) is
 
 -- what a value is verified by has the settings that it shows
 pub stored_shows : (v : Phc) (stored : Stored) → Ok stored ≡ stored_of v → shown_settings v ≡ Ok stored.settings
 stored_shows v stored is = from v.salt v.hash (shown_settings v) is
   where
-    from : (salt hash : Option (List ℕ)) (r : Result Settings Fault) → Ok stored ≡ found salt bad_password (λ s.
-        found hash bad_password (λ h. read r (λ settings. Ok (record { settings = settings; salt = s; hash = h }))))
+    from : (salt hash : Option (List ℕ)) (r : Result Settings Fault) → Ok stored ≡ read (ok_or salt bad_password) (λ s.
+        read (ok_or hash bad_password) (λ h. read r (λ settings. Ok (record { settings = settings; salt = s; hash = h }))))
         → r ≡ Ok stored.settings
     from None hash r e = absurd cc
     from (Some s) None r e = absurd cc

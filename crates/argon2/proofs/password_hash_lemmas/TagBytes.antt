@@ -48,7 +48,8 @@ length-words (w ∷ ws) = omega (arith, length-append (to_le_bytes w64 w) (flat_
 length-hash_blocks : (l t : ℕ) (h : List ℕ) (bs : List (List ℕ)) → length h ≡ 8 → length (hash_blocks l t h bs) ≡ 8
 unfolding hash_blocks compress
 length-hash_blocks l t h [] e = e
-length-hash_blocks l t h (b ∷ bs) e = length-hash_blocks l (t + 128) _ bs refl
+length-hash_blocks l t h (b ∷ []) e = refl
+length-hash_blocks l t h (b ∷ c ∷ bs) e = length-hash_blocks l (t + 128) _ (c ∷ bs) refl
 
 HasBytes-digest : (n : ℕ) (m : List ℕ) → n ≤ 64 → IsBytes (blake2b n m) × (length (blake2b n m) ≡ n)
 unfolding blake2b

@@ -3,15 +3,15 @@ use Rattle.std.proofs.Common.{◌≡◌, ℕ, ◌≤◌, Bool, true, false, List
 use Rattle.std.proofs.lemmas.Bool.{and_parts, le-leb, leb-true}
 use Rattle.std.proofs.lemmas.Slice.Eq.{bytes_eq-Decides}
 use Rattle.std.specs.Option.{option_map}
-use Rattle.std.specs.Prelude.{if◌then◌else◌, MatchResult}
+use Rattle.std.specs.Prelude.{if◌then◌else◌, MatchResult, ok_or, unwrap_or}
 use Rattle.argon2_base.specs.Error.{Fault, bad_algorithm, bad_password, bad_version, fault_of, no_memory}
 use Rattle.argon2_base.specs.declared.error.password_hash.Error.{Error}
 use Rattle.argon2_base.specs.declared.error.password_hash.Error.TheVariants.{Algorithm, EncodingInvalid, OutOfMemory, OutputSize, ParamInvalid, ParamsInvalid, PasswordInvalid, SaltInvalid, Version}
 use Rattle.argon2_base.specs.PhcText.{Phc}
 use Rattle.argon2.specs.declared.algorithm.Algorithm.{Algorithm as Variant}
 use Rattle.argon2.specs.declared.version.Version.{Version as Numbered}
-use Rattle.argon2.specs.Stored.{AcceptsBy, IsVerifyAnswer, Stored, found, is_tag, read, verified, version_shown}
-use Rattle.argon2.specs.Settings.{Parameters, Settings, algorithm_named}
+use Rattle.argon2.specs.Stored.{AcceptsBy, IsVerifyAnswer, Stored, is_tag, read, verified}
+use Rattle.argon2.specs.Settings.{Parameters, Settings, algorithm_named, version_numbered}
 use Rattle.argon2.specs.Rfc9106.{context_with, tag_of}
 use Rattle.argon2.specs.ListedParameters.{params_of}
 
@@ -49,22 +49,23 @@ accepted_if false h = absurd cc
 abbrev stored_with : List ℕ → List ℕ → Result Parameters Fault → Option Variant → Option Numbered → Result Stored Fault
 stored_with salt hash rp oa ov =
     read (read rp (λ parameters.
-    found oa bad_algorithm (λ algorithm.
-    found ov bad_version (λ version.
+    read (ok_or oa bad_algorithm) (λ algorithm.
+    read (ok_or ov bad_version) (λ version.
     Ok (record { algorithm = algorithm; version = version; parameters = parameters })))))
     (λ settings. Ok (record { settings = settings; salt = salt; hash = hash }))
 
 -- the stored value of a salt and a hash that may be absent
 abbrev stored_from : Phc → Option (List ℕ) → Option (List ℕ) → Result Stored Fault
 stored_from v os oh =
-    found os bad_password (λ salt.
-    found oh bad_password (λ hash.
-    stored_with salt hash (params_of (option_map length oh) v.params) (algorithm_named v.algorithm) (version_shown v.version)))
+    read (ok_or os bad_password) (λ salt.
+    read (ok_or oh bad_password) (λ hash.
+    stored_with salt hash (params_of (option_map length oh) v.params) (algorithm_named v.algorithm)
+    (version_numbered (unwrap_or v.version 16))))
 
 module _ (secret password : List ℕ) (v : Phc) where
   accepts_with : (salt hash : List ℕ) (rp : Result Parameters Fault) (oa : Option Variant) (ov : Option Numbered)
       → v.salt ≡ Some salt → v.hash ≡ Some hash → params_of (Some (length hash)) v.params ≡ rp
-      → algorithm_named v.algorithm ≡ oa → version_shown v.version ≡ ov
+      → algorithm_named v.algorithm ≡ oa → version_numbered (unwrap_or v.version 16) ≡ ov
       → answer_for secret password (stored_with salt hash rp oa ov) ≡ Ok tt → AcceptsBy secret password v
   accepts_with salt hash (Err e) oa ov es eh ep ea ev h = absurd cc
   accepts_with salt hash (Ok parameters) None ov es eh ep ea ev h = absurd cc

@@ -7,7 +7,7 @@ use Rattle.std.proofs.lemmas.List.{length-append, length-map, length-take, lengt
 use Rattle.std.proofs.lemmas.List.FromFn.{get_or-map-range_with_len, length-range_with_len}
 use Rattle.std.proofs.lemmas.Bool.Decides.{nat_tests}
 use Rattle.std.proofs.lemmas.Bool.{cond_both, cases_eq, cases_lt}
-use Rattle.argon2.specs.Rfc9106.{Context, Sizes, columns, finished_segments, lane_length, permitted, segment_length, without_last}
+use Rattle.argon2.specs.Rfc9106.{Context, Sizes, columns, finished_segments, lane_length, permitted, segment_length}
 
 -- a column c of a slice, where a segment has s columns
 pub record InSlice (s c slice : ℕ) : Type 0 where
@@ -101,7 +101,7 @@ module _ (ctx : Context) (sizes : Sizes ctx) (column : ℕ) (in_columns : column
       ≡ (let finished = finished_count ctx pass (column / segment_length ctx) in
       let index = column % segment_length ctx in
       if index == 0 then finished - 1 else finished + (if other == lane then index - 1 else 0))
-  unfolding permitted without_last
+  unfolding permitted
   length-permitted pass lane other later =
       let s = segment_length ctx in
       let slice = column / s in
@@ -150,7 +150,7 @@ module _ (ctx : Context) (sizes : Sizes ctx) (column : ℕ) (in_columns : column
       → i < length (permitted ctx pass lane column other)
       → (slice_index_or (permitted ctx pass lane column other) i (0, 0)).1
       ≡ finished_column ctx pass (column / segment_length ctx) i
-  unfolding permitted without_last
+  unfolding permitted
   get_or-permitted pass lane other i =
       let s = segment_length ctx in
       let slice = column / s in

@@ -7,7 +7,7 @@ use Rattle.std.proofs.lemmas.List.FromFn.{length-range_with_len, get_or-range_wi
 use Rattle.std.proofs.lemmas.List.Elements.{All-map, All-append, All-take, All-get_or, All-nil}
 use Rattle.std.proofs.lemmas.Bool.{cond_both, cond-true, eq-eqb, eqb-true, ltb-true, and_parts, and_from}
 use Rattle.argon2_base.specs.Block.{mixed, xor_blocks}
-use Rattle.argon2.specs.Rfc9106.{Blocks, Context, Reference, Sizes, address_word, columns, finished_segments, is_independent, lane_length, made_block, permitted, previous, reference, reference_index, reference_lane, reference_of, reference_word, segment_length, without_last}
+use Rattle.argon2.specs.Rfc9106.{Blocks, Context, Reference, Sizes, address_word, columns, finished_segments, is_independent, lane_length, made_block, permitted, previous, reference, reference_index, reference_lane, reference_of, reference_word, segment_length}
 use Rattle.argon2.specs.Segments.{IsPlaceFor}
 use Rattle.argon2.specs.Steps.{IsStep}
 use Rattle.argon2.proofs.recurrence.PermittedPlaces.{InSlice, in_slice, some_permitted}
@@ -74,7 +74,7 @@ module _ (ctx : Context) (sizes : Sizes ctx) (lane column other : ℕ) (in_lanes
 
   -- all permitted blocks are sources
   permitted_sources : (pass : ℕ) → All (IsSource pass) (permitted ctx pass lane column other)
-  unfolding permitted without_last
+  unfolding permitted
   permitted_sources pass = cond_both (column % segment_length ctx == 0) _ _ (All (IsSource pass))
       (λ _. All-take (IsSource pass) _ _ (finished_sources pass))
       (λ _. All-append (IsSource pass) _ _ (finished_sources pass) (own_sources pass))

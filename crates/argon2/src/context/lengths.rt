@@ -1,10 +1,10 @@
 //! Refusals by length: of an output, a password, a salt, or memory.
 
-ghost use Rattle.std.specs.Prelude.{◌≡◌, ◌≤◌, ◌++◌, OnOk, length};
-ghost use Rattle.argon2.specs.Argon2.{context_of, own_parameters};
+ghost use Rattle.std.specs.Prelude.{◌≡◌, ◌≤◌, OnOk, length};
+ghost use Rattle.argon2.specs.Argon2.{context_of};
 ghost use Rattle.argon2.specs.Rfc9106.{AreShort, block_count};
-ghost use Rattle.argon2.specs.Hashing.{output_refusal, IsOutputLength};
-ghost use Rattle.argon2.specs.Refusals.{answer_unless, first_of, input_faults, memory_faults, output_faults};
+ghost use Rattle.argon2.specs.Hashing.{fill_refusal, output_refusal, refusal_of, IsOutputLength};
+ghost use Rattle.argon2.specs.Refusals.{answer_unless, first_of, input_faults, memory_faults};
 
 use super::{Argon2, MAX_PWD_LEN, MAX_SALT_LEN, MIN_SALT_LEN};
 use crate::params::Params;
@@ -31,10 +31,8 @@ impl Argon2<'_> {
     /// Refuses an output of `out_len` bytes, a password, a salt or memory of `blocks` blocks, by the
     /// first fault.
     pub(super) fn check(&self, out_len: usize, pwd: &[u8], salt: &[u8], blocks: usize) -> Result<()>
-        ensures answer { result ≡ answer_unless (first_of (
-            output_faults (own_parameters self.now).output_len out_len
-            ++ input_faults (length pwd.now) (length salt.now)
-            ++ memory_faults (block_count (context_of self.now)) blocks)) tt }
+        ensures answer { result
+            ≡ answer_unless (refusal_of self.now out_len pwd.now salt.now blocks) tt }
         ensures output { OnOk result (IsOutputLength out_len) }
         ensures short { OnOk result (AreShort pwd.now salt.now) }
         ensures room { OnOk result (block_count (context_of self.now) ≤ blocks) }
@@ -45,9 +43,8 @@ impl Argon2<'_> {
 
     /// Refuses a password, a salt or memory of `blocks` blocks, by the first fault.
     pub(super) fn check_filling(&self, pwd: &[u8], salt: &[u8], blocks: usize) -> Result<()>
-        ensures answer { result ≡ answer_unless (first_of (
-            input_faults (length pwd.now) (length salt.now)
-            ++ memory_faults (block_count (context_of self.now)) blocks)) tt }
+        ensures answer { result
+            ≡ answer_unless (fill_refusal self.now pwd.now salt.now blocks) tt }
         ensures short { OnOk result (AreShort pwd.now salt.now) }
         ensures room { OnOk result (block_count (context_of self.now) ≤ blocks) }
     {

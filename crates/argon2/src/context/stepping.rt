@@ -30,7 +30,7 @@ impl Argon2<'_> {
         memory: &mut [Block],
     ) -> Result<()>
         ensures answer { result ≡ answer_unless (refusal_of self.now out_len pwd.now salt.now
-            memory.old) tt }
+            (length memory.old)) tt }
         ensures begun { OnOk result (IsBegun self.now pwd.now salt.now out_len memory.old
             memory.new) }
         ensures same { OnErr result (memory.new ≡ memory.old) }

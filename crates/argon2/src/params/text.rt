@@ -1,12 +1,12 @@
 //! Parameters as texts: printed as a parameter list, and read from one.
 
-ghost use Rattle.std.specs.Prelude.{◌≡◌, ◌≤◌, ◌++◌, IsTrue, codes, length};
+ghost use Rattle.std.specs.Prelude.{◌≡◌, ◌≤◌, ◌++◌, IsTrue, Some, codes, length, ok_or};
 ghost use Rattle.std.specs.Option.{option_map};
 ghost use Rattle.argon2_base.specs.Texts.{number_of};
 ghost use Rattle.argon2_base.specs.PhcText.{are_params};
 ghost use Rattle.argon2_base.specs.Error.{bad_param, outcome_of};
 ghost use Rattle.argon2.specs.Params.{keyid_bytes, data_bytes};
-ghost use Rattle.argon2.specs.ListedParameters.{AreReadAgain, bytes_item, listed, short_bytes, value_taken};
+ghost use Rattle.argon2.specs.ListedParameters.{AreReadAgain, bytes_item, listed, short_bytes};
 
 use super::{AssociatedData, KeyId, Params, ParamsBuilder};
 use argon2_base::error::password_hash::{Error, Result};
@@ -101,7 +101,7 @@ impl fmt::Display for Params {
 // Takes the number that the value of this name is the decimal of.
 fn take_number(found: &mut Option<u32>, name: &'static str, value: &Value<'_>) -> Result<()>
     ensures { outcome_of (λ _. found.new) result
-        ≡ value_taken (bad_param name.now) (number_of value.now) }
+        ≡ ok_or (option_map Some (number_of value.now)) (bad_param name.now) }
 {
     let Ok(n) = value.decimal() else {
         return Err(Error::ParamInvalid { name });
@@ -113,7 +113,7 @@ fn take_number(found: &mut Option<u32>, name: &'static str, value: &Value<'_>) -
 // Takes the key identifier that the text is the Base64 of.
 fn take_key_id(found: &mut Option<KeyId>, text: &str) -> Result<()>
     ensures { outcome_of (λ _. option_map keyid_bytes found.new) result
-        ≡ value_taken (bad_param (codes "keyid")) (short_bytes 8 text.now) }
+        ≡ ok_or (option_map Some (short_bytes 8 text.now)) (bad_param (codes "keyid")) }
 {
     let Ok(keyid) = KeyId::from_b64(text) else {
         return Err(Error::ParamInvalid { name: "keyid" });
@@ -125,7 +125,7 @@ fn take_key_id(found: &mut Option<KeyId>, text: &str) -> Result<()>
 // Takes the associated data that the text is the Base64 of.
 fn take_data(found: &mut Option<AssociatedData>, text: &str) -> Result<()>
     ensures { outcome_of (λ _. option_map data_bytes found.new) result
-        ≡ value_taken (bad_param (codes "data")) (short_bytes 32 text.now) }
+        ≡ ok_or (option_map Some (short_bytes 32 text.now)) (bad_param (codes "data")) }
 {
     let Ok(associated) = AssociatedData::from_b64(text) else {
         return Err(Error::ParamInvalid { name: "data" });

@@ -1,8 +1,7 @@
 //! Hashing under the settings of an `Argon2`.
 
-ghost use Rattle.std.specs.Prelude.{option_copied};
-ghost use Rattle.argon2_base.specs.Error.{bad_algorithm, bad_version};
-ghost use Rattle.argon2.specs.ListedParameters.{IsValueOr};
+ghost use Rattle.std.specs.Prelude.{◌≡◌, option_copied};
+ghost use Rattle.argon2_base.specs.Error.{outcome_of};
 ghost use Rattle.argon2.specs.Made.{algorithm_asked, version_asked};
 
 use super::{CustomizedPasswordHasher, Error, PasswordHasher, Result, Settings};
@@ -127,7 +126,7 @@ impl PasswordHasher<PasswordHash> for Argon2<'_> {
 
 // The algorithm of a name, or Argon2id.
 fn asked_algorithm(name: Option<&str>) -> Result<Algorithm>
-    ensures { IsValueOr bad_algorithm (λ a. a) (algorithm_asked (option_copied name.entry)) result }
+    ensures { outcome_of (λ a. a) result ≡ algorithm_asked (option_copied name.entry) }
 {
     let Some(name) = name else {
         return Ok(Algorithm::default());
@@ -137,7 +136,7 @@ fn asked_algorithm(name: Option<&str>) -> Result<Algorithm>
 
 // The version of a number, or 0x13.
 fn asked_version(number: Option<u32>) -> Result<Version>
-    ensures { IsValueOr bad_version (λ v. v) (version_asked number) result }
+    ensures { outcome_of (λ v. v) result ≡ version_asked number }
 {
     let Some(number) = number else {
         return Ok(Version::default());

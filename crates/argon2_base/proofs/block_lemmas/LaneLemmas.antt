@@ -30,8 +30,7 @@ below_eight P p0 p1 p2 p3 p4 p5 p6 p7 (suc (suc (suc (suc (suc (suc (suc (suc n)
 pub below_sixteen : (P : ℕ → Type 0) → P 0 → P 1 → P 2 → P 3 → P 4 → P 5 → P 6 → P 7
     → P 8 → P 9 → P 10 → P 11 → P 12 → P 13 → P 14 → P 15 → (k : ℕ) → k < 16 → P k
 below_sixteen P a0 a1 a2 a3 a4 a5 a6 a7 b0 b1 b2 b3 b4 b5 b6 b7 k h =
-    let place : 2 * (k / 2) + k % 2 ≡ k = omega arith in
-    subst P place (below_eight (λ i. (e : ℕ) → e < 2 → P (2 * i + e))
+    subst P (omega arith) (below_eight (λ i. (e : ℕ) → e < 2 → P (2 * i + e))
     (below_two _ a0 a1) (below_two _ a2 a3) (below_two _ a4 a5) (below_two _ a6 a7)
     (below_two _ b0 b1) (below_two _ b2 b3) (below_two _ b4 b5) (below_two _ b6 b7)
     (k / 2) (omega arith) (k % 2) (omega arith))
@@ -39,16 +38,9 @@ below_sixteen P a0 a1 a2 a3 a4 a5 a6 a7 b0 b1 b2 b3 b4 b5 b6 b7 k h =
 -- what is true of each list of eight elements
 pub eight_lanes : (P : List ℕ → Type 0)
     → ((a b c d e f g h : ℕ) → P (a ∷ b ∷ c ∷ d ∷ e ∷ f ∷ g ∷ h ∷ [])) → (xs : List ℕ) → length xs ≡ 8 → P xs
-eight_lanes P p (a ∷ b ∷ c ∷ d ∷ e ∷ f ∷ g ∷ h ∷ []) l = p a b c d e f g h
-eight_lanes P p [] l = absurd (omega arith)
-eight_lanes P p (a ∷ []) l = absurd (omega arith)
-eight_lanes P p (a ∷ b ∷ []) l = absurd (omega arith)
-eight_lanes P p (a ∷ b ∷ c ∷ []) l = absurd (omega arith)
-eight_lanes P p (a ∷ b ∷ c ∷ d ∷ []) l = absurd (omega arith)
-eight_lanes P p (a ∷ b ∷ c ∷ d ∷ e ∷ []) l = absurd (omega arith)
-eight_lanes P p (a ∷ b ∷ c ∷ d ∷ e ∷ f ∷ []) l = absurd (omega arith)
-eight_lanes P p (a ∷ b ∷ c ∷ d ∷ e ∷ f ∷ g ∷ []) l = absurd (omega arith)
-eight_lanes P p (a ∷ b ∷ c ∷ d ∷ e ∷ f ∷ g ∷ h ∷ i ∷ xs) l = absurd (omega arith)
+eight_lanes P p xs l = subst P (ext_get_or 0 (
+    slice_index xs 0 ∷ slice_index xs 1 ∷ slice_index xs 2 ∷ slice_index xs 3 ∷ slice_index xs 4 ∷ slice_index xs 5
+    ∷ slice_index xs 6 ∷ slice_index xs 7 ∷ []) xs (sym l) (below_eight _ refl refl refl refl refl refl refl refl)) (p _ _ _ _ _ _ _ _)
 
 -- what is true of any two lists of eight elements
 two_vectors : (P : List ℕ → List ℕ → Type 0)
@@ -72,10 +64,8 @@ add_mul_steps a b =
 add_mul_word : (a b : ℕ) → add_mul_steps a b ≡ add_mul a b
 unfolding add_mul
 add_mul_word a b =
-    let low_a : bit_and a 0xffffffff ≡ a % 2 ^ 32 = and_mask a 32 in
-    let low_b : bit_and b 0xffffffff ≡ b % 2 ^ 32 = and_mask b 32 in
     let product : 2 * (a % 2 ^ 32) * (b % 2 ^ 32) ≡ 2 * (a % 2 ^ 32 * (b % 2 ^ 32)) = omega arith in
-    rw (low_a, low_b, product) (wrapped_sum (a + b) (a % 2 ^ 32 * (b % 2 ^ 32)))
+    rw (and_mask a 32, and_mask b 32, product) (wrapped_sum (a + b) (a % 2 ^ 32 * (b % 2 ^ 32)))
 
 -- eight words at once
 abbrev wrapped_add : List ℕ → List ℕ → List ℕ
@@ -123,21 +113,15 @@ Shuffled lefts rights left right a b =
 
 pub exchanged_ones : (a : List ℕ) → length a ≡ 8 → (b : List ℕ) → length b ≡ 8
     → Shuffled (0 ∷ 8 ∷ 2 ∷ 10 ∷ 4 ∷ 12 ∷ 6 ∷ 14 ∷ []) (1 ∷ 9 ∷ 3 ∷ 11 ∷ 5 ∷ 13 ∷ 7 ∷ 15 ∷ []) ones_left ones_right a b
-exchanged_ones =
-    two_vectors (Shuffled (0 ∷ 8 ∷ 2 ∷ 10 ∷ 4 ∷ 12 ∷ 6 ∷ 14 ∷ []) (1 ∷ 9 ∷ 3 ∷ 11 ∷ 5 ∷ 13 ∷ 7 ∷ 15 ∷ []) ones_left ones_right)
-    (λ a0 a1 a2 a3 a4 a5 a6 a7 b0 b1 b2 b3 b4 b5 b6 b7. (refl, refl))
+exchanged_ones = two_vectors _ (λ a0 a1 a2 a3 a4 a5 a6 a7 b0 b1 b2 b3 b4 b5 b6 b7. (refl, refl))
 
 pub exchanged_twos : (a : List ℕ) → length a ≡ 8 → (b : List ℕ) → length b ≡ 8
     → Shuffled (0 ∷ 1 ∷ 8 ∷ 9 ∷ 4 ∷ 5 ∷ 12 ∷ 13 ∷ []) (2 ∷ 3 ∷ 10 ∷ 11 ∷ 6 ∷ 7 ∷ 14 ∷ 15 ∷ []) twos_left twos_right a b
-exchanged_twos =
-    two_vectors (Shuffled (0 ∷ 1 ∷ 8 ∷ 9 ∷ 4 ∷ 5 ∷ 12 ∷ 13 ∷ []) (2 ∷ 3 ∷ 10 ∷ 11 ∷ 6 ∷ 7 ∷ 14 ∷ 15 ∷ []) twos_left twos_right)
-    (λ a0 a1 a2 a3 a4 a5 a6 a7 b0 b1 b2 b3 b4 b5 b6 b7. (refl, refl))
+exchanged_twos = two_vectors _ (λ a0 a1 a2 a3 a4 a5 a6 a7 b0 b1 b2 b3 b4 b5 b6 b7. (refl, refl))
 
 pub exchanged_fours : (a : List ℕ) → length a ≡ 8 → (b : List ℕ) → length b ≡ 8
     → Shuffled (0 ∷ 1 ∷ 2 ∷ 3 ∷ 8 ∷ 9 ∷ 10 ∷ 11 ∷ []) (4 ∷ 5 ∷ 6 ∷ 7 ∷ 12 ∷ 13 ∷ 14 ∷ 15 ∷ []) fours_left fours_right a b
-exchanged_fours =
-    two_vectors (Shuffled (0 ∷ 1 ∷ 2 ∷ 3 ∷ 8 ∷ 9 ∷ 10 ∷ 11 ∷ []) (4 ∷ 5 ∷ 6 ∷ 7 ∷ 12 ∷ 13 ∷ 14 ∷ 15 ∷ []) fours_left fours_right)
-    (λ a0 a1 a2 a3 a4 a5 a6 a7 b0 b1 b2 b3 b4 b5 b6 b7. (refl, refl))
+exchanged_fours = two_vectors _ (λ a0 a1 a2 a3 a4 a5 a6 a7 b0 b1 b2 b3 b4 b5 b6 b7. (refl, refl))
 
 -- lane i of each of eight vectors
 abbrev lanes : List (List ℕ) → ℕ → List ℕ
@@ -166,34 +150,18 @@ interleaved_words =
     two_vectors Interleaved (λ a0 a1 a2 a3 a4 a5 a6 a7 b0 b1 b2 b3 b4 b5 b6 b7.
     (below_eight _ refl refl refl refl refl refl refl refl, below_eight _ refl refl refl refl refl refl refl refl))
 
--- the words of a lane, given by number
-pub lane_is : (x : List (List ℕ)) (j : ℕ) (f : ℕ → ℕ) → ((k : ℕ) → k < 16 → lane_word x k j ≡ f k)
-    → lane j x ≡ map f (range_with_len 0 16)
-lane_is x j f h =
-    rw (
-      h 0 (lit< tt),
-      h 1 (lit< tt),
-      h 2 (lit< tt),
-      h 3 (lit< tt),
-      h 4 (lit< tt),
-      h 5 (lit< tt),
-      h 6 (lit< tt),
-      h 7 (lit< tt),
-      h 8 (lit< tt),
-      h 9 (lit< tt),
-      h 10 (lit< tt),
-      h 11 (lit< tt),
-      h 12 (lit< tt),
-      h 13 (lit< tt),
-      h 14 (lit< tt),
-      h 15 (lit< tt),
-    ) refl
-
 -- word k of a lane
 pub slice_index-lane : (x : List (List ℕ)) (j k : ℕ) → k < 16 → slice_index (lane j x) k ≡ lane_word x k j
 slice_index-lane x j =
     below_sixteen (λ k. slice_index (lane j x) k ≡ lane_word x k j) refl refl refl refl refl refl refl refl refl refl
     refl refl refl refl refl refl
+
+-- the words of a lane, given by number
+pub lane_is : (x : List (List ℕ)) (j : ℕ) (f : ℕ → ℕ) → ((k : ℕ) → k < 16 → lane_word x k j ≡ f k)
+    → lane j x ≡ map f (range_with_len 0 16)
+lane_is x j f h =
+    ext_get_or 0 (lane j x) (map f (range_with_len 0 16)) refl (λ k below.
+    slice_index-lane x j k below ∙ h k below ∙ sym (get_or-map-range_with_len f 0 16 k k 0 below (omega arith)))
 
 -- vectors of y and of z in turn
 abbrev column_vectors : List (List ℕ) → List (List ℕ) → List (List ℕ)
@@ -230,11 +198,8 @@ pub word_in_eights : (x : List (List ℕ)) (k j w : ℕ) → k < 16 → j < 8 �
     → slice_index (words_in_eights x) w ≡ lane_word x k j
 unfolding words_in_eights
 word_in_eights x k j w hk hj place =
-    let vector : w / 8 ≡ k = omega arith in
-    let in_vector : w % 8 ≡ j = omega arith in
-    let at_start : 0 + w ≡ w = omega arith in
-    get_or-map-range_with_len (λ w. lane_word x (w / 8) (w % 8)) 0 128 w w 0 (omega arith) at_start
-    ∙ ap₂ (lane_word x) vector in_vector
+    get_or-map-range_with_len (λ w. lane_word x (w / 8) (w % 8)) 0 128 w w 0 (omega arith) (omega arith)
+    ∙ ap₂ (lane_word x) (omega arith) (omega arith)
 
 -- such vectors hold the words of a list, if each holds its eight
 pub in_eights : (x : List (List ℕ)) (words : List ℕ) → length words ≡ 128
@@ -256,32 +221,22 @@ half_row x i k e hi hk he =
     below_eight (λ i. lane_word (every_second x e) i k ≡ lane_word x (2 * i + e) k) refl refl refl refl refl refl refl refl i hi
     ∙ sym (word_in_eights x (2 * i + e) k (16 * i + (8 * e + k)) (omega arith) hk (omega arith))
 
+-- vectors of y, and then those of z
+abbrev one_after_the_other : List (List ℕ) → List (List ℕ) → List (List ℕ)
+one_after_the_other y z =
+    slice_index_or y 0 [] ∷ slice_index_or y 1 [] ∷ slice_index_or y 2 [] ∷ slice_index_or y 3 []
+    ∷ slice_index_or y 4 [] ∷ slice_index_or y 5 [] ∷ slice_index_or y 6 [] ∷ slice_index_or y 7 []
+    ∷ slice_index_or z 0 [] ∷ slice_index_or z 1 [] ∷ slice_index_or z 2 [] ∷ slice_index_or z 3 []
+    ∷ slice_index_or z 4 [] ∷ slice_index_or z 5 [] ∷ slice_index_or z 6 [] ∷ slice_index_or z 7 [] ∷ []
+
 -- sixteen vectors of two transpositions, of the left and of the right halves of the rows
 pub rows_from : (y z : List (List ℕ)) (words : List ℕ) (i : ℕ)
     → ((k : ℕ) → k < 8 → lane_word y k i ≡ slice_index words (16 * i + (0 + k)))
     → ((k : ℕ) → k < 8 → lane_word z k i ≡ slice_index words (16 * i + (8 + k)))
-    → lane i (
-    slice_index_or y 0 [] ∷ slice_index_or y 1 [] ∷ slice_index_or y 2 [] ∷ slice_index_or y 3 []
-    ∷ slice_index_or y 4 [] ∷ slice_index_or y 5 [] ∷ slice_index_or y 6 [] ∷ slice_index_or y 7 []
-    ∷ slice_index_or z 0 [] ∷ slice_index_or z 1 [] ∷ slice_index_or z 2 [] ∷ slice_index_or z 3 []
-    ∷ slice_index_or z 4 [] ∷ slice_index_or z 5 [] ∷ slice_index_or z 6 [] ∷ slice_index_or z 7 [] ∷ []) ≡ row i words
+    → lane i (one_after_the_other y z) ≡ row i words
 unfolding row
 rows_from y z words i left right =
-    rw (
-      left 0 (lit< tt),
-      left 1 (lit< tt),
-      left 2 (lit< tt),
-      left 3 (lit< tt),
-      left 4 (lit< tt),
-      left 5 (lit< tt),
-      left 6 (lit< tt),
-      left 7 (lit< tt),
-      right 0 (lit< tt),
-      right 1 (lit< tt),
-      right 2 (lit< tt),
-      right 3 (lit< tt),
-      right 4 (lit< tt),
-      right 5 (lit< tt),
-      right 6 (lit< tt),
-      right 7 (lit< tt),
-    ) refl
+    lane_is (one_after_the_other y z) i (λ k. slice_index words (16 * i + k)) (below_sixteen _ (left 0 (lit< tt))
+    (left 1 (lit< tt)) (left 2 (lit< tt)) (left 3 (lit< tt)) (left 4 (lit< tt)) (left 5 (lit< tt)) (left 6 (lit< tt))
+    (left 7 (lit< tt)) (right 0 (lit< tt)) (right 1 (lit< tt)) (right 2 (lit< tt)) (right 3 (lit< tt)) (right 4 (lit< tt))
+    (right 5 (lit< tt)) (right 6 (lit< tt)) (right 7 (lit< tt)))

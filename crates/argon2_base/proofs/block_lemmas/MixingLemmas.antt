@@ -13,12 +13,11 @@ use Rattle.argon2_base.proofs.block_lemmas.LaneLemmas.{below_two, lane_is, slice
 lane-slice_set : (x : List (List ℕ)) (i n : ℕ) (y : List ℕ) → i < 16 → length x ≡ 16
     → lane n (slice_set x i y) ≡ slice_set (lane n x) i (slice_index y n)
 lane-slice_set x i n y below long =
-    let there : i < length x = omega arith in
     ext_get_or 0 (lane n (slice_set x i y)) (slice_set (lane n x) i (slice_index y n))
     (sym (length-set (lane n x) i (slice_index y n))) (λ k h.
     slice_index-lane (slice_set x i y) n k h ∙ elim (cases_eq k i) [
       | inl same ↦
-          ap (λ v. slice_index v n) (get_or-set_at x i k y [] same there)
+          ap (λ v. slice_index v n) (get_or-set_at x i k y [] same (omega arith))
           ∙ sym (get_or-set_at (lane n x) i k (slice_index y n) 0 same below)
       | inr other ↦
           ap (λ v. slice_index v n) (get_or-set_other x i k y [] other)
@@ -35,12 +34,10 @@ pub lane-gb_at : (x : List (List ℕ)) (i j k l n : ℕ) → i < 16 → j < 16 �
 lane-gb_at x i j k l n hi hj hk hl long a b c d mixed =
     let x1 = slice_set x i a in
     let x2 = slice_set x1 j b in
-    let x3 = slice_set x2 k c in
     let long1 : length x1 ≡ 16 = length-set x i a ∙ long in
     let long2 : length x2 ≡ 16 = length-set x1 j b ∙ long1 in
-    let long3 : length x3 ≡ 16 = length-set x2 k c ∙ long2 in
     let word : (k : ℕ) → k < 16 → lane_word x k n ≡ slice_index (lane n x) k = λ k h. sym (slice_index-lane x n k h) in
-    lane-slice_set x3 l n d hl long3
+    lane-slice_set (slice_set x2 k c) l n d hl (length-set x2 k c ∙ long2)
     ∙ ap (λ v. slice_set v l (slice_index d n)) (lane-slice_set x2 k n c hk long2
     ∙ ap (λ v. slice_set v k (slice_index c n)) (lane-slice_set x1 j n b hj long1
     ∙ ap (λ v. slice_set v j (slice_index b n)) (lane-slice_set x i n a hi long)))
@@ -70,8 +67,7 @@ one_of x i e q =
 -- the word is the lane of the vector of that number
 one_of-lane_word : (x : List (List ℕ)) (i q e : ℕ) → e < 2 → one_of x i e q ≡ lane_word x (2 * i + e) q
 one_of-lane_word x i q =
-    let first : 2 * i ≡ 2 * i + 0 = omega arith in
-    below_two _ (ap (λ k. lane_word x k q) first) refl
+    below_two _ (ap (λ k. lane_word x k q) (omega arith)) refl
 
 -- word w of the columns, xored with the word of r
 abbrev Stored : List (List ℕ) → List ℕ → List ℕ → ℕ → Type 0
@@ -111,12 +107,9 @@ row_stored x r out i left right w low high =
 by_rows_word : (r : List ℕ) (i k : ℕ) → i < 8 → k < 16 → slice_index (by_rows r) (16 * i + k) ≡ slice_index (perm (row i r)) k
 unfolding by_rows
 by_rows_word r i k hi hk =
-    let at_row : (16 * i + k) / 16 ≡ i = omega arith in
-    let at_word : (16 * i + k) % 16 ≡ k = omega arith in
-    let at_start : 0 + (16 * i + k) ≡ 16 * i + k = omega arith in
     get_or-map-range_with_len (λ w. slice_index (perm (row (w / 16) r)) (w % 16)) 0 128 (16 * i + k) (16 * i + k) 0
-    (omega arith) at_start
-    ∙ ap₂ (λ a b. slice_index (perm (row a r)) b) at_row at_word
+    (omega arith) (omega arith)
+    ∙ ap₂ (λ a b. slice_index (perm (row a r)) b) (omega arith) (omega arith)
 
 -- a word of the columns that P mixed
 by_columns_word : (q : List ℕ) (w : ℕ) → w < 128
@@ -150,12 +143,10 @@ kernel_mixes r out rows across cols down long_r long_out rows_are across_are col
     in
     let column_is : (j : ℕ) → j < 8 → lane j cols ≡ column j q =
     λ j hj. lane_is cols j (λ k. slice_index q (16 * (k / 2) + 2 * j + k % 2)) (λ k hk.
-    let halves : k ≡ 2 * (k / 2) + k % 2 = omega arith in
-    let place : 16 * (k / 2) + (2 * j + k % 2) ≡ 16 * (k / 2) + 2 * j + k % 2 = omega arith in
-    ap (λ n. lane_word cols n j) halves
+    ap (λ n. lane_word cols n j) (omega arith)
     ∙ cols_are (k / 2) j (k % 2) (omega arith) hj (omega arith)
     ∙ across_word (k / 2) (2 * j + k % 2) (omega arith) (omega arith)
-    ∙ ap (slice_index q) place)
+    ∙ ap (slice_index q) (omega arith))
     in
     let down_word : (j k : ℕ) → j < 8 → k < 16 → lane_word down k j ≡ slice_index (perm (column j q)) k =
     λ j k hj hk.
@@ -167,9 +158,8 @@ kernel_mixes r out rows across cols down long_r long_out rows_are across_are col
     length-zip2 bit_xor (by_columns q) r (long ∙ sym long_r) in
     ext_get_or 0 out (xor_blocks (by_columns q) r) (omega arith) (λ w h.
     let below : w < 128 = omega arith in
-    let below_columns : w < length (by_columns q) = omega arith in
     let below_r : w < length r = omega arith in
     stored w below
     ∙ ap (λ a. bit_xor a (slice_index r w))
     (down_word (w % 16 / 2) (2 * (w / 16) + w % 2) (omega arith) (omega arith) ∙ sym (by_columns_word q w below))
-    ∙ sym (get_or-zip2 bit_xor (by_columns q) r w 0 0 0 below_columns below_r))
+    ∙ sym (get_or-zip2 bit_xor (by_columns q) r w 0 0 0 (omega arith) below_r))

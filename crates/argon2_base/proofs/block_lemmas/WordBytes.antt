@@ -14,7 +14,6 @@ pub one_more_word : (out words piece : List ℕ) (i at k next : ℕ) → next �
     → take next (put_mid at k out piece) ≡ flat_map (to_le_bytes w64) (take (i + 1) words)
 one_more_word out words piece i at k next eight fits more is before =
     let long : next ≡ at + length piece = rw is eight in
-    let word : List ℕ = to_le_bytes w64 (slice_index words i) in
     take-put_mid at k out piece next long fits
     ∙ rw (before, is) (sym (flat_map-append (to_le_bytes w64) (take i words) (slice_index words i ∷ [])))
     ∙ ap (flat_map (to_le_bytes w64)) (sym (take_more words i 0 more))

@@ -1,5 +1,5 @@
 -- The engine without padding reads and writes strict Base64, and nothing else.
-use Rattle.std.proofs.Common.{◌≡◌, ◌≢◌, ℕ, zero, suc, ◌+◌, ◌*◌, ◌/◌, ◌<◌, ◌≤◌, Bool, true, ◌&&◌, nat_le, List, [], ◌∷◌, ◌++◌, length, take, drop, Ok, Err, codes, refl, sym, ◌∙◌, ap, arith, Result, Option, Some, None, inl, inr}
+use Rattle.std.proofs.Common.{◌≡◌, ◌≢◌, ℕ, zero, suc, ◌+◌, ◌*◌, ◌/◌, ◌<◌, ◌≤◌, Bool, true, ◌&&◌, nat_le, nat_lt, List, [], ◌∷◌, ◌++◌, length, take, drop, Ok, Err, codes, refl, sym, ◌∙◌, ap, arith, Result, Option, Some, None, inl, inr}
 use Rattle.std.proofs.lemmas.Bool.{and_parts, cases_Bool, le-leb, leb-true, lt-ltb, ltb-true}
 use Rattle.std.proofs.lemmas.List.{append-nil}
 use Rattle.std.proofs.lemmas.Str.{IsUtf8-from_ascii}
@@ -13,7 +13,7 @@ use Rattle.base64.specs.declared.encode.EncodeSliceError.{EncodeSliceError}
 use Rattle.base64.specs.declared.encode.EncodeSliceError.TheVariants.{OutputSliceTooSmall}
 use Rattle.base64.proofs.EngineFacts.{decode_of_strict, decode_of-encode_of, encoded_prefix, IsAscii-encode_of}
 use Rattle.base64.proofs.RoundTrip.{length-encode_symbols}
-use Rattle.argon2_base.specs.Texts.{alphabet, strict_base64, short_bytes, is_byte, IsBytes}
+use Rattle.argon2_base.specs.Texts.{alphabet, strict_base64, short_bytes, IsBytes}
 use Rattle.argon2_base.specs.ByteList.{base64_length, IsBase64Cause}
 use Rattle.argon2_base.specs.declared.error.B64Error.{B64Error}
 use Rattle.argon2_base.specs.declared.error.B64Error.TheVariants.{InvalidEncoding, InvalidLength}
@@ -40,18 +40,18 @@ length-strict_base64 b = length-encode_symbols alphabet b
 -- ---- `short_bytes`
 
 -- bytes pass the test of each
-bytes_pass : (b : List ℕ) → IsBytes b → list_all is_byte b ≡ true
+bytes_pass : (b : List ℕ) → IsBytes b → list_all (λ x. nat_lt x 256) b ≡ true
 bytes_pass [] h = refl
 bytes_pass (x ∷ b) h = rw (lt-ltb x 256 (h 0)) (bytes_pass b (λ i. h (suc i)))
 
 -- what passes is bytes
-passing_bytes : (b : List ℕ) → list_all is_byte b ≡ true → IsBytes b
+passing_bytes : (b : List ℕ) → list_all (λ x. nat_lt x 256) b ≡ true → IsBytes b
 passing_bytes [] h i = omega arith
-passing_bytes (x ∷ b) h zero = ltb-true x 256 (and_parts (is_byte x) (list_all is_byte b) h).0
-passing_bytes (x ∷ b) h (suc i) = passing_bytes b (and_parts (is_byte x) (list_all is_byte b) h).1 i
+passing_bytes (x ∷ b) h zero = ltb-true x 256 (and_parts (nat_lt x 256) (list_all (λ x. nat_lt x 256) b) h).0
+passing_bytes (x ∷ b) h (suc i) = passing_bytes b (and_parts (nat_lt x 256) (list_all (λ x. nat_lt x 256) b) h).1 i
 
 abbrev passes : ℕ → List ℕ → Bool
-passes most b = nat_le (length b) most && list_all is_byte b
+passes most b = nat_le (length b) most && list_all (λ x. nat_lt x 256) b
 
 -- what `short_bytes` answers, by what decoding does
 short_by : (most : ℕ) (s b : List ℕ) (r : Result (List ℕ) DecodeError) → decode_of standard_no_pad s ≡ r
@@ -71,7 +71,7 @@ pub short_bytes_found : (most : ℕ) (s b : List ℕ) → IsBytes s → short_by
     → IsBytes b × (length b ≤ most) × (s ≡ strict_base64 b)
 short_bytes_found most s b bytes h =
     let found = short_by most s b (decode_of standard_no_pad s) refl h in
-    let parts = and_parts (nat_le (length b) most) (list_all is_byte b) found.1 in
+    let parts = and_parts (nat_le (length b) most) (list_all (λ x. nat_lt x 256) b) found.1 in
     (passing_bytes b parts.1, leb-true (length b) most parts.0, strict_base64_decoded s b bytes found.0)
 
 -- `short_bytes` finds the bytes of each such text
@@ -102,16 +102,14 @@ short_bytes_refused most s cause bytes refused = none_unless (short_bytes most s
 pub strict_base64_unique : (s b d : List ℕ) → IsBytes b → s ≡ strict_base64 b → decode_of standard_no_pad s ≡ Ok d → b ≡ d
 strict_base64_unique s b d bytes is ok =
     let again : decode_of standard_no_pad s ≡ Ok b = rw is (decode_of-strict_base64 b bytes) in
-    let both = sym again ∙ ok in
-    cc both
+    cc (sym again ∙ ok)
 
 -- a strict text is never refused
 pub strict_base64_never_refused : (s b : List ℕ) (e : DecodeError) → IsBytes b → s ≡ strict_base64 b
     → decode_of standard_no_pad s ≡ Err e → ⊥
 strict_base64_never_refused s b e bytes is err =
     let again : decode_of standard_no_pad s ≡ Ok b = rw is (decode_of-strict_base64 b bytes) in
-    let both = sym again ∙ err in
-    cc both
+    cc (sym again ∙ err)
 
 abbrev written : ℕ → Result ℕ EncodeSliceError
 written n = Ok n

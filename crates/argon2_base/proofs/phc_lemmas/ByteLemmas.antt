@@ -28,11 +28,9 @@ number_l-chunk bs i le =
 -- the two shifts of a rotation by 24 bits
 shifted_or : (x : ℕ) → x < 2 ^ 64 → rotate_right w64 x 24 ≡ x % 2 ^ 24 * 2 ^ 40 + x / 2 ^ 24
 shifted_or x small =
-    let high : x * 2 ^ 40 % 2 ^ 64 ≡ x % 2 ^ 24 * 2 ^ 40 = omega arith in
-    let low : x / 2 ^ 24 < 2 ^ 40 = omega arith in
-    ap (bit_or (x / 2 ^ 24)) high
+    ap (bit_or (x / 2 ^ 24)) (omega arith)
     ∙ or_comm (x / 2 ^ 24) (x % 2 ^ 24 * 2 ^ 40)
-    ∙ or_shifted (x % 2 ^ 24) 40 (x / 2 ^ 24) low
+    ∙ or_shifted (x % 2 ^ 24) 40 (x / 2 ^ 24) (omega arith)
 
 -- the sum of the turned bytes is the rotation
 turned_sum : (x : ℕ) → x < 2 ^ 64

@@ -41,8 +41,7 @@ answer_err None y true d b room f ok fits wide h = cc wide
 answer_err None (Some e) false d b room f ok fits wide h = cc ok
 answer_err None None false d b room f ok fits wide h =
     let same : d ≡ b = cc ok in
-    let no : nat_lt room (length d) ≡ false = le-ltb room (length d) (rw same fits) in
-    let bad = rw no at h in
+    let bad = rw (le-ltb room (length d) (rw same fits)) at h in
     cc bad
 
 -- What was decoded into zeros.

@@ -7,7 +7,6 @@ use Rattle.std.proofs.lemmas.List.Splits.{join_with_byte-slice_split}
 use Rattle.std.specs.List.{list_all, join_with_byte}
 use Rattle.std.specs.Str.{bytes_eq}
 use Rattle.std.specs.Prelude.{is_none}
-use Rattle.argon2_base.specs.Texts.{is_value}
 use Rattle.argon2_base.specs.PhcText.{Pair, item, params_text, value_of, are_distinct, is_param, are_params, ParamsText, pair_of, items_of, pairs_of}
 use Rattle.argon2_base.proofs.phc_lemmas.ParamsTextLemmas.{all_params, pairs_again, items_again_long, map_again, text_long, param_value}
 
@@ -94,9 +93,8 @@ fits_here done ps x more h k e =
 -- a value has at most 64 characters
 value_length : (n v : List ℕ) → is_param (n, v) ≡ true → length v ≤ 64
 value_length n v h =
-    let value : is_value v ≡ true = param_value (n, v) h in
     leb-true (length v) 64 (and_parts (nat_le 1 (length v)) (nat_le (length v) 64)
-    (and_parts (nat_le 1 (length v) && nat_le (length v) 64) _ value).0).1
+    (and_parts (nat_le 1 (length v) && nat_le (length v) 64) _ (param_value (n, v) h)).0).1
 
 -- what is longer is no value
 pub long_value : (n v : List ℕ) → 64 < length v → is_param (n, v) ≡ false

@@ -174,8 +174,7 @@ split_found bs (Some x) h =
 pub split_none : (bs : List ℕ) (r : Option (Bor (List ℕ) × Bor (List ℕ))) → IsSplitOnceResult 61 bs r
     → IfNone r ((p : Pair) → bs ≢ item p)
 split_none bs None h =
-    let none = split_parts 61 bs None h (lit< tt) in
-    λ p e. Lacks_not 61 p.0 p.1 (rw e at (Lacks_from 61 bs none))
+    λ p e. Lacks_not 61 p.0 p.1 (rw e at (Lacks_from 61 bs (split_parts 61 bs None h (lit< tt))))
 split_none bs (Some x) h = tt
 
 -- what an iterator over a list's text starts with
@@ -198,9 +197,8 @@ refused_param ps p h = sym (rw (list_all-more ps p, h, and-false (list_all is_pa
 -- a list with a name twice is refused
 pub refused_name : (ps : List Pair) (p : Pair) → is_some (value_of p.0 ps) ≡ true → false ≡ are_params (ps ++ p ∷ [])
 refused_name ps p h =
-    let some : is_none (value_of p.0 ps) ≡ false = ap not h in
     let one : are_distinct (ps ++ p ∷ []) ≡ false =
-    are_distinct-more ps p ∙ rw some (and-false (are_distinct ps)) in
+    are_distinct-more ps p ∙ rw (ap not h) (and-false (are_distinct ps)) in
     sym (rw (one, and-false (list_all is_param (ps ++ p ∷ []))) refl)
 
 -- what a list is after an item was appended, or didn't fit
@@ -216,9 +214,8 @@ pub params_grown : (text new : List ℕ) (p : Pair) → are_params (pairs_of tex
     → new ≡ with_item text p → Grows text new p
 params_grown text new p h is param name fits e =
     let ps : List Pair = pairs_of text in
-    let none : is_none (value_of p.0 ps) ≡ true = ap not name in
     let good : are_params (ps ++ p ∷ []) ≡ true =
-    rw (are_params-more ps p h, param, none, ← is) fits in
+    rw (are_params-more ps p h, param, ap not name, ← is) fits in
     let whole : new ≡ params_text (ps ++ p ∷ []) = e ∙ ap (λ (t : List ℕ). with_item t p) is ∙ sym (params_text-more ps p) in
     record {
       good = good;

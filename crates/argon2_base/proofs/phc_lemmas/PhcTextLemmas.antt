@@ -136,14 +136,12 @@ list_no_version [] rest h k d more e = k (codes "v", d) more e
 list_no_version (p ∷ ps) rest h k d more e =
     let one = and_parts (is_param p) (list_all is_param ps) (all_params (p ∷ ps) h) in
     let t = text_item p ps in
-    let first : params_text (p ∷ ps) ≡ item (codes "v", d) = cc in
-    let same : item (p.0, t.0) ≡ item (codes "v", d) = sym t.1 ∙ first in
+    let same : item (p.0, t.0) ≡ item (codes "v", d) = sym t.1 ∙ cc in
     let pairs : ◌≡◌ {A = Pair} (p.0, t.0) (codes "v", d) =
     sym (pair_again p.0 t.0 (name_lacks 61 refl p.0 (param_name p one.0))) ∙ ap pair_of same in
     let named : p.0 ≡ codes "v" = ap (λ (q : Pair). q.0) pairs in
     let differs : bytes_eq p.0 (codes "v") ≡ false =
     not-true _ (and_parts (is_name p.0) _ (and_parts _ (is_value p.1) one.0).0).1 in
-    let never : bytes_eq (codes "v") (codes "v") ≡ false = rw named at differs in
     absurd cc
 
 -- behind the version there is no version

@@ -3,7 +3,8 @@
 ghost use Rattle.std.specs.Prelude.{◌≡◌, ◌≤◌, ◌*◌, Some, IfOk, MatchResult, length, nat_eq};
 ghost use Rattle.std.specs.Cmp.{partial_equiv_from_equiv};
 ghost use Rattle.std.specs.Cmp.Lexicographic.{pointwise, nat_list_eq_equiv};
-ghost use Rattle.argon2_base.specs.Texts.{IsBytes, strict_base64};
+ghost use Rattle.argon2_base.specs.PhcText.{HasBytes};
+ghost use Rattle.argon2_base.specs.Texts.{strict_base64};
 ghost use Rattle.argon2_base.specs.declared.error.password_hash.Error.TheVariants.{SaltInvalid, OutputSize};
 
 use super::compare::are_equal;
@@ -58,9 +59,7 @@ impl Salt {
     /// Its bytes.
     pub fn as_bytes(&self) -> &[u8]
         ensures value { result.now ≡ self.now }
-        ensures min { 8 ≤ length self.now }
-        ensures max { length self.now ≤ 48 }
-        ensures bytes { IsBytes self.now }
+        ensures bytes { HasBytes 8 48 self.now }
     {
         self.bytes.as_bytes()
     }
@@ -158,9 +157,7 @@ impl Output {
     /// Its bytes.
     pub fn as_bytes(&self) -> &[u8]
         ensures value { result.now ≡ self.now }
-        ensures min { 4 ≤ length self.now }
-        ensures max { length self.now ≤ 64 }
-        ensures bytes { IsBytes self.now }
+        ensures bytes { HasBytes 4 64 self.now }
     {
         self.bytes.as_bytes()
     }

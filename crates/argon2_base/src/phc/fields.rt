@@ -1,9 +1,12 @@
 //! The fields of a PHC text, read one by one.
 
 ghost use Rattle.std.specs.Prelude.{◌≡◌, ◌<◌, ◌^◌, ◌++◌, ◌∷◌, ℕ, List, Option, IfOk, IfErr, IfSome, IsSome, IsOkAnd, IsTrue};
+ghost use Rattle.std.specs.Option.{option_map};
+ghost use Rattle.std.specs.Result.{result_map_both};
+ghost use Rattle.argon2_base.specs.ByteList.{list_bytes};
 ghost use Rattle.argon2_base.specs.Texts.{strict_base64};
 ghost use Rattle.argon2_base.specs.PhcText.{HasBytes, Pair, are_params, field, list_field, version_text};
-ghost use Rattle.argon2_base.specs.PhcFields.{fields_of, fields_left, IsBytesField, with_bytes, NoVersionFirst, NoItemFirst};
+ghost use Rattle.argon2_base.specs.PhcFields.{fields_of, fields_left, IsBytesField, NoVersionFirst, NoItemFirst};
 ghost use Rattle.argon2_base.specs.declared.error.password_hash.Error.TheVariants.{EncodingInvalid};
 
 use super::bytes::{Output, Salt};
@@ -72,7 +75,8 @@ pub(super) fn params_field(left: Option<&str>) -> Result<(ParamsString, Option<&
 
 // The bytes of strict Base64, at most 64, where anything is left, and what is left.
 fn bytes_field(left: Option<&str>) -> Result<(Option<ByteList<64>>, Option<&str>)>
-    ensures { IsBytesField 0 64 (fields_left left.entry) (with_bytes result) }
+    ensures { IsBytesField 0 64 (fields_left left.entry)
+        (result_map_both (λ x. (option_map list_bytes x.0, x.1)) (λ e. e) result) }
 {
     let Some(text) = left else {
         return Ok((None, None));

@@ -214,11 +214,11 @@ impl<'a> Model for Iter<'a> {
 
 impl<'a> Iterator for Iter<'a> {
     ghost use Rattle.std.specs.Iterator.{YieldsFirstBy, item_count};
-    ghost use Rattle.argon2_base.specs.PhcText.{shown_pair};
+    ghost use Rattle.argon2_base.specs.PhcText.{ident_text};
 
     type Item = (Ident, Value<'a>);
 
-    ghost next_gives = { YieldsFirstBy shown_pair (λ s. s) };
+    ghost next_gives = { YieldsFirstBy (λ p. (ident_text p.0, p.1)) (λ s. s) };
 
     ghost remaining = { item_count (λ s. s) };
 

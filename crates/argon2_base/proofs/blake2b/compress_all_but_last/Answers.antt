@@ -1,5 +1,5 @@
-use Rattle.std.proofs.Common.{◌≡◌, length, ◌∙◌, ap, arith, refl}
-use Rattle.argon2_base.specs.Hasher.{blocks_before, hash_on}
+use Rattle.std.proofs.Common.{◌∙◌, ap, arith, refl}
+use Rattle.argon2_base.specs.Hasher.{hash_on}
 use Rattle.argon2_base.proofs.blake2b_lemmas.HasherFields.{hash_on_next}
 use Rattle.argon2_base.proofs.blake2b.compress_all_but_last.Goals as goal
 
@@ -14,5 +14,4 @@ blocks-2-preserved c =
 
 pub returns-clause-hash : goal.returns-clause-hash
 returns-clause-hash c =
-    let all : c.blocks-2.i ≡ blocks_before (length c.args.input.now) = omega arith in
-    c.blocks-2.invariant ∙ ap (hash_on c.args.h.now c.args.total c.args.input.now) all
+    c.blocks-2.invariant ∙ ap (hash_on c.args.h.now c.args.total c.args.input.now) (omega arith)

@@ -19,11 +19,11 @@ pub returns-clause-accepted : goal.returns-clause-accepted
 returns-clause-accepted g c =
     let made = c.hash_password.result in
     subst (λ secret. IfOk made (λ hash. Accepts secret c.args.password.now (phc_text (phc_of hash))))
-    c.default.ensures.1 c.hash_password.ensures.accepted
+    c.default.ensures.secret c.hash_password.ensures.accepted
 
 pub returns-clause-made : goal.returns-clause-made
 returns-clause-made g c =
     let salt = (fill_bytes 16 (g.R.Rng.stream c.args.rng.now)).0 in
-    let same = target_along _ _ _ _ c.default.ensures.0 c.default.ensures.1 in
+    let same = target_along _ _ _ _ c.default.ensures.settings c.default.ensures.secret in
     subst (λ under. IsHashAnswer under c.args.password.now salt c.hash_password.result) same
     c.hash_password.ensures.answer

@@ -13,12 +13,8 @@ pub returns : goal.returns
 unfolding words_of
 returns c =
     let input = c.args.input.now in
-    let pieces = c.as_chunks.result.0.now in
     let long : length input ≡ 1024 = c.told-input in
-    let count : length pieces ≡ 128 = c.as_chunks.ensures.front_len ∙ ap (λ n. n / 8) long in
-    let words_long : length c.words.self-inside.words ≡ 128 = c.words.invariant.long in
-    let below = c.words-test.false in
     let all = take_all c.words.k c.words.self-inside.words (omega arith) in
-    let whole = take_all c.words.k pieces (omega arith) in
+    let whole = take_all c.words.k c.as_chunks.result.0.now (omega arith) in
     sym all ∙ c.words.invariant.done ∙ ap (map (from_le_bytes w64)) whole
     ∙ ap (map (from_le_bytes w64)) (c.as_chunks.ensures.front ∙ ap (λ n. first_chunks 8 (n / 8) input) long)

@@ -1,8 +1,5 @@
 use Rattle.argon2_base.proofs.block_lemmas.LaneLemmas.{exchanged_fours}
 use Rattle.argon2_base.proofs.block.kernel.exchange_fours.Goals as goal
 
-pub returns-clause-left : goal.returns-clause-left
-returns-clause-left c = (exchanged_fours c.args.a c.fits-a.0 c.args.b c.fits-b.0).0
-
-pub returns-clause-right : goal.returns-clause-right
-returns-clause-right c = (exchanged_fours c.args.a c.fits-a.0 c.args.b c.fits-b.0).1
+pub returns : goal.returns
+returns c = let both = exchanged_fours c.args.a c.fits-a.0 c.args.b c.fits-b.0 in record { left = both.0; right = both.1 }

@@ -1,4 +1,4 @@
-use Rattle.std.proofs.Common.{◌≡◌, ◌∙◌, length, arith, bit_xor}
+use Rattle.std.proofs.Common.{◌∙◌, arith, bit_xor}
 use Rattle.std.proofs.lemmas.Simd.{length-zip2}
 use Rattle.argon2_base.specs.Block.{xor_blocks}
 use Rattle.argon2_base.proofs.block_lemmas.LaneLemmas.{below_sixteen, in_eights}
@@ -9,10 +9,7 @@ unfolding xor_blocks
 returns c =
     let x = c.args.x.now in
     let y = c.args.y.now in
-    let same : length x ≡ length y = omega arith in
-    let long_x : length x ≡ 128 = omega arith in
-    let long : length (xor_blocks x y) ≡ 128 = length-zip2 bit_xor x y same ∙ long_x in
-    in_eights _ (xor_blocks x y) long
+    in_eights _ (xor_blocks x y) (length-zip2 bit_xor x y (omega arith) ∙ (omega arith))
     (below_sixteen _ c.load_xor.ensures c.load_xor-2.ensures c.load_xor-3.ensures c.load_xor-4.ensures
     c.load_xor-5.ensures c.load_xor-6.ensures c.load_xor-7.ensures c.load_xor-8.ensures
     c.load_xor-9.ensures c.load_xor-10.ensures c.load_xor-11.ensures c.load_xor-12.ensures

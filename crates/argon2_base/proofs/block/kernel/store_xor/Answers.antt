@@ -7,9 +7,7 @@ pub returns-clause-here : goal.returns-clause-here
 returns-clause-here c k h =
     let v = c.args.v in
     let r = c.args.r in
-    let long_v : length v ≡ 8 = c.fits-v.0 in
-    let long_r : length r ≡ 8 = c.fits-r.0 in
-    let long : length (zip2 bit_xor v r) ≡ length v = length-zip2 bit_xor v r (long_v ∙ sym long_r) in
+    let long : length (zip2 bit_xor v r) ≡ length v = length-zip2 bit_xor v r (c.fits-v.0 ∙ sym c.fits-r.0) in
     get_or-put_chunk_at c.args.at c.args.words.now (zip2 bit_xor v r) k 0 (omega arith) (omega arith)
     ∙ get_or-zip2 bit_xor v r k 0 0 0 (omega arith) (omega arith)
 

@@ -1,4 +1,4 @@
-use Rattle.std.proofs.Common.{◌≡◌, ◌<◌, ◌+◌, ◌*◌, ◌/◌, ◌%◌, ◌^◌, ◌∙◌, ap, length, slice_index, bit_xor, w64, arith}
+use Rattle.std.proofs.Common.{◌<◌, ◌+◌, ◌*◌, ◌/◌, ◌%◌, ◌^◌, ◌∙◌, ap, length, slice_index, bit_xor, w64, arith}
 use Rattle.std.proofs.lemmas.Nat.{xor_lt}
 use Rattle.std.proofs.lemmas.Simd.{below_from_Fits, Each1-get_or, get_or-zip2}
 use Rattle.argon2_base.specs.Block.{xor_rotate}
@@ -10,8 +10,6 @@ unfolding xor_rotate
 returns c j h =
     let a = c.args.a in
     let b = c.args.b in
-    let long_a : length a ≡ 8 = c.fits-a.0 in
-    let long_b : length b ≡ 8 = c.fits-b.0 in
     let in_a : j < length a = omega arith in
     let in_b : j < length b = omega arith in
     let small_a : slice_index a j < 2 ^ 64 = Each1-get_or (λ x. x < 2 ^ 64) a j 0 in_a (below_from_Fits w64 a c.fits-a.1) in

@@ -13,6 +13,5 @@ returns-in-Ok c =
 
 pub returns-in-Err : goal.returns-in-Err
 returns-in-Err c =
-    let parts = ap fields_left c.in-Some.is ∙ c.first_field.ensures in
-    bytes_refused 0 64 _ _ _ parts
+    bytes_refused 0 64 _ _ _ (ap fields_left c.in-Some.is ∙ c.first_field.ensures)
     (λ b has. refused_text 64 _ c.in-Err.field-0 c.in-Err.ensures b has.0 has.2)

@@ -12,18 +12,16 @@ returns-in_default-split_item-clause-only c = λ ps rest good k e.
 
 pub returns-in_default-read-clause-only : goal.returns-in_default-read-clause-only
 returns-in_default-read-clause-only c = λ ps rest good k e.
-    let parts = ap fields_left c.in-Some.is ∙ c.first_field.ensures in
     let pair = c.in-Some-split_item._pair in
     let r = list_read c.first_field.result.0.now (fields_left c.first_field.result.1) rest ps (pair.0.now, pair.1.now)
-    c.in-Some-split_item.ensures.found.1 k (sym parts ∙ e) in
+    c.in-Some-split_item.ensures.found.1 k (sym (ap fields_left c.in-Some.is ∙ c.first_field.ensures) ∙ e) in
     let x = c.in_default-read.ensures.only ps (good, r.0) in
     cc
 
 pub returns-clause-only : goal.returns-clause-only
 returns-clause-only c = λ ps rest good k e.
-    let parts = ap fields_left c.in-Some.is ∙ c.first_field.ensures in
     let pair = c.in-Some-split_item._pair in
     let r = list_read c.first_field.result.0.now (fields_left c.first_field.result.1) rest ps (pair.0.now, pair.1.now)
-    c.in-Some-split_item.ensures.found.1 k (sym parts ∙ e) in
+    c.in-Some-split_item.ensures.found.1 k (sym (ap fields_left c.in-Some.is ∙ c.first_field.ensures) ∙ e) in
     let x = c.in-Ok.ensures.only ps (good, r.0) in
     (cc, r.1)

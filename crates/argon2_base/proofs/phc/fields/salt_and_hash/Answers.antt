@@ -19,7 +19,6 @@ returns-then-is_some-clause-only c = λ s o hs ho salted e.
     let f = c.in_ok-salt.ensures.only s (field strict_base64 o) hs (none_after s o salted) e in
     let g = c.in_ok-hash.ensures.only o [] ho (λ _. refl) (f.1 ∙ sym (append-nil (field strict_base64 o))) in
     let none = left_none c.in_ok-hash.left g.1 in
-    let some = c.if-is_some.ensures in
     cc
 
 pub returns-clause-only : goal.returns-clause-only

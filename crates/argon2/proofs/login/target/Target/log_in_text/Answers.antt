@@ -33,6 +33,13 @@ returns-in_default-clause-step g c = λ store name has.
           (fill_bytes 16 (g.R.Rng.stream c.args.rng.now)).0 v v c.in-Ok-log_in.done.accepted has step.1,
     )
 
+pub returns-in_default-clause-current : goal.returns-in_default-clause-current
+returns-in_default-clause-current g c =
+    let v = phc_of c.args.text.now in
+    let step = rw c.in_default.is at (c.in-Ok-log_in.ensures.step v (sym c.in-Ok.ensures)) in
+    leaves_current (target_value c.args.self.now) c.args.self.now.fits c.args.password.now _ v v
+    c.in-Ok-log_in.done.accepted step.1
+
 pub returns-clause-step : goal.returns-clause-step
 returns-clause-step g c = λ store name has.
     let v = phc_of c.args.text.now in

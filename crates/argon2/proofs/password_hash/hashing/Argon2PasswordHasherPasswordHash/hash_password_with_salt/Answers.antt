@@ -40,7 +40,6 @@ returns c =
     record {
       answer = inl (answer_made target password salt lengths.0 lengths.1 fits _ is
           c.in_ok-hash.ensures.0);
-      accepted = made_accepted target target_fits password salt _ is (bytes, lengths.0, lengths.1)
-          c.in_ok-hash.ensures.0;
+      accepted = made_accepted target target_fits password salt _ is bytes c.in_ok-hash.ensures.0;
       shown = made_shows target target_fits password salt _ is;
     }

@@ -1,4 +1,4 @@
-use Rattle.std.proofs.Common.{◌≡◌, ◌∙◌, lit<, Some, None, true, false}
+use Rattle.std.proofs.Common.{◌≡◌, ◌∙◌, lit<, Some, None, false}
 use Rattle.std.proofs.lemmas.Str.Pattern.{strip_prefix_char}
 use Rattle.argon2_base.specs.Texts.{is_name}
 use Rattle.argon2_base.proofs.phc_lemmas.PhcTextLemmas.{first_and_left, begins_with_dollar, text_of_fields, from_params, from_salt, no_version, no_item, same_phc, fields_of_parts}
@@ -14,7 +14,6 @@ returns-in_err-algorithm-clause-only c = λ v h.
     let s = first_and_left v h (strip_prefix_char 36 c.args.text.now (Some c.in-Some.text) c.in-Some.ensures.cases (lit< tt))
     c.first_field.ensures in
     let no : is_name c.first_field.result.0.now ≡ false = c.in_err-algorithm.ensures.when.1 in
-    let yes : is_name c.first_field.result.0.now ≡ true = rw s.0 h.0.algorithm in
     absurd cc
 
 pub returns-in_err-version-clause-only : goal.returns-in_err-version-clause-only

@@ -1,4 +1,4 @@
-use Rattle.std.proofs.Common.{◌≡◌, ℕ, ◌<◌, [], ◌∷◌, ◌++◌, length, map, ap, arith, true, false, ◌==◌, Ok}
+use Rattle.std.proofs.Common.{◌≡◌, ℕ, ◌<◌, [], ◌∷◌, ◌++◌, map, ap, arith, true, false, ◌==◌, Ok}
 use Rattle.std.proofs.lemmas.Bool.Decides.{nat_tests}
 use Rattle.argon2_base.specs.PhcText.{item, items_of, items_left, are_params}
 use Rattle.argon2_base.proofs.phc_lemmas.ParamsReading.{empty_list, one_list, read_at_end, items_from_here, is_item, fits_here}
@@ -6,8 +6,7 @@ use Rattle.argon2_base.proofs.phc.list.ParamsString.read.Goals as goal
 
 pub returns-then-is_empty-clause-only : goal.returns-then-is_empty-clause-only
 returns-then-is_empty-clause-only c = λ ps h.
-    let empty : length c.args.text.now ≡ 0 = grind (arith, nat_tests, c.if-is_empty.ensures) in
-    let e = empty_list ps (rw (← h.1) empty) in
+    let e = empty_list ps (rw (← h.1) (grind (arith, nat_tests, c.if-is_empty.ensures))) in
     cc
 
 above_zero : (n : ℕ) → false ≡ (n == 0) → 0 < n
