@@ -1,23 +1,35 @@
 -- What the program is asked for, and what it replies.
-use Rattle.std.specs.Prelude.{ℕ, ◌≡◌, ◌≤◌, ◌==◌, if◌then◌else◌, Option, Some, None, IfSome, Result, Ok, Err, ⊤, List, [], ◌∷◌, ◌++◌, length, codes}
+use Rattle.std.specs.Prelude.{ℕ, ◌≡◌, ◌≤◌, ◌<◌, ◌^◌, ◌==◌, if◌then◌else◌, Option, Some, None, IfSome, Result, Ok, Err, MatchResult, ⊤, List, [], ◌∷◌, ◌++◌, length, String, codes, string_bytes}
 use Rattle.std.specs.Io.KnownBytes.{Appends}
 use Rattle.std.specs.Fmt.{decimal}
 use Rattle.hex.specs.Hex.{encode_lower}
 use Rattle.argon2_base.specs.Blake2b.{blake2b}
 use Rattle.argon2_base.specs.LongHash.{long_hash}
 use Rattle.argon2_base.specs.declared.error.Error.{Error}
-use Rattle.argon2_base.specs.declared.error.Error.TheVariants.{OutputTooShort}
+use Rattle.argon2_base.specs.declared.error.Error.TheVariants.{AlgorithmInvalid, OutputTooShort, VersionInvalid}
 use Rattle.argon2_base.specs.PhcText.{Phc, phc_text}
+use Rattle.argon2.specs.declared.algorithm.Algorithm.{Algorithm}
+use Rattle.argon2.specs.declared.context.Argon2.{Argon2}
+use Rattle.argon2.specs.declared.version.Version.{Version}
+use Rattle.argon2.specs.Argon2.{secret_of, settings_of}
 use Rattle.argon2.specs.Stored.{Accepts}
 use Rattle.argon2.specs.Rfc9106.{context_with, tag_of}
 use Rattle.argon2.specs.Made.{hashed}
-use Rattle.argon2.specs.Refusals.{length_refusal}
-use Rattle.argon2.specs.Settings.{Settings}
-use Rattle.argon2_tool.specs.Failures.{HasNone}
-use Rattle.argon2_tool.specs.Request.{IsRequest, request_words, settings_asked, unless}
+use Rattle.argon2.specs.Refusals.{answer_unless, length_refusal}
+use Rattle.argon2.specs.Settings.{Settings, algorithm_named, first_fault, plain, version_numbered}
+use Rattle.argon2_tool.specs.Failures.{HasNone, IsBefore}
 use Rattle.argon2_tool.specs.declared.arguments.Command.{Command}
-use Rattle.argon2_tool.specs.declared.arguments.Command.TheVariants.{Digest, Long, Tag, Phc as PhcCommand, Verify, Help, Version}
+use Rattle.argon2_tool.specs.declared.arguments.Command.TheVariants.{Digest, Long, Tag, Phc as PhcCommand, Verify, Help, Version as VersionCommand}
+use Rattle.argon2_tool.specs.declared.arguments.Request.{Request}
+use Rattle.argon2_tool.specs.declared.failure.Failure.{Failure}
+use Rattle.argon2_tool.specs.declared.failure.Failure.TheVariants.{Hashing}
 use Rattle.argon2_tool.specs.declared.run.TheConstants.{HELP, VERSION}
+
+-- ---- commands and their words
+
+-- the numbers of a request are in range
+abbrev pub IsRequest : Request → Type 0
+IsRequest r = (r.version < 2 ^ 32) × (r.m_cost < 2 ^ 32) × (r.t_cost < 2 ^ 32) × (r.p_cost < 2 ^ 32)
 
 -- the numbers of a command are in range
 abbrev pub IsCommand : Command → Type 0
@@ -25,9 +37,12 @@ IsCommand (Digest len) = (1 ≤ len) × (len ≤ 64)
 IsCommand (Long len) = len ≤ 1024
 IsCommand (Tag request len salt) = IsRequest request × (len ≤ 1024)
 IsCommand (PhcCommand request salt) = IsRequest request
-IsCommand (Verify text) = ⊤
-IsCommand Help = ⊤
-IsCommand Version = ⊤
+IsCommand command = ⊤
+
+-- the words of a request
+abbrev pub request_words : Request → List (List ℕ)
+request_words r =
+    r.algorithm.now ∷ decimal r.version ∷ decimal r.m_cost ∷ decimal r.t_cost ∷ decimal r.p_cost ∷ []
 
 -- the words of a command
 abbrev pub words_of : Command → List (List ℕ)
@@ -37,40 +52,46 @@ words_of (Tag request len salt) = codes "tag" ∷ request_words request ++ decim
 words_of (PhcCommand request salt) = codes "phc" ∷ request_words request ++ salt.now ∷ []
 words_of (Verify text) = codes "verify" ∷ text.now ∷ []
 words_of Help = codes "--help" ∷ []
-words_of Version = codes "--version" ∷ []
+words_of VersionCommand = codes "--version" ∷ []
 
 -- the words spell the command
 abbrev pub Spells : List (List ℕ) → Command → Type 0
 Spells words command = IsCommand command × (words ≡ words_of command)
 
+-- ---- replies
+
+-- an algorithm, a version and costs as settings with no data, or why they are refused
+abbrev pub settings_under : Option Algorithm → Option Version → Request → Result Settings Error
+settings_under None version r = Err AlgorithmInvalid
+settings_under (Some algorithm) None r = Err VersionInvalid
+settings_under (Some algorithm) (Some version) r = answer_unless (first_fault r.m_cost r.t_cost r.p_cost None)
+    (record { algorithm = algorithm; version = version; parameters = plain r.m_cost r.t_cost r.p_cost None })
+
+-- the settings that are asked for, under any length of output, or why they are refused
+abbrev pub settings_asked : Request → Result Settings Error
+settings_asked r = settings_under (algorithm_named r.algorithm.now) (version_numbered r.version) r
+
+-- the settings are those that are asked for, with no secret, or the refusal is theirs
+abbrev pub IsAsked : Request → Result Argon2 Error → Type 0
+IsAsked r (Ok argon2) = (settings_asked r ≡ Ok (settings_of argon2)) × (secret_of argon2 ≡ [])
+IsAsked r (Err refusal) = settings_asked r ≡ Err refusal
+
 -- the variable-length hash of len bytes, in hex; none of no bytes
 abbrev pub long_reply : ℕ → List ℕ → Result (List ℕ) Error
 long_reply len message = if len == 0 then Err OutputTooShort else Ok (encode_lower (long_hash len message))
 
--- the tag of len bytes under settings and no secret, in hex, or why it is refused
-abbrev pub tag_under : Settings → ℕ → List ℕ → List ℕ → Result (List ℕ) Error
-tag_under settings len salt password =
-    unless (length_refusal settings.parameters.output_len len (length password) (length salt))
+-- the tag of len bytes under settings and no secret, in hex, or why it or the settings are refused
+abbrev pub tag_reply : Result Settings Error → ℕ → List ℕ → List ℕ → Result (List ℕ) Error
+tag_reply (Err refusal) len salt password = Err refusal
+tag_reply (Ok settings) len salt password =
+    answer_unless (length_refusal settings.parameters.output_len len (length password) (length salt))
     (encode_lower (tag_of (context_with settings []) password salt len))
 
--- the reply where the settings may be refused first
-abbrev pub tag_reply : Result Settings Error → ℕ → List ℕ → List ℕ → Result (List ℕ) Error
-tag_reply (Ok settings) len salt password = tag_under settings len salt password
-tag_reply (Err refusal) len salt password = Err refusal
-
 -- the text of the value that a password and a salt make under settings and no secret
-abbrev pub IsPhcUnder : Settings → List ℕ → List ℕ → List ℕ → Type 0
-IsPhcUnder settings salt password line = (v : Phc)
-    × (hashed (record { settings = settings; secret = [] }) password salt ≡ Ok v) × (line ≡ phc_text v)
-
--- the reply where the settings may be refused first
 abbrev pub IsPhcReply : Result Settings Error → List ℕ → List ℕ → List ℕ → Type 0
-IsPhcReply (Ok settings) salt password line = IsPhcUnder settings salt password line
 IsPhcReply (Err refusal) salt password line = ⊥
-
--- a text accepts the password under no secret, and the line says so
-abbrev pub IsVerifyReply : List ℕ → List ℕ → List ℕ → Type 0
-IsVerifyReply text password line = (line ≡ codes "ok") × Accepts [] password text
+IsPhcReply (Ok settings) salt password line = (v : Phc)
+    × (hashed (record { settings = settings; secret = [] }) password salt ≡ Ok v) × (line ≡ phc_text v)
 
 -- the line is what a command replies to an input
 abbrev pub Replies : Command → List ℕ → List ℕ → Type 0
@@ -78,9 +99,21 @@ Replies (Digest len) message line = line ≡ encode_lower (blake2b len message)
 Replies (Long len) message line = long_reply len message ≡ Ok line
 Replies (Tag request len salt) password line = tag_reply (settings_asked request) len salt.now password ≡ Ok line
 Replies (PhcCommand request salt) password line = IsPhcReply (settings_asked request) salt.now password line
-Replies (Verify text) password line = IsVerifyReply text.now password line
+Replies (Verify text) password line = (line ≡ codes "ok") × Accepts [] password text.now
 Replies Help input line = line ≡ HELP.now
-Replies Version input line = line ≡ VERSION.now
+Replies VersionCommand input line = line ≡ VERSION.now
+
+-- a command fails before its reply to an input is written; a call refuses only if there is none
+abbrev pub Fails : Command → List ℕ → Failure → Type 0
+Fails (Long len) message (Hashing refusal) = long_reply len message ≡ Err refusal
+Fails (Tag request len salt) password (Hashing refusal) =
+    tag_reply (settings_asked request) len salt.now password ≡ Err refusal
+Fails command message failure = IsBefore (Replies command message) failure
+
+-- what a command comes to on an input
+abbrev pub IsReply : {Z : Type 0} → Command → List ℕ → Result (String Z) Failure → Type 0
+IsReply command message r =
+    MatchResult r (λ text. Replies command message (string_bytes text)) (Fails command message)
 
 -- where the input is known, the command's reply to it is appended to a known output, as a line
 abbrev pub IsAnswered : Command → Option (List ℕ) → Option (List ℕ) → Option (List ℕ) → Type 0

@@ -3,8 +3,56 @@
 ghost use Rattle.std.specs.Prelude.{◌≡◌, ℕ, ◌≤◌, IfSome, IsSome};
 ghost use Rattle.std.specs.Fmt.{decimal};
 
-use crate::request::Request;
 use argon2::phc::read_decimal;
+use argon2::{Algorithm, Argon2, Params, Version};
+
+/// An algorithm by its name, a version by its number, and costs. None of them is checked yet.
+#[derive(Clone, Copy)]
+pub struct Request<'a> {
+    pub algorithm: &'a str,
+    pub version: u32,
+    pub m_cost: u32,
+    pub t_cost: u32,
+    pub p_cost: u32,
+}
+
+impl<'a> Request<'a> {
+    ghost use Rattle.std.specs.Prelude.{◌≡◌, ◌++◌, List, ℕ, IfSome, IsSome, map, string_bytes};
+    ghost use Rattle.argon2_tool.specs.Commands.{IsRequest, IsAsked, request_words};
+
+    // The request that the first five words spell, if they spell one, and the words after them.
+    fn split(words: &'a [String]) -> Option<(Request<'a>, &'a [String])>
+        ensures found { IfSome result (λ it. IsRequest it.0
+            × (map string_bytes words.now ≡ request_words it.0 ++ map string_bytes it.1.now)) }
+        ensures only { (r : Request) (rest : List (List ℕ)) → IsRequest r
+            → map string_bytes words.now ≡ request_words r ++ rest → IsSome result }
+    {
+        let [algorithm, version, m_cost, t_cost, p_cost, rest @ ..] = words else {
+            return None;
+        };
+        let request = Request {
+            algorithm: algorithm.as_str(),
+            version: read_decimal(version.as_str())?,
+            m_cost: read_decimal(m_cost.as_str())?,
+            t_cost: read_decimal(t_cost.as_str())?,
+            p_cost: read_decimal(p_cost.as_str())?,
+        };
+        Some((request, rest))
+    }
+
+    /// What hashes under the request, with no secret, no data and any length of output.
+    ///
+    /// # Errors
+    /// What refuses the first that is refused of the algorithm, the version and the costs.
+    pub fn argon2(&self) -> argon2::Result<Argon2<'static>>
+        ensures { IsAsked self.now result }
+    {
+        let algorithm = Algorithm::new(self.algorithm)?;
+        let version = Version::try_from(self.version)?;
+        let params = Params::new(self.m_cost, self.t_cost, self.p_cost, None)?;
+        Ok(Argon2::new(algorithm, version, params))
+    }
+}
 
 /// What the program is asked for.
 #[derive(Clone, Copy)]
@@ -26,7 +74,7 @@ pub enum Command<'a> {
 }
 
 impl<'a> Command<'a> {
-    ghost use Rattle.std.specs.Prelude.{[], ◌∷◌, codes, IfSome, IsSome, map, string_bytes};
+    ghost use Rattle.std.specs.Prelude.{IfSome, IsSome, map, string_bytes};
     ghost use Rattle.argon2_tool.specs.declared.arguments.Command.{Command};
     ghost use Rattle.argon2_tool.specs.Commands.{Spells};
 
@@ -37,138 +85,27 @@ impl<'a> Command<'a> {
             → IsSome result }
     {
         let (name, values) = args.split_first()?;
-        match name.as_str() {
-            "digest" => Command::digest_of(values),
-            "long" => Command::long_of(values),
-            "tag" => Command::tag_of(values),
-            "phc" => Command::phc_of(values),
-            "verify" => Command::verify_of(values),
-            "--help" if values.is_empty() => Some(Command::Help),
-            "--version" if values.is_empty() => Some(Command::Version),
+        match (name.as_str(), values) {
+            ("digest", [len]) => Some(Command::Digest(number_within(len.as_str(), 1, 64)?)),
+            ("long", [len]) => Some(Command::Long(number_within(len.as_str(), 0, 1024)?)),
+            ("tag", _) => {
+                let (request, [len, salt]) = Request::split(values)? else {
+                    return None;
+                };
+                let len = number_within(len.as_str(), 0, 1024)?;
+                Some(Command::Tag(request, len, salt.as_str()))
+            }
+            ("phc", _) => {
+                let (request, [salt]) = Request::split(values)? else {
+                    return None;
+                };
+                Some(Command::Phc(request, salt.as_str()))
+            }
+            ("verify", [text]) => Some(Command::Verify(text.as_str())),
+            ("--help", []) => Some(Command::Help),
+            ("--version", []) => Some(Command::Version),
             _ => None,
         }
-    }
-
-    // The command that `digest` and these words spell, if they spell one.
-    fn digest_of(values: &'a [String]) -> Option<Command<'a>>
-        ensures found { IfSome result (Spells (codes "digest" ∷ map string_bytes values.now)) }
-        ensures only { (command : Command)
-            → Spells (codes "digest" ∷ map string_bytes values.now) command
-            → IsSome result }
-    {
-        let [len] = values else {
-            return None;
-        };
-        Some(Command::Digest(number_within(len.as_str(), 1, 64)?))
-    }
-
-    // The command that `long` and these words spell, if they spell one.
-    fn long_of(values: &'a [String]) -> Option<Command<'a>>
-        ensures found { IfSome result (Spells (codes "long" ∷ map string_bytes values.now)) }
-        ensures only { (command : Command)
-            → Spells (codes "long" ∷ map string_bytes values.now) command
-            → IsSome result }
-    {
-        let [len] = values else {
-            return None;
-        };
-        Some(Command::Long(number_within(len.as_str(), 0, 1024)?))
-    }
-
-    // The command that `tag` and these words spell, if they spell one.
-    fn tag_of(values: &'a [String]) -> Option<Command<'a>>
-        ensures found { IfSome result (Spells (codes "tag" ∷ map string_bytes values.now)) }
-        ensures only { (command : Command)
-            → Spells (codes "tag" ∷ map string_bytes values.now) command
-            → IsSome result }
-    {
-        let [algorithm, version, m_cost, t_cost, p_cost, len, salt] = values else {
-            return None;
-        };
-        Command::tag(
-            algorithm.as_str(),
-            version.as_str(),
-            m_cost.as_str(),
-            t_cost.as_str(),
-            p_cost.as_str(),
-            len.as_str(),
-            salt.as_str(),
-        )
-    }
-
-    // The command that `phc` and these words spell, if they spell one.
-    fn phc_of(values: &'a [String]) -> Option<Command<'a>>
-        ensures found { IfSome result (Spells (codes "phc" ∷ map string_bytes values.now)) }
-        ensures only { (command : Command)
-            → Spells (codes "phc" ∷ map string_bytes values.now) command
-            → IsSome result }
-    {
-        let [algorithm, version, m_cost, t_cost, p_cost, salt] = values else {
-            return None;
-        };
-        Command::phc(
-            algorithm.as_str(),
-            version.as_str(),
-            m_cost.as_str(),
-            t_cost.as_str(),
-            p_cost.as_str(),
-            salt.as_str(),
-        )
-    }
-
-    // The command that `verify` and these words spell, if they spell one.
-    fn verify_of(values: &'a [String]) -> Option<Command<'a>>
-        ensures found { IfSome result (Spells (codes "verify" ∷ map string_bytes values.now)) }
-        ensures only { (command : Command)
-            → Spells (codes "verify" ∷ map string_bytes values.now) command
-            → IsSome result }
-    {
-        let [text] = values else {
-            return None;
-        };
-        Some(Command::Verify(text.as_str()))
-    }
-
-    // The command that `tag` and seven words spell, if they spell one.
-    fn tag(
-        algorithm: &'a str,
-        version: &str,
-        m_cost: &str,
-        t_cost: &str,
-        p_cost: &str,
-        len: &str,
-        salt: &'a str,
-    ) -> Option<Command<'a>>
-        ensures found { IfSome result (Spells (codes "tag" ∷ algorithm.now ∷ version.now
-            ∷ m_cost.now
-            ∷ t_cost.now ∷ p_cost.now ∷ len.now ∷ salt.now ∷ [])) }
-        ensures only { (command : Command)
-            → Spells (codes "tag" ∷ algorithm.now ∷ version.now ∷ m_cost.now
-            ∷ t_cost.now ∷ p_cost.now ∷ len.now ∷ salt.now ∷ []) command → IsSome result }
-    {
-        let request = Request::parsed(algorithm, version, m_cost, t_cost, p_cost)?;
-        let len = number_within(len, 0, 1024)?;
-        Some(Command::Tag(request, len, salt))
-    }
-
-    // The command that `phc` and six words spell, if they spell one.
-    fn phc(
-        algorithm: &'a str,
-        version: &str,
-        m_cost: &str,
-        t_cost: &str,
-        p_cost: &str,
-        salt: &'a str,
-    ) -> Option<Command<'a>>
-        ensures found { IfSome result (Spells (codes "phc" ∷ algorithm.now ∷ version.now
-            ∷ m_cost.now
-            ∷ t_cost.now ∷ p_cost.now ∷ salt.now ∷ [])) }
-        ensures only { (command : Command)
-            → Spells (codes "phc" ∷ algorithm.now ∷ version.now ∷ m_cost.now
-            ∷ t_cost.now ∷ p_cost.now ∷ salt.now ∷ []) command → IsSome result }
-    {
-        let request = Request::parsed(algorithm, version, m_cost, t_cost, p_cost)?;
-        Some(Command::Phc(request, salt))
     }
 }
 
@@ -177,9 +114,5 @@ fn number_within(text: &str, least: u32, most: u32) -> Option<u32>
     ensures found { IfSome result (λ n. (least ≤ n) × (n ≤ most) × (text.now ≡ decimal n)) }
     ensures only { (n : ℕ) → least ≤ n → n ≤ most → text.now ≡ decimal n → IsSome result }
 {
-    let number = read_decimal(text)?;
-    if number < least || number > most {
-        return None;
-    }
-    Some(number)
+    read_decimal(text).filter(|n| least <= *n && *n <= most)
 }

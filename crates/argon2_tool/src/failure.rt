@@ -1,8 +1,8 @@
 //! Why a command fails.
 
-ghost use Rattle.std.specs.Prelude.{◌≡◌, ◌≢◌};
-ghost use Rattle.std.specs.IoError.{error_kind};
-ghost use Rattle.argon2_tool.specs.Failures.{IsOfReading, IsMemory, IsOfHashing, IsOfText};
+ghost use Rattle.std.specs.Prelude.{◌≡◌};
+ghost use Rattle.argon2_tool.specs.Failures.{IsOfHashing, IsOfReading, IsOfText};
+ghost use Rattle.argon2_tool.specs.declared.failure.Failure.TheVariants.{Memory};
 
 use argon2::password_hash;
 use std::alloc::AllocError;
@@ -30,24 +30,23 @@ pub enum Failure {
     Text(password_hash::Error),
 }
 
-/// The failure of a read; out of memory is reported as that.
-pub fn of_reading(error: &io::Error) -> Failure
-    ensures memory { error_kind error.now ≡ ErrorKind.OutOfMemory → IsMemory result }
-    ensures input { error_kind error.now ≢ ErrorKind.OutOfMemory → result ≡ Failure.Input }
-    ensures reading { IsOfReading result }
-{
-    if error.kind() == ErrorKind::OutOfMemory {
-        Failure::Memory(AllocError)
-    } else {
-        Failure::Input
-    }
-}
-
 impl From<AllocError> for Failure {
-    ghost from_gives = { λ _. IsMemory };
+    ghost from_gives = { λ refused failure. failure ≡ Memory refused };
 
     fn from(refused: AllocError) -> Failure {
         Failure::Memory(refused)
+    }
+}
+
+/// The failure of a read; out of memory is reported as that.
+impl From<io::Error> for Failure {
+    ghost from_gives = { IsOfReading };
+
+    fn from(error: io::Error) -> Failure {
+        match error.kind() {
+            ErrorKind::OutOfMemory => Failure::Memory(AllocError),
+            _ => Failure::Input,
+        }
     }
 }
 

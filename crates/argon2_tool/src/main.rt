@@ -9,7 +9,6 @@ use std::process::ExitCode;
 
 mod arguments;
 mod failure;
-mod request;
 mod run;
 
 pub use run::run;
@@ -31,15 +30,9 @@ fn main(rt: HostRuntime) -> ExitCode {
 
 // The arguments after the program's name; none where one is no text, as no command has such a one.
 fn words(rt: &HostRuntime) -> Result<Vec<String>, AllocError> {
-    let mut args = Vec::new(rt.alloc());
     match env::args(rt) {
-        Ok(words) => {
-            for word in words.skip(1) {
-                args.push(word)?;
-            }
-        }
-        Err(e) if e.kind() == ErrorKind::OutOfMemory => return Err(AllocError),
-        Err(_) => {}
+        Ok(words) => words.skip(1).collect(rt.alloc()),
+        Err(e) if e.kind() == ErrorKind::OutOfMemory => Err(AllocError),
+        Err(_) => Ok(Vec::new(rt.alloc())),
     }
-    Ok(args)
 }

@@ -1,18 +1,20 @@
 //! The program over any streams.
 
-ghost use Rattle.std.specs.Prelude.{◌≡◌, ◌↔◌, ◌⊎◌, ◌≤◌, [], ◌∷◌, ◌++◌, IfSome, IfOk, OnOk, IfErr, map, string_bytes};
+ghost use Rattle.std.specs.Prelude.{◌≡◌, ◌↔◌, ◌≤◌, ◌⊎◌, IfSome, IfOk, OnOk, IfErr, map, string_bytes};
 ghost use Rattle.std.specs.Io.KnownBytes.{Appends, Keeps};
-ghost use Rattle.argon2_tool.specs.Commands.{IsCommand, Spells, Replies, IsAnswered, IsRefused};
-ghost use Rattle.argon2_tool.specs.Failures.{IsOfReading, IsBeforeReply};
+ghost use Rattle.hex.specs.Hex.{encode_lower};
+ghost use Rattle.argon2_base.specs.Blake2b.{blake2b};
+ghost use Rattle.argon2_base.specs.Hasher.{Holds};
+ghost use Rattle.argon2_tool.specs.Commands.{Fails, IsAnswered, IsCommand, IsRefused, IsReply, Spells};
+ghost use Rattle.argon2_tool.specs.Failures.{IsOfInput};
 
-use crate::arguments::Command;
-use crate::failure::{Failure, of_reading};
+use crate::arguments::{Command, Request};
+use crate::failure::Failure;
+use argon2::blake2b::Blake2b;
+use argon2::blake2b_long::blake2b_long;
+use argon2::{Argon2, PasswordHasher, PasswordVerifier};
 use std::alloc::Global;
-use std::io::{Read, Write};
-
-mod digest;
-mod tag;
-mod texts;
+use std::io::{ErrorKind, Read, Write};
 
 const USAGE: &str =
     "usage: argon2-tool digest N | long N | tag ALG VER M T P LEN SALT | phc ALG VER M T P SALT | verify TEXT";
@@ -94,52 +96,130 @@ fn answer<R: Read, W: Write>(
         (W.contents output.old) (W.contents output.new)) }
     ensures err { IfErr result (λ failure.
         ((failure ≡ Failure.Output) × ¬ IsRefused command.now (R.remaining input.old))
-        ⊎ (IsBeforeReply (Replies command.now) (R.remaining input.old) failure
+        ⊎ (IfSome (R.remaining input.old) (λ message. Fails command.now message failure)
         × Keeps (W.contents output.old) (W.contents output.new))) }
 {
     let text = reply(alloc, command, input)?;
-    write_line(output, text.as_str())
-}
-
-// What a command replies to the input.
-fn reply<R: Read>(alloc: Global, command: &Command<'_>, input: &mut R) -> Result<String, Failure>
-    requires { IsCommand command.now }
-    ensures ok { IfOk result (λ text. IfSome (R.remaining input.old)
-        (λ message. Replies command.now message (string_bytes text))) }
-    ensures err { IfErr result (IsBeforeReply (Replies command.now) (R.remaining input.old)) }
-{
-    match *command {
-        Command::Digest(len) => digest::digest(alloc, len as usize, input),
-        Command::Long(len) => digest::long(alloc, len as usize, input),
-        Command::Tag(request, len, salt) => tag::tag(alloc, &request, len as usize, salt, input),
-        Command::Phc(request, salt) => texts::phc(alloc, &request, salt, input),
-        Command::Verify(text) => texts::verify(alloc, text, input),
-        Command::Help => Ok(String::from_str(alloc, HELP)?),
-        Command::Version => Ok(String::from_str(alloc, VERSION)?),
-    }
-}
-
-// Writes a text and a line feed.
-fn write_line<W: Write>(output: &mut W, text: &str) -> Result<(), Failure>
-    ensures ok { OnOk result (Appends (W.contents output.old) (W.contents output.new)
-        (text.now ++ 10 ∷ [])) }
-    ensures err { IfErr result (λ failure. failure ≡ Failure.Output) }
-{
     let Ok(()) = writeln!(output, "{text}") else {
         return Err(Failure::Output);
     };
     output.flush().or(Err(Failure::Output))
 }
 
+// What a command replies to the input.
+fn reply<R: Read>(alloc: Global, command: &Command<'_>, input: &mut R) -> Result<String, Failure>
+    requires { IsCommand command.now }
+    ensures { IfSome (R.remaining input.old) (λ message. IsReply command.now message result) }
+{
+    match *command {
+        Command::Digest(len) => digest(alloc, len as usize, input),
+        Command::Long(len) => {
+            let message = read_all(alloc, input)?;
+            long(alloc, len as usize, message.as_slice())
+        }
+        Command::Tag(request, len, salt) => {
+            let password = read_all(alloc, input)?;
+            tag(alloc, &request, len as usize, salt, password.as_slice())
+        }
+        Command::Phc(request, salt) => {
+            let password = read_all(alloc, input)?;
+            phc(alloc, &request, salt, password.as_slice())
+        }
+        Command::Verify(text) => {
+            let password = read_all(alloc, input)?;
+            verify(alloc, text, password.as_slice())
+        }
+        Command::Help => Ok(String::from_str(alloc, HELP)?),
+        Command::Version => Ok(String::from_str(alloc, VERSION)?),
+    }
+}
+
 // All that is left in `input`.
 fn read_all<R: Read>(alloc: Global, input: &mut R) -> Result<Vec<u8>, Failure>
     ensures ok { IfOk result (λ bytes. IfSome (R.remaining input.old)
         (λ message. bytes.items ≡ message)) }
-    ensures err { IfErr result IsOfReading }
+    ensures err { IfErr result IsOfInput }
 {
     let mut bytes = Vec::new(alloc);
-    match input.read_to_end(&mut bytes) {
-        Ok(_) => Ok(bytes),
-        Err(e) => Err(of_reading(&e)),
+    input.read_to_end(&mut bytes)?;
+    Ok(bytes)
+}
+
+// The BLAKE2b digest of the input, of `len` bytes, in hex. The input is taken piece by piece, so
+// that it needs no memory.
+fn digest<R: Read>(alloc: Global, len: usize, input: &mut R) -> Result<String, Failure>
+    requires low { 1 ≤ len }
+    requires high { len ≤ 64 }
+    ensures ok { IfOk result (λ text. IfSome (R.remaining input.old)
+        (λ message. string_bytes text ≡ encode_lower (blake2b len message))) }
+    ensures err { IfErr result IsOfInput }
+{
+    let hasher = hasher_of(len, input)?;
+    let mut out = [0u8; 64];
+    hasher.finalize_into(&mut out[..len]);
+    Ok(hex::encode(alloc, &out[..len])?)
+}
+
+// A hasher for a digest of `len` bytes, which holds all that is left in `input`.
+fn hasher_of<R: Read>(len: usize, input: &mut R) -> Result<Blake2b, Failure>
+    requires low { 1 ≤ len }
+    requires high { len ≤ 64 }
+    ensures holds { IfOk result (λ hasher. IfSome (R.remaining input.old) (Holds hasher)) }
+    ensures digest_len { IfOk result (λ hasher. hasher.digest_len ≡ len) }
+    ensures err { IfErr result IsOfInput }
+{
+    let mut hasher = Blake2b::new(len);
+    let mut piece = [0u8; 65536];
+    'pieces: for turn in 0..u64::MAX {
+        match input.read(&mut piece) {
+            Ok(0) => return Ok(hasher),
+            Ok(count) => hasher.update(&piece[..count]),
+            Err(e) if e.kind() == ErrorKind::Interrupted => {}
+            Err(e) => return Err(e.into()),
+        }
     }
+    Err(Failure::Input)
+}
+
+// The variable-length hash of a message, of `len` bytes, in hex.
+fn long(alloc: Global, len: usize, message: &[u8]) -> Result<String, Failure>
+    requires { len ≤ 1024 }
+    ensures { IsReply (Command.Long len) message.now result }
+{
+    let mut out = vec![in alloc; 0u8; len]?;
+    blake2b_long(&[message], out.as_mut_slice())?;
+    Ok(hex::encode(alloc, out.as_slice())?)
+}
+
+// The tag of a password, of `len` bytes, in hex.
+fn tag(
+    alloc: Global,
+    request: &Request<'_>,
+    len: usize,
+    salt: &str,
+    password: &[u8],
+) -> Result<String, Failure>
+    ensures { IsReply (Command.Tag request.now len salt.entry) password.now result }
+{
+    let argon2 = request.argon2()?;
+    let mut out = vec![in alloc; 0u8; len]?;
+    argon2.hash_password_into(alloc, password, salt.as_bytes(), out.as_mut_slice())?;
+    Ok(hex::encode(alloc, out.as_slice())?)
+}
+
+// The PHC text of a password.
+fn phc(alloc: Global, request: &Request<'_>, salt: &str, password: &[u8]) -> Result<String, Failure>
+    ensures { IsReply (Command.Phc request.now salt.entry) password.now result }
+{
+    let argon2 = request.argon2()?;
+    let hash = argon2.hash_password_with_salt(alloc, password, salt.as_bytes())?;
+    Ok(String::from_str(alloc, hash.text().as_str())?)
+}
+
+// `ok`, if a PHC text accepts a password.
+fn verify(alloc: Global, text: &str, password: &[u8]) -> Result<String, Failure>
+    ensures { IsReply (Command.Verify text.entry) password.now result }
+{
+    Argon2::default().verify_password(alloc, password, text)?;
+    Ok(String::from_str(alloc, "ok")?)
 }
