@@ -1,4 +1,3 @@
 mod Appending
 mod Lengths
-mod Marks
 mod Utf8

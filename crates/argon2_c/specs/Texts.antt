@@ -4,7 +4,6 @@ use Rattle.std.specs.Fmt.{decimal}
 use Rattle.base64.specs.Decode.{IsWrittenOver}
 use Rattle.argon2_base.specs.Texts.{IsBytes, strict_base64}
 use Rattle.argon2_c.specs.declared.code.TheConstants.{ENCODING_FAIL, OK}
-use Rattle.argon2_c.specs.declared.decode.Parts.{Parts}
 use Rattle.argon2_c.specs.declared.decode.Shown.{Shown}
 
 -- what a text says beside the name
@@ -25,10 +24,9 @@ pub record IsSaid (v : Said) : Type 0 where
   pub salt_bytes : IsBytes v.salt
   pub tag_bytes : IsBytes v.tag
 
--- a value with a version
-abbrev pub said_with : ℕ → ℕ → ℕ → ℕ → List ℕ → List ℕ → Said
-said_with version m t p salt tag = record {
-  version = Some version;
+abbrev pub said_of : Option ℕ → ℕ → ℕ → ℕ → List ℕ → List ℕ → Said
+said_of version m t p salt tag = record {
+  version = version;
   m_cost = m;
   t_cost = t;
   lanes = p;
@@ -67,7 +65,7 @@ spelling name v = joined name (written v)
 
 -- the text of these numbers, salt and hash
 abbrev pub text_of : ℕ → ℕ → ℕ → ℕ → ℕ → List ℕ → List ℕ → List ℕ
-text_of algorithm version m t p salt tag = spelling (name_numbered algorithm) (said_with version m t p salt tag)
+text_of algorithm version m t p salt tag = spelling (name_numbered algorithm) (said_of (Some version) m t p salt tag)
 
 -- the code of writing a text into so much room: a zero byte has to fit too
 abbrev pub encode_code : ℕ → List ℕ → ℕ → ℤ
@@ -90,14 +88,3 @@ pub record IsShown (v : Said) (shown : Shown) : Type 0 where
 abbrev pub Appends : ℕ → List ℕ → List ℕ → List ℕ → ℕ → Type 0
 Appends at more old new end = (front first : List ℕ) → length front ≡ at → IsWrittenOver front first old
     → (length (front ++ more) ≡ end) × IsWrittenOver (front ++ more) first new
-
--- what the parts of a text say, before Base64 is read
-abbrev pub parts_of : Parts → Said
-parts_of p = record {
-  version = p.version;
-  m_cost = p.m_cost;
-  t_cost = p.t_cost;
-  lanes = p.lanes;
-  salt = p.salt.now;
-  tag = p.tag.now;
-}

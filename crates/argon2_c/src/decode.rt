@@ -1,10 +1,11 @@
 //! Texts, read from left to right. The salt and the hash have any length.
 
-ghost use Rattle.std.specs.Prelude.{◌≡◌, ◌∷◌, ◌++◌, ◌+◌, ◌*◌, ◌<◌, ◌≤◌, ◌^◌, ℕ, List, Option, codes, length, IfSome, IsSomeAnd};
+ghost use Rattle.std.specs.Prelude.{◌≡◌, ◌∷◌, ◌++◌, ◌+◌, ◌*◌, ◌<◌, ◌≤◌, ◌^◌, ℕ, List, Option, false, true, codes, length, IfSome, IsSomeAnd};
+ghost use Rattle.std.specs.List.{list_all};
 ghost use Rattle.std.specs.Fmt.{decimal};
 ghost use Rattle.base64.specs.Decode.{IsWrittenOver, decoded_estimate};
-ghost use Rattle.argon2_base.specs.Texts.{IsBytes, strict_base64};
-ghost use Rattle.argon2_c.specs.Texts.{IsShown, Said, IsSaid, Says, costs_part, joined, parts_of, spelling, version_part, written};
+ghost use Rattle.argon2_base.specs.Texts.{IsBytes, is_value_char, strict_base64};
+ghost use Rattle.argon2_c.specs.Texts.{IsShown, Said, IsSaid, Says, costs_part, joined, said_of, spelling, version_part, written};
 
 use crate::hash::name;
 use argon2_base::phc::read_decimal;
@@ -39,59 +40,40 @@ pub fn decode(algorithm: u32, text: &[u8], room: &mut [u8]) -> Option<Shown>
     ensures only { (v : Said) → Says algorithm text.now v → IsSomeAnd result (λ shown.
         IsShown v shown × IsWrittenOver (v.salt ++ v.tag) room.old room.new) }
 {
+    let name = name(algorithm);
     let Ok(text) = std::str::from_utf8(text) else {
         return None;
     };
-    let parts = split(name(algorithm), text)?;
-    let salt = bytes(parts.salt, room)?;
-    let tag = bytes(parts.tag, &mut room[salt..])?;
+    let (version, (m_cost, t_cost, lanes), salt, tag) = split(name, text)?;
+    let salt = bytes(salt, room)?;
+    let tag = bytes(tag, &mut room[salt..])?;
     Some(Shown {
-        version: parts.version.unwrap_or(16),
-        m_cost: parts.m_cost,
-        t_cost: parts.t_cost,
-        lanes: parts.lanes,
+        version: version.unwrap_or(16),
+        m_cost,
+        t_cost,
+        lanes,
         salt,
         tag,
     })
 }
 
-/// The parts of a text.
-#[derive(Drop)]
-pub struct Parts<'a> {
-    /// The version, if the text has one.
-    pub version: Option<u32>,
-    /// The memory cost.
-    pub m_cost: u32,
-    /// The number of passes.
-    pub t_cost: u32,
-    /// The number of lanes.
-    pub lanes: u32,
-    /// The Base64 of the salt.
-    pub salt: &'a str,
-    /// The Base64 of the hash.
-    pub tag: &'a str,
-}
-
-// The parts of a text of the variant of a name.
-fn split<'a>(name: &str, text: &'a str) -> Option<Parts<'a>>
-    ensures found { IfSome result (λ p. text.now ≡ joined name.now (parts_of p)) }
-    ensures numbers { IfSome result (λ p. IfSome p.version (λ n. n < 2 ^ 32)
-        × (p.m_cost < 2 ^ 32) × (p.t_cost < 2 ^ 32) × (p.lanes < 2 ^ 32)) }
-    ensures only { (v : Said) → IsSaid v → text.now ≡ spelling name.now v
-        → IsSomeAnd result (λ p. parts_of p ≡ written v) }
+// The version, the costs, and the Base64 of the salt and of the hash, of a text with this name.
+#[tactic(auto, using(argon2_base::proofs::phc_lemmas::ValueCharacters::base64_chars))]
+fn split<'a>(name: &str, text: &'a str) -> Option<(Option<u32>, (u32, u32, u32), &'a str, &'a str)>
+    ensures found { IfSome result (λ p. text.now
+        ≡ joined name.now (said_of p.0 p.1.0 p.1.1 p.1.2 p.2.now p.3.now)) }
+    ensures numbers { IfSome result (λ p. IfSome p.0 (λ n. n < 2 ^ 32)
+        × (p.1.0 < 2 ^ 32) × (p.1.1 < 2 ^ 32) × (p.1.2 < 2 ^ 32)) }
+    ensures short { IfSome result (λ p. length p.2.now + length p.3.now + 10
+        ≤ length text.now) }
+    ensures only { (v : Said) → IsSaid v → text.now ≡ spelling name.now v → IsSomeAnd result
+        (λ p. said_of p.0 p.1.0 p.1.1 p.1.2 p.2.now p.3.now ≡ written v) }
 {
     let text = after_name(name, text)?;
     let (version, text) = version(text)?;
     let (costs, text) = costs(text)?;
-    let (salt, tag) = cut(text)?;
-    Some(Parts {
-        version,
-        m_cost: costs.0,
-        t_cost: costs.1,
-        lanes: costs.2,
-        salt,
-        tag,
-    })
+    let (salt, tag) = cut(text, '$')?;
+    Some((version, costs, salt, tag))
 }
 
 // What follows the name.
@@ -143,7 +125,7 @@ fn costs(text: &str) -> Option<((u32, u32, u32), &str)>
 
 // The number between a name and a mark, and what follows.
 fn field<'a>(text: &'a str, name: &str, mark: char) -> Option<(u32, &'a str)>
-    requires { mark < 48 }
+    requires { (mark < 128) × (is_value_char mark ≡ false) }
     ensures found { IfSome result (λ x. text.now ≡ name.now ++ (decimal x.0 ++ mark ∷ x.1.now)) }
     ensures only { (n : ℕ) (left : List ℕ) → n < 2 ^ 32 → text.now ≡ name.now
         ++ (decimal n ++ mark ∷ left)
@@ -153,23 +135,26 @@ fn field<'a>(text: &'a str, name: &str, mark: char) -> Option<(u32, &'a str)>
 }
 
 // The number in front of a mark, and what follows.
+#[tactic(auto, using(argon2_base::proofs::phc_lemmas::ValueCharacters::decimal_chars))]
 fn number(text: &str, mark: char) -> Option<(u32, &str)>
-    requires { mark < 48 }
+    requires { (mark < 128) × (is_value_char mark ≡ false) }
     ensures found { IfSome result (λ x. text.now ≡ decimal x.0 ++ mark ∷ x.1.now) }
     ensures only { (n : ℕ) (left : List ℕ) → n < 2 ^ 32 → text.now ≡ decimal n ++ mark ∷ left
         → IsSomeAnd result (λ x. (x.0 ≡ n) × (x.1.now ≡ left)) }
 {
-    let (digits, left) = text.split_once(mark)?;
+    let (digits, left) = cut(text, mark)?;
     Some((read_decimal(digits)?, left))
 }
 
-// The text up to the first `$`, and what follows that.
-fn cut(text: &str) -> Option<(&str, &str)>
-    ensures found { IfSome result (λ x. text.now ≡ x.0.now ++ 36 ∷ x.1.now) }
-    ensures only { (b left : List ℕ) → IsBytes b → text.now ≡ strict_base64 b ++ 36 ∷ left
-        → IsSomeAnd result (λ x. (x.0.now ≡ strict_base64 b) × (x.1.now ≡ left)) }
+// The text up to the first such mark, and what follows that.
+fn cut(text: &str, mark: char) -> Option<(&str, &str)>
+    requires { (mark < 128) × (is_value_char mark ≡ false) }
+    ensures found { IfSome result (λ x. text.now ≡ x.0.now ++ mark ∷ x.1.now) }
+    ensures only { (x left : List ℕ) → list_all is_value_char x ≡ true
+        → text.now ≡ x ++ mark ∷ left
+        → IsSomeAnd result (λ r. (r.0.now ≡ x) × (r.1.now ≡ left)) }
 {
-    text.split_once('$')
+    text.split_once(mark)
 }
 
 // Writes the bytes whose strict Base64 a text is to the front of `out`, and returns how many they are.
@@ -177,6 +162,7 @@ fn bytes(text: &str, out: &mut [u8]) -> Option<usize>
     requires { decoded_estimate (length text.now) ≤ length out.old }
     ensures found { IfSome result (λ n. (b : List ℕ) × IsBytes b × (text.now ≡ strict_base64 b)
         × (n ≡ length b) × IsWrittenOver b out.old out.new) }
+    ensures within { IfSome result (λ n. n ≤ length text.now) }
     ensures only { (b : List ℕ) → IsBytes b → text.now ≡ strict_base64 b
         → IsSomeAnd result (λ n. (n ≡ length b) × IsWrittenOver b out.old out.new) }
 {

@@ -2,7 +2,7 @@
 
 ghost use Rattle.std.specs.Prelude.{◌≡◌, ◌≢◌, ◌≤◌, ◌==◌, ◌*◌, ◌⊎◌, None, true, [], length, unwrap_or, if◌then◌else◌};
 ghost use Rattle.std.specs.Str.{bytes_eq};
-ghost use Rattle.argon2.specs.Settings.{algorithm_number, max_lanes, version_number};
+ghost use Rattle.argon2.specs.Settings.{algorithm_number, max_lanes};
 ghost use Rattle.argon2.specs.Argon2.{context_of, own_parameters};
 ghost use Rattle.argon2.specs.Refusals.{first_of, max_len};
 ghost use Rattle.argon2.specs.Rfc9106.{tag_of};
@@ -77,7 +77,11 @@ pub fn hashing<'key>(request: &Request, secret: &'key [u8]) -> Argon2<'key>
     builder.t_cost(request.t_cost);
     builder.p_cost(request.lanes);
     let params = builder.build().unwrap();
-    let version = version(request.version);
+    let version = if request.version == 16 {
+        Version::V0x10
+    } else {
+        Version::V0x13
+    };
     Argon2::new_with_secret(secret, variant(request.algorithm), version, params).unwrap()
 }
 
@@ -100,18 +104,6 @@ pub fn name(number: u32) -> &'static str
     ensures short { length result.now ≤ 8 }
 {
     variant(number).as_str()
-}
-
-// The version of a number.
-fn version(number: u32) -> Version
-    requires { (number ≡ 16) ⊎ (number ≡ 19) }
-    ensures { version_number result ≡ number }
-{
-    if number == 16 {
-        Version::V0x10
-    } else {
-        Version::V0x13
-    }
 }
 
 /// Whether two slices are equal: 0, or -35. If they have one length, it reads each byte of both.

@@ -53,70 +53,32 @@ pub fn refusal(
     ensures none { IsNone result → IsFaultless request.now output pwd salt secret associated }
     ensures fault { IfSome result (λ code. code ≢ OK) }
 {
-    if request.lacks_output {
-        return Some(OUTPUT_PTR_NULL);
+    match () {
+        _ if request.lacks_output => Some(OUTPUT_PTR_NULL),
+        _ if output < Params::MIN_OUTPUT_LEN => Some(OUTPUT_TOO_SHORT),
+        _ if output > Params::MAX_OUTPUT_LEN => Some(OUTPUT_TOO_LONG),
+        _ if request.lacks_pwd => Some(PWD_PTR_MISMATCH),
+        _ if pwd > MAX_PWD_LEN => Some(PWD_TOO_LONG),
+        _ if request.lacks_salt => Some(SALT_PTR_MISMATCH),
+        _ if salt < MIN_SALT_LEN => Some(SALT_TOO_SHORT),
+        _ if salt > MAX_SALT_LEN => Some(SALT_TOO_LONG),
+        _ if request.lacks_secret => Some(SECRET_PTR_MISMATCH),
+        _ if secret > MAX_SECRET_LEN => Some(SECRET_TOO_LONG),
+        _ if request.lacks_associated => Some(AD_PTR_MISMATCH),
+        _ if associated > MAX_AD_LEN => Some(AD_TOO_LONG),
+        _ if request.m_cost < 8 => Some(MEMORY_TOO_LITTLE),
+        _ if (request.m_cost as u64) < 8 * request.lanes as u64 => Some(MEMORY_TOO_LITTLE),
+        _ if request.t_cost < 1 => Some(TIME_TOO_SMALL),
+        _ if request.lanes < 1 => Some(LANES_TOO_FEW),
+        _ if request.lanes > Params::MAX_P_COST => Some(LANES_TOO_MANY),
+        _ if request.threads < 1 => Some(THREADS_TOO_FEW),
+        _ if request.threads > Params::MAX_P_COST => Some(THREADS_TOO_MANY),
+        _ if request.has_allocate && !request.has_free => Some(FREE_MEMORY_CBK_NULL),
+        _ if !request.has_allocate && request.has_free => Some(ALLOCATE_MEMORY_CBK_NULL),
+        _ if request.algorithm > 2 => Some(INCORRECT_TYPE),
+        _ if request.version != 16 && request.version != 19 => Some(INCORRECT_TYPE),
+        _ => None,
     }
-    if output < Params::MIN_OUTPUT_LEN {
-        return Some(OUTPUT_TOO_SHORT);
-    }
-    if output > Params::MAX_OUTPUT_LEN {
-        return Some(OUTPUT_TOO_LONG);
-    }
-    if request.lacks_pwd {
-        return Some(PWD_PTR_MISMATCH);
-    }
-    if pwd > MAX_PWD_LEN {
-        return Some(PWD_TOO_LONG);
-    }
-    if request.lacks_salt {
-        return Some(SALT_PTR_MISMATCH);
-    }
-    if salt < MIN_SALT_LEN {
-        return Some(SALT_TOO_SHORT);
-    }
-    if salt > MAX_SALT_LEN {
-        return Some(SALT_TOO_LONG);
-    }
-    if request.lacks_secret {
-        return Some(SECRET_PTR_MISMATCH);
-    }
-    if secret > MAX_SECRET_LEN {
-        return Some(SECRET_TOO_LONG);
-    }
-    if request.lacks_associated {
-        return Some(AD_PTR_MISMATCH);
-    }
-    if associated > MAX_AD_LEN {
-        return Some(AD_TOO_LONG);
-    }
-    if request.m_cost < 8 || (request.m_cost as u64) < 8 * request.lanes as u64 {
-        return Some(MEMORY_TOO_LITTLE);
-    }
-    if request.t_cost < 1 {
-        return Some(TIME_TOO_SMALL);
-    }
-    if request.lanes < 1 {
-        return Some(LANES_TOO_FEW);
-    }
-    if request.lanes > Params::MAX_P_COST {
-        return Some(LANES_TOO_MANY);
-    }
-    if request.threads < 1 {
-        return Some(THREADS_TOO_FEW);
-    }
-    if request.threads > Params::MAX_P_COST {
-        return Some(THREADS_TOO_MANY);
-    }
-    if request.has_allocate && !request.has_free {
-        return Some(FREE_MEMORY_CBK_NULL);
-    }
-    if !request.has_allocate && request.has_free {
-        return Some(ALLOCATE_MEMORY_CBK_NULL);
-    }
-    if request.algorithm > 2 || (request.version != 16 && request.version != 19) {
-        return Some(INCORRECT_TYPE);
-    }
-    None
 }
 
 /// The code of the first fault of a request for so many bytes, or 0.
@@ -140,17 +102,11 @@ pub extern "C" fn argon2_c_refusal(
 pub extern "C" fn argon2_c_length_refusal(output: usize, pwd: usize, salt: usize) -> i32
     ensures { result ≡ unwrap_or (first_of (length_faults output pwd salt)) OK }
 {
-    if pwd > MAX_PWD_LEN {
-        return PWD_TOO_LONG;
+    match () {
+        _ if pwd > MAX_PWD_LEN => PWD_TOO_LONG,
+        _ if salt > MAX_SALT_LEN => SALT_TOO_LONG,
+        _ if output > Params::MAX_OUTPUT_LEN => OUTPUT_TOO_LONG,
+        _ if output < Params::MIN_OUTPUT_LEN => OUTPUT_TOO_SHORT,
+        _ => OK,
     }
-    if salt > MAX_SALT_LEN {
-        return SALT_TOO_LONG;
-    }
-    if output > Params::MAX_OUTPUT_LEN {
-        return OUTPUT_TOO_LONG;
-    }
-    if output < Params::MIN_OUTPUT_LEN {
-        return OUTPUT_TOO_SHORT;
-    }
-    OK
 }

@@ -97,6 +97,7 @@ pub extern "C" fn argon2_c_segment(
 /// first fault, for which the lengths of the inputs count as valid, or -25 if `last` has another length than
 /// a slice; nothing is then written. It allocates nothing.
 #[unsafe(no_mangle)]
+#[tactic(auto, unfolding(argon2::specs::Rfc9106::xor_lanes))]
 pub extern "C" fn argon2_c_finish(request: &Request, last: &[Words], out: &mut [u8]) -> i32
     ensures answer { result ≡ unwrap_or (first_of (request_faults request.now (length out.old) 0 8 0
         0)) (if length last.now == slice_length (asked request.now [] []) then OK

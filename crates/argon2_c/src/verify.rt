@@ -43,15 +43,7 @@ pub extern "C" fn argon2_c_verify(
         × Says algorithm text.now v }
     ensures same { (result ≡ OK) ⊎ (result ≡ VERIFY_MISMATCH) ⊎ (memory.new ≡ memory.old) }
 {
-    let refusal = call_refusal(
-        algorithm,
-        has_text,
-        text.len(),
-        pwd.len(),
-        absent,
-        room.len(),
-    );
-    if let Some(code) = refusal {
+    if let Some(code) = call_refusal(algorithm, has_text, text, pwd, absent, room.len()) {
         return code;
     }
     let Some(found) = decode(algorithm, text, room) else {
@@ -89,27 +81,22 @@ fn compared(
 fn call_refusal(
     algorithm: u32,
     has_text: bool,
-    text: usize,
-    pwd: usize,
+    text: &[u8],
+    pwd: &[u8],
     absent: usize,
     room: usize,
 ) -> Option<i32>
-    ensures first { result ≡ call_refusal algorithm has_text text pwd absent room }
-    ensures none { IsNone result → (algorithm ≤ 2) × (2 * text ≤ room) }
+    ensures first { result ≡ call_refusal algorithm has_text (length text.now) (length pwd.now)
+        absent room }
+    ensures none { IsNone result → (algorithm ≤ 2) × (2 * length text.now ≤ room) }
 {
-    if pwd > MAX_PWD_LEN || absent > MAX_PWD_LEN {
-        return Some(PWD_TOO_LONG);
+    match () {
+        _ if pwd.len() > MAX_PWD_LEN || absent > MAX_PWD_LEN => Some(PWD_TOO_LONG),
+        _ if !has_text || text.len() > 4294967295 => Some(DECODING_FAIL),
+        _ if algorithm > 2 => Some(INCORRECT_TYPE),
+        _ if room < 2 * text.len() => Some(MEMORY_ALLOCATION_ERROR),
+        _ => None,
     }
-    if !has_text || text > 4294967295 {
-        return Some(DECODING_FAIL);
-    }
-    if algorithm > 2 {
-        return Some(INCORRECT_TYPE);
-    }
-    if room < 2 * text {
-        return Some(MEMORY_ALLOCATION_ERROR);
-    }
-    None
 }
 
 // The request that a text stands for.

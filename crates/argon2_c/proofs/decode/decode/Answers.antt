@@ -1,46 +1,24 @@
-use Rattle.std.proofs.Common.{◌-◌, length, length-drop, refl, sym, ap, ◌∙◌, subst, arith}
-use Rattle.std.specs.Prelude.{drop, unwrap_or}
-use Rattle.std.proofs.Math.Seq.{length-take-le}
+use Rattle.std.proofs.Common.{◌-◌, length, refl, sym, ap, ◌∙◌, subst}
+use Rattle.std.specs.Prelude.{unwrap_or}
 use Rattle.std.specs.Str.{IsUtf8}
-use Rattle.argon2_base.proofs.phc_lemmas.Base64Lemmas.{length-strict_base64}
-use Rattle.argon2_c.specs.Texts.{IsSaid, Said, parts_of}
+use Rattle.argon2_c.specs.Texts.{IsSaid, Said, said_of}
 use Rattle.argon2_c.proofs.Appending.{put_behind}
-use Rattle.argon2_c.proofs.Lengths.{length-joined}
 use Rattle.argon2_c.proofs.Utf8.{IsUtf8-spelling}
 use Rattle.argon2_c.proofs.decode.decode.Goals as goal
 
 pub returns-in_default-clause-only : goal.returns-in_default-clause-only
 returns-in_default-clause-only c = λ v says.
-    absurd (c.in_default.ensures.cases.0 (subst IsUtf8 (sym says.1) (IsUtf8-spelling c.args.algorithm v says.0)))
-
-pub bytes-requires-2 : goal.bytes-requires-2
-bytes-requires-2 c =
-    let n = c.in_ok-salt.salt in
-    let salt = c.in_ok-salt.ensures.found in
-    let long = length-joined c.name.result.now (parts_of c.in_ok-parts.parts) in
-    let behind = length-drop n c.bytes.new.out in
-    let all = length-take-le (length c.bytes.new.out - n) (drop n c.bytes.new.out) (omega arith) in
-    omega (
-      arith,
-      long,
-      all,
-      salt.3,
-      ap length salt.2,
-      length-strict_base64 salt.0,
-      ap length c.in_ok-parts.ensures.found,
-      ap length c.in-Ok.ensures.cases.0,
-      c.requires.room,
-      c.bytes.auto.out,
-    )
+    let name = rw c.name-name.ensures.name at c.name-name.utf8 in
+    absurd (c.in_default.ensures.cases.0 (subst IsUtf8 (sym says.1) (IsUtf8-spelling _ v name says.0)))
 
 pub returns-clause-found : goal.returns-clause-found
 returns-clause-found c =
     let n = c.in_ok-salt.salt in
-    let parts = c.in_ok-parts.parts in
+    let parts = c.in_ok-version in
     let salt = c.in_ok-salt.ensures.found in
     let tag = c.in_ok-tag.ensures.found in
-    let small = c.in_ok-parts.ensures.numbers in
-    let v : Said = record (parts_of parts) { salt = salt.0; tag = tag.0 } in
+    let small = parts.ensures.numbers in
+    let v = said_of parts.version parts.m_cost parts.t_cost parts.lanes salt.0 tag.0 in
     let said : IsSaid v = record {
       small_version = small.0;
       small_m_cost = small.1;
@@ -49,7 +27,7 @@ returns-clause-found c =
       salt_bytes = salt.1;
       tag_bytes = tag.1;
     } in
-    let text = sym c.in-Ok.ensures.cases.0 ∙ rw (c.name.ensures.name, salt.2, tag.2) at c.in_ok-parts.ensures.found in (
+    let text = sym c.in-Ok.ensures.cases.0 ∙ rw (c.name-name.ensures.name, salt.2, tag.2) at parts.ensures.found in (
       v,
       (said, text),
       record { version = c.unwrap_or.ensures; m_cost = refl; t_cost = refl; lanes = refl; salt = salt.3; tag = tag.3 },
@@ -57,28 +35,10 @@ returns-clause-found c =
           refl (sym salt.3) salt.4 tag.4,
     )
 
-pub returns-clause-within : goal.returns-clause-within
-returns-clause-within c =
-    let salt = c.in_ok-salt.ensures.found in
-    let tag = c.in_ok-tag.ensures.found in
-    let long = length-joined c.name.result.now (parts_of c.in_ok-parts.parts) in
-    omega (
-      arith,
-      long,
-      salt.3,
-      ap length salt.2,
-      length-strict_base64 salt.0,
-      tag.3,
-      ap length tag.2,
-      length-strict_base64 tag.0,
-      ap length c.in_ok-parts.ensures.found,
-      ap length c.in-Ok.ensures.cases.0,
-    )
-
 pub returns-clause-only : goal.returns-clause-only
 returns-clause-only c = λ v says.
     let n = c.in_ok-salt.salt in
-    let parts = c.in_ok-parts.ensures.only v says.0 (rw c.name.ensures.name (c.in-Ok.ensures.cases.0 ∙ says.1)) in
+    let parts = c.in_ok-version.ensures.only v says.0 (rw c.name-name.ensures.name (c.in-Ok.ensures.cases.0 ∙ says.1)) in
     let salt = c.in_ok-salt.ensures.only v.salt says.0.salt_bytes (ap (λ (x : Said). x.salt) parts) in
     let tag = c.in_ok-tag.ensures.only v.tag says.0.tag_bytes (ap (λ (x : Said). x.tag) parts) in (
       record {
