@@ -1,4 +1,1 @@
-mod Choices
-mod Halving
-mod Places
 mod Trials

@@ -27,11 +27,11 @@ more_than : {Takes : ℕ → ℕ → Option (List ℕ) → Type 0} {target : ℕ
     → (so : IsTried Takes target first now most next count) → now.t_cost < next → (best target first so.trials).t_cost < next
 more_than so rises = let same = ap (λ (trial : Choice). trial.t_cost) so.best in omega (arith, same)
 
-pub tried_within : (Takes : ℕ → ℕ → Option (List ℕ) → Type 0) (target : ℕ) (first now trial : Choice) (most next count more : ℕ)
+pub tried_within : {Takes : ℕ → ℕ → Option (List ℕ) → Type 0} {target : ℕ} {first now : Choice} {most next count : ℕ} (trial : Choice) (more : ℕ)
     → IsTried Takes target first now most next count → now.t_cost < next → trial.t_cost ≡ next → trial.m_cost ≡ first.m_cost
     → IsMeasured Takes trial → trial.time ≤ target → IsGreatest target first (further_of first next trial.time) more
     → IsTried Takes target first trial most (min more most) (count + 1)
-tried_within Takes target first now trial most next count more so rises same memory took short greatest =
+tried_within {Takes} {target} {first} {now} {most} {next} {count} trial more so rises same memory took short greatest =
     let test : nat_le trial.time target ≡ true = le-leb trial.time target short in
     let here : below target (trial ∷ so.trials) ≡ below target so.trials =
     ap (λ b. if b then below target so.trials else min (trial.t_cost - 1) (below target so.trials)) test in record {
@@ -48,11 +48,11 @@ tried_within Takes target first now trial most next count more so rises same mem
       fits = omega arith;
     }
 
-pub tried_beyond : (Takes : ℕ → ℕ → Option (List ℕ) → Type 0) (target : ℕ) (first now trial : Choice) (most next count more : ℕ)
+pub tried_beyond : {Takes : ℕ → ℕ → Option (List ℕ) → Type 0} {target : ℕ} {first now : Choice} {most next count : ℕ} (trial : Choice) (more : ℕ)
     → IsTried Takes target first now most next count → now.t_cost < next → trial.t_cost ≡ next → trial.m_cost ≡ first.m_cost
     → IsMeasured Takes trial → target < trial.time → IsGreatest target first (further_of first next trial.time) more
     → IsTried Takes target first now (next - 1) (min more (next - 1)) (count + 1)
-tried_beyond Takes target first now trial most next count more so rises same memory took long greatest =
+tried_beyond {Takes} {target} {first} {now} {most} {next} {count} trial more so rises same memory took long greatest =
     let test : nat_le trial.time target ≡ false = lt-leb trial.time target long in
     let fewer : min (trial.t_cost - 1) most ≡ next - 1 = omega (arith, so.fits, same) in
     let here : below target (trial ∷ so.trials) ≡ next - 1 =

@@ -1,5 +1,5 @@
 -- What the program writes.
-use Rattle.std.specs.Prelude.{◌≡◌, ℕ, ◌+◌, ◌/◌, ◌%◌, List, [], ◌∷◌, ◌++◌, codes, Bool, true, false, Option, Some}
+use Rattle.std.specs.Prelude.{◌≡◌, ℕ, ◌-◌, ◌/◌, ◌%◌, List, [], ◌∷◌, ◌++◌, codes, length, replicate, Bool, true, false, Option, Some}
 use Rattle.std.specs.Bool.{MatchBool}
 use Rattle.std.specs.Fmt.{decimal}
 use Rattle.std.specs.Io.KnownBytes.{Appends}
@@ -17,9 +17,9 @@ abbrev pub call_text : ℕ → ℕ → ℕ → List ℕ
 call_text m t p = codes "Params::new(" ++ (decimal m ++ (codes ", " ++ (decimal t ++ (codes ", " ++ (decimal p
     ++ (codes ", None)" ++ 10 ∷ []))))))
 
--- three digits of a number below 1000
+-- a number behind as many zeros as make it three digits
 abbrev pub three_places : ℕ → List ℕ
-three_places n = (48 + n / 100) ∷ (48 + n / 10 % 10) ∷ (48 + n % 10) ∷ []
+three_places n = replicate (3 - length (decimal n)) 48 ++ decimal n
 
 -- microseconds as seconds with three digits behind a point, a line
 abbrev pub time_text : ℕ → List ℕ

@@ -3,7 +3,7 @@
 ghost use Rattle.std.specs.Prelude.{◌≡◌, ◌⊎◌, ◌++◌, ◌∷◌, [], ℕ, List, IfOk, OnOk, Some};
 ghost use Rattle.std.specs.Io.KnownBytes.{Appends};
 ghost use Rattle.json.specs.Json.{document};
-ghost use Rattle.argon2_calibrate_search.specs.Answer.{IsAnswered, call_text, end_text, json_of, lines_text, list_text, time_text};
+ghost use Rattle.argon2_calibrate_search.specs.Answer.{IsAnswered, end_text, json_of, lines_text};
 ghost use Rattle.argon2_calibrate_search.specs.Choice.{ArePossible};
 
 use crate::choice::Found;
@@ -96,49 +96,23 @@ fn write_lines<W: Write>(output: &mut W, found: Found, p: u32) -> Result<(), Fai
     ensures { OnOk result (Appends (W.contents output.old) (W.contents output.new)
         (lines_text found p)) }
 {
-    let (m, t) = (found.choice.m_cost, found.choice.t_cost);
-    write_list(output, m, t, p)?;
-    write_call(output, m, t, p)?;
-    write_time(output, found.choice.time)?;
-    write_end(output, found.busy)
-}
-
-// Writes costs as a list of parameters, a line.
-fn write_list<W: Write>(output: &mut W, m: u32, t: u32, p: u32) -> Result<(), Failure>
-    ensures { OnOk result (Appends (W.contents output.old) (W.contents output.new)
-        (list_text m t p)) }
-{
-    writeln!(output, "m={m},t={t},p={p}")?;
-    Ok(())
-}
-
-// Writes costs as a call, a line.
-fn write_call<W: Write>(output: &mut W, m: u32, t: u32, p: u32) -> Result<(), Failure>
-    ensures { OnOk result (Appends (W.contents output.old) (W.contents output.new)
-        (call_text m t p)) }
-{
-    writeln!(output, "Params::new({m}, {t}, {p}, None)")?;
-    Ok(())
-}
-
-// Writes so many microseconds as seconds, a line.
-fn write_time<W: Write>(output: &mut W, time: u64) -> Result<(), Failure>
-    ensures { OnOk result (Appends (W.contents output.old) (W.contents output.new)
-        (time_text time)) }
-{
+    let (m, t, time) = (found.choice.m_cost, found.choice.t_cost, found.choice.time);
     let (seconds, millis) = (time / 1_000_000, time / 1000 % 1000);
+    writeln!(output, "m={m},t={t},p={p}")?;
+    writeln!(output, "Params::new({m}, {t}, {p}, None)")?;
     writeln!(output, "{seconds}.{millis:03} seconds")?;
-    Ok(())
-}
-
-// Writes a line if the machine was busy.
-fn write_end<W: Write>(output: &mut W, busy: bool) -> Result<(), Failure>
-    ensures { OnOk result (Appends (W.contents output.old) (W.contents output.new)
-        (end_text busy)) }
-{
-    if busy {
-        writeln!(output, "the machine was busy: times may be too long")?;
-    }
+    output.write_all(end(found.busy).as_bytes())?;
     output.flush()?;
     Ok(())
+}
+
+// A line if the machine was busy.
+fn end(busy: bool) -> &'static str
+    ensures { result.now ≡ end_text busy }
+{
+    if busy {
+        "the machine was busy: times may be too long\n"
+    } else {
+        ""
+    }
 }

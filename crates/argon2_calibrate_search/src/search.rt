@@ -46,20 +46,17 @@ fn most_memory<S: Stopwatch, E: Write>(
     ensures quiet { IfOk result (λ found. IsFalse found.busy → IsFalse found.choice.busy) }
 {
     let (mut m_cost, mut busy) = (options.most, false);
-    while m_cost >= 16 * options.lanes {
-        match measured(
-            stopwatch,
-            errors,
-            options,
-            m_cost,
-            least_passes(options.min_t, m_cost),
-        )? {
+    'halves: loop {
+        let least = least_passes(options.min_t, m_cost);
+        let is_least = m_cost < 16 * options.lanes;
+        match measured(stopwatch, errors, options, m_cost, least)? {
             Some(choice) => {
                 busy |= choice.busy;
-                if choice.time <= options.target {
+                if is_least || choice.time <= options.target {
                     return Ok(Found { choice, busy });
                 }
             }
+            None if is_least => return Err(Failure::Memory(AllocError)),
             None => {
                 let _ = writeln!(
                     errors,
@@ -68,19 +65,6 @@ fn most_memory<S: Stopwatch, E: Write>(
             }
         }
         m_cost /= 2;
-    }
-    match measured(
-        stopwatch,
-        errors,
-        options,
-        m_cost,
-        least_passes(options.min_t, m_cost),
-    )? {
-        Some(choice) => Ok(Found {
-            choice,
-            busy: busy || choice.busy,
-        }),
-        None => Err(Failure::Memory(AllocError)),
     }
 }
 

@@ -2,9 +2,9 @@ use Rattle.std.proofs.Common.{◌≤◌, ◌*◌}
 use Rattle.argon2_calibrate_search.specs.Choice.{IsHalved}
 use Rattle.argon2_calibrate_search.proofs.search.most_memory.Given as goal
 
-abbrev pub invariant-loop-m_cost : goal.invariant-loop-m_cost
-invariant-loop-m_cost g l = (8 * l.options.lanes ≤ l.m_cost) × (l.m_cost ≤ l.options.most)
+abbrev pub invariant-halves : goal.invariant-halves
+invariant-halves g l = (8 * l.options.lanes ≤ l.m_cost) × (l.m_cost ≤ l.options.most)
     × IsHalved (g.S.Stopwatch.may_take l.options.lanes) l.options l.m_cost
 
-abbrev pub decreases-loop-m_cost : goal.decreases-loop-m_cost
-decreases-loop-m_cost g l = l.m_cost
+abbrev pub decreases-halves : goal.decreases-halves
+decreases-halves g l = l.m_cost

@@ -1,6 +1,39 @@
+use Rattle.std.proofs.Common.{arith, ◌≡◌, ◌*◌, ◌≤◌, ℕ, List, Option, None, inl, inr, sym}
+use Rattle.std.specs.Prelude.{unwrap_or}
+use Rattle.std.proofs.lemmas.Bool.Decides.{nat_tests}
 use Rattle.std.proofs.lemmas.Result.{IfOk-weaker}
-use Rattle.argon2_calibrate_search.proofs.Choices.{choice_of}
+use Rattle.argon2.specs.Settings.{AreValid, plain}
+use Rattle.argon2_calibrate_search.specs.Choice.{ArePossible, IsBest, IsChoice, IsFirst, least_passes}
+use Rattle.argon2_calibrate_search.specs.declared.choice.Choice.{Choice}
+use Rattle.argon2_calibrate_search.specs.declared.choice.Found.{Found}
+use Rattle.argon2_calibrate_search.specs.declared.options.Options.{Options}
 use Rattle.argon2_calibrate_search.proofs.search.search.Goals as goal
+
+valid_within : (most least p m t : ℕ) → AreValid (plain most least p None) → 8 * p ≤ m → 1 ≤ t → AreValid (plain m t p None)
+valid_within most least p m t valid room some = grind (arith, nat_tests)
+
+choice_of : (Takes : ℕ → ℕ → Option (List ℕ) → Type 0) (options : Options) (first : Choice) (found : Found)
+    → ArePossible options → 1 ≤ first.t_cost → IsFirst Takes options first → IsBest Takes options.target first found
+    → IsChoice Takes options found
+choice_of Takes options first found possible some of best =
+    let memory = best.memory in
+    let more = best.some in
+    let room = of.some in
+    let least : least_passes options.min_t found.choice.m_cost ≡ first.t_cost = rw memory (sym of.least) in record {
+      valid = valid_within options.most (unwrap_or options.min_t 1) options.lanes found.choice.m_cost found.choice.t_cost possible
+          (omega arith) (omega arith);
+      least = omega arith;
+      within = elim best.within [
+        | inl short ↦ inl short
+        | inr same ↦ elim of.short [
+          | inl short ↦ inl (rw same short)
+          | inr small ↦ inr (rw same of.least, rw same small)
+        ]
+      ];
+      first = first;
+      memory = of;
+      passes = best;
+    }
 
 pub returns : goal.returns
 returns g c =
