@@ -98,62 +98,53 @@ fn number(matches: &ArgMatches<'_>, name: &str) -> u32 {
 
 // The program's arguments.
 fn command<'a>(alloc: Global) -> Result<Command<'a>, AllocError> {
-    let min_version = option(
-        alloc,
-        "min-version",
-        "V",
-        "The least version [default: any]",
-    );
-    let require = option(
-        alloc,
-        "require",
-        "ALGORITHM",
-        "The one sound algorithm [default: any]",
-    );
-    let field = option(
-        alloc,
-        "field",
-        "N",
-        "The text is field N, and a line without it is not sound [default: the second, or the line]",
-    );
-    let separator = option(alloc, "separator", "C", "The one byte between two fields");
-    let files = Arg::new(alloc, "FILE")
-        .num_args(0..)
-        .action(ArgAction::Append)
-        .help("Files with a text a line, `-` for standard input");
-    Command::new(alloc, PROGRAM)
+    let mut command = Command::new(alloc, PROGRAM)
         .version("0.6.0")
         .about("Says which stored texts of passwords are below a policy")
         .long_about(ABOUT)
         .after_help(NOTES)
         .no_binary_name(true)
-        .args_override_self(true)
-        .arg(least(
-            alloc,
+        .args_override_self(true);
+    for (name, value, default, help) in [
+        (
             "min-m",
             "M",
             "19456",
             "The least memory, in blocks of 1024 bytes",
-        ))?
-        .arg(least(alloc, "min-t", "T", "2", "The least number of passes"))?
-        .arg(least(alloc, "min-p", "P", "1", "The least number of lanes"))?
-        .arg(least(alloc, "min-salt", "N", "16", "The fewest bytes of a salt"))?
-        .arg(least(alloc, "min-hash", "N", "32", "The fewest bytes of a hash"))?
-        .arg(min_version.value_parser(VERSIONS.as_slice()))?
+        ),
+        ("min-t", "T", "2", "The least number of passes"),
+        ("min-p", "P", "1", "The least number of lanes"),
+        ("min-salt", "N", "16", "The fewest bytes of a salt"),
+        ("min-hash", "N", "32", "The fewest bytes of a hash"),
+    ] {
+        let least = option(alloc, name, value, help).value_parser(value_parser!(u32));
+        command = command.arg(least.default_value(default))?;
+    }
+    let version = option(
+        alloc,
+        "min-version",
+        "V",
+        "The least version [default: any]",
+    );
+    let require = "The one sound algorithm [default: any]";
+    let require = option(alloc, "require", "ALGORITHM", require);
+    let other = "Other schemes, locked and blank lines and comments count as sound";
+    let field =
+        "The text is field N, and a line without it is not sound [default: the second, or the line]";
+    let field = option(alloc, "field", "N", field);
+    let separator = option(alloc, "separator", "C", "The one byte between two fields");
+    let json = "Write one JSON object: findings by line, counts, table";
+    let files = Arg::new(alloc, "FILE")
+        .num_args(0..)
+        .action(ArgAction::Append)
+        .help("Files with a text a line, `-` for standard input");
+    command
+        .arg(version.value_parser(VERSIONS.as_slice()))?
         .arg(require.value_parser(ALGORITHMS.as_slice()))?
-        .arg(flag(
-            alloc,
-            "allow-other",
-            "Other schemes, locked and blank lines and comments count as sound",
-        ))?
+        .arg(flag(alloc, "allow-other", other))?
         .arg(field.value_parser(value_parser!(u32).range(1..)))?
         .arg(separator.default_value(":"))?
-        .arg(flag(
-            alloc,
-            "json",
-            "Write one JSON object: findings by line, counts, table",
-        )
-        .conflicts_with("quiet")?)?
+        .arg(flag(alloc, "json", json).conflicts_with("quiet")?)?
         .arg(flag(alloc, "quiet", "Write nothing; the status says all"))?
         .arg(files)
 }
@@ -165,19 +156,6 @@ fn option<'a>(alloc: Global, name: &'a str, value: &'a str, help: &'a str) -> Ar
         .value_name(value)
         .action(ArgAction::Set)
         .help(help)
-}
-
-// An option with a least number.
-fn least<'a>(
-    alloc: Global,
-    name: &'a str,
-    value: &'a str,
-    default: &'a str,
-    help: &'a str,
-) -> Arg<'a> {
-    option(alloc, name, value, help)
-        .value_parser(value_parser!(u32))
-        .default_value(default)
 }
 
 // An option without a value.

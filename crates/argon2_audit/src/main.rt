@@ -24,15 +24,8 @@ fn main(rt: HostRuntime) -> ExitCode {
     let status = match arguments::parsed(rt.alloc(), words.as_slice()) {
         Ok((options, names)) => {
             let mut inputs = Inputs::new(&rt, names.as_slice());
-            let shows_progress = errors.is_terminal();
-            run(
-                rt.alloc(),
-                options,
-                &mut inputs,
-                &mut output,
-                &mut errors,
-                shows_progress,
-            )
+            let (alloc, shows) = (rt.alloc(), errors.is_terminal());
+            run(alloc, options, &mut inputs, &mut output, &mut errors, shows)
         }
         Err(error) => answer(PROGRAM, &error, &mut output, &mut errors),
     };

@@ -1,3 +1,1 @@
-mod Classes
 mod Objects
-mod Sessions

@@ -1,10 +1,3 @@
-pub mod Claim
-pub mod Entry
+pub mod Audit
 pub mod Finding
-pub mod Line
 pub mod Object
-pub mod Field
-pub mod Limits
-pub mod Seen
-pub mod Session
-pub mod Tally

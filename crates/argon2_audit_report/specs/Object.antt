@@ -1,27 +1,29 @@
 -- The report as a JSON object.
-use Rattle.std.specs.Prelude.{◌≡◌, ◌≤◌, ℕ, List, [], ◌∷◌, ◌++◌, codes, decimal, ⊤, Option, Some, IfSome}
+use Rattle.std.specs.Prelude.{◌≡◌, ◌≤◌, ℕ, List, [], ◌∷◌, ◌++◌, codes, decimal, Option, Some, IfSome}
 use Rattle.std.specs.Io.KnownBytes.{Appends}
 use Rattle.json.specs.Json.{Json, Items, Members, array, document, member, no_members, number, object}
-use Rattle.json.specs.Print.{IsNumber}
 use Rattle.json.specs.Token.{Token, begin_array, begin_object, key}
-use Rattle.json.specs.Tree.{HasNumbers, depth, json_tokens}
+use Rattle.json.specs.Tree.{HasNumbers, ItemsHaveNumbers, MembersHaveNumbers, depth, items_depth, items_tokens, json_tokens, members_depth, members_tokens}
 use Rattle.json.specs.Written.{Written}
-use Rattle.argon2_audit_report.specs.Session.{IsTallied}
-use Rattle.argon2_audit_report.specs.declared.options.Form.TheVariants.{Json as JsonForm}
-use Rattle.argon2_audit_report.specs.declared.options.Options.{Options}
+use Rattle.argon2_audit_report.specs.Audit.{IsTallied, count_of}
+use Rattle.argon2_audit_report.specs.declared.finding.Class.TheVariants.{Outside, NoHash, Below, Sound, Other, Locked, Empty, Blank, Comment, Unknown}
+use Rattle.argon2_audit_report.specs.declared.limits.Form.TheVariants.{Json as JsonForm}
+use Rattle.argon2_audit_report.specs.declared.limits.Options.{Options}
 use Rattle.argon2_audit_report.specs.declared.tally.Tally.{Tally}
 
 -- ---- the object
 
-abbrev pub counted : List ℕ → ℕ → Members → Members
-counted name n more = member name (number (decimal n)) more
+-- members that are numbers
+abbrev pub members_of : List (List ℕ × ℕ) → Members
+members_of [] = no_members
+members_of (count ∷ more) = member count.0 (number (decimal count.1)) (members_of more)
 
 abbrev pub counts_of : Tally → Json
-counts_of t = object (counted (codes "lines") t.lines (counted (codes "sound") t.sound (counted (codes "below") t.below
-    (counted (codes "no_hash") t.no_hash (counted (codes "outside") t.outside (counted (codes "locked") t.locked
-    (counted (codes "empty") t.empty (counted (codes "blank") t.blank (counted (codes "comments") t.comment
-    (counted (codes "unknown") t.unknown (counted (codes "other") t.other (counted (codes "short_salts") t.short_salts
-    (counted (codes "equal_salts") t.equal_salts no_members)))))))))))))
+counts_of t = object (members_of ((codes "lines", t.lines) ∷ (codes "sound", count_of Sound t)
+    ∷ (codes "below", count_of Below t) ∷ (codes "no_hash", count_of NoHash t) ∷ (codes "outside", count_of Outside t)
+    ∷ (codes "locked", count_of Locked t) ∷ (codes "empty", count_of Empty t) ∷ (codes "blank", count_of Blank t)
+    ∷ (codes "comments", count_of Comment t) ∷ (codes "unknown", count_of Unknown t) ∷ (codes "other", count_of Other t)
+    ∷ (codes "short_salts", t.short_salts) ∷ (codes "equal_salts", t.equal_salts) ∷ []))
 
 -- findings, the counts, how many texts there are of each other scheme, and of each kind
 abbrev pub object_of : Tally → Items → Members → Items → Json
@@ -51,32 +53,28 @@ pub record Adds (old new : Written) (added : List Token) : Type 0 where
   pub before : new.before ≡ old.before
   pub tokens : new.tokens ≡ old.tokens ++ added
 
--- the value can be written, and nests no deeper than this
-abbrev pub IsValue : ℕ → Json → Type 0
-IsValue most value = HasNumbers value × (depth value ≤ most)
+-- a value that nests no deeper than this
+pub record AddsValue (old new : Written) (most : ℕ) (value : Json) : Type 0 where
+  pub adds : Adds old new (json_tokens value)
+  pub numbers : HasNumbers value
+  pub flat : depth value ≤ most
 
-abbrev pub AddsValue : Written → Written → ℕ → Json → Type 0
-AddsValue old new most value = Adds old new (json_tokens value) × IsValue most value
+-- the last members of an object, which are no arrays or objects
+pub record AddsMembers (old new : Written) (members : Members) : Type 0 where
+  pub adds : Adds old new (members_tokens members)
+  pub numbers : MembersHaveNumbers members
+  pub flat : members_depth members ≤ 0
 
--- flat values, the last first
-abbrev pub AreValues : List Json → Type 0
-AreValues [] = ⊤
-AreValues (value ∷ earlier) = IsValue 1 value × AreValues earlier
+abbrev pub AreItems : Items → Type 0
+AreItems items = ItemsHaveNumbers items × (items_depth items ≤ 1)
 
-abbrev pub values_tokens : List Json → List Token
-values_tokens [] = []
-values_tokens (value ∷ earlier) = values_tokens earlier ++ json_tokens value
-
--- names with numbers, the last first
-abbrev pub AreCounts : List (List ℕ × ℕ) → Type 0
-AreCounts [] = ⊤
-AreCounts (count ∷ earlier) = IsNumber (decimal count.1) × AreCounts earlier
-
-abbrev pub counts_tokens : List (List ℕ × ℕ) → List Token
-counts_tokens [] = []
-counts_tokens (count ∷ earlier) = counts_tokens earlier ++ (key count.0 ∷ Token.number (decimal count.1) ∷ [])
+-- flat items were written behind these tokens, and more may follow
+pub record HasItems (front tokens : List Token) : Type 0 where
+  pub all : Items → Items
+  pub reads : (more : Items) → tokens ++ items_tokens more ≡ front ++ items_tokens (all more)
+  pub are : (more : Items) → AreItems more → AreItems (all more)
 
 -- the object has begun, with some findings
 abbrev pub HasFindings : Written → Type 0
-HasFindings json = (json.before ≡ []) × ((values : List Json) × AreValues values
-    × (json.tokens ≡ begin_object ∷ key (codes "findings") ∷ begin_array ∷ values_tokens values))
+HasFindings json =
+    (json.before ≡ []) × HasItems (begin_object ∷ key (codes "findings") ∷ begin_array ∷ []) json.tokens

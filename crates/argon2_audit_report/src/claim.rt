@@ -2,7 +2,7 @@
 
 ghost use Rattle.std.specs.Prelude.{◌≡◌};
 ghost use Rattle.std.specs.List.{list_all};
-ghost use Rattle.argon2_audit_report.specs.Claim.{claim_of_text, is_space, scheme_of, trimmed};
+ghost use Rattle.argon2_audit_report.specs.Finding.{claim_of_text, is_space, trimmed};
 
 use argon2_prefixes::{after_any, begins_any};
 
@@ -24,7 +24,7 @@ pub enum Scheme {
 
 impl Scheme {
     /// The scheme's name, as remarks and counts have it.
-    pub fn name(self) -> &'static str {
+    pub fn name(&self) -> &str {
         match self {
             Scheme::Bcrypt => "bcrypt",
             Scheme::Scrypt => "scrypt",
@@ -65,55 +65,33 @@ pub fn claim_of_text(text: &[u8]) -> Claim
     ensures { result ≡ claim_of_text text.now }
 {
     if begins_any(text, &["$argon2"]) {
-        return Claim::Argon2;
-    }
-    if text.is_empty() {
-        return Claim::Empty;
-    }
-    if begins_any(text, &["!", "*"]) {
-        return Claim::Locked;
-    }
-    match scheme_of(text) {
-        Some(scheme) => Claim::Other(scheme),
-        None => Claim::Unknown,
-    }
-}
-
-// The scheme whose prefix a text has.
-fn scheme_of(text: &[u8]) -> Option<Scheme>
-    ensures { result ≡ scheme_of text.now }
-{
-    if begins_any(
-        text,
-        &[
-            "$2$",
-            "$2a$",
-            "$2b$",
-            "$2x$",
-            "$2y$",
-            "bcrypt$",
-            "bcrypt_sha256$",
-        ],
-    ) {
-        Some(Scheme::Bcrypt)
+        Claim::Argon2
+    } else if text.is_empty() {
+        Claim::Empty
+    } else if begins_any(text, &["!", "*"]) {
+        Claim::Locked
+    } else if begins_any(text, &["$2$", "$2a$", "$2b$", "$2x$", "$2y$"])
+        || begins_any(text, &["bcrypt$", "bcrypt_sha256$"])
+    {
+        Claim::Other(Scheme::Bcrypt)
     } else if begins_any(text, &["$7$", "$scrypt$", "scrypt"]) {
-        Some(Scheme::Scrypt)
+        Claim::Other(Scheme::Scrypt)
     } else if begins_any(text, &["$pbkdf2", "pbkdf2", "{PBKDF2"]) {
-        Some(Scheme::Pbkdf2)
+        Claim::Other(Scheme::Pbkdf2)
     } else if begins_any(text, &["$y$", "$gy$"]) {
-        Some(Scheme::Yescrypt)
+        Claim::Other(Scheme::Yescrypt)
     } else if begins_any(text, &["$5$"]) {
-        Some(Scheme::Sha256Crypt)
+        Claim::Other(Scheme::Sha256Crypt)
     } else if begins_any(text, &["$6$"]) {
-        Some(Scheme::Sha512Crypt)
+        Claim::Other(Scheme::Sha512Crypt)
     } else if begins_any(text, &["$1$", "$apr1$"]) {
-        Some(Scheme::Md5Crypt)
+        Claim::Other(Scheme::Md5Crypt)
     } else if begins_any(text, &["md5$", "sha1$"]) {
-        Some(Scheme::Django)
+        Claim::Other(Scheme::Django)
     } else if begins_any(text, &["{MD5}", "{SMD5}", "{SHA", "{SSHA"]) {
-        Some(Scheme::Ldap)
+        Claim::Other(Scheme::Ldap)
     } else {
-        None
+        Claim::Unknown
     }
 }
 

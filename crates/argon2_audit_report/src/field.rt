@@ -3,7 +3,7 @@
 ghost use Rattle.std.specs.Prelude.{◌≡◌, ◌==◌, ◌≤◌, length};
 ghost use Rattle.std.specs.Option.{option_copied};
 ghost use Rattle.std.specs.List.{list_all, position_or_len};
-ghost use Rattle.argon2_audit_report.specs.Field.{field_numbered, has_numbers, is_number, is_werkzeug, second_or_all};
+ghost use Rattle.argon2_audit_report.specs.Finding.{field_numbered, has_numbers, is_number, is_werkzeug, second_or_all};
 
 use argon2_prefixes::{after_any, begins_any};
 use memchr::memchr;
@@ -18,7 +18,7 @@ pub struct Field {
 }
 
 impl Field {
-    ghost use Rattle.argon2_audit_report.specs.Field.{field_in};
+    ghost use Rattle.argon2_audit_report.specs.Finding.{field_in};
 
     /// The text in the field, where the line has it.
     pub fn text<'a>(self, line: &'a [u8]) -> Option<&'a [u8]>

@@ -4,9 +4,8 @@ ghost use Rattle.std.specs.Prelude.{◌≤◌, length};
 ghost use Rattle.argon2_audit_report.specs.Finding.{IsFinding, IsTextFinding};
 
 use crate::claim::{Claim, claim_of_text, is_blank, trimmed};
-use crate::entry::{Entry, shown};
 use crate::field::Field;
-use crate::limits::Limits;
+use crate::limits::{Entry, Limits, shown};
 use argon2::password_hash::Error;
 use argon2_prefixes::{bare, begins_any};
 
@@ -94,68 +93,16 @@ impl Finding {
         ensures { result ≡ class_of limits.now self.now }
     {
         match self {
-            Finding::Claimed(claim) => claim.class(),
-            Finding::Shown(entry) => {
-                if entry.hash_len.is_none() {
-                    Class::NoHash
-                } else if limits.shortfalls(entry).any() {
-                    Class::Below
-                } else {
-                    Class::Sound
-                }
-            }
+            Finding::Claimed(Claim::Other(_)) => Class::Other,
+            Finding::Claimed(Claim::Locked) => Class::Locked,
+            Finding::Claimed(Claim::Empty) => Class::Empty,
+            Finding::Claimed(Claim::Blank) => Class::Blank,
+            Finding::Claimed(Claim::Comment) => Class::Comment,
+            Finding::Claimed(Claim::NoField | Claim::Unknown) => Class::Unknown,
+            Finding::Shown(entry) if entry.hash_len.is_none() => Class::NoHash,
+            Finding::Shown(entry) if limits.shortfalls(entry).any() => Class::Below,
+            Finding::Shown(_) => Class::Sound,
             _ => Class::Outside,
-        }
-    }
-}
-
-impl Class {
-    ghost use Rattle.std.specs.Prelude.{◌≡◌, ◌≤◌};
-    ghost use Rattle.argon2_audit_report.specs.Tally.{class_number, is_class, one_if};
-
-    /// 1 where this is the other class, and 0 where it is not.
-    pub fn one_if(self, other: Class) -> u64
-        ensures value { result ≡ one_if (is_class self other) }
-        ensures max { result ≤ 1 }
-    {
-        u64::from(self.number() == other.number())
-    }
-
-    // A number that no other class has.
-    fn number(self) -> u8
-        ensures { result ≡ class_number self }
-    {
-        match self {
-            Class::Outside => 0,
-            Class::NoHash => 1,
-            Class::Below => 2,
-            Class::Sound => 3,
-            Class::Other => 4,
-            Class::Locked => 5,
-            Class::Empty => 6,
-            Class::Blank => 7,
-            Class::Comment => 8,
-            Class::Unknown => 9,
-        }
-    }
-}
-
-impl Claim {
-    ghost use Rattle.std.specs.Prelude.{◌≡◌};
-    ghost use Rattle.argon2_audit_report.specs.Finding.{class_of_claim};
-
-    // What a line with this claim counts as.
-    fn class(self) -> Class
-        ensures { result ≡ class_of_claim self }
-    {
-        match self {
-            Claim::Argon2 => Class::Outside,
-            Claim::Other(_) => Class::Other,
-            Claim::Locked => Class::Locked,
-            Claim::Empty => Class::Empty,
-            Claim::Blank => Class::Blank,
-            Claim::Comment => Class::Comment,
-            Claim::NoField | Claim::Unknown => Class::Unknown,
         }
     }
 }

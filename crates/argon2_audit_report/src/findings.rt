@@ -1,16 +1,13 @@
 //! The report as a JSON object.
 
-ghost use Rattle.std.specs.Prelude.{◌∷◌, [], IfOk, OnOk, IsTrue, decimal};
-ghost use Rattle.json.specs.Json.{Items, Json, Members, array, object};
-ghost use Rattle.json.specs.Print.{IsNumber};
-ghost use Rattle.json.specs.Token.{key, number};
-ghost use Rattle.argon2_audit_report.specs.Object.{Adds, AddsValue, HasFindings, counts_of};
+ghost use Rattle.std.specs.Prelude.{map, IfOk, OnOk, IsTrue};
+ghost use Rattle.json.specs.Json.{Items, Json, array, object};
+ghost use Rattle.argon2_audit_report.specs.Object.{AddsMembers, AddsValue, HasFindings, counts_of, members_of};
 
-use crate::audit::Audit;
-use crate::claim::Scheme;
-use crate::entry::Kind;
-use crate::remark::Remark;
-use crate::report::Remarks;
+use crate::finding::Class;
+use crate::limits::Kind;
+use crate::report::{Remark, Remarks};
+use crate::session::Audit;
 use crate::tally::Tally;
 use argon2_failure::Failure;
 use json::Writer;
@@ -47,11 +44,10 @@ impl Findings {
     }
 
     // Adds a finding. If its write fails, the object is never whole.
-    fn write(&mut self, line: u64, remark: &Remark<'_>) -> Result<(), AllocError> {
-        let text = format!(in self.alloc; "{remark}")?;
+    fn write(&mut self, line: u64, remark: &str) -> Result<(), AllocError> {
         let was_whole = self.is_whole;
         self.is_whole = false;
-        write_finding(&mut self.json, line, text.as_str())?;
+        write_finding(&mut self.json, line, remark)?;
         self.is_whole = was_whole;
         Ok(())
     }
@@ -66,12 +62,16 @@ impl Findings {
         if !self.is_whole {
             return Err(AllocError);
         }
+        let mut schemes = Vec::new(self.alloc);
+        for (scheme, lines) in audit.seen.schemes.iter() {
+            schemes.push((scheme.name(), *lines))?;
+        }
         let mut json = self.json;
         json.end_array()?;
         json.key("counts")?;
         write_counts(&mut json, &audit.tally)?;
         json.key("schemes")?;
-        write_schemes(&mut json, &audit.seen.schemes)?;
+        write_numbers(&mut json, schemes.as_slice())?;
         json.key("table")?;
         write_kinds(&mut json, &audit.seen.kinds)?;
         json.end_object()?;
@@ -80,8 +80,9 @@ impl Findings {
 }
 
 impl Remarks for Findings {
-    fn add(&mut self, number: u64, remark: &Remark<'_>) -> Result<(), Failure> {
-        self.write(number, remark)?;
+    fn add(&mut self, line: u64, remark: Remark<'_>) -> Result<(), Failure> {
+        let text = format!(in self.alloc; "{remark}")?;
+        self.write(line, text.as_str())?;
         Ok(())
     }
 }
@@ -91,7 +92,8 @@ fn write_finding(json: &mut Writer, line: u64, remark: &str) -> Result<(), Alloc
     ensures { OnOk result ((value : Json) × AddsValue json.old json.new 1 value) }
 {
     json.begin_object()?;
-    write_number(json, "line", line)?;
+    json.key("line")?;
+    json.u64(line)?;
     json.key("remark")?;
     json.string(remark)?;
     json.end_object()
@@ -101,32 +103,22 @@ fn write_finding(json: &mut Writer, line: u64, remark: &str) -> Result<(), Alloc
 fn write_counts(json: &mut Writer, tally: &Tally) -> Result<(), AllocError>
     ensures { OnOk result (AddsValue json.old json.new 1 (counts_of tally.now)) }
 {
-    json.begin_object()?;
-    write_number(json, "lines", tally.lines)?;
-    write_number(json, "sound", tally.sound)?;
-    write_number(json, "below", tally.below)?;
-    write_number(json, "no_hash", tally.no_hash)?;
-    write_number(json, "outside", tally.outside)?;
-    write_number(json, "locked", tally.locked)?;
-    write_number(json, "empty", tally.empty)?;
-    write_number(json, "blank", tally.blank)?;
-    write_number(json, "comments", tally.comment)?;
-    write_number(json, "unknown", tally.unknown)?;
-    write_number(json, "other", tally.other)?;
-    write_number(json, "short_salts", tally.short_salts)?;
-    write_number(json, "equal_salts", tally.equal_salts)?;
-    json.end_object()
-}
-
-// Writes how many texts there are of each other scheme.
-fn write_schemes(json: &mut Writer, schemes: &BTreeMap<Scheme, u64>) -> Result<(), AllocError>
-    ensures { OnOk result ((members : Members) × AddsValue json.old json.new 1 (object members)) }
-{
-    json.begin_object()?;
-    for (scheme, lines) in schemes.iter() {
-        write_number(json, scheme.name(), *lines)?;
-    }
-    json.end_object()
+    let counts = [
+        ("lines", tally.lines),
+        ("sound", tally.count(Class::Sound)),
+        ("below", tally.count(Class::Below)),
+        ("no_hash", tally.count(Class::NoHash)),
+        ("outside", tally.count(Class::Outside)),
+        ("locked", tally.count(Class::Locked)),
+        ("empty", tally.count(Class::Empty)),
+        ("blank", tally.count(Class::Blank)),
+        ("comments", tally.count(Class::Comment)),
+        ("unknown", tally.count(Class::Unknown)),
+        ("other", tally.count(Class::Other)),
+        ("short_salts", tally.short_salts),
+        ("equal_salts", tally.equal_salts),
+    ];
+    write_numbers(json, &counts)
 }
 
 // Writes how many texts of Argon2 there are of each kind.
@@ -147,20 +139,34 @@ fn write_kind(json: &mut Writer, kind: &Kind, lines: u64) -> Result<(), AllocErr
     json.begin_object()?;
     json.key("algorithm")?;
     json.string(kind.algorithm.as_str())?;
-    write_number(json, "version", u64::from(u32::from(kind.version)))?;
-    write_number(json, "m", u64::from(kind.m_cost))?;
-    write_number(json, "t", u64::from(kind.t_cost))?;
-    write_number(json, "p", u64::from(kind.p_cost))?;
-    write_number(json, "lines", lines)?;
-    json.end_object()
+    let numbers = [
+        ("version", u64::from(u32::from(kind.version))),
+        ("m", u64::from(kind.m_cost)),
+        ("t", u64::from(kind.t_cost)),
+        ("p", u64::from(kind.p_cost)),
+        ("lines", lines),
+    ];
+    write_members(json, &numbers)
 }
 
-// Writes a member that is a number.
-fn write_number(json: &mut Writer, name: &str, n: u64) -> Result<(), AllocError>
-    ensures added { OnOk result (Adds json.old json.new
-        (key name.now ∷ number (decimal n) ∷ [])) }
-    ensures number { IsNumber (decimal n) }
+// Writes an object of numbers.
+fn write_numbers(json: &mut Writer, numbers: &[(&str, u64)]) -> Result<(), AllocError>
+    ensures { OnOk result (AddsValue json.old json.new 1
+        (object (members_of (map (λ n. (n.0.now, n.1)) numbers.now)))) }
 {
-    json.key(name)?;
-    json.u64(n)
+    json.begin_object()?;
+    write_members(json, numbers)
+}
+
+// Writes members that are numbers, the last ones of an object.
+fn write_members(json: &mut Writer, numbers: &[(&str, u64)]) -> Result<(), AllocError>
+    ensures { OnOk result (AddsMembers json.old json.new
+        (members_of (map (λ n. (n.0.now, n.1)) numbers.now))) }
+{
+    let Some((number, rest)) = numbers.split_first() else {
+        return json.end_object();
+    };
+    json.key(number.0)?;
+    json.u64(number.1)?;
+    write_members(json, rest)
 }

@@ -1,9 +1,75 @@
-//! What a stored text has to have.
+//! What a stored text shows, and what it has to have.
 
-ghost use Rattle.std.specs.Prelude.{◌≡◌};
+ghost use Rattle.argon2_audit_report.specs.Finding.{IsEntryAnswer};
 
-use crate::entry::Entry;
-use argon2::Algorithm;
+use crate::field::Field;
+use argon2::password_hash::{Result, Settings};
+use argon2::phc::Salt;
+use argon2::{Algorithm, PasswordHash, Version};
+
+/// What texts are counted by.
+#[derive(Clone, Copy, PartialEq, Eq, PartialOrd, Ord)]
+pub struct Kind {
+    pub algorithm: Algorithm,
+    /// Version 0x10 where the text has none.
+    pub version: Version,
+    /// Memory in blocks of 1024 bytes.
+    pub m_cost: u32,
+    /// Passes.
+    pub t_cost: u32,
+    /// Lanes.
+    pub p_cost: u32,
+}
+
+/// What a stored text shows, beside its parameters that are not costs and the bytes of its hash.
+#[derive(Drop)]
+pub struct Entry {
+    pub kind: Kind,
+    pub salt: Option<Salt>,
+    /// How many bytes the hash has, where there is one.
+    pub hash_len: Option<u32>,
+}
+
+impl Entry {
+    ghost use Rattle.std.specs.Prelude.{◌≡◌, [], length, unwrap_or};
+
+    /// How many bytes the salt has, 0 where there is none.
+    pub fn salt_len(&self) -> u32
+        ensures { result ≡ length (unwrap_or self.now.salt []) }
+    {
+        match &self.salt {
+            Some(salt) => salt.len() as u32,
+            None => 0,
+        }
+    }
+}
+
+/// What a text shows.
+///
+/// # Errors
+/// `EncodingInvalid` where the text is outside the grammar; then the fault of its parameters, of its
+/// algorithm and of its version, as verifying names them.
+pub fn shown(text: &str) -> Result<Entry>
+    ensures { IsEntryAnswer text.now result }
+{
+    let hash = PasswordHash::new(text)?;
+    let shown = Settings::try_from(&hash)?;
+    let hash_len = match &hash.hash {
+        Some(output) => Some(output.len() as u32),
+        None => None,
+    };
+    Ok(Entry {
+        kind: Kind {
+            algorithm: shown.algorithm,
+            version: shown.version,
+            m_cost: shown.params.m_cost(),
+            t_cost: shown.params.t_cost(),
+            p_cost: shown.params.p_cost(),
+        },
+        salt: hash.salt,
+        hash_len,
+    })
+}
 
 /// The least costs, lengths and version, the algorithm, and whether other schemes count as sound.
 #[derive(Clone, Copy)]
@@ -39,42 +105,31 @@ pub struct Shortfalls {
 }
 
 impl Limits {
-    ghost use Rattle.argon2_audit_report.specs.Limits.{shortfalls_of};
+    ghost use Rattle.std.specs.Prelude.{◌≡◌};
+    ghost use Rattle.argon2_audit_report.specs.Finding.{shortfalls_of};
 
     /// What of a text is below the limits. A salt or a hash that is missing has no bytes.
     pub fn shortfalls(&self, entry: &Entry) -> Shortfalls
         ensures { result ≡ shortfalls_of self.now entry.now }
     {
-        let salt_len = entry.salt_len();
-        let hash_len = entry.hash_len.unwrap_or(0);
         Shortfalls {
             memory: entry.kind.m_cost < self.m_cost,
             passes: entry.kind.t_cost < self.t_cost,
             lanes: entry.kind.p_cost < self.p_cost,
-            salt: salt_len < self.salt_len,
-            hash: hash_len < self.hash_len,
+            salt: entry.salt_len() < self.salt_len,
+            hash: entry.hash_len.unwrap_or(0) < self.hash_len,
             version: u32::from(entry.kind.version) < self.version,
-            algorithm: self.refuses(entry.kind.algorithm),
-        }
-    }
-}
-
-impl Limits {
-    ghost use Rattle.argon2_audit_report.specs.Limits.{is_refused};
-
-    // Whether another algorithm is required.
-    fn refuses(&self, algorithm: Algorithm) -> bool
-        ensures { result ≡ is_refused self.now.algorithm algorithm }
-    {
-        match self.algorithm {
-            Some(required) => required != algorithm,
-            None => false,
+            algorithm: match self.algorithm {
+                Some(required) => required != entry.kind.algorithm,
+                None => false,
+            },
         }
     }
 }
 
 impl Shortfalls {
-    ghost use Rattle.argon2_audit_report.specs.Limits.{is_any};
+    ghost use Rattle.std.specs.Prelude.{◌≡◌};
+    ghost use Rattle.argon2_audit_report.specs.Finding.{is_any};
 
     /// Whether anything is below the limits.
     pub fn any(&self) -> bool
@@ -88,4 +143,23 @@ impl Shortfalls {
             || self.version
             || self.algorithm
     }
+}
+
+/// What is written.
+#[derive(Clone, Copy, PartialEq, Eq)]
+pub enum Form {
+    /// Remarks and a table, as lines.
+    Lines,
+    /// One JSON object.
+    Json,
+    /// Nothing.
+    Quiet,
+}
+
+/// What an audit is asked for.
+#[derive(Clone, Copy)]
+pub struct Options {
+    pub limits: Limits,
+    pub field: Field,
+    pub form: Form,
 }

@@ -1,20 +1,51 @@
 //! What is written: remarks on lines, and the table.
 
-use crate::audit::Audit;
-use crate::claim::Claim;
-use crate::entry::Entry;
-use crate::finding::Finding;
-use crate::limits::Limits;
-use crate::remark::Remark;
+use crate::claim::{Claim, Scheme};
+use crate::finding::{Class, Finding};
+use crate::limits::{Entry, Limits};
+use crate::session::Audit;
 use crate::tally::Marks;
+use argon2::Algorithm;
+use argon2::password_hash::Error;
 use argon2_failure::Failure;
-use std::io;
+use std::fmt::Display;
 use std::io::Write;
+use std::{fmt, io};
+
+/// What keeps a line from being sound. Nothing of its name, salt and hash is said.
+#[derive(Drop)]
+pub enum Remark<'a> {
+    Text(&'static str),
+    Refused(&'a Error),
+    Other(Scheme),
+    /// An algorithm, and the one that is required.
+    Algorithm(Algorithm, Algorithm),
+    /// A cost or the version by its letter, and the least one.
+    Number(char, u32, u32),
+    /// How many bytes the salt or the hash has, and the fewest.
+    Length(&'static str, u32, u32),
+}
+
+impl Display for Remark<'_> {
+    fn fmt<W: fmt::Write>(&self, f: &mut fmt::Formatter<W>) -> fmt::Result {
+        match self {
+            Remark::Text(text) => f.write_str(text),
+            Remark::Refused(error) => write!(f, "{error}"),
+            Remark::Other(scheme) => {
+                let name = scheme.name();
+                write!(f, "{name}, not Argon2")
+            }
+            Remark::Algorithm(has, required) => write!(f, "{has} is not {required}"),
+            Remark::Number(name, has, least) => write!(f, "{name}={has} is below {least}"),
+            Remark::Length(of, has, least) => write!(f, "a {of} of {has} bytes is below {least}"),
+        }
+    }
+}
 
 /// What takes remarks on lines.
 pub trait Remarks {
     /// Takes a remark on a line.
-    fn add(&mut self, number: u64, remark: &Remark<'_>) -> Result<(), Failure>;
+    fn add(&mut self, line: u64, remark: Remark<'_>) -> Result<(), Failure>;
 }
 
 /// Each remark is written as a line.
@@ -24,8 +55,8 @@ pub struct Lines<'a, W: Write> {
 }
 
 impl<W: Write> Remarks for Lines<'_, W> {
-    fn add(&mut self, number: u64, remark: &Remark<'_>) -> Result<(), Failure> {
-        writeln!(self.output, "line {number}: {remark}")?;
+    fn add(&mut self, line: u64, remark: Remark<'_>) -> Result<(), Failure> {
+        writeln!(self.output, "line {line}: {remark}")?;
         Ok(())
     }
 }
@@ -35,85 +66,87 @@ impl<W: Write> Remarks for Lines<'_, W> {
 pub struct Nothing;
 
 impl Remarks for Nothing {
-    fn add(&mut self, _number: u64, _remark: &Remark<'_>) -> Result<(), Failure> {
+    fn add(&mut self, _line: u64, _remark: Remark<'_>) -> Result<(), Failure> {
         Ok(())
     }
 }
 
-/// Says of a line what keeps it from counting as sound. Nothing of the line itself is said.
+/// Says of a line what keeps it from counting as sound.
 pub fn remark_on<S: Remarks>(
     remarks: &mut S,
-    number: u64,
+    line: u64,
     finding: &Finding,
     limits: &Limits,
     marks: Marks,
 ) -> Result<(), Failure> {
-    match finding {
-        Finding::TooLong => remarks.add(number, &Remark::TooLong)?,
-        Finding::NotUtf8 => remarks.add(number, &Remark::NotUtf8)?,
-        Finding::Refused(error) => remarks.add(number, &Remark::Refused(error))?,
-        Finding::Claimed(Claim::Other(_) | Claim::Locked | Claim::Blank | Claim::Comment)
-            if limits.allows_other => {}
-        Finding::Claimed(claim) => remarks.add(number, &Remark::Claimed(*claim))?,
-        Finding::Shown(entry) => {
-            remark_on_costs(remarks, number, entry, limits)?;
-            remark_on_lengths(remarks, number, entry, limits)?;
-        }
+    let remark = match finding {
+        Finding::TooLong => Some(Remark::Text("longer than 4096 bytes")),
+        Finding::NotUtf8 => Some(Remark::Text("not UTF-8")),
+        Finding::Refused(error) => Some(Remark::Refused(error)),
+        Finding::Claimed(claim) => claimed(*claim, limits),
+        Finding::Shown(entry) => shown(remarks, line, entry, limits)?,
+    };
+    if let Some(remark) = remark {
+        remarks.add(line, remark)?;
     }
     if marks.equal_salt {
-        remarks.add(number, &Remark::EqualSalt)?;
+        remarks.add(line, Remark::Text("salt of an earlier line"))?;
     }
     Ok(())
 }
 
-// Says which algorithm, version and costs are below the limits.
-fn remark_on_costs<S: Remarks>(
-    remarks: &mut S,
-    number: u64,
-    entry: &Entry,
-    limits: &Limits,
-) -> Result<(), Failure> {
-    let (short, kind) = (limits.shortfalls(entry), &entry.kind);
-    for (is_short, name, has, least) in [
-        (short.memory, "m", kind.m_cost, limits.m_cost),
-        (short.passes, "t", kind.t_cost, limits.t_cost),
-        (short.lanes, "p", kind.p_cost, limits.p_cost),
-    ] {
-        if is_short {
-            remarks.add(number, &Remark::Cost(name, has, least))?;
-        }
-    }
-    if short.version {
-        remarks.add(number, &Remark::Version(kind.version, limits.version))?;
-    }
-    match limits.algorithm {
-        Some(required) if short.algorithm => {
-            remarks.add(number, &Remark::Algorithm(kind.algorithm, required))
-        }
-        _ => Ok(()),
+// What a line claims to store that is no text of Argon2, if it is not allowed.
+fn claimed(claim: Claim, limits: &Limits) -> Option<Remark<'static>> {
+    match claim {
+        Claim::Other(_) | Claim::Locked | Claim::Blank | Claim::Comment if limits.allows_other =>
+            None,
+        Claim::Argon2 => None,
+        Claim::Other(scheme) => Some(Remark::Other(scheme)),
+        Claim::Locked => Some(Remark::Text("locked")),
+        Claim::Empty => Some(Remark::Text("empty text")),
+        Claim::Blank => Some(Remark::Text("blank line")),
+        Claim::Comment => Some(Remark::Text("comment")),
+        Claim::NoField => Some(Remark::Text("no such field")),
+        Claim::Unknown => Some(Remark::Text("no known scheme")),
     }
 }
 
-// Says which lengths are below the limits.
-fn remark_on_lengths<S: Remarks>(
+// Says what of a text is below the limits, and returns what is left to say.
+fn shown<S: Remarks>(
     remarks: &mut S,
-    number: u64,
+    line: u64,
     entry: &Entry,
     limits: &Limits,
-) -> Result<(), Failure> {
-    let short = limits.shortfalls(entry);
+) -> Result<Option<Remark<'static>>, Failure> {
+    let (short, kind) = (limits.shortfalls(entry), &entry.kind);
+    for (is_short, name, has, least) in [
+        (short.memory, 'm', kind.m_cost, limits.m_cost),
+        (short.passes, 't', kind.t_cost, limits.t_cost),
+        (short.lanes, 'p', kind.p_cost, limits.p_cost),
+        (short.version, 'v', u32::from(kind.version), limits.version),
+    ] {
+        if is_short {
+            remarks.add(line, Remark::Number(name, has, least))?;
+        }
+    }
+    match limits.algorithm {
+        Some(required) if short.algorithm => {
+            remarks.add(line, Remark::Algorithm(kind.algorithm, required))?;
+        }
+        _ => {}
+    }
     if short.salt {
         let remark = match entry.salt {
-            Some(_) => Remark::SaltLen(entry.salt_len(), limits.salt_len),
-            None => Remark::NoSalt,
+            Some(_) => Remark::Length("salt", entry.salt_len(), limits.salt_len),
+            None => Remark::Text("no salt"),
         };
-        remarks.add(number, &remark)?;
+        remarks.add(line, remark)?;
     }
-    match entry.hash_len {
-        None => remarks.add(number, &Remark::NoHash),
-        Some(len) if short.hash => remarks.add(number, &Remark::HashLen(len, limits.hash_len)),
-        Some(_) => Ok(()),
-    }
+    Ok(match entry.hash_len {
+        None => Some(Remark::Text("no hash")),
+        Some(has) if short.hash => Some(Remark::Length("hash", has, limits.hash_len)),
+        Some(_) => None,
+    })
 }
 
 /// Writes the counts, and then how many texts of Argon2 there are of each kind.
@@ -126,20 +159,22 @@ pub fn write_table<W: Write>(output: &mut W, audit: &Audit) -> io::Result<()> {
 // Writes the counts, one a line; those of lines that store no text of Argon2 only where there are such lines.
 fn counts<W: Write>(output: &mut W, audit: &Audit) -> io::Result<()> {
     let tally = &audit.tally;
-    for (name, count, is_written) in [
-        ("lines", tally.lines, true),
-        ("sound", tally.sound, true),
-        ("below the policy", tally.below, true),
-        ("no hash", tally.no_hash, true),
-        ("outside the grammar", tally.outside, true),
-        ("locked", tally.locked, tally.locked > 0),
-        ("empty", tally.empty, tally.empty > 0),
-        ("blank lines", tally.blank, tally.blank > 0),
-        ("comments", tally.comment, tally.comment > 0),
-        ("unknown", tally.unknown, tally.unknown > 0),
-        ("other schemes", tally.other, tally.other > 0),
+    let lines = tally.lines;
+    writeln!(output, "{:<20}{lines:>12}", "lines")?;
+    for (name, class, is_written) in [
+        ("sound", Class::Sound, true),
+        ("below the policy", Class::Below, true),
+        ("no hash", Class::NoHash, true),
+        ("outside the grammar", Class::Outside, true),
+        ("locked", Class::Locked, false),
+        ("empty", Class::Empty, false),
+        ("blank lines", Class::Blank, false),
+        ("comments", Class::Comment, false),
+        ("unknown", Class::Unknown, false),
+        ("other schemes", Class::Other, false),
     ] {
-        if is_written {
+        let count = tally.count(class);
+        if is_written || count > 0 {
             writeln!(output, "{name:<20}{count:>12}")?;
         }
     }
@@ -147,13 +182,9 @@ fn counts<W: Write>(output: &mut W, audit: &Audit) -> io::Result<()> {
         let name = scheme.name();
         writeln!(output, "  {name:<18}{lines:>12}")?;
     }
-    for (name, count) in [
-        ("short salts", tally.short_salts),
-        ("equal salts", tally.equal_salts),
-    ] {
-        writeln!(output, "{name:<20}{count:>12}")?;
-    }
-    Ok(())
+    let (short, equal) = (tally.short_salts, tally.equal_salts);
+    writeln!(output, "{:<20}{short:>12}", "short salts")?;
+    writeln!(output, "{:<20}{equal:>12}", "equal salts")
 }
 
 // Writes how many texts of Argon2 there are of each kind, a line each.
@@ -167,13 +198,8 @@ fn kinds<W: Write>(output: &mut W, audit: &Audit) -> io::Result<()> {
         )?;
     }
     for (kind, lines) in audit.seen.kinds.iter() {
-        let version = u32::from(kind.version);
-        let (algorithm, m, t, p) = (
-            kind.algorithm.as_str(),
-            kind.m_cost,
-            kind.t_cost,
-            kind.p_cost,
-        );
+        let (algorithm, version) = (kind.algorithm.as_str(), u32::from(kind.version));
+        let (m, t, p) = (kind.m_cost, kind.t_cost, kind.p_cost);
         writeln!(
             output,
             "{algorithm:<10}{version:>8}{m:>12}{t:>12}{p:>10}{lines:>12}"

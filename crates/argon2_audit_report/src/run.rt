@@ -3,10 +3,10 @@
 ghost use Rattle.std.specs.Prelude.{◌≡◌, ◌⊎◌, ◌∷◌, ◌++◌, [], ℕ, List, IfOk, IfSome, IsFalse, OnOk, true, false};
 ghost use Rattle.std.specs.Io.KnownBytes.{Appends, Keeps};
 ghost use Rattle.argon2_audit_report.specs.Object.{IsObject, IsReport, IsReported};
-ghost use Rattle.argon2_audit_report.specs.Session.{IsAudit, IsTallied};
+ghost use Rattle.argon2_audit_report.specs.Audit.{IsAudit, IsTallied};
 
 use crate::findings::Findings;
-use crate::options::{Form, Options};
+use crate::limits::{Form, Options};
 use crate::report::{Lines, Nothing, Remarks, write_table};
 use crate::session::Session;
 use crate::tally::Tally;

@@ -2,10 +2,10 @@
 
 ghost use Rattle.std.specs.Prelude.{◌≡◌, ◌≤◌, ◌||◌, ℕ, List, IfOk, OnOk, length, not};
 ghost use Rattle.std.specs.Str.{bytes_eq};
-ghost use Rattle.argon2_audit_report.specs.Seen.{has_key};
+ghost use Rattle.argon2_audit_report.specs.Audit.{has_key};
 
 use crate::claim::Scheme;
-use crate::entry::{Entry, Kind};
+use crate::limits::{Entry, Kind};
 use argon2::phc::Salt;
 use arrayvec::ArrayVec;
 use std::alloc::{AllocError, Global};
@@ -25,7 +25,7 @@ pub struct Seen {
 impl Seen {
     ghost use Rattle.std.specs.Prelude.{◌≡◌, ◌||◌, ℕ, List, false, IfOk, OnOk, not};
     ghost use Rattle.std.specs.Str.{bytes_eq};
-    ghost use Rattle.argon2_audit_report.specs.Seen.{has_any, has_salt, is_salt};
+    ghost use Rattle.argon2_audit_report.specs.Audit.{has_any, has_salt, is_salt};
 
     /// No texts.
     pub fn new(alloc: Global) -> Seen

@@ -1,8 +1,8 @@
 use Rattle.std.proofs.Common.{rules, ◌≡◌, ◌∙◌, ℕ, false, Some, List, [], ◌∷◌, codes, sym, ap, refl}
 use Rattle.std.specs.List.{list_all}
 use Rattle.argon2_prefixes.specs.Prefixes.{bare, begins_any}
-use Rattle.argon2_audit_report.specs.Claim.{claim_of, claim_of_text, is_space, stored_in, trimmed}
-use Rattle.argon2_audit_report.specs.Field.{field_in}
+use Rattle.argon2_audit_report.specs.Finding.{claim_of, claim_of_text, is_space, stored_in, trimmed}
+use Rattle.argon2_audit_report.specs.Finding.{field_in}
 use Rattle.argon2_audit_report.specs.Finding.{IsTextFinding}
 use Rattle.argon2_audit_report.specs.declared.claim.Claim.TheVariants.{Argon2}
 use Rattle.argon2_audit_report.specs.declared.field.Field.{Field}

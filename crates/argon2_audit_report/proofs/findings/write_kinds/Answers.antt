@@ -1,28 +1,30 @@
-use Rattle.std.proofs.Common.{arith, ◌∙◌, ◌∷◌, ◌++◌, ap}
+use Rattle.std.proofs.Common.{arith, ◌∙◌, [], ◌∷◌, append_assoc}
 use Rattle.json.specs.Json.{no_items}
 use Rattle.json.specs.Token.{begin_array}
-use Rattle.argon2_audit_report.proofs.Objects.{at_last, further, items_of}
+use Rattle.json.specs.Tree.{items_tokens}
+use Rattle.argon2_audit_report.proofs.Objects.{at_last, item_more, no_item}
 use Rattle.argon2_audit_report.proofs.findings.write_kinds.Goals as goal
+
+pub loop-kind-init : goal.loop-kind-init
+loop-kind-init c = (c.begin_array.ensures.room.0, no_item c.in_ok-begin_array.ensures.ok)
 
 pub loop-kind-preserved : goal.loop-kind-preserved
 loop-kind-preserved c =
-    let before = c.loop-kind.invariant in
-    let added = c.in_ok-write_kind.ensures in
-    (added.0 ∷ before.0, (added.1.1, before.1), further before.2 added.1.0)
+    let added = c.in_ok-write_kind.ensures.1 in
+    (added.adds.before ∙ c.loop-kind.invariant.0, item_more added c.loop-kind.invariant.1)
 
 pub returns : goal.returns
 returns c =
-    let before = c.loop-kind.invariant in
-    let all = items_of before.0 no_items before.1 tt (omega arith) in
-    let flat = all.3 in
-    at_last c.end_array.ensures (λ last.
-    let added = further before.2 last in (
-      all.0,
-      (
-        record {
-          before = added.before;
-          tokens = added.tokens ∙ ap (λ tokens. c.args.json.now.tokens ++ begin_array ∷ tokens) all.1;
-        },
-        (all.2, omega arith),
-      ),
+    let has = c.loop-kind.invariant.1 in
+    let are = has.are no_items (tt, omega arith) in
+    at_last c.end_array.ensures (λ last. (
+      has.all no_items,
+      record {
+        adds = record {
+          before = last.before ∙ c.loop-kind.invariant.0;
+          tokens = last.tokens ∙ has.reads no_items ∙ append_assoc c.args.json.now.tokens (begin_array ∷ []) (items_tokens (has.all no_items));
+        };
+        numbers = are.0;
+        flat = let flat = are.1 in omega arith;
+      },
     ))

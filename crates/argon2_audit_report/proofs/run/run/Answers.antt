@@ -1,7 +1,14 @@
-use Rattle.std.proofs.Common.{subst}
-use Rattle.argon2_audit_report.specs.Session.{IsAudit}
-use Rattle.argon2_audit_report.proofs.Sessions.{audit_of}
+use Rattle.std.proofs.Common.{Bool, List, ℕ, Option, Some, None, IfSome, IsTrue, ◌↔◌, subst}
+use Rattle.argon2_audit_report.specs.Audit.{IsAudit, IsClean, IsTallied}
+use Rattle.argon2_audit_report.specs.declared.limits.Options.{Options}
+use Rattle.argon2_audit_report.specs.declared.tally.Tally.{Tally}
 use Rattle.argon2_audit_report.proofs.run.run.Goals as goal
+
+audit_of : (options : Options) (input : Option (List ℕ)) (tally : Tally) (clean : Bool)
+    → IfSome input (λ bytes. IsTallied options bytes tally) → (IsTrue clean ↔ IsClean options.limits tally)
+    → IsAudit options input clean
+audit_of options None tally clean tallied is = tt
+audit_of options (Some bytes) tally clean tallied is = (tally, tallied, is)
 
 pub returns-in-Ok-clause-passed : goal.returns-in-Ok-clause-passed
 returns-in-Ok-clause-passed g c = λ _.

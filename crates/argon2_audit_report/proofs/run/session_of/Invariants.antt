@@ -1,6 +1,6 @@
 use Rattle.std.proofs.Common.{◌≡◌, IsFalse, ◌≤◌, ◌*◌, List, ℕ, length}
 use Rattle.std.specs.Io.KnownBytes.{Consumes, Keeps}
-use Rattle.argon2_audit_report.specs.Session.{IsAfter}
+use Rattle.argon2_audit_report.specs.Audit.{IsAfter}
 use Rattle.argon2_audit_report.proofs.run.session_of.Given as goal
 
 abbrev pub invariant-pieces : goal.invariant-pieces

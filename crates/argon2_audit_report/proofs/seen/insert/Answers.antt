@@ -1,7 +1,7 @@
 use Rattle.std.proofs.Common.{rules, ◌≡◌, ◌∙◌, ◌||◌, Bool, true, false, if◌then◌else◌, ap, refl}
 use Rattle.std.specs.Str.{bytes_eq}
 use Rattle.std.proofs.lemmas.Map.Text.{is_eq-slice_cmp}
-use Rattle.argon2_audit_report.specs.Seen.{has_key}
+use Rattle.argon2_audit_report.specs.Audit.{has_key}
 use Rattle.argon2_audit_report.proofs.seen.insert.Goals as goal
 
 or_is_if : (a b : Bool) → (if a then true else b) ≡ (a || b)

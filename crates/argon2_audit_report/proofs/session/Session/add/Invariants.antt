@@ -1,5 +1,5 @@
 use Rattle.std.proofs.Common.{◌≡◌, ◌≤◌, ◌+◌, List, ℕ, ◌++◌, length}
-use Rattle.argon2_audit_report.specs.Session.{IsAfter}
+use Rattle.argon2_audit_report.specs.Audit.{IsAfter}
 use Rattle.argon2_audit_report.proofs.session.Session.add.Given as goal
 
 abbrev pub invariant-lines : goal.invariant-lines
