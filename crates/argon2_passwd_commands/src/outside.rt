@@ -80,8 +80,8 @@ pub trait Outside {
         requires { was self.old None true }
         ensures { was self.new (Some store) false };
 
-    /// Waits for 10 milliseconds.
-    fn pause(&self);
+    /// Waits for so many milliseconds.
+    fn pause(&self, milliseconds: u64);
 }
 
 /// The machine that the program runs on.
@@ -160,7 +160,7 @@ impl Outside for Machine<'_> {
         let _ = store.checkpoint();
     }
 
-    fn pause(&self) {
-        thread::sleep(self.rt, Duration::from_millis(10))
+    fn pause(&self, milliseconds: u64) {
+        thread::sleep(self.rt, Duration::from_millis(milliseconds))
     }
 }

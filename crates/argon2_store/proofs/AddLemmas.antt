@@ -1,29 +1,14 @@
 -- Names where several are added.
-use Rattle.std.proofs.Common.{◌≡◌, ℕ, zero, suc, one-add, zero-add, ◌+◌, List, [], ◌∷◌, ◌++◌, Bool, true, false, cond, Option, None, Some, Result, Ok, Err, refl, sym, subst, ap, ◌∙◌, arith, inl, inr, map}
-use Rattle.std.specs.Borrow.{Bor}
-use Rattle.std.specs.FinMap.{get, insert}
-use Rattle.std.specs.List.{count_by}
+use Rattle.argon2_store.proofs.Imports.{◌≡◌, ℕ, zero, suc, one-add, zero-add, ◌+◌, List, [], ◌∷◌, ◌++◌, Bool, true, false, cond, Option, None, Some, Result, Ok, Err, refl, sym}
+use Rattle.argon2_store.proofs.Imports.{subst, ap, ◌∙◌, arith, inl, inr, map, Bor, get, insert, count_by, All, Any, IsSomeAnd, bytes_eq, cases_Bool, All-cons, All-head, All-nil}
+use Rattle.argon2_store.proofs.Imports.{All-tail, bytes_eq-Decides, StoreError, Ghosts, Phc, PhcText, Store, get-other, get-same, AccountError, AddsAll, AddsName, WritesAll}
+use Rattle.argon2_store.proofs.Imports.{entry_of, Changes, HasNames, IsHonest, IsLong, IsOpen, StaysQuiet}
 use Rattle.std.specs.List.Sorted.{IsPermutation}
-use Rattle.std.specs.Prelude.{All, Any, IsSomeAnd}
-use Rattle.std.specs.Str.{bytes_eq}
-use Rattle.std.proofs.lemmas.Bool.{cases_Bool}
-use Rattle.std.proofs.lemmas.List.Elements.{All-cons, All-head, All-nil, All-tail}
 use Rattle.std.proofs.lemmas.List.Sorted.{All-permutation, Contains-permutation, IsPermutation-map, IsPermutation-sym, sum_by-IsPermutation}
 use Rattle.std.proofs.lemmas.List.Sums.{sum_by-cons}
-use Rattle.std.proofs.lemmas.Slice.Eq.{bytes_eq-Decides}
-use Rattle.sqlite_disk.specs.Disk.{MoreFaults}
-use Rattle.sqlite_trees.specs.declared.error.StoreError.{StoreError}
 use Rattle.sqlite_trees.specs.declared.error.StoreError.TheVariants.{Io}
-use Rattle.sqlite_trees.specs.declared.store.Store.{Ghosts}
-use Rattle.sqlite_trees.specs.Tree.{Trees}
-use Rattle.argon2_base.specs.PhcText.{Phc, PhcText}
-use Rattle.argon2.specs.NamedTexts.{Store}
-use Rattle.argon2.proofs.login_lemmas.Stores.{get-other, get-same}
-use Rattle.argon2_accounts.specs.declared.error.AccountError.{AccountError}
-use Rattle.argon2_store.specs.Adding.{AddsAll, AddsName, WritesAll, entry_of}
-use Rattle.argon2_store.specs.Table.{Changes, HasNames, Holds, IsHonest, IsLong, IsOpen, StaysQuiet}
-use Rattle.argon2_store.proofs.NameLemmas.{same}
-use Rattle.argon2_store.proofs.TableLemmas.{cause_map, if_err, more_earlier, on_ok, quiet_itself, quiet_then}
+use Rattle.argon2_store.proofs.RowLemmas.{same}
+use Rattle.argon2_store.proofs.TableLemmas.{Settled, cause_map, if_err, leaves_kept, on_ok, quiet_itself, quiet_then}
 
 -- a name that was set is added
 pub adds_name : (before after : Store) (e : List ℕ × List ℕ) (v : Phc) → PhcText e.1 v → get before e.0 ≡ None
@@ -149,104 +134,76 @@ any_order es fs before after moved all =
 
 module _ {S : Type 0} (g : Ghosts S) where
   -- a change is the same after a call that changed nothing, and may have more causes
-  changes_later : (a b c : S) (x y : Store) (P Q : Type 0) (r : Result (Unit {0}) StoreError) → StaysQuiet g a b
+  changes_later : {a b c : S} {x y : Store} {P Q : Type 0} {r : Result (Unit {0}) StoreError} → StaysQuiet g a b
       → (IsHonest g b → (g.view b).is_broken ≡ false) → (P → Q) → Changes g b c x y P r → Changes g a c x y Q r
-  changes_later a b c x y P Q r quiet sound more change = record {
+  changes_later {a} {b} {r = r} quiet sound more change = record {
     honest = λ clean. omega (arith, change.honest clean, quiet.clean);
     kept = change.kept;
     crash = change.crash;
     durable = change.durable;
-    cause = λ clean. if_err r (change.cause clean) (cause_map (g.view b) (g.view a) (MoreFaults (g.faults b) (g.faults c))
-        (MoreFaults (g.faults a) (g.faults c)) P Q (λ broken. absurd (let whole = sound (change.honest clean) in cc))
-        (more_earlier (g.faults a) (g.faults b) (g.faults c) quiet.counts) more);
-    closes = λ clean. elim (change.closes clean) [
-      | inl still ↦ inl still
-      | inr failed ↦ inr (more_earlier (g.faults a) (g.faults b) (g.faults c) quiet.counts failed)
-    ];
+    cause = λ clean. if_err r (change.cause clean) (cause_map (g.view b) (g.view a)
+        (λ broken. absurd (let whole = sound (change.honest clean) in cc)) (λ failed. omega (arith, quiet.counts, failed)) more);
+    closes = λ clean.
+        elim (change.closes clean) [ inl still ↦ inl still | inr failed ↦ inr (omega (arith, quiet.counts, failed)) ];
   }
 
   -- names that are written in another order
   pub reordered : (old new : S) (xs ys : List (Bor (List ℕ) × Bor (List ℕ))) (done : Result (Unit {0}) StoreError)
       → (IsHonest g old → IsOpen g old) → IsPermutation xs ys
       → WritesAll g old new (map entry_of ys) (Ok done) → WritesAll g old new (map entry_of xs) (Ok done)
-  reordered old new xs ys done was_open moved wrote =
+  reordered old new xs ys done was_open moved wrote before has =
       let back = IsPermutation-map entry_of ys xs (IsPermutation-sym xs ys moved) in
       let es = map entry_of ys in
       let fs = map entry_of xs in
-      record {
-        added = λ before has.
-            let (after, may, all, change) = wrote.added before has in (
-              after,
-              λ clean. elim (may clean) [
-                | inl as_before ↦ inl as_before
-                | inr adds ↦ inr (any_order es fs before after back adds)
-              ],
-              on_ok done all (λ f clean. any_order es fs before after back (f clean)),
-              changes_later old old new before after _ _ done (quiet_itself g old)
-                  (λ clean. has.1.sound clean (was_open clean)) (some_moved es fs back) change,
-            );
-        refused = λ before has. tt;
-        quiet = tt;
-      }
+      let (after, may, all, change) = wrote before has in (
+        after,
+        λ clean. elim (may clean) [
+          | inl as_before ↦ inl as_before
+          | inr adds ↦ inr (any_order es fs before after back adds)
+        ],
+        on_ok done all (λ f clean. any_order es fs before after back (f clean)),
+        changes_later (quiet_itself g old) (λ clean. has.1.sound clean (was_open clean)) (some_moved es fs back) change,
+      )
     where
       some_moved : (es fs : List (List ℕ × List ℕ)) → IsPermutation es fs → Any (λ e. IsLong e.0) es → Any (λ e. IsLong e.0) fs
       some_moved es fs back (k, e, within, is, long) =
           let (j, there, at) = Contains-permutation es fs e back (k, within, is) in (j, e, there, at, long)
 
-  -- names that are written after others were taken back
-  pub written_later : (old mid new : S) (es : List (List ℕ × List ℕ))
-      (r : Result (Result (Unit {0}) StoreError) (ℕ × AccountError)) → StaysQuiet g old mid
-      → ((names : Store) → HasNames g old names → HasNames g mid names)
-      → (IsHonest g mid → IsOpen g mid) → WritesAll g mid new es r → WritesAll g old new es r
-  written_later old mid new es (Ok done) quiet keeps is_open wrote = record {
-    added = λ before has.
-        let had = keeps before has in
-        let (after, may, all, change) = wrote.added before had in (
-          after,
-          may,
-          all,
-          changes_later old mid new before after _ _ done quiet (λ clean. had.1.sound clean (is_open clean)) (λ l. l) change,
-        );
-    refused = λ before has. tt;
-    quiet = tt;
-  }
-  written_later old mid new es (Err e) quiet keeps is_open wrote = record {
-    added = λ before has. tt;
-    refused = λ before has. wrote.refused before (keeps before has);
-    quiet = quiet_then g old mid new quiet wrote.quiet;
-  }
+  -- after others were written and taken back
+  module _ (old mid : S) {Q : Store → Type 0}
+      (refused : (names : Store) → HasNames g old names → HasNames g mid names × Q names × StaysQuiet g old mid) where
+    -- names are written
+    pub written_later : (new : S) (es : List (List ℕ × List ℕ)) (r : Result (Result (Unit {0}) StoreError) (ℕ × AccountError))
+        → (IsHonest g mid → IsOpen g mid) → WritesAll g mid new es r → WritesAll g old new es r
+    written_later new es (Ok done) is_open wrote before has =
+        let (had, first, quiet) = refused before has in
+        let (after, may, all, change) = wrote before had in
+        (after, may, all, changes_later quiet (λ clean. had.1.sound clean (is_open clean)) (λ l. l) change)
+    written_later new es (Err e) is_open wrote before has =
+        let (had, first, quiet) = refused before has in
+        let (names, refusal, later) = wrote before had in (names, refusal, quiet_then g old mid new quiet later)
 
-  -- names that are not written, since taking others back has closed the file
-  pub unwritten : (old new : S) (es : List (List ℕ × List ℕ))
-      → ((s : S) (db : Trees) → IsOpen g s → g.recovers s db → db ≡ (g.view s).committed) → StaysQuiet g old new
-      → ((names : Store) → HasNames g old names → HasNames g new names)
-      → (IsHonest g old → IsOpen g old) → (IsHonest g new → (g.view new).is_open ≡ false)
-      → WritesAll g old new es (Ok (Err Io))
-  unwritten old new es settled quiet keeps was_open shut = record {
-    added = λ before has. (
-      before,
-      λ clean. inl refl,
-      tt,
-      record {
-        honest = first;
-        kept = keeps before has;
-        crash = λ clean db found. (
+    -- or not, since that has closed the file
+    pub unwritten : (es : List (List ℕ × List ℕ)) → Settled g → (IsHonest g old → IsOpen g old)
+        → (IsHonest g mid → (g.view mid).is_open ≡ false) → WritesAll g old mid es (Ok (Err Io))
+    unwritten es settled was_open shut before has =
+        let (had, first, quiet) = refused before has in
+        let earlier : IsHonest g mid → IsHonest g old = λ clean. omega (arith, clean, quiet.clean) in (
           before,
-          subst (λ t. Holds t before) (sym (settled old db (was_open (first clean)) (quiet.outcomes db found)))
-              (has.1.committed (first clean) (was_open (first clean))),
-          inl refl,
-        );
-        durable = tt;
-        cause = λ clean. elim (quiet.closes clean (was_open (first clean))) [
-          | inl still ↦ absurd (let closed = shut clean in cc)
-          | inr failed ↦ failed
-        ];
-        closes = λ clean. quiet.closes clean (was_open (first clean));
-      },
-    );
-    refused = λ before has. tt;
-    quiet = tt;
-  }
-    where
-      first : IsHonest g new → IsHonest g old
-      first clean = omega (arith, clean, quiet.clean)
+          λ clean. inl refl,
+          tt,
+          record {
+            honest = earlier;
+            kept = had;
+            crash = λ clean db found.
+                let left = leaves_kept g old before (settled old) has.1 (earlier clean) (was_open (earlier clean)) db
+                (quiet.outcomes db found) in
+                (left.0, left.1, inl left.2);
+            durable = tt;
+            cause = λ clean. elim (quiet.closes clean (was_open (earlier clean))) [
+              | inl still ↦ absurd (let closed = shut clean in cc)
+              | inr failed ↦ failed
+            ];
+            closes = λ clean. quiet.closes clean (was_open (earlier clean));
+          },
+        )

@@ -1,32 +1,18 @@
 -- What a call on an account file does, where it is refused, writes nothing, or writes one name.
-use Rattle.std.proofs.Common.{arith, ◌≡◌, ◌⊎◌, inl, inr, ℕ, List, Option, Some, None, Result, Ok, Err, Bool, true, false, refl, sym, ap, subst, ◌∙◌, IsTrue}
-use Rattle.std.specs.FinMap.{get, insert}
-use Rattle.rand_core.specs.Stream.{Stream}
-use Rattle.std.specs.Option.{is_some, option_map}
-use Rattle.argon2_base.specs.PhcFields.{phc_of}
-use Rattle.argon2_base.specs.declared.phc.hash.PasswordHash.{PasswordHash}
-use Rattle.std.specs.Prelude.{◌↔◌, IsSome, IfErr, IfSome, IsErr, IsErrAnd, MatchResult, OnErr, OnOk, length}
-use Rattle.sqlite_trees.specs.Tree.{Trees}
-use Rattle.sqlite_trees.specs.declared.error.StoreError.{StoreError}
-use Rattle.sqlite_trees.specs.declared.error.StoreError.TheVariants as below
-use Rattle.sqlite_trees.specs.declared.store.Store.{Ghosts}
-use Rattle.sqlite_trees.specs.View as view
-use Rattle.argon2_base.specs.PhcText.{Phc}
-use Rattle.argon2_accounts.specs.Accounts.{AccountAnswer, AccountEvent, AccountStep, Admits, HasPassword, Terms, name_of}
-use Rattle.argon2.specs.NamedTexts.{Store}
-use Rattle.argon2_accounts.specs.declared.error.AccountError.{AccountError}
-use Rattle.argon2_accounts.specs.declared.error.AccountError.TheVariants.{NameUnknown}
-use Rattle.argon2.proofs.login_lemmas.Stores.{get-other, get-same}
-use Rattle.argon2_store.specs.AccountFile.{Answers, Call, DrawsForText, error_of, HasCause, HasFailed, HasNames, IfRefused, IsBeforeOrAfter, IsClosed, IsErrorAt, IsOfFile, Runs, Stays, store_of, terms_of}
-use Rattle.argon2_store.specs.Errors.{answered, read_of, unwritten}
-use Rattle.argon2_store.specs.Table as rows
-use Rattle.argon2_store.specs.Table.{Changes, IsHonest, IsLong, IsOpen, KeepsNames, Leaves, StaysQuiet, changed}
-use Rattle.argon2_store.specs.declared.account_file.AccountFile.{AccountFile}
-use Rattle.argon2_store.specs.declared.error.FileError.{FileError}
-use Rattle.argon2_store.specs.declared.error.FileError.TheVariants.{Account, OutOfMemory, TooLong, Closed}
-use Rattle.argon2_store.proofs.NameLemmas.{get-gone-other, get-gone-same}
-use Rattle.argon2_store.proofs.TableLemmas.{err_is, leaves_kept, more_earlier, on_all, quiet_itself}
+use Rattle.argon2_store.proofs.Imports.{arith, ◌≡◌, ◌⊎◌, inl, inr, ℕ, List, Option, Some, None, Result, Ok, Err, Bool, true, false, refl, sym, ap, subst, ◌∙◌, IsTrue, get, insert}
+use Rattle.argon2_store.proofs.Imports.{Stream, is_some, option_map, phc_of, PasswordHash, ◌↔◌, IsSome, IfErr, IfSome, IsErr, IsErrAnd, MatchResult, OnErr, OnOk, length}
+use Rattle.argon2_store.proofs.Imports.{StoreError, Ghosts, Phc, AccountAnswer, AccountEvent, AccountStep, Admits, HasPassword, Terms, name_of, Store, AccountError, NameUnknown}
+use Rattle.argon2_store.proofs.Imports.{get-other, get-same, Answers, Call, DrawsForText, error_of, HasFailed, IfRefused, IsBeforeOrAfter, IsClosed, IsErrorAt, IsOfFile, Runs}
+use Rattle.argon2_store.proofs.Imports.{Stays, store_of, terms_of, answered, read_of, unwritten, Changes, IsHonest, IsLong, IsOpen, KeepsNames, Leaves, StaysQuiet, changed}
+use Rattle.argon2_store.proofs.Imports.{AccountFile, FileError, Account, TooLong, Closed, err_is}
+use Rattle.argon2_store.specs.AccountFile.{HasCause, HasNames}
+use Rattle.argon2_store.specs.declared.error.FileError.TheVariants.{OutOfMemory}
+use Rattle.argon2_store.proofs.RowLemmas.{get-gone-other, get-gone-same}
+use Rattle.argon2_store.proofs.TableLemmas.{Settled, leaves_kept, on_all, quiet_itself}
 use Rattle.argon2_store.proofs.TextLemmas.{rows_of-once}
+use Rattle.sqlite_trees.specs.declared.error.StoreError.TheVariants as below
+use Rattle.sqlite_trees.specs.View as view
+use Rattle.argon2_store.specs.Table as rows
 
 pub open_of : (b : Bool) → (b ≡ false → ⊥) → IsTrue b
 open_of true h = refl
@@ -144,9 +130,7 @@ pub live_of : {S : Type 0} {g : Ghosts S} (old : AccountFile S g) {b : Bool}
 live_of old tests shut clean is = absurd (let hit = (tests clean).1 is in cc)
 
 -- a file that is closed
-pub shut_out : {S : Type 0} {g : Ghosts S}
-    → ((s : S) (db : Trees) → IsTrue (g.view s).is_open → g.recovers s db → db ≡ (g.view s).committed)
-    → (old : AccountFile S g) (before : Store) → HasNames old before
+pub shut_out : {S : Type 0} {g : Ghosts S} → Settled g → (old : AccountFile S g) (before : Store) → HasNames old before
     → {b : Bool} → (IsHonest g (store_of old) → IsTrue b ↔ IsClosed old) → b ≡ true → Stays (Some Closed) before old old
 shut_out {S} {g} settled old before has tests shut = record {
   has = has;
@@ -160,8 +144,7 @@ shut_out {S} {g} settled old before has tests shut = record {
 }
 
 -- a call that reads an open file
-pub reads_of : {S : Type 0} {g : Ghosts S} {X : Type 0}
-    → ((s : S) (db : Trees) → IsTrue (g.view s).is_open → g.recovers s db → db ≡ (g.view s).committed)
+pub reads_of : {S : Type 0} {g : Ghosts S} {X : Type 0} → Settled g
     → (old new : AccountFile S g) (names : Store) → HasNames old names → (IsHonest g (store_of old) → IsClosed old → ⊥)
     → terms_of new ≡ terms_of old → (done : Result X StoreError) → KeepsNames g (store_of old) (store_of new) names done
     → (r : Result X FileError) → r ≡ read_of done → Stays (error_of r) names old new
@@ -193,10 +176,8 @@ reads_of {g = g} {X = X} settled old new names has live terms done read r e = rw
         (λ b. let h : IsTrue (g.view (store_of old)).is_broken = b in cc) (λ more. more) f (read.cause clean))
 
 -- the store does nothing
-pub unread : {S : Type 0} {g : Ghosts S}
-    → ((s : S) (db : Trees) → IsTrue (g.view s).is_open → g.recovers s db → db ≡ (g.view s).committed)
-    → (old : AccountFile S g) (before : Store) → HasNames old before → (IsHonest g (store_of old) → IsClosed old → ⊥)
-    → Stays None before old old
+pub unread : {S : Type 0} {g : Ghosts S} → Settled g → (old : AccountFile S g) (before : Store) → HasNames old before
+    → (IsHonest g (store_of old) → IsClosed old → ⊥) → Stays None before old old
 unread {S} {g} settled old before has live = record {
   has = has;
   terms = refl;
@@ -209,23 +190,30 @@ unread {S} {g} settled old before has live = record {
 }
 
 -- A call on a file that is not closed, which has read it.
-module _ {S : Type 0} {g : Ghosts S}
-    (settled : (s : S) (db : Trees) → IsTrue (g.view s).is_open → g.recovers s db → db ≡ (g.view s).committed)
-    (old mid : AccountFile S g) (before : Store) (reads : Stays None before old mid) {X : Type 0} (answers : Result X FileError → Store → Type 0) (May : Store → Type 0)
-    (long : Type 0) where
+module _ {S : Type 0} {g : Ghosts S} {old mid : AccountFile S g} {before : Store} (reads : Stays None before old mid) where
   live : IsHonest g (store_of old) → IsClosed old → ⊥
   live clean is = let never = (reads.closed clean is).0 in cc
 
   was_honest : IsHonest g (store_of mid) → IsHonest g (store_of old)
   was_honest clean = omega (arith, clean, reads.quiet.clean)
 
-  was_open : IsHonest g (store_of mid) → IsOpen g (store_of old)
-  was_open clean = open_of _ (live (was_honest clean))
+  may_leave : {May : Store → Type 0} (new : AccountFile S g) {to : Store} → May before → (IsHonest g (store_of new) → May to)
+      → (IsHonest g (store_of new) → Leaves g (store_of new) (λ left. (left ≡ before) ⊎ (left ≡ to)))
+      → IsHonest g (store_of new) → Leaves g (store_of new) May
+  may_leave {May} new first then crash clean db found =
+      let left = crash clean db found in
+      (left.0, left.1, elim left.2 [ inl b ↦ subst May (sym b) first | inr a ↦ subst May (sym a) (then clean) ])
+
+  closes_then : (new : AccountFile S g) → (IsHonest g (store_of new) → IsOpen g (store_of new) ⊎ HasFailed mid new)
+      → IsHonest g (store_of new) → IsOpen g (store_of new) ⊎ HasFailed old new
+  closes_then new closes clean =
+      elim (closes clean) [ inl yet ↦ inl yet | inr more ↦ inr (omega (arith, reads.quiet.counts, more)) ]
 
   -- nothing is written
-  pub writes_none : May before → (r : Result X FileError) → (IsHonest g (store_of mid) → answers r before)
+  pub writes_none : {X : Type 0} {answers : Result X FileError → Store → Type 0} {May : Store → Type 0} {long : Type 0}
+      → May before → (r : Result X FileError) → (IsHonest g (store_of mid) → answers r before)
       → IfErr r (λ f. (e : AccountError) × (f ≡ Account e)) → Runs answers May long r old mid before before
-  writes_none may r step why = record {
+  writes_none {May = May} {long = long} may r step why = record {
     has = reads.has;
     step = step;
     terms = reads.terms;
@@ -234,35 +222,20 @@ module _ {S : Type 0} {g : Ghosts S}
     refused = refused_same r why reads.quiet;
     crash = λ clean is_open db found.
         let left = reads.left clean is_open db found in (left.0, left.1, subst May (sym left.2) may);
-    durable = on_all r (λ clean. reads.left clean (was_open clean));
+    durable = on_all r (λ clean. reads.left clean (open_of _ (live (was_honest clean))));
     closed = λ clean h. absurd (live clean h);
     closes = λ clean is_open. inl (reads.is_open refl clean);
     cause = λ clean. refused_cause _ _ long r why;
   }
 
-  may_leave : (new : AccountFile S g) (to : Store) → May before → (IsHonest g (store_of new) → May to)
-      → (IsHonest g (store_of new) → Leaves g (store_of new) (λ left. (left ≡ before) ⊎ (left ≡ to)))
-      → IsHonest g (store_of new) → Leaves g (store_of new) May
-  may_leave new to first then crash clean db found =
-      let left = crash clean db found in
-      (left.0, left.1, elim left.2 [ inl b ↦ subst May (sym b) first | inr a ↦ subst May (sym a) (then clean) ])
-
-  closes_then : (new : AccountFile S g) → (IsHonest g (store_of new) → IsOpen g (store_of new) ⊎ HasFailed mid new)
-      → IsHonest g (store_of new) → IsOpen g (store_of new) ⊎ HasFailed old new
-  closes_then new closes clean = elim (closes clean) [
-    | inl yet ↦ inl yet
-    | inr more ↦ inr (more_earlier (g.faults (store_of old)) (g.faults (store_of mid)) (g.faults (store_of new))
-        reads.quiet.counts
-        more)
-  ]
-
   -- names are written, or stay as they were
-  pub writes_all : (new : AccountFile S g) (to : Store) (x : X) → terms_of new ≡ terms_of mid
+  pub writes_all : {X : Type 0} {answers : Result X FileError → Store → Type 0} {May : Store → Type 0} {long : Type 0}
+      {new : AccountFile S g} {to : Store} (x : X) → terms_of new ≡ terms_of mid
       → ((e : StoreError) → answers (Err (unwritten e)) before) → May before → (IsHonest g (store_of new) → May to)
       → (done : Result (Unit {0}) StoreError) → OnOk done (IsHonest g (store_of new) → answers (Ok x) to)
       → Changes g (store_of mid) (store_of new) before to long done
       → (r : Result X FileError) → r ≡ answered done x → (after : Store) × Runs answers May long r old new before after
-  writes_all new to x same failed first then (Ok _) step change r e = (
+  writes_all {new = new} {to = to} x same failed first then (Ok _) step change r e = (
     to,
     rw e (record {
       has = change.kept;
@@ -271,14 +244,14 @@ module _ {S : Type 0} {g : Ghosts S}
       honest = λ clean. was_honest (change.honest clean);
       unchanged = tt;
       refused = tt;
-      crash = λ clean is_open. may_leave new to first then change.crash clean;
+      crash = λ clean is_open. may_leave new first then change.crash clean;
       durable = λ clean. (change.durable clean).1;
       closed = λ clean h. absurd (live clean h);
       closes = λ clean is_open. closes_then new change.closes clean;
       cause = λ clean. tt;
     }),
   )
-  writes_all new to x same failed first then (Err f) step change r e = (
+  writes_all {new = new} x same failed first then (Err f) step change r e = (
     before,
     rw e (record {
       has = change.kept;
@@ -287,7 +260,7 @@ module _ {S : Type 0} {g : Ghosts S}
       honest = λ clean. was_honest (change.honest clean);
       unchanged = refl;
       refused = unread_refused _ (unwritten f) (is_of_file f);
-      crash = λ clean is_open. may_leave new to first then change.crash clean;
+      crash = λ clean is_open. may_leave new first then change.crash clean;
       durable = tt;
       closed = λ clean h. absurd (live clean h);
       closes = λ clean is_open. closes_then new change.closes clean;
@@ -296,78 +269,59 @@ module _ {S : Type 0} {g : Ghosts S}
           let sound = reads.has.1.sound first (reads.is_open refl first) in
           unwritten_cause (g.view (store_of mid)) _ _ _ _
           (λ b. let h : IsTrue (g.view (store_of mid)).is_broken = b in cc)
-          (more_earlier (g.faults (store_of old)) (g.faults (store_of mid)) (g.faults (store_of new)) reads.quiet.counts)
-          f (change.cause clean);
+          (λ more. omega (arith, reads.quiet.counts, more)) f (change.cause clean);
     }),
   )
 
 -- A call on a name that has this text or none, in a file that is not closed.
-module _ {S : Type 0} {g : Ghosts S}
-    (settled : (s : S) (db : Trees) → IsTrue (g.view s).is_open → g.recovers s db → db ≡ (g.view s).committed)
-    {X : Type 0} (call : Call X) (name : List ℕ) (calls : (answer : Result X AccountError) → name_of (call answer) ≡ name)
-    (old mid : AccountFile S g) (before : Store) (reads : Stays None before old mid) where
-  abbrev answers : Result X FileError → Store → Type 0
-  answers = Answers (terms_of old) before call
-
-  abbrev May : Store → Type 0
-  May = IsBeforeOrAfter X (terms_of old) before call
-
-  abbrev long : Type 0
-  long = IsLong (name_of (call (Err NameUnknown)))
-
+module _ {S : Type 0} {g : Ghosts S} {X : Type 0} (call : Call X) {name : List ℕ}
+    (calls : (answer : Result X AccountError) → name_of (call answer) ≡ name)
+    {old mid : AccountFile S g} {before : Store} (reads : Stays None before old mid) where
   -- the call runs, with some names after it
   abbrev Ends : Result X FileError → AccountFile S g → Type 0
-  Ends r new = (after : Store) × Runs answers May long r old new before after
+  Ends r new = (after : Store) × Runs (Answers (terms_of old) before call) (IsBeforeOrAfter X (terms_of old) before call)
+      (IsLong (name_of (call (Err NameUnknown)))) r old new before after
 
   module _ {found o : Option Phc} (shows : HasNames mid before → IsHonest g (store_of mid) → get before name ≡ found)
       (is : found ≡ o) where
-    now_has : (answer : Result X AccountError) → IsHonest g (store_of mid) → get before (name_of (call answer)) ≡ o
-    now_has answer clean = ap (get before) (calls answer) ∙ (shows reads.has clean ∙ is)
-
     under_old : (answer : Result X AccountError) (p : Option Phc) → AccountAnswer (terms_of mid) (call answer) o p
-        → AccountAnswer (terms_of old) (call answer) o p
-    under_old answer p = subst (λ (t : Terms). AccountAnswer t (call answer) o p) reads.terms
+        → IsHonest g (store_of mid) → AccountAnswer (terms_of old) (call answer) (get before (name_of (call answer))) p
+    under_old answer p step clean = subst (λ q. AccountAnswer (terms_of old) (call answer) q p)
+        (sym (ap (get before) (calls answer) ∙ (shows reads.has clean ∙ is)))
+        (subst (λ (t : Terms). AccountAnswer t (call answer) o p) reads.terms step)
 
     stays : (answer : Result X AccountError) → AccountAnswer (terms_of mid) (call answer) o o → IsHonest g (store_of mid)
         → AccountStep (terms_of old) before (call answer) before
-    stays answer same clean =
-        let here = subst (λ (p : Option Phc). AccountAnswer (terms_of old) (call answer) p p) (sym (now_has answer clean))
-        (under_old answer o same) in
-        (here, λ other differs. refl)
+    stays answer same clean = (
+      subst (AccountAnswer (terms_of old) (call answer) (get before (name_of (call answer))))
+          (sym (ap (get before) (calls answer) ∙ (shows reads.has clean ∙ is))) (under_old answer o same clean),
+      λ other differs. refl,
+    )
 
     -- a call that the accounts refuse
     pub refuses : (e : AccountError) (r : Result X FileError) → IsErrAnd r (λ f. f ≡ Account e)
         → AccountAnswer (terms_of mid) (call (Err e)) o o → Ends r mid
-    refuses e r failed answer = rw (err_is r (Account e) failed) (
-      before,
-      writes_none settled old mid before reads answers May
-          long (inl refl) (Err (Account e)) (stays (Err e) answer) (e, refl),
-    )
+    refuses e r failed answer =
+        rw (err_is r (Account e) failed) (before, writes_none reads (inl refl) (Err (Account e)) (stays (Err e) answer) (e, refl))
 
     -- an accepted call that writes nothing
     pub accepts : (x : X) → AccountAnswer (terms_of mid) (call (Ok x)) o o → Ends (Ok x) mid
-    accepts x answer = (
-      before,
-      writes_none settled old mid before reads answers May long (inl refl) (Ok x)
-          (stays (Ok x) answer) tt,
-    )
+    accepts x answer = (before, writes_none reads (inl refl) (Ok x) (stays (Ok x) answer) tt)
 
     moves_to : (p : Option Phc) (x : X) → AccountAnswer (terms_of mid) (call (Ok x)) o p → IsHonest g (store_of mid)
         → AccountStep (terms_of old) before (call (Ok x)) (changed before name p)
     moves_to p x answer clean =
         subst (λ (n : List ℕ). AccountStep (terms_of old) before (call (Ok x)) (changed before n p)) (calls (Ok x))
-        (step_of (terms_of old) before (call (Ok x)) p
-        (subst (λ (q : Option Phc). AccountAnswer (terms_of old) (call (Ok x)) q p) (sym (now_has (Ok x) clean))
-        (under_old (Ok x) p answer)))
+        (step_of (terms_of old) before (call (Ok x)) p (under_old (Ok x) p answer clean))
 
     -- an accepted call that could not write its name's text, where the file is still open
-    pub keeps : (new : AccountFile S g) (p : Option Phc) (did x : X) → terms_of new ≡ terms_of mid
+    pub keeps : Settled g → {new : AccountFile S g} (p : Option Phc) (did x : X) → terms_of new ≡ terms_of mid
         → AccountAnswer (terms_of mid) (call (Ok did)) o p → AccountAnswer (terms_of mid) (call (Ok x)) o o
         → (done : Result (Unit {0}) StoreError) → IsErr done
         → Changes g (store_of mid) (store_of new) before (changed before name p) (IsLong name) done
         → {later : Bool} → (IsHonest g (store_of new) → IsTrue later ↔ IsClosed new) → later ≡ false → Ends (Ok x) new
-    keeps new p did x same wrote answer (Ok _) failed change tests shut = absurd cc
-    keeps new p did x same wrote answer (Err f) failed change tests shut =
+    keeps settled p did x same wrote answer (Ok _) failed change tests shut = absurd cc
+    keeps settled {new} p did x same wrote answer (Err f) failed change tests shut =
         let is_open : IsHonest g (store_of new) → IsOpen g (store_of new) = λ clean.
         open_of _ (λ is. absurd (let hit = (tests clean).1 is in cc)) in (
           before,
@@ -375,44 +329,41 @@ module _ {S : Type 0} {g : Ghosts S}
             has = change.kept;
             step = λ clean. stays (Ok x) answer (change.honest clean);
             terms = same ∙ reads.terms;
-            honest = λ clean. was_honest settled old mid before reads answers May long (change.honest clean);
+            honest = λ clean. was_honest reads (change.honest clean);
             unchanged = tt;
             refused = tt;
-            crash = λ clean was_open. may_leave settled old mid before reads answers May long new (changed before name p)
-                (inl refl) (λ now. inr (did, moves_to p did wrote (change.honest now))) change.crash clean;
+            crash = λ clean was_open. may_leave reads new (inl refl) (λ now. inr (did, moves_to p did wrote (change.honest now)))
+                change.crash clean;
             durable = λ clean. leaves_kept g (store_of new) before (settled (store_of new)) change.kept.1 clean (is_open clean);
-            closed = λ clean h. absurd (live settled old mid before reads answers May long clean h);
+            closed = λ clean h. absurd (live reads clean h);
             closes = λ clean was_open. inl (is_open clean);
             cause = λ clean. tt;
           },
         )
 
     -- an accepted call that writes its name's text
-    pub writes : (new : AccountFile S g) (p : Option Phc) (x : X) → terms_of new ≡ terms_of mid
+    pub writes : {new : AccountFile S g} (p : Option Phc) (x : X) → terms_of new ≡ terms_of mid
         → AccountAnswer (terms_of mid) (call (Ok x)) o p → (done : Result (Unit {0}) StoreError)
         → Changes g (store_of mid) (store_of new) before (changed before name p) (IsLong name) done
         → (r : Result X FileError) → r ≡ answered done x → Ends r new
-    writes new p x same answer done change r e =
-        let to = changed before name p in
-        let moves : IsHonest g (store_of new) → AccountStep (terms_of old) before (call (Ok x)) to = λ clean.
-        moves_to p x answer (change.honest clean) in
-        writes_all settled old mid before reads answers May long new to x same
-        (λ f. unread_step X (terms_of old) before call (unwritten f) (is_of_file f)) (inl refl) (λ clean. inr (x, moves clean)) done
-        (on_all done moves)
-        (subst (λ (n : List ℕ). Changes g (store_of mid) (store_of new) before to (IsLong n) done)
+    writes {new} p x same answer done change r e =
+        let moves : IsHonest g (store_of new) → AccountStep (terms_of old) before (call (Ok x)) (changed before name p) =
+        λ clean. moves_to p x answer (change.honest clean) in
+        writes_all reads x same (λ f. unread_step X (terms_of old) before call (unwritten f) (is_of_file f)) (inl refl)
+        (λ clean. inr (x, moves clean)) done (on_all done moves)
+        (subst (λ (n : List ℕ). Changes g (store_of mid) (store_of new) before (changed before name p) (IsLong n) done)
         (sym (calls (Err NameUnknown))) change) r e
 
 -- a call with an error that leaves the names
-pub ends_with : {S : Type 0} {g : Ghosts S} {X : Type 0}
-    → ((s : S) (db : Trees) → IsTrue (g.view s).is_open → g.recovers s db → db ≡ (g.view s).committed)
-    → (answers : Result X FileError → Store → Type 0) (May : Store → Type 0) (long : Type 0) (old new : AccountFile S g)
-    (before : Store) (e : FileError) → HasNames old before → HasNames new before → terms_of new ≡ terms_of old
+pub ends_with : {S : Type 0} {g : Ghosts S} {X : Type 0} → Settled g
+    → {answers : Result X FileError → Store → Type 0} {May : Store → Type 0} {long : Type 0} {old new : AccountFile S g}
+    {before : Store} {e : FileError} → HasNames old before → HasNames new before → terms_of new ≡ terms_of old
     → StaysQuiet g (store_of old) (store_of new) → (IsHonest g (store_of new) → answers (Err e) before) → May before
     → IfRefused (StaysQuiet g (store_of old) (store_of new)) e
     → (IsHonest g (store_of old) → IsClosed old → (e ≡ Closed) × (store_of new ≡ store_of old))
     → (IsHonest g (store_of new) → HasCause (IsClosed old) (HasFailed old new) long e)
     → Runs answers May long (Err e) old new before before
-ends_with {g = g} settled answers May long old new before e had has terms quiet step may refused closed cause = record {
+ends_with {g = g} settled {May = May} {old = old} {before = before} had has terms quiet step may refused closed cause = record {
   has = has;
   step = step;
   terms = terms;
@@ -421,8 +372,7 @@ ends_with {g = g} settled answers May long old new before e had has terms quiet 
   refused = refused;
   crash = λ clean is_open db found.
       let left = leaves_kept g (store_of old) before (settled (store_of old)) had.1 (omega (arith, clean, quiet.clean))
-      is_open db
-      (quiet.outcomes db found) in
+      is_open db (quiet.outcomes db found) in
       (left.0, left.1, subst May (sym left.2) may);
   durable = tt;
   closed = λ clean is. let h = closed clean is in (ap Err h.0, h.1);
@@ -431,46 +381,39 @@ ends_with {g = g} settled answers May long old new before e had has terms quiet 
 }
 
 -- a call on a file that can't be read
-pub fails : {S : Type 0} {g : Ghosts S} {X : Type 0}
-    → ((s : S) (db : Trees) → IsTrue (g.view s).is_open → g.recovers s db → db ≡ (g.view s).committed)
-    → (answers : Result X FileError → Store → Type 0) (May : Store → Type 0) (long : Type 0) (old mid : AccountFile S g)
-    (before : Store) (e : FileError) → HasNames old before → answers (Err e) before → May before → Stays (Some e) before old mid
+pub fails : {S : Type 0} {g : Ghosts S} {X : Type 0} → Settled g
+    → {answers : Result X FileError → Store → Type 0} {May : Store → Type 0} {long : Type 0} {old mid : AccountFile S g}
+    {before : Store} {e : FileError} → HasNames old before → answers (Err e) before → May before → Stays (Some e) before old mid
     → Runs answers May long (Err e) old mid before before
-fails {g = g} settled answers May long old mid before e had step may reads =
-    ends_with {g = g} settled answers May long old mid before e had reads.has reads.terms reads.quiet (λ clean. step) may
-    (unread_refused _ e reads.of_file) (λ clean is. let shut = reads.closed clean is in (cc, shut.1)) (λ clean. unread_cause _ _ long e (reads.cause clean))
+fails settled {long = long} {e = e} had step may reads =
+    ends_with settled had reads.has reads.terms reads.quiet (λ clean. step) may (unread_refused _ e reads.of_file)
+    (λ clean is. let shut = reads.closed clean is in (cc, shut.1)) (λ clean. unread_cause _ _ long e (reads.cause clean))
 
 -- and one on a name in it
-pub cannot_serve : {S : Type 0} {g : Ghosts S} {X : Type 0}
-    → ((s : S) (db : Trees) → IsTrue (g.view s).is_open → g.recovers s db → db ≡ (g.view s).committed)
-    → (call : Call X) (old mid : AccountFile S g) (before : Store) → HasNames old before
-    → (e : FileError) (r : Result X FileError) → IsErrAnd r (λ f. f ≡ e) → Stays (Some e) before old mid
+pub cannot_serve : {S : Type 0} {g : Ghosts S} {X : Type 0} → Settled g → (call : Call X) {old mid : AccountFile S g} {before : Store} → HasNames old before
+    → {e : FileError} (r : Result X FileError) → IsErrAnd r (λ f. f ≡ e) → Stays (Some e) before old mid
     → (after : Store) × Runs (Answers (terms_of old) before call) (IsBeforeOrAfter X (terms_of old) before call)
     (IsLong (name_of (call (Err NameUnknown)))) r old mid before after
-cannot_serve {X = X} settled call old mid before has e r is reads = rw (err_is r e is) (
-  before,
-  fails settled _ _ _ old mid
-      before e has
-      (unread_step X (terms_of old) before call e reads.of_file) (inl refl) reads,
-)
+cannot_serve {X = X} settled call {old = old} {before = before} has {e} r is reads = rw (err_is r e is)
+    (before, fails settled has (unread_step X (terms_of old) before call e reads.of_file) (inl refl) reads)
 
 -- ---- the password of a name
 
 -- the name has a text that was written, and a password that it admits
-pub has_written : {S : Type 0} (g : Ghosts S) (s new : S) (terms : Terms) (before after : Store) (name password : List ℕ)
-    (v : Phc) (long : Type 0) {X : Type 0} (x : X) (done : Result (Unit {0}) StoreError)
+pub has_written : {S : Type 0} {g : Ghosts S} {s new : S} (terms : Terms) {before after : Store}
+    (name password : List ℕ) {v : Phc} {long : Type 0} {X : Type 0} (x : X) (done : Result (Unit {0}) StoreError)
     → Changes g s new before (insert before name v) long done → rows.HasNames g new after → Admits terms password v
     → (r : Result X FileError) → r ≡ answered done x → OnOk r (IsHonest g new → HasPassword terms after name password)
-has_written g s new terms before after name password v long x (Ok _) change has admits r e = rw e (λ clean.
+has_written {g = g} {new = new} terms {before} {after} name password {v} x (Ok _) change has admits r e = rw e (λ clean.
     let same = same_names g new (insert before name v) after change.kept has clean (change.durable clean).0 in
     subst (λ names. HasPassword terms names name password) same (rw (get-same before name v) admits))
-has_written g s new terms before after name password v long x (Err f) change has admits r e = rw e tt
+has_written terms name password x (Err f) change has admits r e = rw e tt
 
 -- the name still has its text, which admits the password
-pub has_kept : {S : Type 0} (g : Ghosts S) (new : S) (terms : Terms) (before after : Store) (name password : List ℕ) (v : Phc)
-    → rows.HasNames g new before → rows.HasNames g new after → (IsHonest g new → IsOpen g new)
+pub has_kept : {S : Type 0} {g : Ghosts S} {new : S} (terms : Terms) {before after : Store}
+    (name password : List ℕ) {v : Phc} → rows.HasNames g new before → rows.HasNames g new after → (IsHonest g new → IsOpen g new)
     → (IsHonest g new → get before name ≡ Some v) → Admits terms password v
     → IsHonest g new → HasPassword terms after name password
-has_kept g new terms before after name password v has held is_open had admits clean =
+has_kept {g = g} {new = new} terms {before} {after} name password has held is_open had admits clean =
     let same = same_names g new before after has held clean (is_open clean) in
     subst (λ names. HasPassword terms names name password) same (rw (had clean) admits)

@@ -1,13 +1,9 @@
 pub mod AddLemmas
-pub mod ChainLemmas
 pub mod FileLemmas
+pub mod Imports
 pub mod LineLemmas
-pub mod LoadLemmas
-pub mod NameLemmas
 pub mod OpenLemmas
 pub mod RowLemmas
 pub mod RunLemmas
-pub mod SeekLemmas
 pub mod TableLemmas
 pub mod TextLemmas
-pub mod Utf8Lemmas

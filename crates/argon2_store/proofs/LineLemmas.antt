@@ -1,22 +1,10 @@
 -- Rows of names, one by one, and their lines.
-use Rattle.std.proofs.Common.{◌≡◌, ℕ, List, [], ◌∷◌, ◌++◌, map, append_assoc, append-nil, Option, Some, None, true, false, refl, sym, ap, subst, ◌∙◌}
-use Rattle.std.specs.FinMap.{entries}
+use Rattle.argon2_store.proofs.Imports.{◌≡◌, ℕ, List, [], ◌∷◌, ◌++◌, map, append_assoc, append-nil, Option, Some, None, true, false, refl, sym, ap, subst, ◌∙◌, entries, is_some}
+use Rattle.argon2_store.proofs.Imports.{IfSome, Row, phc_of, Phc, PasswordHash, Store, plain, Shape, Index, Forward, order_of, sought, Advances, with_cursor, IsAccount, line}
+use Rattle.argon2_store.proofs.Imports.{lines, lines_of, row_of, rows_of}
 use Rattle.std.specs.Io.KnownBytes.{Appends, Keeps}
-use Rattle.std.specs.Option.{is_some}
-use Rattle.std.specs.Prelude.{IfSome}
-use Rattle.sqlite_value.specs.Order.{Row}
-use Rattle.argon2_base.specs.PhcFields.{phc_of}
-use Rattle.argon2_base.specs.PhcText.{Phc}
-use Rattle.argon2_base.specs.declared.phc.hash.PasswordHash.{PasswordHash}
-use Rattle.argon2.specs.NamedTexts.{Store}
-use Rattle.sqlite_value.specs.Keys.{plain}
-use Rattle.sqlite_trees.specs.declared.store.Shape.{Shape}
-use Rattle.sqlite_trees.specs.declared.store.Shape.TheVariants.{Index}
-use Rattle.sqlite_trees.specs.declared.store.Direction.TheVariants.{Forward}
-use Rattle.sqlite_trees.specs.Tree.{order_of, sought}
-use Rattle.sqlite_trees.specs.View.{View as Shown, Advances, with_cursor}
-use Rattle.argon2_store.proofs.LoadLemmas.{from_none}
-use Rattle.argon2_store.specs.Rows.{IsAccount, line, lines, lines_of, row_of, rows_of}
+use Rattle.sqlite_trees.specs.View.{View as Shown}
+use Rattle.argon2_store.proofs.RowLemmas.{from_none}
 use Rattle.argon2_store.specs.declared.view.View.{View}
 
 pub an_account : (row : Row) (o : Option PasswordHash) → is_some o ≡ true

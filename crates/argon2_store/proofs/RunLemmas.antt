@@ -1,28 +1,14 @@
 -- What calls make of a file, and what an open finds after them.
-use Rattle.std.proofs.Common.{arith, ◌≡◌, ℕ, Bool, true, false, List, [], ◌∷◌, ◌++◌, map, Result, Ok, Err, inl, inr, refl, sym, subst, ◌∙◌, append_assoc, IsTrue}
-use Rattle.std.proofs.lemmas.List.{reverse-append}
-use Rattle.std.proofs.Math.Logic.{∥∥₁_elim, ∥∥₁_map}
-use Rattle.std.specs.List.{flat_map}
-use Rattle.std.specs.Prelude.{◌⊎◌, Option, IsSome}
-use Rattle.sqlite_disk.specs.declared.Disk as disk
-use Rattle.sqlite_wal.proofs.LogLemmas.{SeenMayStay}
-use Rattle.sqlite_store.specs.Laws.{settled_at}
-use Rattle.sqlite_store.specs.declared.store.FileStore.{FileStore}
-use Rattle.sqlite_trees.specs.Tree.{Trees}
-use Rattle.sqlite_trees.specs.declared.store.Store.{Ghosts}
-use Rattle.argon2_accounts.specs.Accounts.{AccountEvent, AccountRun, AccountStep, AreTerms, Terms, adding}
-use Rattle.argon2.specs.NamedTexts.{Store}
-use Rattle.argon2_store.specs.AccountFile.{AddsOrNone, Call, HasNames, IsBeforeOrAfter, IsClosed, IsReady, Runs, Serves, Stays, store_of, terms_of}
-use Rattle.argon2_store.specs.Adding.{AddsAll}
-use Rattle.argon2_store.specs.Rows.{AreTexts}
-use Rattle.argon2_store.specs.Runs.{AreEventsOf, Did, Does, EndsRun, FileCall, IsFoundAfter, IsLate, IsLateEvent, IsLateOf, IsShutOut, Run, add_all, added, event_of, events_of, login, on_name, over_file, reads}
-use Rattle.argon2_store.specs.Table.{IsHonest, IsOpen, Leaves, StaysQuiet}
-use Rattle.argon2_store.specs.declared.account_file.AccountFile.{AccountFile}
-use Rattle.argon2_store.specs.declared.error.FileError.{FileError}
-use Rattle.argon2_store.specs.declared.error.FileError.TheVariants.{Account, Closed}
-use Rattle.argon2_store.proofs.TableLemmas.{leaves_kept}
-use Rattle.argon2_store.proofs.ChainLemmas.{next_open}
+use Rattle.argon2_store.proofs.Imports.{arith, ◌≡◌, ℕ, Bool, true, false, List, [], ◌∷◌, ◌++◌, map, Result, Ok, Err, inl, inr, refl, sym, subst, ◌∙◌, append_assoc, reverse-append}
+use Rattle.argon2_store.proofs.Imports.{∥∥₁_elim, ∥∥₁_map, flat_map, ◌⊎◌, Option, IsSome, SeenMayStay, settled_at, FileStore, Trees, Ghosts, AccountEvent, AccountRun, AccountStep}
+use Rattle.argon2_store.proofs.Imports.{AreTerms, Terms, adding, Store, AddsOrNone, Call, IsBeforeOrAfter, IsClosed, Runs, Serves, Stays, store_of, terms_of, AddsAll, AreTexts}
+use Rattle.argon2_store.proofs.Imports.{AreEventsOf, Did, Does, EndsRun, FileCall, IsFoundAfter, IsLate, IsLateEvent, IsLateOf, IsShutOut, Run, add_all, added, event_of, events_of}
+use Rattle.argon2_store.proofs.Imports.{login, on_name, over_file, reads, IsHonest, IsOpen, Leaves, StaysQuiet, AccountFile, FileError, Account, Closed}
+use Rattle.argon2_store.specs.AccountFile.{HasNames, IsReady}
+use Rattle.argon2_store.proofs.TableLemmas.{Settled, leaves_kept}
+use Rattle.argon2_store.proofs.OpenLemmas.{next_open}
 use Rattle.argon2_store.proofs.TextLemmas.{rows_of-once, step_texts}
+use Rattle.sqlite_disk.specs.declared.Disk as disk
 
 -- ---- events
 
@@ -49,9 +35,7 @@ added_run terms (e ∷ es) before after (mid, step, adds) =
 
 -- ---- calls
 
-module _ {S : Type 0} {g : Ghosts S}
-    (settled : (s : S) (db : Trees) → IsTrue (g.view s).is_open → g.recovers s db → db ≡ (g.view s).committed)
-    (terms : Terms) (first : Store) where
+module _ {S : Type 0} {g : Ghosts S} (settled : Settled g) (terms : Terms) (first : Store) where
   -- what these events made of the first names, and what a crash leaves: that, or some that come late too
   pub record Reached (events : List AccountEvent) (Late : List AccountEvent → Type 0) (file : AccountFile S g) : Type 0 where
     pub names : Store
@@ -141,15 +125,16 @@ module _ {S : Type 0} {g : Ghosts S}
         (λ clean is_closed. let (shut, same) = does.closed (does.honest clean) is_closed in
         (shut, λ db found. subst (λ s. g.recovers s db) same found))
 
+    -- one event
+    one : (event : AccountEvent) (left : Store) → AccountStep (terms_of old) before.names event left
+        → AccountRun terms before.names (event ∷ []) left
+    one event left step = (before.names, refl, subst (λ t. AccountStep t before.names event left) before.under step)
+
     late_call : {X : Type 0} (call : Call X) (left : Store) → IsBeforeOrAfter X (terms_of old) before.names call left
         → (left ≡ before.names) ⊎ ((late : List AccountEvent) × ((x : X) × (late ≡ call (Ok x) ∷ []))
         × AccountRun terms before.names late left)
     late_call call left (inl is) = inl is
-    late_call call left (inr (x, step)) = inr (
-      call (Ok x) ∷ [],
-      (x, refl),
-      (before.names, refl, subst (λ t. AccountStep t before.names (call (Ok x)) left) before.under step),
-    )
+    late_call call left (inr (x, step)) = inr (call (Ok x) ∷ [], (x, refl), one (call (Ok x)) left step)
 
     late_names : (es : List (List ℕ × List ℕ)) (left : Store) → (left ≡ before.names) ⊎ AddsAll before.names es left
         → (left ≡ before.names) ⊎ ((late : List AccountEvent) × (late ≡ added es) × AccountRun terms before.names late left)
@@ -169,22 +154,11 @@ module _ {S : Type 0} {g : Ghosts S}
     serves call (Ok x) serve =
         let (after, does) = serve before.names before.has in
         lasts (λ late. ⊥) _ (call (Ok x) ∷ []) after does.has does.terms does.honest
-        (λ clean. (
-          before.names,
-          refl,
-          subst (λ t. AccountStep t before.names (call (Ok x)) after) before.under
-              (does.step clean),
-        ))
-        does.durable
+        (λ clean. one (call (Ok x)) after (does.step clean)) does.durable
     serves call (Err (Account e)) serve =
         let (after, does) = serve before.names before.has in
         lasts (λ late. ⊥) _ (call (Err e) ∷ []) after does.has does.terms does.honest
-        (λ clean. (
-          before.names,
-          refl,
-          subst (λ t. AccountStep t before.names (call (Err e)) after) before.under
-              (does.step clean),
-        ))
+        (λ clean. one (call (Err e)) after (does.step clean))
         (λ clean. open_or_not
         (λ is_open db found.
         let (names, has, is) = refused_left does.refused (does.honest clean) is_open db found in

@@ -1,29 +1,13 @@
 -- What the rows of a table are after each step of a change.
-use Rattle.std.proofs.Common.{◌≡◌, ℕ, ◌≤◌, List, Option, Some, None, Result, Ok, Err, Bool, true, false, cond, refl, sym, ap, ap₂, subst, ◌∙◌, IsTrue, arith, inl, inr}
-use Rattle.std.specs.Prelude.{◌⊎◌, All, IsErrAnd, IfErr, IfOk, IfSome, MatchResult, OnOk}
-use Rattle.std.specs.Coded.{Coded-set}
-use Rattle.std.specs.Str.{bytes_eq}
-use Rattle.std.proofs.Math.Logic.{∥∥₁_elim, ∥∥₁_map}
+use Rattle.argon2_store.proofs.Imports.{◌≡◌, ℕ, ◌≤◌, List, Option, Some, None, Result, Ok, Err, Bool, true, false, refl, sym, ap, ap₂, subst, ◌∙◌, IsTrue, arith, inl, inr, ◌⊎◌}
+use Rattle.argon2_store.proofs.Imports.{All, IfErr, IfOk, MatchResult, OnOk, Coded-set, ∥∥₁_elim, ∥∥₁_map, remove, MoreFaults, plain, Row, StoreError, Shape, Index, Ghosts}
+use Rattle.argon2_store.proofs.Imports.{catalog_tree, Trees, order_of, View, Commits, IsFailure, KeepsSchema, OnlyWrites, SetsTree, doubt, Phc, Store, AreTexts, rows_of, Changes}
+use Rattle.argon2_store.proofs.Imports.{HasBegun, HasNames, HasSome, Holds, IsHonest, IsKept, IsOpen, KeepsNames, Leaves, Sees, StaysQuiet, Writes, changed, done_of}
 use Rattle.sqlite_trees.specs.contracts.store.Shape.{the_row}
-use Rattle.std.specs.FinMap.{get, insert, remove}
-use Rattle.sqlite_disk.specs.Disk.{MoreFaults}
-use Rattle.sqlite_value.specs.Keys.{plain}
-use Rattle.sqlite_value.specs.Order.{Row}
-use Rattle.sqlite_trees.specs.declared.error.StoreError.{StoreError}
 use Rattle.sqlite_trees.specs.declared.error.StoreError.TheVariants.{OutOfMemory, Broken, Unstorable}
-use Rattle.sqlite_trees.specs.declared.store.Shape.{Shape}
-use Rattle.sqlite_trees.specs.declared.store.Shape.TheVariants.{Index}
-use Rattle.sqlite_trees.specs.declared.store.Store.{Ghosts}
-use Rattle.sqlite_trees.specs.Objects.{catalog_tree}
-use Rattle.sqlite_trees.specs.Tree.{Trees, insert_entry, order_of, remove_entry}
-use Rattle.sqlite_trees.specs.View.{View, Commits, HasCause, IsFailure, KeepsSchema, OnlyWrites, SetsTree, doubt}
-use Rattle.argon2_base.specs.PhcText.{IsPhc, Phc}
-use Rattle.argon2.specs.NamedTexts.{Store}
-use Rattle.argon2.proofs.login_lemmas.Stores.{get-set}
-use Rattle.argon2_store.specs.Rows.{AreTexts, row_of}
-use Rattle.argon2_store.specs.Table.{Changes, HasBegun, HasNames, HasSome, Holds, IsHonest, IsKept, IsOpen, KeepsNames, Leaves, Sees, StaysQuiet, Writes, changed, done_of}
-use Rattle.argon2_store.proofs.NameLemmas.{get-gone, get-gone-same, insert-remove, remove-none}
-use Rattle.argon2_store.proofs.RowLemmas.{insert_entry-rows_of, remove_entry-rows_of}
+use Rattle.sqlite_trees.specs.View.{HasCause}
+use Rattle.argon2_store.proofs.RowLemmas.{get-gone-same, insert-remove, remove-none}
+use Rattle.sqlite_value.specs.declared.keys.Order.{Order}
 
 -- ---- answers
 
@@ -59,10 +43,6 @@ pub if_err2 : {T E : Type 0} {P R Q : E → Type 0} (r : Result T E) → IfErr r
 if_err2 (Ok x) p q f = tt
 if_err2 (Err e) p q f = f e p q
 
-pub err_is : {T E : Type 0} (r : Result T E) (e : E) → IsErrAnd r (λ f. f ≡ e) → r ≡ Err e
-err_is (Ok x) e h = absurd h
-err_is (Err f) e h = ap Err h
-
 -- ---- views
 
 -- a store that was read shows the same, but for its cursors
@@ -85,23 +65,19 @@ pub now_committed : (old new : View) (names : Store) → Commits old new → See
 now_committed old new names made sees =
     subst (λ t. Holds t names) (sym (ap (λ (w : View). w.committed) made.is)) (sees made.sound)
 
-pub set_seen : (old new : View) (row : Row) (names : Store) (name : List ℕ) (v : Phc) → old.shape 0 ≡ Index plain
-    → SetsTree old new 0 (insert_entry (order_of (old.shape 0)) row) → row ≡ row_of (name, v) → get names name ≡ None
-    → Sees old names → Sees new (insert names name v)
-set_seen old new row names name v shape set is none sees unbroken = (
-  ap (λ (w : View). w.trees 0) set.is ∙ ap (λ (s : Shape). insert_entry (order_of s) row (old.trees 0)) shape
-      ∙ ap₂ (insert_entry plain) is (sees set.sound).0 ∙ insert_entry-rows_of names name v none,
+-- the row of a name is put in or taken out
+pub row_edited : (edit : Order → Row → List Row → List Row) (old new : View) (row its : Row) (names after : Store)
+    → old.shape 0 ≡ Index plain → SetsTree old new 0 (edit (order_of (old.shape 0)) row) → row ≡ its
+    → edit plain its (rows_of names) ≡ rows_of after → Sees old names → Sees new after
+row_edited edit old new row its names after shape set is gives sees unbroken = (
+  ap (λ (w : View). w.trees 0) set.is ∙ ap (λ (s : Shape). edit (order_of s) row (old.trees 0)) shape
+      ∙ ap₂ (edit plain) is (sees set.sound).0 ∙ gives,
   ap (λ (w : View). w.trees catalog_tree) set.is ∙ (sees set.sound).1,
 )
 
-pub gone_seen : (old new : View) (row : Row) (names : Store) (name : List ℕ) (v : Phc) → old.shape 0 ≡ Index plain
-    → SetsTree old new 0 (remove_entry (order_of (old.shape 0)) row) → row ≡ row_of (name, v) → get names name ≡ Some v
-    → Sees old names → Sees new (remove names name)
-gone_seen old new row names name v shape set is has sees unbroken = (
-  ap (λ (w : View). w.trees 0) set.is ∙ ap (λ (s : Shape). remove_entry (order_of s) row (old.trees 0)) shape
-      ∙ ap₂ (remove_entry plain) is (sees set.sound).0 ∙ remove_entry-rows_of names name v has,
-  ap (λ (w : View). w.trees catalog_tree) set.is ∙ (sees set.sound).1,
-)
+-- while a store is open, a crash leaves its last commit
+abbrev pub Settled : {S : Type 0} → Ghosts S → Type 0
+Settled {S} g = (s : S) (db : Trees) → IsOpen g s → g.recovers s db → db ≡ (g.view s).committed
 
 -- a crash leaves the names of a store that is open
 pub leaves_kept : {S : Type 0} (g : Ghosts S) (s : S) (names : Store)
@@ -120,29 +96,26 @@ changed-remove names name (Some v) = insert-remove names name v
 
 -- ---- causes
 
-pub more_later : (old mid new : ℕ) → MoreFaults old mid → mid ≤ new → MoreFaults old new
-more_later old mid new more le = omega (arith, more, le)
-
 pub more_earlier : (old mid new : ℕ) → old ≤ mid → MoreFaults mid new → MoreFaults old new
 more_earlier old mid new le more = omega (arith, le, more)
 
 -- a cause by weaker conditions
-pub cause_map : (old new : View) (P Q R U : Type 0) → (IsTrue old.is_broken → IsTrue new.is_broken) → (P → Q) → (R → U)
+pub cause_map : (old new : View) {P Q R U : Type 0} → (IsTrue old.is_broken → IsTrue new.is_broken) → (P → Q) → (R → U)
     → (e : StoreError) → HasCause old P R e → HasCause new Q U e
-cause_map old new P Q R U b f h OutOfMemory cause = tt
-cause_map old new P Q R U b f h Broken cause = b cause
-cause_map old new P Q R U b f h Unstorable cause = h cause
-cause_map old new P Q R U b f h e cause = f cause
+cause_map old new b f h OutOfMemory cause = tt
+cause_map old new b f h Broken cause = b cause
+cause_map old new b f h Unstorable cause = h cause
+cause_map old new b f h e cause = f cause
 
 -- the cause of an error of a change, of those of its steps
-pub cause_after : (old mid : View) (f m n : ℕ) (P : Type 0) (done result : Result (Unit {0}) StoreError) → f ≤ m → m ≤ n
+cause_after : (old mid : View) (f m n : ℕ) (P : Type 0) (done result : Result (Unit {0}) StoreError) → f ≤ m → m ≤ n
     → OnOk done (mid.is_broken ≡ old.is_broken) → IfErr done (HasCause old (MoreFaults f m) P)
     → MatchResult done (λ _. IfErr result (HasCause mid (MoreFaults m n) ⊥)) (λ e. result ≡ Err e)
     → IfErr result (HasCause old (MoreFaults f n) P)
-cause_after old mid f m n P (Ok x) result first later same cause more = if_err result more
-    (cause_map mid old (MoreFaults m n) (MoreFaults f n) ⊥ P (subst IsTrue same) (more_earlier f m n first) (λ h. absurd h))
-cause_after old mid f m n P (Err e) result first later same cause is = rw is
-    (cause_map old old (MoreFaults f m) (MoreFaults f n) P P (λ b. b) (λ more. more_later f m n more later) (λ h. h) e cause)
+cause_after old mid f m n P (Ok x) result first later same cause more =
+    if_err result more (cause_map mid old (subst IsTrue same) (more_earlier f m n first) (λ h. absurd h))
+cause_after old mid f m n P (Err e) result first later same cause is =
+    rw is (cause_map old old (λ b. b) (λ more. omega (arith, more, later)) (λ h. h) e cause)
 
 -- ---- writing
 
@@ -162,11 +135,9 @@ module _ {S : Type 0} (g : Ghosts S) where
     clean = omega (arith, x.clean, y.clean);
     counts = omega (arith, x.counts, y.counts);
     closes = λ clean is_open. elim (x.closes (omega (arith, clean, y.clean)) is_open) [
-      | inl mid ↦ elim (y.closes clean mid) [
-        | inl still ↦ inl still
-        | inr more ↦ inr (more_earlier (g.faults a) (g.faults b) (g.faults c) x.counts more)
-      ]
-      | inr more ↦ inr (more_later (g.faults a) (g.faults b) (g.faults c) more y.counts)
+      | inl mid ↦
+          elim (y.closes clean mid) [ inl still ↦ inl still | inr more ↦ inr (omega (arith, x.counts, more)) ]
+      | inr more ↦ inr (omega (arith, more, y.counts))
     ];
     outcomes = λ db found. x.outcomes db (y.outcomes db found);
   }
@@ -174,19 +145,10 @@ module _ {S : Type 0} (g : Ghosts S) where
   schema_itself : (v : View) → KeepsSchema v v
   schema_itself v = record { shape = refl; reals = refl; committed_shape = refl; committed_reals = refl; numbered = refl }
 
-  schema_then : (a b c : View) → KeepsSchema a b → KeepsSchema b c → KeepsSchema a c
-  schema_then a b c x y = record {
-    shape = y.shape ∙ x.shape;
-    reals = y.reals ∙ x.reals;
-    committed_shape = y.committed_shape ∙ x.committed_shape;
-    committed_reals = y.committed_reals ∙ x.committed_reals;
-    numbered = y.numbered ∙ x.numbered;
-  }
-
   -- a call that writes no row
-  pub writes_nothing : (s : S) (before after : Store) (long : Type 0) (r : Result (Unit {0}) StoreError)
+  pub writes_nothing : {s : S} {before after : Store} {long : Type 0} (r : Result (Unit {0}) StoreError)
       → OnOk r (IsHonest g s → after ≡ before) → IfErr r (λ e. e ≡ OutOfMemory) → Writes g s s before after long r
-  writes_nothing s before after long (Ok x) same why = record {
+  writes_nothing {s} (Ok x) same why = record {
     begun = λ names clean begun. begun;
     sees = λ clean sees. rw (same clean) sees;
     broken = λ clean. refl;
@@ -194,7 +156,7 @@ module _ {S : Type 0} (g : Ghosts S) where
     schema = schema_itself (g.view s);
     quiet = quiet_itself s;
   }
-  writes_nothing s before after long (Err e) same why = record {
+  writes_nothing {s} (Err e) same why = record {
     begun = λ names clean begun. begun;
     sees = tt;
     broken = tt;
@@ -210,13 +172,13 @@ module _ {S : Type 0} (g : Ghosts S) where
   still_committed old new (Err e) writes failed is_open = (failed.kept.was_open is_open, failed.kept.committed is_open)
 
   -- a call on the store that writes a row
-  pub writes_row : (old new : S) (before after : Store) (long : Type 0) (r : Result (Unit {0}) StoreError)
+  pub writes_row : {old new : S} {before after : Store} {long : Type 0} (r : Result (Unit {0}) StoreError)
       → OnOk r (IsHonest g new → OnlyWrites (g.view old) (g.view new))
       → (IsHonest g new → IfErr r (IsFailure (g.view old) (g.view new)))
       → OnOk r (IsHonest g new → Sees (g.view old) before → Sees (g.view new) after)
       → (IsHonest g new → IfErr r (HasCause (g.view old) (MoreFaults (g.faults old) (g.faults new)) long))
       → KeepsSchema (g.view old) (g.view new) → StaysQuiet g old new → Writes g old new before after long r
-  writes_row old new before after long r frame failed sees cause schema quiet = record {
+  writes_row {old} {new} r frame failed sees cause schema quiet = record {
     begun = λ names clean begun. record {
       indexed = ap (λ (f : ℕ → Shape). f 0) schema.shape ∙ begun.indexed;
       shapes = schema.shape ∙ begun.shapes ∙ sym schema.committed_shape;
@@ -232,72 +194,101 @@ module _ {S : Type 0} (g : Ghosts S) where
     quiet = quiet;
   }
 
-  -- rows written after others
-  pub writes_then : (a b c : S) (x y z : Store) (P Q R : Type 0) (r : Result (Unit {0}) StoreError) → Writes g a b x y P (Ok tt)
-      → Writes g b c y z Q r → (Q → R) → Writes g a c x z R r
-  writes_then a b c x y z P Q R r first later more =
-      let earlier : IsHonest g c → IsHonest g b = λ clean. omega (arith, clean, later.quiet.clean) in
-      record {
-        begun = λ names clean begun. later.begun names clean (first.begun names (earlier clean) begun);
-        sees = on_ok r later.sees (λ f clean sees. f clean (first.sees (earlier clean) sees));
-        broken = on_ok r later.broken (λ f clean. f clean ∙ first.broken (earlier clean));
-        cause = λ clean. if_err r (later.cause clean)
-            (cause_map (g.view b) (g.view a) (MoreFaults (g.faults b) (g.faults c)) (MoreFaults (g.faults a) (g.faults c)) Q R
-            (subst IsTrue (first.broken (earlier clean)))
-            (more_earlier (g.faults a) (g.faults b) (g.faults c) first.quiet.counts) more);
-        schema = schema_then (g.view a) (g.view b) (g.view c) first.schema later.schema;
-        quiet = quiet_then a b c first.quiet later.quiet;
-      }
-
-  pub writes_more : (a b : S) (x y : Store) (P Q : Type 0) (r : Result (Unit {0}) StoreError) → Writes g a b x y P r → (P → Q)
-      → Writes g a b x y Q r
-  writes_more a b x y P Q r wrote more = record {
-    begun = wrote.begun;
-    sees = wrote.sees;
-    broken = wrote.broken;
-    cause = λ clean. if_err r (wrote.cause clean) (cause_map (g.view a) (g.view a) (MoreFaults (g.faults a) (g.faults b))
-        (MoreFaults (g.faults a) (g.faults b)) P Q (λ b. b) (λ f. f) more);
-    schema = wrote.schema;
-    quiet = wrote.quiet;
-  }
-
-  -- where rows are not all written, nothing is said of the names
-  pub writes_less : (a b : S) (x y z : Store) (P Q : Type 0) (e : StoreError) → Writes g a b x y P (Err e) → (P → Q)
-      → Writes g a b x z Q (Err e)
-  writes_less a b x y z P Q e written more = record {
-    begun = written.begun;
-    sees = tt;
-    broken = tt;
-    cause = λ clean. cause_map (g.view a) (g.view a) (MoreFaults (g.faults a) (g.faults b))
-        (MoreFaults (g.faults a) (g.faults b)) P Q
-        (λ h. h) (λ h. h) more e (written.cause clean);
-    schema = written.schema;
-    quiet = written.quiet;
-  }
-
-  pub keeps_shape : (a b : S) (x y : Store) (P : Type 0) (r : Result (Unit {0}) StoreError) → Writes g a b x y P r
-      → (IsHonest g a → (g.view a).shape 0 ≡ Index plain) → IsHonest g b → (g.view b).shape 0 ≡ Index plain
-  keeps_shape a b x y P r wrote had clean =
-      ap (λ (f : ℕ → Shape). f 0) wrote.schema.shape ∙ had (omega (arith, clean, wrote.quiet.clean))
-
   -- a call that reads
-  pub reads_row : {X : Type 0} (old new : S) (names : Store) (r : Result X StoreError)
-      → OnOk r (IsHonest g new → g.view new ≡ record (g.view old) { cursors = (g.view new).cursors })
-      → (IsHonest g new → IfErr r (IsFailure (g.view old) (g.view new)))
-      → (IsHonest g new → IfErr r (HasCause (g.view old) (MoreFaults (g.faults old) (g.faults new)) ⊥))
-      → KeepsSchema (g.view old) (g.view new) → StaysQuiet g old new → Writes g old new names names ⊥ (done_of r)
-  reads_row old new names (Ok x) same failed cause schema quiet = writes_row old new names names ⊥ (Ok tt)
+  pub reads_ok : {old new : S} {names : Store}
+      → (IsHonest g new → g.view new ≡ record (g.view old) { cursors = (g.view new).cursors })
+      → KeepsSchema (g.view old) (g.view new) → StaysQuiet g old new → Writes g old new names names ⊥ (Ok tt)
+  reads_ok {old} {new} {names} same schema quiet = writes_row (Ok tt)
       (λ clean. only (g.view old) (g.view new) (same clean)) (λ clean. tt)
       (λ clean sees. subst (λ (v : View). Sees v names) (sym (same clean)) sees) (λ clean. tt) schema quiet
     where
       only : (v w : View) → w ≡ record v { cursors = w.cursors } → OnlyWrites v w
       only v w is = subst (λ (u : View). u ≡ record v { trees = u.trees; cursors = u.cursors }) (sym is) refl
-  reads_row old new names (Err e) same failed cause schema quiet =
-      writes_row old new names names ⊥ (Err e) tt failed tt cause schema quiet
+
+  pub reads_row : {X : Type 0} {old new : S} {names : Store} (r : Result X StoreError)
+      → OnOk r (IsHonest g new → g.view new ≡ record (g.view old) { cursors = (g.view new).cursors })
+      → (IsHonest g new → IfErr r (IsFailure (g.view old) (g.view new)))
+      → (IsHonest g new → IfErr r (HasCause (g.view old) (MoreFaults (g.faults old) (g.faults new)) ⊥))
+      → KeepsSchema (g.view old) (g.view new) → StaysQuiet g old new → Writes g old new names names ⊥ (done_of r)
+  reads_row (Ok x) same failed cause schema quiet = reads_ok same schema quiet
+  reads_row (Err e) same failed cause schema quiet = writes_row (Err e) tt failed tt cause schema quiet
+
+  -- a store that has names is a tree in their order
+  pub shape_of : {s : S} → HasSome g s → (IsHonest g s → IsOpen g s) → IsHonest g s → (g.view s).shape 0 ≡ Index plain
+  shape_of some is_open clean =
+      ∥∥₁_elim some (Coded-set the_row.coded _ _) (λ it. it.1.1.indexed clean (is_open clean))
+
+  -- a store that shows the same has the same names
+  pub kept_same : (old new : S) (names : Store) → (IsHonest g new → IsHonest g old) → (IsOpen g new → g.view new ≡ g.view old)
+      → IsKept g old names → IsKept g new names
+  kept_same old new names honest same kept =
+      let was : IsOpen g new → IsOpen g old = λ is. subst (λ (v : View). IsTrue v.is_open) (same is) is in
+      record {
+        indexed = λ clean is. ap (λ (v : View). v.shape 0) (same is) ∙ kept.indexed (honest clean) (was is);
+        shapes = λ clean is. subst (λ (v : View). v.shape ≡ v.committed_shape) (sym (same is))
+            (kept.shapes (honest clean) (was is));
+        sound = λ clean is. ap (λ (v : View). v.is_broken) (same is) ∙ kept.sound (honest clean) (was is);
+        seen = λ clean is. subst (λ (v : View). Holds v.trees names) (sym (same is)) (kept.seen (honest clean) (was is));
+        committed = λ clean is. subst (λ (v : View). Holds v.committed names) (sym (same is))
+            (kept.committed (honest clean) (was is));
+      }
+
+schema_then : {a b c : View} → KeepsSchema a b → KeepsSchema b c → KeepsSchema a c
+schema_then x y = record {
+  shape = y.shape ∙ x.shape;
+  reals = y.reals ∙ x.reals;
+  committed_shape = y.committed_shape ∙ x.committed_shape;
+  committed_reals = y.committed_reals ∙ x.committed_reals;
+  numbered = y.numbered ∙ x.numbered;
+}
+
+module _ {S : Type 0} {g : Ghosts S} where
+  -- rows written after others
+  pub writes_then : {a b c : S} {x y z : Store} {P Q R : Type 0} {r : Result (Unit {0}) StoreError} → Writes g a b x y P (Ok tt)
+      → Writes g b c y z Q r → (Q → R) → Writes g a c x z R r
+  writes_then {a} {b} {c} {r = r} first later more =
+      let earlier : IsHonest g c → IsHonest g b = λ clean. omega (arith, clean, later.quiet.clean) in
+      record {
+        begun = λ names clean begun. later.begun names clean (first.begun names (earlier clean) begun);
+        sees = on_ok r later.sees (λ f clean sees. f clean (first.sees (earlier clean) sees));
+        broken = on_ok r later.broken (λ f clean. f clean ∙ first.broken (earlier clean));
+        cause = λ clean. if_err r (later.cause clean) (cause_map (g.view b) (g.view a)
+            (subst IsTrue (first.broken (earlier clean))) (λ failed. omega (arith, first.quiet.counts, failed)) more);
+        schema = schema_then first.schema later.schema;
+        quiet = quiet_then g a b c first.quiet later.quiet;
+      }
+
+  pub writes_more : {a b : S} {x y : Store} {P Q : Type 0} {r : Result (Unit {0}) StoreError} → Writes g a b x y P r → (P → Q)
+      → Writes g a b x y Q r
+  writes_more {a} {r = r} wrote more = record {
+    begun = wrote.begun;
+    sees = wrote.sees;
+    broken = wrote.broken;
+    cause = λ clean. if_err r (wrote.cause clean) (cause_map (g.view a) (g.view a) (λ b. b) (λ f. f) more);
+    schema = wrote.schema;
+    quiet = wrote.quiet;
+  }
+
+  -- where rows are not all written, nothing is said of the names
+  pub writes_less : {a b : S} {x y z : Store} {P Q : Type 0} {e : StoreError} → Writes g a b x y P (Err e) → (P → Q)
+      → Writes g a b x z Q (Err e)
+  writes_less {a} {e = e} wrote more = record {
+    begun = wrote.begun;
+    sees = tt;
+    broken = tt;
+    cause = λ clean. cause_map (g.view a) (g.view a) (λ h. h) (λ h. h) more e (wrote.cause clean);
+    schema = wrote.schema;
+    quiet = wrote.quiet;
+  }
+
+  pub keeps_shape : {a b : S} {x y : Store} {P : Type 0} {r : Result (Unit {0}) StoreError} → Writes g a b x y P r
+      → (IsHonest g a → (g.view a).shape 0 ≡ Index plain) → IsHonest g b → (g.view b).shape 0 ≡ Index plain
+  keeps_shape wrote had clean =
+      ap (λ (f : ℕ → Shape). f 0) wrote.schema.shape ∙ had (omega (arith, clean, wrote.quiet.clean))
 
   -- rows that are read no further
-  pub writes_stop : (a b : S) (x : Store) (P : Type 0) → Writes g a b x x P (Ok tt) → Writes g a b x x P (Err OutOfMemory)
-  writes_stop a b x P wrote = record {
+  pub writes_stop : {a b : S} {x : Store} {P : Type 0} → Writes g a b x x P (Ok tt) → Writes g a b x x P (Err OutOfMemory)
+  writes_stop wrote = record {
     begun = wrote.begun;
     sees = tt;
     broken = tt;
@@ -308,27 +299,48 @@ module _ {S : Type 0} (g : Ghosts S) where
 
   -- ---- a store with names
 
-  module _ (settled : (s : S) (db : Trees) → IsOpen g s → g.recovers s db → db ≡ (g.view s).committed) where
+  pub some_kept : {old new : S} → HasSome g old → ((names : Store) → HasNames g old names → HasNames g new names) → HasSome g new
+  some_kept some keeps = ∥∥₁_map some (λ it. (it.0, keeps it.0 it.1))
+
+  -- several rows are written, or none counts
+  pub all_or_none : {old new : S} {before after : Store} {long : Type 0} (done : Result (Unit {0}) StoreError)
+      (All : Store → Type 0)
+      → AreTexts before → AreTexts after → Writes g old new before after long done → OnOk done (IsHonest g new → All after)
+      → (to : Store) × AreTexts to × Writes g old new before to long done × (IsHonest g new → (to ≡ before) ⊎ All to)
+      × OnOk done (IsHonest g new → All to)
+  all_or_none {after = after} (Ok x) All texts good wrote all = (after, good, wrote, λ clean. inr (all clean), all)
+  all_or_none {before = before} (Err e) All texts good wrote all =
+      (before, texts, writes_less wrote (λ l. l), λ clean. inl refl, tt)
+
+  -- after a change it has either names
+  pub has_either : {old new : S} {before after : Store} {long : Type 0} (result : Result (Unit {0}) StoreError)
+      → Changes g old new before after long result → (names : Store) × HasNames g new names
+  has_either {after = after} (Ok x) change = (after, change.kept)
+  has_either {before = before} (Err e) change = (before, change.kept)
+
+  module _ (settled : Settled g) {old : S} (was_open : IsHonest g old → IsOpen g old) where
     -- nothing is written yet
-    begun_over : (s : S) (names : Store) → IsKept g s names → IsHonest g s → IsOpen g s → HasBegun g s names
-    begun_over s names kept clean is_open = record {
-      indexed = kept.indexed clean is_open;
-      shapes = kept.shapes clean is_open;
+    begun_over : {names : Store} → IsKept g old names → IsHonest g old → HasBegun g old names
+    begun_over {names} kept clean = record {
+      indexed = kept.indexed clean (was_open clean);
+      shapes = kept.shapes clean (was_open clean);
       committed = kept.committed clean;
-      left = λ db found. subst (λ t. Holds t names) (sym (settled s db is_open found)) (kept.committed clean is_open);
+      left = λ db found. subst (λ t. Holds t names) (sym (settled old db (was_open clean) found))
+          (kept.committed clean (was_open clean));
     }
 
     -- names stay while rows are read
-    pub read_done : {X : Type 0} (old new : S) (names : Store) (x : X)
-        → ((s : S) → (g.view s).is_open ≡ false → IsTrue (g.view s).is_broken)
-        → HasNames g old names → (IsHonest g old → IsOpen g old) → Writes g old new names names ⊥ (Ok tt)
+    pub read_done : {X : Type 0} {new : S} {names : Store} (x : X)
+        → ((s : S) → (g.view s).is_open ≡ false → IsTrue (g.view s).is_broken) → HasNames g old names
+        → (AreTexts names → (IsHonest g old → Sees (g.view old) names) → Writes g old new names names ⊥ (Ok tt))
         → KeepsNames g old new names (Ok x)
-    read_done old new names x shut (texts, kept) was_open wrote =
+    read_done {new = new} {names = names} x shut (texts, kept) writes =
+        let wrote = writes texts (λ clean unbroken. kept.seen clean (was_open clean)) in
         let earlier : IsHonest g new → IsHonest g old = λ clean. omega (arith, clean, wrote.quiet.clean) in
         let sound : IsHonest g new → (g.view new).is_broken ≡ false = λ clean.
         wrote.broken clean ∙ kept.sound (earlier clean) (was_open (earlier clean)) in
         let begun : IsHonest g new → HasBegun g new names = λ clean.
-        wrote.begun names clean (begun_over old names kept (earlier clean) (was_open (earlier clean))) in
+        wrote.begun names clean (begun_over kept (earlier clean)) in
         record {
           has = (
             texts,
@@ -346,36 +358,48 @@ module _ {S : Type 0} (g : Ghosts S) where
           quiet = wrote.quiet;
         }
 
+    pub some_read : {new : S} → ((s : S) → (g.view s).is_open ≡ false → IsTrue (g.view s).is_broken) → HasSome g old
+        → ((names : Store) → AreTexts names → (IsHonest g old → Sees (g.view old) names)
+        → Writes g old new names names ⊥ (Ok tt)) → HasSome g new
+    some_read shut some writes = some_kept some (λ names has. (read_done (tt {0}) shut has (writes names)).has)
+
     -- what was written is taken back
-    pub taken_back : (old mid new : S) (before after : Store) (long : Type 0) (r : Result (Unit {0}) StoreError)
-        → HasNames g old before → (IsHonest g old → IsOpen g old) → Writes g old mid before after long r
+    pub taken_back : {mid new : S} {before after : Store} {long : Type 0} {r : Result (Unit {0}) StoreError}
+        → HasNames g old before → Writes g old mid before after long r
         → ((IsHonest g new → HasBegun g mid before) → IsKept g new before) → StaysQuiet g mid new → HasNames g new before
-    taken_back old mid new before after long r (texts, kept) was_open wrote undone quiet = (
+    taken_back {before = before} (texts, kept) wrote undone quiet = (
       texts,
-      undone (λ clean.
-          let first : IsHonest g old = omega (arith, clean, quiet.clean, wrote.quiet.clean) in
-          wrote.begun before (omega (arith, clean, quiet.clean)) (begun_over old before kept first (was_open first))),
+      undone (λ clean. wrote.begun before (omega (arith, clean, quiet.clean))
+          (begun_over kept (omega (arith, clean, quiet.clean, wrote.quiet.clean)))),
     )
 
     -- and if reading fails and is taken back
-    pub read_failed : {X : Type 0} (old mid new : S) (names : Store) (e : StoreError) (r : Result X StoreError) → r ≡ Err e
-        → HasNames g old names → (IsHonest g old → IsOpen g old) → Writes g old mid names names ⊥ (Err e)
+    pub read_failed : {X : Type 0} {mid new : S} {names : Store} {e : StoreError} {r : Result X StoreError} → r ≡ Err e
+        → HasNames g old names
+        → (AreTexts names → (IsHonest g old → Sees (g.view old) names) → Writes g old mid names names ⊥ (Err e))
         → ((IsHonest g new → HasBegun g mid names) → IsKept g new names) → StaysQuiet g mid new
         → KeepsNames g old new names r
-    read_failed old mid new names e r is has was_open wrote undone quiet = rw is (
-        record {
-          has = taken_back old mid new names names ⊥ (Err e) has was_open wrote undone quiet;
+    read_failed {mid = mid} {new = new} {e = e} is has writes undone quiet =
+        let wrote = writes has.0 (λ clean unbroken. has.1.seen clean (was_open clean)) in
+        rw is (record {
+          has = taken_back has wrote undone quiet;
           is_open = tt;
-          cause = λ clean. cause_map (g.view old) (g.view old) (MoreFaults (g.faults old) (g.faults mid))
-              (MoreFaults (g.faults old) (g.faults new)) ⊥ ⊥ (λ b. b)
-              (λ more. more_later (g.faults old) (g.faults mid) (g.faults new) more quiet.counts) (λ h. h) e
+          cause = λ clean. cause_map (g.view old) (g.view old) (λ b. b) (λ more. omega (arith, more, quiet.counts)) (λ h. h) e
               (wrote.cause (omega (arith, clean, quiet.clean)));
-          quiet = quiet_then old mid new wrote.quiet quiet;
+          quiet = quiet_then g old mid new wrote.quiet quiet;
         })
 
+    pub some_failed : {mid new : S} {e : StoreError} → HasSome g old
+        → ((names : Store) → AreTexts names → (IsHonest g old → Sees (g.view old) names)
+        → Writes g old mid names names ⊥ (Err e))
+        → ((names : Store) → (IsHonest g new → HasBegun g mid names) → IsKept g new names) → StaysQuiet g mid new
+        → HasSome g new
+    some_failed some writes undone quiet = some_kept some (λ names has.
+        taken_back has (writes names has.0 (λ clean unbroken. has.1.seen clean (was_open clean))) (undone names) quiet)
+
     -- rows that are written, and then committed or taken back
-    pub changes_of : (old mid new : S) (before after : Store) (long : Type 0) (done result : Result (Unit {0}) StoreError)
-        → HasNames g old before → AreTexts after → (IsHonest g old → IsOpen g old) → Writes g old mid before after long done
+    pub changes_of : {mid new : S} {before after : Store} {long : Type 0} (done result : Result (Unit {0}) StoreError)
+        → HasNames g old before → AreTexts after → Writes g old mid before after long done
         → ((IsHonest g new → HasBegun g mid before × OnOk done (Sees (g.view mid) after))
         → MatchResult result (λ _. IsKept g new after) (λ _. IsKept g new before))
         → (IsHonest g new → HasBegun g mid before → OnOk done (Sees (g.view mid) after)
@@ -387,14 +411,14 @@ module _ {S : Type 0} (g : Ghosts S) where
         → (IsHonest g new → IsOpen g mid → IsOpen g new ⊎ MoreFaults (g.faults mid) (g.faults new))
         → doubt (g.view mid).is_clean ≤ doubt (g.view new).is_clean → g.faults mid ≤ g.faults new
         → Changes g old new before after long result
-    changes_of old mid new before after long done result (texts, kept) fine is_open wrote keeps left durable cause closes
-        clean counts =
+    changes_of {mid} {new} {before} {after} {long} done result (texts, kept) fine wrote keeps left durable cause closes clean
+        counts =
         let to_mid : IsHonest g new → IsHonest g mid = λ now. omega (arith, now, clean) in
         let to_old : IsHonest g new → IsHonest g old = λ now. omega (arith, now, clean, wrote.quiet.clean) in
         let begun : IsHonest g new → HasBegun g mid before = λ now.
-        wrote.begun before (to_mid now) (begun_over old before kept (to_old now) (is_open (to_old now))) in
+        wrote.begun before (to_mid now) (begun_over kept (to_old now)) in
         let sees : IsHonest g new → OnOk done (Sees (g.view mid) after) = λ now. on_ok done wrote.sees (λ f.
-        f (to_mid now) (λ unbroken. kept.seen (to_old now) (is_open (to_old now)))) in
+        f (to_mid now) (λ unbroken. kept.seen (to_old now) (was_open (to_old now)))) in
         record {
           honest = to_old;
           kept = with_texts result (keeps (λ now. (begun now, sees now)));
@@ -403,12 +427,12 @@ module _ {S : Type 0} (g : Ghosts S) where
           cause = λ now. cause_after (g.view old) (g.view mid) (g.faults old) (g.faults mid) (g.faults new) long done result
               wrote.quiet.counts counts (on_ok done wrote.broken (λ same. same (to_mid now))) (wrote.cause (to_mid now))
               (cause now);
-          closes = λ now. elim (wrote.quiet.closes (to_mid now) (is_open (to_old now))) [
+          closes = λ now. elim (wrote.quiet.closes (to_mid now) (was_open (to_old now))) [
             | inl still ↦ elim (closes now still) [
               | inl yet ↦ inl yet
-              | inr more ↦ inr (more_earlier (g.faults old) (g.faults mid) (g.faults new) wrote.quiet.counts more)
+              | inr more ↦ inr (omega (arith, wrote.quiet.counts, more))
             ]
-            | inr more ↦ inr (more_later (g.faults old) (g.faults mid) (g.faults new) more counts)
+            | inr more ↦ inr (omega (arith, more, counts))
           ];
         }
       where
@@ -416,58 +440,3 @@ module _ {S : Type 0} (g : Ghosts S) where
             → MatchResult r (λ _. HasNames g new after) (λ _. HasNames g new before)
         with_texts (Ok x) is = (fine, is)
         with_texts (Err e) is = (texts, is)
-
-  pub some_kept : (old new : S) → HasSome g old → ((names : Store) → HasNames g old names → HasNames g new names) → HasSome g
-      new
-  some_kept old new some keeps = ∥∥₁_map some (λ it. (it.0, keeps it.0 it.1))
-
-  -- several rows are written, or none counts
-  pub all_or_none : (old new : S) (before after : Store) (long : Type 0) (done : Result (Unit {0}) StoreError)
-      (All : Store → Type 0)
-      → AreTexts before → AreTexts after → Writes g old new before after long done → OnOk done (IsHonest g new → All after)
-      → (to : Store) × AreTexts to × Writes g old new before to long done × (IsHonest g new → (to ≡ before) ⊎ All to)
-      × OnOk done (IsHonest g new → All to)
-  all_or_none old new before after long (Ok x) All texts good wrote all = (after, good, wrote, λ clean. inr (all clean), all)
-  all_or_none old new before after long (Err e) All texts good wrote all =
-      (before, texts, writes_less old new before after before long long e wrote (λ l. l), λ clean. inl refl, tt)
-
-  -- after a change it has either names
-  pub has_either : (old new : S) (before after : Store) (long : Type 0) (result : Result (Unit {0}) StoreError)
-      → Changes g old new before after long result → (names : Store) × HasNames g new names
-  has_either old new before after long (Ok x) change = (after, change.kept)
-  has_either old new before after long (Err e) change = (before, change.kept)
-
-  -- a store that shows the same has the same names
-  pub kept_same : (old new : S) (names : Store) → (IsHonest g new → IsHonest g old) → (IsOpen g new → g.view new ≡ g.view old)
-      → IsKept g old names → IsKept g new names
-  kept_same old new names honest same kept =
-      let was : IsOpen g new → IsOpen g old = λ is. subst (λ (v : View). IsTrue v.is_open) (same is) is in
-      record {
-        indexed = λ clean is. ap (λ (v : View). v.shape 0) (same is) ∙ kept.indexed (honest clean) (was is);
-        shapes = λ clean is. subst (λ (v : View). v.shape ≡ v.committed_shape) (sym (same is))
-            (kept.shapes (honest clean) (was is));
-        sound = λ clean is. ap (λ (v : View). v.is_broken) (same is) ∙ kept.sound (honest clean) (was is);
-        seen = λ clean is. subst (λ (v : View). Holds v.trees names) (sym (same is)) (kept.seen (honest clean) (was is));
-        committed = λ clean is. subst (λ (v : View). Holds v.committed names) (sym (same is))
-            (kept.committed (honest clean) (was is));
-      }
-
-  -- a store that has names is a tree in their order
-  pub shape_of : (s : S) → HasSome g s → (IsHonest g s → IsOpen g s) → IsHonest g s → (g.view s).shape 0 ≡ Index plain
-  shape_of s some is_open clean =
-      ∥∥₁_elim some (Coded-set the_row.coded _ _) (λ it. it.1.1.indexed clean (is_open clean))
-
-from_either : (b : Bool) (p q : Option Phc) (v : Phc) → cond b p q ≡ Some v → IfSome p IsPhc → (q ≡ Some v → IsPhc v) → IsPhc v
-from_either true (Some w) q v is good other = let same : w ≡ v = cc in subst IsPhc same good
-from_either true None q v is good other = absurd cc
-from_either false p q v is good other = other is
-
--- names that are changed still are texts
-pub texts_changed : (names : Store) (name : List ℕ) (o : Option Phc) → AreTexts names → IfSome o IsPhc
-    → AreTexts (changed names name o)
-texts_changed names name None texts good other v has =
-    from_either (bytes_eq other name) None (get names other) v (sym (get-gone names name other) ∙ has) tt
-    (texts other v)
-texts_changed names name (Some w) texts good other v has =
-    from_either (bytes_eq other name) (Some w) (get names other) v (sym (get-set names name w other) ∙ has) good
-    (texts other v)

@@ -1,5 +1,5 @@
 -- Adding several names with their texts, one after the other.
-use Rattle.std.specs.Prelude.{◌≡◌, ◌⊎◌, ℕ, ◌<◌, List, [], ◌∷◌, length, slice_index_or, take, Any, Result, Ok, Err, IfErr, IfOk, OnErr, OnOk}
+use Rattle.std.specs.Prelude.{◌≡◌, ◌⊎◌, ℕ, ◌<◌, List, [], ◌∷◌, length, slice_index_or, take, Any, Result, Ok, Err, OnOk, MatchResult}
 use Rattle.std.specs.Borrow.{Bor}
 use Rattle.std.specs.FinMap.{get}
 use Rattle.sqlite_trees.specs.declared.error.StoreError.{StoreError}
@@ -29,12 +29,9 @@ IsFirstRefused before es k why =
     × AddsName mid (slice_index_or es k ([], [])) (Err why) mid
 
 -- A change that adds all of several names, or a refusal with the index of the first that is refused, which changes nothing.
-pub record WritesAll {S : Type 0} (g : Ghosts S) (old new : S) (es : List (List ℕ × List ℕ))
-    (result : Result (Result (Unit {0}) StoreError) (ℕ × AccountError)) : Type 0 where
-  pub added : (before : Store) → HasNames g old before → IfOk result (λ done. (after : Store)
-      × (IsHonest g new → (after ≡ before) ⊎ AddsAll before es after)
-      × OnOk done (IsHonest g new → AddsAll before es after)
-      × Changes g old new before after (Any (λ e. IsLong e.0) es) done)
-  pub refused : (before : Store) → HasNames g old before → IfErr result (λ e. HasNames g new before
-      × (IsHonest g new → IsFirstRefused before es e.0 e.1))
-  pub quiet : OnErr result (StaysQuiet g old new)
+abbrev pub WritesAll : {S : Type 0} → Ghosts S → S → S → List (List ℕ × List ℕ)
+    → Result (Result (Unit {0}) StoreError) (ℕ × AccountError) → Type 0
+WritesAll g old new es result = (before : Store) → HasNames g old before → MatchResult result
+    (λ done. (after : Store) × (IsHonest g new → (after ≡ before) ⊎ AddsAll before es after)
+    × OnOk done (IsHonest g new → AddsAll before es after) × Changes g old new before after (Any (λ e. IsLong e.0) es) done)
+    (λ e. HasNames g new before × (IsHonest g new → IsFirstRefused before es e.0 e.1) × StaysQuiet g old new)

@@ -52,6 +52,9 @@ const ACCOUNT: Object<'static> = Object {
 // The bytes of a page.
 const PAGE: usize = 4096;
 
+// The pages that are kept in memory, as many as SQLite keeps. Each open asks for all of them.
+const CACHED: usize = 500;
+
 // The bytes of a log's header and of the one of its first frame.
 const HEADERS: usize = 56;
 
@@ -151,7 +154,11 @@ pub(crate) fn open_files<D: Disk + Drop>(
         Ok(is_new) => is_new,
         Err(error) => return Err((error.into(), files)),
     };
-    let pager = match Pager::new(alloc, files, size, Options::new(seed)) {
+    let options = Options {
+        cache_pages: CACHED,
+        ..Options::new(seed)
+    };
+    let pager = match Pager::new(alloc, files, size, options) {
         Ok(pager) => pager,
         Err(AllocFailed { value }) => return Err((OpenError::OutOfMemory, value)),
     };

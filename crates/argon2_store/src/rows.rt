@@ -205,7 +205,6 @@ pub(crate) fn write_rows<S: Store, W: Write>(
         (Appends (W.contents output.old) (W.contents output.new) (lines_of view names))) }
     ensures sound { OnOk result (IsHonest S.Store store.new →
         (S.Store.view store.old).is_broken ≡ false) }
-    ensures quiet { StaysQuiet S.Store store.old store.new }
     ensures reads { (names : Named) → AreTexts names →
         (IsHonest S.Store store.old → Sees (S.Store.view store.old) names) →
         Writes S.Store store.old store.new names names ⊥ (done_of result) }

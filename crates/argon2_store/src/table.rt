@@ -135,8 +135,7 @@ fn add_each<S: Store>(
     new: &[(&str, &str)],
 ) -> Result<Result<(), StoreError>, (usize, AccountError)>
     requires { IsHonest S.Store store.old → (S.Store.view store.old).shape 0 ≡ Index plain }
-    ensures quiet { StaysQuiet S.Store store.old store.new }
-    ensures writes { (before : Named) → AreTexts before →
+    ensures { (before : Named) → AreTexts before →
         (IsHonest S.Store store.old → Sees (S.Store.view store.old) before) →
         (after : Named) × AreTexts after × Writes S.Store store.old store.new before after
         (Any (λ e. IsLong e.0) (map entry_of new.now)) (written_of result)
@@ -236,7 +235,6 @@ impl<S: Store> Table<S> {
         requires { IsHonest S.Store (file_of self.old) → IsOpen S.Store (file_of self.old) }
         ensures reads { (names : Named) → HasNames S.Store (file_of self.old) names →
             KeepsNames S.Store (file_of self.old) (file_of self.new) names result }
-        ensures quiet { StaysQuiet S.Store (file_of self.old) (file_of self.new) }
         ensures open { OnOk result (IsHonest S.Store (file_of self.new) →
             IsOpen S.Store (file_of self.new)) }
         ensures found { (names : Named) → HasNames S.Store (file_of self.new) names →
@@ -261,7 +259,6 @@ impl<S: Store> Table<S> {
         requires { IsHonest S.Store (file_of self.old) → IsOpen S.Store (file_of self.old) }
         ensures reads { (names : Named) → HasNames S.Store (file_of self.old) names →
             KeepsNames S.Store (file_of self.old) (file_of self.new) names result }
-        ensures quiet { StaysQuiet S.Store (file_of self.old) (file_of self.new) }
         ensures shows { (names : Named) → HasNames S.Store (file_of self.old) names →
             IfOk result (λ done. IsHonest S.Store (file_of self.new) → OnOk done
             (Appends (W.contents output.old) (W.contents output.new) (lines_of view names))) }

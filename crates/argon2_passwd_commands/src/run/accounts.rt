@@ -30,8 +30,11 @@ use sqlite_trees::store::Store;
 use std::alloc::{AllocError, Global};
 use std::io::{BufRead, Write};
 
-// How often a file is tried again that another process has open.
-const PAUSES: u32 = 500;
+// How often a file is tried again that another process has open: 10 milliseconds apart for the first
+// 2 seconds, then 1 millisecond apart, so that a process that has waited long comes before a new one.
+const LONG_PAUSES: u32 = 200;
+
+const SHORT_PAUSES: u32 = 3000;
 
 /// What a name's text in a file does with the next password, where it accepts it.
 pub fn verify<P: Outside, R: BufRead>(
@@ -209,9 +212,11 @@ fn open<'key, P: Outside>(
     ensures untouched { OnErr result ((read : Option P.File) →
         P.was outside.old read false → P.was outside.new read false) }
 {
-    for _ in 0..PAUSES {
+    for waits in 0..LONG_PAUSES + SHORT_PAUSES {
         match outside.open(file, target(options, secret)?, options.bound()) {
-            Err(Failure::Unopened(OpenError::Busy)) => outside.pause(),
+            Err(Failure::Unopened(OpenError::Busy)) => {
+                outside.pause(if waits < LONG_PAUSES { 10 } else { 1 })
+            }
             done => return done,
         }
     }

@@ -1,18 +1,6 @@
-use Rattle.std.proofs.Common.{rules, true, refl, ℕ, [], ◌∷◌, inl, inr, ◌≡◌, sym, ap, ap₂, subst, subst₂, ◌∙◌, IsTrue}
-use Rattle.std.proofs.Math.Logic.{∥∥₁_map}
-use Rattle.std.specs.Prelude.{if◌then◌else◌}
+use Rattle.argon2_store.proofs.Imports.{rules, true, refl, ℕ, [], ◌∷◌, inl, inr, ◌≡◌, sym, ap, ap₂, subst, subst₂, ◌∙◌, IsTrue, ∥∥₁_map, if◌then◌else◌, Recovers, recovers_once}
+use Rattle.argon2_store.proofs.Imports.{clean_of, no_trees, IsFile, FileStore, schema_of, state, view, file_trees, kept_schema, state_of, image, IsReadAs, account}
 use Rattle.sqlite_disk.specs.declared.Disk.{Ghosts}
-use Rattle.sqlite_pool.specs.Stored.{Recovers}
-use Rattle.sqlite_pool.specs.StoredLaws.{recovers_once}
-use Rattle.sqlite_trees.proofs.Doubt.{clean_of}
-use Rattle.sqlite_trees.specs.Tree.{no_trees}
-use Rattle.sqlite_store.specs.Db.{IsFile}
-use Rattle.sqlite_store.specs.declared.store.FileStore.{FileStore}
-use Rattle.sqlite_store.specs.FileStore.{schema_of, state, view}
-use Rattle.sqlite_store.specs.Listing.{file_trees}
-use Rattle.sqlite_store.specs.Saved.{kept_schema}
-use Rattle.sqlite_store.specs.Unopened.{state_of, image}
-use Rattle.argon2_store.specs.Opening.{IsReadAs, account}
 use Rattle.argon2_store.proofs.OpenLemmas.{after, as_before, bare, fresh, made, unstarted}
 use Rattle.argon2_store.proofs.TableLemmas.{if_err2, if_ok2}
 use Rattle.argon2_store.proofs.opening.attach.Goals as goal

@@ -1,8 +1,5 @@
-use Rattle.std.proofs.Common.{arith, rules, ◌≡◌, ◌≤◌, Bool, true, false, not, IsTrue, length, slice_index, refl, sym, subst, ◌∙◌}
+use Rattle.argon2_store.proofs.Imports.{arith, rules, ◌≡◌, ◌≤◌, Bool, true, false, not, IsTrue, length, slice_index, refl, sym, subst, ◌∙◌, IsSigned, header, held_is_part}
 use Rattle.sqlite_disk.specs.Disk.{Holds}
-use Rattle.sqlite_wal.specs.Format.{IsSigned}
-use Rattle.sqlite_wal.specs.Recovery.{header}
-use Rattle.sqlite_wal.proofs.PartLemmas.{held_is_part}
 use Rattle.argon2_store.proofs.opening.is_damaged.Goals as goal
 
 not_both : (b : Bool) → IsTrue (not b) → IsTrue b → ⊥

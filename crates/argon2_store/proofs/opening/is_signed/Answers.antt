@@ -1,5 +1,4 @@
-use Rattle.std.proofs.Common.{rules, sym, ◌∙◌, ap, ap₂}
-use Rattle.sqlite_wal.specs.Format.{checksum, is_big}
+use Rattle.argon2_store.proofs.Imports.{rules, sym, ◌∙◌, ap, ap₂, checksum, is_big}
 use Rattle.sqlite_wal.proofs.FormatLemmas.{part_front, same_sums}
 use Rattle.argon2_store.proofs.opening.is_signed.Goals as goal
 

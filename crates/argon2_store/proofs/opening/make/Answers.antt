@@ -1,5 +1,4 @@
-use Rattle.std.proofs.Common.{arith, ◌∙◌}
-use Rattle.sqlite_trees.proofs.Doubt.{clean_of}
+use Rattle.argon2_store.proofs.Imports.{arith, ◌∙◌, clean_of}
 use Rattle.argon2_store.proofs.OpenLemmas.{fresh}
 use Rattle.argon2_store.proofs.opening.make.Goals as goal
 

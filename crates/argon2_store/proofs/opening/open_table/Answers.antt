@@ -1,9 +1,4 @@
-use Rattle.std.proofs.Common.{arith, ◌≡◌, ◌⊎◌, inl, inr, subst, subst₂, sym, ◌∙◌}
-use Rattle.sqlite_store.specs.FileStore.{view}
-use Rattle.sqlite_trees.specs.View.{IsClean}
-use Rattle.sqlite_wal.proofs.CleanLemmas.{halves}
-use Rattle.argon2_store.specs.Errors.{IsOfDatabase}
-use Rattle.argon2_store.specs.Opening.{FoundIn}
+use Rattle.argon2_store.proofs.Imports.{arith, ◌≡◌, ◌⊎◌, inl, inr, subst, subst₂, sym, ◌∙◌, view, IsClean, halves, IsOfDatabase, FoundIn}
 use Rattle.argon2_store.specs.declared.error.OpenError.{OpenError}
 use Rattle.argon2_store.specs.declared.error.OpenError.TheVariants.{DamagedLog, Row as NoAccount}
 use Rattle.argon2_store.proofs.OpenLemmas.{seen_same, unharmed_by_reads, unharmed_then}

@@ -1,7 +1,5 @@
-use Rattle.std.proofs.Common.{arith, rules, ◌≡◌, [], ◌∷◌, ◌∙◌, sym}
-use Rattle.sqlite_value.specs.declared.value.Value.TheVariants.{Text}
-use Rattle.sqlite_trees.specs.View.{IsClean}
-use Rattle.argon2_store.proofs.SeekLemmas.{ends, gives}
+use Rattle.argon2_store.proofs.Imports.{arith, rules, ◌≡◌, [], ◌∷◌, ◌∙◌, sym, Text, IsClean}
+use Rattle.argon2_store.proofs.RowLemmas.{ends, gives}
 use Rattle.argon2_store.proofs.rows.find.Goals as goal
 
 pub returns-then-branch-clause-found : goal.returns-then-branch-clause-found

@@ -1,7 +1,5 @@
-use Rattle.std.proofs.Common.{rules, arith, ◌∙◌, ◌≡◌, subst, sym}
-use Rattle.std.specs.FinMap.{empty, entries, insert}
-use Rattle.sqlite_trees.specs.View.{IsClean}
-use Rattle.argon2_store.proofs.LoadLemmas.{LastIs, all_read, begin, last-empty, rows_of-empty, step, texts-empty, texts_step}
+use Rattle.argon2_store.proofs.Imports.{rules, arith, ◌∙◌, ◌≡◌, subst, sym, empty, insert, IsClean, rows_of}
+use Rattle.argon2_store.proofs.RowLemmas.{LastIs, all_read, begin, last-empty, rows_of-empty, step, texts-empty, texts_step}
 use Rattle.argon2_store.proofs.rows.load.Goals as goal
 
 pub loop-init : goal.loop-init
@@ -39,7 +37,7 @@ loop-preserved g c =
             let hit = c.is_same.ensures.1 (c.get.ensures ∙ same ∙ sym c.get-else-not-is_account.ensures) in
             let miss = c.if-is_same.false in cc)) in
             let turned : c.swap.new.y ≡ c.next.new.row = search rules in
-            (more.0, subst (LastIs (entries (insert names is.0.0 is.0.1))) (sym turned) more.1),
+            (more.0, subst (LastIs (rows_of (insert names is.0.0 is.0.1))) (sym turned) more.1),
       ),
     )
 

@@ -1,7 +1,5 @@
-use Rattle.std.proofs.Common.{arith, ap, sym, ◌∙◌, Result, Some, Err}
-use Rattle.sqlite_trees.specs.declared.error.StoreError.{StoreError}
+use Rattle.argon2_store.proofs.Imports.{arith, ap, sym, ◌∙◌, Result, Some, Err, StoreError, IsHonest}
 use Rattle.sqlite_trees.specs.declared.error.StoreError.TheVariants.{Corrupt}
-use Rattle.argon2_store.specs.Table.{IsHonest}
 use Rattle.argon2_store.proofs.TableLemmas.{reads_row}
 use Rattle.argon2_store.proofs.rows.look_up.Goals as goal
 
@@ -20,5 +18,5 @@ returns-in-None-clause-reads g c names texts sees =
     (sees first (c.in_ok-find.ensures.sound clean)).0 in
     c.in-None.ensures.only (c.args.name.now, v) (texts c.args.name.now v has) at in
     let failed : Result (Unit {0}) StoreError = Err Corrupt in
-    reads_row g.S.Store c.args.store.now c.find.new.store names failed tt (λ clean. absurd {0} (never clean))
+    reads_row g.S.Store failed tt (λ clean. absurd {0} (never clean))
     (λ clean. absurd {0} (never clean)) c.find.ensures.schema c.find.ensures.quiet

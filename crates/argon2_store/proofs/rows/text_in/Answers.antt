@@ -1,6 +1,5 @@
-use Rattle.std.proofs.Common.{sym, subst, IsUtf8}
-use Rattle.argon2_base.specs.PhcText.{phc_text}
-use Rattle.argon2_store.proofs.Utf8Lemmas.{text_is_utf8}
+use Rattle.argon2_store.proofs.Imports.{sym, subst, IsUtf8, phc_text}
+use Rattle.argon2_store.proofs.TextLemmas.{text_is_utf8}
 use Rattle.argon2_store.proofs.rows.text_in.Goals as goal
 
 -- a text in the grammar is UTF-8

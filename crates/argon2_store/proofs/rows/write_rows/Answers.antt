@@ -1,22 +1,14 @@
-use Rattle.std.proofs.Common.{rules, arith, sym, subst, refl, ◌≡◌, Result, Ok, Err}
-use Rattle.sqlite_trees.specs.View.{View}
-use Rattle.sqlite_trees.specs.declared.error.StoreError.{StoreError}
+use Rattle.argon2_store.proofs.Imports.{rules, arith, sym, subst, refl, ◌≡◌, Result, Err, View, StoreError, IsHonest, err_is}
 use Rattle.sqlite_trees.specs.declared.error.StoreError.TheVariants.{Corrupt}
-use Rattle.argon2_store.specs.Table.{IsHonest}
 use Rattle.argon2_store.proofs.LineLemmas.{all_lines, begin_lines, its_name, next_row}
-use Rattle.argon2_store.proofs.TableLemmas.{err_is, on_all, quiet_then, reads_row, writes_stop, writes_then}
+use Rattle.argon2_store.proofs.TableLemmas.{on_all, reads_ok, reads_row, writes_stop, writes_then}
 use Rattle.argon2_store.proofs.rows.write_rows.Goals as goal
 
 pub loop-init : goal.loop-init
 loop-init g c = (
   c.in_ok-seek.ensures.live,
-  c.seek.ensures.quiet,
-  λ names.
-      let done : Result (Unit {0}) StoreError = Ok tt in
-      reads_row g.S.Store c.args.store.now c.seek.new.self names done
-      (λ clean. subst (λ (w : View). w ≡ record (g.S.Store.view c.args.store.now) { cursors = w.cursors })
-      (sym (c.in_ok-seek.ensures.ok clean)) refl) (λ clean. tt {0}) (λ clean. tt {0}) c.seek.ensures.schema
-      c.seek.ensures.quiet,
+  λ names. reads_ok g.S.Store (λ clean. subst (λ (w : View). w ≡ record (g.S.Store.view c.args.store.now) { cursors = w.cursors })
+      (sym (c.in_ok-seek.ensures.ok clean)) refl) c.seek.ensures.schema c.seek.ensures.quiet,
   λ clean. (
     c.in_ok-seek.ensures.sound clean,
     λ names sees. begin_lines c.args.view _ _ names _ (search rules)
@@ -29,18 +21,14 @@ next-requires g c = c.loop.invariant.0
 
 pub loop-preserved : goal.loop-preserved
 loop-preserved g c =
-    let found : Result (Unit {0}) StoreError = Ok tt in
     let then : IsHonest g.S.Store c.next.new.self → IsHonest g.S.Store c.loop.store = λ clean.
     omega (arith, c.next.ensures.quiet.clean, clean) in (
       search rules,
-      quiet_then g.S.Store _ _ _ c.loop.invariant.1 c.next.ensures.quiet,
-      λ names. writes_then g.S.Store c.args.store.now c.loop.store c.next.new.self names names names ⊥ ⊥ ⊥ (Ok tt)
-          (c.loop.invariant.2 names)
-          (reads_row g.S.Store c.loop.store c.next.new.self names found (λ clean. (c.in_ok-next.ensures.moves clean).same)
-          (λ clean. tt {0}) (λ clean. tt {0}) c.next.ensures.schema c.next.ensures.quiet) (λ never. never),
+      λ names. writes_then (c.loop.invariant.1 names) (reads_ok g.S.Store (λ clean. (c.in_ok-next.ensures.moves clean).same)
+          c.next.ensures.schema c.next.ensures.quiet) (λ never. never),
       λ clean. (
-        (c.loop.invariant.3 (then clean)).0,
-        λ names sees. next_row c.args.view _ _ _ names _ _ _ _ ((c.loop.invariant.3 (then clean)).1 names sees)
+        (c.loop.invariant.2 (then clean)).0,
+        λ names sees. next_row c.args.view _ _ _ names _ _ _ _ ((c.loop.invariant.2 (then clean)).1 names sees)
             (rw c.if-not-branch.false at (c.in_ok-next.ensures.ok clean))
             (λ e is. rw c.in-Some-Ok.field-0-is at (c.in-Some-Ok.ensures e is)),
       ),
@@ -50,40 +38,32 @@ pub returns-in_err-next-clause-reads : goal.returns-in_err-next-clause-reads
 returns-in_err-next-clause-reads g c names texts sees =
     let failed : Result (Unit {0}) StoreError = Err c.in_err-next.field-0.0 in
     rw (err_is c.from_residual-in_err-next.result _ c.from_residual-in_err-next.ensures.1)
-    (writes_then g.S.Store c.args.store.now c.loop.store c.next.new.self names names names ⊥ ⊥ ⊥ failed
-    (c.loop.invariant.2 names)
-    (reads_row g.S.Store c.loop.store c.next.new.self names failed tt (λ clean. c.in_err-next.ensures.err)
+    (writes_then (c.loop.invariant.1 names) (reads_row g.S.Store failed tt (λ clean. c.in_err-next.ensures.err)
     c.in_err-next.ensures.cause c.next.ensures.schema c.next.ensures.quiet) (λ never. never))
 
 pub returns-then-not-branch-clause-shows : goal.returns-then-not-branch-clause-shows
 returns-then-not-branch-clause-shows g c names texts sees clean =
     let then : IsHonest g.S.Store c.loop.store = omega (arith, c.next.ensures.quiet.clean, clean) in
     on_all c.flush.result (all_lines c.args.view _ _ (g.S.Store.view c.next.new.self) names _ _ _ c.next.new.row
-    ((c.loop.invariant.3 then).1 names sees) (rw c.if-not-branch.true at (c.in_ok-next.ensures.ok clean)) c.flush.ensures.bytes)
+    ((c.loop.invariant.2 then).1 names sees) (rw c.if-not-branch.true at (c.in_ok-next.ensures.ok clean)) c.flush.ensures.bytes)
 
 pub returns-then-not-branch-clause-sound : goal.returns-then-not-branch-clause-sound
 returns-then-not-branch-clause-sound g c clean =
-    (c.loop.invariant.3 (omega (arith, c.next.ensures.quiet.clean, clean))).0
+    (c.loop.invariant.2 (omega (arith, c.next.ensures.quiet.clean, clean))).0
 
 pub returns-then-not-branch-clause-reads : goal.returns-then-not-branch-clause-reads
 returns-then-not-branch-clause-reads g c names texts sees =
-    let found : Result (Unit {0}) StoreError = Ok tt in
-    writes_then g.S.Store c.args.store.now c.loop.store c.next.new.self names names names ⊥ ⊥ ⊥ (Ok tt)
-    (c.loop.invariant.2 names)
-    (reads_row g.S.Store c.loop.store c.next.new.self names found (λ clean. (c.in_ok-next.ensures.moves clean).same)
-    (λ clean. tt {0}) (λ clean. tt {0}) c.next.ensures.schema c.next.ensures.quiet) (λ never. never)
+    writes_then (c.loop.invariant.1 names) (reads_ok g.S.Store (λ clean. (c.in_ok-next.ensures.moves clean).same)
+    c.next.ensures.schema c.next.ensures.quiet) (λ never. never)
 
 pub returns-in-Some-Err-clause-sound : goal.returns-in-Some-Err-clause-sound
 returns-in-Some-Err-clause-sound g c clean =
-    (c.loop.invariant.3 (omega (arith, c.next.ensures.quiet.clean, clean))).0
+    (c.loop.invariant.2 (omega (arith, c.next.ensures.quiet.clean, clean))).0
 
 pub returns-in-Some-Err-clause-reads : goal.returns-in-Some-Err-clause-reads
 returns-in-Some-Err-clause-reads g c names texts sees =
-    let found : Result (Unit {0}) StoreError = Ok tt in
-    writes_then g.S.Store c.args.store.now c.loop.store c.next.new.self names names names ⊥ ⊥ ⊥ (Ok tt)
-    (c.loop.invariant.2 names)
-    (reads_row g.S.Store c.loop.store c.next.new.self names found (λ clean. (c.in_ok-next.ensures.moves clean).same)
-    (λ clean. tt {0}) (λ clean. tt {0}) c.next.ensures.schema c.next.ensures.quiet) (λ never. never)
+    writes_then (c.loop.invariant.1 names) (reads_ok g.S.Store (λ clean. (c.in_ok-next.ensures.moves clean).same)
+    c.next.ensures.schema c.next.ensures.quiet) (λ never. never)
 
 -- each row has two texts
 pub returns-in-None-clause-reads : goal.returns-in-None-clause-reads
@@ -91,30 +71,13 @@ returns-in-None-clause-reads g c names texts sees =
     let failed : Result (Unit {0}) StoreError = Err Corrupt in
     let never : IsHonest g.S.Store c.next.new.self → ⊥ = λ clean.
     let then : IsHonest g.S.Store c.loop.store = omega (arith, c.next.ensures.quiet.clean, clean) in
-    let first : IsHonest g.S.Store c.args.store.now = omega (arith, then, (c.loop.invariant.2 names).quiet.clean) in
+    let first : IsHonest g.S.Store c.args.store.now = omega (arith, then, (c.loop.invariant.1 names).quiet.clean) in
     let (e, is) = its_name c.args.view _ _ (g.S.Store.view c.next.new.self) names _ _ _
-    ((c.loop.invariant.3 then).1 names (sees first))
+    ((c.loop.invariant.2 then).1 names (sees first))
     (rw c.if-not-branch.false at (c.in_ok-next.ensures.ok clean)) in
     c.in-None.ensures e is in
-    writes_then g.S.Store c.args.store.now c.loop.store c.next.new.self names names names ⊥ ⊥ ⊥ failed
-    (c.loop.invariant.2 names)
-    (reads_row g.S.Store c.loop.store c.next.new.self names failed tt (λ clean. absurd {0} (never clean))
+    writes_then (c.loop.invariant.1 names) (reads_row g.S.Store failed tt (λ clean. absurd {0} (never clean))
     (λ clean. absurd {0} (never clean)) c.next.ensures.schema c.next.ensures.quiet) (λ never. never)
 
 pub returns-clause-reads : goal.returns-clause-reads
-returns-clause-reads g c names texts sees = writes_stop g.S.Store _ _ names ⊥ (c.loop.invariant.2 names)
-
-pub returns-in_err-next-clause-quiet : goal.returns-in_err-next-clause-quiet
-returns-in_err-next-clause-quiet g c = quiet_then g.S.Store _ _ _ c.loop.invariant.1 c.next.ensures.quiet
-
-pub returns-then-not-branch-clause-quiet : goal.returns-then-not-branch-clause-quiet
-returns-then-not-branch-clause-quiet g c = quiet_then g.S.Store _ _ _ c.loop.invariant.1 c.next.ensures.quiet
-
-pub returns-in-Some-Err-clause-quiet : goal.returns-in-Some-Err-clause-quiet
-returns-in-Some-Err-clause-quiet g c = quiet_then g.S.Store _ _ _ c.loop.invariant.1 c.next.ensures.quiet
-
-pub returns-in-None-clause-quiet : goal.returns-in-None-clause-quiet
-returns-in-None-clause-quiet g c = quiet_then g.S.Store _ _ _ c.loop.invariant.1 c.next.ensures.quiet
-
-pub returns-clause-quiet : goal.returns-clause-quiet
-returns-clause-quiet g c = c.loop.invariant.1
+returns-clause-reads g c names texts sees = writes_stop (c.loop.invariant.1 names)

@@ -1,6 +1,4 @@
-use Rattle.std.proofs.Common.{◌≡◌, false, IsSome, Ok}
-use Rattle.argon2.specs.NamedTexts.{Store}
-use Rattle.argon2_store.specs.Table.{IsHonest, Sees, StaysQuiet, Writes}
+use Rattle.argon2_store.proofs.Imports.{◌≡◌, false, IsSome, Ok, Store, IsHonest, Sees, Writes}
 use Rattle.argon2_store.proofs.LineLemmas.{IsWriting}
 use Rattle.argon2_store.proofs.rows.write_rows.Given as goal
 
@@ -8,8 +6,7 @@ abbrev pub invariant-loop : goal.invariant-loop
 invariant-loop g l =
     let first = g.S.Store.view l.fn.store in
     let now = g.S.Store.view l.store in
-    IsSome (now.cursors 0) × StaysQuiet g.S.Store l.fn.store l.store
-    × ((names : Store) → Writes g.S.Store l.fn.store l.store names names ⊥ (Ok tt))
+    IsSome (now.cursors 0) × ((names : Store) → Writes g.S.Store l.fn.store l.store names names ⊥ (Ok tt))
     × (IsHonest g.S.Store l.store → (first.is_broken ≡ false)
     × ((names : Store) → Sees first names → IsWriting l.view first now names (g.W.Write.contents l.fn.output)
     (g.W.Write.contents l.output)))

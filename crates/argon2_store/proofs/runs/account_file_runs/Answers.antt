@@ -1,5 +1,4 @@
-use Rattle.std.proofs.Math.Logic.{∥∥₁_map}
-use Rattle.std.specs.FinMap.{empty}
+use Rattle.argon2_store.proofs.Imports.{∥∥₁_map, empty}
 use Rattle.argon2_store.proofs.RunLemmas.{runs_join}
 use Rattle.argon2_store.proofs.runs.account_file_runs.Goals as goal
 

@@ -1,10 +1,7 @@
-use Rattle.std.proofs.Common.{arith, ap, inl, refl, ◌∙◌, ◌≡◌, ℕ, None, Some, Ok}
-use Rattle.std.specs.FinMap.{get, insert}
-use Rattle.sqlite_trees.specs.declared.store.Shape.{Shape}
-use Rattle.argon2_base.specs.PhcFields.{phc_of}
-use Rattle.argon2_store.specs.Table.{IsHonest, IsLong}
+use Rattle.argon2_store.proofs.Imports.{arith, ap, inl, refl, ◌∙◌, ◌≡◌, ℕ, None, Some, Ok, get, insert, Shape, phc_of, IsHonest, err_is}
 use Rattle.argon2_store.proofs.AddLemmas.{adds_name}
-use Rattle.argon2_store.proofs.TableLemmas.{err_is, on_all, quiet_itself, quiet_then, texts_changed, writes_more, writes_nothing, writes_then}
+use Rattle.argon2_store.proofs.RowLemmas.{texts_changed}
+use Rattle.argon2_store.proofs.TableLemmas.{on_all, quiet_itself, quiet_then, writes_more, writes_nothing, writes_then}
 use Rattle.argon2_store.proofs.table.add.Goals as goal
 
 pub returns-in_err-hash-clause-writes : goal.returns-in_err-hash-clause-writes
@@ -12,7 +9,7 @@ returns-in_err-hash-clause-writes g c before texts sees =
     rw (err_is c.from_residual.result _ c.from_residual.ensures.1) (
       before,
       texts,
-      writes_nothing g.S.Store c.args.store.now before before (IsLong c.args.name.now) (Ok tt) (λ clean. refl) tt,
+      writes_nothing g.S.Store (Ok tt) (λ clean. refl) tt,
       λ clean. (
         (inl (c.in_err-hash.ensures.invalid, λ is. c.in_err-hash.ensures.only is.0 is.1), refl),
         λ other differs. refl,
@@ -34,8 +31,7 @@ returns-in-Ok-None-clause-writes g c before texts sees =
     let wrote = c.put.ensures.writes before none in (
       insert before name v,
       texts_changed before name (Some v) texts c.in_ok-hash.hash.grammatical,
-      writes_then g.S.Store c.args.store.now c.look_up.new.store c.put.new.store before before (insert before name v) ⊥
-          (IsLong name) (IsLong name) c.put.result (c.in-Ok-None.ensures.reads before texts sees) wrote (λ long. long),
+      writes_then (c.in-Ok-None.ensures.reads before texts sees) wrote (λ long. long),
       on_all c.put.result (λ clean. adds_name before (insert before name v) (name, c.args.text.now) v c.in_ok-hash.ensures.found
           (none (omega (arith, clean, wrote.quiet.clean))) refl),
     )
@@ -44,7 +40,7 @@ pub returns-in-Ok-Some-clause-writes : goal.returns-in-Ok-Some-clause-writes
 returns-in-Ok-Some-clause-writes g c before texts sees = (
   before,
   texts,
-  writes_more g.S.Store _ _ before before ⊥ _ _ (c.in-Ok-Some.ensures.reads before texts sees) (λ never. absurd never),
+  writes_more (c.in-Ok-Some.ensures.reads before texts sees) (λ never. absurd never),
   λ clean.
       let has = rw c.in-Ok-Some.field-0-is at (c.in-Ok-Some.ensures.found before texts
       (sees (omega (arith, clean, c.look_up.ensures.quiet.clean))) clean) in (
@@ -57,7 +53,7 @@ pub returns-in-Err-clause-writes : goal.returns-in-Err-clause-writes
 returns-in-Err-clause-writes g c before texts sees = (
   before,
   texts,
-  writes_more g.S.Store _ _ before before ⊥ _ _ (c.in-Err.ensures.reads before texts sees) (λ never. absurd never),
+  writes_more (c.in-Err.ensures.reads before texts sees) (λ never. absurd never),
   tt,
 )
 

@@ -1,12 +1,7 @@
-use Rattle.std.proofs.Common.{◌<◌, ◌≡◌, arith, ap, length, ℕ, List, [], Ok, Err, refl, subst, take, map, get_or, sym, ◌∙◌}
-use Rattle.std.specs.Borrow.{Bor}
-use Rattle.std.proofs.lemmas.List.{get_or-map, length-map, map_more, take-map, take_all}
-use Rattle.std.specs.Prelude.{Any}
-use Rattle.sqlite_trees.specs.declared.store.Shape.{Shape}
-use Rattle.argon2_store.specs.Adding.{AddsAll, AddsName, entry_of}
-use Rattle.argon2_store.specs.Table.{IsHonest, IsLong, Sees}
+use Rattle.argon2_store.proofs.Imports.{◌<◌, ◌≡◌, arith, ap, length, ℕ, List, [], Ok, Err, refl, subst, take, map, get_or, sym, ◌∙◌, Bor, get_or-map, length-map, map_more}
+use Rattle.argon2_store.proofs.Imports.{take-map, take_all, Any, Shape, AddsAll, AddsName, entry_of, IsHonest, IsLong, Sees}
 use Rattle.argon2_store.proofs.AddLemmas.{add_last}
-use Rattle.argon2_store.proofs.TableLemmas.{quiet_itself, quiet_then, writes_nothing, writes_then}
+use Rattle.argon2_store.proofs.TableLemmas.{writes_nothing, writes_then}
 use Rattle.argon2_store.proofs.table.add_each.Goals as goal
 
 abbrev nothing : Bor (List ℕ) × Bor (List ℕ)
@@ -28,31 +23,29 @@ add-requires g c = c.loop-k.invariant.0
 pub loop-k-init : goal.loop-k-init
 loop-k-init g c = (
   c.requires,
-  quiet_itself g.S.Store c.args.store.now,
   λ before texts sees. (
     before,
     texts,
     λ clean. refl,
-    writes_nothing g.S.Store c.args.store.now before before _ (Ok tt) (λ clean. refl) tt,
+    writes_nothing g.S.Store (Ok tt) (λ clean. refl) tt,
   ),
 )
 
-pub returns-in-Ok-Err-clause-writes : goal.returns-in-Ok-Err-clause-writes
-returns-in-Ok-Err-clause-writes g c before texts sees =
-    let (mid, fine, all, wrote) = c.loop-k.invariant.2 before texts sees in
+pub returns-in-Ok-Err : goal.returns-in-Ok-Err
+returns-in-Ok-Err g c before texts sees =
+    let (mid, fine, all, wrote) = c.loop-k.invariant.1 before texts sees in
     let seen : IsHonest g.S.Store c.loop-k.store → Sees (g.S.Store.view c.loop-k.store) mid = λ clean.
     wrote.sees clean (sees (omega (arith, clean, wrote.quiet.clean))) in
     let (after, good, more, done) = (rw c.in-Ok-Err.field-0-is at (c.in-Ok-Err.ensures.writes mid fine seen)) in (
       after,
       good,
-      writes_then g.S.Store c.args.store.now c.loop-k.store c.add.new.store before mid after _ _ _ _ wrote more
-          (some_long c.args.new.now c.loop-k.k c.loop-k-test.true),
+      writes_then wrote more (some_long c.args.new.now c.loop-k.k c.loop-k-test.true),
       tt,
     )
 
-pub returns-in-Err-clause-writes : goal.returns-in-Err-clause-writes
-returns-in-Err-clause-writes g c before texts sees =
-    let (mid, fine, all, wrote) = c.loop-k.invariant.2 before texts sees in
+pub returns-in-Err : goal.returns-in-Err
+returns-in-Err g c before texts sees =
+    let (mid, fine, all, wrote) = c.loop-k.invariant.1 before texts sees in
     let seen : IsHonest g.S.Store c.loop-k.store → Sees (g.S.Store.view c.loop-k.store) mid = λ clean.
     wrote.sees clean (sees (omega (arith, clean, wrote.quiet.clean))) in
     let (after, good, more, why) = c.in-Err.ensures.writes mid fine seen in
@@ -60,8 +53,7 @@ returns-in-Err-clause-writes g c before texts sees =
     let es = map entry_of new in (
       after,
       good,
-      writes_then g.S.Store c.args.store.now c.loop-k.store c.add.new.store before mid after _ _ _ _ wrote more
-          (some_long new c.loop-k.k c.loop-k-test.true),
+      writes_then wrote more (some_long new c.loop-k.k c.loop-k-test.true),
       λ clean. (
         mid,
         rw take-map (all (omega (arith, clean, more.quiet.clean))),
@@ -75,9 +67,8 @@ pub loop-k-preserved : goal.loop-k-preserved
 loop-k-preserved g c = (
   λ clean. ap (λ (f : ℕ → Shape). f 0) c.add.ensures.schema.shape ∙ c.loop-k.invariant.0
       (omega (arith, clean, c.add.ensures.quiet.clean)),
-  quiet_then g.S.Store _ _ _ c.loop-k.invariant.1 c.add.ensures.quiet,
   λ before texts sees.
-      let (mid, fine, all, wrote) = c.loop-k.invariant.2 before texts sees in
+      let (mid, fine, all, wrote) = c.loop-k.invariant.1 before texts sees in
       let seen : IsHonest g.S.Store c.loop-k.store → Sees (g.S.Store.view c.loop-k.store) mid = λ clean.
       wrote.sees clean (sees (omega (arith, clean, wrote.quiet.clean))) in
       let (after, good, more, done) = (rw c.in-Ok-Ok.field-0-is at (c.in-Ok-Ok.ensures.writes mid fine seen)) in
@@ -89,23 +80,13 @@ loop-k-preserved g c = (
         λ clean. rw (map_more entry_of new c.loop-k.k nothing)
             (add_last (map entry_of (take c.loop-k.k new)) before mid after e
             (all (omega (arith, clean, more.quiet.clean))) (done clean)),
-        writes_then g.S.Store c.args.store.now c.loop-k.store c.add.new.store before mid after _ _ _ (Ok tt) wrote more
-            (some_long new c.loop-k.k c.loop-k-test.true),
+        writes_then wrote more (some_long new c.loop-k.k within),
       ),
 )
 
-pub returns-clause-writes : goal.returns-clause-writes
-returns-clause-writes g c before texts sees =
-    let (mid, fine, all, wrote) = c.loop-k.invariant.2 before texts sees in
+pub returns : goal.returns
+returns g c before texts sees =
+    let (mid, fine, all, wrote) = c.loop-k.invariant.1 before texts sees in
     let end : take c.loop-k.k c.args.new.now ≡ c.args.new.now =
     take_all c.loop-k.k c.args.new.now (omega (arith, c.loop-k-test.false)) in
     (mid, fine, wrote, λ clean. subst (λ l. AddsAll before (map entry_of l) mid) end (all clean))
-
-pub returns-in-Ok-Err-clause-quiet : goal.returns-in-Ok-Err-clause-quiet
-returns-in-Ok-Err-clause-quiet g c = quiet_then g.S.Store _ _ _ c.loop-k.invariant.1 c.add.ensures.quiet
-
-pub returns-in-Err-clause-quiet : goal.returns-in-Err-clause-quiet
-returns-in-Err-clause-quiet g c = quiet_then g.S.Store _ _ _ c.loop-k.invariant.1 c.add.ensures.quiet
-
-pub returns-clause-quiet : goal.returns-clause-quiet
-returns-clause-quiet g c = c.loop-k.invariant.1

@@ -1,5 +1,4 @@
-use Rattle.std.proofs.Common.{inl, inr, refl, subst, sym}
-use Rattle.argon2_store.specs.Table.{Holds}
+use Rattle.argon2_store.proofs.Imports.{inl, inr, refl, subst, sym, Holds}
 use Rattle.argon2_store.proofs.TableLemmas.{now_committed, on_ok, open_if_sound, still_open}
 use Rattle.argon2_store.proofs.table.finish.Goals as goal
 

@@ -1,35 +1,27 @@
-use Rattle.std.proofs.Common.{arith, ap, sym, subst, Ok, ◌∙◌}
-use Rattle.std.specs.Option.{option_copied, option_map}
-use Rattle.sqlite_disk.specs.Disk.{MoreFaults}
-use Rattle.argon2_base.specs.PhcFields.{phc_of}
-use Rattle.argon2_store.specs.Table.{IsHonest, Sees, changed}
-use Rattle.argon2_store.proofs.NameLemmas.{remove-none}
-use Rattle.argon2_store.proofs.RowLemmas.{is_long}
-use Rattle.argon2_store.proofs.TableLemmas.{cause_map, if_err, on_ok, quiet_itself, set_seen, writes_nothing, writes_row}
+use Rattle.argon2_store.proofs.Imports.{arith, ap, sym, subst, Ok, ◌∙◌, option_copied, option_map, phc_of, IsHonest, Sees, changed, insert_entry}
+use Rattle.argon2_store.proofs.RowLemmas.{remove-none, insert_entry-rows_of, is_long}
+use Rattle.argon2_store.proofs.TableLemmas.{cause_map, if_err, on_ok, quiet_itself, row_edited, writes_nothing, writes_row}
 use Rattle.argon2_store.proofs.table.put.Goals as goal
 
 pub returns-in_default-clause-writes : goal.returns-in_default-clause-writes
 returns-in_default-clause-writes g c names none =
     let same = ap (λ n. changed names c.args.name.now (option_map phc_of (option_copied n))) c.in_default.is in
-    writes_nothing g.S.Store c.args.store.now names _ _ (Ok tt)
-    (λ clean. same ∙ remove-none names c.args.name.now (none clean)) tt
+    writes_nothing g.S.Store (Ok tt) (λ clean. same ∙ remove-none names c.args.name.now (none clean)) tt
 
 pub returns-clause-writes : goal.returns-clause-writes
 returns-clause-writes g c names none =
-    let old = c.args.store.now in
-    let new = c.insert.new.self in
     let view = g.S.Store.view in
-    let fault = MoreFaults (g.S.Store.faults old) (g.S.Store.faults new) in
+    let old = view c.args.store.now in
+    let new = view c.insert.new.self in
     let is = ap (λ n. option_map phc_of (option_copied n)) c.in-Some.is in
-    writes_row g.S.Store old new names _ _ c.insert.result c.insert.ensures.frame (λ clean. c.insert.ensures.err)
+    writes_row g.S.Store c.insert.result c.insert.ensures.frame (λ clean. c.insert.ensures.err)
     (on_ok c.insert.result c.insert.ensures.ok (λ ok clean sees.
-    let first : IsHonest g.S.Store old = omega (arith, clean, c.insert.ensures.quiet.clean) in
-    subst (λ o. Sees (view new) (changed names c.args.name.now o)) (sym is)
-    (set_seen (view old) (view new) _ names c.args.name.now (phc_of c.in-Some.hash.now) (c.requires first) (ok clean)
-    c.in_ok-lay.ensures.row (none first) sees)))
-    (λ clean. if_err c.insert.result (c.insert.ensures.cause clean)
-    (cause_map (view old) (view old) fault fault _ _ (λ b. b) (λ f. f)
-    (is_long ((view old).reals 0) _ c.args.name.now (phc_of c.in-Some.hash.now) c.in_ok-lay.ensures.row c.lay.ensures.short)))
+    let first : IsHonest g.S.Store c.args.store.now = omega (arith, clean, c.insert.ensures.quiet.clean) in
+    subst (λ o. Sees new (changed names c.args.name.now o)) (sym is)
+    (row_edited insert_entry old new _ _ names _ (c.requires first) (ok clean) c.in_ok-lay.ensures.row
+    (insert_entry-rows_of names c.args.name.now (phc_of c.in-Some.hash.now) (none first)) sees)))
+    (λ clean. if_err c.insert.result (c.insert.ensures.cause clean) (cause_map old old (λ b. b) (λ f. f)
+    (is_long (old.reals 0) _ c.args.name.now (phc_of c.in-Some.hash.now) c.in_ok-lay.ensures.row c.lay.ensures.short)))
     c.insert.ensures.schema c.insert.ensures.quiet
 
 pub returns-in_default-clause-quiet : goal.returns-in_default-clause-quiet

@@ -8,14 +8,12 @@ use Rattle.argon2_passwd_commands.proofs.Calls.{sets}
 use Rattle.argon2_passwd_commands.proofs.run.accounts.set_text.Goals as goal
 
 pub returns-in_err-text : goal.returns-in_err-text
-returns-in_err-text g c password drawn fresh before has =
-    cannot_serve {g = g.S.Store} g.met.S.Store.settled (setting c.args.name.now password drawn) c.args.accounts.now
-    c.text_of.new.self before has c.in_err-text.field-0.0 _ c.from_residual.ensures.1 (c.in_err-text.ensures.reads before has)
+returns-in_err-text g c password drawn fresh before has = cannot_serve g.met.S.Store.settled
+    (setting c.args.name.now password drawn) has _ c.from_residual.ensures.1 (c.in_err-text.ensures.reads before has)
 
 pub returns-in_default : goal.returns-in_default
 returns-in_default g c password drawn fresh before has =
-    refuses {g = g.S.Store} g.met.S.Store.settled (setting c.args.name.now password drawn) c.args.name.now
-    (λ answer. refl) c.args.accounts.now c.text_of.new.self before (c.in_ok-text.ensures.reads before has)
+    refuses (setting c.args.name.now password drawn) (λ answer. refl) (c.in_ok-text.ensures.reads before has)
     (c.in_ok-text.ensures.shows before) (ap (option_map phc_of) c.in_default.is) NameUnknown _ c.into.ensures (refl, refl)
 
 pub returns : goal.returns

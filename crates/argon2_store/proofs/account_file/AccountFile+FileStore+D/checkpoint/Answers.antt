@@ -1,6 +1,4 @@
-use Rattle.sqlite_store.specs.Laws.{settled_at}
-use Rattle.std.proofs.Common.{refl}
-use Rattle.argon2_store.specs.Runs.{over_file}
+use Rattle.argon2_store.proofs.Imports.{settled_at, refl, over_file}
 use Rattle.argon2_store.proofs.FileLemmas.{live_of, on_read, reads_of, shut_out}
 use Rattle.argon2_store.proofs.account_file.AccountFile+FileStore+D.checkpoint.Goals as goal
 

@@ -1,6 +1,4 @@
-use Rattle.std.proofs.Common.{refl}
-use Rattle.sqlite_store.specs.Laws.{settled_at}
-use Rattle.argon2_store.specs.Runs.{over_file}
+use Rattle.argon2_store.proofs.Imports.{refl, settled_at, over_file}
 use Rattle.argon2_store.proofs.TableLemmas.{leaves_kept}
 use Rattle.argon2_store.proofs.account_file.AccountFile+FileStore+D.open_from.Goals as goal
 

@@ -1,38 +1,29 @@
-use Rattle.std.proofs.Common.{◌∙◌, Err, Some, inl, refl, sym}
-use Rattle.argon2_base.specs.PhcFields.{phc_of}
-use Rattle.argon2_accounts.specs.Accounts.{adding}
-use Rattle.argon2_accounts.specs.declared.error.AccountError.TheVariants.{NameTaken, Refused}
+use Rattle.argon2_store.proofs.Imports.{◌∙◌, Err, Some, inl, refl, sym, phc_of, adding, NameTaken, Refused, Closed}
 use Rattle.argon2_store.proofs.FileLemmas.{cannot_serve, is_nowhere, is_there, live_of, refuses, shut_out, unread, writes}
-use Rattle.argon2_store.specs.declared.error.FileError.TheVariants.{Closed}
 use Rattle.argon2_store.proofs.account_file.AccountFile.add.Goals as goal
 
 pub returns-then-is_closed : goal.returns-then-is_closed
 returns-then-is_closed g c before has =
-    cannot_serve {g = g.S.Store} g.met.S.Store.settled (adding c.args.name.now c.args.text.now) c.args.self.now
-    c.args.self.now before has
-    Closed (Err Closed) refl (shut_out g.met.S.Store.settled c.args.self.now before has c.is_closed.ensures c.if-is_closed.true)
+    cannot_serve g.met.S.Store.settled (adding c.args.name.now c.args.text.now) has (Err Closed) refl
+    (shut_out g.met.S.Store.settled c.args.self.now before has c.is_closed.ensures c.if-is_closed.true)
 
 pub returns-in_err-parsed : goal.returns-in_err-parsed
 returns-in_err-parsed g c before has =
     let live = live_of {g = g.S.Store} c.args.self.now c.is_closed.ensures c.if-is_closed.false in
-    refuses {g = g.S.Store} g.met.S.Store.settled (adding c.args.name.now c.args.text.now) c.args.name.now (λ answer. refl)
-    c.args.self.now c.args.self.now before
+    refuses (adding c.args.name.now c.args.text.now) (λ answer. refl)
     (unread g.met.S.Store.settled c.args.self.now before has live) (λ there clean. refl) refl
     (Refused c.in_err-parsed.field-0.0) _ c.from_residual.ensures.1
     (inl (c.in_err-parsed.ensures.invalid, λ is. c.in_err-parsed.ensures.only is.0 is.1), refl)
 
 pub returns-in_err-text_of : goal.returns-in_err-text_of
 returns-in_err-text_of g c before has =
-    cannot_serve {g = g.S.Store} g.met.S.Store.settled (adding c.args.name.now c.args.text.now) c.args.self.now
-    c.text_of.new.self before has c.in_err-text_of.field-0.0 _
+    cannot_serve g.met.S.Store.settled (adding c.args.name.now c.args.text.now) has _
     c.from_residual-in_err-text_of.ensures.1 (c.in_err-text_of.ensures.reads before has)
 
 pub returns-then-is_some : goal.returns-then-is_some
 returns-then-is_some g c before has =
-    refuses {g = g.S.Store} g.met.S.Store.settled (adding c.args.name.now c.args.text.now) c.args.name.now (λ answer. refl)
-    c.args.self.now
-    c.text_of.new.self before (c.in_ok-text_of.ensures.reads before has) (c.in_ok-text_of.ensures.shows before) refl
-    NameTaken _ c.into.ensures (
+    refuses (adding c.args.name.now c.args.text.now) (λ answer. refl) (c.in_ok-text_of.ensures.reads before has)
+    (c.in_ok-text_of.ensures.shows before) refl NameTaken _ c.into.ensures (
       (
         (phc_of c.in_ok-parsed.parsed, c.in_ok-parsed.ensures.found),
         is_there _ (sym c.is_some.ensures ∙ c.if-is_some.true),
@@ -42,8 +33,7 @@ returns-then-is_some g c before has =
 
 pub returns : goal.returns
 returns g c before has =
-    writes {g = g.S.Store} g.met.S.Store.settled (adding c.args.name.now c.args.text.now) c.args.name.now (λ answer. refl)
-    c.args.self.now c.text_of.new.self before (c.in_ok-text_of.ensures.reads before has) (c.in_ok-text_of.ensures.shows before)
-    (is_nowhere _ (sym c.is_some.ensures ∙ c.if-is_some.false))
-    _ (Some (phc_of c.in_ok-parsed.parsed)) tt refl (refl, c.in_ok-parsed.ensures.found) _
-    (c.change.ensures before (c.in_ok-text_of.ensures.reads before has).has) _ c.written.ensures
+    let reads = c.in_ok-text_of.ensures.reads before has in
+    writes (adding c.args.name.now c.args.text.now) (λ answer. refl) reads (c.in_ok-text_of.ensures.shows before)
+    (is_nowhere _ (sym c.is_some.ensures ∙ c.if-is_some.false)) (Some (phc_of c.in_ok-parsed.parsed)) tt refl
+    (refl, c.in_ok-parsed.ensures.found) _ (c.change.ensures before reads.has) _ c.written.ensures

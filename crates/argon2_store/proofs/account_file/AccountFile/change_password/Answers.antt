@@ -1,16 +1,7 @@
-use Rattle.std.proofs.Common.{ℕ, List, Result, ◌≡◌, ◌∙◌, Ok, Err, Some, ap, inl, inr, refl, subst}
-use Rattle.std.specs.FinMap.{get}
-use Rattle.std.specs.Option.{option_map}
-use Rattle.rand_core.specs.Stream.{Stream, fill_bytes}
-use Rattle.argon2_base.specs.PhcFields.{phc_of}
+use Rattle.argon2_store.proofs.Imports.{ℕ, List, Result, ◌≡◌, ◌∙◌, Ok, Err, Some, ap, inl, inr, refl, subst, get, option_map, Stream, fill_bytes, phc_of, Admits, Terms, changing}
+use Rattle.argon2_store.proofs.Imports.{NameUnknown, StoreError, Phc, DrawsOnce, terms_of, answered}
 use Rattle.argon2_accounts.specs.Accounts as kept
-use Rattle.argon2_accounts.specs.Accounts.{Admits, Terms, changing}
-use Rattle.argon2_accounts.specs.declared.error.AccountError.TheVariants.{NameUnknown}
-use Rattle.sqlite_trees.specs.declared.error.StoreError.{StoreError}
-use Rattle.sqlite_trees.specs.declared.error.StoreError.TheVariants.{OutOfMemory, Io, Corrupt, Full, Broken, Unstorable}
-use Rattle.argon2_base.specs.PhcText.{Phc}
-use Rattle.argon2_store.specs.AccountFile.{DrawsOnce, terms_of}
-use Rattle.argon2_store.specs.Errors.{answered}
+use Rattle.sqlite_trees.specs.declared.error.StoreError.TheVariants.{OutOfMemory}
 use Rattle.argon2_store.proofs.FileLemmas.{cannot_serve, has_written, refuses, writes}
 use Rattle.argon2_store.proofs.account_file.AccountFile.change_password.Goals as goal
 
@@ -21,50 +12,39 @@ drawn_written : {X : Type 0} (x : X) (terms first : Terms) → terms ≡ first �
 drawn_written x terms first same password v old new (inl (admits, drawn)) (Ok y) =
     (subst (λ t. Admits t password v) same admits, drawn)
 drawn_written x terms first same password v old new (inl (admits, drawn)) (Err OutOfMemory) = inr drawn
-drawn_written x terms first same password v old new (inl (admits, drawn)) (Err Io) = inr drawn
-drawn_written x terms first same password v old new (inl (admits, drawn)) (Err Corrupt) = inr drawn
-drawn_written x terms first same password v old new (inl (admits, drawn)) (Err Full) = inr drawn
-drawn_written x terms first same password v old new (inl (admits, drawn)) (Err Broken) = inr drawn
-drawn_written x terms first same password v old new (inl (admits, drawn)) (Err Unstorable) = inr drawn
+drawn_written x terms first same password v old new (inl (admits, drawn)) (Err e) = inr drawn
 drawn_written x terms first same password v old new (inr (denied, nothing)) done = absurd denied
 
 pub returns-in_err-text-clause-call : goal.returns-in_err-text-clause-call
 returns-in_err-text-clause-call g c before has =
-    cannot_serve {g = g.S.Store} g.met.S.Store.settled
-    (changing c.args.name.now c.args.old.now c.args.new.now (fill_bytes 16 (g.R.Rng.stream c.args.rng.now)).0)
-    c.args.self.now c.text_of.new.self before has c.in_err-text.field-0.0 _
+    cannot_serve g.met.S.Store.settled
+    (changing c.args.name.now c.args.old.now c.args.new.now (fill_bytes 16 (g.R.Rng.stream c.args.rng.now)).0) has _
     c.from_residual.ensures.1 (c.in_err-text.ensures.reads before has)
 
 pub returns-in_default-clause-call : goal.returns-in_default-clause-call
 returns-in_default-clause-call g c before has =
-    refuses {g = g.S.Store} g.met.S.Store.settled
-    (changing c.args.name.now c.args.old.now c.args.new.now (fill_bytes 16 (g.R.Rng.stream c.args.rng.now)).0)
-    c.args.name.now (λ answer. refl) c.args.self.now
-    c.text_of.new.self before (c.in_ok-text.ensures.reads before has) (c.in_ok-text.ensures.shows before)
+    refuses (changing c.args.name.now c.args.old.now c.args.new.now (fill_bytes 16 (g.R.Rng.stream c.args.rng.now)).0)
+    (λ answer. refl) (c.in_ok-text.ensures.reads before has) (c.in_ok-text.ensures.shows before)
     (ap (option_map phc_of) c.in_default.is) NameUnknown _ c.into.ensures (refl, refl)
 
 pub returns-in_err-fresh-clause-call : goal.returns-in_err-fresh-clause-call
 returns-in_err-fresh-clause-call g c before has =
-    refuses {g = g.S.Store} g.met.S.Store.settled
-    (changing c.args.name.now c.args.old.now c.args.new.now (fill_bytes 16 (g.R.Rng.stream c.args.rng.now)).0)
-    c.args.name.now (λ answer. refl) c.args.self.now
-    c.text_of.new.self before (c.in_ok-text.ensures.reads before has) (c.in_ok-text.ensures.shows before)
-    (ap (option_map phc_of) c.in-Some.is)
-    c.in_err-fresh.field-0.0 _ c.from_residual-in_err-fresh.ensures.1 (c.in_err-fresh.ensures.made, refl)
+    refuses (changing c.args.name.now c.args.old.now c.args.new.now (fill_bytes 16 (g.R.Rng.stream c.args.rng.now)).0)
+    (λ answer. refl) (c.in_ok-text.ensures.reads before has) (c.in_ok-text.ensures.shows before)
+    (ap (option_map phc_of) c.in-Some.is) c.in_err-fresh.field-0.0 _ c.from_residual-in_err-fresh.ensures.1
+    (c.in_err-fresh.ensures.made, refl)
 
 pub returns-clause-call : goal.returns-clause-call
 returns-clause-call g c before has =
-    writes {g = g.S.Store} g.met.S.Store.settled
-    (changing c.args.name.now c.args.old.now c.args.new.now (fill_bytes 16 (g.R.Rng.stream c.args.rng.now)).0)
-    c.args.name.now (λ answer. refl) c.args.self.now
-    c.text_of.new.self before (c.in_ok-text.ensures.reads before has) (c.in_ok-text.ensures.shows before)
-    (ap (option_map phc_of) c.in-Some.is) _ (Some (phc_of c.in_ok-fresh.fresh)) tt refl c.in_ok-fresh.ensures.made _
-    (c.change.ensures before (c.in_ok-text.ensures.reads before has).has) _ c.written.ensures
+    let reads = c.in_ok-text.ensures.reads before has in
+    writes (changing c.args.name.now c.args.old.now c.args.new.now (fill_bytes 16 (g.R.Rng.stream c.args.rng.now)).0)
+    (λ answer. refl) reads (c.in_ok-text.ensures.shows before) (ap (option_map phc_of) c.in-Some.is)
+    (Some (phc_of c.in_ok-fresh.fresh)) tt refl c.in_ok-fresh.ensures.made _ (c.change.ensures before reads.has) _
+    c.written.ensures
 
 pub returns-clause-accepted : goal.returns-clause-accepted
 returns-clause-accepted g c before after has held =
-    has_written g.S.Store c.text_of.new.self.table.store c.change.new.self.store (terms_of c.text_of.new.self) before after
-    c.args.name.now c.args.new.now (phc_of c.in_ok-fresh.fresh) _ tt _
+    has_written (terms_of c.text_of.new.self) c.args.name.now c.args.new.now tt _
     (c.change.ensures before (c.in_ok-text.ensures.reads before has).has) held c.in_ok-fresh.ensures.accepted _
     c.written.ensures
 

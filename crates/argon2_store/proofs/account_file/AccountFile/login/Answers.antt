@@ -1,98 +1,73 @@
-use Rattle.std.proofs.Common.{◌≡◌, ◌∙◌, Some, ap, refl, sym}
-use Rattle.std.specs.FinMap.{get}
-use Rattle.std.specs.Option.{option_map}
-use Rattle.rand_core.specs.Stream.{fill_bytes}
-use Rattle.argon2_base.specs.PhcFields.{phc_of}
-use Rattle.argon2_accounts.specs.Accounts.{logging_in}
-use Rattle.argon2_accounts.specs.declared.error.AccountError.TheVariants.{NameUnknown}
-use Rattle.argon2.specs.declared.login.answers.Accepted.TheVariants.{Kept, Rehashed}
-use Rattle.argon2_store.specs.AccountFile.{terms_of}
-use Rattle.argon2_store.specs.Table.{IsHonest, IsOpen}
+use Rattle.argon2_store.proofs.Imports.{◌≡◌, ◌∙◌, Some, ap, refl, sym, option_map, fill_bytes, phc_of, logging_in, NameUnknown, Kept, Rehashed, terms_of}
 use Rattle.argon2_store.proofs.FileLemmas.{accepts, cannot_serve, has_kept, has_written, keeps, kept_err, open_of, refuses, writes}
 use Rattle.argon2_store.proofs.account_file.AccountFile.login.Goals as goal
 
 pub returns-in_err-text-clause-call : goal.returns-in_err-text-clause-call
 returns-in_err-text-clause-call g c before has =
-    cannot_serve {g = g.S.Store} g.met.S.Store.settled
-    (logging_in c.args.name.now c.args.password.now (fill_bytes 16 (g.R.Rng.stream c.args.rng.now)).0) c.args.self.now
-    c.text_of.new.self before has c.in_err-text.field-0.0 _ c.from_residual.ensures.1 (c.in_err-text.ensures.reads before has)
+    cannot_serve g.met.S.Store.settled (logging_in c.args.name.now c.args.password.now (fill_bytes 16 (g.R.Rng.stream c.args.rng.now)).0)
+    has _ c.from_residual.ensures.1 (c.in_err-text.ensures.reads before has)
 
 pub returns-in_default-clause-call : goal.returns-in_default-clause-call
 returns-in_default-clause-call g c before has =
-    refuses {g = g.S.Store} g.met.S.Store.settled
-    (logging_in c.args.name.now c.args.password.now (fill_bytes 16 (g.R.Rng.stream c.args.rng.now)).0) c.args.name.now
-    (λ answer. refl) c.args.self.now
-    c.text_of.new.self before (c.in_ok-text.ensures.reads before has) (c.in_ok-text.ensures.shows before)
+    refuses (logging_in c.args.name.now c.args.password.now (fill_bytes 16 (g.R.Rng.stream c.args.rng.now)).0)
+    (λ answer. refl) (c.in_ok-text.ensures.reads before has) (c.in_ok-text.ensures.shows before)
     (ap (option_map phc_of) c.in_default.is) NameUnknown _ c.into.ensures (refl, refl)
 
 pub returns-in_err-accepted-clause-call : goal.returns-in_err-accepted-clause-call
 returns-in_err-accepted-clause-call g c before has =
-    refuses {g = g.S.Store} g.met.S.Store.settled
-    (logging_in c.args.name.now c.args.password.now (fill_bytes 16 (g.R.Rng.stream c.args.rng.now)).0) c.args.name.now
-    (λ answer. refl) c.args.self.now
-    c.text_of.new.self before (c.in_ok-text.ensures.reads before has) (c.in_ok-text.ensures.shows before)
-    (ap (option_map phc_of) c.in-Some.is)
-    c.in_err-accepted.field-0.0 _ c.from_residual-in_err-accepted.ensures.1 (c.in_err-accepted.ensures.step, refl)
+    refuses (logging_in c.args.name.now c.args.password.now (fill_bytes 16 (g.R.Rng.stream c.args.rng.now)).0)
+    (λ answer. refl) (c.in_ok-text.ensures.reads before has) (c.in_ok-text.ensures.shows before)
+    (ap (option_map phc_of) c.in-Some.is) c.in_err-accepted.field-0.0 _ c.from_residual-in_err-accepted.ensures.1
+    (c.in_err-accepted.ensures.step, refl)
 
 pub returns-in_default-fresh-clause-call : goal.returns-in_default-fresh-clause-call
 returns-in_default-fresh-clause-call g c before has =
-    accepts {g = g.S.Store} g.met.S.Store.settled
-    (logging_in c.args.name.now c.args.password.now (fill_bytes 16 (g.R.Rng.stream c.args.rng.now)).0) c.args.name.now
-    (λ answer. refl) c.args.self.now
-    c.text_of.new.self before (c.in_ok-text.ensures.reads before has) (c.in_ok-text.ensures.shows before)
-    (ap (option_map phc_of) c.in-Some.is)
-    c.in_ok-accepted.field-0.accepted (rw c.in_default-fresh.is at c.in_ok-accepted.ensures.step)
+    accepts (logging_in c.args.name.now c.args.password.now (fill_bytes 16 (g.R.Rng.stream c.args.rng.now)).0)
+    (λ answer. refl) (c.in_ok-text.ensures.reads before has) (c.in_ok-text.ensures.shows before)
+    (ap (option_map phc_of) c.in-Some.is) c.in_ok-accepted.field-0.accepted
+    (rw c.in_default-fresh.is at c.in_ok-accepted.ensures.step)
 
 pub returns-in_default-fresh-clause-accepted : goal.returns-in_default-fresh-clause-accepted
 returns-in_default-fresh-clause-accepted g c before after has held =
-    has_kept g.S.Store c.text_of.new.self.table.store (terms_of c.text_of.new.self) before after c.args.name.now
-    c.args.password.now
-    (phc_of c.in-Some.text) (c.in_ok-text.ensures.reads before has).has held c.in_ok-text.ensures.«open»
-    (λ clean. c.in_ok-text.ensures.shows before (c.in_ok-text.ensures.reads before has).has clean
-    ∙ ap (option_map phc_of) c.in-Some.is) (rw c.in_default-fresh.is at c.in_ok-accepted.ensures.accepted)
+    let kept = (c.in_ok-text.ensures.reads before has).has in
+    has_kept (terms_of c.text_of.new.self) c.args.name.now c.args.password.now kept held c.in_ok-text.ensures.«open»
+    (λ clean. c.in_ok-text.ensures.shows before kept clean ∙ ap (option_map phc_of) c.in-Some.is)
+    (rw c.in_default-fresh.is at c.in_ok-accepted.ensures.accepted)
 
 pub returns-then-not-is_closed-clause-call : goal.returns-then-not-is_closed-clause-call
 returns-then-not-is_closed-clause-call g c before has =
     let did = c.in_ok-accepted.field-0.accepted in
     let rehashed : did ≡ Rehashed = c.in_ok-accepted.ensures.fresh.0 (rw c.in-Some-fresh.is refl) in
     let step = rw c.in-Some-fresh.is at c.in_ok-accepted.ensures.step in
-    keeps {g = g.S.Store} g.met.S.Store.settled
-    (logging_in c.args.name.now c.args.password.now (fill_bytes 16 (g.R.Rng.stream c.args.rng.now)).0) c.args.name.now
-    (λ answer. refl) c.args.self.now
-    c.text_of.new.self before (c.in_ok-text.ensures.reads before has) (c.in_ok-text.ensures.shows before)
-    (ap (option_map phc_of) c.in-Some.is)
-    _ (Some (phc_of c.in-Some-fresh.fresh)) did Kept refl step (step.0, ((rw rehashed at step.1).0, refl))
-    c.change-done.result (sym c.is_err.ensures.value ∙ c.if-is_err.true)
-    (c.change-done.ensures before (c.in_ok-text.ensures.reads before has).has) c.is_closed.ensures c.if-not-is_closed.true
+    let reads = c.in_ok-text.ensures.reads before has in
+    keeps (logging_in c.args.name.now c.args.password.now (fill_bytes 16 (g.R.Rng.stream c.args.rng.now)).0)
+    (λ answer. refl) reads (c.in_ok-text.ensures.shows before) (ap (option_map phc_of) c.in-Some.is) g.met.S.Store.settled
+    (Some (phc_of c.in-Some-fresh.fresh)) did Kept refl step (step.0, ((rw rehashed at step.1).0, refl)) c.change-done.result
+    (sym c.is_err.ensures.value ∙ c.if-is_err.true) (c.change-done.ensures before reads.has) c.is_closed.ensures
+    c.if-not-is_closed.true
 
 pub returns-then-not-is_closed-clause-accepted : goal.returns-then-not-is_closed-clause-accepted
 returns-then-not-is_closed-clause-accepted g c before after has held =
-    let change = (c.change-done.ensures before (c.in_ok-text.ensures.reads before has).has) in
-    let new = c.change-done.new.self.store in
-    let is_open : IsHonest g.S.Store new → IsOpen g.S.Store new = λ clean.
-    open_of _ (λ is. absurd (let hit = (c.is_closed.ensures clean).1 is in let shut = c.if-not-is_closed.true in cc)) in
-    let had : IsHonest g.S.Store c.text_of.new.self.table.store → get before c.args.name.now ≡ Some (phc_of c.in-Some.text) =
-    (λ clean. c.in_ok-text.ensures.shows before (c.in_ok-text.ensures.reads before has).has clean
-    ∙ ap (option_map phc_of) c.in-Some.is) in
-    has_kept g.S.Store new (terms_of c.text_of.new.self) before after c.args.name.now c.args.password.now
-    (phc_of c.in-Some.text) (kept_err _ c.change-done.result (sym c.is_err.ensures.value ∙ c.if-is_err.true) change.kept) held
-    is_open
-    (λ clean. had (change.honest clean)) c.in_ok-accepted.ensures.step.0
+    let kept = (c.in_ok-text.ensures.reads before has).has in
+    let change = c.change-done.ensures before kept in
+    let failed = kept_err _ c.change-done.result (sym c.is_err.ensures.value ∙ c.if-is_err.true) change.kept in
+    has_kept (terms_of c.text_of.new.self) c.args.name.now c.args.password.now failed held
+    (λ clean. open_of _ (λ is. absurd (let hit = (c.is_closed.ensures clean).1 is in let shut = c.if-not-is_closed.true in cc)))
+    (λ clean. c.in_ok-text.ensures.shows before kept (change.honest clean) ∙ ap (option_map phc_of) c.in-Some.is)
+    c.in_ok-accepted.ensures.step.0
 
 -- the fresh text is written
 pub returns-clause-call : goal.returns-clause-call
 returns-clause-call g c before has =
-    writes {g = g.S.Store} g.met.S.Store.settled
-    (logging_in c.args.name.now c.args.password.now (fill_bytes 16 (g.R.Rng.stream c.args.rng.now)).0) c.args.name.now
-    (λ answer. refl) c.args.self.now
-    c.text_of.new.self before (c.in_ok-text.ensures.reads before has) (c.in_ok-text.ensures.shows before)
-    (ap (option_map phc_of) c.in-Some.is) _ (Some (phc_of c.in-Some-fresh.fresh)) c.in_ok-accepted.field-0.accepted refl
-    (rw c.in-Some-fresh.is at c.in_ok-accepted.ensures.step) c.change-done.result
-    (c.change-done.ensures before (c.in_ok-text.ensures.reads before has).has) _ c.written.ensures
+    let reads = c.in_ok-text.ensures.reads before has in
+    writes (logging_in c.args.name.now c.args.password.now (fill_bytes 16 (g.R.Rng.stream c.args.rng.now)).0)
+    (λ answer. refl) reads (c.in_ok-text.ensures.shows before) (ap (option_map phc_of) c.in-Some.is)
+    (Some (phc_of c.in-Some-fresh.fresh)) c.in_ok-accepted.field-0.accepted refl
+    (rw c.in-Some-fresh.is at c.in_ok-accepted.ensures.step) c.change-done.result (c.change-done.ensures before reads.has) _
+    c.written.ensures
 
 pub returns-clause-accepted : goal.returns-clause-accepted
 returns-clause-accepted g c before after has held =
-    has_written g.S.Store c.text_of.new.self.table.store c.change-done.new.self.store (terms_of c.text_of.new.self) before after
-    c.args.name.now c.args.password.now (phc_of c.in-Some-fresh.fresh) _ c.in_ok-accepted.field-0.accepted c.change-done.result
+    has_written (terms_of c.text_of.new.self) c.args.name.now c.args.password.now c.in_ok-accepted.field-0.accepted c.change-done.result
     (c.change-done.ensures before (c.in_ok-text.ensures.reads before has).has) held
     (rw c.in-Some-fresh.is at c.in_ok-accepted.ensures.accepted) _ c.written.ensures

@@ -1,18 +1,11 @@
-use Rattle.std.proofs.Common.{◌∙◌, Some, refl, sym}
-use Rattle.rand_core.specs.Stream.{fill_bytes}
-use Rattle.argon2_base.specs.PhcFields.{phc_of}
-use Rattle.argon2_accounts.specs.Accounts.{registering}
-use Rattle.argon2_accounts.specs.declared.error.AccountError.TheVariants.{NameTaken}
-use Rattle.argon2_accounts.proofs.AccountLemmas.{taken}
-use Rattle.argon2_store.specs.AccountFile.{terms_of}
+use Rattle.argon2_store.proofs.Imports.{◌∙◌, Some, refl, sym, fill_bytes, phc_of, registering, NameTaken, taken, terms_of}
 use Rattle.argon2_store.proofs.FileLemmas.{cannot_serve, has_written, is_nowhere, is_there, refuses, undrawn, writes}
 use Rattle.argon2_store.proofs.account_file.AccountFile.register.Goals as goal
 
 pub returns-in_err-text_of-clause-call : goal.returns-in_err-text_of-clause-call
 returns-in_err-text_of-clause-call g c before has =
-    cannot_serve {g = g.S.Store} g.met.S.Store.settled
-    (registering c.args.name.now c.args.password.now (fill_bytes 16 (g.R.Rng.stream c.args.rng.now)).0) c.args.self.now
-    c.text_of.new.self before has c.in_err-text_of.field-0.0 _
+    cannot_serve g.met.S.Store.settled
+    (registering c.args.name.now c.args.password.now (fill_bytes 16 (g.R.Rng.stream c.args.rng.now)).0) has _
     c.from_residual.ensures.1 (c.in_err-text_of.ensures.reads before has)
 
 pub returns-in_err-text_of-clause-drawn : goal.returns-in_err-text_of-clause-drawn
@@ -21,34 +14,27 @@ returns-in_err-text_of-clause-drawn g c =
 
 pub returns-then-is_some-clause-call : goal.returns-then-is_some-clause-call
 returns-then-is_some-clause-call g c before has =
-    refuses {g = g.S.Store} g.met.S.Store.settled
-    (registering c.args.name.now c.args.password.now (fill_bytes 16 (g.R.Rng.stream c.args.rng.now)).0) c.args.name.now
-    (λ answer. refl) c.args.self.now
-    c.text_of.new.self before (c.in_ok-text_of.ensures.reads before has) (c.in_ok-text_of.ensures.shows before) refl
+    refuses (registering c.args.name.now c.args.password.now (fill_bytes 16 (g.R.Rng.stream c.args.rng.now)).0)
+    (λ answer. refl) (c.in_ok-text_of.ensures.reads before has) (c.in_ok-text_of.ensures.shows before) refl
     NameTaken _ c.into.ensures (taken c.args.password.now _ (is_there _ (sym c.is_some.ensures ∙ c.if-is_some.true)), refl)
 
 pub returns-in_err-text-clause-call : goal.returns-in_err-text-clause-call
 returns-in_err-text-clause-call g c before has =
-    refuses {g = g.S.Store} g.met.S.Store.settled
-    (registering c.args.name.now c.args.password.now (fill_bytes 16 (g.R.Rng.stream c.args.rng.now)).0) c.args.name.now
-    (λ answer. refl) c.args.self.now
-    c.text_of.new.self before (c.in_ok-text_of.ensures.reads before has) (c.in_ok-text_of.ensures.shows before)
-    (is_nowhere _ (sym c.is_some.ensures ∙ c.if-is_some.false))
-    c.in_err-text.field-0.0 _ c.from_residual-in_err-text.ensures.1 (c.in_err-text.ensures.made, refl)
+    refuses (registering c.args.name.now c.args.password.now (fill_bytes 16 (g.R.Rng.stream c.args.rng.now)).0)
+    (λ answer. refl) (c.in_ok-text_of.ensures.reads before has) (c.in_ok-text_of.ensures.shows before)
+    (is_nowhere _ (sym c.is_some.ensures ∙ c.if-is_some.false)) c.in_err-text.field-0.0 _
+    c.from_residual-in_err-text.ensures.1 (c.in_err-text.ensures.made, refl)
 
 pub returns-clause-call : goal.returns-clause-call
 returns-clause-call g c before has =
-    writes {g = g.S.Store} g.met.S.Store.settled
-    (registering c.args.name.now c.args.password.now (fill_bytes 16 (g.R.Rng.stream c.args.rng.now)).0) c.args.name.now
-    (λ answer. refl) c.args.self.now
-    c.text_of.new.self before (c.in_ok-text_of.ensures.reads before has) (c.in_ok-text_of.ensures.shows before)
-    (is_nowhere _ (sym c.is_some.ensures ∙ c.if-is_some.false))
-    _ (Some (phc_of c.in_ok-text.text)) tt refl (refl, c.in_ok-text.ensures.made) _
-    (c.change.ensures before (c.in_ok-text_of.ensures.reads before has).has) _ c.written.ensures
+    let reads = c.in_ok-text_of.ensures.reads before has in
+    writes (registering c.args.name.now c.args.password.now (fill_bytes 16 (g.R.Rng.stream c.args.rng.now)).0)
+    (λ answer. refl) reads (c.in_ok-text_of.ensures.shows before) (is_nowhere _ (sym c.is_some.ensures ∙ c.if-is_some.false))
+    (Some (phc_of c.in_ok-text.text)) tt refl (refl, c.in_ok-text.ensures.made) _ (c.change.ensures before reads.has) _
+    c.written.ensures
 
 pub returns-clause-accepted : goal.returns-clause-accepted
 returns-clause-accepted g c before after has held =
-    has_written g.S.Store c.text_of.new.self.table.store c.change.new.self.store (terms_of c.text_of.new.self) before after
-    c.args.name.now c.args.password.now (phc_of c.in_ok-text.text) _ tt _
+    has_written (terms_of c.text_of.new.self) c.args.name.now c.args.password.now tt _
     (c.change.ensures before (c.in_ok-text_of.ensures.reads before has).has) held c.in_ok-text.ensures.accepted _
     c.written.ensures

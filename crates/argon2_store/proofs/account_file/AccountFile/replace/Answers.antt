@@ -1,41 +1,32 @@
-use Rattle.std.proofs.Common.{◌∙◌, Some, ap, refl, sym}
-use Rattle.std.specs.Option.{option_map}
-use Rattle.argon2_base.specs.PhcFields.{phc_of}
-use Rattle.argon2_accounts.specs.Accounts.{replacing}
-use Rattle.argon2_accounts.specs.declared.error.AccountError.TheVariants.{NameUnknown, TextChanged, Refused}
-use Rattle.argon2_accounts.proofs.AccountLemmas.{is_other_text, is_text}
+use Rattle.argon2_store.proofs.Imports.{◌∙◌, Some, ap, refl, sym, option_map, phc_of, replacing, NameUnknown, TextChanged, Refused, is_other_text, is_text}
 use Rattle.argon2_store.proofs.FileLemmas.{cannot_serve, refuses, writes}
 use Rattle.argon2_store.proofs.account_file.AccountFile.replace.Goals as goal
 
 pub returns-in_err-text : goal.returns-in_err-text
 returns-in_err-text g c before has =
-    cannot_serve {g = g.S.Store} g.met.S.Store.settled (replacing c.args.name.now c.args.old.now c.args.new.now)
-    c.args.self.now c.text_of.new.self before has c.in_err-text.field-0.0 _
+    cannot_serve g.met.S.Store.settled (replacing c.args.name.now c.args.old.now c.args.new.now) has _
     c.from_residual.ensures.1 (c.in_err-text.ensures.reads before has)
 
 pub returns-in_default : goal.returns-in_default
 returns-in_default g c before has =
-    refuses {g = g.S.Store} g.met.S.Store.settled (replacing c.args.name.now c.args.old.now c.args.new.now) c.args.name.now
-    (λ answer. refl) c.args.self.now
-    c.text_of.new.self before (c.in_ok-text.ensures.reads before has) (c.in_ok-text.ensures.shows before)
+    refuses (replacing c.args.name.now c.args.old.now c.args.new.now) (λ answer. refl)
+    (c.in_ok-text.ensures.reads before has) (c.in_ok-text.ensures.shows before)
     (ap (option_map phc_of) c.in_default.is) NameUnknown _ c.into.ensures (refl, refl)
 
 pub returns-then-ne : goal.returns-then-ne
 returns-then-ne g c before has =
     let differs = rw c.as_str.ensures.value at (sym c.if-ne.true ∙ c.ne.ensures) in
     let never = is_other_text _ c.args.old.now (phc_of c.in-Some.text) c.text.ensures differs in
-    refuses {g = g.S.Store} g.met.S.Store.settled (replacing c.args.name.now c.args.old.now c.args.new.now) c.args.name.now
-    (λ answer. refl) c.args.self.now
-    c.text_of.new.self before (c.in_ok-text.ensures.reads before has) (c.in_ok-text.ensures.shows before)
+    refuses (replacing c.args.name.now c.args.old.now c.args.new.now) (λ answer. refl)
+    (c.in_ok-text.ensures.reads before has) (c.in_ok-text.ensures.shows before)
     (ap (option_map phc_of) c.in-Some.is) TextChanged _ c.into-then-ne.ensures (never, refl)
 
 pub returns-in_err-fresh : goal.returns-in_err-fresh
 returns-in_err-fresh g c before has =
     let same = rw c.as_str.ensures.value at (sym c.if-ne.false ∙ c.ne.ensures) in
     let is = is_text _ c.args.old.now (phc_of c.in-Some.text) c.text.ensures same in
-    refuses {g = g.S.Store} g.met.S.Store.settled (replacing c.args.name.now c.args.old.now c.args.new.now) c.args.name.now
-    (λ answer. refl) c.args.self.now
-    c.text_of.new.self before (c.in_ok-text.ensures.reads before has) (c.in_ok-text.ensures.shows before)
+    refuses (replacing c.args.name.now c.args.old.now c.args.new.now) (λ answer. refl)
+    (c.in_ok-text.ensures.reads before has) (c.in_ok-text.ensures.shows before)
     (ap (option_map phc_of) c.in-Some.is) (Refused c.in_err-fresh.field-0.0) _ c.from_residual-in_err-fresh.ensures.1
     ((is, c.in_err-fresh.ensures.invalid, λ spelt. c.in_err-fresh.ensures.only spelt.0 spelt.1), refl)
 
@@ -43,8 +34,7 @@ pub returns : goal.returns
 returns g c before has =
     let same = rw c.as_str.ensures.value at (sym c.if-ne.false ∙ c.ne.ensures) in
     let is = is_text _ c.args.old.now (phc_of c.in-Some.text) c.text.ensures same in
-    writes {g = g.S.Store} g.met.S.Store.settled (replacing c.args.name.now c.args.old.now c.args.new.now) c.args.name.now
-    (λ answer. refl) c.args.self.now
-    c.text_of.new.self before (c.in_ok-text.ensures.reads before has) (c.in_ok-text.ensures.shows before)
-    (ap (option_map phc_of) c.in-Some.is) _ (Some (phc_of c.in_ok-fresh.fresh)) tt refl (is, c.in_ok-fresh.ensures.found) _
-    (c.change.ensures before (c.in_ok-text.ensures.reads before has).has) _ c.written.ensures
+    let reads = c.in_ok-text.ensures.reads before has in
+    writes (replacing c.args.name.now c.args.old.now c.args.new.now) (λ answer. refl) reads (c.in_ok-text.ensures.shows before)
+    (ap (option_map phc_of) c.in-Some.is) (Some (phc_of c.in_ok-fresh.fresh)) tt refl (is, c.in_ok-fresh.ensures.found) _
+    (c.change.ensures before reads.has) _ c.written.ensures

@@ -1,18 +1,11 @@
-use Rattle.std.proofs.Common.{Some, ap, refl}
-use Rattle.std.specs.Option.{option_map}
-use Rattle.rand_core.specs.Stream.{fill_bytes}
-use Rattle.argon2_base.specs.PhcFields.{phc_of}
-use Rattle.argon2_accounts.specs.Accounts.{setting}
-use Rattle.argon2_accounts.specs.declared.error.AccountError.TheVariants.{NameUnknown}
-use Rattle.argon2_store.specs.AccountFile.{terms_of}
+use Rattle.argon2_store.proofs.Imports.{Some, ap, refl, option_map, fill_bytes, phc_of, setting, NameUnknown, terms_of}
 use Rattle.argon2_store.proofs.FileLemmas.{cannot_serve, has_written, refuses, undrawn, writes}
 use Rattle.argon2_store.proofs.account_file.AccountFile.set_password.Goals as goal
 
 pub returns-in_err-text-clause-call : goal.returns-in_err-text-clause-call
 returns-in_err-text-clause-call g c before has =
-    cannot_serve {g = g.S.Store} g.met.S.Store.settled
-    (setting c.args.name.now c.args.new.now (fill_bytes 16 (g.R.Rng.stream c.args.rng.now)).0) c.args.self.now
-    c.text_of.new.self before has c.in_err-text.field-0.0 _ c.from_residual.ensures.1 (c.in_err-text.ensures.reads before has)
+    cannot_serve g.met.S.Store.settled (setting c.args.name.now c.args.new.now (fill_bytes 16 (g.R.Rng.stream c.args.rng.now)).0)
+    has _ c.from_residual.ensures.1 (c.in_err-text.ensures.reads before has)
 
 pub returns-in_err-text-clause-drawn : goal.returns-in_err-text-clause-drawn
 returns-in_err-text-clause-drawn g c =
@@ -20,33 +13,26 @@ returns-in_err-text-clause-drawn g c =
 
 pub returns-in_default-clause-call : goal.returns-in_default-clause-call
 returns-in_default-clause-call g c before has =
-    refuses {g = g.S.Store} g.met.S.Store.settled
-    (setting c.args.name.now c.args.new.now (fill_bytes 16 (g.R.Rng.stream c.args.rng.now)).0) c.args.name.now
-    (λ answer. refl) c.args.self.now
-    c.text_of.new.self before (c.in_ok-text.ensures.reads before has) (c.in_ok-text.ensures.shows before)
+    refuses (setting c.args.name.now c.args.new.now (fill_bytes 16 (g.R.Rng.stream c.args.rng.now)).0) (λ answer. refl)
+    (c.in_ok-text.ensures.reads before has) (c.in_ok-text.ensures.shows before)
     (ap (option_map phc_of) c.in_default.is) NameUnknown _ c.into.ensures (refl, refl)
 
 pub returns-in_err-fresh-clause-call : goal.returns-in_err-fresh-clause-call
 returns-in_err-fresh-clause-call g c before has =
-    refuses {g = g.S.Store} g.met.S.Store.settled
-    (setting c.args.name.now c.args.new.now (fill_bytes 16 (g.R.Rng.stream c.args.rng.now)).0) c.args.name.now
-    (λ answer. refl) c.args.self.now
-    c.text_of.new.self before (c.in_ok-text.ensures.reads before has) (c.in_ok-text.ensures.shows before)
-    (ap (option_map phc_of) c.in-Some.is)
-    c.in_err-fresh.field-0.0 _ c.from_residual-in_err-fresh.ensures.1 (c.in_err-fresh.ensures.made, refl)
+    refuses (setting c.args.name.now c.args.new.now (fill_bytes 16 (g.R.Rng.stream c.args.rng.now)).0) (λ answer. refl)
+    (c.in_ok-text.ensures.reads before has) (c.in_ok-text.ensures.shows before)
+    (ap (option_map phc_of) c.in-Some.is) c.in_err-fresh.field-0.0 _ c.from_residual-in_err-fresh.ensures.1
+    (c.in_err-fresh.ensures.made, refl)
 
 pub returns-clause-call : goal.returns-clause-call
 returns-clause-call g c before has =
-    writes {g = g.S.Store} g.met.S.Store.settled
-    (setting c.args.name.now c.args.new.now (fill_bytes 16 (g.R.Rng.stream c.args.rng.now)).0) c.args.name.now
-    (λ answer. refl) c.args.self.now
-    c.text_of.new.self before (c.in_ok-text.ensures.reads before has) (c.in_ok-text.ensures.shows before)
-    (ap (option_map phc_of) c.in-Some.is) _ (Some (phc_of c.in_ok-fresh.fresh)) tt refl c.in_ok-fresh.ensures.made _
-    (c.change.ensures before (c.in_ok-text.ensures.reads before has).has) _ c.written.ensures
+    let reads = c.in_ok-text.ensures.reads before has in
+    writes (setting c.args.name.now c.args.new.now (fill_bytes 16 (g.R.Rng.stream c.args.rng.now)).0) (λ answer. refl)
+    reads (c.in_ok-text.ensures.shows before) (ap (option_map phc_of) c.in-Some.is) (Some (phc_of c.in_ok-fresh.fresh)) tt refl
+    c.in_ok-fresh.ensures.made _ (c.change.ensures before reads.has) _ c.written.ensures
 
 pub returns-clause-accepted : goal.returns-clause-accepted
 returns-clause-accepted g c before after has held =
-    has_written g.S.Store c.text_of.new.self.table.store c.change.new.self.store (terms_of c.text_of.new.self) before after
-    c.args.name.now c.args.new.now (phc_of c.in_ok-fresh.fresh) _ tt _
+    has_written (terms_of c.text_of.new.self) c.args.name.now c.args.new.now tt _
     (c.change.ensures before (c.in_ok-text.ensures.reads before has).has) held c.in_ok-fresh.ensures.accepted _
     c.written.ensures

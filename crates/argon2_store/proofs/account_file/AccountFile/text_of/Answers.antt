@@ -1,8 +1,4 @@
-use Rattle.std.proofs.Common.{◌≡◌, Result, Ok, Err, refl}
-use Rattle.std.specs.Prelude.{IfOk}
-use Rattle.sqlite_trees.specs.declared.error.StoreError.{StoreError}
-use Rattle.argon2_store.specs.Errors.{read_of}
-use Rattle.argon2_store.specs.declared.error.FileError.{FileError}
+use Rattle.argon2_store.proofs.Imports.{◌≡◌, Result, Ok, Err, refl, IfOk, StoreError, read_of, FileError}
 use Rattle.argon2_store.proofs.FileLemmas.{live_of, of_file, on_read, reads_of}
 use Rattle.argon2_store.proofs.account_file.AccountFile.text_of.Goals as goal
 

@@ -1,10 +1,5 @@
-use Rattle.std.proofs.Common.{◌≡◌, ℕ, Bool, cond, List, ap₂, subst, sym}
+use Rattle.argon2_store.proofs.Imports.{◌≡◌, ℕ, Bool, cond, List, ap₂, subst, sym, Image, Ghosts, AreTerms, Terms, AccountFile, IsFrom}
 use Rattle.sqlite_disk.specs.Events.{Event, replay}
-use Rattle.sqlite_wal.specs.Recovery.{Image}
-use Rattle.sqlite_trees.specs.declared.store.Store.{Ghosts}
-use Rattle.argon2_accounts.specs.Accounts.{AreTerms, Terms}
-use Rattle.argon2_store.specs.declared.account_file.AccountFile.{AccountFile}
-use Rattle.argon2_store.specs.AccountFile.{IsFrom}
 use Rattle.argon2_store.proofs.account_file.AccountsAt+T.open.Goals as goal
 
 abbrev image : List ℕ → List ℕ → Image

@@ -1,5 +1,4 @@
-use Rattle.std.proofs.Common.{arith}
-use Rattle.argon2_store.specs.Runs.{over_file}
+use Rattle.argon2_store.proofs.Imports.{arith, over_file}
 use Rattle.argon2_store.proofs.TableLemmas.{kept_same, some_kept}
 use Rattle.argon2_store.proofs.table.Table+FileStore+D.checkpoint.Goals as goal
 
@@ -17,7 +16,7 @@ returns-clause-reads g c names has = record {
 
 pub invariant_of-self : goal.invariant_of-self
 invariant_of-self g c = record {
-  kept = some_kept (over_file {g = g.D.Disk}) c.args.self.now.store c.checkpoint.new.self c.args.self.now.kept (λ names has. (
+  kept = some_kept c.args.self.now.kept (λ names has. (
     has.0,
     kept_same (over_file {g = g.D.Disk}) c.args.self.now.store c.checkpoint.new.self names
         (λ clean. omega (arith, clean, c.checkpoint.ensures.quiet.clean)) c.checkpoint.ensures.same has.1,

@@ -1,5 +1,4 @@
-use Rattle.std.proofs.Common.{IsPermutation}
-use Rattle.argon2_store.specs.Table.{IsHonest, IsOpen}
+use Rattle.argon2_store.proofs.Imports.{IsPermutation}
 use Rattle.argon2_store.proofs.AddLemmas.{reordered, unwritten, written_later}
 use Rattle.argon2_store.proofs.FileLemmas.{open_of}
 use Rattle.argon2_store.proofs.table.Table.add_all.Goals as goal
@@ -13,9 +12,9 @@ returns-in-Ok-add_listed g c =
 
 pub returns-then-is_closed : goal.returns-then-is_closed
 returns-then-is_closed g c =
-    let refused = (rw c.in_default-add_listed.is at c.add_listed-2.ensures) in
-    unwritten g.S.Store c.args.self.now.store c.add_listed-2.new.self.store _ g.met.S.Store.settled refused.quiet
-    (λ names has. (refused.refused names has).0) c.requires (λ clean. (c.is_closed.ensures clean).0 c.if-is_closed.true)
+    unwritten g.S.Store c.args.self.now.store c.add_listed-2.new.self.store
+    (rw c.in_default-add_listed.is at c.add_listed-2.ensures) _ g.met.S.Store.settled c.requires
+    (λ clean. (c.is_closed.ensures clean).0 c.if-is_closed.true)
 
 pub add_listed-requires-3 : goal.add_listed-requires-3
 add_listed-requires-3 g c clean = open_of _ (λ shut. let hit = (c.is_closed.ensures clean).1 shut in
@@ -23,8 +22,7 @@ add_listed-requires-3 g c clean = open_of _ (λ shut. let hit = (c.is_closed.ens
 
 pub returns : goal.returns
 returns g c =
-    let refused = (rw c.in_default-add_listed.is at c.add_listed-2.ensures) in
-    let is_open : IsHonest g.S.Store c.add_listed-2.new.self.store → IsOpen g.S.Store c.add_listed-2.new.self.store = λ clean.
-    open_of _ (λ shut. let hit = (c.is_closed.ensures clean).1 shut in let no = c.if-is_closed.false in cc) in
-    written_later g.S.Store c.args.self.now.store c.add_listed-2.new.self.store c.add_listed-3.new.self.store _
-    c.add_listed-3.result refused.quiet (λ names has. (refused.refused names has).0) is_open c.add_listed-3.ensures
+    written_later g.S.Store c.args.self.now.store c.add_listed-2.new.self.store
+    (rw c.in_default-add_listed.is at c.add_listed-2.ensures) c.add_listed-3.new.self.store _ c.add_listed-3.result
+    (λ clean. open_of _ (λ shut. let hit = (c.is_closed.ensures clean).1 shut in let no = c.if-is_closed.false in cc))
+    c.add_listed-3.ensures

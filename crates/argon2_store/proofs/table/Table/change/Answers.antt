@@ -1,13 +1,6 @@
-use Rattle.std.proofs.Common.{Option, Some, None}
-use Rattle.std.proofs.Math.Logic.{∥∥₁_map}
-use Rattle.std.specs.Borrow.{Bor}
-use Rattle.std.specs.Option.{option_copied, option_map}
-use Rattle.std.specs.Prelude.{IfSome}
-use Rattle.argon2_base.specs.PhcFields.{phc_of}
-use Rattle.argon2_base.specs.PhcText.{IsPhc}
-use Rattle.argon2_base.specs.declared.phc.hash.PasswordHash.{PasswordHash}
-use Rattle.argon2_store.specs.Table.{changed}
-use Rattle.argon2_store.proofs.TableLemmas.{changes_of, has_either, shape_of, texts_changed}
+use Rattle.argon2_store.proofs.Imports.{Option, Some, None, ∥∥₁_map, Bor, option_copied, option_map, IfSome, phc_of, IsPhc, PasswordHash, changed}
+use Rattle.argon2_store.proofs.RowLemmas.{texts_changed}
+use Rattle.argon2_store.proofs.TableLemmas.{changes_of, has_either, shape_of}
 use Rattle.argon2_store.proofs.table.Table.change.Goals as goal
 
 is_text : (o : Option (Bor PasswordHash)) → IfSome (option_map phc_of (option_copied o)) IsPhc
@@ -15,29 +8,24 @@ is_text (Some hash) = hash.now.grammatical
 is_text None = tt
 
 pub write-done-requires : goal.write-done-requires
-write-done-requires g c = shape_of g.S.Store c.args.self.now.store c.args.self.now.kept c.requires.open
+write-done-requires g c = shape_of g.S.Store c.args.self.now.kept c.requires.open
 
 pub returns : goal.returns
 returns g c before has =
     let after = changed before c.args.name.now (option_map phc_of (option_copied c.args.new)) in
     let end = c.finish.ensures in
-    changes_of g.S.Store g.met.S.Store.settled c.args.self.now.store c.write-done.new.store c.finish.new.store before after _
-    c.write-done.result c.finish.result has (texts_changed before c.args.name.now _ has.0 (is_text c.args.new)) c.requires.open
-    (c.write-done.ensures before (c.requires.known before has))
+    changes_of g.met.S.Store.settled c.requires.open c.write-done.result c.finish.result has
+    (texts_changed before c.args.name.now _ has.0 (is_text c.args.new)) (c.write-done.ensures before (c.requires.known before has))
     (end.kept before after) (end.left before after) (end.durable after) end.cause end.closes end.clean end.counts
 
 pub invariant_of-self : goal.invariant_of-self
 invariant_of-self g c = record {
   kept = ∥∥₁_map c.args.self.now.kept (λ it.
-      let before = it.0 in
-      let has = it.1 in
+      let (before, has) = it in
       let after = changed before c.args.name.now (option_map phc_of (option_copied c.args.new)) in
       let end = c.finish.ensures in
-      has_either g.S.Store c.args.self.now.store c.finish.new.store before after _ c.finish.result
-      (changes_of g.S.Store g.met.S.Store.settled c.args.self.now.store c.write-done.new.store c.finish.new.store before
-      after _
-      c.write-done.result c.finish.result has (texts_changed before c.args.name.now _ has.0 (is_text c.args.new))
-      c.requires.open
+      has_either c.finish.result (changes_of g.met.S.Store.settled c.requires.open c.write-done.result c.finish.result has
+      (texts_changed before c.args.name.now _ has.0 (is_text c.args.new))
       (c.write-done.ensures before (c.requires.known before has))
       (end.kept before after) (end.left before after) (end.durable after) end.cause end.closes end.clean end.counts));
 }

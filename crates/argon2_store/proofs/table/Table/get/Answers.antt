@@ -1,47 +1,29 @@
-use Rattle.std.proofs.Common.{Result, Err, IsTrue, false, ◌≡◌, ap, refl, ◌∙◌}
-use Rattle.sqlite_trees.specs.View.{View}
-use Rattle.sqlite_trees.specs.declared.error.StoreError.{StoreError}
-use Rattle.argon2_store.proofs.TableLemmas.{open_if_sound, quiet_then, read_done, read_failed, shape_of, some_kept, was_seen}
+use Rattle.argon2_store.proofs.Imports.{IsTrue, false, ◌≡◌, ap, refl, ◌∙◌, View}
+use Rattle.argon2_store.proofs.TableLemmas.{open_if_sound, read_done, read_failed, shape_of, some_failed, some_read, was_seen}
 use Rattle.argon2_store.proofs.table.Table.get.Goals as goal
 
 pub look_up-requires : goal.look_up-requires
-look_up-requires g c = shape_of g.S.Store c.args.self.now.store c.args.self.now.kept c.requires
+look_up-requires g c = shape_of g.S.Store c.args.self.now.kept c.requires
 
 pub returns-in-Ok-clause-reads : goal.returns-in-Ok-clause-reads
 returns-in-Ok-clause-reads g c names has =
-    read_done g.S.Store g.met.S.Store.settled c.args.self.now.store c.look_up.new.store names _ g.met.S.Store.broken_if_shut has
-    c.requires (c.in-Ok.ensures.reads names has.0 (λ clean unbroken. has.1.seen clean (c.requires clean)))
+    read_done g.met.S.Store.settled c.requires _ g.met.S.Store.broken_if_shut has (c.in-Ok.ensures.reads names)
 
 pub invariant_of-self : goal.invariant_of-self
 invariant_of-self g c = record {
-  kept = some_kept g.S.Store c.args.self.now.store c.look_up.new.store c.args.self.now.kept (λ names has.
-      (read_done g.S.Store g.met.S.Store.settled c.args.self.now.store c.look_up.new.store names (tt {0})
-      g.met.S.Store.broken_if_shut
-      has c.requires (c.in-Ok.ensures.reads names has.0 (λ clean unbroken. has.1.seen clean (c.requires clean)))).has);
+  kept = some_read g.met.S.Store.settled c.requires g.met.S.Store.broken_if_shut c.args.self.now.kept c.in-Ok.ensures.reads;
 }
-
-pub returns-in-Ok-clause-quiet : goal.returns-in-Ok-clause-quiet
-returns-in-Ok-clause-quiet g c = c.look_up.ensures.quiet
 
 pub returns-in-Err-clause-reads : goal.returns-in-Err-clause-reads
 returns-in-Err-clause-reads g c names has =
-    read_failed g.S.Store g.met.S.Store.settled c.args.self.now.store c.look_up.new.store c.undo.new.store names
-    c.in-Err.error _
-    refl has c.requires (c.in-Err.ensures.reads names has.0 (λ clean unbroken. has.1.seen clean (c.requires clean)))
-    (c.undo.ensures.kept names) c.undo.ensures.quiet
+    read_failed g.met.S.Store.settled c.requires refl has (c.in-Err.ensures.reads names) (c.undo.ensures.kept names)
+    c.undo.ensures.quiet
 
 pub invariant_of-self-in-Err : goal.invariant_of-self-in-Err
 invariant_of-self-in-Err g c = record {
-  kept = some_kept g.S.Store c.args.self.now.store c.undo.new.store c.args.self.now.kept (λ names has.
-      let failed : Result (Unit {0}) StoreError = Err c.in-Err.error in
-      (read_failed g.S.Store g.met.S.Store.settled c.args.self.now.store c.look_up.new.store c.undo.new.store names
-      c.in-Err.error failed refl has c.requires
-      (c.in-Err.ensures.reads names has.0 (λ clean unbroken. has.1.seen clean (c.requires clean)))
-      (c.undo.ensures.kept names) c.undo.ensures.quiet).has);
+  kept = some_failed g.met.S.Store.settled c.requires c.args.self.now.kept c.in-Err.ensures.reads c.undo.ensures.kept
+      c.undo.ensures.quiet;
 }
-
-pub returns-in-Err-clause-quiet : goal.returns-in-Err-clause-quiet
-returns-in-Err-clause-quiet g c = quiet_then g.S.Store _ _ _ c.look_up.ensures.quiet c.undo.ensures.quiet
 
 is_open : (old new : View) → (new.is_open ≡ false → IsTrue new.is_broken) → new ≡ record old { cursors = new.cursors }
     → old.is_broken ≡ false → IsTrue new.is_open
