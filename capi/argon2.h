@@ -3,7 +3,7 @@
  * SPDX-License-Identifier: MIT OR Apache-2.0
  *
  * Argon2 (RFC 9106) for C, over a proved library: the names, numbers and layouts of libargon2's argon2.h,
- * so that a program that was written for the one runs on the other without a change.
+ * so that a program that was made for libargon2 runs on this library unchanged.
  *
  * Contracts of the crate argon2_c state what each function returns; docs/DIFFERENCES.md lists what differs from the
  * reference. A function that does not return ARGON2_OK writes nothing, except that argon2_verify_ctx writes the tag
@@ -149,7 +149,7 @@ ARGON2_PUBLIC int argon2d_ctx(argon2_context *context);
 ARGON2_PUBLIC int argon2i_ctx(argon2_context *context);
 ARGON2_PUBLIC int argon2id_ctx(argon2_context *context);
 
-/* Hashes, and writes the tag, the text with a zero byte behind it, or both: a pointer may be NULL. */
+/* Hashes, and writes the tag, the text with a zero byte after it, or both: either pointer may be NULL. */
 ARGON2_PUBLIC int argon2_hash(uint32_t t_cost, uint32_t m_cost, uint32_t lanes, const void *pwd, size_t pwdlen,
     const void *salt, size_t saltlen, void *hash, size_t hashlen, char *encoded, size_t encodedlen, argon2_type type,
     uint32_t version);
