@@ -82,6 +82,10 @@ abbrev pub items_left : Option (Bor (List ℕ)) → List (List ℕ)
 items_left None = []
 items_left (Some rest) = items_of rest.now
 
+-- the names and values of what is left
+abbrev pub pairs_left : Option (Bor (List ℕ)) → List Pair
+pairs_left left = map pair_of (items_left left)
+
 -- the text of a list with one more parameter
 abbrev pub with_item : List ℕ → Pair → List ℕ
 with_item [] p = item p

@@ -170,23 +170,17 @@ split_found bs (Some x) h =
     let parts = split_parts 61 bs (Some x) h (lit< tt) in
     (ap pair_of parts.0 ∙ pair_again x.0.now x.1.now (Lacks_from 61 x.0.now parts.1), parts.0)
 
+-- what has no `=` is a name without a value
+pub pair_of_name : (n : List ℕ) → Lacks 61 n → pair_of n ≡ (n, [])
+pair_of_name [] h = refl
+pair_of_name (c ∷ n) h = rw (h.0, pair_of_name n h.1) refl
+
 -- what has no `=` is no item
 pub split_none : (bs : List ℕ) (r : Option (Bor (List ℕ) × Bor (List ℕ))) → IsSplitOnceResult 61 bs r
     → IfNone r ((p : Pair) → bs ≢ item p)
 split_none bs None h =
     λ p e. Lacks_not 61 p.0 p.1 (rw e at (Lacks_from 61 bs (split_parts 61 bs None h (lit< tt))))
 split_none bs (Some x) h = tt
-
--- what an iterator over a list's text starts with
-pub starts_ok : (text : List ℕ) → 0 < length text → are_params (pairs_of text) ≡ true → text ≡ params_text (pairs_of text)
-    → (list_all is_param (map pair_of (items_of text)) ≡ true)
-    × (items_of text ≡ map item (map pair_of (items_of text))) × (map pair_of (items_of text) ≡ pairs_of text)
-starts_ok text long good is =
-    let pairs = pairs_of_items text long in
-    let all = all_params (pairs_of text) good in
-    let items : items_of text ≡ map item (pairs_of text) =
-    ap items_of is ∙ items_again_long (pairs_of text) all (rw (← is) long) in
-    (rw (← pairs) all, items ∙ ap (map item) pairs, sym pairs)
 
 -- ---- one more parameter, or a refusal
 

@@ -1,10 +1,11 @@
 //! Salts and outputs, and the strict Base64 of bytes.
 
-ghost use Rattle.std.specs.Prelude.{◌≡◌, ◌≤◌, ◌*◌, Some, IfOk, MatchResult, length, nat_eq};
+ghost use Rattle.std.specs.Prelude.{◌≡◌, ◌<◌, ◌≤◌, ◌*◌, Some, IfOk, MatchOption, MatchResult, length, nat_eq};
 ghost use Rattle.std.specs.Cmp.{partial_equiv_from_equiv};
 ghost use Rattle.std.specs.Cmp.Lexicographic.{pointwise, nat_list_eq_equiv};
+ghost use Rattle.argon2_base.specs.ByteList.{list_bytes};
 ghost use Rattle.argon2_base.specs.PhcText.{HasBytes};
-ghost use Rattle.argon2_base.specs.Texts.{strict_base64};
+ghost use Rattle.argon2_base.specs.Texts.{IsBytes, strict_base64};
 ghost use Rattle.argon2_base.specs.declared.error.password_hash.Error.TheVariants.{SaltInvalid, OutputSize};
 
 use super::compare::are_equal;
@@ -54,6 +55,17 @@ impl Salt {
             Some(bytes) if bytes.len >= Self::MIN_LENGTH => Ok(Salt { bytes }),
             _ => Err(Error::SaltInvalid),
         }
+    }
+
+    // The salt of these bytes, if they are not too few.
+    pub(super) fn of_list(bytes: ByteList<48>) -> Option<Salt>
+        requires { IsBytes (list_bytes bytes) }
+        ensures { MatchOption result (length (list_bytes bytes) < 8) (λ s. s ≡ list_bytes bytes) }
+    {
+        if bytes.len < Self::MIN_LENGTH {
+            return None;
+        }
+        Some(Salt { bytes })
     }
 
     /// Its bytes.
@@ -152,6 +164,17 @@ impl Output {
             Some(bytes) if bytes.len >= Self::MIN_LENGTH => Ok(Output { bytes }),
             _ => Err(Error::OutputSize),
         }
+    }
+
+    // The output of these bytes, if they are not too few.
+    pub(super) fn of_list(bytes: ByteList<64>) -> Option<Output>
+        requires { IsBytes (list_bytes bytes) }
+        ensures { MatchOption result (length (list_bytes bytes) < 4) (λ s. s ≡ list_bytes bytes) }
+    {
+        if bytes.len < Self::MIN_LENGTH {
+            return None;
+        }
+        Some(Output { bytes })
     }
 
     /// Its bytes.

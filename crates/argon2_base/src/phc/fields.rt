@@ -1,6 +1,6 @@
 //! The fields of a PHC text, read one by one.
 
-ghost use Rattle.std.specs.Prelude.{◌≡◌, ◌<◌, ◌^◌, ◌++◌, ◌∷◌, ℕ, List, Option, IfOk, IfErr, IfSome, IsSome, IsOkAnd, IsTrue};
+ghost use Rattle.std.specs.Prelude.{◌≡◌, ◌<◌, ◌+◌, ◌*◌, ◌^◌, ◌++◌, ◌∷◌, ℕ, List, Option, IfOk, IfErr, IfSome, IsSome, IsOkAnd, IsTrue};
 ghost use Rattle.std.specs.Option.{option_map};
 ghost use Rattle.std.specs.Result.{result_map_both};
 ghost use Rattle.argon2_base.specs.ByteList.{list_bytes};
@@ -10,7 +10,7 @@ ghost use Rattle.argon2_base.specs.PhcFields.{fields_of, fields_left, IsBytesFie
 ghost use Rattle.argon2_base.specs.declared.error.password_hash.Error.TheVariants.{EncodingInvalid};
 
 use super::bytes::{Output, Salt};
-use super::list::{ParamsString, split_item};
+use super::list::ParamsString;
 use super::value::read_decimal;
 use crate::byte_list::ByteList;
 use crate::error::password_hash::{Error, Result};
@@ -64,7 +64,7 @@ pub(super) fn params_field(left: Option<&str>) -> Result<(ParamsString, Option<&
         return Ok((ParamsString::new(), None));
     };
     let (field, more) = first_field(text);
-    let Some(_pair) = split_item(field) else {
+    let Some(_pair) = field.split_once('=') else {
         return Ok((ParamsString::new(), left));
     };
     let Ok(params) = ParamsString::read(field) else {
@@ -73,9 +73,10 @@ pub(super) fn params_field(left: Option<&str>) -> Result<(ParamsString, Option<&
     Ok((params, more))
 }
 
-// The bytes of strict Base64, at most 64, where anything is left, and what is left.
-fn bytes_field(left: Option<&str>) -> Result<(Option<ByteList<64>>, Option<&str>)>
-    ensures { IsBytesField 0 64 (fields_left left.entry)
+// The bytes of strict Base64, at most `N`, if anything is left, and what is left.
+fn bytes_field<const N: usize>(left: Option<&str>) -> Result<(Option<ByteList<N>>, Option<&str>)>
+    requires { 4 * N + 2 < 2 ^ 64 }
+    ensures { IsBytesField 0 N (fields_left left.entry)
         (result_map_both (λ x. (option_map list_bytes x.0, x.1)) (λ e. e) result) }
 {
     let Some(text) = left else {
@@ -95,9 +96,9 @@ fn salt_field(left: Option<&str>) -> Result<(Option<Salt>, Option<&str>)>
     let (Some(bytes), more) = bytes_field(left)? else {
         return Ok((None, None));
     };
-    match Salt::new(bytes.as_bytes()) {
-        Ok(salt) => Ok((Some(salt), more)),
-        Err(_) => Err(Error::EncodingInvalid),
+    match Salt::of_list(bytes) {
+        Some(salt) => Ok((Some(salt), more)),
+        None => Err(Error::EncodingInvalid),
     }
 }
 
@@ -108,9 +109,9 @@ fn hash_field(left: Option<&str>) -> Result<(Option<Output>, Option<&str>)>
     let (Some(bytes), more) = bytes_field(left)? else {
         return Ok((None, None));
     };
-    match Output::new(bytes.as_bytes()) {
-        Ok(hash) => Ok((Some(hash), more)),
-        Err(_) => Err(Error::EncodingInvalid),
+    match Output::of_list(bytes) {
+        Some(hash) => Ok((Some(hash), more)),
+        None => Err(Error::EncodingInvalid),
     }
 }
 

@@ -1,10 +1,11 @@
 //! Parameter lists.
 
-ghost use Rattle.std.specs.Prelude.{◌≡◌, ◌≢◌, ◌↔◌, ◌<◌, ◌≤◌, ◌++◌, ◌∷◌, [], ℕ, List, false, Some, Ok, is_ok, IfOk, IfErr, IfSome, IfNone, OnOk, OnErr, MatchResult, IsTrue, length, nat_le};
+ghost use Rattle.std.specs.Prelude.{◌≡◌, ◌≢◌, ◌↔◌, ◌<◌, ◌≤◌, ◌++◌, ◌∷◌, ◌&&◌, [], ℕ, List, false, Some, Ok, is_ok, IfOk, IfErr, IfSome, IfNone, OnOk, OnErr, MatchResult, IsTrue, length, nat_le};
 ghost use Rattle.std.specs.Fmt.{decimal};
+ghost use Rattle.std.specs.List.{list_all};
 ghost use Rattle.std.specs.Cmp.{partial_equiv_from_equiv};
 ghost use Rattle.argon2_base.specs.Texts.{strict_base64};
-ghost use Rattle.argon2_base.specs.PhcText.{Pair, item, params_text, value_of, is_param, are_params, ParamsText, pair_of, items_of, items_left, with_item, pairs_eq, pairs_eq_equiv};
+ghost use Rattle.argon2_base.specs.PhcText.{Pair, item, params_text, value_of, is_param, are_params, ParamsText, pair_of, pairs_of, items_of, items_left, pairs_left, are_distinct, with_item, pairs_eq, pairs_eq_equiv};
 ghost use Rattle.argon2_base.specs.declared.error.password_hash.Error.TheVariants.{ParamsInvalid};
 
 use super::bytes::base64_text;
@@ -68,9 +69,8 @@ impl ParamsString {
         ensures value { result ≡ self.now }
         ensures params { IsTrue (are_params self.now) }
     {
-        let text = self.text.as_str();
         Iter {
-            rest: if text.is_empty() { None } else { Some(text) },
+            rest: items_in(self.text.as_str()),
         }
     }
 
@@ -78,12 +78,7 @@ impl ParamsString {
     pub fn get(&self, name: &str) -> Option<Value<'_>>
         ensures { result ≡ value_of name.now self.now }
     {
-        for (key, value) in self.iter() {
-            if key.as_str() == name {
-                return Some(value);
-            }
-        }
-        None
+        value_in(items_in(self.text.as_str()), name)
     }
 
     // Appends a parameter, where the longer list is in the grammar.
@@ -134,20 +129,13 @@ impl ParamsString {
         ensures only { (ps : List Pair) → ParamsText text.now ps → result ≡ Ok ps }
         ensures invalid { IfErr result (λ e. e ≡ ParamsInvalid) }
     {
-        let mut list = ParamsString::new();
-        if text.is_empty() {
-            return Ok(list);
+        let Ok(copy) = ArrayString::from(text) else {
+            return Err(Error::ParamsInvalid);
+        };
+        if !are_params_in(items_in(text)) {
+            return Err(Error::ParamsInvalid);
         }
-        let mut left = Some(text);
-        'items: while let Some(rest) = left {
-            let (item, more) = first_item(rest);
-            let Some((name, value)) = split_item(item) else {
-                return Err(Error::ParamsInvalid);
-            };
-            list.add(name, value)?;
-            left = more;
-        }
-        Ok(list)
+        Ok(ParamsString { text: copy })
     }
 }
 
@@ -224,9 +212,7 @@ impl<'a> Iterator for Iter<'a> {
 
     fn next(&mut self) -> Option<(Ident, Value<'a>)> {
         let (item, rest) = first_item(self.rest?);
-        let Some((name, value)) = split_item(item) else {
-            unreachable!();
-        };
+        let (name, value) = split_item(item);
         let Ok(name) = Ident::new(name) else {
             unreachable!();
         };
@@ -260,6 +246,44 @@ fn push_item(text: &mut ArrayString<127>, name: &str, value: &str) -> bool
     true
 }
 
+// The items of a text, which are none if it is empty.
+fn items_in(text: &str) -> Option<&str>
+    ensures { pairs_left result ≡ pairs_of text.now }
+{
+    if text.is_empty() { None } else { Some(text) }
+}
+
+// The value of a name among items.
+fn value_in<'a>(mut left: Option<&'a str>, name: &str) -> Option<Value<'a>>
+    ensures { result ≡ value_of name.now (pairs_left left.entry) }
+{
+    'items: while let Some(text) = left {
+        let (item, more) = first_item(text);
+        let (key, value) = split_item(item);
+        if key == name {
+            return Some(Value { text: value });
+        }
+        left = more;
+    }
+    None
+}
+
+// Whether items are parameters with distinct names.
+fn are_params_in(mut left: Option<&str>) -> bool
+    ensures { result
+        ≡ (list_all is_param (pairs_left left.entry) && are_distinct (pairs_left left.entry)) }
+{
+    'items: while let Some(text) = left {
+        let (item, more) = first_item(text);
+        let (name, value) = split_item(item);
+        if !is_param_text(name, value) || value_in(more, name).is_some() {
+            return false;
+        }
+        left = more;
+    }
+    true
+}
+
 // The text up to the first `,`, and what follows that.
 fn first_item(text: &str) -> (&str, Option<&str>)
     ensures items { items_of text.now ≡ result.0.now ∷ items_left result.1 }
@@ -271,11 +295,12 @@ fn first_item(text: &str) -> (&str, Option<&str>)
     }
 }
 
-// The name and the value of an item.
-pub(super) fn split_item(text: &str) -> Option<(&str, &str)>
-    ensures found { IfSome result (λ x. (pair_of text.now ≡ (x.0.now, x.1.now))
-        × (text.now ≡ item (x.0.now, x.1.now))) }
-    ensures none { IfNone result ((p : Pair) → text.now ≢ item p) }
+// The name and the value of an item: what has no `=` is a name without a value.
+fn split_item(text: &str) -> (&str, &str)
+    ensures { pair_of text.now ≡ (result.0.now, result.1.now) }
 {
-    text.split_once('=')
+    match text.split_once('=') {
+        Some(parts) => parts,
+        None => (text, ""),
+    }
 }

@@ -1,15 +1,12 @@
-use Rattle.std.proofs.Common.{◌<◌, length, arith, refl}
-use Rattle.std.proofs.lemmas.Bool.Decides.{nat_tests}
-use Rattle.argon2_base.proofs.phc_lemmas.ParamsTextLemmas.{starts_ok}
+use Rattle.std.proofs.Common.{◌≡◌, true, sym}
+use Rattle.std.specs.List.{list_all}
+use Rattle.argon2_base.specs.PhcText.{is_param, items_left, pairs_of, pairs_left}
+use Rattle.argon2_base.proofs.phc_lemmas.ParamsTextLemmas.{all_params}
+use Rattle.argon2_base.proofs.phc_lemmas.ParamsReading.{parts_again}
 use Rattle.argon2_base.proofs.phc.list.ParamsString.iter.Goals as goal
-use Rattle.argon2_base.proofs.phc.list.ParamsString.iter.Goals.{then-is_empty, else-is_empty}
 
 pub invariant_of-result : goal.invariant_of-result
-invariant_of-result c = elim c.if-is_empty.branch [
-  | then-is_empty w ↦ rw w.result-is (refl, refl)
-  | else-is_empty w ↦
-      let e = c.as_str-text.ensures.value in
-      let long : 0 < length c.as_str-text.result.now = grind (arith, nat_tests, w.if-is_empty.ensures) in
-      let ok = starts_ok c.as_str-text.result.now long (rw e c.self.invariant.0) (rw e c.self.invariant.1) in
-      rw w.result-is (ok.0, ok.1)
-]
+invariant_of-result c =
+    let all : list_all is_param (pairs_left c.items_in.result) ≡ true =
+    rw (c.items_in.ensures, c.as_str.ensures.value) (all_params (pairs_of c.self.inside.text.bytes) c.self.invariant.0) in
+    (all, sym (parts_again (items_left c.items_in.result) all))
