@@ -1,6 +1,6 @@
 -- Parameter lists and PHC texts: which values there are, and the one spelling of each.
-use Rattle.std.specs.Prelude.{ℕ, List, ◌≡◌, ◌==◌, ◌&&◌, not, Bool, true, [], ◌∷◌, ◌++◌, length, map, codes, nat_le, if◌then◌else◌, IsTrue, Option, Some, None, is_none, ◌<◌, ◌≤◌, ◌^◌, nat_eq, IfSome, IsSome}
-use Rattle.std.specs.List.{list_all, join_with_byte, slice_split, flat_map}
+use Rattle.std.specs.Prelude.{ℕ, List, ◌≡◌, ◌==◌, ◌&&◌, not, Bool, true, false, [], ◌∷◌, ◌++◌, length, map, codes, nat_le, if◌then◌else◌, IsTrue, Option, Some, None, is_none, ◌<◌, ◌≤◌, ◌^◌, nat_eq, IfSome, IsSome}
+use Rattle.std.specs.List.{AllByRecursion, list_all, join_with_byte, slice_split, flat_map}
 use Rattle.std.specs.Str.{bytes_eq}
 use Rattle.std.specs.Borrow.{Bor}
 use Rattle.std.specs.Cmp.{IsEquivalence, and_equiv, on_equiv, nat_eq_equiv}
@@ -62,6 +62,15 @@ pairs_eq_equiv = lists_equiv (and_equiv (on_equiv (λ (p : Pair). p.0) nat_list_
     (on_equiv (λ (p : Pair). p.1) nat_list_eq_equiv))
 
 -- ---- what a text says
+
+-- the text lacks the byte
+abbrev pub Lacks : ℕ → List ℕ → Type 0
+Lacks c text = AllByRecursion (λ x. (x == c) ≡ false) text
+
+-- what is before and behind the first such byte, if there is one
+abbrev pub IsCut : ℕ → List ℕ → Option (Bor (List ℕ) × Bor (List ℕ)) → Type 0
+IsCut c text None = Lacks c text
+IsCut c text (Some x) = (text ≡ x.0.now ++ c ∷ x.1.now) × Lacks c x.0.now
 
 -- the parts at the first `=`
 abbrev pub pair_of : List ℕ → Pair

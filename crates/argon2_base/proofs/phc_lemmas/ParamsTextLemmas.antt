@@ -1,18 +1,16 @@
 -- What a list says, and what longer lists are.
-use Rattle.std.proofs.Common.{◌≡◌, ◌≢◌, ℕ, ◌<◌, Bool, true, false, not, ◌&&◌, List, [], ◌∷◌, ◌++◌, length, map, refl, sym, ap, ◌∙◌, arith, inl, inr, ◌==◌, nat_le, Some, None, length-append, append_assoc, lit<}
+use Rattle.std.proofs.Common.{◌≡◌, ℕ, ◌<◌, Bool, true, false, not, ◌&&◌, List, [], ◌∷◌, ◌++◌, length, map, refl, sym, ap, ◌∙◌, arith, inl, inr, ◌==◌, nat_le, length-append, append_assoc}
 use Rattle.std.specs.Cmp.Lexicographic.{nat_list_eq_equiv}
 use Rattle.std.proofs.Math.Bool.{and-false, and-true}
 use Rattle.std.proofs.lemmas.Bool.{cases_Bool, and_parts}
 use Rattle.std.specs.List.{list_all, AllByRecursion}
 use Rattle.std.proofs.lemmas.List.Folds.{list_all-append}
-use Rattle.std.proofs.lemmas.Str.Pattern.{IsSplitOnceResult, split_parts}
 use Rattle.std.specs.Str.{bytes_eq}
-use Rattle.std.specs.Borrow.{Bor}
-use Rattle.std.specs.Prelude.{is_none, is_some, IfSome, IfNone, Option}
+use Rattle.std.specs.Prelude.{is_none, is_some}
 use Rattle.argon2_base.specs.Texts.{is_name, is_value, is_name_char, is_value_char}
 use Rattle.argon2_base.specs.PhcText.{Pair, item, params_text, value_of, are_distinct, is_param, are_params, pair_of, items_of, pairs_of, with_item}
 use Rattle.argon2_base.proofs.phc_lemmas.Characters.{name_chars, lacks_by}
-use Rattle.argon2_base.proofs.phc_lemmas.Separators.{Lacks, Lacks-append, Lacks_from, Lacks_not, cut_joined}
+use Rattle.argon2_base.proofs.phc_lemmas.Separators.{Lacks, Lacks-append, cut_joined}
 
 -- the parts of an item
 pub pair_again : (n v : List ℕ) → Lacks 61 n → pair_of (n ++ 61 ∷ v) ≡ (n, v)
@@ -162,25 +160,10 @@ are_params-more ps p h =
 
 -- ---- where an item is cut
 
--- what was cut at the first `=`
-pub split_found : (bs : List ℕ) (r : Option (Bor (List ℕ) × Bor (List ℕ))) → IsSplitOnceResult 61 bs r
-    → IfSome r (λ x. (pair_of bs ≡ (x.0.now, x.1.now)) × (bs ≡ item (x.0.now, x.1.now)))
-split_found bs None h = tt
-split_found bs (Some x) h =
-    let parts = split_parts 61 bs (Some x) h (lit< tt) in
-    (ap pair_of parts.0 ∙ pair_again x.0.now x.1.now (Lacks_from 61 x.0.now parts.1), parts.0)
-
 -- what has no `=` is a name without a value
 pub pair_of_name : (n : List ℕ) → Lacks 61 n → pair_of n ≡ (n, [])
 pair_of_name [] h = refl
 pair_of_name (c ∷ n) h = rw (h.0, pair_of_name n h.1) refl
-
--- what has no `=` is no item
-pub split_none : (bs : List ℕ) (r : Option (Bor (List ℕ) × Bor (List ℕ))) → IsSplitOnceResult 61 bs r
-    → IfNone r ((p : Pair) → bs ≢ item p)
-split_none bs None h =
-    λ p e. Lacks_not 61 p.0 p.1 (rw e at (Lacks_from 61 bs (split_parts 61 bs None h (lit< tt))))
-split_none bs (Some x) h = tt
 
 -- ---- one more parameter, or a refusal
 

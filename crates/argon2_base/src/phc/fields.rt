@@ -10,7 +10,7 @@ ghost use Rattle.argon2_base.specs.PhcFields.{fields_of, fields_left, IsBytesFie
 ghost use Rattle.argon2_base.specs.declared.error.password_hash.Error.TheVariants.{EncodingInvalid};
 
 use super::bytes::{Output, Salt};
-use super::list::ParamsString;
+use super::list::{ParamsString, cut};
 use super::value::read_decimal;
 use crate::byte_list::ByteList;
 use crate::error::password_hash::{Error, Result};
@@ -64,7 +64,7 @@ pub(super) fn params_field(left: Option<&str>) -> Result<(ParamsString, Option<&
         return Ok((ParamsString::new(), None));
     };
     let (field, more) = first_field(text);
-    let Some(_pair) = field.split_once('=') else {
+    let Some(_pair) = cut(field, b'=') else {
         return Ok((ParamsString::new(), left));
     };
     let Ok(params) = ParamsString::read(field) else {

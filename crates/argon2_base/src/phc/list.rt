@@ -5,7 +5,7 @@ ghost use Rattle.std.specs.Fmt.{decimal};
 ghost use Rattle.std.specs.List.{list_all};
 ghost use Rattle.std.specs.Cmp.{partial_equiv_from_equiv};
 ghost use Rattle.argon2_base.specs.Texts.{strict_base64};
-ghost use Rattle.argon2_base.specs.PhcText.{Pair, item, params_text, value_of, is_param, are_params, ParamsText, pair_of, pairs_of, items_of, items_left, pairs_left, are_distinct, with_item, pairs_eq, pairs_eq_equiv};
+ghost use Rattle.argon2_base.specs.PhcText.{Pair, item, params_text, value_of, is_param, are_params, ParamsText, IsCut, pair_of, pairs_of, items_of, items_left, pairs_left, are_distinct, with_item, pairs_eq, pairs_eq_equiv};
 ghost use Rattle.argon2_base.specs.declared.error.password_hash.Error.TheVariants.{ParamsInvalid};
 
 use super::bytes::base64_text;
@@ -284,12 +284,27 @@ fn are_params_in(mut left: Option<&str>) -> bool
     true
 }
 
+// What is before and behind the first such byte. Items are short, so this takes less time than the
+// search of `split_once`.
+pub(super) fn cut(text: &str, at: u8) -> Option<(&str, &str)>
+    requires { at < 128 }
+    ensures { IsCut at text.now result }
+{
+    let bytes = text.as_bytes();
+    for i in 0..bytes.len() {
+        if bytes[i] == at {
+            return Some((&text[..i], &text[i + 1..]));
+        }
+    }
+    None
+}
+
 // The text up to the first `,`, and what follows that.
 fn first_item(text: &str) -> (&str, Option<&str>)
     ensures items { items_of text.now ≡ result.0.now ∷ items_left result.1 }
     ensures shorter { IfSome result.1 (λ rest. length rest.now < length text.now) }
 {
-    match text.split_once(',') {
+    match cut(text, b',') {
         Some((item, rest)) => (item, Some(rest)),
         None => (text, None),
     }
@@ -299,7 +314,7 @@ fn first_item(text: &str) -> (&str, Option<&str>)
 fn split_item(text: &str) -> (&str, &str)
     ensures { pair_of text.now ≡ (result.0.now, result.1.now) }
 {
-    match text.split_once('=') {
+    match cut(text, b'=') {
         Some(parts) => parts,
         None => (text, ""),
     }

@@ -1,0 +1,6 @@
+use Rattle.std.proofs.Common.{take}
+use Rattle.argon2_base.specs.PhcText.{Lacks}
+use Rattle.argon2_base.proofs.phc.list.cut.Given as goal
+
+abbrev pub invariant-loop-i : goal.invariant-loop-i
+invariant-loop-i l = Lacks l.at (take l.i l.text)
