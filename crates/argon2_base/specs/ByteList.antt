@@ -13,7 +13,7 @@ list_bytes list = take list.len list.bytes
 abbrev pub base64_length : ℕ → ℕ
 base64_length n = (4 * n + 2) / 3
 
--- why a text is refused where the longest has so many bytes: its length comes first
+-- why a text is refused if the longest has so many bytes: its length comes first
 abbrev pub IsBase64Cause : ℕ → List ℕ → B64Error → Type 0
 IsBase64Cause longest text InvalidLength = longest < length text
 IsBase64Cause longest text InvalidEncoding =

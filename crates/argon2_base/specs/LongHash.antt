@@ -20,7 +20,7 @@ half_count n = (n + 31) / 32 - 2
 abbrev pub half : List ℕ → ℕ → List ℕ
 half first i = take 32 (chain first i)
 
--- W(1) to W(r), and a last piece, of 33 to 64 bytes where n is above 64
+-- W(1) to W(r), and a last piece, of 33 to 64 bytes if n is above 64
 abbrev pub pieces : ℕ → List ℕ → List ℕ
 pieces n first =
     let r : ℕ = half_count n in

@@ -25,8 +25,8 @@ NoVersionFirst fs = (d : List ℕ) (more : List (List ℕ)) → fs ≡ item (cod
 abbrev pub NoItemFirst : List (List ℕ) → Type 0
 NoItemFirst fs = (p : Pair) (more : List (List ℕ)) → fs ≡ item p ∷ more → ⊥
 
--- The answer of a reader of bytes, at least low and at most high of them, where fields are left: the
--- bytes where strict Base64 of so many stands first, none where nothing is left, else a refusal.
+-- The answer of a reader of bytes, at least low and at most high of them, given the fields left: the
+-- bytes if strict Base64 of so many stands first, none if nothing is left, else a refusal.
 pub record IsBytesField (low high : ℕ) (left : List (List ℕ))
     (r : Result (Option (List ℕ) × Option (Bor (List ℕ))) Error) : Type 0
   where

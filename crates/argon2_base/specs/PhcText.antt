@@ -120,12 +120,12 @@ phc_with algorithm version params salt hash = record {
   hash = hash;
 }
 
--- a field where there is a value
+-- a field if there is a value
 abbrev pub field : {X : Type 0} → (X → List ℕ) → Option X → List (List ℕ)
 field spell None = []
 field spell (Some x) = spell x ∷ []
 
--- a field where there are parameters
+-- a field if there are parameters
 abbrev pub list_field : List Pair → List (List ℕ)
 list_field [] = []
 list_field (p ∷ ps) = params_text (p ∷ ps) ∷ []

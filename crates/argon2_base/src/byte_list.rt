@@ -39,8 +39,8 @@ impl<const N: usize> ByteList<N> {
         })
     }
 
-    /// The list whose strict Base64 the text is. `InvalidLength` where the text is longer than that
-    /// of `N` bytes, else `InvalidEncoding` where it is the strict Base64 of no bytes.
+    /// The list whose strict Base64 the text is. `InvalidLength` if the text is longer than that
+    /// of `N` bytes, else `InvalidEncoding` if it is the strict Base64 of no bytes.
     pub fn from_b64(text: &str) -> Result<Self, B64Error>
         requires { 4 * N + 2 < 2 ^ 64 }
         ensures { IsListOfText text.now result }

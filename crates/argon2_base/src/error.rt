@@ -44,7 +44,7 @@ impl std::error::Error for B64Error {}
 /// Why a call is refused.
 #[derive(Clone, Copy, Debug, PartialEq, Eq)]
 pub enum Error {
-    /// The associated data is longer than 32 bytes, or than 4294967295 where a call takes it apart.
+    /// The associated data is longer than 32 bytes, or than 4294967295 if a call takes it apart.
     AdTooLong,
     /// The name is not `argon2d`, `argon2i` or `argon2id`.
     AlgorithmInvalid,

@@ -114,7 +114,7 @@ strict_base64_never_refused s b e bytes is err =
 abbrev written : ℕ → Result ℕ EncodeSliceError
 written n = Ok n
 
--- what encoding into a slice wrote, where it said Ok
+-- what encoding into a slice wrote, if it said Ok
 pub strict_base64_written : (b old new : List ℕ) (len : ℕ) → length new ≡ length old
     → (encoded_size_of standard_no_pad (length b) ≤ length old → written len ≡ Ok (encoded_size_of standard_no_pad (length b)))
     → (length old < encoded_size_of standard_no_pad (length b) → written len ≡ Err OutputSliceTooSmall)

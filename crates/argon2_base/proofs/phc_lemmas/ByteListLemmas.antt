@@ -32,7 +32,7 @@ answer_ok None None false d room n h = elim (cases_Bool (nat_lt room (length d))
   | inr wide ↦ (refl, (let f = rw wide at h in cc), ltb-false room (length d) wide)
 ]
 
--- where there is no error and room for the bytes, nothing is refused
+-- if there is no error and room for the bytes, nothing is refused
 answer_err : (x y : Option DecodeError) (small : Bool) (d b : List ℕ) (room : ℕ) (f : DecodeSliceError)
     → decode_outcome (or_else x y) d ≡ Ok b
     → length b ≤ room → small ≡ false → answer x small y d room ≡ Err f → ⊥

@@ -3,7 +3,7 @@ use Rattle.std.proofs.Common.{◌≡◌, ◌∙◌, ℕ, ◌≤◌, sym, ap, ari
 use Rattle.std.specs.Int.Bits.{bit_or, bit_xor, xor_zero_l, xor_zero_r, xor_self, xor_assoc}
 use Rattle.std.proofs.lemmas.Nat.{le_or_l, le_or_r}
 
--- where no difference is noted after two bytes, none was before them, and they are equal
+-- if no difference is noted after two bytes, none was before them, and they are equal
 pub no_difference : (d x y : ℕ) → bit_or d (bit_xor x y) ≡ 0 → (d ≡ 0) × (x ≡ y)
 no_difference d x y h =
     let left : d ≤ bit_or d (bit_xor x y) = le_or_l d (bit_xor x y) in

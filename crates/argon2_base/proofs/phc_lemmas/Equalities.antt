@@ -9,17 +9,17 @@ use Rattle.std.proofs.lemmas.Bool.Decides.{Decides-and}
 use Rattle.std.proofs.lemmas.Slice.Eq.{bytes_eq-Decides}
 use Rattle.argon2_base.specs.PhcText.{Pair, Phc, pairs_eq, phc_eq}
 
--- two parameters are equal where their names and their values are
+-- two parameters are equal if their names and their values are
 pair_eq-Decides : (p q : Pair) → Decides (bytes_eq p.0 q.0 && bytes_eq p.1 q.1) (p ≡ q)
 pair_eq-Decides p q =
     let parts = Decides-and (bytes_eq p.0 q.0) (bytes_eq p.1 q.1) (bytes_eq-Decides p.0 q.0) (bytes_eq-Decides p.1 q.1) in
     (λ e. let same = parts.0 e in λ i. (same.0 i, same.1 i), λ e. parts.1 (ap (λ (r : Pair). r.0) e, ap (λ (r : Pair). r.1) e))
 
--- two lists are equal where their parameters are
+-- two lists are equal if their parameters are
 pub pairs_eq-Decides : (ps qs : List Pair) → Decides (pairs_eq ps qs) (ps ≡ qs)
 pairs_eq-Decides = pointwise_decides pair_eq-Decides
 
--- two options are equal where what they hold is
+-- two options are equal if what they hold is
 option_eq-Decides : {T : Type 0} {E : T → T → Bool} → ((x y : T) → Decides (E x y) (x ≡ y)) → (o r : Option T)
     → Decides (option_eq E o r) (o ≡ r)
 option_eq-Decides decides None None = (λ e. refl, λ e. refl)
@@ -27,7 +27,7 @@ option_eq-Decides decides None (Some y) = (λ e. absurd cc, λ e. absurd cc)
 option_eq-Decides decides (Some x) None = (λ e. absurd cc, λ e. absurd cc)
 option_eq-Decides decides (Some x) (Some y) = (λ e. ap Some ((decides x y).0 e), λ e. (decides x y).1 cc)
 
--- two values are equal where their fields are
+-- two values are equal if their fields are
 pub phc_eq-Decides : (v w : Phc) → Decides (phc_eq v w) (v ≡ w)
 phc_eq-Decides v w =
     let parts = Decides-and _ _ (Decides-and _ _ (Decides-and _ _ (Decides-and _ _

@@ -206,12 +206,12 @@ bytes_refused low high f left more e h = record {
 
 -- ---- the whole text
 
--- nothing is left where there is no field
+-- nothing is left if there is no field
 pub left_none : (o : Option (Bor (List ℕ))) → fields_left o ≡ [] → is_some o ≡ false
 left_none None e = refl
 left_none (Some x) e = absurd (omega (arith, ap length e, length-slice_split (λ b. b == 36) x.now))
 
--- no field where nothing is left
+-- no field if nothing is left
 pub none_left : (o : Option (Bor (List ℕ))) → is_some o ≡ false → fields_left o ≡ []
 none_left None e = refl
 none_left (Some x) e = absurd cc

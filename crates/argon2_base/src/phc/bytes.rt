@@ -45,7 +45,7 @@ impl Salt {
     /// How many bytes a fresh salt has.
     pub const RECOMMENDED_LENGTH: usize = 16;
 
-    /// The salt of these bytes, or `SaltInvalid` where they are fewer than 8 or more than 48.
+    /// The salt of these bytes, or `SaltInvalid` if they are fewer than 8 or more than 48.
     pub fn new(bytes: &[u8]) -> Result<Salt>
         ensures value { IfOk result (λ s. s ≡ bytes.now) }
         ensures when { MatchResult result (λ _. (8 ≤ length bytes.now) × (length bytes.now ≤ 48))
@@ -154,7 +154,7 @@ impl Output {
     /// The most bytes that an output has.
     pub const MAX_LENGTH: usize = 64;
 
-    /// The output of these bytes, or `OutputSize` where they are fewer than 4 or more than 64.
+    /// The output of these bytes, or `OutputSize` if they are fewer than 4 or more than 64.
     pub fn new(bytes: &[u8]) -> Result<Output>
         ensures value { IfOk result (λ s. s ≡ bytes.now) }
         ensures when { MatchResult result (λ _. (4 ≤ length bytes.now) × (length bytes.now ≤ 64))

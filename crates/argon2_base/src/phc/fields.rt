@@ -25,7 +25,7 @@ pub(super) fn first_field(text: &str) -> (&str, Option<&str>)
     }
 }
 
-// The version, where it is next, and what is left.
+// The version, if it is next, and what is left.
 pub(super) fn version_field(left: Option<&str>) -> Result<(Option<u32>, Option<&str>)>
     ensures found { IfOk result (λ x.
         (fields_left left.entry ≡ field version_text x.0 ++ fields_left x.1)
@@ -49,7 +49,7 @@ pub(super) fn version_field(left: Option<&str>) -> Result<(Option<u32>, Option<&
     }
 }
 
-// The parameters, where they are next, and what is left.
+// The parameters, if they are next, and what is left.
 pub(super) fn params_field(left: Option<&str>) -> Result<(ParamsString, Option<&str>)>
     ensures found { IfOk result (λ x.
         (fields_left left.entry ≡ list_field x.0 ++ fields_left x.1)
@@ -89,7 +89,7 @@ fn bytes_field<const N: usize>(left: Option<&str>) -> Result<(Option<ByteList<N>
     }
 }
 
-// The salt, where anything is left, and what is left.
+// The salt, if anything is left, and what is left.
 fn salt_field(left: Option<&str>) -> Result<(Option<Salt>, Option<&str>)>
     ensures { IsBytesField 8 48 (fields_left left.entry) result }
 {
@@ -102,7 +102,7 @@ fn salt_field(left: Option<&str>) -> Result<(Option<Salt>, Option<&str>)>
     }
 }
 
-// The hash, where anything is left, and what is left.
+// The hash, if anything is left, and what is left.
 fn hash_field(left: Option<&str>) -> Result<(Option<Output>, Option<&str>)>
     ensures { IsBytesField 4 64 (fields_left left.entry) result }
 {
@@ -115,7 +115,7 @@ fn hash_field(left: Option<&str>) -> Result<(Option<Output>, Option<&str>)>
     }
 }
 
-// The salt and the hash, where they are next and nothing follows.
+// The salt and the hash, if they are next and nothing follows.
 pub(super) fn salt_and_hash(left: Option<&str>) -> Result<(Option<Salt>, Option<Output>)>
     ensures found { IfOk result (λ x.
         (fields_left left.entry ≡ field strict_base64 x.0 ++ field strict_base64 x.1)

@@ -21,13 +21,13 @@ use std::str::FromStr;
 pub struct PasswordHash {
     /// The identifier of the algorithm.
     pub algorithm: Ident,
-    /// The version, where the text has one.
+    /// The version, if the text has one.
     pub version: Option<u32>,
     /// The parameters.
     pub params: ParamsString,
-    /// The salt, where the text has one.
+    /// The salt, if the text has one.
     pub salt: Option<Salt>,
-    /// The hash, where the text has one.
+    /// The hash, if the text has one.
     pub hash: Option<Output>,
     ghost grammatical: { IsPhc
         (phc_with algorithm version params salt hash) } by { Prim.hlevel props },
@@ -39,7 +39,7 @@ impl PasswordHash {
     ghost use Rattle.argon2_base.specs.PhcText.{Phc, PhcText};
     ghost use Rattle.argon2_base.specs.declared.error.password_hash.Error.TheVariants.{EncodingInvalid};
 
-    /// What a PHC text says, or `EncodingInvalid` where it is outside the grammar.
+    /// What a PHC text says, or `EncodingInvalid` if it is outside the grammar.
     pub fn new(text: &str) -> Result<PasswordHash>
         ensures found { IfOk result (λ h. PhcText text.now (phc_of h)) }
         ensures only { (v : Phc) → PhcText text.now v → IsOkAnd result (λ h. phc_of h ≡ v) }
@@ -94,7 +94,7 @@ impl FromStr for PasswordHash {
     }
 }
 
-/// Two are equal where they say the same.
+/// Two are equal if they say the same.
 impl PartialEq for PasswordHash {
     ghost use Rattle.std.specs.Prelude.{◌≡◌, ◌↔◌, IsTrue};
     ghost use Rattle.std.specs.Cmp.{on_per, partial_equiv_from_equiv};

@@ -68,7 +68,7 @@ impl Ident {
     ghost use Rattle.argon2_base.specs.Texts.{is_name};
     ghost use Rattle.argon2_base.specs.declared.error.password_hash.Error.TheVariants.{EncodingInvalid};
 
-    /// The identifier with this text, or `EncodingInvalid` where it is none.
+    /// The identifier with this text, or `EncodingInvalid` if it is none.
     pub fn new(text: &str) -> Result<Ident>
         ensures value { IfOk result (λ i. ident_text i ≡ text.now) }
         ensures when { MatchResult result (λ _. IsTrue (is_name text.now))

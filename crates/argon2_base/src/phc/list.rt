@@ -81,7 +81,7 @@ impl ParamsString {
         value_in(items_in(self.text.as_str()), name)
     }
 
-    // Appends a parameter, where the longer list is in the grammar.
+    // Appends a parameter, if the longer list is in the grammar.
     fn add(&mut self, name: &str, value: &str) -> Result<()>
         ensures when { is_ok result ≡ are_params (self.old ++ (name.now, value.now) ∷ []) }
         ensures ok { OnOk result (self.new ≡ self.old ++ (name.now, value.now) ∷ []) }
@@ -97,7 +97,7 @@ impl ParamsString {
         Ok(())
     }
 
-    /// Appends a parameter whose value is the decimal of a number. `ParamsInvalid` where the longer
+    /// Appends a parameter whose value is the decimal of a number. `ParamsInvalid` if the longer
     /// list would be outside the grammar: the list is then as before.
     pub fn add_decimal(&mut self, name: &str, value: u32) -> Result<()>
         ensures when { is_ok result ≡ are_params (self.old ++ (name.now, decimal value) ∷ []) }
@@ -108,7 +108,7 @@ impl ParamsString {
         self.add(name, decimal_text(value).as_str())
     }
 
-    /// Appends a parameter whose value is the strict Base64 of bytes. `ParamsInvalid` where the
+    /// Appends a parameter whose value is the strict Base64 of bytes. `ParamsInvalid` if the
     /// longer list would be outside the grammar: the list is then as before.
     pub fn add_b64_bytes(&mut self, name: &str, bytes: &[u8]) -> Result<()>
         ensures when { is_ok result
@@ -139,7 +139,7 @@ impl ParamsString {
     }
 }
 
-/// The list whose text this is, or `ParamsInvalid` where it is no list's. The empty text is the
+/// The list whose text this is, or `ParamsInvalid` if it is no list's. The empty text is the
 /// empty list's.
 impl FromStr for ParamsString {
     type Err = Error;
@@ -227,7 +227,7 @@ fn is_param_text(name: &str, value: &str) -> bool
     is_name_text(name) && name != "v" && is_value_text(value)
 }
 
-// Appends an item, where it fits.
+// Appends an item, if it fits.
 fn push_item(text: &mut ArrayString<127>, name: &str, value: &str) -> bool
     requires name_fits { length name.now ≤ 32 }
     requires value_fits { length value.now ≤ 64 }

@@ -32,7 +32,7 @@ impl<'a> Value<'a> {
         self.text
     }
 
-    /// The number up to 4294967295 whose decimal it is, or `ParamsInvalid` where it is no such
+    /// The number up to 4294967295 whose decimal it is, or `ParamsInvalid` if it is no such
     /// decimal.
     pub fn decimal(&self) -> Result<u32>
         ensures found { IfOk result (λ n. self.now ≡ decimal n) }

@@ -4,7 +4,7 @@ use Rattle.argon2_base.proofs.phc_lemmas.ByteListLemmas.{IsDecoded, decoded_into
 use Rattle.argon2_base.proofs.byte_list.ByteList.from_b64.Given.{Over}
 use Rattle.argon2_base.proofs.byte_list.ByteList.from_b64.Goals as goal
 
--- where decoding succeeded
+-- what decoding left, if it succeeded
 decoded : (g : Over) (c : goal.In-Ok g) → IsDecoded c.args.text.now c.decode_slice.new.output g.row.N c.in-Ok.len
 decoded g c = decoded_into_zeros c.args.text.now _ _ g.row.N _ c.in-Ok.len c.as_bytes.ensures.value
     (length-replicate g.row.N 0) (λ i. omega (arith, c.type_inv.text i)) c.in-Ok.ensures.value
