@@ -1,8 +1,8 @@
 -- The mixings of all segments are t * B - 2p, and two for each address block.
-use Rattle.std.proofs.Common.{◌≡◌, ℕ, zero, suc, ◌+◌, ◌-◌, ◌*◌, ◌/◌, ◌^◌, ◌<◌, ◌≤◌, inl, inr, refl, ap, arith}
+use Rattle.std.proofs.Common.{◌≡◌, ℕ, zero, suc, ◌+◌, ◌-◌, ◌*◌, ◌/◌, ◌^◌, ◌<◌, ◌≤◌, inl, inr, Bool, true, false, refl, ap, arith}
 use Rattle.std.specs.Prelude.{◌==◌, if◌then◌else◌}
 use Rattle.std.proofs.Math.Nat.{mul-le-mul, mul-le-mul_left, mul-le-mul_right}
-use Rattle.std.proofs.lemmas.Bool.{cases_eq, cases_lt, cond_both}
+use Rattle.std.proofs.lemmas.Bool.{cases_lt, cond_both}
 use Rattle.std.proofs.lemmas.Bool.Decides.{nat_tests}
 use Rattle.argon2.specs.Rfc9106.{Context, Sizes, address_counter, block_count, is_independent, lane_length, segment_length}
 use Rattle.argon2.specs.Watching.{address_mixings, independent_segments, mixing_calls, segment_calls, slices_calls, passes_calls}
@@ -59,30 +59,16 @@ module _ (ctx : Context) (sizes : Sizes ctx) where
   independent_segments-sum : (r : ℕ) → ctx.t_cost ≡ suc r
       → ctx.p_cost * independent_first + r * (ctx.p_cost * independent_later) ≡ independent_segments ctx
   unfolding independent_segments independent_first independent_later
-  independent_segments-sum r t =
-      let p = ctx.p_cost in
-      elim (cases_eq ctx.algorithm 1) [
-        | inl one ↦ (
-            let first : independent_first ≡ 4 = grind (arith, nat_tests) in
-            let later : independent_later ≡ 4 = grind (arith, nat_tests) in
-            let all : independent_segments ctx ≡ 4 * ctx.t_cost * p = grind (arith, nat_tests) in
-            omega (arith, ap (λ n. p * n) first, ap (λ n. r * (p * n)) later, all, ap (λ n. 4 * n * p) t))
-        | inr no_one ↦ (
-            let later : independent_later ≡ 0 = grind (arith, nat_tests) in
-            let none = ap (λ n. r * (p * n)) later in
-            elim (cases_eq ctx.algorithm 2) [
-              | inl two ↦ (
-                  let first : independent_first ≡ 2 = grind (arith, nat_tests) in
-                  let all : independent_segments ctx ≡ 2 * p = grind (arith, nat_tests) in
-                  omega (arith, ap (λ n. p * n) first, none, all))
-              | inr no_two ↦ (
-                  let first : independent_first ≡ 0 = grind (arith, nat_tests) in
-                  let all : independent_segments ctx ≡ 0 = grind (arith, nat_tests) in
-                  omega (arith, ap (λ n. p * n) first, none, all))
-            ])
-      ]
+  independent_segments-sum r t = rw t (by_cases (ctx.algorithm == 1) (ctx.algorithm == 2) ctx.p_cost)
+    where
+      by_cases : (one two : Bool) (p : ℕ)
+          → p * (if one then 4 else if two then 2 else 0) + r * (p * (if one then 4 else 0))
+          ≡ (if one then 4 * suc r * p else if two then 2 * p else 0)
+      by_cases true two p = omega arith
+      by_cases false true p = omega arith
+      by_cases false false p = omega arith
 
-  -- the mixings of all passes are the formula's, where there is some pass
+  -- the mixings of all passes are the formula's, if there is some pass
   passes_calls-suc : (r : ℕ) → ctx.t_cost ≡ suc r → passes_calls ctx ctx.t_cost ≡ mixing_calls ctx
   unfolding mixing_calls address_calls
   passes_calls-suc r t =
@@ -95,24 +81,23 @@ module _ (ctx : Context) (sizes : Sizes ctx) where
       let passes = ap (passes_calls ctx) t in
       omega arith
 
--- a pass's first slices are not more than more of them
-pub slices_calls-le : (ctx : Context) (pass slice n : ℕ) → slice ≤ n
-    → slices_calls ctx pass slice ≤ slices_calls ctx pass n
-unfolding slices_calls
-slices_calls-le ctx pass slice zero le = let e : slice ≡ 0 = omega arith in omega (arith, ap (slices_calls ctx pass) e)
-slices_calls-le ctx pass slice (suc n) le = elim (cases_lt slice (suc n)) [
-  | inl lt ↦ (let i = slices_calls-le ctx pass slice n (omega arith) in omega arith)
-  | inr ge ↦ (let e : slice ≡ suc n = omega arith in omega (arith, ap (slices_calls ctx pass) e))
+-- what grows at each number is at most what it is later
+grows : (f : ℕ → ℕ) → ((n : ℕ) → f n ≤ f (suc n)) → (k n : ℕ) → k ≤ n → f k ≤ f n
+grows f more k zero le = let e : k ≡ 0 = omega arith in omega (arith, ap f e)
+grows f more k (suc n) le = elim (cases_lt k (suc n)) [
+  | inl lt ↦ (let i = grows f more k n (omega arith) in let m = more n in omega arith)
+  | inr ge ↦ (let e : k ≡ suc n = omega arith in omega (arith, ap f e))
 ]
+
+-- a pass's first slices are not more than more of them
+pub slices_calls-le : (ctx : Context) (pass slice n : ℕ) → slice ≤ n → slices_calls ctx pass slice ≤ slices_calls ctx pass n
+unfolding slices_calls
+slices_calls-le ctx pass = grows (slices_calls ctx pass) (λ n. omega arith)
 
 -- the first passes are not more than more of them
 pub passes_calls-le : (ctx : Context) (r n : ℕ) → r ≤ n → passes_calls ctx r ≤ passes_calls ctx n
 unfolding passes_calls
-passes_calls-le ctx r zero le = let e : r ≡ 0 = omega arith in omega (arith, ap (passes_calls ctx) e)
-passes_calls-le ctx r (suc n) le = elim (cases_lt r (suc n)) [
-  | inl lt ↦ (let i = passes_calls-le ctx r n (omega arith) in omega arith)
-  | inr ge ↦ (let e : r ≡ suc n = omega arith in omega (arith, ap (passes_calls ctx) e))
-]
+passes_calls-le ctx = grows (passes_calls ctx) (λ n. omega arith)
 
 -- the count of all mixings is small
 pub mixing_calls-few : (ctx : Context) → Sizes ctx → mixing_calls ctx < 2 ^ 126

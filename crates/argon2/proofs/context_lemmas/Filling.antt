@@ -1,18 +1,19 @@
 -- Running one schedule for each pass and slice in order fills a list with the matrix.
-use Rattle.std.proofs.Common.{◌≡◌, ℕ, zero, suc, ◌+◌, ◌-◌, ◌*◌, ◌/◌, ◌%◌, ◌<◌, ◌≤◌, ◌≢◌, inl, inr, ◌&&◌, List, [], ◌∷◌, length, refl, sym, ap, ◌∙◌, subst, arith}
-use Rattle.std.specs.Prelude.{slice_index_or, slice_set, ◌==◌}
+use Rattle.std.proofs.Common.{◌≡◌, ℕ, zero, suc, ◌+◌, ◌-◌, ◌*◌, ◌/◌, ◌%◌, ◌<◌, ◌≤◌, ◌≢◌, inl, inr, List, [], ◌∷◌, refl, sym, ap, ◌∙◌, arith}
+use Rattle.std.specs.Prelude.{slice_index_or, slice_set}
 use Rattle.std.proofs.Math.Nat.{div-eq_of_lt-le, mod-lt, div-add-mod'}
-use Rattle.std.proofs.lemmas.List.{length-set, get_or-set_same, get_or-set_other}
+use Rattle.std.proofs.lemmas.List.{length-set, get_or-set_same}
 use Rattle.std.proofs.lemmas.List.FromFn.{fill_by_all}
 use Rattle.std.proofs.lemmas.Nat.{mul-add-lt, div_below}
-use Rattle.std.proofs.lemmas.Bool.{cond-false, cases_eq, and_left, and_right, ne_eqb}
-use Rattle.argon2.specs.Rfc9106.{Context, FirstColumns, Reference, Sizes, block_count, block_of, lane_length, made_block, matrix, reference_places, segment_length}
+use Rattle.std.proofs.lemmas.Bool.{cases_eq}
+use Rattle.std.proofs.lemmas.Bool.Decides.{nat_tests}
+use Rattle.argon2.specs.Rfc9106.{Context, FirstColumns, Memory, Reference, Sizes, block_count, block_of, lane_length, made_block, matrix, reference_places, segment_length}
 use Rattle.argon2.specs.Steps.{IsStep, in_memory, step, reference_place, turns, turn_count, IsSchedule, run, run_slices, run_passes}
 use Rattle.argon2.specs.Watching.{begun, HasBlocksUpTo}
 use Rattle.argon2.specs.Laws.{Begins, AreSchedules}
 use Rattle.argon2.proofs.recurrence.PermittedPlaces.{InSlice}
 use Rattle.argon2.proofs.recurrence.Sources.{AgreeOn, made_cong, reference_of_cong}
-use Rattle.argon2.proofs.context_lemmas.Schedules.{turn_column, turns-same, turns-other, MayRun, MayRun-tail, MayRun-from, head_step, turn_count-le, place_apart}
+use Rattle.argon2.proofs.context_lemmas.Schedules.{turn_column, turns-same, turns-other, MayRun, MayRun-tail, MayRun-from, head_step, turn_count-le, set_apart}
 use Rattle.argon2.proofs.recurrence.History.{first_columns, made_blocks}
 
 -- equal counts of made columns say the same
@@ -25,122 +26,66 @@ HasBlocksUpTo-like ctx first pass done done' memory same h = record {
   old = λ r l c p a b le. let e = same l a in h.old r l c p a b (omega arith);
 }
 
--- what a step reads are the recurrence's blocks
-step_reads : (ctx : Context)
-    → (first : FirstColumns) (pass lane column slice : ℕ) (done : ℕ → ℕ) (memory : List (List ℕ))
-    → InSlice (segment_length ctx) column slice
-    → done lane ≡ column
-    → ((l : ℕ) → l < ctx.p_cost → (slice * segment_length ctx ≤ done l) × (done l ≤ (slice + 1) * segment_length ctx))
-    → HasBlocksUpTo ctx first pass done memory
-    → AgreeOn ctx pass lane column (in_memory ctx memory) (block_of ctx first)
-unfolding in_memory
-step_reads ctx first pass lane column slice done memory here now about h =
-    let s = segment_length ctx in
-    let is : column / s ≡ slice = div-eq_of_lt-le s here.above here.below in
-    λ r l c reads.
-    let a = about l reads.in_lanes in
-    elim reads.newest [
-      | inl n ↦ (
-          let lt : c < column = n.1 in
-          let u : c < done l = elim reads.apart [
-            | inl e ↦ (let d : done l ≡ done lane = ap done e in omega arith)
-            | inr o ↦ (elim o [
-              | inl before ↦ (let before' : c < slice * s = subst (λ x. c < x * s) is before in omega arith)
-              | inr after ↦
-                  absurd (let after' : (slice + 1) * s ≤ c = subst (λ x. (x + 1) * s ≤ c) is after in
-                  let high : column < (slice + 1) * s = here.below in omega arith)
-            ])
-          ] in
-          h.new l c reads.in_lanes reads.in_columns u ∙ ap (λ p. block_of ctx first p l c) (sym n.0))
-      | inr n ↦ (
-          let le : column ≤ c = n.1 in
-          let u : done l ≤ c = elim reads.apart [
-            | inl e ↦ (let d : done l ≡ done lane = ap done e in omega arith)
-            | inr o ↦ (elim o [
-              | inl before ↦
-                  absurd (let before' : c < slice * s = subst (λ x. c < x * s) is before in
-                  let low : slice * s ≤ column = here.above in omega arith)
-              | inr after ↦ (let after' : (slice + 1) * s ≤ c = subst (λ x. (x + 1) * s ≤ c) is after in omega arith)
-            ])
-          ] in
-          h.old r l c n.0 reads.in_lanes reads.in_columns u)
-    ]
+-- ---- a step of a slice, in which each lane has so many columns
 
--- a step's block is the recurrence's
-step_makes : (ctx : Context) → Sizes ctx
-    → (first : FirstColumns) (pass lane column slice : ℕ) (done : ℕ → ℕ) (memory : List (List ℕ))
-    → IsStep ctx pass lane column → InSlice (segment_length ctx) column slice
-    → done lane ≡ column
-    → ((l : ℕ) → l < ctx.p_cost → (slice * segment_length ctx ≤ done l) × (done l ≤ (slice + 1) * segment_length ctx))
-    → HasBlocksUpTo ctx first pass done memory
-    → made_block ctx (in_memory ctx memory) pass lane column ≡ block_of ctx first pass lane column
-step_makes ctx sizes first pass lane column slice done memory st here now about h =
-    made_cong ctx sizes pass lane column st _ (block_of ctx first)
-    (step_reads ctx first pass lane column slice done memory here now about h)
-    ∙ sym (made_blocks ctx sizes first pass lane column st)
+module _ (ctx : Context) (sizes : Sizes ctx) (first : FirstColumns) (pass lane column slice : ℕ) (done : ℕ → ℕ) (memory : Memory)
+    (st : IsStep ctx pass lane column) (here : InSlice (segment_length ctx) column slice) (now : done lane ≡ column)
+    (about : (l : ℕ) → l < ctx.p_cost → (slice * segment_length ctx ≤ done l) × (done l ≤ (slice + 1) * segment_length ctx))
+    (h : HasBlocksUpTo ctx first pass done memory) where
+  -- what a step reads are the recurrence's blocks
+  step_reads : AgreeOn ctx pass lane column (in_memory ctx memory) (block_of ctx first)
+  unfolding in_memory
+  step_reads r l c reads =
+      let a = about l reads.in_lanes in
+      let apart = rw (div-eq_of_lt-le (segment_length ctx) here.above here.below) at reads.apart in
+      let read : (c < column → c < done l) × (column ≤ c → done l ≤ c) = elim apart [
+        | inl e ↦ (let d : done l ≡ column = ap done e ∙ now in (λ lt. omega arith, λ le. omega arith))
+        | inr (inl before) ↦ (λ lt. omega arith, λ le. omega arith)
+        | inr (inr after) ↦ (λ lt. omega arith, λ le. omega arith)
+      ] in
+      elim reads.newest [
+        | inl n ↦ (h.new l c reads.in_lanes reads.in_columns (read.0 n.1) ∙ ap (λ p. block_of ctx first p l c) (sym n.0))
+        | inr n ↦ h.old r l c n.0 reads.in_lanes reads.in_columns (read.1 n.1)
+      ]
 
--- the place of a step's reference is the recurrence's
-pub step_answers : (ctx : Context) → Sizes ctx
-    → (first : FirstColumns) (pass lane column slice : ℕ) (done : ℕ → ℕ) (memory : List (List ℕ))
-    → IsStep ctx pass lane column → InSlice (segment_length ctx) column slice
-    → done lane ≡ column
-    → ((l : ℕ) → l < ctx.p_cost → (slice * segment_length ctx ≤ done l) × (done l ≤ (slice + 1) * segment_length ctx))
-    → HasBlocksUpTo ctx first pass done memory
-    → reference_place ctx memory pass lane column ≡ reference_places ctx first pass lane column
-unfolding reference_place reference_places
-step_answers ctx sizes first pass lane column slice done memory st here now about h =
-    ap (λ (x : Reference). x.lane * lane_length ctx + x.column)
-    (reference_of_cong ctx sizes pass lane column st _ (block_of ctx first)
-    (step_reads ctx first pass lane column slice done memory here now about h))
+  -- a step's block is the recurrence's
+  step_makes : made_block ctx (in_memory ctx memory) pass lane column ≡ block_of ctx first pass lane column
+  step_makes = made_cong ctx sizes pass lane column st _ (block_of ctx first) step_reads
+      ∙ sym (made_blocks ctx sizes first pass lane column st)
 
--- a step adds a column to its lane
-pub step_fills : (ctx : Context) → Sizes ctx
-    → (first : FirstColumns) (pass lane column slice : ℕ) (done done' : ℕ → ℕ) (memory : List (List ℕ))
-    → IsStep ctx pass lane column → InSlice (segment_length ctx) column slice
-    → done lane ≡ column → done' lane ≡ suc column → ((l : ℕ) → l ≢ lane → done' l ≡ done l)
-    → ((l : ℕ) → l < ctx.p_cost → (slice * segment_length ctx ≤ done l) × (done l ≤ (slice + 1) * segment_length ctx))
-    → HasBlocksUpTo ctx first pass done memory → HasBlocksUpTo ctx first pass done' (step ctx memory pass lane column)
-unfolding step
-step_fills ctx sizes first pass lane column slice done done' memory st here now then' others about h =
-    let q = lane_length ctx in
-    let i = lane * q + column in
-    let b = made_block ctx (in_memory ctx memory) pass lane column in
-    let is = step_makes ctx sizes first pass lane column slice done memory st here now about h in
-    let within : i < q * ctx.p_cost = mul-add-lt lane q column ctx.p_cost st.in_lanes st.in_columns in
-    let size = h.size in
-    let fit : i < length memory = omega arith in
-    record {
-      size = length-set memory i b ∙ h.size;
-      new = λ l c a below lt. elim (cases_eq l lane) [
-        | inl e ↦ (elim (cases_eq c column) [
-          | inl f ↦
-              (ap (λ n. slice_index_or (slice_set memory i b) n []) (ap (λ x. x * q + c) e ∙ ap (λ x. lane * q + x) f)
-              ∙ get_or-set_same memory i b [] fit ∙ is ∙ ap (λ x. block_of ctx first pass x column) (sym e)
-              ∙ ap (block_of ctx first pass l) (sym f))
-          | inr f ↦ (
-              let d : done' l ≡ done' lane = ap done' e in
-              let d' : done l ≡ done lane = ap done e in
-              get_or-set_other memory i (l * q + c) b [] (place_apart q l c lane column below st.in_columns (λ _ y. f y))
-              ∙ h.new l c a below (omega arith))
-        ])
-        | inr e ↦ (
-            let d = others l e in
-            get_or-set_other memory i (l * q + c) b [] (place_apart q l c lane column below st.in_columns (λ x _. e x))
-            ∙ h.new l c a below (omega arith))
-      ];
-      old = λ r l c p a below le. elim (cases_eq l lane) [
-        | inl e ↦ (
-            let d : done' l ≡ done' lane = ap done' e in
-            let d' : done l ≡ done lane = ap done e in
-            let f : c ≢ column = omega arith in
-            get_or-set_other memory i (l * q + c) b [] (place_apart q l c lane column below st.in_columns (λ _ y. f y))
-            ∙ h.old r l c p a below (omega arith))
-        | inr e ↦ (
-            let d = others l e in
-            get_or-set_other memory i (l * q + c) b [] (place_apart q l c lane column below st.in_columns (λ x _. e x))
-            ∙ h.old r l c p a below (omega arith))
-      ];
-    }
+  -- the place of a step's reference is the recurrence's
+  pub step_answers : reference_place ctx memory pass lane column ≡ reference_places ctx first pass lane column
+  unfolding reference_place reference_places
+  step_answers = ap (λ (x : Reference). x.lane * lane_length ctx + x.column)
+      (reference_of_cong ctx sizes pass lane column st _ (block_of ctx first) step_reads)
+
+  -- a step adds a column to its lane
+  pub step_fills : (done' : ℕ → ℕ) → done' lane ≡ suc column → ((l : ℕ) → l ≢ lane → done' l ≡ done l)
+      → HasBlocksUpTo ctx first pass done' (step ctx memory pass lane column)
+  unfolding step
+  step_fills done' then' others =
+      let q = lane_length ctx in
+      let b = made_block ctx (in_memory ctx memory) pass lane column in
+      let within = mul-add-lt lane q column ctx.p_cost st.in_lanes st.in_columns in
+      let size = h.size in
+      let own : (l : ℕ) → l ≡ lane → (done l ≡ column) × (done' l ≡ suc column) = λ l e. (ap done e ∙ now, ap done' e ∙ then') in
+      let kept : (l c : ℕ) → c < q → (l ≡ lane → c ≢ column)
+      → slice_index_or (slice_set memory (lane * q + column) b) (l * q + c) [] ≡ slice_index_or memory (l * q + c) [] =
+      λ l c below apart. set_apart q l c lane column memory b below st.in_columns apart in
+      record {
+        size = length-set memory (lane * q + column) b ∙ h.size;
+        new = λ l c a below lt. elim (cases_eq l lane) [
+          | inl e ↦ (let o = own l e in elim (cases_eq c column) [
+            | inl f ↦ rw (e, f) (get_or-set_same memory (lane * q + column) b [] (omega arith) ∙ step_makes)
+            | inr f ↦ (kept l c below (λ _. f) ∙ h.new l c a below (omega arith))
+          ])
+          | inr e ↦ (let d = others l e in kept l c below (λ x. absurd (e x)) ∙ h.new l c a below (omega arith))
+        ];
+        old = λ r l c p a below le. elim (cases_eq l lane) [
+          | inl e ↦ (let o = own l e in kept l c below (λ _ y. omega arith) ∙ h.old r l c p a below (omega arith))
+          | inr e ↦ (let d = others l e in kept l c below (λ x. absurd (e x)) ∙ h.old r l c p a below (omega arith))
+        ];
+      }
 
 -- ---- a slice, by what is left of a schedule
 
@@ -166,20 +111,17 @@ run_fills ctx sizes first pass slice four (lane ∷ schedule) memory m h =
     let then' : done_before ctx slice schedule lane ≡ suc column = omega arith in
     run_fills ctx sizes first pass slice four schedule (step ctx memory pass lane column)
     (MayRun-tail ctx pass slice lane schedule m)
-    (step_fills ctx sizes first pass lane column slice (done_before ctx slice (lane ∷ schedule))
-    (done_before ctx slice schedule) memory st.0 st.1 now then'
-    (λ l ne. ap (λ n. (slice + 1) * s - n) (sym (turns-other l lane schedule (λ e. ne (sym e)))))
-    (λ l below. let few : turns l (lane ∷ schedule) ≤ turn_count ctx pass slice = m.few l below in (omega arith, omega arith))
-    h)
+    (step_fills ctx sizes first pass lane column slice (done_before ctx slice (lane ∷ schedule)) memory st.0 st.1 now
+    (λ l below. let few : turns l (lane ∷ schedule) ≤ turn_count ctx pass slice = m.few l below in (omega arith, omega arith)) h
+    (done_before ctx slice schedule) then'
+    (λ l ne. ap (λ n. (slice + 1) * s - n) (sym (turns-other l lane schedule (λ e. ne (sym e))))))
 
 -- ---- slices and passes
 
 -- in later slices a lane has as many turns as its segment has columns
 pub turn_count-later_slice : (ctx : Context) (pass slice : ℕ)
     → turn_count ctx pass (suc slice) ≡ segment_length ctx
-turn_count-later_slice ctx pass slice =
-    cond-false ((pass == 0) && (suc slice == 0)) _ _
-    (and_right (pass == 0) (suc slice == 0) (ne_eqb (suc slice) 0 (λ e. omega arith)))
+turn_count-later_slice ctx pass slice = grind (arith, nat_tests)
 
 -- the first slices of a pass fill it up to there, each by its schedule
 slices_fill : (ctx : Context) → Sizes ctx
@@ -207,9 +149,7 @@ slices_fill ctx sizes first schedules pass (suc slice) four is memory h =
 -- in later passes a lane has as many turns as its segment has columns
 pub turn_count-later_pass : (ctx : Context) (pass : ℕ)
     → turn_count ctx (suc pass) 0 ≡ segment_length ctx
-turn_count-later_pass ctx pass =
-    cond-false ((suc pass == 0) && (0 == 0)) _ _
-    (and_left (suc pass == 0) (0 == 0) (ne_eqb (suc pass) 0 (λ e. omega arith)))
+turn_count-later_pass ctx pass = grind (arith, nat_tests)
 
 -- the end of a pass is the start of the next
 pub next_pass : (ctx : Context) (first : FirstColumns) (pass : ℕ) (memory : List (List ℕ))

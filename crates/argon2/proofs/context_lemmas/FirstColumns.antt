@@ -44,7 +44,7 @@ module _ (q lane : ℕ) (two : 2 ≤ q) (memory : List (List ℕ)) (f : ℕ → 
         (omega (arith, length-set memory (lane * q + 0) (f 0)))))
   ]
 
--- where the lanes before have their blocks, one lane more has
+-- if the lanes before have their blocks, one lane more has
 pub with_pair-lanes : (q lane : ℕ) → 2 ≤ q → (memory : List (List ℕ)) (f : ℕ → ℕ → List ℕ) → lane * q + 1 < length memory
     → ((k c : ℕ) → k < lane → c < 2 → slice_index_or memory (k * q + c) [] ≡ f k c)
     → (k c : ℕ) → k < lane + 1 → c < 2 → slice_index_or (with_pair q lane memory (f lane)) (k * q + c) [] ≡ f k c

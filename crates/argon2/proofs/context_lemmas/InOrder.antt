@@ -1,7 +1,6 @@
 -- How far the memory and the positions are filled while the lanes of a slice come one after the other.
 use Rattle.std.proofs.Common.{◌≡◌, ℕ, suc, ◌+◌, ◌*◌, ◌<◌, ◌≤◌, ◌≢◌, inl, List, subst, sym, add-one, arith}
-use Rattle.std.specs.Prelude.{◌==◌, nat_lt, slice_set}
-use Rattle.std.proofs.lemmas.Bool.{cond_both}
+use Rattle.std.specs.Prelude.{slice_set}
 use Rattle.std.proofs.lemmas.Bool.Decides.{nat_tests}
 use Rattle.argon2.specs.Rfc9106.{Context, FirstColumns, Memory, Sizes, segment_length}
 use Rattle.argon2.specs.Laws.{Begins}
@@ -42,13 +41,8 @@ in_order-within : (ctx : Context) (pass slice lane column l : ℕ) → InSlice (
     → (slice * segment_length ctx ≤ in_order ctx pass slice lane column l)
     × (in_order ctx pass slice lane column l ≤ (slice + 1) * segment_length ctx)
 in_order-within ctx pass slice lane column l here =
-    let s = segment_length ctx in
-    let low = here.above in
-    let high = here.below in
     let few = turn_count-le ctx pass slice in
-    let Within = λ (n : ℕ). (slice * s ≤ n) × (n ≤ (slice + 1) * s) in
-    cond_both (nat_lt l lane) _ _ Within (λ _. (omega arith, omega arith))
-    (λ _. cond_both (l == lane) _ _ Within (λ _. (omega arith, omega arith)) (λ _. (omega arith, omega arith)))
+    (grind (arith, nat_tests), grind (arith, nat_tests))
 
 -- a step fills a column more of its lane
 pub filled_step : (ctx : Context) → Sizes ctx → (first : FirstColumns) (pass slice lane column : ℕ) (memory : Memory)
@@ -62,11 +56,10 @@ filled_step ctx sizes first pass slice lane column memory old new t st here is =
     let now : done lane ≡ column = grind (arith, nat_tests) in
     let then' : done' lane ≡ suc column = grind (arith, nat_tests) in
     let others : (l : ℕ) → l ≢ lane → done' l ≡ done l = λ l ne. grind (arith, nat_tests) in
-    let within : (l : ℕ) → l < ctx.p_cost → (slice * segment_length ctx ≤ done l) × (done l ≤ (slice + 1) * segment_length ctx) =
-    λ l _. in_order-within ctx pass slice lane column l here in
+    let within = λ (l : ℕ) (_ : l < ctx.p_cost). in_order-within ctx pass slice lane column l here in
     let place = step_answers ctx sizes first pass lane column slice done memory st here now within is.blocks in
     record {
-      blocks = step_fills ctx sizes first pass lane column slice done done' memory st here now then' others within is.blocks;
+      blocks = step_fills ctx sizes first pass lane column slice done memory st here now within is.blocks done' then' others;
       positions = λ size. step_positions ctx sizes first pass lane column done done' old new _ st t place now then' others
           (is.positions size);
     }

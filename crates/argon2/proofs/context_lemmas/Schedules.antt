@@ -1,12 +1,13 @@
 -- Two steps of different lanes in one slice commute, so all schedules of a slice give the same blocks.
-use Rattle.std.proofs.Common.{◌≡◌, ℕ, suc, ◌+◌, ◌-◌, ◌*◌, ◌/◌, ◌<◌, ◌≤◌, ◌≢◌, inl, inr, ◌&&◌, List, [], ◌∷◌, ◌++◌, refl, sym, ap, ◌∙◌, subst, arith}
-use Rattle.std.specs.Prelude.{slice_set, ◌==◌, if◌then◌else◌}
+use Rattle.std.proofs.Common.{◌≡◌, ℕ, suc, ◌+◌, ◌-◌, ◌*◌, ◌<◌, ◌≤◌, ◌≢◌, inl, inr, ◌&&◌, List, [], ◌∷◌, ◌++◌, refl, sym, ap, ◌∙◌, subst, arith}
+use Rattle.std.specs.Prelude.{slice_index_or, slice_set, ◌==◌, if◌then◌else◌}
 use Rattle.std.proofs.Math.Nat.{mul-le-mul_right, div-eq_of_lt-le}
 use Rattle.std.specs.List.{AllByRecursion}
 use Rattle.std.proofs.lemmas.List.{get_or-set_other, set_comm}
 use Rattle.std.proofs.lemmas.List.Sums.{sum_by-cons, sum_by-append}
 use Rattle.std.proofs.lemmas.Nat.{same_from_place}
-use Rattle.std.proofs.lemmas.Bool.{cond_both, cond-true, cond-false, cases_eq, eq-eqb, ne_eqb, and_from}
+use Rattle.std.proofs.lemmas.Bool.{cond_both, cond-true, cond-false, cases_eq, eq-eqb, ne_eqb}
+use Rattle.std.proofs.lemmas.Bool.Decides.{nat_tests}
 use Rattle.argon2.specs.Rfc9106.{Context, Sizes, lane_length, made_block, segment_length}
 use Rattle.argon2.specs.Steps.{IsStep, in_memory, step, turns, turn_count, IsSchedule, run}
 use Rattle.argon2.proofs.recurrence.PermittedPlaces.{InSlice}
@@ -15,6 +16,11 @@ use Rattle.argon2.proofs.recurrence.Sources.{made_cong}
 -- other lanes or columns have other places
 pub place_apart : (q l c m d : ℕ) → c < q → d < q → (l ≡ m → c ≡ d → ⊥) → l * q + c ≢ m * q + d
 place_apart q l c m d hc hd ne e = let s = same_from_place l c m d q hc hd e in ne s.0 s.1
+
+-- a block that is written leaves those at other places
+pub set_apart : (q l c m d : ℕ) (memory : List (List ℕ)) (b : List ℕ) → c < q → d < q → (l ≡ m → c ≡ d → ⊥)
+    → slice_index_or (slice_set memory (m * q + d) b) (l * q + c) [] ≡ slice_index_or memory (l * q + c) []
+set_apart q l c m d memory b hc hd ne = get_or-set_other memory (m * q + d) (l * q + c) b [] (place_apart q l c m d hc hd ne)
 
 -- what another lane writes in the slice leaves a step's block as it is
 made_kept : (ctx : Context) → Sizes ctx → (pass lane column l c slice : ℕ)
@@ -25,22 +31,14 @@ made_kept : (ctx : Context) → Sizes ctx → (pass lane column l c slice : ℕ)
     ≡ made_block ctx (in_memory ctx memory) pass lane column
 unfolding in_memory
 made_kept ctx sizes pass lane column l c slice st here other below there memory b =
-    let s = segment_length ctx in
-    let e : column / s ≡ slice = div-eq_of_lt-le s here.above here.below in
+    let e = div-eq_of_lt-le (segment_length ctx) here.above here.below in
     made_cong ctx sizes pass lane column st _ _ (λ r l' c' reads.
-    get_or-set_other memory (l * lane_length ctx + c) (l' * lane_length ctx + c') b []
-    (place_apart (lane_length ctx) l' c' l c reads.in_columns below (λ p q.
-    elim reads.apart [
+    let apart = rw e at reads.apart in
+    set_apart (lane_length ctx) l' c' l c memory b reads.in_columns below (λ p q. elim apart [
       | inl o ↦ other (sym p ∙ o)
-      | inr o ↦ (elim o [
-        | inl before ↦
-            (let before' : c' < slice * s = subst (λ x. c' < x * s) e before in
-            let low : slice * s ≤ c = there.above in omega arith)
-        | inr after ↦
-            (let after' : (slice + 1) * s ≤ c' = subst (λ x. (x + 1) * s ≤ c') e after in
-            let high : c < (slice + 1) * s = there.below in omega arith)
-      ])
-    ])))
+      | inr (inl before) ↦ omega arith
+      | inr (inr after) ↦ omega arith
+    ]))
 
 -- two steps of different lanes in one slice may change places
 steps_commute : (ctx : Context) → Sizes ctx → (pass slice : ℕ) (l c m d : ℕ) → l ≢ m
@@ -86,15 +84,10 @@ turns-append lane xs ys = sum_by-append (λ y. (if y == lane then 1 else 0)) xs 
 turns-tail : (lane x : ℕ) (xs : List ℕ) → turns lane xs ≤ turns lane (x ∷ xs)
 turns-tail lane x xs = omega (arith, turns-cons lane x xs)
 
--- another lane's turn may be left out of the count
-turns-without : (lane x : ℕ) (xs ys : List ℕ) → x ≢ lane
-    → turns lane (xs ++ x ∷ ys) ≡ turns lane (xs ++ ys)
-turns-without lane x xs ys ne = omega (arith, turns-append lane xs (x ∷ ys), turns-append lane xs ys, turns-other lane x ys ne)
-
--- a lane's own turn counts wherever it stands
-turns-with : (lane : ℕ) (xs ys : List ℕ)
-    → turns lane (xs ++ lane ∷ ys) ≡ suc (turns lane (xs ++ ys))
-turns-with lane xs ys = omega (arith, turns-append lane xs (lane ∷ ys), turns-append lane xs ys, turns-same lane ys)
+-- a turn counts wherever it stands
+turns-between : (lane x : ℕ) (xs ys : List ℕ)
+    → turns lane (xs ++ x ∷ ys) ≡ (if x == lane then 1 else 0) + turns lane (xs ++ ys)
+turns-between lane x xs ys = omega (arith, turns-append lane xs (x ∷ ys), turns-append lane xs ys, turns-cons lane x ys)
 
 -- ---- the step of a turn
 
@@ -106,9 +99,7 @@ turn_count-le ctx pass slice =
 -- in the first slice of all a lane has two turns fewer than columns
 pub turn_count-first : (ctx : Context) (pass slice : ℕ) → pass ≡ 0 → slice ≡ 0
     → turn_count ctx pass slice ≡ segment_length ctx - 2
-turn_count-first ctx pass slice p e =
-    cond-true ((pass == 0) && (slice == 0)) (segment_length ctx - 2) (segment_length ctx)
-    (and_from (pass == 0) (slice == 0) (eq-eqb pass 0 p) (eq-eqb slice 0 e))
+turn_count-first ctx pass slice p e = grind (arith, nat_tests)
 
 -- the column of a lane's turn with n more after it
 abbrev pub turn_column : Context → ℕ → ℕ → ℕ
@@ -183,9 +174,11 @@ first_to_front ctx sizes pass slice lane four (x ∷ xs) ys none m memory =
     let rest : turns lane xs ≡ 0 = sym (turns-other lane x xs ne) ∙ none in
     let later = xs ++ ys in
     let tail : MayRun ctx pass slice (xs ++ lane ∷ ys) = MayRun-tail ctx pass slice x (xs ++ lane ∷ ys) m in
-    let tx : turns x (xs ++ lane ∷ ys) ≡ turns x later = turns-without x lane xs ys (λ e. ne (sym e)) in
+    let tx : turns x (xs ++ lane ∷ ys) ≡ turns x later =
+    turns-between x lane xs ys ∙ sym (turns-cons x lane later) ∙ turns-other x lane later (λ e. ne (sym e)) in
     let tl : turns lane (x ∷ later) ≡ turns lane later = turns-other lane x later ne in
-    let w : turns lane (xs ++ lane ∷ ys) ≡ suc (turns lane later) = turns-with lane xs ys in
+    let w : turns lane (xs ++ lane ∷ ys) ≡ suc (turns lane later) =
+    turns-between lane lane xs ys ∙ sym (turns-cons lane lane later) ∙ turns-same lane later in
     let lane_in : lane < ctx.p_cost = lane_among ctx.p_cost lane xs ys m.lanes.1 in
     let px = turn_step ctx sizes pass slice x (turns x later) four m.lanes.0
     (let a = m.few x m.lanes.0 in let b = turns-same x (xs ++ lane ∷ ys) in omega arith) in
@@ -240,21 +233,7 @@ same_turns ctx sizes pass slice four (x ∷ xs) ys mx my same memory =
     let later = t.before ++ t.after in
     let my' : MayRun ctx pass slice (t.before ++ x ∷ t.after) = subst (MayRun ctx pass slice) t.is my in
     let same' : (lane : ℕ) → lane < ctx.p_cost → turns lane xs ≡ turns lane later = λ lane h.
-    (let a = same lane h in
-    let b : turns lane ys ≡ turns lane (t.before ++ x ∷ t.after) = ap (turns lane) t.is in
-    elim (cases_eq x lane) [
-      | inl e ↦ (
-          let c : turns lane (x ∷ xs) ≡ suc (turns lane xs) =
-          subst (λ z. turns lane (z ∷ xs) ≡ suc (turns lane xs)) (sym e) (turns-same lane xs) in
-          let d : turns lane (t.before ++ x ∷ t.after) ≡ suc (turns lane later) =
-          subst (λ z. turns lane (t.before ++ z ∷ t.after) ≡ suc (turns lane later)) (sym e)
-          (turns-with lane t.before t.after) in
-          omega arith)
-      | inr ne ↦ (
-          let c = turns-other lane x xs ne in
-          let d = turns-without lane x t.before t.after ne in
-          omega arith)
-    ]) in
+    omega (arith, same lane h, ap (turns lane) t.is, turns-cons lane x xs, turns-between lane x t.before t.after) in
     let mlater : MayRun ctx pass slice later = record {
       lanes = lanes_without ctx.p_cost x t.before t.after my'.lanes;
       few = λ lane h. let a = same' lane h in let b = (MayRun-tail ctx pass slice x xs mx).few lane h in omega arith;

@@ -2,8 +2,8 @@
 use Rattle.std.proofs.Common.{◌≡◌, ℕ, zero, suc, ◌+◌, ◌-◌, ◌*◌, ◌/◌, ◌%◌, ◌<◌, ◌≤◌, inl, inr, List, [], map, length, refl, sym, ap, ◌∙◌, subst, arith}
 use Rattle.std.specs.Prelude.{drop, slice_index_or, take}
 use Rattle.std.specs.List.{range_with_len}
-use Rattle.std.proofs.Math.Nat.{mod-lt, mul-le-mul_right}
-use Rattle.std.proofs.lemmas.Nat.{div-add-mod', div-mul-add, mod-mul-add, mul-add-lt}
+use Rattle.std.proofs.Math.Nat.{lt_of_mul-lt-mul_right, mod-lt}
+use Rattle.std.proofs.lemmas.Nat.{div-add-mod', div-mul-add, div_below, mod-mul-add, mul-add-lt}
 use Rattle.std.proofs.lemmas.Bool.{cases_lt}
 use Rattle.std.proofs.lemmas.List.{get_or-drop, get_or-take}
 use Rattle.std.proofs.lemmas.List.FromFn.{get_or-map-range_with_len, length-map-range_with_len}
@@ -60,10 +60,6 @@ place_before p s slice k lane i below l h =
     let at = mul-add-lt (k * p + lane) s i (p * slice) row h in
     omega arith
 
--- a place in the slices after one, counted from the first
-place_after : (p s slice j lane i : ℕ) → suc slice * (p * s) + ((j * p + lane) * s + i) ≡ ((suc slice + j) * p + lane) * s + i
-place_after p s slice j lane i = omega arith
-
 -- the parts of a memory are parts of it
 parts_of : (ctx : Context) (slice lane : ℕ) (memory : Memory) → slice < 4 → lane < ctx.p_cost
     → AreParts ctx slice lane (in_lanes ctx memory) (slices_before ctx slice memory) (segment_in ctx slice lane memory)
@@ -83,25 +79,11 @@ parts_of ctx slice lane memory four own =
       in_after = λ k l i above below a lt.
           let j = k - suc slice in
           let more : suc slice + j ≡ k = omega arith in
+          let place : suc slice * (p * s) + ((j * p + l) * s + i) ≡ ((suc slice + j) * p + l) * s + i = omega arith in
           get_or-drop (suc slice * slice_length ctx) memory ((j * p + l) * s + i) []
-          ∙ ap (λ n. slice_index_or memory n []) (place_after p s slice j l i ∙ ap (λ x. (x * p + l) * s + i) more)
+          ∙ ap (λ n. slice_index_or memory n []) (place ∙ ap (λ x. (x * p + l) * s + i) more)
           ∙ sym (in_lanes_at ctx memory k l i below a lt);
     }
-
--- a column below a slice's end is in no later slice
-slice_at : (s k slice i : ℕ) → 2 ≤ s → k * s + i < (slice + 1) * s → slice ≤ k → k ≡ slice
-slice_at s k slice i two below above = elim (cases_lt slice k) [
-  | inl lt ↦ absurd (let m = mul-add-lt slice s 0 k lt (omega arith) in
-      let most : (slice + 1) * s ≤ k * s = mul-le-mul_right s (omega arith) in omega arith)
-  | inr le ↦ omega arith
-]
-
--- a column from a slice's end on is in a later slice
-slice_above : (s k slice i : ℕ) → i < s → (slice + 1) * s ≤ k * s + i → slice < k
-slice_above s k slice i small from = elim (cases_lt slice k) [
-  | inl lt ↦ lt
-  | inr le ↦ absurd (let most : k * s ≤ slice * s = mul-le-mul_right s le in omega arith)
-]
 
 -- a slice whose segments are filled is filled
 pub slice_fills : (ctx : Context) → Sizes ctx → (first : FirstColumns) (pass slice : ℕ) (memory memory' : Memory) → slice < 4
@@ -136,7 +118,8 @@ slice_fills ctx sizes first pass slice memory memory' four fills before after h 
                 ∙ (parts_of ctx slice l memory four a).in_before k l i low a small
                 ∙ h.new l (k * s + i) a (omega arith) (omega arith))
             | inr high ↦ (
-                let same : k ≡ slice = slice_at s k slice i two (omega arith) high in
+                let low : k < slice + 1 = div_below c s (slice + 1) (omega arith) (omega arith) in
+                let same : k ≡ slice = omega arith in
                 ap (λ x. slice_index_or (in_lanes ctx memory') (l * q + (x * s + i)) []) same
                 ∙ sym ((parts_of ctx slice l memory' four a).in_own i small)
                 ∙ (fills l a).made first (in_lanes ctx memory) (parts_of ctx slice l memory four a) h i small
@@ -148,7 +131,8 @@ slice_fills ctx sizes first pass slice memory memory' four fills before after h 
           let small : i < s = mod-lt c (omega arith) in
           let is : k * s + i ≡ c = div-add-mod' c s in
           let here = in_slice s c two below in
-          let above : slice < k = slice_above s k slice i small (omega arith) in
+          let high : slice + 1 < k + 1 = lt_of_mul-lt-mul_right s (let at = here.below in omega arith) in
+          let above : slice < k = omega arith in
           subst (Is r l) is
           (sym ((parts_of ctx slice l memory' four a).in_after k l i above here.one_of_four a small)
           ∙ ap (λ (m : Memory). slice_index_or m (((k - suc slice) * p + l) * s + i) []) after
@@ -174,29 +158,6 @@ slices_begun ctx first old memory is = filled_at_first ctx is.sizes first (in_la
       ∙ sym (get_or-take (slice_length ctx) memory (lane * s + column) [] (omega arith))
       ∙ is.columns lane column l small;
 })
-
--- after the last pass the last column's hash is the tag
-pub slices_give_tag : (ctx : Context) → Sizes ctx → (password salt : List ℕ) (n : ℕ) (memory : Memory) (last : ℕ)
-    → suc last ≡ ctx.t_cost
-    → HasBlocksUpTo ctx (first_block ctx password salt n) (suc last) (λ _. begun ctx (suc last) 0) (in_lanes ctx memory)
-    → long_hash n (bytes_of (last_of_slice ctx (slices_after ctx 2 memory))) ≡ tag_of ctx password salt n
-unfolding tag_of last_block
-slices_give_tag ctx sizes password salt n memory last passes h =
-    let s = segment_length ctx in
-    let p = ctx.p_cost in
-    let first = first_block ctx password salt n in
-    let two = sizes.two_columns in
-    let later = turn_count-later_pass ctx last in
-    let pass : last ≡ ctx.t_cost - 1 = omega arith in
-    ap (λ block. long_hash n (bytes_of block)) (xor_lanes_cong ctx _ _ (λ lane l.
-    let place : 3 * slice_length ctx + (lane * s + (s - 1)) ≡ (3 * p + lane) * s + (s - 1) = omega arith in
-    let column : 3 * s + (s - 1) ≡ lane_length ctx - 1 = omega arith in
-    get_or-drop (3 * slice_length ctx) memory (lane * s + (s - 1)) []
-    ∙ ap (λ n. slice_index_or memory n []) place
-    ∙ sym (in_lanes_at ctx memory 3 lane (s - 1) (omega arith) l (omega arith))
-    ∙ h.old last lane (3 * s + (s - 1)) refl l (omega arith) (omega arith)
-    ∙ ap (block_of ctx first last lane) column
-    ∙ ap (λ r. block_of ctx first r lane (lane_length ctx - 1)) pass))
 
 module _ (ctx : Context) (first : FirstColumns) (memory : ℕ → ℕ → Memory) (is : IsFilledBySegments ctx first memory) where
   sizes : Sizes ctx
@@ -227,10 +188,23 @@ module _ (ctx : Context) (first : FirstColumns) (memory : ℕ → ℕ → Memory
 pub segments_give_tag : (ctx : Context) (password salt : List ℕ) (n : ℕ) (memory : ℕ → ℕ → Memory)
     → IsFilledBySegments ctx (first_block ctx password salt n) memory
     → long_hash n (bytes_of (last_of_slice ctx (slices_after ctx 2 (memory (ctx.t_cost - 1) 4)))) ≡ tag_of ctx password salt n
+unfolding tag_of last_block
 segments_give_tag ctx password salt n memory is =
+    let s = segment_length ctx in
+    let p = ctx.p_cost in
     let first = first_block ctx password salt n in
-    let some = is.begins.1.sizes.some_pass in
     let last = ctx.t_cost - 1 in
-    slices_give_tag ctx is.begins.1.sizes password salt n (memory last 4) last (omega arith)
-    (next_pass ctx first last (in_lanes ctx (memory last 4)) (slices_filled ctx first memory is last 4 (omega arith)
-    (omega arith) (passes_filled ctx first memory is last (omega arith))))
+    let end = memory last 4 in
+    let some = is.begins.1.sizes.some_pass in
+    let two = is.begins.1.sizes.two_columns in
+    let later = turn_count-later_pass ctx last in
+    let filled = next_pass ctx first last (in_lanes ctx end) (slices_filled ctx first memory is last 4 (omega arith)
+    (omega arith) (passes_filled ctx first memory is last (omega arith))) in
+    ap (λ block. long_hash n (bytes_of block)) (xor_lanes_cong ctx _ _ (λ lane l.
+    let place : 3 * slice_length ctx + (lane * s + (s - 1)) ≡ (3 * p + lane) * s + (s - 1) = omega arith in
+    let column : 3 * s + (s - 1) ≡ lane_length ctx - 1 = omega arith in
+    get_or-drop (3 * slice_length ctx) end (lane * s + (s - 1)) []
+    ∙ ap (λ n. slice_index_or end n []) place
+    ∙ sym (in_lanes_at ctx end 3 lane (s - 1) (omega arith) l (omega arith))
+    ∙ filled.old last lane (3 * s + (s - 1)) refl l (omega arith) (omega arith)
+    ∙ ap (block_of ctx first last lane) column))

@@ -1,9 +1,9 @@
 -- A step on the parts of a memory is that step on the memory.
-use Rattle.std.proofs.Common.{◌≡◌, ℕ, suc, ◌+◌, ◌*◌, ◌/◌, ◌%◌, ◌<◌, ◌≤◌, ◌≢◌, inl, inr, List, [], length, sym, ap, ◌∙◌, subst, arith}
+use Rattle.std.proofs.Common.{◌≡◌, ℕ, suc, ◌+◌, ◌*◌, ◌/◌, ◌%◌, ◌<◌, ◌≢◌, inl, inr, List, [], length, sym, ◌∙◌, subst, arith}
 use Rattle.std.specs.Prelude.{slice_index_or, slice_set, ◌==◌, if◌then◌else◌}
 use Rattle.std.proofs.Math.Nat.{mod-lt}
 use Rattle.std.proofs.lemmas.Nat.{div-add-mod', mul-add-lt}
-use Rattle.std.proofs.lemmas.Bool.{cases_eq, cond_both}
+use Rattle.std.proofs.lemmas.Bool.{cases_eq}
 use Rattle.std.proofs.lemmas.Bool.Decides.{nat_tests}
 use Rattle.std.proofs.lemmas.List.{get_or-set_other, get_or-set_same}
 use Rattle.argon2.specs.Rfc9106.{Context, FirstColumns, Memory, Sizes, block_count, lane_length, made_block, segment_length}
@@ -13,7 +13,7 @@ use Rattle.argon2.specs.Watching.{HasBlocksUpTo, begun}
 use Rattle.argon2.proofs.recurrence.PermittedPlaces.{InSlice, in_slice}
 use Rattle.argon2.proofs.context_lemmas.Filling.{step_fills}
 use Rattle.argon2.proofs.context_lemmas.InMemory.{place_below}
-use Rattle.argon2.proofs.context_lemmas.Schedules.{place_apart, turn_count-le}
+use Rattle.argon2.proofs.context_lemmas.Schedules.{set_apart, turn_count-le}
 use Rattle.argon2.proofs.context_lemmas.SegmentColumns.{in_lane}
 
 -- indexes of other slices are other columns
@@ -34,26 +34,19 @@ parts_set ctx slice lane index memory before own after b four l h size all parts
     let at = lane * q + column in
     let high : column < q = in_lane s slice index four h in
     let within = place_below ctx lane column l high in
+    let kept : (o c : ℕ) → c < q → (o ≡ lane → c ≢ column)
+    → slice_index_or memory (o * q + c) [] ≡ slice_index_or (slice_set memory at b) (o * q + c) [] =
+    λ o c fits ne. sym (set_apart q o c lane column memory b fits high ne) in
     record {
-      in_before = λ k o i below a lt.
-          parts.in_before k o i below a lt
-          ∙ sym (get_or-set_other memory at (o * q + (k * s + i)) b []
-          (place_apart q o (k * s + i) lane column (in_lane s k i (omega arith) lt) high
-          (λ _. column_apart s k i slice index below lt)));
+      in_before = λ k o i below a lt. parts.in_before k o i below a lt
+          ∙ kept o (k * s + i) (in_lane s k i (omega arith) lt) (λ _. column_apart s k i slice index below lt);
       in_own = λ i lt. elim (cases_eq i index) [
-        | inl e ↦ (ap (λ n. slice_index_or (slice_set own index b) n []) e ∙ get_or-set_same own index b [] (omega arith)
-            ∙ sym (ap (λ n. slice_index_or (slice_set memory at b) (lane * q + (slice * s + n)) []) e
-            ∙ get_or-set_same memory at b [] (omega arith)))
+        | inl e ↦ rw e (get_or-set_same own index b [] (omega arith) ∙ sym (get_or-set_same memory at b [] (omega arith)))
         | inr ne ↦ (get_or-set_other own index i b [] ne ∙ parts.in_own i lt
-            ∙ sym (get_or-set_other memory at (lane * q + (slice * s + i)) b []
-            (place_apart q lane (slice * s + i) lane column (in_lane s slice i four lt) high
-            (λ _ e. ne (omega arith)))))
+            ∙ kept lane (slice * s + i) (in_lane s slice i four lt) (λ _ e. ne (omega arith)))
       ];
-      in_after = λ k o i above below a lt.
-          parts.in_after k o i above below a lt
-          ∙ sym (get_or-set_other memory at (o * q + (k * s + i)) b []
-          (place_apart q o (k * s + i) lane column (in_lane s k i below lt) high
-          (λ _ e. column_apart s slice index k i above h (sym e))));
+      in_after = λ k o i above below a lt. parts.in_after k o i above below a lt
+          ∙ kept o (k * s + i) (in_lane s k i below lt) (λ _ e. column_apart s slice index k i above h (sym e));
     }
 
 -- a step writes one block of each
@@ -87,19 +80,14 @@ pub ahead_step : (ctx : Context) → Sizes ctx → (first : FirstColumns) (pass 
     → HasBlocksUpTo ctx first pass (ahead ctx pass slice lane column) memory
     → HasBlocksUpTo ctx first pass (ahead ctx pass slice lane (column + 1)) (step ctx memory pass lane column)
 ahead_step ctx sizes first pass slice lane column memory st here is =
-    let s = segment_length ctx in
     let done = ahead ctx pass slice lane column in
     let done' = ahead ctx pass slice lane (column + 1) in
     let now : done lane ≡ column = grind (arith, nat_tests) in
     let then' : done' lane ≡ suc column = grind (arith, nat_tests) in
     let others : (l : ℕ) → l ≢ lane → done' l ≡ done l = λ l ne. grind (arith, nat_tests) in
-    let low = here.above in
-    let high = here.below in
     let few = turn_count-le ctx pass slice in
-    let Within = λ (n : ℕ). (slice * s ≤ n) × (n ≤ (slice + 1) * s) in
-    let within : (l : ℕ) → l < ctx.p_cost → Within (done l) =
-    λ l _. cond_both (l == lane) _ _ Within (λ _. (omega arith, omega arith)) (λ _. (omega arith, omega arith)) in
-    step_fills ctx sizes first pass lane column slice done done' memory st here now then' others within is
+    step_fills ctx sizes first pass lane column slice done memory st here now
+    (λ l _. (grind (arith, nat_tests), grind (arith, nat_tests))) is done' then' others
 
 -- it begins with the others
 pub ahead-first : (ctx : Context) (pass slice lane l : ℕ)

@@ -5,7 +5,8 @@ use Rattle.std.proofs.Math.Nat.{mod-lt}
 use Rattle.std.specs.List.{range_with_len, All}
 use Rattle.std.proofs.lemmas.List.FromFn.{length-range_with_len, get_or-range_with_len}
 use Rattle.std.proofs.lemmas.List.Elements.{All-map, All-append, All-take, All-get_or, All-nil}
-use Rattle.std.proofs.lemmas.Bool.{cond_both, cond-true, eq-eqb, eqb-true, ltb-true, and_parts, and_from}
+use Rattle.std.proofs.lemmas.Bool.{cond_both, eqb-true, ltb-true, and_parts}
+use Rattle.std.proofs.lemmas.Bool.Decides.{nat_tests}
 use Rattle.argon2_base.specs.Block.{mixed, xor_blocks}
 use Rattle.argon2.specs.Rfc9106.{Blocks, Context, Reference, Sizes, address_word, columns, finished_segments, is_independent, lane_length, made_block, permitted, previous, reference, reference_index, reference_lane, reference_of, reference_word, segment_length}
 use Rattle.argon2.specs.Segments.{IsPlaceFor}
@@ -63,13 +64,8 @@ module _ (ctx : Context) (sizes : Sizes ctx) (lane column other : ℕ) (in_lanes
       (if other == lane then columns pass (column / segment_length ctx * segment_length ctx) (column - 1) else [])
   own_sources pass = cond_both (other == lane) _ [] (All (IsSource pass))
       (λ e. All-columns (IsSource pass) pass _ _ (λ c low high.
-      record {
-        in_lanes = in_lanes;
-        in_columns = omega arith;
-        newest = inl (refl, omega arith);
-        apart =
-            inl (eqb-true other lane e);
-      }))
+      let own = eqb-true other lane e in
+      record { in_lanes = in_lanes; in_columns = omega arith; newest = inl (refl, omega arith); apart = inl own }))
       (λ _. All-nil (IsSource pass))
 
   -- all permitted blocks are sources
@@ -93,9 +89,7 @@ lane_below ctx sizes pass lane column w h =
 lane_alone : (ctx : Context) (pass lane column w : ℕ) → pass ≡ 0
     → column / segment_length ctx ≡ 0 → reference_lane ctx pass lane column w ≡ lane
 unfolding reference_lane
-lane_alone ctx pass lane column w p slice =
-    cond-true ((pass == 0) && (column / segment_length ctx == 0)) lane ((w / 2 ^ 32) % ctx.p_cost)
-    (and_from (pass == 0) (column / segment_length ctx == 0) (eq-eqb pass 0 p) (eq-eqb (column / segment_length ctx) 0 slice))
+lane_alone ctx pass lane column w p slice = grind (arith, nat_tests)
 
 -- the index that a word takes is below the count
 index_below : (count w : ℕ) → 0 < count → reference_index count w < count
@@ -127,10 +121,7 @@ Reads-place ctx sizes pass lane column r l c reads = record {
   apart = elim reads.apart [
     | inl own ↦ inl own
     | inr other ↦ inr (λ same.
-        let s = segment_length ctx in
-        let here = in_slice s c sizes.two_columns reads.in_columns in
-        let above = subst (λ x. x * s ≤ c) same here.above in
-        let below = subst (λ x. c < (x + 1) * s) same here.below in
+        let here = rw same at (in_slice (segment_length ctx) c sizes.two_columns reads.in_columns) in
         elim other [ inl before ↦ omega arith | inr after ↦ omega arith ])
   ];
 }
@@ -208,13 +199,7 @@ made_cong ctx sizes pass lane column st f g h =
     (xor_blocks block' (g (pass - 1) lane column)) block
     (λ b.
     let pos : 0 < pass = ltb-true 0 pass (and_parts (ctx.version == 19) (nat_lt 0 pass) b).1 in
-    ap (λ x. xor_blocks x (f (pass - 1) lane column)) m ∙ ap (xor_blocks block')
-    (h (pass - 1) lane column
-    (record {
-      in_lanes = st.in_lanes;
-      in_columns = st.in_columns;
-      newest = inr (omega arith, omega arith);
-      apart =
-          inl refl;
-    })))
+    let own : Reads ctx pass lane column (pass - 1) lane column =
+    record { in_lanes = st.in_lanes; in_columns = st.in_columns; newest = inr (omega arith, omega arith); apart = inl refl } in
+    ap (λ x. xor_blocks x (f (pass - 1) lane column)) m ∙ ap (xor_blocks block') (h (pass - 1) lane column own))
     ∙ ap (λ x. if (ctx.version == 19) && nat_lt 0 pass then xor_blocks block' (g (pass - 1) lane column) else x) m
