@@ -123,13 +123,13 @@ impl<'a> Instance<'a> {
         ensures work { work.new ≡ work.old + self.now.p_cost * segment_calls self.now pass slice }
     {
         for lane in 0..self.lanes() {
-            self.fill_segment(memory, positions, pass, slice, lane, work);
+            self.fill_columns(memory, positions, pass, slice, lane, work);
         }
     }
 
     /// The steps of a lane in a slice. `positions` has a place for each block of each pass, where
     /// the place of the block's reference is written; or it is empty.
-    fn fill_segment<B: MemoryBlock>(
+    fn fill_columns<B: MemoryBlock>(
         &self,
         memory: &mut [B],
         positions: &mut [u32],

@@ -11,14 +11,14 @@ loop-lane-init g c = record {
 
 pub loop-lane-preserved : goal.loop-lane-preserved
 loop-lane-preserved g c =
-    let work = c.fill_segment.ensures.work in
+    let work = c.fill_columns.ensures.work in
     let before = c.loop-lane.invariant in
     let made = before.work in
     record {
       filled = λ first old is.
           IsFilledUpTo-like _ first _ _ _ _ old _
           (λ l _. in_order-next c.args.self.now c.args.pass c.args.slice c.loop-lane.lane l)
-          (c.fill_segment.ensures.filled first old (before.filled first old is));
+          (c.fill_columns.ensures.filled first old (before.filled first old is));
       work = omega arith;
     }
 

@@ -1,7 +1,7 @@
 use Rattle.std.proofs.Common.{◌≡◌, ◌+◌, ◌-◌, ◌*◌, map}
 use Rattle.argon2.specs.Rfc9106.{addresses_at, segment_length}
 use Rattle.argon2.specs.Watching.{address_mixings, begun, in_order, Fills}
-use Rattle.argon2.proofs.context.instance.Instance.fill_segment.Given as goal
+use Rattle.argon2.proofs.context.instance.Instance.fill_columns.Given as goal
 
 -- the address block at hand serves the index before
 abbrev pub invariant-loop-index : goal.invariant-loop-index

@@ -4,7 +4,7 @@ use Rattle.argon2.specs.Watching.{address_mixings, begun, segment_calls}
 use Rattle.argon2.proofs.recurrence.Addresses.{few_mixings, first_mixings, same_addresses, same_mixings}
 use Rattle.argon2.proofs.context_lemmas.InOrder.{filled_step}
 use Rattle.argon2.proofs.context_lemmas.SegmentColumns.{a_column, a_step}
-use Rattle.argon2.proofs.context.instance.Instance.fill_segment.Goals as goal
+use Rattle.argon2.proofs.context.instance.Instance.fill_columns.Goals as goal
 
 pub loop-index-init : goal.loop-index-init
 loop-index-init g c =
