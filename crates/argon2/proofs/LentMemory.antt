@@ -45,7 +45,7 @@ module _ (ctx : Context) (count : ℕ) (all : count ≡ block_count ctx) (old bl
       let size : length blocks ≡ block_count ctx = long ∙ length-take-le count old (omega (arith, room, all)) ∙ all in
       (blocks_of-front size ∙ made ∙ ap (λ n. step ctx (take n old) pass lane column) all, KeepsRest-behind size)
 
-  -- where the first blocks are the matrix, it is in the memory, and the rest is as before
+  -- if the first blocks are the matrix, it is in the memory, and the rest is as before
   pub has_matrix : (password salt : List ℕ) (n : ℕ) → blocks ≡ matrix_of ctx password salt n
       → (blocks_of ctx (blocks ++ drop count old) ≡ matrix_of ctx password salt n)
       × KeepsRest ctx old (blocks ++ drop count old)

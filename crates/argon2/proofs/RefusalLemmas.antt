@@ -27,7 +27,7 @@ pub passed_on : {A : Type 0} (r : Result A Error) (e : Error) → IsErr r × IsE
 passed_on (Ok a) e h = absurd h.1
 passed_on (Err e') e h = ap Err h.1
 
--- where the first tests don't hold, the rest decide
+-- if the first tests don't hold, the rest decide
 pub first_of_rest : (rows rest : List (Bool × Error)) → first_of rows ≡ None → first_of (rows ++ rest) ≡ first_of rest
 first_of_rest [] rest none = refl
 first_of_rest ((true, fault) ∷ rows) rest none = absurd cc
@@ -40,7 +40,7 @@ first_refused [] rest a b e h = absurd cc
 first_refused ((true, fault) ∷ rows) rest a b e h = cc
 first_refused ((false, fault) ∷ rows) rest a b e h = first_refused rows rest a b e h
 
--- what holds holds where a call answers Ok
+-- what holds holds if a call answers Ok
 pub on_ok : {A E P : Type 0} (r : Result A E) → P → OnOk r P
 on_ok (Ok a) holds = holds
 on_ok (Err e) holds = tt

@@ -14,7 +14,7 @@ use Rattle.argon2_base.specs.declared.error.Error.{Error}
 use Rattle.argon2_base.specs.declared.error.Error.TheVariants.{SecretTooLong}
 use Rattle.argon2.specs.Params.{parameters_of}
 
--- the bytes of a secret, none where there is no secret
+-- the bytes of a secret, none if there is no secret
 abbrev pub secret_bytes : Option Secret → List ℕ
 secret_bytes None = []
 secret_bytes (Some secret) = secret.bytes.now

@@ -33,7 +33,7 @@ abbrev pub MayAnswer : Option Error → Result (Unit {0}) Error → Type 0
 MayAnswer refusal (Ok _) = refusal ≡ None
 MayAnswer refusal (Err e) = (e ≡ OutOfMemory) ⊎ (refusal ≡ Some e)
 
--- a length that an output may have where none is set
+-- a length that an output may have if none is set
 abbrev pub IsOutputLength : ℕ → Type 0
 IsOutputLength n = (4 ≤ n) × (n < 2 ^ 32)
 

@@ -15,7 +15,7 @@ use Rattle.argon2.specs.declared.params.Params.{Params}
 
 -- ---- the parameters of a list
 
--- bytes under a name, where there are any
+-- bytes under a name, if there are any
 abbrev pub bytes_item : List ℕ → List ℕ → List Pair
 bytes_item name [] = []
 bytes_item name (x ∷ b) = (name, strict_base64 (x ∷ b)) ∷ []
@@ -143,7 +143,7 @@ items_read ps = checked (items_fault ps) (Ok (items_of ps))
 abbrev pub asked_of : Phc → Result Parameters Fault
 asked_of v = params_of (option_map length v.hash) v.params
 
--- the answer for a text: that of its list, or `ParamsInvalid` where it is no list's
+-- the answer for a text: that of its list, or `ParamsInvalid` if it is no list's
 abbrev pub IsTextAnswer : List ℕ → Result Params HashError → Type 0
 IsTextAnswer text r =
     ((ps : List Pair) → ParamsText text ps → outcome_of parameters_of r ≡ params_of None ps)

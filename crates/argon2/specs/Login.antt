@@ -62,7 +62,7 @@ AddStep before name text (Ok _) after =
     (get before name ≡ None) × (v : Phc) × PhcText text v × (after ≡ insert before name v)
 AddStep before name text (Err e) after = AddRefusal before name text e × (after ≡ before)
 
--- why a login is refused, where the name has this text or none
+-- why a login is refused for a name with this text or none
 abbrev pub LoginRefusal : Target → List ℕ → Option Phc → LoginError → Type 0
 LoginRefusal target password None NameUnknown = Unit {0}
 LoginRefusal target password (Some v) (Refused e) = IsVerifyAnswer target.secret password v (Err e)
@@ -75,7 +75,7 @@ AcceptedStep target before name password drawn v Rehashed after = ¬ (IsCurrent 
     × HasBytes 8 48 drawn × (after ≡ insert before name (made target password drawn))
 AcceptedStep target before name password drawn v Kept after = ¬ (IsCurrent target v) × (after ≡ before)
 
--- what a login answers where the name has this text or none, and the store after it
+-- what a login answers if the name has this text or none, and the store after it
 abbrev pub LoginAnswer :
     Target → Store → List ℕ → List ℕ → List ℕ → Option Phc → Result Accepted LoginError → Store → Type 0
 LoginAnswer target before name password drawn None (Ok _) after = ⊥

@@ -24,7 +24,7 @@ pub record Target : Type 0 where
 abbrev pub target_of : Argon2 → Target
 target_of argon2 = record { settings = settings_of argon2; secret = secret_of argon2 }
 
--- the length of a hash: the output length, or 32 where none is set
+-- the length of a hash: the output length, or 32 if none is set
 abbrev pub tag_length : Settings → ℕ
 tag_length settings = unwrap_or settings.parameters.output_len 32
 
@@ -86,7 +86,7 @@ hashed target password salt =
     checked (first_of (text_faults (length salt) (tag_length target.settings)
     ++ password_faults (length password))) (Ok (made target password salt))
 
--- what hashing to a text may answer: memory is wanted only where salt and hash fit into a text
+-- what hashing to a text may answer: memory is wanted only if salt and hash fit into a text
 abbrev pub IsHashAnswer : Target → List ℕ → List ℕ → Result PasswordHash Error → Type 0
 IsHashAnswer target password salt r = (outcome_of phc_of r ≡ hashed target password salt)
     ⊎ ((outcome_of phc_of r ≡ Err no_memory)

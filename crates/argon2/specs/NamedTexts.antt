@@ -69,7 +69,7 @@ abbrev pub accepted_by : {E : Type 0} → Result LoggedIn E → Result Accepted 
 accepted_by (Ok done) = Ok done.accepted
 accepted_by (Err e) = Err e
 
--- what the generator has left: a text is made anew of 16 bytes, also where it is not kept
+-- what the generator has left: a text is made anew of 16 bytes, even if it is not kept
 abbrev pub stream_after : {E : Type 0} → Result Accepted E → Stream → Stream
 stream_after (Ok Rehashed) stream = (fill_bytes 16 stream).1
 stream_after (Ok Kept) stream = (fill_bytes 16 stream).1

@@ -104,7 +104,7 @@ default_settings = record {
   output_len = None;
 }
 
--- the parameters of settings, where bytes that are not set are none
+-- the parameters of settings; bytes that are not set are none
 abbrev pub built : BuilderSettings → Parameters
 built s = record (plain s.m_cost s.t_cost s.p_cost s.output_len)
     { keyid = unwrap_or s.keyid []; associated = unwrap_or s.associated [] }

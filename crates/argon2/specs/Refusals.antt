@@ -12,12 +12,12 @@ abbrev pub first_of : {E : Type 0} → List (Bool × E) → Option E
 first_of [] = None
 first_of (row ∷ rows) = if row.0 then Some row.1 else first_of rows
 
--- this fault, or a value where there is none
+-- this fault, or a value if there is none
 abbrev pub answer_unless : {A : Type 0} → Option Error → A → Result A Error
 answer_unless None value = Ok value
 answer_unless (Some fault) value = Err fault
 
--- an output of so many bytes, where the parameters set the length n or none
+-- an output of so many bytes, if the parameters set the length n or none
 abbrev pub output_faults : Option ℕ → ℕ → List (Bool × Error)
 output_faults n output =
     (nat_lt output (unwrap_or n 4), OutputTooShort)
@@ -29,7 +29,7 @@ input_faults password salt =
     (nat_lt max_len password, PwdTooLong)
     ∷ (nat_lt salt 8, SaltTooShort) ∷ (nat_lt max_len salt, SaltTooLong) ∷ []
 
--- memory of so many blocks, where so many are filled
+-- memory of so many blocks, if so many are filled
 abbrev pub memory_faults : ℕ → ℕ → List (Bool × Error)
 memory_faults wanted lent = (nat_lt lent wanted, MemoryTooLittle) ∷ []
 

@@ -272,7 +272,7 @@ rule ctx first blocks pass lane column =
 -- ---- the blocks
 
 -- Columns in the order of time, each the list of its lanes' blocks: column c of pass r is the one
--- at r * q + c, where a lane has q columns.
+-- at r * q + c, if a lane has q columns.
 unfoldable pub in_history : Context → List (List (List ℕ)) → ℕ → ℕ → ℕ → List ℕ
 in_history ctx history pass lane column =
     slice_index_or (slice_index_or history (pass * lane_length ctx + column) []) lane []

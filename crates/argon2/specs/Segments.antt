@@ -38,7 +38,7 @@ pub record IsPlaceFor (ctx : Context) (lane column other place : ℕ) : Type 0 w
 
 -- ---- what calls write
 
--- costs that are not refused, columns 0 and 1 of each lane where each has so many blocks, and all other blocks as before
+-- costs that are not refused, columns 0 and 1 of each lane of so many blocks, and all other blocks as before
 pub record BeginsLanes (ctx : Context) (width : ℕ) (first : FirstColumns) (old new : Memory) : Type 0 where
   pub sizes : Sizes ctx
   pub size : length new ≡ length old
@@ -51,7 +51,7 @@ pub record BeginsLanes (ctx : Context) (width : ℕ) (first : FirstColumns) (old
 abbrev pub BeginsSlices : Context → FirstColumns → Memory → Memory → Type 0
 BeginsSlices ctx first old new = BeginsLanes ctx (segment_length ctx) first old new
 
--- Where the parts are those of a memory in which all slices before are made, the segment is made.
+-- If the parts are those of a memory in which all slices before are made, the segment is made.
 pub record FillsSegment (ctx : Context) (pass slice lane : ℕ) (before old new after : Memory) : Type 0
   where
     pub size : length new ≡ length old

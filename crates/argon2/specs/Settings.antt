@@ -50,7 +50,7 @@ IsReadBy {X} name fault given (Err e) = (e ≡ fault) × ((x : X) → given ≢ 
 -- ---- parameters
 
 -- memory in blocks of 1024 bytes, passes and lanes; the bytes of the key identifier and of the
--- associated data; and the output's length in bytes, where it is set
+-- associated data; and the output's length in bytes, if it is set
 pub record Parameters : Type 0 where
   pub m_cost : ℕ
   pub t_cost : ℕ
@@ -87,7 +87,7 @@ plain m t p output_len = record {
   output_len = output_len;
 }
 
--- those that are used where none are given
+-- those that are used if none are given
 abbrev pub default_parameters : Parameters
 default_parameters = plain 19456 2 1 None
 

@@ -80,7 +80,7 @@ abbrev pub IsVerifyAnswer : List ℕ → List ℕ → Phc → Result (Unit {0}) 
 IsVerifyAnswer secret password v r = (outcome_of (λ x. x) r ≡ verified secret password v)
     ⊎ ((outcome_of (λ x. x) r ≡ Err no_memory) × IsOk (stored_of v))
 
--- what verifying a text may answer: that of its value, or `EncodingInvalid` where it is no value's
+-- what verifying a text may answer: that of its value, or `EncodingInvalid` if it is no value's
 abbrev pub IsVerifyTextAnswer : List ℕ → List ℕ → List ℕ → Result (Unit {0}) Error → Type 0
 IsVerifyTextAnswer secret password text r =
     ((v : Phc) × PhcText text v × IsVerifyAnswer secret password v r)

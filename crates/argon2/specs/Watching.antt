@@ -23,7 +23,7 @@ pub record AreReferencePlaces (ctx : Context) (first : FirstColumns) (old new : 
         slice_index new (position_index ctx 0 lane column)
         ≡ slice_index old (position_index ctx 0 lane column)
 
--- after all steps: the matrix, and where there is a place for each reference the list of them
+-- after all steps: the matrix, and if there is a place for each reference the list of them
 pub record IsFilledFrom (ctx : Context) (first : FirstColumns) (memory : Memory) (old new : List ℕ) : Type 0
   where
     pub matrix : memory ≡ matrix ctx first
@@ -31,7 +31,7 @@ pub record IsFilledFrom (ctx : Context) (first : FirstColumns) (memory : Memory)
 
 -- ---- in the midst of a pass
 
--- A memory where the first done(l) columns of each lane l are made: each place has the block of the
+-- A memory in which the first done(l) columns of each lane l are made: each place has the block of the
 -- last pass that wrote it.
 pub record HasBlocksUpTo (ctx : Context) (first : FirstColumns) (pass : ℕ) (done : ℕ → ℕ) (memory : Memory) : Type 0
   where
@@ -53,7 +53,7 @@ pub record HasPositionsUpTo (ctx : Context) (first : FirstColumns) (pass : ℕ) 
         slice_index new (position_index ctx 0 lane column)
         ≡ slice_index old (position_index ctx 0 lane column)
 
--- Both hold, the second where the list has a place for each reference.
+-- Both hold, the second if the list has a place for each reference.
 pub record IsFilledUpTo (ctx : Context) (first : FirstColumns) (pass : ℕ) (done : ℕ → ℕ) (memory : Memory)
     (old new : List ℕ) : Type 0 where
   pub blocks : HasBlocksUpTo ctx first pass done memory

@@ -75,7 +75,7 @@ impl Bound {
         Ok(params.block_count())
     }
 
-    /// Ok where the text asks for no more than this bound, and accepts the password under the
+    /// Ok if the text asks for no more than this bound, and accepts the password under the
     /// secret of `argon2`.
     ///
     /// # Errors

@@ -86,7 +86,7 @@ impl<'key> Argon2<'key> {
     /// tags of no secret.
     ///
     /// # Errors
-    /// [`Error::SecretTooLong`] where the secret is longer.
+    /// [`Error::SecretTooLong`] if the secret is longer.
     pub fn new_with_secret(
         secret: &'key [u8],
         algorithm: Algorithm,
@@ -117,13 +117,13 @@ impl<'key> Argon2<'key> {
     /// [`block_count`](Params::block_count) blocks of `memory` are then the matrix that it was made
     /// of, whatever they were before, and the others are as they were. No other memory is taken.
     ///
-    /// Where the parameters set an output length, `out` has exactly that many bytes; else it has 4 to
+    /// If the parameters set an output length, `out` has exactly that many bytes; else it has 4 to
     /// 4294967295. The password has 0 to 4294967295 bytes, the salt 8 to 4294967295.
     ///
     /// # Errors
     /// The first of these that holds; output and memory are then as before:
     /// - [`Error::OutputTooShort`]: `out` is shorter than the parameters' output length, or than 4
-    ///   bytes where they set none.
+    ///   bytes if they set none.
     /// - [`Error::OutputTooLong`]: `out` is longer than that length, or than 4294967295 bytes.
     /// - [`Error::PwdTooLong`]: the password is longer than 4294967295 bytes.
     /// - [`Error::SaltTooShort`]: the salt is shorter than 8 bytes.
@@ -190,7 +190,7 @@ impl<'key> Argon2<'key> {
     /// [`hash_password_into_with_memory`](Argon2::hash_password_into_with_memory).
     ///
     /// # Errors
-    /// [`Error::OutOfMemory`] where the request was refused, else those of
+    /// [`Error::OutOfMemory`] if the request was refused, else those of
     /// [`hash_password_into_with_memory`](Argon2::hash_password_into_with_memory) but
     /// [`Error::MemoryTooLittle`], in their order. `out` is then as before.
     pub fn hash_password_into<A: Allocator>(
@@ -216,7 +216,7 @@ impl<'key> Argon2<'key> {
     ///
     /// # Errors
     /// Those of [`hash_password_into`](Argon2::hash_password_into), and before them
-    /// [`Error::AdTooLong`] where the data is longer. `out` is then as before.
+    /// [`Error::AdTooLong`] if the data is longer. `out` is then as before.
     pub fn hash_password_into_with_data<A: Allocator>(
         &self,
         alloc: A,
@@ -250,7 +250,7 @@ impl<'key> Argon2<'key> {
     /// were mixed: once for each block but those of columns 0 and 1 of pass 0, and twice for each
     /// address block (RFC 9106, section 3.4.1.2), of which one serves 128 columns of a segment.
     ///
-    /// `positions` has as many places as passes times blocks. Where a lane has q columns, the block
+    /// `positions` has as many places as passes times blocks. If a lane has q columns, the block
     /// of a lane and a column is at place lane * q + column of the memory, and the place of its
     /// reference is written at that index after one whole memory for each pass before. What stands
     /// for columns 0 and 1 of pass 0 stays.

@@ -18,7 +18,7 @@ pub trait Kdf {
     /// this takes is asked of `alloc`, and given back before the call returns.
     ///
     /// # Errors
-    /// [`Error`] where a length is not taken, or a request for memory was refused; `out` is then
+    /// [`Error`] if a length is not taken, or a request for memory was refused; `out` is then
     /// as before.
     fn derive_key(&self, alloc: Global, password: &[u8], salt: &[u8], out: &mut [u8]) -> Result<()>
         ensures taken { OnOk result (takes self.now (length password.now) (length salt.now)

@@ -56,7 +56,7 @@ pub fn slice_interleaving()
         ≡ tag_of ctx password salt n }
 {}
 
-/// Where a memory is laid out slice by slice, its first slice is begun, and each segment is filled once on
+/// If a memory is laid out slice by slice, its first slice is begun, and each segment is filled once on
 /// the parts of that memory, slice by slice and the lanes of a slice in any order, the last column gives
 /// the tag.
 pub fn segments_apart()
@@ -66,7 +66,7 @@ pub fn segments_apart()
         ≡ tag_of ctx password salt n }
 {}
 
-/// Where references do not depend on the blocks, they depend on the algorithm and the costs alone.
+/// If references do not depend on the blocks, they depend on the algorithm and the costs alone.
 pub fn independent_positions()
     ensures argon2i { (one other : Context) → IsValid one → AreAlike one other → one.algorithm ≡ 1
         → (first second : FirstColumns) (pass lane column : ℕ)

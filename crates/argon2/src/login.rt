@@ -43,7 +43,7 @@ impl<'key> Login<'key> {
     /// A store without names. What memory its calls take is asked of `alloc`; this one takes none.
     ///
     /// # Errors
-    /// [`Error::OutputSize`] where the target's output length is above 64, the most bytes that the
+    /// [`Error::OutputSize`] if the target's output length is above 64, the most bytes that the
     /// hash of a PHC text has.
     pub fn new(alloc: Global, target: Argon2<'key>) -> Result<Login<'key>>
         ensures { IsNew (target_of target.entry) result }
@@ -86,7 +86,7 @@ impl<'key> Login<'key> {
         Ok(())
     }
 
-    /// Verifies a password against the text of a name, under the target's secret. Where the text
+    /// Verifies a password against the text of a name, under the target's secret. If the text
     /// accepts the password and has other settings than the target, a fresh text is made of the
     /// password under the target, with a salt of 16 bytes that are drawn from `rng`, and written
     /// over the old one, which takes no memory. [`Accepted`] says what was done.
@@ -121,7 +121,7 @@ impl<'key> Login<'key> {
         self.target.log_in_text(self.alloc, rng, text, password)
     }
 
-    /// The text of a name, where it has one.
+    /// The text of a name, if it has one.
     pub fn text_of(&self, name: &str) -> Option<&PasswordHash>
         ensures { option_map phc_of (option_copied result) ≡ get (store_of self.now) name.now }
     {

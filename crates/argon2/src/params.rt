@@ -91,7 +91,7 @@ impl Params {
     };
 
     /// The parameters of `m_cost` blocks of 1024 bytes, `t_cost` passes and `p_cost` lanes, with
-    /// no key identifier and no associated data. Where an output length is set, in bytes, each
+    /// no key identifier and no associated data. If an output length is set, in bytes, each
     /// output has exactly that length.
     ///
     /// # Errors
@@ -155,7 +155,7 @@ impl Params {
         self.associated.as_bytes()
     }
 
-    /// The length that each output has, in bytes, where it is set.
+    /// The length that each output has, in bytes, if it is set.
     pub fn output_len(&self) -> Option<usize>
         ensures { IsSetting (λ v. v.output_len) self.now result }
     {

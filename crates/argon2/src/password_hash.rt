@@ -40,8 +40,8 @@ pub trait PasswordHasher<H> {
         ensures accepted { IfOk result (accepts self.now password.now) }
         ensures shown { IfOk result (shows self.now) };
 
-    /// The same with a salt of 16 bytes, drawn from `rng` by one `fill_bytes`. They are drawn also
-    /// where the call is refused.
+    /// The same with a salt of 16 bytes, drawn from `rng` by one `fill_bytes`. They are drawn even
+    /// if the call is refused.
     ///
     /// # Errors
     /// As [`hash_password_with_salt`](PasswordHasher::hash_password_with_salt), but for the salt.
@@ -98,7 +98,7 @@ pub trait PasswordVerifier<H> {
     // The hash accepts the password.
     ghost accepts: { Self → List ℕ → H → Type 0 };
 
-    /// Ok where the hash accepts the password. What memory this takes is asked of `alloc` in one
+    /// Ok if the hash accepts the password. What memory this takes is asked of `alloc` in one
     /// request, and given back before the call returns.
     ///
     /// # Errors

@@ -133,7 +133,7 @@ fn hashes_to_a_text_with_all_settings_asked_for(rt: HostRuntime) -> std::result:
     Ok(())
 }
 
-// The fault of hashing to this many bytes with a drawn salt; where there is none, whether the text has the first 16 bytes
+// The fault of hashing to this many bytes with a drawn salt; if there is none, whether the text has the first 16 bytes
 // that ChaCha20 gives for a key, a nonce and a counter of zeros (RFC 8439, appendix A.1), as the generator of a zero seed.
 fn drawn(
     alloc: Global,

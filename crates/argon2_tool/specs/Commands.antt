@@ -115,7 +115,7 @@ abbrev pub IsReply : {Z : Type 0} → Command → List ℕ → Result (String Z)
 IsReply command message r =
     MatchResult r (λ text. Replies command message (string_bytes text)) (Fails command message)
 
--- where the input is known, the command's reply to it is appended to a known output, as a line
+-- if the input is known, the command's reply to it is appended to a known output, as a line
 abbrev pub IsAnswered : Command → Option (List ℕ) → Option (List ℕ) → Option (List ℕ) → Type 0
 IsAnswered command input old new = IfSome input (λ message.
     (line : List ℕ) × Replies command message line × Appends old new (line ++ 10 ∷ []))

@@ -109,7 +109,7 @@ impl<'a> Command<'a> {
     }
 }
 
-// The number that a decimal spells, where it is within these bounds.
+// The number that a decimal spells, if it is within these bounds.
 fn number_within(text: &str, least: u32, most: u32) -> Option<u32>
     ensures found { IfSome result (λ n. (least ≤ n) × (n ≤ most) × (text.now ≡ decimal n)) }
     ensures only { (n : ℕ) → least ≤ n → n ≤ most → text.now ≡ decimal n → IsSome result }

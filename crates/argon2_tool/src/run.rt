@@ -45,9 +45,9 @@ const VERSION: &str = "argon2-tool 0.6.0";
 /// Runs the command that `args` spell on `input`, and returns the exit status.
 ///
 /// Status 0: the answer is written to `output`, as a line, and nothing to `errors`. Status 1: the
-/// failure's text is written to `errors`, and where the answer to `input` is a refusal, nothing to
+/// failure's text is written to `errors`, and if the answer to `input` is a refusal, nothing to
 /// `output`. Status 2: the arguments spell no command, `errors` has the usage line, and neither `input`
-/// nor `output` is touched. Where `errors` can't be written, the status stays.
+/// nor `output` is touched. If `errors` can't be written, the status stays.
 pub fn run<R: Read, W: Write, E: Write>(
     alloc: Global,
     args: &[String],

@@ -53,7 +53,7 @@ pub refused_text : {P : Type 0} (e : Error) → (e ≡ OutOfMemory) ⊎ (P → �
 refused_text e (inl memory) = inl (ap Refused memory)
 refused_text e (inr never) = inr never
 
--- where a test fails, what it decides is not so
+-- if a test fails, what it decides is not so
 pub false_refutes : {P : Type 0} (b : Bool) → b ≡ false → (P → b ≡ true) → ¬ P
 false_refutes true fails decides is = absurd cc
 false_refutes false fails decides is = let passes = decides is in absurd cc

@@ -15,7 +15,7 @@ use Rattle.argon2_base.specs.declared.error.password_hash.Error.{Error as HashEr
 use Rattle.argon2_base.specs.PhcText.{Pair, are_distinct, are_params, is_param, params_text, value_of}
 use Rattle.argon2.specs.ListedParameters.{Items, checked, item_fault, item_taken, items_fault, items_of, items_over, items_read, number_at, params_of, short_bytes}
 
--- What was read, where `rest` is left.
+-- What was read, if `rest` is left.
 pub record Reading (list rest : List Pair) (found : Items) : Type 0 where
   pub names : are_distinct rest ≡ true
   pub fault : items_fault rest ≡ items_fault list
@@ -53,7 +53,7 @@ named_once item rest names =
     let parts = and_parts (is_none (value_of item.0 rest)) (are_distinct rest) names in
     (no_value (value_of item.0 rest) parts.0, parts.1)
 
--- a value that is read by `read`, where there is one, else what was found before
+-- a value that is read by `read`, if there is one, else what was found before
 abbrev found_over : {X : Type 0} → (List ℕ → Option X) → Option (List ℕ) → Option X → Option X
 found_over read value before = option_or (option_and_then read value) before
 
@@ -65,7 +65,7 @@ read_next : {X : Type 0} (read : List ℕ → Option X) (first : Bool) (v : List
 read_next read true v rest before once = rw (once refl) refl
 read_next read false v rest before once = refl
 
--- an item's name, where it is this one, stands in no other item
+-- an item's name, if it is this one, stands in no other item
 only_first : (item : Pair) (rest : List Pair) (name : List ℕ) → value_of item.0 rest ≡ None
     → bytes_eq item.0 name ≡ true → value_of name rest ≡ None
 only_first item rest name once is = rw (← (bytes_eq-Decides item.0 name).0 is) once
@@ -94,7 +94,7 @@ taken_parts : (fault : Option Fault) (after items : Items) → Ok after ≡ chec
 taken_parts None after items h = (refl, cc)
 taken_parts (Some f) after items h = absurd cc
 
--- where it is taken
+-- if it is taken
 pub one_more : (list rest : List Pair) (item : Pair) (before after : Items) → Reading list (item ∷ rest) before
     → Ok after ≡ item_taken item before → Reading list rest after
 one_more list rest item before after r taken =
@@ -106,7 +106,7 @@ one_more list rest item before after r taken =
       items = rw (parts.1, items_next item rest before once.0) r.items;
     }
 
--- where it is refused
+-- if it is refused
 refusal_is : (fault : Option Fault) (items : Items) (f : Fault) → Err f ≡ checked fault (Ok items) → fault ≡ Some f
 refusal_is None items f h = absurd cc
 refusal_is (Some g) items f h = cc

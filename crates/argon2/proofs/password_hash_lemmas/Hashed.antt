@@ -32,7 +32,7 @@ module _ (target : Target) (password salt : List ℕ) where
   ok_of_no_fault : fault ≡ None → Ok (made target password salt) ≡ hashed target password salt
   ok_of_no_fault none = sym (ap (λ o. checked o (Ok (made target password salt))) none)
 
-  -- the answer where the salt was refused
+  -- the answer if the salt was refused
   pub answer_bad_salt : (e : Error) (r : Result PasswordHash Error)
       → (e ≡ SaltInvalid) × (8 ≤ length salt → length salt ≤ 48 → ⊥) → IsErrAnd r (λ f. f ≡ e)
       → IsHashAnswer target password salt r
@@ -41,7 +41,7 @@ module _ (target : Target) (password salt : List ℕ) where
       inl (rw (h, why.0) (err_of_fault (salt_fault _ _ (password_faults (length password)) why.1)))
 
   module _ (least : 8 ≤ length salt) (most : length salt ≤ 48) (fits : tag_length target.settings ≤ 64) where
-    -- the answer where no tag was made
+    -- the answer if no tag was made
     pub answer_no_tag : (e : Error) (r : Result PasswordHash Error)
         → (e ≡ OutOfMemory) ⊎ ((e ≡ PasswordInvalid) × (4294967295 < length password)) → IsErrAnd r (λ f. f ≡ e)
         → IsHashAnswer target password salt r
@@ -52,7 +52,7 @@ module _ (target : Target) (password salt : List ℕ) where
         inl (rw (h, why.0) (err_of_fault (no_text_fault _ _ (password_faults (length password)) least most fits
         ∙ rw (lt-ltb 4294967295 (length password) why.1) refl)))
 
-    -- the answer where a value was made
+    -- the answer if a value was made
     pub answer_made : (v : Phc) → v ≡ made target password salt → length password ≤ 4294967295
         → Ok v ≡ hashed target password salt
     answer_made v is short =

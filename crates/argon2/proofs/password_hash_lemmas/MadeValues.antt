@@ -36,7 +36,7 @@ list_fits n list =
     let fits = list.fits in
     omega (arith, is)
 
--- an `Argon2` is a target where its hashes fit into texts
+-- an `Argon2` is a target if its hashes fit into texts
 pub is_target : (argon2 : Argon2) → tag_length (settings_of argon2) ≤ 64 → IsTarget (target_of argon2)
 is_target argon2 fits = record {
   valid = argon2.params.valid;
@@ -57,7 +57,7 @@ few_lanes v o h = grind (arith, nat_tests)
 least_output : (v : Parameters) (n : ℕ) → fault_with v (Some n) ≡ None → 4 ≤ n
 least_output v n h = grind (arith, nat_tests)
 
--- an output length is at least 4, and so is the one of a hash where none is set
+-- an output length is at least 4, and so is the one of a hash if none is set
 set_length : (v : Parameters) (o : Option ℕ) → fault_with v o ≡ None
     → (fault_with v (Some (unwrap_or o 32)) ≡ None) × (4 ≤ unwrap_or o 32)
 set_length v None h = (h, omega arith)

@@ -1,4 +1,4 @@
--- Verifying answers Ok exactly where the value accepts.
+-- Verifying answers Ok exactly if the value accepts.
 use Rattle.std.proofs.Common.{◌≡◌, ℕ, ◌≤◌, Bool, true, false, List, length, Option, Some, None, Result, Ok, Err, inl, inr, ◌⊎◌, refl, sym, nat_le}
 use Rattle.std.proofs.lemmas.Bool.{and_parts, le-leb, leb-true}
 use Rattle.std.proofs.lemmas.Slice.Eq.{bytes_eq-Decides}
@@ -93,11 +93,11 @@ module _ (secret password : List ℕ) (v : Phc) where
   accepts_from (Some salt) None es eh h = absurd cc
   accepts_from (Some salt) (Some hash) es eh h = accepts_with salt hash _ _ _ es eh refl refl refl h
 
-  -- Ok is answered only where the value accepts
+  -- Ok is answered only if the value accepts
   accepts_verified : verified secret password v ≡ Ok tt → AcceptsBy secret password v
   accepts_verified h = accepts_from v.salt v.hash refl refl h
 
-  -- where the value accepts, Ok is answered
+  -- if the value accepts, Ok is answered
   verified_accepts : AcceptsBy secret password v → verified secret password v ≡ Ok tt
   verified_accepts a =
       let same = (bytes_eq-Decides a.hash (tag_of (context_with a.settings secret) password a.salt (length a.hash))).1

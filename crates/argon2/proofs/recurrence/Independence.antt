@@ -1,4 +1,4 @@
--- Where addressing is independent, the place of a reference is a function of the algorithm, the three
+-- If addressing is independent, the place of a reference is a function of the algorithm, the three
 -- costs and the block's place.
 use Rattle.std.proofs.Common.{◌≡◌, ℕ, zero, suc, ◌+◌, ◌*◌, ◌/◌, ◌%◌, ◌<◌, true, refl, sym, ap, ◌∙◌, arith}
 use Rattle.std.specs.Prelude.{slice_index_or, nat_lt, ◌==◌}
@@ -14,7 +14,7 @@ addressed_place ctx pass lane column =
     reference ctx pass lane column (address_word ctx pass lane (column / segment_length ctx) (column % segment_length ctx)) in
     from.lane * lane_length ctx + from.column
 
--- where addressing is independent, that is the place of the reference
+-- if addressing is independent, that is the place of the reference
 reference_place-addressed : (ctx : Context) (first : FirstColumns) (pass lane column : ℕ)
     → is_independent ctx pass (column / segment_length ctx) ≡ true
     → reference_places ctx first pass lane column ≡ addressed_place ctx pass lane column
@@ -50,7 +50,7 @@ independent_rest : (a b : Context) (pass column : ℕ)
 unfolding with_rest is_independent
 independent_rest a b pass column = refl
 
--- where addressing is independent, alike contexts have alike reference places
+-- if addressing is independent, alike contexts have alike reference places
 pub positions_agree : (a b : Context) → AreAlike a b
     → (first second : FirstColumns) (pass lane column : ℕ)
     → is_independent a pass (column / segment_length a) ≡ true

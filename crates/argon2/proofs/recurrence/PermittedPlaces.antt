@@ -9,7 +9,7 @@ use Rattle.std.proofs.lemmas.Bool.Decides.{nat_tests}
 use Rattle.std.proofs.lemmas.Bool.{cond_both, cases_eq, cases_lt}
 use Rattle.argon2.specs.Rfc9106.{Context, Sizes, columns, finished_segments, lane_length, permitted, segment_length}
 
--- a column c of a slice, where a segment has s columns
+-- a column c of a slice, for segments of s columns
 pub record InSlice (s c slice : ℕ) : Type 0 where
   pub above : slice * s ≤ c
   pub below : c < (slice + 1) * s
@@ -121,7 +121,7 @@ module _ (ctx : Context) (sizes : Sizes ctx) (column : ℕ) (in_columns : column
       grind (arith, nat_tests))
       (λ o. let all = length-append f [] in grind (arith, nat_tests)))
 
-  -- some block is permitted, where in the first slice of all the lane itself is asked
+  -- some block is permitted, if in the first slice of all the lane itself is asked
   pub some_permitted : (pass lane other : ℕ) → (pass ≡ 0 → 2 ≤ column)
       → (pass ≡ 0 → column / segment_length ctx ≡ 0 → other ≡ lane) → 0 < length (permitted ctx pass lane column other)
   some_permitted pass lane other later alone =

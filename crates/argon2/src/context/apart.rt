@@ -1,6 +1,6 @@
-//! Filling where each segment is lent apart, so that the lanes of a slice can be filled side by side.
+//! Filling with each segment lent apart, so that the lanes of a slice can be filled side by side.
 //!
-//! The memory is laid out slice by slice, in each slice lane by lane: where a segment has S columns and
+//! The memory is laid out slice by slice, in each slice lane by lane: if a segment has S columns and
 //! there are p lanes, the block of a lane and a column is at ((column / S) * p + lane) * S + column % S.
 //! A segment is filled on three parts of it: the slices before, the segment, and the slices after it.
 

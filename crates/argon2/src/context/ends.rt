@@ -91,7 +91,7 @@ impl Instance<'_> {
         self.begin_lanes(pwd, salt, out_len, self.lane_length(), blocks);
     }
 
-    /// The same where each lane has `width` blocks, the first of its columns.
+    /// The same if each lane has `width` blocks, the first of its columns.
     pub(super) fn begin_lanes<B: MemoryBlock>(
         &self,
         pwd: &[u8],
@@ -127,7 +127,7 @@ impl Instance<'_> {
         self.write_tag_of_lanes(self.lane_length(), blocks, out);
     }
 
-    /// The same where each lane has `width` blocks, the last of its columns.
+    /// The same if each lane has `width` blocks, the last of its columns.
     pub(super) fn write_tag_of_lanes<B: MemoryBlock>(
         &self,
         width: u32,

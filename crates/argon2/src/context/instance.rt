@@ -107,7 +107,7 @@ impl<'a> Instance<'a> {
         (self.lanes() * self.lane_length()) as usize
     }
 
-    /// The place of a lane's column, where the lanes stand one after the other.
+    /// The place of a lane's column in a memory that lies lane after lane.
     pub(super) fn place(&self, lane: u32, column: u32) -> u32
         requires in_lanes { lane < self.now.p_cost }
         requires in_columns { column < lane_length self.now }

@@ -43,7 +43,7 @@ impl Argon2<'_> {
     }
 
     /// Writes the block of a pass, a lane and a column, and no other (RFC 9106, section 3.2, steps
-    /// 5 and 6). Answers the place of the block that it refers to: where a lane has q columns, that
+    /// 5 and 6). Answers the place of the block that it refers to: if a lane has q columns, that
     /// of a lane and a column is at place lane * q + column.
     ///
     /// The pass is below [`t_cost`](crate::Params::t_cost), the lane below
@@ -71,7 +71,7 @@ impl Argon2<'_> {
     /// the memory holds (RFC 9106, section 3.2, steps 7 and 8). That is the tag once all steps are
     /// done, if `out` has the length that the filling began for.
     ///
-    /// `memory` has at least [`block_count`](crate::Params::block_count) blocks. Where the parameters
+    /// `memory` has at least [`block_count`](crate::Params::block_count) blocks. If the parameters
     /// set an output length, `out` has exactly that many bytes; else it has 4 to 4294967295.
     pub fn finish_fill(&self, memory: &[Block], out: &mut [u8])
         requires room { block_count (context_of self.now) ≤ length memory.now }

@@ -10,7 +10,7 @@ use crate::context::Argon2;
 use crate::version::Version;
 use argon2_base::error::{Error, Result};
 
-/// Six settings that parameters are built of. Two builders are equal where all six are; a key
+/// Six settings that parameters are built of. Two builders are equal if all six are; a key
 /// identifier or associated data that is not set differs from an empty one that was set.
 #[derive(Clone, Copy, Debug, PartialEq, Eq)]
 pub struct ParamsBuilder {
@@ -88,8 +88,8 @@ impl ParamsBuilder {
         self
     }
 
-    /// The parameters of the settings, where a key identifier or associated data that is not set
-    /// is empty.
+    /// The parameters of the settings. A key identifier or associated data that is not set is
+    /// empty.
     ///
     /// # Errors
     /// Those of [`Params::new`], in the same order.

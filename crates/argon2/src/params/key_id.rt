@@ -46,8 +46,8 @@ impl KeyId {
     /// the unused last bits zero.
     ///
     /// # Errors
-    /// [`Error::B64Encoding`], of `InvalidLength` where the text has more than 11 bytes, else of
-    /// `InvalidEncoding` where it is the Base64 of no bytes.
+    /// [`Error::B64Encoding`], of `InvalidLength` if the text has more than 11 bytes, else of
+    /// `InvalidEncoding` if it is the Base64 of no bytes.
     pub fn from_b64(text: &str) -> Result<KeyId>
         ensures { IsOfText keyid_bytes 11 text.now result }
     {

@@ -36,7 +36,7 @@ fn params_string(m: u32, t: u32, p: u32, keyid: &[u8], associated: &[u8]) -> Par
     list
 }
 
-// Appends bytes, where there are any.
+// Appends bytes, if there are any.
 fn add_bytes(list: &mut ParamsString, name: &str, bytes: &[u8])
     requires { IsTrue (are_params (list.old ++ bytes_item name.now bytes.now)) }
     ensures { list.new ≡ list.old ++ bytes_item name.now bytes.now }
@@ -79,7 +79,7 @@ impl TryFrom<Params> for ParamsString {
     }
 }
 
-/// `m=`, `t=` and `p=` with decimals, then `keyid=` and `data=` with Base64 where they are not empty,
+/// `m=`, `t=` and `p=` with decimals, then `keyid=` and `data=` with Base64 if they are not empty,
 /// joined by `,`.
 impl fmt::Display for Params {
     ghost use Rattle.std.specs.Prelude.{Some};
@@ -211,7 +211,7 @@ impl Params {
 /// The parameters that a list stands for, with any length of output. The items are gone through in
 /// the order of the text: a value of `m`, `t` or `p` that is no decimal up to 4294967295, and one of
 /// `keyid` or `data` that is refused as Base64, is `ParamInvalid` with that name; any other name is
-/// `ParamsInvalid`. Then `ParamsInvalid` where `m`, `t` or `p` is missing, and then the fault of
+/// `ParamsInvalid`. Then `ParamsInvalid` if `m`, `t` or `p` is missing, and then the fault of
 /// [`Params::new`].
 impl TryFrom<&ParamsString> for Params {
     ghost use Rattle.std.specs.Prelude.{◌≡◌, None};
@@ -229,7 +229,7 @@ impl TryFrom<&ParamsString> for Params {
 }
 
 /// The parameters of a PHC text, read as from its list. Their output length is the length of the
-/// hash, where the text has one.
+/// hash, if the text has one.
 impl TryFrom<&PasswordHash> for Params {
     ghost use Rattle.argon2_base.specs.PhcFields.{phc_of};
     ghost use Rattle.std.specs.Prelude.{◌≡◌};
@@ -247,7 +247,7 @@ impl TryFrom<&PasswordHash> for Params {
     }
 }
 
-/// The parameters of a list's text, read as from the list, or `ParamsInvalid` where the text is
+/// The parameters of a list's text, read as from the list, or `ParamsInvalid` if the text is
 /// outside the grammar of lists.
 impl FromStr for Params {
     ghost use Rattle.argon2.specs.ListedParameters.{IsTextAnswer};

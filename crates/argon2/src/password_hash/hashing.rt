@@ -76,7 +76,7 @@ impl<'key> Argon2<'key> {
     }
 }
 
-/// Hashes have the output length of the parameters, or 32 bytes where none is set.
+/// Hashes have the output length of the parameters, or 32 bytes if none is set.
 impl PasswordHasher<PasswordHash> for Argon2<'_> {
     ghost use Rattle.std.specs.Prelude.{◌≡◌, Ok};
     ghost use Rattle.argon2_base.specs.PhcFields.{phc_of};
@@ -160,7 +160,7 @@ impl CustomizedPasswordHasher<PasswordHash> for Argon2<'_> {
     ghost accepts = { λ argon2 password hash.
         Accepts (secret_of argon2) password (phc_text (phc_of hash)) };
 
-    /// Where no algorithm is given it is Argon2id, and where no version is, 0x13, whatever this
+    /// If no algorithm is given it is Argon2id, and if no version is, 0x13, whatever this
     /// context's are. Its secret is used.
     fn hash_password_customized(
         &self,

@@ -14,9 +14,9 @@ use argon2_base::phc::{Output, PasswordHash, Salt};
 pub struct Settings {
     /// The algorithm.
     pub algorithm: Algorithm,
-    /// The version: 0x10 where the text has none.
+    /// The version: 0x10 if the text has none.
     pub version: Version,
-    /// The parameters. Their output length is the length of the hash, where the text has one.
+    /// The parameters. Their output length is the length of the hash, if the text has one.
     pub params: Params,
 }
 
@@ -68,7 +68,7 @@ pub struct Stored<'hash> {
 /// Reads what a PHC text is verified by. Allocates nothing.
 ///
 /// # Errors
-/// [`Error::PasswordInvalid`] where there is no salt or no hash, else those of reading its
+/// [`Error::PasswordInvalid`] if there is no salt or no hash, else those of reading its
 /// [`Settings`].
 impl<'hash> TryFrom<&'hash PasswordHash> for Stored<'hash> {
     ghost use Rattle.argon2_base.specs.Error.{outcome_of};

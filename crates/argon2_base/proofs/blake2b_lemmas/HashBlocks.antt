@@ -18,7 +18,7 @@ hash_blocks_more : (l t : ℕ) (h b c : List ℕ) (bs : List (List ℕ)) → has
 unfolding hash_blocks
 hash_blocks_more l t h b c bs = refl
 
--- after k blocks of p, where j stand between them and the last
+-- after k blocks of p, with j between them and the last
 hash_blocks_from : (l : ℕ) (i p : List ℕ) (k j : ℕ) → (k + j) * 128 ≤ l
     → hash_blocks l (k * 128) (hash_after i p k) (first_chunks 128 (suc j) (drop (k * 128) p))
     ≡ compress (hash_after i p (k + j)) (take 128 (drop ((k + j) * 128) p)) (min ((k + j) * 128 + 128) l) true

@@ -14,7 +14,7 @@ pub(crate) const IV: [u64; 8] = [
     0x5be0_cd19_137e_2179,
 ];
 
-// Takes the block into h, where t counts the message's bytes up to the block's end: the function F.
+// Takes the block into h; t counts the message's bytes up to the block's end: the function F.
 pub(crate) fn compress(h: &mut [u64; 8], block: &[u8], t: u128, last: bool)
     requires { length block.now ≡ 128 }
     ensures { h.new ≡ compress h.old block.now t last }

@@ -4,7 +4,7 @@ use super::digest_of;
 use argon2::{Algorithm, Argon2, AssociatedData, Block, ParamsBuilder, Result, Version};
 use std::test::Fail;
 
-// What a tag is made of, where a password has bytes 1, a salt 2, a secret 3 and associated data 4, and the BLAKE2b
+// What a tag is made of: a password of bytes 1, a salt of 2, a secret of 3, associated data of 4; and the BLAKE2b
 // digest of 8 bytes of the tag.
 struct Row {
     algorithm: Algorithm,

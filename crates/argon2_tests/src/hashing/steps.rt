@@ -5,7 +5,7 @@ use super::{PWD, SALT, are_ones, known, ones, words};
 use argon2::{Algorithm, Argon2, Block, Error, Version};
 use std::test::Fail;
 
-// The place that a step refers to, where its conditions hold.
+// The place that a step refers to, if its conditions hold.
 pub fn step(
     argon2: &Argon2<'_>,
     memory: &mut [Block],
@@ -23,7 +23,7 @@ pub fn step(
     Err("no such step".into())
 }
 
-// The end of a filling, where its conditions hold.
+// The end of a filling, if its conditions hold.
 fn finish(argon2: &Argon2<'_>, memory: &[Block]) -> Result<[u8; 32], Fail> {
     let params = argon2.params();
     if params.output_len().is_some() || memory.len() < params.block_count() {
@@ -65,7 +65,7 @@ const ORDERS: [[[u32; 8]; 4]; 3] = [
     ],
 ];
 
-// The tag of a row, where lanes take turns in these orders. The memory has a block more than are filled.
+// The tag of a row, if lanes take turns in these orders. The memory has a block more than are filled.
 fn tag_by_turns(row: &KnownTag, slices: &[[u32; 8]; 4]) -> Result<[u64; 4], Fail> {
     let argon2 = known(row.algorithm, row.version)?;
     let mut memory = [ones(); 33];

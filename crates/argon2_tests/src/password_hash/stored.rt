@@ -3,7 +3,7 @@ use argon2::{Algorithm, Params, Version};
 use argon2_base::phc::PasswordHash;
 use std::test::Fail;
 
-// A text, its algorithm, version, blocks, passes and lanes, and its hash, empty where it has none.
+// A text, its algorithm, version, blocks, passes and lanes, and its hash, empty if it has none.
 type Row = (
     &'static str,
     Algorithm,
@@ -36,7 +36,7 @@ const SHOWN: [Row; 3] = [
     ),
 ];
 
-// Whether a text shows these settings, and `somesalt` and the hash where it has one.
+// Whether a text shows these settings, and `somesalt` and the hash if it has one.
 fn shows(row: &Row) -> std::result::Result<bool, Fail> {
     let (text, algorithm, version, (m_cost, t_cost, p_cost), bytes) = *row;
     let hash = PasswordHash::new(text)?;
