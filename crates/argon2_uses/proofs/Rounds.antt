@@ -79,7 +79,7 @@ run_turn ctx pass slice lane index memory h below =
     ap (λ k. run ctx pass slice (range_with_len lane k ++ rounds p n) memory) e
     ∙ ap (λ x. run ctx pass slice rest (step ctx memory pass lane x)) c
 
--- where a round begins, every lane is left in it
+-- if a round begins, every lane is left in it
 pub run_begin : (ctx : Context) (pass slice index : ℕ) (memory : Memory) → index < segment_length ctx →
     run ctx pass slice (rounds ctx.p_cost (segment_length ctx - index)) memory
     ≡ run ctx pass slice (left ctx 0 (segment_length ctx - (index + 1))) memory
@@ -91,7 +91,7 @@ run_begin ctx pass slice index memory below =
     ap (λ k. run ctx pass slice (rounds ctx.p_cost k) memory) e
     ∙ ap (λ k. run ctx pass slice (range_with_len 0 k ++ rounds ctx.p_cost n) memory) all
 
--- where a round ends, no lane is left in it
+-- if a round ends, no lane is left in it
 pub run_end : (ctx : Context) (pass slice n : ℕ) (memory : Memory) →
     run ctx pass slice (left ctx ctx.p_cost n) memory ≡ run ctx pass slice (rounds ctx.p_cost n) memory
 unfolding left
@@ -99,7 +99,7 @@ run_end ctx pass slice n memory =
     let e : ctx.p_cost - ctx.p_cost ≡ 0 = omega arith in
     ap (λ k. run ctx pass slice (range_with_len ctx.p_cost k ++ rounds ctx.p_cost n) memory) e
 
--- where no round is left the memory stays
+-- if no round is left the memory stays
 pub run_no_round : (ctx : Context) (pass slice index : ℕ) (memory : Memory) → segment_length ctx ≤ index →
     run ctx pass slice (rounds ctx.p_cost (segment_length ctx - index)) memory ≡ memory
 unfolding rounds run

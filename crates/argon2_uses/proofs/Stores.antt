@@ -31,7 +31,7 @@ pub add_gives : (answer : Result (Unit {0}) LoginError) (o : Option Phc) (text :
 add_gives (Ok x) o text v w is same says = says v is ∙ ap Some same
 add_gives (Err e) o text v w is same says = tt
 
--- `add` refuses a text of the grammar where the name is taken or memory is out
+-- `add` refuses a text of the grammar if the name is taken or memory is out
 pub add_refuses : (target : Target) (login : Login) (name password salt text : List ℕ) (v : Phc)
     (answer : Result (Unit {0}) LoginError) (after : Store) → PhcText text v →
     AddStep (store_of login) name text answer after →
@@ -93,7 +93,7 @@ pub entries_are_new_in : (es : List (List ℕ × Phc)) (store start : Store) →
     AreNew es start
 entries_are_new_in es store start is none = rw (is, none) (entries_are_new store)
 
--- `add` refuses a text of the grammar under a new name only where memory is out
+-- `add` refuses a text of the grammar under a new name only if memory is out
 pub add_refuses_new : (target : Target) (before : Store) (name text : List ℕ) (v : Phc)
     (answer : Result (Unit {0}) LoginError) (after : Store) → PhcText text v → get before name ≡ None →
     tag_length target.settings ≤ 64 → AddStep before name text answer after → IfErr answer (MoveRefusal target)

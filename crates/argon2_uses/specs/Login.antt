@@ -15,16 +15,12 @@ abbrev pub HasPasswordUnder : List ℕ → Login → List ℕ → List ℕ → T
 HasPasswordUnder secret login name password =
     IsSomeAnd (get (store_of login) name) (AcceptsBy secret password)
 
--- under the store's own secret, the name's text accepts the password
-abbrev pub HasPassword : Login → List ℕ → List ℕ → Type 0
-HasPassword login name password = HasPasswordUnder (login_target login).secret login name password
-
 -- what a login finds and leaves: a current text that stays, one that was not current and was made
 -- anew, or one that is not current and stays; else all is as it was
-abbrev pub Leaves : Login → List ℕ → List ℕ → List ℕ → Result (Option Accepted) LoginError → Login → Type 0
-Leaves old name password drawn (Ok (Some did)) new = IsSomeAnd (get (store_of old) name) (λ v.
+abbrev pub FindsAndLeaves : Login → List ℕ → List ℕ → List ℕ → Result (Option Accepted) LoginError → Login → Type 0
+FindsAndLeaves old name password drawn (Ok (Some did)) new = IsSomeAnd (get (store_of old) name) (λ v.
     AcceptedStep (login_target old) (store_of old) name password drawn v did (store_of new))
-Leaves old name password drawn _ new = store_of new ≡ store_of old
+FindsAndLeaves old name password drawn _ new = store_of new ≡ store_of old
 
 -- why a name is not registered with a password and a salt
 abbrev pub RegisterRefusal : Target → Login → List ℕ → List ℕ → List ℕ → LoginError → Type 0
@@ -33,7 +29,7 @@ RegisterRefusal target login name password salt OutOfMemory = Unit {0}
 RegisterRefusal target login name password salt (Refused e) = IsHashAnswer target password salt (Err e)
 RegisterRefusal target login name password salt _ = ⊥
 
--- what `add` does, and where that succeeds what `login` does then
+-- what `add` does, and if that succeeds what `login` does then
 abbrev pub TakesOver :
     Login → List ℕ → List ℕ → List ℕ → List ℕ → Result Accepted LoginError → Login → Type 0
 TakesOver old name text password drawn result new =

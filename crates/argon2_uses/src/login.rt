@@ -4,13 +4,13 @@ ghost use Rattle.std.specs.Prelude.{◌≡◌, ◌≢◌, ◌↔◌, ◌⊎◌, 
 ghost use Rattle.std.specs.FinMap.{get};
 ghost use Rattle.rand_core.specs.Stream.{fill_bytes};
 ghost use Rattle.argon2.specs.Argon2.{secret_of};
-ghost use Rattle.argon2.specs.Login.{store_of, login_target};
+ghost use Rattle.argon2.specs.Login.{HasPassword, store_of, login_target};
 ghost use Rattle.argon2.specs.NamedTexts.{IsCurrent, KeepsOthers};
 ghost use Rattle.argon2.specs.Made.{made, target_of};
 ghost use Rattle.argon2.specs.base_declared.error.password_hash.Error.TheVariants.{OutOfMemory};
 ghost use Rattle.argon2.specs.declared.login.answers.Accepted.TheVariants.{Kept};
 ghost use Rattle.argon2.specs.declared.login.answers.LoginError.TheVariants.{Refused};
-ghost use Rattle.argon2_uses.specs.Login.{HasPassword, HasPasswordUnder, Leaves, MoveRefusal, RegisterRefusal, TakesOver};
+ghost use Rattle.argon2_uses.specs.Login.{FindsAndLeaves, HasPasswordUnder, MoveRefusal, RegisterRefusal, TakesOver};
 
 use argon2::login::{Accepted, Login, LoginError};
 use argon2::password_hash::Error;
@@ -22,7 +22,7 @@ use std::alloc::Global;
 /// of `argon2` is to be the store's.
 ///
 /// # Errors
-/// [`LoginError::Refused`] where no text can be made, and else those of [`Login::add`].
+/// [`LoginError::Refused`] if no text can be made, and else those of [`Login::add`].
 pub fn register<R: Rng>(
     store: &mut Login<'_>,
     argon2: &Argon2<'_>,
@@ -49,23 +49,24 @@ pub fn register<R: Rng>(
     store.add(name, hash.text().as_str())
 }
 
-/// None where the name has not this password, and else what was done with its text: where that is
+/// None if the name has not this password, and else what was done with its text: if that is
 /// [`Accepted::Rehashed`], the text is a new one, which [`Login::text_of`] gives to write down.
 ///
 /// # Errors
-/// [`LoginError::Refused`] with the reason where the name's text can't be verified.
+/// [`LoginError::Refused`] with the reason if the name's text can't be verified.
 pub fn log_in<R: Rng>(
     store: &mut Login<'_>,
     rng: &mut R,
     name: &str,
     password: &[u8],
 ) -> Result<Option<Accepted>, LoginError>
-    ensures answer { MatchResult result
-        (λ accepted. IsSome accepted ↔ HasPassword store.old name.now password.now)
-        (λ e. (e ≡ Refused OutOfMemory) ⊎ (HasPassword store.old name.now password.now → ⊥)) }
-    ensures still { IfOk result (λ accepted.
-        IsSome accepted → HasPassword store.new name.now password.now) }
-    ensures left { Leaves store.old name.now password.now (fill_bytes 16 (R.stream rng.old)).0
+    ensures answer { let target = login_target store.old in
+        let is = HasPassword target (store_of store.old) name.now password.now in
+        MatchResult result (λ accepted. IsSome accepted ↔ is)
+        (λ e. (e ≡ Refused OutOfMemory) ⊎ (is → ⊥)) }
+    ensures still { let target = login_target store.new in IfOk result (λ accepted.
+        IsSome accepted → HasPassword target (store_of store.new) name.now password.now) }
+    ensures left { FindsAndLeaves store.old name.now password.now (fill_bytes 16 (R.stream rng.old)).0
         result store.new }
     ensures others { KeepsOthers name.now (store_of store.old) (store_of store.new) }
     ensures target { login_target store.new ≡ login_target store.old }
@@ -102,7 +103,7 @@ pub fn take_over<R: Rng>(
 /// A store of the same names and texts that renews them under another target.
 ///
 /// # Errors
-/// [`LoginError::Refused`] where the target's hashes don't fit into texts, and
+/// [`LoginError::Refused`] if the target's hashes don't fit into texts, and
 /// [`LoginError::OutOfMemory`].
 pub fn moved<'key>(
     store: &Login<'_>,

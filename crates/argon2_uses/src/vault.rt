@@ -49,7 +49,7 @@ pub fn seal(
     Ok((Header { salt, tag }, key))
 }
 
-/// The key of a vault, where the header's tag is the passphrase's.
+/// The key of a vault, if the header's tag is the passphrase's.
 pub fn open(
     argon2: &Argon2<'_>,
     alloc: Global,
