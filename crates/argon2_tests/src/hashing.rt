@@ -8,7 +8,6 @@ mod debug_texts;
 mod extreme_costs;
 mod further_tags;
 mod known_tags;
-mod lending;
 mod lent_memory;
 mod own_memory;
 mod steps;
