@@ -74,6 +74,7 @@ impl<'a> Instance<'a> {
     }
 
     /// The address block that has the word of a step, in a slice that has address blocks.
+    #[inline(always)]
     #[tactic(auto, unfolding(crate::specs::Rfc9106::addresses_at))]
     pub(super) fn addresses(&self, at: Step, work: &mut Work) -> Option<Block>
         requires { work.old + 2 < 2 ^ 128 }
