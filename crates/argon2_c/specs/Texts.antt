@@ -39,7 +39,7 @@ abbrev pub name_numbered : ℕ → List ℕ
 name_numbered number = if number == 0 then codes "argon2d"
     else if number == 1 then codes "argon2i" else codes "argon2id"
 
--- the version, where there is one, and what follows
+-- the version, if there is one, and what follows
 abbrev pub version_part : Option ℕ → List ℕ → List ℕ
 version_part None more = more
 version_part (Some n) more = codes "v=" ++ (decimal n ++ 36 ∷ more)

@@ -20,7 +20,7 @@ call_refusal algorithm has_text text password absent room = first_of (
     ∷ (nat_lt room (2 * text), MEMORY_ALLOCATION_ERROR)
     ∷ [])
 
--- the request that a text stands for: version 16 where it has none, as many threads as lanes
+-- the request that a text stands for: version 16 if it has none, as many threads as lanes
 abbrev pub shown_request : ℕ → ℕ → Said → Request
 shown_request algorithm absent v = record {
   algorithm = algorithm;

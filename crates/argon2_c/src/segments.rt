@@ -1,5 +1,5 @@
-//! Hashing where the C has the memory and each segment is filled by a call, so that threads can share the
-//! lanes of a slice.
+//! Hashing on memory that the C has, by a call for each segment, so that threads can share the lanes of a
+//! slice.
 //!
 //! The memory is laid out slice by slice, in each slice lane by lane: with segments of S = m / (4 p)
 //! blocks, the block of a lane and a column is at ((column / S) * p + lane) * S + column % S.
