@@ -1,11 +1,13 @@
 """What the scripts of ci/ share: the programs that they run, and how they judge."""
 
 import os
+import re
 import subprocess
 import sys
 import time
 
-CRATES = os.path.join(os.path.dirname(os.path.realpath(__file__)), "../crates")
+ROOT = os.path.join(os.path.dirname(os.path.realpath(__file__)), "..")
+CRATES = os.path.join(ROOT, "crates")
 
 
 class Wrong(Exception):
@@ -16,6 +18,16 @@ def check(holds, *found):
     """Raises `Wrong` with what was found if this does not hold. Python's options can turn an `assert` off, but not this."""
     if not holds:
         raise Wrong(*found)
+
+
+def check_options(name, said):
+    """Requires that a program's man page and its completion have the options of its long help, and no others."""
+    words = f'. "$0"; COMP_WORDS=({name} --) COMP_CWORD=1; _argon2_programs {name}; echo "${{COMPREPLY[*]}}"'
+    ran = subprocess.run(["bash", "-c", words, f"{ROOT}/scripts/completion"], capture_output=True, text=True, check=True)
+    with open(f"{ROOT}/man/{name}.1", encoding="utf-8") as it:
+        texts = (said, it.read().replace("\\-", "-"), ran.stdout)
+    wanted, *found = ({*re.findall(r"--[a-z][a-z-]+", text)} for text in texts)
+    check(wanted and all(it == wanted for it in found), name, *(wanted ^ it for it in found))
 
 
 def newest_source():
@@ -32,7 +44,7 @@ def newest_source():
 def built(crate):
     """The path of a crate's program: the one that `rt ci` leaves in out/, or one that `rt run` builds.
 
-    It is built where there is none, or where a source is newer.
+    It is built if there is none, or if a source is newer.
     """
     program = f"{CRATES}/{crate}/out/{crate}"
     if not os.path.exists(program) or os.path.getmtime(program) < newest_source():
