@@ -10,7 +10,8 @@ either_false true b never = absurd (let clash : true ≡ false = never in cc)
 either_false false b are = (refl, are)
 
 -- the search after so many trials
-pub record IsTried (Takes : ℕ → ℕ → Option (List ℕ) → Type 0) (target : ℕ) (first now : Choice) (most next count : ℕ) : Type 0 where
+pub record IsTried (Takes : ℕ → ℕ → Option (List ℕ) → Type 0) (target : ℕ) (first now : Choice)
+    (most next count : ℕ) : Type 0 where
   pub memory : now.m_cost ≡ first.m_cost
   pub some : first.t_cost ≤ now.t_cost
   pub measured : IsMeasured Takes now
@@ -27,8 +28,8 @@ more_than : {Takes : ℕ → ℕ → Option (List ℕ) → Type 0} {target : ℕ
     → (so : IsTried Takes target first now most next count) → now.t_cost < next → (best target first so.trials).t_cost < next
 more_than so rises = let same = ap (λ (trial : Choice). trial.t_cost) so.best in omega (arith, same)
 
-pub tried_within : {Takes : ℕ → ℕ → Option (List ℕ) → Type 0} {target : ℕ} {first now : Choice} {most next count : ℕ} (trial : Choice) (more : ℕ)
-    → IsTried Takes target first now most next count → now.t_cost < next → trial.t_cost ≡ next → trial.m_cost ≡ first.m_cost
+pub tried_within : {Takes : ℕ → ℕ → Option (List ℕ) → Type 0} {target : ℕ} {first now : Choice} {most next count : ℕ}
+    (trial : Choice) (more : ℕ) → IsTried Takes target first now most next count → now.t_cost < next → trial.t_cost ≡ next → trial.m_cost ≡ first.m_cost
     → IsMeasured Takes trial → trial.time ≤ target → IsGreatest target first (further_of first next trial.time) more
     → IsTried Takes target first trial most (min more most) (count + 1)
 tried_within {Takes} {target} {first} {now} {most} {next} {count} trial more so rises same memory took short greatest =
@@ -48,8 +49,8 @@ tried_within {Takes} {target} {first} {now} {most} {next} {count} trial more so 
       fits = omega arith;
     }
 
-pub tried_beyond : {Takes : ℕ → ℕ → Option (List ℕ) → Type 0} {target : ℕ} {first now : Choice} {most next count : ℕ} (trial : Choice) (more : ℕ)
-    → IsTried Takes target first now most next count → now.t_cost < next → trial.t_cost ≡ next → trial.m_cost ≡ first.m_cost
+pub tried_beyond : {Takes : ℕ → ℕ → Option (List ℕ) → Type 0} {target : ℕ} {first now : Choice} {most next count : ℕ}
+    (trial : Choice) (more : ℕ) → IsTried Takes target first now most next count → now.t_cost < next → trial.t_cost ≡ next → trial.m_cost ≡ first.m_cost
     → IsMeasured Takes trial → target < trial.time → IsGreatest target first (further_of first next trial.time) more
     → IsTried Takes target first now (next - 1) (min more (next - 1)) (count + 1)
 tried_beyond {Takes} {target} {first} {now} {most} {next} {count} trial more so rises same memory took long greatest =

@@ -17,16 +17,16 @@ abbrev pub call_text : ℕ → ℕ → ℕ → List ℕ
 call_text m t p = codes "Params::new(" ++ (decimal m ++ (codes ", " ++ (decimal t ++ (codes ", " ++ (decimal p
     ++ (codes ", None)" ++ 10 ∷ []))))))
 
--- a number behind as many zeros as make it three digits
-abbrev pub three_places : ℕ → List ℕ
-three_places n = replicate (3 - length (decimal n)) 48 ++ decimal n
+-- a number behind as many zeros as make it six digits
+abbrev pub six_places : ℕ → List ℕ
+six_places n = replicate (6 - length (decimal n)) 48 ++ decimal n
 
--- microseconds as seconds with three digits behind a point, a line
+-- microseconds as seconds with six digits behind a point, a line
 abbrev pub time_text : ℕ → List ℕ
-time_text time = decimal (time / 1000000) ++ (codes "." ++ (three_places (time / 1000 % 1000)
+time_text time = decimal (time / 1000000) ++ (codes "." ++ (six_places (time % 1000000)
     ++ (codes " seconds" ++ 10 ∷ [])))
 
--- a line where the machine was busy
+-- a line if the machine was busy
 abbrev pub end_text : Bool → List ℕ
 end_text true = codes "the machine was busy: times may be too long" ++ 10 ∷ []
 end_text false = []

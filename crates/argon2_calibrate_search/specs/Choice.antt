@@ -82,7 +82,7 @@ IsNext target first (last ∷ earlier) passes = (greatest : ℕ)
     × IsGreatest target first (further_of first last.t_cost last.time) greatest
     × (passes ≡ min greatest (below target (last ∷ earlier)))
 
--- the last trial within the target; the least passes where there is none
+-- the last trial within the target; the least passes if there is none
 abbrev pub best : ℕ → Choice → List Choice → Choice
 best target first [] = first
 best target first (last ∷ earlier) = if nat_le last.time target then last else best target first earlier

@@ -57,7 +57,7 @@ pub fn further(first: Choice, passes: u32, time: u64) -> u64
     apart.max(time / (2 * u64::from(passes))).max(1)
 }
 
-/// The greatest number of passes that takes no longer than the target, or the least where none does.
+/// The greatest number of passes that takes no longer than the target, or the least if none does.
 pub fn passes(target: u64, first: Choice, further: u64) -> u32
     requires { 0 < further }
     ensures { IsGreatest target first further result }

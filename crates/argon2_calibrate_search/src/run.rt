@@ -97,10 +97,10 @@ fn write_lines<W: Write>(output: &mut W, found: Found, p: u32) -> Result<(), Fai
         (lines_text found p)) }
 {
     let (m, t, time) = (found.choice.m_cost, found.choice.t_cost, found.choice.time);
-    let (seconds, millis) = (time / 1_000_000, time / 1000 % 1000);
+    let (seconds, micros) = (time / 1_000_000, time % 1_000_000);
     writeln!(output, "m={m},t={t},p={p}")?;
     writeln!(output, "Params::new({m}, {t}, {p}, None)")?;
-    writeln!(output, "{seconds}.{millis:03} seconds")?;
+    writeln!(output, "{seconds}.{micros:06} seconds")?;
     output.write_all(end(found.busy).as_bytes())?;
     output.flush()?;
     Ok(())

@@ -130,10 +130,10 @@ fn measured<S: Stopwatch, E: Write>(
         time: a.min(b).min(c),
         busy: scatter(a, b, c),
     };
-    let (seconds, millis) = (choice.time / 1_000_000, choice.time / 1000 % 1000);
+    let (seconds, micros) = (choice.time / 1_000_000, choice.time % 1_000_000);
     let _ = writeln!(
         errors,
-        "{PROGRAM}: m={m_cost},t={t_cost},p={lanes} takes {seconds}.{millis:03} seconds"
+        "{PROGRAM}: m={m_cost},t={t_cost},p={lanes} takes {seconds}.{micros:06} seconds"
     );
     Ok(Some(choice))
 }

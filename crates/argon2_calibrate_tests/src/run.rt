@@ -106,17 +106,17 @@ fn takes_the_most_memory_and_then_the_most_passes(rt: HostRuntime) -> Result<(),
         (
             ONE,
             0,
-            "m=65536,t=15,p=1\nParams::new(65536, 15, 1, None)\n0.983 seconds\n",
+            "m=65536,t=15,p=1\nParams::new(65536, 15, 1, None)\n0.983040 seconds\n",
         ),
         (
             short,
             1000,
-            "m=8192,t=2,p=1\nParams::new(8192, 2, 1, None)\n0.017 seconds\n",
+            "m=8192,t=2,p=1\nParams::new(8192, 2, 1, None)\n0.017384 seconds\n",
         ),
         (
             least,
             2000,
-            "m=8,t=2,p=1\nParams::new(8, 2, 1, None)\n0.002 seconds\n",
+            "m=8,t=2,p=1\nParams::new(8, 2, 1, None)\n0.002016 seconds\n",
         ),
         (
             Options {
@@ -124,7 +124,7 @@ fn takes_the_most_memory_and_then_the_most_passes(rt: HostRuntime) -> Result<(),
                 ..short
             },
             1000,
-            "m=16384,t=1,p=1\nParams::new(16384, 1, 1, None)\n0.017 seconds\n",
+            "m=16384,t=1,p=1\nParams::new(16384, 1, 1, None)\n0.017384 seconds\n",
         ),
         (
             Options {
@@ -133,7 +133,7 @@ fn takes_the_most_memory_and_then_the_most_passes(rt: HostRuntime) -> Result<(),
                 ..ONE
             },
             0,
-            "m=65536,t=3,p=1\nParams::new(65536, 3, 1, None)\n0.196 seconds\n",
+            "m=65536,t=3,p=1\nParams::new(65536, 3, 1, None)\n0.196608 seconds\n",
         ),
         (
             Options {
@@ -141,12 +141,12 @@ fn takes_the_most_memory_and_then_the_most_passes(rt: HostRuntime) -> Result<(),
                 ..least
             },
             0,
-            "m=8,t=4294967295,p=1\nParams::new(8, 4294967295, 1, None)\n34359.738 seconds\n",
+            "m=8,t=4294967295,p=1\nParams::new(8, 4294967295, 1, None)\n34359.738360 seconds\n",
         ),
         (
             Options { lanes: 4, ..short },
             1000,
-            "m=8192,t=2,p=4\nParams::new(8192, 2, 4, None)\n0.017 seconds\n",
+            "m=8192,t=2,p=4\nParams::new(8192, 2, 4, None)\n0.017384 seconds\n",
         ),
         (
             Options {
@@ -155,12 +155,12 @@ fn takes_the_most_memory_and_then_the_most_passes(rt: HostRuntime) -> Result<(),
                 ..least
             },
             2000,
-            "m=32,t=1,p=3\nParams::new(32, 1, 3, None)\n0.002 seconds\n",
+            "m=32,t=1,p=3\nParams::new(32, 1, 3, None)\n0.002032 seconds\n",
         ),
         (
             Options { lanes: 8192, ..ONE },
             0,
-            "m=65536,t=15,p=8192\nParams::new(65536, 15, 8192, None)\n0.983 seconds\n",
+            "m=65536,t=15,p=8192\nParams::new(65536, 15, 8192, None)\n0.983040 seconds\n",
         ),
     ] {
         assert!(rt; answers(rt.alloc(), options, once, answer)?, "{answer}");
@@ -189,8 +189,8 @@ fn corrects(alloc: Global, both: u64, tried: &str) -> Result<bool, Fail> {
 #[test]
 fn corrects_the_passes_by_their_time(rt: HostRuntime) -> Result<(), Fail> {
     for (both, tried) in [
-        (60_000, "t=10,p=1 takes 0.100 seconds"),
-        (10_000, "t=197,p=1 takes 1.970 seconds"),
+        (60_000, "t=10,p=1 takes 0.100000 seconds"),
+        (10_000, "t=197,p=1 takes 1.970000 seconds"),
     ] {
         assert!(rt; corrects(rt.alloc(), both, tried)?, "{tried}");
     }
@@ -210,9 +210,9 @@ fn prints_each_time(rt: HostRuntime) -> Result<(), Fail> {
         ..ONE
     };
     let (_, errors) = written(rt.alloc(), options, &mut stopwatch)?;
-    let printed = "argon2-calibrate: m=1048576,t=1,p=1 takes 1.048 seconds
-argon2-calibrate: m=524288,t=1,p=1 takes 0.524 seconds
-argon2-calibrate: m=524288,t=2,p=1 takes 1.048 seconds
+    let printed = "argon2-calibrate: m=1048576,t=1,p=1 takes 1.048576 seconds
+argon2-calibrate: m=524288,t=1,p=1 takes 0.524288 seconds
+argon2-calibrate: m=524288,t=2,p=1 takes 1.048576 seconds
 ";
     assert_eq!(rt; errors.as_slice(), printed.as_bytes());
     Ok(())
@@ -252,13 +252,13 @@ fn measures_again_while_the_machine_is_busy(rt: HostRuntime) -> Result<(), Fail>
             options,
             4,
             4,
-            "m=65536,t=1,p=1\nParams::new(65536, 1, 1, None)\n0.065 seconds\n",
+            "m=65536,t=1,p=1\nParams::new(65536, 1, 1, None)\n0.065536 seconds\n",
         ),
         (
             options,
             5,
             4,
-            "m=65536,t=1,p=1\nParams::new(65536, 1, 1, None)\n0.065 seconds
+            "m=65536,t=1,p=1\nParams::new(65536, 1, 1, None)\n0.065536 seconds
 the machine was busy: times may be too long\n",
         ),
         (
@@ -301,7 +301,7 @@ argon2-calibrate: m=32768 is out of memory, trying half
 argon2-calibrate: m=16384 is out of memory, trying half
 argon2-calibrate: m=8192 is out of memory, trying half
 argon2-calibrate: m=4096 is out of memory, trying half
-argon2-calibrate: m=2048,t=2,p=1 takes 0.001 seconds
+argon2-calibrate: m=2048,t=2,p=1 takes 0.001000 seconds
 ";
     assert!(rt; errors.as_slice().starts_with(printed.as_bytes()));
     assert!(rt; output.as_slice().starts_with(b"m=2048,t="));
