@@ -6,7 +6,7 @@ use Rattle.json.specs.Tree.{items_tokens, json_tokens}
 use Rattle.json.specs.Written.{Written, Writes}
 use Rattle.argon2_audit_report.specs.Object.{Adds, AddsValue, HasItems}
 
--- a call that writes a token, where it returns and as the last
+-- a call that writes a token, if it returns and as the last
 pub one : {E : Type 0} {r : Result (Unit {0}) E} {old new : Written} {t : Token} → Writes r old new t
     → new.tokens ≡ old.tokens ++ t ∷ [] → Adds old new (t ∷ [])
 one writes tokens = record { before = writes.room.0; tokens = tokens }

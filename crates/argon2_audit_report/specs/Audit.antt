@@ -35,7 +35,7 @@ abbrev pub has_any : Seen → Option (List ℕ) → Bool
 has_any seen None = false
 has_any seen (Some salt) = has_salt seen salt
 
--- the salt, where there is one, is this
+-- the salt, if there is one, is this
 abbrev pub is_salt : Option (List ℕ) → List ℕ → Bool
 is_salt None other = false
 is_salt (Some salt) other = bytes_eq salt other
@@ -76,7 +76,7 @@ pub record IsAdded (finding : Finding) (marks : Marks) (old new : Audit) : Type 
   pub equal : marks.equal_salt ≡ has_any old.seen (salt_of finding)
   pub kept : (salt : List ℕ) → has_salt new.seen salt ≡ (is_salt (salt_of finding) salt || has_salt old.seen salt)
 
--- how many lines do not count as sound; those of other schemes and with no password do where the limits allow them
+-- how many lines do not count as sound; those of other schemes and with no password do if the limits allow them
 abbrev pub unsound : Limits → Tally → ℕ
 unsound limits tally = count_of Outside tally + count_of NoHash tally + count_of Below tally + count_of Empty tally
     + count_of Unknown tally + (if limits.allows_other then 0
@@ -96,7 +96,7 @@ abbrev pub any_salt : List ℕ → List Finding → Bool
 any_salt salt [] = false
 any_salt salt (finding ∷ earlier) = is_salt (salt_of finding) salt || any_salt salt earlier
 
--- an earlier text has the salt, where there is one
+-- an earlier text has the salt, if there is one
 abbrev pub is_repeated : Option (List ℕ) → List Finding → Bool
 is_repeated None earlier = false
 is_repeated (Some salt) earlier = any_salt salt earlier
@@ -130,7 +130,7 @@ abbrev pub joined : List (List ℕ) → List ℕ
 joined [] = []
 joined (line ∷ earlier) = joined earlier ++ (line ++ 10 ∷ [])
 
--- each line ends with a line feed, but that the last may have none where it is not empty
+-- each line ends with a line feed, but that the last may have none if it is not empty
 abbrev pub IsJoined : List ℕ → List (List ℕ) → Type 0
 IsJoined bytes [] = bytes ≡ []
 IsJoined bytes (last ∷ earlier) = (bytes ≡ joined (last ∷ earlier)) ⊎ ((bytes ≡ joined earlier ++ last) × (last ≢ []))
@@ -161,7 +161,7 @@ IsAfter session bytes = IsBegun session.line session.audit bytes
 
 -- ---- what the program says
 
--- where the input is known, its lines are counted, and are clean or not
+-- if the input is known, its lines are counted, and are clean or not
 abbrev pub IsAudit : Options → Option (List ℕ) → Bool → Type 0
 IsAudit options input clean = IfSome input (λ bytes. (tally : Tally) × IsTallied options bytes tally
     × (IsTrue clean ↔ IsClean options.limits tally))

@@ -46,7 +46,7 @@ werkzeug = codes "scrypt:" ∷ codes "pbkdf2:sha1:" ∷ codes "pbkdf2:sha256:" �
 abbrev pub is_werkzeug : List ℕ → Bool
 is_werkzeug line = begins_any werkzeug line && has_numbers (after_any werkzeug line)
 
--- the second of the fields, or all where there is no separator
+-- the second of the fields, or all if there is no separator
 abbrev pub second_or_all : ℕ → List ℕ → List ℕ
 second_or_all separator line = if is_cut separator line
     then before_first (λ byte. byte == separator) (after_first (λ byte. byte == separator) line) else line
@@ -98,13 +98,13 @@ claim_of field line =
     else if begins_any (codes "#" ∷ []) (trimmed line) then Comment
     else unwrap_or (option_map (λ text. claim_of_text (bare text)) (field_in field (trimmed line))) NoField
 
--- the text of a line, empty where it lacks the field
+-- the text of a line, empty if it lacks the field
 abbrev pub stored_in : Field → List ℕ → List ℕ
 stored_in field line = unwrap_or (option_map bare (field_in field (trimmed line))) []
 
 -- ---- what a stored text shows
 
--- the settings that a value shows, with the salt and the hash's length where they are there; or the
+-- the settings that a value shows, with the salt and the hash's length if they are there; or the
 -- fault of the settings
 abbrev pub entry_of : Phc → Result Entry Fault
 entry_of v = read (shown_settings v) (λ settings. Ok (record {
@@ -119,7 +119,7 @@ entry_of v = read (shown_settings v) (λ settings. Ok (record {
   hash_len = option_map length v.hash;
 }))
 
--- what a text shows by its value, or `EncodingInvalid` where it is no value's
+-- what a text shows by its value, or `EncodingInvalid` if it is no value's
 abbrev pub IsEntryAnswer : List ℕ → Result Entry Error → Type 0
 IsEntryAnswer text r =
     ((v : Phc) × PhcText text v × (outcome_of (λ entry. entry) r ≡ entry_of v))
@@ -184,7 +184,7 @@ abbrev pub has_short_salt : Limits → Finding → Bool
 has_short_salt limits (Shown entry) = (shortfalls_of limits entry).salt
 has_short_salt limits finding = false
 
--- the salt of the line's text, where there is one
+-- the salt of the line's text, if there is one
 abbrev pub salt_of : Finding → Option (List ℕ)
 salt_of (Shown entry) = entry.salt
 salt_of finding = None

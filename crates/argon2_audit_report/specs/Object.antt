@@ -41,7 +41,7 @@ abbrev pub IsReport : Options → Tally → Option (List ℕ) → Option (List �
 IsReport options tally old new =
     options.form ≡ JsonForm → (text : List ℕ) × IsObject tally text × Appends old new (text ++ 10 ∷ [])
 
--- the same with the counts of the lines, where the input is known
+-- the same with the counts of the lines, if the input is known
 abbrev pub IsReported : Options → Option (List ℕ) → Option (List ℕ) → Option (List ℕ) → Type 0
 IsReported options input old new = (tally : Tally) × IfSome input (λ bytes. IsTallied options bytes tally)
     × IsReport options tally old new

@@ -11,7 +11,7 @@ use memchr::memchr;
 /// Which of a line's fields is its text.
 #[derive(Clone, Copy)]
 pub struct Field {
-    /// How many fields stand before it; none where it is the second, or all of a line with one field or of a text of Werkzeug.
+    /// How many fields stand before it; none if it is the second, or all of a line with one field or of a text of Werkzeug.
     pub before: Option<u32>,
     /// The byte between two fields.
     pub separator: u8,
@@ -20,7 +20,7 @@ pub struct Field {
 impl Field {
     ghost use Rattle.argon2_audit_report.specs.Finding.{field_in};
 
-    /// The text in the field, where the line has it.
+    /// The text in the field, if the line has it.
     pub fn text<'a>(self, line: &'a [u8]) -> Option<&'a [u8]>
         ensures { option_copied result ≡ field_in self line.now }
     {
@@ -32,7 +32,7 @@ impl Field {
     }
 }
 
-// The second of the fields, or all where there is no separator.
+// The second of the fields, or all if there is no separator.
 fn second_or_all(line: &[u8], separator: u8) -> &[u8]
     ensures { result.now ≡ second_or_all separator line.now }
 {
@@ -88,7 +88,7 @@ fn field_numbered(line: &[u8], before: u32, separator: u8) -> Option<&[u8]>
     field_numbered(rest, before - 1, separator)
 }
 
-/// Where the first separator stands, or the length where there is none.
+/// The index of the first separator, or the length if there is none.
 pub fn first(bytes: &[u8], separator: u8) -> usize
     ensures value { result ≡ position_or_len (λ byte. byte == separator) bytes.now }
     ensures max { result ≤ length bytes.now }

@@ -11,7 +11,7 @@ use argon2::{Algorithm, PasswordHash, Version};
 #[derive(Clone, Copy, PartialEq, Eq, PartialOrd, Ord)]
 pub struct Kind {
     pub algorithm: Algorithm,
-    /// Version 0x10 where the text has none.
+    /// Version 0x10 if the text has none.
     pub version: Version,
     /// Memory in blocks of 1024 bytes.
     pub m_cost: u32,
@@ -26,14 +26,14 @@ pub struct Kind {
 pub struct Entry {
     pub kind: Kind,
     pub salt: Option<Salt>,
-    /// How many bytes the hash has, where there is one.
+    /// How many bytes the hash has, if there is one.
     pub hash_len: Option<u32>,
 }
 
 impl Entry {
     ghost use Rattle.std.specs.Prelude.{◌≡◌, [], length, unwrap_or};
 
-    /// How many bytes the salt has, 0 where there is none.
+    /// How many bytes the salt has, 0 if there is none.
     pub fn salt_len(&self) -> u32
         ensures { result ≡ length (unwrap_or self.now.salt []) }
     {
@@ -47,7 +47,7 @@ impl Entry {
 /// What a text shows.
 ///
 /// # Errors
-/// `EncodingInvalid` where the text is outside the grammar; then the fault of its parameters, of its
+/// `EncodingInvalid` if the text is outside the grammar; then the fault of its parameters, of its
 /// algorithm and of its version, as verifying names them.
 pub fn shown(text: &str) -> Result<Entry>
     ensures { IsEntryAnswer text.now result }
@@ -86,7 +86,7 @@ pub struct Limits {
     pub hash_len: u32,
     /// The number of the version.
     pub version: u32,
-    /// The one algorithm that is sound, where only one is.
+    /// The one algorithm that is sound, if only one is.
     pub algorithm: Option<Algorithm>,
     /// Texts of other schemes count as sound, and so do locked and blank lines and comments.
     pub allows_other: bool,

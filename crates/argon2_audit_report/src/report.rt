@@ -156,7 +156,7 @@ pub fn write_table<W: Write>(output: &mut W, audit: &Audit) -> io::Result<()> {
     output.flush()
 }
 
-// Writes the counts, one a line; those of lines that store no text of Argon2 only where there are such lines.
+// Writes the counts, one a line; those of lines that store no text of Argon2 only if there are such lines.
 fn counts<W: Write>(output: &mut W, audit: &Audit) -> io::Result<()> {
     let tally = &audit.tally;
     let lines = tally.lines;

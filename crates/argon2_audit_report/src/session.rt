@@ -153,7 +153,7 @@ impl Session {
         }
     }
 
-    /// Ends the last line, where it has no line feed.
+    /// Ends the last line if it has no line feed.
     pub fn finish<S: Remarks>(&mut self, remarks: &mut S) -> Result<(), Failure>
         requires { self.old.audit.tally.lines < 2 ^ 64 - 1 }
         ensures { OnOk result ((bytes : List ℕ) → IsAfter self.old bytes

@@ -9,7 +9,7 @@ not_true : (b : Bool) → (b ≡ true → ⊥) → b ≡ false
 not_true true never = absurd (never refl)
 not_true false _ = refl
 
--- where the first byte stands that passes, or the length
+-- the index of the first byte that passes, or the length
 first_place : (test : ℕ → Bool) (bytes : List ℕ) (found : Option ℕ) → IsFirstByte test bytes found
     → unwrap_or found (length bytes) ≡ position_or_len test bytes
 first_place test bytes None never =

@@ -22,7 +22,8 @@ returns c =
       record {
         adds = record {
           before = last.before ∙ c.loop-kind.invariant.0;
-          tokens = last.tokens ∙ has.reads no_items ∙ append_assoc c.args.json.now.tokens (begin_array ∷ []) (items_tokens (has.all no_items));
+          tokens = last.tokens ∙ has.reads no_items
+              ∙ append_assoc c.args.json.now.tokens (begin_array ∷ []) (items_tokens (has.all no_items));
         };
         numbers = are.0;
         flat = let flat = are.1 in omega arith;

@@ -39,8 +39,8 @@ at_feed : (bytes : List ℕ) (end : ℕ) → end ≡ position_or_len (λ byte. b
 at_feed bytes end is below =
     let short : position_or_len (λ byte. byte == 10) bytes < length bytes = rw (← is) below in
     let feed = eqb-true _ _ (passes_at_first (λ byte. byte == 10) bytes 0 short) in
-    rw is (split_at_first (λ byte. byte == 10) bytes 0 short
-    ∙ ap (λ byte. take (position_or_len (λ b. b == 10) bytes) bytes ++ byte ∷ drop (position_or_len (λ b. b == 10) bytes + 1) bytes) feed)
+    let at = position_or_len (λ byte. byte == 10) bytes in
+    rw is (split_at_first (λ byte. byte == 10) bytes 0 short ∙ ap (λ byte. take at bytes ++ byte ∷ drop (at + 1) bytes) feed)
 
 -- none comes before the first
 none_before : (bytes : List ℕ) (end : ℕ) → end ≡ position_or_len (λ byte. byte == 10) bytes

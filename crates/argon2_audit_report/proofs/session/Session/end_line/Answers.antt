@@ -20,7 +20,8 @@ counted : (old new : Audit) (findings : List Finding) (finding : Finding) (marks
 counted old new findings finding marks added known of = record {
   all = let all = of.all in let lines = added.counts.lines in omega arith;
   classes = λ n. added.counts.classes n ∙ ap (λ k. k + one_if (class_number marks.class == n)) (of.classes n)
-      ∙ ap (λ k. how_many (λ f. class_number (class_of old.options.limits f) == n) findings + one_if (class_number k == n)) added.class;
+      ∙ ap (λ k. how_many (λ f. class_number (class_of old.options.limits f) == n) findings
+      + one_if (class_number k == n)) added.class;
   short_salts = added.counts.short_salts ∙ ap (λ n. n + one_if marks.short_salt) of.short_salts
       ∙ ap (λ b. how_many (has_short_salt old.options.limits) findings + one_if b) added.short;
   equal_salts = added.counts.equal_salts ∙ ap (λ n. n + one_if marks.equal_salt) of.equal_salts
