@@ -170,7 +170,7 @@ abbrev pub Removes : Option Phc → Result (Unit {0}) AccountError → Option Ph
 Removes before (Ok _) after = IsSome before × (after ≡ None)
 Removes before (Err e) after = (e ≡ NameUnknown) × (before ≡ None) × (after ≡ None)
 
--- what a call answers where its name has this value or none, and what the name has after it
+-- what a call answers if its name has this value or none, and what the name has after it
 abbrev pub AccountAnswer : Terms → AccountEvent → Option Phc → Option Phc → Type 0
 AccountAnswer terms (adding name text answer) before after = Adds text before answer after
 AccountAnswer terms (registering name password drawn answer) before after =
@@ -235,7 +235,7 @@ HasGiven terms (Some nothing) None = Unit {0}
 HasGiven terms None None = Unit {0}
 HasGiven terms _ _ = ⊥
 
--- Each name has what the last of its accepted calls gave it, and no text where there was none.
+-- Each name has what the last of its accepted calls gave it, and no text if there was none.
 abbrev pub TextsAreGiven : Type 0
 TextsAreGiven = (terms : Terms) → AreTerms terms →
     (events : List AccountEvent) (store : Store) → AccountRun terms empty events store →
@@ -249,7 +249,7 @@ stream_after_making (Err NameTaken) stream = stream
 stream_after_making (Err NameUnknown) stream = stream
 stream_after_making _ stream = (fill_bytes 16 stream).1
 
--- after a change of this value or none: 16 bytes are drawn once the old password is accepted, and nothing where it is denied
+-- after a change of this value or none: 16 bytes are drawn once the old password is accepted, and nothing if it is denied
 abbrev pub DrawsOnce : {X : Type 0}
     → Terms → List ℕ → Option Phc → Result X AccountError → Stream → Stream → Type 0
 DrawsOnce terms password None answer old new = new ≡ old

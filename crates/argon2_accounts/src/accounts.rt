@@ -71,7 +71,7 @@ impl<'key> Accounts<'key> {
     }
 
     /// Gives a new name a text of a password, as [`Policy::hash_password`] makes it. 16 bytes are
-    /// drawn from `rng`, also where there is no memory for it, but not where the name is taken.
+    /// drawn from `rng`, even if there is no memory for it, but not if the name is taken.
     ///
     /// # Errors
     /// The first of these that holds; the accounts are then as before:
@@ -136,9 +136,9 @@ impl<'key> Accounts<'key> {
         Ok(accepted)
     }
 
-    /// Gives a name a text of a new password where its text accepts the old one, as
-    /// [`Policy::change_password`] does. 16 bytes are drawn from `rng` once the old password is accepted,
-    /// and else nothing is.
+    /// Gives a name a text of a new password if its text accepts the old one, as
+    /// [`Policy::change_password`] does. 16 bytes are drawn from `rng` once the old password is accepted.
+    /// Otherwise nothing is drawn.
     ///
     /// # Errors
     /// The first of these that holds; the accounts are then as before:
@@ -170,8 +170,8 @@ impl<'key> Accounts<'key> {
     }
 
     /// Gives a name a text of a new password, whatever text it had, as [`Policy::hash_password`]
-    /// makes it. 16 bytes are drawn from `rng`, also where there is no memory for it, but not where
-    /// the name is unknown.
+    /// makes it. 16 bytes are drawn from `rng`, even if there is no memory for it, but not if the name
+    /// is unknown.
     ///
     /// # Errors
     /// The first of these that holds; the accounts are then as before:
@@ -226,7 +226,7 @@ impl<'key> Accounts<'key> {
     /// Removes a name and its text.
     ///
     /// # Errors
-    /// [`AccountError::NameUnknown`] where the name has no text; the accounts are then as before.
+    /// [`AccountError::NameUnknown`] if the name has no text; the accounts are then as before.
     pub fn remove(&mut self, name: &str) -> Result<(), AccountError>
         ensures step { Steps (removing name.now result) self.old self.new }
         ensures terms { kept_terms self.new ≡ kept_terms self.old }
@@ -237,7 +237,7 @@ impl<'key> Accounts<'key> {
         Ok(())
     }
 
-    /// The text of a name, where it has one.
+    /// The text of a name, if it has one.
     pub fn text_of(&self, name: &str) -> Option<&PasswordHash>
         ensures { option_map phc_of (option_copied result) ≡ get (store_of self.now) name.now }
     {

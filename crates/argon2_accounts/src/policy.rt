@@ -64,7 +64,7 @@ impl<'key> Policy<'key> {
     }
 
     /// A fresh text of a password, with a salt of 16 bytes that are drawn from `rng`. They are
-    /// drawn also where the call is refused.
+    /// drawn even if the call is refused.
     ///
     /// # Errors
     /// [`AccountError::Refused`] with the error of hashing: out of memory, or a password longer than

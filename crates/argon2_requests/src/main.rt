@@ -1,4 +1,4 @@
-//! Shows what memory the calls of `argon2` ask for, a line a call. First those that ask for none, also where
+//! Shows what memory the calls of `argon2` ask for, a line a call. First those that ask for none, even if
 //! a stored text would take more than there is, or is above a bound; then those that make one request, and last
 //! those of a login store and of accounts: two for the first name, one for the next, one for each hash. With a
 //! request refused, the line of the call that made it is another. A line of a call that draws has the word that
@@ -263,7 +263,7 @@ fn lent(rt: &impl Print, argon2: &Argon2<'_>) -> io::Result<()> {
     Ok(())
 }
 
-// The same tag by single steps, where lanes take turns.
+// The same tag by single steps, in which lanes take turns.
 fn stepped(rt: &impl Print, argon2: &Argon2<'_>) -> io::Result<()> {
     let (mut memory, mut out) = ([Block::new(); 32], [0; 32]);
     let answer = argon2.begin_fill(&PASSWORD, &SALT, out.len(), &mut memory);

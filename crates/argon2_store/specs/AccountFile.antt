@@ -32,7 +32,7 @@ Answers terms before call (Ok x) after = AccountStep terms before (call (Ok x)) 
 Answers terms before call (Err (Account e)) after = AccountStep terms before (call (Err e)) after
 Answers terms before call (Err e) after = after ≡ before
 
--- the names before a call, or those that it would leave where it is accepted
+-- the names before a call, or those that it would leave if it is accepted
 abbrev pub IsBeforeOrAfter : (X : Type 0) → Terms → Store → Call X → Store → Type 0
 IsBeforeOrAfter X terms before call left =
     (left ≡ before) ⊎ ((x : X) × AccountStep terms before (call (Ok x)) left)
@@ -69,7 +69,7 @@ abbrev pub IfOfFile : Type 0 → FileError → Type 0
 IfOfFile P (Account e) = ⊤
 IfOfFile P _ = P
 
--- why a call has this error, where `fault` says that the disk failed or refused during it
+-- why a call has this error; `fault` says that the disk failed or refused during it
 abbrev pub HasCause : Type 0 → Type 0 → Type 0 → FileError → Type 0
 HasCause closed fault too_long (Account e) = ⊤
 HasCause closed fault too_long OutOfMemory = ⊤

@@ -136,7 +136,7 @@ abbrev pub NamesAreRun : Type 0
 NamesAreRun = (terms : Terms) (first : Store) (runs : List Run) (names : Store) → IsFoundAfter terms first runs names
     → ∥ ((events : List AccountEvent) × AreEventsOf runs events × AccountRun terms first events names) ∥₁
 
--- Where these were none, each name has what the last of its accepted calls gave it, and no text where there was none.
+-- If these were none, each name has what the last of its accepted calls gave it, and no text if there was none.
 abbrev pub TextsAreKept : Type 0
 TextsAreKept = (terms : Terms) → AreTerms terms → (runs : List Run) (names : Store) → IsFoundAfter terms empty runs names
     → ∥ ((events : List AccountEvent) × AreEventsOf runs events

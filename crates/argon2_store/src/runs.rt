@@ -8,9 +8,9 @@ use argon2_accounts::account_runs;
 use sqlite_disk::{Disk, Files};
 use sqlite_store::FileStore;
 
-/// Where a crash comes now, or the file is dropped, the next open finds the names as all calls on the file
-/// left them. One change may be there too: that of the last call that did not find the file closed, where
-/// it had an error of the file or the crash cut it off. It finds the same after any number of opens that
+/// If a crash comes now, or the file is dropped, the next open finds the names as all calls on the file
+/// left them. One change may be there too: that of the last call that did not find the file closed, if it
+/// had an error of the file or the crash cut it off. It finds the same after any number of opens that
 /// fail, each as [`failed_open`] says. A crash during an open counts as one that fails there.
 pub fn next_run<D: Disk>(file: &AccountFile<'_, FileStore<D>>)
     ensures { EndsRun file.now }
@@ -25,9 +25,9 @@ pub fn failed_open<D: Disk>(old: &Files<D>, new: &Files<D>)
 
 /// After any list of runs under one target and bound, each of which opens what the one before it left,
 /// perhaps after opens that failed: an open finds what the calls of all runs, in their order, made of the
-/// names that the first run found. Where it found none, each name has what the last of its accepted calls
+/// names that the first run found. If it found none, each name has what the last of its accepted calls
 /// gave it: the added text, a text that accepts the password, or none. In each run the last call that did
-/// not find the file closed may count as accepted, where it had an error of the file or a crash cut it off.
+/// not find the file closed may count as accepted, if it had an error of the file or a crash cut it off.
 pub fn account_file_runs()
     ensures events { NamesAreRun }
     ensures texts { TextsAreKept }
