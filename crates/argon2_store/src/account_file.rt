@@ -364,7 +364,8 @@ impl<'key, T: Start> AccountsAt<'key, T> {
     /// type opens one file, and only `main` names the type, such as `sqlite_std_file::Wary`. `target` and
     /// `bound` are those of [`Accounts::new`](argon2_accounts::Accounts::new).
     ///
-    /// The file stays open, and locked against other processes, until the value is dropped.
+    /// The file stays open, and locked against other processes, until the value is dropped. A new file has
+    /// the rights that the umask leaves. To keep it for its owner, make an empty file with the mode 0600 first.
     /// An open that fails leaves the accounts in the file as they were: see
     /// [`failed_open`](crate::failed_open).
     ///

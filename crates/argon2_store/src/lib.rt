@@ -11,12 +11,16 @@
 //! change. Nothing is kept in memory: a call looks its name up in the file. Each change is a transaction,
 //! which is synced to the disk before the call returns.
 //!
-//! A name is any text, empty or not. Two names are the same where their bytes are.
+//! A name is any text, empty or not. Two names are the same if their bytes are.
 //!
 //! The file is that of SQLite, with a log beside it whose name ends in `-wal` and one table:
 //! `CREATE TABLE account (name TEXT NOT NULL PRIMARY KEY, phc TEXT NOT NULL) WITHOUT ROWID`. While it is
 //! open, no other process can read or write it: a second one gets [`OpenError::Busy`], and `sqlite3` says
 //! that the database is locked. While it is not, `sqlite3` may read and change it.
+//!
+//! The table has to be spelled so and to be the only one, with pages of 4096 bytes, UTF-8 and no
+//! auto_vacuum. An open refuses any other file as [`OpenError::NotAccounts`], also one after `ANALYZE`, which
+//! adds a table.
 #![tactic(auto)]
 
 mod account_file;
