@@ -1,4 +1,4 @@
--- Names where several are added.
+-- Names to which several are added.
 use Rattle.argon2_store.proofs.Imports.{◌≡◌, ℕ, zero, suc, one-add, zero-add, ◌+◌, List, [], ◌∷◌, ◌++◌, Bool, true, false, cond, Option, None, Some, Result, Ok, Err, refl, sym}
 use Rattle.argon2_store.proofs.Imports.{subst, ap, ◌∙◌, arith, inl, inr, map, Bor, get, insert, count_by, All, Any, IsSomeAnd, bytes_eq, cases_Bool, All-cons, All-head, All-nil}
 use Rattle.argon2_store.proofs.Imports.{All-tail, bytes_eq-Decides, StoreError, Ghosts, Phc, PhcText, Store, get-other, get-same, AccountError, AddsAll, AddsName, WritesAll}
@@ -8,7 +8,7 @@ use Rattle.std.proofs.lemmas.List.Sorted.{All-permutation, Contains-permutation,
 use Rattle.std.proofs.lemmas.List.Sums.{sum_by-cons}
 use Rattle.sqlite_trees.specs.declared.error.StoreError.TheVariants.{Io}
 use Rattle.argon2_store.proofs.RowLemmas.{same}
-use Rattle.argon2_store.proofs.TableLemmas.{Settled, cause_map, if_err, leaves_kept, on_ok, quiet_itself, quiet_then}
+use Rattle.argon2_store.proofs.TableLemmas.{Settled, cause_map, if_err, leaves_quiet, on_ok, quiet_itself, quiet_then}
 
 -- a name that was set is added
 pub adds_name : (before after : Store) (e : List ℕ × List ℕ) (v : Phc) → PhcText e.1 v → get before e.0 ≡ None
@@ -196,8 +196,7 @@ module _ {S : Type 0} (g : Ghosts S) where
             honest = earlier;
             kept = had;
             crash = λ clean db found.
-                let left = leaves_kept g old before (settled old) has.1 (earlier clean) (was_open (earlier clean)) db
-                (quiet.outcomes db found) in
+                let left = leaves_quiet g settled old mid before has.1 quiet clean (was_open (earlier clean)) db found in
                 (left.0, left.1, inl left.2);
             durable = tt;
             cause = λ clean. elim (quiet.closes clean (was_open (earlier clean))) [

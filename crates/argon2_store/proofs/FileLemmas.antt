@@ -1,4 +1,4 @@
--- What a call on an account file does, where it is refused, writes nothing, or writes one name.
+-- What a call on an account file does if it is refused, writes nothing, or writes one name.
 use Rattle.argon2_store.proofs.Imports.{arith, ◌≡◌, ◌⊎◌, inl, inr, ℕ, List, Option, Some, None, Result, Ok, Err, Bool, true, false, refl, sym, ap, subst, ◌∙◌, IsTrue, get, insert}
 use Rattle.argon2_store.proofs.Imports.{Stream, is_some, option_map, phc_of, PasswordHash, ◌↔◌, IsSome, IfErr, IfSome, IsErr, IsErrAnd, MatchResult, OnErr, OnOk, length}
 use Rattle.argon2_store.proofs.Imports.{StoreError, Ghosts, Phc, AccountAnswer, AccountEvent, AccountStep, Admits, HasPassword, Terms, name_of, Store, AccountError, NameUnknown}
@@ -8,7 +8,7 @@ use Rattle.argon2_store.proofs.Imports.{AccountFile, FileError, Account, TooLong
 use Rattle.argon2_store.specs.AccountFile.{HasCause, HasNames}
 use Rattle.argon2_store.specs.declared.error.FileError.TheVariants.{OutOfMemory}
 use Rattle.argon2_store.proofs.RowLemmas.{get-gone-other, get-gone-same}
-use Rattle.argon2_store.proofs.TableLemmas.{Settled, leaves_kept, on_all, quiet_itself}
+use Rattle.argon2_store.proofs.TableLemmas.{Settled, leaves_kept, leaves_quiet, on_all, quiet_itself}
 use Rattle.argon2_store.proofs.TextLemmas.{rows_of-once}
 use Rattle.sqlite_trees.specs.declared.error.StoreError.TheVariants as below
 use Rattle.sqlite_trees.specs.View as view
@@ -25,7 +25,7 @@ unwritten_cause v closed fault more long sound f below.Broken h = absurd (sound 
 unwritten_cause v closed fault more long sound f below.Unstorable h = h
 unwritten_cause v closed fault more long sound f e h = f h
 
--- names where one is changed: it has what it was given, and the others keep what they have
+-- names of which one is changed: it has what it was given, and the others keep what they have
 step_of : (terms : Terms) (before : Store) (event : AccountEvent) (p : Option Phc)
     → AccountAnswer terms event (get before (name_of event)) p
     → AccountStep terms before event (changed before (name_of event) p)
@@ -96,10 +96,10 @@ unread_cause closed fault long OutOfMemory h = tt
 unread_cause closed fault long TooLong h = absurd h
 unread_cause closed fault long e h = h
 
-refused_same : {X P : Type 0} (r : Result X FileError) → IfErr r (λ f. (e : AccountError) × (f ≡ Account e)) → P
-    → IfErr r (IfRefused P)
-refused_same (Ok x) why p = tt
-refused_same (Err f) why p = rw why.1 p
+if_quiet : {X P : Type 0} (r : Result X FileError) → P → IfErr r (IfRefused P)
+if_quiet (Ok x) p = tt
+if_quiet (Err (Account e)) p = p
+if_quiet (Err e) p = tt
 
 -- an error of writing comes with the number of entries
 at_end : (before : Store) (es : List (List ℕ × List ℕ)) (k : ℕ) → k ≡ length es → (e : StoreError)
@@ -159,8 +159,7 @@ reads_of {g = g} {X = X} settled old new names has live terms done read r e = rw
       has = read.has;
       terms = terms;
       quiet = read.quiet;
-      left = λ clean is_open db found. leaves_kept g (store_of old) names (settled (store_of old)) has.1
-          (omega (arith, clean, read.quiet.clean)) is_open db (read.quiet.outcomes db found);
+      left = leaves_quiet g settled (store_of old) (store_of new) names has.1 read.quiet;
       closed = λ clean is. absurd (live clean is);
       is_open = is_open;
       of_file = of_file;
@@ -178,15 +177,36 @@ reads_of {g = g} {X = X} settled old new names has live terms done read r e = rw
 -- the store does nothing
 pub unread : {S : Type 0} {g : Ghosts S} → Settled g → (old : AccountFile S g) (before : Store) → HasNames old before
     → (IsHonest g (store_of old) → IsClosed old → ⊥) → Stays None before old old
-unread {S} {g} settled old before has live = record {
+unread {g = g} settled old before has live = reads_of {X = Unit {0}} settled old old before has live refl (Ok tt) (record {
   has = has;
-  terms = refl;
-  quiet = quiet_itself g (store_of old);
-  left = leaves_kept g (store_of old) before (settled (store_of old)) has.1;
-  closed = λ clean is. absurd (live clean is);
-  is_open = λ none clean. open_of _ (live clean);
-  of_file = tt;
+  is_open = λ clean. open_of _ (live clean);
   cause = λ clean. tt;
+  quiet = quiet_itself g (store_of old);
+}) (Ok tt) refl
+
+-- a call that leaves the names
+pub ends_with : {S : Type 0} {g : Ghosts S} {X : Type 0} {answers : Result X FileError → Store → Type 0} {May : Store → Type 0}
+    {long : Type 0} {old new : AccountFile S g} {before : Store} (r : Result X FileError) → HasNames new before
+    → terms_of new ≡ terms_of old → StaysQuiet g (store_of old) (store_of new)
+    → (IsHonest g (store_of new) → IsOpen g (store_of old) → Leaves g (store_of new) (λ left. left ≡ before))
+    → (IsHonest g (store_of new) → answers r before) → May before
+    → OnOk r (IsHonest g (store_of new) → Leaves g (store_of new) (λ left. left ≡ before))
+    → (IsHonest g (store_of old) → IsClosed old → (r ≡ Err Closed) × (store_of new ≡ store_of old))
+    → (IsHonest g (store_of new) → IfErr r (HasCause (IsClosed old) (HasFailed old new) long))
+    → Runs answers May long r old new before before
+ends_with {May = May} r has terms quiet left step may durable closed cause = record {
+  has = has;
+  step = step;
+  terms = terms;
+  honest = λ clean. omega (arith, clean, quiet.clean);
+  unchanged = err_if r refl;
+  refused = if_quiet r quiet;
+  crash = λ clean is_open db found.
+      let (names, held, is) = left clean is_open db found in (names, held, subst May (sym is) may);
+  durable = durable;
+  closed = closed;
+  closes = quiet.closes;
+  cause = cause;
 }
 
 -- A call on a file that is not closed, which has read it.
@@ -213,20 +233,9 @@ module _ {S : Type 0} {g : Ghosts S} {old mid : AccountFile S g} {before : Store
   pub writes_none : {X : Type 0} {answers : Result X FileError → Store → Type 0} {May : Store → Type 0} {long : Type 0}
       → May before → (r : Result X FileError) → (IsHonest g (store_of mid) → answers r before)
       → IfErr r (λ f. (e : AccountError) × (f ≡ Account e)) → Runs answers May long r old mid before before
-  writes_none {May = May} {long = long} may r step why = record {
-    has = reads.has;
-    step = step;
-    terms = reads.terms;
-    honest = was_honest;
-    unchanged = err_if r refl;
-    refused = refused_same r why reads.quiet;
-    crash = λ clean is_open db found.
-        let left = reads.left clean is_open db found in (left.0, left.1, subst May (sym left.2) may);
-    durable = on_all r (λ clean. reads.left clean (open_of _ (live (was_honest clean))));
-    closed = λ clean h. absurd (live clean h);
-    closes = λ clean is_open. inl (reads.is_open refl clean);
-    cause = λ clean. refused_cause _ _ long r why;
-  }
+  writes_none {long = long} may r step why = ends_with r reads.has reads.terms reads.quiet reads.left step may
+      (on_all r (λ clean. reads.left clean (open_of _ (live (was_honest clean))))) (λ clean h. absurd (live clean h))
+      (λ clean. refused_cause _ _ long r why)
 
   -- names are written, or stay as they were
   pub writes_all : {X : Type 0} {answers : Result X FileError → Store → Type 0} {May : Store → Type 0} {long : Type 0}
@@ -314,7 +323,7 @@ module _ {S : Type 0} {g : Ghosts S} {X : Type 0} (call : Call X) {name : List �
         subst (λ (n : List ℕ). AccountStep (terms_of old) before (call (Ok x)) (changed before n p)) (calls (Ok x))
         (step_of (terms_of old) before (call (Ok x)) p (under_old (Ok x) p answer clean))
 
-    -- an accepted call that could not write its name's text, where the file is still open
+    -- an accepted call that could not write its name's text, while the file is still open
     pub keeps : Settled g → {new : AccountFile S g} (p : Option Phc) (did x : X) → terms_of new ≡ terms_of mid
         → AccountAnswer (terms_of mid) (call (Ok did)) o p → AccountAnswer (terms_of mid) (call (Ok x)) o o
         → (done : Result (Unit {0}) StoreError) → IsErr done
@@ -354,48 +363,21 @@ module _ {S : Type 0} {g : Ghosts S} {X : Type 0} (call : Call X) {name : List �
         (subst (λ (n : List ℕ). Changes g (store_of mid) (store_of new) before (changed before name p) (IsLong n) done)
         (sym (calls (Err NameUnknown))) change) r e
 
--- a call with an error that leaves the names
-pub ends_with : {S : Type 0} {g : Ghosts S} {X : Type 0} → Settled g
-    → {answers : Result X FileError → Store → Type 0} {May : Store → Type 0} {long : Type 0} {old new : AccountFile S g}
-    {before : Store} {e : FileError} → HasNames old before → HasNames new before → terms_of new ≡ terms_of old
-    → StaysQuiet g (store_of old) (store_of new) → (IsHonest g (store_of new) → answers (Err e) before) → May before
-    → IfRefused (StaysQuiet g (store_of old) (store_of new)) e
-    → (IsHonest g (store_of old) → IsClosed old → (e ≡ Closed) × (store_of new ≡ store_of old))
-    → (IsHonest g (store_of new) → HasCause (IsClosed old) (HasFailed old new) long e)
-    → Runs answers May long (Err e) old new before before
-ends_with {g = g} settled {May = May} {old = old} {before = before} had has terms quiet step may refused closed cause = record {
-  has = has;
-  step = step;
-  terms = terms;
-  honest = λ clean. omega (arith, clean, quiet.clean);
-  unchanged = refl;
-  refused = refused;
-  crash = λ clean is_open db found.
-      let left = leaves_kept g (store_of old) before (settled (store_of old)) had.1 (omega (arith, clean, quiet.clean))
-      is_open db (quiet.outcomes db found) in
-      (left.0, left.1, subst May (sym left.2) may);
-  durable = tt;
-  closed = λ clean is. let h = closed clean is in (ap Err h.0, h.1);
-  closes = quiet.closes;
-  cause = cause;
-}
-
 -- a call on a file that can't be read
-pub fails : {S : Type 0} {g : Ghosts S} {X : Type 0} → Settled g
-    → {answers : Result X FileError → Store → Type 0} {May : Store → Type 0} {long : Type 0} {old mid : AccountFile S g}
-    {before : Store} {e : FileError} → HasNames old before → answers (Err e) before → May before → Stays (Some e) before old mid
-    → Runs answers May long (Err e) old mid before before
-fails settled {long = long} {e = e} had step may reads =
-    ends_with settled had reads.has reads.terms reads.quiet (λ clean. step) may (unread_refused _ e reads.of_file)
+pub fails : {S : Type 0} {g : Ghosts S} {X : Type 0} {answers : Result X FileError → Store → Type 0} {May : Store → Type 0}
+    {long : Type 0} {old mid : AccountFile S g} {before : Store} {e : FileError} → answers (Err e) before → May before
+    → Stays (Some e) before old mid → Runs answers May long (Err e) old mid before before
+fails {long = long} {e = e} step may reads =
+    ends_with (Err e) reads.has reads.terms reads.quiet reads.left (λ clean. step) may tt
     (λ clean is. let shut = reads.closed clean is in (cc, shut.1)) (λ clean. unread_cause _ _ long e (reads.cause clean))
 
 -- and one on a name in it
-pub cannot_serve : {S : Type 0} {g : Ghosts S} {X : Type 0} → Settled g → (call : Call X) {old mid : AccountFile S g} {before : Store} → HasNames old before
-    → {e : FileError} (r : Result X FileError) → IsErrAnd r (λ f. f ≡ e) → Stays (Some e) before old mid
+pub cannot_serve : {S : Type 0} {g : Ghosts S} {X : Type 0} (call : Call X) {old mid : AccountFile S g} {before : Store}
+    {e : FileError} (r : Result X FileError) → IsErrAnd r (λ f. f ≡ e) → Stays (Some e) before old mid
     → (after : Store) × Runs (Answers (terms_of old) before call) (IsBeforeOrAfter X (terms_of old) before call)
     (IsLong (name_of (call (Err NameUnknown)))) r old mid before after
-cannot_serve {X = X} settled call {old = old} {before = before} has {e} r is reads = rw (err_is r e is)
-    (before, fails settled has (unread_step X (terms_of old) before call e reads.of_file) (inl refl) reads)
+cannot_serve {X = X} call {old = old} {before = before} {e} r is reads =
+    rw (err_is r e is) (before, fails (unread_step X (terms_of old) before call e reads.of_file) (inl refl) reads)
 
 -- ---- the password of a name
 

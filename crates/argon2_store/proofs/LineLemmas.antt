@@ -4,7 +4,7 @@ use Rattle.argon2_store.proofs.Imports.{IfSome, Row, phc_of, Phc, PasswordHash, 
 use Rattle.argon2_store.proofs.Imports.{lines, lines_of, row_of, rows_of}
 use Rattle.std.specs.Io.KnownBytes.{Appends, Keeps}
 use Rattle.sqlite_trees.specs.View.{View as Shown}
-use Rattle.argon2_store.proofs.RowLemmas.{from_none}
+use Rattle.sqlite_store.proofs.RowLemmas.{from_key-none}
 use Rattle.argon2_store.specs.declared.view.View.{View}
 
 pub an_account : (row : Row) (o : Option PasswordHash) → is_some o ≡ true
@@ -49,7 +49,7 @@ begin_lines view first now names out shape is rows = record {
   all = refl;
   rows = ap (λ (w : Shown). w.cursors 0) is
       ∙ ap (λ (s : Shape). Some (sought (order_of s) Forward [] (first.trees 0))) shape
-      ∙ ap Some (from_none (first.trees 0)) ∙ ap Some rows;
+      ∙ ap Some (from_key-none plain (first.trees 0)) ∙ ap Some rows;
   written = appends_none out;
 }
   where

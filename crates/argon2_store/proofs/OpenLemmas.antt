@@ -110,7 +110,7 @@ module _ {D : Type 0} {g : Ghosts D} (old : Unopened D g) (sized : (state_of old
       ∥∥₁_map fresh (λ ours.
       inl ((state_of old).page_size, wanted_by old, pages, allowed, recs, ours.0.file, ap (listed_from 0) wants, ours.1 0)))
 
--- where there was no table, an open may have begun one
+-- if there was no table, an open may have begun one
 pub made : {D : Type 0} {g : Ghosts D} (old mid : Unopened D g) (sized : (state_of old).page_size ≡ 4096)
     → (state_of mid).page_size ≡ (state_of old).page_size → (left : Image) → wanted_by mid ≡ account ∷ []
     → ∥ IsUnstarted (state_of old).page_size (image old) ∥₁ → below.IsOnTheWay mid left → Stays old sized left

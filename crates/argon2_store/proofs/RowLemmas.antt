@@ -8,8 +8,10 @@ use Rattle.argon2_store.proofs.Imports.{ordering_then, Text, plain, entry_cmp, R
 use Rattle.argon2_store.proofs.Imports.{phc_text, row_of, rows_of, IsLong, IsTrue, prefix_cmp, Shape, Index, Forward, from_key, order_of, sought, View, Advances, with_cursor}
 use Rattle.argon2_store.proofs.Imports.{IsFoundAs, ◌++◌, append_assoc, append-nil, empty, len-empty, len-entries, get-empty, ⊤, Ghosts, Trees, IsIndex, IsOrdered, IsAccount, Holds}
 use Rattle.argon2_store.proofs.Imports.{IsFresh, IsHonest, IsKept, IsReading}
+use Rattle.std.proofs.lemmas.List.{nil_from_length}
 use Rattle.std.proofs.lemmas.Map.Text.{is_eq-slice_cmp}
 use Rattle.std.specs.Float.{NotNan}
+use Rattle.sqlite_store.proofs.RowLemmas.{from_key-none}
 use Rattle.sqlite_value.proofs.KeyLemmas.{entry_cmp-plain}
 use Rattle.sqlite_trees.proofs.ListLemmas.{filter_all}
 use Rattle.sqlite_trees.proofs.TreeLemmas.{prefix_cmp-one}
@@ -344,11 +346,6 @@ insert-last : (row : Row) (rows : List Row) → AllByRecursion (λ x. entry_cmp 
 insert-last row [] h = refl
 insert-last row (x ∷ xs) h = rw (h.0) (ap (λ l. x ∷ l) (insert-last row xs h.1))
 
--- every row is at or above the empty key
-pub from_none : (rows : List Row) → from_key plain [] rows ≡ rows
-from_none [] = refl
-from_none (e ∷ es) = refl
-
 pub begin : (first now : View) (names : Store) → first.shape 0 ≡ Index plain
     → now ≡ with_cursor first 0 (sought (order_of (first.shape 0)) Forward [] (first.trees 0)) → rows_of names ≡ []
     → IsReading first now names
@@ -356,7 +353,7 @@ begin first now names shape is none = record {
   same = subst (λ (w : View). w ≡ record first { cursors = w.cursors }) (sym is) refl;
   rest = first.trees 0;
   left = ap (λ (w : View). w.cursors 0) is
-      ∙ ap (λ (s : Shape). Some (sought (order_of s) Forward [] (first.trees 0))) shape ∙ ap Some (from_none (first.trees 0));
+      ∙ ap (λ (s : Shape). Some (sought (order_of s) Forward [] (first.trees 0))) shape ∙ ap Some (from_key-none plain (first.trees 0));
   all = ap (λ l. l ++ first.trees 0) none;
 }
 
@@ -453,15 +450,11 @@ all_read g old new names met earlier fresh shape mid reading ended =
       λ clean. ap (λ (t : Trees). t 0) (sym (fresh (earlier clean)).settled) ∙ sym (rows clean),
     )
 
-none : (es : List (List ℕ × Phc)) → length es ≡ 0 → es ≡ []
-none [] is = refl
-none (e ∷ es) is = absurd (omega (arith, is))
-
 abbrev empty_store : Store
 empty_store = empty
 
 pub rows_of-empty : rows_of empty_store ≡ []
-rows_of-empty = ap (map row_of) (none (entries empty_store) (sym (len-entries empty_store) ∙ len-empty order Phc))
+rows_of-empty = ap (map row_of) (nil_from_length (entries empty_store) (sym (len-entries empty_store) ∙ len-empty order Phc))
 
 pub last-empty : (last : Row) → LastIs (rows_of empty_store) last
 last-empty last = subst (λ rows. LastIs rows last) (sym rows_of-empty) (tt {0})

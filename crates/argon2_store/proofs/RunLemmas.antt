@@ -5,7 +5,7 @@ use Rattle.argon2_store.proofs.Imports.{AreTerms, Terms, adding, Store, AddsOrNo
 use Rattle.argon2_store.proofs.Imports.{AreEventsOf, Did, Does, EndsRun, FileCall, IsFoundAfter, IsLate, IsLateEvent, IsLateOf, IsShutOut, Run, add_all, added, event_of, events_of}
 use Rattle.argon2_store.proofs.Imports.{login, on_name, over_file, reads, IsHonest, IsOpen, Leaves, StaysQuiet, AccountFile, FileError, Account, Closed}
 use Rattle.argon2_store.specs.AccountFile.{HasNames, IsReady}
-use Rattle.argon2_store.proofs.TableLemmas.{Settled, leaves_kept}
+use Rattle.argon2_store.proofs.TableLemmas.{Settled, leaves_quiet}
 use Rattle.argon2_store.proofs.OpenLemmas.{next_open}
 use Rattle.argon2_store.proofs.TextLemmas.{rows_of-once, step_texts}
 use Rattle.sqlite_disk.specs.declared.Disk as disk
@@ -142,11 +142,9 @@ module _ {S : Type 0} {g : Ghosts S} (settled : Settled g) (terms : Terms) (firs
     late_names es left (inr adds) = inr (added es, refl, added_run terms es before.names left adds)
 
     -- a refusal leaves what was there
-    refused_left : StaysQuiet g (store_of old) (store_of new) → IsHonest g (store_of old) → IsOpen g (store_of old)
+    refused_left : StaysQuiet g (store_of old) (store_of new) → IsHonest g (store_of new) → IsOpen g (store_of old)
         → Leaves g (store_of new) (λ left. left ≡ before.names)
-    refused_left quiet clean is_open db found =
-        leaves_kept g (store_of old) before.names (settled (store_of old)) before.has.1 clean is_open db
-        (quiet.outcomes db found)
+    refused_left = leaves_quiet g settled (store_of old) (store_of new) before.names before.has.1
 
     -- a call on one name
     serves : {X : Type 0} (call : Call X) (result : Result X FileError) → Serves call result old new
@@ -161,8 +159,7 @@ module _ {S : Type 0} {g : Ghosts S} (settled : Settled g) (terms : Terms) (firs
         (λ clean. one (call (Err e)) after (does.step clean))
         (λ clean. open_or_not
         (λ is_open db found.
-        let (names, has, is) = refused_left does.refused (does.honest clean) is_open db found in
-        (names, has, is ∙ sym does.unchanged))
+        let (names, has, is) = refused_left does.refused clean is_open db found in (names, has, is ∙ sym does.unchanged))
         (λ is_closed. let never = (does.closed (does.honest clean) is_closed).0 in absurd cc))
     serves call (Err e) serve =
         let (after, does) = serve before.names before.has in cut (IsLateEvent call (Err e)) e after (late_call call) does
@@ -177,7 +174,7 @@ module _ {S : Type 0} {g : Ghosts S} (settled : Settled g) (terms : Terms) (firs
         let (after, does) = add before.names before.has in
         stays (λ late. ⊥) _ (subst (HasNames new) does.unchanged does.has) does.terms does.honest
         (λ clean is_open db found.
-        let (names, has, is) = refused_left does.refused (does.honest clean) is_open db found in (names, has, inl is))
+        let (names, has, is) = refused_left does.refused clean is_open db found in (names, has, inl is))
         (λ clean is_closed. ((does.closed (does.honest clean) is_closed).0, does.refused.outcomes))
     adds es (Err e) add =
         let (after, does) = add before.names before.has in

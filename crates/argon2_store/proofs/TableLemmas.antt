@@ -86,6 +86,12 @@ pub leaves_kept : {S : Type 0} (g : Ghosts S) (s : S) (names : Store)
 leaves_kept g s names settled kept clean is_open db found =
     (names, subst (λ t. Holds t names) (sym (settled db is_open found)) (kept.committed clean is_open), refl)
 
+-- also after a call that changed nothing
+pub leaves_quiet : {S : Type 0} (g : Ghosts S) → Settled g → (old new : S) (names : Store) → IsKept g old names
+    → StaysQuiet g old new → IsHonest g new → IsOpen g old → Leaves g new (λ left. left ≡ names)
+leaves_quiet g settled old new names kept quiet clean is_open db found =
+    leaves_kept g old names (settled old) kept (omega (arith, clean, quiet.clean)) is_open db (quiet.outcomes db found)
+
 -- ---- names
 
 -- a change of a name that was taken out is a change of the name
@@ -269,7 +275,7 @@ module _ {S : Type 0} {g : Ghosts S} where
     quiet = wrote.quiet;
   }
 
-  -- where rows are not all written, nothing is said of the names
+  -- if rows are not all written, nothing is said of the names
   pub writes_less : {a b : S} {x y z : Store} {P Q : Type 0} {e : StoreError} → Writes g a b x y P (Err e) → (P → Q)
       → Writes g a b x z Q (Err e)
   writes_less {a} {e = e} wrote more = record {

@@ -4,7 +4,7 @@ use Rattle.argon2_store.proofs.account_file.AccountFile.add.Goals as goal
 
 pub returns-then-is_closed : goal.returns-then-is_closed
 returns-then-is_closed g c before has =
-    cannot_serve g.met.S.Store.settled (adding c.args.name.now c.args.text.now) has (Err Closed) refl
+    cannot_serve (adding c.args.name.now c.args.text.now) (Err Closed) refl
     (shut_out g.met.S.Store.settled c.args.self.now before has c.is_closed.ensures c.if-is_closed.true)
 
 pub returns-in_err-parsed : goal.returns-in_err-parsed
@@ -17,8 +17,8 @@ returns-in_err-parsed g c before has =
 
 pub returns-in_err-text_of : goal.returns-in_err-text_of
 returns-in_err-text_of g c before has =
-    cannot_serve g.met.S.Store.settled (adding c.args.name.now c.args.text.now) has _
-    c.from_residual-in_err-text_of.ensures.1 (c.in_err-text_of.ensures.reads before has)
+    cannot_serve (adding c.args.name.now c.args.text.now) _ c.from_residual-in_err-text_of.ensures.1
+    (c.in_err-text_of.ensures.reads before has)
 
 pub returns-then-is_some : goal.returns-then-is_some
 returns-then-is_some g c before has =

@@ -1,11 +1,12 @@
-use Rattle.argon2_store.proofs.Imports.{inl, refl, sym, map, Ok, Err, length-map, entry_of}
+use Rattle.argon2_store.proofs.Imports.{inl, refl, sym, map, Ok, Err, length-map, entry_of, store_of}
 use Rattle.argon2_store.proofs.FileLemmas.{ends_with, fails, live_of, shut_out, unread, writes_all, writes_at}
+use Rattle.argon2_store.proofs.TableLemmas.{leaves_quiet}
 use Rattle.argon2_store.proofs.account_file.AccountFile.add_all.Goals as goal
 
 pub returns-then-is_closed-clause-call : goal.returns-then-is_closed-clause-call
 returns-then-is_closed-clause-call g c before has = (
   before,
-  fails g.met.S.Store.settled has refl (inl refl)
+  fails refl (inl refl)
       (shut_out g.met.S.Store.settled c.args.self.now before has c.is_closed.ensures c.if-is_closed.true),
 )
 
@@ -32,6 +33,7 @@ returns-in-Err-clause-call g c before has =
     let live = live_of {g = g.S.Store} c.args.self.now c.is_closed.ensures c.if-is_closed.false in
     let (names, first, quiet) = c.in-Err.ensures before has in (
       before,
-      rw c.into.ensures (ends_with g.met.S.Store.settled has names refl quiet (λ clean. refl) (inl refl) quiet
-          (λ clean is. absurd (live clean is)) (λ clean. tt)),
+      rw c.into.ensures (ends_with _ names refl quiet
+          (leaves_quiet g.S.Store g.met.S.Store.settled (store_of c.args.self.now) _ before has.1 quiet) (λ clean. refl)
+          (inl refl) tt (λ clean is. absurd (live clean is)) (λ clean. tt)),
     )

@@ -17,9 +17,8 @@ drawn_written x terms first same password v old new (inr (denied, nothing)) done
 
 pub returns-in_err-text-clause-call : goal.returns-in_err-text-clause-call
 returns-in_err-text-clause-call g c before has =
-    cannot_serve g.met.S.Store.settled
-    (changing c.args.name.now c.args.old.now c.args.new.now (fill_bytes 16 (g.R.Rng.stream c.args.rng.now)).0) has _
-    c.from_residual.ensures.1 (c.in_err-text.ensures.reads before has)
+    cannot_serve (changing c.args.name.now c.args.old.now c.args.new.now (fill_bytes 16 (g.R.Rng.stream c.args.rng.now)).0)
+    _ c.from_residual.ensures.1 (c.in_err-text.ensures.reads before has)
 
 pub returns-in_default-clause-call : goal.returns-in_default-clause-call
 returns-in_default-clause-call g c before has =

@@ -4,8 +4,8 @@ use Rattle.argon2_store.proofs.account_file.AccountFile.login.Goals as goal
 
 pub returns-in_err-text-clause-call : goal.returns-in_err-text-clause-call
 returns-in_err-text-clause-call g c before has =
-    cannot_serve g.met.S.Store.settled (logging_in c.args.name.now c.args.password.now (fill_bytes 16 (g.R.Rng.stream c.args.rng.now)).0)
-    has _ c.from_residual.ensures.1 (c.in_err-text.ensures.reads before has)
+    cannot_serve (logging_in c.args.name.now c.args.password.now (fill_bytes 16 (g.R.Rng.stream c.args.rng.now)).0)
+    _ c.from_residual.ensures.1 (c.in_err-text.ensures.reads before has)
 
 pub returns-in_default-clause-call : goal.returns-in_default-clause-call
 returns-in_default-clause-call g c before has =

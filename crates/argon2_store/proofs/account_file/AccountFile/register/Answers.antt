@@ -4,9 +4,8 @@ use Rattle.argon2_store.proofs.account_file.AccountFile.register.Goals as goal
 
 pub returns-in_err-text_of-clause-call : goal.returns-in_err-text_of-clause-call
 returns-in_err-text_of-clause-call g c before has =
-    cannot_serve g.met.S.Store.settled
-    (registering c.args.name.now c.args.password.now (fill_bytes 16 (g.R.Rng.stream c.args.rng.now)).0) has _
-    c.from_residual.ensures.1 (c.in_err-text_of.ensures.reads before has)
+    cannot_serve (registering c.args.name.now c.args.password.now (fill_bytes 16 (g.R.Rng.stream c.args.rng.now)).0)
+    _ c.from_residual.ensures.1 (c.in_err-text_of.ensures.reads before has)
 
 pub returns-in_err-text_of-clause-drawn : goal.returns-in_err-text_of-clause-drawn
 returns-in_err-text_of-clause-drawn g c =

@@ -3,8 +3,8 @@ use Rattle.argon2_store.proofs.FileLemmas.{cannot_serve, refuses, writes}
 use Rattle.argon2_store.proofs.account_file.AccountFile.remove.Goals as goal
 
 pub returns-in_err-text : goal.returns-in_err-text
-returns-in_err-text g c before has = cannot_serve g.met.S.Store.settled (removing c.args.name.now) has _
-    c.from_residual.ensures.1 (c.in_err-text.ensures.reads before has)
+returns-in_err-text g c before has =
+    cannot_serve (removing c.args.name.now) _ c.from_residual.ensures.1 (c.in_err-text.ensures.reads before has)
 
 pub returns-in_default : goal.returns-in_default
 returns-in_default g c before has =

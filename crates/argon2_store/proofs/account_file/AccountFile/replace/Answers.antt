@@ -4,8 +4,8 @@ use Rattle.argon2_store.proofs.account_file.AccountFile.replace.Goals as goal
 
 pub returns-in_err-text : goal.returns-in_err-text
 returns-in_err-text g c before has =
-    cannot_serve g.met.S.Store.settled (replacing c.args.name.now c.args.old.now c.args.new.now) has _
-    c.from_residual.ensures.1 (c.in_err-text.ensures.reads before has)
+    cannot_serve (replacing c.args.name.now c.args.old.now c.args.new.now)
+    _ c.from_residual.ensures.1 (c.in_err-text.ensures.reads before has)
 
 pub returns-in_default : goal.returns-in_default
 returns-in_default g c before has =

@@ -4,8 +4,8 @@ use Rattle.argon2_store.proofs.account_file.AccountFile.set_password.Goals as go
 
 pub returns-in_err-text-clause-call : goal.returns-in_err-text-clause-call
 returns-in_err-text-clause-call g c before has =
-    cannot_serve g.met.S.Store.settled (setting c.args.name.now c.args.new.now (fill_bytes 16 (g.R.Rng.stream c.args.rng.now)).0)
-    has _ c.from_residual.ensures.1 (c.in_err-text.ensures.reads before has)
+    cannot_serve (setting c.args.name.now c.args.new.now (fill_bytes 16 (g.R.Rng.stream c.args.rng.now)).0)
+    _ c.from_residual.ensures.1 (c.in_err-text.ensures.reads before has)
 
 pub returns-in_err-text-clause-drawn : goal.returns-in_err-text-clause-drawn
 returns-in_err-text-clause-drawn g c =
