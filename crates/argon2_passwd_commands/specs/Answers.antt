@@ -1,5 +1,5 @@
 -- What the program answers.
-use Rattle.std.specs.Prelude.{◌≡◌, ◌⊎◌, ⊤, ℕ, ◌==◌, true, false, Bool, ◌||◌, ◌+◌, IsOk, IsTrue, List, [], ◌∷◌, ◌++◌, if◌then◌else◌, Option, Some, None, IfSome, Result, Ok, Err, IfOk}
+use Rattle.std.specs.Prelude.{◌≡◌, ◌⊎◌, ⊤, ℕ, ◌==◌, false, Bool, ◌||◌, ◌+◌, IsOk, IsTrue, List, [], ◌∷◌, ◌++◌, if◌then◌else◌, Option, Some, None, IfSome, Result, Ok, Err, IfOk}
 use Rattle.std.specs.Io.BufRead.{drop_through}
 use Rattle.std.specs.List.{AllZip, after_first, before_first, list_any}
 use Rattle.std.specs.Option.{option_map}
@@ -31,6 +31,7 @@ use Rattle.argon2_store.specs.declared.error.FileError.TheVariants.{Account, Io}
 use Rattle.argon2_passwd_commands.specs.Asked.{Asked, Choices, bound_of, check, edit, hash, import, show, verify}
 use Rattle.argon2_passwd_commands.specs.declared.command.Edit.{Edit}
 use Rattle.argon2_passwd_commands.specs.declared.command.Edit.TheVariants.{Register, Change, Set, Remove}
+use Rattle.argon2_passwd_commands.specs.Failures.{status_of}
 use Rattle.argon2_passwd_commands.specs.Passwords.{password_of}
 use Rattle.argon2_passwd_commands.specs.declared.failure.Failure.{Failure}
 use Rattle.argon2_passwd_commands.specs.declared.failure.Failure.TheVariants.{Line}
@@ -45,7 +46,7 @@ abbrev pub IsHashReply : Terms → List ℕ → Option (List ℕ) → List ℕ �
 IsHashReply terms drawn input reply =
     OfPassword (λ password. (v : Phc) × IsFresh terms.target password drawn v × (reply ≡ phc_text v)) input
 
--- what a login did with a text, and a line with the fresh one where there is one
+-- what a login did with a text, and a line with the fresh one if there is one
 abbrev pub login_text : Accepted → Phc → List ℕ
 login_text Rehashed fresh = accepted_text Rehashed ++ 10 ∷ phc_text fresh
 login_text accepted fresh = accepted_text accepted
@@ -65,7 +66,7 @@ abbrev pub Denies : Terms → List ℕ → Option (List ℕ) → Type 0
 Denies terms text input = IfSome input (λ bytes. (password : List ℕ) (v : Phc)
     → password_of bytes ≡ Some password → PhcText text v → ¬ (Admits terms password v))
 
--- the secret of the file at a path, where there is one
+-- the secret of the file at a path, if there is one
 abbrev pub IsSecret : (List ℕ → List ℕ → Type 0) → Option (List ℕ) → List ℕ → Type 0
 IsSecret Holds None secret = secret ≡ []
 IsSecret Holds (Some path) secret = Holds path secret
@@ -119,7 +120,7 @@ call_of Change name first second drawn = changing name first second drawn
 call_of Set name first second drawn = setting name first drawn
 call_of Remove name first second drawn = removing name
 
--- the parts of a line at its first colon: no text where it has none, and neither where it is not UTF-8
+-- the parts of a line at its first colon: no text if it has none, and neither if it is not UTF-8
 abbrev pub parts_of : List ℕ → List ℕ × List ℕ
 parts_of line = if is_utf8 line then (before_first (λ b. b == 58) line, after_first (λ b. b == 58) line) else ([], [])
 
@@ -151,14 +152,15 @@ RefusesLine {g} failure es before after = (number : ℕ) × (why : AccountError)
 abbrev pub IsAdded : {S : Type 0} {g : Ghosts S} → List (List ℕ × List ℕ) → AccountFile S g → AccountFile S g → Type 0
 IsAdded es before after = (answer : Result (Unit {0}) FileError) × AddsOrNone es answer before after
 
+-- how an addition of the entries ended
+abbrev pub AddsLines : {S : Type 0} {g : Ghosts S} → Result (Unit {0}) Failure → List (List ℕ × List ℕ) → AccountFile S g
+    → AccountFile S g → Type 0
+AddsLines (Ok _) es before after = AddsOrNone es (Ok tt) before after
+AddsLines (Err failure) es before after = IsAdded es before after × (status_of failure ≡ 1 → RefusesLine failure es before after)
+
 -- a file at a path that was opened under these terms, with its names
 abbrev pub IsOpened : {S : Type 0} {g : Ghosts S} → (List ℕ → Store → Type 0) → List ℕ → Terms → AccountFile S g → Type 0
 IsOpened Has path terms file = (names : Store) × Has path names × IsReady terms names file
-
--- a first file was closed with this store, if one was, and the store of the last file was left as this one, if there is one
-abbrev pub IsLeft : {S : Type 0} → (Option S → Bool → Type 0) → Option S → Option S → Option S → Type 0
-IsLeft Was left read None = Was read false
-IsLeft Was left read (Some store) = Was read true × (left ≡ Some store)
 
 -- what the text says that was found for a name
 abbrev pub value_of : Result (Option PasswordHash) FileError → Result (Option Phc) FileError
@@ -193,109 +195,112 @@ change_answer (decided (Err e)) = Err (Account e)
 change_answer (replaced _ done) = done
 
 module _ {S : Type 0} (g : Ghosts S) (Holds : List ℕ → List ℕ → Type 0) (Has : List ℕ → Store → Type 0) where
-  -- all that was done with the file at a path, which was opened under the choices and their secret
-  abbrev pub IsDone : Choices → List ℕ → (List ℕ → AccountFile S g → AccountFile S g → Type 0) → (Option S → Option S → Type 0) → Type 0
-  IsDone choices path Does Becomes = (secret drawn : List ℕ) × (before after : AccountFile S g)
+  -- all that was done with the file at a path: it was opened under the choices and their secret, and closed
+  abbrev pub IsDone : Choices → List ℕ → (List ℕ → AccountFile S g → AccountFile S g → Type 0) → (List S → Type 0) → Type 0
+  IsDone choices path Does Closed = (secret drawn : List ℕ) × (before after : AccountFile S g)
       × IsSecret Holds choices.secret_file secret × IsOpened Has path (terms_by choices secret) before
-      × Does drawn before after × Becomes None (Some (store_of after))
+      × Does drawn before after × Closed (store_of after ∷ [])
 
   -- that was one call
-  abbrev pub IsCalled : {X : Type 0} → Choices → List ℕ → (List ℕ → Call X) → Result X FileError → (Option S → Option S → Type 0) → Type 0
+  abbrev pub IsCalled : {X : Type 0} → Choices → List ℕ → (List ℕ → Call X) → Result X FileError → (List S → Type 0) → Type 0
   IsCalled choices path call result = IsDone choices path (λ drawn. Serves (call drawn) result)
 
-  -- the value of a name was read in the file at a path, which was opened under these terms and closed again
+  -- the value of a name was read in the file at a path, which was opened under these terms and closed with this store
   abbrev pub IsLooked : Terms → List ℕ → List ℕ → Result (Option Phc) FileError → (S → Type 0) → Type 0
   IsLooked terms path name found Next = (before after : AccountFile S g) × IsOpened Has path terms before
       × ((names : Store) → HasNames before names → Stays (error_of found) names before after
       × IfOk found (λ value. IsHonest g (store_of after) → get names name ≡ value)) × Next (store_of after)
 
-  -- the text of a name was replaced in the file at a path, if it was still that of the first value
-  abbrev pub IsReplaced : Terms → List ℕ → List ℕ → Phc → Phc → Result (Unit {0}) FileError → (Option S → Type 0) → Type 0
-  IsReplaced terms path name v w done Becomes = (before after : AccountFile S g) × IsOpened Has path terms before
-      × Serves (replacing name (phc_text v) (phc_text w)) done before after × Becomes (Some (store_of after))
+  -- the text of a name was replaced there, if it was still that of the first value
+  abbrev pub IsReplaced : Terms → List ℕ → List ℕ → Phc → Phc → Result (Unit {0}) FileError → (S → Type 0) → Type 0
+  IsReplaced terms path name v w done Next = (before after : AccountFile S g) × IsOpened Has path terms before
+      × Serves (replacing name (phc_text v) (phc_text w)) done before after × Next (store_of after)
 
   -- what was done with the file at a path for a call on a name, and that it was decided by the value that was read
-  abbrev pub IsOutcome : {X : Type 0} → Terms → List ℕ → List ℕ → Call X → Outcome X → (Option S → Option S → Type 0) → Type 0
-  IsOutcome terms path name call (unread e) Becomes = IsLooked terms path name (Err e) (λ read. Becomes (Some read) None)
-  IsOutcome terms path name call (decided answer) Becomes = (o p : Option Phc) × AccountAnswer terms (call answer) o p
-      × IsLooked terms path name (Ok o) (λ read. Becomes (Some read) None)
-  IsOutcome terms path name call (replaced x done) Becomes = (v w : Phc) × AccountAnswer terms (call (Ok x)) (Some v) (Some w)
-      × IsLooked terms path name (Ok (Some v)) (λ read. IsReplaced terms path name v w done (Becomes (Some read)))
+  abbrev pub IsOutcome : {X : Type 0} → Terms → List ℕ → List ℕ → Call X → Outcome X → (List S → Type 0) → Type 0
+  IsOutcome terms path name call (unread e) Closed = IsLooked terms path name (Err e) (λ read. Closed (read ∷ []))
+  IsOutcome terms path name call (decided answer) Closed = (o p : Option Phc) × AccountAnswer terms (call answer) o p
+      × IsLooked terms path name (Ok o) (λ read. Closed (read ∷ []))
+  IsOutcome terms path name call (replaced x done) Closed = (v w : Phc) × AccountAnswer terms (call (Ok x)) (Some v) (Some w)
+      × IsLooked terms path name (Ok (Some v)) (λ read. IsReplaced terms path name v w done (λ last. Closed (read ∷ last ∷ [])))
 
   -- all that was done with it, under the choices and their secret, for a call that is decided while the file is closed
   abbrev pub IsVisited : {X : Type 0} → Choices → List ℕ → List ℕ → (List ℕ → Call X) → (Outcome X → Type 0)
-      → (Option S → Option S → Type 0) → Type 0
-  IsVisited {X} choices path name call Answers Becomes = (secret drawn : List ℕ) × (outcome : Outcome X)
+      → (List S → Type 0) → Type 0
+  IsVisited {X} choices path name call Answers Closed = (secret drawn : List ℕ) × (outcome : Outcome X)
       × IsSecret Holds choices.secret_file secret × Answers outcome
-      × IsOutcome (terms_by choices secret) path name (call drawn) outcome Becomes
+      × IsOutcome (terms_by choices secret) path name (call drawn) outcome Closed
 
   -- that was a change of this kind
-  abbrev pub IsAct : Choices → List ℕ → Edit → List ℕ → List ℕ → List ℕ → Result (Unit {0}) FileError
-      → (Option S → Option S → Type 0) → Type 0
-  IsAct choices path Change name first second result Becomes =
-      IsVisited choices path name (call_of Change name first second) (λ outcome. change_answer outcome ≡ result) Becomes
-  IsAct choices path act name first second result Becomes =
-      IsCalled choices path (call_of act name first second) result Becomes
+  abbrev pub IsAct : Choices → List ℕ → Edit → List ℕ → List ℕ → List ℕ → Result (Unit {0}) FileError → (List S → Type 0) → Type 0
+  IsAct choices path Change name first second result Closed =
+      IsVisited choices path name (call_of Change name first second) (λ outcome. change_answer outcome ≡ result) Closed
+  IsAct choices path act name first second result Closed =
+      IsCalled choices path (call_of act name first second) result Closed
 
   -- that was a login with the password
-  abbrev pub IsLogin : Choices → List ℕ → List ℕ → Result Accepted FileError → Option (List ℕ) → (Option S → Option S → Type 0) → Type 0
-  IsLogin choices path name result input Becomes =
-      OfPassword (λ password. IsVisited choices path name (logging_in name password)
-      (λ outcome. login_answer outcome ≡ result) Becomes) input
+  abbrev pub IsLogin : Choices → List ℕ → List ℕ → List ℕ → Result Accepted FileError → (List S → Type 0) → Type 0
+  IsLogin choices path name password result Closed =
+      IsVisited choices path name (logging_in name password) (λ outcome. login_answer outcome ≡ result) Closed
+
+  -- that was a login with the password that is read
+  abbrev pub IsVerified : Choices → List ℕ → List ℕ → Result Accepted FileError → Option (List ℕ) → (List S → Type 0) → Type 0
+  IsVerified choices path name result input Closed =
+      OfPassword (λ password. IsLogin choices path name password result Closed) input
 
   -- that was a change of the text of a name, by the passwords that are read
-  abbrev pub IsEdited : Choices → List ℕ → Edit → List ℕ → Result (Unit {0}) FileError → Option (List ℕ) → (Option S → Option S → Type 0) → Type 0
-  IsEdited choices path act name result input Becomes = (breaks_lines act name ≡ false) × (first second : List ℕ)
-      × AreRead act input first second × IsAct choices path act name first second result Becomes
+  abbrev pub IsEdited : Choices → List ℕ → Edit → List ℕ → Result (Unit {0}) FileError → Option (List ℕ) → (List S → Type 0) → Type 0
+  IsEdited choices path act name result input Closed = (breaks_lines act name ≡ false) × (first second : List ℕ)
+      × AreRead act input first second × IsAct choices path act name first second result Closed
 
   -- no name was changed, with this error of the file if there was one, and this is a fact of its names
-  abbrev pub IsRead : Choices → List ℕ → Option FileError → (Store → Type 0) → (Option S → Option S → Type 0) → Type 0
+  abbrev pub IsRead : Choices → List ℕ → Option FileError → (Store → Type 0) → (List S → Type 0) → Type 0
   IsRead choices path error Shows = IsDone choices path (λ drawn before after. (names : Store) → HasNames before names
       → Stays error names before after × (IsHonest g (store_of after) → Shows names))
 
   -- that was the addition of the entries that a known input has, and the answer to it
   abbrev pub IsImported : Choices → List ℕ → Bool → (List (List ℕ × List ℕ) → AccountFile S g → AccountFile S g → Type 0)
-      → Option (List ℕ) → (Option S → Option S → Type 0) → Type 0
-  IsImported choices path any_text Adds input Becomes = (es : List (List ℕ × List ℕ))
-      × IfSome input (λ bytes. AreEntries any_text bytes es) × IsDone choices path (λ drawn. Adds es) Becomes
+      → Option (List ℕ) → (List S → Type 0) → Type 0
+  IsImported choices path any_text Adds input Closed = (es : List (List ℕ × List ℕ))
+      × IfSome input (λ bytes. AreEntries any_text bytes es) × IsDone choices path (λ drawn. Adds es) Closed
 
   -- what is asked for is answered
-  abbrev pub IsAnswered : Asked → Option (List ℕ) → Option (List ℕ) → Option (List ℕ) → (Option S → Option S → Type 0) → Type 0
-  IsAnswered (hash choices) input old new Becomes =
-      IsReplied Holds choices (λ terms drawn line. IsHashReply terms drawn input line) old new × Becomes None None
-  IsAnswered (check choices text) input old new Becomes =
-      IsReplied Holds choices (λ terms drawn line. IsCheckReply terms drawn text input line) old new × Becomes None None
-  IsAnswered (verify choices path name) input old new Becomes = (accepted : Accepted)
-      × IsLogin choices path name (Ok accepted) input Becomes × Appends old new (accepted_text accepted ++ 10 ∷ [])
-  IsAnswered (edit choices path act name) input old new Becomes =
-      IsEdited choices path act name (Ok tt) input Becomes × Keeps old new
-  IsAnswered (show choices path view) input old new Becomes =
-      IsRead choices path None (λ names. Appends old new (lines_of view names)) Becomes
-  IsAnswered (import choices path any_text) input old new Becomes =
-      IsImported choices path any_text (λ es. AddsOrNone es (Ok tt)) input Becomes × Keeps old new
+  abbrev pub IsAnswered : Asked → Option (List ℕ) → Option (List ℕ) → Option (List ℕ) → (List S → Type 0) → Type 0
+  IsAnswered (hash choices) input old new Closed =
+      IsReplied Holds choices (λ terms drawn line. IsHashReply terms drawn input line) old new × Closed []
+  IsAnswered (check choices text) input old new Closed =
+      IsReplied Holds choices (λ terms drawn line. IsCheckReply terms drawn text input line) old new × Closed []
+  IsAnswered (verify choices path name) input old new Closed = (accepted : Accepted)
+      × IsVerified choices path name (Ok accepted) input Closed × Appends old new (accepted_text accepted ++ 10 ∷ [])
+  IsAnswered (edit choices path act name) input old new Closed =
+      IsEdited choices path act name (Ok tt) input Closed × Keeps old new
+  IsAnswered (show choices path view) input old new Closed =
+      IsRead choices path None (λ names. Appends old new (lines_of view names)) Closed
+  IsAnswered (import choices path any_text) input old new Closed =
+      IsImported choices path any_text (λ es. AddsOrNone es (Ok tt)) input Closed × Keeps old new
 
   -- what is asked for is refused
-  abbrev pub IsRefused : Asked → Option (List ℕ) → (Option S → Option S → Type 0) → Type 0
-  IsRefused (hash choices) input Becomes = IsRefusedBy Holds choices (λ terms. HasNone input) × Becomes None None
-  IsRefused (check choices text) input Becomes =
-      IsRefusedBy Holds choices (λ terms. Denies terms text input) × Becomes None None
-  IsRefused (verify choices path name) input Becomes =
-      ((HasNone input ⊎ IsRefusedBy Holds choices (λ terms. ⊥)) × Becomes None None)
-      ⊎ ((e : AccountError) × IsLogin choices path name (Err (Account e)) input Becomes)
-  IsRefused (edit choices path act name) input Becomes =
-      ((IsTrue (breaks_lines act name) ⊎ AreUnread act input ⊎ IsRefusedBy Holds choices (λ terms. ⊥)) × Becomes None None)
-      ⊎ ((e : AccountError) × IsEdited choices path act name (Err (Account e)) input Becomes)
-  IsRefused (show choices path view) input Becomes = IsRefusedBy Holds choices (λ terms. ⊥) × Becomes None None
-  IsRefused (import choices path any_text) input Becomes = (IsRefusedBy Holds choices (λ terms. ⊥) × Becomes None None)
-      ⊎ ((failure : Failure) × IsImported choices path any_text (RefusesLine failure) input Becomes)
+  abbrev pub IsRefused : Asked → Option (List ℕ) → (List S → Type 0) → Type 0
+  IsRefused (hash choices) input Closed = IsRefusedBy Holds choices (λ terms. HasNone input) × Closed []
+  IsRefused (check choices text) input Closed =
+      IsRefusedBy Holds choices (λ terms. Denies terms text input) × Closed []
+  IsRefused (verify choices path name) input Closed =
+      ((HasNone input ⊎ IsRefusedBy Holds choices (λ terms. ⊥)) × Closed [])
+      ⊎ ((e : AccountError) × IsVerified choices path name (Err (Account e)) input Closed)
+  IsRefused (edit choices path act name) input Closed =
+      ((IsTrue (breaks_lines act name) ⊎ AreUnread act input ⊎ IsRefusedBy Holds choices (λ terms. ⊥)) × Closed [])
+      ⊎ ((e : AccountError) × IsEdited choices path act name (Err (Account e)) input Closed)
+  IsRefused (show choices path view) input Closed = IsRefusedBy Holds choices (λ terms. ⊥) × Closed []
+  IsRefused (import choices path any_text) input Closed = (IsRefusedBy Holds choices (λ terms. ⊥) × Closed [])
+      ⊎ ((failure : Failure) × IsImported choices path any_text (RefusesLine failure) input Closed)
 
   -- all that was done with a file, whatever the status: it was not opened, or the command was served, with some answer
-  abbrev pub IsOnce : Asked → Option (List ℕ) → (Option S → Option S → Type 0) → Type 0
-  IsOnce (verify choices path name) input Becomes =
-      Becomes None None ⊎ ((answer : Result Accepted FileError) × IsLogin choices path name answer input Becomes)
-  IsOnce (edit choices path act name) input Becomes =
-      Becomes None None ⊎ ((answer : Result (Unit {0}) FileError) × IsEdited choices path act name answer input Becomes)
-  IsOnce (show choices path view) input Becomes =
-      Becomes None None ⊎ ((error : Option FileError) × IsRead choices path error (λ names. ⊤) Becomes)
-  IsOnce (import choices path any_text) input Becomes = Becomes None None ⊎ IsImported choices path any_text IsAdded input Becomes
-  IsOnce _ input Becomes = Becomes None None
+  abbrev pub IsOnce : Asked → Option (List ℕ) → (List S → Type 0) → Type 0
+  IsOnce (verify choices path name) input Closed =
+      Closed [] ⊎ ((answer : Result Accepted FileError) × IsVerified choices path name answer input Closed)
+  IsOnce (edit choices path act name) input Closed =
+      Closed [] ⊎ ((answer : Result (Unit {0}) FileError) × IsEdited choices path act name answer input Closed)
+  IsOnce (show choices path view) input Closed =
+      Closed [] ⊎ ((error : Option FileError) × IsRead choices path error (λ names. ⊤) Closed)
+  IsOnce (import choices path any_text) input Closed = Closed [] ⊎ IsImported choices path any_text IsAdded input Closed
+  IsOnce _ input Closed = Closed []

@@ -1,5 +1,5 @@
 -- What the program is asked for.
-use Rattle.std.specs.Prelude.{Bool, List, ℕ, Option, max, unwrap_or}
+use Rattle.std.specs.Prelude.{Bool, List, ℕ, Option, None, Some, max, unwrap_or}
 use Rattle.std.specs.Option.{option_copied}
 use Rattle.argon2.specs.Params.{parameters_of}
 use Rattle.argon2.specs.Settings.{Parameters}
@@ -39,6 +39,15 @@ asked (Verify options file name) = verify (choices_of options) file.now name.now
 asked (Edits options file change name) = edit (choices_of options) file.now change name.now
 asked (Show options file view) = show (choices_of options) file.now view
 asked (Import options file any_text) = import (choices_of options) file.now any_text
+
+-- the path of the file with accounts that is asked about, if there is one
+abbrev pub file_of : Asked → Option (List ℕ)
+file_of (hash choices) = None
+file_of (check choices text) = None
+file_of (verify choices path name) = Some path
+file_of (edit choices path act name) = Some path
+file_of (show choices path view) = Some path
+file_of (import choices path any_text) = Some path
 
 -- the bound that is given, or 2 GiB, 64 passes and 64 lanes, and no less than the parameters
 abbrev pub bound_of : Choices → Bound

@@ -10,7 +10,7 @@ use Rattle.argon2_store.specs.declared.error.FileError.TheVariants as file
 use Rattle.argon2_store.specs.declared.error.OpenError.{OpenError}
 use Rattle.argon2_store.specs.declared.error.OpenError.TheVariants.{Terms}
 
--- 1 where the answer is no, 3 where a file, a stream or a request for memory fails
+-- 1 if the answer is no, 3 if a file, a stream or a request for memory fails
 abbrev pub status_of : Failure → ℕ
 status_of NoPassword = 1
 status_of LongPassword = 1

@@ -12,7 +12,7 @@ line_of line = if ends_with_byte 10 line then strip_last 13 (strip_last 10 line)
 abbrev pub unless_long : List ℕ → Option (List ℕ)
 unless_long password = if nat_le (length password) 4096 then Some password else None
 
--- the first line, where there is one and it has at most 4096 bytes
+-- the first line, if there is one and it has at most 4096 bytes
 abbrev pub password_of : List ℕ → Option (List ℕ)
 password_of [] = None
 password_of (byte ∷ rest) = unless_long (line_of (take_through 10 (byte ∷ rest)))

@@ -21,14 +21,28 @@ pub enum Command<'a> {
 }
 
 impl<'a> Command<'a> {
+    ghost use Rattle.std.specs.Prelude.{◌≡◌};
+    ghost use Rattle.std.specs.Option.{option_copied};
+    ghost use Rattle.argon2_passwd_commands.specs.Asked.{asked, file_of};
+
     /// The path of the file with accounts, if the command is on one.
-    pub fn file(&self) -> Option<&'a str> {
+    pub fn file(&self) -> Option<&'a str>
+        ensures { option_copied result ≡ file_of (asked self.now) }
+    {
         match self {
             Command::Hash(_) | Command::Check(..) => None,
             Command::Verify(_, file, _)
             | Command::Edit(_, file, _, _)
             | Command::Show(_, file, _)
             | Command::Import(_, file, _) => Some(file),
+        }
+    }
+
+    /// Whether the command makes the file if there is none.
+    pub fn makes(&self) -> bool {
+        match self {
+            Command::Edit(_, _, Edit::Register, _) | Command::Import(..) => true,
+            _ => false,
         }
     }
 }
@@ -38,7 +52,7 @@ impl<'a> Command<'a> {
 pub enum Edit {
     /// A new name gets a text of a password.
     Register,
-    /// The name gets a text of another password, where its text accepts the old one.
+    /// The name gets a text of another password, if its text accepts the old one.
     Change,
     /// The name gets a text of another password.
     Set,

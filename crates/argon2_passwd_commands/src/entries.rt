@@ -59,7 +59,7 @@ fn entry(line: &[u8], any_text: bool) -> (&str, &str)
     }
 }
 
-// The parts of a line at its first colon: no text where it has none, and neither where it is not UTF-8.
+// The parts of a line at its first colon: no text if it has none, and neither if it is not UTF-8.
 fn parts(line: &[u8]) -> (&str, &str)
     ensures { entry_of result ≡ parts_of line.now }
 {

@@ -31,6 +31,9 @@ pub enum Failure {
     /// The text of a line of standard input is outside the grammar, or its name is taken; the line has this number.
     #[error("line {0}: {1}")]
     Line(usize, AccountError),
+    /// What is at the path of the file with the accounts is no such file.
+    #[error("{0}")]
+    Unfit(&'static str),
     /// The file with the accounts can't be opened.
     #[error(transparent)]
     Unopened(OpenError),
@@ -61,7 +64,7 @@ impl Failure {
     ghost use Rattle.std.specs.Prelude.{◌≡◌, ◌⊎◌};
     ghost use Rattle.argon2_passwd_commands.specs.Failures.{status_of};
 
-    /// The exit status: 1 where the answer is no, 3 where a file, a stream or a request for memory fails.
+    /// The exit status: 1 if the answer is no, 3 if a file, a stream or a request for memory fails.
     pub fn status(&self) -> u8
         ensures value { result ≡ status_of self.now }
         ensures one { (result ≡ 1) ⊎ (result ≡ 3) }

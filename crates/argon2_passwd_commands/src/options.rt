@@ -8,9 +8,9 @@ use argon2::bound::Bound;
 pub struct Options<'a> {
     /// What new texts are made under, by Argon2id of version 0x13.
     pub params: Params,
-    /// The most that a stored text may ask for, where it is given.
+    /// The most that a stored text may ask for, if it is given.
     pub bound: Option<Bound>,
-    /// The file with the secret, where it is given.
+    /// The file with the secret, if it is given.
     pub secret_file: Option<&'a str>,
 }
 

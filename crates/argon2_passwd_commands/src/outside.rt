@@ -3,14 +3,14 @@
 use crate::failure::Failure;
 use argon2::Argon2;
 use argon2::bound::Bound;
-use argon2_store::{AccountFile, AccountsAt};
+use argon2_store::{AccountFile, AccountsAt, OpenError};
 use sqlite_std_file::{FileFrom, Wary};
 use sqlite_store::FileStore;
 use sqlite_trees::store::Store;
 use std::alloc::AllocError;
 use std::fs::{self, OpenOptions};
 use std::io::{ErrorKind, Read};
-use std::os::unix::fs::OpenOptionsExt;
+use std::os::unix::fs::{MetadataExt, OpenOptionsExt};
 use std::random::RandomSource;
 use std::thread;
 use std::time::Duration;
@@ -18,10 +18,9 @@ use std::time::Duration;
 // The most bytes that a secret may have.
 const LONGEST_SECRET: usize = 4096;
 
-/// Where the program finds the secret, random bytes and accounts. It opens one file, and once more if
-/// the first is closed.
+/// Where the program finds the secret, random bytes and accounts. One file is open at a time.
 pub trait Outside {
-    ghost use Rattle.std.specs.Prelude.{◌≡◌, ℕ, List, Bool, true, false, Option, Some, None, IfErr, IfOk, OnErr, OnOk};
+    ghost use Rattle.std.specs.Prelude.{◌≡◌, ◌++◌, ◌∷◌, [], ℕ, List, IfErr, IfOk, OnErr, OnOk};
     ghost use Rattle.argon2_accounts.specs.Accounts.{AreTerms};
     ghost use Rattle.argon2.specs.NamedTexts.{Store as Texts};
     ghost use Rattle.argon2.specs.Made.{target_of};
@@ -37,8 +36,11 @@ pub trait Outside {
     // The file at a path has these names with their texts.
     ghost keeps: { List ℕ → Texts → Type 0 };
 
-    // The store that a first file was closed with, if one was, and whether a file was opened that was not closed.
-    ghost was: { Self → Option Self.File → Bool → Type 0 };
+    // The stores of the files that were closed, in order, while none is open.
+    ghost closed: { Self → List Self.File → Type 0 };
+
+    // The same while one is open.
+    ghost opened: { Self → List Self.File → Type 0 };
 
     /// The secret in the file at a path.
     ///
@@ -55,30 +57,39 @@ pub trait Outside {
     fn seed(&self) -> Result<[u8; 32], Failure>
         ensures { IfErr result (λ failure. status_of failure ≡ 3) };
 
-    /// The accounts in the file at a path, which is made where there is none.
+    /// Sees that accounts can be in the file at a path: there is one, or none if the command makes it.
+    ///
+    /// # Errors
+    /// There is something else, or nothing.
+    fn look(&self, path: &str, makes: bool) -> Result<(), Failure>
+        ensures { IfErr result (λ failure. status_of failure ≡ 3) };
+
+    /// The accounts in the file at a path, which is made if there is none and the command makes it.
     ///
     /// # Errors
     /// The target asks for more than the bound, and the file is left alone; or the file can't be opened.
     fn open<'key>(
         &mut self,
         path: &str,
+        makes: bool,
         target: Argon2<'key>,
         bound: Bound,
     ) -> Result<AccountFile<'key, Self::File>, Failure>
-        requires { (read : Option Self.File) × was self.old read false }
+        requires { (before : List Self.File) × closed self.old before }
         ensures ready { IfOk result (IsOpened keeps path.now
             (record { target = target_of target.entry; bound = bound })) }
         ensures refused { IfErr result (λ failure. status_of failure ≡ 1
             → ¬ (AreTerms (record { target = target_of target.entry; bound = bound }))) }
         ensures opened { OnOk result
-            ((read : Option Self.File) → was self.old read false → was self.new read true) }
+            ((before : List Self.File) → closed self.old before → opened self.new before) }
         ensures untouched { OnErr result
-            ((read : Option Self.File) → was self.old read false → was self.new read false) };
+            ((before : List Self.File) → closed self.old before → closed self.new before) };
 
-    /// Closes the first file, and copies its log into it.
+    /// Closes the file, and copies its log into it.
     fn close(&mut self, store: Self::File)
-        requires { was self.old None true }
-        ensures { was self.new (Some store) false };
+        requires { (before : List Self.File) × opened self.old before }
+        ensures { (before : List Self.File) → opened self.old before
+            → closed self.new (before ++ store ∷ []) };
 
     /// Waits for so many milliseconds.
     fn pause(&self, milliseconds: u64);
@@ -108,7 +119,9 @@ impl Outside for Machine<'_> {
     // Of names nothing is known.
     ghost keeps = { λ path names. ⊤ };
 
-    ghost was = { λ machine read is_open. ⊤ };
+    ghost closed = { λ machine files. ⊤ };
+
+    ghost opened = { λ machine files. ⊤ };
 
     fn secret(&self, path: &str) -> Result<Vec<u8>, Failure> {
         let mut secret = Vec::new(self.rt.alloc());
@@ -135,14 +148,37 @@ impl Outside for Machine<'_> {
         }
     }
 
+    fn look(&self, path: &str, makes: bool) -> Result<(), Failure> {
+        let why = match fs::metadata(self.rt, path) {
+            Ok(found) if found.is_dir() => "is a directory",
+            Ok(found) if !found.is_file() => "is no regular file",
+            Ok(found) if found.nlink() > 1 => "has a second name (a hard link)",
+            Ok(_) => return Ok(()),
+            Err(error) if error.kind() == ErrorKind::NotFound && makes => {
+                if fs::symlink_metadata(self.rt, path).is_err() {
+                    return Ok(());
+                }
+                "is a link to a file that is not there"
+            }
+            Err(error) if error.kind() == ErrorKind::OutOfMemory => return Err(Failure::from(
+                AllocError,
+            )),
+            Err(error) => return Err(Failure::from(OpenError::Path(error))),
+        };
+        Err(Failure::Unfit(why))
+    }
+
+    // Others may change what is at the path while a password is hashed, so each open looks again.
     fn open<'key>(
         &mut self,
         path: &str,
+        makes: bool,
         target: Argon2<'key>,
         bound: Bound,
     ) -> Result<AccountsAt<'key, Wary>, Failure> {
+        self.look(path, makes)?;
         // A new file is for its owner alone. If it can't be made, the open says why.
-        if bound.allows(target.params()) {
+        if makes && bound.allows(target.params()) {
             let _ = OpenOptions::new()
                 .write(true)
                 .create_new(true)

@@ -1,11 +1,11 @@
 //! The program over any world outside it and any streams.
 
-ghost use Rattle.std.specs.Prelude.{◌≡◌, ◌⊎◌, ◌++◌, ◌∷◌, [], ℕ, false, None, List, IfErr, IfOk, OnOk, string_bytes};
+ghost use Rattle.std.specs.Prelude.{◌≡◌, ◌⊎◌, ◌++◌, ◌∷◌, [], ℕ, List, IfErr, IfOk, OnOk, string_bytes};
 ghost use Rattle.std.specs.Io.KnownBytes.{Appends, Keeps};
 ghost use Rattle.argon2_accounts.specs.Accounts.{AreTerms, terms_of};
 ghost use Rattle.argon2.specs.Login.{accepted_text};
 ghost use Rattle.argon2.specs.Made.{target_of};
-ghost use Rattle.argon2_passwd_commands.specs.Answers.{Denies, HasNone, IsAnswered, IsCheckReply, IsHashReply, IsLeft, IsOnce, IsRefused, IsRefusedBy, IsSecret, terms_by};
+ghost use Rattle.argon2_passwd_commands.specs.Answers.{Denies, HasNone, IsAnswered, IsCheckReply, IsHashReply, IsOnce, IsRefused, IsRefusedBy, IsSecret, terms_by};
 ghost use Rattle.argon2_passwd_commands.specs.Asked.{asked, choices_of};
 ghost use Rattle.argon2_passwd_commands.specs.Failures.{status_of};
 
@@ -33,30 +33,28 @@ pub const PROGRAM: &str = "argon2-passwd";
 /// or a line is refused, or the parameters are above the bound. Status 3: a file, a stream, random bytes or a
 /// request for memory failed.
 /// With 1 and 3 the failure's text is written to `errors`, and with 1 nothing to `output`. If `errors`
-/// can't be written, the status stays. `left` is the store of the file that was opened and not closed again;
-/// whatever the status, the command is all that was done with it.
+/// can't be written, the status stays. Whatever the status, the command is all that was done with a file.
 pub fn run<P: Outside, R: BufRead, W: Write, E: Write>(
     alloc: Global,
     command: Command<'_>,
     outside: &mut P,
-    left: &mut Option<P::File>,
     input: &mut R,
     output: &mut W,
     errors: &mut E,
 ) -> u8
-    requires { P.was outside.old None false }
+    requires { P.closed outside.old [] }
     ensures status { (result ≡ 0) ⊎ (result ≡ 1) ⊎ (result ≡ 3) }
     ensures answered { result ≡ 0 → IsAnswered P.File.Store P.holds P.keeps (asked command.entry)
         (R.remaining input.old) (W.contents output.old) (W.contents output.new)
-        (IsLeft (P.was outside.new) left.new) }
+        (P.closed outside.new) }
     ensures quiet { result ≡ 0 → Keeps (E.contents errors.old) (E.contents errors.new) }
     ensures refused { result ≡ 1 → IsRefused P.File.Store P.holds P.keeps (asked command.entry)
-        (R.remaining input.old) (IsLeft (P.was outside.new) left.new)
+        (R.remaining input.old) (P.closed outside.new)
         × Keeps (W.contents output.old) (W.contents output.new) }
     ensures once { IsOnce P.File.Store P.holds P.keeps (asked command.entry)
-        (R.remaining input.old) (IsLeft (P.was outside.new) left.new) }
+        (R.remaining input.old) (P.closed outside.new) }
 {
-    match answer(alloc, command, outside, left, input, output) {
+    match answer(alloc, command, outside, input, output) {
         Ok(()) => 0,
         Err(failure) => fail(errors, command.file(), &failure),
     }
@@ -68,7 +66,7 @@ fn fail<E: Write>(errors: &mut E, file: Option<&str>, failure: &Failure) -> u8
     ensures one { (result ≡ 1) ⊎ (result ≡ 3) }
 {
     let _ = match (failure, file) {
-        (Failure::Unopened(_) | Failure::File(_), Some(path)) => {
+        (Failure::Unfit(_) | Failure::Unopened(_) | Failure::File(_), Some(path)) => {
             writeln!(errors, "{PROGRAM}: {path}: {failure}")
         }
         _ => writeln!(errors, "{PROGRAM}: {failure}"),
@@ -81,21 +79,23 @@ fn answer<P: Outside, R: BufRead, W: Write>(
     alloc: Global,
     command: Command<'_>,
     outside: &mut P,
-    left: &mut Option<P::File>,
     input: &mut R,
     output: &mut W,
 ) -> Result<(), Failure>
-    requires { P.was outside.old None false }
+    requires { P.closed outside.old [] }
     ensures ok { OnOk result (IsAnswered P.File.Store P.holds P.keeps (asked command.entry)
         (R.remaining input.old) (W.contents output.old) (W.contents output.new)
-        (IsLeft (P.was outside.new) left.new)) }
+        (P.closed outside.new)) }
     ensures err { IfErr result (λ failure. status_of failure ≡ 1
         → IsRefused P.File.Store P.holds P.keeps (asked command.entry) (R.remaining input.old)
-        (IsLeft (P.was outside.new) left.new)
+        (P.closed outside.new)
         × Keeps (W.contents output.old) (W.contents output.new)) }
     ensures once { IsOnce P.File.Store P.holds P.keeps (asked command.entry)
-        (R.remaining input.old) (IsLeft (P.was outside.new) left.new) }
+        (R.remaining input.old) (P.closed outside.new) }
 {
+    if let Some(path) = command.file() {
+        outside.look(path, command.makes())?;
+    }
     match command {
         Command::Hash(options) => {
             let text = hash(alloc, &options, outside, input)?;
@@ -105,19 +105,19 @@ fn answer<P: Outside, R: BufRead, W: Write>(
             let reply = check(alloc, &options, outside, text, input)?;
             write_line(output, reply.as_str())
         }
-        Command::Verify(options, file, name) => {
-            let accepted = accounts::verify(alloc, &options, outside, left, file, name, input)?;
+        Command::Verify(options, path, name) => {
+            let accepted = accounts::verify(alloc, outside, &options, path, name, input)??;
             write_accepted(output, accepted)
         }
-        Command::Edit(options, file, edit, name) => accounts::edit(
-            alloc, &options, outside, left, file, edit, name, input,
-        ),
-        Command::Show(options, file, view) => accounts::show(
-            alloc, &options, outside, left, file, view, output,
-        ),
-        Command::Import(options, file, any_text) => accounts::import(
-            alloc, &options, outside, left, file, any_text, input,
-        ),
+        Command::Edit(options, path, edit, name) => {
+            Ok(accounts::edit(alloc, outside, &options, path, edit, name, input)??)
+        }
+        Command::Show(options, path, view) => {
+            Ok(accounts::show(alloc, outside, &options, path, view, output)???)
+        }
+        Command::Import(options, path, any_text) => {
+            accounts::import(alloc, outside, &options, path, any_text, input)?
+        }
     }
 }
 
@@ -164,7 +164,7 @@ fn check<P: Outside, R: BufRead>(
     texts::check(alloc, &policy, &mut rng, text, input)
 }
 
-// The secret that the options name, none where they name no file.
+// The secret that the options name, none if they name no file.
 fn secret<P: Outside>(alloc: Global, outside: &P, options: &Options<'_>) -> Result<Vec<u8>, Failure>
     ensures ok { IfOk result (λ secret.
         IsSecret P.holds (choices_of options.now).secret_file secret.items) }

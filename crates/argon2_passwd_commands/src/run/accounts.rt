@@ -1,16 +1,16 @@
 //! Accounts in a file.
 
-ghost use Rattle.std.specs.Prelude.{◌≡◌, ◌⊎◌, ℕ, List, true, false, Ok, Err, Option, Some, None, IfErr, IfOk, OnErr, OnOk, map};
+ghost use Rattle.std.specs.Prelude.{◌≡◌, ◌⊎◌, ◌∷◌, [], ℕ, List, IsTrue, Ok, Err, IfErr, IfOk, OnErr, OnOk, map};
 ghost use Rattle.std.specs.Io.KnownBytes.{Appends, Keeps};
 ghost use Rattle.rand_core.specs.Stream.{fill_bytes};
 ghost use Rattle.argon2_base.specs.PhcFields.{phc_of};
 ghost use Rattle.argon2_accounts.specs.Accounts.{AreTerms, registering, setting, terms_of as policy_terms};
 ghost use Rattle.argon2.specs.Made.{IsFresh};
-ghost use Rattle.argon2_store.specs.AccountFile.{AddsOrNone, Serves, terms_of};
+ghost use Rattle.argon2_store.specs.AccountFile.{IsOfFile, Serves, error_of, terms_of};
 ghost use Rattle.argon2_store.specs.Adding.{entry_of};
 ghost use Rattle.argon2_store.specs.Rows.{lines_of};
-ghost use Rattle.argon2_passwd_commands.specs.Answers.{AreRead, AreUnread, IsAct, IsAdded, IsEdited, IsImported, IsLeft, IsLogin, IsLooked, IsOnce, IsOpened, IsRead, IsRefused, IsRefusedBy, IsReplaced, IsSecret, RefusesLine, breaks_lines, terms_by, value_of};
-ghost use Rattle.argon2_passwd_commands.specs.Asked.{Asked, choices_of};
+ghost use Rattle.argon2_passwd_commands.specs.Answers.{AddsLines, AreRead, AreUnread, HasNone, IsAct, IsEdited, IsImported, IsLogin, IsLooked, IsOpened, IsRead, IsRefusedBy, IsReplaced, IsSecret, IsVerified, breaks_lines, terms_by, value_of};
+ghost use Rattle.argon2_passwd_commands.specs.Asked.{choices_of};
 ghost use Rattle.argon2_passwd_commands.specs.Failures.{status_of};
 
 use super::{policy, secret, target};
@@ -28,7 +28,7 @@ use rand_chacha::ChaCha20Rng;
 use rand_core::{Rng, SeedableRng};
 use sqlite_trees::store::Store;
 use std::alloc::{AllocError, Global};
-use std::io::{BufRead, Write};
+use std::io::{self, BufRead, Write};
 
 // How often a file is tried again that another process has open: 10 milliseconds apart for the first
 // 2 seconds, then 1 millisecond apart, so that a process that has waited long comes before a new one.
@@ -36,79 +36,73 @@ const LONG_PAUSES: u32 = 200;
 
 const SHORT_PAUSES: u32 = 3000;
 
-/// What a name's text in a file does with the next password, where it accepts it.
+/// A file with accounts, and under what it is opened.
+#[derive(Clone, Copy)]
+struct Place<'a> {
+    path: &'a str,
+    // Whether it is made if there is none.
+    makes: bool,
+    options: Options<'a>,
+    secret: &'a [u8],
+}
+
+/// What a name's text in a file does with the next password.
 pub fn verify<P: Outside, R: BufRead>(
     alloc: Global,
-    options: &Options<'_>,
     outside: &mut P,
-    left: &mut Option<P::File>,
-    file: &str,
+    options: &Options<'_>,
+    path: &str,
     name: &str,
     input: &mut R,
-) -> Result<Accepted, Failure>
-    requires { P.was outside.old None false }
-    ensures ok { IfOk result (λ accepted. IsLogin P.File.Store P.holds P.keeps
-        (choices_of options.now) file.now name.now (Ok accepted) (R.remaining input.old)
-        (IsLeft (P.was outside.new) left.new)) }
+) -> Result<Result<Accepted, FileError>, Failure>
+    requires { P.closed outside.old [] }
+    ensures ok { IfOk result (λ done. IsVerified P.File.Store P.holds P.keeps
+        (choices_of options.now) path.now name.now done (R.remaining input.old)
+        (P.closed outside.new)) }
     ensures err { IfErr result (λ failure. status_of failure ≡ 1
-        → IsRefused P.File.Store P.holds P.keeps
-        (Asked.verify (choices_of options.now) file.now name.now) (R.remaining input.old)
-        (IsLeft (P.was outside.new) left.new)) }
-    ensures once { IsOnce P.File.Store P.holds P.keeps
-        (Asked.verify (choices_of options.now) file.now name.now) (R.remaining input.old)
-        (IsLeft (P.was outside.new) left.new) }
+        → HasNone (R.remaining input.old) ⊎ IsRefusedBy P.holds (choices_of options.now) (λ terms. ⊥)) }
+    ensures untouched { OnErr result (P.closed outside.new []) }
 {
     let password = password(alloc, input)?;
     let secret = secret(alloc, outside, options)?;
     let policy = policy(alloc, options, secret.as_slice())?;
     let mut rng = ChaCha20Rng::from_seed(outside.seed()?);
-    let Some(text) = look(options, outside, file, name, secret.as_slice())?? else {
-        policy.hash_for_nobody(password.as_slice());
-        return Err(Failure::Account(AccountError::NameUnknown));
+    let place = Place {
+        path,
+        makes: false,
+        options: *options,
+        secret: secret.as_slice(),
     };
-    let LoggedIn { accepted, fresh } = policy.log_in(&mut rng, &text, password.as_slice())?;
-    let Some(fresh) = fresh else {
-        return Ok(accepted);
-    };
-    // The password is accepted, whether the fresh text can be written or not.
-    match replace(
-        options,
+    log_in(
         outside,
-        left,
-        file,
+        &place,
         name,
-        secret.as_slice(),
-        &text,
-        &fresh,
-    ) {
-        Ok(Ok(())) => Ok(accepted),
-        Ok(Err(_)) => Ok(Accepted::Kept),
-        Err(_) => Ok(Accepted::Kept),
-    }
+        &policy,
+        &mut rng,
+        password.as_slice(),
+    )
 }
 
 /// Changes the text of a name in a file, by the next passwords.
 pub fn edit<P: Outside, R: BufRead>(
     alloc: Global,
-    options: &Options<'_>,
     outside: &mut P,
-    left: &mut Option<P::File>,
-    file: &str,
+    options: &Options<'_>,
+    path: &str,
     edit: Edit,
     name: &str,
     input: &mut R,
-) -> Result<(), Failure>
-    requires { P.was outside.old None false }
-    ensures ok { OnOk result (IsEdited P.File.Store P.holds P.keeps (choices_of options.now)
-        file.now edit name.now (Ok tt) (R.remaining input.old)
-        (IsLeft (P.was outside.new) left.new)) }
+) -> Result<Result<(), FileError>, Failure>
+    requires { P.closed outside.old [] }
+    ensures ok { IfOk result (λ done. IsEdited P.File.Store P.holds P.keeps
+        (choices_of options.now) path.now edit name.now done (R.remaining input.old)
+        (P.closed outside.new)) }
     ensures err { IfErr result (λ failure. status_of failure ≡ 1
-        → IsRefused P.File.Store P.holds P.keeps
-        (Asked.edit (choices_of options.now) file.now edit name.now) (R.remaining input.old)
-        (IsLeft (P.was outside.new) left.new)) }
-    ensures once { IsOnce P.File.Store P.holds P.keeps
-        (Asked.edit (choices_of options.now) file.now edit name.now) (R.remaining input.old)
-        (IsLeft (P.was outside.new) left.new) }
+        → (IsTrue (breaks_lines edit name.now) ⊎ AreUnread edit (R.remaining input.old)
+        ⊎ IsRefusedBy P.holds (choices_of options.now) (λ terms. ⊥)) × P.closed outside.new []) }
+    ensures once { OnErr result (P.closed outside.new []
+        ⊎ IsEdited P.File.Store P.holds P.keeps (choices_of options.now) path.now edit name.now
+        (Err FileError.Io) (R.remaining input.old) (P.closed outside.new)) }
 {
     if breaks_lines(edit, name) {
         return Err(Failure::Name);
@@ -117,110 +111,121 @@ pub fn edit<P: Outside, R: BufRead>(
     let secret = secret(alloc, outside, options)?;
     let policy = policy(alloc, options, secret.as_slice())?;
     let mut rng = ChaCha20Rng::from_seed(outside.seed()?);
-    let done = act(
-        options,
+    let place = Place {
+        path,
+        makes: matches!(edit, Edit::Register),
+        options: *options,
+        secret: secret.as_slice(),
+    };
+    act(
         outside,
-        left,
-        file,
+        &place,
         edit,
         name,
-        secret.as_slice(),
         &policy,
         &mut rng,
         first.as_slice(),
         second.as_slice(),
-    );
-    Ok(done??)
+    )
 }
 
-/// Writes what a file has, a line for each name.
+/// Writes what a file has, a line for each name. The innermost result is that of writing.
 pub fn show<P: Outside, W: Write>(
     alloc: Global,
-    options: &Options<'_>,
     outside: &mut P,
-    left: &mut Option<P::File>,
-    file: &str,
+    options: &Options<'_>,
+    path: &str,
     view: View,
     output: &mut W,
-) -> Result<(), Failure>
-    requires { P.was outside.old None false }
-    ensures ok { OnOk result (IsRead P.File.Store P.holds P.keeps (choices_of options.now)
-        file.now None (λ names. Appends (W.contents output.old) (W.contents output.new)
-        (lines_of view names)) (IsLeft (P.was outside.new) left.new)) }
+) -> Result<Result<io::Result<()>, FileError>, Failure>
+    requires { P.closed outside.old [] }
+    ensures ok { IfOk result (λ done. IsRead P.File.Store P.holds P.keeps (choices_of options.now)
+        path.now (error_of done) (λ names. IfOk done (λ written. OnOk written
+        (Appends (W.contents output.old) (W.contents output.new) (lines_of view names))))
+        (P.closed outside.new)) }
+    ensures of_file { IfOk result (λ done. IfErr done IsOfFile) }
     ensures err { IfErr result (λ failure. status_of failure ≡ 1
-        → IsRefused P.File.Store P.holds P.keeps
-        (Asked.show (choices_of options.now) file.now view) None
-        (IsLeft (P.was outside.new) left.new)
+        → IsRefusedBy P.holds (choices_of options.now) (λ terms. ⊥)) }
+    ensures untouched { OnErr result (P.closed outside.new []
         × Keeps (W.contents output.old) (W.contents output.new)) }
-    ensures once { IsOnce P.File.Store P.holds P.keeps
-        (Asked.show (choices_of options.now) file.now view) None
-        (IsLeft (P.was outside.new) left.new) }
 {
     let secret = secret(alloc, outside, options)?;
-    let mut accounts = open(options, outside, file, secret.as_slice())?;
+    let place = Place {
+        path,
+        makes: false,
+        options: *options,
+        secret: secret.as_slice(),
+    };
+    let mut accounts = open(outside, &place)?;
     let written = accounts.write_lines(view, output);
-    *left = Some(accounts.into_store());
-    Ok(written??)
+    outside.close(accounts.into_store());
+    Ok(written)
 }
 
 /// Adds all names and texts of the input, each a line, to a file, or none.
 pub fn import<P: Outside, R: BufRead>(
     alloc: Global,
-    options: &Options<'_>,
     outside: &mut P,
-    left: &mut Option<P::File>,
-    file: &str,
+    options: &Options<'_>,
+    path: &str,
     any_text: bool,
     input: &mut R,
-) -> Result<(), Failure>
-    requires { P.was outside.old None false }
-    ensures ok { OnOk result (IsImported P.File.Store P.holds P.keeps (choices_of options.now)
-        file.now any_text (λ es. AddsOrNone es (Ok tt)) (R.remaining input.old)
-        (IsLeft (P.was outside.new) left.new)) }
+) -> Result<Result<(), Failure>, Failure>
+    requires { P.closed outside.old [] }
+    ensures ok { IfOk result (λ done. IsImported P.File.Store P.holds P.keeps
+        (choices_of options.now) path.now any_text (AddsLines done) (R.remaining input.old)
+        (P.closed outside.new)) }
     ensures err { IfErr result (λ failure. status_of failure ≡ 1
-        → (IsRefusedBy P.holds (choices_of options.now) (λ terms. ⊥) × P.was outside.new None false)
-        ⊎ IsImported P.File.Store P.holds P.keeps (choices_of options.now) file.now any_text
-        (RefusesLine failure) (R.remaining input.old) (IsLeft (P.was outside.new) left.new)) }
-    ensures once { IsOnce P.File.Store P.holds P.keeps
-        (Asked.import (choices_of options.now) file.now any_text) (R.remaining input.old)
-        (IsLeft (P.was outside.new) left.new) }
+        → IsRefusedBy P.holds (choices_of options.now) (λ terms. ⊥)) }
+    ensures untouched { OnErr result (P.closed outside.new []) }
 {
     let bytes = read_all(alloc, input)?;
     let entries = entries(alloc, bytes.as_slice(), any_text)?;
     let secret = secret(alloc, outside, options)?;
-    let mut accounts = open(options, outside, file, secret.as_slice())?;
+    let place = Place {
+        path,
+        makes: true,
+        options: *options,
+        secret: secret.as_slice(),
+    };
+    let mut accounts = open(outside, &place)?;
     let added = add_all(&mut accounts, entries.as_slice());
-    *left = Some(accounts.into_store());
-    added
+    outside.close(accounts.into_store());
+    Ok(added)
 }
 
-// The accounts in a file, which is left alone where the parameters are above the bound. While
+// The accounts in a file, which is left alone if the parameters are above the bound. While
 // another process has it open, the open is tried again for 5 seconds.
-fn open<'key, P: Outside>(
-    options: &Options<'_>,
+fn open<'a, P: Outside>(
     outside: &mut P,
-    file: &str,
-    secret: &'key [u8],
-) -> Result<AccountFile<'key, P::File>, Failure>
-    requires { (read : Option P.File) × P.was outside.old read false }
-    ensures ok { IfOk result (IsOpened P.keeps file.now
-        (terms_by (choices_of options.now) secret.now)) }
+    place: &Place<'a>,
+) -> Result<AccountFile<'a, P::File>, Failure>
+    requires { (before : List P.File) × P.closed outside.old before }
+    ensures ok { IfOk result (IsOpened P.keeps place.now.path.now
+        (terms_by (choices_of place.now.options) place.now.secret.now)) }
     ensures err { IfErr result (λ failure. status_of failure ≡ 1
-        → ¬ (AreTerms (terms_by (choices_of options.now) secret.now))) }
-    ensures opened { OnOk result ((read : Option P.File) →
-        P.was outside.old read false → P.was outside.new read true) }
-    ensures untouched { OnErr result ((read : Option P.File) →
-        P.was outside.old read false → P.was outside.new read false) }
+        → ¬ (AreTerms (terms_by (choices_of place.now.options) place.now.secret.now))) }
+    ensures opened { OnOk result ((before : List P.File) →
+        P.closed outside.old before → P.opened outside.new before) }
+    ensures untouched { OnErr result ((before : List P.File) →
+        P.closed outside.old before → P.closed outside.new before) }
 {
+    let options = &place.options;
     for waits in 0..LONG_PAUSES + SHORT_PAUSES {
-        match outside.open(file, target(options, secret)?, options.bound()) {
+        let target = target(options, place.secret)?;
+        match outside.open(place.path, place.makes, target, options.bound()) {
             Err(Failure::Unopened(OpenError::Busy)) => {
                 outside.pause(if waits < LONG_PAUSES { 10 } else { 1 })
             }
             done => return done,
         }
     }
-    outside.open(file, target(options, secret)?, options.bound())
+    outside.open(
+        place.path,
+        place.makes,
+        target(options, place.secret)?,
+        options.bound(),
+    )
 }
 
 // Whether the name of a new text would break the lines that show it.
@@ -233,7 +238,7 @@ fn breaks_lines(edit: Edit, name: &str) -> bool
     }
 }
 
-// The passwords that a change takes: the first line, and the one after it where there are two.
+// The passwords that a change takes: the first line, and the one after it if there are two.
 fn passwords<R: BufRead>(
     alloc: Global,
     edit: Edit,
@@ -254,141 +259,164 @@ fn passwords<R: BufRead>(
     }
 }
 
+// What the text of a name does with a password. No file is open while passwords are hashed.
+fn log_in<P: Outside, G: Rng>(
+    outside: &mut P,
+    place: &Place<'_>,
+    name: &str,
+    policy: &Policy<'_>,
+    rng: &mut G,
+    password: &[u8],
+) -> Result<Result<Accepted, FileError>, Failure>
+    requires unopened { P.closed outside.old [] }
+    requires held { IsSecret P.holds (choices_of place.now.options).secret_file place.now.secret.now }
+    requires under { policy_terms policy.now ≡ terms_by (choices_of place.now.options) place.now.secret.now }
+    ensures ok { IfOk result (λ done. IsLogin P.File.Store P.holds P.keeps (choices_of place.now.options)
+        place.now.path.now name.now password.now done (P.closed outside.new)) }
+    ensures err { IfErr result (λ failure. status_of failure ≡ 1
+        → ¬ (AreTerms (terms_by (choices_of place.now.options) place.now.secret.now))) }
+    ensures untouched { OnErr result (P.closed outside.new []) }
+{
+    let text = match look(outside, place, name)? {
+        Ok(Some(text)) => text,
+        Ok(None) => {
+            policy.hash_for_nobody(password);
+            return Ok(Err(FileError::Account(AccountError::NameUnknown)));
+        }
+        Err(error) => return Ok(Err(error)),
+    };
+    let LoggedIn { accepted, fresh } = match policy.log_in(rng, &text, password) {
+        Ok(done) => done,
+        Err(error) => return Ok(Err(FileError::Account(error))),
+    };
+    let Some(fresh) = fresh else {
+        return Ok(Ok(accepted));
+    };
+    // The password is accepted, whether the fresh text can be written or not.
+    match replace(outside, place, name, &text, &fresh) {
+        Ok(Ok(())) => Ok(Ok(accepted)),
+        Ok(Err(_)) => Ok(Ok(Accepted::Kept)),
+        Err(_) => Ok(Ok(Accepted::Kept)),
+    }
+}
+
 // Changes the text of a name. A text that is made of the new password alone is made before the file
 // is opened.
 fn act<P: Outside, G: Rng>(
-    options: &Options<'_>,
     outside: &mut P,
-    left: &mut Option<P::File>,
-    file: &str,
+    place: &Place<'_>,
     edit: Edit,
     name: &str,
-    secret: &[u8],
     policy: &Policy<'_>,
     rng: &mut G,
     first: &[u8],
     second: &[u8],
 ) -> Result<Result<(), FileError>, Failure>
-    requires unopened { P.was outside.old None false }
-    requires held { IsSecret P.holds (choices_of options.now).secret_file secret.now }
-    requires under { policy_terms policy.now ≡ terms_by (choices_of options.now) secret.now }
-    ensures ok { IfOk result (λ done. IsAct P.File.Store P.holds P.keeps (choices_of options.now)
-        file.now edit name.now first.now second.now done
-        (IsLeft (P.was outside.new) left.new)) }
+    requires unopened { P.closed outside.old [] }
+    requires held { IsSecret P.holds (choices_of place.now.options).secret_file place.now.secret.now }
+    requires under { policy_terms policy.now ≡ terms_by (choices_of place.now.options) place.now.secret.now }
+    ensures ok { IfOk result (λ done. IsAct P.File.Store P.holds P.keeps (choices_of place.now.options)
+        place.now.path.now edit name.now first.now second.now done (P.closed outside.new)) }
     ensures err { IfErr result (λ failure. status_of failure ≡ 1
-        → ¬ (AreTerms (terms_by (choices_of options.now) secret.now))
-        × P.was outside.new None false) }
-    ensures once { OnErr result (P.was outside.new None false
-        ⊎ IsAct P.File.Store P.holds P.keeps (choices_of options.now)
-        file.now edit name.now first.now second.now (Err FileError.Io)
-        (IsLeft (P.was outside.new) left.new)) }
+        → ¬ (AreTerms (terms_by (choices_of place.now.options) place.now.secret.now))
+        × P.closed outside.new []) }
+    ensures once { OnErr result (P.closed outside.new []
+        ⊎ IsAct P.File.Store P.holds P.keeps (choices_of place.now.options) place.now.path.now
+        edit name.now first.now second.now (Err FileError.Io) (P.closed outside.new)) }
 {
     match edit {
         Edit::Register => {
             let text = fresh(policy, rng, first)?;
-            let mut accounts = open(options, outside, file, secret)?;
+            let mut accounts = open(outside, place)?;
             let done = add_text(&mut accounts, name, &text);
-            *left = Some(accounts.into_store());
+            outside.close(accounts.into_store());
             Ok(done)
         }
-        Edit::Change => {
-            change(
-                options, outside, left, file, name, secret, policy, rng, first, second,
-            )
-        }
+        Edit::Change => change(outside, place, name, policy, rng, first, second),
         Edit::Set => {
             let text = fresh(policy, rng, first)?;
-            let mut accounts = open(options, outside, file, secret)?;
+            let mut accounts = open(outside, place)?;
             let done = set_text(&mut accounts, name, &text);
-            *left = Some(accounts.into_store());
+            outside.close(accounts.into_store());
             Ok(done)
         }
         Edit::Remove => {
-            let mut accounts = open(options, outside, file, secret)?;
+            let mut accounts = open(outside, place)?;
             let done = accounts.remove(name);
-            *left = Some(accounts.into_store());
+            outside.close(accounts.into_store());
             Ok(done)
         }
     }
 }
 
-// The text of a name in a file, which is closed again.
+// The text of a name in a file.
 fn look<P: Outside>(
-    options: &Options<'_>,
     outside: &mut P,
-    file: &str,
+    place: &Place<'_>,
     name: &str,
-    secret: &[u8],
 ) -> Result<Result<Option<PasswordHash>, FileError>, Failure>
-    requires { P.was outside.old None false }
+    requires { P.closed outside.old [] }
     ensures ok { IfOk result (λ found. IsLooked P.File.Store P.holds P.keeps
-        (terms_by (choices_of options.now) secret.now) file.now name.now (value_of found)
-        (λ read. P.was outside.new (Some read) false)) }
+        (terms_by (choices_of place.now.options) place.now.secret.now) place.now.path.now name.now
+        (value_of found) (λ read. P.closed outside.new (read ∷ []))) }
     ensures err { IfErr result (λ failure. status_of failure ≡ 1
-        → ¬ (AreTerms (terms_by (choices_of options.now) secret.now))) }
-    ensures untouched { OnErr result (P.was outside.new None false) }
+        → ¬ (AreTerms (terms_by (choices_of place.now.options) place.now.secret.now))) }
+    ensures untouched { OnErr result (P.closed outside.new []) }
 {
-    let mut accounts = open(options, outside, file, secret)?;
+    let mut accounts = open(outside, place)?;
     let found = accounts.text_of(name);
     outside.close(accounts.into_store());
     Ok(found)
 }
 
-// Replaces the text of a name in a file that was closed, if it is still the one that was read.
+// Replaces the text of a name in a file that was closed, if it is still the one that was read. That the file
+// can't be opened again is the failure of the outer result.
 fn replace<P: Outside>(
-    options: &Options<'_>,
     outside: &mut P,
-    left: &mut Option<P::File>,
-    file: &str,
+    place: &Place<'_>,
     name: &str,
-    secret: &[u8],
     old: &PasswordHash,
     new: &PasswordHash,
 ) -> Result<Result<(), FileError>, Failure>
-    requires { (read : P.File) × P.was outside.old (Some read) false }
-    ensures ok { IfOk result (λ done. (read : P.File) → P.was outside.old (Some read) false
-        → IsReplaced P.File.Store P.holds P.keeps (terms_by (choices_of options.now) secret.now)
-        file.now name.now (phc_of old.now) (phc_of new.now) done
-        (IsLeft (P.was outside.new) left.new (Some read))) }
+    requires { (read : P.File) × P.closed outside.old (read ∷ []) }
+    ensures ok { IfOk result (λ done. (read : P.File) → P.closed outside.old (read ∷ [])
+        → IsReplaced P.File.Store P.holds P.keeps
+        (terms_by (choices_of place.now.options) place.now.secret.now) place.now.path.now name.now
+        (phc_of old.now) (phc_of new.now) done (λ last. P.closed outside.new (read ∷ last ∷ []))) }
     ensures err { IfErr result (λ failure. status_of failure ≡ 1
-        → ¬ (AreTerms (terms_by (choices_of options.now) secret.now))) }
+        → ¬ (AreTerms (terms_by (choices_of place.now.options) place.now.secret.now))) }
     ensures untouched { OnErr result ((read : P.File) →
-        P.was outside.old (Some read) false → P.was outside.new (Some read) false) }
+        P.closed outside.old (read ∷ []) → P.closed outside.new (read ∷ [])) }
 {
-    let mut accounts = open(options, outside, file, secret)?;
+    let mut accounts = open(outside, place)?;
     let done = accounts.replace(name, old.text().as_str(), new.text().as_str());
-    *left = Some(accounts.into_store());
+    outside.close(accounts.into_store());
     Ok(done)
 }
 
 // Changes the text of a name if it accepts the first password. No file is open while passwords are hashed.
 fn change<P: Outside, G: Rng>(
-    options: &Options<'_>,
     outside: &mut P,
-    left: &mut Option<P::File>,
-    file: &str,
+    place: &Place<'_>,
     name: &str,
-    secret: &[u8],
     policy: &Policy<'_>,
     rng: &mut G,
     first: &[u8],
     second: &[u8],
 ) -> Result<Result<(), FileError>, Failure>
-    requires unopened { P.was outside.old None false }
-    requires held { IsSecret P.holds (choices_of options.now).secret_file secret.now }
-    requires under { policy_terms policy.now ≡ terms_by (choices_of options.now) secret.now }
-    ensures ok { IfOk result (λ done. IsAct P.File.Store P.holds P.keeps (choices_of options.now)
-        file.now Edit.Change name.now first.now second.now done
-        (IsLeft (P.was outside.new) left.new)) }
+    requires unopened { P.closed outside.old [] }
+    requires held { IsSecret P.holds (choices_of place.now.options).secret_file place.now.secret.now }
+    requires under { policy_terms policy.now ≡ terms_by (choices_of place.now.options) place.now.secret.now }
+    ensures ok { IfOk result (λ done. IsAct P.File.Store P.holds P.keeps (choices_of place.now.options)
+        place.now.path.now Edit.Change name.now first.now second.now done (P.closed outside.new)) }
     ensures err { IfErr result (λ failure. status_of failure ≡ 1
-        → ¬ (AreTerms (terms_by (choices_of options.now) secret.now))
-        × P.was outside.new None false) }
-    ensures once { OnErr result (P.was outside.new None false
-        ⊎ IsAct P.File.Store P.holds P.keeps (choices_of options.now)
-        file.now Edit.Change name.now first.now second.now (Err FileError.Io)
-        (IsLeft (P.was outside.new) left.new)) }
+        → ¬ (AreTerms (terms_by (choices_of place.now.options) place.now.secret.now))
+        × P.closed outside.new []) }
+    ensures once { OnErr result (P.closed outside.new []
+        ⊎ IsAct P.File.Store P.holds P.keeps (choices_of place.now.options) place.now.path.now
+        Edit.Change name.now first.now second.now (Err FileError.Io) (P.closed outside.new)) }
 {
-    let text = match look(options, outside, file, name, secret)? {
+    let text = match look(outside, place, name)? {
         Ok(Some(text)) => text,
         Ok(None) => {
             policy.hash_for_nobody(first);
@@ -400,7 +428,7 @@ fn change<P: Outside, G: Rng>(
         Ok(fresh) => fresh,
         Err(error) => return Ok(Err(FileError::Account(error))),
     };
-    replace(options, outside, left, file, name, secret, &text, &fresh)
+    replace(outside, place, name, &text, &fresh)
 }
 
 // A fresh text of a password.
@@ -450,11 +478,7 @@ fn add_all<S: Store>(
     accounts: &mut AccountFile<'_, S>,
     entries: &[(&str, &str)],
 ) -> Result<(), Failure>
-    ensures ok { OnOk result
-        (AddsOrNone (map entry_of entries.now) (Ok tt) accounts.old accounts.new) }
-    ensures err { IfErr result (λ failure. status_of failure ≡ 1
-        → RefusesLine failure (map entry_of entries.now) accounts.old accounts.new) }
-    ensures once { IsAdded (map entry_of entries.now) accounts.old accounts.new }
+    ensures { AddsLines result (map entry_of entries.now) accounts.old accounts.new }
 {
     match accounts.add_all(entries) {
         Ok(()) => Ok(()),

@@ -33,8 +33,8 @@ pub fn hash<G: Rng, R: BufRead>(
     Ok(String::from_str(alloc, hash.text().as_str())?)
 }
 
-/// What the text does with the next password, where it accepts it, and a line with another text where
-/// it was made under other parameters.
+/// What the text does with the next password, if it accepts it, and a line with another text if it
+/// was made under other parameters.
 pub fn check<G: Rng, R: BufRead>(
     alloc: Global,
     policy: &Policy<'_>,

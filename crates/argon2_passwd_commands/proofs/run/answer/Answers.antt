@@ -1,69 +1,91 @@
-use Rattle.std.proofs.Common.{inl, inr, ⊎_elim}
-use Rattle.argon2_passwd_commands.specs.Answers.{IsAnswered, IsLeft}
-use Rattle.argon2_passwd_commands.specs.Asked.{asked}
-use Rattle.argon2_passwd_commands.proofs.Refusals.{err_then, keeps_same, ok_then, passed}
+use Rattle.std.proofs.Common.{◌≡◌, ℕ, List, Result, Ok, Err, inl, inr}
+use Rattle.std.specs.Prelude.{IfErr, OnOk}
+use Rattle.sqlite_trees.specs.declared.store.Store.{Ghosts}
+use Rattle.argon2_store.specs.declared.account_file.AccountFile.{AccountFile}
+use Rattle.argon2_passwd_commands.specs.Answers.{AddsLines, IsAdded, IsAnswered, IsImported}
+use Rattle.argon2_passwd_commands.specs.Asked.{asked, choices_of}
+use Rattle.argon2_passwd_commands.specs.Failures.{status_of}
+use Rattle.argon2_passwd_commands.specs.declared.failure.Failure.{Failure}
+use Rattle.argon2_passwd_commands.proofs.Refusals.{err_then, keeps_same, ok_then, passed, refused}
 use Rattle.argon2_passwd_commands.proofs.run.answer.Goals as goal
 
-pub returns-in_err-accepted-in-Verify-clause-err : goal.returns-in_err-accepted-in-Verify-clause-err
-returns-in_err-accepted-in-Verify-clause-err g c =
-    rw c.in-Verify.is (err_then _
-    (passed c.in_err-accepted-in-Verify.field-0.0 _ c.from_residual-in_err-accepted-in-Verify.ensures.1
-    c.in_err-accepted-in-Verify.ensures.err)
-    (λ failure no. (no, keeps_same _)))
+ok_by : {Q : Type 0} (P : Result (Unit {0}) Failure → Type 0) (r : Result (Unit {0}) Failure) → P r
+    → ((x : Unit {0}) → P (Ok x) → Q) → OnOk r Q
+ok_by P (Ok x) is next = next x is
+ok_by P (Err f) is next = tt
+
+err_by : {Q : Type 0} (P : Result (Unit {0}) Failure → Type 0) (r : Result (Unit {0}) Failure) → P r
+    → ((f : Failure) → P (Err f) → status_of f ≡ 1 → Q) → IfErr r (λ f. status_of f ≡ 1 → Q)
+err_by P (Ok x) is next = tt
+err_by P (Err f) is next = λ one. next f is one
+
+-- lines that were added, or not, were to be added
+added : {S : Type 0} {g : Ghosts S} (r : Result (Unit {0}) Failure) (es : List (List ℕ × List ℕ)) (before after : AccountFile S g)
+    → AddsLines r es before after → IsAdded es before after
+added (Ok x) es before after is = (Ok tt, is)
+added (Err f) es before after is = is.0
 
 pub returns-in_ok-reply-in-Check-clause-ok : goal.returns-in_ok-reply-in-Check-clause-ok
 returns-in_ok-reply-in-Check-clause-ok g c =
     let done = c.in_ok-reply-in-Check.ensures.ok in
     ok_then {Q = IsAnswered g.P.File.Store g.P.Outside.holds g.P.Outside.keeps (asked c.args.command)
     (g.R.Read.remaining c.args.input.now) (g.W.Write.contents c.args.output.now)
-    (g.W.Write.contents c.write_line-in-Check.new.output) (IsLeft (g.P.Outside.was c.args.outside.now) c.args.left.now)}
+    (g.W.Write.contents c.write_line-in-Check.new.output) (g.P.Outside.closed c.args.outside.now)}
     _ c.write_line-in-Check.ensures.ok
     (λ appended. rw c.in-Check.is ((done.0, done.1, _, done.2, done.3, (rw c.as_str-in-Check.ensures.value at appended)), c.requires))
 
-pub returns-in_ok-accepted-in-Verify-clause-ok : goal.returns-in_ok-accepted-in-Verify-clause-ok
-returns-in_ok-accepted-in-Verify-clause-ok g c =
-    ok_then {Q = IsAnswered g.P.File.Store g.P.Outside.holds g.P.Outside.keeps (asked c.args.command)
-    (g.R.Read.remaining c.args.input.now) (g.W.Write.contents c.args.output.now)
-    (g.W.Write.contents c.write_accepted.new.output) (IsLeft (g.P.Outside.was c.verify.new.outside) c.verify.new.left)}
-    _ c.write_accepted.ensures.ok
-    (λ appended. rw c.in-Verify.is
-    (c.in_ok-accepted-in-Verify.accepted, c.in_ok-accepted-in-Verify.ensures.ok, appended))
+pub returns-in_err-accepted-in-Verify-clause-err : goal.returns-in_err-accepted-in-Verify-clause-err
+returns-in_err-accepted-in-Verify-clause-err g c =
+    let verified = rw c.in_err-accepted-in-Verify.was at c.in_ok-verify-in-Verify.ensures.ok in
+    rw c.in-Verify.is (refused _ c.in_err-accepted-in-Verify.field-0.0 _ c.from_residual-in_err-accepted-in-Verify.ensures.1
+    (λ refusal is. (inr (refusal, (rw is at verified)), keeps_same _)))
 
-pub returns-in-Edit-clause-ok : goal.returns-in-Edit-clause-ok
-returns-in-Edit-clause-ok g c =
-    ok_then {Q = IsAnswered g.P.File.Store g.P.Outside.holds g.P.Outside.keeps (asked c.args.command)
-    (g.R.Read.remaining c.args.input.now) (g.W.Write.contents c.args.output.now)
-    (g.W.Write.contents c.args.output.now) (IsLeft (g.P.Outside.was c.edit.new.outside) c.edit.new.left)}
-    _ c.edit.ensures.ok (λ done. rw c.in-Edit.is (done, keeps_same _))
+pub returns-in_err-edit-in-Edit-clause-err : goal.returns-in_err-edit-in-Edit-clause-err
+returns-in_err-edit-in-Edit-clause-err g c =
+    rw c.in-Edit.is (err_then _
+    (passed c.in_err-edit-in-Edit.field-0.0 _ c.from_residual-in_err-edit-in-Edit.ensures.1 c.in_err-edit-in-Edit.ensures.err)
+    (λ failure no. (inl no, keeps_same _)))
 
-pub returns-in-Edit-clause-err : goal.returns-in-Edit-clause-err
-returns-in-Edit-clause-err g c = rw c.in-Edit.is (err_then _ c.edit.ensures.err (λ failure no. (no, keeps_same _)))
+pub returns-in_err-branch-in-Show-clause-once : goal.returns-in_err-branch-in-Show-clause-once
+returns-in_err-branch-in-Show-clause-once g c =
+    let (secret, drawn, before, after, held, ready, reads, closed) = c.in_ok-show-in-Show.ensures.ok in
+    rw c.in-Show.is
+    (inr (_, (secret, drawn, before, after, held, ready, (λ names has. ((reads names has).0, λ honest. tt)), closed)))
 
-pub returns-in-Show-clause-ok : goal.returns-in-Show-clause-ok
-returns-in-Show-clause-ok g c = rw c.in-Show.is c.show.ensures.ok
+pub returns-in_err-branch-in-Show-2-clause-once : goal.returns-in_err-branch-in-Show-2-clause-once
+returns-in_err-branch-in-Show-2-clause-once g c =
+    let (secret, drawn, before, after, held, ready, reads, closed) = c.in_ok-show-in-Show.ensures.ok in
+    rw c.in-Show.is
+    (inr (_, (secret, drawn, before, after, held, ready, (λ names has. ((reads names has).0, λ honest. tt)), closed)))
 
-pub returns-in-Import-clause-ok : goal.returns-in-Import-clause-ok
-returns-in-Import-clause-ok g c =
-    ok_then {Q = IsAnswered g.P.File.Store g.P.Outside.holds g.P.Outside.keeps (asked c.args.command)
-    (g.R.Read.remaining c.args.input.now) (g.W.Write.contents c.args.output.now)
-    (g.W.Write.contents c.args.output.now) (IsLeft (g.P.Outside.was c.import.new.outside) c.import.new.left)}
-    _ c.import.ensures.ok (λ done. rw c.in-Import.is (done, keeps_same _))
+pub returns-in_ok-branch-in-Show-2-clause-ok : goal.returns-in_ok-branch-in-Show-2-clause-ok
+returns-in_ok-branch-in-Show-2-clause-ok g c =
+    rw c.in-Show.is (rw (c.in_ok-branch-in-Show.was, c.in_ok-branch-in-Show-2.was) at c.in_ok-show-in-Show.ensures.ok)
 
-pub returns-in-Import-clause-err : goal.returns-in-Import-clause-err
-returns-in-Import-clause-err g c = rw c.in-Import.is (err_then _ c.import.ensures.err
-    (λ failure no. (⊎_elim inl (λ refused. inr (failure, refused)) no, keeps_same _)))
+pub returns-in_ok-branch-in-Show-2-clause-once : goal.returns-in_ok-branch-in-Show-2-clause-once
+returns-in_ok-branch-in-Show-2-clause-once g c =
+    let (secret, drawn, before, after, held, ready, reads, closed) = c.in_ok-show-in-Show.ensures.ok in
+    rw c.in-Show.is
+    (inr (_, (secret, drawn, before, after, held, ready, (λ names has. ((reads names has).0, λ honest. tt)), closed)))
 
-pub returns-in_err-accepted-in-Verify-clause-once : goal.returns-in_err-accepted-in-Verify-clause-once
-returns-in_err-accepted-in-Verify-clause-once g c = rw c.in-Verify.is c.in_err-accepted-in-Verify.ensures.once
+pub returns-in_ok-import-in-Import-clause-ok : goal.returns-in_ok-import-in-Import-clause-ok
+returns-in_ok-import-in-Import-clause-ok g c =
+    rw c.in-Import.is (ok_by (λ r. IsImported g.P.File.Store g.P.Outside.holds g.P.Outside.keeps (choices_of c.in-Import.options)
+    c.in-Import.path.now c.in-Import.any_text (AddsLines r) (g.R.Read.remaining c.args.input.now)
+    (g.P.Outside.closed c.import.new.outside))
+    _ c.in_ok-import-in-Import.ensures.ok (λ x done. (done, keeps_same _)))
 
-pub returns-in_ok-accepted-in-Verify-clause-once : goal.returns-in_ok-accepted-in-Verify-clause-once
-returns-in_ok-accepted-in-Verify-clause-once g c = rw c.in-Verify.is c.in_ok-accepted-in-Verify.ensures.once
+pub returns-in_ok-import-in-Import-clause-err : goal.returns-in_ok-import-in-Import-clause-err
+returns-in_ok-import-in-Import-clause-err g c =
+    rw c.in-Import.is (err_by (λ r. IsImported g.P.File.Store g.P.Outside.holds g.P.Outside.keeps (choices_of c.in-Import.options)
+    c.in-Import.path.now c.in-Import.any_text (AddsLines r) (g.R.Read.remaining c.args.input.now)
+    (g.P.Outside.closed c.import.new.outside))
+    _ c.in_ok-import-in-Import.ensures.ok (λ f done one.
+    let (es, known, (secret, drawn, before, after, held, ready, adds, closed)) = done in
+    (inr (f, (es, known, (secret, drawn, before, after, held, ready, adds.1 one, closed))), keeps_same _)))
 
-pub returns-in-Edit-clause-once : goal.returns-in-Edit-clause-once
-returns-in-Edit-clause-once g c = rw c.in-Edit.is c.edit.ensures.once
-
-pub returns-in-Show-clause-once : goal.returns-in-Show-clause-once
-returns-in-Show-clause-once g c = rw c.in-Show.is c.show.ensures.once
-
-pub returns-in-Import-clause-once : goal.returns-in-Import-clause-once
-returns-in-Import-clause-once g c = rw c.in-Import.is c.import.ensures.once
+pub returns-in_ok-import-in-Import-clause-once : goal.returns-in_ok-import-in-Import-clause-once
+returns-in_ok-import-in-Import-clause-once g c =
+    let (es, known, (secret, drawn, before, after, held, ready, adds, closed)) = c.in_ok-import-in-Import.ensures.ok in
+    let any = added {g = g.P.File.Store} _ es before after adds in
+    rw c.in-Import.is (inr (es, known, (secret, drawn, before, after, held, ready, any, closed)))

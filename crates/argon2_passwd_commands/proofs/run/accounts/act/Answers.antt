@@ -1,4 +1,4 @@
-use Rattle.std.proofs.Common.{◌≡◌, ◌∙◌, List, [], ℕ, Some, None, ap, subst, sym}
+use Rattle.std.proofs.Common.{◌≡◌, ◌∙◌, List, [], ℕ, subst, sym}
 use Rattle.argon2_accounts.specs.Accounts.{Terms}
 use Rattle.argon2.specs.Made.{IsFresh}
 use Rattle.argon2_base.specs.PhcText.{Phc}
@@ -11,39 +11,24 @@ under first mid last password drawn v here there fresh =
     subst (λ (t : Terms). IsFresh t.target password drawn v) (here ∙ sym there) fresh
 
 pub returns-in_ok-accounts-in-Register-clause-ok : goal.returns-in_ok-accounts-in-Register-clause-ok
-returns-in_ok-accounts-in-Register-clause-ok g c = rw c.in-Register.is (
-  c.args.secret.now,
-  _,
-  c.in_ok-accounts-in-Register.accounts,
-  c.add_text-done.new.accounts,
-  c.requires.held,
-  c.in_ok-accounts-in-Register.ensures.ok,
-  (c.add_text-done.ensures c.args.first.now _ (under _ _ _ _ _ _ c.requires.under c.in_ok-accounts-in-Register.ensures.ok.2.under
-      c.in_ok-text-in-Register.ensures.ok)),
-  (c.in_ok-accounts-in-Register.ensures.opened None c.requires.unopened, ap Some c.into_store.ensures),
-)
+returns-in_ok-accounts-in-Register-clause-ok g c =
+    let ready = c.in_ok-accounts-in-Register.ensures.ok in
+    let made = under _ _ _ _ _ _ c.requires.under ready.2.under c.in_ok-text-in-Register.ensures.ok in
+    let closed = rw c.into_store.ensures at c.close.ensures [] (c.in_ok-accounts-in-Register.ensures.opened [] c.requires.unopened) in
+    rw c.in-Register.is
+    (c.args.place.now.secret.now, _, c.in_ok-accounts-in-Register.accounts, c.add_text-done.new.accounts, c.requires.held, ready, c.add_text-done.ensures c.args.first.now _ made, closed)
 
 pub returns-in_ok-accounts-in-Set-clause-ok : goal.returns-in_ok-accounts-in-Set-clause-ok
-returns-in_ok-accounts-in-Set-clause-ok g c = rw c.in-Set.is (
-  c.args.secret.now,
-  _,
-  c.in_ok-accounts-in-Set.accounts,
-  c.set_text-done.new.accounts,
-  c.requires.held,
-  c.in_ok-accounts-in-Set.ensures.ok,
-  (c.set_text-done.ensures c.args.first.now _ (under _ _ _ _ _ _ c.requires.under c.in_ok-accounts-in-Set.ensures.ok.2.under
-      c.in_ok-text-in-Set.ensures.ok)),
-  (c.in_ok-accounts-in-Set.ensures.opened None c.requires.unopened, ap Some c.into_store-in-Set.ensures),
-)
+returns-in_ok-accounts-in-Set-clause-ok g c =
+    let ready = c.in_ok-accounts-in-Set.ensures.ok in
+    let made = under _ _ _ _ _ _ c.requires.under ready.2.under c.in_ok-text-in-Set.ensures.ok in
+    let closed = rw c.into_store-in-Set.ensures at c.close-in-Set.ensures [] (c.in_ok-accounts-in-Set.ensures.opened [] c.requires.unopened) in
+    rw c.in-Set.is
+    (c.args.place.now.secret.now, _, c.in_ok-accounts-in-Set.accounts, c.set_text-done.new.accounts, c.requires.held, ready, c.set_text-done.ensures c.args.first.now _ made, closed)
 
 pub returns-in_ok-accounts-in-Remove-clause-ok : goal.returns-in_ok-accounts-in-Remove-clause-ok
-returns-in_ok-accounts-in-Remove-clause-ok g c = rw c.in-Remove.is (
-  c.args.secret.now,
-  [],
-  c.in_ok-accounts-in-Remove.accounts,
-  c.remove-done.new.self,
-  c.requires.held,
-  c.in_ok-accounts-in-Remove.ensures.ok,
-  c.remove-done.ensures,
-  (c.in_ok-accounts-in-Remove.ensures.opened None c.requires.unopened, ap Some c.into_store-in-Remove.ensures),
-)
+returns-in_ok-accounts-in-Remove-clause-ok g c =
+    let ready = c.in_ok-accounts-in-Remove.ensures.ok in
+    let closed = rw c.into_store-in-Remove.ensures at c.close-in-Remove.ensures [] (c.in_ok-accounts-in-Remove.ensures.opened [] c.requires.unopened) in
+    rw c.in-Remove.is
+    (c.args.place.now.secret.now, [], c.in_ok-accounts-in-Remove.accounts, c.remove-done.new.self, c.requires.held, ready, c.remove-done.ensures, closed)

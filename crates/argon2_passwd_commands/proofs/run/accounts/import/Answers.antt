@@ -1,10 +1,7 @@
-use Rattle.std.proofs.Common.{◌≡◌, ◌∙◌, ℕ, Bool, List, [], Option, Some, None, Ok, ap, inr, map, subst}
+use Rattle.std.proofs.Common.{◌≡◌, ◌∙◌, ℕ, Bool, List, [], Option, Some, None, map, subst}
 use Rattle.std.specs.Prelude.{IfSome}
-use Rattle.argon2_store.specs.AccountFile.{AddsOrNone}
 use Rattle.argon2_store.specs.Adding.{entry_of}
-use Rattle.argon2_passwd_commands.specs.Answers.{AreEntries, IsImported, IsLeft}
-use Rattle.argon2_passwd_commands.specs.Asked.{choices_of}
-use Rattle.argon2_passwd_commands.proofs.Refusals.{err_then, ok_then}
+use Rattle.argon2_passwd_commands.specs.Answers.{AreEntries}
 use Rattle.argon2_passwd_commands.proofs.run.accounts.import.Goals as goal
 
 -- the entries are those of a known input
@@ -15,44 +12,7 @@ of_known any_text None bytes slice es all same is = tt
 of_known any_text (Some known) bytes slice es all same is = subst (λ input. AreEntries any_text input es) (same ∙ all) is
 
 pub returns-clause-ok : goal.returns-clause-ok
-returns-clause-ok g c =
-    let input = g.R.Read.remaining c.args.input.now in
-    ok_then {Q = IsImported g.P.File.Store g.P.Outside.holds g.P.Outside.keeps (choices_of c.args.options.now) c.args.file.now c.args.any_text
-    (λ es. AddsOrNone es (Ok tt)) input (IsLeft (g.P.Outside.was c.open.new.outside) (Some c.into_store.result))} _ c.add_all-added.ensures.ok (λ added. (
-      map entry_of c.in_ok-entries.entries.items,
-      of_known c.args.any_text input _ _ _ c.in_ok-bytes.ensures.ok c.as_slice.ensures.value c.in_ok-entries.ensures,
-      (
-        c.in_ok-secret.secret.items,
-        [],
-        c.in_ok-accounts.accounts,
-        c.add_all-added.new.accounts,
-        c.in_ok-secret.ensures.ok,
-        (rw c.as_slice-2.ensures.value at c.in_ok-accounts.ensures.ok),
-        (rw c.as_slice-3.ensures.value at added),
-        (c.in_ok-accounts.ensures.opened None c.requires, ap Some c.into_store.ensures),
-      ),
-    ))
-
-pub returns-clause-err : goal.returns-clause-err
-returns-clause-err g c =
-    err_then _ c.add_all-added.ensures.err (λ failure refused. inr (
-      map entry_of c.in_ok-entries.entries.items,
-      of_known c.args.any_text (g.R.Read.remaining c.args.input.now) _ _ _ c.in_ok-bytes.ensures.ok c.as_slice.ensures.value
-          c.in_ok-entries.ensures,
-      (
-        c.in_ok-secret.secret.items,
-        [],
-        c.in_ok-accounts.accounts,
-        c.add_all-added.new.accounts,
-        c.in_ok-secret.ensures.ok,
-        (rw c.as_slice-2.ensures.value at c.in_ok-accounts.ensures.ok),
-        (rw c.as_slice-3.ensures.value at refused),
-        (c.in_ok-accounts.ensures.opened None c.requires, ap Some c.into_store.ensures),
-      ),
-    ))
-
-pub returns-clause-once : goal.returns-clause-once
-returns-clause-once g c = inr (
+returns-clause-ok g c = (
   map entry_of c.in_ok-entries.entries.items,
   of_known c.args.any_text (g.R.Read.remaining c.args.input.now) _ _ _ c.in_ok-bytes.ensures.ok c.as_slice.ensures.value
       c.in_ok-entries.ensures,
@@ -63,7 +23,7 @@ returns-clause-once g c = inr (
     c.add_all-added.new.accounts,
     c.in_ok-secret.ensures.ok,
     (rw c.as_slice-2.ensures.value at c.in_ok-accounts.ensures.ok),
-    (rw c.as_slice-3.ensures.value at c.add_all-added.ensures.once),
-    (c.in_ok-accounts.ensures.opened None c.requires, ap Some c.into_store.ensures),
+    (rw c.as_slice-3.ensures.value at c.add_all-added.ensures),
+    (rw c.into_store.ensures at c.close.ensures [] (c.in_ok-accounts.ensures.opened [] c.requires)),
   ),
 )

@@ -1,4 +1,4 @@
-use Rattle.std.proofs.Common.{◌≡◌, ℕ, List, Option, Result, Ok, Err}
+use Rattle.std.proofs.Common.{◌≡◌, [], ℕ, List, Option, Result, Ok, Err}
 use Rattle.std.specs.FinMap.{get}
 use Rattle.std.specs.Option.{option_map}
 use Rattle.std.specs.Prelude.{IfOk}
@@ -31,5 +31,5 @@ returns-clause-ok g c = (
       let stays = c.text_of-found.ensures.reads names has in
       read_value {g = g.P.File.Store} _ _ names c.args.name.now c.text_of-found.result stays
       (c.text_of-found.ensures.shows names stays.has)),
-  (rw c.into_store.ensures at c.close.ensures),
+  (rw c.into_store.ensures at c.close.ensures [] (c.in_ok-accounts.ensures.opened [] c.requires)),
 )

@@ -1,4 +1,4 @@
-use Rattle.std.proofs.Common.{Some, ap}
+use Rattle.std.proofs.Common.{[], ◌∷◌}
 use Rattle.argon2_passwd_commands.proofs.run.accounts.replace.Goals as goal
 
 pub returns-clause-ok : goal.returns-clause-ok
@@ -7,5 +7,5 @@ returns-clause-ok g c = λ read was. (
   c.replace-done.new.self,
   c.in_ok-accounts.ensures.ok,
   (rw (c.as_str.ensures.value, c.as_str-2.ensures.value, c.text.ensures.1, c.text-2.ensures.1) at c.replace-done.ensures),
-  (c.in_ok-accounts.ensures.opened (Some read) was, ap Some c.into_store.ensures),
+  (rw c.into_store.ensures at c.close.ensures (read ∷ []) (c.in_ok-accounts.ensures.opened (read ∷ []) was)),
 )
