@@ -14,21 +14,48 @@ pub returns-in_ok-accounts-in-Register-clause-ok : goal.returns-in_ok-accounts-i
 returns-in_ok-accounts-in-Register-clause-ok g c =
     let ready = c.in_ok-accounts-in-Register.ensures.ok in
     let made = under _ _ _ _ _ _ c.requires.under ready.2.under c.in_ok-text-in-Register.ensures.ok in
-    let closed = rw c.into_store.ensures at c.close.ensures [] (c.in_ok-accounts-in-Register.ensures.opened [] c.requires.unopened) in
-    rw c.in-Register.is
-    (c.args.place.now.secret.now, _, c.in_ok-accounts-in-Register.accounts, c.add_text-done.new.accounts, c.requires.held, ready, c.add_text-done.ensures c.args.first.now _ made, closed)
+    let closed = rw c.into_store.ensures at c.close.ensures [] (c.in_ok-accounts-in-Register.ensures.opened []
+    c.requires.unopened) in
+    rw c.in-Register.is (
+      c.args.place.now.secret.now,
+      _,
+      c.in_ok-accounts-in-Register.accounts,
+      c.add_text-done.new.accounts,
+      c.requires.held,
+      ready,
+      c.add_text-done.ensures c.args.first.now _ made,
+      closed,
+    )
 
 pub returns-in_ok-accounts-in-Set-clause-ok : goal.returns-in_ok-accounts-in-Set-clause-ok
 returns-in_ok-accounts-in-Set-clause-ok g c =
     let ready = c.in_ok-accounts-in-Set.ensures.ok in
     let made = under _ _ _ _ _ _ c.requires.under ready.2.under c.in_ok-text-in-Set.ensures.ok in
-    let closed = rw c.into_store-in-Set.ensures at c.close-in-Set.ensures [] (c.in_ok-accounts-in-Set.ensures.opened [] c.requires.unopened) in
-    rw c.in-Set.is
-    (c.args.place.now.secret.now, _, c.in_ok-accounts-in-Set.accounts, c.set_text-done.new.accounts, c.requires.held, ready, c.set_text-done.ensures c.args.first.now _ made, closed)
+    let closed = rw c.into_store-in-Set.ensures at c.close-in-Set.ensures []
+    (c.in_ok-accounts-in-Set.ensures.opened [] c.requires.unopened) in
+    rw c.in-Set.is (
+      c.args.place.now.secret.now,
+      _,
+      c.in_ok-accounts-in-Set.accounts,
+      c.set_text-done.new.accounts,
+      c.requires.held,
+      ready,
+      c.set_text-done.ensures c.args.first.now _ made,
+      closed,
+    )
 
 pub returns-in_ok-accounts-in-Remove-clause-ok : goal.returns-in_ok-accounts-in-Remove-clause-ok
 returns-in_ok-accounts-in-Remove-clause-ok g c =
     let ready = c.in_ok-accounts-in-Remove.ensures.ok in
-    let closed = rw c.into_store-in-Remove.ensures at c.close-in-Remove.ensures [] (c.in_ok-accounts-in-Remove.ensures.opened [] c.requires.unopened) in
-    rw c.in-Remove.is
-    (c.args.place.now.secret.now, [], c.in_ok-accounts-in-Remove.accounts, c.remove-done.new.self, c.requires.held, ready, c.remove-done.ensures, closed)
+    let closed = rw c.into_store-in-Remove.ensures at c.close-in-Remove.ensures []
+    (c.in_ok-accounts-in-Remove.ensures.opened [] c.requires.unopened) in
+    rw c.in-Remove.is (
+      c.args.place.now.secret.now,
+      [],
+      c.in_ok-accounts-in-Remove.accounts,
+      c.remove-done.new.self,
+      c.requires.held,
+      ready,
+      c.remove-done.ensures,
+      closed,
+    )

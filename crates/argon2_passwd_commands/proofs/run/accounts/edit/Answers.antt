@@ -6,7 +6,13 @@ pub returns-clause-ok : goal.returns-clause-ok
 returns-clause-ok g c =
     let named = sym c.breaks_lines.ensures ∙ c.if-breaks_lines.false in
     let acts = rw (c.as_slice-3.ensures.value, c.as_slice-4.ensures.value) at c.act.ensures.ok in
-    if_ok_then c.act.result acts (λ done act. (named, c.in_ok-first.first.items, c.in_ok-first.second.items, c.in_ok-first.ensures.ok, act))
+    if_ok_then c.act.result acts (λ done act. (
+      named,
+      c.in_ok-first.first.items,
+      c.in_ok-first.second.items,
+      c.in_ok-first.ensures.ok,
+      act,
+    ))
 
 pub returns-clause-once : goal.returns-clause-once
 returns-clause-once g c =

@@ -30,8 +30,19 @@ logged_in first last password drawn v w did same is =
 
 pub returns-in-Ok-None-clause-ok : goal.returns-in-Ok-None-clause-ok
 returns-in-Ok-None-clause-ok g c =
-    let looked = rw (c.in-Ok-None.is, c.in-Ok-None.field-0-is) at c.in_ok-text.ensures.ok in
-    (c.args.place.now.secret.now, [], decided (Err NameUnknown), c.requires.held, refl, (None, None, (refl, refl), looked))
+    let looked = rw (c.in-Ok-None.is, c.in-Ok-None.field-0-is) at c.in_ok-text.ensures.ok in (
+      c.args.place.now.secret.now,
+      [],
+      decided (Err NameUnknown),
+      c.requires.held,
+      refl,
+      (
+        None,
+        None,
+        (refl, refl),
+        looked,
+      ),
+    )
 
 pub returns-in-Err-clause-ok : goal.returns-in-Err-clause-ok
 returns-in-Err-clause-ok g c =
@@ -42,7 +53,8 @@ pub returns-in-Err-log_in-clause-ok : goal.returns-in-Err-log_in-clause-ok
 returns-in-Err-log_in-clause-ok g c =
     let v = phc_of c.in-Ok-Some.text in
     let e = c.in-Err-log_in.error in
-    let denied = subst (λ (t : Terms). Denial t c.args.password.now v e) c.requires.under c.in-Err-log_in.ensures.step in
+    let denied = subst (λ (t : Terms). Denial t c.args.password.now v e) c.requires.under
+    c.in-Err-log_in.ensures.step in
     let looked = rw (c.in-Ok-Some.is, c.in-Ok-Some.field-0-is) at c.in_ok-text.ensures.ok in
     (c.args.place.now.secret.now, [], decided (Err e), c.requires.held, refl, (Some v, Some v, (denied, refl), looked))
 
@@ -64,8 +76,19 @@ returns-in-Ok-Ok-clause-ok g c =
     let step = rw c.in-Some.is at c.in-Ok.ensures.step in
     let logged = logged_in _ _ c.args.password.now _ v w did c.requires.under step in
     let looked = rw (c.in-Ok-Some.is, c.in-Ok-Some.field-0-is) at c.in_ok-text.ensures.ok in
-    let renews = (rw c.in-Ok-Ok.field-0-is at c.in-Ok-Ok.ensures.ok) (store_of looked.1) looked.4 in
-    (c.args.place.now.secret.now, logged.0, replaced did (Ok tt), c.requires.held, refl, (v, w, logged.1, (looked.0, looked.1, looked.2, looked.3, renews)))
+    let renews = (rw c.in-Ok-Ok.field-0-is at c.in-Ok-Ok.ensures.ok) (store_of looked.1) looked.4 in (
+      c.args.place.now.secret.now,
+      logged.0,
+      replaced did (Ok tt),
+      c.requires.held,
+      refl,
+      (
+        v,
+        w,
+        logged.1,
+        (looked.0, looked.1, looked.2, looked.3, renews),
+      ),
+    )
 
 pub returns-in-Ok-Err-clause-ok : goal.returns-in-Ok-Err-clause-ok
 returns-in-Ok-Err-clause-ok g c =
@@ -76,8 +99,19 @@ returns-in-Ok-Err-clause-ok g c =
     let logged = logged_in _ _ c.args.password.now _ v w did c.requires.under step in
     let kept = ap Ok (renewed did _ _ c.in-Some.is c.in-Ok.ensures.fresh) in
     let looked = rw (c.in-Ok-Some.is, c.in-Ok-Some.field-0-is) at c.in_ok-text.ensures.ok in
-    let renews = (rw c.in-Ok-Err.field-0-is at c.in-Ok-Err.ensures.ok) (store_of looked.1) looked.4 in
-    (c.args.place.now.secret.now, logged.0, replaced did (Err c.in-Ok-Err.field-0-0), c.requires.held, kept, (v, w, logged.1, (looked.0, looked.1, looked.2, looked.3, renews)))
+    let renews = (rw c.in-Ok-Err.field-0-is at c.in-Ok-Err.ensures.ok) (store_of looked.1) looked.4 in (
+      c.args.place.now.secret.now,
+      logged.0,
+      replaced did (Err c.in-Ok-Err.field-0-0),
+      c.requires.held,
+      kept,
+      (
+        v,
+        w,
+        logged.1,
+        (looked.0, looked.1, looked.2, looked.3, renews),
+      ),
+    )
 
 pub returns-in-Err-replace-clause-ok : goal.returns-in-Err-replace-clause-ok
 returns-in-Err-replace-clause-ok g c =
@@ -88,5 +122,16 @@ returns-in-Err-replace-clause-ok g c =
     let logged = logged_in _ _ c.args.password.now _ v w did c.requires.under step in
     let kept = ap Ok (renewed did _ _ c.in-Some.is c.in-Ok.ensures.fresh) in
     let looked = rw (c.in-Ok-Some.is, c.in-Ok-Some.field-0-is) at c.in_ok-text.ensures.ok in
-    let read = c.in-Err-replace.ensures.untouched (store_of looked.1) looked.4 in
-    (c.args.place.now.secret.now, logged.0, decided (Ok did), c.requires.held, kept, (Some v, Some w, logged.1, (looked.0, looked.1, looked.2, looked.3, read)))
+    let read = c.in-Err-replace.ensures.untouched (store_of looked.1) looked.4 in (
+      c.args.place.now.secret.now,
+      logged.0,
+      decided (Ok did),
+      c.requires.held,
+      kept,
+      (
+        Some v,
+        Some w,
+        logged.1,
+        (looked.0, looked.1, looked.2, looked.3, read),
+      ),
+    )
