@@ -8,8 +8,8 @@ use Rattle.argon2_passwd_commands.proofs.Calls.{sets}
 use Rattle.argon2_passwd_commands.proofs.run.accounts.set_text.Goals as goal
 
 pub returns-in_err-text : goal.returns-in_err-text
-returns-in_err-text g c password drawn fresh before has = cannot_serve g.met.S.Store.settled
-    (setting c.args.name.now password drawn) has _ c.from_residual.ensures.1 (c.in_err-text.ensures.reads before has)
+returns-in_err-text g c password drawn fresh before has =
+    cannot_serve (setting c.args.name.now password drawn) _ c.from_residual.ensures.1 (c.in_err-text.ensures.reads before has)
 
 pub returns-in_default : goal.returns-in_default
 returns-in_default g c password drawn fresh before has =
