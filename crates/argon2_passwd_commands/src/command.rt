@@ -38,8 +38,20 @@ impl<'a> Command<'a> {
         }
     }
 
-    /// Whether the command makes the file if there is none.
-    pub fn makes(&self) -> bool {
+    // Under what texts are made and verified.
+    pub(crate) fn options(&self) -> &Options<'a> {
+        match self {
+            Command::Hash(options)
+            | Command::Check(options, _)
+            | Command::Verify(options, _, _)
+            | Command::Edit(options, _, _, _)
+            | Command::Show(options, _, _)
+            | Command::Import(options, _, _) => options,
+        }
+    }
+
+    // Whether the command makes the file if there is none.
+    pub(crate) fn makes(&self) -> bool {
         match self {
             Command::Edit(_, _, Edit::Register, _) | Command::Import(..) => true,
             _ => false,

@@ -102,9 +102,25 @@ pub struct Machine<'a> {
 }
 
 impl<'a> Machine<'a> {
+    ghost use Rattle.std.specs.Prelude.{◌≡◌, IfErr};
+    ghost use Rattle.argon2_passwd_commands.specs.Failures.{status_of};
+
     /// The machine of this runtime.
     pub fn new(rt: &'a HostRuntime) -> Machine<'a> {
         Machine { rt }
+    }
+
+    // Sees that a file at this path can have a log beside it, whose name is longer.
+    fn look_for_log(&self, path: &str) -> Result<(), Failure>
+        ensures { IfErr result (λ failure. status_of failure ≡ 3) }
+    {
+        let log = format!(in self.rt.alloc(); "{path}-wal")?;
+        match fs::symlink_metadata(self.rt, log.as_str()) {
+            Err(error) if error.kind() != ErrorKind::NotFound => {
+                Err(Failure::from(OpenError::Path(error)))
+            }
+            _ => Ok(()),
+        }
     }
 }
 
@@ -156,7 +172,7 @@ impl Outside for Machine<'_> {
             Ok(_) => return Ok(()),
             Err(error) if error.kind() == ErrorKind::NotFound && makes => {
                 if fs::symlink_metadata(self.rt, path).is_err() {
-                    return Ok(());
+                    return self.look_for_log(path);
                 }
                 "is a link to a file that is not there"
             }

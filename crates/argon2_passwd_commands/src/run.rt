@@ -56,20 +56,23 @@ pub fn run<P: Outside, R: BufRead, W: Write, E: Write>(
 {
     match answer(alloc, command, outside, input, output) {
         Ok(()) => 0,
-        Err(failure) => fail(errors, command.file(), &failure),
+        Err(failure) => fail(errors, &command, &failure),
     }
 }
 
-// Says why the program fails, with the path of the file that does, and returns the exit status.
-fn fail<E: Write>(errors: &mut E, file: Option<&str>, failure: &Failure) -> u8
+// Says why the program fails, with the path of the file that fails, and returns the exit status.
+fn fail<E: Write>(errors: &mut E, command: &Command<'_>, failure: &Failure) -> u8
     ensures value { result ≡ status_of failure.now }
     ensures one { (result ≡ 1) ⊎ (result ≡ 3) }
 {
-    let _ = match (failure, file) {
-        (Failure::Unfit(_) | Failure::Unopened(_) | Failure::File(_), Some(path)) => {
-            writeln!(errors, "{PROGRAM}: {path}: {failure}")
-        }
-        _ => writeln!(errors, "{PROGRAM}: {failure}"),
+    let file = match failure {
+        Failure::Unfit(_) | Failure::Unopened(_) | Failure::File(_) => command.file(),
+        Failure::Secret | Failure::SecretLength => command.options().secret_file,
+        _ => None,
+    };
+    let _ = match file {
+        Some(path) => writeln!(errors, "{PROGRAM}: {path}: {failure}"),
+        None => writeln!(errors, "{PROGRAM}: {failure}"),
     };
     failure.status()
 }
