@@ -9,6 +9,7 @@
 enum {
     FROM_HERE_IN_THREADS = 4 << 10, /* blocks: with less memory no thread pays */
     STACK = 256 << 10, /* of each thread, as the default of a program may be too small */
+    LOOKS = 200, /* of a thread that waits for the next slice, before it sleeps */
 };
 
 /* 1 in a build of capi/check-races, in which no slice waits for the one before it. */
@@ -26,7 +27,7 @@ struct filling {
     pthread_mutex_t lock; /* for what follows */
     pthread_cond_t changed;
     uint32_t pass, slice;
-    uint32_t taken, filled; /* lanes of the slice */
+    uint32_t taken, filled; /* lanes of the slice; all are taken until the first slice is begun */
     uint32_t unwiped; /* segments of the first three slices; they are wiped when all slices are filled */
     int answer; /* the first that is not 0 */
 };
@@ -58,6 +59,15 @@ static int fill_segments(const struct filling *f, uint32_t pass, uint32_t slice,
     return answer;
 }
 
+/* Begins the filling, or ends it if the first slice was not begun. */
+static void begin_filling(struct filling *f, int answer) {
+    pthread_mutex_lock(&f->lock);
+    f->answer = answer;
+    f->taken = 0;
+    pthread_cond_broadcast(&f->changed);
+    pthread_mutex_unlock(&f->lock);
+}
+
 /* Counts lanes as filled. After the last one of a slice the next slice begins. */
 static void count_filled(struct filling *f, uint32_t n) {
     f->filled += n;
@@ -68,19 +78,37 @@ static void count_filled(struct filling *f, uint32_t n) {
     pthread_cond_broadcast(&f->changed);
 }
 
+/* Waits about a microsecond. */
+static void wait_briefly(void) {
+    for (int i = 0; i < 16; i++) {
+#ifdef __x86_64__
+        __builtin_ia32_pause();
+#else
+        __asm__ volatile("yield");
+#endif
+    }
+}
+
 /* Takes lanes of the slice and fills their segments, again and again until the last slice is filled. Returns the same in all
  * threads: whether each segment was. */
 static int fill_slices(struct filling *f) {
-    int result;
+    int result, looks = 0;
     pthread_mutex_lock(&f->lock);
     while (f->pass < f->context->t_cost && f->answer == ARGON2_OK) {
         const uint32_t pass = f->pass, slice = f->slice, lane = f->taken;
         const uint32_t n = (f->context->lanes - lane + 2 * f->workers - 1) / (2 * f->workers);
         int answer;
         if (n == 0) {
-            pthread_cond_wait(&f->changed, &f->lock);
+            if (looks++ < LOOKS) { /* a thread that sleeps may wake too late for its share of a short slice */
+                pthread_mutex_unlock(&f->lock);
+                wait_briefly();
+                pthread_mutex_lock(&f->lock);
+            } else {
+                pthread_cond_wait(&f->changed, &f->lock);
+            }
             continue;
         }
+        looks = 0;
         f->taken += n;
         if (RACES) count_filled(f, n);
         pthread_mutex_unlock(&f->lock);
@@ -140,16 +168,17 @@ static __attribute__((noinline)) int hash_in_threads(const argon2_context *c, co
     block *const last = memory + 3 * width;
     struct filling f = {
         .context = c, .request = request, .blocks = memory, .segment = width / c->lanes, .workers = workers,
+        .taken = c->lanes,
         .unwiped = wipes ? 3 * c->lanes : 0, .lock = PTHREAD_MUTEX_INITIALIZER, .changed = PTHREAD_COND_INITIALIZER,
     };
     pthread_t threads[CPU_SETSIZE];
-    uint32_t started = 0;
-    int cancelling, answer = argon2_c_begin(request, INPUTS(c), c->outlen, memory, width);
+    uint32_t started;
+    int cancelling, answer;
     pthread_setcancelstate(PTHREAD_CANCEL_DISABLE, &cancelling);
-    if (answer == ARGON2_OK) {
-        started = start_threads(&f, threads);
-        answer = fill_slices(&f);
-    }
+    started = start_threads(&f, threads);
+    answer = argon2_c_begin(request, INPUTS(c), c->outlen, memory, width);
+    begin_filling(&f, answer);
+    answer = fill_slices(&f);
     if (answer == ARGON2_OK) {
         answer = argon2_c_finish(request, last, width, out, c->outlen);
         if (wipes) wipe(last, width * sizeof *last);
