@@ -183,8 +183,8 @@ impl<'key> Argon2<'key> {
     }
 
     /// Writes the tag of a password and a salt into `out`, on memory that it allocates: one request to
-    /// `alloc` for [`block_count`](Params::block_count) blocks of 1024 bytes, which are given back
-    /// before the call returns.
+    /// `alloc` for [`block_count`](Params::block_count) blocks of 1024 bytes, which are freed before
+    /// the call returns.
     ///
     /// The lengths of `out`, the password and the salt are as for
     /// [`hash_password_into_with_memory`](Argon2::hash_password_into_with_memory).
@@ -246,14 +246,14 @@ impl<'key> Argon2<'key> {
     }
 
     /// Writes the tag as [`hash_password_into_with_memory`](Argon2::hash_password_into_with_memory)
-    /// does, and into `positions` which block each block refers to. Answers how often two blocks
+    /// does, and into `positions` which block each block refers to. Returns how often two blocks
     /// were mixed: once for each block but those of columns 0 and 1 of pass 0, and twice for each
     /// address block (RFC 9106, section 3.4.1.2), of which one serves 128 columns of a segment.
     ///
-    /// `positions` has as many places as passes times blocks. If a lane has q columns, the block
-    /// of a lane and a column is at place lane * q + column of the memory, and the place of its
-    /// reference is written at that index after one whole memory for each pass before. What stands
-    /// for columns 0 and 1 of pass 0 stays.
+    /// `positions` has an entry for each block of each pass. If a lane has q columns, the block of a
+    /// lane and a column is at place lane * q + column of the memory. If there are b blocks, entry
+    /// pass * b + place is the place of the block that it refers to in this pass. The entries of
+    /// columns 0 and 1 of pass 0 stay as they were.
     ///
     /// # Errors
     /// Those of [`hash_password_into_with_memory`](Argon2::hash_password_into_with_memory) in their
@@ -302,8 +302,8 @@ impl<'key> Argon2<'key> {
         Ok(())
     }
 
-    // Writes the tag into `out`, and answers how often blocks were mixed. `positions` has a place for
-    // each block of each pass, where the place of the block's reference is written; or it is empty.
+    // Writes the tag into `out`, and returns how often blocks were mixed. `positions` has an entry for
+    // each block of each pass, which gets the place of the block's reference; or it is empty.
     fn hash(
         &self,
         pwd: &[u8],
@@ -322,7 +322,7 @@ impl<'key> Argon2<'key> {
         Ok(work)
     }
 
-    // As many blocks as a hash fills, each of zeros, by one request. `resize` makes each at its place, where `vec!`
+    // As many blocks as a hash fills, each of zeros, by one request. `resize` makes each at its place, while `vec!`
     // would copy it there.
     fn zeroed_blocks<A: Allocator>(&self, alloc: A) -> Result<Vec<Block, A>>
         ensures zeroed { IfOk result (λ blocks. blocks.items

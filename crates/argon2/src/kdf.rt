@@ -14,8 +14,8 @@ pub trait Kdf {
     // The key of so many bytes of a password and a salt.
     ghost key_of: { Self → List ℕ → List ℕ → ℕ → List ℕ };
 
-    /// Writes the key of a password and a salt into `out`, as many bytes as it has. What memory
-    /// this takes is asked of `alloc`, and given back before the call returns.
+    /// Writes the key of a password and a salt into `out`, as many bytes as it has. The memory for
+    /// this is requested from `alloc`, and freed before the call returns.
     ///
     /// # Errors
     /// [`Error`] if a length is not taken, or a request for memory was refused; `out` is then

@@ -37,8 +37,8 @@ pub fn recurrence()
         → blocks pass lane column ≡ block_of ctx first pass lane column }
 {}
 
-/// However the lanes of a slice take turns, the blocks are the same, and in the end they are the
-/// matrix and give the tag.
+/// The lanes of a slice may take their turns in any order: the blocks are the same. In the end they
+/// are the matrix and give the tag.
 pub fn slice_interleaving()
     ensures agree { (ctx : Context) → IsValid ctx
         → (memory : Memory) → length memory ≡ block_count ctx
@@ -56,9 +56,9 @@ pub fn slice_interleaving()
         ≡ tag_of ctx password salt n }
 {}
 
-/// If a memory is laid out slice by slice, its first slice is begun, and each segment is filled once on
-/// the parts of that memory, slice by slice and the lanes of a slice in any order, the last column gives
-/// the tag.
+/// A memory is laid out slice by slice. Its first slice is begun, and each segment is filled once on the
+/// parts of that memory, slice by slice and pass by pass, the lanes of a slice in any order. Then the
+/// last column gives the tag.
 pub fn segments_apart()
     ensures { (ctx : Context) (password salt : List ℕ) (n : ℕ) (memory : ℕ → ℕ → Memory)
         → IsFilledBySegments ctx (first_block ctx password salt n) memory

@@ -40,7 +40,7 @@ pub struct Login<'key> {
 }
 
 impl<'key> Login<'key> {
-    /// A store without names. What memory its calls take is asked of `alloc`; this one takes none.
+    /// A store without names. Its calls allocate from `alloc`; this one allocates nothing.
     ///
     /// # Errors
     /// [`Error::OutputSize`] if the target's output length is above 64, the most bytes that the
@@ -96,7 +96,7 @@ impl<'key> Login<'key> {
     /// # Errors
     /// The store is then as before:
     /// - [`LoginError::NameUnknown`]: the name has no text.
-    /// - [`LoginError::Refused`]: verifying refuses, for the reason that it holds.
+    /// - [`LoginError::Refused`]: verifying fails with the error that it holds.
     pub fn login<R: Rng>(
         &mut self,
         rng: &mut R,

@@ -17,7 +17,7 @@ pub use stored::{Settings, Stored};
 
 /// Hashes passwords.
 pub trait PasswordHasher<H> {
-    // What hashing a password with a salt may answer.
+    // What hashing a password with a salt may return.
     ghost hash_gives: { Self → List ℕ → List ℕ → Outcome H Error → Type 0 };
 
     // The hash is accepted with the password.
@@ -26,8 +26,8 @@ pub trait PasswordHasher<H> {
     // The hash shows what it was made under.
     ghost shows: { Self → H → Type 0 };
 
-    /// The hash of a password and a salt of 8 to 48 bytes. What memory this takes is asked of
-    /// `alloc` in one request, and given back before the call returns.
+    /// The hash of a password and a salt of 8 to 48 bytes. The memory for this is requested from
+    /// `alloc` in one request, and freed before the call returns.
     ///
     /// # Errors
     /// The first of these that holds:
@@ -59,7 +59,7 @@ pub trait CustomizedPasswordHasher<H> {
     /// Parameters of a hash.
     type Params;
 
-    // What hashing a password with a salt may answer, under an algorithm of this name, a version of
+    // What hashing a password with a salt may return, under an algorithm of this name, a version of
     // this number and these parameters.
     ghost customized_gives: { Self → Option (List ℕ) → Option ℕ → Self.Params → List ℕ → List ℕ
         → Outcome H Error → Type 0 };
@@ -92,14 +92,14 @@ pub trait CustomizedPasswordHasher<H> {
 
 /// Verifies passwords.
 pub trait PasswordVerifier<H> {
-    // What verifying a password against a hash may answer.
+    // What verifying a password against a hash may return.
     ghost verify_gives: { Self → List ℕ → H → Outcome (Unit {0}) Error → Type 0 };
 
     // The hash accepts the password.
     ghost accepts: { Self → List ℕ → H → Type 0 };
 
-    /// Ok if the hash accepts the password. What memory this takes is asked of `alloc` in one
-    /// request, and given back before the call returns.
+    /// Ok if the hash accepts the password. The memory for this is requested from `alloc` in one
+    /// request, and freed before the call returns.
     ///
     /// # Errors
     /// The first of these that holds:

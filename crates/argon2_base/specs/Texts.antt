@@ -20,7 +20,7 @@ unfoldable pub strict_base64 : List ℕ → List ℕ
 strict_base64 bytes = encode_symbols alphabet bytes
 
 -- The bytes, at most so many, whose strict Base64 the text is: `short_bytes_found` and `short_bytes_again` of
--- proofs/texts/Base64Lemmas say so. The library's decoder stands here so that it computes.
+-- proofs/phc_lemmas/Base64Lemmas say so. The definition is the library's decoder, so that it computes.
 abbrev pub short_bytes : ℕ → List ℕ → Option (List ℕ)
 short_bytes most text = option_and_then
     (λ b. if nat_le (length b) most && list_all (λ x. nat_lt x 256) b then Some b else None)

@@ -1,5 +1,5 @@
-//! Byte lists of a fixed capacity, which identifiers, salts, outputs, key identifiers and associated
-//! data are.
+//! Byte lists of a fixed capacity. Identifiers, salts, outputs, key identifiers and associated data
+//! are such lists.
 
 ghost use Rattle.std.specs.Prelude.{◌≡◌, ◌≤◌, ◌-◌, drop, length, replicate};
 

@@ -55,7 +55,7 @@ pub enum Error {
     /// The memory cost is below 8, or below 8 times the number of lanes, or the memory lent has
     /// fewer blocks than the parameters ask for.
     MemoryTooLittle,
-    /// Kept for the sake of its name: no call answers it.
+    /// Kept for its name: no call returns it.
     MemoryTooMuch,
     /// The output is shorter than 4 bytes (1 byte for the hash of any length), or than the
     /// parameters' output length.

@@ -9,7 +9,7 @@ begins text prefix = starts_with (λ a b. a == b) text prefix
 abbrev pub begins_any : List (List ℕ) → List ℕ → Bool
 begins_any prefixes text = list_any (begins text) prefixes
 
--- what stands after the first of these that the text begins with, or all where there is none
+-- what follows the first of these that the text begins with, or the text if it begins with none
 abbrev pub after_any : List (List ℕ) → List ℕ → List ℕ
 after_any [] text = text
 after_any (prefix ∷ prefixes) text = if begins text prefix then drop (length prefix) text else after_any prefixes text

@@ -15,7 +15,7 @@ const BEFORE: [&str; 7] = [
     "{crypt}",
 ];
 
-/// The text without the first that it begins with of what may stand before a text.
+/// The text without what other programs put before it: the first of these that it begins with.
 pub fn bare(text: &[u8]) -> &[u8]
     ensures { result.now ≡ bare text.now }
 {
@@ -39,7 +39,7 @@ pub fn begins_any(text: &[u8], prefixes: &[&str]) -> bool
     text.starts_with(prefix.as_bytes()) || begins_any(text, rest)
 }
 
-/// What stands after the first of these that the text begins with, or all if there is none.
+/// What follows the first of these that the text begins with, or the text if it begins with none.
 pub fn after_any<'a>(text: &'a [u8], prefixes: &[&str]) -> &'a [u8]
     ensures { result.now ≡ after_any (map (λ prefix. prefix.now) prefixes.now) text.now }
 {

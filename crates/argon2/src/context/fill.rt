@@ -46,8 +46,8 @@ impl<'a> Instance<'a> {
     }
 
     /// Makes the matrix for an output of `out_len` bytes in the first blocks of the memory, and
-    /// counts each mixing. `positions` has a place for each block of each pass, where the place of
-    /// the block's reference is written; or it is empty.
+    /// counts each mixing. `positions` has an entry for each block of each pass, which gets the place
+    /// of the block's reference; or it is empty.
     pub(super) fn fill_blocks<B: MemoryBlock>(
         &self,
         pwd: &[u8],
@@ -69,8 +69,8 @@ impl<'a> Instance<'a> {
         self.fill(blocks, positions, work);
     }
 
-    /// All passes. `positions` has a place for each block of each pass, where the place of the
-    /// block's reference is written; or it is empty.
+    /// All passes. `positions` has an entry for each block of each pass, which gets the place of the
+    /// block's reference; or it is empty.
     fn fill<B: MemoryBlock>(&self, memory: &mut [B], positions: &mut [u32], work: &mut Work)
         requires room { length memory.old ≡ block_count self.now }
         requires count { work.old < 2 ^ 126 }
@@ -127,8 +127,8 @@ impl<'a> Instance<'a> {
         }
     }
 
-    /// The steps of a lane in a slice. `positions` has a place for each block of each pass, where
-    /// the place of the block's reference is written; or it is empty.
+    /// The steps of a lane in a slice. `positions` has an entry for each block of each pass, which
+    /// gets the place of the block's reference; or it is empty.
     fn fill_columns<B: MemoryBlock>(
         &self,
         memory: &mut [B],
@@ -198,7 +198,7 @@ impl<'a> Instance<'a> {
         }
     }
 
-    /// Writes the block of a step, and answers the place of its reference.
+    /// Writes the block of a step, and returns the place of its reference.
     #[tactic(auto, using(crate::proofs::context_lemmas::InMemory::place_by_word))]
     pub(super) fn step<B: MemoryBlock>(
         &self,

@@ -43,7 +43,7 @@ impl Argon2<'_> {
     }
 
     /// Writes the block of a pass, a lane and a column, and no other (RFC 9106, section 3.2, steps
-    /// 5 and 6). Answers the place of the block that it refers to: if a lane has q columns, that
+    /// 5 and 6). Returns the place of the block that it refers to: if a lane has q columns, the block
     /// of a lane and a column is at place lane * q + column.
     ///
     /// The pass is below [`t_cost`](crate::Params::t_cost), the lane below
@@ -51,7 +51,7 @@ impl Argon2<'_> {
     /// [`lane_length`](crate::Params::lane_length), and in pass 0 from 2 on. `memory` has at least
     /// [`block_count`](crate::Params::block_count) blocks.
     ///
-    /// However the lanes of a slice take turns, the tag is the same: see
+    /// The lanes of a slice may take their turns in any order, and the tag is the same: see
     /// [`slice_interleaving`](crate::laws::slice_interleaving).
     pub fn step_block(&self, memory: &mut [Block], pass: u32, lane: u32, column: u32) -> u32
         requires in_passes { pass < (context_of self.now).t_cost }

@@ -1,4 +1,4 @@
-//! What the calls of the login store answer.
+//! What the calls of the login store return.
 
 ghost use Rattle.std.specs.Prelude.{Some};
 ghost use Rattle.argon2.specs.Login.{accepted_text, login_error_text};
@@ -52,7 +52,7 @@ pub enum LoginError {
     NameUnknown,
     /// A request for memory was refused.
     OutOfMemory,
-    /// Verifying the name's text refuses with this.
+    /// Verifying the name's text fails with this error.
     Refused(Error),
 }
 

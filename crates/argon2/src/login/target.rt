@@ -85,7 +85,7 @@ impl<'key> Target<'key> {
     }
 
     /// Ok if a text accepts the password under the target's secret. `stored` is what the text shows.
-    /// The memory of the hash is requested from `alloc`, and returned before the call ends.
+    /// The memory of the hash is requested from `alloc`, and freed before the call returns.
     ///
     /// # Errors
     /// The first of these that holds:
@@ -143,8 +143,8 @@ impl<'key> Target<'key> {
     }
 
     /// A fresh text of a password, with a salt of 16 bytes that are drawn from `rng`. They are drawn
-    /// also if the call is refused. The memory of the hash is requested from `alloc`, and returned
-    /// before the call ends.
+    /// also if the call is refused. The memory of the hash is requested from `alloc`, and freed before
+    /// the call returns.
     ///
     /// # Errors
     /// The first of these that holds:

@@ -10,8 +10,8 @@ use argon2_base::error::{Error, Result};
 use std::convert::AsSlice;
 use std::str::FromStr;
 
-/// Associated data: 0 to 32 bytes that every hash depends on, the `X` of RFC 9106, section 3.1. It
-/// is equal to, ordered with and hashed as its bytes; a shorter one stands before its continuations.
+/// Associated data: 0 to 32 bytes that every hash depends on, the `X` of RFC 9106, section 3.1.
+/// Equality, order and hash are those of its bytes, so a prefix comes before the longer data.
 #[derive(Clone, Copy, Debug, PartialEq, Eq, PartialOrd, Ord, Hash)]
 pub struct AssociatedData {
     bytes: ByteList<32>,

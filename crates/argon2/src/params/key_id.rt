@@ -10,8 +10,8 @@ use argon2_base::error::{Error, Result};
 use std::convert::AsSlice;
 use std::str::FromStr;
 
-/// A key identifier: 0 to 8 bytes, which distinguish keys and enter no hash. It is
-/// equal to, ordered with and hashed as its bytes; a shorter one stands before its continuations.
+/// A key identifier: 0 to 8 bytes, which distinguish keys and enter no hash. Equality, order and hash
+/// are those of its bytes, so a prefix comes before the longer identifier.
 #[derive(Clone, Copy, Debug, PartialEq, Eq, PartialOrd, Ord, Hash)]
 pub struct KeyId {
     bytes: ByteList<8>,

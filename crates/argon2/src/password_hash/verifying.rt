@@ -31,7 +31,7 @@ impl Argon2<'_> {
 }
 
 /// Hashes under the algorithm, the version and the parameters of the stored hash (no version
-/// means 0x10), and with this context's secret. Nothing else of the context occurs.
+/// means 0x10), and with this context's secret. Nothing else of this context is used.
 impl PasswordVerifier<&PasswordHash> for Argon2<'_> {
     ghost use Rattle.argon2_base.specs.PhcFields.{phc_of};
     ghost use Rattle.argon2.specs.Stored.{AcceptsBy, IsVerifyAnswer};

@@ -76,7 +76,7 @@ impl PasswordHash {
     }
 }
 
-/// What [`PasswordHash::new`] answers.
+/// Reads a text as [`PasswordHash::new`] does.
 impl FromStr for PasswordHash {
     ghost use Rattle.std.specs.Prelude.{◌≡◌, IsOkAnd, MatchResult};
     ghost use Rattle.argon2_base.specs.PhcFields.{phc_of};
