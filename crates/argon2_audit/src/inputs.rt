@@ -12,7 +12,7 @@ enum Input {
     File(File),
 }
 
-/// The files of these names one after another, `-` for standard input, each opened once the one before has ended. Where
+/// The files of these names one after another, `-` for standard input, each opened once the one before has ended. If
 /// one ends within a line, a line feed ends that line.
 #[derive(Drop)]
 pub struct Inputs<'a> {

@@ -26,7 +26,7 @@ pub const PROGRAM: &str = "argon2-audit";
 // How many bytes are read at once.
 const PIECE: usize = 65536;
 
-// How often at the most, so that lines can be counted.
+// How many pieces are read at the most, so that lines can be counted.
 const PIECES: u64 = 1 << 47;
 
 // How many pieces are read between two lines of progress.

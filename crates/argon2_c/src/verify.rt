@@ -13,11 +13,14 @@ use argon2::MAX_PWD_LEN;
 use argon2_base::block::Words;
 
 /// Whether a password has the hash of a text, hashed on lent memory, whatever that held. `absent` is how
-/// many bytes the password has behind a null pointer. Returns 0 if it has, and -35 if it has not; else the
-/// code of the call's first fault, or -32 if the text is in no such variant's grammar, or the code of the
-/// first fault of the request that the text stands for, or -25 if `memory` has another length than that
-/// request's blocks. But for the first two, `shown` and the front of `room` are then what the text says:
-/// its salt, and behind it its hash. A caller that hashes by segments takes them from a call without memory.
+/// many bytes the password has behind a null pointer. Returns 0 if it has the hash, and -35 if it has not.
+///
+/// Otherwise it returns the first of these: the code of the call's first fault; -32 if the text is not in the
+/// variant's grammar; the code of the first fault of the request that the text stands for; -25 if `memory`
+/// has another length than that request's blocks.
+///
+/// Unless the call or the text is refused, `shown` is then what the text says, and the front of `room` its
+/// salt and then its hash. A caller that hashes by segments takes them from a call without memory.
 #[unsafe(no_mangle)]
 pub extern "C" fn argon2_c_verify(
     algorithm: u32,

@@ -68,8 +68,8 @@ fn most_memory<S: Stopwatch, E: Write>(
     }
 }
 
-// The most passes over the same memory that take no longer than the target. What was measured last says how
-// many are tried next, and none that took longer is tried again.
+// The most passes over the same memory that take no longer than the target. The last measured time says how many
+// passes are tried next, and always fewer than any that took longer.
 fn most_passes<S: Stopwatch, E: Write>(
     stopwatch: &mut S,
     errors: &mut E,

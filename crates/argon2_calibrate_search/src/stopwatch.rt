@@ -28,7 +28,7 @@ pub trait Stopwatch {
     /// their memory is refused.
     ///
     /// # Errors
-    /// The clock may not answer.
+    /// The clock can't be read.
     fn times(&mut self, lanes: u32, m_cost: u32, t_cost: u32) -> Result<Option<[u64; 3]>, Failure>
         ensures { IfOk result (λ times. may_take lanes m_cost t_cost times) };
 }

@@ -1,4 +1,4 @@
-//! `argon2-passwd`: texts for passwords, and what they say of a password.
+//! `argon2-passwd`: makes texts of passwords, checks passwords by them, and keeps accounts in a file.
 #![tactic(auto)]
 
 use argon2_commands::{answer, words};

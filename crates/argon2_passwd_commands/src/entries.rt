@@ -42,8 +42,8 @@ pub fn entries<'a>(
     Ok(found)
 }
 
-// The name and the text of a line, without what other programs put before a text. The text is empty, which no file takes,
-// unless it is one of Argon2 or any text is taken.
+// The name and the text of a line, without what other programs put before a text. Unless it is a text of Argon2 or any text
+// is taken, the text is empty, which no file takes.
 fn entry(line: &[u8], any_text: bool) -> (&str, &str)
     ensures { IsEntry any_text line.now (entry_of result) }
 {
@@ -59,7 +59,7 @@ fn entry(line: &[u8], any_text: bool) -> (&str, &str)
     }
 }
 
-// The parts of a line at its first colon: no text if it has none, and neither if it is not UTF-8.
+// The parts of a line at its first colon. Without a colon there is no text; if it is not UTF-8, there is neither.
 fn parts(line: &[u8]) -> (&str, &str)
     ensures { entry_of result ≡ parts_of line.now }
 {

@@ -28,7 +28,7 @@ pub enum Failure {
     /// accept the password; or a name is taken or unknown.
     #[error(transparent)]
     Account(AccountError),
-    /// The text of a line of standard input is outside the grammar, or its name is taken; the line has this number.
+    /// The text of the line of this number is outside the grammar, or the line's name is taken.
     #[error("line {0}: {1}")]
     Line(usize, AccountError),
     /// What is at the path of the file with the accounts is no such file.
@@ -49,10 +49,10 @@ pub enum Failure {
     /// The system gives no random bytes.
     #[error("the system gives no random bytes")]
     Random,
-    /// Standard input fails before its end.
+    /// Standard input can't be read to its end.
     #[error("standard input can't be read")]
     Input,
-    /// Standard output does not take the answer.
+    /// Standard output can't be written.
     #[error("standard output can't be written")]
     Output,
     /// A request for memory was refused.

@@ -57,7 +57,7 @@ pub trait Outside {
     fn seed(&self) -> Result<[u8; 32], Failure>
         ensures { IfErr result (λ failure. status_of failure ≡ 3) };
 
-    /// Sees that accounts can be in the file at a path: there is one, or none if the command makes it.
+    /// Checks that accounts can be in the file at a path: there is a file, or none if the command makes it.
     ///
     /// # Errors
     /// There is something else, or nothing.
@@ -110,7 +110,7 @@ impl<'a> Machine<'a> {
         Machine { rt }
     }
 
-    // Sees that a file at this path can have a log beside it, whose name is longer.
+    // Checks that a file at this path can have a log beside it, whose name is longer.
     fn look_for_log(&self, path: &str) -> Result<(), Failure>
         ensures { IfErr result (λ failure. status_of failure ≡ 3) }
     {

@@ -48,7 +48,7 @@ pub struct AccountFile<'key, S: Store> {
 /// Accounts in the file at a path. `T` stands for what the file and its log held as they were opened.
 pub type AccountsAt<'key, T> = AccountFile<'key, FileStore<FileFrom<T>>>;
 
-// What a call answers that read an open file.
+// What a call returns that read an open file.
 fn read<X>(done: Result<X, StoreError>) -> Result<X, FileError>
     ensures { result ≡ read_of done }
 {
@@ -60,7 +60,7 @@ fn read<X>(done: Result<X, StoreError>) -> Result<X, FileError>
     }
 }
 
-// What a call answers that wrote to an open file.
+// What a call returns that wrote to an open file.
 fn written<X: Copy>(done: Result<(), StoreError>, answer: X) -> Result<X, FileError>
     ensures { result ≡ answered done answer }
 {
@@ -98,8 +98,8 @@ impl<'key, S: Store> AccountFile<'key, S> {
 
     /// Adds all of these new names with their texts, as [`add`](AccountFile::add) in order, or none. They
     /// are written together: after a crash in the middle of the call the file holds all of them or none.
-    /// They are written in the order of the names. If they are not listed in it, this takes a copy of `new`,
-    /// and without memory for the copy they are written as they are listed, which takes longer.
+    /// They are written in the order of the names. If `new` is in another order, this takes a sorted copy of
+    /// it; without memory for the copy they are written as they are listed, which takes longer.
     ///
     /// # Errors
     /// Each comes with an index into `new`:
@@ -228,7 +228,8 @@ impl<'key, S: Store> AccountFile<'key, S> {
     }
 
     /// Gives a name a text of a new password, whatever text it had, as [`Policy::hash_password`]
-    /// makes it. 16 bytes are drawn from `rng`, unless the file is closed or can't be read, or the name is unknown.
+    /// makes it. 16 bytes are drawn from `rng`, unless the file is closed or can't be read, or the name is
+    /// unknown.
     ///
     /// # Errors
     /// The first of these that holds:

@@ -12,7 +12,8 @@ use sqlite_wal::Error as LogError;
 use std::alloc::AllocError;
 use std::{fmt, io};
 
-/// Why a call on an account file fails. The accounts are then as before the call, unless the disk failed during a commit.
+/// Why a call on an account file fails. The accounts are then as before the call, unless the disk failed
+/// during a commit.
 #[derive(Clone, Copy, Debug, PartialEq, Eq)]
 pub enum FileError {
     /// The accounts refuse the call; nothing was written.
@@ -21,7 +22,7 @@ pub enum FileError {
     OutOfMemory,
     /// The disk failed.
     Io,
-    /// The file is damaged: it has something else than what was written.
+    /// The file is damaged: it does not hold what was written.
     Damaged,
     /// The disk or the file has no room.
     Full,
@@ -88,7 +89,7 @@ impl From<StoreError> for FileError {
 /// Why a file is not opened. The accounts in it are then as they were.
 #[derive(Clone, Copy, Debug)]
 pub enum OpenError {
-    /// There is no policy of the target and the bound. The file was not looked at.
+    /// The target and the bound make no policy. The file was not looked at.
     Terms(AccountError),
     /// The system refuses to open or to make the file.
     Path(io::Error),

@@ -221,6 +221,6 @@ pub(crate) fn write_rows<S: Store, W: Write>(
             None => return Err(StoreError::Corrupt),
         }
     }
-    // (No file has so many rows.)
+    // No file has so many rows.
     Err(StoreError::OutOfMemory)
 }

@@ -127,7 +127,7 @@ fn add<S: Store>(
     }
 }
 
-// Writes the rows of new names with their texts, up to the first that is refused. With the refusal comes its index.
+// Writes the rows of new names with their texts, up to the first that is refused. The refusal comes with its index.
 fn add_each<S: Store>(
     store: &mut S,
     row: &mut Row,
@@ -292,7 +292,7 @@ impl<S: Store> Table<S> {
         finish(&mut self.store, done)
     }
 
-    // Gives new names their texts, and commits. If one is refused, nothing is written, and its index comes with the refusal.
+    // Gives new names their texts, and commits. If one is refused, nothing is written, and the refusal comes with its index.
     fn add_listed(
         &mut self,
         new: &[(&str, &str)],

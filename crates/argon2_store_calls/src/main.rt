@@ -1,5 +1,5 @@
-//! Shows what the calls of an account file answer that `argon2-passwd` does not make, a line a call, and whether the file
-//! is closed then. Where the log has been copied it is removed, and the file is opened again.
+//! Shows what those calls of an account file return that `argon2-passwd` does not make, a line a call, and whether the file
+//! is closed then. If the log was copied, it is removed. The file is then opened again.
 #![tactic(auto)]
 
 use argon2::bound::Bound;
@@ -22,7 +22,7 @@ const BOUND: Bound = Bound {
     p_cost: 2,
 };
 
-// What a file answers that begins with no names.
+// What the calls on a file return that begins with no names.
 #[derive(Clone, Copy)]
 struct Answers {
     had_ann: Result<bool, FileError>,
@@ -33,7 +33,7 @@ struct Answers {
     copied: Answer,
 }
 
-// What a call answers, and whether the file is closed then.
+// What a call returns, and whether the file is closed then.
 #[derive(Clone, Copy)]
 struct Answer {
     result: Result<(), FileError>,

@@ -43,7 +43,7 @@ impl<'a> Request<'a> {
     /// What hashes under the request, with no secret, no data and any length of output.
     ///
     /// # Errors
-    /// What refuses the first that is refused of the algorithm, the version and the costs.
+    /// The error of the first that is refused: the algorithm, the version or the costs.
     pub fn argon2(&self) -> argon2::Result<Argon2<'static>>
         ensures { IsAsked self.now result }
     {

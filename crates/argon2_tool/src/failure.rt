@@ -13,10 +13,10 @@ use thiserror::Error;
 /// Why a command fails, with the text that the program prints.
 #[derive(Debug, Drop, Error)]
 pub enum Failure {
-    /// Standard input fails before its end.
+    /// Standard input can't be read to its end.
     #[error("standard input can't be read")]
     Input,
-    /// Standard output does not take the reply.
+    /// Standard output can't be written.
     #[error("standard output can't be written")]
     Output,
     /// A request for memory was refused.
