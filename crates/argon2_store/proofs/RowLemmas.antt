@@ -214,7 +214,7 @@ is_long reals row name v is short not = go (nat_lt (10 ^ 9) (362 + length name))
           short = omega (arith, few, short);
         })))
 
--- ---- a seek by a name stands at its row, or it has none
+-- ---- a seek by a name finds its row, or the name has none
 
 -- over the name's column alone, a row compares with a key as its name does
 row_by_name : (e : List ℕ × Phc) (k : List ℕ) → prefix_cmp plain (row_of e) (Text k ∷ []) ≡ order e.0 k

@@ -10,7 +10,7 @@ use Rattle.argon2_base.specs.Texts.{IsBytes, strict_base64}
 use Rattle.argon2_base.proofs.phc_lemmas.Base64Lemmas.{length-strict_base64, strict_base64_decoded, strict_base64_unique, strict_base64_never_refused}
 use Rattle.argon2_c.proofs.decode.bytes.Goals as goal
 
--- what a text is decoded to stands at the front
+-- what a text is decoded to is at the front
 is_over : (n : ℕ) (s old new : List ℕ) → IsBytes s → IsBytes new → length new ≡ length old
     → IsDecodedInto standard_no_pad s n old new
     → IsBytes (take n new) × (s ≡ strict_base64 (take n new)) × (n ≡ length (take n new)) × IsWrittenOver (take n new) old new
