@@ -10,7 +10,7 @@ import argon2
 import bcrypt
 
 HASHER = argon2.PasswordHasher(time_cost=2, memory_cost=19456, parallelism=1)
-# Verified if a name is unknown, so that this takes as long as a wrong password.
+# Verified if a name is unknown or locked, so that this takes as long as a wrong password.
 NOBODY = HASHER.hash(os.urandom(16))
 
 
@@ -30,7 +30,9 @@ def replace(db, name, old, new):
 
 
 def accepts(text, password):
-    """Whether a text of Argon2 or of bcrypt accepts a password."""
+    """Whether a text of Argon2 or of bcrypt accepts a password. One behind `!` is locked and accepts none."""
+    if text.startswith("!"):
+        text = NOBODY
     if text.startswith("$2"):
         return bcrypt.checkpw(password.encode(), text.encode())
     try:
