@@ -44,7 +44,7 @@ HasPassword target store name password = IsSomeAnd (get store name) (AcceptsBy t
 
 -- ---- a call and its answer
 
--- A login stands with the 16 bytes that the generator would give.
+-- A login is recorded with the 16 bytes that the generator would give.
 pub data Event : Type 0 where
   adding : List ℕ → List ℕ → Result (Unit {0}) LoginError → Event
   logging_in : List ℕ → List ℕ → List ℕ → Result Accepted LoginError → Event

@@ -102,7 +102,7 @@ algorithm_asked name = ok_or (algorithm_named (unwrap_or name (codes "argon2id")
 abbrev pub version_asked : Option ℕ → Result Version Fault
 version_asked number = ok_or (version_numbered (unwrap_or number 19)) bad_version
 
--- the settings of a name, a number and parameters, or the fault of the first that there is not
+-- the settings of a name, a number and parameters, or the fault of the first that does not exist
 abbrev pub settings_asked : Option (List ℕ) → Option ℕ → Parameters → Result Settings Fault
 settings_asked name number parameters = read (algorithm_asked name) (λ algorithm.
     read (version_asked number) (λ version.

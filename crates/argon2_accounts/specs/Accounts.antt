@@ -102,7 +102,7 @@ Changes terms old password drawn v (Err e) w = ChangeRefusal terms old password 
 
 -- ---- a call, its answer, and the value of its name
 
--- A call that may draw stands with the 16 bytes that the generator would give.
+-- A call that may draw is recorded with the 16 bytes that the generator would give.
 pub data AccountEvent : Type 0 where
   adding : List ℕ → List ℕ → Result (Unit {0}) AccountError → AccountEvent
   registering : List ℕ → List ℕ → List ℕ → Result (Unit {0}) AccountError → AccountEvent

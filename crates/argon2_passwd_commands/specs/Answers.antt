@@ -128,7 +128,8 @@ parts_of line = if is_utf8 line then (before_first (λ b. b == 58) line, after_f
 abbrev pub IsArgon2 : List ℕ → Type 0
 IsArgon2 text = (v : Phc) × PhcText text v × IsOk (shown_settings v)
 
--- the text that is added for one without what other programs put before it: none unless it is Argon2's or any is taken
+-- what is added for a text without what other programs put before it: the text, if it is Argon2's or any is taken, or
+-- else the empty one
 abbrev pub IsTaken : Bool → List ℕ → List ℕ → Type 0
 IsTaken any_text text taken = ((taken ≡ text) × (IsTrue any_text ⊎ IsArgon2 text))
     ⊎ ((taken ≡ []) × (any_text ≡ false) × ¬ (IsArgon2 text))
@@ -141,7 +142,7 @@ IsEntry any_text line e = (e.0 ≡ (parts_of line).0) × IsTaken any_text (bare 
 abbrev pub AreEntries : Bool → List ℕ → List (List ℕ × List ℕ) → Type 0
 AreEntries any_text input es = AllZip (IsEntry any_text) (lines input) es
 
--- one of the entries is the first that is refused, and none is added; the failure has its line and the reason
+-- one of the entries is the first that is refused, and none is added; the failure has its line and why
 abbrev pub RefusesLine : {S : Type 0} {g : Ghosts S} → Failure → List (List ℕ × List ℕ) → AccountFile S g → AccountFile S g
     → Type 0
 RefusesLine {g} failure es before after = (number : ℕ) × (why : AccountError) × (failure ≡ Line number why)

@@ -17,8 +17,8 @@ use Rattle.argon2_store.specs.declared.account_file.AccountFile.{AccountFile}
 use Rattle.argon2_store.specs.declared.error.FileError.{FileError}
 use Rattle.argon2_store.specs.declared.error.FileError.TheVariants.{Account, Closed}
 
--- A call with its answer. A crash is a disk that does nothing more from then on, so a call that it cuts off stands with
--- the error that it would have returned.
+-- A call with its answer. A crash is a disk that does nothing more from then on, so a call that it cuts off is recorded
+-- with the error that it would have returned.
 pub data FileCall : Type 0 where
   on_name : Call (Unit {0}) → Result (Unit {0}) FileError → FileCall
   login : Call Accepted → Result Accepted FileError → FileCall
