@@ -82,7 +82,7 @@ independent_segments ctx =
     if ctx.algorithm == 1 then 4 * ctx.t_cost * ctx.p_cost
     else if ctx.algorithm == 2 then 2 * ctx.p_cost else 0
 
--- how often is mixed: once for each block but the first two columns, twice for each address block
+-- how often blocks are mixed: once for each block but the first two columns, twice for each address block
 unfoldable pub mixing_calls : Context → ℕ
 mixing_calls ctx = ctx.t_cost * block_count ctx - 2 * ctx.p_cost
     + 2 * address_counter (segment_length ctx - 1) * independent_segments ctx

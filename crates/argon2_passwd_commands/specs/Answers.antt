@@ -142,7 +142,7 @@ IsEntry any_text line e = (e.0 ≡ (parts_of line).0) × IsTaken any_text (bare 
 abbrev pub AreEntries : Bool → List ℕ → List (List ℕ × List ℕ) → Type 0
 AreEntries any_text input es = AllZip (IsEntry any_text) (lines input) es
 
--- one of the entries is the first that is refused, and none is added; the failure has its line and why
+-- one of the entries is the first that is refused, and none is added; the failure has its line and the reason
 abbrev pub RefusesLine : {S : Type 0} {g : Ghosts S} → Failure → List (List ℕ × List ℕ) → AccountFile S g → AccountFile S g
     → Type 0
 RefusesLine {g} failure es before after = (number : ℕ) × (why : AccountError) × (failure ≡ Line number why)

@@ -228,7 +228,7 @@ fn hashes_under_a_secret(rt: HostRuntime) -> std::result::Result<(), Fail> {
 
 // ---- verifying
 
-// What `password` and `sassword` are answered.
+// What verifying `password` and `sassword` against a text returns.
 fn answers(alloc: Global, text: &str) -> [Result<()>; 2] {
     [
         verify(alloc, "password", text),

@@ -122,7 +122,7 @@ const ROWS: [Row; 27] = rows![
     Argon2i V0x13 19456 2 1 39518 0x3be9b9094b1a931e,
 ];
 
-// How often is mixed for a row, and the hash of all places.
+// How often blocks are mixed for a row, and the hash of all places.
 fn watch(alloc: Global, row: &Row, memory: &mut [Block]) -> Result<(u128, u64), Fail> {
     let mut builder = ParamsBuilder::new();
     builder
