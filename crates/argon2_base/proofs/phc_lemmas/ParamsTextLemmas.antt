@@ -82,12 +82,6 @@ pub items_again : (p : Pair) (ps : List Pair) → list_all is_param (p ∷ ps) �
     → items_of (params_text (p ∷ ps)) ≡ map item (p ∷ ps)
 items_again p ps h = cut_joined 44 (item p) (map item ps) (items_lack (p ∷ ps) h)
 
--- the items of a list whose text is not empty
-pub items_again_long : (ps : List Pair) → list_all is_param ps ≡ true → 0 < length (params_text ps)
-    → items_of (params_text ps) ≡ map item ps
-items_again_long [] h long = absurd (omega arith)
-items_again_long (p ∷ ps) h long = items_again p ps h
-
 -- what a list's text says is the list
 pub pairs_again : (ps : List Pair) → list_all is_param ps ≡ true → pairs_of (params_text ps) ≡ ps
 pairs_again [] h = refl
