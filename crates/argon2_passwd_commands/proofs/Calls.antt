@@ -9,7 +9,7 @@ use Rattle.argon2_accounts.specs.declared.error.AccountError.{AccountError}
 use Rattle.argon2_accounts.specs.declared.error.AccountError.TheVariants.{NameTaken, Refused, TextChanged}
 use Rattle.argon2.specs.Made.{IsFresh}
 use Rattle.argon2.specs.NamedTexts.{Store}
-use Rattle.argon2_store.specs.AccountFile.{Answers, HasCause, HasNames, IfRefused, IsClosed, Serves, Stays, store_of, terms_of}
+use Rattle.argon2_store.specs.AccountFile.{Answers, HasCause, HasNames, IfRefused, IsClosed, Serves, Stays, database_of, terms_of}
 use Rattle.argon2_store.specs.Table.{IsHonest, IsOpen}
 use Rattle.argon2_store.specs.declared.account_file.AccountFile.{AccountFile}
 use Rattle.argon2_store.specs.declared.error.FileError.{FileError}
@@ -119,15 +119,15 @@ cause_then shut closed more fault long (Err Closed) f h is = f is
 -- a name's text is read, and replaced by a text of its password
 pub sets : {S : Type 0} {g : Ghosts S} (old mid new : AccountFile S g) (name was text password drawn : List ℕ) (v w : Phc)
     → PhcText was v → PhcText text w → IsFresh (terms_of old).target password drawn w → (r : Result (Unit {0}) FileError)
-    → (IsHonest g (store_of old) → IsClosed old → ⊥) → ((names : Store) → HasNames old names → Stays None names old mid)
-    → ((names : Store) → HasNames mid names → IsHonest g (store_of mid) → get names name ≡ Some v)
+    → (IsHonest g (database_of old) → IsClosed old → ⊥) → ((names : Store) → HasNames old names → Stays None names old mid)
+    → ((names : Store) → HasNames mid names → IsHonest g (database_of mid) → get names name ≡ Some v)
     → Serves (replacing name was text) r mid new → Serves (setting name password drawn) r old new
 sets {g = g} old mid new name was text password drawn v w old_says says fresh r live reading had serves before has =
     let reads = reading before has in
     let (after, run) = serves before reads.has in
-    let open_then : IsHonest g (store_of new) → IsOpen g (store_of mid) = λ clean. reads.is_open refl (run.honest clean) in
-    let earlier = more_earlier (g.faults (store_of old)) (g.faults (store_of mid)) (g.faults (store_of new)) reads.quiet.counts in
-    let step = λ (clean : IsHonest g (store_of new)) (left : Store).
+    let open_then : IsHonest g (database_of new) → IsOpen g (database_of mid) = λ clean. reads.is_open refl (run.honest clean) in
+    let earlier = more_earlier (g.faults (database_of old)) (g.faults (database_of mid)) (g.faults (database_of new)) reads.quiet.counts in
+    let step = λ (clean : IsHonest g (database_of new)) (left : Store).
     sets_step (terms_of old) password drawn text w says fresh (terms_of mid) before left name was v old_says
     (had before reads.has (run.honest clean)) in (
       after,
@@ -137,7 +137,7 @@ sets {g = g} old mid new name was text password drawn v w old_says says fresh r 
         terms = run.terms ∙ reads.terms;
         honest = λ clean. omega (arith, run.honest clean, reads.quiet.clean);
         unchanged = run.unchanged;
-        refused = refused_then _ _ r (quiet_then g (store_of old) (store_of mid) (store_of new) reads.quiet) run.refused;
+        refused = refused_then _ _ r (quiet_then g (database_of old) (database_of mid) (database_of new) reads.quiet) run.refused;
         crash = λ clean is_open db found.
             let left = run.crash clean (open_then clean) db found in
             (left.0, left.1, elim left.2 [ inl same ↦ inl same | inr (x, is) ↦ inr (x, step clean left.0 (Ok x) is) ]);

@@ -21,7 +21,7 @@ use Rattle.argon2.specs.declared.login.answers.Accepted.{Accepted}
 use Rattle.argon2.specs.declared.login.answers.Accepted.TheVariants.{Kept, Rehashed}
 use Rattle.argon2_accounts.specs.declared.error.AccountError.{AccountError}
 use Rattle.argon2_prefixes.specs.Prefixes.{bare}
-use Rattle.argon2_store.specs.AccountFile.{AddsOrNone, Call, HasNames, IsReady, Serves, Stays, error_of, store_of}
+use Rattle.argon2_store.specs.AccountFile.{AddsOrNone, Call, HasNames, IsReady, Serves, Stays, error_of, database_of}
 use Rattle.argon2_store.specs.Adding.{IsFirstRefused}
 use Rattle.argon2_store.specs.Rows.{lines_of}
 use Rattle.argon2_store.specs.Table.{IsHonest}
@@ -146,7 +146,7 @@ AreEntries any_text input es = AllZip (IsEntry any_text) (lines input) es
 abbrev pub RefusesLine : {S : Type 0} {g : Ghosts S} → Failure → List (List ℕ × List ℕ) → AccountFile S g → AccountFile S g
     → Type 0
 RefusesLine {g} failure es before after = (number : ℕ) × (why : AccountError) × (failure ≡ Line number why)
-    × ((names : Store) → HasNames before names → IsHonest g (store_of after)
+    × ((names : Store) → HasNames before names → IsHonest g (database_of after)
     → (k : ℕ) × (number ≡ k + 1) × IsFirstRefused names es k why) × AddsOrNone es (Err (Account why)) before after
 
 -- the entries were to be added, and this is some answer to it
@@ -200,7 +200,7 @@ module _ {S : Type 0} (g : Ghosts S) (Holds : List ℕ → List ℕ → Type 0) 
   abbrev pub IsDone : Choices → List ℕ → (List ℕ → AccountFile S g → AccountFile S g → Type 0) → (List S → Type 0) → Type 0
   IsDone choices path Does Closed = (secret drawn : List ℕ) × (before after : AccountFile S g)
       × IsSecret Holds choices.secret_file secret × IsOpened Has path (terms_by choices secret) before
-      × Does drawn before after × Closed (store_of after ∷ [])
+      × Does drawn before after × Closed (database_of after ∷ [])
 
   -- that was one call
   abbrev pub IsCalled : {X : Type 0} → Choices → List ℕ → (List ℕ → Call X) → Result X FileError → (List S → Type 0) → Type 0
@@ -210,12 +210,12 @@ module _ {S : Type 0} (g : Ghosts S) (Holds : List ℕ → List ℕ → Type 0) 
   abbrev pub IsLooked : Terms → List ℕ → List ℕ → Result (Option Phc) FileError → (S → Type 0) → Type 0
   IsLooked terms path name found Next = (before after : AccountFile S g) × IsOpened Has path terms before
       × ((names : Store) → HasNames before names → Stays (error_of found) names before after
-      × IfOk found (λ value. IsHonest g (store_of after) → get names name ≡ value)) × Next (store_of after)
+      × IfOk found (λ value. IsHonest g (database_of after) → get names name ≡ value)) × Next (database_of after)
 
   -- the text of a name was replaced there, if it was still that of the first value
   abbrev pub IsReplaced : Terms → List ℕ → List ℕ → Phc → Phc → Result (Unit {0}) FileError → (S → Type 0) → Type 0
   IsReplaced terms path name v w done Next = (before after : AccountFile S g) × IsOpened Has path terms before
-      × Serves (replacing name (phc_text v) (phc_text w)) done before after × Next (store_of after)
+      × Serves (replacing name (phc_text v) (phc_text w)) done before after × Next (database_of after)
 
   -- what was done with the file at a path for a call on a name, and that it was decided by the value that was read
   abbrev pub IsOutcome : {X : Type 0} → Terms → List ℕ → List ℕ → Call X → Outcome X → (List S → Type 0) → Type 0
@@ -257,7 +257,7 @@ module _ {S : Type 0} (g : Ghosts S) (Holds : List ℕ → List ℕ → Type 0) 
   -- no name was changed, with this error of the file if there was one, and this is a fact of its names
   abbrev pub IsRead : Choices → List ℕ → Option FileError → (Store → Type 0) → (List S → Type 0) → Type 0
   IsRead choices path error Shows = IsDone choices path (λ drawn before after. (names : Store) → HasNames before names
-      → Stays error names before after × (IsHonest g (store_of after) → Shows names))
+      → Stays error names before after × (IsHonest g (database_of after) → Shows names))
 
   -- that was the addition of the entries that a known input has, and the answer to it
   abbrev pub IsImported : Choices → List ℕ → Bool → (List (List ℕ × List ℕ) → AccountFile S g → AccountFile S g → Type 0)

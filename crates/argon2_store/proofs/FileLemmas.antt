@@ -3,7 +3,7 @@ use Rattle.argon2_store.proofs.Imports.{arith, ◌≡◌, ◌⊎◌, inl, inr, �
 use Rattle.argon2_store.proofs.Imports.{Stream, is_some, option_map, phc_of, PasswordHash, ◌↔◌, IsSome, IfErr, IfSome, IsErr, IsErrAnd, MatchResult, OnErr, OnOk, length}
 use Rattle.argon2_store.proofs.Imports.{StoreError, Ghosts, Phc, AccountAnswer, AccountEvent, AccountStep, Admits, HasPassword, Terms, name_of, Store, AccountError, NameUnknown}
 use Rattle.argon2_store.proofs.Imports.{get-other, get-same, Answers, Call, DrawsForText, error_of, HasFailed, IfRefused, IsBeforeOrAfter, IsClosed, IsErrorAt, IsOfFile, Runs}
-use Rattle.argon2_store.proofs.Imports.{Stays, store_of, terms_of, answered, read_of, unwritten, Changes, IsHonest, IsLong, IsOpen, KeepsNames, Leaves, StaysQuiet, changed}
+use Rattle.argon2_store.proofs.Imports.{Stays, database_of, terms_of, answered, read_of, unwritten, Changes, IsHonest, IsLong, IsOpen, KeepsNames, CrashLeaves, StaysQuiet, changed}
 use Rattle.argon2_store.proofs.Imports.{AccountFile, FileError, Account, TooLong, Closed, err_is}
 use Rattle.argon2_store.specs.AccountFile.{HasCause, HasNames}
 use Rattle.argon2_store.specs.declared.error.FileError.TheVariants.{OutOfMemory}
@@ -125,18 +125,18 @@ same_names g s a b (good, kept) (fine, held) clean is_open =
 
 -- a file whose test says so is not closed
 pub live_of : {S : Type 0} {g : Ghosts S} (old : AccountFile S g) {b : Bool}
-    → (IsHonest g (store_of old) → IsTrue b ↔ IsClosed old)
-    → b ≡ false → IsHonest g (store_of old) → IsClosed old → ⊥
+    → (IsHonest g (database_of old) → IsTrue b ↔ IsClosed old)
+    → b ≡ false → IsHonest g (database_of old) → IsClosed old → ⊥
 live_of old tests shut clean is = absurd (let hit = (tests clean).1 is in cc)
 
 -- a file that is closed
 pub shut_out : {S : Type 0} {g : Ghosts S} → Settled g → (old : AccountFile S g) (before : Store) → HasNames old before
-    → {b : Bool} → (IsHonest g (store_of old) → IsTrue b ↔ IsClosed old) → b ≡ true → Stays (Some Closed) before old old
+    → {b : Bool} → (IsHonest g (database_of old) → IsTrue b ↔ IsClosed old) → b ≡ true → Stays (Some Closed) before old old
 shut_out {S} {g} settled old before has tests shut = record {
   has = has;
   terms = refl;
-  quiet = quiet_itself g (store_of old);
-  left = leaves_kept g (store_of old) before (settled (store_of old)) has.1;
+  quiet = quiet_itself g (database_of old);
+  left = leaves_kept g (database_of old) before (settled (database_of old)) has.1;
   closed = λ clean is. (refl, refl);
   is_open = λ none. absurd cc;
   of_file = tt;
@@ -145,54 +145,54 @@ shut_out {S} {g} settled old before has tests shut = record {
 
 -- a call that reads an open file
 pub reads_of : {S : Type 0} {g : Ghosts S} {X : Type 0} → Settled g
-    → (old new : AccountFile S g) (names : Store) → HasNames old names → (IsHonest g (store_of old) → IsClosed old → ⊥)
-    → terms_of new ≡ terms_of old → (done : Result X StoreError) → KeepsNames g (store_of old) (store_of new) names done
+    → (old new : AccountFile S g) (names : Store) → HasNames old names → (IsHonest g (database_of old) → IsClosed old → ⊥)
+    → terms_of new ≡ terms_of old → (done : Result X StoreError) → KeepsNames g (database_of old) (database_of new) names done
     → (r : Result X FileError) → r ≡ read_of done → Stays (error_of r) names old new
 reads_of {g = g} {X = X} settled old new names has live terms done read r e = rw e (go done read)
   where
-    stays : (d : Result X StoreError) → KeepsNames g (store_of old) (store_of new) names d
-        → (error_of (read_of d) ≡ None → IsHonest g (store_of new) → IsOpen g (store_of new))
+    stays : (d : Result X StoreError) → KeepsNames g (database_of old) (database_of new) names d
+        → (error_of (read_of d) ≡ None → IsHonest g (database_of new) → IsOpen g (database_of new))
         → IfSome (error_of (read_of d)) IsOfFile
-        → (IsHonest g (store_of new) → IfSome (error_of (read_of d)) (HasCause (IsClosed old) (HasFailed old new) ⊥))
+        → (IsHonest g (database_of new) → IfSome (error_of (read_of d)) (HasCause (IsClosed old) (HasFailed old new) ⊥))
         → Stays (error_of (read_of d)) names old new
     stays d read is_open of_file cause = record {
       has = read.has;
       terms = terms;
       quiet = read.quiet;
-      left = leaves_quiet g settled (store_of old) (store_of new) names has.1 read.quiet;
+      left = leaves_quiet g settled (database_of old) (database_of new) names has.1 read.quiet;
       closed = λ clean is. absurd (live clean is);
       is_open = is_open;
       of_file = of_file;
       cause = cause;
     }
 
-    go : (d : Result X StoreError) → KeepsNames g (store_of old) (store_of new) names d → Stays (error_of (read_of d)) names old new
+    go : (d : Result X StoreError) → KeepsNames g (database_of old) (database_of new) names d → Stays (error_of (read_of d)) names old new
     go (Ok x) read = stays (Ok x) read (λ none. read.is_open) tt (λ clean. tt)
     go (Err f) read = stays (Err f) read (λ none. absurd cc) (is_of_file f) (λ clean.
-        let first : IsHonest g (store_of old) = omega (arith, clean, read.quiet.clean) in
+        let first : IsHonest g (database_of old) = omega (arith, clean, read.quiet.clean) in
         let sound = has.1.sound first (open_of _ (live first)) in
-        unwritten_cause (g.view (store_of old)) _ _ _ _
-        (λ b. let h : IsTrue (g.view (store_of old)).is_broken = b in cc) (λ more. more) f (read.cause clean))
+        unwritten_cause (g.view (database_of old)) _ _ _ _
+        (λ b. let h : IsTrue (g.view (database_of old)).is_broken = b in cc) (λ more. more) f (read.cause clean))
 
 -- the store does nothing
 pub unread : {S : Type 0} {g : Ghosts S} → Settled g → (old : AccountFile S g) (before : Store) → HasNames old before
-    → (IsHonest g (store_of old) → IsClosed old → ⊥) → Stays None before old old
+    → (IsHonest g (database_of old) → IsClosed old → ⊥) → Stays None before old old
 unread {g = g} settled old before has live = reads_of {X = Unit {0}} settled old old before has live refl (Ok tt) (record {
   has = has;
   is_open = λ clean. open_of _ (live clean);
   cause = λ clean. tt;
-  quiet = quiet_itself g (store_of old);
+  quiet = quiet_itself g (database_of old);
 }) (Ok tt) refl
 
 -- a call that leaves the names
 pub ends_with : {S : Type 0} {g : Ghosts S} {X : Type 0} {answers : Result X FileError → Store → Type 0} {May : Store → Type 0}
     {long : Type 0} {old new : AccountFile S g} {before : Store} (r : Result X FileError) → HasNames new before
-    → terms_of new ≡ terms_of old → StaysQuiet g (store_of old) (store_of new)
-    → (IsHonest g (store_of new) → IsOpen g (store_of old) → Leaves g (store_of new) (λ left. left ≡ before))
-    → (IsHonest g (store_of new) → answers r before) → May before
-    → OnOk r (IsHonest g (store_of new) → Leaves g (store_of new) (λ left. left ≡ before))
-    → (IsHonest g (store_of old) → IsClosed old → (r ≡ Err Closed) × (store_of new ≡ store_of old))
-    → (IsHonest g (store_of new) → IfErr r (HasCause (IsClosed old) (HasFailed old new) long))
+    → terms_of new ≡ terms_of old → StaysQuiet g (database_of old) (database_of new)
+    → (IsHonest g (database_of new) → IsOpen g (database_of old) → CrashLeaves g (database_of new) (λ left. left ≡ before))
+    → (IsHonest g (database_of new) → answers r before) → May before
+    → OnOk r (IsHonest g (database_of new) → CrashLeaves g (database_of new) (λ left. left ≡ before))
+    → (IsHonest g (database_of old) → IsClosed old → (r ≡ Err Closed) × (database_of new ≡ database_of old))
+    → (IsHonest g (database_of new) → IfErr r (HasCause (IsClosed old) (HasFailed old new) long))
     → Runs answers May long r old new before before
 ends_with {May = May} r has terms quiet left step may durable closed cause = record {
   has = has;
@@ -211,27 +211,27 @@ ends_with {May = May} r has terms quiet left step may durable closed cause = rec
 
 -- A call on a file that is not closed, which has read it.
 module _ {S : Type 0} {g : Ghosts S} {old mid : AccountFile S g} {before : Store} (reads : Stays None before old mid) where
-  live : IsHonest g (store_of old) → IsClosed old → ⊥
+  live : IsHonest g (database_of old) → IsClosed old → ⊥
   live clean is = let never = (reads.closed clean is).0 in cc
 
-  was_honest : IsHonest g (store_of mid) → IsHonest g (store_of old)
+  was_honest : IsHonest g (database_of mid) → IsHonest g (database_of old)
   was_honest clean = omega (arith, clean, reads.quiet.clean)
 
-  may_leave : {May : Store → Type 0} (new : AccountFile S g) {to : Store} → May before → (IsHonest g (store_of new) → May to)
-      → (IsHonest g (store_of new) → Leaves g (store_of new) (λ left. (left ≡ before) ⊎ (left ≡ to)))
-      → IsHonest g (store_of new) → Leaves g (store_of new) May
+  may_leave : {May : Store → Type 0} (new : AccountFile S g) {to : Store} → May before → (IsHonest g (database_of new) → May to)
+      → (IsHonest g (database_of new) → CrashLeaves g (database_of new) (λ left. (left ≡ before) ⊎ (left ≡ to)))
+      → IsHonest g (database_of new) → CrashLeaves g (database_of new) May
   may_leave {May} new first then crash clean db found =
       let left = crash clean db found in
       (left.0, left.1, elim left.2 [ inl b ↦ subst May (sym b) first | inr a ↦ subst May (sym a) (then clean) ])
 
-  closes_then : (new : AccountFile S g) → (IsHonest g (store_of new) → IsOpen g (store_of new) ⊎ HasFailed mid new)
-      → IsHonest g (store_of new) → IsOpen g (store_of new) ⊎ HasFailed old new
+  closes_then : (new : AccountFile S g) → (IsHonest g (database_of new) → IsOpen g (database_of new) ⊎ HasFailed mid new)
+      → IsHonest g (database_of new) → IsOpen g (database_of new) ⊎ HasFailed old new
   closes_then new closes clean =
       elim (closes clean) [ inl yet ↦ inl yet | inr more ↦ inr (omega (arith, reads.quiet.counts, more)) ]
 
   -- nothing is written
   pub writes_none : {X : Type 0} {answers : Result X FileError → Store → Type 0} {May : Store → Type 0} {long : Type 0}
-      → May before → (r : Result X FileError) → (IsHonest g (store_of mid) → answers r before)
+      → May before → (r : Result X FileError) → (IsHonest g (database_of mid) → answers r before)
       → IfErr r (λ f. (e : AccountError) × (f ≡ Account e)) → Runs answers May long r old mid before before
   writes_none {long = long} may r step why = ends_with r reads.has reads.terms reads.quiet reads.left step may
       (on_all r (λ clean. reads.left clean (open_of _ (live (was_honest clean))))) (λ clean h. absurd (live clean h))
@@ -240,9 +240,9 @@ module _ {S : Type 0} {g : Ghosts S} {old mid : AccountFile S g} {before : Store
   -- names are written, or stay as they were
   pub writes_all : {X : Type 0} {answers : Result X FileError → Store → Type 0} {May : Store → Type 0} {long : Type 0}
       {new : AccountFile S g} {to : Store} (x : X) → terms_of new ≡ terms_of mid
-      → ((e : StoreError) → answers (Err (unwritten e)) before) → May before → (IsHonest g (store_of new) → May to)
-      → (done : Result (Unit {0}) StoreError) → OnOk done (IsHonest g (store_of new) → answers (Ok x) to)
-      → Changes g (store_of mid) (store_of new) before to long done
+      → ((e : StoreError) → answers (Err (unwritten e)) before) → May before → (IsHonest g (database_of new) → May to)
+      → (done : Result (Unit {0}) StoreError) → OnOk done (IsHonest g (database_of new) → answers (Ok x) to)
+      → Changes g (database_of mid) (database_of new) before to long done
       → (r : Result X FileError) → r ≡ answered done x → (after : Store) × Runs answers May long r old new before after
   writes_all {new = new} {to = to} x same failed first then (Ok _) step change r e = (
     to,
@@ -276,8 +276,8 @@ module _ {S : Type 0} {g : Ghosts S} {old mid : AccountFile S g} {before : Store
       cause = λ clean.
           let first = change.honest clean in
           let sound = reads.has.1.sound first (reads.is_open refl first) in
-          unwritten_cause (g.view (store_of mid)) _ _ _ _
-          (λ b. let h : IsTrue (g.view (store_of mid)).is_broken = b in cc)
+          unwritten_cause (g.view (database_of mid)) _ _ _ _
+          (λ b. let h : IsTrue (g.view (database_of mid)).is_broken = b in cc)
           (λ more. omega (arith, reads.quiet.counts, more)) f (change.cause clean);
     }),
   )
@@ -291,15 +291,15 @@ module _ {S : Type 0} {g : Ghosts S} {X : Type 0} (call : Call X) {name : List �
   Ends r new = (after : Store) × Runs (Answers (terms_of old) before call) (IsBeforeOrAfter X (terms_of old) before call)
       (IsLong (name_of (call (Err NameUnknown)))) r old new before after
 
-  module _ {found o : Option Phc} (shows : HasNames mid before → IsHonest g (store_of mid) → get before name ≡ found)
+  module _ {found o : Option Phc} (shows : HasNames mid before → IsHonest g (database_of mid) → get before name ≡ found)
       (is : found ≡ o) where
     under_old : (answer : Result X AccountError) (p : Option Phc) → AccountAnswer (terms_of mid) (call answer) o p
-        → IsHonest g (store_of mid) → AccountAnswer (terms_of old) (call answer) (get before (name_of (call answer))) p
+        → IsHonest g (database_of mid) → AccountAnswer (terms_of old) (call answer) (get before (name_of (call answer))) p
     under_old answer p step clean = subst (λ q. AccountAnswer (terms_of old) (call answer) q p)
         (sym (ap (get before) (calls answer) ∙ (shows reads.has clean ∙ is)))
         (subst (λ (t : Terms). AccountAnswer t (call answer) o p) reads.terms step)
 
-    stays : (answer : Result X AccountError) → AccountAnswer (terms_of mid) (call answer) o o → IsHonest g (store_of mid)
+    stays : (answer : Result X AccountError) → AccountAnswer (terms_of mid) (call answer) o o → IsHonest g (database_of mid)
         → AccountStep (terms_of old) before (call answer) before
     stays answer same clean = (
       subst (AccountAnswer (terms_of old) (call answer) (get before (name_of (call answer))))
@@ -317,7 +317,7 @@ module _ {S : Type 0} {g : Ghosts S} {X : Type 0} (call : Call X) {name : List �
     pub accepts : (x : X) → AccountAnswer (terms_of mid) (call (Ok x)) o o → Ends (Ok x) mid
     accepts x answer = (before, writes_none reads (inl refl) (Ok x) (stays (Ok x) answer) tt)
 
-    moves_to : (p : Option Phc) (x : X) → AccountAnswer (terms_of mid) (call (Ok x)) o p → IsHonest g (store_of mid)
+    moves_to : (p : Option Phc) (x : X) → AccountAnswer (terms_of mid) (call (Ok x)) o p → IsHonest g (database_of mid)
         → AccountStep (terms_of old) before (call (Ok x)) (changed before name p)
     moves_to p x answer clean =
         subst (λ (n : List ℕ). AccountStep (terms_of old) before (call (Ok x)) (changed before n p)) (calls (Ok x))
@@ -327,11 +327,11 @@ module _ {S : Type 0} {g : Ghosts S} {X : Type 0} (call : Call X) {name : List �
     pub keeps : Settled g → {new : AccountFile S g} (p : Option Phc) (did x : X) → terms_of new ≡ terms_of mid
         → AccountAnswer (terms_of mid) (call (Ok did)) o p → AccountAnswer (terms_of mid) (call (Ok x)) o o
         → (done : Result (Unit {0}) StoreError) → IsErr done
-        → Changes g (store_of mid) (store_of new) before (changed before name p) (IsLong name) done
-        → {later : Bool} → (IsHonest g (store_of new) → IsTrue later ↔ IsClosed new) → later ≡ false → Ends (Ok x) new
+        → Changes g (database_of mid) (database_of new) before (changed before name p) (IsLong name) done
+        → {later : Bool} → (IsHonest g (database_of new) → IsTrue later ↔ IsClosed new) → later ≡ false → Ends (Ok x) new
     keeps settled p did x same wrote answer (Ok _) failed change tests shut = absurd cc
     keeps settled {new} p did x same wrote answer (Err f) failed change tests shut =
-        let is_open : IsHonest g (store_of new) → IsOpen g (store_of new) = λ clean.
+        let is_open : IsHonest g (database_of new) → IsOpen g (database_of new) = λ clean.
         open_of _ (λ is. absurd (let hit = (tests clean).1 is in cc)) in (
           before,
           record {
@@ -343,7 +343,7 @@ module _ {S : Type 0} {g : Ghosts S} {X : Type 0} (call : Call X) {name : List �
             refused = tt;
             crash = λ clean was_open. may_leave reads new (inl refl) (λ now. inr (did, moves_to p did wrote (change.honest now)))
                 change.crash clean;
-            durable = λ clean. leaves_kept g (store_of new) before (settled (store_of new)) change.kept.1 clean (is_open clean);
+            durable = λ clean. leaves_kept g (database_of new) before (settled (database_of new)) change.kept.1 clean (is_open clean);
             closed = λ clean h. absurd (live reads clean h);
             closes = λ clean was_open. inl (is_open clean);
             cause = λ clean. tt;
@@ -353,14 +353,14 @@ module _ {S : Type 0} {g : Ghosts S} {X : Type 0} (call : Call X) {name : List �
     -- an accepted call that writes its name's text
     pub writes : {new : AccountFile S g} (p : Option Phc) (x : X) → terms_of new ≡ terms_of mid
         → AccountAnswer (terms_of mid) (call (Ok x)) o p → (done : Result (Unit {0}) StoreError)
-        → Changes g (store_of mid) (store_of new) before (changed before name p) (IsLong name) done
+        → Changes g (database_of mid) (database_of new) before (changed before name p) (IsLong name) done
         → (r : Result X FileError) → r ≡ answered done x → Ends r new
     writes {new} p x same answer done change r e =
-        let moves : IsHonest g (store_of new) → AccountStep (terms_of old) before (call (Ok x)) (changed before name p) =
+        let moves : IsHonest g (database_of new) → AccountStep (terms_of old) before (call (Ok x)) (changed before name p) =
         λ clean. moves_to p x answer (change.honest clean) in
         writes_all reads x same (λ f. unread_step X (terms_of old) before call (unwritten f) (is_of_file f)) (inl refl)
         (λ clean. inr (x, moves clean)) done (on_all done moves)
-        (subst (λ (n : List ℕ). Changes g (store_of mid) (store_of new) before (changed before name p) (IsLong n) done)
+        (subst (λ (n : List ℕ). Changes g (database_of mid) (database_of new) before (changed before name p) (IsLong n) done)
         (sym (calls (Err NameUnknown))) change) r e
 
 -- a call on a file that can't be read

@@ -70,14 +70,14 @@ pub use Rattle.argon2_base.specs.Texts.{is_value, is_value_char, strict_base64}
 pub use Rattle.argon2_base.specs.declared.phc.hash.PasswordHash.{PasswordHash}
 pub use Rattle.rand_core.specs.Stream.{Stream, fill_bytes}
 pub use Rattle.argon2_store.specs.AccountFile.{AddsOrNone, Answers, Call, DrawsForText, DrawsOnce, HasFailed, IfRefused, IsBeforeOrAfter, IsClosed, IsErrorAt, IsFrom, IsOfFile}
-pub use Rattle.argon2_store.specs.AccountFile.{Runs, Serves, Stays, error_of, store_of, terms_of}
+pub use Rattle.argon2_store.specs.AccountFile.{Runs, Serves, Stays, error_of, database_of, terms_of}
 pub use Rattle.argon2_store.specs.Adding.{AddsAll, AddsName, WritesAll, entry_of}
 pub use Rattle.argon2_store.specs.Errors.{IsOfDatabase, answered, read_of, unwritten}
 pub use Rattle.argon2_store.specs.Opening.{AreUnharmed, FoundIn, HoldsNames, IsAfterOpens, IsReadAs, IsTableOf, IsUnstarted, LeavesNames, MayHave, StandsFor, account}
 pub use Rattle.argon2_store.specs.Rows.{AreTexts, IsAccount, IsFoundAs, line, lines, lines_of, row_of, rows_of}
 pub use Rattle.argon2_store.specs.Runs.{AreEventsOf, Did, Does, EndsRun, FileCall, IsFoundAfter, IsLate, IsLateEvent, IsLateOf, IsShutOut, Run, add_all, added, event_of, events_of}
 pub use Rattle.argon2_store.specs.Runs.{login, on_name, over_file, reads}
-pub use Rattle.argon2_store.specs.Table.{Changes, HasBegun, HasNames, HasSome, Holds, IsFresh, IsHonest, IsKept, IsLong, IsOpen, IsReading, KeepsNames, Leaves, Sees, StaysQuiet}
+pub use Rattle.argon2_store.specs.Table.{Changes, HasBegun, HasNames, HasSome, Holds, IsUnwritten, IsHonest, IsKept, IsLong, IsOpen, IsReading, KeepsNames, CrashLeaves, Sees, StaysQuiet}
 pub use Rattle.argon2_store.specs.Table.{Writes, changed, done_of}
 pub use Rattle.argon2_store.specs.declared.account_file.AccountFile.{AccountFile}
 pub use Rattle.argon2_store.specs.declared.error.FileError.{FileError}

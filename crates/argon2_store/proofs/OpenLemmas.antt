@@ -3,7 +3,7 @@ use Rattle.argon2_store.proofs.Imports.{◌≡◌, ℕ, Bool, List, [], ◌∷�
 use Rattle.argon2_store.proofs.Imports.{seen_image, AreWhole, Image, PageMap, IsSoundFile, in_use, IsBlankFile, IsUnreadable, Recovers, RecoversAs, RecoversAs-from, readable}
 use Rattle.argon2_store.proofs.Imports.{trimmed_whole, clean_if_left, clean_is, size_is_allowed, clean_of, no_doubt, catalog_tree, Trees, IsClean, rows_at, not_broken, settled_at}
 use Rattle.argon2_store.proofs.Imports.{both_clean, SeenMayStay, files, reading, schema_in, schema_of, state, view, catalog_rows, all_shapes, listed_from, kept_schema, files_of}
-use Rattle.argon2_store.proofs.Imports.{image, state_of, wanted_by, FileStore, AreUnharmed, FoundIn, IsUnstarted, MayHave, StandsFor, account, IsFresh, ◌≤◌, true, false, cond}
+use Rattle.argon2_store.proofs.Imports.{image, state_of, wanted_by, FileStore, AreUnharmed, FoundIn, IsUnstarted, MayHave, StandsFor, account, IsUnwritten, ◌≤◌, true, false, cond}
 use Rattle.argon2_store.proofs.Imports.{Option, None, length, slice_index, unwrap_or, zero-add, ◌-◌, ◌*◌, Some, cases_eq, plain, column, be32, part, IsIgnored, Replays}
 use Rattle.argon2_store.proofs.Imports.{pages_after, part_within, slice_index-part, coded_list, range_with_len, length-map, Adopts, reserved, sealed, stored_size, length-sealed}
 use Rattle.argon2_store.proofs.Imports.{recovers_once, Index, IsFile, recovers, same_listing, file_trees, Store, HoldsNames, IsAfterOpens, IsTableOf, LeavesNames, rows_of, Holds}
@@ -46,7 +46,7 @@ unfolding catalog
 lists it clean is = rw clean (catalog_rows _ (schema_of it) _ ∙ ap (listed_from 0) is)
 
 pub fresh : {D : Type 0} {g : Ghosts D} (it : FileStore D g) → IsReady it → schema_of it ≡ account ∷ [] → IsClean (view it)
-    → IsFresh (view it)
+    → IsUnwritten (view it)
 fresh it ready is clean = record {
   unbroken = ready.sound clean;
   settled = ready.clean;
@@ -183,7 +183,7 @@ module _ {D : Type 0} {g : Ghosts D} where
 
 -- The rows were read, or not all of them: whatever a crash leaves has those that the open found.
 pub unharmed_by_reads : {D : Type 0} {g : Ghosts D} (old : D × D) (it end : FileStore D g) (new : D × D) → SeenMayStay g
-    → IsQuietCall it end → (IsClean (view it) → IsFresh (view it))
+    → IsQuietCall it end → (IsClean (view it) → IsUnwritten (view it))
     → (IsClean (view it) → FoundIn 4096 (seen_image g old.0 old.1) ((view it).committed 0)) → new ≡ files end
     → AreUnharmed g old new
 unfolding catalog

@@ -7,7 +7,7 @@ use Rattle.argon2_store.proofs.Imports.{entries_sorted, find, put, is_sorted, be
 use Rattle.argon2_store.proofs.Imports.{ordering_then, Text, plain, entry_cmp, Row, column, number, row_cmp, value_cmp-Text, insert_entry, remove_entry, IsStorable, is_int}
 use Rattle.argon2_store.proofs.Imports.{phc_text, row_of, rows_of, IsLong, IsTrue, prefix_cmp, Shape, Index, Forward, from_key, order_of, sought, View, Advances, with_cursor}
 use Rattle.argon2_store.proofs.Imports.{IsFoundAs, ◌++◌, append_assoc, append-nil, empty, len-empty, len-entries, get-empty, ⊤, Ghosts, Trees, IsIndex, IsOrdered, IsAccount, Holds}
-use Rattle.argon2_store.proofs.Imports.{IsFresh, IsHonest, IsKept, IsReading}
+use Rattle.argon2_store.proofs.Imports.{IsUnwritten, IsHonest, IsKept, IsReading}
 use Rattle.std.proofs.lemmas.List.{nil_from_length}
 use Rattle.std.proofs.lemmas.Map.Text.{is_eq-slice_cmp}
 use Rattle.std.specs.Float.{NotNan}
@@ -426,7 +426,7 @@ texts_step before met ((k, v), good, at) texts = texts_changed before k (Some v)
 
 -- all rows are read
 pub all_read : {S : Type 0} (g : Ghosts S) (old new : S) (names : Store) (met : Row)
-    → (IsHonest g new → IsHonest g old) → (IsHonest g old → IsFresh (g.view old))
+    → (IsHonest g new → IsHonest g old) → (IsHonest g old → IsUnwritten (g.view old))
     → (g.view old).shape 0 ≡ Index plain → (mid : S) → (IsHonest g new → IsReading (g.view old) (g.view mid) names)
     → (IsHonest g new → Advances (g.view mid) (g.view new) 0 met false)
     → IsKept g new names × (IsHonest g new → (g.view old).committed 0 ≡ rows_of names)

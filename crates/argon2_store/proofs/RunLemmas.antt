@@ -1,9 +1,9 @@
 -- What calls make of a file, and what an open finds after them.
 use Rattle.argon2_store.proofs.Imports.{arith, ◌≡◌, ℕ, Bool, true, false, List, [], ◌∷◌, ◌++◌, map, Result, Ok, Err, inl, inr, refl, sym, subst, ◌∙◌, append_assoc, reverse-append}
 use Rattle.argon2_store.proofs.Imports.{∥∥₁_elim, ∥∥₁_map, flat_map, ◌⊎◌, Option, IsSome, SeenMayStay, settled_at, FileStore, Trees, Ghosts, AccountEvent, AccountRun, AccountStep}
-use Rattle.argon2_store.proofs.Imports.{AreTerms, Terms, adding, Store, AddsOrNone, Call, IsBeforeOrAfter, IsClosed, Runs, Serves, Stays, store_of, terms_of, AddsAll, AreTexts}
+use Rattle.argon2_store.proofs.Imports.{AreTerms, Terms, adding, Store, AddsOrNone, Call, IsBeforeOrAfter, IsClosed, Runs, Serves, Stays, database_of, terms_of, AddsAll, AreTexts}
 use Rattle.argon2_store.proofs.Imports.{AreEventsOf, Did, Does, EndsRun, FileCall, IsFoundAfter, IsLate, IsLateEvent, IsLateOf, IsShutOut, Run, add_all, added, event_of, events_of}
-use Rattle.argon2_store.proofs.Imports.{login, on_name, over_file, reads, IsHonest, IsOpen, Leaves, StaysQuiet, AccountFile, FileError, Account, Closed}
+use Rattle.argon2_store.proofs.Imports.{login, on_name, over_file, reads, IsHonest, IsOpen, CrashLeaves, StaysQuiet, AccountFile, FileError, Account, Closed}
 use Rattle.argon2_store.specs.AccountFile.{HasNames, IsReady}
 use Rattle.argon2_store.proofs.TableLemmas.{Settled, leaves_quiet}
 use Rattle.argon2_store.proofs.OpenLemmas.{next_open}
@@ -41,8 +41,8 @@ module _ {S : Type 0} {g : Ghosts S} (settled : Settled g) (terms : Terms) (firs
     pub names : Store
     pub has : HasNames file names
     pub under : terms_of file ≡ terms
-    pub run : IsHonest g (store_of file) → AccountRun terms first events names
-    pub left : IsHonest g (store_of file) → Leaves g (store_of file)
+    pub run : IsHonest g (database_of file) → AccountRun terms first events names
+    pub left : IsHonest g (database_of file) → CrashLeaves g (database_of file)
         (λ left. (late : List AccountEvent) × Late late × AccountRun terms first (late ++ events) left)
 
   module _ (calls : List FileCall) (old new : AccountFile S g)
@@ -54,20 +54,20 @@ module _ {S : Type 0} {g : Ghosts S} (settled : Settled g) (terms : Terms) (firs
     abbrev Now : (List AccountEvent → Type 0) → Type 0 → List AccountEvent → Type 0
     Now Late Shut late = (late ≡ []) ⊎ (Late late ⊎ (Shut × IsLate calls late))
 
-    open_or_not : {P : Type 0} → (IsOpen g (store_of old) → P) → (IsClosed old → P) → P
-    open_or_not {P} if_open if_closed = go (g.view (store_of old)).is_open refl
+    open_or_not : {P : Type 0} → (IsOpen g (database_of old) → P) → (IsClosed old → P) → P
+    open_or_not {P} if_open if_closed = go (g.view (database_of old)).is_open refl
       where
-        go : (b : Bool) → (g.view (store_of old)).is_open ≡ b → P
+        go : (b : Bool) → (g.view (database_of old)).is_open ≡ b → P
         go true is = if_open is
         go false is = if_closed is
 
     -- the names are as they were, and a crash leaves them, or with some events that come late
     stays : (Late : List AccountEvent → Type 0) (Shut : Type 0) → HasNames new before.names → terms_of new ≡ terms_of old
-        → (IsHonest g (store_of new) → IsHonest g (store_of old))
-        → (IsHonest g (store_of new) → IsOpen g (store_of old) → Leaves g (store_of new)
+        → (IsHonest g (database_of new) → IsHonest g (database_of old))
+        → (IsHonest g (database_of new) → IsOpen g (database_of old) → CrashLeaves g (database_of new)
         (λ left. (left ≡ before.names) ⊎ ((late : List AccountEvent) × Late late × AccountRun terms before.names late left)))
-        → (IsHonest g (store_of new) → IsClosed old
-        → Shut × ((db : Trees) → g.recovers (store_of new) db → g.recovers (store_of old) db))
+        → (IsHonest g (database_of new) → IsClosed old
+        → Shut × ((db : Trees) → g.recovers (database_of new) db → g.recovers (database_of old) db))
         → Reached events (Now Late Shut) new
     stays Late Shut has same honest crash closed = record {
       names = before.names;
@@ -96,12 +96,12 @@ module _ {S : Type 0} {g : Ghosts S} (settled : Settled g) (terms : Terms) (firs
 
     -- events that are in the file
     lasts : (Late : List AccountEvent → Type 0) (Shut : Type 0) (newer : List AccountEvent) (after : Store)
-        → HasNames new after → terms_of new ≡ terms_of old → (IsHonest g (store_of new) → IsHonest g (store_of old))
-        → (IsHonest g (store_of new) → AccountRun terms before.names newer after)
-        → (IsHonest g (store_of new) → Leaves g (store_of new) (λ left. left ≡ after))
+        → HasNames new after → terms_of new ≡ terms_of old → (IsHonest g (database_of new) → IsHonest g (database_of old))
+        → (IsHonest g (database_of new) → AccountRun terms before.names newer after)
+        → (IsHonest g (database_of new) → CrashLeaves g (database_of new) (λ left. left ≡ after))
         → Reached (newer ++ events) (Now Late Shut) new
     lasts Late Shut newer after has same honest later left =
-        let run : IsHonest g (store_of new) → AccountRun terms first (newer ++ events) after = λ clean.
+        let run : IsHonest g (database_of new) → AccountRun terms first (newer ++ events) after = λ clean.
         run_then terms first before.names after newer events (before.run (honest clean)) (later clean) in
         record {
           names = after;
@@ -142,9 +142,9 @@ module _ {S : Type 0} {g : Ghosts S} (settled : Settled g) (terms : Terms) (firs
     late_names es left (inr adds) = inr (added es, refl, added_run terms es before.names left adds)
 
     -- a refusal leaves what was there
-    refused_left : StaysQuiet g (store_of old) (store_of new) → IsHonest g (store_of new) → IsOpen g (store_of old)
-        → Leaves g (store_of new) (λ left. left ≡ before.names)
-    refused_left = leaves_quiet g settled (store_of old) (store_of new) before.names before.has.1
+    refused_left : StaysQuiet g (database_of old) (database_of new) → IsHonest g (database_of new) → IsOpen g (database_of old)
+        → CrashLeaves g (database_of new) (λ left. left ≡ before.names)
+    refused_left = leaves_quiet g settled (database_of old) (database_of new) before.names before.has.1
 
     -- a call on one name
     serves : {X : Type 0} (call : Call X) (result : Result X FileError) → Serves call result old new
@@ -215,8 +215,8 @@ pub ends_run : {D : Type 0} (g : disk.Ghosts D) → SeenMayStay g → (last : Ac
 ends_run {D} g stay last terms names first calls before ready did clean may opens left after next holds =
     let settled = λ (it : FileStore D g) (db : Trees). settled_at it stay db in
     let leaves = (reached {S = FileStore D g} {g = over_file} settled terms names first ready calls last did).left clean in
-    let listed = λ (db : Trees) (found : over_file.recovers (store_of last) db). (leaves db found).1.1 in
-    ∥∥₁_map (next_open {g = g} (store_of last) listed before may opens left after next holds) (λ found.
+    let listed = λ (db : Trees) (found : over_file.recovers (database_of last) db). (leaves db found).1.1 in
+    ∥∥₁_map (next_open {g = g} (database_of last) listed before may opens left after next holds) (λ found.
     let (left_names, held, late) = leaves found.0 found.1 in
     let texts = run_texts terms ready.sound names left_names (late.0 ++ flat_map events_of calls) ready.has.0 late.2 in
     let same = rows_of-once left_names next texts holds.0 (sym held.0 ∙ found.2.0) in

@@ -2,7 +2,7 @@
 use Rattle.argon2_store.proofs.Imports.{◌≡◌, ℕ, ◌≤◌, List, Option, Some, None, Result, Ok, Err, Bool, true, false, refl, sym, ap, ap₂, subst, ◌∙◌, IsTrue, arith, inl, inr, ◌⊎◌}
 use Rattle.argon2_store.proofs.Imports.{All, IfErr, IfOk, MatchResult, OnOk, Coded-set, ∥∥₁_elim, ∥∥₁_map, remove, MoreFaults, plain, Row, StoreError, Shape, Index, Ghosts}
 use Rattle.argon2_store.proofs.Imports.{catalog_tree, Trees, order_of, View, Commits, IsFailure, KeepsSchema, OnlyWrites, SetsTree, doubt, Phc, Store, AreTexts, rows_of, Changes}
-use Rattle.argon2_store.proofs.Imports.{HasBegun, HasNames, HasSome, Holds, IsHonest, IsKept, IsOpen, KeepsNames, Leaves, Sees, StaysQuiet, Writes, changed, done_of}
+use Rattle.argon2_store.proofs.Imports.{HasBegun, HasNames, HasSome, Holds, IsHonest, IsKept, IsOpen, KeepsNames, CrashLeaves, Sees, StaysQuiet, Writes, changed, done_of}
 use Rattle.sqlite_trees.specs.contracts.store.Shape.{the_row}
 use Rattle.sqlite_trees.specs.declared.error.StoreError.TheVariants.{OutOfMemory, Broken, Unstorable}
 use Rattle.sqlite_trees.specs.View.{HasCause}
@@ -82,13 +82,13 @@ Settled {S} g = (s : S) (db : Trees) → IsOpen g s → g.recovers s db → db �
 -- a crash leaves the names of a store that is open
 pub leaves_kept : {S : Type 0} (g : Ghosts S) (s : S) (names : Store)
     → ((db : Trees) → IsOpen g s → g.recovers s db → db ≡ (g.view s).committed)
-    → IsKept g s names → IsHonest g s → IsOpen g s → Leaves g s (λ left. left ≡ names)
+    → IsKept g s names → IsHonest g s → IsOpen g s → CrashLeaves g s (λ left. left ≡ names)
 leaves_kept g s names settled kept clean is_open db found =
     (names, subst (λ t. Holds t names) (sym (settled db is_open found)) (kept.committed clean is_open), refl)
 
 -- also after a call that changed nothing
 pub leaves_quiet : {S : Type 0} (g : Ghosts S) → Settled g → (old new : S) (names : Store) → IsKept g old names
-    → StaysQuiet g old new → IsHonest g new → IsOpen g old → Leaves g new (λ left. left ≡ names)
+    → StaysQuiet g old new → IsHonest g new → IsOpen g old → CrashLeaves g new (λ left. left ≡ names)
 leaves_quiet g settled old new names kept quiet clean is_open db found =
     leaves_kept g old names (settled old) kept (omega (arith, clean, quiet.clean)) is_open db (quiet.outcomes db found)
 
@@ -409,9 +409,9 @@ module _ {S : Type 0} {g : Ghosts S} where
         → ((IsHonest g new → HasBegun g mid before × OnOk done (Sees (g.view mid) after))
         → MatchResult result (λ _. IsKept g new after) (λ _. IsKept g new before))
         → (IsHonest g new → HasBegun g mid before → OnOk done (Sees (g.view mid) after)
-        → Leaves g new (λ left. (left ≡ before) ⊎ (left ≡ after)))
+        → CrashLeaves g new (λ left. (left ≡ before) ⊎ (left ≡ after)))
         → (IsHonest g new → OnOk done (Sees (g.view mid) after) → OnOk result
-        (IsOpen g new × Leaves g new (λ left. left ≡ after)))
+        (IsOpen g new × CrashLeaves g new (λ left. left ≡ after)))
         → (IsHonest g new → MatchResult done
         (λ _. IfErr result (HasCause (g.view mid) (MoreFaults (g.faults mid) (g.faults new)) ⊥)) (λ e. result ≡ Err e))
         → (IsHonest g new → IsOpen g mid → IsOpen g new ⊎ MoreFaults (g.faults mid) (g.faults new))

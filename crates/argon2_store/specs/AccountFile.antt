@@ -15,7 +15,7 @@ use Rattle.argon2_store.specs.Adding.{AddsAll, IsFirstRefused}
 use Rattle.argon2_store.specs.Opening.{HoldsNames, IsDamaged}
 use Rattle.argon2_store.specs.Shown as table
 use Rattle.argon2_store.specs.Table as rows
-use Rattle.argon2_store.specs.Table.{IsHonest, IsLong, IsOpen, Leaves, StaysQuiet}
+use Rattle.argon2_store.specs.Table.{IsHonest, IsLong, IsOpen, CrashLeaves, StaysQuiet}
 use Rattle.argon2_store.specs.declared.account_file.AccountFile.{AccountFile}
 use Rattle.argon2_store.specs.declared.error.FileError.{FileError}
 use Rattle.argon2_store.specs.declared.error.OpenError.{OpenError}
@@ -86,13 +86,13 @@ IsOfFile _ = ⊤
 
 module _ {S : Type 0} {g : Ghosts S} where
   -- the store that holds the names
-  abbrev pub store_of : AccountFile S g → S
-  store_of file = table.file_of file.table
+  abbrev pub database_of : AccountFile S g → S
+  database_of file = table.file_of file.table
 
   -- The names that a file has, each with its text. While the file is open and the disk has given no wrong answer that was
   -- taken as true, they are those of its rows, and nothing else.
   abbrev pub HasNames : AccountFile S g → Store → Type 0
-  HasNames file names = rows.HasNames g (store_of file) names
+  HasNames file names = rows.HasNames g (database_of file) names
 
   -- what passwords are hashed and verified under
   abbrev pub terms_of : AccountFile S g → Terms
@@ -100,25 +100,25 @@ module _ {S : Type 0} {g : Ghosts S} where
 
   -- the file has to be opened again
   abbrev pub IsClosed : AccountFile S g → Type 0
-  IsClosed file = (g.view (store_of file)).is_open ≡ false
+  IsClosed file = (g.view (database_of file)).is_open ≡ false
 
   -- the disk failed or refused from the one to the other
   abbrev pub HasFailed : AccountFile S g → AccountFile S g → Type 0
-  HasFailed old new = rows.HasFailed g (store_of old) (store_of new)
+  HasFailed old new = rows.HasFailed g (database_of old) (database_of new)
 
   -- A file that was opened under these terms and has these names: it is not closed, and a crash leaves its names.
   pub record IsReady (terms : Terms) (names : Store) (file : AccountFile S g) : Type 0 where
     pub sound : AreTerms terms
     pub under : terms_of file ≡ terms
     pub has : HasNames file names
-    pub is_open : IsHonest g (store_of file) → IsOpen g (store_of file)
-    pub left : IsHonest g (store_of file) → Leaves g (store_of file) (λ left. left ≡ names)
+    pub is_open : IsHonest g (database_of file) → IsOpen g (database_of file)
+    pub left : IsHonest g (database_of file) → CrashLeaves g (database_of file) (λ left. left ≡ names)
 
   -- a file that was opened, with the names that the two files held, and not behind a damaged log
   abbrev pub IsFrom : Terms → Image → AccountFile S g → Type 0
   IsFrom terms image file =
-      (names : Store) × IsReady terms names file × (IsHonest g (store_of file) → HoldsNames image names)
-      × (IsHonest g (store_of file) → ¬ IsDamaged image.log)
+      (names : Store) × IsReady terms names file × (IsHonest g (database_of file) → HoldsNames image names)
+      × (IsHonest g (database_of file) → ¬ IsDamaged image.log)
 
   -- a file that was opened, the refusal of the terms, or another error under sound terms
   abbrev pub Opens : Terms → Image → Result (AccountFile S g) OpenError → Type 0
@@ -132,16 +132,16 @@ module _ {S : Type 0} {g : Ghosts S} where
     pub has : HasNames new names
     pub terms : terms_of new ≡ terms_of old
     -- no fault is forgotten, a crash has no new outcome, and nothing but a failure of the disk closes the file
-    pub quiet : StaysQuiet g (store_of old) (store_of new)
+    pub quiet : StaysQuiet g (database_of old) (database_of new)
     -- a crash leaves the names, at any moment of the call and after it
-    pub left : IsHonest g (store_of new) → IsOpen g (store_of old) → Leaves g (store_of new) (λ left. left ≡ names)
+    pub left : IsHonest g (database_of new) → IsOpen g (database_of old) → CrashLeaves g (database_of new) (λ left. left ≡ names)
     -- a file that is closed stays so, and is as it was
-    pub closed : IsHonest g (store_of old) → IsClosed old → (error ≡ Some Closed) × (store_of new ≡ store_of old)
+    pub closed : IsHonest g (database_of old) → IsClosed old → (error ≡ Some Closed) × (database_of new ≡ database_of old)
     -- after a success it is open
-    pub is_open : error ≡ None → IsHonest g (store_of new) → IsOpen g (store_of new)
+    pub is_open : error ≡ None → IsHonest g (database_of new) → IsOpen g (database_of new)
     -- an error is one of the file, and has its cause
     pub of_file : IfSome error IsOfFile
-    pub cause : IsHonest g (store_of new) → IfSome error (HasCause (IsClosed old) (HasFailed old new) ⊥)
+    pub cause : IsHonest g (database_of new) → IfSome error (HasCause (IsClosed old) (HasFailed old new) ⊥)
 
   -- a call that changes no name
   abbrev pub Reads : {X : Type 0} → Result X FileError → AccountFile S g → AccountFile S g → Type 0
@@ -152,23 +152,23 @@ module _ {S : Type 0} {g : Ghosts S} where
   pub record Runs {X : Type 0} (answers : Result X FileError → Store → Type 0) (May : Store → Type 0) (too_long : Type 0)
       (result : Result X FileError) (old new : AccountFile S g) (before after : Store) : Type 0 where
     pub has : HasNames new after
-    pub step : IsHonest g (store_of new) → answers result after
+    pub step : IsHonest g (database_of new) → answers result after
     pub terms : terms_of new ≡ terms_of old
-    pub honest : IsHonest g (store_of new) → IsHonest g (store_of old)
+    pub honest : IsHonest g (database_of new) → IsHonest g (database_of old)
     -- an error leaves all as it was
     pub unchanged : OnErr result (after ≡ before)
     -- a refusal of the accounts writes nothing: no fault is forgotten, and a crash has no new outcome
-    pub refused : IfErr result (IfRefused (StaysQuiet g (store_of old) (store_of new)))
+    pub refused : IfErr result (IfRefused (StaysQuiet g (database_of old) (database_of new)))
     -- what a crash at any moment of the call may leave
-    pub crash : IsHonest g (store_of new) → IsOpen g (store_of old) → Leaves g (store_of new) May
+    pub crash : IsHonest g (database_of new) → IsOpen g (database_of old) → CrashLeaves g (database_of new) May
     -- once it has returned `Ok`, every crash leaves the names that there are now
-    pub durable : OnOk result (IsHonest g (store_of new) → Leaves g (store_of new) (λ left. left ≡ after))
+    pub durable : OnOk result (IsHonest g (database_of new) → CrashLeaves g (database_of new) (λ left. left ≡ after))
     -- a file that is closed stays so, and is as it was
-    pub closed : IsHonest g (store_of old) → IsClosed old → (result ≡ Err Closed) × (store_of new ≡ store_of old)
+    pub closed : IsHonest g (database_of old) → IsClosed old → (result ≡ Err Closed) × (database_of new ≡ database_of old)
     -- nothing but a failure of the disk closes it
-    pub closes : IsHonest g (store_of new) → IsOpen g (store_of old) → IsOpen g (store_of new) ⊎ HasFailed old new
+    pub closes : IsHonest g (database_of new) → IsOpen g (database_of old) → IsOpen g (database_of new) ⊎ HasFailed old new
     -- each error has its cause
-    pub cause : IsHonest g (store_of new) → IfErr result (HasCause (IsClosed old) (HasFailed old new) too_long)
+    pub cause : IsHonest g (database_of new) → IfErr result (HasCause (IsClosed old) (HasFailed old new) too_long)
 
   -- A call on one name. A crash leaves the names from before it, or those that it was to leave.
   abbrev pub Serves : {X : Type 0} → Call X → Result X FileError → AccountFile S g → AccountFile S g → Type 0
@@ -185,7 +185,7 @@ module _ {S : Type 0} {g : Ghosts S} where
   -- once a call is accepted, the name has a text that accepts the password
   abbrev pub Grants : {X : Type 0} → List ℕ → List ℕ → Result X FileError → AccountFile S g → AccountFile S g → Type 0
   Grants name password result old new = (before after : Store) → HasNames old before → HasNames new after →
-      OnOk result (IsHonest g (store_of new) → HasPassword (terms_of new) after name password)
+      OnOk result (IsHonest g (database_of new) → HasPassword (terms_of new) after name password)
 
 -- ---- what the generator has left
 

@@ -10,7 +10,7 @@ use Rattle.sqlite_wal.specs.Recovery.{Image}
 use Rattle.argon2_accounts.specs.Accounts.{AccountEvent, AccountRun, AreTerms, HasGiven, Terms, adding, given}
 use Rattle.argon2.specs.NamedTexts.{Store, newest}
 use Rattle.argon2.specs.declared.login.answers.Accepted.{Accepted}
-use Rattle.argon2_store.specs.AccountFile.{AddsOrNone, Call, HasNames, IsReady, Serves, Stays, store_of}
+use Rattle.argon2_store.specs.AccountFile.{AddsOrNone, Call, HasNames, IsReady, Serves, Stays, database_of}
 use Rattle.argon2_store.specs.Opening.{HoldsNames, IsAfterOpens}
 use Rattle.argon2_store.specs.Table.{IsHonest}
 use Rattle.argon2_store.specs.declared.account_file.AccountFile.{AccountFile}
@@ -112,8 +112,8 @@ over_file = record {
 -- Whatever calls led to the file, an open finds what a crash leaves of it now.
 abbrev pub EndsRun : {D : Type 0} {g : disk.Ghosts D} → AccountFile (FileStore D g) over_file → Type 0
 EndsRun last = (terms : Terms) (names : Store) (first : AccountFile _ over_file) (calls : List FileCall) (left : Image) →
-    IsReady terms names first → Did calls first last → IsHonest over_file (store_of last)
-    → (state (store_of last)).may_leave left → IsFound terms (record { found = names; calls = calls; left = left })
+    IsReady terms names first → Did calls first last → IsHonest over_file (database_of last)
+    → (state (database_of last)).may_leave left → IsFound terms (record { found = names; calls = calls; left = left })
 
 -- ---- runs
 

@@ -38,7 +38,7 @@ abbrev pub IsLong : List ℕ → Type 0
 IsLong name = 10 ^ 9 < 362 + length name
 
 -- nothing is written yet
-pub record IsFresh (v : View) : Type 0 where
+pub record IsUnwritten (v : View) : Type 0 where
   pub unbroken : v.is_broken ≡ false
   pub settled : v.trees ≡ v.committed
   pub shapes : v.shape ≡ v.committed_shape
@@ -70,8 +70,8 @@ module _ {S : Type 0} (g : Ghosts S) where
   IsOpen s = IsTrue (g.view s).is_open
 
   -- whatever a crash at this moment leaves holds such names
-  abbrev pub Leaves : S → (Store → Type 0) → Type 0
-  Leaves s P = (db : Trees) → g.recovers s db → (names : Store) × Holds db names × P names
+  abbrev pub CrashLeaves : S → (Store → Type 0) → Type 0
+  CrashLeaves s P = (db : Trees) → g.recovers s db → (names : Store) × Holds db names × P names
 
   -- While the store is open, its rows are those of these names, and nothing waits to be committed.
   pub record IsKept (s : S) (names : Store) : Type 0 where
@@ -119,8 +119,8 @@ module _ {S : Type 0} (g : Ghosts S) where
       : Type 0 where
     pub honest : IsHonest new → IsHonest old
     pub kept : MatchResult result (λ _. HasNames new after) (λ _. HasNames new before)
-    pub crash : IsHonest new → Leaves new (λ left. (left ≡ before) ⊎ (left ≡ after))
-    pub durable : OnOk result (IsHonest new → IsOpen new × Leaves new (λ left. left ≡ after))
+    pub crash : IsHonest new → CrashLeaves new (λ left. (left ≡ before) ⊎ (left ≡ after))
+    pub durable : OnOk result (IsHonest new → IsOpen new × CrashLeaves new (λ left. left ≡ after))
     pub cause : IsHonest new → IfErr result (HasCause (g.view old) (HasFailed old new) too_long)
     pub closes : IsHonest new → IsOpen new ⊎ HasFailed old new
 

@@ -69,7 +69,7 @@ fn written<X: Copy>(done: Result<(), StoreError>, answer: X) -> Result<X, FileEr
 }
 
 impl<'key, S: Store> AccountFile<'key, S> {
-    ghost use Rattle.argon2_store.specs.AccountFile.{AddsOrNone, DrawsForLogin, DrawsForText, DrawsOnce, Grants, HasNames, IfOfFile, IsClosed, IsErrorAt, IsOfFile, Reads, Serves, store_of, terms_of, unindexed};
+    ghost use Rattle.argon2_store.specs.AccountFile.{AddsOrNone, DrawsForLogin, DrawsForText, DrawsOnce, Grants, HasNames, IfOfFile, IsClosed, IsErrorAt, IsOfFile, Reads, Serves, database_of, terms_of, unindexed};
     ghost use Rattle.argon2_store.specs.Table.{IsHonest, IsOpen};
 
     /// Gives a new name a text, which may ask for more than the bound.
@@ -109,7 +109,7 @@ impl<'key, S: Store> AccountFile<'key, S> {
     pub fn add_all(&mut self, new: &[(&str, &str)]) -> Result<(), (usize, FileError)>
         ensures call { AddsOrNone (map entry_of new.now) (unindexed result) self.old self.new }
         ensures refused { (names : Named) → HasNames self.old names →
-            IsHonest S.Store (store_of self.new) →
+            IsHonest S.Store (database_of self.new) →
             IfErr result (IsErrorAt names (map entry_of new.now)) }
     {
         if self.is_closed() {
@@ -175,7 +175,7 @@ impl<'key, S: Store> AccountFile<'key, S> {
             result self.old self.new }
         ensures accepted { Grants name.now password.now result self.old self.new }
         ensures drawn { DrawsForLogin result (R.stream rng.old) (R.stream rng.new) }
-        ensures served { IsHonest S.Store (store_of self.new) → IfErr result
+        ensures served { IsHonest S.Store (database_of self.new) → IfErr result
             (IfOfFile (IsClosed self.new ⊎ (R.stream rng.new ≡ R.stream rng.old))) }
     {
         let Some(text) = self.text_of(name)? else {
@@ -216,7 +216,7 @@ impl<'key, S: Store> AccountFile<'key, S> {
             result self.old self.new }
         ensures accepted { Grants name.now new.now result self.old self.new }
         ensures drawn { (names : Named) → HasNames self.old names →
-            IsHonest S.Store (store_of self.new) → DrawsOnce (terms_of self.old) old.now
+            IsHonest S.Store (database_of self.new) → DrawsOnce (terms_of self.old) old.now
             (get names name.now) result (R.stream rng.old) (R.stream rng.new) }
     {
         let Some(text) = self.text_of(name)? else {
@@ -297,7 +297,7 @@ impl<'key, S: Store> AccountFile<'key, S> {
 
     /// Whether the file has to be opened again, since the disk failed.
     pub fn is_closed(&self) -> bool
-        ensures { IsHonest S.Store (store_of self.now) → IsTrue result ↔ IsClosed self.now }
+        ensures { IsHonest S.Store (database_of self.now) → IsTrue result ↔ IsClosed self.now }
     {
         self.table.is_closed()
     }
@@ -312,12 +312,12 @@ impl<'key, S: Store> AccountFile<'key, S> {
     pub fn text_of(&mut self, name: &str) -> Result<Option<PasswordHash>, FileError>
         ensures reads { Reads result self.old self.new }
         ensures shows { (names : Named) → HasNames self.new names → IfOk result (λ text.
-            IsHonest S.Store (store_of self.new) → get names name.now ≡ option_map phc_of text) }
-        ensures open { OnOk result (IsHonest S.Store (store_of self.new) →
-            IsOpen S.Store (store_of self.new)) }
+            IsHonest S.Store (database_of self.new) → get names name.now ≡ option_map phc_of text) }
+        ensures open { OnOk result (IsHonest S.Store (database_of self.new) →
+            IsOpen S.Store (database_of self.new)) }
         ensures error { IfErr result IsOfFile }
-        ensures closed { IsHonest S.Store (store_of self.old) → IsClosed self.old →
-            (result ≡ Err FileError.Closed) × (store_of self.new ≡ store_of self.old) }
+        ensures closed { IsHonest S.Store (database_of self.old) → IsClosed self.old →
+            (result ≡ Err FileError.Closed) × (database_of self.new ≡ database_of self.old) }
     {
         if self.is_closed() {
             return Err(FileError::Closed);
@@ -337,9 +337,9 @@ impl<'key, S: Store> AccountFile<'key, S> {
     ) -> Result<io::Result<()>, FileError>
         ensures reads { Reads result self.old self.new }
         ensures shows { (names : Named) → HasNames self.old names → IfOk result (λ done.
-            IsHonest S.Store (store_of self.new) → OnOk done
+            IsHonest S.Store (database_of self.new) → OnOk done
             (Appends (W.contents output.old) (W.contents output.new) (lines_of view names))) }
-        ensures closed { IsHonest S.Store (store_of self.old) → IsClosed self.old →
+        ensures closed { IsHonest S.Store (database_of self.old) → IsClosed self.old →
             output.new ≡ output.old }
     {
         if self.is_closed() {
@@ -350,7 +350,7 @@ impl<'key, S: Store> AccountFile<'key, S> {
 
     /// The store that holds the names.
     pub fn into_store(self) -> S
-        ensures { result ≡ store_of self.entry }
+        ensures { result ≡ database_of self.entry }
     {
         self.table.store
     }
@@ -440,7 +440,7 @@ impl<'key, D: Disk + Drop> AccountFile<'key, FileStore<D>> {
 
 impl<'key, D: Disk> AccountFile<'key, FileStore<D>> {
     ghost use Rattle.sqlite_store.specs.FileStore.{HasSpilled, log_frames};
-    ghost use Rattle.argon2_store.specs.AccountFile.{Reads, store_of};
+    ghost use Rattle.argon2_store.specs.AccountFile.{Reads, database_of};
 
     /// Copies the log into the file, so that the file alone has all accounts, and empties the log. To drop
     /// the value without it loses nothing: the next open reads the log.
@@ -452,7 +452,7 @@ impl<'key, D: Disk> AccountFile<'key, FileStore<D>> {
     pub fn checkpoint(&mut self) -> Result<(), FileError>
         ensures call { Reads result self.old self.new }
         ensures copied { OnOk result
-            (¬ HasSpilled (store_of self.old) → log_frames (store_of self.new) ≡ 0) }
+            (¬ HasSpilled (database_of self.old) → log_frames (database_of self.new) ≡ 0) }
     {
         if self.is_closed() {
             return Err(FileError::Closed);

@@ -65,7 +65,7 @@ const MAGIC: u8 = 0x37;
 fn make<D: Disk + Drop>(files: Unopened<D>) -> Result<FileStore<D>, (OpenError, Unopened<D>)>
     requires usable { AreUsable files }
     requires schema { wanted_by files ≡ account ∷ [] }
-    ensures fresh { IfOk result (λ it. IsClean (view it) → table.IsFresh (view it)) }
+    ensures fresh { IfOk result (λ it. IsClean (view it) → table.IsUnwritten (view it)) }
     ensures honest { IfOk result (λ it. IsClean (view it) → IsTrue (state_of files).is_clean) }
     ensures empty { IfOk result (λ it. IsClean (view it) →
         ∥ below.IsUnstarted files ∥₁ × ((view it).committed 0 ≡ [])) }
@@ -107,7 +107,7 @@ fn attach<D: Disk + Drop>(
     requires schema { wanted_by files ≡ account ∷ [] }
     requires blank { IsTrue is_new → IsTrue (state_of files).is_clean →
         IsBlankFile (state_of files).page_size (image files) }
-    ensures fresh { IfOk result (λ it. IsClean (view it) → table.IsFresh (view it)) }
+    ensures fresh { IfOk result (λ it. IsClean (view it) → table.IsUnwritten (view it)) }
     ensures honest { IfOk result (λ it. IsClean (view it) → IsTrue (state_of files).is_clean) }
     ensures found { IfOk result (λ it. IsClean (view it) →
         FoundIn (state_of files).page_size (image files) ((view it).committed 0)) }
@@ -139,7 +139,7 @@ pub(crate) fn open_files<D: Disk + Drop>(
     seed: u64,
 ) -> Result<FileStore<D>, (OpenError, Files<D>)>
     requires { IsTrue (D.Disk.is_usable files.log) × IsTrue (D.Disk.is_usable files.db) }
-    ensures fresh { IfOk result (λ it. IsClean (view it) → table.IsFresh (view it)) }
+    ensures fresh { IfOk result (λ it. IsClean (view it) → table.IsUnwritten (view it)) }
     ensures honest { IfOk result (λ it. IsClean (view it) → AreClean D.Disk files.log files.db) }
     ensures found { IfOk result (λ it. IsClean (view it) →
         FoundIn 4096 (seen_image D.Disk files.log files.db) ((view it).committed 0)) }

@@ -13,7 +13,7 @@ ghost use Rattle.argon2_base.specs.PhcText.{IsPhc, Phc, phc_text};
 ghost use Rattle.argon2.specs.NamedTexts.{Store as Named};
 ghost use Rattle.argon2_store.specs.Errors.{IsOfDatabase};
 ghost use Rattle.argon2_store.specs.Rows.{AreTexts, IsAccount, IsFoundAs, line, lines_of, row_of, rows_of};
-ghost use Rattle.argon2_store.specs.Table.{HasFailed, HasNames, IsFresh, IsHonest, IsOpen, Sees, StaysQuiet, Writes, done_of};
+ghost use Rattle.argon2_store.specs.Table.{HasFailed, HasNames, IsUnwritten, IsHonest, IsOpen, Sees, StaysQuiet, Writes, done_of};
 ghost use Rattle.argon2_store.specs.declared.error.OpenError.TheVariants.{Row as NoAccount};
 
 use crate::error::OpenError;
@@ -144,7 +144,7 @@ pub(crate) fn look_up<S: Store>(
 
 // Reads all rows once: each is that of a name with a PHC text, and no name has two.
 pub(crate) fn load<S: Store>(store: &mut S, row: &mut Row, last: &mut Row) -> Result<(), OpenError>
-    requires { IsHonest S.Store store.old → IsFresh (S.Store.view store.old) }
+    requires { IsHonest S.Store store.old → IsUnwritten (S.Store.view store.old) }
     ensures found { OnOk result ((names : Named) × HasNames S.Store store.new names
         × (IsHonest S.Store store.new →
         (S.Store.view store.old).committed 0 ≡ rows_of names)) }

@@ -13,7 +13,7 @@ ghost use Rattle.argon2_store.specs.Adding.{AddsAll, AddsName, IsFirstRefused, W
 ghost use Rattle.argon2_store.specs.Errors.{IsOfDatabase};
 ghost use Rattle.argon2_store.specs.Rows.{AreTexts, lines_of, rows_of};
 ghost use Rattle.argon2_store.specs.declared.error.OpenError.TheVariants.{Row as NoAccount};
-ghost use Rattle.argon2_store.specs.Table.{Changes, HasBegun, HasFailed, HasNames, HasSome, IsFresh, IsHonest, IsKept, IsOpen, IsLong, Leaves, Sees, StaysQuiet, Writes, changed, written_of};
+ghost use Rattle.argon2_store.specs.Table.{Changes, HasBegun, HasFailed, HasNames, HasSome, IsUnwritten, IsHonest, IsKept, IsOpen, IsLong, CrashLeaves, Sees, StaysQuiet, Writes, changed, written_of};
 
 use crate::error::OpenError;
 use crate::rows::{ACCOUNTS, lay, load, look_up, write_rows};
@@ -172,10 +172,10 @@ fn finish<S: Store>(store: &mut S, done: Result<(), StoreError>) -> Result<(), S
         (λ _. IsKept S.Store store.new before) }
     ensures left { (before after : Named) → IsHonest S.Store store.new →
         HasBegun S.Store store.old before → OnOk done (Sees (S.Store.view store.old) after) →
-        Leaves S.Store store.new (λ left. (left ≡ before) ⊎ (left ≡ after)) }
+        CrashLeaves S.Store store.new (λ left. (left ≡ before) ⊎ (left ≡ after)) }
     ensures durable { (after : Named) → IsHonest S.Store store.new →
         OnOk done (Sees (S.Store.view store.old) after) →
-        OnOk result (IsOpen S.Store store.new × Leaves S.Store store.new (λ left. left ≡ after)) }
+        OnOk result (IsOpen S.Store store.new × CrashLeaves S.Store store.new (λ left. left ≡ after)) }
     ensures cause { IsHonest S.Store store.new → MatchResult done
         (λ _. IfErr result (HasCause (S.Store.view store.old)
         (HasFailed S.Store store.old store.new) ⊥))
@@ -201,7 +201,7 @@ impl<S: Store + Drop> Table<S> {
 
     // The names of a store in which nothing is written yet. An error comes with the store.
     pub(crate) fn open(alloc: Global, mut store: S) -> Result<Table<S>, (OpenError, S)>
-        requires { IsHonest S.Store store → IsFresh (S.Store.view store) }
+        requires { IsHonest S.Store store → IsUnwritten (S.Store.view store) }
         ensures found { IfOk result (λ table. (names : Named)
             × HasNames S.Store (store_in table) names
             × (IsHonest S.Store (store_in table) →

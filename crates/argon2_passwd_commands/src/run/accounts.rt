@@ -38,7 +38,7 @@ const SHORT_PAUSES: u32 = 3000;
 
 /// A file with accounts, and under what it is opened.
 #[derive(Clone, Copy)]
-struct Place<'a> {
+struct Access<'a> {
     path: &'a str,
     // Whether it is made if there is none.
     makes: bool,
@@ -67,7 +67,7 @@ pub fn verify<P: Outside, R: BufRead>(
     let secret = secret(alloc, outside, options)?;
     let policy = policy(alloc, options, secret.as_slice())?;
     let mut rng = ChaCha20Rng::from_seed(outside.seed()?);
-    let place = Place {
+    let access = Access {
         path,
         makes: false,
         options: *options,
@@ -75,7 +75,7 @@ pub fn verify<P: Outside, R: BufRead>(
     };
     log_in(
         outside,
-        &place,
+        &access,
         name,
         &policy,
         &mut rng,
@@ -111,7 +111,7 @@ pub fn edit<P: Outside, R: BufRead>(
     let secret = secret(alloc, outside, options)?;
     let policy = policy(alloc, options, secret.as_slice())?;
     let mut rng = ChaCha20Rng::from_seed(outside.seed()?);
-    let place = Place {
+    let access = Access {
         path,
         makes: matches!(edit, Edit::Register),
         options: *options,
@@ -119,7 +119,7 @@ pub fn edit<P: Outside, R: BufRead>(
     };
     act(
         outside,
-        &place,
+        &access,
         edit,
         name,
         &policy,
@@ -150,13 +150,13 @@ pub fn show<P: Outside, W: Write>(
         × Keeps (W.contents output.old) (W.contents output.new)) }
 {
     let secret = secret(alloc, outside, options)?;
-    let place = Place {
+    let access = Access {
         path,
         makes: false,
         options: *options,
         secret: secret.as_slice(),
     };
-    let mut accounts = open(outside, &place)?;
+    let mut accounts = open(outside, &access)?;
     let written = accounts.write_lines(view, output);
     outside.close(accounts.into_store());
     Ok(written)
@@ -182,13 +182,13 @@ pub fn import<P: Outside, R: BufRead>(
     let bytes = read_all(alloc, input)?;
     let entries = entries(alloc, bytes.as_slice(), any_text)?;
     let secret = secret(alloc, outside, options)?;
-    let place = Place {
+    let access = Access {
         path,
         makes: true,
         options: *options,
         secret: secret.as_slice(),
     };
-    let mut accounts = open(outside, &place)?;
+    let mut accounts = open(outside, &access)?;
     let added = add_all(&mut accounts, entries.as_slice());
     outside.close(accounts.into_store());
     Ok(added)
@@ -198,22 +198,22 @@ pub fn import<P: Outside, R: BufRead>(
 // another process has it open, the open is tried again for 5 seconds.
 fn open<'a, P: Outside>(
     outside: &mut P,
-    place: &Place<'a>,
+    access: &Access<'a>,
 ) -> Result<AccountFile<'a, P::File>, Failure>
     requires { (before : List P.File) × P.closed outside.old before }
-    ensures ok { IfOk result (IsOpened P.keeps place.now.path.now
-        (terms_by (choices_of place.now.options) place.now.secret.now)) }
+    ensures ok { IfOk result (IsOpened P.keeps access.now.path.now
+        (terms_by (choices_of access.now.options) access.now.secret.now)) }
     ensures err { IfErr result (λ failure. status_of failure ≡ 1
-        → ¬ (AreTerms (terms_by (choices_of place.now.options) place.now.secret.now))) }
+        → ¬ (AreTerms (terms_by (choices_of access.now.options) access.now.secret.now))) }
     ensures opened { OnOk result ((before : List P.File) →
         P.closed outside.old before → P.opened outside.new before) }
     ensures untouched { OnErr result ((before : List P.File) →
         P.closed outside.old before → P.closed outside.new before) }
 {
-    let options = &place.options;
+    let options = &access.options;
     for waits in 0..LONG_PAUSES + SHORT_PAUSES {
-        let target = target(options, place.secret)?;
-        match outside.open(place.path, place.makes, target, options.bound()) {
+        let target = target(options, access.secret)?;
+        match outside.open(access.path, access.makes, target, options.bound()) {
             Err(Failure::Unopened(OpenError::Busy)) => {
                 outside.pause(if waits < LONG_PAUSES { 10 } else { 1 })
             }
@@ -221,9 +221,9 @@ fn open<'a, P: Outside>(
         }
     }
     outside.open(
-        place.path,
-        place.makes,
-        target(options, place.secret)?,
+        access.path,
+        access.makes,
+        target(options, access.secret)?,
         options.bound(),
     )
 }
@@ -262,22 +262,22 @@ fn passwords<R: BufRead>(
 // What the text of a name does with a password. No file is open while passwords are hashed.
 fn log_in<P: Outside, G: Rng>(
     outside: &mut P,
-    place: &Place<'_>,
+    access: &Access<'_>,
     name: &str,
     policy: &Policy<'_>,
     rng: &mut G,
     password: &[u8],
 ) -> Result<Result<Accepted, FileError>, Failure>
     requires unopened { P.closed outside.old [] }
-    requires held { IsSecret P.holds (choices_of place.now.options).secret_file place.now.secret.now }
-    requires under { policy_terms policy.now ≡ terms_by (choices_of place.now.options) place.now.secret.now }
-    ensures ok { IfOk result (λ done. IsLogin P.File.Store P.holds P.keeps (choices_of place.now.options)
-        place.now.path.now name.now password.now done (P.closed outside.new)) }
+    requires held { IsSecret P.holds (choices_of access.now.options).secret_file access.now.secret.now }
+    requires under { policy_terms policy.now ≡ terms_by (choices_of access.now.options) access.now.secret.now }
+    ensures ok { IfOk result (λ done. IsLogin P.File.Store P.holds P.keeps (choices_of access.now.options)
+        access.now.path.now name.now password.now done (P.closed outside.new)) }
     ensures err { IfErr result (λ failure. status_of failure ≡ 1
-        → ¬ (AreTerms (terms_by (choices_of place.now.options) place.now.secret.now))) }
+        → ¬ (AreTerms (terms_by (choices_of access.now.options) access.now.secret.now))) }
     ensures untouched { OnErr result (P.closed outside.new []) }
 {
-    let text = match look(outside, place, name)? {
+    let text = match look(outside, access, name)? {
         Ok(Some(text)) => text,
         Ok(None) => {
             policy.hash_for_nobody(password);
@@ -293,7 +293,7 @@ fn log_in<P: Outside, G: Rng>(
         return Ok(Ok(accepted));
     };
     // The password is accepted, whether the fresh text can be written or not.
-    match replace(outside, place, name, &text, &fresh) {
+    match replace(outside, access, name, &text, &fresh) {
         Ok(Ok(())) => Ok(Ok(accepted)),
         Ok(Err(_)) => Ok(Ok(Accepted::Kept)),
         Err(_) => Ok(Ok(Accepted::Kept)),
@@ -304,7 +304,7 @@ fn log_in<P: Outside, G: Rng>(
 // is opened.
 fn act<P: Outside, G: Rng>(
     outside: &mut P,
-    place: &Place<'_>,
+    access: &Access<'_>,
     edit: Edit,
     name: &str,
     policy: &Policy<'_>,
@@ -313,35 +313,35 @@ fn act<P: Outside, G: Rng>(
     second: &[u8],
 ) -> Result<Result<(), FileError>, Failure>
     requires unopened { P.closed outside.old [] }
-    requires held { IsSecret P.holds (choices_of place.now.options).secret_file place.now.secret.now }
-    requires under { policy_terms policy.now ≡ terms_by (choices_of place.now.options) place.now.secret.now }
-    ensures ok { IfOk result (λ done. IsAct P.File.Store P.holds P.keeps (choices_of place.now.options)
-        place.now.path.now edit name.now first.now second.now done (P.closed outside.new)) }
+    requires held { IsSecret P.holds (choices_of access.now.options).secret_file access.now.secret.now }
+    requires under { policy_terms policy.now ≡ terms_by (choices_of access.now.options) access.now.secret.now }
+    ensures ok { IfOk result (λ done. IsAct P.File.Store P.holds P.keeps (choices_of access.now.options)
+        access.now.path.now edit name.now first.now second.now done (P.closed outside.new)) }
     ensures err { IfErr result (λ failure. status_of failure ≡ 1
-        → ¬ (AreTerms (terms_by (choices_of place.now.options) place.now.secret.now))
+        → ¬ (AreTerms (terms_by (choices_of access.now.options) access.now.secret.now))
         × P.closed outside.new []) }
     ensures once { OnErr result (P.closed outside.new []
-        ⊎ IsAct P.File.Store P.holds P.keeps (choices_of place.now.options) place.now.path.now
+        ⊎ IsAct P.File.Store P.holds P.keeps (choices_of access.now.options) access.now.path.now
         edit name.now first.now second.now (Err FileError.Io) (P.closed outside.new)) }
 {
     match edit {
         Edit::Register => {
             let text = fresh(policy, rng, first)?;
-            let mut accounts = open(outside, place)?;
+            let mut accounts = open(outside, access)?;
             let done = add_text(&mut accounts, name, &text);
             outside.close(accounts.into_store());
             Ok(done)
         }
-        Edit::Change => change(outside, place, name, policy, rng, first, second),
+        Edit::Change => change(outside, access, name, policy, rng, first, second),
         Edit::Set => {
             let text = fresh(policy, rng, first)?;
-            let mut accounts = open(outside, place)?;
+            let mut accounts = open(outside, access)?;
             let done = set_text(&mut accounts, name, &text);
             outside.close(accounts.into_store());
             Ok(done)
         }
         Edit::Remove => {
-            let mut accounts = open(outside, place)?;
+            let mut accounts = open(outside, access)?;
             let done = accounts.remove(name);
             outside.close(accounts.into_store());
             Ok(done)
@@ -352,18 +352,18 @@ fn act<P: Outside, G: Rng>(
 // The text of a name in a file.
 fn look<P: Outside>(
     outside: &mut P,
-    place: &Place<'_>,
+    access: &Access<'_>,
     name: &str,
 ) -> Result<Result<Option<PasswordHash>, FileError>, Failure>
     requires { P.closed outside.old [] }
     ensures ok { IfOk result (λ found. IsLooked P.File.Store P.holds P.keeps
-        (terms_by (choices_of place.now.options) place.now.secret.now) place.now.path.now name.now
+        (terms_by (choices_of access.now.options) access.now.secret.now) access.now.path.now name.now
         (value_of found) (λ read. P.closed outside.new (read ∷ []))) }
     ensures err { IfErr result (λ failure. status_of failure ≡ 1
-        → ¬ (AreTerms (terms_by (choices_of place.now.options) place.now.secret.now))) }
+        → ¬ (AreTerms (terms_by (choices_of access.now.options) access.now.secret.now))) }
     ensures untouched { OnErr result (P.closed outside.new []) }
 {
-    let mut accounts = open(outside, place)?;
+    let mut accounts = open(outside, access)?;
     let found = accounts.text_of(name);
     outside.close(accounts.into_store());
     Ok(found)
@@ -373,7 +373,7 @@ fn look<P: Outside>(
 // can't be opened again is the failure of the outer result.
 fn replace<P: Outside>(
     outside: &mut P,
-    place: &Place<'_>,
+    access: &Access<'_>,
     name: &str,
     old: &PasswordHash,
     new: &PasswordHash,
@@ -381,14 +381,14 @@ fn replace<P: Outside>(
     requires { (read : P.File) × P.closed outside.old (read ∷ []) }
     ensures ok { IfOk result (λ done. (read : P.File) → P.closed outside.old (read ∷ [])
         → IsReplaced P.File.Store P.holds P.keeps
-        (terms_by (choices_of place.now.options) place.now.secret.now) place.now.path.now name.now
+        (terms_by (choices_of access.now.options) access.now.secret.now) access.now.path.now name.now
         (phc_of old.now) (phc_of new.now) done (λ last. P.closed outside.new (read ∷ last ∷ []))) }
     ensures err { IfErr result (λ failure. status_of failure ≡ 1
-        → ¬ (AreTerms (terms_by (choices_of place.now.options) place.now.secret.now))) }
+        → ¬ (AreTerms (terms_by (choices_of access.now.options) access.now.secret.now))) }
     ensures untouched { OnErr result ((read : P.File) →
         P.closed outside.old (read ∷ []) → P.closed outside.new (read ∷ [])) }
 {
-    let mut accounts = open(outside, place)?;
+    let mut accounts = open(outside, access)?;
     let done = accounts.replace(name, old.text().as_str(), new.text().as_str());
     outside.close(accounts.into_store());
     Ok(done)
@@ -397,7 +397,7 @@ fn replace<P: Outside>(
 // Changes the text of a name if it accepts the first password. No file is open while passwords are hashed.
 fn change<P: Outside, G: Rng>(
     outside: &mut P,
-    place: &Place<'_>,
+    access: &Access<'_>,
     name: &str,
     policy: &Policy<'_>,
     rng: &mut G,
@@ -405,18 +405,18 @@ fn change<P: Outside, G: Rng>(
     second: &[u8],
 ) -> Result<Result<(), FileError>, Failure>
     requires unopened { P.closed outside.old [] }
-    requires held { IsSecret P.holds (choices_of place.now.options).secret_file place.now.secret.now }
-    requires under { policy_terms policy.now ≡ terms_by (choices_of place.now.options) place.now.secret.now }
-    ensures ok { IfOk result (λ done. IsAct P.File.Store P.holds P.keeps (choices_of place.now.options)
-        place.now.path.now Edit.Change name.now first.now second.now done (P.closed outside.new)) }
+    requires held { IsSecret P.holds (choices_of access.now.options).secret_file access.now.secret.now }
+    requires under { policy_terms policy.now ≡ terms_by (choices_of access.now.options) access.now.secret.now }
+    ensures ok { IfOk result (λ done. IsAct P.File.Store P.holds P.keeps (choices_of access.now.options)
+        access.now.path.now Edit.Change name.now first.now second.now done (P.closed outside.new)) }
     ensures err { IfErr result (λ failure. status_of failure ≡ 1
-        → ¬ (AreTerms (terms_by (choices_of place.now.options) place.now.secret.now))
+        → ¬ (AreTerms (terms_by (choices_of access.now.options) access.now.secret.now))
         × P.closed outside.new []) }
     ensures once { OnErr result (P.closed outside.new []
-        ⊎ IsAct P.File.Store P.holds P.keeps (choices_of place.now.options) place.now.path.now
+        ⊎ IsAct P.File.Store P.holds P.keeps (choices_of access.now.options) access.now.path.now
         Edit.Change name.now first.now second.now (Err FileError.Io) (P.closed outside.new)) }
 {
-    let text = match look(outside, place, name)? {
+    let text = match look(outside, access, name)? {
         Ok(Some(text)) => text,
         Ok(None) => {
             policy.hash_for_nobody(first);
@@ -428,7 +428,7 @@ fn change<P: Outside, G: Rng>(
         Ok(fresh) => fresh,
         Err(error) => return Ok(Err(FileError::Account(error))),
     };
-    replace(outside, place, name, &text, &fresh)
+    replace(outside, access, name, &text, &fresh)
 }
 
 // A fresh text of a password.

@@ -17,7 +17,7 @@ returns-in_ok-accounts-in-Register-clause-ok g c =
     let closed = rw c.into_store.ensures at c.close.ensures [] (c.in_ok-accounts-in-Register.ensures.opened []
     c.requires.unopened) in
     rw c.in-Register.is (
-      c.args.place.now.secret.now,
+      c.args.access.now.secret.now,
       _,
       c.in_ok-accounts-in-Register.accounts,
       c.add_text-done.new.accounts,
@@ -34,7 +34,7 @@ returns-in_ok-accounts-in-Set-clause-ok g c =
     let closed = rw c.into_store-in-Set.ensures at c.close-in-Set.ensures []
     (c.in_ok-accounts-in-Set.ensures.opened [] c.requires.unopened) in
     rw c.in-Set.is (
-      c.args.place.now.secret.now,
+      c.args.access.now.secret.now,
       _,
       c.in_ok-accounts-in-Set.accounts,
       c.set_text-done.new.accounts,
@@ -50,7 +50,7 @@ returns-in_ok-accounts-in-Remove-clause-ok g c =
     let closed = rw c.into_store-in-Remove.ensures at c.close-in-Remove.ensures []
     (c.in_ok-accounts-in-Remove.ensures.opened [] c.requires.unopened) in
     rw c.in-Remove.is (
-      c.args.place.now.secret.now,
+      c.args.access.now.secret.now,
       [],
       c.in_ok-accounts-in-Remove.accounts,
       c.remove-done.new.self,

@@ -4,7 +4,7 @@ use Rattle.argon2.specs.Made.{IsFresh}
 use Rattle.argon2_base.specs.PhcFields.{phc_of}
 use Rattle.argon2_accounts.specs.Accounts.{Admits, ChangeRefusal, Terms}
 use Rattle.argon2_accounts.specs.declared.error.AccountError.TheVariants.{NameUnknown}
-use Rattle.argon2_store.specs.AccountFile.{store_of}
+use Rattle.argon2_store.specs.AccountFile.{database_of}
 use Rattle.argon2_passwd_commands.specs.Answers.{decided, replaced, unread}
 use Rattle.argon2_passwd_commands.proofs.Refusals.{if_ok_then, on_err_then}
 use Rattle.argon2_passwd_commands.proofs.run.accounts.change.Goals as goal
@@ -12,7 +12,7 @@ use Rattle.argon2_passwd_commands.proofs.run.accounts.change.Goals as goal
 pub returns-in-Ok-None-clause-ok : goal.returns-in-Ok-None-clause-ok
 returns-in-Ok-None-clause-ok g c =
     let looked = rw (c.in-Ok-None.is, c.in-Ok-None.field-0-is) at c.in_ok-text.ensures.ok in (
-      c.args.place.now.secret.now,
+      c.args.access.now.secret.now,
       [],
       decided (Err NameUnknown),
       c.requires.held,
@@ -28,7 +28,7 @@ returns-in-Ok-None-clause-ok g c =
 pub returns-in-Err-clause-ok : goal.returns-in-Err-clause-ok
 returns-in-Err-clause-ok g c =
     let looked = rw c.in-Err.is at c.in_ok-text.ensures.ok in
-    (c.args.place.now.secret.now, [], unread c.in-Err.error, c.requires.held, refl, looked)
+    (c.args.access.now.secret.now, [], unread c.in-Err.error, c.requires.held, refl, looked)
 
 pub returns-in-Err-change_password-clause-ok : goal.returns-in-Err-change_password-clause-ok
 returns-in-Err-change_password-clause-ok g c =
@@ -37,7 +37,7 @@ returns-in-Err-change_password-clause-ok g c =
     let refused = subst (λ (t : Terms). ChangeRefusal t c.args.first.now c.args.second.now v e) c.requires.under
     c.in-Err-change_password.ensures.made in
     let looked = rw (c.in-Ok-Some.is, c.in-Ok-Some.field-0-is) at c.in_ok-text.ensures.ok in
-    (c.args.place.now.secret.now, [], decided (Err e), c.requires.held, refl, (Some v, Some v, (refused, refl), looked))
+    (c.args.access.now.secret.now, [], decided (Err e), c.requires.held, refl, (Some v, Some v, (refused, refl), looked))
 
 pub returns-clause-ok : goal.returns-clause-ok
 returns-clause-ok g c =
@@ -49,7 +49,7 @@ returns-clause-ok g c =
     c.in-Ok.ensures.made in
     let looked = rw (c.in-Ok-Some.is, c.in-Ok-Some.field-0-is) at c.in_ok-text.ensures.ok in
     if_ok_then c.replace.result c.replace.ensures.ok (λ done renews. (
-      c.args.place.now.secret.now,
+      c.args.access.now.secret.now,
       drawn,
       replaced tt done,
       c.requires.held,
@@ -63,7 +63,7 @@ returns-clause-ok g c =
           looked.1,
           looked.2,
           looked.3,
-          renews (store_of looked.1) looked.4,
+          renews (database_of looked.1) looked.4,
         ),
       ),
     ))
@@ -79,7 +79,7 @@ returns-clause-once g c =
     let looked = rw (c.in-Ok-Some.is, c.in-Ok-Some.field-0-is) at c.in_ok-text.ensures.ok in
     on_err_then c.replace.result c.replace.ensures.untouched (λ kept.
     inr (
-      c.args.place.now.secret.now,
+      c.args.access.now.secret.now,
       drawn,
       decided (Ok tt),
       c.requires.held,
@@ -88,6 +88,6 @@ returns-clause-once g c =
         Some v,
         Some w,
         made,
-        (looked.0, looked.1, looked.2, looked.3, kept (store_of looked.1) looked.4),
+        (looked.0, looked.1, looked.2, looked.3, kept (database_of looked.1) looked.4),
       ),
     ))

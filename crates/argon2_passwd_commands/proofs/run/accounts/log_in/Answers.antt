@@ -7,7 +7,7 @@ use Rattle.argon2.specs.declared.login.answers.Accepted.{Accepted}
 use Rattle.argon2.specs.declared.login.answers.Accepted.TheVariants.{Current, Kept, Rehashed}
 use Rattle.argon2_accounts.specs.Accounts.{Denial, LogsIn, Terms}
 use Rattle.argon2_accounts.specs.declared.error.AccountError.TheVariants.{NameUnknown}
-use Rattle.argon2_store.specs.AccountFile.{store_of}
+use Rattle.argon2_store.specs.AccountFile.{database_of}
 use Rattle.argon2_passwd_commands.specs.Answers.{decided, replaced, unread, unwritten}
 use Rattle.argon2_passwd_commands.proofs.run.accounts.log_in.Goals as goal
 
@@ -31,7 +31,7 @@ logged_in first last password drawn v w did same is =
 pub returns-in-Ok-None-clause-ok : goal.returns-in-Ok-None-clause-ok
 returns-in-Ok-None-clause-ok g c =
     let looked = rw (c.in-Ok-None.is, c.in-Ok-None.field-0-is) at c.in_ok-text.ensures.ok in (
-      c.args.place.now.secret.now,
+      c.args.access.now.secret.now,
       [],
       decided (Err NameUnknown),
       c.requires.held,
@@ -47,7 +47,7 @@ returns-in-Ok-None-clause-ok g c =
 pub returns-in-Err-clause-ok : goal.returns-in-Err-clause-ok
 returns-in-Err-clause-ok g c =
     let looked = rw c.in-Err.is at c.in_ok-text.ensures.ok in
-    (c.args.place.now.secret.now, [], unread c.in-Err.error, c.requires.held, refl, looked)
+    (c.args.access.now.secret.now, [], unread c.in-Err.error, c.requires.held, refl, looked)
 
 pub returns-in-Err-log_in-clause-ok : goal.returns-in-Err-log_in-clause-ok
 returns-in-Err-log_in-clause-ok g c =
@@ -56,7 +56,7 @@ returns-in-Err-log_in-clause-ok g c =
     let denied = subst (λ (t : Terms). Denial t c.args.password.now v e) c.requires.under
     c.in-Err-log_in.ensures.step in
     let looked = rw (c.in-Ok-Some.is, c.in-Ok-Some.field-0-is) at c.in_ok-text.ensures.ok in
-    (c.args.place.now.secret.now, [], decided (Err e), c.requires.held, refl, (Some v, Some v, (denied, refl), looked))
+    (c.args.access.now.secret.now, [], decided (Err e), c.requires.held, refl, (Some v, Some v, (denied, refl), looked))
 
 pub returns-in_default-clause-ok : goal.returns-in_default-clause-ok
 returns-in_default-clause-ok g c =
@@ -66,7 +66,7 @@ returns-in_default-clause-ok g c =
     let logged = logged_in _ _ c.args.password.now _ v v did c.requires.under step in
     let same = ap Ok (not_renewed did _ c.in_default.is c.in-Ok.ensures.fresh) in
     let looked = rw (c.in-Ok-Some.is, c.in-Ok-Some.field-0-is) at c.in_ok-text.ensures.ok in
-    (c.args.place.now.secret.now, logged.0, decided (Ok did), c.requires.held, same, (Some v, Some v, logged.1, looked))
+    (c.args.access.now.secret.now, logged.0, decided (Ok did), c.requires.held, same, (Some v, Some v, logged.1, looked))
 
 pub returns-in-Ok-Ok-clause-ok : goal.returns-in-Ok-Ok-clause-ok
 returns-in-Ok-Ok-clause-ok g c =
@@ -76,8 +76,8 @@ returns-in-Ok-Ok-clause-ok g c =
     let step = rw c.in-Some.is at c.in-Ok.ensures.step in
     let logged = logged_in _ _ c.args.password.now _ v w did c.requires.under step in
     let looked = rw (c.in-Ok-Some.is, c.in-Ok-Some.field-0-is) at c.in_ok-text.ensures.ok in
-    let renews = (rw c.in-Ok-Ok.field-0-is at c.in-Ok-Ok.ensures.ok) (store_of looked.1) looked.4 in (
-      c.args.place.now.secret.now,
+    let renews = (rw c.in-Ok-Ok.field-0-is at c.in-Ok-Ok.ensures.ok) (database_of looked.1) looked.4 in (
+      c.args.access.now.secret.now,
       logged.0,
       replaced did (Ok tt),
       c.requires.held,
@@ -99,8 +99,8 @@ returns-in-Ok-Err-clause-ok g c =
     let logged = logged_in _ _ c.args.password.now _ v w did c.requires.under step in
     let kept = ap Ok (renewed did _ _ c.in-Some.is c.in-Ok.ensures.fresh) in
     let looked = rw (c.in-Ok-Some.is, c.in-Ok-Some.field-0-is) at c.in_ok-text.ensures.ok in
-    let renews = (rw c.in-Ok-Err.field-0-is at c.in-Ok-Err.ensures.ok) (store_of looked.1) looked.4 in (
-      c.args.place.now.secret.now,
+    let renews = (rw c.in-Ok-Err.field-0-is at c.in-Ok-Err.ensures.ok) (database_of looked.1) looked.4 in (
+      c.args.access.now.secret.now,
       logged.0,
       replaced did (Err c.in-Ok-Err.field-0-0),
       c.requires.held,
@@ -122,8 +122,8 @@ returns-in-Err-replace-clause-ok g c =
     let logged = logged_in _ _ c.args.password.now _ v w did c.requires.under step in
     let kept = ap Ok (renewed did _ _ c.in-Some.is c.in-Ok.ensures.fresh) in
     let looked = rw (c.in-Ok-Some.is, c.in-Ok-Some.field-0-is) at c.in_ok-text.ensures.ok in
-    let read = c.in-Err-replace.ensures.untouched (store_of looked.1) looked.4 in (
-      c.args.place.now.secret.now,
+    let read = c.in-Err-replace.ensures.untouched (database_of looked.1) looked.4 in (
+      c.args.access.now.secret.now,
       logged.0,
       decided (Ok did),
       c.requires.held,

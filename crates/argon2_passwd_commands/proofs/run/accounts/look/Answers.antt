@@ -6,7 +6,7 @@ use Rattle.sqlite_trees.specs.declared.store.Store.{Ghosts}
 use Rattle.argon2.specs.NamedTexts.{Store}
 use Rattle.argon2_base.specs.PhcFields.{phc_of}
 use Rattle.argon2_base.specs.declared.phc.hash.PasswordHash.{PasswordHash}
-use Rattle.argon2_store.specs.AccountFile.{Stays, error_of, store_of}
+use Rattle.argon2_store.specs.AccountFile.{Stays, error_of, database_of}
 use Rattle.argon2_store.specs.Table.{IsHonest}
 use Rattle.argon2_store.specs.declared.account_file.AccountFile.{AccountFile}
 use Rattle.argon2_store.specs.declared.error.FileError.{FileError}
@@ -16,9 +16,9 @@ use Rattle.argon2_passwd_commands.proofs.run.accounts.look.Goals as goal
 -- what is read of a text is its value
 read_value : {S : Type 0} {g : Ghosts S} (before after : AccountFile S g) (names : Store) (name : List ℕ)
     (found : Result (Option PasswordHash) FileError) → Stays (error_of found) names before after
-    → IfOk found (λ text. IsHonest g (store_of after) → get names name ≡ option_map phc_of text)
+    → IfOk found (λ text. IsHonest g (database_of after) → get names name ≡ option_map phc_of text)
     → Stays (error_of (value_of found)) names before after
-    × IfOk (value_of found) (λ value. IsHonest g (store_of after) → get names name ≡ value)
+    × IfOk (value_of found) (λ value. IsHonest g (database_of after) → get names name ≡ value)
 read_value before after names name (Ok text) stays shows = (stays, shows)
 read_value before after names name (Err e) stays shows = (stays, tt)
 

@@ -1,4 +1,4 @@
-use Rattle.argon2_store.proofs.Imports.{inl, refl, sym, map, Ok, Err, length-map, entry_of, store_of}
+use Rattle.argon2_store.proofs.Imports.{inl, refl, sym, map, Ok, Err, length-map, entry_of, database_of}
 use Rattle.argon2_store.proofs.FileLemmas.{ends_with, fails, live_of, shut_out, unread, writes_all, writes_at}
 use Rattle.argon2_store.proofs.TableLemmas.{leaves_quiet}
 use Rattle.argon2_store.proofs.account_file.AccountFile.add_all.Goals as goal
@@ -34,6 +34,6 @@ returns-in-Err-clause-call g c before has =
     let (names, first, quiet) = c.in-Err.ensures before has in (
       before,
       rw c.into.ensures (ends_with _ names refl quiet
-          (leaves_quiet g.S.Store g.met.S.Store.settled (store_of c.args.self.now) _ before has.1 quiet) (λ clean. refl)
+          (leaves_quiet g.S.Store g.met.S.Store.settled (database_of c.args.self.now) _ before has.1 quiet) (λ clean. refl)
           (inl refl) tt (λ clean is. absurd (live clean is)) (λ clean. tt)),
     )
