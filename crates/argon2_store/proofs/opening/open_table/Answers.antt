@@ -8,6 +8,9 @@ not_log : (e : OpenError) → (e ≡ NoAccount) ⊎ IsOfDatabase e → e ≡ Dam
 not_log e (inl row) is = let both : NoAccount ≡ DamagedLog = sym row ∙ is in cc
 not_log e (inr of_database) is = subst IsOfDatabase is of_database
 
+pub returns-in-Err-clause-unharmed : goal.returns-in-Err-clause-unharmed
+returns-in-Err-clause-unharmed g c clean left may = inl (c.is_damaged.ensures.same.crash left.log may.0, may.1)
+
 pub returns-in-Ok-open-clause-found : goal.returns-in-Ok-open-clause-found
 returns-in-Ok-open-clause-found g c =
     let (names, has, rows) = c.in-Ok-open.ensures.found in (

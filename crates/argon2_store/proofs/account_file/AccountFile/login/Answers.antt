@@ -56,6 +56,14 @@ returns-then-not-is_closed-clause-accepted g c before after has held =
     (λ clean. c.in_ok-text.ensures.shows before kept (change.honest clean) ∙ ap (option_map phc_of) c.in-Some.is)
     c.in_ok-accepted.ensures.step.0
 
+pub returns-then-not-is_closed-clause-drawn : goal.returns-then-not-is_closed-clause-drawn
+returns-then-not-is_closed-clause-drawn g c =
+    let rehashed : c.in_ok-accepted.field-0.accepted ≡ Rehashed = c.in_ok-accepted.ensures.fresh.0 (rw c.in-Some-fresh.is refl) in
+    (rw rehashed at c.in_ok-accepted.ensures.drawn)
+
+pub returns-then-not-is_closed-clause-served : goal.returns-then-not-is_closed-clause-served
+returns-then-not-is_closed-clause-served g c clean = tt
+
 -- the fresh text is written
 pub returns-clause-call : goal.returns-clause-call
 returns-clause-call g c before has =
