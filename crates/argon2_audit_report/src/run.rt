@@ -54,6 +54,7 @@ pub fn run<R: Read + Named, W: Write, E: Write>(
     ensures refused { result ≡ 1 → IsAudit options (R.remaining input.old) false }
     ensures object { (result ≡ 0) ⊎ (result ≡ 1) → IsReported options (R.remaining input.old)
         (W.contents output.old) (W.contents output.new) }
+    ensures silent { options.form ≡ Form.Quiet → output.new ≡ output.old }
     ensures quiet { IsFalse shows_progress → result ≡ 0
         → Keeps (E.contents errors.old) (E.contents errors.new) }
 {
@@ -77,6 +78,7 @@ fn write_report<R: Read, W: Write, E: Write>(
         (λ bytes. IsTallied options bytes tally)) }
     ensures object { IfOk result (λ tally. IsReport options tally
         (W.contents output.old) (W.contents output.new)) }
+    ensures silent { options.form ≡ Form.Quiet → output.new ≡ output.old }
     ensures quiet { IsFalse shows_progress → Keeps (E.contents errors.old) (E.contents errors.new) }
 {
     match options.form {

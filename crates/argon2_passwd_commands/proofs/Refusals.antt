@@ -4,15 +4,18 @@ use Rattle.std.specs.Io.KnownBytes.{Keeps}
 use Rattle.std.specs.Prelude.{IfErr, IfOk, IsErrAnd, OnErr, OnOk}
 use Rattle.argon2_accounts.specs.declared.error.AccountError.{AccountError}
 use Rattle.argon2_store.specs.declared.error.FileError.{FileError}
-use Rattle.argon2_store.specs.declared.error.FileError.TheVariants.{Account}
+use Rattle.argon2_store.specs.declared.error.FileError.TheVariants.{Account, OutOfMemory}
 use Rattle.argon2_passwd_commands.specs.Failures.{IsOfFile, status_of}
 use Rattle.argon2_passwd_commands.specs.declared.failure.Failure.{Failure}
+use Rattle.argon2_passwd_commands.specs.declared.failure.Failure.TheVariants.{Memory}
 
 -- a refusal of a call on a file is one by its accounts
 pub of_account : (P : Type 0) (e : FileError) (f : Failure) → IsOfFile e f → status_of f ≡ 1
     → ((refusal : AccountError) → e ≡ Account refusal → P) → P
 of_account P (Account refusal) f is one why = why refusal refl
-of_account P e f is one why = absurd cc
+of_account P OutOfMemory (Memory refused) is one why = absurd cc
+of_account P OutOfMemory f is one why = absurd is
+of_account P e f is one why = absurd (let same = rw is at one in cc)
 
 pub refused : {X : Type 0} (P : Type 0) (e : FileError) (r : Result X Failure) → IsErrAnd r (IsOfFile e)
     → ((refusal : AccountError) → e ≡ Account refusal → P) → IfErr r (λ f. status_of f ≡ 1 → P)

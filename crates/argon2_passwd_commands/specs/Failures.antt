@@ -4,11 +4,11 @@ use Rattle.argon2_base.specs.declared.error.password_hash.Error.TheVariants.{Out
 use Rattle.argon2_accounts.specs.declared.error.AccountError.{AccountError}
 use Rattle.argon2_accounts.specs.declared.error.AccountError.TheVariants.{Refused}
 use Rattle.argon2_passwd_commands.specs.declared.failure.Failure.{Failure}
-use Rattle.argon2_passwd_commands.specs.declared.failure.Failure.TheVariants.{NoPassword, LongPassword, Name, Account, Line, Memory}
+use Rattle.argon2_passwd_commands.specs.declared.failure.Failure.TheVariants.{NoPassword, LongPassword, Name, Account, Line, Unopened, File, Memory}
 use Rattle.argon2_store.specs.declared.error.FileError.{FileError}
 use Rattle.argon2_store.specs.declared.error.FileError.TheVariants as file
 use Rattle.argon2_store.specs.declared.error.OpenError.{OpenError}
-use Rattle.argon2_store.specs.declared.error.OpenError.TheVariants.{Terms}
+use Rattle.argon2_store.specs.declared.error.OpenError.TheVariants as no
 
 -- 1 if the answer is no, 3 if a file, a stream or a request for memory fails
 abbrev pub status_of : Failure → ℕ
@@ -33,9 +33,11 @@ IsOfAccount refusal _ = ⊥
 -- the failure by a call on a file
 abbrev pub IsOfFile : FileError → Failure → Type 0
 IsOfFile (file.Account refusal) failure = IsOfAccount refusal failure
-IsOfFile error failure = status_of failure ≡ 3
+IsOfFile file.OutOfMemory failure = IsMemory failure
+IsOfFile error failure = failure ≡ File error
 
 -- the failure by an open
 abbrev pub IsOfOpen : OpenError → Failure → Type 0
-IsOfOpen (Terms refusal) failure = IsOfAccount refusal failure
-IsOfOpen error failure = status_of failure ≡ 3
+IsOfOpen (no.Terms refusal) failure = IsOfAccount refusal failure
+IsOfOpen no.OutOfMemory failure = IsMemory failure
+IsOfOpen error failure = failure ≡ Unopened error
