@@ -1,5 +1,5 @@
 -- The errors of account files.
-use Rattle.std.specs.Prelude.{ℕ, List, Result, Ok, Err, codes, ⊤}
+use Rattle.std.specs.Prelude.{ℕ, List, Option, None, Some, Result, Ok, Err, codes, ⊤}
 use Rattle.sqlite_std_file.specs.declared.pair.OpenError.{OpenError as PathError}
 use Rattle.sqlite_std_file.specs.declared.pair.OpenError.TheVariants as path
 use Rattle.sqlite_store.specs.declared.error.OpenError.{OpenError as FilesError}
@@ -89,3 +89,16 @@ file_error_text Damaged = codes "the file is damaged"
 file_error_text Full = codes "the disk or the file is full"
 file_error_text TooLong = codes "name is too long"
 file_error_text Closed = codes "the file has to be opened again"
+
+-- what an error of an open prints; of the system's own nothing is known
+abbrev pub open_error_text : OpenError → Option (List ℕ)
+open_error_text (no.Terms e) = Some (account_error_text e)
+open_error_text (Path why) = None
+open_error_text Busy = Some (codes "the file is in use")
+open_error_text HotJournal = Some (codes "the file has a journal to play back: open it with sqlite3 first")
+open_error_text no.OutOfMemory = Some (codes "out of memory")
+open_error_text no.Io = Some (codes "the disk failed")
+open_error_text no.Full = Some (codes "the disk or the file is full")
+open_error_text no.DamagedLog = Some (codes "the log is damaged")
+open_error_text NotAccounts = Some (codes "the file does not hold accounts")
+open_error_text no.Row = Some (codes "a row is no name with a PHC text")

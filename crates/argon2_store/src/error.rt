@@ -1,7 +1,7 @@
 //! Why calls on an account file are refused.
 
 ghost use Rattle.std.specs.Prelude.{◌≡◌, Some};
-ghost use Rattle.argon2_store.specs.Errors.{IsOfDatabase, IsOfPath, file_error_text, files_error, log_error, named, path_error, store_error};
+ghost use Rattle.argon2_store.specs.Errors.{IsOfDatabase, IsOfPath, file_error_text, files_error, log_error, named, open_error_text, path_error, store_error};
 
 use argon2::password_hash::Error;
 use argon2_accounts::AccountError;
@@ -112,6 +112,8 @@ pub enum OpenError {
 }
 
 impl fmt::Display for OpenError {
+    ghost output = { open_error_text };
+
     fn fmt<W: fmt::Write>(&self, f: &mut fmt::Formatter<W>) -> fmt::Result {
         match self {
             OpenError::Terms(error) => write!(f, "{error}"),
