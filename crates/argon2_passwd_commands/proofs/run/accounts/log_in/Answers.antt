@@ -79,7 +79,7 @@ returns-in-Ok-Ok-clause-ok g c =
     let renews = (rw c.in-Ok-Ok.field-0-is at c.in-Ok-Ok.ensures.ok) (database_of looked.1) looked.4 in (
       c.args.access.now.secret.now,
       logged.0,
-      replaced did (Ok tt),
+      replaced did (Ok c.in-Ok-Ok.field-0-0),
       c.requires.held,
       refl,
       (
