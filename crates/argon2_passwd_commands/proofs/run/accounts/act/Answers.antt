@@ -2,6 +2,7 @@ use Rattle.std.proofs.Common.{◌≡◌, ◌∙◌, List, [], ℕ, subst, sym}
 use Rattle.argon2_accounts.specs.Accounts.{Terms}
 use Rattle.argon2.specs.Made.{IsFresh}
 use Rattle.argon2_base.specs.PhcText.{Phc}
+use Rattle.argon2_passwd_commands.proofs.Refusals.{passed}
 use Rattle.argon2_passwd_commands.proofs.run.accounts.act.Goals as goal
 
 -- a text that is made under equal terms
@@ -9,6 +10,16 @@ under : (first mid last : Terms) (password drawn : List ℕ) (v : Phc) → first
     → IsFresh first.target password drawn v → IsFresh last.target password drawn v
 under first mid last password drawn v here there fresh =
     subst (λ (t : Terms). IsFresh t.target password drawn v) (here ∙ sym there) fresh
+
+pub returns-in_err-text-in-Register-clause-err : goal.returns-in_err-text-in-Register-clause-err
+returns-in_err-text-in-Register-clause-err g c =
+    passed c.in_err-text-in-Register.field-0.0 _ c.from_residual.ensures.1
+    (λ one. absurd (let never = sym c.in_err-text-in-Register.ensures.err ∙ one in cc))
+
+pub returns-in_err-text-in-Set-clause-err : goal.returns-in_err-text-in-Set-clause-err
+returns-in_err-text-in-Set-clause-err g c =
+    passed c.in_err-text-in-Set.field-0.0 _ c.from_residual-in_err-text-in-Set.ensures.1
+    (λ one. absurd (let never = sym c.in_err-text-in-Set.ensures.err ∙ one in cc))
 
 pub returns-in_ok-accounts-in-Register-clause-ok : goal.returns-in_ok-accounts-in-Register-clause-ok
 returns-in_ok-accounts-in-Register-clause-ok g c =

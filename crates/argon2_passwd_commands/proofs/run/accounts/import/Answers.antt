@@ -1,7 +1,8 @@
-use Rattle.std.proofs.Common.{◌≡◌, ◌∙◌, ℕ, Bool, List, [], Option, Some, None, map, subst}
+use Rattle.std.proofs.Common.{◌≡◌, ◌∙◌, ℕ, Bool, List, [], Option, Some, None, map, subst, sym}
 use Rattle.std.specs.Prelude.{IfSome}
 use Rattle.argon2_store.specs.Adding.{entry_of}
 use Rattle.argon2_passwd_commands.specs.Answers.{AreEntries}
+use Rattle.argon2_passwd_commands.proofs.Refusals.{passed}
 use Rattle.argon2_passwd_commands.proofs.run.accounts.import.Goals as goal
 
 -- the entries are those of a known input
@@ -10,6 +11,17 @@ of_known : (any_text : Bool) (input : Option (List ℕ)) (bytes slice : List ℕ
     → IfSome input (λ known. AreEntries any_text known es)
 of_known any_text None bytes slice es all same is = tt
 of_known any_text (Some known) bytes slice es all same is = subst (λ input. AreEntries any_text input es) (same ∙ all) is
+
+pub returns-in_err-secret-clause-err : goal.returns-in_err-secret-clause-err
+returns-in_err-secret-clause-err g c =
+    passed c.in_err-secret.field-0.0 _ c.from_residual-in_err-secret.ensures.1
+    (λ one. absurd (let never = sym c.in_err-secret.ensures.err ∙ one in cc))
+
+pub returns-in_err-accounts-clause-err : goal.returns-in_err-accounts-clause-err
+returns-in_err-accounts-clause-err g c =
+    let unsound = rw c.as_slice-2.ensures.value at c.in_err-accounts.ensures.err in
+    passed c.in_err-accounts.field-0.0 _ c.from_residual-in_err-accounts.ensures.1
+    (λ one. (c.in_ok-secret.secret.items, c.in_ok-secret.ensures.ok, unsound one))
 
 pub returns-clause-ok : goal.returns-clause-ok
 returns-clause-ok g c = (
