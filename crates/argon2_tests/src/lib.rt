@@ -1,4 +1,4 @@
-//! The tests of `argon2`, and those of `argon2_base` that need hashes, by their public calls: values that others have
+//! The tests of `argon2_base`, `argon2`, `argon2_accounts` and `argon2_uses`, by their public calls: values that others have
 //! computed, printed texts, and each call once.
 #![tactic(auto)]
 
@@ -6,6 +6,10 @@
 mod accounts;
 #[cfg(test)]
 mod algorithm;
+#[cfg(test)]
+mod blake2b;
+#[cfg(test)]
+mod blake2b_long;
 #[cfg(test)]
 mod block;
 #[cfg(test)]
@@ -20,5 +24,9 @@ mod login;
 mod params;
 #[cfg(test)]
 mod password_hash;
+#[cfg(test)]
+mod phc;
+#[cfg(test)]
+mod uses;
 #[cfg(test)]
 mod version;

@@ -55,6 +55,3 @@ pub fn hash_all(
     }
     Ok(())
 }
-
-#[cfg(test)]
-mod tests;

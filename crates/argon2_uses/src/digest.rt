@@ -16,6 +16,3 @@ pub fn digest(header: &[u8], body: &[u8]) -> [u8; 32]
     hasher.finalize_into(&mut digest);
     digest
 }
-
-#[cfg(test)]
-mod tests;

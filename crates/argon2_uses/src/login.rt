@@ -123,6 +123,3 @@ pub fn moved<'key>(
     }
     Ok(new)
 }
-
-#[cfg(test)]
-mod tests;

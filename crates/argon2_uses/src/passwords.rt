@@ -35,6 +35,3 @@ pub fn is_accepted(alloc: Global, password: &[u8], text: &str) -> Result<bool>
         Err(e) => Err(e),
     }
 }
-
-#[cfg(test)]
-mod tests;

@@ -62,6 +62,3 @@ fn fill_slice(argon2: &Argon2<'_>, memory: &mut [Block], pass: u32, slice: u32)
         }
     }
 }
-
-#[cfg(test)]
-mod tests;

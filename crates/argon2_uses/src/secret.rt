@@ -49,6 +49,3 @@ pub fn verify_under_both<R: Rng>(
         Err(error) => Err(error),
     }
 }
-
-#[cfg(test)]
-mod tests;

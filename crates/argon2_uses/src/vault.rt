@@ -88,6 +88,3 @@ fn derived(
     };
     Ok((key, tag))
 }
-
-#[cfg(test)]
-mod tests;

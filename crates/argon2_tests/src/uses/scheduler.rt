@@ -1,5 +1,5 @@
-use super::hash_in_rounds;
 use argon2::{Algorithm, Argon2, Block, Params, Version};
+use argon2_uses::scheduler::hash_in_rounds;
 use std::test::Fail;
 
 // Of Debian's `argon2`: 3 passes over 32 blocks in 4 lanes, `password` with `somesalt`.

@@ -1,6 +1,6 @@
-use super::verify_under_both;
 use argon2::password_hash::Error;
 use argon2::{Algorithm, Argon2, Params, Version};
+use argon2_uses::secret::verify_under_both;
 use rand_chacha::ChaCha20Rng;
 use rand_core::SeedableRng;
 use std::test::Fail;

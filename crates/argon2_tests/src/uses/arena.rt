@@ -1,5 +1,5 @@
-use super::{Input, hash_all};
 use argon2::{Algorithm, Argon2, Block, Params, Version};
+use argon2_uses::arena::{Input, hash_all};
 use std::test::Fail;
 
 // Of the independent model.

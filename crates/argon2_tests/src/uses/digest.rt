@@ -1,4 +1,4 @@
-use super::digest;
+use argon2_uses::digest::digest;
 
 // Of the independent model, for `abc`.
 const DIGEST: [u8; 32] = [

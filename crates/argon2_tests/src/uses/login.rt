@@ -1,6 +1,6 @@
-use super::{log_in, moved, register, take_over};
 use argon2::login::{Accepted, Login, LoginError};
 use argon2::{Argon2, Params};
+use argon2_uses::login::{log_in, moved, register, take_over};
 use rand_chacha::ChaCha20Rng;
 use rand_core::SeedableRng;
 use std::test::Fail;

@@ -1,6 +1,6 @@
-use super::{Header, lock, open, seal};
 use argon2::phc::{Output, Salt};
 use argon2::{Algorithm, Argon2, Params, Version};
+use argon2_uses::vault::{Header, lock, open, seal};
 use std::test::Fail;
 
 // Under a secret; with costs that an independent model can afford.

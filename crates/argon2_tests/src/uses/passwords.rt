@@ -1,5 +1,5 @@
-use super::{is_accepted, stored};
 use argon2::password_hash::Error;
+use argon2_uses::passwords::{is_accepted, stored};
 use rand_chacha::ChaCha20Rng;
 use rand_core::SeedableRng;
 use std::test::Fail;
