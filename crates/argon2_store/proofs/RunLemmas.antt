@@ -6,7 +6,7 @@ use Rattle.argon2_store.proofs.Imports.{AreEventsOf, Did, Does, EndsRun, FileCal
 use Rattle.argon2_store.proofs.Imports.{login, on_name, over_file, reads, IsHonest, IsOpen, CrashLeaves, StaysQuiet, AccountFile, FileError, Account, Closed}
 use Rattle.argon2_store.specs.AccountFile.{HasNames, IsReady}
 use Rattle.argon2_store.proofs.TableLemmas.{Settled, leaves_quiet}
-use Rattle.argon2_store.proofs.OpenLemmas.{next_open}
+use Rattle.argon2_store.proofs.NextOpenLemmas.{next_open}
 use Rattle.argon2_store.proofs.TextLemmas.{rows_of-once, step_texts}
 use Rattle.sqlite_disk.specs.declared.Disk as disk
 

@@ -1,4 +1,4 @@
-use Rattle.argon2_store.proofs.OpenLemmas.{leaves_names}
+use Rattle.argon2_store.proofs.NextOpenLemmas.{leaves_names}
 use Rattle.argon2_store.proofs.runs.failed_open.Goals as goal
 
 pub returns : goal.returns

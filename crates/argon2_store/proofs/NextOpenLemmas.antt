@@ -1,0 +1,360 @@
+-- What an open finds after opens that failed, and what the next one finds then.
+use Rattle.argon2_store.proofs.Imports.{◌≡◌, ℕ, Bool, List, [], ◌∷◌, inl, inr, refl, sym, ap, ap₂, subst, subst₂, ◌∙◌, arith, ∥∥₁_elim, ∥∥₁_map, Row, outcomes}
+use Rattle.argon2_store.proofs.Imports.{seen_image, AreWhole, Image, PageMap, IsSoundFile, in_use, IsBlankFile, IsUnreadable, Recovers, RecoversAs, size_is_allowed}
+use Rattle.argon2_store.proofs.Imports.{catalog_tree, Trees, rows_at, reading, schema_in, state, catalog_rows, all_shapes, listed_from, FileStore, FoundIn}
+use Rattle.argon2_store.proofs.Imports.{IsUnstarted, MayHave, StandsFor, account, ◌≤◌, true, false, cond, Option, None, length, slice_index, unwrap_or, zero-add, ◌-◌}
+use Rattle.argon2_store.proofs.Imports.{◌*◌, Some, cases_eq, plain, column, be32, part, IsIgnored, Replays, pages_after, part_within, slice_index-part, coded_list}
+use Rattle.argon2_store.proofs.Imports.{range_with_len, length-map, Adopts, reserved, sealed, stored_size, length-sealed, recovers_once, Index, IsFile, recovers}
+use Rattle.argon2_store.proofs.Imports.{same_listing, file_trees, Store, HoldsNames, IsAfterOpens, IsTableOf, LeavesNames, rows_of, Holds}
+use Rattle.sqlite_disk.specs.declared.Disk.{Ghosts}
+use Rattle.sqlite_trees.specs.declared.store.Shape.TheVariants.{Table}
+use Rattle.sqlite_store.specs.Listing.{all_trees, all_reals, all_shapes}
+use Rattle.argon2_store.specs.Table.{catalog}
+use Rattle.sqlite_wal.proofs.RecoveryLemmas.{recovers_once as raw_once, replays_once}
+use Rattle.sqlite_wal.proofs.AppendLemmas.{page_from_pages, some_value}
+use Rattle.sqlite_wal.specs.PageSize.{IsPageSize}
+use Rattle.sqlite_pool.specs.Header.{first_page, first_page_byte}
+use Rattle.std.proofs.lemmas.List.FromFn.{length-range_with_len}
+use base.Stored.{Gv, gcons, gnil, gnum, num}
+use Rattle.sqlite_pool.specs.File.{in_use, unlocked}
+use Rattle.sqlite_pool.specs.FreeList.{live}
+use Rattle.sqlite_pool.proofs.PoolLemmas.{none_of}
+use Rattle.sqlite_pool.proofs.ProbeLemmas.{first_byte, not_blank, reserved_word, size_by_file, size_by_log}
+use Rattle.sqlite_pool.proofs.ResealLemmas.{adopts_of}
+use Rattle.sqlite_btree.proofs.StoredLemmas.{stored_root_live}
+use Rattle.sqlite_store.specs.Catalog.{describes, is_about, root_in}
+use Rattle.sqlite_store.specs.Db.{roots_of, trees_in}
+use Rattle.sqlite_store.specs.declared.catalog.Wanted.{Wanted}
+use Rattle.argon2_store.proofs.TextLemmas.{rows_of-once}
+use Rattle.sqlite_wal.specs.Recovery as raw
+use Rattle.sqlite_value.specs.contracts.row.Row as row
+
+-- ---- the size of a page
+
+-- an image is a sound file by one size of a page alone
+module _ (img : Image) (a b : ℕ) (p q : PageMap) (found : Recovers a img p) (also : Recovers b img q)
+    (large : 504 ≤ a) (big : 504 ≤ b) (sound : IsSoundFile a p) (whole : IsSoundFile b q) where
+  first : Adopts a img p
+  first = adopts_of a img p found
+
+  second : Adopts b img q
+  second = adopts_of b img q also
+
+  same_stored : stored_size a ≡ stored_size b
+  same_stored = elim (cases_eq (stored_size a) (stored_size b)) [
+    | inl same ↦ same
+    | inr other ↦
+        let ignored : ¬ (¬ IsIgnored img.log) = λ read.
+        other (sym (size_by_log a img p first read) ∙ size_by_log b img q second read) in
+        absurd (ignored (λ none. other (sym (size_by_file a img p first large sound none)
+        ∙ size_by_file b img q second big whole none)))
+  ]
+
+  same_size : a ≡ b
+  same_size =
+      let one = reserved_word a img p first large sound in
+      let two = reserved_word b img q second big whole in
+      let pages = raw_once _ img _ _ (subst (λ n. raw.Recovers n img first.stored) same_stored first.found) second.found in
+      let both = sym one.1 ∙ ap (λ (s : PageMap). s 1) pages ∙ two.1 in
+      let page : one.0 ≡ two.0 = cc in
+      omega (arith, same_stored, one.3, two.3, ap (λ x. be32 x 20) page)
+
+  once : (a ≡ b) × (p ≡ q)
+  once = (same_size, recovers_once b img p q (subst (λ n. Recovers n img p) same_size found) also)
+
+-- ---- the table
+
+either : {X : Type 0} (b : Bool) (x y : Option X) → x ≡ None → y ≡ None → cond b x y ≡ None
+either true x y h k = h
+either false x y h k = k
+
+no_page_zero : (size : ℕ) (pages : PageMap) → IsSoundFile size pages → in_use size pages 0 ≡ None
+unfolding in_use live unlocked
+no_page_zero size pages sound =
+    either _ _ _ (either _ _ _ refl (none_of (pages 0) (λ some. omega (arith, ((sound.counted 0).0 some).0)))) refl
+
+-- a list of one table says all of it but its root
+module _ (w : Wanted) (rest : List Wanted) (same : listed_from 0 (w ∷ rest) ≡ listed_from 0 (account ∷ [])) where
+  shape : w.shape ≡ Index plain
+  unfolding all_shapes
+  shape = ap (λ f. f 0) (same_listing (w ∷ rest) (account ∷ []) same).0
+
+  reals : w.reals ≡ 0
+  unfolding all_reals
+  reals = rw shape at (ap (λ f. f 0) (same_listing (w ∷ rest) (account ∷ []) same).1)
+
+  describes-same : (entry : Row) → describes w entry ≡ describes account entry
+  unfolding describes is_about
+  describes-same entry =
+      let is = rw shape at same in
+      let kind : column (w.row) 0 ≡ column (account.row) 0 = cc is in
+      let name : column (w.row) 1 ≡ column (account.row) 1 = cc is in
+      let table : column (w.row) 2 ≡ column (account.row) 2 = cc is in
+      let sql : column (w.row) 3 ≡ column (account.row) 3 = cc is in
+      rw (shape, kind, name, table, sql)
+
+  root-same : (entries : List Row) → root_in entries w ≡ root_in entries account
+  root-same [] = refl
+  root-same (entry ∷ entries) = rw (describes-same entry, root-same entries)
+
+-- so the first tree is the table
+first_tree : (size : ℕ) (schema : List Wanted) (pages : PageMap) → listed_from 0 schema ≡ listed_from 0 (account ∷ [])
+    → file_trees size schema pages 0 ≡ file_trees size (account ∷ []) pages 0
+unfolding all_trees trees_in roots_of
+first_tree size [] pages same = absurd cc
+first_tree size (w ∷ rest) pages same =
+    rw (root-same w rest same (rows_at size (in_use size pages) Table 1), shape w rest same, reals w rest same)
+
+-- and it is not there in a file that lists none
+no_table : (size : ℕ) (schema : List Wanted) (pages : PageMap) → listed_from 0 schema ≡ listed_from 0 (account ∷ [])
+    → IsFile size schema pages → rows_at size (in_use size pages) Table 1 ≡ [] → ⊥
+unfolding roots_of
+no_table size [] pages same file none = absurd cc
+no_table size (w ∷ rest) pages same file none =
+    let kept = rw (shape w rest same, none) at (file.db.trees.kept 1) in
+    let live = stored_root_live kept.1.stored in
+    let page = sym ((file.db.trees.laid 1).nodes 0 live) ∙ no_page_zero size pages file.sound in
+    absurd cc
+
+-- ---- from one open to the next
+
+-- the first byte of the first page
+abbrev begin : PageMap → ℕ
+begin pages = slice_index (unwrap_or (pages 1) []) 0
+
+front : (size : ℕ) (img : Image) (q : PageMap) → raw.Recovers size img q → AreWhole size q → 1 ≤ size
+    → Replays size img.log 0 → (size ≤ length img.db) × (begin q ≡ slice_index img.db 0)
+front size img q found whole some none =
+    let (page, is) = some_value (q 1) whole.first in
+    let zero = replays_once size img.log found.frames 0 found.replays none in
+    let alone : pages_after size img.log img.db 0 1 ≡ Some page =
+    ap (λ (p : PageMap). p 1) (ap (pages_after size img.log img.db) (sym zero) ∙ found.gives) ∙ is in
+    let start : (1 - 1) * size ≡ 0 = omega arith in
+    let head : part img.db 0 size ≡ page =
+    ap (λ (at : ℕ). part img.db at size) (sym start) ∙ (page_from_pages size img.log img.db 0 1 page alone).0 in
+    let long = part_within img.db 0 size (omega arith) (ap length head ∙ whole.sized 1 page is) in (
+      omega arith,
+      ap (λ (o : Option (List ℕ)). slice_index (unwrap_or o []) 0) is ∙ ap (λ (b : List ℕ). slice_index b 0) (sym head)
+          ∙ slice_index-part img.db 0 size 0 (omega arith) ∙ ap (slice_index img.db) (zero-add 0),
+    )
+
+-- a sound file of any size of a page begins with the S of SQLite's magic, also as pages of 4096 bytes
+magic : (size : ℕ) (img : Image) (pages : PageMap) → Recovers size img pages → 504 ≤ size → IsSoundFile size pages
+    → (q : PageMap) → raw.Recovers 4096 img q → AreWhole 4096 q → begin q ≡ 83
+magic size img pages recs large sound q found whole =
+    let ours = adopts_of size img pages recs in
+    let word = reserved_word size img pages ours large sound in
+    let starts : begin ours.stored ≡ 83 =
+    ap (λ (o : Option (List ℕ)). slice_index (unwrap_or o []) 0) word.1 ∙ word.4 in
+    elim (cases_eq (stored_size size) 4096) [
+      | inl same ↦
+          let once = raw_once 4096 img q ours.stored found (subst (λ n. raw.Recovers n img ours.stored) same ours.found) in
+          ap begin once ∙ starts
+      | inr other ↦
+          let none : Replays 4096 img.log 0 × Replays (stored_size size) img.log 0 = elim ours.found.replays [
+            | inl ignored ↦ (inl (ignored.0, refl), inl (ignored.0, refl))
+            | inr own ↦ elim found.replays [
+              | inl ignored ↦ (inl (ignored.0, refl), inl (ignored.0, refl))
+              | inr taken ↦ absurd (other (sym own.0.head.size ∙ taken.0.head.size))
+            ]
+          ] in
+          (front 4096 img q found whole (omega arith) none.0).1
+          ∙ sym (front (stored_size size) img ours.stored ours.found ours.whole (omega arith) none.1).1 ∙ starts
+    ]
+
+first_length : length (sealed (first_page 4096)) ≡ 4096
+unfolding first_page
+first_length = length-sealed (first_page 4096)
+    ∙ ap stored_size (length-map (range_with_len 0 4096) (first_page_byte 4096) ∙ length-range_with_len 0 4096)
+
+not_begun : (img : Image) → IsBlankFile 4096 img → (q : PageMap) → raw.Recovers 4096 img q → AreWhole 4096 q → ¬ (begin q ≡ 83)
+not_begun img (inl none) q found whole is = omega (arith, none, found.present)
+not_begun img (inr blank) q found whole is =
+    let (long, byte) = front 4096 img q found whole (omega arith) (subst (λ n. Replays n img.log 0) first_length blank.0) in
+    let db : slice_index img.db 0 ≡ 83 = sym byte ∙ is in
+    elim blank.1.0 [
+      | inl short ↦ omega arith
+      | inr more ↦ elim more [
+        | inl zero ↦ omega (arith, zero.1)
+        | inr rest ↦ rest.1 (db ∙ sym (first_byte 4096 (omega arith)))
+      ]
+    ]
+
+-- what a file that carries the pages of another has is not new to that
+carried_back : (old new : Image) → RecoversAs 4096 old new → (pages : PageMap) → Recovers 4096 new pages
+    → (q : PageMap) → raw.Recovers 4096 old q → Recovers 4096 old pages
+carried_back old new same pages recs q found =
+    let one : q ≡ recs.stored = raw_once 4096 new q recs.stored (same q found) recs.found in
+    let was : raw.Recovers 4096 old recs.stored = subst (raw.Recovers 4096 old) one found in
+    record {
+      stored = recs.stored;
+      found = was;
+      whole = recs.whole;
+      sealed = recs.sealed;
+      shows = recs.shows;
+      present = was.present;
+    }
+
+no_path : IsProp ⊥
+no_path a b = absurd a
+
+-- a database of the table is not one that is still to be begun
+begun : (size : ℕ) (schema : List Wanted) (img : Image) (pages : PageMap) → 504 ≤ size → Recovers size img pages
+    → IsFile size schema pages → listed_from 0 schema ≡ listed_from 0 (account ∷ []) → ¬ IsUnstarted 4096 img
+begun size schema img pages large recs file list (inl blank) =
+    not_blank size img pages (adopts_of size img pages recs) large file.sound 4096 (omega arith) blank
+begun size schema img pages large recs file list (inr bare) =
+    let (sized, one) = once img size 4096 pages bare.0 recs bare.1 large (omega arith) file.sound bare.2 in
+    no_table size schema pages list file (subst₂ (λ n p. rows_at n (in_use n p) Table 1 ≡ []) (sym sized) (sym one) bare.3)
+
+-- an open finds such rows alone, and the files begin as a database does unless these may be none
+abbrev Near : (List Row → Type 0) → Image → Type 0
+Near Q img = ((rows : List Row) → FoundIn 4096 img rows → ¬ ¬ Q rows)
+    × (¬ Q [] → (q : PageMap) → raw.Recovers 4096 img q → AreWhole 4096 q → begin q ≡ 83)
+
+large_size : (size : ℕ) → IsPageSize (stored_size size) → 504 ≤ size
+large_size size allowed = let few : reserved size ≤ 8 = grind arith in omega (arith, allowed.0)
+
+near_table : (img : Image) (first : List Row) → IsTableOf img first → Near (λ rows. rows ≡ first) img
+near_table img first (size, schema, pages, allowed, recs, file, list, is) =
+    let large = large_size size allowed in (
+      λ rows found never. elim found [
+        | inl there ↦ ∥∥₁_elim there.2 no_path (λ theirs.
+            let (sized, one) = once img size 4096 pages there.0 recs there.1 large (omega arith) file.sound theirs.sound in
+            let read = ap₂ (λ n p. file_trees n (account ∷ []) p 0) sized one ∙ there.3 in
+            never (sym (first_tree size schema pages list ∙ read) ∙ is))
+        | inr none ↦ ∥∥₁_elim none.0 no_path (begun size schema img pages large recs file list)
+      ],
+      λ _ q. magic size img pages recs large file.sound q,
+    )
+
+near_rows : (img : Image) (first : List Row) → MayHave img first → Near (λ rows. rows ≡ first) img
+near_rows img first (inl table) = near_table img first table
+near_rows img first (inr (unbegun, none)) = (
+  λ rows found never. elim found [
+    | inl there ↦ ∥∥₁_elim there.2 no_path
+        (λ file. begun 4096 (account ∷ []) img there.0 (omega arith) there.1 file refl unbegun)
+    | inr also ↦ never (also.1 ∙ sym none)
+  ],
+  λ some _ _ _. absurd (some (sym none)),
+)
+
+module _ (Q : List Row → Type 0) (old new : Image) (near : Near Q old) where
+  module _ (same : RecoversAs 4096 old new) (unread : IsUnreadable 4096 old → new ≡ old) where
+    back : (pages : PageMap) → Recovers 4096 new pages → ¬ ¬ Recovers 4096 old pages
+    back pages recs never =
+        let gone : IsUnreadable 4096 old = λ q found whole. never (carried_back old new same pages recs q found) in
+        never (subst (λ i. Recovers 4096 i pages) (unread gone) recs)
+
+    near_carried : Near Q new
+    near_carried = (
+      λ rows found never. elim found [
+        | inl there ↦ back there.0 there.1 (λ was. near.0 rows (inl (there.0, was, there.2, there.3)) never)
+        | inr none ↦ ∥∥₁_elim none.0 no_path (λ unbegun. elim unbegun [
+          | inl blank ↦
+              let empty : ¬ Q [] = subst (λ (r : List Row). ¬ Q r) none.1 never in
+              let gone : IsUnreadable 4096 old =
+              λ q was whole. not_begun new blank q (same q was) whole (near.1 empty q was whole) in
+              near.0 [] (inr (∣ inl (subst (IsBlankFile 4096) (unread gone) blank) ∣₁, refl)) empty
+          | inr bare ↦ back bare.0 bare.1
+              (λ was. near.0 rows (inr (∣ inr (bare.0, was, bare.2, bare.3) ∣₁, none.1)) never)
+        ])
+      ],
+      λ empty q found whole. elim (cases_eq (begin q) 83) [
+        | inl is ↦ is
+        | inr never ↦ absurd (
+            let gone : IsUnreadable 4096 old = λ p was full.
+            never (ap begin (raw_once 4096 new q p found (same p was)) ∙ near.1 empty p was full) in
+            never (near.1 empty q (subst (λ i. raw.Recovers 4096 i q) (unread gone) found) whole))
+      ],
+    )
+
+  near_same : (rows : List Row) → ∥ FoundIn 4096 old rows ∥₁ → ∥ MayHave new rows ∥₁ → Near Q new
+  near_same rows before after =
+      let some : ¬ ¬ Q rows = λ never. ∥∥₁_elim before no_path (λ found. near.0 rows found never) in (
+        λ more found never. ∥∥₁_elim after no_path (λ may.
+            (near_rows new rows may).0 more found (λ same. some (λ yes. never (subst Q (sym same) yes)))),
+        λ empty q found whole. elim (cases_eq (begin q) 83) [
+          | inl is ↦ is
+          | inr never ↦ absurd (∥∥₁_elim after no_path (λ may.
+              never ((near_rows new rows may).1 (λ none. some (λ yes. empty (subst Q (sym none) yes))) q found whole)))
+        ],
+      )
+
+  near_after : StandsFor (λ image. image ≡ old) old new → Near Q new
+  near_after (inl is) = subst (Near Q) (sym is) near
+  near_after (inr (inl pages)) = near_carried pages.0 pages.1
+  near_after (inr (inr rows)) = near_same rows.0 rows.1 rows.2
+
+near_opens : (Q : List Row → Type 0) (opens : List Image) (before left : Image) → IsAfterOpens opens before left
+    → Near Q before → Near Q left
+near_opens Q [] before left is near = subst (Near Q) (sym is) near
+near_opens Q (found ∷ older) before left (earlier, stands) near =
+    near_after Q found left (near_opens Q older before found earlier near) stands
+
+-- ---- an equation of rows that can't be false holds
+
+stable : (a b : Gv) → ¬ ¬ (a ≡ b) → a ≡ b
+stable gnil gnil h = refl
+stable gnil (gnum n) h = absurd (h (λ e. cc))
+stable gnil (gcons b c) h = absurd (h (λ e. cc))
+stable (gnum m) gnil h = absurd (h (λ e. cc))
+stable (gnum m) (gnum n) h = elim (cases_eq m n) [ inl same ↦ ap gnum same | inr other ↦ absurd (h (λ e. other (ap num e))) ]
+stable (gnum m) (gcons b c) h = absurd (h (λ e. cc))
+stable (gcons a d) gnil h = absurd (h (λ e. cc))
+stable (gcons a d) (gnum n) h = absurd (h (λ e. cc))
+stable (gcons a d) (gcons b c) h =
+    ap₂ gcons (stable a b (λ never. h (λ e. never (cc)))) (stable d c (λ never. h (λ e. never (cc))))
+
+rows_stable : (a b : List Row) → ¬ ¬ (a ≡ b) → a ≡ b
+rows_stable a b h =
+    let c = coded_list row.the_row.coded in
+    c.inj a b (stable (c.code a) (c.code b) (λ never. h (λ e. never (ap c.code e))))
+
+-- ---- from one run to the next
+
+-- What an open finds in what a crash may leave, or what opens that failed have made of it, is what a crash may leave.
+pub next_open : {D : Type 0} {g : Ghosts D} (it : FileStore D g) → ((db : Trees) → recovers it db → db catalog_tree ≡ catalog)
+    → (before : Image) → (state it).may_leave before → (opens : List Image) (left : Image) → IsAfterOpens opens before left
+    → (found : Store) → HoldsNames left found → ∥ ((db : Trees) × recovers it db × Holds db found) ∥₁
+unfolding catalog
+next_open it listed before may opens left after found holds = ∥∥₁_elim it.safe squash₁ (λ all.
+    let (pages, recs, ours) = all before may in
+    let size = (state it).page_size in
+    let db = reading it pages in
+    let can : recovers it db = (before, pages, may, ∣ recs ∣₁, refl) in
+    let list : listed_from 0 (schema_in it pages) ≡ listed_from 0 (account ∷ []) =
+    sym (catalog_rows size (schema_in it pages) _) ∙ listed db can in
+    ∥∥₁_elim (size_is_allowed it.pool) squash₁ (λ allowed. ∥∥₁_map ours (λ ours.
+    let near = near_opens _ opens before left after
+    (near_table before (db 0) (size, schema_in it pages, pages, allowed, recs, ours.file, list, refl)) in
+    (db, can, (sym (rows_stable _ _ (near.0 _ holds.1)), listed db can)))))
+
+-- ---- one more open that failed
+
+-- what an open finds is the names of the table, or none if there is no table yet
+found_rows : (img : Image) (rows : List Row) → FoundIn 4096 img rows → ∥ MayHave img rows ∥₁
+found_rows img rows (inl (pages, recs, file, is)) = ∥∥₁_map file (λ file.
+    inl (4096, account ∷ [], pages, (omega arith, omega arith, refl, refl), recs, file, refl, is))
+found_rows img rows (inr (none, is)) = ∥∥₁_map none (λ unbegun. inr (unbegun, is))
+
+names_stay : (opens : List Image) (before left : Image) → IsAfterOpens opens before left → (names found : Store)
+    → HoldsNames before names → HoldsNames left found → found ≡ names
+names_stay opens before left after names found held holds = rows_of-once found names holds.0 held.0
+    (rows_stable _ _ (λ never. ∥∥₁_elim (found_rows before _ held.1) no_path
+    (λ may. (near_opens _ opens before left after (near_rows before (rows_of names) may)).0 _ holds.1 never)))
+
+pub leaves_names : {D : Type 0} (g : Ghosts D) (old new : D × D) → LeavesNames g old new
+leaves_names g old new synced unharmed clean left may opens before after =
+    let found = seen_image g old.0 old.1 in
+    let same : (img : Image) → outcomes g old.0 old.1 img → img ≡ found =
+    λ img was. ap₂ (λ (a b : List ℕ). record { log = a; db = b }) (synced.0 img.log was.0) (synced.1 img.db was.1) in
+    let stands : StandsFor (λ img. img ≡ found) found left = elim (unharmed clean left may) [
+      | inl was ↦ inl (same left was)
+      | inr more ↦ inr (elim more [
+        | inl pages ↦ inl (pages.0, λ none. same left (pages.1 none))
+        | inr rows ↦ inr rows
+      ])
+    ] in
+    let chain : IsAfterOpens (found ∷ opens) before left = (after, stands) in
+    (chain, names_stay (found ∷ opens) before left chain)
