@@ -12,6 +12,9 @@ use crate::request::Request;
 use argon2::MAX_PWD_LEN;
 use argon2_base::block::Words;
 
+// The most bytes of a text; the reference library refuses a longer one.
+const MAX_TEXT_LEN: usize = 4294967295;
+
 /// Whether a password has the hash of a text, hashed on lent memory, whatever that held. `absent` is how
 /// many bytes the password has behind a null pointer. Returns 0 if it has the hash, and -35 if it has not.
 ///
@@ -95,7 +98,7 @@ fn call_refusal(
 {
     match () {
         _ if pwd.len() > MAX_PWD_LEN || absent > MAX_PWD_LEN => Some(PWD_TOO_LONG),
-        _ if !has_text || text.len() > 4294967295 => Some(DECODING_FAIL),
+        _ if !has_text || text.len() > MAX_TEXT_LEN => Some(DECODING_FAIL),
         _ if algorithm > 2 => Some(INCORRECT_TYPE),
         _ if room < 2 * text.len() => Some(MEMORY_ALLOCATION_ERROR),
         _ => None,
