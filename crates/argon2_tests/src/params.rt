@@ -4,8 +4,25 @@ use std::test::Fail;
 
 mod text;
 
-fn fault_of(m: u32, t: u32, p: u32, output_len: Option<usize>) -> Option<Error> {
-    Params::new(m, t, p, output_len).err()
+// The columns of a lane and the blocks of all lanes, or the fault.
+fn counts(m: u32, t: u32, p: u32, output_len: Option<usize>) -> Result<(u32, usize), Error> {
+    let params = Params::new(m, t, p, output_len)?;
+    Ok((params.lane_length(), params.block_count()))
+}
+
+// Up to the greatest costs, and at the edge of what is refused.
+#[test]
+fn counts_blocks(rt: HostRuntime) {
+    for (m, t, p, output_len, columns, blocks) in [
+        (33, 1, 2, None, 16, 32),
+        (4294967295, 4294967295, 16777215, None, 256, 4294967040),
+        (4294967295, 1, 1, None, 4294967292, 4294967292),
+        (134217720, 1, 16777215, None, 8, 134217720),
+        (8, 1, 1, Some(4294967295), 8, 8),
+    ] {
+        let answer = counts(m, t, p, output_len);
+        assert!(rt; answer == Ok((columns, blocks)), "{m} {t} {p}");
+    }
 }
 
 #[test]
@@ -15,10 +32,14 @@ fn refuses_the_first_fault(rt: HostRuntime) {
         (8, 0, 0, Some(3), Error::ThreadsTooFew),
         (134217728, 2, 16777216, None, Error::ThreadsTooMany),
         (134217719, 0, 16777215, None, Error::MemoryTooLittle),
+        (134217719, 1, 16777215, None, Error::MemoryTooLittle),
+        (4294967295, 1, 16777216, None, Error::ThreadsTooMany),
+        (4294967295, 1, 4294967295, None, Error::ThreadsTooMany),
         (16, 0, 2, Some(3), Error::TimeTooSmall),
         (16, 1, 2, Some(3), Error::OutputTooShort),
+        (8, 1, 1, Some(4294967296), Error::OutputTooLong),
     ] {
-        assert!(rt; fault_of(m, t, p, output_len) == Some(fault), "{m} {t} {p}");
+        assert!(rt; counts(m, t, p, output_len) == Err(fault), "{m} {t} {p}");
     }
 }
 
@@ -27,21 +48,18 @@ fn costs(params: &Params) -> [u32; 3] {
 }
 
 #[test]
-fn has_defaults(rt: HostRuntime) {
+fn has_and_builds_defaults(rt: HostRuntime) {
     let params = Params::default();
-    assert_eq!(rt; costs(&params), [19456, 2, 1]);
-    assert!(rt; params.keyid().is_empty());
-    assert!(rt; params.data().is_empty());
+    assert!(rt; costs(&params) == [19456, 2, 1]);
+    assert!(rt; params.keyid().is_empty() && params.data().is_empty());
     assert!(rt; params.output_len().is_none());
     assert!(rt; params == Params::DEFAULT);
-}
-
-#[test]
-fn builds_the_defaults(rt: HostRuntime) {
-    let built = ParamsBuilder::new().build();
-    assert!(rt; built == Ok(Params::DEFAULT));
-    let built = Params::try_from(ParamsBuilder::default());
-    assert!(rt; built == Ok(Params::DEFAULT));
+    assert!(rt; ParamsBuilder::new().build() == Ok(params));
+    assert!(rt; Params::try_from(ParamsBuilder::default()) == Ok(params));
+    let mut empty = ParamsBuilder::new();
+    empty.keyid(KeyId::EMPTY);
+    assert!(rt; empty != ParamsBuilder::new());
+    assert!(rt; empty.build() == Ok(params));
 }
 
 #[test]
@@ -51,19 +69,11 @@ fn builds_what_was_set(rt: HostRuntime) -> Result<(), Fail> {
     builder.keyid(KeyId::new(&[0xf0; 4])?);
     builder.data(AssociatedData::new(&[4; 12])?);
     let params = builder.build()?;
-    assert_eq!(rt; costs(&params), [32, 3, 4]);
+    assert!(rt; costs(&params) == [32, 3, 4]);
     assert!(rt; params.keyid() == [0xf0; 4].as_slice());
     assert!(rt; params.data() == [4; 12].as_slice());
     assert!(rt; params.output_len() == Some(16));
     Ok(())
-}
-
-#[test]
-fn builds_the_same_of_an_empty_key_identifier(rt: HostRuntime) {
-    let mut empty = ParamsBuilder::new();
-    empty.keyid(KeyId::EMPTY);
-    assert!(rt; empty != ParamsBuilder::new());
-    assert!(rt; empty.build() == ParamsBuilder::new().build());
 }
 
 #[test]

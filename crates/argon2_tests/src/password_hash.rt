@@ -89,16 +89,6 @@ fn hashes_to_a_text(rt: HostRuntime) {
     }
 }
 
-#[test]
-fn hashes_to_a_text_under_other_parameters(rt: HostRuntime) -> std::result::Result<(), Fail> {
-    let params = Params::new(256, 2, 2, None)?;
-    let other = Argon2::new(Algorithm::Argon2i, Version::V0x10, Params::DEFAULT);
-    let (password, salt) = (b"password", b"somesalt");
-    let hash = other.hash_password_customized(rt.alloc(), password, salt, None, None, params)?;
-    assert!(rt; is_printed(rt.alloc(), &hash, TEXT));
-    Ok(())
-}
-
 fn all_parameters() -> argon2::Result<Params> {
     let mut builder = ParamsBuilder::new();
     builder.m_cost(32).t_cost(2).p_cost(3);
@@ -110,26 +100,22 @@ fn all_parameters() -> argon2::Result<Params> {
 const TEXT_OF_ALL: &str = "$argon2d$v=16$m=32,t=2,p=3,keyid=8PDw8A,data=Dw8PDw8P$AAAAAAAAAAA$\
     KnH4gniiaFnDvlA1xev3yovC4cnrrI6tnHOYtmja90o";
 
+// Without a name and a number they are Argon2id and 0x13, whatever the context's are.
 #[test]
-fn hashes_to_a_text_with_all_parameters(rt: HostRuntime) -> std::result::Result<(), Fail> {
-    let context = Argon2::new(Algorithm::Argon2d, Version::V0x10, all_parameters()?);
-    let hash = context.hash_password_with_salt(rt.alloc(), b"password", &[0; 8])?;
-    assert!(rt; is_printed(rt.alloc(), &hash, TEXT_OF_ALL));
-    Ok(())
-}
-
-#[test]
-fn hashes_to_a_text_with_all_settings_asked_for(rt: HostRuntime) -> std::result::Result<(), Fail> {
+fn hashes_to_a_text_under_other_settings(rt: HostRuntime) -> std::result::Result<(), Fail> {
+    let (alloc, password) = (rt.alloc(), b"password");
+    let params = Params::new(256, 2, 2, None)?;
+    let context = Argon2::new(Algorithm::Argon2i, Version::V0x10, Params::DEFAULT);
+    let hash = context.hash_password_customized(alloc, password, b"somesalt", None, None, params)?;
+    assert!(rt; is_printed(alloc, &hash, TEXT));
+    let params = all_parameters()?;
+    let context = Argon2::new(Algorithm::Argon2d, Version::V0x10, params);
+    let hash = context.hash_password_with_salt(alloc, password, &[0; 8])?;
+    assert!(rt; is_printed(alloc, &hash, TEXT_OF_ALL));
     let (name, number) = (Some("argon2d"), Some(16));
-    let hash = Argon2::default().hash_password_customized(
-        rt.alloc(),
-        b"password",
-        &[0; 8],
-        name,
-        number,
-        all_parameters()?,
-    )?;
-    assert!(rt; is_printed(rt.alloc(), &hash, TEXT_OF_ALL));
+    let context = Argon2::default();
+    let hash = context.hash_password_customized(alloc, password, &[0; 8], name, number, params)?;
+    assert!(rt; is_printed(alloc, &hash, TEXT_OF_ALL));
     Ok(())
 }
 
@@ -152,12 +138,11 @@ fn drawn(
 
 #[test]
 fn draws_a_salt_also_for_a_refusal(rt: HostRuntime) -> std::result::Result<(), Fail> {
-    let mut rng = ChaCha20Rng::from_seed([0; 32]);
-    assert!(rt; drawn(rt.alloc(), &mut rng, 32)? == Ok(true));
-    assert!(rt; rng.next_u32() == 0xb819d2bd);
-    let mut rng = ChaCha20Rng::from_seed([0; 32]);
-    assert!(rt; drawn(rt.alloc(), &mut rng, 65)? == Err(Error::OutputSize));
-    assert!(rt; rng.next_u32() == 0xb819d2bd);
+    for (len, expected) in [(32, Ok(true)), (65, Err(Error::OutputSize))] {
+        let mut rng = ChaCha20Rng::from_seed([0; 32]);
+        assert!(rt; drawn(rt.alloc(), &mut rng, len)? == expected, "{len}");
+        assert!(rt; rng.next_u32() == 0xb819d2bd, "{len}");
+    }
     Ok(())
 }
 
@@ -197,131 +182,98 @@ fn refuses_to_hash(rt: HostRuntime) -> std::result::Result<(), Fail> {
     Ok(())
 }
 
-fn of_16_bytes() -> argon2::Result<Params> {
-    Params::new(8, 1, 1, Some(16))
-}
-
 const REFUSED: Result<()> = Err(Error::PasswordInvalid);
 
 #[test]
-fn hashes_under_no_secret(rt: HostRuntime) -> std::result::Result<(), Fail> {
-    let params = of_16_bytes()?;
+fn hashes_under_a_secret_or_none(rt: HostRuntime) -> std::result::Result<(), Fail> {
+    let (alloc, password, salt) = (rt.alloc(), b"hunter42", b"example-salt");
+    let params = Params::new(8, 1, 1, Some(16))?;
     let plain = Argon2::new(Algorithm::Argon2id, Version::V0x13, params);
     let secret = Argon2::new_with_secret(b"pepper", Algorithm::Argon2id, Version::V0x13, params)?;
-    let hash = plain.hash_password_with_salt(rt.alloc(), b"hunter42", b"example-salt")?;
-    assert!(rt; Argon2::default().verify_password(rt.alloc(), b"hunter42", &hash) == Ok(()));
-    assert!(rt; secret.verify_password(rt.alloc(), b"hunter42", &hash) == REFUSED);
-    Ok(())
-}
-
-#[test]
-fn hashes_under_a_secret(rt: HostRuntime) -> std::result::Result<(), Fail> {
-    let params = of_16_bytes()?;
-    let plain = Argon2::new(Algorithm::Argon2id, Version::V0x13, params);
-    let secret = Argon2::new_with_secret(b"pepper", Algorithm::Argon2id, Version::V0x13, params)?;
-    let (password, salt) = (b"hunter42", b"example-salt");
-    let hash = secret.hash_password_customized(rt.alloc(), password, salt, None, None, params)?;
-    assert!(rt; secret.verify_password(rt.alloc(), b"hunter42", &hash) == Ok(()));
-    assert!(rt; plain.verify_password(rt.alloc(), b"hunter42", &hash) == REFUSED);
+    let hash = plain.hash_password_with_salt(alloc, password, salt)?;
+    assert!(rt; Argon2::default().verify_password(alloc, password, &hash) == Ok(()));
+    assert!(rt; secret.verify_password(alloc, password, &hash) == REFUSED);
+    let hash = secret.hash_password_customized(alloc, password, salt, None, None, params)?;
+    assert!(rt; secret.verify_password(alloc, password, &hash) == Ok(()));
+    assert!(rt; plain.verify_password(alloc, password, &hash) == REFUSED);
     Ok(())
 }
 
 // ---- verifying
 
-// What verifying `password` and `sassword` against a text returns.
-fn answers(alloc: Global, text: &str) -> [Result<()>; 2] {
-    [
-        verify(alloc, "password", text),
-        verify(alloc, "sassword", text),
-    ]
-}
-
-const ACCEPTED: [Result<()>; 2] = [Ok(()), Err(Error::PasswordInvalid)];
-
+// Texts of `password`, and not of `sassword`.
 #[test]
-fn accepts_one_password_for_argon2id(rt: HostRuntime) {
-    let text = "$argon2id$v=19$m=65536,t=2,p=1$c29tZXNhbHQ$\
-        CTFhFdXPJO1aFaMaO6Mm5c8y7cJHAph8ArZWb2GRPPc";
-    assert!(rt; answers(rt.alloc(), text) == ACCEPTED);
-}
-
-#[test]
-fn accepts_one_password_for_argon2i(rt: HostRuntime) {
-    let text = "$argon2i$v=19$m=65536,t=1,p=1$c29tZXNhbHQAAAAAAAAAAA$\
-        +r0d29hqEB0yasKr55ZgICsQGSkl0v0kgwhd+U3wyRo";
-    assert!(rt; answers(rt.alloc(), text) == ACCEPTED);
-}
-
-#[test]
-fn accepts_one_password_for_argon2d(rt: HostRuntime) {
-    let text = "$argon2d$v=19$m=65536,t=2,p=1$YzI5dFpYTmhiSFFBQUFBQUFBQUFBQQ$\
-        Jxy74cswY2mq9y+u+iJcJy8EqOp4t/C7DWDzGwGB3IM";
-    assert!(rt; answers(rt.alloc(), text) == ACCEPTED);
-}
-
-#[test]
-fn accepts_one_password_with_a_key_identifier(rt: HostRuntime) {
-    let text = "$argon2d$v=19$m=65536,t=2,p=1,keyid=8PDw8A$YzI5dFpYTmhiSFFBQUFBQUFBQUFBQQ$\
-        Jxy74cswY2mq9y+u+iJcJy8EqOp4t/C7DWDzGwGB3IM";
-    assert!(rt; answers(rt.alloc(), text) == ACCEPTED);
-}
-
-#[test]
-fn accepts_one_password_with_data(rt: HostRuntime) {
-    let text = "$argon2d$v=16$m=32,t=2,p=3,data=Dw8PDw8P$AAAAAAAAAAA$\
-        KnH4gniiaFnDvlA1xev3yovC4cnrrI6tnHOYtmja90o";
-    assert!(rt; answers(rt.alloc(), text) == ACCEPTED);
-    assert!(rt; answers(rt.alloc(), TEXT_OF_ALL) == ACCEPTED);
-}
-
-// Also one that differs in its first or its last byte alone.
-#[test]
-fn refuses_another_hash(rt: HostRuntime) {
+fn accepts_one_password(rt: HostRuntime) {
     for text in [
-        "$argon2i$v=19$m=65536,t=2,p=1$c29tZXNhbHQ$8iIuixkI73Js3G1uMbezQXD0b8LG4SXGsOwoQkdAQIM",
-        "$argon2id$v=19$m=256,t=2,p=2$c29tZXNhbHQ$cQk8UB/VmZZF4Oo79iDXuL5/0ttZwg2f/5U52iv1cDc",
-        "$argon2id$v=19$m=256,t=2,p=2$c29tZXNhbHQ$bQk8UB/VmZZF4Oo79iDXuL5/0ttZwg2f/5U52iv1cDg",
+        "$argon2id$v=19$m=65536,t=2,p=1$c29tZXNhbHQ$CTFhFdXPJO1aFaMaO6Mm5c8y7cJHAph8ArZWb2GRPPc",
+        "$argon2i$v=19$m=65536,t=1,p=1$c29tZXNhbHQAAAAAAAAAAA$\
+            +r0d29hqEB0yasKr55ZgICsQGSkl0v0kgwhd+U3wyRo",
+        "$argon2d$v=19$m=65536,t=2,p=1$YzI5dFpYTmhiSFFBQUFBQUFBQUFBQQ$\
+            Jxy74cswY2mq9y+u+iJcJy8EqOp4t/C7DWDzGwGB3IM",
+        "$argon2d$v=19$m=65536,t=2,p=1,keyid=8PDw8A$YzI5dFpYTmhiSFFBQUFBQUFBQUFBQQ$\
+            Jxy74cswY2mq9y+u+iJcJy8EqOp4t/C7DWDzGwGB3IM",
+        "$argon2d$v=16$m=32,t=2,p=3,data=Dw8PDw8P$AAAAAAAAAAA$\
+            KnH4gniiaFnDvlA1xev3yovC4cnrrI6tnHOYtmja90o",
+        TEXT_OF_ALL,
     ] {
-        let answer = verify(rt.alloc(), "password", text);
-        assert!(rt; answer == Err(Error::PasswordInvalid), "{text}");
+        assert!(rt; verify(rt.alloc(), "password", text) == Ok(()), "{text}");
+        assert!(rt; verify(rt.alloc(), "sassword", text) == REFUSED, "{text}");
     }
 }
 
 // Without a version it is 0x10.
 #[test]
 fn verifies_without_a_version(rt: HostRuntime) {
-    for text in [
-        "$argon2i$m=256,t=2,p=1$c29tZXNhbHQ$/U3YPXYsSb3q9XxHvc0MLxur+GP960kN9j7emXX8zwY",
-        "$argon2i$p=2,m=256,t=2$c29tZXNhbHQ$tsEVYKap1h6scGt5ovl9aLRGOqOth+AMB+KwHpDFZPs",
+    for (password, text) in [
+        (
+            "password",
+            "$argon2i$m=256,t=2,p=1$c29tZXNhbHQ$/U3YPXYsSb3q9XxHvc0MLxur+GP960kN9j7emXX8zwY",
+        ),
+        (
+            "password",
+            "$argon2i$p=2,m=256,t=2$c29tZXNhbHQ$tsEVYKap1h6scGt5ovl9aLRGOqOth+AMB+KwHpDFZPs",
+        ),
+        (
+            "password",
+            "$argon2i$m=65536,t=2,p=1$c29tZXNhbHQ$9sTbSlTio3Biev89thdrlKKiCaYsjjYVJxGAL3swxpQ",
+        ),
+        (
+            "password",
+            "$argon2i$m=65536,t=1,p=1$c29tZXNhbHQ$gWMFUrjzsfSM2xmSxMZ4ZD1JCytetP9sSzQ4tWIXJLI",
+        ),
+        (
+            "differentpassword",
+            "$argon2i$m=65536,t=2,p=1$c29tZXNhbHQ$6ckCB0tnVFMaOgvlGeW69ASzDOabPwGsO/ISKZYBCaM",
+        ),
     ] {
-        assert!(rt; verify(rt.alloc(), "password", text) == Ok(()), "{text}");
+        assert!(rt; verify(rt.alloc(), password, text) == Ok(()), "{text}");
     }
-}
-
-#[test]
-fn verifies_64_mebibytes_without_a_version(rt: HostRuntime) {
-    let text = "$argon2i$m=65536,t=2,p=1$c29tZXNhbHQ$9sTbSlTio3Biev89thdrlKKiCaYsjjYVJxGAL3swxpQ";
-    assert!(rt; verify(rt.alloc(), "password", text) == Ok(()));
-    let text = "$argon2i$m=65536,t=1,p=1$c29tZXNhbHQ$gWMFUrjzsfSM2xmSxMZ4ZD1JCytetP9sSzQ4tWIXJLI";
-    assert!(rt; verify(rt.alloc(), "password", text) == Ok(()));
-}
-
-#[test]
-fn verifies_another_password_without_a_version(rt: HostRuntime) {
-    let text = "$argon2i$m=65536,t=2,p=1$c29tZXNhbHQ$6ckCB0tnVFMaOgvlGeW69ASzDOabPwGsO/ISKZYBCaM";
-    assert!(rt; verify(rt.alloc(), "differentpassword", text) == Ok(()));
-    let text = "$argon2i$m=65536,t=2,p=1$c29tZXNhbHQ$b2G3seW+uPzerwQQC+/E1K50CLLO7YXy0JRcaTuswRo";
-    let answer = verify(rt.alloc(), "password", text);
-    assert!(rt; answer == Err(Error::PasswordInvalid));
 }
 
 fn invalid(name: &'static str) -> Error {
     Error::ParamInvalid { name }
 }
 
+// The first three have another hash than that of `password`: it differs in all bytes, in its first or in its last one.
 #[test]
 fn refuses_to_verify(rt: HostRuntime) {
     for (text, error) in [
+        (
+            "$argon2i$v=19$m=65536,t=2,p=1$c29tZXNhbHQ$8iIuixkI73Js3G1uMbezQXD0b8LG4SXGsOwoQkdAQIM",
+            Error::PasswordInvalid,
+        ),
+        (
+            "$argon2id$v=19$m=256,t=2,p=2$c29tZXNhbHQ$cQk8UB/VmZZF4Oo79iDXuL5/0ttZwg2f/5U52iv1cDc",
+            Error::PasswordInvalid,
+        ),
+        (
+            "$argon2id$v=19$m=256,t=2,p=2$c29tZXNhbHQ$bQk8UB/VmZZF4Oo79iDXuL5/0ttZwg2f/5U52iv1cDg",
+            Error::PasswordInvalid,
+        ),
+        (
+            "$argon2i$m=65536,t=2,p=1$c29tZXNhbHQ$b2G3seW+uPzerwQQC+/E1K50CLLO7YXy0JRcaTuswRo",
+            Error::PasswordInvalid,
+        ),
         (
             "$argon2id$v=19$m=8,t=1,p=1$c29tZXNhbHQ",
             Error::PasswordInvalid,

@@ -4,42 +4,37 @@ use argon2_base::phc::{
     Value,
 };
 use std::alloc::Global;
-use std::process::Abort;
 use std::str;
 use std::test::Fail;
 
 const TEXT: &str = "$argon2id$v=19$m=8,t=1,p=1$c29tZXNhbHQ$AAAAAA";
 
-// Whether a text is read, and if it is, that it prints itself.
-fn is_read(rt: &impl Abort, alloc: Global, text: &str) -> Result<bool, Fail> {
-    match text.parse::<PasswordHash>() {
-        Ok(hash) => {
-            let printed = hash.to_string(alloc)?;
-            assert!(rt; printed.as_str() == text, "{text}");
-            assert!(rt; hash.text().as_str() == text, "{text}");
-            assert!(rt; PasswordHash::new(printed.as_str())? == hash);
-            Ok(true)
-        }
-        Err(error) => {
-            assert!(rt; error == Error::EncodingInvalid);
-            Ok(false)
-        }
-    }
+// Whether a text is read: then it has to print itself, and else to be refused as an encoding.
+fn is_read(alloc: Global, text: &str) -> Option<bool> {
+    let hash = match text.parse::<PasswordHash>() {
+        Ok(hash) => hash,
+        Err(error) => return (error == Error::EncodingInvalid).then_some(false),
+    };
+    let Ok(printed) = hash.to_string(alloc) else {
+        return None;
+    };
+    let is_same = printed.as_str() == text && hash.text().as_str() == text;
+    (is_same && PasswordHash::new(text) == Ok(hash)).then_some(true)
 }
 
-// Each piece so many times.
-fn joined(alloc: Global, pieces: &[(&str, usize)]) -> Result<String, Fail> {
+// The same of the text that has each piece so many times.
+fn is_read_joined(alloc: Global, pieces: &[(&str, usize)]) -> Result<Option<bool>, Fail> {
     let mut text = String::new(alloc);
     for &(piece, times) in pieces {
         for _ in 0..times {
             text.push_str(piece)?;
         }
     }
-    Ok(text)
+    Ok(is_read(alloc, text.as_str()))
 }
 
 #[test]
-fn texts_that_are_read(rt: HostRuntime) -> Result<(), Fail> {
+fn texts_that_are_read(rt: HostRuntime) {
     for text in [
         "$argon2id",
         "$argon2id$v=19",
@@ -47,13 +42,12 @@ fn texts_that_are_read(rt: HostRuntime) -> Result<(), Fail> {
         "$argon2id$v=19$m=256,t=2,p=2$c29tZXNhbHQ$bQk8UB/VmZZF4Oo79iDXuL5/0ttZwg2f/5U52iv1cDc",
         "$argon2d$v=16$m=32,t=2,p=3,keyid=8PDw8A,data=Dw8PDw8P$AAAAAAAAAAA$KnH4gniiaFnDvlA1xev3yovC4cnrrI6tnHOYtmja90o",
     ] {
-        assert!(rt; is_read(&rt, rt.alloc(), text)?);
+        assert!(rt; is_read(rt.alloc(), text) == Some(true), "{text}");
     }
-    Ok(())
 }
 
 #[test]
-fn texts_that_are_refused(rt: HostRuntime) -> Result<(), Fail> {
+fn texts_that_are_refused(rt: HostRuntime) {
     for text in [
         "",
         "argon2id",
@@ -74,88 +68,69 @@ fn texts_that_are_refused(rt: HostRuntime) -> Result<(), Fail> {
         "$argon2id$c29tZXNhbHQ$AAAAA",
         "$argon2id$c29tZXNhbHQ$AAAAAA$",
     ] {
-        assert!(rt; !is_read(&rt, rt.alloc(), text)?);
+        assert!(rt; is_read(rt.alloc(), text) == Some(false), "{text}");
     }
-    Ok(())
 }
 
-// A text whose list ends in so many characters, and which has 268 bytes beside them.
-fn long_text(alloc: Global, xs: usize) -> Result<String, Fail> {
-    let bytes = ("$", 1);
-    let front = ("$v=4294967295$a=", 1);
-    joined(
-        alloc,
+// Pieces, so many of each, and whether their text is read: the longest texts, of 326 and 327 bytes; the longest parts;
+// and lengths of salts and hashes.
+const JOINED: [(&[(&str, usize)], bool); 20] = [
+    (
         &[
-            bytes,
+            ("$", 1),
             ("a", 32),
-            front,
+            ("$v=4294967295$a=", 1),
             ("x", 64),
             (",b=", 1),
-            ("x", xs),
-            bytes,
+            ("x", 58),
+            ("$", 1),
             ("A", 64),
-            bytes,
+            ("$", 1),
             ("A", 86),
         ],
-    )
-}
+        true,
+    ),
+    (
+        &[
+            ("$", 1),
+            ("a", 32),
+            ("$v=4294967295$a=", 1),
+            ("x", 64),
+            (",b=", 1),
+            ("x", 59),
+            ("$", 1),
+            ("A", 64),
+            ("$", 1),
+            ("A", 86),
+        ],
+        false,
+    ),
+    (&[("$", 1), ("a", 32)], true),
+    (&[("$", 1), ("a", 33)], false),
+    (&[("$a$", 1), ("n", 32), ("=1", 1)], true),
+    (&[("$a$", 1), ("n", 33), ("=1", 1)], false),
+    (&[("$a$n=", 1), ("9", 64)], true),
+    (&[("$a$n=", 1), ("9", 65)], false),
+    (&[("$a$", 1), ("AAAA", 16)], true),
+    (&[("$a$", 1), ("AAAA", 17)], false),
+    (&[("$a$AAAAAAAAAAA$AA", 1), ("AAAA", 21)], true),
+    (&[("$a$AAAAAAAAAAA$AA", 1), ("AAAA", 22)], false),
+    (&[("$a$", 1), ("A", 10)], false),
+    (&[("$a$", 1), ("A", 11)], true),
+    (&[("$a$", 1), ("A", 64)], true),
+    (&[("$a$", 1), ("A", 66)], false),
+    (&[("$a$", 1), ("A", 11), ("$", 1), ("A", 4)], false),
+    (&[("$a$", 1), ("A", 11), ("$", 1), ("A", 6)], true),
+    (&[("$a$", 1), ("A", 11), ("$", 1), ("A", 86)], true),
+    (&[("$a$", 1), ("A", 11), ("$", 1), ("A", 87)], false),
+];
 
 #[test]
-fn longest(rt: HostRuntime) -> Result<(), Fail> {
-    let text = long_text(rt.alloc(), 58)?;
-    assert!(rt; text.len() == 326);
-    assert!(rt; is_read(&rt, rt.alloc(), text.as_str())?);
-    let text = long_text(rt.alloc(), 59)?;
-    assert!(rt; text.len() == 327);
-    assert!(rt; !is_read(&rt, rt.alloc(), text.as_str())?);
-    Ok(())
-}
-
-// Whether a text is read in which a piece stands so many times.
-fn is_read_with(
-    rt: &impl Abort,
-    alloc: Global,
-    (front, piece, end): (&str, &str, &str),
-    times: usize,
-) -> Result<bool, Fail> {
-    let text = joined(alloc, &[(front, 1), (piece, times), (end, 1)])?;
-    is_read(rt, alloc, text.as_str())
-}
-
-#[test]
-fn longest_parts(rt: HostRuntime) -> Result<(), Fail> {
-    for (around, most) in [
-        (("$", "a", ""), 32),
-        (("$a$", "n", "=1"), 32),
-        (("$a$n=", "9", ""), 64),
-        (("$a$", "AAAA", ""), 16),
-        (("$a$AAAAAAAAAAA$AA", "AAAA", ""), 21),
-    ] {
-        assert!(rt; is_read_with(&rt, rt.alloc(), around, most)?, "{most}");
-        assert!(rt; !is_read_with(&rt, rt.alloc(), around, most + 1)?, "{most}");
-    }
-    Ok(())
-}
-
-#[test]
-fn lengths_of_salts_and_hashes(rt: HostRuntime) -> Result<(), Fail> {
-    for (salt, hash, read) in [
-        (10, 0, false),
-        (11, 0, true),
-        (64, 0, true),
-        (66, 0, false),
-        (11, 4, false),
-        (11, 6, true),
-        (11, 86, true),
-        (11, 87, false),
-    ] {
-        let mut text = joined(rt.alloc(), &[("$a$", 1), ("A", salt)])?;
-        if hash > 0 {
-            text.push_str(joined(rt.alloc(), &[("$", 1), ("A", hash)])?.as_str())?;
-        }
+fn lengths_of_texts_and_parts(rt: HostRuntime) -> Result<(), Fail> {
+    for (n, &(pieces, read)) in JOINED.iter().enumerate() {
         assert!(rt;
-            is_read(&rt, rt.alloc(), text.as_str())? == read,
-            "{salt} {hash}"
+            is_read_joined(rt.alloc(), pieces)? == Some(read),
+            "row {n}"
         );
     }
     Ok(())
@@ -198,49 +173,66 @@ fn beginnings(rt: HostRuntime) -> Result<(), Fail> {
     let read = [2, 3, 4, 5, 6, 7, 8, 9, 13, 14, 18, 22, 26, 38, 45];
     for len in 0..46 {
         let text = str::from_utf8(&TEXT.as_bytes()[..len])?;
-        assert_eq!(rt; is_read(&rt, rt.alloc(), text)?, read.contains(&len));
+        assert!(rt;
+            is_read(rt.alloc(), text) == Some(read.contains(&len)),
+            "{len}"
+        );
     }
     Ok(())
 }
 
+// Whether the text is read with this character in place of the one at a place below 45.
+fn is_read_with(alloc: Global, place: usize, c: u8) -> Option<bool> {
+    let mut bytes = [0u8; 45];
+    bytes.copy_from_slice(TEXT.as_bytes());
+    bytes[place.min(44)] = c;
+    is_read(alloc, str::from_utf8(&bytes).ok()?)
+}
+
+// Places with all characters that are read there.
+const READ_AT: [(usize, &str); 7] = [
+    (0, "$"),
+    (9, "$"),
+    (14, "$"),
+    (26, "$"),
+    (37, "AEIMQUYcgkosw048"),
+    (
+        38,
+        "ABCDEFGHIJKLMNOPQRSTUVWXYZabcdefghijklmnopqrstuvwxyz0123456789+/$",
+    ),
+    (44, "AQgw"),
+];
+
 #[test]
-fn changed_bytes(rt: HostRuntime) -> Result<(), Fail> {
-    let base64 = "ABCDEFGHIJKLMNOPQRSTUVWXYZabcdefghijklmnopqrstuvwxyz0123456789+/$";
-    let read = [
-        (0, "$"),
-        (9, "$"),
-        (14, "$"),
-        (26, "$"),
-        (37, "AEIMQUYcgkosw048"),
-        (38, base64),
-        (44, "AQgw"),
-    ];
+fn changed_bytes(rt: HostRuntime) {
     for place in 0..45 {
-        let known = read.iter().find(|row| row.0 == place);
         for c in 0u8..128 {
-            let mut bytes = [0u8; 45];
-            bytes.copy_from_slice(TEXT.as_bytes());
-            bytes[place] = c;
-            let is = is_read(&rt, rt.alloc(), str::from_utf8(&bytes)?)?;
-            if let Some(row) = known {
-                assert_eq!(rt; is, row.1.as_bytes().contains(&c));
-            }
+            assert!(rt; is_read_with(rt.alloc(), place, c).is_some(), "{place} {c}");
         }
     }
-    Ok(())
+    for (place, read) in READ_AT {
+        for c in 0u8..128 {
+            let is_in = read.as_bytes().contains(&c);
+            assert!(rt;
+                is_read_with(rt.alloc(), place, c) == Some(is_in),
+                "{place} {c}"
+            );
+        }
+    }
 }
 
 #[test]
 fn characters_put_in(rt: HostRuntime) -> Result<(), Fail> {
     for put in ["\0", " ", "\n", "é", "\u{ff11}"] {
         for place in 0..46 {
-            let mut text = String::from_str(
-                rt.alloc(),
-                str::from_utf8(&TEXT.as_bytes()[..place])?,
-            )?;
-            text.push_str(put)?;
-            text.push_str(str::from_utf8(&TEXT.as_bytes()[place..])?)?;
-            assert!(rt; !is_read(&rt, rt.alloc(), text.as_str())?);
+            let (head, tail) = TEXT.as_bytes().split_at(place);
+            let pieces = [
+                (str::from_utf8(head)?, 1),
+                (put, 1),
+                (str::from_utf8(tail)?, 1),
+            ];
+            let is = is_read_joined(rt.alloc(), &pieces)?;
+            assert!(rt; is == Some(false), "{put} at {place}");
         }
     }
     Ok(())
@@ -293,47 +285,34 @@ fn lists_are_read(rt: HostRuntime) {
     assert!(rt; "".parse() == Ok(ParamsString::new()));
 }
 
-// Whether the list has this name with the decimal.
-fn has_number(list: &ParamsString, name: &str, number: Result<u32, Error>) -> bool {
-    match list.get(name) {
-        Some(value) => value.decimal() == number,
-        None => false,
-    }
-}
-
-// Whether the item has this name and the decimal.
-fn is_item(item: Option<(Ident, Value<'_>)>, name: &str, number: Result<u32, Error>) -> bool {
-    match item {
-        Some((key, value)) => key.as_str() == name && value.decimal() == number,
-        None => false,
-    }
+// Whether this is an item of a list that finds it by its name, with its text and its decimal.
+fn is_item(
+    list: &ParamsString,
+    item: Option<(Ident, Value<'_>)>,
+    (name, text, number): (&str, &str, Result<u32, Error>),
+) -> bool {
+    let (Some((key, value)), Some(found)) = (item, list.get(name)) else {
+        return false;
+    };
+    key.as_str() == name
+        && (value.as_str() == text && value.decimal() == number)
+        && (found.as_str() == text && found.decimal() == number)
 }
 
 #[test]
 fn values(rt: HostRuntime) -> Result<(), Fail> {
     let list = "a=0,b=08,c=4294967295,d=4294967296".parse::<ParamsString>()?;
     let mut items = list.iter();
-    for (name, number) in [
-        ("a", Ok(0)),
-        ("b", Err(Error::ParamsInvalid)),
-        ("c", Ok(u32::MAX)),
-        ("d", Err(Error::ParamsInvalid)),
+    for row in [
+        ("a", "0", Ok(0)),
+        ("b", "08", Err(Error::ParamsInvalid)),
+        ("c", "4294967295", Ok(u32::MAX)),
+        ("d", "4294967296", Err(Error::ParamsInvalid)),
     ] {
-        assert!(rt; is_item(items.next(), name, number), "{name}");
-        assert!(rt; has_number(&list, name, number), "{name}");
+        assert!(rt; is_item(&list, items.next(), row), "{}", row.0);
     }
     assert!(rt; items.next().is_none());
     assert!(rt; list.get("e").is_none());
-    Ok(())
-}
-
-#[test]
-fn values_as_written(rt: HostRuntime) -> Result<(), Fail> {
-    let list = "a=0,b=08".parse::<ParamsString>()?;
-    match list.get("b") {
-        Some(value) => assert!(rt; value.as_str() == "08"),
-        None => assert!(rt; false, "no value"),
-    }
     Ok(())
 }
 
@@ -349,15 +328,20 @@ fn output_len(len: usize) -> Result<usize, Error> {
 
 #[test]
 fn lengths_of_parts(rt: HostRuntime) {
-    assert!(rt; salt_len(7) == Err(Error::SaltInvalid));
-    assert!(rt; salt_len(8) == Ok(8));
-    assert!(rt; salt_len(48) == Ok(48));
-    assert!(rt; salt_len(49) == Err(Error::SaltInvalid));
-    assert!(rt; output_len(3) == Err(Error::OutputSize));
-    assert!(rt; output_len(4) == Ok(4));
-    assert!(rt; output_len(64) == Ok(64));
-    assert!(rt; output_len(65) == Err(Error::OutputSize));
-    assert!(rt; Salt::RECOMMENDED_LENGTH == 16);
+    let (salt, output) = (Err(Error::SaltInvalid), Err(Error::OutputSize));
+    for (len, salt, output) in [
+        (3, salt, output),
+        (4, salt, Ok(4)),
+        (7, salt, Ok(7)),
+        (8, Ok(8), Ok(8)),
+        (48, Ok(48), Ok(48)),
+        (49, salt, Ok(49)),
+        (64, salt, Ok(64)),
+        (65, salt, output),
+    ] {
+        assert!(rt; salt_len(len) == salt, "{len}");
+        assert!(rt; output_len(len) == output, "{len}");
+    }
 }
 
 #[test]
