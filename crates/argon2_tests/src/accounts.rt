@@ -1,38 +1,18 @@
 use crate::drawn::Drawn;
+use crate::hashing::PWD;
+use crate::login::{NEW, OLD, target};
+use argon2::PasswordHash;
 use argon2::bound::Bound;
 use argon2::login::Accepted;
 use argon2::password_hash::Error;
-use argon2::{Algorithm, Argon2, AssociatedData, ParamsBuilder, PasswordHash, Version};
 use argon2_accounts::{AccountError, Accounts, Policy};
 use std::test::Fail;
-
-const PWD: [u8; 32] = [1; 32];
-
-const SECRET: [u8; 8] = [3; 8];
 
 const BOUND: Bound = Bound {
     m_cost: 32,
     t_cost: 3,
     p_cost: 4,
 };
-
-// The target's settings are Argon2id, 0x13 and those of the vectors of RFC 9106, section 5.
-fn target() -> argon2::Result<Argon2<'static>> {
-    let params = ParamsBuilder::new()
-        .m_cost(32)
-        .t_cost(3)
-        .p_cost(4)
-        .data(AssociatedData::new(&[4; 12])?)
-        .build()?;
-    Argon2::new_with_secret(&SECRET, Algorithm::Argon2id, Version::V0x13, params)
-}
-
-// Texts of `PWD`: an old one, and the target's.
-const OLD: &str = "$argon2i$v=16$m=32,t=3,p=4,data=BAQEBAQEBAQEBAQE$AgICAgICAgICAgICAgICAg\
-    $h67t1lF6uDDNl2XNgjGrsuZHpd7gj3wF4C/LdjM10P0";
-
-const NEW: &str = "$argon2id$v=19$m=32,t=3,p=4,data=BAQEBAQEBAQEBAQE$AgICAgICAgICAgICAgICAg\
-    $DWQN9Y14dmwIwDejSotTydAe8EUtdbZetSUg6WsB5lk";
 
 // The target's of `other` and `set`.
 const OTHER: &str = "$argon2id$v=19$m=32,t=3,p=4,data=BAQEBAQEBAQEBAQE$AgICAgICAgICAgICAgICAg\
@@ -72,11 +52,17 @@ fn gives_a_name_passwords(rt: HostRuntime) -> Result<(), Fail> {
     assert!(rt; has(&accounts, "ann", SET) && rng.0 == 12);
     let refused = Err(AccountError::Refused(Error::PasswordInvalid));
     assert!(rt; accounts.login(&mut rng, "ann", &PWD) == refused && rng.0 == 12);
+    Ok(())
+}
 
-    assert!(rt; accounts.add("eve", OLD) == Ok(()));
+#[test]
+fn renews_replaces_and_removes(rt: HostRuntime) -> Result<(), Fail> {
+    let mut rng = Drawn(0);
+    let mut accounts = Accounts::new(rt.alloc(), target()?, BOUND)?;
+    assert!(rt; accounts.add("ann", NEW) == Ok(()) && accounts.add("eve", OLD) == Ok(()));
     assert!(rt; has(&accounts, "eve", OLD) && accounts.len() == 2);
     assert!(rt; accounts.login(&mut rng, "eve", &PWD) == Ok(Accepted::Rehashed));
-    assert!(rt; has(&accounts, "eve", NEW) && rng.0 == 16);
+    assert!(rt; has(&accounts, "eve", NEW) && rng.0 == 4);
     assert!(rt; accounts.replace("eve", NEW, OTHER) == Ok(()) && has(&accounts, "eve", OTHER));
     assert!(rt; accounts.remove("ann") == Ok(()));
     assert!(rt; begins_with(&accounts, "eve") && accounts.len() == 1);

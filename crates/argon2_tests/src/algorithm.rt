@@ -16,38 +16,29 @@ fn is_read(algorithm: Algorithm, name: &str) -> bool {
         && Algorithm::try_from(name) == Ok(algorithm)
 }
 
-// Whether the algorithm has the name by each call that takes no memory.
-fn is_named(algorithm: Algorithm, name: &str) -> bool {
-    algorithm.as_str() == name
+// Whether the algorithm has the name by each call, and prints as it.
+fn is_named(alloc: Global, algorithm: Algorithm, name: &str) -> bool {
+    let Ok(printed) = algorithm.to_string(alloc) else {
+        return false;
+    };
+    printed.as_str() == name
+        && algorithm.as_str() == name
         && algorithm.ident().as_str() == name
         && Ident::from(algorithm).as_str() == name
-}
-
-// Whether the algorithm prints as the name.
-fn is_printed(alloc: Global, algorithm: Algorithm, name: &str) -> bool {
-    match algorithm.to_string(alloc) {
-        Ok(text) => text.as_str() == name,
-        Err(_) => false,
-    }
 }
 
 #[test]
 fn names_go_both_ways(rt: HostRuntime) {
     for (algorithm, name) in NAMES {
         assert!(rt; is_read(algorithm, name), "{name}");
-        assert!(rt; is_named(algorithm, name), "{name}");
-        assert!(rt; is_printed(rt.alloc(), algorithm, name), "{name}");
+        assert!(rt; is_named(rt.alloc(), algorithm, name), "{name}");
     }
 }
 
 #[test]
-fn refuses_another_name(rt: HostRuntime) {
+fn refuses_another_name_and_has_a_default(rt: HostRuntime) {
     assert!(rt; Algorithm::new("argon2") == Err(Error::AlgorithmInvalid));
     assert!(rt; Algorithm::try_from("argon2") == Err(password_hash::Error::Algorithm));
-}
-
-#[test]
-fn is_argon2id_by_default(rt: HostRuntime) {
     assert!(rt; Algorithm::default() == Algorithm::Argon2id);
     assert!(rt; Algorithm::Argon2d < Algorithm::Argon2i);
 }

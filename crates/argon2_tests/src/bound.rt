@@ -1,11 +1,8 @@
+use crate::password_hash::TEXT;
 use argon2::Argon2;
 use argon2::bound::{Bound, BoundError};
 use argon2::password_hash::Error;
 use std::test::Fail;
-
-// Of Debian's `argon2`, for the password `password`.
-const TEXT: &str =
-    "$argon2id$v=19$m=256,t=2,p=2$c29tZXNhbHQ$bQk8UB/VmZZF4Oo79iDXuL5/0ttZwg2f/5U52iv1cDc";
 
 #[test]
 fn accepts_what_asks_for_no_more(rt: HostRuntime) -> Result<(), Fail> {
@@ -30,7 +27,7 @@ fn accepts_what_asks_for_no_more(rt: HostRuntime) -> Result<(), Fail> {
             p_cost,
         };
         let answer = bound.verify(rt.alloc(), &argon2, password.as_bytes(), TEXT);
-        assert_eq!(rt; answer, expected, "{bound:?}");
+        assert!(rt; answer == expected, "{bound:?}");
     }
     Ok(())
 }

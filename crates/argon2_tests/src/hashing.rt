@@ -51,7 +51,7 @@ fn are_ones(memory: &[Block]) -> bool {
     true
 }
 
-const PWD: [u8; 32] = [1; 32];
+pub(super) const PWD: [u8; 32] = [1; 32];
 
 const SALT: [u8; 16] = [2; 16];
 
@@ -63,7 +63,7 @@ pub(super) fn known(algorithm: Algorithm, version: Version) -> argon2::Result<Ar
     known_with(KeyId::new(b"key")?, algorithm, version)
 }
 
-fn known_with(
+pub(super) fn known_with(
     keyid: KeyId,
     algorithm: Algorithm,
     version: Version,
@@ -92,16 +92,19 @@ fn password_tag(argon2: &Argon2<'_>, memory: &mut [Block]) -> argon2::Result<[u6
     Ok(words(&tag))
 }
 
+// Whether a context gives the tag of Argon2id, 0x13, in two passes over 256 blocks of one lane.
+fn is_argon2id(argon2: &Argon2<'_>) -> bool {
+    password_tag(argon2, &mut [Block::new(); 256]) == Ok(PASSWORD_TAGS[4].tag)
+}
+
 #[test]
 fn is_argon2id_by_default(rt: HostRuntime) -> Result<(), Fail> {
     assert!(rt; Argon2::default().params() == &Params::DEFAULT);
     let params = Params::new(256, 2, 1, Some(32))?;
+    assert!(rt; is_argon2id(&Argon2::from(params)));
+    assert!(rt; is_argon2id(&Argon2::from(&params)));
     let argon2 = Argon2::new(Algorithm::Argon2id, Version::V0x13, params);
-    let wanted = Ok(PASSWORD_TAGS[4].tag);
-    let mut memory = [Block::new(); 256];
-    assert!(rt; password_tag(&argon2, &mut memory) == wanted);
-    assert!(rt; password_tag(&argon2.clone()?, &mut memory) == wanted);
-    assert!(rt; password_tag(&Argon2::from(params), &mut memory) == wanted);
-    assert!(rt; password_tag(&Argon2::from(&params), &mut memory) == wanted);
+    assert!(rt; is_argon2id(&argon2.clone()?));
+    assert!(rt; is_argon2id(&argon2));
     Ok(())
 }

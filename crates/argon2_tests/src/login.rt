@@ -1,43 +1,28 @@
 ghost use Rattle.std.specs.Prelude.{◌<◌};
 
 use crate::drawn::Drawn;
+use crate::hashing::{PWD, known_with};
 use argon2::login::{Accepted, Login, LoginError};
 use argon2::password_hash::{Error, PasswordHasher};
-use argon2::{Algorithm, Argon2, AssociatedData, Params, ParamsBuilder, PasswordHash, Version};
+use argon2::{Algorithm, Argon2, KeyId, Params, PasswordHash, Version};
 use std::alloc::Global;
 use std::test::Fail;
 
-const PWD: [u8; 32] = [1; 32];
-
-const SECRET: [u8; 8] = [3; 8];
-
-// The target's settings are Argon2id, 0x13 and those of the vectors of RFC 9106, section 5.
-fn target(output_len: Option<usize>) -> argon2::Result<Argon2<'static>> {
-    let mut builder = ParamsBuilder::new();
-    builder
-        .m_cost(32)
-        .t_cost(3)
-        .p_cost(4)
-        .data(AssociatedData::new(&[4; 12])?);
-    if let Some(len) = output_len {
-        builder.output_len(len);
-    }
-    Argon2::new_with_secret(
-        &SECRET,
-        Algorithm::Argon2id,
-        Version::V0x13,
-        builder.build()?,
-    )
+// The settings of the vectors of RFC 9106, section 5.
+pub(crate) fn target() -> argon2::Result<Argon2<'static>> {
+    known_with(KeyId::EMPTY, Algorithm::Argon2id, Version::V0x13)
 }
 
-const OLD: &str = "$argon2i$v=16$m=32,t=3,p=4,data=BAQEBAQEBAQEBAQE$AgICAgICAgICAgICAgICAg\
+// Texts of the password: an old one, the same without a version, and the target's.
+pub(crate) const OLD: &str =
+    "$argon2i$v=16$m=32,t=3,p=4,data=BAQEBAQEBAQEBAQE$AgICAgICAgICAgICAgICAg\
     $h67t1lF6uDDNl2XNgjGrsuZHpd7gj3wF4C/LdjM10P0";
 
-// The same without a version.
 const OLDEST: &str = "$argon2i$m=32,t=3,p=4,data=BAQEBAQEBAQEBAQE$AgICAgICAgICAgICAgICAg\
     $h67t1lF6uDDNl2XNgjGrsuZHpd7gj3wF4C/LdjM10P0";
 
-const NEW: &str = "$argon2id$v=19$m=32,t=3,p=4,data=BAQEBAQEBAQEBAQE$AgICAgICAgICAgICAgICAg\
+pub(crate) const NEW: &str =
+    "$argon2id$v=19$m=32,t=3,p=4,data=BAQEBAQEBAQEBAQE$AgICAgICAgICAgICAgICAg\
     $DWQN9Y14dmwIwDejSotTydAe8EUtdbZetSUg6WsB5lk";
 
 // The same with a key identifier, which changes no tag.
@@ -46,7 +31,7 @@ const WITH_KEY_IDENTIFIER: &str = "$argon2id$v=19$m=32,t=3,p=4,keyid=8PDw8A,data
 
 // A store with one name and its text.
 fn store(alloc: Global, name: &str, text: &str) -> Result<Login<'static>, Fail> {
-    let mut login = Login::new(alloc, target(None)?)?;
+    let mut login = Login::new(alloc, target()?)?;
     match login.add(name, text) {
         Ok(()) => Ok(login),
         Err(_) => Err("the text was not added".into()),
@@ -116,7 +101,8 @@ fn gives_its_texts_in_order(rt: HostRuntime) -> Result<(), Fail> {
 
 // The fault of a target with this output length.
 fn fault_of(alloc: Global, len: usize) -> Result<Option<Error>, Fail> {
-    Ok(Login::new(alloc, target(Some(len))?).err())
+    let target = Argon2::from(Params::new(8, 1, 1, Some(len))?);
+    Ok(Login::new(alloc, target).err())
 }
 
 #[test]
@@ -197,18 +183,22 @@ fn answer_of(
     call: &Call,
 ) -> Result<Answer, Fail> {
     let name = NAMES[call.name % 20];
-    let Some(is_new) = call.adds else {
-        return Ok(
-            login
-                .login(rng, name, PASSWORDS[call.password % 3])
-                .map(Some),
-        );
+    let answer = match call.adds {
+        Some(is_new) => {
+            let Some(hash) = text_of(hashes, call.password, is_new) else {
+                return Err("no such text".into());
+            };
+            match login.add(name, hash.to_string(alloc)?.as_str()) {
+                Ok(()) => Ok(None),
+                Err(error) => Err(error),
+            }
+        }
+        None => match login.login(rng, name, PASSWORDS[call.password % 3]) {
+            Ok(accepted) => Ok(Some(accepted)),
+            Err(error) => Err(error),
+        },
     };
-    let Some(hash) = text_of(hashes, call.password, is_new) else {
-        return Err(Fail::from("no such text"));
-    };
-    let text = hash.to_string(alloc)?;
-    Ok(login.add(name, text.as_str()).map(|()| None))
+    Ok(answer)
 }
 
 // Whether the name has the text that is known.
@@ -241,6 +231,26 @@ fn known_hashes(alloc: Global, target: &Argon2<'_>) -> Result<Vec<PasswordHash>,
     Ok(hashes)
 }
 
+// Whether the store does to a name what the model does: the answer, the words drawn, and what is known of the name then.
+fn does_the_same(
+    alloc: Global,
+    login: &mut Login<'_>,
+    known: &mut Known,
+    hashes: &[PasswordHash],
+    call: &Call,
+) -> Result<bool, Fail> {
+    let (wanted, then) = modelled(*known, call);
+    *known = then;
+    let words = if wanted == Ok(Some(Accepted::Rehashed)) {
+        4
+    } else {
+        0
+    };
+    let mut rng = Drawn(0);
+    let answer = answer_of(alloc, login, &mut rng, hashes, call)?;
+    Ok(answer == wanted && rng.0 == words && has_known(login, hashes, call.name, then))
+}
+
 // The generator gives each text the same salt, so a password has just one text under the target.
 #[test]
 fn answers_as_a_plain_model_does(rt: HostRuntime) -> Result<(), Fail> {
@@ -253,17 +263,11 @@ fn answers_as_a_plain_model_does(rt: HostRuntime) -> Result<(), Fail> {
     for turn in 0..2000 {
         state = state.wrapping_mul(1664525).wrapping_add(1013904223);
         let call = call_of(state);
-        let (wanted, known) = modelled(model[call.name], &call);
-        model[call.name] = known;
-        let mut rng = Drawn(0);
-        let answer = answer_of(rt.alloc(), &mut login, &mut rng, &hashes, &call)?;
-        let words = if wanted == Ok(Some(Accepted::Rehashed)) {
-            4
-        } else {
-            0
-        };
-        assert!(rt; answer == wanted && rng.0 == words, "{turn}");
-        assert!(rt; has_known(&login, &hashes, call.name, known), "{turn}");
+        let known = &mut model[call.name];
+        assert!(rt;
+            does_the_same(rt.alloc(), &mut login, known, &hashes, &call)?,
+            "{turn}"
+        );
     }
     for (name, &known) in model.iter().enumerate() {
         assert!(rt; has_known(&login, &hashes, name, known), "{name}");

@@ -19,7 +19,7 @@ fn verify(alloc: Global, password: &str, text: &str) -> Result<()> {
 // ---- hashing
 
 // A text of `password` and `somesalt`, from the RFC's reference code.
-const TEXT: &str =
+pub(crate) const TEXT: &str =
     "$argon2id$v=19$m=256,t=2,p=2$c29tZXNhbHQ$bQk8UB/VmZZF4Oo79iDXuL5/0ttZwg2f/5U52iv1cDc";
 
 // Further ones, each with its algorithm, version and lanes.
@@ -89,7 +89,7 @@ fn hashes_to_a_text(rt: HostRuntime) {
     }
 }
 
-fn all_parameters() -> argon2::Result<Params> {
+pub(crate) fn all_parameters() -> argon2::Result<Params> {
     let mut builder = ParamsBuilder::new();
     builder.m_cost(32).t_cost(2).p_cost(3);
     builder.keyid(KeyId::new(&[0xf0; 4])?);

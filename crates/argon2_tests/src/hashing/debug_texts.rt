@@ -33,11 +33,11 @@ fn hides_the_secret(rt: HostRuntime) -> Result<(), Fail> {
 
 #[test]
 fn shows_parameters(rt: HostRuntime) -> Result<(), Fail> {
+    let (keyid, data) = (KeyId::new(b"ab")?, AssociatedData::new(&[4; 3])?);
+    assert!(rt; shows(rt.alloc(), &keyid, "KeyId { bytes: [97, 98] }"));
+    assert!(rt; shows(rt.alloc(), &data, "AssociatedData { bytes: [4, 4, 4] }"));
     let mut builder = ParamsBuilder::new();
-    builder
-        .m_cost(32)
-        .keyid(KeyId::new(b"ab")?)
-        .data(AssociatedData::new(&[4; 3])?);
+    builder.m_cost(32).keyid(keyid).data(data);
     let text = "Params { m_cost: 32, t_cost: 2, p_cost: 1, keyid: KeyId { bytes: [97, 98] }, \
          associated: AssociatedData { bytes: [4, 4, 4] }, output_len: None }";
     assert!(rt; shows(rt.alloc(), &builder.build()?, text));
@@ -45,14 +45,6 @@ fn shows_parameters(rt: HostRuntime) -> Result<(), Fail> {
         "ParamsBuilder { m_cost: 32, t_cost: 2, p_cost: 1, keyid: Some(KeyId { bytes: [97, 98] \
          }), associated: Some(AssociatedData { bytes: [4, 4, 4] }), output_len: None }";
     assert!(rt; shows(rt.alloc(), &builder, text));
-    Ok(())
-}
-
-#[test]
-fn shows_byte_lists(rt: HostRuntime) -> Result<(), Fail> {
-    assert!(rt; shows(rt.alloc(), &KeyId::new(b"ab")?, "KeyId { bytes: [97, 98] }"));
-    let data = AssociatedData::new(&[4; 3])?;
-    assert!(rt; shows(rt.alloc(), &data, "AssociatedData { bytes: [4, 4, 4] }"));
     Ok(())
 }
 

@@ -8,7 +8,7 @@ ghost use Rattle.argon2.specs.Rfc9106.{block_count};
 use super::known_tags::KNOWN_TAGS;
 use super::steps::step;
 use super::{PWD, SALT, are_ones, known, ones, words};
-use argon2::{Algorithm, Argon2, Block, Error, ParamsBuilder, Version};
+use argon2::{Algorithm, Argon2, Block, Error, Params, Version};
 use std::alloc::Global;
 use std::test::Fail;
 
@@ -34,29 +34,39 @@ fn hash_of(places: &[u32]) -> u64 {
 }
 
 // The tag, the count of mixings and all places of a hash with the known inputs beside the password.
-type Known = ([u64; 4], u128, [u32; 96]);
+#[derive(Drop)]
+struct Watched {
+    tag: [u64; 4],
+    mixes: u128,
+    places: [u32; 96],
+}
 
-fn watch_known(argon2: &Argon2<'_>, pwd: &[u8]) -> Result<Known, Fail> {
+fn watch_known(algorithm: Algorithm, version: Version, pwd: &[u8]) -> Result<Watched, Fail> {
+    let argon2 = known(algorithm, version)?;
     let (mut tag, mut places) = ([0; 32], [0; 96]);
-    if place_count(argon2)? != places.len() {
+    if place_count(&argon2)? != places.len() {
         return Err("another number of places".into());
     }
     let mut memory = [Block::new(); 32];
     let work = argon2.hash_password_into_watched(pwd, &SALT, &mut tag, &mut memory, &mut places)?;
-    Ok((words(&tag), work.mixes(), places))
+    Ok(Watched {
+        tag: words(&tag),
+        mixes: work.mixes(),
+        places,
+    })
 }
 
 #[test]
 fn counts_the_mixings_of_the_known_tags(rt: HostRuntime) -> Result<(), Fail> {
     for row in &KNOWN_TAGS {
-        let (tag, mixes, _) = watch_known(&known(row.algorithm, row.version)?, &PWD)?;
-        let wanted = match row.algorithm {
+        let watched = watch_known(row.algorithm, row.version, &PWD)?;
+        let mixes = match row.algorithm {
             Algorithm::Argon2d => 88,
             Algorithm::Argon2i => 184,
             Algorithm::Argon2id => 104,
         };
         assert!(rt;
-            (tag, mixes) == (row.tag, wanted),
+            watched.tag == row.tag && watched.mixes == mixes,
             "{} {:?}",
             row.algorithm,
             row.version
@@ -124,12 +134,8 @@ const ROWS: [Row; 27] = rows![
 
 // How often blocks are mixed for a row, and the hash of all places.
 fn watch(alloc: Global, row: &Row, memory: &mut [Block]) -> Result<(u128, u64), Fail> {
-    let mut builder = ParamsBuilder::new();
-    builder
-        .m_cost(row.m_cost)
-        .t_cost(row.t_cost)
-        .p_cost(row.p_cost);
-    let argon2 = builder.context(row.algorithm, row.version)?;
+    let params = Params::new(row.m_cost, row.t_cost, row.p_cost, None)?;
+    let argon2 = Argon2::new(row.algorithm, row.version, params);
     let mut places = Vec::from_elem(alloc, u32::MAX, place_count(&argon2)?)?;
     let work = argon2.hash_password_into_watched(
         b"password",
@@ -220,9 +226,8 @@ fn stepped_places(argon2: &Argon2<'_>, places: &mut [u32]) -> Result<(), Fail> {
 
 // Whether a pass shows the places of a row, at once and by single steps.
 fn shows_places(alloc: Global, row: &Places) -> Result<bool, Fail> {
-    let mut builder = ParamsBuilder::new();
-    builder.m_cost(row.m_cost).t_cost(1).p_cost(row.p_cost);
-    let argon2 = builder.context(row.algorithm, row.version)?;
+    let params = Params::new(row.m_cost, 1, row.p_cost, None)?;
+    let argon2 = Argon2::new(row.algorithm, row.version, params);
     let mut places = Vec::from_elem(alloc, u32::MAX, place_count(&argon2)?)?;
     let mut stepped = Vec::from_elem(alloc, u32::MAX, places.len())?;
     stepped_places(&argon2, stepped.as_mut_slice())?;
@@ -245,24 +250,18 @@ fn shows_each_place_of_a_pass(rt: HostRuntime) -> Result<(), Fail> {
     Ok(())
 }
 
-// Whether the places are the same for another password: all of Argon2i, and of Argon2id those of slices 0 and 1 of
-// pass 0, which are columns 0 to 3 of each lane.
-fn shows_the_same(algorithm: Algorithm) -> Result<bool, Fail> {
-    let argon2 = known(algorithm, Version::V0x13)?;
-    let (_, _, places) = watch_known(&argon2, &PWD)?;
-    let (_, _, others) = watch_known(&argon2, b"password")?;
-    for (n, (place, other)) in places.iter().zip(others.iter()).enumerate() {
-        if (algorithm == Algorithm::Argon2i || (n < 32 && n % 8 < 4)) && place != other {
-            return Ok(false);
-        }
-    }
-    Ok(true)
-}
-
+// The places of Argon2i are the same for another password, and of Argon2id those of slices 0 and 1 of pass 0, which are
+// columns 0 to 3 of each lane.
 #[test]
 fn shows_the_same_places_for_other_passwords(rt: HostRuntime) -> Result<(), Fail> {
-    assert!(rt; shows_the_same(Algorithm::Argon2i)?);
-    assert!(rt; shows_the_same(Algorithm::Argon2id)?);
+    for algorithm in [Algorithm::Argon2i, Algorithm::Argon2id] {
+        let some = watch_known(algorithm, Version::V0x13, &PWD)?.places;
+        let others = watch_known(algorithm, Version::V0x13, b"password")?.places;
+        for (n, (place, other)) in some.iter().zip(others.iter()).enumerate() {
+            let is_same = algorithm == Algorithm::Argon2i || (n < 32 && n % 8 < 4);
+            assert!(rt; !is_same || place == other, "{algorithm} {n}");
+        }
+    }
     Ok(())
 }
 

@@ -1,4 +1,5 @@
-use argon2::{AssociatedData, KeyId, Params, ParamsBuilder};
+use crate::password_hash::all_parameters;
+use argon2::Params;
 use argon2_base::error::password_hash::Error;
 use argon2_base::phc::{ParamsString, PasswordHash};
 use std::alloc::Global;
@@ -13,20 +14,12 @@ fn is_printed(alloc: Global, params: &Params, text: &str) -> bool {
 }
 
 #[test]
-fn printed(rt: HostRuntime) -> Result<(), Fail> {
+fn read_and_printed(rt: HostRuntime) -> Result<(), Fail> {
     assert!(rt; is_printed(rt.alloc(), &Params::default(), "m=19456,t=2,p=1"));
     let params = "p=2,m=33,t=1".parse()?;
     assert!(rt; is_printed(rt.alloc(), &params, "m=33,t=1,p=2"));
-    Ok(())
-}
-
-#[test]
-fn printed_with_bytes(rt: HostRuntime) -> Result<(), Fail> {
-    let mut builder = ParamsBuilder::new();
-    builder.m_cost(32).t_cost(2).p_cost(3);
-    builder.keyid(KeyId::new(&[0xf0; 4])?);
-    builder.data(AssociatedData::new(&[0x0f; 6])?);
-    let params = builder.build()?;
+    assert!(rt; "m=65536,t=2,p=256".parse::<Params>()?.p_cost() == 256);
+    let params = all_parameters()?;
     let list = ParamsString::try_from(params)?;
     assert!(rt; list.as_str() == "m=32,t=2,p=3,keyid=8PDw8A,data=Dw8PDw8P");
     assert!(rt; Params::try_from(&list) == Ok(params));
@@ -53,12 +46,6 @@ fn refused(rt: HostRuntime) {
     ] {
         assert!(rt; text.parse::<Params>() == Err(error), "{text}");
     }
-}
-
-#[test]
-fn read(rt: HostRuntime) -> Result<(), Fail> {
-    assert!(rt; "m=65536,t=2,p=256".parse::<Params>()?.p_cost() == 256);
-    Ok(())
 }
 
 // The output length of the parameters of a text.

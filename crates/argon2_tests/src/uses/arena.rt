@@ -33,6 +33,6 @@ fn hashes_one_after_another(rt: HostRuntime) -> Result<(), Fail> {
     ];
     let mut tags = [[0; 32]; 2];
     hash_all(&argon2, arena.as_mut_slice(), &inputs, &mut tags)?;
-    assert_eq!(rt; tags, TAGS);
+    assert!(rt; tags == TAGS);
     Ok(())
 }

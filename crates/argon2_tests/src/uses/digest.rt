@@ -8,5 +8,5 @@ const DIGEST: [u8; 32] = [
 
 #[test]
 fn takes_pieces(rt: HostRuntime) {
-    assert_eq!(rt; digest(b"a", b"bc"), DIGEST);
+    assert!(rt; digest(b"a", b"bc") == DIGEST);
 }

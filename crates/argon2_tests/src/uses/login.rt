@@ -1,13 +1,10 @@
+use crate::password_hash::TEXT as OLD;
 use argon2::login::{Accepted, Login, LoginError};
 use argon2::{Argon2, Params};
 use argon2_uses::login::{log_in, moved, register, take_over};
 use rand_chacha::ChaCha20Rng;
 use rand_core::SeedableRng;
 use std::test::Fail;
-
-// Of Debian's `argon2`, for the password `password`.
-const OLD: &str =
-    "$argon2id$v=19$m=256,t=2,p=2$c29tZXNhbHQ$bQk8UB/VmZZF4Oo79iDXuL5/0ttZwg2f/5U52iv1cDc";
 
 #[test]
 fn registers_and_logs_in(rt: HostRuntime) -> Result<(), Fail> {
@@ -16,13 +13,10 @@ fn registers_and_logs_in(rt: HostRuntime) -> Result<(), Fail> {
     let mut rng = ChaCha20Rng::from_seed([7; 32]);
     let mut store = Login::new(alloc, argon2.clone()?)?;
     store.add("ann", OLD)?;
-    assert_eq!(rt;
-        register(&mut store, &argon2, alloc, &mut rng, "bob", b"secret"),
-        Ok(())
-    );
-    assert_eq!(rt;
-        register(&mut store, &argon2, alloc, &mut rng, "ann", b"secret"),
-        Err(LoginError::NameTaken)
+    assert!(rt; register(&mut store, &argon2, alloc, &mut rng, "bob", b"secret") == Ok(()));
+    assert!(rt;
+        register(&mut store, &argon2, alloc, &mut rng, "ann", b"secret")
+            == Err(LoginError::NameTaken)
     );
     for (name, password, accepted) in [
         ("ann", "password", Some(Accepted::Rehashed)),
@@ -32,9 +26,8 @@ fn registers_and_logs_in(rt: HostRuntime) -> Result<(), Fail> {
         ("bob", "password", None),
         ("eve", "password", None),
     ] {
-        assert_eq!(rt;
-            log_in(&mut store, &mut rng, name, password.as_bytes()),
-            Ok(accepted),
+        assert!(rt;
+            log_in(&mut store, &mut rng, name, password.as_bytes()) == Ok(accepted),
             "{name} {password}"
         );
     }
@@ -48,19 +41,15 @@ fn takes_over_and_moves(rt: HostRuntime) -> Result<(), Fail> {
     let low = Argon2::from(Params::new(8, 1, 1, None)?);
     let high = Argon2::from(Params::new(16, 1, 1, None)?);
     let mut store = Login::new(alloc, low)?;
-    assert_eq!(rt;
-        take_over(&mut store, &mut rng, "ann", OLD, b"password"),
-        Ok(Accepted::Rehashed)
-    );
+    assert!(rt; take_over(&mut store, &mut rng, "ann", OLD, b"password") == Ok(Accepted::Rehashed));
     store.add("bob", OLD)?;
     let mut store = moved(&store, alloc, high)?;
     for name in ["ann", "bob"] {
-        assert_eq!(rt;
-            log_in(&mut store, &mut rng, name, b"password"),
-            Ok(Some(Accepted::Rehashed)),
+        assert!(rt;
+            log_in(&mut store, &mut rng, name, b"password") == Ok(Some(Accepted::Rehashed)),
             "{name}"
         );
     }
-    assert_eq!(rt; store.texts().count(), 2);
+    assert!(rt; store.texts().count() == 2);
     Ok(())
 }

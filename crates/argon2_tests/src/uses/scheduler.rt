@@ -40,9 +40,8 @@ fn gives_the_known_tags(rt: HostRuntime) -> Result<(), Fail> {
             &mut tag,
             memory.as_mut_slice(),
         )?;
-        assert_eq!(rt;
-            u128::from_be_bytes(tag),
-            expected,
+        assert!(rt;
+            u128::from_be_bytes(tag) == expected,
             "{algorithm} {version:?}"
         );
     }
