@@ -22,15 +22,15 @@ fn is_read(alloc: Global, text: &str) -> Option<bool> {
     (is_same && PasswordHash::new(text) == Ok(hash)).then_some(true)
 }
 
-// The same of the text that has each piece so many times.
-fn is_read_joined(alloc: Global, pieces: &[(&str, usize)]) -> Result<Option<bool>, Fail> {
+// The length of the text that has each piece so many times, and whether it is read.
+fn read_joined(alloc: Global, pieces: &[(&str, usize)]) -> Result<(usize, Option<bool>), Fail> {
     let mut text = String::new(alloc);
     for &(piece, times) in pieces {
         for _ in 0..times {
             text.push_str(piece)?;
         }
     }
-    Ok(is_read(alloc, text.as_str()))
+    Ok((text.len(), is_read(alloc, text.as_str())))
 }
 
 #[test]
@@ -72,9 +72,9 @@ fn texts_that_are_refused(rt: HostRuntime) {
     }
 }
 
-// Pieces, so many of each, and whether their text is read: the longest texts, of 326 and 327 bytes; the longest parts;
-// and lengths of salts and hashes.
-const JOINED: [(&[(&str, usize)], bool); 20] = [
+// Pieces, so many of each, the length of their text, and whether it is read: the longest texts; the longest
+// parts; and lengths of salts and hashes.
+const JOINED: [(&[(&str, usize)], usize, bool); 20] = [
     (
         &[
             ("$", 1),
@@ -88,6 +88,7 @@ const JOINED: [(&[(&str, usize)], bool); 20] = [
             ("$", 1),
             ("A", 86),
         ],
+        326,
         true,
     ),
     (
@@ -103,33 +104,34 @@ const JOINED: [(&[(&str, usize)], bool); 20] = [
             ("$", 1),
             ("A", 86),
         ],
+        327,
         false,
     ),
-    (&[("$", 1), ("a", 32)], true),
-    (&[("$", 1), ("a", 33)], false),
-    (&[("$a$", 1), ("n", 32), ("=1", 1)], true),
-    (&[("$a$", 1), ("n", 33), ("=1", 1)], false),
-    (&[("$a$n=", 1), ("9", 64)], true),
-    (&[("$a$n=", 1), ("9", 65)], false),
-    (&[("$a$", 1), ("AAAA", 16)], true),
-    (&[("$a$", 1), ("AAAA", 17)], false),
-    (&[("$a$AAAAAAAAAAA$AA", 1), ("AAAA", 21)], true),
-    (&[("$a$AAAAAAAAAAA$AA", 1), ("AAAA", 22)], false),
-    (&[("$a$", 1), ("A", 10)], false),
-    (&[("$a$", 1), ("A", 11)], true),
-    (&[("$a$", 1), ("A", 64)], true),
-    (&[("$a$", 1), ("A", 66)], false),
-    (&[("$a$", 1), ("A", 11), ("$", 1), ("A", 4)], false),
-    (&[("$a$", 1), ("A", 11), ("$", 1), ("A", 6)], true),
-    (&[("$a$", 1), ("A", 11), ("$", 1), ("A", 86)], true),
-    (&[("$a$", 1), ("A", 11), ("$", 1), ("A", 87)], false),
+    (&[("$", 1), ("a", 32)], 33, true),
+    (&[("$", 1), ("a", 33)], 34, false),
+    (&[("$a$", 1), ("n", 32), ("=1", 1)], 37, true),
+    (&[("$a$", 1), ("n", 33), ("=1", 1)], 38, false),
+    (&[("$a$n=", 1), ("9", 64)], 69, true),
+    (&[("$a$n=", 1), ("9", 65)], 70, false),
+    (&[("$a$", 1), ("AAAA", 16)], 67, true),
+    (&[("$a$", 1), ("AAAA", 17)], 71, false),
+    (&[("$a$AAAAAAAAAAA$AA", 1), ("AAAA", 21)], 101, true),
+    (&[("$a$AAAAAAAAAAA$AA", 1), ("AAAA", 22)], 105, false),
+    (&[("$a$", 1), ("A", 10)], 13, false),
+    (&[("$a$", 1), ("A", 11)], 14, true),
+    (&[("$a$", 1), ("A", 64)], 67, true),
+    (&[("$a$", 1), ("A", 66)], 69, false),
+    (&[("$a$", 1), ("A", 11), ("$", 1), ("A", 4)], 19, false),
+    (&[("$a$", 1), ("A", 11), ("$", 1), ("A", 6)], 21, true),
+    (&[("$a$", 1), ("A", 11), ("$", 1), ("A", 86)], 101, true),
+    (&[("$a$", 1), ("A", 11), ("$", 1), ("A", 87)], 102, false),
 ];
 
 #[test]
 fn lengths_of_texts_and_parts(rt: HostRuntime) -> Result<(), Fail> {
-    for (n, &(pieces, read)) in JOINED.iter().enumerate() {
+    for (n, &(pieces, len, read)) in JOINED.iter().enumerate() {
         assert!(rt;
-            is_read_joined(rt.alloc(), pieces)? == Some(read),
+            read_joined(rt.alloc(), pieces)? == (len, Some(read)),
             "row {n}"
         );
     }
@@ -231,7 +233,7 @@ fn characters_put_in(rt: HostRuntime) -> Result<(), Fail> {
                 (put, 1),
                 (str::from_utf8(tail)?, 1),
             ];
-            let is = is_read_joined(rt.alloc(), &pieces)?;
+            let (_, is) = read_joined(rt.alloc(), &pieces)?;
             assert!(rt; is == Some(false), "{put} at {place}");
         }
     }
