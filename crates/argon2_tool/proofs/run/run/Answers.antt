@@ -1,0 +1,24 @@
+use Rattle.std.proofs.Common.{arith, ℕ, ◌≡◌}
+use Rattle.std.proofs.KnownBytes.{Keeps-refl}
+use Rattle.argon2_tool.proofs.run.run.Goals as goal
+
+not_two : (n : ℕ) → n ≡ 1 → n ≡ 2 → ⊥
+not_two n one two = omega arith
+
+pub returns-in_default-clause-unread : goal.returns-in_default-clause-unread
+returns-in_default-clause-unread g c = λ _. Keeps-refl (g.R.Read.remaining c.args.input.now)
+
+pub returns-in_default-clause-unwritten : goal.returns-in_default-clause-unwritten
+returns-in_default-clause-unwritten g c = λ _. Keeps-refl (g.W.Write.contents c.args.output.now)
+
+pub returns-in-Err-clause-usage : goal.returns-in-Err-clause-usage
+returns-in-Err-clause-usage g c = (
+  λ two. absurd (not_two _ c.fail.ensures two),
+  λ no. absurd (no c.in-Some.command c.in-Some.ensures.found),
+)
+
+pub returns-in-Err-clause-unread : goal.returns-in-Err-clause-unread
+returns-in-Err-clause-unread g c = λ two. absurd (not_two _ c.fail.ensures two)
+
+pub returns-in-Err-clause-unwritten : goal.returns-in-Err-clause-unwritten
+returns-in-Err-clause-unwritten g c = λ two. absurd (not_two _ c.fail.ensures two)
