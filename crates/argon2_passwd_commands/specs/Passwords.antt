@@ -1,5 +1,5 @@
 -- Passwords, each a line.
-use Rattle.std.specs.Prelude.{◌≡◌, ℕ, nat_le, List, [], ◌∷◌, length, if◌then◌else◌, Option, Some, None, IfSome}
+use Rattle.std.specs.Prelude.{◌≡◌, ◌≢◌, ℕ, nat_le, List, [], ◌∷◌, length, if◌then◌else◌, Option, Some, None, IfSome}
 use Rattle.std.specs.Io.BufRead.{ends_with_byte, strip_last, take_through}
 use Rattle.argon2_passwd_commands.specs.Failures.{status_of}
 use Rattle.argon2_passwd_commands.specs.declared.failure.Failure.{Failure}
@@ -17,8 +17,8 @@ abbrev pub password_of : List ℕ → Option (List ℕ)
 password_of [] = None
 password_of (byte ∷ rest) = unless_long (line_of (take_through 10 (byte ∷ rest)))
 
--- a known input has no password, or reading fails
+-- a known input has no password, since it is empty or since its first line is too long, or reading fails
 abbrev pub IsUnread : Option (List ℕ) → Failure → Type 0
-IsUnread input NoPassword = IfSome input (λ bytes. password_of bytes ≡ None)
-IsUnread input LongPassword = IfSome input (λ bytes. password_of bytes ≡ None)
+IsUnread input NoPassword = IfSome input (λ bytes. password_of bytes ≡ None) × IfSome input (λ bytes. bytes ≡ [])
+IsUnread input LongPassword = IfSome input (λ bytes. password_of bytes ≡ None) × IfSome input (λ bytes. bytes ≢ [])
 IsUnread input failure = status_of failure ≡ 3

@@ -1,11 +1,11 @@
 //! The program over any world outside it and any streams.
 
-ghost use Rattle.std.specs.Prelude.{◌≡◌, ◌⊎◌, ◌++◌, ◌∷◌, [], ℕ, List, IfErr, IfOk, OnOk, string_bytes};
+ghost use Rattle.std.specs.Prelude.{◌≡◌, ◌⊎◌, ◌++◌, ◌∷◌, [], IfErr, IfOk, OnOk};
 ghost use Rattle.std.specs.Io.KnownBytes.{Appends, Keeps};
 ghost use Rattle.argon2_accounts.specs.Accounts.{AreTerms, terms_of};
 ghost use Rattle.argon2.specs.Login.{accepted_text};
 ghost use Rattle.argon2.specs.Made.{target_of};
-ghost use Rattle.argon2_passwd_commands.specs.Answers.{Denies, HasNone, IsAnswered, IsCheckReply, IsHashReply, IsOnce, IsRefused, IsRefusedBy, IsSecret, terms_by};
+ghost use Rattle.argon2_passwd_commands.specs.Answers.{Denies, HasNone, IsAnswered, IsCheckReply, IsHashReply, IsOnce, IsRefused, IsRefusedBy, IsReplied, IsSecret, terms_by};
 ghost use Rattle.argon2_passwd_commands.specs.Asked.{asked, choices_of};
 ghost use Rattle.argon2_passwd_commands.specs.Failures.{status_of};
 
@@ -100,14 +100,8 @@ fn answer<P: Outside, R: BufRead, W: Write>(
         outside.look(path, command.makes())?;
     }
     match command {
-        Command::Hash(options) => {
-            let text = hash(alloc, &options, outside, input)?;
-            write_line(output, text.as_str())
-        }
-        Command::Check(options, text) => {
-            let reply = check(alloc, &options, outside, text, input)?;
-            write_line(output, reply.as_str())
-        }
+        Command::Hash(options) => hash(alloc, &options, outside, input, output),
+        Command::Check(options, text) => check(alloc, &options, outside, text, input, output),
         Command::Verify(options, path, name) => {
             let accepted = accounts::verify(alloc, outside, &options, path, name, input)??;
             write_accepted(output, accepted)
@@ -124,47 +118,50 @@ fn answer<P: Outside, R: BufRead, W: Write>(
     }
 }
 
-// A text for the next password.
-fn hash<P: Outside, R: BufRead>(
+// Writes a text for the next password.
+fn hash<P: Outside, R: BufRead, W: Write>(
     alloc: Global,
     options: &Options<'_>,
     outside: &P,
     input: &mut R,
-) -> Result<String, Failure>
-    ensures ok { IfOk result (λ text. (secret drawn : List ℕ)
-        × IsSecret P.holds (choices_of options.now).secret_file secret
-        × IsHashReply (terms_by (choices_of options.now) secret) drawn (R.remaining input.old)
-        (string_bytes text)) }
+    output: &mut W,
+) -> Result<(), Failure>
+    ensures ok { OnOk result (IsReplied P.holds (choices_of options.now)
+        (λ terms drawn line. IsHashReply terms drawn (R.remaining input.old) line)
+        (W.contents output.old) (W.contents output.new)) }
     ensures err { IfErr result (λ failure. status_of failure ≡ 1
-        → IsRefusedBy P.holds (choices_of options.now)
-        (λ terms. HasNone (R.remaining input.old))) }
+        → IsRefusedBy P.holds (choices_of options.now) (λ terms. HasNone (R.remaining input.old))
+        × Keeps (W.contents output.old) (W.contents output.new)) }
 {
     let secret = secret(alloc, outside, options)?;
     let policy = policy(alloc, options, secret.as_slice())?;
     let mut rng = ChaCha20Rng::from_seed(outside.seed()?);
-    texts::hash(alloc, &policy, &mut rng, input)
+    let text = texts::hash(alloc, &policy, &mut rng, input)?;
+    write_line(output, text.as_str())
 }
 
-// What a text does with the next password.
-fn check<P: Outside, R: BufRead>(
+// Writes what a text does with the next password.
+fn check<P: Outside, R: BufRead, W: Write>(
     alloc: Global,
     options: &Options<'_>,
     outside: &P,
     text: &str,
     input: &mut R,
-) -> Result<String, Failure>
-    ensures ok { IfOk result (λ reply. (secret drawn : List ℕ)
-        × IsSecret P.holds (choices_of options.now).secret_file secret
-        × IsCheckReply (terms_by (choices_of options.now) secret) drawn text.now
-        (R.remaining input.old) (string_bytes reply)) }
+    output: &mut W,
+) -> Result<(), Failure>
+    ensures ok { OnOk result (IsReplied P.holds (choices_of options.now)
+        (λ terms drawn line. IsCheckReply terms drawn text.now (R.remaining input.old) line)
+        (W.contents output.old) (W.contents output.new)) }
     ensures err { IfErr result (λ failure. status_of failure ≡ 1
         → IsRefusedBy P.holds (choices_of options.now)
-        (λ terms. Denies terms text.now (R.remaining input.old))) }
+        (λ terms. Denies terms text.now (R.remaining input.old))
+        × Keeps (W.contents output.old) (W.contents output.new)) }
 {
     let secret = secret(alloc, outside, options)?;
     let policy = policy(alloc, options, secret.as_slice())?;
     let mut rng = ChaCha20Rng::from_seed(outside.seed()?);
-    texts::check(alloc, &policy, &mut rng, text, input)
+    let reply = texts::check(alloc, &policy, &mut rng, text, input)?;
+    write_line(output, reply.as_str())
 }
 
 // The secret that the options name, none if they name no file.

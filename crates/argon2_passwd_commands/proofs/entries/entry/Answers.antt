@@ -10,3 +10,9 @@ returns-then-is_argon2 c =
       ap (λ (e : List ℕ × List ℕ). e.0) parts,
       inl (text, inr (subst IsArgon2 text (c.is_argon2.ensures.0 c.if-is_argon2.true))),
     )
+
+pub returns-then-any_text : goal.returns-then-any_text
+returns-then-any_text c =
+    let parts = c.parts.ensures in
+    let text = c.bare_str-text.ensures ∙ ap (λ (e : List ℕ × List ℕ). bare e.1) parts in
+    (ap (λ (e : List ℕ × List ℕ). e.0) parts, inl (text, inl c.if-any_text.true))

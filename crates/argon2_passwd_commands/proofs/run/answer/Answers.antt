@@ -2,11 +2,11 @@ use Rattle.std.proofs.Common.{◌≡◌, ℕ, List, Result, Ok, Err, inl, inr}
 use Rattle.std.specs.Prelude.{IfErr, OnOk}
 use Rattle.sqlite_trees.specs.declared.store.Store.{Ghosts}
 use Rattle.argon2_store.specs.declared.account_file.AccountFile.{AccountFile}
-use Rattle.argon2_passwd_commands.specs.Answers.{AddsLines, IsAdded, IsAnswered, IsImported}
-use Rattle.argon2_passwd_commands.specs.Asked.{asked, choices_of}
+use Rattle.argon2_passwd_commands.specs.Answers.{AddsLines, IsAdded, IsImported}
+use Rattle.argon2_passwd_commands.specs.Asked.{choices_of}
 use Rattle.argon2_passwd_commands.specs.Failures.{status_of}
 use Rattle.argon2_passwd_commands.specs.declared.failure.Failure.{Failure}
-use Rattle.argon2_passwd_commands.proofs.Refusals.{err_then, keeps_same, ok_then, passed, refused}
+use Rattle.argon2_passwd_commands.proofs.Refusals.{err_then, keeps_same, passed, refused}
 use Rattle.argon2_passwd_commands.proofs.run.answer.Goals as goal
 
 ok_by : {Q : Type 0} (P : Result (Unit {0}) Failure → Type 0) (r : Result (Unit {0}) Failure) → P r
@@ -19,20 +19,33 @@ err_by : {Q : Type 0} (P : Result (Unit {0}) Failure → Type 0) (r : Result (Un
 err_by P (Ok x) is next = tt
 err_by P (Err f) is next = λ one. next f is one
 
+also : (P : Type 0) (Q : Type 0) (r : Result (Unit {0}) Failure) → OnOk r P → Q → OnOk r (P × Q)
+also P Q (Ok x) is q = (is, q)
+also P Q (Err f) is q = tt
+
 -- lines that were added, or not, were to be added
 added : {S : Type 0} {g : Ghosts S} (r : Result (Unit {0}) Failure) (es : List (List ℕ × List ℕ)) (before after : AccountFile S g)
     → AddsLines r es before after → IsAdded es before after
 added (Ok x) es before after is = (Ok tt, is)
 added (Err f) es before after is = is.0
 
-pub returns-in_ok-reply-in-Check-clause-ok : goal.returns-in_ok-reply-in-Check-clause-ok
-returns-in_ok-reply-in-Check-clause-ok g c =
-    let done = c.in_ok-reply-in-Check.ensures.ok in
-    ok_then {Q = IsAnswered g.P.File.Store g.P.Outside.holds g.P.Outside.keeps (asked c.args.command)
-    (g.R.Read.remaining c.args.input.now) (g.W.Write.contents c.args.output.now)
-    (g.W.Write.contents c.write_line-in-Check.new.output) (g.P.Outside.closed c.args.outside.now)}
-    _ c.write_line-in-Check.ensures.ok
-    (λ appended. rw c.in-Check.is ((done.0, done.1, _, done.2, done.3, (rw c.as_str-in-Check.ensures.value at appended)), c.requires))
+pub returns-in-Hash-clause-ok : goal.returns-in-Hash-clause-ok
+returns-in-Hash-clause-ok g c = rw c.in-Hash.is (also _ _ _ c.hash.ensures.ok c.requires)
+
+pub returns-in-Hash-clause-err : goal.returns-in-Hash-clause-err
+returns-in-Hash-clause-err g c = rw c.in-Hash.is (err_then _ c.hash.ensures.err (λ failure no. ((no.0, c.requires), no.1)))
+
+pub returns-in-Hash-clause-once : goal.returns-in-Hash-clause-once
+returns-in-Hash-clause-once g c = rw c.in-Hash.is c.requires
+
+pub returns-in-Check-clause-ok : goal.returns-in-Check-clause-ok
+returns-in-Check-clause-ok g c = rw c.in-Check.is (also _ _ _ c.check.ensures.ok c.requires)
+
+pub returns-in-Check-clause-err : goal.returns-in-Check-clause-err
+returns-in-Check-clause-err g c = rw c.in-Check.is (err_then _ c.check.ensures.err (λ failure no. ((no.0, c.requires), no.1)))
+
+pub returns-in-Check-clause-once : goal.returns-in-Check-clause-once
+returns-in-Check-clause-once g c = rw c.in-Check.is c.requires
 
 pub returns-in_err-accepted-in-Verify-clause-err : goal.returns-in_err-accepted-in-Verify-clause-err
 returns-in_err-accepted-in-Verify-clause-err g c =
