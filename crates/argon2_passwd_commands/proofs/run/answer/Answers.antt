@@ -6,7 +6,7 @@ use Rattle.argon2_passwd_commands.specs.Answers.{AddsLines, IsAdded, IsImported}
 use Rattle.argon2_passwd_commands.specs.Asked.{choices_of}
 use Rattle.argon2_passwd_commands.specs.Failures.{status_of}
 use Rattle.argon2_passwd_commands.specs.declared.failure.Failure.{Failure}
-use Rattle.argon2_passwd_commands.proofs.Refusals.{err_then, keeps_same, passed, refused}
+use Rattle.argon2_passwd_commands.proofs.Refusals.{err_then, keeps_same, ok_then, passed, refused}
 use Rattle.argon2_passwd_commands.proofs.run.answer.Goals as goal
 
 ok_by : {Q : Type 0} (P : Result (Unit {0}) Failure → Type 0) (r : Result (Unit {0}) Failure) → P r
@@ -20,8 +20,7 @@ err_by P (Ok x) is next = tt
 err_by P (Err f) is next = λ one. next f is one
 
 also : (P : Type 0) (Q : Type 0) (r : Result (Unit {0}) Failure) → OnOk r P → Q → OnOk r (P × Q)
-also P Q (Ok x) is q = (is, q)
-also P Q (Err f) is q = tt
+also P Q r is q = ok_then {Q = P × Q} r is (λ p. (p, q))
 
 -- lines that were added, or not, were to be added
 added : {S : Type 0} {g : Ghosts S} (r : Result (Unit {0}) Failure) (es : List (List ℕ × List ℕ)) (before after : AccountFile S g)
@@ -33,7 +32,8 @@ pub returns-in-Hash-clause-ok : goal.returns-in-Hash-clause-ok
 returns-in-Hash-clause-ok g c = rw c.in-Hash.is (also _ _ _ c.hash.ensures.ok c.requires)
 
 pub returns-in-Hash-clause-err : goal.returns-in-Hash-clause-err
-returns-in-Hash-clause-err g c = rw c.in-Hash.is (err_then _ c.hash.ensures.err (λ failure no. ((no.0, c.requires), no.1)))
+returns-in-Hash-clause-err g c =
+    rw c.in-Hash.is (err_then _ c.hash.ensures.err (λ failure no. ((no.0, c.requires), no.1)))
 
 pub returns-in-Hash-clause-once : goal.returns-in-Hash-clause-once
 returns-in-Hash-clause-once g c = rw c.in-Hash.is c.requires
@@ -42,7 +42,8 @@ pub returns-in-Check-clause-ok : goal.returns-in-Check-clause-ok
 returns-in-Check-clause-ok g c = rw c.in-Check.is (also _ _ _ c.check.ensures.ok c.requires)
 
 pub returns-in-Check-clause-err : goal.returns-in-Check-clause-err
-returns-in-Check-clause-err g c = rw c.in-Check.is (err_then _ c.check.ensures.err (λ failure no. ((no.0, c.requires), no.1)))
+returns-in-Check-clause-err g c =
+    rw c.in-Check.is (err_then _ c.check.ensures.err (λ failure no. ((no.0, c.requires), no.1)))
 
 pub returns-in-Check-clause-once : goal.returns-in-Check-clause-once
 returns-in-Check-clause-once g c = rw c.in-Check.is c.requires
