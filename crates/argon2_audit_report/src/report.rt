@@ -159,8 +159,7 @@ pub fn write_table<W: Write>(output: &mut W, audit: &Audit) -> io::Result<()> {
 // Writes the counts, one a line; those of lines that store no text of Argon2 only if there are such lines.
 fn counts<W: Write>(output: &mut W, audit: &Audit) -> io::Result<()> {
     let tally = &audit.tally;
-    let lines = tally.lines;
-    writeln!(output, "{:<20}{lines:>12}", "lines")?;
+    row(output, "lines", tally.lines)?;
     for (name, class, is_written) in [
         ("sound", Class::Sound, true),
         ("below the policy", Class::Below, true),
@@ -173,28 +172,30 @@ fn counts<W: Write>(output: &mut W, audit: &Audit) -> io::Result<()> {
         ("unknown", Class::Unknown, false),
         ("other schemes", Class::Other, false),
     ] {
-        let count = tally.count(class);
-        if is_written || count > 0 {
-            writeln!(output, "{name:<20}{count:>12}")?;
+        let lines = tally.count(class);
+        if is_written || lines > 0 {
+            row(output, name, lines)?;
         }
     }
     for (scheme, lines) in audit.seen.schemes.iter() {
         let name = scheme.name();
         writeln!(output, "  {name:<18}{lines:>12}")?;
     }
-    let (short, equal) = (tally.short_salts, tally.equal_salts);
-    writeln!(output, "{:<20}{short:>12}", "short salts")?;
-    writeln!(output, "{:<20}{equal:>12}", "equal salts")
+    row(output, "short salts", tally.short_salts)?;
+    row(output, "equal salts", tally.equal_salts)
+}
+
+// Writes a count as a line.
+fn row<W: Write>(output: &mut W, name: &str, lines: u64) -> io::Result<()> {
+    writeln!(output, "{name:<20}{lines:>12}")
 }
 
 // Writes how many texts of Argon2 there are of each kind, a line each.
 fn kinds<W: Write>(output: &mut W, audit: &Audit) -> io::Result<()> {
     if !audit.seen.kinds.is_empty() {
-        writeln!(output)?;
         writeln!(
             output,
-            "{:<10}{:>8}{:>12}{:>12}{:>10}{:>12}",
-            "algorithm", "version", "m", "t", "p", "lines"
+            "\nalgorithm  version           m           t         p       lines"
         )?;
     }
     for (kind, lines) in audit.seen.kinds.iter() {

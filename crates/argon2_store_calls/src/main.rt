@@ -22,42 +22,28 @@ const BOUND: Bound = Bound {
     p_cost: 2,
 };
 
-// What the calls on a file return that begins with no names.
-#[derive(Clone, Copy)]
-struct Answers {
-    had_ann: Result<bool, FileError>,
-    added: Answer,
-    added_again: Answer,
-    has_ann: Result<bool, FileError>,
-    replaced: Answer,
-    copied: Answer,
-}
-
-// What a call returns, and whether the file is closed then.
-#[derive(Clone, Copy)]
-struct Answer {
-    result: Result<(), FileError>,
-    is_closed: bool,
-}
-
 fn main(rt: HostRuntime) -> io::Result<()> {
-    match open(&rt, Wary) {
-        Ok(file) => {
-            let answers = answers_of(file);
-            show_ann(&rt, &answers.had_ann)?;
-            show(&rt, "add", &answers.added)?;
-            show(&rt, "add again", &answers.added_again)?;
-            show_ann(&rt, &answers.has_ann)?;
-            show(&rt, "replace", &answers.replaced)?;
-            show(&rt, "checkpoint", &answers.copied)?;
-            if answers.copied.result.is_ok() {
-                fs::remove_file(&rt, "accounts.db-wal")?;
-            }
-        }
-        Err(error) => println!(rt; "open: {error}")?,
+    if show_first(&rt, Wary)? {
+        fs::remove_file(&rt, "accounts.db-wal")?;
     }
-    match open(&rt, Wary) {
-        Ok(file) => show_ann(&rt, &found_ann(file)),
+    show_again(&rt, Wary)
+}
+
+// Shows the calls on a file that is opened, and returns whether the log was copied.
+fn show_first<T: Start>(rt: &HostRuntime, start: T) -> io::Result<bool> {
+    match open(rt, start) {
+        Ok(mut file) => show_calls(rt, &mut file),
+        Err(error) => {
+            println!(rt; "open: {error}")?;
+            Ok(false)
+        }
+    }
+}
+
+// Shows whether the name is in the file that is opened again.
+fn show_again<T: Start>(rt: &HostRuntime, start: T) -> io::Result<()> {
+    match open(rt, start) {
+        Ok(mut file) => show_ann(rt, &mut file),
         Err(error) => println!(rt; "open again: {error}"),
     }
 }
@@ -70,37 +56,22 @@ fn open<T: Start>(rt: &HostRuntime, start: T) -> Result<AccountsAt<'static, T>, 
     AccountFile::open(rt, "accounts.db", start, target, BOUND)
 }
 
-fn answers_of<D: Disk + Drop>(mut file: AccountFile<'_, FileStore<D>>) -> Answers {
-    let had_ann = has_ann(&mut file);
-    let result = file.add("ann", TEXT);
-    let added = Answer {
-        result,
-        is_closed: file.is_closed(),
-    };
-    let result = file.add("ann", TEXT);
-    let added_again = Answer {
-        result,
-        is_closed: file.is_closed(),
-    };
-    let has_ann = has_ann(&mut file);
-    let result = file.replace("ann", TEXT, TEXT);
-    let replaced = Answer {
-        result,
-        is_closed: file.is_closed(),
-    };
-    let result = file.checkpoint();
-    let copied = Answer {
-        result,
-        is_closed: file.is_closed(),
-    };
-    Answers {
-        had_ann,
-        added,
-        added_again,
-        has_ann,
-        replaced,
-        copied,
-    }
+// Shows the calls on a file that begins with no names, and returns whether the log was copied.
+fn show_calls<D: Disk + Drop>(
+    rt: &impl Print,
+    file: &mut AccountFile<'_, FileStore<D>>,
+) -> io::Result<bool> {
+    show_ann(rt, file)?;
+    let added = file.add("ann", TEXT);
+    show(rt, "add", added, file.is_closed())?;
+    let added = file.add("ann", TEXT);
+    show(rt, "add again", added, file.is_closed())?;
+    show_ann(rt, file)?;
+    let replaced = file.replace("ann", TEXT, TEXT);
+    show(rt, "replace", replaced, file.is_closed())?;
+    let copied = file.checkpoint();
+    show(rt, "checkpoint", copied, file.is_closed())?;
+    Ok(copied.is_ok())
 }
 
 // Whether a file has the name ann with its text.
@@ -111,21 +82,21 @@ fn has_ann<S: Store>(file: &mut AccountFile<'_, S>) -> Result<bool, FileError> {
     }
 }
 
-// The same of a file that was opened.
-fn found_ann<S: Store + Drop>(mut file: AccountFile<'_, S>) -> Result<bool, FileError> {
-    has_ann(&mut file)
-}
-
-fn show_ann(rt: &impl Print, has: &Result<bool, FileError>) -> io::Result<()> {
-    match has {
+fn show_ann<S: Store>(rt: &impl Print, file: &mut AccountFile<'_, S>) -> io::Result<()> {
+    match has_ann(file) {
         Ok(has) => println!(rt; "has ann: {has}"),
         Err(error) => println!(rt; "has ann: {error}"),
     }
 }
 
-fn show(rt: &impl Print, call: &str, answer: &Answer) -> io::Result<()> {
-    let state = if answer.is_closed { "closed" } else { "open" };
-    match &answer.result {
+fn show(
+    rt: &impl Print,
+    call: &str,
+    answer: Result<(), FileError>,
+    is_closed: bool,
+) -> io::Result<()> {
+    let state = if is_closed { "closed" } else { "open" };
+    match answer {
         Ok(()) => println!(rt; "{call}: ok; {state}"),
         Err(error) => println!(rt; "{call}: {error}; {state}"),
     }

@@ -18,6 +18,9 @@ returns-in-Ok-clause-passed g c = λ _.
 pub returns-in-Ok-clause-object : goal.returns-in-Ok-clause-object
 returns-in-Ok-clause-object g c = λ _. (c.in-Ok.tally, c.in-Ok.ensures.tally, c.in-Ok.ensures.object)
 
+pub returns-in-Ok-clause-refused : goal.returns-in-Ok-clause-refused
+returns-in-Ok-clause-refused g c = λ one. absurd cc
+
 pub returns-in-Ok-2-clause-refused : goal.returns-in-Ok-2-clause-refused
 returns-in-Ok-2-clause-refused g c = λ _.
     subst (IsAudit c.args.options (g.R.Read.remaining c.args.input.now)) c.if-is_clean.false

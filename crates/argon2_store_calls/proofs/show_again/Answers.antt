@@ -1,6 +1,6 @@
-use Rattle.argon2_store_calls.proofs.answers_of.Goals as goal
+use Rattle.argon2_store_calls.proofs.show_again.Goals as goal
 
 pub invariant_of-file : goal.invariant_of-file
 invariant_of-file g c =
-    let it = c.checkpoint-result.new.self.table.store in
+    let it = c.show_ann.new.file.table.store in
     record { served = it.served; stored = it.stored; cookie = it.cookie; marked = it.marked; safe = it.safe }
