@@ -1,3 +1,5 @@
+use self::Call::{Add, Change, LogIn, Register, Remove, Replace, Set};
+use crate::common::{is_entry, is_text};
 use crate::drawn::Drawn;
 use crate::hashing::PWD;
 use crate::login::{NEW, OLD, target};
@@ -21,62 +23,96 @@ const OTHER: &str = "$argon2id$v=19$m=32,t=3,p=4,data=BAQEBAQEBAQEBAQE$AgICAgICA
 const SET: &str = "$argon2id$v=19$m=32,t=3,p=4,data=BAQEBAQEBAQEBAQE$AgICAgICAgICAgICAgICAg\
     $2HyaH6kUJmB0WGGPzbOfQpeGQ5IvJW9otpV1p3FbOOs";
 
-// Whether the name has this text.
-fn has(accounts: &Accounts<'_>, name: &str, text: &str) -> bool {
-    match PasswordHash::new(text) {
-        Ok(hash) => accounts.text_of(name) == Some(&hash),
-        Err(_) => false,
-    }
+// A call for a name, under the known password.
+enum Call {
+    Register,
+    Add(&'static str),
+    LogIn,
+    Change(&'static str),
+    Set(&'static str),
+    Replace(&'static str, &'static str),
+    Remove,
 }
 
-// Whether the first name is this one.
-fn begins_with(accounts: &Accounts<'_>, name: &str) -> bool {
-    match accounts.texts().next() {
-        Some((first, _)) => first.as_str() == name,
-        None => false,
+type Answer = Result<Option<Accepted>, AccountError>;
+
+fn answer_of(accounts: &mut Accounts<'_>, rng: &mut Drawn, name: &str, call: &Call) -> Answer {
+    match call {
+        Register => accounts.register(rng, name, &PWD)?,
+        Add(text) => accounts.add(name, text)?,
+        LogIn => return Ok(Some(accounts.login(rng, name, &PWD)?)),
+        Change(new) => accounts.change_password(rng, name, &PWD, new.as_bytes())?,
+        Set(password) => accounts.set_password(rng, name, password.as_bytes())?,
+        Replace(old, new) => accounts.replace(name, old, new)?,
+        Remove => accounts.remove(name)?,
     }
+    Ok(None)
+}
+
+const REFUSED: Answer = Err(AccountError::Refused(Error::PasswordInvalid));
+
+const CURRENT: Answer = Ok(Some(Accepted::Current));
+
+const RENEWED: Answer = Ok(Some(Accepted::Rehashed));
+
+// Calls one after the other, what they answer, how many words were drawn then, how many names there are, and the text
+// of the call's name.
+static CALLS: [(&str, Call, Answer, u32, usize, Option<&str>); 11] = [
+    ("ann", Register, Ok(None), 4, 1, Some(NEW)),
+    ("ann", LogIn, CURRENT, 4, 1, Some(NEW)),
+    ("ann", Change("other"), Ok(None), 8, 1, Some(OTHER)),
+    ("ann", Set("set"), Ok(None), 12, 1, Some(SET)),
+    ("ann", LogIn, REFUSED, 12, 1, Some(SET)),
+    ("ann", Remove, Ok(None), 12, 0, None),
+    ("ann", Add(NEW), Ok(None), 12, 1, Some(NEW)),
+    ("eve", Add(OLD), Ok(None), 12, 2, Some(OLD)),
+    ("eve", LogIn, RENEWED, 16, 2, Some(NEW)),
+    ("eve", Replace(NEW, OTHER), Ok(None), 16, 2, Some(OTHER)),
+    ("ann", Remove, Ok(None), 16, 1, None),
+];
+
+// Whether there are so many names, and this one has the text, if any.
+fn has(accounts: &Accounts<'_>, len: usize, name: &str, text: Option<&str>) -> bool {
+    let found = accounts.text_of(name);
+    let is_same = match text {
+        Some(text) => is_text(found, text),
+        None => found.is_none(),
+    };
+    is_same && accounts.len() == len && accounts.is_empty() == (len == 0)
 }
 
 #[test]
 fn gives_a_name_passwords(rt: HostRuntime) -> Result<(), Fail> {
     let mut rng = Drawn(0);
     let mut accounts = Accounts::new(rt.alloc(), target()?, BOUND)?;
-    assert!(rt; accounts.is_empty());
-
-    assert!(rt; accounts.register(&mut rng, "ann", &PWD) == Ok(()));
-    assert!(rt; has(&accounts, "ann", NEW) && rng.0 == 4);
-    assert!(rt; accounts.login(&mut rng, "ann", &PWD) == Ok(Accepted::Current));
-    assert!(rt; accounts.change_password(&mut rng, "ann", &PWD, b"other") == Ok(()));
-    assert!(rt; has(&accounts, "ann", OTHER) && rng.0 == 8);
-    assert!(rt; accounts.set_password(&mut rng, "ann", b"set") == Ok(()));
-    assert!(rt; has(&accounts, "ann", SET) && rng.0 == 12);
-    let refused = Err(AccountError::Refused(Error::PasswordInvalid));
-    assert!(rt; accounts.login(&mut rng, "ann", &PWD) == refused && rng.0 == 12);
+    for (n, (name, call, answer, words, len, text)) in CALLS.iter().enumerate() {
+        let found = answer_of(&mut accounts, &mut rng, name, call);
+        assert!(rt; found == *answer && rng.0 == *words, "row {n}");
+        assert!(rt; has(&accounts, *len, name, *text), "row {n}");
+    }
+    assert!(rt; is_entry(accounts.texts().next(), "eve", OTHER));
     Ok(())
 }
 
-#[test]
-fn renews_replaces_and_removes(rt: HostRuntime) -> Result<(), Fail> {
-    let mut rng = Drawn(0);
-    let mut accounts = Accounts::new(rt.alloc(), target()?, BOUND)?;
-    assert!(rt; accounts.add("ann", NEW) == Ok(()) && accounts.add("eve", OLD) == Ok(()));
-    assert!(rt; has(&accounts, "eve", OLD) && accounts.len() == 2);
-    assert!(rt; accounts.login(&mut rng, "eve", &PWD) == Ok(Accepted::Rehashed));
-    assert!(rt; has(&accounts, "eve", NEW) && rng.0 == 4);
-    assert!(rt; accounts.replace("eve", NEW, OTHER) == Ok(()) && has(&accounts, "eve", OTHER));
-    assert!(rt; accounts.remove("ann") == Ok(()));
-    assert!(rt; begins_with(&accounts, "eve") && accounts.len() == 1);
-    Ok(())
+// The texts that the calls make of the old text and the known password.
+fn renewed(policy: &Policy<'_>, rng: &mut Drawn) -> Result<Option<PasswordHash>, AccountError> {
+    let done = policy.log_in(rng, &PasswordHash::new(OLD)?, &PWD)?;
+    match done.accepted {
+        Accepted::Rehashed => Ok(done.fresh),
+        _ => Ok(None),
+    }
+}
+
+fn changed(policy: &Policy<'_>, rng: &mut Drawn) -> Result<PasswordHash, AccountError> {
+    policy.change_password(rng, &PasswordHash::new(NEW)?, &PWD, b"other")
 }
 
 #[test]
 fn does_the_same_to_a_text(rt: HostRuntime) -> Result<(), Fail> {
     let mut rng = Drawn(0);
     let policy = Policy::new(rt.alloc(), target()?, BOUND)?;
-    let done = policy.log_in(&mut rng, &PasswordHash::new(OLD)?, &PWD)?;
-    let new = policy.hash_password(&mut rng, &PWD)?;
-    assert!(rt; done.accepted == Accepted::Rehashed && done.fresh.as_ref() == Some(&new));
-    let other = policy.change_password(&mut rng, &new, &PWD, b"other")?;
-    assert!(rt; other == PasswordHash::new(OTHER)?);
+    assert!(rt; is_text(renewed(&policy, &mut rng)?.as_ref(), NEW));
+    assert!(rt; is_text(Some(&policy.hash_password(&mut rng, &PWD)?), NEW));
+    assert!(rt; is_text(Some(&changed(&policy, &mut rng)?), OTHER));
     Ok(())
 }

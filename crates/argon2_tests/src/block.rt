@@ -1,38 +1,30 @@
 //! Values from outside, and the vectors beside the plain body.
 
+use crate::common::shows;
 use crate::hashing::{known, known_tag};
 use argon2::{Algorithm, Version};
-use argon2_base::block::{Block, Work};
+use argon2_base::block::{Block, Words, Work, mix_words};
 use std::convert::AsSlice;
 use std::test::Fail;
 
 mod plain;
 
-// The block of these words.
-fn block_of(words: &[u64; 128]) -> Block {
-    let mut block = Block::new();
-    block.as_mut_slice().copy_from_slice(words);
-    block
-}
-
-fn mixes_alike(x: &[u64; 128], y: &[u64; 128]) -> bool {
-    let mixed = Block::mix(&block_of(x), &block_of(y), &mut Work::new());
-    mixed.as_slice() == plain::mix(x, y).as_slice()
+fn mixes_alike(x: &Words, y: &Words) -> bool {
+    mix_words(x, y, &mut Work::new()).as_slice() == plain::mix(x, y).as_slice()
 }
 
 #[test]
-fn mixes_constant_blocks_alike(rt: HostRuntime) -> Result<(), Fail> {
-    let zeros = [0; 128];
-    let ones = [u64::MAX; 128];
-    assert!(rt; mixes_alike(&zeros, &zeros));
-    assert!(rt; mixes_alike(&ones, &zeros));
-    assert!(rt; mixes_alike(&zeros, &ones));
-    assert!(rt; mixes_alike(&ones, &ones));
-    Ok(())
+fn mixes_constant_blocks_alike(rt: HostRuntime) {
+    let blocks = &[[0; 128], [u64::MAX; 128]];
+    for x in blocks {
+        for y in blocks {
+            assert!(rt; mixes_alike(x, y));
+        }
+    }
 }
 
 #[test]
-fn mixes_each_single_bit_alike(rt: HostRuntime) -> Result<(), Fail> {
+fn mixes_each_single_bit_alike(rt: HostRuntime) {
     for place in 0..128 {
         for bit in 0..64u32 {
             let mut x = [0; 128];
@@ -40,11 +32,10 @@ fn mixes_each_single_bit_alike(rt: HostRuntime) -> Result<(), Fail> {
             assert!(rt; mixes_alike(&x, &[0; 128]));
         }
     }
-    Ok(())
 }
 
 #[test]
-fn mixes_random_blocks_alike(rt: HostRuntime) -> Result<(), Fail> {
+fn mixes_random_blocks_alike(rt: HostRuntime) {
     let mut state: u64 = 0x9e37_79b9_7f4a_7c15;
     let mut x = [0; 128];
     for _ in 0..1000 {
@@ -58,14 +49,24 @@ fn mixes_random_blocks_alike(rt: HostRuntime) -> Result<(), Fail> {
         }
         assert!(rt; mixes_alike(&x, &y));
     }
-    Ok(())
 }
 
 // The words of a block.
-fn words_of(block: &Block) -> [u64; 128] {
+fn words_of(block: &Block) -> Words {
     let mut words = [0; 128];
     words.copy_from_slice(block.as_slice());
     words
+}
+
+fn are_mixed_alike(blocks: &[Block]) -> bool {
+    for x in blocks {
+        for y in blocks {
+            if !mixes_alike(&words_of(x), &words_of(y)) {
+                return false;
+            }
+        }
+    }
+    true
 }
 
 // The blocks of a known answer, each with each.
@@ -73,11 +74,7 @@ fn words_of(block: &Block) -> [u64; 128] {
 fn mixes_a_known_matrix_alike(rt: HostRuntime) -> Result<(), Fail> {
     let mut memory = [Block::new(); 32];
     known_tag(&known(Algorithm::Argon2id, Version::V0x13)?, &mut memory)?;
-    for x in &memory {
-        for y in &memory {
-            assert!(rt; mixes_alike(&words_of(x), &words_of(y)));
-        }
-    }
+    assert!(rt; are_mixed_alike(&memory));
     Ok(())
 }
 
@@ -92,20 +89,25 @@ fn counted(step: u64) -> Block {
     block
 }
 
+// Words 0, 64 and 127 of a block.
+fn some_words(block: &Block) -> [u64; 3] {
+    let words = words_of(block);
+    [words[0], words[64], words[127]]
+}
+
 #[test]
-fn mixes_and_counts(rt: HostRuntime) -> Result<(), Fail> {
+fn mixes_and_counts(rt: HostRuntime) {
     let mut work = Work::new();
     let mixed = Block::mix(&counted(1), &counted(1 << 32), &mut work);
-    assert!(rt; mixed.as_slice()[0] == 0x0b3c_0826_041b_1446);
-    assert!(rt; mixed.as_slice()[64] == 0xe97b_9a18_04bc_d112);
-    assert!(rt; mixed.as_slice()[127] == 0x0587_e8ff_1805_71f2);
-    assert!(rt; work.mixes() == 1);
+    let wanted = [
+        0x0b3c_0826_041b_1446,
+        0xe97b_9a18_04bc_d112,
+        0x0587_e8ff_1805_71f2,
+    ];
+    assert!(rt; some_words(&mixed) == wanted && work.mixes() == 1);
     let none = Block::mix(&mixed, &mixed, &mut work);
-    assert!(rt; none.as_slice() == Block::new().as_slice());
-    assert!(rt; work.mixes() == 2);
-    let text = format!(in rt.alloc(); "{work:?}")?;
-    assert!(rt; text.as_str() == "Work { mixes: 2 }");
-    Ok(())
+    assert!(rt; words_of(&none) == [0; 128] && work.mixes() == 2);
+    assert!(rt; shows(rt.alloc(), &work, "Work { mixes: 2 }"));
 }
 
 #[test]

@@ -15,7 +15,7 @@ mod watched;
 use known_tags::PASSWORD_TAGS;
 
 // The BLAKE2b digest of 8 bytes, as a number whose high byte comes first.
-fn digest_of(bytes: &[u8]) -> u64 {
+pub(super) fn digest_of(bytes: &[u8]) -> u64 {
     let mut digest = [0; 8];
     let mut hasher = Blake2b::new(8);
     hasher.update(bytes);
@@ -26,12 +26,11 @@ fn digest_of(bytes: &[u8]) -> u64 {
 // The 32 bytes of a tag as numbers whose high byte comes first.
 fn words(tag: &[u8; 32]) -> [u64; 4] {
     let (pieces, _) = tag.as_chunks::<8>();
-    [
-        u64::from_be_bytes(pieces[0]),
-        u64::from_be_bytes(pieces[1]),
-        u64::from_be_bytes(pieces[2]),
-        u64::from_be_bytes(pieces[3]),
-    ]
+    let mut words = [0; 4];
+    for (word, piece) in words.iter_mut().zip(pieces) {
+        *word = u64::from_be_bytes(*piece);
+    }
+    words
 }
 
 // A block of ones.
@@ -101,10 +100,8 @@ fn is_argon2id(argon2: &Argon2<'_>) -> bool {
 fn is_argon2id_by_default(rt: HostRuntime) -> Result<(), Fail> {
     assert!(rt; Argon2::default().params() == &Params::DEFAULT);
     let params = Params::new(256, 2, 1, Some(32))?;
-    assert!(rt; is_argon2id(&Argon2::from(params)));
-    assert!(rt; is_argon2id(&Argon2::from(&params)));
+    assert!(rt; is_argon2id(&Argon2::from(params)) && is_argon2id(&Argon2::from(&params)));
     let argon2 = Argon2::new(Algorithm::Argon2id, Version::V0x13, params);
-    assert!(rt; is_argon2id(&argon2.clone()?));
-    assert!(rt; is_argon2id(&argon2));
+    assert!(rt; is_argon2id(&argon2.clone()?) && is_argon2id(&argon2));
     Ok(())
 }

@@ -15,6 +15,8 @@ mod block;
 #[cfg(test)]
 mod bound;
 #[cfg(test)]
+mod common;
+#[cfg(test)]
 mod drawn;
 #[cfg(test)]
 mod hashing;

@@ -1,8 +1,9 @@
+use crate::common::{is_entry, is_text};
 use crate::drawn::Drawn;
 use crate::hashing::{PWD, known_with};
 use argon2::login::{Accepted, Login, LoginError};
 use argon2::password_hash::Error;
-use argon2::{Algorithm, Argon2, KeyId, Params, PasswordHash, Version};
+use argon2::{Algorithm, Argon2, KeyId, Params, Version};
 use std::alloc::Global;
 use std::test::Fail;
 
@@ -36,76 +37,74 @@ fn store(alloc: Global, name: &str, text: &str) -> Result<Login<'static>, Fail> 
     }
 }
 
-// Whether the name has this text.
-fn has(login: &Login<'_>, name: &str, text: &str) -> bool {
-    match PasswordHash::new(text) {
-        Ok(hash) => login.text_of(name) == Some(&hash),
-        Err(_) => false,
-    }
+// Calls whose contracts their callers need not know.
+fn add(login: &mut Login<'_>, name: &str, text: &str) -> Result<(), LoginError> {
+    login.add(name, text)
+}
+
+// What a login answers, and how many words it draws.
+fn log_in(
+    login: &mut Login<'_>,
+    name: &str,
+    password: &[u8],
+) -> (Result<Accepted, LoginError>, u32) {
+    let mut rng = Drawn(0);
+    (login.login(&mut rng, name, password), rng.0)
 }
 
 #[test]
 fn refuses_and_leaves_the_text(rt: HostRuntime) -> Result<(), Fail> {
-    let mut rng = Drawn(0);
     let mut login = store(rt.alloc(), "ann", OLD)?;
-    assert!(rt; login.add("ann", NEW) == Err(LoginError::NameTaken));
-    assert!(rt; login.add("ann", "x") == Err(LoginError::Text));
-    assert!(rt; login.login(&mut rng, "bob", &PWD) == Err(LoginError::NameUnknown));
+    assert!(rt; add(&mut login, "ann", NEW) == Err(LoginError::NameTaken));
+    assert!(rt; add(&mut login, "ann", "x") == Err(LoginError::Text));
+    assert!(rt; log_in(&mut login, "bob", &PWD) == (Err(LoginError::NameUnknown), 0));
     let refused = Err(LoginError::Refused(Error::PasswordInvalid));
-    assert!(rt; login.login(&mut rng, "ann", b"password") == refused);
-    assert!(rt; has(&login, "ann", OLD));
-    assert!(rt; rng.0 == 0);
+    assert!(rt; log_in(&mut login, "ann", b"password") == (refused, 0));
+    assert!(rt; is_text(login.text_of("ann"), OLD));
     Ok(())
 }
 
-// Whether a login does this and draws so many words, after which the name has the target's text.
-fn renews(login: &mut Login<'_>, name: &str, did: Accepted, words: u32) -> bool {
-    let mut rng = Drawn(0);
-    login.login(&mut rng, name, &PWD) == Ok(did) && rng.0 == words && has(login, name, NEW)
+// Whether the first login renews a text, and the second one keeps it.
+fn renews_once(alloc: Global, text: &str) -> Result<bool, Fail> {
+    let mut login = store(alloc, "ann", text)?;
+    let is_added = is_text(login.text_of("ann"), text);
+    let is_renewed = log_in(&mut login, "ann", &PWD) == (Ok(Accepted::Rehashed), 4)
+        && is_text(login.text_of("ann"), NEW);
+    let is_kept = log_in(&mut login, "ann", &PWD) == (Ok(Accepted::Current), 0)
+        && is_text(login.text_of("ann"), NEW);
+    Ok(is_added && is_renewed && is_kept)
 }
 
-// Texts of one password: each is renewed at the first login, and then stays.
+// Texts of one password.
 #[test]
 fn renews_old_texts_once(rt: HostRuntime) -> Result<(), Fail> {
-    for text in [WITH_KEY_IDENTIFIER, OLDEST, OLD] {
-        let mut login = store(rt.alloc(), "ann", text)?;
-        assert!(rt; has(&login, "ann", text), "{text}");
-        assert!(rt; renews(&mut login, "ann", Accepted::Rehashed, 4), "{text}");
-        assert!(rt; renews(&mut login, "ann", Accepted::Current, 0), "{text}");
+    for text in &[WITH_KEY_IDENTIFIER, OLDEST, OLD] {
+        assert!(rt; renews_once(rt.alloc(), text)?, "{text}");
     }
     Ok(())
-}
-
-// Whether these are a name and its text.
-fn is_entry(entry: Option<(&String, &PasswordHash)>, name: &str, text: &str) -> bool {
-    match (entry, PasswordHash::new(text)) {
-        (Some((found, hash)), Ok(wanted)) => found.as_str() == name && hash == &wanted,
-        _ => false,
-    }
 }
 
 #[test]
 fn gives_its_texts_in_order(rt: HostRuntime) -> Result<(), Fail> {
     let mut login = store(rt.alloc(), "kim", NEW)?;
-    assert!(rt; login.add("ann", OLD) == Ok(()));
-    assert!(rt; login.add("kimi", OLDEST) == Ok(()));
+    assert!(rt; add(&mut login, "ann", OLD) == Ok(()));
+    assert!(rt; add(&mut login, "kimi", OLDEST) == Ok(()));
     let mut texts = login.texts();
-    assert!(rt; is_entry(texts.next(), "ann", OLD));
-    assert!(rt; is_entry(texts.next(), "kim", NEW));
-    assert!(rt; is_entry(texts.next(), "kimi", OLDEST));
+    for (name, text) in &[("ann", OLD), ("kim", NEW), ("kimi", OLDEST)] {
+        assert!(rt; is_entry(texts.next(), name, text), "{name}");
+    }
     assert!(rt; texts.next().is_none());
     Ok(())
 }
 
-// The fault of a target with this output length.
-fn fault_of(alloc: Global, len: usize) -> Result<Option<Error>, Fail> {
-    let target = Argon2::from(Params::new(8, 1, 1, Some(len))?);
-    Ok(Login::new(alloc, target).err())
+// Whether there is a store whose target has this output length.
+fn take_target(alloc: Global, len: usize) -> argon2::password_hash::Result<()> {
+    Login::new(alloc, Argon2::from(Params::new(8, 1, 1, Some(len))?))?;
+    Ok(())
 }
 
 #[test]
-fn takes_no_target_with_long_outputs(rt: HostRuntime) -> Result<(), Fail> {
-    assert!(rt; fault_of(rt.alloc(), 64)? == None);
-    assert!(rt; fault_of(rt.alloc(), 65)? == Some(Error::OutputSize));
-    Ok(())
+fn takes_no_target_with_long_outputs(rt: HostRuntime) {
+    assert!(rt; take_target(rt.alloc(), 64) == Ok(()));
+    assert!(rt; take_target(rt.alloc(), 65) == Err(Error::OutputSize));
 }

@@ -1,5 +1,6 @@
 //! What `{:?}` shows.
 
+use crate::common::shows;
 use argon2::error::password_hash;
 use argon2::login::{Accepted, LoginError};
 use argon2::phc::Output;
@@ -7,17 +8,7 @@ use argon2::{
     Algorithm, Argon2, AssociatedData, B64Error, Block, Error, KeyId, Params, ParamsBuilder,
     PasswordHash, Version, kdf,
 };
-use std::alloc::Global;
-use std::fmt::Debug;
 use std::test::Fail;
-
-// Whether a value shows as this text.
-fn shows<T: Debug>(alloc: Global, value: &T, expected: &str) -> bool {
-    match format!(in alloc; "{value:?}") {
-        Ok(text) => text.as_str() == expected,
-        Err(_) => false,
-    }
-}
 
 #[test]
 fn hides_the_secret(rt: HostRuntime) -> Result<(), Fail> {

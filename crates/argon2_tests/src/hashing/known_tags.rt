@@ -5,7 +5,6 @@ use argon2::{Algorithm, Block, KeyId, ParamsBuilder, Result, Version};
 use std::test::Fail;
 
 // A tag, as numbers whose high byte comes first, and what it is made under.
-#[derive(Clone, Copy)]
 pub(super) struct KnownTag {
     pub(super) algorithm: Algorithm,
     pub(super) version: Version,
@@ -26,7 +25,7 @@ macro_rules! known_tags {
 }
 
 // The last three are those of RFC 9106, sections 5.1, 5.2 and 5.3.
-pub(super) const KNOWN_TAGS: [KnownTag; 6] = known_tags![
+pub(super) static KNOWN_TAGS: [KnownTag; 6] = known_tags![
     Argon2d V0x10 4 0x96a9d4e5a1734092 0xc85e29f410a45914 0xa5dd1f5cbf08b267 0x0da68a0285abf32b;
     Argon2i V0x10 4 0x87aeedd6517ab830 0xcd9765cd8231abb2 0xe647a5dee08f7c05 0xe02fcb763335d0fd;
     Argon2id V0x10 4 0xb64615f07789b66b 0x645b67ee9ed3b377 0xae350b6bfcbb0fc9 0x5141ea8f322613c0;
@@ -36,7 +35,7 @@ pub(super) const KNOWN_TAGS: [KnownTag; 6] = known_tags![
 ];
 
 // Of `password` and `somesalt`, in two passes over 256 blocks.
-pub(super) const PASSWORD_TAGS: [KnownTag; 6] = known_tags![
+pub(super) static PASSWORD_TAGS: [KnownTag; 6] = known_tags![
     Argon2i V0x10 1 0xfd4dd83d762c49bd 0xeaf57c47bdcd0c2f 0x1babf863fdeb490d 0xf63ede9975fccf06;
     Argon2i V0x10 2 0xb6c11560a6a9d61e 0xac706b79a2f97d68 0xb4463aa3ad87e00c 0x07e2b01e90c564fb;
     Argon2i V0x13 1 0x89e9029f4637b295 0xbeb027056a7336c4 0x14fadd43f6b20864 0x5281cb214a56452f;
@@ -56,14 +55,11 @@ fn tag_with(keyid: KeyId, row: &KnownTag, memory: &mut [Block; 33]) -> Result<([
 #[test]
 fn gives_the_known_tags_with_any_key_identifier(rt: HostRuntime) -> std::result::Result<(), Fail> {
     let mut memory = [ones(); 33];
-    for keyid in [KeyId::EMPTY, KeyId::new(b"key")?] {
-        for row in &KNOWN_TAGS {
-            let answer = tag_with(keyid, row, &mut memory);
+    for keyid in &[KeyId::EMPTY, KeyId::new(b"key")?] {
+        for (n, row) in KNOWN_TAGS.iter().enumerate() {
             assert!(rt;
-                answer == Ok((row.tag, true)),
-                "{} {:?}",
-                row.algorithm,
-                row.version
+                tag_with(*keyid, row, &mut memory) == Ok((row.tag, true)),
+                "row {n}"
             );
         }
     }
@@ -80,14 +76,7 @@ fn tag_of_password(row: &KnownTag, memory: &mut [Block]) -> Result<[u64; 4]> {
 #[test]
 fn gives_the_tags_of_password(rt: HostRuntime) {
     let mut memory = [Block::new(); 256];
-    for row in &PASSWORD_TAGS {
-        let tag = tag_of_password(row, &mut memory);
-        assert!(rt;
-            tag == Ok(row.tag),
-            "{} {:?} {}",
-            row.algorithm,
-            row.version,
-            row.p_cost
-        );
+    for (n, row) in PASSWORD_TAGS.iter().enumerate() {
+        assert!(rt; tag_of_password(row, &mut memory) == Ok(row.tag), "row {n}");
     }
 }

@@ -54,17 +54,19 @@ fn answer_under(output_len: Option<usize>, len: usize) -> (Result<()>, bool) {
     }
 }
 
+static FAULTS: [(Option<usize>, usize, Error); 5] = [
+    (None, 3, Error::OutputTooShort),
+    (None, 32, Error::SaltTooShort),
+    (Some(16), 15, Error::OutputTooShort),
+    (Some(16), 17, Error::OutputTooLong),
+    (Some(16), 16, Error::SaltTooShort),
+];
+
 #[test]
 fn refuses_the_first_fault(rt: HostRuntime) {
-    for (output_len, len, fault) in [
-        (None, 3, Error::OutputTooShort),
-        (None, 32, Error::SaltTooShort),
-        (Some(16), 15, Error::OutputTooShort),
-        (Some(16), 17, Error::OutputTooLong),
-        (Some(16), 16, Error::SaltTooShort),
-    ] {
+    for (output_len, len, fault) in &FAULTS {
         assert!(rt;
-            answer_under(output_len, len) == (Err(fault), true),
+            answer_under(*output_len, *len) == (Err(*fault), true),
             "{fault}"
         );
     }
@@ -89,17 +91,16 @@ fn are_equal(some: &[Block], others: &[Block]) -> bool {
     true
 }
 
+fn fill(memory: &mut [Block]) -> Result<()> {
+    known(Algorithm::Argon2id, Version::V0x13)?.fill_memory(&PWD, &SALT, memory)
+}
+
 #[test]
-fn fills_whatever_the_memory_was(rt: HostRuntime) -> std::result::Result<(), Fail> {
-    let argon2 = known(Algorithm::Argon2id, Version::V0x13)?;
+fn fills_whatever_the_memory_was(rt: HostRuntime) {
     let (mut zeros, mut others) = ([Block::new(); 32], [ones(); 33]);
-    argon2.fill_memory(&PWD, &SALT, &mut zeros)?;
-    argon2.fill_memory(&PWD, &SALT, &mut others)?;
-    let (zeros, others) = (&zeros[..], &others[..]);
-    assert!(rt; are_equal(zeros, others));
-    assert!(rt; are_ones(&others[32..]));
-    assert!(rt;
-        digests(zeros) == Some([0xec33ab833b1b3eb7, 0x41c39d0ed6ef5d9f, 0x9ef58d5501b9125f])
-    );
-    Ok(())
+    assert!(rt; fill(&mut zeros) == Ok(()) && fill(&mut others) == Ok(()));
+    let others = &others[..];
+    assert!(rt; are_equal(&zeros, others) && are_ones(&others[32..]));
+    let wanted = [0xec33ab833b1b3eb7, 0x41c39d0ed6ef5d9f, 0x9ef58d5501b9125f];
+    assert!(rt; digests(&zeros) == Some(wanted));
 }

@@ -3,19 +3,43 @@
 use super::known_tags::KNOWN_TAGS;
 use super::{PWD, SALT, known, words};
 use argon2::{Algorithm, Argon2, Error, Kdf, Params, Version, kdf};
+use std::alloc::Global;
 use std::test::Fail;
 
-#[test]
-fn hashes_on_memory_of_its_own(rt: HostRuntime) -> Result<(), Fail> {
-    let argon2 = known(Algorithm::Argon2id, Version::V0x13)?;
+// The known inputs hashed to so many of 32 bytes.
+fn hashed(alloc: Global, len: usize) -> (argon2::Result<()>, [u8; 32]) {
     let mut tag = [7; 32];
-    argon2.hash_password_into(rt.alloc(), &PWD, &SALT, &mut tag)?;
-    assert!(rt; words(&tag) == KNOWN_TAGS[5].tag);
-    let mut tag = [7; 3];
-    let answer = argon2.hash_password_into(rt.alloc(), &PWD, &SALT, &mut tag);
-    assert!(rt; answer == Err(Error::OutputTooShort));
-    assert!(rt; tag == [7; 3]);
-    Ok(())
+    let out = &mut tag[..len.min(32)];
+    let answer = match known(Algorithm::Argon2id, Version::V0x13) {
+        Ok(argon2) => argon2.hash_password_into(alloc, &PWD, &SALT, out),
+        Err(error) => Err(error),
+    };
+    (answer, tag)
+}
+
+// The same as a key.
+fn derived(alloc: Global, len: usize) -> (Result<(), kdf::Error>, [u8; 32]) {
+    let mut key = [7; 32];
+    let out = &mut key[..len.min(32)];
+    let answer = match known(Algorithm::Argon2id, Version::V0x13) {
+        Ok(argon2) => argon2.derive_key(alloc, &PWD, &SALT, out),
+        Err(_) => Ok(()),
+    };
+    (answer, key)
+}
+
+#[test]
+fn hashes_on_memory_of_its_own(rt: HostRuntime) {
+    let (answer, tag) = hashed(rt.alloc(), 32);
+    assert!(rt; answer == Ok(()) && words(&tag) == KNOWN_TAGS[5].tag);
+    assert!(rt; hashed(rt.alloc(), 3) == (Err(Error::OutputTooShort), [7; 32]));
+}
+
+#[test]
+fn derives_the_tag_as_a_key(rt: HostRuntime) {
+    let (answer, key) = derived(rt.alloc(), 32);
+    assert!(rt; answer == Ok(()) && words(&key) == KNOWN_TAGS[5].tag);
+    assert!(rt; derived(rt.alloc(), 3) == (Err(kdf::Error), [7; 32]));
 }
 
 // One byte more than parameters hold.
@@ -32,18 +56,5 @@ fn hashes_under_data_of_any_length(rt: HostRuntime) -> Result<(), Fail> {
         0xe999d07f278f20cf,
     ];
     assert!(rt; words(&tag) == wanted);
-    Ok(())
-}
-
-#[test]
-fn derives_the_tag_as_a_key(rt: HostRuntime) -> Result<(), Fail> {
-    let argon2 = known(Algorithm::Argon2id, Version::V0x13)?;
-    let mut key = [7; 32];
-    argon2.derive_key(rt.alloc(), &PWD, &SALT, &mut key)?;
-    assert!(rt; words(&key) == KNOWN_TAGS[5].tag);
-    let mut key = [7; 3];
-    let answer = argon2.derive_key(rt.alloc(), &PWD, &SALT, &mut key);
-    assert!(rt; answer == Err(kdf::Error));
-    assert!(rt; key == [7; 3]);
     Ok(())
 }

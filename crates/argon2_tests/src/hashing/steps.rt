@@ -54,7 +54,7 @@ fn take_turns(
 }
 
 // The turns in each slice of each pass.
-const ORDERS: [[[u32; 8]; 4]; 3] = [
+static ORDERS: [[[u32; 8]; 4]; 3] = [
     [[0, 1, 2, 3, 0, 1, 2, 3]; 4],
     [[3, 3, 0, 1, 2, 0, 1, 2]; 4],
     [
@@ -85,16 +85,9 @@ fn tag_by_turns(row: &KnownTag, slices: &[[u32; 8]; 4]) -> Result<[u64; 4], Fail
 
 #[test]
 fn gives_the_known_tags_however_lanes_take_turns(rt: HostRuntime) -> Result<(), Fail> {
-    for row in &KNOWN_TAGS {
+    for (n, row) in KNOWN_TAGS.iter().enumerate() {
         for slices in &ORDERS {
-            let tag = tag_by_turns(row, slices)?;
-            assert!(rt;
-                tag == row.tag,
-                "{} {:?}: {tag:?}, not {:?}",
-                row.algorithm,
-                row.version,
-                row.tag
-            );
+            assert!(rt; tag_by_turns(row, slices)? == row.tag, "row {n}");
         }
     }
     Ok(())

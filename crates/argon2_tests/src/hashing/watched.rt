@@ -33,44 +33,32 @@ fn hash_of(places: &[u32]) -> u64 {
     hash
 }
 
-// The tag, the count of mixings and all places of a hash with the known inputs beside the password.
-#[derive(Drop)]
-struct Watched {
-    tag: [u64; 4],
-    mixes: u128,
-    places: [u32; 96],
-}
-
-fn watch_known(algorithm: Algorithm, version: Version, pwd: &[u8]) -> Result<Watched, Fail> {
+// The tag and the count of mixings of a hash with the known inputs beside the password.
+fn watch_known(
+    algorithm: Algorithm,
+    version: Version,
+    pwd: &[u8],
+    places: &mut [u32; 96],
+) -> Result<([u64; 4], u128), Fail> {
     let argon2 = known(algorithm, version)?;
-    let (mut tag, mut places) = ([0; 32], [0; 96]);
     if place_count(&argon2)? != places.len() {
         return Err("another number of places".into());
     }
-    let mut memory = [Block::new(); 32];
-    let work = argon2.hash_password_into_watched(pwd, &SALT, &mut tag, &mut memory, &mut places)?;
-    Ok(Watched {
-        tag: words(&tag),
-        mixes: work.mixes(),
-        places,
-    })
+    let (mut tag, mut memory) = ([0; 32], [Block::new(); 32]);
+    let work = argon2.hash_password_into_watched(pwd, &SALT, &mut tag, &mut memory, places)?;
+    Ok((words(&tag), work.mixes()))
 }
 
 #[test]
 fn counts_the_mixings_of_the_known_tags(rt: HostRuntime) -> Result<(), Fail> {
-    for row in &KNOWN_TAGS {
-        let watched = watch_known(row.algorithm, row.version, &PWD)?;
+    for (n, row) in KNOWN_TAGS.iter().enumerate() {
+        let watched = watch_known(row.algorithm, row.version, &PWD, &mut [0; 96])?;
         let mixes = match row.algorithm {
             Algorithm::Argon2d => 88,
             Algorithm::Argon2i => 184,
             Algorithm::Argon2id => 104,
         };
-        assert!(rt;
-            watched.tag == row.tag && watched.mixes == mixes,
-            "{} {:?}",
-            row.algorithm,
-            row.version
-        );
+        assert!(rt; watched == (row.tag, mixes), "row {n}");
     }
     Ok(())
 }
@@ -102,7 +90,7 @@ macro_rules! rows {
     };
 }
 
-const ROWS: [Row; 27] = rows![
+static ROWS: [Row; 27] = rows![
     Argon2d V0x13 8 1 1 6 0xfcf9509d0b66e675,
     Argon2id V0x13 8 1 1 10 0x544e5c94b0436334,
     Argon2i V0x13 8 1 1 14 0x4bb94294ab6cb266,
@@ -137,13 +125,8 @@ fn watch(alloc: Global, row: &Row, memory: &mut [Block]) -> Result<(u128, u64), 
     let params = Params::new(row.m_cost, row.t_cost, row.p_cost, None)?;
     let argon2 = Argon2::new(row.algorithm, row.version, params);
     let mut places = Vec::from_elem(alloc, u32::MAX, place_count(&argon2)?)?;
-    let work = argon2.hash_password_into_watched(
-        b"password",
-        b"somesalt",
-        &mut [0; 32],
-        memory,
-        places.as_mut_slice(),
-    )?;
+    let (tag, all) = (&mut [0; 32], places.as_mut_slice());
+    let work = argon2.hash_password_into_watched(b"password", b"somesalt", tag, memory, all)?;
     Ok((work.mixes(), hash_of(&places)))
 }
 
@@ -179,7 +162,7 @@ macro_rules! places {
     };
 }
 
-const PLACES: [Places; 9] = places![
+static PLACES: [Places; 9] = places![
     Argon2d V0x13 8 1: 0 1 2 3 1 5;
     Argon2i V0x13 8 1: 0 1 1 3 3 3;
     Argon2id V0x13 8 1: 0 1 1 2 3 4;
@@ -208,15 +191,18 @@ fn are_places(places: &[u32], row: &Places) -> bool {
 }
 
 // The same places as single steps answer them, column by column.
-fn stepped_places(argon2: &Argon2<'_>, places: &mut [u32]) -> Result<(), Fail> {
-    let mut memory = [ones(); 24];
-    argon2.begin_fill(b"password", b"somesalt", 32, &mut memory)?;
+fn stepped_places(
+    argon2: &Argon2<'_>,
+    memory: &mut [Block],
+    places: &mut [u32],
+) -> Result<(), Fail> {
+    argon2.begin_fill(b"password", b"somesalt", 32, memory)?;
     let columns = argon2.params().lane_length();
     for column in 2..columns {
         for lane in 0..argon2.params().p_cost() {
             let at = lane.wrapping_mul(columns).wrapping_add(column) as usize;
             match places.get_mut(at) {
-                Some(place) => *place = step(argon2, &mut memory, 0, lane, column)?,
+                Some(place) => *place = step(argon2, memory, 0, lane, column)?,
                 None => return Err("no such place".into()),
             }
         }
@@ -224,56 +210,78 @@ fn stepped_places(argon2: &Argon2<'_>, places: &mut [u32]) -> Result<(), Fail> {
     Ok(())
 }
 
-// Whether a pass shows the places of a row, at once and by single steps.
-fn shows_places(alloc: Global, row: &Places) -> Result<bool, Fail> {
+// Whether a pass shows the places of a row, at once or by single steps.
+fn shows_places(
+    alloc: Global,
+    row: &Places,
+    by_steps: bool,
+    memory: &mut [Block],
+) -> Result<bool, Fail> {
     let params = Params::new(row.m_cost, 1, row.p_cost, None)?;
     let argon2 = Argon2::new(row.algorithm, row.version, params);
-    let mut places = Vec::from_elem(alloc, u32::MAX, place_count(&argon2)?)?;
-    let mut stepped = Vec::from_elem(alloc, u32::MAX, places.len())?;
-    stepped_places(&argon2, stepped.as_mut_slice())?;
-    let mut memory = [Block::new(); 24];
-    argon2.hash_password_into_watched(
-        b"password",
-        b"somesalt",
-        &mut [0; 32],
-        &mut memory,
-        places.as_mut_slice(),
-    )?;
-    Ok(are_places(&places, row) && are_places(&stepped, row))
+    let mut vec = Vec::from_elem(alloc, u32::MAX, place_count(&argon2)?)?;
+    let (places, tag) = (vec.as_mut_slice(), &mut [0; 32]);
+    if by_steps {
+        stepped_places(&argon2, memory, places)?;
+    } else {
+        argon2.hash_password_into_watched(b"password", b"somesalt", tag, memory, places)?;
+    }
+    Ok(are_places(&vec, row))
 }
 
 #[test]
 fn shows_each_place_of_a_pass(rt: HostRuntime) -> Result<(), Fail> {
+    let mut memory = [ones(); 24];
     for (n, row) in PLACES.iter().enumerate() {
-        assert!(rt; shows_places(rt.alloc(), row)?, "row {n}");
+        for by_steps in &[false, true] {
+            let is = shows_places(rt.alloc(), row, *by_steps, &mut memory)?;
+            assert!(rt; is, "row {n}");
+        }
     }
     Ok(())
+}
+
+// Whether another password has the same places, in all columns or in columns 0 to 3 of each lane of pass 0.
+fn shows_the_same(algorithm: Algorithm, in_all: bool) -> Result<bool, Fail> {
+    let (mut some, mut others) = ([0; 96], [0; 96]);
+    watch_known(algorithm, Version::V0x13, &PWD, &mut some)?;
+    watch_known(algorithm, Version::V0x13, b"password", &mut others)?;
+    for (n, (place, other)) in some.iter().zip(&others).enumerate() {
+        if (in_all || (n < 32 && n % 8 < 4)) && place != other {
+            return Ok(false);
+        }
+    }
+    Ok(true)
 }
 
 // The places of Argon2i are the same for another password, and of Argon2id those of slices 0 and 1 of pass 0, which are
 // columns 0 to 3 of each lane.
 #[test]
 fn shows_the_same_places_for_other_passwords(rt: HostRuntime) -> Result<(), Fail> {
-    for algorithm in [Algorithm::Argon2i, Algorithm::Argon2id] {
-        let some = watch_known(algorithm, Version::V0x13, &PWD)?.places;
-        let others = watch_known(algorithm, Version::V0x13, b"password")?.places;
-        for (n, (place, other)) in some.iter().zip(others.iter()).enumerate() {
-            let is_same = algorithm == Algorithm::Argon2i || (n < 32 && n % 8 < 4);
-            assert!(rt; !is_same || place == other, "{algorithm} {n}");
-        }
-    }
+    assert!(rt; shows_the_same(Algorithm::Argon2i, true)?);
+    assert!(rt; shows_the_same(Algorithm::Argon2id, false)?);
     Ok(())
+}
+
+// What watching on too little memory answers.
+fn watch_too_little(
+    tag: &mut [u8; 32],
+    places: &mut [u32; 96],
+    memory: &mut [Block; 31],
+) -> Result<Option<Error>, Fail> {
+    let argon2 = known(Algorithm::Argon2id, Version::V0x13)?;
+    if place_count(&argon2)? != places.len() {
+        return Err("another number of places".into());
+    }
+    let answer = argon2.hash_password_into_watched(&PWD, &SALT, tag, memory, places);
+    Ok(answer.err())
 }
 
 #[test]
 fn leaves_places_where_memory_is_too_little(rt: HostRuntime) -> Result<(), Fail> {
-    let argon2 = known(Algorithm::Argon2id, Version::V0x13)?;
     let (mut tag, mut places, mut memory) = ([7; 32], [9; 96], [ones(); 31]);
-    assert!(rt; place_count(&argon2)? == places.len());
-    let answer = argon2.hash_password_into_watched(&PWD, &SALT, &mut tag, &mut memory, &mut places);
-    assert!(rt; matches!(answer, Err(Error::MemoryTooLittle)));
-    assert!(rt; tag == [7; 32]);
-    assert!(rt; are_ones(&memory));
-    assert!(rt; places == [9; 96]);
+    let fault = watch_too_little(&mut tag, &mut places, &mut memory)?;
+    assert!(rt; fault == Some(Error::MemoryTooLittle));
+    assert!(rt; tag == [7; 32] && places == [9; 96] && are_ones(&memory));
     Ok(())
 }

@@ -1,7 +1,6 @@
 use argon2::password_hash::{Error, Result, Settings, Stored};
 use argon2::{Algorithm, Params, Version};
 use argon2_base::phc::PasswordHash;
-use std::test::Fail;
 
 // A text, its algorithm, version, blocks, passes and lanes, and its hash, empty if it has none.
 type Row = (
@@ -12,7 +11,7 @@ type Row = (
     &'static [u8],
 );
 
-const SHOWN: [Row; 3] = [
+static SHOWN: [Row; 3] = [
     (
         "$argon2i$m=65536,t=2,p=1$c29tZXNhbHQ$9sTbSg",
         Algorithm::Argon2i,
@@ -37,40 +36,38 @@ const SHOWN: [Row; 3] = [
 ];
 
 // Whether a text shows these settings, and `somesalt` and the hash if it has one.
-fn shows(row: &Row) -> std::result::Result<bool, Fail> {
+fn shows(row: &Row) -> Result<bool> {
     let (text, algorithm, version, (m_cost, t_cost, p_cost), bytes) = *row;
     let hash = PasswordHash::new(text)?;
-    let output_len = if bytes.is_empty() {
-        None
-    } else {
-        Some(bytes.len())
-    };
+    let output_len = (!bytes.is_empty()).then_some(bytes.len());
     let settings = Settings {
         algorithm,
         version,
         params: Params::new(m_cost, t_cost, p_cost, output_len)?,
     };
-    let stored = match Stored::try_from(&hash) {
+    Ok(Settings::try_from(&hash)? == settings && is_stored(&hash, &settings, bytes))
+}
+
+fn is_stored(hash: &PasswordHash, settings: &Settings, bytes: &[u8]) -> bool {
+    match Stored::try_from(hash) {
         Ok(stored) => {
-            stored.settings == settings
+            &stored.settings == settings
                 && stored.salt.as_bytes() == b"somesalt".as_slice()
                 && stored.hash.as_bytes() == bytes
         }
         Err(e) => bytes.is_empty() && e == Error::PasswordInvalid,
-    };
-    Ok(stored && Settings::try_from(&hash)? == settings)
+    }
 }
 
 #[test]
-fn shows_what_a_text_says(rt: HostRuntime) -> std::result::Result<(), Fail> {
-    for row in SHOWN.iter() {
-        assert!(rt; shows(row)?, "{}", row.0);
+fn shows_what_a_text_says(rt: HostRuntime) {
+    for (n, row) in SHOWN.iter().enumerate() {
+        assert!(rt; shows(row) == Ok(true), "row {n}");
     }
-    Ok(())
 }
 
 // Texts with a salt and a hash, and why they are refused.
-const REFUSED: [(&str, Error); 6] = [
+static REFUSED: [(&str, Error); 6] = [
     (
         "$scrypt$v=18$m=31,t=3,p=4$c29tZXNhbHQ$AQIDBA",
         Error::ParamInvalid { name: "m" },
@@ -100,18 +97,15 @@ const REFUSED: [(&str, Error); 6] = [
 // Whether both readings refuse a text with this error.
 fn is_refused(text: &str, error: Error) -> Result<bool> {
     let hash = PasswordHash::new(text)?;
-    let Err(first) = Settings::try_from(&hash) else {
-        return Ok(false);
-    };
-    let Err(second) = Stored::try_from(&hash) else {
-        return Ok(false);
-    };
-    Ok(first == error && second == error)
+    Ok(
+        Settings::try_from(&hash).err() == Some(error)
+            && Stored::try_from(&hash).err() == Some(error),
+    )
 }
 
 #[test]
 fn refuses_what_no_settings_are(rt: HostRuntime) {
-    for (text, error) in REFUSED {
-        assert!(rt; is_refused(text, error) == Ok(true), "{text}");
+    for (text, error) in &REFUSED {
+        assert!(rt; is_refused(text, *error) == Ok(true), "{text}");
     }
 }

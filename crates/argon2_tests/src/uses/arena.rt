@@ -16,23 +16,23 @@ const TAGS: [[u8; 32]; 2] = [
     ],
 ];
 
+const INPUTS: [Input<'static>; 2] = [
+    Input {
+        password: b"password",
+        salt: b"somesalt",
+    },
+    Input {
+        password: b"sassword",
+        salt: b"diffsalt",
+    },
+];
+
 #[test]
 fn hashes_one_after_another(rt: HostRuntime) -> Result<(), Fail> {
     let params = Params::new(32, 3, 4, None)?;
     let argon2 = Argon2::new(Algorithm::Argon2id, Version::V0x13, params);
-    let mut arena = Vec::from_elem(rt.alloc(), Block::new(), 32)?;
-    let inputs = [
-        Input {
-            password: b"password",
-            salt: b"somesalt",
-        },
-        Input {
-            password: b"sassword",
-            salt: b"diffsalt",
-        },
-    ];
     let mut tags = [[0; 32]; 2];
-    hash_all(&argon2, arena.as_mut_slice(), &inputs, &mut tags)?;
+    hash_all(&argon2, &mut [Block::new(); 32], &INPUTS, &mut tags)?;
     assert!(rt; tags == TAGS);
     Ok(())
 }

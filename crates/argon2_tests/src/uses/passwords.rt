@@ -5,21 +5,23 @@ use rand_chacha::ChaCha20Rng;
 use rand_core::SeedableRng;
 use std::test::Fail;
 
+static ANSWERS: [(&str, &str, Result<bool, Error>); 3] = [
+    (TEXT, "password", Ok(true)),
+    (TEXT, "sassword", Ok(false)),
+    ("argon2id", "password", Err(Error::EncodingInvalid)),
+];
+
 #[test]
 fn accepts_what_is_stored(rt: HostRuntime) -> Result<(), Fail> {
-    let alloc = rt.alloc();
-    let mut rng = ChaCha20Rng::from_seed([7; 32]);
-    let hash = stored(alloc, &mut rng, b"password")?;
-    for (text, password, expected) in [
-        (hash.text().as_str(), "password", Ok(true)),
-        (TEXT, "password", Ok(true)),
-        (TEXT, "sassword", Ok(false)),
-        ("argon2id", "password", Err(Error::EncodingInvalid)),
-    ] {
-        assert!(rt;
-            is_accepted(alloc, password.as_bytes(), text) == expected,
-            "{text} {password}"
-        );
+    let hash = stored(
+        rt.alloc(),
+        &mut ChaCha20Rng::from_seed([7; 32]),
+        b"password",
+    )?;
+    assert!(rt; is_accepted(rt.alloc(), b"password", hash.text().as_str()) == Ok(true));
+    for (text, password, expected) in &ANSWERS {
+        let found = is_accepted(rt.alloc(), password.as_bytes(), text);
+        assert!(rt; found == *expected, "{password}");
     }
     Ok(())
 }

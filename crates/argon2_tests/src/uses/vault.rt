@@ -1,6 +1,7 @@
 use argon2::phc::{Output, Salt};
 use argon2::{Algorithm, Argon2, Params, Version};
 use argon2_uses::vault::{Header, lock, open, seal};
+use std::alloc::Global;
 use std::test::Fail;
 
 // Under a secret; with costs that an independent model can afford.
@@ -23,27 +24,55 @@ const OTHER: [u8; 32] = [
     0x9f, 0x90, 0x21, 0xd6, 0x9d, 0x49, 0x73, 0x78, 0x2d, 0x05, 0xb4, 0x4b, 0x8d, 0xda, 0x98, 0x91,
 ];
 
-#[test]
-fn opens_with_its_passphrase_and_secret_alone(rt: HostRuntime) -> Result<(), Fail> {
-    let alloc = rt.alloc();
-    let argon2 = cheap(b"pepper")?;
-    let (header, key) = seal(&argon2, alloc, b"passphrase", Salt::new(b"somesalt")?)?;
-    assert!(rt; key == KEY);
-    assert!(rt; header.tag.text().as_str() == TAG);
-    for (secret, passphrase, expected) in [
-        ("pepper", "passphrase", Some(KEY)),
-        ("pepper", "pass phrase", None),
-        ("salt", "passphrase", None),
-    ] {
-        let argon2 = cheap(secret.as_bytes())?;
-        let opened = open(&argon2, alloc, passphrase.as_bytes(), &header)?;
-        assert!(rt; opened == expected, "{secret} {passphrase}");
-    }
-    let other = Header {
+// What `passphrase` and `somesalt` are sealed as.
+fn sealed(alloc: Global) -> Result<(Header, [u8; 32]), Fail> {
+    Ok(seal(
+        &cheap(b"pepper")?,
+        alloc,
+        b"passphrase",
+        Salt::new(b"somesalt")?,
+    )?)
+}
+
+// What a header gives under a secret.
+fn opened(
+    alloc: Global,
+    header: &Header,
+    secret: &str,
+    passphrase: &str,
+) -> Result<Option<[u8; 32]>, Fail> {
+    Ok(open(
+        &cheap(secret.as_bytes())?,
+        alloc,
+        passphrase.as_bytes(),
+        header,
+    )?)
+}
+
+fn other_header() -> argon2::password_hash::Result<Header> {
+    Ok(Header {
         salt: Salt::new(b"somesalt")?,
         tag: Output::new(&OTHER)?,
-    };
-    assert!(rt; open(&argon2, alloc, b"passphrase", &other)? == None);
+    })
+}
+
+static OPENED: [(&str, &str, Option<[u8; 32]>); 3] = [
+    ("pepper", "passphrase", Some(KEY)),
+    ("pepper", "pass phrase", None),
+    ("salt", "passphrase", None),
+];
+
+#[test]
+fn opens_with_its_passphrase_and_secret_alone(rt: HostRuntime) -> Result<(), Fail> {
+    let (header, key) = sealed(rt.alloc())?;
+    assert!(rt; key == KEY && header.tag.text().as_str() == TAG);
+    for (secret, passphrase, expected) in &OPENED {
+        assert!(rt;
+            opened(rt.alloc(), &header, secret, passphrase)? == *expected,
+            "{passphrase}"
+        );
+    }
+    assert!(rt; opened(rt.alloc(), &other_header()?, "pepper", "passphrase")?.is_none());
     Ok(())
 }
 
