@@ -34,23 +34,6 @@ fn mixes_each_single_bit_alike(rt: HostRuntime) {
     }
 }
 
-#[test]
-fn mixes_random_blocks_alike(rt: HostRuntime) {
-    let mut state: u64 = 0x9e37_79b9_7f4a_7c15;
-    let mut x = [0; 128];
-    for _ in 0..1000 {
-        let y = x;
-        for word in x.iter_mut() {
-            // Marsaglia's xorshift of 64 bits
-            state ^= state << 13u32;
-            state ^= state >> 7u32;
-            state ^= state << 17u32;
-            *word = state;
-        }
-        assert!(rt; mixes_alike(&x, &y));
-    }
-}
-
 // The words of a block.
 fn words_of(block: &Block) -> Words {
     let mut words = [0; 128];
