@@ -1,3 +1,5 @@
 pub mod Calls
 pub mod Refusals
 pub mod Replies
+pub mod Served
+pub mod Tries

@@ -1,13 +1,15 @@
 -- What is passed on: answers, refusals, and refusals by a file.
-use Rattle.std.proofs.Common.{◌≡◌, ℕ, refl, subst, List, Option, Some, None, Result, Ok, Err}
+use Rattle.std.proofs.Common.{◌≡◌, ◌∙◌, ℕ, refl, subst, sym, List, Option, Some, None, Result, Ok, Err}
 use Rattle.std.specs.Io.KnownBytes.{Keeps}
 use Rattle.std.specs.Prelude.{IfErr, IfOk, IsErrAnd, OnErr, OnOk}
 use Rattle.argon2_accounts.specs.declared.error.AccountError.{AccountError}
 use Rattle.argon2_store.specs.declared.error.FileError.{FileError}
 use Rattle.argon2_store.specs.declared.error.FileError.TheVariants.{Account, OutOfMemory}
+use Rattle.argon2_passwd_commands.specs.Answers.{HasNone}
 use Rattle.argon2_passwd_commands.specs.Failures.{IsOfFile, status_of}
+use Rattle.argon2_passwd_commands.specs.Passwords.{IsUnread}
 use Rattle.argon2_passwd_commands.specs.declared.failure.Failure.{Failure}
-use Rattle.argon2_passwd_commands.specs.declared.failure.Failure.TheVariants.{Memory}
+use Rattle.argon2_passwd_commands.specs.declared.failure.Failure.TheVariants.{LongPassword, Memory, NoPassword}
 
 -- a refusal of a call on a file is one by its accounts
 pub of_account : (P : Type 0) (e : FileError) (f : Failure) → IsOfFile e f → status_of f ≡ 1
@@ -48,3 +50,16 @@ passed f (Err e) is why = λ one. why (subst (λ e. status_of e ≡ 1) is one)
 pub keeps_same : (known : Option (List ℕ)) → Keeps known known
 keeps_same None = tt
 keeps_same (Some bytes) = refl
+
+-- an input without a password that is refused for that
+pub none_read : (input : Option (List ℕ)) (f : Failure) → IsUnread input f → status_of f ≡ 1
+    → HasNone input
+none_read None f is one = tt
+none_read (Some bytes) NoPassword is one = rw is refl
+none_read (Some bytes) LongPassword is one = is.0
+none_read (Some bytes) f is one = absurd (let never = sym is ∙ one in cc)
+
+pub in_any_case : {X : Type 0} (P : Type 0) (r : Result X Failure) → P
+    → IfErr r (λ f. status_of f ≡ 1 → P)
+in_any_case P (Ok x) p = tt
+in_any_case P (Err f) p = λ one. p

@@ -1,5 +1,5 @@
 -- What the program answers.
-use Rattle.std.specs.Prelude.{◌≡◌, ◌⊎◌, ⊤, ℕ, ◌==◌, false, Bool, ◌||◌, ◌+◌, IsOk, IsTrue, List, [], ◌∷◌, ◌++◌, if◌then◌else◌, Option, Some, None, IfSome, Result, Ok, Err, IfOk}
+use Rattle.std.specs.Prelude.{◌≡◌, ◌⊎◌, ⊤, ℕ, ◌==◌, false, Bool, ◌||◌, ◌+◌, IsOk, IsTrue, List, [], ◌∷◌, ◌++◌, if◌then◌else◌, Option, Some, None, IfSome, Result, Ok, Err, IfErr, IfOk, OnErr, OnOk}
 use Rattle.std.specs.Io.BufRead.{drop_through}
 use Rattle.std.specs.List.{AllZip, after_first, before_first, list_any}
 use Rattle.std.specs.Option.{option_map}
@@ -206,6 +206,15 @@ module _ {S : Type 0} (g : Ghosts S) (Holds : List ℕ → List ℕ → Type 0) 
   abbrev pub IsCalled : {X : Type 0} → Choices → List ℕ → (List ℕ → Call X) → Result X FileError → (List S → Type 0) → Type 0
   IsCalled choices path call result = IsDone choices path (λ drawn. Serves (call drawn) result)
 
+  -- One call was tried on the file at a path: it was opened under these terms, and closed after the
+  -- call; or it was not opened, which is a refusal only if the terms are above their bound.
+  pub record IsTried {X : Type 0} (terms : Terms) (path : List ℕ) (call : Call X)
+      (result : Result (Result X FileError) Failure) (Closed : List S → Type 0) : Type 0 where
+    pub ok : IfOk result (λ done. (before after : AccountFile S g) × IsOpened Has path terms before
+        × Serves call done before after × Closed (database_of after ∷ []))
+    pub err : IfErr result (λ failure. status_of failure ≡ 1 → ¬ (AreTerms terms))
+    pub untouched : OnErr result (Closed [])
+
   -- the value of a name was read in the file at a path, which was opened under these terms and closed with this store
   abbrev pub IsLooked : Terms → List ℕ → List ℕ → Result (Option Phc) FileError → (S → Type 0) → Type 0
   IsLooked terms path name found Next = (before after : AccountFile S g) × IsOpened Has path terms before
@@ -224,6 +233,16 @@ module _ {S : Type 0} (g : Ghosts S) (Holds : List ℕ → List ℕ → Type 0) 
       × IsLooked terms path name (Ok o) (λ read. Closed (read ∷ []))
   IsOutcome terms path name call (replaced x done) Closed = (v w : Phc) × AccountAnswer terms (call (Ok x)) (Some v) (Some w)
       × IsLooked terms path name (Ok (Some v)) (λ read. IsReplaced terms path name v w done (λ last. Closed (read ∷ last ∷ [])))
+
+  -- the same once the file was closed with this store, in which this value of the name was read
+  abbrev pub IsDecided : {X : Type 0} → Terms → List ℕ → List ℕ → Call X → Phc → Outcome X → S
+      → (List S → Type 0) → Type 0
+  IsDecided terms path name call v (unread e) read Closed = ⊥
+  IsDecided terms path name call v (decided answer) read Closed =
+      (p : Option Phc) × AccountAnswer terms (call answer) (Some v) p × Closed (read ∷ [])
+  IsDecided terms path name call v (replaced x done) read Closed =
+      (w : Phc) × AccountAnswer terms (call (Ok x)) (Some v) (Some w)
+      × IsReplaced terms path name v w done (λ last. Closed (read ∷ last ∷ []))
 
   -- all that was done with it, under the choices and their secret, for a call that is decided while the file is closed
   abbrev pub IsVisited : {X : Type 0} → Choices → List ℕ → List ℕ → (List ℕ → Call X) → (Outcome X → Type 0)
@@ -305,3 +324,11 @@ module _ {S : Type 0} (g : Ghosts S) (Holds : List ℕ → List ℕ → Type 0) 
       Closed [] ⊎ ((error : Option FileError) × IsRead choices path error (λ names. ⊤) Closed)
   IsOnce (import choices path any_text) input Closed = Closed [] ⊎ IsImported choices path any_text IsAdded input Closed
   IsOnce _ input Closed = Closed []
+
+  -- how it ended: it is answered, or refused with this failure, and no more was done with a file
+  pub record IsServed (what : Asked) (result : Result (Unit {0}) Failure)
+      (input old new : Option (List ℕ)) (Closed : List S → Type 0) : Type 0 where
+    pub ok : OnOk result (IsAnswered what input old new Closed)
+    pub err : IfErr result (λ failure. status_of failure ≡ 1
+        → IsRefused what input Closed × Keeps old new)
+    pub once : IsOnce what input Closed

@@ -17,8 +17,8 @@ abbrev pub password_of : List ℕ → Option (List ℕ)
 password_of [] = None
 password_of (byte ∷ rest) = unless_long (line_of (take_through 10 (byte ∷ rest)))
 
--- a known input has no password, since it is empty or since its first line is too long, or reading fails
+-- a known input is empty, or has a first line that is too long for a password, or reading fails
 abbrev pub IsUnread : Option (List ℕ) → Failure → Type 0
-IsUnread input NoPassword = IfSome input (λ bytes. password_of bytes ≡ None) × IfSome input (λ bytes. bytes ≡ [])
-IsUnread input LongPassword = IfSome input (λ bytes. password_of bytes ≡ None) × IfSome input (λ bytes. bytes ≢ [])
+IsUnread input NoPassword = IfSome input (λ bytes. bytes ≡ [])
+IsUnread input LongPassword = IfSome input (λ bytes. (password_of bytes ≡ None) × (bytes ≢ []))
 IsUnread input failure = status_of failure ≡ 3

@@ -1,21 +1,22 @@
 //! The program over any world outside it and any streams.
 
-ghost use Rattle.std.specs.Prelude.{◌≡◌, ◌⊎◌, ◌++◌, ◌∷◌, [], IfErr, IfOk, OnOk};
+ghost use Rattle.std.specs.Prelude.{◌≡◌, ◌⊎◌, ◌++◌, ◌∷◌, [], ℕ, List, Option, IfErr, IfOk, OnOk};
 ghost use Rattle.std.specs.Io.KnownBytes.{Appends, Keeps};
 ghost use Rattle.argon2_accounts.specs.Accounts.{AreTerms, terms_of};
 ghost use Rattle.argon2.specs.Login.{accepted_text};
 ghost use Rattle.argon2.specs.Made.{target_of};
-ghost use Rattle.argon2_passwd_commands.specs.Answers.{Denies, HasNone, IsAnswered, IsCheckReply, IsHashReply, IsOnce, IsRefused, IsRefusedBy, IsReplied, IsSecret, terms_by};
-ghost use Rattle.argon2_passwd_commands.specs.Asked.{asked, choices_of};
+ghost use Rattle.argon2_passwd_commands.specs.Answers.{Denies, HasNone, IsAnswered, IsCheckReply, IsHashReply, IsOnce, IsRefused, IsRefusedBy, IsReplied, IsSecret, IsServed, terms_by};
+ghost use Rattle.argon2_passwd_commands.specs.Asked.{Asked, asked, choices_of};
 ghost use Rattle.argon2_passwd_commands.specs.Failures.{status_of};
 
-use crate::command::Command;
+use crate::command::{Command, Edit};
 use crate::failure::Failure;
 use crate::options::Options;
 use crate::outside::Outside;
 use argon2::login::Accepted;
 use argon2::{Algorithm, Argon2, Version};
 use argon2_accounts::Policy;
+use argon2_store::View;
 use rand_chacha::ChaCha20Rng;
 use rand_core::SeedableRng;
 use std::alloc::Global;
@@ -86,15 +87,8 @@ fn answer<P: Outside, R: BufRead, W: Write>(
     output: &mut W,
 ) -> Result<(), Failure>
     requires { P.closed outside.old [] }
-    ensures ok { OnOk result (IsAnswered P.File.Store P.holds P.keeps (asked command.entry)
-        (R.remaining input.old) (W.contents output.old) (W.contents output.new)
-        (P.closed outside.new)) }
-    ensures err { IfErr result (λ failure. status_of failure ≡ 1
-        → IsRefused P.File.Store P.holds P.keeps (asked command.entry) (R.remaining input.old)
-        (P.closed outside.new)
-        × Keeps (W.contents output.old) (W.contents output.new)) }
-    ensures once { IsOnce P.File.Store P.holds P.keeps (asked command.entry)
-        (R.remaining input.old) (P.closed outside.new) }
+    ensures { IsServed P.File.Store P.holds P.keeps (asked command.entry) result
+        (R.remaining input.old) (W.contents output.old) (W.contents output.new) (P.closed outside.new) }
 {
     if let Some(path) = command.file() {
         outside.look(path, command.makes())?;
@@ -103,17 +97,14 @@ fn answer<P: Outside, R: BufRead, W: Write>(
         Command::Hash(options) => hash(alloc, &options, outside, input, output),
         Command::Check(options, text) => check(alloc, &options, outside, text, input, output),
         Command::Verify(options, path, name) => {
-            let accepted = accounts::verify(alloc, outside, &options, path, name, input)??;
-            write_accepted(output, accepted)
+            verify(alloc, &options, outside, path, name, input, output)
         }
-        Command::Edit(options, path, edit, name) => {
-            Ok(accounts::edit(alloc, outside, &options, path, edit, name, input)??)
+        Command::Edit(options, path, change, name) => {
+            edit(alloc, &options, outside, path, change, name, input)
         }
-        Command::Show(options, path, view) => {
-            Ok(accounts::show(alloc, outside, &options, path, view, output)???)
-        }
+        Command::Show(options, path, view) => show(alloc, &options, outside, path, view, output),
         Command::Import(options, path, any_text) => {
-            accounts::import(alloc, outside, &options, path, any_text, input)?
+            import(alloc, &options, outside, path, any_text, input)
         }
     }
 }
@@ -162,6 +153,77 @@ fn check<P: Outside, R: BufRead, W: Write>(
     let mut rng = ChaCha20Rng::from_seed(outside.seed()?);
     let reply = texts::check(alloc, &policy, &mut rng, text, input)?;
     write_line(output, reply.as_str())
+}
+
+// Writes what the text of a name in a file does with the next password.
+fn verify<P: Outside, R: BufRead, W: Write>(
+    alloc: Global,
+    options: &Options<'_>,
+    outside: &mut P,
+    path: &str,
+    name: &str,
+    input: &mut R,
+    output: &mut W,
+) -> Result<(), Failure>
+    requires { P.closed outside.old [] }
+    ensures { IsServed P.File.Store P.holds P.keeps
+        (Asked.verify (choices_of options.now) path.now name.now) result (R.remaining input.old)
+        (W.contents output.old) (W.contents output.new) (P.closed outside.new) }
+{
+    let accepted = accounts::verify(alloc, outside, options, path, name, input)??;
+    write_accepted(output, accepted)
+}
+
+// Changes the text of a name in a file.
+fn edit<P: Outside, R: BufRead>(
+    alloc: Global,
+    options: &Options<'_>,
+    outside: &mut P,
+    path: &str,
+    edit: Edit,
+    name: &str,
+    input: &mut R,
+) -> Result<(), Failure>
+    requires { P.closed outside.old [] }
+    ensures { (output : Option (List ℕ)) → IsServed P.File.Store P.holds P.keeps
+        (Asked.edit (choices_of options.now) path.now edit name.now) result (R.remaining input.old)
+        output output (P.closed outside.new) }
+{
+    Ok(accounts::edit(alloc, outside, options, path, edit, name, input)??)
+}
+
+// Writes what a file has.
+fn show<P: Outside, W: Write>(
+    alloc: Global,
+    options: &Options<'_>,
+    outside: &mut P,
+    path: &str,
+    view: View,
+    output: &mut W,
+) -> Result<(), Failure>
+    requires { P.closed outside.old [] }
+    ensures { (input : Option (List ℕ)) → IsServed P.File.Store P.holds P.keeps
+        (Asked.show (choices_of options.now) path.now view) result input
+        (W.contents output.old) (W.contents output.new) (P.closed outside.new) }
+{
+    Ok(accounts::show(alloc, outside, options, path, view, output)???)
+}
+
+// Adds the names and texts of the input to a file.
+fn import<P: Outside, R: BufRead>(
+    alloc: Global,
+    options: &Options<'_>,
+    outside: &mut P,
+    path: &str,
+    any_text: bool,
+    input: &mut R,
+) -> Result<(), Failure>
+    requires { P.closed outside.old [] }
+    ensures { (output : Option (List ℕ)) → IsServed P.File.Store P.holds P.keeps
+        (Asked.import (choices_of options.now) path.now any_text) result (R.remaining input.old)
+        output output (P.closed outside.new) }
+{
+    accounts::import(alloc, outside, options, path, any_text, input)?
 }
 
 // The secret that the options name, none if they name no file.

@@ -4,15 +4,16 @@ ghost use Rattle.std.specs.Prelude.{◌≡◌, ◌⊎◌, ◌∷◌, [], ℕ, Li
 ghost use Rattle.std.specs.Io.KnownBytes.{Appends, Keeps};
 ghost use Rattle.rand_core.specs.Stream.{fill_bytes};
 ghost use Rattle.argon2_base.specs.PhcFields.{phc_of};
-ghost use Rattle.argon2_accounts.specs.Accounts.{AreTerms, registering, setting, terms_of as policy_terms};
+ghost use Rattle.argon2_accounts.specs.Accounts.{AreTerms, logging_in, registering, removing, setting, terms_of as policy_terms};
 ghost use Rattle.argon2.specs.Made.{IsFresh};
 ghost use Rattle.argon2_store.specs.AccountFile.{IsOfFile, Serves, error_of, terms_of};
 ghost use Rattle.argon2_store.specs.Adding.{entry_of};
 ghost use Rattle.argon2_store.specs.Rows.{lines_of};
-ghost use Rattle.argon2_passwd_commands.specs.Answers.{AddsLines, AreRead, AreUnread, HasNone, IsAct, IsEdited, IsImported, IsLogin, IsLooked, IsOpened, IsRead, IsRefusedBy, IsReplaced, IsSecret, IsVerified, breaks_lines, terms_by, value_of};
+ghost use Rattle.argon2_passwd_commands.specs.Answers.{AddsLines, AreRead, AreUnread, HasNone, IsAct, IsDecided, IsEdited, IsImported, IsLogin, IsLooked, IsOpened, IsRead, IsRefusedBy, IsReplaced, IsSecret, IsTried, IsVerified, Outcome, breaks_lines, login_answer, terms_by, value_of};
 ghost use Rattle.argon2_passwd_commands.specs.Asked.{choices_of};
 ghost use Rattle.argon2_passwd_commands.specs.Failures.{status_of};
 
+use super::texts::fresh;
 use super::{policy, secret, target};
 use crate::command::Edit;
 use crate::entries::{entries, read_all};
@@ -27,7 +28,7 @@ use argon2_store::{AccountFile, FileError, OpenError, View};
 use rand_chacha::ChaCha20Rng;
 use rand_core::{Rng, SeedableRng};
 use sqlite_trees::store::Store;
-use std::alloc::{AllocError, Global};
+use std::alloc::Global;
 use std::io::{self, BufRead, Write};
 
 // How often a file is tried again that another process has open: 10 milliseconds apart for the first
@@ -277,26 +278,47 @@ fn log_in<P: Outside, G: Rng>(
         → ¬ (AreTerms (terms_by (choices_of access.now.options) access.now.secret.now))) }
     ensures untouched { OnErr result (P.closed outside.new []) }
 {
-    let text = match look(outside, access, name)? {
-        Ok(Some(text)) => text,
+    match look(outside, access, name)? {
+        Ok(Some(text)) => Ok(log_in_by(outside, access, name, &text, policy, rng, password)),
         Ok(None) => {
             policy.hash_for_nobody(password);
-            return Ok(Err(FileError::Account(AccountError::NameUnknown)));
+            Ok(Err(FileError::Account(AccountError::NameUnknown)))
         }
-        Err(error) => return Ok(Err(error)),
-    };
-    let LoggedIn { accepted, fresh } = match policy.log_in(rng, &text, password) {
+        Err(error) => Ok(Err(error)),
+    }
+}
+
+// The same, by the text that was read.
+fn log_in_by<P: Outside, G: Rng>(
+    outside: &mut P,
+    access: &Access<'_>,
+    name: &str,
+    text: &PasswordHash,
+    policy: &Policy<'_>,
+    rng: &mut G,
+    password: &[u8],
+) -> Result<Accepted, FileError>
+    requires unopened { (read : P.File) × P.closed outside.old (read ∷ []) }
+    requires under { policy_terms policy.now ≡ terms_by (choices_of access.now.options) access.now.secret.now }
+    ensures { (read : P.File) → P.closed outside.old (read ∷ []) → (drawn : List ℕ)
+        × (outcome : Outcome Accepted) × (login_answer outcome ≡ result)
+        × IsDecided P.File.Store P.holds P.keeps
+        (terms_by (choices_of access.now.options) access.now.secret.now) access.now.path.now name.now
+        (logging_in name.now password.now drawn) (phc_of text.now) outcome read
+        (P.closed outside.new) }
+{
+    let LoggedIn { accepted, fresh } = match policy.log_in(rng, text, password) {
         Ok(done) => done,
-        Err(error) => return Ok(Err(FileError::Account(error))),
+        Err(error) => return Err(FileError::Account(error)),
     };
     let Some(fresh) = fresh else {
-        return Ok(Ok(accepted));
+        return Ok(accepted);
     };
     // The password is accepted, whether the fresh text can be written or not.
-    match replace(outside, access, name, &text, &fresh) {
-        Ok(Ok(())) => Ok(Ok(accepted)),
-        Ok(Err(_)) => Ok(Ok(Accepted::Kept)),
-        Err(_) => Ok(Ok(Accepted::Kept)),
+    match replace(outside, access, name, text, &fresh) {
+        Ok(Ok(())) => Ok(accepted),
+        Ok(Err(_)) => Ok(Accepted::Kept),
+        Err(_) => Ok(Accepted::Kept),
     }
 }
 
@@ -325,28 +347,74 @@ fn act<P: Outside, G: Rng>(
         edit name.now first.now second.now (Err FileError.Io) (P.closed outside.new)) }
 {
     match edit {
-        Edit::Register => {
-            let text = fresh(policy, rng, first)?;
-            let mut accounts = open(outside, access)?;
-            let done = add_text(&mut accounts, name, &text);
-            outside.close(accounts.into_store());
-            Ok(done)
-        }
+        Edit::Register => register(outside, access, name, policy, rng, first),
         Edit::Change => change(outside, access, name, policy, rng, first, second),
-        Edit::Set => {
-            let text = fresh(policy, rng, first)?;
-            let mut accounts = open(outside, access)?;
-            let done = set_text(&mut accounts, name, &text);
-            outside.close(accounts.into_store());
-            Ok(done)
-        }
-        Edit::Remove => {
-            let mut accounts = open(outside, access)?;
-            let done = accounts.remove(name);
-            outside.close(accounts.into_store());
-            Ok(done)
-        }
+        Edit::Set => set(outside, access, name, policy, rng, first),
+        Edit::Remove => remove(outside, access, name),
     }
+}
+
+// Adds a name with a text of a password, which is made before the file is opened.
+fn register<P: Outside, G: Rng>(
+    outside: &mut P,
+    access: &Access<'_>,
+    name: &str,
+    policy: &Policy<'_>,
+    rng: &mut G,
+    password: &[u8],
+) -> Result<Result<(), FileError>, Failure>
+    requires unopened { P.closed outside.old [] }
+    requires under { policy_terms policy.now ≡ terms_by (choices_of access.now.options) access.now.secret.now }
+    ensures { IsTried P.File.Store P.holds P.keeps
+        (terms_by (choices_of access.now.options) access.now.secret.now) access.now.path.now
+        (registering name.now password.now (fill_bytes 16 (G.stream rng.old)).0) result
+        (P.closed outside.new) }
+{
+    let text = fresh(policy, rng, password)?;
+    let mut accounts = open(outside, access)?;
+    let done = add_text(&mut accounts, name, &text);
+    outside.close(accounts.into_store());
+    Ok(done)
+}
+
+// Sets the text of a name to one of a password, which is made before the file is opened.
+fn set<P: Outside, G: Rng>(
+    outside: &mut P,
+    access: &Access<'_>,
+    name: &str,
+    policy: &Policy<'_>,
+    rng: &mut G,
+    password: &[u8],
+) -> Result<Result<(), FileError>, Failure>
+    requires unopened { P.closed outside.old [] }
+    requires under { policy_terms policy.now ≡ terms_by (choices_of access.now.options) access.now.secret.now }
+    ensures { IsTried P.File.Store P.holds P.keeps
+        (terms_by (choices_of access.now.options) access.now.secret.now) access.now.path.now
+        (setting name.now password.now (fill_bytes 16 (G.stream rng.old)).0) result
+        (P.closed outside.new) }
+{
+    let text = fresh(policy, rng, password)?;
+    let mut accounts = open(outside, access)?;
+    let done = set_text(&mut accounts, name, &text);
+    outside.close(accounts.into_store());
+    Ok(done)
+}
+
+// Removes a name.
+fn remove<P: Outside>(
+    outside: &mut P,
+    access: &Access<'_>,
+    name: &str,
+) -> Result<Result<(), FileError>, Failure>
+    requires { P.closed outside.old [] }
+    ensures { IsTried P.File.Store P.holds P.keeps
+        (terms_by (choices_of access.now.options) access.now.secret.now) access.now.path.now
+        (removing name.now) result (P.closed outside.new) }
+{
+    let mut accounts = open(outside, access)?;
+    let done = accounts.remove(name);
+    outside.close(accounts.into_store());
+    Ok(done)
 }
 
 // The text of a name in a file.
@@ -429,19 +497,6 @@ fn change<P: Outside, G: Rng>(
         Err(error) => return Ok(Err(FileError::Account(error))),
     };
     replace(outside, access, name, &text, &fresh)
-}
-
-// A fresh text of a password.
-fn fresh<G: Rng>(policy: &Policy<'_>, rng: &mut G, password: &[u8]) -> Result<PasswordHash, Failure>
-    ensures ok { IfOk result (λ text. IsFresh (policy_terms policy.now).target password.now
-        (fill_bytes 16 (G.stream rng.old)).0 (phc_of text)) }
-    ensures err { IfErr result (λ failure. status_of failure ≡ 3) }
-{
-    match policy.hash_password(rng, password) {
-        Ok(text) => Ok(text),
-        // A password that was read is short enough, so that only memory is refused.
-        Err(_) => Err(Failure::Memory(AllocError)),
-    }
 }
 
 // Gives a new name this text.

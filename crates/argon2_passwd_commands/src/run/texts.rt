@@ -1,6 +1,7 @@
 //! Texts of passwords, of which the program keeps none.
 
 ghost use Rattle.std.specs.Prelude.{◌≡◌, Ok, IfErr, IfOk, string_bytes};
+ghost use Rattle.argon2.specs.Made.{IsFresh};
 ghost use Rattle.rand_core.specs.Stream.{fill_bytes};
 ghost use Rattle.argon2_accounts.specs.Accounts.{Admits, LogsIn, terms_of};
 ghost use Rattle.argon2_passwd_commands.specs.Answers.{Denies, HasNone, IsCheckReply, IsHashReply, login_text};
@@ -29,8 +30,25 @@ pub fn hash<G: Rng, R: BufRead>(
     ensures err { IfErr result (λ failure. status_of failure ≡ 1 → HasNone (R.remaining input.old)) }
 {
     let password = password(alloc, input)?;
-    let hash = policy.hash_password(rng, password.as_slice())?;
+    let hash = fresh(policy, rng, password.as_slice())?;
     Ok(String::from_str(alloc, hash.text().as_str())?)
+}
+
+/// A fresh text of a password.
+pub fn fresh<G: Rng>(
+    policy: &Policy<'_>,
+    rng: &mut G,
+    password: &[u8],
+) -> Result<PasswordHash, Failure>
+    ensures ok { IfOk result (λ text. IsFresh (terms_of policy.now).target password.now
+        (fill_bytes 16 (G.stream rng.old)).0 (phc_of text)) }
+    ensures err { IfErr result (λ failure. status_of failure ≡ 3) }
+{
+    match policy.hash_password(rng, password) {
+        Ok(text) => Ok(text),
+        // A password that was read is short enough, so that only memory is refused.
+        Err(_) => Err(Failure::Memory(AllocError)),
+    }
 }
 
 /// What the text does with the next password, if it accepts it, and a line with another text if it

@@ -1,6 +1,11 @@
-use Rattle.std.proofs.Common.{inr, sym, ◌∙◌}
-use Rattle.argon2_passwd_commands.proofs.Refusals.{if_ok_then, passed}
+use Rattle.std.proofs.Common.{inl, inr, sym, ◌∙◌}
+use Rattle.argon2_passwd_commands.proofs.Refusals.{if_ok_then, none_read, passed}
 use Rattle.argon2_passwd_commands.proofs.run.accounts.verify.Goals as goal
+
+pub returns-in_err-password-clause-err : goal.returns-in_err-password-clause-err
+returns-in_err-password-clause-err g c =
+    passed c.in_err-password.field-0.0 _ c.from_residual.ensures.1
+    (λ one. inl (none_read _ _ c.in_err-password.ensures.refused one))
 
 pub returns-in_err-secret-clause-err : goal.returns-in_err-secret-clause-err
 returns-in_err-secret-clause-err g c =

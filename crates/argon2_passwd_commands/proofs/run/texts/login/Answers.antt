@@ -8,7 +8,7 @@ use Rattle.argon2_accounts.specs.declared.error.AccountError.TheVariants.{Refuse
 use Rattle.argon2_passwd_commands.specs.Failures.{IsOfAccount, status_of}
 use Rattle.argon2_passwd_commands.specs.declared.failure.Failure.{Failure}
 use Rattle.argon2_passwd_commands.specs.declared.failure.Failure.TheVariants.{Account, Memory}
-use Rattle.argon2_passwd_commands.proofs.Refusals.{err_then}
+use Rattle.argon2_passwd_commands.proofs.Refusals.{err_then, in_any_case}
 use Rattle.argon2_passwd_commands.proofs.run.texts.login.Goals as goal
 
 -- a refusal that is not out of memory has its reason
@@ -29,3 +29,17 @@ returns-in_err-accepted-clause-err g c =
     let never = refused (¬ (admits (phc_of c.in_ok-hash.hash))) _ _ c.in_err-accepted.ensures.accepted
     c.from_residual-in_err-accepted.ensures.1 in
     err_then _ never (λ f no v is. λ admitted. no (subst admits (sym (c.in_ok-hash.ensures.only v is)) admitted))
+
+pub returns-in_err-hash-clause-err : goal.returns-in_err-hash-clause-err
+returns-in_err-hash-clause-err g c =
+    in_any_case _ _ (λ v is. absurd (c.in_err-hash.ensures.only v is))
+
+pub returns-in-Some-clause-ok : goal.returns-in-Some-clause-ok
+returns-in-Some-clause-ok g c =
+    let logs_in = rw c.in-Some.is at c.in_ok-accepted.ensures.step in
+    (phc_of c.in_ok-hash.hash, c.in_ok-hash.ensures.found, logs_in)
+
+pub returns-in-None-clause-ok : goal.returns-in-None-clause-ok
+returns-in-None-clause-ok g c =
+    let logs_in = rw c.in-None.is at c.in_ok-accepted.ensures.step in
+    (phc_of c.in_ok-hash.hash, c.in_ok-hash.ensures.found, logs_in)

@@ -1,4 +1,4 @@
-use Rattle.argon2_passwd_commands.proofs.run.accounts.fresh.Goals as goal
+use Rattle.argon2_passwd_commands.proofs.run.texts.fresh.Goals as goal
 
 pub returns-in-Ok-clause-ok : goal.returns-in-Ok-clause-ok
 returns-in-Ok-clause-ok g c = c.in-Ok.ensures.made
