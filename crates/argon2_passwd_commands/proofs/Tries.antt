@@ -23,7 +23,8 @@ module _ {S : Type 0} {g : Ghosts S} {Holds : List ℕ → List ℕ → Type 0}
     {Has : List ℕ → Store → Type 0} {X : Type 0} {Closed : List S → Type 0} {path : List ℕ} where
   -- the file was not opened
   pub untried : {terms : Terms} {call : Call X} (f : Failure)
-      (r : Result (Result X FileError) Failure) → IsErrAnd r (λ e. e ≡ f) → (status_of f ≡ 1 → ¬ (AreTerms terms)) → Closed []
+      (r : Result (Result X FileError) Failure) → IsErrAnd r (λ e. e ≡ f)
+      → (status_of f ≡ 1 → ¬ (AreTerms terms)) → Closed []
       → IsTried g Holds Has terms path call r Closed
   untried f (Ok x) is unsound shut = absurd is
   untried {terms = terms} f (Err e) is unsound shut = record {

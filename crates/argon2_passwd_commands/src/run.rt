@@ -88,7 +88,8 @@ fn answer<P: Outside, R: BufRead, W: Write>(
 ) -> Result<(), Failure>
     requires { P.closed outside.old [] }
     ensures { IsServed P.File.Store P.holds P.keeps (asked command.entry) result
-        (R.remaining input.old) (W.contents output.old) (W.contents output.new) (P.closed outside.new) }
+        (R.remaining input.old) (W.contents output.old) (W.contents output.new)
+        (P.closed outside.new) }
 {
     if let Some(path) = command.file() {
         outside.look(path, command.makes())?;

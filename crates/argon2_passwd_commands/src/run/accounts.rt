@@ -9,7 +9,7 @@ ghost use Rattle.argon2.specs.Made.{IsFresh};
 ghost use Rattle.argon2_store.specs.AccountFile.{IsOfFile, Serves, error_of, terms_of};
 ghost use Rattle.argon2_store.specs.Adding.{entry_of};
 ghost use Rattle.argon2_store.specs.Rows.{lines_of};
-ghost use Rattle.argon2_passwd_commands.specs.Answers.{AddsLines, AreRead, AreUnread, HasNone, IsAct, IsDecided, IsEdited, IsImported, IsLogin, IsLooked, IsOpened, IsRead, IsRefusedBy, IsReplaced, IsSecret, IsTried, IsVerified, Outcome, breaks_lines, login_answer, terms_by, value_of};
+ghost use Rattle.argon2_passwd_commands.specs.Answers.{AddsLines, AreRead, AreUnread, HasNone, IsAct, IsDecided, IsDone, IsEdited, IsImported, IsLogin, IsLooked, IsOpened, IsRead, IsRefusedBy, IsReplaced, IsSecret, IsTried, IsVerified, Outcome, breaks_lines, login_answer, terms_by, value_of};
 ghost use Rattle.argon2_passwd_commands.specs.Asked.{choices_of};
 ghost use Rattle.argon2_passwd_commands.specs.Failures.{status_of};
 
@@ -157,7 +157,29 @@ pub fn show<P: Outside, W: Write>(
         options: *options,
         secret: secret.as_slice(),
     };
-    let mut accounts = open(outside, &access)?;
+    write_lines(outside, &access, view, output)
+}
+
+// The same under the secret.
+fn write_lines<P: Outside, W: Write>(
+    outside: &mut P,
+    access: &Access<'_>,
+    view: View,
+    output: &mut W,
+) -> Result<Result<io::Result<()>, FileError>, Failure>
+    requires unopened { P.closed outside.old [] }
+    requires held { IsSecret P.holds (choices_of access.now.options).secret_file access.now.secret.now }
+    ensures ok { IfOk result (λ done. IsRead P.File.Store P.holds P.keeps
+        (choices_of access.now.options) access.now.path.now (error_of done) (λ names. IfOk done (λ written. OnOk written
+        (Appends (W.contents output.old) (W.contents output.new) (lines_of view names))))
+        (P.closed outside.new)) }
+    ensures of_file { IfOk result (λ done. IfErr done IsOfFile) }
+    ensures err { IfErr result (λ failure. status_of failure ≡ 1
+        → ¬ (AreTerms (terms_by (choices_of access.now.options) access.now.secret.now))) }
+    ensures untouched { OnErr result (P.closed outside.new []
+        × Keeps (W.contents output.old) (W.contents output.new)) }
+{
+    let mut accounts = open(outside, access)?;
     let written = accounts.write_lines(view, output);
     outside.close(accounts.into_store());
     Ok(written)
@@ -189,8 +211,26 @@ pub fn import<P: Outside, R: BufRead>(
         options: *options,
         secret: secret.as_slice(),
     };
-    let mut accounts = open(outside, &access)?;
-    let added = add_all(&mut accounts, entries.as_slice());
+    add_entries(outside, &access, entries.as_slice())
+}
+
+// The same for the entries of the input.
+fn add_entries<P: Outside>(
+    outside: &mut P,
+    access: &Access<'_>,
+    entries: &[(&str, &str)],
+) -> Result<Result<(), Failure>, Failure>
+    requires unopened { P.closed outside.old [] }
+    requires held { IsSecret P.holds (choices_of access.now.options).secret_file access.now.secret.now }
+    ensures ok { IfOk result (λ done. IsDone P.File.Store P.holds P.keeps
+        (choices_of access.now.options) access.now.path.now
+        (λ drawn. AddsLines done (map entry_of entries.now)) (P.closed outside.new)) }
+    ensures err { IfErr result (λ failure. status_of failure ≡ 1
+        → ¬ (AreTerms (terms_by (choices_of access.now.options) access.now.secret.now))) }
+    ensures untouched { OnErr result (P.closed outside.new []) }
+{
+    let mut accounts = open(outside, access)?;
+    let added = add_all(&mut accounts, entries);
     outside.close(accounts.into_store());
     Ok(added)
 }

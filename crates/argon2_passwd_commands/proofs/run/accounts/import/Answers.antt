@@ -1,8 +1,8 @@
-use Rattle.std.proofs.Common.{◌≡◌, ◌∙◌, ℕ, Bool, List, [], Option, Some, None, map, subst, sym}
+use Rattle.std.proofs.Common.{◌≡◌, ◌∙◌, ℕ, Bool, List, Option, Some, None, map, subst, sym}
 use Rattle.std.specs.Prelude.{IfSome}
 use Rattle.argon2_store.specs.Adding.{entry_of}
 use Rattle.argon2_passwd_commands.specs.Answers.{AreEntries}
-use Rattle.argon2_passwd_commands.proofs.Refusals.{passed}
+use Rattle.argon2_passwd_commands.proofs.Refusals.{err_then, if_ok_then, passed}
 use Rattle.argon2_passwd_commands.proofs.run.accounts.import.Goals as goal
 
 -- the entries are those of a known input
@@ -17,25 +17,15 @@ returns-in_err-secret-clause-err g c =
     passed c.in_err-secret.field-0.0 _ c.from_residual-in_err-secret.ensures.1
     (λ one. absurd (let never = sym c.in_err-secret.ensures.err ∙ one in cc))
 
-pub returns-in_err-accounts-clause-err : goal.returns-in_err-accounts-clause-err
-returns-in_err-accounts-clause-err g c =
-    let unsound = rw c.as_slice-2.ensures.value at c.in_err-accounts.ensures.err in
-    passed c.in_err-accounts.field-0.0 _ c.from_residual-in_err-accounts.ensures.1
-    (λ one. (c.in_ok-secret.secret.items, c.in_ok-secret.ensures.ok, unsound one))
+pub returns-clause-err : goal.returns-clause-err
+returns-clause-err g c =
+    let unsound = rw c.as_slice-2.ensures.value at c.add_entries.ensures.err in
+    err_then _ unsound (λ failure no. (c.in_ok-secret.secret.items, c.in_ok-secret.ensures.ok, no))
 
 pub returns-clause-ok : goal.returns-clause-ok
-returns-clause-ok g c = (
-  map entry_of c.in_ok-entries.entries.items,
-  of_known c.args.any_text (g.R.Read.remaining c.args.input.now) _ _ _ c.in_ok-bytes.ensures.ok c.as_slice.ensures.value
-      c.in_ok-entries.ensures,
-  (
-    c.in_ok-secret.secret.items,
-    [],
-    c.in_ok-accounts.accounts,
-    c.add_all-added.new.accounts,
-    c.in_ok-secret.ensures.ok,
-    (rw c.as_slice-2.ensures.value at c.in_ok-accounts.ensures.ok),
-    (rw c.as_slice-3.ensures.value at c.add_all-added.ensures),
-    (rw c.into_store.ensures at c.close.ensures [] (c.in_ok-accounts.ensures.opened [] c.requires)),
-  ),
-)
+returns-clause-ok g c =
+    let adds = rw c.as_slice-3.ensures.value at c.add_entries.ensures.ok in
+    let known = of_known c.args.any_text (g.R.Read.remaining c.args.input.now) _ _ _
+    c.in_ok-bytes.ensures.ok c.as_slice.ensures.value c.in_ok-entries.ensures in
+    if_ok_then c.add_entries.result adds
+    (λ done is. (map entry_of c.in_ok-entries.entries.items, known, is))

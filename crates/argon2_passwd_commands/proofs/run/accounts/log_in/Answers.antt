@@ -12,8 +12,8 @@ use Rattle.argon2_passwd_commands.proofs.run.accounts.log_in.Goals as goal
 
 -- what was decided by a value, by the file that it was read in
 by_value : {S : Type 0} (g : Ghosts S) (Holds : List ℕ → List ℕ → Type 0)
-    (Has : List ℕ → Store → Type 0) {X : Type 0} (terms : Terms) (path name : List ℕ) (call : Call X)
-    (v : Phc) (outcome : Outcome X) (Was Closed : List S → Type 0)
+    (Has : List ℕ → Store → Type 0) {X : Type 0} (terms : Terms) (path name : List ℕ)
+    (call : Call X) (v : Phc) (outcome : Outcome X) (Was Closed : List S → Type 0)
     → (looked : IsLooked g Holds Has terms path name (Ok (Some v)) (λ read. Was (read ∷ [])))
     → IsDecided g Holds Has terms path name call v outcome (database_of looked.1) Closed
     → IsOutcome g Holds Has terms path name call outcome Closed
@@ -27,7 +27,8 @@ visited : {S : Type 0} (g : Ghosts S) (Holds : List ℕ → List ℕ → Type 0)
     (Has : List ℕ → Store → Type 0) {X R : Type 0} (choices : Choices) (secret path name : List ℕ)
     (call : List ℕ → Call X) (v : Phc) (answer : Outcome X → R) (result : R)
     (Was Closed : List S → Type 0) → IsSecret Holds choices.secret_file secret
-    → IsLooked g Holds Has (terms_by choices secret) path name (Ok (Some v)) (λ read. Was (read ∷ []))
+    → IsLooked g Holds Has (terms_by choices secret) path name (Ok (Some v))
+    (λ read. Was (read ∷ []))
     → ((read : S) → Was (read ∷ []) → (drawn : List ℕ) × (outcome : Outcome X)
     × (answer outcome ≡ result)
     × IsDecided g Holds Has (terms_by choices secret) path name (call drawn) v outcome read Closed)
