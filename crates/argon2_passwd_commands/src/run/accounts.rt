@@ -160,7 +160,7 @@ pub fn show<P: Outside, W: Write>(
     write_lines(outside, &access, view, output)
 }
 
-// The same under the secret.
+// Writes what a file has, under the secret that was read.
 fn write_lines<P: Outside, W: Write>(
     outside: &mut P,
     access: &Access<'_>,
@@ -214,7 +214,7 @@ pub fn import<P: Outside, R: BufRead>(
     add_entries(outside, &access, entries.as_slice())
 }
 
-// The same for the entries of the input.
+// Adds the entries that were read to a file.
 fn add_entries<P: Outside>(
     outside: &mut P,
     access: &Access<'_>,
@@ -328,7 +328,7 @@ fn log_in<P: Outside, G: Rng>(
     }
 }
 
-// The same, by the text that was read.
+// Does what a login does by the text that was read.
 fn log_in_by<P: Outside, G: Rng>(
     outside: &mut P,
     access: &Access<'_>,
