@@ -51,7 +51,7 @@ pub keeps_same : (known : Option (List ℕ)) → Keeps known known
 keeps_same None = tt
 keeps_same (Some bytes) = refl
 
--- an input without a password that is refused for that
+-- an input that is refused for its password has none
 pub none_read : (input : Option (List ℕ)) (f : Failure) → IsUnread input f → status_of f ≡ 1
     → HasNone input
 none_read None f is one = tt
@@ -59,6 +59,7 @@ none_read (Some bytes) NoPassword is one = rw is refl
 none_read (Some bytes) LongPassword is one = is.0
 none_read (Some bytes) f is one = absurd (let never = sym is ∙ one in cc)
 
+-- what holds in any case holds if a call is refused
 pub in_any_case : {X : Type 0} (P : Type 0) (r : Result X Failure) → P
     → IfErr r (λ f. status_of f ≡ 1 → P)
 in_any_case P (Ok x) p = tt

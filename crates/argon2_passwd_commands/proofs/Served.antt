@@ -14,7 +14,7 @@ use Rattle.argon2_passwd_commands.specs.declared.failure.Failure.{Failure}
 use Rattle.argon2_passwd_commands.specs.declared.failure.Failure.TheVariants.{Output}
 use Rattle.argon2_passwd_commands.proofs.Refusals.{refused}
 
--- no file was opened
+-- what is asked for was done at most once if no file was opened
 unopened : {S : Type 0} (g : Ghosts S) (Holds : List ℕ → List ℕ → Type 0)
     (Has : List ℕ → Store → Type 0) (Closed : List S → Type 0) (what : Asked)
     (input : Option (List ℕ)) → Closed [] → IsOnce g Holds Has what input Closed
@@ -28,7 +28,7 @@ unopened g Holds Has Closed (import choices path any_text) input shut = inl shut
 module _ {S : Type 0} {g : Ghosts S} {Holds : List ℕ → List ℕ → Type 0}
     {Has : List ℕ → Store → Type 0} {Closed : List S → Type 0} {what : Asked}
     {input old new : Option (List ℕ)} where
-  -- with this failure
+  -- it ended with this failure
   pub failed : (f : Failure) (r : Result (Unit {0}) Failure) → IsErrAnd r (λ e. e ≡ f)
       → (status_of f ≡ 1 → IsRefused g Holds Has what input Closed × Keeps old new)
       → IsOnce g Holds Has what input Closed
@@ -42,14 +42,14 @@ module _ {S : Type 0} {g : Ghosts S} {Holds : List ℕ → List ℕ → Type 0}
     once = once;
   }
 
-  -- before a file was opened
+  -- it ended with this failure before a file was opened
   pub not_begun : (f : Failure) (r : Result (Unit {0}) Failure) → IsErrAnd r (λ e. e ≡ f)
       → (status_of f ≡ 1 → ⊥) → Closed []
       → IsServed g Holds Has what r input old new Closed
   not_begun f r is never shut =
       failed f r is (λ one. absurd (never one)) (unopened g Holds Has Closed what input shut)
 
-  -- with an error by a call on the file
+  -- it ended with an error of a call on the file
   pub failed_by : (e : FileError) (r : Result (Unit {0}) Failure) → IsErrAnd r (IsOfFile e)
       → ((refusal : AccountError) → e ≡ Account refusal
       → IsRefused g Holds Has what input Closed × Keeps old new)
@@ -63,7 +63,7 @@ module _ {S : Type 0} {g : Ghosts S} {Holds : List ℕ → List ℕ → Type 0}
     once = once;
   }
 
-  -- with a line that is written
+  -- it ended by writing a line
   pub written : {P : Type 0} (r : Result (Unit {0}) Failure) → IfErr r (λ f. f ≡ Output)
       → OnOk r P → (P → IsAnswered g Holds Has what input old new Closed)
       → IsOnce g Holds Has what input Closed
@@ -72,7 +72,7 @@ module _ {S : Type 0} {g : Ghosts S} {Holds : List ℕ → List ℕ → Type 0}
   written (Err f) fails is next once =
       record { ok = tt; err = λ one. absurd (let never = rw fails at one in cc); once = once }
 
-  -- with an answer or a refusal by this call
+  -- it ended as a call of which all is known
   pub ended : {P Q : Type 0} (r : Result (Unit {0}) Failure) → OnOk r P
       → IfErr r (λ f. status_of f ≡ 1 → Q) → (P → IsAnswered g Holds Has what input old new Closed)
       → (Q → IsRefused g Holds Has what input Closed × Keeps old new)

@@ -13,7 +13,7 @@ use Rattle.argon2_passwd_commands.specs.Asked.{Choices}
 use Rattle.argon2_passwd_commands.specs.Failures.{status_of}
 use Rattle.argon2_passwd_commands.specs.declared.failure.Failure.{Failure}
 
--- a text that is made under equal terms
+-- a text that is fresh under some terms is fresh under equal ones
 pub made_under : (first mid last : Terms) (password drawn : List ℕ) (v : Phc) → first ≡ mid
     → last ≡ mid → IsFresh first.target password drawn v → IsFresh last.target password drawn v
 made_under first mid last password drawn v here there fresh =
@@ -21,7 +21,7 @@ made_under first mid last password drawn v here there fresh =
 
 module _ {S : Type 0} {g : Ghosts S} {Holds : List ℕ → List ℕ → Type 0}
     {Has : List ℕ → Store → Type 0} {X : Type 0} {Closed : List S → Type 0} {path : List ℕ} where
-  -- the file was not opened
+  -- a call was not tried if the file was not opened
   pub untried : {terms : Terms} {call : Call X} (f : Failure)
       (r : Result (Result X FileError) Failure) → IsErrAnd r (λ e. e ≡ f)
       → (status_of f ≡ 1 → ¬ (AreTerms terms)) → Closed []
@@ -33,7 +33,7 @@ module _ {S : Type 0} {g : Ghosts S} {Holds : List ℕ → List ℕ → Type 0}
     untouched = shut;
   }
 
-  -- it was, under the choices and their secret
+  -- a call that was tried under the choices and their secret was made
   pub called : (choices : Choices) (secret drawn : List ℕ) (call : List ℕ → Call X)
       (r : Result (Result X FileError) Failure) → IsSecret Holds choices.secret_file secret
       → IsTried g Holds Has (terms_by choices secret) path (call drawn) r Closed

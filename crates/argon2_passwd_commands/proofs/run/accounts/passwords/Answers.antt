@@ -7,7 +7,7 @@ use Rattle.argon2_passwd_commands.specs.declared.command.Edit.TheVariants.{Regis
 use Rattle.argon2_passwd_commands.proofs.Refusals.{none_read, passed}
 use Rattle.argon2_passwd_commands.proofs.run.accounts.passwords.Goals as goal
 
--- a change that takes one password
+-- a change other than `change` reads at most one password
 one_read : (act : Edit) (input : Option (List ℕ)) (first second : List ℕ) → ¬ (act ≡ Change)
     → IfSome input (λ bytes. password_of bytes ≡ Some first) → AreRead act input first second
 one_read Register input first second isnt is = is
