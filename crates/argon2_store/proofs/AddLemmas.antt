@@ -1,22 +1,15 @@
 -- Names to which several are added.
-use Rattle.argon2_store.proofs.Imports.{◌≡◌, ℕ, zero, suc, one-add, zero-add, ◌+◌, List, [], ◌∷◌, ◌++◌, Bool, true, false, cond, Option, None, Some, Result, Ok, Err, refl, sym}
-use Rattle.argon2_store.proofs.Imports.{subst, ap, ◌∙◌, arith, inl, inr, map, Bor, get, insert, count_by, All, Any, IsSomeAnd, bytes_eq, cases_Bool, All-cons, All-head, All-nil}
-use Rattle.argon2_store.proofs.Imports.{All-tail, bytes_eq-Decides, StoreError, Ghosts, Phc, PhcText, Store, get-other, get-same, AccountError, AddsAll, AddsName, WritesAll}
-use Rattle.argon2_store.proofs.Imports.{entry_of, Changes, HasNames, IsHonest, IsLong, IsOpen, StaysQuiet}
+use Rattle.argon2_store.proofs.Imports.{◌≡◌, ℕ, List, [], ◌∷◌, ◌++◌, false, Result, Ok, Err, refl, sym}
+use Rattle.std.proofs.lemmas.Result.{on_ok_weaker, IfErr-weaker}
+use Rattle.argon2_store.proofs.Imports.{subst, ap, ◌∙◌, arith, inl, inr, map, Bor, get, Any}
+use Rattle.argon2_store.proofs.Imports.{StoreError, Ghosts, Store, AccountError, AddsAll, AddsName, WritesAll}
+use Rattle.argon2_store.proofs.Imports.{entry_of, Changes, changed, HasNames, IsHonest, IsLong, IsOpen, StaysQuiet}
 use Rattle.std.specs.List.Sorted.{IsPermutation}
-use Rattle.std.proofs.lemmas.List.Sorted.{All-permutation, Contains-permutation, IsPermutation-map, IsPermutation-sym, sum_by-IsPermutation}
-use Rattle.std.proofs.lemmas.List.Sums.{sum_by-cons}
+use Rattle.std.proofs.lemmas.List.Sorted.{Contains-permutation, IsPermutation-map, IsPermutation-sym}
+use Rattle.sqlite_trees.proofs.ListLemmas.{along_permutation}
 use Rattle.sqlite_trees.specs.declared.error.StoreError.TheVariants.{Io}
-use Rattle.argon2_store.proofs.RowLemmas.{same}
-use Rattle.argon2_store.proofs.TableLemmas.{Settled, cause_map, if_err, leaves_quiet, on_ok, quiet_itself, quiet_then}
-
--- a name that was set is added
-pub adds_name : (before after : Store) (e : List ℕ × List ℕ) (v : Phc) → PhcText e.1 v → get before e.0 ≡ None
-    → after ≡ insert before e.0 v → AddsName before e (Ok tt) after
-adds_name before after e v has none is = subst (AddsName before e (Ok tt)) (sym is) (
-  (none, subst (λ (o : Option Phc). IsSomeAnd o (PhcText e.1)) (sym (get-same before e.0 v)) has),
-  get-other before e.0 v,
-)
+use Rattle.argon2_store.proofs.RowLemmas.{get-changed, one_or_other, others_kept}
+use Rattle.argon2_store.proofs.TableLemmas.{Settled, cause_map, leaves_quiet, quiet_itself, quiet_then}
 
 pub add_last : (es : List (List ℕ × List ℕ)) (before mid after : Store) (e : List ℕ × List ℕ) → AddsAll before es mid
     → AddsName mid e (Ok tt) after → AddsAll before (es ++ e ∷ []) after
@@ -26,111 +19,38 @@ add_last (x ∷ xs) before mid after e all last = (all.0, all.1, add_last xs all
 
 -- ---- the order of the names
 
--- how many of the entries have the name
-abbrev times : List ℕ → List (List ℕ × List ℕ) → ℕ
-times q es = count_by (λ e. bytes_eq e.0 q) es
+abbrev Reorders : List (List ℕ × List ℕ) → List (List ℕ × List ℕ) → Type 0
+Reorders es fs = (before after : Store) → AddsAll before es after → AddsAll before fs after
 
--- what a name had and has that is listed so many times
-abbrev Became : ℕ → Option Phc → Option Phc → Type 0
-Became zero before after = after ≡ before
-Became (suc zero) before after = before ≡ None
-Became (suc (suc n)) before after = ⊥
-
--- the name has the text
-abbrev Has : Store → List ℕ × List ℕ → Type 0
-Has after e = IsSomeAnd (get after e.0) (PhcText e.1)
-
--- The names once each is added, in any order.
-record Lists (before : Store) (es : List (List ℕ × List ℕ)) (after : Store) : Type 0 where
-  each : (q : List ℕ) → Became (times q es) (get before q) (get after q)
-  texts : All (Has after) es
-
-times_more : (e : List ℕ × List ℕ) (es : List (List ℕ × List ℕ)) (q : List ℕ) (b : Bool) → bytes_eq e.0 q ≡ b
-    → times q (e ∷ es) ≡ cond b 1 0 + times q es
-times_more e es q b is = sum_by-cons (λ (x : List ℕ × List ℕ). cond (bytes_eq x.0 q) 1 0) e es
-    ∙ ap (λ c. cond c 1 0 + times q es) is
-
-times_hit : (e : List ℕ × List ℕ) (es : List (List ℕ × List ℕ)) (q : List ℕ) → bytes_eq e.0 q ≡ true
-    → times q (e ∷ es) ≡ suc (times q es)
-times_hit e es q hit = times_more e es q true hit ∙ one-add (times q es)
-
-times_miss : (e : List ℕ × List ℕ) (es : List (List ℕ × List ℕ)) (q : List ℕ) → bytes_eq e.0 q ≡ false
-    → times q (e ∷ es) ≡ times q es
-times_miss e es q miss = times_more e es q false miss ∙ zero-add (times q es)
-
-differs : (n q : List ℕ) → bytes_eq n q ≡ false → q ≡ n → ⊥
-differs n q miss is = let hit = (bytes_eq-Decides n q).1 (sym is) in cc
-
--- a name that had a text is not listed
-unlisted : (P : Phc → Type 0) (n : ℕ) (before after : Option Phc) → Became n before after → IsSomeAnd before P → n ≡ 0
-unlisted P zero before after is has = refl
-unlisted P (suc zero) None after is has = absurd has
-unlisted P (suc zero) (Some v) after is has = absurd cc
-unlisted P (suc (suc n)) before after is has = absurd is
-
-once : (n : ℕ) (before after : Option Phc) → Became (suc n) before after → (n ≡ 0) × (before ≡ None)
-once zero before after is = (refl, is)
-once (suc n) before after is = absurd is
-
-lists : (es : List (List ℕ × List ℕ)) (before after : Store) → AddsAll before es after → Lists before es after
-lists [] before after is = record { each = λ q. ap (λ (m : Store). get m q) is; texts = All-nil (Has after) }
-lists (e ∷ es) before after (mid, added, all) =
-    let rest = lists es mid after all in
-    let none : times e.0 es ≡ 0 = unlisted (PhcText e.1) _ _ _ (rest.each e.0) added.0.1 in
-    record {
-      each = λ q. elim (cases_Bool (bytes_eq e.0 q)) [
-        | inl hit ↦
-            let is = (bytes_eq-Decides e.0 q).0 hit in
-            let one : times q (e ∷ es) ≡ 1 = times_hit e es q hit ∙ ap suc (ap (λ x. times x es) (sym is) ∙ none) in
-            subst (λ n. Became n (get before q) (get after q)) (sym one) (ap (get before) (sym is) ∙ added.0.0)
-        | inr miss ↦
-            subst (λ n. Became n (get before q) (get after q)) (sym (times_miss e es q miss))
-            (subst (λ o. Became (times q es) o (get after q)) (added.1 q (differs e.0 q miss)) (rest.each q))
-      ];
-      texts = All-cons (Has after) e es
-          (subst (λ o. IsSomeAnd o (PhcText e.1)) (sym (subst (λ n. Became n (get mid e.0) (get after e.0)) none (rest.each e.0)))
-          added.0.1) rest.texts;
-    }
-
-adds : (es : List (List ℕ × List ℕ)) (before after : Store) → Lists before es after → AddsAll before es after
-adds [] before after listed = same after before listed.each
-adds (e ∷ es) before after listed = go (get after e.0) refl (All-head (Has after) e es listed.texts) (λ mid. adds es mid after)
-  where
-    first : (times e.0 es ≡ 0) × (get before e.0 ≡ None)
-    first = once (times e.0 es) (get before e.0) (get after e.0)
-        (subst (λ n. Became n (get before e.0) (get after e.0)) (times_hit e es e.0 ((bytes_eq-Decides e.0 e.0).1 refl))
-        (listed.each e.0))
-
-    go : (o : Option Phc) → get after e.0 ≡ o → IsSomeAnd o (PhcText e.1)
-        → ((mid : Store) → Lists mid es after → AddsAll mid es after) → AddsAll before (e ∷ es) after
-    go None is has rest = absurd has
-    go (Some v) is has rest =
-        let mid = insert before e.0 v in (
-          mid,
-          adds_name before mid e v has first.1 refl,
-          rest mid (record {
-            each = λ q. elim (cases_Bool (bytes_eq e.0 q)) [
-              | inl hit ↦
-                  let at = (bytes_eq-Decides e.0 q).0 hit in
-                  subst (λ x. Became (times x es) (get mid x) (get after x)) at
-                  (subst (λ n. Became n (get mid e.0) (get after e.0)) (sym first.0) (is ∙ sym (get-same before e.0 v)))
-              | inr miss ↦
-                  subst (λ o. Became (times q es) o (get after q)) (sym (get-other before e.0 v q (differs e.0 q miss)))
-                  (subst (λ n. Became n (get before q) (get after q)) (times_miss e es q miss) (listed.each q))
-            ];
-            texts = All-tail (Has after) e es listed.texts;
-          }),
-        )
+-- the first two may change places
+turn : (x y : List ℕ × List ℕ) (es : List (List ℕ × List ℕ)) → Reorders (x ∷ y ∷ es) (y ∷ x ∷ es)
+turn x y es before after (one, ((none, has), kept), (two, ((gone, text), held), rest)) =
+    let apart : x.0 ≡ y.0 → ⊥ = λ is. rw (ap (get one) is ∙ gone) at has in
+    let other : y.0 ≡ x.0 → ⊥ = λ is. apart (sym is) in
+    let mid = changed before y.0 (get two y.0) in (
+      mid,
+      (
+        (sym (kept y.0 other) ∙ gone, rw (get-changed before y.0 (get two y.0)) text),
+        others_kept before y.0 (get two y.0),
+      ),
+      (
+        two,
+        (
+          (others_kept before y.0 (get two y.0) x.0 apart ∙ none, rw (held x.0 apart) has),
+          λ q differs. elim (one_or_other q y.0) [
+            | inl is ↦ rw is (sym (get-changed before y.0 (get two y.0)))
+            | inr far ↦ held q far ∙ kept q differs ∙ sym (others_kept before y.0 (get two y.0) q far)
+          ],
+        ),
+        rest,
+      ),
+    )
 
 -- names may be added in any order
-any_order : (es fs : List (List ℕ × List ℕ)) (before after : Store) → IsPermutation es fs → AddsAll before es after
-    → AddsAll before fs after
-any_order es fs before after moved all =
-    let listed = lists es before after all in
-    adds fs before after (record {
-      each = λ q. subst (λ n. Became n (get before q) (get after q)) (sym (sum_by-IsPermutation (λ (x : List ℕ × List ℕ). cond (bytes_eq x.0 q) 1 0) es fs moved)) (listed.each q);
-      texts = All-permutation (Has after) es fs moved listed.texts;
-    })
+any_order : (es fs : List (List ℕ × List ℕ)) → IsPermutation es fs → Reorders es fs
+any_order = along_permutation Reorders (λ es before after all. all)
+    (λ x es fs moved before after all. (all.0, all.1, moved all.0 after all.2)) turn
+    (λ es fs gs first then before after all. then before after (first before after all))
 
 module _ {S : Type 0} (g : Ghosts S) where
   -- a change is the same after a call that changed nothing, and may have more causes
@@ -141,8 +61,9 @@ module _ {S : Type 0} (g : Ghosts S) where
     kept = change.kept;
     crash = change.crash;
     durable = change.durable;
-    cause = λ clean. if_err r (change.cause clean) (cause_map (g.view b) (g.view a)
-        (λ broken. absurd (let whole = sound (change.honest clean) in cc)) (λ failed. omega (arith, quiet.counts, failed)) more);
+    cause = λ clean. IfErr-weaker r _ _ (cause_map (g.view b) (g.view a)
+        (λ broken. absurd (let whole = sound (change.honest clean) in cc)) (λ failed. omega (arith, quiet.counts, failed)) more)
+        (change.cause clean);
     closes = λ clean.
         elim (change.closes clean) [ inl still ↦ inl still | inr failed ↦ inr (omega (arith, quiet.counts, failed)) ];
   }
@@ -159,9 +80,9 @@ module _ {S : Type 0} (g : Ghosts S) where
         after,
         λ clean. elim (may clean) [
           | inl as_before ↦ inl as_before
-          | inr adds ↦ inr (any_order es fs before after back adds)
+          | inr adds ↦ inr (any_order es fs back before after adds)
         ],
-        on_ok done all (λ f clean. any_order es fs before after back (f clean)),
+        on_ok_weaker done (λ f clean. any_order es fs back before after (f clean)) all,
         changes_later (quiet_itself g old) (λ clean. has.1.sound clean (was_open clean)) (some_moved es fs back) change,
       )
     where

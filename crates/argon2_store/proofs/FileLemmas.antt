@@ -1,22 +1,18 @@
 -- What a call on an account file does if it is refused, writes nothing, or writes one name.
-use Rattle.argon2_store.proofs.Imports.{arith, ◌≡◌, ◌⊎◌, inl, inr, ℕ, List, Option, Some, None, Result, Ok, Err, Bool, true, false, refl, sym, ap, subst, ◌∙◌, IsTrue, get, insert}
+use Rattle.argon2_store.proofs.Imports.{arith, ◌≡◌, inl, inr, ℕ, List, Option, Some, None, Result, Ok, Err, Bool, true, false, refl, sym, subst, ◌∙◌, IsTrue, get, insert}
 use Rattle.argon2_store.proofs.Imports.{Stream, is_some, option_map, phc_of, PasswordHash, ◌↔◌, IsSome, IfErr, IfSome, IsErr, IsErrAnd, MatchResult, OnErr, OnOk, length}
-use Rattle.argon2_store.proofs.Imports.{StoreError, Ghosts, Phc, AccountAnswer, AccountEvent, AccountStep, Admits, HasPassword, Terms, name_of, Store, AccountError, NameUnknown}
-use Rattle.argon2_store.proofs.Imports.{get-other, get-same, Answers, Call, DrawsForText, error_of, HasFailed, IfRefused, IsBeforeOrAfter, IsClosed, IsErrorAt, IsOfFile, Runs}
+use Rattle.argon2_store.proofs.Imports.{StoreError, Ghosts, Phc, AccountAnswer, AccountStep, Admits, HasPassword, Terms, name_of, Store, AccountError, NameUnknown}
+use Rattle.argon2_store.proofs.Imports.{get-same, IfOk, Answers, Call, DrawsForText, error_of, HasFailed, IfRefused, IsBeforeOrAfter, IsClosed, IsErrorAt, IsOfFile, Runs}
 use Rattle.argon2_store.proofs.Imports.{Stays, database_of, terms_of, answered, read_of, unwritten, Changes, IsHonest, IsLong, IsOpen, KeepsNames, CrashLeaves, StaysQuiet, changed}
 use Rattle.argon2_store.proofs.Imports.{AccountFile, FileError, Account, TooLong, Closed, err_is}
 use Rattle.argon2_store.specs.AccountFile.{HasCause, HasNames}
 use Rattle.argon2_store.specs.declared.error.FileError.TheVariants.{OutOfMemory}
-use Rattle.argon2_store.proofs.RowLemmas.{get-gone-other, get-gone-same}
-use Rattle.argon2_store.proofs.TableLemmas.{Settled, leaves_kept, leaves_quiet, on_all, quiet_itself}
+use Rattle.argon2_store.proofs.RowLemmas.{get-changed, others_kept}
+use Rattle.argon2_store.proofs.TableLemmas.{Settled, leaves_kept, leaves_quiet, on_all, open_of, quiet_itself}
 use Rattle.argon2_store.proofs.TextLemmas.{rows_of-once}
 use Rattle.sqlite_trees.specs.declared.error.StoreError.TheVariants as below
 use Rattle.sqlite_trees.specs.View as view
 use Rattle.argon2_store.specs.Table as rows
-
-pub open_of : (b : Bool) → (b ≡ false → ⊥) → IsTrue b
-open_of true h = refl
-open_of false h = absurd (h refl)
 
 pub unwritten_cause : (v : view.View) (closed fault more long : Type 0) → (IsTrue v.is_broken → ⊥) → (fault → more)
     → (e : StoreError) → view.HasCause v fault long e → HasCause closed more long (unwritten e)
@@ -24,24 +20,6 @@ unwritten_cause v closed fault more long sound f below.OutOfMemory h = tt
 unwritten_cause v closed fault more long sound f below.Broken h = absurd (sound h)
 unwritten_cause v closed fault more long sound f below.Unstorable h = h
 unwritten_cause v closed fault more long sound f e h = f h
-
--- names of which one is changed: it has what it was given, and the others keep what they have
-step_of : (terms : Terms) (before : Store) (event : AccountEvent) (p : Option Phc)
-    → AccountAnswer terms event (get before (name_of event)) p
-    → AccountStep terms before event (changed before (name_of event) p)
-step_of terms before event None answer = (
-  subst (AccountAnswer terms event (get before (name_of event))) (sym (get-gone-same before (name_of event))) answer,
-  get-gone-other before (name_of event),
-)
-step_of terms before event (Some v) answer = (
-  subst (AccountAnswer terms event (get before (name_of event))) (sym (get-same before (name_of event) v)) answer,
-  get-other before (name_of event) v,
-)
-
-refused_cause : {X : Type 0} (closed fault long : Type 0) (r : Result X FileError)
-    → IfErr r (λ f. (e : AccountError) × (f ≡ Account e)) → IfErr r (HasCause closed fault long)
-refused_cause closed fault long (Ok x) why = tt
-refused_cause closed fault long (Err f) why = rw why.1 tt
 
 pub is_there : (o : Option PasswordHash) → is_some o ≡ true → IsSome (option_map phc_of o)
 is_there (Some text) there = refl
@@ -61,8 +39,8 @@ pub of_file : {X : Type 0} (done : Result X StoreError) (r : Result X FileError)
 of_file (Ok x) r is = rw is tt
 of_file (Err e) r is = rw is (is_of_file e)
 
-pub on_read : {X : Type 0} (P : Type 0) (done : Result X StoreError) (r : Result X FileError) → r ≡ read_of done → OnOk done P
-    → OnOk r P
+pub on_read : {X : Type 0} (P : X → Type 0) (done : Result X StoreError) (r : Result X FileError) → r ≡ read_of done
+    → IfOk done P → IfOk r P
 on_read P (Ok x) r is p = rw is p
 on_read P (Err e) r is p = rw is tt
 
@@ -145,11 +123,15 @@ shut_out {S} {g} settled old before has tests shut = record {
 
 -- a call that reads an open file
 pub reads_of : {S : Type 0} {g : Ghosts S} {X : Type 0} → Settled g
-    → (old new : AccountFile S g) (names : Store) → HasNames old names → (IsHonest g (database_of old) → IsClosed old → ⊥)
+    → (old new : AccountFile S g) (names : Store) → HasNames old names → {b : Bool}
+    → (IsHonest g (database_of old) → IsTrue b ↔ IsClosed old) → b ≡ false
     → terms_of new ≡ terms_of old → (done : Result X StoreError) → KeepsNames g (database_of old) (database_of new) names done
     → (r : Result X FileError) → r ≡ read_of done → Stays (error_of r) names old new
-reads_of {g = g} {X = X} settled old new names has live terms done read r e = rw e (go done read)
+reads_of {g = g} {X = X} settled old new names has tests shut terms done read r e = rw e (go done read)
   where
+    live : IsHonest g (database_of old) → IsClosed old → ⊥
+    live = live_of old tests shut
+
     stays : (d : Result X StoreError) → KeepsNames g (database_of old) (database_of new) names d
         → (error_of (read_of d) ≡ None → IsHonest g (database_of new) → IsOpen g (database_of new))
         → IfSome (error_of (read_of d)) IsOfFile
@@ -166,7 +148,8 @@ reads_of {g = g} {X = X} settled old new names has live terms done read r e = rw
       cause = cause;
     }
 
-    go : (d : Result X StoreError) → KeepsNames g (database_of old) (database_of new) names d → Stays (error_of (read_of d)) names old new
+    go : (d : Result X StoreError) → KeepsNames g (database_of old) (database_of new) names d
+        → Stays (error_of (read_of d)) names old new
     go (Ok x) read = stays (Ok x) read (λ none. read.is_open) tt (λ clean. tt)
     go (Err f) read = stays (Err f) read (λ none. absurd cc) (is_of_file f) (λ clean.
         let first : IsHonest g (database_of old) = omega (arith, clean, read.quiet.clean) in
@@ -175,14 +158,15 @@ reads_of {g = g} {X = X} settled old new names has live terms done read r e = rw
         (λ b. let h : IsTrue (g.view (database_of old)).is_broken = b in cc) (λ more. more) f (read.cause clean))
 
 -- the store does nothing
-pub unread : {S : Type 0} {g : Ghosts S} → Settled g → (old : AccountFile S g) (before : Store) → HasNames old before
-    → (IsHonest g (database_of old) → IsClosed old → ⊥) → Stays None before old old
-unread {g = g} settled old before has live = reads_of {X = Unit {0}} settled old old before has live refl (Ok tt) (record {
-  has = has;
-  is_open = λ clean. open_of _ (live clean);
-  cause = λ clean. tt;
-  quiet = quiet_itself g (database_of old);
-}) (Ok tt) refl
+pub unread : {S : Type 0} {g : Ghosts S} → Settled g → (old : AccountFile S g) (before : Store) → HasNames old before → {b : Bool}
+    → (IsHonest g (database_of old) → IsTrue b ↔ IsClosed old) → b ≡ false → Stays None before old old
+unread {g = g} settled old before has tests shut =
+    reads_of {X = Unit {0}} settled old old before has tests shut refl (Ok tt) (record {
+      has = has;
+      is_open = λ clean. open_of _ (live_of old tests shut clean);
+      cause = λ clean. tt;
+      quiet = quiet_itself g (database_of old);
+    }) (Ok tt) refl
 
 -- a call that leaves the names
 pub ends_with : {S : Type 0} {g : Ghosts S} {X : Type 0} {answers : Result X FileError → Store → Type 0} {May : Store → Type 0}
@@ -217,25 +201,31 @@ module _ {S : Type 0} {g : Ghosts S} {old mid : AccountFile S g} {before : Store
   was_honest : IsHonest g (database_of mid) → IsHonest g (database_of old)
   was_honest clean = omega (arith, clean, reads.quiet.clean)
 
-  may_leave : {May : Store → Type 0} (new : AccountFile S g) {to : Store} → May before → (IsHonest g (database_of new) → May to)
-      → (IsHonest g (database_of new) → CrashLeaves g (database_of new) (λ left. (left ≡ before) ⊎ (left ≡ to)))
-      → IsHonest g (database_of new) → CrashLeaves g (database_of new) May
-  may_leave {May} new first then crash clean db found =
-      let left = crash clean db found in
-      (left.0, left.1, elim left.2 [ inl b ↦ subst May (sym b) first | inr a ↦ subst May (sym a) (then clean) ])
-
-  closes_then : (new : AccountFile S g) → (IsHonest g (database_of new) → IsOpen g (database_of new) ⊎ HasFailed mid new)
-      → IsHonest g (database_of new) → IsOpen g (database_of new) ⊎ HasFailed old new
-  closes_then new closes clean =
-      elim (closes clean) [ inl yet ↦ inl yet | inr more ↦ inr (omega (arith, reads.quiet.counts, more)) ]
-
-  -- nothing is written
-  pub writes_none : {X : Type 0} {answers : Result X FileError → Store → Type 0} {May : Store → Type 0} {long : Type 0}
-      → May before → (r : Result X FileError) → (IsHonest g (database_of mid) → answers r before)
-      → IfErr r (λ f. (e : AccountError) × (f ≡ Account e)) → Runs answers May long r old mid before before
-  writes_none {long = long} may r step why = ends_with r reads.has reads.terms reads.quiet reads.left step may
-      (on_all r (λ clean. reads.left clean (open_of _ (live (was_honest clean))))) (λ clean h. absurd (live clean h))
-      (λ clean. refused_cause _ _ long r why)
+  -- the end of a call that changes the names, or leaves them
+  ends : {X : Type 0} {answers : Result X FileError → Store → Type 0} {May : Store → Type 0} {long other : Type 0}
+      {new : AccountFile S g} {to : Store} {done : Result (Unit {0}) StoreError} → terms_of new ≡ terms_of mid → May before
+      → (IsHonest g (database_of new) → May to) → Changes g (database_of mid) (database_of new) before to other done
+      → (r : Result X FileError) (after : Store) → HasNames new after → (IsHonest g (database_of new) → answers r after)
+      → OnErr r (after ≡ before) → IfErr r (IfRefused (StaysQuiet g (database_of old) (database_of new)))
+      → OnOk r (IsHonest g (database_of new) → CrashLeaves g (database_of new) (λ left. left ≡ after))
+      → (IsHonest g (database_of new) → IfErr r (HasCause (IsClosed old) (HasFailed old new) long))
+      → Runs answers May long r old new before after
+  ends {May = May} same first then change r after has step unchanged refused durable cause = record {
+    has = has;
+    step = step;
+    terms = same ∙ reads.terms;
+    honest = λ clean. was_honest (change.honest clean);
+    unchanged = unchanged;
+    refused = refused;
+    crash = λ clean is_open db found.
+        let left = change.crash clean db found in
+        (left.0, left.1, elim left.2 [ inl b ↦ subst May (sym b) first | inr a ↦ subst May (sym a) (then clean) ]);
+    durable = durable;
+    closed = λ clean h. absurd (live clean h);
+    closes = λ clean is_open.
+        elim (change.closes clean) [ inl yet ↦ inl yet | inr more ↦ inr (omega (arith, reads.quiet.counts, more)) ];
+    cause = cause;
+  }
 
   -- names are written, or stay as they were
   pub writes_all : {X : Type 0} {answers : Result X FileError → Store → Type 0} {May : Store → Type 0} {long : Type 0}
@@ -244,42 +234,19 @@ module _ {S : Type 0} {g : Ghosts S} {old mid : AccountFile S g} {before : Store
       → (done : Result (Unit {0}) StoreError) → OnOk done (IsHonest g (database_of new) → answers (Ok x) to)
       → Changes g (database_of mid) (database_of new) before to long done
       → (r : Result X FileError) → r ≡ answered done x → (after : Store) × Runs answers May long r old new before after
-  writes_all {new = new} {to = to} x same failed first then (Ok _) step change r e = (
+  writes_all {to = to} x same failed first then (Ok _) step change r e = (
     to,
-    rw e (record {
-      has = change.kept;
-      step = step;
-      terms = same ∙ reads.terms;
-      honest = λ clean. was_honest (change.honest clean);
-      unchanged = tt;
-      refused = tt;
-      crash = λ clean is_open. may_leave new first then change.crash clean;
-      durable = λ clean. (change.durable clean).1;
-      closed = λ clean h. absurd (live clean h);
-      closes = λ clean is_open. closes_then new change.closes clean;
-      cause = λ clean. tt;
-    }),
+    rw e (ends same first then change (Ok x) to change.kept step tt tt (λ clean. (change.durable clean).1) (λ clean. tt)),
   )
-  writes_all {new = new} x same failed first then (Err f) step change r e = (
+  writes_all x same failed first then (Err f) step change r e = (
     before,
-    rw e (record {
-      has = change.kept;
-      step = λ clean. failed f;
-      terms = same ∙ reads.terms;
-      honest = λ clean. was_honest (change.honest clean);
-      unchanged = refl;
-      refused = unread_refused _ (unwritten f) (is_of_file f);
-      crash = λ clean is_open. may_leave new first then change.crash clean;
-      durable = tt;
-      closed = λ clean h. absurd (live clean h);
-      closes = λ clean is_open. closes_then new change.closes clean;
-      cause = λ clean.
-          let first = change.honest clean in
-          let sound = reads.has.1.sound first (reads.is_open refl first) in
-          unwritten_cause (g.view (database_of mid)) _ _ _ _
-          (λ b. let h : IsTrue (g.view (database_of mid)).is_broken = b in cc)
-          (λ more. omega (arith, reads.quiet.counts, more)) f (change.cause clean);
-    }),
+    rw e (ends same first then change (Err (unwritten f)) before change.kept (λ clean. failed f) refl
+        (unread_refused _ (unwritten f) (is_of_file f)) tt (λ clean.
+        let was = change.honest clean in
+        let sound = reads.has.1.sound was (reads.is_open refl was) in
+        unwritten_cause (g.view (database_of mid)) _ _ _ _
+        (λ b. let h : IsTrue (g.view (database_of mid)).is_broken = b in cc)
+        (λ more. omega (arith, reads.quiet.counts, more)) f (change.cause clean))),
   )
 
 -- A call on a name that has this text or none, in a file that is not closed.
@@ -293,35 +260,35 @@ module _ {S : Type 0} {g : Ghosts S} {X : Type 0} (call : Call X) {name : List �
 
   module _ {found o : Option Phc} (shows : HasNames mid before → IsHonest g (database_of mid) → get before name ≡ found)
       (is : found ≡ o) where
-    under_old : (answer : Result X AccountError) (p : Option Phc) → AccountAnswer (terms_of mid) (call answer) o p
-        → IsHonest g (database_of mid) → AccountAnswer (terms_of old) (call answer) (get before (name_of (call answer))) p
-    under_old answer p step clean = subst (λ q. AccountAnswer (terms_of old) (call answer) q p)
-        (sym (ap (get before) (calls answer) ∙ (shows reads.has clean ∙ is)))
-        (subst (λ (t : Terms). AccountAnswer t (call answer) o p) reads.terms step)
-
     stays : (answer : Result X AccountError) → AccountAnswer (terms_of mid) (call answer) o o → IsHonest g (database_of mid)
         → AccountStep (terms_of old) before (call answer) before
-    stays answer same clean = (
-      subst (AccountAnswer (terms_of old) (call answer) (get before (name_of (call answer))))
-          (sym (ap (get before) (calls answer) ∙ (shows reads.has clean ∙ is))) (under_old answer o same clean),
-      λ other differs. refl,
-    )
+    stays answer same clean =
+        (rw (calls answer, shows reads.has clean, is, ← reads.terms) same, λ other differs. refl)
 
     -- a call that the accounts refuse
     pub refuses : (e : AccountError) (r : Result X FileError) → IsErrAnd r (λ f. f ≡ Account e)
         → AccountAnswer (terms_of mid) (call (Err e)) o o → Ends r mid
-    refuses e r failed answer =
-        rw (err_is r (Account e) failed) (before, writes_none reads (inl refl) (Err (Account e)) (stays (Err e) answer) (e, refl))
+    refuses e r failed answer = rw (err_is r (Account e) failed) (
+      before,
+      ends_with (Err (Account e)) reads.has reads.terms
+          reads.quiet reads.left (stays (Err e) answer) (inl refl) tt (λ clean h. absurd (live reads clean h)) (λ clean. tt),
+    )
 
     -- an accepted call that writes nothing
     pub accepts : (x : X) → AccountAnswer (terms_of mid) (call (Ok x)) o o → Ends (Ok x) mid
-    accepts x answer = (before, writes_none reads (inl refl) (Ok x) (stays (Ok x) answer) tt)
+    accepts x answer = (
+      before,
+      ends_with (Ok x) reads.has reads.terms reads.quiet reads.left (stays (Ok x) answer) (inl refl)
+          (λ clean. reads.left clean (open_of _ (live reads (was_honest reads clean))))
+          (λ clean h. absurd (live reads clean h)) (λ clean. tt),
+    )
 
     moves_to : (p : Option Phc) (x : X) → AccountAnswer (terms_of mid) (call (Ok x)) o p → IsHonest g (database_of mid)
         → AccountStep (terms_of old) before (call (Ok x)) (changed before name p)
-    moves_to p x answer clean =
-        subst (λ (n : List ℕ). AccountStep (terms_of old) before (call (Ok x)) (changed before n p)) (calls (Ok x))
-        (step_of (terms_of old) before (call (Ok x)) p (under_old (Ok x) p answer clean))
+    moves_to p x answer clean = (
+      rw (calls (Ok x), get-changed before name p, shows reads.has clean, is, ← reads.terms) answer,
+      rw (calls (Ok x)) (others_kept before name p),
+    )
 
     -- an accepted call that could not write its name's text, while the file is still open
     pub keeps : Settled g → {new : AccountFile S g} (p : Option Phc) (did x : X) → terms_of new ≡ terms_of mid
@@ -330,25 +297,14 @@ module _ {S : Type 0} {g : Ghosts S} {X : Type 0} (call : Call X) {name : List �
         → Changes g (database_of mid) (database_of new) before (changed before name p) (IsLong name) done
         → {later : Bool} → (IsHonest g (database_of new) → IsTrue later ↔ IsClosed new) → later ≡ false → Ends (Ok x) new
     keeps settled p did x same wrote answer (Ok _) failed change tests shut = absurd cc
-    keeps settled {new} p did x same wrote answer (Err f) failed change tests shut =
-        let is_open : IsHonest g (database_of new) → IsOpen g (database_of new) = λ clean.
-        open_of _ (λ is. absurd (let hit = (tests clean).1 is in cc)) in (
-          before,
-          record {
-            has = change.kept;
-            step = λ clean. stays (Ok x) answer (change.honest clean);
-            terms = same ∙ reads.terms;
-            honest = λ clean. was_honest reads (change.honest clean);
-            unchanged = tt;
-            refused = tt;
-            crash = λ clean was_open. may_leave reads new (inl refl) (λ now. inr (did, moves_to p did wrote (change.honest now)))
-                change.crash clean;
-            durable = λ clean. leaves_kept g (database_of new) before (settled (database_of new)) change.kept.1 clean (is_open clean);
-            closed = λ clean h. absurd (live reads clean h);
-            closes = λ clean was_open. inl (is_open clean);
-            cause = λ clean. tt;
-          },
-        )
+    keeps settled {new} p did x same wrote answer (Err f) failed change tests shut = (
+      before,
+      ends reads {new = new} same (inl refl) (λ now. inr (did, moves_to p did wrote (change.honest now))) change (Ok x) before
+          change.kept
+          (λ clean. stays (Ok x) answer (change.honest clean)) tt tt
+          (λ clean. leaves_kept g (database_of new) before (settled (database_of new)) change.kept.1 clean
+          (open_of _ (λ is. absurd (let hit = (tests clean).1 is in cc)))) (λ clean. tt),
+    )
 
     -- an accepted call that writes its name's text
     pub writes : {new : AccountFile S g} (p : Option Phc) (x : X) → terms_of new ≡ terms_of mid
@@ -381,21 +337,23 @@ cannot_serve {X = X} call {old = old} {before = before} {e} r is reads =
 
 -- ---- the password of a name
 
--- the name has a text that was written, and a password that it admits
-pub has_written : {S : Type 0} {g : Ghosts S} {s new : S} (terms : Terms) {before after : Store}
-    (name password : List ℕ) {v : Phc} {long : Type 0} {X : Type 0} (x : X) (done : Result (Unit {0}) StoreError)
-    → Changes g s new before (insert before name v) long done → rows.HasNames g new after → Admits terms password v
-    → (r : Result X FileError) → r ≡ answered done x → OnOk r (IsHonest g new → HasPassword terms after name password)
-has_written {g = g} {new = new} terms {before} {after} name password {v} x (Ok _) change has admits r e = rw e (λ clean.
-    let same = same_names g new (insert before name v) after change.kept has clean (change.durable clean).0 in
-    subst (λ names. HasPassword terms names name password) same (rw (get-same before name v) admits))
-has_written terms name password x (Err f) change has admits r e = rw e tt
-
 -- the name still has its text, which admits the password
 pub has_kept : {S : Type 0} {g : Ghosts S} {new : S} (terms : Terms) {before after : Store}
     (name password : List ℕ) {v : Phc} → rows.HasNames g new before → rows.HasNames g new after → (IsHonest g new → IsOpen g new)
     → (IsHonest g new → get before name ≡ Some v) → Admits terms password v
     → IsHonest g new → HasPassword terms after name password
 has_kept {g = g} {new = new} terms {before} {after} name password has held is_open had admits clean =
-    let same = same_names g new before after has held clean (is_open clean) in
-    subst (λ names. HasPassword terms names name password) same (rw (had clean) admits)
+    subst (λ names. HasPassword terms names name password) (same_names g new before after has held clean (is_open clean))
+    (rw (had clean) admits)
+
+-- or it has one that was written
+pub has_written : {S : Type 0} {g : Ghosts S} {s new : S} (terms : Terms) {before after : Store}
+    (name password : List ℕ) {v : Phc} {long : Type 0} {X : Type 0} (x : X) (done : Result (Unit {0}) StoreError)
+    → Changes g s new before (insert before name v) long done → rows.HasNames g new after → Admits terms password v
+    → (r : Result X FileError) → r ≡ answered done x → OnOk r (IsHonest g new → HasPassword terms after name password)
+has_written terms {before} name password {v} x (Ok _) change has admits r e = rw e (has_kept terms name password change.kept has
+    (λ clean. (change.durable clean).0) (λ clean. get-same before name v) admits)
+has_written terms name password x (Err f) change has admits r e = rw e tt
+
+-- what an answer says
+pub ruleset answers = (on_read, of_file, undrawn, writes_at)

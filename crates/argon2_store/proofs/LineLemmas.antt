@@ -1,7 +1,8 @@
 -- Rows of names, one by one, and their lines.
 use Rattle.argon2_store.proofs.Imports.{◌≡◌, ℕ, List, [], ◌∷◌, ◌++◌, map, append_assoc, append-nil, Option, Some, None, true, false, refl, sym, ap, subst, ◌∙◌, entries, is_some}
-use Rattle.argon2_store.proofs.Imports.{IfSome, Row, phc_of, Phc, PasswordHash, Store, plain, Shape, Index, Forward, order_of, sought, Advances, with_cursor, IsAccount, line}
+use Rattle.argon2_store.proofs.Imports.{IfSome, Row, phc_of, Phc, PasswordHash, Store, plain, Index, Forward, order_of, sought, Advances, with_cursor, IsAccount, line}
 use Rattle.argon2_store.proofs.Imports.{lines, lines_of, row_of, rows_of}
+use Rattle.std.proofs.KnownBytes.{Appends-kept, Appends-nil, Appends-trans}
 use Rattle.std.specs.Io.KnownBytes.{Appends, Keeps}
 use Rattle.sqlite_trees.specs.View.{View as Shown}
 use Rattle.sqlite_store.proofs.RowLemmas.{from_key-none}
@@ -11,12 +12,6 @@ pub an_account : (row : Row) (o : Option PasswordHash) → is_some o ≡ true
     → IfSome o (λ hash. (name : List ℕ) × (row ≡ row_of (name, phc_of hash))) → IsAccount row
 an_account row (Some hash) some (name, is) = ((name, phc_of hash), hash.grammatical, is)
 an_account row None some found = absurd cc
-
-pub appends_then : (a b c : Option (List ℕ)) (xs ys : List ℕ) → Appends a b xs → Appends b c ys → Appends a c (xs ++ ys)
-appends_then None b c xs ys first then = tt
-appends_then (Some ls) None c xs ys first then = absurd first
-appends_then (Some ls) (Some ms) None xs ys first then = absurd then
-appends_then (Some ls) (Some ms) (Some ns) xs ys first then = then ∙ ap (λ l. l ++ ys) first ∙ append_assoc ls xs ys
 
 -- the next row is that of the next name
 pub next_name : (es : List (List ℕ × Phc)) (row : Row) (left : List Row) → Some (map row_of es) ≡ Some (row ∷ left)
@@ -47,15 +42,9 @@ begin_lines view first now names out shape is rows = record {
   done = [];
   left = entries names;
   all = refl;
-  rows = ap (λ (w : Shown). w.cursors 0) is
-      ∙ ap (λ (s : Shape). Some (sought (order_of s) Forward [] (first.trees 0))) shape
-      ∙ ap Some (from_key-none plain (first.trees 0)) ∙ ap Some rows;
-  written = appends_none out;
+  rows = rw (is, shape) (ap Some (from_key-none plain (first.trees 0) ∙ rows));
+  written = Appends-nil out;
 }
-  where
-    appends_none : (o : Option (List ℕ)) → Appends o o []
-    appends_none None = tt
-    appends_none (Some xs) = sym (append-nil xs)
 
 -- one row more
 pub next_row : (view : View) (first now next : Shown) (names : Store) (old mid new : Option (List ℕ)) (row : Row)
@@ -70,7 +59,7 @@ next_row view first now next names old mid new row writing moves wrote =
       rows = ap (λ (w : Shown). w.cursors 0) moves.2 ∙ ap Some rest;
       written = subst (Appends old new) (sym (lines-append view writing.done (e ∷ [])
           ∙ ap (λ l. lines view writing.done ++ l) (append-nil (line view e))))
-          (appends_then old mid new _ _ writing.written (wrote e at));
+          (Appends-trans old mid new _ _ writing.written (wrote e at));
     }
 
 pub its_name : (view : View) (first now next : Shown) (names : Store) (old mid : Option (List ℕ)) (row : Row)
@@ -85,10 +74,4 @@ pub all_lines : (view : View) (first now next : Shown) (names : Store) (old mid 
 all_lines view first now next names old mid new row writing ended kept =
     let none = no_more writing.left (sym writing.rows ∙ ended.0) in
     let all : entries names ≡ writing.done = writing.all ∙ ap (λ l. writing.done ++ l) none ∙ append-nil writing.done in
-    subst (λ es. Appends old new (lines view es)) (sym all) (flushed old mid new _ writing.written kept)
-  where
-    flushed : (a b c : Option (List ℕ)) (xs : List ℕ) → Appends a b xs → Keeps b c → Appends a c xs
-    flushed None b c xs first then = tt
-    flushed (Some ls) None c xs first then = absurd first
-    flushed (Some ls) (Some ms) None xs first then = absurd then
-    flushed (Some ls) (Some ms) (Some ns) xs first then = then ∙ first
+    subst (λ es. Appends old new (lines view es)) (sym all) (Appends-kept old mid new _ writing.written kept)

@@ -4,7 +4,7 @@ use Rattle.argon2_store.proofs.Imports.{seen_image, AreWhole, Image, PageMap, Is
 use Rattle.argon2_store.proofs.Imports.{catalog_tree, Trees, rows_at, reading, schema_in, state, catalog_rows, all_shapes, listed_from, FileStore, FoundIn}
 use Rattle.argon2_store.proofs.Imports.{IsUnstarted, MayHave, StandsFor, account, ◌≤◌, true, false, cond, Option, None, length, slice_index, unwrap_or, zero-add, ◌-◌}
 use Rattle.argon2_store.proofs.Imports.{◌*◌, Some, cases_eq, plain, column, be32, part, IsIgnored, Replays, pages_after, part_within, slice_index-part, coded_list}
-use Rattle.argon2_store.proofs.Imports.{range_with_len, length-map, Adopts, reserved, sealed, stored_size, length-sealed, recovers_once, Index, IsFile, recovers}
+use Rattle.argon2_store.proofs.Imports.{range_with_len, length-map, reserved, sealed, stored_size, length-sealed, recovers_once, Index, IsFile, recovers}
 use Rattle.argon2_store.proofs.Imports.{same_listing, file_trees, Store, HoldsNames, IsAfterOpens, IsTableOf, LeavesNames, rows_of, Holds}
 use Rattle.sqlite_disk.specs.declared.Disk.{Ghosts}
 use Rattle.sqlite_trees.specs.declared.store.Shape.TheVariants.{Table}
@@ -15,6 +15,7 @@ use Rattle.sqlite_wal.proofs.AppendLemmas.{page_from_pages, some_value}
 use Rattle.sqlite_wal.specs.PageSize.{IsPageSize}
 use Rattle.sqlite_pool.specs.Header.{first_page, first_page_byte}
 use Rattle.std.proofs.lemmas.List.FromFn.{length-range_with_len}
+use mathlib.Core.HLevel.{⊥_prop}
 use base.Stored.{Gv, gcons, gnil, gnum, num}
 use Rattle.sqlite_pool.specs.File.{in_use, unlocked}
 use Rattle.sqlite_pool.specs.FreeList.{live}
@@ -32,35 +33,26 @@ use Rattle.sqlite_value.specs.contracts.row.Row as row
 -- ---- the size of a page
 
 -- an image is a sound file by one size of a page alone
-module _ (img : Image) (a b : ℕ) (p q : PageMap) (found : Recovers a img p) (also : Recovers b img q)
-    (large : 504 ≤ a) (big : 504 ≤ b) (sound : IsSoundFile a p) (whole : IsSoundFile b q) where
-  first : Adopts a img p
-  first = adopts_of a img p found
-
-  second : Adopts b img q
-  second = adopts_of b img q also
-
-  same_stored : stored_size a ≡ stored_size b
-  same_stored = elim (cases_eq (stored_size a) (stored_size b)) [
-    | inl same ↦ same
-    | inr other ↦
-        let ignored : ¬ (¬ IsIgnored img.log) = λ read.
-        other (sym (size_by_log a img p first read) ∙ size_by_log b img q second read) in
-        absurd (ignored (λ none. other (sym (size_by_file a img p first large sound none)
-        ∙ size_by_file b img q second big whole none)))
-  ]
-
-  same_size : a ≡ b
-  same_size =
-      let one = reserved_word a img p first large sound in
-      let two = reserved_word b img q second big whole in
-      let pages = raw_once _ img _ _ (subst (λ n. raw.Recovers n img first.stored) same_stored first.found) second.found in
-      let both = sym one.1 ∙ ap (λ (s : PageMap). s 1) pages ∙ two.1 in
-      let page : one.0 ≡ two.0 = cc in
-      omega (arith, same_stored, one.3, two.3, ap (λ x. be32 x 20) page)
-
-  once : (a ≡ b) × (p ≡ q)
-  once = (same_size, recovers_once b img p q (subst (λ n. Recovers n img p) same_size found) also)
+once : (img : Image) (a b : ℕ) (p q : PageMap) → Recovers a img p → Recovers b img q → 504 ≤ a → 504 ≤ b → IsSoundFile a p
+    → IsSoundFile b q → (a ≡ b) × (p ≡ q)
+once img a b p q found also large big sound whole =
+    let first = adopts_of a img p found in
+    let second = adopts_of b img q also in
+    let stored : stored_size a ≡ stored_size b = elim (cases_eq (stored_size a) (stored_size b)) [
+      | inl same ↦ same
+      | inr other ↦
+          let ignored : ¬ (¬ IsIgnored img.log) = λ read.
+          other (sym (size_by_log a img p first read) ∙ size_by_log b img q second read) in
+          absurd (ignored (λ none. other (sym (size_by_file a img p first large sound none)
+          ∙ size_by_file b img q second big whole none)))
+    ] in
+    let one = reserved_word a img p first large sound in
+    let two = reserved_word b img q second big whole in
+    let pages = raw_once _ img _ _ (subst (λ n. raw.Recovers n img first.stored) stored first.found) second.found in
+    let both = sym one.1 ∙ ap (λ (s : PageMap). s 1) pages ∙ two.1 in
+    let page : one.0 ≡ two.0 = cc in
+    let size : a ≡ b = omega (arith, stored, one.3, two.3, ap (λ x. be32 x 20) page) in
+    (size, recovers_once b img p q (subst (λ n. Recovers n img p) size found) also)
 
 -- ---- the table
 
@@ -195,9 +187,6 @@ carried_back old new same pages recs q found =
       present = was.present;
     }
 
-no_path : IsProp ⊥
-no_path a b = absurd a
-
 -- a database of the table is not one that is still to be begun
 begun : (size : ℕ) (schema : List Wanted) (img : Image) (pages : PageMap) → 504 ≤ size → Recovers size img pages
     → IsFile size schema pages → listed_from 0 schema ≡ listed_from 0 (account ∷ []) → ¬ IsUnstarted 4096 img
@@ -219,11 +208,11 @@ near_table : (img : Image) (first : List Row) → IsTableOf img first → Near (
 near_table img first (size, schema, pages, allowed, recs, file, list, is) =
     let large = large_size size allowed in (
       λ rows found never. elim found [
-        | inl there ↦ ∥∥₁_elim there.2 no_path (λ theirs.
+        | inl there ↦ ∥∥₁_elim there.2 ⊥_prop (λ theirs.
             let (sized, one) = once img size 4096 pages there.0 recs there.1 large (omega arith) file.sound theirs.sound in
             let read = ap₂ (λ n p. file_trees n (account ∷ []) p 0) sized one ∙ there.3 in
             never (sym (first_tree size schema pages list ∙ read) ∙ is))
-        | inr none ↦ ∥∥₁_elim none.0 no_path (begun size schema img pages large recs file list)
+        | inr none ↦ ∥∥₁_elim none.0 ⊥_prop (begun size schema img pages large recs file list)
       ],
       λ _ q. magic size img pages recs large file.sound q,
     )
@@ -232,7 +221,7 @@ near_rows : (img : Image) (first : List Row) → MayHave img first → Near (λ 
 near_rows img first (inl table) = near_table img first table
 near_rows img first (inr (unbegun, none)) = (
   λ rows found never. elim found [
-    | inl there ↦ ∥∥₁_elim there.2 no_path
+    | inl there ↦ ∥∥₁_elim there.2 ⊥_prop
         (λ file. begun 4096 (account ∷ []) img there.0 (omega arith) there.1 file refl unbegun)
     | inr also ↦ never (also.1 ∙ sym none)
   ],
@@ -250,7 +239,7 @@ module _ (Q : List Row → Type 0) (old new : Image) (near : Near Q old) where
     near_carried = (
       λ rows found never. elim found [
         | inl there ↦ back there.0 there.1 (λ was. near.0 rows (inl (there.0, was, there.2, there.3)) never)
-        | inr none ↦ ∥∥₁_elim none.0 no_path (λ unbegun. elim unbegun [
+        | inr none ↦ ∥∥₁_elim none.0 ⊥_prop (λ unbegun. elim unbegun [
           | inl blank ↦
               let empty : ¬ Q [] = subst (λ (r : List Row). ¬ Q r) none.1 never in
               let gone : IsUnreadable 4096 old =
@@ -271,12 +260,12 @@ module _ (Q : List Row → Type 0) (old new : Image) (near : Near Q old) where
 
   near_same : (rows : List Row) → ∥ FoundIn 4096 old rows ∥₁ → ∥ MayHave new rows ∥₁ → Near Q new
   near_same rows before after =
-      let some : ¬ ¬ Q rows = λ never. ∥∥₁_elim before no_path (λ found. near.0 rows found never) in (
-        λ more found never. ∥∥₁_elim after no_path (λ may.
+      let some : ¬ ¬ Q rows = λ never. ∥∥₁_elim before ⊥_prop (λ found. near.0 rows found never) in (
+        λ more found never. ∥∥₁_elim after ⊥_prop (λ may.
             (near_rows new rows may).0 more found (λ same. some (λ yes. never (subst Q (sym same) yes)))),
         λ empty q found whole. elim (cases_eq (begin q) 83) [
           | inl is ↦ is
-          | inr never ↦ absurd (∥∥₁_elim after no_path (λ may.
+          | inr never ↦ absurd (∥∥₁_elim after ⊥_prop (λ may.
               never ((near_rows new rows may).1 (λ none. some (λ yes. empty (subst Q (sym none) yes))) q found whole)))
         ],
       )
@@ -296,15 +285,10 @@ near_opens Q (found ∷ older) before left (earlier, stands) near =
 
 stable : (a b : Gv) → ¬ ¬ (a ≡ b) → a ≡ b
 stable gnil gnil h = refl
-stable gnil (gnum n) h = absurd (h (λ e. cc))
-stable gnil (gcons b c) h = absurd (h (λ e. cc))
-stable (gnum m) gnil h = absurd (h (λ e. cc))
 stable (gnum m) (gnum n) h = elim (cases_eq m n) [ inl same ↦ ap gnum same | inr other ↦ absurd (h (λ e. other (ap num e))) ]
-stable (gnum m) (gcons b c) h = absurd (h (λ e. cc))
-stable (gcons a d) gnil h = absurd (h (λ e. cc))
-stable (gcons a d) (gnum n) h = absurd (h (λ e. cc))
 stable (gcons a d) (gcons b c) h =
     ap₂ gcons (stable a b (λ never. h (λ e. never (cc)))) (stable d c (λ never. h (λ e. never (cc))))
+stable a b h = absurd (h (λ e. cc))
 
 rows_stable : (a b : List Row) → ¬ ¬ (a ≡ b) → a ≡ b
 rows_stable a b h =
@@ -341,7 +325,7 @@ found_rows img rows (inr (none, is)) = ∥∥₁_map none (λ unbegun. inr (unbe
 names_stay : (opens : List Image) (before left : Image) → IsAfterOpens opens before left → (names found : Store)
     → HoldsNames before names → HoldsNames left found → found ≡ names
 names_stay opens before left after names found held holds = rows_of-once found names holds.0 held.0
-    (rows_stable _ _ (λ never. ∥∥₁_elim (found_rows before _ held.1) no_path
+    (rows_stable _ _ (λ never. ∥∥₁_elim (found_rows before _ held.1) ⊥_prop
     (λ may. (near_opens _ opens before left after (near_rows before (rows_of names) may)).0 _ holds.1 never)))
 
 pub leaves_names : {D : Type 0} (g : Ghosts D) (old new : D × D) → LeavesNames g old new

@@ -35,11 +35,6 @@ fresh it ready is clean = record {
   listed = lists it (clean_of _ clean) is;
 }
 
-pub unstarted : {D : Type 0} {g : Ghosts D} (it : Unopened D g) → below.IsUnstarted it
-    → IsUnstarted (state_of it).page_size (image it)
-unstarted it (inl blank) = inl blank
-unstarted it (inr empty) = inr (empty.0, empty.1, empty.2.0.sound, empty.2.1)
-
 -- ---- an open that fails
 
 -- what stands for two files stands for those that they were before they were read

@@ -1,5 +1,5 @@
 -- What calls make of a file, and what an open finds after them.
-use Rattle.argon2_store.proofs.Imports.{arith, ◌≡◌, ℕ, Bool, true, false, List, [], ◌∷◌, ◌++◌, map, Result, Ok, Err, inl, inr, refl, sym, subst, ◌∙◌, append_assoc, reverse-append}
+use Rattle.argon2_store.proofs.Imports.{arith, ◌≡◌, ℕ, List, [], ◌∷◌, ◌++◌, map, Result, Ok, Err, inl, inr, refl, sym, subst, ◌∙◌, append_assoc, reverse-append, cases_Bool}
 use Rattle.argon2_store.proofs.Imports.{∥∥₁_elim, ∥∥₁_map, flat_map, ◌⊎◌, Option, IsSome, SeenMayStay, settled_at, FileStore, Trees, Ghosts, AccountEvent, AccountRun, AccountStep}
 use Rattle.argon2_store.proofs.Imports.{AreTerms, Terms, adding, Store, AddsOrNone, Call, IsBeforeOrAfter, IsClosed, Runs, Serves, Stays, database_of, terms_of, AddsAll, AreTexts}
 use Rattle.argon2_store.proofs.Imports.{AreEventsOf, Did, Does, EndsRun, FileCall, IsFoundAfter, IsLate, IsLateEvent, IsLateOf, IsShutOut, Run, add_all, added, event_of, events_of}
@@ -54,76 +54,55 @@ module _ {S : Type 0} {g : Ghosts S} (settled : Settled g) (terms : Terms) (firs
     abbrev Now : (List AccountEvent → Type 0) → Type 0 → List AccountEvent → Type 0
     Now Late Shut late = (late ≡ []) ⊎ (Late late ⊎ (Shut × IsLate calls late))
 
-    open_or_not : {P : Type 0} → (IsOpen g (database_of old) → P) → (IsClosed old → P) → P
-    open_or_not {P} if_open if_closed = go (g.view (database_of old)).is_open refl
-      where
-        go : (b : Bool) → (g.view (database_of old)).is_open ≡ b → P
-        go true is = if_open is
-        go false is = if_closed is
-
-    -- the names are as they were, and a crash leaves them, or with some events that come late
-    stays : (Late : List AccountEvent → Type 0) (Shut : Type 0) → HasNames new before.names → terms_of new ≡ terms_of old
-        → (IsHonest g (database_of new) → IsHonest g (database_of old))
-        → (IsHonest g (database_of new) → IsOpen g (database_of old) → CrashLeaves g (database_of new)
-        (λ left. (left ≡ before.names) ⊎ ((late : List AccountEvent) × Late late × AccountRun terms before.names late left)))
-        → (IsHonest g (database_of new) → IsClosed old
-        → Shut × ((db : Trees) → g.recovers (database_of new) db → g.recovers (database_of old) db))
-        → Reached events (Now Late Shut) new
-    stays Late Shut has same honest crash closed = record {
-      names = before.names;
-      has = has;
-      under = same ∙ before.under;
-      run = λ clean. before.run (honest clean);
-      left = λ clean. open_or_not
-          (λ is_open db found.
-          let (names, has, left) = crash clean is_open db found in (
-            names,
-            has,
-            elim left [
-              | inl is ↦ ([], inl refl, subst (AccountRun terms first events) (sym is) (before.run (honest clean)))
-              | inr more ↦ (
-                more.0,
-                inr (inl more.1),
-                run_then terms first before.names names more.0 events (before.run (honest clean)) more.2,
-              )
-            ],
-          ))
-          (λ is_closed db found.
-          let (shut, old_one) = closed clean is_closed in
-          let (names, has, more) = before.left (honest clean) db (old_one db found) in
-          (names, has, (more.0, inr (inr (shut, more.1)), more.2)));
-    }
-
-    -- events that are in the file
-    lasts : (Late : List AccountEvent → Type 0) (Shut : Type 0) (newer : List AccountEvent) (after : Store)
+    -- the names after the call, made by newer events, and a crash leaves them, or with some events that come late
+    reaches : (Late : List AccountEvent → Type 0) (Shut : Type 0) (newer : List AccountEvent) (after : Store)
         → HasNames new after → terms_of new ≡ terms_of old → (IsHonest g (database_of new) → IsHonest g (database_of old))
         → (IsHonest g (database_of new) → AccountRun terms before.names newer after)
-        → (IsHonest g (database_of new) → CrashLeaves g (database_of new) (λ left. left ≡ after))
+        → (IsHonest g (database_of new) → IsOpen g (database_of old) → CrashLeaves g (database_of new)
+        (λ left. (left ≡ after) ⊎ ((late : List AccountEvent) × Late late × AccountRun terms after late left)))
+        → (IsHonest g (database_of new) → IsClosed old → Shut × (newer ≡ [])
+        × ((db : Trees) → g.recovers (database_of new) db → g.recovers (database_of old) db))
         → Reached (newer ++ events) (Now Late Shut) new
-    lasts Late Shut newer after has same honest later left =
-        let run : IsHonest g (database_of new) → AccountRun terms first (newer ++ events) after = λ clean.
-        run_then terms first before.names after newer events (before.run (honest clean)) (later clean) in
+    reaches Late Shut newer after has same honest step crash closed =
+        let run = λ (clean : IsHonest g (database_of new)).
+        run_then terms first before.names after newer events (before.run (honest clean)) (step clean) in
         record {
           names = after;
           has = has;
           under = same ∙ before.under;
           run = run;
-          left = λ clean db found.
-              let (names, has, is) = left clean db found in
-              (names, has, ([], inl refl, subst (AccountRun terms first (newer ++ events)) (sym is) (run clean)));
+          left = λ clean db found. elim (cases_Bool (g.view (database_of old)).is_open) [
+            | inl is_open ↦
+                let (names, held, left) = crash clean is_open db found in (
+                  names,
+                  held,
+                  elim left [
+                    | inl is ↦ ([], inl refl, subst (AccountRun terms first (newer ++ events)) (sym is) (run clean))
+                    | inr more ↦ (
+                      more.0,
+                      inr (inl more.1),
+                      run_then terms first after names more.0 (newer ++ events) (run clean) more.2,
+                    )
+                  ],
+                )
+            | inr is_closed ↦
+                let (shut, none, was) = closed clean is_closed in
+                let (names, held, more) = before.left (honest clean) db (was db found) in
+                (names, held, (more.0, inr (inr (shut, more.1)), rw none more.2))
+          ];
         }
 
-    -- a call with an error of the file
-    cut : {X : Type 0} {answers : Result X FileError → Store → Type 0} {May : Store → Type 0} {long : Type 0}
-        (Late : List AccountEvent → Type 0) (e : FileError) (after : Store)
-        → ((left : Store) → May left
-        → (left ≡ before.names) ⊎ ((late : List AccountEvent) × Late late × AccountRun terms before.names late left))
-        → Runs answers May long (Err e) old new before.names after
-        → Reached events (Now Late (◌≡◌ {A = Result X FileError} (Err e) (Err Closed))) new
-    cut Late e after may does = stays Late _ (subst (HasNames new) does.unchanged does.has) does.terms does.honest
-        (λ clean is_open db found. let (names, has, left) = does.crash clean is_open db found in (names, has, may names left))
+    -- a call that answers so
+    runs : {X : Type 0} {answers : Result X FileError → Store → Type 0} {May : Store → Type 0} {long : Type 0}
+        {result : Result X FileError} {after : Store} (Late : List AccountEvent → Type 0) (newer : List AccountEvent)
+        → Runs answers May long result old new before.names after
+        → (IsHonest g (database_of new) → AccountRun terms before.names newer after)
+        → (IsHonest g (database_of new) → IsOpen g (database_of old) → CrashLeaves g (database_of new)
+        (λ left. (left ≡ after) ⊎ ((late : List AccountEvent) × Late late × AccountRun terms after late left)))
+        → (result ≡ Err Closed → newer ≡ []) → Reached (newer ++ events) (Now Late (result ≡ Err Closed)) new
+    runs Late newer does step crash none = reaches Late _ newer _ does.has does.terms does.honest step crash
         (λ clean is_closed. let (shut, same) = does.closed (does.honest clean) is_closed in
-        (shut, λ db found. subst (λ s. g.recovers s db) same found))
+        (shut, none shut, λ db found. subst (λ s. g.recovers s db) same found))
 
     -- one event
     one : (event : AccountEvent) (left : Store) → AccountStep (terms_of old) before.names event left
@@ -151,44 +130,45 @@ module _ {S : Type 0} {g : Ghosts S} (settled : Settled g) (terms : Terms) (firs
         → Reached (event_of call result ++ events) (Now (IsLateEvent call result) (result ≡ Err Closed)) new
     serves call (Ok x) serve =
         let (after, does) = serve before.names before.has in
-        lasts (λ late. ⊥) _ (call (Ok x) ∷ []) after does.has does.terms does.honest
-        (λ clean. one (call (Ok x)) after (does.step clean)) does.durable
+        runs (λ late. ⊥) (call (Ok x) ∷ []) does (λ clean. one (call (Ok x)) after (does.step clean))
+        (λ clean is_open db found. let (names, has, is) = does.durable clean db found in (names, has, inl is)) (λ is. absurd cc)
     serves call (Err (Account e)) serve =
         let (after, does) = serve before.names before.has in
-        lasts (λ late. ⊥) _ (call (Err e) ∷ []) after does.has does.terms does.honest
-        (λ clean. one (call (Err e)) after (does.step clean))
-        (λ clean. open_or_not
-        (λ is_open db found.
-        let (names, has, is) = refused_left does.refused clean is_open db found in (names, has, is ∙ sym does.unchanged))
-        (λ is_closed. let never = (does.closed (does.honest clean) is_closed).0 in absurd cc))
+        runs (λ late. ⊥) (call (Err e) ∷ []) does (λ clean. one (call (Err e)) after (does.step clean))
+        (λ clean is_open db found. let (names, has, is) = refused_left does.refused clean is_open db found in
+        (names, has, inl (is ∙ sym does.unchanged))) (λ is. absurd cc)
     serves call (Err e) serve =
-        let (after, does) = serve before.names before.has in cut (IsLateEvent call (Err e)) e after (late_call call) does
+        let (after, does) = serve before.names before.has in
+        runs (IsLateEvent call (Err e)) [] does (λ clean. does.unchanged)
+        (λ clean is_open db found. let (names, has, left) = does.crash clean is_open db found in
+        (names, has, rw does.unchanged (late_call call names left))) (λ is. refl)
 
     adds : (es : List (List ℕ × List ℕ)) (result : Result (Unit {0}) FileError) → AddsOrNone es result old new
         → Reached (events_of (add_all es result) ++ events) (Now (IsLateOf (add_all es result)) (result ≡ Err Closed)) new
     adds es (Ok x) add =
         let (after, does) = add before.names before.has in
-        lasts (λ late. ⊥) _ (added es) after does.has does.terms does.honest
-        (λ clean. added_run terms es before.names after (does.step clean)) does.durable
+        runs (λ late. ⊥) (added es) does (λ clean. added_run terms es before.names after (does.step clean))
+        (λ clean is_open db found. let (names, has, is) = does.durable clean db found in (names, has, inl is)) (λ is. absurd cc)
     adds es (Err (Account e)) add =
         let (after, does) = add before.names before.has in
-        stays (λ late. ⊥) _ (subst (HasNames new) does.unchanged does.has) does.terms does.honest
-        (λ clean is_open db found.
-        let (names, has, is) = refused_left does.refused clean is_open db found in (names, has, inl is))
-        (λ clean is_closed. ((does.closed (does.honest clean) is_closed).0, does.refused.outcomes))
+        runs (λ late. ⊥) [] does (λ clean. does.unchanged)
+        (λ clean is_open db found. let (names, has, is) = refused_left does.refused clean is_open db found in
+        (names, has, inl (is ∙ sym does.unchanged))) (λ is. refl)
     adds es (Err e) add =
         let (after, does) = add before.names before.has in
-        cut (IsLateOf (add_all es (Err e))) e after (late_names es) does
+        runs (IsLateOf (add_all es (Err e))) [] does (λ clean. does.unchanged)
+        (λ clean is_open db found. let (names, has, left) = does.crash clean is_open db found in
+        (names, has, rw does.unchanged (late_names es names left))) (λ is. refl)
 
     keeps : (error : Option FileError) → ((names : Store) → HasNames old names → Stays error names old new)
         → Reached events (Now (λ late. ⊥) (IsSome error)) new
     keeps error stay =
         let does = stay before.names before.has in
-        stays (λ late. ⊥) _ does.has does.terms (λ clean. omega (arith, clean, does.quiet.clean))
+        let honest : IsHonest g (database_of new) → IsHonest g (database_of old) = λ clean. omega (arith, clean, does.quiet.clean)
+        in
+        reaches (λ late. ⊥) _ [] before.names does.has does.terms honest (λ clean. refl)
         (λ clean is_open db found. let (names, has, is) = does.left clean is_open db found in (names, has, inl is))
-        (λ clean is_closed.
-        let shut = does.closed (omega (arith, clean, does.quiet.clean)) is_closed in
-        (subst IsSome (sym shut.0) refl, does.quiet.outcomes))
+        (λ clean is_closed. (rw (does.closed (honest clean) is_closed).0 refl, refl, does.quiet.outcomes))
 
     pub one_more : (call : FileCall) → Does call old new
         → Reached (events_of call ++ events) (Now (IsLateOf call) (IsShutOut call)) new

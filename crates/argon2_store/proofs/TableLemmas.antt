@@ -1,19 +1,16 @@
 -- What the rows of a table are after each step of a change.
-use Rattle.argon2_store.proofs.Imports.{◌≡◌, ℕ, ◌≤◌, List, Option, Some, None, Result, Ok, Err, Bool, true, false, refl, sym, ap, ap₂, subst, ◌∙◌, IsTrue, arith, inl, inr, ◌⊎◌}
-use Rattle.argon2_store.proofs.Imports.{All, IfErr, IfOk, MatchResult, OnOk, Coded-set, ∥∥₁_elim, ∥∥₁_map, remove, MoreFaults, plain, Row, StoreError, Shape, Index, Ghosts}
-use Rattle.argon2_store.proofs.Imports.{catalog_tree, Trees, order_of, View, Commits, IsFailure, KeepsSchema, OnlyWrites, SetsTree, doubt, Phc, Store, AreTexts, rows_of, Changes}
-use Rattle.argon2_store.proofs.Imports.{HasBegun, HasNames, HasSome, Holds, IsHonest, IsKept, IsOpen, KeepsNames, CrashLeaves, Sees, StaysQuiet, Writes, changed, done_of}
+use Rattle.argon2_store.proofs.Imports.{◌≡◌, ℕ, ◌≤◌, List, Result, Ok, Err, Bool, true, false, refl, sym, ap, ap₂, subst, ◌∙◌, IsTrue, arith, inl, inr, ◌⊎◌}
+use Rattle.std.proofs.lemmas.Result.{on_ok_weaker, IfErr-weaker}
+use Rattle.std.specs.Result.{IsOkAnd}
+use Rattle.argon2_store.proofs.Imports.{All, IfErr, MatchResult, OnOk, Coded-set, ∥∥₁_elim, ∥∥₁_map, MoreFaults, plain, Row, StoreError, Shape, Index, Ghosts}
+use Rattle.argon2_store.proofs.Imports.{catalog_tree, Trees, order_of, View, IsFailure, KeepsSchema, OnlyWrites, SetsTree, doubt, Store, AreTexts, rows_of, Changes}
+use Rattle.argon2_store.proofs.Imports.{HasBegun, HasNames, HasSome, Holds, IsHonest, IsKept, IsOpen, KeepsNames, CrashLeaves, Sees, StaysQuiet, Writes}
 use Rattle.sqlite_trees.specs.contracts.store.Shape.{the_row}
 use Rattle.sqlite_trees.specs.declared.error.StoreError.TheVariants.{OutOfMemory, Broken, Unstorable}
 use Rattle.sqlite_trees.specs.View.{HasCause}
-use Rattle.argon2_store.proofs.RowLemmas.{get-gone-same, insert-remove, remove-none}
 use Rattle.sqlite_value.specs.declared.keys.Order.{Order}
 
 -- ---- answers
-
-pub on_ok : {T E P Q : Type 0} (r : Result T E) → OnOk r P → (P → Q) → OnOk r Q
-on_ok (Ok x) p f = f p
-on_ok (Err e) p f = tt
 
 pub on_all : {T E P : Type 0} (r : Result T E) → P → OnOk r P
 on_all (Ok x) p = p
@@ -26,44 +23,19 @@ committed A (Ok x) result p later f = on_all result (λ h. f h p)
 committed A (Err e) (Ok x) p later f = λ h. absurd (let is = later h in cc)
 committed A (Err e) (Err d) p later f = tt
 
-pub on_ok_later : {T E P : Type 0} (Q : Type 0) (r : Result T E) → (P → OnOk r Q) → OnOk r (P → Q)
-on_ok_later Q (Ok x) f = f
-on_ok_later Q (Err e) f = tt
-
-pub if_ok2 : {T E : Type 0} {P R Q : T → Type 0} (r : Result T E) → IfOk r P → IfOk r R → ((x : T) → P x → R x → Q x) → IfOk r Q
-if_ok2 (Ok x) p q f = f x p q
-if_ok2 (Err e) p q f = tt
-
-pub if_err : {T E : Type 0} {P Q : E → Type 0} (r : Result T E) → IfErr r P → ((e : E) → P e → Q e) → IfErr r Q
-if_err (Ok x) p f = tt
-if_err (Err e) p f = f e p
-
-pub if_err2 : {T E : Type 0} {P R Q : E → Type 0} (r : Result T E) → IfErr r P → IfErr r R
-    → ((e : E) → P e → R e → Q e) → IfErr r Q
-if_err2 (Ok x) p q f = tt
-if_err2 (Err e) p q f = f e p q
+both_ok : {T E P Q : Type 0} (r : Result T E) → IsOkAnd r (λ _. P) → OnOk r Q → P × Q
+both_ok (Ok x) p q = (p, q)
+both_ok (Err e) p q = absurd p
 
 -- ---- views
 
--- a store that was read shows the same, but for its cursors
-pub was_seen : (old new : View) (names : Store) → new ≡ record old { cursors = new.cursors } → Holds new.trees names
-    → Holds old.trees names
-was_seen old new names same holds = subst (λ (v : View). Holds v.trees names) same holds
+pub open_of : (b : Bool) → (b ≡ false → ⊥) → IsTrue b
+open_of true h = refl
+open_of false h = absurd (h refl)
 
 -- a store that is sound is open
 pub open_if_sound : (v : View) → (v.is_open ≡ false → IsTrue v.is_broken) → v.is_broken ≡ false → IsTrue v.is_open
-open_if_sound v broken sound = go v.is_open refl
-  where
-    go : (b : Bool) → v.is_open ≡ b → IsTrue b
-    go true e = refl
-    go false e = absurd (let h = sym sound ∙ broken e in cc)
-
-pub still_open : (old new : View) → Commits old new → IsTrue old.is_open → IsTrue new.is_open
-still_open old new made is = subst IsTrue (sym (ap (λ (w : View). w.is_open) made.is)) is
-
-pub now_committed : (old new : View) (names : Store) → Commits old new → Sees old names → Holds new.committed names
-now_committed old new names made sees =
-    subst (λ t. Holds t names) (sym (ap (λ (w : View). w.committed) made.is)) (sees made.sound)
+open_if_sound v broken sound = open_of v.is_open (λ shut. let h = sym sound ∙ broken shut in cc)
 
 -- the row of a name is put in or taken out
 pub row_edited : (edit : Order → Row → List Row → List Row) (old new : View) (row its : Row) (names after : Store)
@@ -92,14 +64,6 @@ pub leaves_quiet : {S : Type 0} (g : Ghosts S) → Settled g → (old new : S) (
 leaves_quiet g settled old new names kept quiet clean is_open db found =
     leaves_kept g old names (settled old) kept (omega (arith, clean, quiet.clean)) is_open db (quiet.outcomes db found)
 
--- ---- names
-
--- a change of a name that was taken out is a change of the name
-pub changed-remove : (names : Store) (name : List ℕ) (o : Option Phc) → changed (remove names name) name o ≡ changed names
-    name o
-changed-remove names name None = remove-none (remove names name) name (get-gone-same names name)
-changed-remove names name (Some v) = insert-remove names name v
-
 -- ---- causes
 
 pub more_earlier : (old mid new : ℕ) → old ≤ mid → MoreFaults mid new → MoreFaults old new
@@ -119,7 +83,7 @@ cause_after : (old mid : View) (f m n : ℕ) (P : Type 0) (done result : Result 
     → MatchResult done (λ _. IfErr result (HasCause mid (MoreFaults m n) ⊥)) (λ e. result ≡ Err e)
     → IfErr result (HasCause old (MoreFaults f n) P)
 cause_after old mid f m n P (Ok x) result first later same cause more =
-    if_err result more (cause_map mid old (subst IsTrue same) (more_earlier f m n first) (λ h. absurd h))
+    IfErr-weaker result _ _ (cause_map mid old (subst IsTrue same) (more_earlier f m n first) (λ h. absurd h)) more
 cause_after old mid f m n P (Err e) result first later same cause is =
     rw is (cause_map old old (λ b. b) (λ more. omega (arith, more, later)) (λ h. h) e cause)
 
@@ -148,26 +112,14 @@ module _ {S : Type 0} (g : Ghosts S) where
     outcomes = λ db found. x.outcomes db (y.outcomes db found);
   }
 
-  schema_itself : (v : View) → KeepsSchema v v
-  schema_itself v = record { shape = refl; reals = refl; committed_shape = refl; committed_reals = refl; numbered = refl }
-
   -- a call that writes no row
-  pub writes_nothing : {s : S} {before after : Store} {long : Type 0} (r : Result (Unit {0}) StoreError)
-      → OnOk r (IsHonest g s → after ≡ before) → IfErr r (λ e. e ≡ OutOfMemory) → Writes g s s before after long r
-  writes_nothing {s} (Ok x) same why = record {
+  pub writes_nothing : {s : S} {before after : Store} {long : Type 0} → (IsHonest g s → after ≡ before)
+      → Writes g s s before after long (Ok tt)
+  writes_nothing {s} same = record {
     begun = λ names clean begun. begun;
     sees = λ clean sees. rw (same clean) sees;
     broken = λ clean. refl;
     cause = λ clean. tt;
-    schema = schema_itself (g.view s);
-    quiet = quiet_itself s;
-  }
-  writes_nothing {s} (Err e) same why = record {
-    begun = λ names clean begun. begun;
-    sees = tt;
-    broken = tt;
-    cause = λ clean. rw why tt;
-    schema = schema_itself (g.view s);
     quiet = quiet_itself s;
   }
 
@@ -189,14 +141,13 @@ module _ {S : Type 0} (g : Ghosts S) where
       indexed = ap (λ (f : ℕ → Shape). f 0) schema.shape ∙ begun.indexed;
       shapes = schema.shape ∙ begun.shapes ∙ sym schema.committed_shape;
       committed = λ is_open.
-          let still = still_committed (g.view old) (g.view new) r (on_ok r frame (λ f. f clean)) (failed clean) is_open in
+          let still = still_committed (g.view old) (g.view new) r (on_ok_weaker r (λ f. f clean) frame) (failed clean) is_open in
           subst (λ t. Holds t names) (sym still.1) (begun.committed still.0);
       left = λ db found. begun.left db (quiet.outcomes db found);
     };
     sees = sees;
-    broken = on_ok r frame (λ f clean. ap (λ (v : View). v.is_broken) (f clean));
+    broken = on_ok_weaker r (λ f clean. ap (λ (v : View). v.is_broken) (f clean)) frame;
     cause = cause;
-    schema = schema;
     quiet = quiet;
   }
 
@@ -204,20 +155,13 @@ module _ {S : Type 0} (g : Ghosts S) where
   pub reads_ok : {old new : S} {names : Store}
       → (IsHonest g new → g.view new ≡ record (g.view old) { cursors = (g.view new).cursors })
       → KeepsSchema (g.view old) (g.view new) → StaysQuiet g old new → Writes g old new names names ⊥ (Ok tt)
-  reads_ok {old} {new} {names} same schema quiet = writes_row (Ok tt)
-      (λ clean. only (g.view old) (g.view new) (same clean)) (λ clean. tt)
-      (λ clean sees. subst (λ (v : View). Sees v names) (sym (same clean)) sees) (λ clean. tt) schema quiet
-    where
-      only : (v w : View) → w ≡ record v { cursors = w.cursors } → OnlyWrites v w
-      only v w is = subst (λ (u : View). u ≡ record v { trees = u.trees; cursors = u.cursors }) (sym is) refl
+  reads_ok same schema quiet = writes_row (Ok tt) (λ clean. rw (same clean) refl) (λ clean. tt)
+      (λ clean sees. rw (same clean) sees) (λ clean. tt) schema quiet
 
-  pub reads_row : {X : Type 0} {old new : S} {names : Store} (r : Result X StoreError)
-      → OnOk r (IsHonest g new → g.view new ≡ record (g.view old) { cursors = (g.view new).cursors })
-      → (IsHonest g new → IfErr r (IsFailure (g.view old) (g.view new)))
-      → (IsHonest g new → IfErr r (HasCause (g.view old) (MoreFaults (g.faults old) (g.faults new)) ⊥))
-      → KeepsSchema (g.view old) (g.view new) → StaysQuiet g old new → Writes g old new names names ⊥ (done_of r)
-  reads_row (Ok x) same failed cause schema quiet = reads_ok same schema quiet
-  reads_row (Err e) same failed cause schema quiet = writes_row (Err e) tt failed tt cause schema quiet
+  pub keeps_index : {a b : S} → KeepsSchema (g.view a) (g.view b) → StaysQuiet g a b
+      → (IsHonest g a → (g.view a).shape 0 ≡ Index plain) → IsHonest g b → (g.view b).shape 0 ≡ Index plain
+  keeps_index schema quiet had clean =
+      ap (λ (f : ℕ → Shape). f 0) schema.shape ∙ had (omega (arith, clean, quiet.clean))
 
   -- a store that has names is a tree in their order
   pub shape_of : {s : S} → HasSome g s → (IsHonest g s → IsOpen g s) → IsHonest g s → (g.view s).shape 0 ≡ Index plain
@@ -225,28 +169,19 @@ module _ {S : Type 0} (g : Ghosts S) where
       ∥∥₁_elim some (Coded-set the_row.coded _ _) (λ it. it.1.1.indexed clean (is_open clean))
 
   -- a store that shows the same has the same names
-  pub kept_same : (old new : S) (names : Store) → (IsHonest g new → IsHonest g old) → (IsOpen g new → g.view new ≡ g.view old)
-      → IsKept g old names → IsKept g new names
-  kept_same old new names honest same kept =
-      let was : IsOpen g new → IsOpen g old = λ is. subst (λ (v : View). IsTrue v.is_open) (same is) is in
-      record {
-        indexed = λ clean is. ap (λ (v : View). v.shape 0) (same is) ∙ kept.indexed (honest clean) (was is);
-        shapes = λ clean is. subst (λ (v : View). v.shape ≡ v.committed_shape) (sym (same is))
-            (kept.shapes (honest clean) (was is));
-        sound = λ clean is. ap (λ (v : View). v.is_broken) (same is) ∙ kept.sound (honest clean) (was is);
-        seen = λ clean is. subst (λ (v : View). Holds v.trees names) (sym (same is)) (kept.seen (honest clean) (was is));
-        committed = λ clean is. subst (λ (v : View). Holds v.committed names) (sym (same is))
-            (kept.committed (honest clean) (was is));
-      }
-
-schema_then : {a b c : View} → KeepsSchema a b → KeepsSchema b c → KeepsSchema a c
-schema_then x y = record {
-  shape = y.shape ∙ x.shape;
-  reals = y.reals ∙ x.reals;
-  committed_shape = y.committed_shape ∙ x.committed_shape;
-  committed_reals = y.committed_reals ∙ x.committed_reals;
-  numbered = y.numbered ∙ x.numbered;
-}
+  pub has_same : (old new : S) (names : Store) → (IsHonest g new → IsHonest g old) → (IsOpen g new → g.view new ≡ g.view old)
+      → HasNames g old names → HasNames g new names
+  has_same old new names honest same (texts, kept) =
+      let was : IsOpen g new → IsOpen g old = λ is. rw (same is) at is in (
+        texts,
+        record {
+          indexed = λ clean is. rw (same is) (kept.indexed (honest clean) (was is));
+          shapes = λ clean is. rw (same is) (kept.shapes (honest clean) (was is));
+          sound = λ clean is. rw (same is) (kept.sound (honest clean) (was is));
+          seen = λ clean is. rw (same is) (kept.seen (honest clean) (was is));
+          committed = λ clean is. rw (same is) (kept.committed (honest clean) (was is));
+        },
+      )
 
 module _ {S : Type 0} {g : Ghosts S} where
   -- rows written after others
@@ -256,50 +191,27 @@ module _ {S : Type 0} {g : Ghosts S} where
       let earlier : IsHonest g c → IsHonest g b = λ clean. omega (arith, clean, later.quiet.clean) in
       record {
         begun = λ names clean begun. later.begun names clean (first.begun names (earlier clean) begun);
-        sees = on_ok r later.sees (λ f clean sees. f clean (first.sees (earlier clean) sees));
-        broken = on_ok r later.broken (λ f clean. f clean ∙ first.broken (earlier clean));
-        cause = λ clean. if_err r (later.cause clean) (cause_map (g.view b) (g.view a)
-            (subst IsTrue (first.broken (earlier clean))) (λ failed. omega (arith, first.quiet.counts, failed)) more);
-        schema = schema_then first.schema later.schema;
+        sees = on_ok_weaker r (λ f clean sees. f clean (first.sees (earlier clean) sees)) later.sees;
+        broken = on_ok_weaker r (λ f clean. f clean ∙ first.broken (earlier clean)) later.broken;
+        cause = λ clean. IfErr-weaker r _ _ (cause_map (g.view b) (g.view a)
+            (subst IsTrue (first.broken (earlier clean))) (λ failed. omega (arith, first.quiet.counts, failed)) more)
+            (later.cause clean);
         quiet = quiet_then g a b c first.quiet later.quiet;
       }
 
   pub writes_more : {a b : S} {x y : Store} {P Q : Type 0} {r : Result (Unit {0}) StoreError} → Writes g a b x y P r → (P → Q)
       → Writes g a b x y Q r
-  writes_more {a} {r = r} wrote more = record {
-    begun = wrote.begun;
-    sees = wrote.sees;
-    broken = wrote.broken;
-    cause = λ clean. if_err r (wrote.cause clean) (cause_map (g.view a) (g.view a) (λ b. b) (λ f. f) more);
-    schema = wrote.schema;
-    quiet = wrote.quiet;
-  }
+  writes_more wrote more = writes_then (writes_nothing g {long = ⊥} (λ clean. refl)) wrote more
 
   -- if rows are not all written, nothing is said of the names
-  pub writes_less : {a b : S} {x y z : Store} {P Q : Type 0} {e : StoreError} → Writes g a b x y P (Err e) → (P → Q)
+  pub writes_less : {a b : S} {x y z : Store} {P Q : Type 0} {r : Result (Unit {0}) StoreError} (e : StoreError)
+      → Writes g a b x y P r → (IsHonest g b → HasCause (g.view a) (MoreFaults (g.faults a) (g.faults b)) Q e)
       → Writes g a b x z Q (Err e)
-  writes_less {a} {e = e} wrote more = record {
+  writes_less e wrote cause = record {
     begun = wrote.begun;
     sees = tt;
     broken = tt;
-    cause = λ clean. cause_map (g.view a) (g.view a) (λ h. h) (λ h. h) more e (wrote.cause clean);
-    schema = wrote.schema;
-    quiet = wrote.quiet;
-  }
-
-  pub keeps_shape : {a b : S} {x y : Store} {P : Type 0} {r : Result (Unit {0}) StoreError} → Writes g a b x y P r
-      → (IsHonest g a → (g.view a).shape 0 ≡ Index plain) → IsHonest g b → (g.view b).shape 0 ≡ Index plain
-  keeps_shape wrote had clean =
-      ap (λ (f : ℕ → Shape). f 0) wrote.schema.shape ∙ had (omega (arith, clean, wrote.quiet.clean))
-
-  -- rows that are read no further
-  pub writes_stop : {a b : S} {x : Store} {P : Type 0} → Writes g a b x x P (Ok tt) → Writes g a b x x P (Err OutOfMemory)
-  writes_stop wrote = record {
-    begun = wrote.begun;
-    sees = tt;
-    broken = tt;
-    cause = λ clean. tt;
-    schema = wrote.schema;
+    cause = cause;
     quiet = wrote.quiet;
   }
 
@@ -316,7 +228,7 @@ module _ {S : Type 0} {g : Ghosts S} where
       × OnOk done (IsHonest g new → All to)
   all_or_none {after = after} (Ok x) All texts good wrote all = (after, good, wrote, λ clean. inr (all clean), all)
   all_or_none {before = before} (Err e) All texts good wrote all =
-      (before, texts, writes_less wrote (λ l. l), λ clean. inl refl, tt)
+      (before, texts, writes_less e wrote wrote.cause, λ clean. inl refl, tt)
 
   -- after a change it has either names
   pub has_either : {old new : S} {before after : Store} {long : Type 0} (result : Result (Unit {0}) StoreError)
@@ -364,11 +276,6 @@ module _ {S : Type 0} {g : Ghosts S} where
           quiet = wrote.quiet;
         }
 
-    pub some_read : {new : S} → ((s : S) → (g.view s).is_open ≡ false → IsTrue (g.view s).is_broken) → HasSome g old
-        → ((names : Store) → AreTexts names → (IsHonest g old → Sees (g.view old) names)
-        → Writes g old new names names ⊥ (Ok tt)) → HasSome g new
-    some_read shut some writes = some_kept some (λ names has. (read_done (tt {0}) shut has (writes names)).has)
-
     -- what was written is taken back
     pub taken_back : {mid new : S} {before after : Store} {long : Type 0} {r : Result (Unit {0}) StoreError}
         → HasNames g old before → Writes g old mid before after long r
@@ -380,58 +287,54 @@ module _ {S : Type 0} {g : Ghosts S} where
     )
 
     -- and if reading fails and is taken back
-    pub read_failed : {X : Type 0} {mid new : S} {names : Store} {e : StoreError} {r : Result X StoreError} → r ≡ Err e
-        → HasNames g old names
+    pub read_failed : {X : Type 0} {mid new : S} {names : Store} {e : StoreError} → HasNames g old names
         → (AreTexts names → (IsHonest g old → Sees (g.view old) names) → Writes g old mid names names ⊥ (Err e))
         → ((IsHonest g new → HasBegun g mid names) → IsKept g new names) → StaysQuiet g mid new
-        → KeepsNames g old new names r
-    read_failed {mid = mid} {new = new} {e = e} is has writes undone quiet =
+        → KeepsNames g {X = X} old new names (Err e)
+    read_failed {mid = mid} {new = new} {e = e} has writes undone quiet =
         let wrote = writes has.0 (λ clean unbroken. has.1.seen clean (was_open clean)) in
-        rw is (record {
+        record {
           has = taken_back has wrote undone quiet;
           is_open = tt;
           cause = λ clean. cause_map (g.view old) (g.view old) (λ b. b) (λ more. omega (arith, more, quiet.counts)) (λ h. h) e
               (wrote.cause (omega (arith, clean, quiet.clean)));
           quiet = quiet_then g old mid new wrote.quiet quiet;
-        })
-
-    pub some_failed : {mid new : S} {e : StoreError} → HasSome g old
-        → ((names : Store) → AreTexts names → (IsHonest g old → Sees (g.view old) names)
-        → Writes g old mid names names ⊥ (Err e))
-        → ((names : Store) → (IsHonest g new → HasBegun g mid names) → IsKept g new names) → StaysQuiet g mid new
-        → HasSome g new
-    some_failed some writes undone quiet = some_kept some (λ names has.
-        taken_back has (writes names has.0 (λ clean unbroken. has.1.seen clean (was_open clean))) (undone names) quiet)
+        }
 
     -- rows that are written, and then committed or taken back
     pub changes_of : {mid new : S} {before after : Store} {long : Type 0} (done result : Result (Unit {0}) StoreError)
         → HasNames g old before → AreTexts after → Writes g old mid before after long done
         → ((IsHonest g new → HasBegun g mid before × OnOk done (Sees (g.view mid) after))
         → MatchResult result (λ _. IsKept g new after) (λ _. IsKept g new before))
-        → (IsHonest g new → HasBegun g mid before → OnOk done (Sees (g.view mid) after)
-        → CrashLeaves g new (λ left. (left ≡ before) ⊎ (left ≡ after)))
-        → (IsHonest g new → OnOk done (Sees (g.view mid) after) → OnOk result
-        (IsOpen g new × CrashLeaves g new (λ left. left ≡ after)))
+        → ((db : Trees) → g.recovers new db
+        → IsOkAnd done (λ _. ((g.view mid).is_broken ≡ false) × (db ≡ (g.view mid).trees)) ⊎ g.recovers mid db)
+        → OnOk result (IsHonest g new → IsOpen g new)
         → (IsHonest g new → MatchResult done
         (λ _. IfErr result (HasCause (g.view mid) (MoreFaults (g.faults mid) (g.faults new)) ⊥)) (λ e. result ≡ Err e))
         → (IsHonest g new → IsOpen g mid → IsOpen g new ⊎ MoreFaults (g.faults mid) (g.faults new))
         → doubt (g.view mid).is_clean ≤ doubt (g.view new).is_clean → g.faults mid ≤ g.faults new
         → Changes g old new before after long result
-    changes_of {mid} {new} {before} {after} {long} done result (texts, kept) fine wrote keeps left durable cause closes clean
+    changes_of {mid} {new} {before} {after} {long} done result (texts, kept) fine wrote keeps crash is_open cause closes clean
         counts =
         let to_mid : IsHonest g new → IsHonest g mid = λ now. omega (arith, now, clean) in
         let to_old : IsHonest g new → IsHonest g old = λ now. omega (arith, now, clean, wrote.quiet.clean) in
         let begun : IsHonest g new → HasBegun g mid before = λ now.
         wrote.begun before (to_mid now) (begun_over kept (to_old now)) in
-        let sees : IsHonest g new → OnOk done (Sees (g.view mid) after) = λ now. on_ok done wrote.sees (λ f.
-        f (to_mid now) (λ unbroken. kept.seen (to_old now) (was_open (to_old now)))) in
+        let sees : IsHonest g new → OnOk done (Sees (g.view mid) after) = λ now. on_ok_weaker done (λ f.
+        f (to_mid now) (λ unbroken. kept.seen (to_old now) (was_open (to_old now)))) wrote.sees in
+        let ended = ends result (keeps (λ now. (begun now, sees now))) is_open in
         record {
           honest = to_old;
-          kept = with_texts result (keeps (λ now. (begun now, sees now)));
-          crash = λ now. left now (begun now) (sees now);
-          durable = on_ok_later _ result (λ now. durable now (sees now));
+          kept = ended.0;
+          crash = λ now db found. elim (crash db found) [
+            | inl made ↦
+                let (made, seen) = both_ok done made (sees now) in
+                (after, subst (λ t. Holds t after) (sym made.1) (seen made.0), inr refl)
+            | inr earlier ↦ (before, (begun now).left db earlier, inl refl)
+          ];
+          durable = ended.1;
           cause = λ now. cause_after (g.view old) (g.view mid) (g.faults old) (g.faults mid) (g.faults new) long done result
-              wrote.quiet.counts counts (on_ok done wrote.broken (λ same. same (to_mid now))) (wrote.cause (to_mid now))
+              wrote.quiet.counts counts (on_ok_weaker done (λ same. same (to_mid now)) wrote.broken) (wrote.cause (to_mid now))
               (cause now);
           closes = λ now. elim (wrote.quiet.closes (to_mid now) (was_open (to_old now))) [
             | inl still ↦ elim (closes now still) [
@@ -442,7 +345,12 @@ module _ {S : Type 0} {g : Ghosts S} where
           ];
         }
       where
-        with_texts : (r : Result (Unit {0}) StoreError) → MatchResult r (λ _. IsKept g new after) (λ _. IsKept g new before)
-            → MatchResult r (λ _. HasNames g new after) (λ _. HasNames g new before)
-        with_texts (Ok x) is = (fine, is)
-        with_texts (Err e) is = (texts, is)
+        ends : (r : Result (Unit {0}) StoreError) → MatchResult r (λ _. IsKept g new after) (λ _. IsKept g new before)
+            → OnOk r (IsHonest g new → IsOpen g new) → MatchResult r (λ _. HasNames g new after) (λ _. HasNames g new before)
+            × OnOk r (IsHonest g new → IsOpen g new × CrashLeaves g new (λ left. left ≡ after))
+        ends (Ok x) is opens =
+            ((fine, is), λ clean. (opens clean, leaves_kept g new after (settled new) is clean (opens clean)))
+        ends (Err e) is opens = ((texts, is), tt)
+
+-- what no call changes
+pub ruleset kept = (quiet_itself, quiet_then, shape_of, keeps_index)

@@ -1,11 +1,11 @@
 -- A text is UTF-8 and that of one value, and so rows are those of one map of names.
 use Rattle.argon2_store.proofs.Imports.{◌≡◌, ℕ, ◌<◌, ◌^◌, T, ltb, true, List, [], ◌∷◌, ◌++◌, append-nil, refl, arith, lit<, Option, Some, None, IsUtf8, and_parts, nat_tests}
 use Rattle.argon2_store.proofs.Imports.{IsAscii-decimal, All-from_recursion, list_all, IsPhc, Pair, Phc, field, fields_text, is_param, item, list_field, params_text, phc_text}
-use Rattle.argon2_store.proofs.Imports.{version_text, is_value, is_value_char, strict_base64, IsUtf8-strict_base64, Bool, false, cond, map, length, Result, Ok, Err, inl, inr, sym}
-use Rattle.argon2_store.proofs.Imports.{ap, ◌∙◌, ◌==◌, ◌≢◌, cases_Bool, bytes_eq-Decides, decimal_injective, slice_cmp, entries, find, get, get-entries, eq_by_cmp, nat_cmp, IfSome}
-use Rattle.argon2_store.proofs.Imports.{IsNone, bytes_eq, NoItemFirst, NoVersionFirst, fields_of, HasBytes, are_params, decode_of-strict_base64, strict_base64_unique, Store}
-use Rattle.argon2_store.proofs.Imports.{AccountAnswer, AccountEvent, AccountStep, AreTerms, LogsIn, OnValue, Replaces, Sets, Terms, adding, changing, logging_in, name_of}
-use Rattle.argon2_store.proofs.Imports.{registering, removing, replacing, setting, AccountError, Current, Kept, Rehashed, AreTexts, row_of, rows_of}
+use Rattle.argon2_store.proofs.Imports.{version_text, is_value, is_value_char, strict_base64, IsUtf8-strict_base64, Bool, false, cond, map, length, Ok, Err, inl, inr, sym}
+use Rattle.argon2_store.proofs.Imports.{ap, ◌∙◌, ◌==◌, decimal_injective, slice_cmp, entries, find, get, get-entries, eq_by_cmp, nat_cmp, IfSome}
+use Rattle.argon2_store.proofs.Imports.{IsNone, NoItemFirst, NoVersionFirst, fields_of, HasBytes, are_params, decode_of-strict_base64, strict_base64_unique, Store}
+use Rattle.argon2_store.proofs.Imports.{AccountAnswer, AccountEvent, AccountStep, AreTerms, Terms, adding, changing, logging_in, name_of}
+use Rattle.argon2_store.proofs.Imports.{registering, removing, replacing, setting, Current, Kept, Rehashed, AreTexts, row_of, rows_of}
 use Rattle.std.proofs.lemmas.Str.{IsUtf8-append, IsUtf8-from_ascii, IsUtf8-nil}
 use Rattle.std.proofs.lemmas.Str.Ascii.{IsAscii-cons, IsAscii-from_all, IsAscii-nil}
 use Rattle.argon2_base.proofs.phc_lemmas.Characters.{IsUtf8-name, tests_give}
@@ -14,11 +14,9 @@ use Rattle.std.proofs.lemmas.List.Splits.{length-slice_split}
 use Rattle.std.specs.Fmt.{decimal}
 use Rattle.argon2_base.proofs.phc_lemmas.ParamsReading.{one_list}
 use Rattle.argon2_base.proofs.phc_lemmas.PhcTextLemmas.{begins_with_dollar, first_and_left, from_params, no_item, no_list_read, no_version, none_after, same_phc}
-use Rattle.argon2_accounts.specs.Accounts.{Changes}
 use Rattle.argon2.specs.Made.{IsFresh}
-use Rattle.argon2.specs.declared.login.answers.Accepted.{Accepted}
 use Rattle.argon2.proofs.password_hash_lemmas.MadeValues.{made_is_phc}
-use Rattle.argon2_store.proofs.RowLemmas.{same}
+use Rattle.argon2_store.proofs.RowLemmas.{one_or_other, same}
 
 -- text behind an ASCII character is text
 behind : {c : ℕ} {s : List ℕ} → T (ltb c 128) → IsUtf8 s → IsUtf8 (c ∷ s)
@@ -157,52 +155,32 @@ module _ (terms : Terms) (are : AreTerms terms) where
   fresh_text : (password drawn : List ℕ) (v : Phc) → IsFresh terms.target password drawn v → IsPhc v
   fresh_text password drawn v fresh = rw fresh.2 (made_is_phc terms.target are.is_target password drawn fresh.0)
 
-  on_value : {X : Type 0} (changes : Phc → Result X AccountError → Phc → Type 0) (answer : Result X AccountError)
-      (o p : Option Phc) → ((v w : Phc) → IsPhc v → changes v answer w → IsPhc w) → IfSome o IsPhc
-      → OnValue changes o answer p → IfSome p IsPhc
-  on_value changes answer (Some v) (Some w) keeps good step = keeps v w good step
-  on_value changes answer (Some v) None keeps good step = tt
-  on_value changes answer None p keeps good step = rw step.1 tt
+  kept : (o p : Option Phc) → p ≡ o → IfSome o IsPhc → IfSome p IsPhc
+  kept o p same good = rw same good
 
-  logged_in : (password drawn : List ℕ) (answer : Result Accepted AccountError) (v w : Phc) → IsPhc v
-      → LogsIn terms password drawn v answer w → IsPhc w
-  logged_in password drawn (Ok Current) v w good step = rw step.1.1 good
-  logged_in password drawn (Ok Rehashed) v w good step = fresh_text password drawn w step.1.1
-  logged_in password drawn (Ok Kept) v w good step = rw step.1.1 good
-  logged_in password drawn (Err e) v w good step = rw step.1 good
-
-  set : (password drawn : List ℕ) (answer : Result (Unit {0}) AccountError) (v w : Phc) → IsPhc v
-      → Sets terms password drawn v answer w → IsPhc w
-  set password drawn (Ok x) v w good step = fresh_text password drawn w step
-  set password drawn (Err e) v w good step = rw step.1 good
-
-  changed : (old password drawn : List ℕ) (answer : Result (Unit {0}) AccountError) (v w : Phc) → IsPhc v
-      → Changes terms old password drawn v answer w → IsPhc w
-  changed old password drawn (Ok x) v w good step = fresh_text password drawn w step.1
-  changed old password drawn (Err e) v w good step = rw step.1 good
-
-  replaced : (old new : List ℕ) (answer : Result (Unit {0}) AccountError) (v w : Phc) → IsPhc v
-      → Replaces old new v answer w → IsPhc w
-  replaced old new (Ok x) v w good step = step.1.0
-  replaced old new (Err e) v w good step = rw step.1 good
-
+  -- what a call leaves its name is a text
   answer_text : (event : AccountEvent) (o p : Option Phc) → AccountAnswer terms event o p → IfSome o IsPhc → IfSome p IsPhc
-  answer_text (adding name text (Ok x)) o (Some v) step good = step.1.0
-  answer_text (adding name text (Ok x)) o None step good = tt
-  answer_text (adding name text (Err e)) o p step good = rw step.1 good
-  answer_text (registering name password drawn (Ok x)) o (Some v) step good = fresh_text password drawn v step.1
-  answer_text (registering name password drawn (Ok x)) o None step good = tt
-  answer_text (registering name password drawn (Err e)) o p step good = rw step.1 good
-  answer_text (logging_in name password drawn answer) o p step good =
-      on_value (LogsIn terms password drawn) answer o p (logged_in password drawn answer) good step
-  answer_text (changing name old password drawn answer) o p step good =
-      on_value (Changes terms old password drawn) answer o p (changed old password drawn answer) good step
-  answer_text (setting name password drawn answer) o p step good =
-      on_value (Sets terms password drawn) answer o p (set password drawn answer) good step
-  answer_text (replacing name old new answer) o p step good =
-      on_value (Replaces old new) answer o p (replaced old new answer) good step
-  answer_text (removing name (Ok x)) o p step good = rw step.1 tt
-  answer_text (removing name (Err e)) o p step good = rw step.2 tt
+  answer_text event o None step good = tt
+  answer_text (adding name text (Ok x)) o (Some w) step good = step.1.0
+  answer_text (adding name text (Err e)) o (Some w) step good = kept o (Some w) step.1 good
+  answer_text (registering name password drawn (Ok x)) o (Some w) step good = fresh_text password drawn w step.1
+  answer_text (registering name password drawn (Err e)) o (Some w) step good = kept o (Some w) step.1 good
+  answer_text (logging_in name password drawn (Ok Current)) (Some v) (Some w) step good = rw step.1.1 good
+  answer_text (logging_in name password drawn (Ok Rehashed)) (Some v) (Some w) step good = fresh_text password drawn w step.1.1
+  answer_text (logging_in name password drawn (Ok Kept)) (Some v) (Some w) step good = rw step.1.1 good
+  answer_text (logging_in name password drawn (Err e)) (Some v) (Some w) step good = rw step.1 good
+  answer_text (changing name old password drawn (Ok x)) (Some v) (Some w) step good = fresh_text password drawn w step.1
+  answer_text (changing name old password drawn (Err e)) (Some v) (Some w) step good = rw step.1 good
+  answer_text (setting name password drawn (Ok x)) (Some v) (Some w) step good = fresh_text password drawn w step
+  answer_text (setting name password drawn (Err e)) (Some v) (Some w) step good = rw step.1 good
+  answer_text (replacing name old new (Ok x)) (Some v) (Some w) step good = step.1.0
+  answer_text (replacing name old new (Err e)) (Some v) (Some w) step good = rw step.1 good
+  answer_text (removing name (Ok x)) o (Some w) step good = kept None (Some w) step.1 tt
+  answer_text (removing name (Err e)) o (Some w) step good = kept None (Some w) step.2 tt
+  answer_text (logging_in name password drawn answer) None (Some w) step good = kept None (Some w) step.1 tt
+  answer_text (changing name old password drawn answer) None (Some w) step good = kept None (Some w) step.1 tt
+  answer_text (setting name password drawn answer) None (Some w) step good = kept None (Some w) step.1 tt
+  answer_text (replacing name old new answer) None (Some w) step good = kept None (Some w) step.1 tt
 
   if_some : (o : Option Phc) → ((v : Phc) → o ≡ Some v → IsPhc v) → IfSome o IsPhc
   if_some (Some v) good = good v refl
@@ -211,12 +189,9 @@ module _ (terms : Terms) (are : AreTerms terms) where
   -- a step keeps them so
   pub step_texts : (event : AccountEvent) (before after : Store) → AreTexts before → AccountStep terms before event after
       → AreTexts after
-  step_texts event before after good step name v has = elim (cases_Bool (bytes_eq name (name_of event))) [
-    | inl hit ↦
-        let here = (bytes_eq-Decides name (name_of event)).0 hit in
+  step_texts event before after good step name v has = elim (one_or_other name (name_of event)) [
+    | inl here ↦
         let text = answer_text event _ _ step.0 (if_some _ (good (name_of event))) in
         rw (sym (ap (get after) here) ∙ has) at text
-    | inr miss ↦
-        let differs : name ≢ name_of event = λ here. let hit = (bytes_eq-Decides name (name_of event)).1 here in absurd cc in
-        good name v (sym (step.1 name differs) ∙ has)
+    | inr differs ↦ good name v (sym (step.1 name differs) ∙ has)
   ]

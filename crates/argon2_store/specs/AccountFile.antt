@@ -13,7 +13,6 @@ use Rattle.argon2.specs.declared.login.answers.Accepted.{Accepted}
 use Rattle.argon2.specs.declared.login.answers.Accepted.TheVariants.{Current}
 use Rattle.argon2_store.specs.Adding.{AddsAll, IsFirstRefused}
 use Rattle.argon2_store.specs.Opening.{HoldsNames, IsDamaged}
-use Rattle.argon2_store.specs.Shown as table
 use Rattle.argon2_store.specs.Table as rows
 use Rattle.argon2_store.specs.Table.{IsHonest, IsLong, IsOpen, CrashLeaves, StaysQuiet}
 use Rattle.argon2_store.specs.declared.account_file.AccountFile.{AccountFile}
@@ -87,7 +86,7 @@ IsOfFile _ = ⊤
 module _ {S : Type 0} {g : Ghosts S} where
   -- the store that holds the names
   abbrev pub database_of : AccountFile S g → S
-  database_of file = table.file_of file.table
+  database_of file = file.table.store
 
   -- The names that a file has, each with its text. While the file is open and the disk has given no wrong answer that was
   -- taken as true, they are those of its rows, and nothing else.

@@ -4,5 +4,4 @@ pub mod Errors
 pub mod Opening
 pub mod Rows
 pub mod Runs
-pub mod Shown
 pub mod Table

@@ -1,7 +1,5 @@
 -- What opening a file finds.
-use Rattle.std.specs.Prelude.{◌≡◌, ◌⊎◌, ◌≤◌, ℕ, Bool, List, [], ◌∷◌, length, slice_index, IsTrue, codes}
-use Rattle.sqlite_store.specs.Unopened.{IsCatalogOf}
-use Rattle.sqlite_store.specs.declared.store.open.Unopened.{Unopened}
+use Rattle.std.specs.Prelude.{◌≡◌, ◌⊎◌, ◌≤◌, ℕ, List, [], ◌∷◌, length, slice_index, codes}
 use Rattle.sqlite_value.specs.Order.{Row}
 use Rattle.sqlite_disk.specs.declared.Disk.{Ghosts}
 use Rattle.sqlite_disk.specs.Disk.{Only}
@@ -27,10 +25,6 @@ use Rattle.argon2_store.specs.Rows.{AreTexts, rows_of}
 abbrev pub IsUnstarted : ℕ → Image → Type 0
 IsUnstarted size image = IsBlankFile size image
     ⊎ ((pages : PageMap) × Recovers size image pages × IsSoundFile size pages × (rows_at size (in_use size pages) Table 1 ≡ []))
-
--- the rows of `sqlite_schema` are read, and whether there are none
-abbrev pub IsReadAs : {D : Type 0} {g : Ghosts D} → Unopened D g → Unopened D g → Bool → Type 0
-IsReadAs old new bare = (rows : List Row) × IsCatalogOf old new rows × (IsTrue bare → rows ≡ [])
 
 -- the table of the accounts, as `sqlite_schema` lists it
 abbrev pub account : Wanted

@@ -1,6 +1,9 @@
 -- How a tree of rows holds names with their texts.
-use Rattle.std.specs.Prelude.{◌≡◌, ℕ, Bool, true, false, List, [], ◌∷◌, ◌++◌, map, Some, None}
+use Rattle.std.specs.Prelude.{◌≡◌, ℕ, Bool, true, false, List, [], ◌∷◌, ◌++◌, map, Option, Some, None}
+use Rattle.std.specs.Cmp.Lexicographic.{slice_cmp}
 use Rattle.std.specs.FinMap.{entries, get}
+use Rattle.std.specs.Ordering.{nat_cmp}
+use Rattle.std.specs.declared.cmp.Ordering.TheVariants.{Less}
 use Rattle.sqlite_value.specs.declared.value.Value.TheVariants.{Text}
 use Rattle.sqlite_value.specs.Order.{Row}
 use Rattle.argon2_base.specs.PhcText.{IsPhc, Phc, phc_text}
@@ -20,10 +23,19 @@ rows_of names = map row_of (entries names)
 abbrev pub AreTexts : Store → Type 0
 AreTexts names = (name : List ℕ) (v : Phc) → get names name ≡ Some v → IsPhc v
 
--- the name has a text, and this is its row, or it has none
-abbrev pub IsFoundAs : Store → List ℕ → Bool → Row → Type 0
-IsFoundAs names name true row = (v : Phc) × (get names name ≡ Some v) × (row ≡ row_of (name, v))
-IsFoundAs names name false row = get names name ≡ None
+-- no name after this one has a text
+abbrev pub HasNoneAfter : Store → List ℕ → Type 0
+HasNoneAfter names name = (later : List ℕ) → slice_cmp nat_cmp name later ≡ Less → get names later ≡ None
+
+-- neither this name nor one after it has a text
+abbrev pub IsAfterAll : Store → List ℕ → Type 0
+IsAfterAll names name = (get names name ≡ None) × HasNoneAfter names name
+
+-- the name has a text, and this is its row, or it has none, or comes after all names
+abbrev pub IsFoundAs : Store → List ℕ → Option Bool → Row → Type 0
+IsFoundAs names name (Some true) row = (v : Phc) × (get names name ≡ Some v) × (row ≡ row_of (name, v))
+IsFoundAs names name (Some false) row = get names name ≡ None
+IsFoundAs names name None row = IsAfterAll names name
 
 -- the row is that of a name with a text
 abbrev pub IsAccount : Row → Type 0

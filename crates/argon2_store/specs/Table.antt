@@ -9,7 +9,7 @@ use Rattle.sqlite_trees.specs.declared.store.Shape.TheVariants.{Index}
 use Rattle.sqlite_trees.specs.declared.store.Store.{Ghosts}
 use Rattle.sqlite_trees.specs.Objects.{catalog_tree}
 use Rattle.sqlite_trees.specs.Tree.{Trees}
-use Rattle.sqlite_trees.specs.View.{View, IsClean, IsQuiet, HasCause, KeepsSchema}
+use Rattle.sqlite_trees.specs.View.{View, IsClean, IsQuiet, HasCause}
 use Rattle.argon2_base.specs.PhcText.{Phc}
 use Rattle.sqlite_store.specs.Listing.{listed_from}
 use Rattle.argon2.specs.NamedTexts.{Store}
@@ -111,7 +111,6 @@ module _ {S : Type 0} (g : Ghosts S) where
     pub sees : OnOk result (IsHonest new → Sees (g.view old) before → Sees (g.view new) after)
     pub broken : OnOk result (IsHonest new → (g.view new).is_broken ≡ (g.view old).is_broken)
     pub cause : IsHonest new → IfErr result (HasCause (g.view old) (HasFailed old new) too_long)
-    pub schema : KeepsSchema (g.view old) (g.view new)
     pub quiet : StaysQuiet old new
 
   -- A change from one list of names to another, with its answer.

@@ -1,4 +1,5 @@
 //! Accounts in a file.
+#![tactic(auto, using(crate::proofs::FileLemmas::answers))]
 
 ghost use Rattle.std.specs.Prelude.{◌≡◌, ◌⊎◌, ◌↔◌, Ok, Err, IsTrue, IfErr, IfOk, OnOk, MatchResult, map};
 ghost use Rattle.std.specs.FinMap.{get};

@@ -1,10 +1,13 @@
 //! Opening the file at a path, or making it.
+#![tactic(auto, using(sqlite_trees::proofs::Doubt::clean_of))]
 
-ghost use Rattle.std.specs.Prelude.{◌≡◌, ◌+◌, ◌≤◌, ◌⊎◌, ◌↔◌, [], ◌∷◌, true, false, IsTrue, IfErr, IfOk, OnOk};
+ghost use Rattle.std.specs.Prelude.{◌≡◌, ◌+◌, ◌≤◌, ◌⊎◌, ◌↔◌, [], ◌∷◌, true, false, IsTrue, IfErr, IfOk, OnErr, OnOk};
 ghost use Rattle.sqlite_store.specs.FileStore.{view};
-ghost use Rattle.sqlite_store.specs.Unopened.{AreUsable, Creates, Opens, image, state_of, wanted_by};
+ghost use Rattle.sqlite_store.specs.Unopened.{AreUsable, Opens, image, state_of, wanted_by};
 ghost use Rattle.sqlite_store.specs.Unopened as below;
+ghost use Rattle.sqlite_pages.specs.PageMap.{PageMap};
 ghost use Rattle.sqlite_pool.specs.Opening.{IsBlankFile};
+ghost use Rattle.sqlite_pool.specs.Stored.{Recovers};
 ghost use Rattle.sqlite_std_file.specs.File.{IsFresh, file_is_usable};
 ghost use Rattle.sqlite_trees.specs.View.{IsClean};
 ghost use Rattle.sqlite_wal.specs.Files.{seen_image};
@@ -12,11 +15,10 @@ ghost use Rattle.sqlite_wal.specs.Format.{IsSigned, be32};
 ghost use Rattle.sqlite_wal.specs.Reads.{AreClean, OnlyReads};
 ghost use Rattle.sqlite_wal.specs.Recovery.{Image};
 ghost use Rattle.argon2_store.specs.Errors.{IsOfDatabase, IsOfPath};
-ghost use Rattle.argon2_store.specs.Opening.{AreSynced, AreUnharmed, FoundIn, IsDamaged, IsReadAs, StandsFor, account};
+ghost use Rattle.argon2_store.specs.Opening.{AreSynced, AreUnharmed, FoundIn, IsDamaged, IsUnstarted, StandsFor, account};
 ghost use Rattle.argon2_store.specs.Rows.{rows_of};
 ghost use Rattle.argon2.specs.NamedTexts.{Store};
 ghost use Rattle.argon2_store.specs.Runs.{over_file};
-ghost use Rattle.argon2_store.specs.Shown.{file_of};
 ghost use Rattle.argon2_store.specs.Table as table;
 ghost use Rattle.argon2_store.specs.Table.{HasNames};
 ghost use Rattle.argon2_store.specs.declared.error.OpenError.TheVariants.{DamagedLog, Row as NoAccount};
@@ -61,39 +63,30 @@ const HEADERS: usize = 56;
 // The first byte of a log's magic number.
 const MAGIC: u8 = 0x37;
 
-// Makes the table.
-fn make<D: Disk + Drop>(files: Unopened<D>) -> Result<FileStore<D>, (OpenError, Unopened<D>)>
-    requires usable { AreUsable files }
-    requires schema { wanted_by files ≡ account ∷ [] }
-    ensures fresh { IfOk result (λ it. IsClean (view it) → table.IsUnwritten (view it)) }
-    ensures honest { IfOk result (λ it. IsClean (view it) → IsTrue (state_of files).is_clean) }
-    ensures empty { IfOk result (λ it. IsClean (view it) →
-        ∥ below.IsUnstarted files ∥₁ × ((view it).committed 0 ≡ [])) }
-    ensures error { IfErr result (λ e. IsOfDatabase e.0) }
-    ensures falls { IfErr result (λ e.
-        IsTrue (state_of e.1).is_clean → IsTrue (state_of files).is_clean) }
-    ensures left { IfErr result (λ e.
-        IsTrue (state_of e.1).is_clean → Creates files (state_of e.1)) }
-{
-    match files.create() {
-        Ok(store) => Ok(store),
-        Err((error, left)) => Err((error.into(), left)),
-    }
-}
-
-// Whether the database in the files lists no table.
-fn is_bare<D: Disk + Drop>(files: &mut Unopened<D>) -> Result<bool, OpenError>
-    requires { AreUsable files.old }
+// Whether the database in the files lists no table, or there is none.
+fn is_bare<D: Disk + Drop>(files: &mut Unopened<D>, is_new: bool) -> Result<bool, OpenError>
+    requires usable { AreUsable files.old }
+    requires blank { IsTrue is_new → IsTrue (state_of files.old).is_clean →
+        IsBlankFile (state_of files.old).page_size (image files.old) }
     ensures usable { OnOk result (AreUsable files.new) }
-    ensures read { IsTrue (state_of files.new).is_clean →
-        IfOk result (IsReadAs files.old files.new) }
+    ensures bare { IsTrue (state_of files.new).is_clean → IfOk result (λ is. IsTrue is →
+        ∥ IsUnstarted (state_of files.old).page_size (image files.old) ∥₁) }
+    ensures same { IsTrue (state_of files.new).is_clean → OnOk result ((pages : PageMap) →
+        Recovers (state_of files.old).page_size (image files.new) pages →
+        Recovers (state_of files.old).page_size (image files.old) pages) }
+    ensures before { IsTrue (state_of files.new).is_clean → OnOk result ((left : Image) →
+        below.IsAsBefore files.new left → below.IsAsBefore files.old left) }
     ensures schema { wanted_by files.new ≡ wanted_by files.old }
     ensures size { IsTrue (state_of files.new).is_clean →
         (state_of files.new).page_size ≡ (state_of files.old).page_size }
     ensures honest { IsTrue (state_of files.new).is_clean → IsTrue (state_of files.old).is_clean }
-    ensures kept { IsTrue (state_of files.new).is_clean → Opens files.old (state_of files.new) }
+    ensures kept { IsTrue (state_of files.new).is_clean →
+        OnErr result (Opens files.old (state_of files.new)) }
     ensures error { IfErr result IsOfDatabase }
 {
+    if is_new {
+        return Ok(true);
+    }
     let rows = files.read_catalog()?;
     Ok(rows.as_slice().is_empty())
 }
@@ -112,23 +105,20 @@ fn attach<D: Disk + Drop>(
     ensures found { IfOk result (λ it. IsClean (view it) →
         FoundIn (state_of files).page_size (image files) ((view it).committed 0)) }
     ensures error { IfErr result (λ e. IsOfDatabase e.0) }
-    ensures falls { IfErr result (λ e.
-        IsTrue (state_of e.1).is_clean → IsTrue (state_of files).is_clean) }
     ensures left { IfErr result (λ e. (state_of files).page_size ≡ 4096 →
         IsTrue (state_of e.1).is_clean → (left : Image) → (state_of e.1).may_leave left →
         StandsFor (state_of files).may_leave (image files) left) }
 {
-    if is_new {
-        return make(files);
-    }
-    match is_bare(&mut files) {
-        Ok(true) => return make(files),
-        Ok(false) => {}
-        Err(error) => return Err((error, files)),
-    }
-    match files.open() {
-        Ok(store) => Ok(store),
-        Err((error, left)) => Err((error.into(), left)),
+    match is_bare(&mut files, is_new) {
+        Ok(true) => match files.create() {
+            Ok(store) => Ok(store),
+            Err((error, left)) => Err((error.into(), left)),
+        },
+        Ok(false) => match files.open() {
+            Ok(store) => Ok(store),
+            Err((error, left)) => Err((error.into(), left)),
+        },
+        Err(error) => Err((error, files)),
     }
 }
 
@@ -173,6 +163,7 @@ pub(crate) fn open_files<D: Disk + Drop>(
 }
 
 // Four bytes of a log's header as a number, the highest first.
+#[tactic(auto, unfolding(sqlite_wal::specs::Format::be32))]
 fn number_at(head: &[u8; 32], at: usize) -> u32
     requires { at + 4 ≤ 32 }
     ensures { result ≡ be32 head.now at }
@@ -219,13 +210,12 @@ pub(crate) fn open_table<D: Disk + Drop>(
     seed: u64,
 ) -> Result<Table<FileStore<D>>, (OpenError, Files<D>)>
     requires { IsTrue (D.Disk.is_usable files.log) × IsTrue (D.Disk.is_usable files.db) }
-    ensures found { IfOk result (λ it. (names : Store)
-        × HasNames over_file (file_of it) names × (IsClean (view (file_of it)) →
+    ensures found { IfOk result (λ it. (names : Store) × HasNames over_file it.store names
+        × (IsClean (view it.store) →
         FoundIn 4096 (seen_image D.Disk files.log files.db) (rows_of names))) }
-    ensures open { IfOk result (λ it.
-        IsClean (view (file_of it)) → IsTrue (view (file_of it)).is_open) }
+    ensures open { IfOk result (λ it. IsClean (view it.store) → IsTrue (view it.store).is_open) }
     ensures whole { IfOk result (λ it.
-        IsClean (view (file_of it)) → ¬ IsDamaged (D.Disk.seen files.log)) }
+        IsClean (view it.store) → ¬ IsDamaged (D.Disk.seen files.log)) }
     ensures error { IfErr result (λ e.
         (e.0 ≡ NoAccount) ⊎ ((e.0 ≡ DamagedLog) ⊎ IsOfDatabase e.0)) }
     ensures damaged { IfErr result (λ e. e.0 ≡ DamagedLog →

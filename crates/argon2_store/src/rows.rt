@@ -12,7 +12,7 @@ ghost use Rattle.argon2_base.specs.PhcFields.{phc_of};
 ghost use Rattle.argon2_base.specs.PhcText.{IsPhc, Phc, phc_text};
 ghost use Rattle.argon2.specs.NamedTexts.{Store as Named};
 ghost use Rattle.argon2_store.specs.Errors.{IsOfDatabase};
-ghost use Rattle.argon2_store.specs.Rows.{AreTexts, IsAccount, IsFoundAs, line, lines_of, row_of, rows_of};
+ghost use Rattle.argon2_store.specs.Rows.{AreTexts, HasNoneAfter, IsAccount, IsFoundAs, line, lines_of, row_of, rows_of};
 ghost use Rattle.argon2_store.specs.Table.{HasFailed, HasNames, IsUnwritten, IsHonest, IsOpen, Sees, StaysQuiet, Writes, done_of};
 ghost use Rattle.argon2_store.specs.declared.error.OpenError.TheVariants.{Row as NoAccount};
 
@@ -85,13 +85,13 @@ fn is_account(row: &Row) -> bool
     }
 }
 
-// Whether the tree has a row of the name, which is then in `row`.
+// Whether the tree has a row of the name, which is then in `row`: `None` if no later name has one either.
 fn find<S: Store>(
     store: &mut S,
     row: &mut Row,
     key: &mut Row,
     name: &str,
-) -> Result<bool, StoreError>
+) -> Result<Option<bool>, StoreError>
     requires { IsHonest S.Store store.old → (S.Store.view store.old).shape 0 ≡ Index plain }
     ensures found { (names : Named) → IfOk result (λ is. IsHonest S.Store store.new →
         (S.Store.view store.old).trees 0 ≡ rows_of names → IsFoundAs names name.now is row.new) }
@@ -109,20 +109,24 @@ fn find<S: Store>(
     key.clear();
     key.push(ValueRef::Text(name.as_bytes()))?;
     store.seek(1, ACCOUNTS, key, Direction::Forward)?;
-    Ok(store.next(1, row)? && is_same(row.get(0), key.get(0)))
+    if !store.next(1, row)? {
+        return Ok(None);
+    }
+    Ok(Some(is_same(row.get(0), key.get(0))))
 }
 
-// The text of a name, if the tree has a row of it.
+// The text of a name, if the tree has a row of it. `true` with it says that no later name has one.
 pub(crate) fn look_up<S: Store>(
     store: &mut S,
     row: &mut Row,
     key: &mut Row,
     name: &str,
-) -> Result<Option<PasswordHash>, StoreError>
+) -> Result<(Option<PasswordHash>, bool), StoreError>
     requires { IsHonest S.Store store.old → (S.Store.view store.old).shape 0 ≡ Index plain }
     ensures found { (names : Named) → AreTexts names → Sees (S.Store.view store.old) names →
-        IfOk result (λ text. IsHonest S.Store store.new →
-        get names name.now ≡ option_map phc_of text) }
+        IfOk result (λ it. IsHonest S.Store store.new →
+        (get names name.now ≡ option_map phc_of it.0)
+        × (IsTrue it.1 → HasNoneAfter names name.now)) }
     ensures same { OnOk result (IsHonest S.Store store.new → S.Store.view store.new
         ≡ record (S.Store.view store.old) { cursors = (S.Store.view store.new).cursors }) }
     ensures sound { OnOk result (IsHonest S.Store store.new →
@@ -133,12 +137,13 @@ pub(crate) fn look_up<S: Store>(
         (IsHonest S.Store store.old → Sees (S.Store.view store.old) names) →
         Writes S.Store store.old store.new names names ⊥ (done_of result) }
 {
-    if !find(store, row, key, name)? {
-        return Ok(None);
-    }
-    match text_in(row) {
-        Some(hash) => Ok(Some(hash)),
-        None => Err(StoreError::Corrupt),
+    match find(store, row, key, name)? {
+        Some(true) => match text_in(row) {
+            Some(hash) => Ok((Some(hash), false)),
+            None => Err(StoreError::Corrupt),
+        },
+        Some(false) => Ok((None, false)),
+        None => Ok((None, true)),
     }
 }
 
@@ -203,8 +208,6 @@ pub(crate) fn write_rows<S: Store, W: Write>(
     ensures shows { (names : Named) → AreTexts names → Sees (S.Store.view store.old) names →
         IfOk result (λ done. IsHonest S.Store store.new → OnOk done
         (Appends (W.contents output.old) (W.contents output.new) (lines_of view names))) }
-    ensures sound { OnOk result (IsHonest S.Store store.new →
-        (S.Store.view store.old).is_broken ≡ false) }
     ensures reads { (names : Named) → AreTexts names →
         (IsHonest S.Store store.old → Sees (S.Store.view store.old) names) →
         Writes S.Store store.old store.new names names ⊥ (done_of result) }

@@ -1,19 +1,24 @@
 //! Names with their texts, in a tree of a store.
+#![tactic(auto, using(crate::proofs::TableLemmas::kept))]
 
-ghost use Rattle.std.specs.Prelude.{◌≡◌, ◌≤◌, ◌⊎◌, ◌↔◌, false, Any, Ok, Err, None, Some, IsTrue, OnOk, IfErr, IfOk, MatchResult, map};
+ghost use Rattle.std.specs.Prelude.{◌≡◌, ◌≤◌, ◌⊎◌, ◌↔◌, false, Any, Ok, Err, None, Some, IsTrue, IsOkAnd, OnOk, IfErr, IfOk, MatchResult, map};
+ghost use Rattle.std.specs.Cmp.Lexicographic.{slice_cmp};
 ghost use Rattle.std.specs.FinMap.{get, remove};
+ghost use Rattle.std.specs.Ordering.{nat_cmp};
+ghost use Rattle.std.specs.declared.cmp.Ordering.TheVariants.{Less};
 ghost use Rattle.std.specs.Io.KnownBytes.{Appends};
 ghost use Rattle.std.specs.Option.{option_copied, option_map};
 ghost use Rattle.sqlite_value.specs.Keys.{plain};
+ghost use Rattle.sqlite_trees.specs.Tree.{Trees};
 ghost use Rattle.sqlite_trees.specs.View.{HasCause, KeepsSchema, doubt};
 ghost use Rattle.sqlite_trees.specs.declared.store.Shape.TheVariants.{Index};
 ghost use Rattle.argon2_base.specs.PhcFields.{phc_of};
 ghost use Rattle.argon2.specs.NamedTexts.{Store as Named};
 ghost use Rattle.argon2_store.specs.Adding.{AddsAll, AddsName, IsFirstRefused, WritesAll, entry_of};
 ghost use Rattle.argon2_store.specs.Errors.{IsOfDatabase};
-ghost use Rattle.argon2_store.specs.Rows.{AreTexts, lines_of, rows_of};
+ghost use Rattle.argon2_store.specs.Rows.{AreTexts, HasNoneAfter, IsAfterAll, lines_of, rows_of};
 ghost use Rattle.argon2_store.specs.declared.error.OpenError.TheVariants.{Row as NoAccount};
-ghost use Rattle.argon2_store.specs.Table.{Changes, HasBegun, HasFailed, HasNames, HasSome, IsUnwritten, IsHonest, IsKept, IsOpen, IsLong, CrashLeaves, Sees, StaysQuiet, Writes, changed, written_of};
+ghost use Rattle.argon2_store.specs.Table.{Changes, HasBegun, HasFailed, HasNames, HasSome, IsUnwritten, IsHonest, IsKept, IsOpen, IsLong, Sees, StaysQuiet, Writes, changed, written_of};
 
 use crate::error::OpenError;
 use crate::rows::{ACCOUNTS, lay, load, look_up, write_rows};
@@ -68,7 +73,9 @@ fn take_out<S: Store>(
     hash: &PasswordHash,
 ) -> Result<(), StoreError>
     requires { IsHonest S.Store store.old → (S.Store.view store.old).shape 0 ≡ Index plain }
-    ensures { (names : Named) →
+    ensures schema { KeepsSchema (S.Store.view store.old) (S.Store.view store.new) }
+    ensures quiet { StaysQuiet S.Store store.old store.new }
+    ensures writes { (names : Named) →
         (IsHonest S.Store store.old → get names name.now ≡ Some (phc_of hash.now)) →
         Writes S.Store store.old store.new names (remove names name.now) ⊥ result }
 {
@@ -98,11 +105,13 @@ fn write<S: Store>(
     put(store, row, name, new)
 }
 
-// Writes the row of a new name with its text, unless it is refused.
+// Writes the row of a new name with its text, unless it is refused. `is_last` says that the name comes after all others,
+// and then it is not looked up; the call sets it if the look-up shows that.
 fn add<S: Store>(
     store: &mut S,
     row: &mut Row,
     key: &mut Row,
+    is_last: &mut bool,
     name: &str,
     text: &str,
 ) -> Result<Result<(), StoreError>, AccountError>
@@ -111,20 +120,35 @@ fn add<S: Store>(
     ensures quiet { StaysQuiet S.Store store.old store.new }
     ensures writes { (before : Named) → AreTexts before →
         (IsHonest S.Store store.old → Sees (S.Store.view store.old) before) →
+        (IsTrue is_last.old → IsHonest S.Store store.old → IsAfterAll before name.now) →
         (after : Named) × AreTexts after
         × Writes S.Store store.old store.new before after (IsLong name.now) (written_of result)
         × MatchResult result
         (λ done. OnOk done (IsHonest S.Store store.new →
-        AddsName before (name.now, text.now) (Ok tt) after))
+        AddsName before (name.now, text.now) (Ok tt) after
+        × (IsTrue is_last.new → HasNoneAfter after name.now)))
         (λ why. IsHonest S.Store store.new →
         AddsName before (name.now, text.now) (Err why) before) }
 {
     let hash = PasswordHash::new(text)?;
+    if *is_last {
+        return Ok(put(store, row, name, Some(&hash)));
+    }
     match look_up(store, row, key, name) {
-        Ok(None) => Ok(put(store, row, name, Some(&hash))),
-        Ok(Some(_)) => Err(AccountError::NameTaken),
+        Ok((None, none_after)) => {
+            *is_last = none_after;
+            Ok(put(store, row, name, Some(&hash)))
+        }
+        Ok((Some(_), _)) => Err(AccountError::NameTaken),
         Err(error) => Ok(Err(error)),
     }
+}
+
+// Whether a name comes after `last`, and that after all others.
+fn comes_after(name: &str, is_last: bool, last: &[u8]) -> bool
+    ensures { IsTrue result → IsTrue is_last × (slice_cmp nat_cmp last.now name.now ≡ Less) }
+{
+    is_last && last.cmp(&name.as_bytes()).is_lt()
 }
 
 // Writes the rows of new names with their texts, up to the first that is refused. The refusal comes with its index.
@@ -145,9 +169,12 @@ fn add_each<S: Store>(
         (λ e. IsHonest S.Store store.new →
         IsFirstRefused before (map entry_of new.now) e.0 e.1) }
 {
+    let mut is_last = false;
+    let mut last: &[u8] = &[];
     for (k, &(name, text)) in new.iter().enumerate() {
-        match add(store, row, key, name, text) {
-            Ok(Ok(())) => {}
+        is_last = comes_after(name, is_last, last);
+        match add(store, row, key, &mut is_last, name, text) {
+            Ok(Ok(())) => last = name.as_bytes(),
             Ok(Err(error)) => return Ok(Err(error)),
             Err(why) => return Err((k, why)),
         }
@@ -170,12 +197,10 @@ fn finish<S: Store>(store: &mut S, done: Result<(), StoreError>) -> Result<(), S
         HasBegun S.Store store.old before × OnOk done (Sees (S.Store.view store.old) after)) →
         MatchResult result (λ _. IsKept S.Store store.new after)
         (λ _. IsKept S.Store store.new before) }
-    ensures left { (before after : Named) → IsHonest S.Store store.new →
-        HasBegun S.Store store.old before → OnOk done (Sees (S.Store.view store.old) after) →
-        CrashLeaves S.Store store.new (λ left. (left ≡ before) ⊎ (left ≡ after)) }
-    ensures durable { (after : Named) → IsHonest S.Store store.new →
-        OnOk done (Sees (S.Store.view store.old) after) →
-        OnOk result (IsOpen S.Store store.new × CrashLeaves S.Store store.new (λ left. left ≡ after)) }
+    ensures crash { (db : Trees) → S.Store.recovers store.new db →
+        IsOkAnd done (λ _. ((S.Store.view store.old).is_broken ≡ false)
+        × (db ≡ (S.Store.view store.old).trees)) ⊎ S.Store.recovers store.old db }
+    ensures open { OnOk result (IsHonest S.Store store.new → IsOpen S.Store store.new) }
     ensures cause { IsHonest S.Store store.new → MatchResult done
         (λ _. IfErr result (HasCause (S.Store.view store.old)
         (HasFailed S.Store store.old store.new) ⊥))
@@ -185,7 +210,6 @@ fn finish<S: Store>(store: &mut S, done: Result<(), StoreError>) -> Result<(), S
     ensures clean { doubt (S.Store.view store.old).is_clean
         ≤ doubt (S.Store.view store.new).is_clean }
     ensures counts { S.Store.faults store.old ≤ S.Store.faults store.new }
-    ensures shield { S.Store.is_shielded store.old → S.Store.is_shielded store.new }
 {
     match done {
         Ok(()) => store.commit(),
@@ -197,19 +221,14 @@ fn finish<S: Store>(store: &mut S, done: Result<(), StoreError>) -> Result<(), S
 }
 
 impl<S: Store + Drop> Table<S> {
-    ghost use Rattle.argon2_store.specs.Shown.{file_of as store_in};
-
     // The names of a store in which nothing is written yet. An error comes with the store.
     pub(crate) fn open(alloc: Global, mut store: S) -> Result<Table<S>, (OpenError, S)>
         requires { IsHonest S.Store store → IsUnwritten (S.Store.view store) }
-        ensures found { IfOk result (λ table. (names : Named)
-            × HasNames S.Store (store_in table) names
-            × (IsHonest S.Store (store_in table) →
-            (S.Store.view store).committed 0 ≡ rows_of names)) }
-        ensures open { IfOk result (λ table. IsHonest S.Store (store_in table) →
-            IsOpen S.Store (store_in table)) }
-        ensures quiet { IfOk result (λ table.
-            StaysQuiet S.Store store (store_in table)) }
+        ensures found { IfOk result (λ table. (names : Named) × HasNames S.Store table.store names
+            × (IsHonest S.Store table.store → (S.Store.view store).committed 0 ≡ rows_of names)) }
+        ensures open { IfOk result (λ table.
+            IsHonest S.Store table.store → IsOpen S.Store table.store) }
+        ensures quiet { IfOk result (λ table. StaysQuiet S.Store store table.store) }
         ensures back { IfErr result (λ e. StaysQuiet S.Store store e.1) }
         ensures error { IfErr result (λ e. (e.0 ≡ NoAccount) ⊎ IsOfDatabase e.0) }
     {
@@ -227,22 +246,21 @@ impl<S: Store + Drop> Table<S> {
 }
 
 impl<S: Store> Table<S> {
-    ghost use Rattle.argon2_store.specs.Shown.{file_of};
     ghost use Rattle.argon2_store.specs.Table.{KeepsNames};
 
     // The text of a name.
     pub(crate) fn get(&mut self, name: &str) -> Result<Option<PasswordHash>, StoreError>
-        requires { IsHonest S.Store (file_of self.old) → IsOpen S.Store (file_of self.old) }
-        ensures reads { (names : Named) → HasNames S.Store (file_of self.old) names →
-            KeepsNames S.Store (file_of self.old) (file_of self.new) names result }
-        ensures open { OnOk result (IsHonest S.Store (file_of self.new) →
-            IsOpen S.Store (file_of self.new)) }
-        ensures found { (names : Named) → HasNames S.Store (file_of self.new) names →
-            IfOk result (λ text. IsHonest S.Store (file_of self.new) →
+        requires { IsHonest S.Store self.old.store → IsOpen S.Store self.old.store }
+        ensures reads { (names : Named) → HasNames S.Store self.old.store names →
+            KeepsNames S.Store self.old.store self.new.store names result }
+        ensures open { OnOk result
+            (IsHonest S.Store self.new.store → IsOpen S.Store self.new.store) }
+        ensures found { (names : Named) → HasNames S.Store self.new.store names →
+            IfOk result (λ text. IsHonest S.Store self.new.store →
             get names name.now ≡ option_map phc_of text) }
     {
         match look_up(&mut self.store, &mut self.row, &mut self.key, name) {
-            Ok(text) => Ok(text),
+            Ok((text, _)) => Ok(text),
             Err(error) => {
                 undo(&mut self.store);
                 Err(error)
@@ -256,11 +274,11 @@ impl<S: Store> Table<S> {
         view: View,
         output: &mut W,
     ) -> Result<io::Result<()>, StoreError>
-        requires { IsHonest S.Store (file_of self.old) → IsOpen S.Store (file_of self.old) }
-        ensures reads { (names : Named) → HasNames S.Store (file_of self.old) names →
-            KeepsNames S.Store (file_of self.old) (file_of self.new) names result }
-        ensures shows { (names : Named) → HasNames S.Store (file_of self.old) names →
-            IfOk result (λ done. IsHonest S.Store (file_of self.new) → OnOk done
+        requires { IsHonest S.Store self.old.store → IsOpen S.Store self.old.store }
+        ensures reads { (names : Named) → HasNames S.Store self.old.store names →
+            KeepsNames S.Store self.old.store self.new.store names result }
+        ensures shows { (names : Named) → HasNames S.Store self.old.store names →
+            IfOk result (λ done. IsHonest S.Store self.new.store → OnOk done
             (Appends (W.contents output.old) (W.contents output.new) (lines_of view names))) }
     {
         match write_rows(&mut self.store, &mut self.row, view, output) {
@@ -279,12 +297,12 @@ impl<S: Store> Table<S> {
         old: Option<&PasswordHash>,
         new: Option<&PasswordHash>,
     ) -> Result<(), StoreError>
-        requires open { IsHonest S.Store (file_of self.old) → IsOpen S.Store (file_of self.old) }
-        requires known { (names : Named) → HasNames S.Store (file_of self.old) names →
-            IsHonest S.Store (file_of self.old) →
+        requires open { IsHonest S.Store self.old.store → IsOpen S.Store self.old.store }
+        requires known { (names : Named) → HasNames S.Store self.old.store names →
+            IsHonest S.Store self.old.store →
             get names name.now ≡ option_map phc_of (option_copied old) }
-        ensures { (before : Named) → HasNames S.Store (file_of self.old) before →
-            Changes S.Store (file_of self.old) (file_of self.new) before
+        ensures { (before : Named) → HasNames S.Store self.old.store before →
+            Changes S.Store self.old.store self.new.store before
             (changed before name.now (option_map phc_of (option_copied new.entry)))
             (IsLong name.now) result }
     {
@@ -297,9 +315,8 @@ impl<S: Store> Table<S> {
         &mut self,
         new: &[(&str, &str)],
     ) -> Result<Result<(), StoreError>, (usize, AccountError)>
-        requires { IsHonest S.Store (file_of self.old) → IsOpen S.Store (file_of self.old) }
-        ensures { WritesAll S.Store (file_of self.old) (file_of self.new) (map entry_of new.now)
-            result }
+        requires { IsHonest S.Store self.old.store → IsOpen S.Store self.old.store }
+        ensures { WritesAll S.Store self.old.store self.new.store (map entry_of new.now) result }
     {
         match add_each(&mut self.store, &mut self.row, &mut self.key, new) {
             Ok(done) => Ok(finish(&mut self.store, done)),
@@ -316,9 +333,8 @@ impl<S: Store> Table<S> {
         &mut self,
         new: &[(&str, &str)],
     ) -> Result<Result<(), StoreError>, (usize, AccountError)>
-        requires { IsHonest S.Store (file_of self.old) → IsOpen S.Store (file_of self.old) }
-        ensures { WritesAll S.Store (file_of self.old) (file_of self.new) (map entry_of new.now)
-            result }
+        requires { IsHonest S.Store self.old.store → IsOpen S.Store self.old.store }
+        ensures { WritesAll S.Store self.old.store self.new.store (map entry_of new.now) result }
     {
         if new.is_sorted() {
             return self.add_listed(new);
@@ -339,8 +355,8 @@ impl<S: Store> Table<S> {
 
     // Whether the file has to be opened again, since the disk failed.
     pub(crate) fn is_closed(&self) -> bool
-        ensures { IsHonest S.Store (file_of self.now) →
-            IsTrue result ↔ ((S.Store.view (file_of self.now)).is_open ≡ false) }
+        ensures { IsHonest S.Store self.now.store →
+            IsTrue result ↔ ((S.Store.view self.now.store).is_open ≡ false) }
     {
         self.store.is_broken()
     }
@@ -349,15 +365,14 @@ impl<S: Store> Table<S> {
 impl<D: Disk> Table<FileStore<D>> {
     ghost use Rattle.sqlite_store.specs.FileStore.{HasSpilled, log_frames};
     ghost use Rattle.argon2_store.specs.Runs.{over_file};
-    ghost use Rattle.argon2_store.specs.Shown.{file_of};
     ghost use Rattle.argon2_store.specs.Table.{KeepsNames};
 
     // Copies the log into the file.
     pub(crate) fn checkpoint(&mut self) -> Result<(), StoreError>
-        ensures reads { (names : Named) → HasNames over_file (file_of self.old) names →
-            KeepsNames over_file (file_of self.old) (file_of self.new) names result }
+        ensures reads { (names : Named) → HasNames over_file self.old.store names →
+            KeepsNames over_file self.old.store self.new.store names result }
         ensures copied { OnOk result
-            (¬ HasSpilled (file_of self.old) → log_frames (file_of self.new) ≡ 0) }
+            (¬ HasSpilled self.old.store → log_frames self.new.store ≡ 0) }
     {
         self.store.checkpoint()
     }

@@ -1,10 +1,22 @@
-use Rattle.std.proofs.Common.{rules, ◌≡◌, length}
+use Rattle.argon2_store.proofs.Imports.{rules, ◌≡◌, inl, length, subst, Recovers, recovers_once}
 use Rattle.std.proofs.lemmas.List.{nil_from_length}
+use Rattle.argon2_store.proofs.OpenLemmas.{after, bare}
 use Rattle.argon2_store.proofs.opening.is_bare.Goals as goal
 
-pub returns-clause-read : goal.returns-clause-read
-returns-clause-read g c clean = (
-  c.in_ok-rows.rows.items,
-  c.in_ok-rows.ensures.ok clean,
-  λ yes. (let none : length c.in_ok-rows.rows.items ≡ 0 = search rules in nil_from_length c.in_ok-rows.rows.items none),
-)
+pub returns-then-is_new-clause-bare : goal.returns-then-is_new-clause-bare
+returns-then-is_new-clause-bare g c clean is = ∣ inl (c.requires.blank c.if-is_new.true clean) ∣₁
+
+pub returns-clause-bare : goal.returns-clause-bare
+returns-clause-bare g c clean is =
+    let none : length c.in_ok-rows.rows.items ≡ 0 = search rules in
+    bare c.args.files.now c.read_catalog.new.self c.in_ok-rows.rows.items (c.in_ok-rows.ensures.ok clean)
+    (c.read_catalog.ensures.kept clean).size (nil_from_length c.in_ok-rows.rows.items none)
+
+pub returns-clause-same : goal.returns-clause-same
+returns-clause-same g c clean pages found =
+    let listed = c.in_ok-rows.ensures.ok clean in
+    subst (Recovers _ _) (recovers_once _ _ _ _ listed.again found) listed.found
+
+pub returns-clause-before : goal.returns-clause-before
+returns-clause-before g c clean = after c.args.files.now c.read_catalog.new.self c.in_ok-rows.rows.items
+    (c.in_ok-rows.ensures.ok clean) (c.read_catalog.ensures.kept clean).size (c.read_catalog.ensures.kept clean)

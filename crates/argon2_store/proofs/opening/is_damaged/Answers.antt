@@ -1,14 +1,7 @@
-use Rattle.argon2_store.proofs.Imports.{arith, rules, ◌≡◌, ◌≤◌, Bool, true, false, not, IsTrue, length, slice_index, refl, sym, subst, ◌∙◌, IsSigned, header, held_is_part}
+use Rattle.argon2_store.proofs.Imports.{arith, rules, ◌≡◌, ◌≤◌, length, slice_index, sym, subst, ◌∙◌, IsSigned, header, held_is_part}
+use Rattle.std.proofs.lemmas.Bool.Decides.{Decides-not}
 use Rattle.sqlite_disk.specs.Disk.{Holds}
 use Rattle.argon2_store.proofs.opening.is_damaged.Goals as goal
-
-not_both : (b : Bool) → IsTrue (not b) → IsTrue b → ⊥
-not_both true h is = absurd cc
-not_both false h is = absurd cc
-
-not_if : (b : Bool) → (IsTrue b → ⊥) → IsTrue (not b)
-not_if true h = absurd (h refl)
-not_if false h = refl
 
 pub returns-then-head-eq-MAGIC-clause-found : goal.returns-then-head-eq-MAGIC-clause-found
 returns-then-head-eq-MAGIC-clause-found g c clean =
@@ -19,7 +12,8 @@ returns-then-head-eq-MAGIC-clause-found g c clean =
     let head : header log ≡ buf = held_is_part log buf 0 32 held len in
     let known = c.in_ok-len.ensures.len (c.read_at.ensures.clean clean) in
     let long : 56 ≤ length log = omega (arith, known, c.if-branch-lt-HEADERS.false) in
-    let first : slice_index log 0 ≡ 55 = held.each 0 (omega (arith, len)) ∙ c.if-head-eq-MAGIC.true in (
-      λ other. (long, first, λ signed. not_both _ other (c.is_signed.ensures.1 (subst IsSigned head signed))),
-      λ damaged. not_if _ (λ signed. damaged.2 (subst IsSigned (sym head) (c.is_signed.ensures.0 signed))),
+    let first : slice_index log 0 ≡ 55 = held.each 0 (omega (arith, len)) ∙ c.if-head-eq-MAGIC.true in
+    let unsigned = Decides-not c.is_signed.result c.is_signed.ensures in (
+      λ other. (long, first, λ signed. unsigned.0 other (subst IsSigned head signed)),
+      λ damaged. unsigned.1 (λ signed. damaged.2 (subst IsSigned (sym head) signed)),
     )

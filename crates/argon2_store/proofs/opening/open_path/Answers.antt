@@ -1,9 +1,6 @@
 use Rattle.argon2_store.proofs.Imports.{rules}
 use Rattle.argon2_store.proofs.opening.open_path.Goals as goal
 
-pub returns-clause-fresh : goal.returns-clause-fresh
-returns-clause-fresh g c = c.in_ok-files.ensures.fresh
-
 pub returns-clause-synced : goal.returns-clause-synced
 returns-clause-synced g c =
     let (log, db) = c.in_ok-files.ensures.fresh in (

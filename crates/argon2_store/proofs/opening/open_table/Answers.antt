@@ -28,11 +28,6 @@ returns-in-Ok-open-clause-whole g c clean damaged =
     let known = halves g.D.Disk c.is_damaged.new.log c.args.files.db (c.in-Ok.ensures.honest was) in
     let yes = (c.in-Ok-false.ensures.found known.0).1 damaged in cc
 
-pub returns-in-Err-open_files-clause-unharmed : goal.returns-in-Err-open_files-clause-unharmed
-returns-in-Err-open_files-clause-unharmed g c =
-    unharmed_then c.args.files.log c.is_damaged.new.log c.args.files.db _ c.is_damaged.ensures.same
-    c.in-Err-open_files.ensures.left
-
 pub returns-in-Err-open-clause-damaged : goal.returns-in-Err-open-clause-damaged
 returns-in-Err-open-clause-damaged g c is = absurd (not_log _ c.in-Err-open.ensures.error is)
 
@@ -42,3 +37,8 @@ returns-in-Err-open-clause-unharmed g c =
     (unharmed_by_reads (c.is_damaged.new.log, c.args.files.db) c.in-Ok.store c.in-Err-open.store _
     g.met.D.Disk.seen_may_stay c.in-Err-open.ensures.back c.in-Ok.ensures.fresh c.in-Ok.ensures.found
     c.close.ensures)
+
+pub returns-in-Err-open_files-clause-unharmed : goal.returns-in-Err-open_files-clause-unharmed
+returns-in-Err-open_files-clause-unharmed g c =
+    unharmed_then c.args.files.log c.is_damaged.new.log c.args.files.db _ c.is_damaged.ensures.same
+    c.in-Err-open_files.ensures.left

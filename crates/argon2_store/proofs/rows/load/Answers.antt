@@ -1,5 +1,5 @@
-use Rattle.argon2_store.proofs.Imports.{rules, arith, ◌∙◌, ◌≡◌, subst, sym, empty, insert, IsClean, rows_of}
-use Rattle.argon2_store.proofs.RowLemmas.{LastIs, all_read, begin, last-empty, rows_of-empty, step, texts-empty, texts_step}
+use Rattle.argon2_store.proofs.Imports.{rules, arith, ◌∙◌, ◌≡◌, subst, sym, empty, insert, Some, IsClean, rows_of}
+use Rattle.argon2_store.proofs.RowLemmas.{LastIs, all_read, begin, last-empty, rows_of-empty, step, texts-empty, texts_changed}
 use Rattle.argon2_store.proofs.rows.load.Goals as goal
 
 pub loop-init : goal.loop-init
@@ -24,7 +24,7 @@ loop-preserved g c =
       search rules,
       (
         insert names is.0.0 is.0.1,
-        texts_step names _ is texts,
+        texts_changed names is.0.0 (Some is.0.1) texts is.1,
         λ clean.
             let later : IsClean (g.S.Store.view c.next.new.self) = clean in
             let then : IsClean (g.S.Store.view c.loop.store) = omega (arith, c.next.ensures.quiet.clean, later) in

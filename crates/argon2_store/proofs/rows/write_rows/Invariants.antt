@@ -1,4 +1,4 @@
-use Rattle.argon2_store.proofs.Imports.{◌≡◌, false, IsSome, Ok, Store, IsHonest, Sees, Writes}
+use Rattle.argon2_store.proofs.Imports.{IsSome, Ok, Store, IsHonest, Sees, Writes}
 use Rattle.argon2_store.proofs.LineLemmas.{IsWriting}
 use Rattle.argon2_store.proofs.rows.write_rows.Given as goal
 
@@ -7,6 +7,5 @@ invariant-loop g l =
     let first = g.S.Store.view l.fn.store in
     let now = g.S.Store.view l.store in
     IsSome (now.cursors 0) × ((names : Store) → Writes g.S.Store l.fn.store l.store names names ⊥ (Ok tt))
-    × (IsHonest g.S.Store l.store → (first.is_broken ≡ false)
-    × ((names : Store) → Sees first names → IsWriting l.view first now names (g.W.Write.contents l.fn.output)
-    (g.W.Write.contents l.output)))
+    × (IsHonest g.S.Store l.store → (names : Store) → Sees first names
+    → IsWriting l.view first now names (g.W.Write.contents l.fn.output) (g.W.Write.contents l.output))

@@ -1,7 +1,7 @@
-use Rattle.argon2_store.proofs.Imports.{◌<◌, ◌≡◌, arith, ap, length, ℕ, List, [], Ok, Err, refl, subst, take, map, get_or, sym, ◌∙◌, Bor, get_or-map, length-map, map_more}
-use Rattle.argon2_store.proofs.Imports.{take-map, take_all, Any, Shape, AddsAll, AddsName, entry_of, IsHonest, IsLong, Sees}
+use Rattle.argon2_store.proofs.Imports.{◌<◌, ◌≡◌, arith, length, ℕ, List, [], Err, refl, subst, take, map, get_or, sym, Bor, get_or-map, length-map, map_more}
+use Rattle.argon2_store.proofs.Imports.{take-map, take_all, Any, AddsAll, AddsName, entry_of, IsHonest, IsLong, Sees, Store, HasNoneAfter, IsAfterAll, Less, slice_cmp, nat_cmp, nat_list_cmp_total}
 use Rattle.argon2_store.proofs.AddLemmas.{add_last}
-use Rattle.argon2_store.proofs.TableLemmas.{writes_nothing, writes_then}
+use Rattle.argon2_store.proofs.TableLemmas.{keeps_index, writes_nothing, writes_then}
 use Rattle.argon2_store.proofs.table.add_each.Goals as goal
 
 abbrev nothing : Bor (List ℕ) × Bor (List ℕ)
@@ -17,6 +17,15 @@ some_long new i within long = (
   long,
 )
 
+-- a name after the last one is after all if that is
+past : {P Q : Type 0} (names : Store) (last name : List ℕ) → (P → Q × (slice_cmp nat_cmp last name ≡ Less))
+    → {H : Type 0} → (Q → H → HasNoneAfter names last) → P → H → IsAfterAll names name
+past names last name later none is clean =
+    let (was, less) = later is in (
+      none was clean name less,
+      λ other above. none was clean other (nat_list_cmp_total.trans last name other less above),
+    )
+
 pub add-requires : goal.add-requires
 add-requires g c = c.loop-k.invariant.0
 
@@ -26,8 +35,8 @@ loop-k-init g c = (
   λ before texts sees. (
     before,
     texts,
-    λ clean. refl,
-    writes_nothing g.S.Store (Ok tt) (λ clean. refl) tt,
+    λ clean. (refl, λ is. absurd cc),
+    writes_nothing g.S.Store (λ clean. refl),
   ),
 )
 
@@ -36,7 +45,8 @@ returns-in-Ok-Err g c before texts sees =
     let (mid, fine, all, wrote) = c.loop-k.invariant.1 before texts sees in
     let seen : IsHonest g.S.Store c.loop-k.store → Sees (g.S.Store.view c.loop-k.store) mid = λ clean.
     wrote.sees clean (sees (omega (arith, clean, wrote.quiet.clean))) in
-    let (after, good, more, done) = (rw c.in-Ok-Err.field-0-is at (c.in-Ok-Err.ensures.writes mid fine seen)) in (
+    let (after, good, more, done) = (rw c.in-Ok-Err.field-0-is at (c.in-Ok-Err.ensures.writes mid fine seen
+    (past mid _ _ c.comes_after-is_last.ensures (λ is clean. (all clean).1 is)))) in (
       after,
       good,
       writes_then wrote more (some_long c.args.new.now c.loop-k.k c.loop-k-test.true),
@@ -48,7 +58,8 @@ returns-in-Err g c before texts sees =
     let (mid, fine, all, wrote) = c.loop-k.invariant.1 before texts sees in
     let seen : IsHonest g.S.Store c.loop-k.store → Sees (g.S.Store.view c.loop-k.store) mid = λ clean.
     wrote.sees clean (sees (omega (arith, clean, wrote.quiet.clean))) in
-    let (after, good, more, why) = c.in-Err.ensures.writes mid fine seen in
+    let (after, good, more, why) = c.in-Err.ensures.writes mid fine seen
+    (past mid _ _ c.comes_after-is_last.ensures (λ is clean. (all clean).1 is)) in
     let new = c.args.new.now in
     let es = map entry_of new in (
       after,
@@ -56,7 +67,7 @@ returns-in-Err g c before texts sees =
       writes_then wrote more (some_long new c.loop-k.k c.loop-k-test.true),
       λ clean. (
         mid,
-        rw take-map (all (omega (arith, clean, more.quiet.clean))),
+        rw take-map (all (omega (arith, clean, more.quiet.clean))).0,
         rw length-map c.loop-k-test.true,
         subst (λ x. AddsName mid x (Err c.in-Err.why) mid)
             (sym (get_or-map entry_of new c.loop-k.k nothing ([], []) c.loop-k-test.true)) (why clean),
@@ -65,21 +76,24 @@ returns-in-Err g c before texts sees =
 
 pub loop-k-preserved : goal.loop-k-preserved
 loop-k-preserved g c = (
-  λ clean. ap (λ (f : ℕ → Shape). f 0) c.add.ensures.schema.shape ∙ c.loop-k.invariant.0
-      (omega (arith, clean, c.add.ensures.quiet.clean)),
+  keeps_index g.S.Store c.add.ensures.schema c.add.ensures.quiet c.loop-k.invariant.0,
   λ before texts sees.
       let (mid, fine, all, wrote) = c.loop-k.invariant.1 before texts sees in
       let seen : IsHonest g.S.Store c.loop-k.store → Sees (g.S.Store.view c.loop-k.store) mid = λ clean.
       wrote.sees clean (sees (omega (arith, clean, wrote.quiet.clean))) in
-      let (after, good, more, done) = (rw c.in-Ok-Ok.field-0-is at (c.in-Ok-Ok.ensures.writes mid fine seen)) in
+      let (after, good, more, done) = (rw c.in-Ok-Ok.field-0-is at (c.in-Ok-Ok.ensures.writes mid fine seen
+      (past mid _ _ c.comes_after-is_last.ensures (λ is clean. (all clean).1 is)))) in
       let new = c.args.new.now in
       let within : c.loop-k.k < length new = c.loop-k-test.true in
       let e = entry_of (get_or new c.loop-k.k nothing) in (
         after,
         good,
-        λ clean. rw (map_more entry_of new c.loop-k.k nothing)
-            (add_last (map entry_of (take c.loop-k.k new)) before mid after e
-            (all (omega (arith, clean, more.quiet.clean))) (done clean)),
+        λ clean. (
+          rw (map_more entry_of new c.loop-k.k nothing)
+              (add_last (map entry_of (take c.loop-k.k new)) before mid after e
+              (all (omega (arith, clean, more.quiet.clean))).0 (done clean).0),
+          λ is. rw c.as_bytes-last.ensures.value ((done clean).1 is),
+        ),
         writes_then wrote more (some_long new c.loop-k.k within),
       ),
 )
@@ -89,4 +103,4 @@ returns g c before texts sees =
     let (mid, fine, all, wrote) = c.loop-k.invariant.1 before texts sees in
     let end : take c.loop-k.k c.args.new.now ≡ c.args.new.now =
     take_all c.loop-k.k c.args.new.now (omega (arith, c.loop-k-test.false)) in
-    (mid, fine, wrote, λ clean. subst (λ l. AddsAll before (map entry_of l) mid) end (all clean))
+    (mid, fine, wrote, λ clean. subst (λ l. AddsAll before (map entry_of l) mid) end (all clean).0)

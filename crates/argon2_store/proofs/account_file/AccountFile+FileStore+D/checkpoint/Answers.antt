@@ -1,5 +1,5 @@
 use Rattle.argon2_store.proofs.Imports.{settled_at, refl, over_file}
-use Rattle.argon2_store.proofs.FileLemmas.{live_of, on_read, reads_of, shut_out}
+use Rattle.argon2_store.proofs.FileLemmas.{reads_of, shut_out}
 use Rattle.argon2_store.proofs.account_file.AccountFile+FileStore+D.checkpoint.Goals as goal
 
 pub returns-then-is_closed-clause-call : goal.returns-then-is_closed-clause-call
@@ -10,8 +10,4 @@ returns-then-is_closed-clause-call g c names has =
 pub returns-clause-call : goal.returns-clause-call
 returns-clause-call g c names has =
     reads_of {g = over_file {g = g.D.Disk}} (λ s db. settled_at s g.met.D.Disk.seen_may_stay db) c.args.self.now _ names has
-    (live_of {g = over_file {g = g.D.Disk}} c.args.self.now c.is_closed.ensures c.if-is_closed.false)
-    refl c.checkpoint.result (c.checkpoint.ensures.reads names has) _ c.read.ensures
-
-pub returns-clause-copied : goal.returns-clause-copied
-returns-clause-copied g c = on_read _ c.checkpoint.result _ c.read.ensures c.checkpoint.ensures.copied
+    c.is_closed.ensures c.if-is_closed.false refl c.checkpoint.result (c.checkpoint.ensures.reads names has) _ c.read.ensures

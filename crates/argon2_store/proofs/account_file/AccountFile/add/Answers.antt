@@ -1,5 +1,5 @@
 use Rattle.argon2_store.proofs.Imports.{◌∙◌, Err, Some, inl, refl, sym, phc_of, adding, NameTaken, Refused, Closed}
-use Rattle.argon2_store.proofs.FileLemmas.{cannot_serve, is_nowhere, is_there, live_of, refuses, shut_out, unread, writes}
+use Rattle.argon2_store.proofs.FileLemmas.{cannot_serve, is_nowhere, is_there, refuses, shut_out, unread, writes}
 use Rattle.argon2_store.proofs.account_file.AccountFile.add.Goals as goal
 
 pub returns-then-is_closed : goal.returns-then-is_closed
@@ -9,9 +9,8 @@ returns-then-is_closed g c before has =
 
 pub returns-in_err-parsed : goal.returns-in_err-parsed
 returns-in_err-parsed g c before has =
-    let live = live_of {g = g.S.Store} c.args.self.now c.is_closed.ensures c.if-is_closed.false in
     refuses (adding c.args.name.now c.args.text.now) (λ answer. refl)
-    (unread g.met.S.Store.settled c.args.self.now before has live) (λ there clean. refl) refl
+    (unread g.met.S.Store.settled c.args.self.now before has c.is_closed.ensures c.if-is_closed.false) (λ there clean. refl) refl
     (Refused c.in_err-parsed.field-0.0) _ c.from_residual.ensures.1
     (inl (c.in_err-parsed.ensures.invalid, λ is. c.in_err-parsed.ensures.only is.0 is.1), refl)
 

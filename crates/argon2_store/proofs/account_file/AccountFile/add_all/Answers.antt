@@ -1,5 +1,5 @@
-use Rattle.argon2_store.proofs.Imports.{inl, refl, sym, map, Ok, Err, length-map, entry_of, database_of}
-use Rattle.argon2_store.proofs.FileLemmas.{ends_with, fails, live_of, shut_out, unread, writes_all, writes_at}
+use Rattle.argon2_store.proofs.Imports.{inl, refl, Ok, Err, database_of}
+use Rattle.argon2_store.proofs.FileLemmas.{ends_with, fails, live_of, shut_out, unread, writes_all}
 use Rattle.argon2_store.proofs.TableLemmas.{leaves_quiet}
 use Rattle.argon2_store.proofs.account_file.AccountFile.add_all.Goals as goal
 
@@ -12,21 +12,15 @@ returns-then-is_closed-clause-call g c before has = (
 
 pub returns-in-Ok-written-clause-call : goal.returns-in-Ok-written-clause-call
 returns-in-Ok-written-clause-call g c before has =
-    let live = live_of {g = g.S.Store} c.args.self.now c.is_closed.ensures c.if-is_closed.false in
     let (to, may, all, change) = c.in-Ok.ensures before has in
-    writes_all (unread g.met.S.Store.settled c.args.self.now before has live) tt refl (λ why. refl) (inl refl) may c.in-Ok.done
-    all change (Ok tt) c.in-Ok-written.ensures
+    writes_all (unread g.met.S.Store.settled c.args.self.now before has c.is_closed.ensures c.if-is_closed.false) tt refl
+    (λ why. refl) (inl refl) may c.in-Ok.done all change (Ok tt) c.in-Ok-written.ensures
 
 pub returns-in-Err-written-clause-call : goal.returns-in-Err-written-clause-call
 returns-in-Err-written-clause-call g c before has =
-    let live = live_of {g = g.S.Store} c.args.self.now c.is_closed.ensures c.if-is_closed.false in
     let (to, may, all, change) = c.in-Ok.ensures before has in
-    writes_all (unread g.met.S.Store.settled c.args.self.now before has live) tt refl (λ why. refl) (inl refl) may c.in-Ok.done
-    all change (Err c.in-Err-written.error) c.in-Err-written.ensures
-
-pub returns-in-Err-written-clause-refused : goal.returns-in-Err-written-clause-refused
-returns-in-Err-written-clause-refused g c names has clean = writes_at names (map entry_of c.args.new.now) _
-    (sym (length-map c.args.new.now entry_of)) c.in-Ok.done c.in-Err-written.error c.in-Err-written.ensures
+    writes_all (unread g.met.S.Store.settled c.args.self.now before has c.is_closed.ensures c.if-is_closed.false) tt refl
+    (λ why. refl) (inl refl) may c.in-Ok.done all change (Err c.in-Err-written.error) c.in-Err-written.ensures
 
 pub returns-in-Err-clause-call : goal.returns-in-Err-clause-call
 returns-in-Err-clause-call g c before has =

@@ -1,5 +1,6 @@
 use Rattle.argon2_store.proofs.Imports.{◌≡◌, ◌∙◌, Some, ap, refl, sym, option_map, fill_bytes, phc_of, logging_in, NameUnknown, Kept, Rehashed, terms_of}
-use Rattle.argon2_store.proofs.FileLemmas.{accepts, cannot_serve, has_kept, has_written, keeps, kept_err, open_of, refuses, writes}
+use Rattle.argon2_store.proofs.FileLemmas.{accepts, cannot_serve, has_kept, has_written, keeps, kept_err, refuses, writes}
+use Rattle.argon2_store.proofs.TableLemmas.{open_of}
 use Rattle.argon2_store.proofs.account_file.AccountFile.login.Goals as goal
 
 pub returns-in_err-text-clause-call : goal.returns-in_err-text-clause-call
@@ -61,9 +62,6 @@ returns-then-not-is_closed-clause-drawn g c =
     let rehashed : c.in_ok-accepted.field-0.accepted ≡ Rehashed = c.in_ok-accepted.ensures.fresh.0 (rw c.in-Some-fresh.is refl) in
     (rw rehashed at c.in_ok-accepted.ensures.drawn)
 
-pub returns-then-not-is_closed-clause-served : goal.returns-then-not-is_closed-clause-served
-returns-then-not-is_closed-clause-served g c clean = tt
-
 -- the fresh text is written
 pub returns-clause-call : goal.returns-clause-call
 returns-clause-call g c before has =
@@ -76,6 +74,6 @@ returns-clause-call g c before has =
 
 pub returns-clause-accepted : goal.returns-clause-accepted
 returns-clause-accepted g c before after has held =
-    has_written (terms_of c.text_of.new.self) c.args.name.now c.args.password.now c.in_ok-accepted.field-0.accepted c.change-done.result
-    (c.change-done.ensures before (c.in_ok-text.ensures.reads before has).has) held
+    has_written (terms_of c.text_of.new.self) c.args.name.now c.args.password.now c.in_ok-accepted.field-0.accepted
+    c.change-done.result (c.change-done.ensures before (c.in_ok-text.ensures.reads before has).has) held
     (rw c.in-Some-fresh.is at c.in_ok-accepted.ensures.accepted) _ c.written.ensures

@@ -1,15 +1,11 @@
 use Rattle.argon2_store.proofs.Imports.{◌∙◌, Some, refl, sym, fill_bytes, phc_of, registering, NameTaken, taken, terms_of}
-use Rattle.argon2_store.proofs.FileLemmas.{cannot_serve, has_written, is_nowhere, is_there, refuses, undrawn, writes}
+use Rattle.argon2_store.proofs.FileLemmas.{cannot_serve, has_written, is_nowhere, is_there, refuses, writes}
 use Rattle.argon2_store.proofs.account_file.AccountFile.register.Goals as goal
 
 pub returns-in_err-text_of-clause-call : goal.returns-in_err-text_of-clause-call
 returns-in_err-text_of-clause-call g c before has =
     cannot_serve (registering c.args.name.now c.args.password.now (fill_bytes 16 (g.R.Rng.stream c.args.rng.now)).0)
     _ c.from_residual.ensures.1 (c.in_err-text_of.ensures.reads before has)
-
-pub returns-in_err-text_of-clause-drawn : goal.returns-in_err-text_of-clause-drawn
-returns-in_err-text_of-clause-drawn g c =
-    undrawn c.in_err-text_of.field-0.0 _ c.from_residual.ensures.1 c.in_err-text_of.ensures.error _
 
 pub returns-then-is_some-clause-call : goal.returns-then-is_some-clause-call
 returns-then-is_some-clause-call g c before has =

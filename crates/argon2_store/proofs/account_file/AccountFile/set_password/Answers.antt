@@ -1,15 +1,11 @@
 use Rattle.argon2_store.proofs.Imports.{Some, ap, refl, option_map, fill_bytes, phc_of, setting, NameUnknown, terms_of}
-use Rattle.argon2_store.proofs.FileLemmas.{cannot_serve, has_written, refuses, undrawn, writes}
+use Rattle.argon2_store.proofs.FileLemmas.{cannot_serve, has_written, refuses, writes}
 use Rattle.argon2_store.proofs.account_file.AccountFile.set_password.Goals as goal
 
 pub returns-in_err-text-clause-call : goal.returns-in_err-text-clause-call
 returns-in_err-text-clause-call g c before has =
     cannot_serve (setting c.args.name.now c.args.new.now (fill_bytes 16 (g.R.Rng.stream c.args.rng.now)).0)
     _ c.from_residual.ensures.1 (c.in_err-text.ensures.reads before has)
-
-pub returns-in_err-text-clause-drawn : goal.returns-in_err-text-clause-drawn
-returns-in_err-text-clause-drawn g c =
-    undrawn c.in_err-text.field-0.0 _ c.from_residual.ensures.1 c.in_err-text.ensures.error _
 
 pub returns-in_default-clause-call : goal.returns-in_default-clause-call
 returns-in_default-clause-call g c before has =

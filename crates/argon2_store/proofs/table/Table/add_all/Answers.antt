@@ -1,6 +1,6 @@
 use Rattle.argon2_store.proofs.Imports.{IsPermutation}
 use Rattle.argon2_store.proofs.AddLemmas.{reordered, unwritten, written_later}
-use Rattle.argon2_store.proofs.FileLemmas.{open_of}
+use Rattle.argon2_store.proofs.TableLemmas.{open_of}
 use Rattle.argon2_store.proofs.table.Table.add_all.Goals as goal
 
 pub returns-in-Ok-add_listed : goal.returns-in-Ok-add_listed

@@ -1,9 +1,6 @@
 use Rattle.argon2_store.proofs.Imports.{arith, map, ∥∥₁_map, AddsAll, entry_of, IsHonest}
-use Rattle.argon2_store.proofs.TableLemmas.{all_or_none, changes_of, committed, has_either, quiet_then, shape_of, some_kept, taken_back}
+use Rattle.argon2_store.proofs.TableLemmas.{all_or_none, changes_of, committed, has_either, quiet_then, some_kept, taken_back}
 use Rattle.argon2_store.proofs.table.Table.add_listed.Goals as goal
-
-pub add_each-requires : goal.add_each-requires
-add_each-requires g c = shape_of g.S.Store c.args.self.now.kept c.requires
 
 pub returns-in-Ok : goal.returns-in-Ok
 returns-in-Ok g c before has =
@@ -16,8 +13,8 @@ returns-in-Ok g c before has =
       to,
       λ clean. may (to_mid clean),
       committed _ c.in-Ok.done c.finish.result then end.cause (λ clean adds. adds (to_mid clean)),
-      changes_of g.met.S.Store.settled c.requires c.in-Ok.done c.finish.result has fine written (end.kept before to)
-          (end.left before to) (end.durable to) end.cause end.closes end.clean end.counts,
+      changes_of g.met.S.Store.settled c.requires c.in-Ok.done c.finish.result has fine written (end.kept before to) end.crash
+          end.«open» end.cause end.closes end.clean end.counts,
     )
 
 pub invariant_of-self : goal.invariant_of-self
@@ -29,7 +26,7 @@ invariant_of-self g c = record {
       wrote all in
       let end = c.finish.ensures in
       has_either c.finish.result (changes_of g.met.S.Store.settled c.requires c.in-Ok.done c.finish.result has fine written
-      (end.kept before to) (end.left before to) (end.durable to) end.cause end.closes end.clean end.counts));
+      (end.kept before to) end.crash end.«open» end.cause end.closes end.clean end.counts));
 }
 
 pub returns-in-Err : goal.returns-in-Err

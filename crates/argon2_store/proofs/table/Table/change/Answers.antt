@@ -1,22 +1,20 @@
 use Rattle.argon2_store.proofs.Imports.{Option, Some, None, ∥∥₁_map, Bor, option_copied, option_map, IfSome, phc_of, IsPhc, PasswordHash, changed}
 use Rattle.argon2_store.proofs.RowLemmas.{texts_changed}
-use Rattle.argon2_store.proofs.TableLemmas.{changes_of, has_either, shape_of}
+use Rattle.argon2_store.proofs.TableLemmas.{changes_of, has_either}
 use Rattle.argon2_store.proofs.table.Table.change.Goals as goal
 
 is_text : (o : Option (Bor PasswordHash)) → IfSome (option_map phc_of (option_copied o)) IsPhc
 is_text (Some hash) = hash.now.grammatical
 is_text None = tt
 
-pub write-done-requires : goal.write-done-requires
-write-done-requires g c = shape_of g.S.Store c.args.self.now.kept c.requires.open
-
 pub returns : goal.returns
 returns g c before has =
     let after = changed before c.args.name.now (option_map phc_of (option_copied c.args.new)) in
     let end = c.finish.ensures in
     changes_of g.met.S.Store.settled c.requires.open c.write-done.result c.finish.result has
-    (texts_changed before c.args.name.now _ has.0 (is_text c.args.new)) (c.write-done.ensures before (c.requires.known before has))
-    (end.kept before after) (end.left before after) (end.durable after) end.cause end.closes end.clean end.counts
+    (texts_changed before c.args.name.now _ has.0 (is_text c.args.new))
+    (c.write-done.ensures before (c.requires.known before has))
+    (end.kept before after) end.crash end.«open» end.cause end.closes end.clean end.counts
 
 pub invariant_of-self : goal.invariant_of-self
 invariant_of-self g c = record {
@@ -27,5 +25,5 @@ invariant_of-self g c = record {
       has_either c.finish.result (changes_of g.met.S.Store.settled c.requires.open c.write-done.result c.finish.result has
       (texts_changed before c.args.name.now _ has.0 (is_text c.args.new))
       (c.write-done.ensures before (c.requires.known before has))
-      (end.kept before after) (end.left before after) (end.durable after) end.cause end.closes end.clean end.counts));
+      (end.kept before after) end.crash end.«open» end.cause end.closes end.clean end.counts));
 }

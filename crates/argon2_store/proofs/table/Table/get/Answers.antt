@@ -1,9 +1,6 @@
-use Rattle.argon2_store.proofs.Imports.{IsTrue, false, ◌≡◌, ap, refl, ◌∙◌, View}
-use Rattle.argon2_store.proofs.TableLemmas.{open_if_sound, read_done, read_failed, shape_of, some_failed, some_read, was_seen}
+use Rattle.argon2_store.proofs.Imports.{IsTrue, false, ◌≡◌, ap, subst, ◌∙◌, Holds, View}
+use Rattle.argon2_store.proofs.TableLemmas.{open_if_sound, read_done, read_failed, some_kept}
 use Rattle.argon2_store.proofs.table.Table.get.Goals as goal
-
-pub look_up-requires : goal.look_up-requires
-look_up-requires g c = shape_of g.S.Store c.args.self.now.kept c.requires
 
 pub returns-in-Ok-clause-reads : goal.returns-in-Ok-clause-reads
 returns-in-Ok-clause-reads g c names has =
@@ -11,18 +8,19 @@ returns-in-Ok-clause-reads g c names has =
 
 pub invariant_of-self : goal.invariant_of-self
 invariant_of-self g c = record {
-  kept = some_read g.met.S.Store.settled c.requires g.met.S.Store.broken_if_shut c.args.self.now.kept c.in-Ok.ensures.reads;
+  kept = some_kept c.args.self.now.kept (λ names has. (read_done g.met.S.Store.settled c.requires (tt {0})
+      g.met.S.Store.broken_if_shut has (c.in-Ok.ensures.reads names)).has);
 }
 
 pub returns-in-Err-clause-reads : goal.returns-in-Err-clause-reads
 returns-in-Err-clause-reads g c names has =
-    read_failed g.met.S.Store.settled c.requires refl has (c.in-Err.ensures.reads names) (c.undo.ensures.kept names)
+    read_failed g.met.S.Store.settled c.requires has (c.in-Err.ensures.reads names) (c.undo.ensures.kept names)
     c.undo.ensures.quiet
 
 pub invariant_of-self-in-Err : goal.invariant_of-self-in-Err
 invariant_of-self-in-Err g c = record {
-  kept = some_failed g.met.S.Store.settled c.requires c.args.self.now.kept c.in-Err.ensures.reads c.undo.ensures.kept
-      c.undo.ensures.quiet;
+  kept = some_kept c.args.self.now.kept (λ names has. (read_failed g.met.S.Store.settled c.requires {X = Unit {0}} has
+      (c.in-Err.ensures.reads names) (c.undo.ensures.kept names) c.undo.ensures.quiet).has);
 }
 
 is_open : (old new : View) → (new.is_open ≡ false → IsTrue new.is_broken) → new ≡ record old { cursors = new.cursors }
@@ -39,5 +37,5 @@ returns-in-Ok-clause-found g c names has clean =
     let new = g.S.Store.view c.look_up.new.store in
     let still = is_open old new (g.met.S.Store.broken_if_shut c.look_up.new.store) (c.in-Ok.ensures.same clean)
     (c.in-Ok.ensures.sound clean) in
-    c.in-Ok.ensures.found names has.0
-    (λ unbroken. was_seen old new names (c.in-Ok.ensures.same clean) (has.1.seen clean still)) clean
+    (c.in-Ok.ensures.found names has.0
+    (λ unbroken. subst (λ (v : View). Holds v.trees names) (c.in-Ok.ensures.same clean) (has.1.seen clean still)) clean).0
