@@ -4,16 +4,16 @@ use Rattle.std.specs.Prelude.{IfErr, IsSomeAnd}
 use Rattle.std.specs.FinMap.{get}
 use Rattle.sqlite_trees.specs.declared.store.Store.{Ghosts}
 use Rattle.argon2_base.specs.PhcText.{Phc, PhcText}
-use Rattle.argon2_accounts.specs.Accounts.{Adds, OnValue, Registers, Replaces, Sets, Terms, adding, registering, replacing, setting}
+use Rattle.argon2_accounts.specs.Accounts.{AccountStep, Adds, OnValue, Registers, Replaces, Sets, Terms, adding, registering, replacing, setting}
 use Rattle.argon2_accounts.specs.declared.error.AccountError.{AccountError}
 use Rattle.argon2_accounts.specs.declared.error.AccountError.TheVariants.{NameTaken, Refused, TextChanged}
 use Rattle.argon2.specs.Made.{IsFresh}
 use Rattle.argon2.specs.NamedTexts.{Store}
-use Rattle.argon2_store.specs.AccountFile.{Answers, HasCause, HasNames, IfRefused, IsClosed, Serves, Stays, database_of, terms_of}
+use Rattle.argon2_store.specs.AccountFile.{Answers, Call, HasCause, HasNames, IfRefused, IsClosed, Serves, Stays, database_of, terms_of}
 use Rattle.argon2_store.specs.Table.{IsHonest, IsOpen}
 use Rattle.argon2_store.specs.declared.account_file.AccountFile.{AccountFile}
 use Rattle.argon2_store.specs.declared.error.FileError.{FileError}
-use Rattle.argon2_store.specs.declared.error.FileError.TheVariants.{Account, OutOfMemory, Io, Damaged, Full, TooLong, Closed}
+use Rattle.argon2_store.specs.declared.error.FileError.TheVariants.{Account, OutOfMemory, TooLong, Closed}
 use Rattle.argon2_store.proofs.TableLemmas.{more_earlier, quiet_then}
 use Rattle.argon2_store.proofs.TextLemmas.{phc_once}
 
@@ -44,31 +44,13 @@ module _ (terms : Terms) (password drawn text : List ℕ) (w : Phc) (says : PhcT
   sets_value was v old p (Some u) (Err e) had is = absurd (rw had at is).0
   sets_value was v old p None (Err e) had is = absurd (rw had at is)
 
-  registers_step : (before after : Store) (name : List ℕ) (r : Result (Unit {0}) FileError)
-      → Answers terms before (adding name text) r after → Answers terms before (registering name password drawn) r after
-  registers_step before after name (Ok x) is = (registers_value (get before name) (get after name) (Ok x) is.0, is.1)
-  registers_step before after name (Err (Account e)) is =
-      (registers_value (get before name) (get after name) (Err e) is.0, is.1)
-  registers_step before after name (Err OutOfMemory) is = is
-  registers_step before after name (Err Io) is = is
-  registers_step before after name (Err Damaged) is = is
-  registers_step before after name (Err Full) is = is
-  registers_step before after name (Err TooLong) is = is
-  registers_step before after name (Err Closed) is = is
-
-  sets_step : (first : Terms) (before after : Store) (name was : List ℕ) (v : Phc) → PhcText was v → get before name ≡ Some v
-      → (r : Result (Unit {0}) FileError)
-      → Answers first before (replacing name was text) r after → Answers terms before (setting name password drawn) r after
-  sets_step first before after name was v old had (Ok x) is =
-      (sets_value was v old (get before name) (get after name) (Ok x) had is.0, is.1)
-  sets_step first before after name was v old had (Err (Account e)) is =
-      (sets_value was v old (get before name) (get after name) (Err e) had is.0, is.1)
-  sets_step first before after name was v old had (Err OutOfMemory) is = is
-  sets_step first before after name was v old had (Err Io) is = is
-  sets_step first before after name was v old had (Err Damaged) is = is
-  sets_step first before after name was v old had (Err Full) is = is
-  sets_step first before after name was v old had (Err TooLong) is = is
-  sets_step first before after name was v old had (Err Closed) is = is
+-- a call on a file answers as another, if the accounts do
+answers_then : (first last : Terms) (before after : Store) (call other : Call (Unit {0}))
+    → ((r : Result (Unit {0}) AccountError) → AccountStep first before (call r) after → AccountStep last before (other r) after)
+    → (r : Result (Unit {0}) FileError) → Answers first before call r after → Answers last before other r after
+answers_then first last before after call other then (Ok x) is = then (Ok x) is
+answers_then first last before after call other then (Err (Account e)) is = then (Err e) is
+answers_then first last before after call other then (Err e) is = is
 
 -- a name is added with a text of its password
 pub registers : {S : Type 0} {g : Ghosts S} (old new : AccountFile S g) (name text password drawn : List ℕ) (w : Phc)
@@ -76,18 +58,20 @@ pub registers : {S : Type 0} {g : Ghosts S} (old new : AccountFile S g) (name te
     → Serves (adding name text) r old new → Serves (registering name password drawn) r old new
 registers {g = g} old new name text password drawn w says fresh r serves before has =
     let (after, run) = serves before has in
-    let step = registers_step (terms_of old) password drawn text w says fresh before in (
+    let step = λ (end : Store). answers_then (terms_of old) (terms_of old) before end (adding name text)
+    (registering name password drawn)
+    (λ e is. (registers_value (terms_of old) password drawn text w says fresh (get before name) (get end name) e is.0, is.1)) in (
       after,
       record {
         has = run.has;
-        step = λ clean. step after name r (run.step clean);
+        step = λ clean. step after r (run.step clean);
         terms = run.terms;
         honest = run.honest;
         unchanged = run.unchanged;
         refused = run.refused;
         crash = λ clean is_open db found.
             let left = run.crash clean is_open db found in
-            (left.0, left.1, elim left.2 [ inl same ↦ inl same | inr (x, is) ↦ inr (x, step left.0 name (Ok x) is) ]);
+            (left.0, left.1, elim left.2 [ inl same ↦ inl same | inr (x, is) ↦ inr (x, step left.0 (Ok x) is) ]);
         durable = run.durable;
         closed = run.closed;
         closes = run.closes;
@@ -98,23 +82,16 @@ registers {g = g} old new name text password drawn w says fresh r serves before 
 refused_then : (P Q : Type 0) (r : Result (Unit {0}) FileError) → (P → Q) → IfErr r (IfRefused P) → IfErr r (IfRefused Q)
 refused_then P Q (Ok x) then is = tt
 refused_then P Q (Err (Account e)) then is = then is
-refused_then P Q (Err OutOfMemory) then is = tt
-refused_then P Q (Err Io) then is = tt
-refused_then P Q (Err Damaged) then is = tt
-refused_then P Q (Err Full) then is = tt
-refused_then P Q (Err TooLong) then is = tt
-refused_then P Q (Err Closed) then is = tt
+refused_then P Q (Err e) then is = tt
 
 cause_then : (shut closed more fault long : Type 0) (r : Result (Unit {0}) FileError) → (shut → closed) → (more → fault)
     → IfErr r (HasCause shut more long) → IfErr r (HasCause closed fault long)
 cause_then shut closed more fault long (Ok x) f h is = tt
 cause_then shut closed more fault long (Err (Account e)) f h is = tt
 cause_then shut closed more fault long (Err OutOfMemory) f h is = tt
-cause_then shut closed more fault long (Err Io) f h is = h is
-cause_then shut closed more fault long (Err Damaged) f h is = h is
-cause_then shut closed more fault long (Err Full) f h is = h is
 cause_then shut closed more fault long (Err TooLong) f h is = is
 cause_then shut closed more fault long (Err Closed) f h is = f is
+cause_then shut closed more fault long (Err e) f h is = h is
 
 -- a name's text is read, and replaced by a text of its password
 pub sets : {S : Type 0} {g : Ghosts S} (old mid new : AccountFile S g) (name was text password drawn : List ℕ) (v w : Phc)
@@ -126,10 +103,12 @@ sets {g = g} old mid new name was text password drawn v w old_says says fresh r 
     let reads = reading before has in
     let (after, run) = serves before reads.has in
     let open_then : IsHonest g (database_of new) → IsOpen g (database_of mid) = λ clean. reads.is_open refl (run.honest clean) in
-    let earlier = more_earlier (g.faults (database_of old)) (g.faults (database_of mid)) (g.faults (database_of new)) reads.quiet.counts in
-    let step = λ (clean : IsHonest g (database_of new)) (left : Store).
-    sets_step (terms_of old) password drawn text w says fresh (terms_of mid) before left name was v old_says
-    (had before reads.has (run.honest clean)) in (
+    let earlier = more_earlier (g.faults (database_of old)) (g.faults (database_of mid)) (g.faults (database_of new))
+    reads.quiet.counts in
+    let step = λ (clean : IsHonest g (database_of new)) (end : Store).
+    let there = had before reads.has (run.honest clean) in
+    answers_then (terms_of mid) (terms_of old) before end (replacing name was text) (setting name password drawn)
+    (λ e is. (sets_value (terms_of old) password drawn text w says fresh was v old_says _ (get end name) e there is.0, is.1)) in (
       after,
       record {
         has = run.has;

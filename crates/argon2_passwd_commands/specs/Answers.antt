@@ -1,5 +1,5 @@
 -- What the program answers.
-use Rattle.std.specs.Prelude.{◌≡◌, ◌⊎◌, ⊤, ℕ, ◌==◌, false, Bool, ◌||◌, ◌+◌, IsOk, IsTrue, List, [], ◌∷◌, ◌++◌, if◌then◌else◌, Option, Some, None, IfSome, Result, Ok, Err, IfErr, IfOk, OnErr, OnOk}
+use Rattle.std.specs.Prelude.{◌≡◌, ◌⊎◌, ⊤, ℕ, ◌==◌, false, Bool, ◌||◌, ◌+◌, IsOk, IsTrue, List, [], ◌∷◌, ◌++◌, if◌then◌else◌, Option, Some, None, IfSome, Result, Ok, Err, IfErr, IfOk, OnOk}
 use Rattle.std.specs.Io.BufRead.{drop_through}
 use Rattle.std.specs.List.{AllZip, after_first, before_first, list_any}
 use Rattle.std.specs.Option.{option_map}
@@ -21,20 +21,23 @@ use Rattle.argon2.specs.declared.login.answers.Accepted.{Accepted}
 use Rattle.argon2.specs.declared.login.answers.Accepted.TheVariants.{Kept, Rehashed}
 use Rattle.argon2_accounts.specs.declared.error.AccountError.{AccountError}
 use Rattle.argon2_prefixes.specs.Prefixes.{bare}
-use Rattle.argon2_store.specs.AccountFile.{AddsOrNone, Call, HasNames, IsReady, Serves, Stays, error_of, database_of}
+use Rattle.argon2_store.specs.AccountFile.{AddsOrNone, Call, HasNames, IsReady, Serves, Stays, error_of, database_of, terms_of}
 use Rattle.argon2_store.specs.Adding.{IsFirstRefused}
 use Rattle.argon2_store.specs.Rows.{lines_of}
 use Rattle.argon2_store.specs.Table.{IsHonest}
 use Rattle.argon2_store.specs.declared.account_file.AccountFile.{AccountFile}
 use Rattle.argon2_store.specs.declared.error.FileError.{FileError}
 use Rattle.argon2_store.specs.declared.error.FileError.TheVariants.{Account, Io}
-use Rattle.argon2_passwd_commands.specs.Asked.{Asked, Choices, bound_of, check, edit, hash, import, show, verify}
+use Rattle.argon2_passwd_commands.specs.Asked.{Asked, Choices, bound_of, check, choices_of, edit, hash, import, show, verify}
 use Rattle.argon2_passwd_commands.specs.declared.command.Edit.{Edit}
 use Rattle.argon2_passwd_commands.specs.declared.command.Edit.TheVariants.{Register, Change, Set, Remove}
 use Rattle.argon2_passwd_commands.specs.Failures.{status_of}
 use Rattle.argon2_passwd_commands.specs.Passwords.{password_of}
 use Rattle.argon2_passwd_commands.specs.declared.failure.Failure.{Failure}
 use Rattle.argon2_passwd_commands.specs.declared.failure.Failure.TheVariants.{Line}
+use Rattle.argon2_passwd_commands.specs.declared.run.accounts.Access.{Access}
+use Rattle.argon2_passwd_commands.specs.declared.run.edits.Step.{Step}
+use Rattle.argon2_passwd_commands.specs.declared.run.edits.Step.TheVariants as step
 
 -- a fact of a password, the first line of a known input
 abbrev pub OfPassword : (List ℕ → Type 0) → Option (List ℕ) → Type 0
@@ -78,6 +81,10 @@ terms_by choices secret = record {
   bound = bound_of choices;
 }
 
+-- those that a file is opened under
+abbrev pub terms_in : Access → Terms
+terms_in access = terms_by (choices_of access.options) access.secret.now
+
 -- a line that is appended is a reply under the choices and their secret
 abbrev pub IsReplied : (List ℕ → List ℕ → Type 0) → Choices → (Terms → List ℕ → List ℕ → Type 0)
     → Option (List ℕ) → Option (List ℕ) → Type 0
@@ -119,6 +126,15 @@ call_of Register name first second drawn = registering name first drawn
 call_of Change name first second drawn = changing name first second drawn
 call_of Set name first second drawn = setting name first drawn
 call_of Remove name first second drawn = removing name
+
+-- the call was made, for any password of its text
+abbrev pub Applies : {S : Type 0} {g : Ghosts S} → Step → List ℕ → Result (Unit {0}) FileError → AccountFile S g
+    → AccountFile S g → Type 0
+Applies (step.Add text) name result before after = (password drawn : List ℕ)
+    → IsFresh (terms_of before).target password drawn (phc_of text) → Serves (registering name password drawn) result before after
+Applies (step.Set text) name result before after = (password drawn : List ℕ)
+    → IsFresh (terms_of before).target password drawn (phc_of text) → Serves (setting name password drawn) result before after
+Applies step.Remove name result before after = Serves (removing name) result before after
 
 -- the parts of a line at its first colon: no text if it has none, and neither if it is not UTF-8
 abbrev pub parts_of : List ℕ → List ℕ × List ℕ
@@ -196,35 +212,29 @@ change_answer (decided (Err e)) = Err (Account e)
 change_answer (replaced _ done) = done
 
 module _ {S : Type 0} (g : Ghosts S) (Holds : List ℕ → List ℕ → Type 0) (Has : List ℕ → Store → Type 0) where
+  -- the file at a path was opened under these terms, used so, and closed with this store
+  abbrev pub IsOpenFor : Terms → List ℕ → (AccountFile S g → AccountFile S g → Type 0) → (S → Type 0) → Type 0
+  IsOpenFor terms path Does Next = (before after : AccountFile S g) × IsOpened Has path terms before
+      × Does before after × Next (database_of after)
+
   -- all that was done with the file at a path: it was opened under the choices and their secret, and closed
   abbrev pub IsDone : Choices → List ℕ → (List ℕ → AccountFile S g → AccountFile S g → Type 0) → (List S → Type 0) → Type 0
-  IsDone choices path Does Closed = (secret drawn : List ℕ) × (before after : AccountFile S g)
-      × IsSecret Holds choices.secret_file secret × IsOpened Has path (terms_by choices secret) before
-      × Does drawn before after × Closed (database_of after ∷ [])
+  IsDone choices path Does Closed = (secret drawn : List ℕ) × IsSecret Holds choices.secret_file secret
+      × IsOpenFor (terms_by choices secret) path (Does drawn) (λ last. Closed (last ∷ []))
 
   -- that was one call
   abbrev pub IsCalled : {X : Type 0} → Choices → List ℕ → (List ℕ → Call X) → Result X FileError → (List S → Type 0) → Type 0
   IsCalled choices path call result = IsDone choices path (λ drawn. Serves (call drawn) result)
 
-  -- One call was tried on the file at a path: it was opened under these terms, and closed after the
-  -- call; or it was not opened, which is a refusal only if the terms are above their bound.
-  pub record IsTried {X : Type 0} (terms : Terms) (path : List ℕ) (call : Call X)
-      (result : Result (Result X FileError) Failure) (Closed : List S → Type 0) : Type 0 where
-    pub ok : IfOk result (λ done. (before after : AccountFile S g) × IsOpened Has path terms before
-        × Serves call done before after × Closed (database_of after ∷ []))
-    pub err : IfErr result (λ failure. status_of failure ≡ 1 → ¬ (AreTerms terms))
-    pub untouched : OnErr result (Closed [])
-
   -- the value of a name was read in the file at a path, which was opened under these terms and closed with this store
   abbrev pub IsLooked : Terms → List ℕ → List ℕ → Result (Option Phc) FileError → (S → Type 0) → Type 0
-  IsLooked terms path name found Next = (before after : AccountFile S g) × IsOpened Has path terms before
-      × ((names : Store) → HasNames before names → Stays (error_of found) names before after
-      × IfOk found (λ value. IsHonest g (database_of after) → get names name ≡ value)) × Next (database_of after)
+  IsLooked terms path name found = IsOpenFor terms path (λ before after. (names : Store) → HasNames before names
+      → Stays (error_of found) names before after
+      × IfOk found (λ value. IsHonest g (database_of after) → get names name ≡ value))
 
   -- the text of a name was replaced there, if it was still that of the first value
   abbrev pub IsReplaced : Terms → List ℕ → List ℕ → Phc → Phc → Result (Unit {0}) FileError → (S → Type 0) → Type 0
-  IsReplaced terms path name v w done Next = (before after : AccountFile S g) × IsOpened Has path terms before
-      × Serves (replacing name (phc_text v) (phc_text w)) done before after × Next (database_of after)
+  IsReplaced terms path name v w done = IsOpenFor terms path (Serves (replacing name (phc_text v) (phc_text w)) done)
 
   -- what was done with the file at a path for a call on a name, and that it was decided by the value that was read
   abbrev pub IsOutcome : {X : Type 0} → Terms → List ℕ → List ℕ → Call X → Outcome X → (List S → Type 0) → Type 0
@@ -233,16 +243,6 @@ module _ {S : Type 0} (g : Ghosts S) (Holds : List ℕ → List ℕ → Type 0) 
       × IsLooked terms path name (Ok o) (λ read. Closed (read ∷ []))
   IsOutcome terms path name call (replaced x done) Closed = (v w : Phc) × AccountAnswer terms (call (Ok x)) (Some v) (Some w)
       × IsLooked terms path name (Ok (Some v)) (λ read. IsReplaced terms path name v w done (λ last. Closed (read ∷ last ∷ [])))
-
-  -- the same once the file was closed with this store, in which this value of the name was read
-  abbrev pub IsDecided : {X : Type 0} → Terms → List ℕ → List ℕ → Call X → Phc → Outcome X → S
-      → (List S → Type 0) → Type 0
-  IsDecided terms path name call v (unread e) read Closed = ⊥
-  IsDecided terms path name call v (decided answer) read Closed =
-      (p : Option Phc) × AccountAnswer terms (call answer) (Some v) p × Closed (read ∷ [])
-  IsDecided terms path name call v (replaced x done) read Closed =
-      (w : Phc) × AccountAnswer terms (call (Ok x)) (Some v) (Some w)
-      × IsReplaced terms path name v w done (λ last. Closed (read ∷ last ∷ []))
 
   -- all that was done with it, under the choices and their secret, for a call that is decided while the file is closed
   abbrev pub IsVisited : {X : Type 0} → Choices → List ℕ → List ℕ → (List ℕ → Call X) → (Outcome X → Type 0)

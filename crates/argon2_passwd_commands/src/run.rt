@@ -1,28 +1,29 @@
 //! The program over any world outside it and any streams.
 
-ghost use Rattle.std.specs.Prelude.{◌≡◌, ◌⊎◌, ◌++◌, ◌∷◌, [], ℕ, List, Option, IfErr, IfOk, OnOk};
+ghost use Rattle.std.specs.Prelude.{◌≡◌, ◌⊎◌, ◌++◌, ◌∷◌, [], IfErr, IfOk, OnOk};
 ghost use Rattle.std.specs.Io.KnownBytes.{Appends, Keeps};
 ghost use Rattle.argon2_accounts.specs.Accounts.{AreTerms, terms_of};
 ghost use Rattle.argon2.specs.Login.{accepted_text};
 ghost use Rattle.argon2.specs.Made.{target_of};
 ghost use Rattle.argon2_passwd_commands.specs.Answers.{Denies, HasNone, IsAnswered, IsCheckReply, IsHashReply, IsOnce, IsRefused, IsRefusedBy, IsReplied, IsSecret, IsServed, terms_by};
-ghost use Rattle.argon2_passwd_commands.specs.Asked.{Asked, asked, choices_of};
+ghost use Rattle.argon2_passwd_commands.specs.Asked.{asked, choices_of};
 ghost use Rattle.argon2_passwd_commands.specs.Failures.{status_of};
 
-use crate::command::{Command, Edit};
+use crate::command::Command;
 use crate::failure::Failure;
 use crate::options::Options;
 use crate::outside::Outside;
+use crate::passwords::password;
 use argon2::login::Accepted;
 use argon2::{Algorithm, Argon2, Version};
 use argon2_accounts::Policy;
-use argon2_store::View;
 use rand_chacha::ChaCha20Rng;
 use rand_core::SeedableRng;
 use std::alloc::Global;
 use std::io::{BufRead, Write};
 
 mod accounts;
+mod edits;
 mod texts;
 
 /// The name of the program.
@@ -98,14 +99,16 @@ fn answer<P: Outside, R: BufRead, W: Write>(
         Command::Hash(options) => hash(alloc, &options, outside, input, output),
         Command::Check(options, text) => check(alloc, &options, outside, text, input, output),
         Command::Verify(options, path, name) => {
-            verify(alloc, &options, outside, path, name, input, output)
+            accounts::verify(alloc, &options, outside, path, name, input, output)
         }
         Command::Edit(options, path, change, name) => {
-            edit(alloc, &options, outside, path, change, name, input)
+            edits::edit(alloc, &options, outside, path, change, name, input)
         }
-        Command::Show(options, path, view) => show(alloc, &options, outside, path, view, output),
+        Command::Show(options, path, view) => {
+            accounts::show(alloc, &options, outside, path, view, output)
+        }
         Command::Import(options, path, any_text) => {
-            import(alloc, &options, outside, path, any_text, input)
+            accounts::import(alloc, &options, outside, path, any_text, input)
         }
     }
 }
@@ -126,10 +129,10 @@ fn hash<P: Outside, R: BufRead, W: Write>(
         × Keeps (W.contents output.old) (W.contents output.new)) }
 {
     let secret = secret(alloc, outside, options)?;
-    let policy = policy(alloc, options, secret.as_slice())?;
-    let mut rng = ChaCha20Rng::from_seed(outside.seed()?);
-    let text = texts::hash(alloc, &policy, &mut rng, input)?;
-    write_line(output, text.as_str())
+    let (policy, mut rng) = policy(alloc, options, outside, secret.as_slice())?;
+    let password = password(alloc, input)?;
+    let hash = texts::fresh(&policy, &mut rng, password.as_slice())?;
+    write_line(output, hash.text().as_str())
 }
 
 // Writes what a text does with the next password.
@@ -150,81 +153,9 @@ fn check<P: Outside, R: BufRead, W: Write>(
         × Keeps (W.contents output.old) (W.contents output.new)) }
 {
     let secret = secret(alloc, outside, options)?;
-    let policy = policy(alloc, options, secret.as_slice())?;
-    let mut rng = ChaCha20Rng::from_seed(outside.seed()?);
+    let (policy, mut rng) = policy(alloc, options, outside, secret.as_slice())?;
     let reply = texts::check(alloc, &policy, &mut rng, text, input)?;
     write_line(output, reply.as_str())
-}
-
-// Writes what the text of a name in a file does with the next password.
-fn verify<P: Outside, R: BufRead, W: Write>(
-    alloc: Global,
-    options: &Options<'_>,
-    outside: &mut P,
-    path: &str,
-    name: &str,
-    input: &mut R,
-    output: &mut W,
-) -> Result<(), Failure>
-    requires { P.closed outside.old [] }
-    ensures { IsServed P.File.Store P.holds P.keeps
-        (Asked.verify (choices_of options.now) path.now name.now) result (R.remaining input.old)
-        (W.contents output.old) (W.contents output.new) (P.closed outside.new) }
-{
-    let accepted = accounts::verify(alloc, outside, options, path, name, input)??;
-    write_accepted(output, accepted)
-}
-
-// Changes the text of a name in a file.
-fn edit<P: Outside, R: BufRead>(
-    alloc: Global,
-    options: &Options<'_>,
-    outside: &mut P,
-    path: &str,
-    edit: Edit,
-    name: &str,
-    input: &mut R,
-) -> Result<(), Failure>
-    requires { P.closed outside.old [] }
-    ensures { (output : Option (List ℕ)) → IsServed P.File.Store P.holds P.keeps
-        (Asked.edit (choices_of options.now) path.now edit name.now) result (R.remaining input.old)
-        output output (P.closed outside.new) }
-{
-    Ok(accounts::edit(alloc, outside, options, path, edit, name, input)??)
-}
-
-// Writes what a file has.
-fn show<P: Outside, W: Write>(
-    alloc: Global,
-    options: &Options<'_>,
-    outside: &mut P,
-    path: &str,
-    view: View,
-    output: &mut W,
-) -> Result<(), Failure>
-    requires { P.closed outside.old [] }
-    ensures { (input : Option (List ℕ)) → IsServed P.File.Store P.holds P.keeps
-        (Asked.show (choices_of options.now) path.now view) result input
-        (W.contents output.old) (W.contents output.new) (P.closed outside.new) }
-{
-    Ok(accounts::show(alloc, outside, options, path, view, output)???)
-}
-
-// Adds the names and texts of the input to a file.
-fn import<P: Outside, R: BufRead>(
-    alloc: Global,
-    options: &Options<'_>,
-    outside: &mut P,
-    path: &str,
-    any_text: bool,
-    input: &mut R,
-) -> Result<(), Failure>
-    requires { P.closed outside.old [] }
-    ensures { (output : Option (List ℕ)) → IsServed P.File.Store P.holds P.keeps
-        (Asked.import (choices_of options.now) path.now any_text) result (R.remaining input.old)
-        output output (P.closed outside.new) }
-{
-    accounts::import(alloc, outside, options, path, any_text, input)?
 }
 
 // The secret that the options name, none if they name no file.
@@ -252,18 +183,20 @@ fn target<'key>(options: &Options<'_>, secret: &'key [u8]) -> Result<Argon2<'key
     }
 }
 
-// What new texts are made under, and the bound.
-fn policy<'key>(
+// What new texts are made under, and the bound, with a generator for the salts.
+fn policy<'key, P: Outside>(
     alloc: Global,
     options: &Options<'_>,
+    outside: &P,
     secret: &'key [u8],
-) -> Result<Policy<'key>, Failure>
-    ensures ok { IfOk result (λ policy.
-        terms_of policy ≡ terms_by (choices_of options.now) secret.now) }
+) -> Result<(Policy<'key>, ChaCha20Rng), Failure>
+    ensures ok { IfOk result (λ made.
+        terms_of made.0 ≡ terms_by (choices_of options.now) secret.now) }
     ensures err { IfErr result (λ failure. status_of failure ≡ 1
         → ¬ (AreTerms (terms_by (choices_of options.now) secret.now))) }
 {
-    Ok(Policy::new(alloc, target(options, secret)?, options.bound())?)
+    let policy = Policy::new(alloc, target(options, secret)?, options.bound())?;
+    Ok((policy, ChaCha20Rng::from_seed(outside.seed()?)))
 }
 
 // Writes a line.
@@ -279,7 +212,7 @@ fn write_line<W: Write>(output: &mut W, text: &str) -> Result<(), Failure>
 
 // Writes what a login did.
 fn write_accepted<W: Write>(output: &mut W, accepted: Accepted) -> Result<(), Failure>
-    ensures err { IfErr result (λ failure. failure ≡ Failure.Output) }
+    ensures err { IfErr result (λ failure. ¬ (status_of failure ≡ 1)) }
     ensures ok { OnOk result (Appends (W.contents output.old) (W.contents output.new)
         (accepted_text accepted ++ 10 ∷ [])) }
 {

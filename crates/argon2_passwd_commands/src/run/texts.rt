@@ -4,7 +4,7 @@ ghost use Rattle.std.specs.Prelude.{◌≡◌, Ok, IfErr, IfOk, string_bytes};
 ghost use Rattle.argon2.specs.Made.{IsFresh};
 ghost use Rattle.rand_core.specs.Stream.{fill_bytes};
 ghost use Rattle.argon2_accounts.specs.Accounts.{Admits, LogsIn, terms_of};
-ghost use Rattle.argon2_passwd_commands.specs.Answers.{Denies, HasNone, IsCheckReply, IsHashReply, login_text};
+ghost use Rattle.argon2_passwd_commands.specs.Answers.{Denies, IsCheckReply, login_text};
 ghost use Rattle.argon2_passwd_commands.specs.Failures.{status_of};
 ghost use Rattle.argon2_base.specs.PhcFields.{phc_of};
 ghost use Rattle.argon2_base.specs.PhcText.{Phc, PhcText};
@@ -17,22 +17,6 @@ use argon2_accounts::Policy;
 use rand_core::Rng;
 use std::alloc::{AllocError, Global};
 use std::io::BufRead;
-
-/// A text for the next password.
-pub fn hash<G: Rng, R: BufRead>(
-    alloc: Global,
-    policy: &Policy<'_>,
-    rng: &mut G,
-    input: &mut R,
-) -> Result<String, Failure>
-    ensures ok { IfOk result (λ text. IsHashReply (terms_of policy.now)
-        (fill_bytes 16 (G.stream rng.old)).0 (R.remaining input.old) (string_bytes text)) }
-    ensures err { IfErr result (λ failure. status_of failure ≡ 1 → HasNone (R.remaining input.old)) }
-{
-    let password = password(alloc, input)?;
-    let hash = fresh(policy, rng, password.as_slice())?;
-    Ok(String::from_str(alloc, hash.text().as_str())?)
-}
 
 /// A fresh text of a password.
 pub fn fresh<G: Rng>(

@@ -1,11 +1,8 @@
-use Rattle.std.proofs.Common.{◌∙◌, sym}
 use Rattle.argon2_passwd_commands.proofs.Served.{ended, not_begun}
 use Rattle.argon2_passwd_commands.proofs.run.answer.Goals as goal
 
 pub returns-in_err-look : goal.returns-in_err-look
-returns-in_err-look g c =
-    not_begun c.in_err-look.field-0.0 _ c.from_residual.ensures.1
-    (λ one. let never = sym c.in_err-look.ensures ∙ one in cc) c.requires
+returns-in_err-look g c = not_begun _ _ c.from_residual.ensures.1 c.in_err-look.ensures c.requires
 
 pub returns-in-Hash : goal.returns-in-Hash
 returns-in-Hash g c =

@@ -1,70 +1,98 @@
-use Rattle.std.proofs.Common.{◌≡◌, ℕ, List, [], ◌∷◌, Some, None, Ok, Err, refl}
-use Rattle.sqlite_trees.specs.declared.store.Store.{Ghosts}
-use Rattle.argon2.specs.NamedTexts.{Store}
+use Rattle.std.proofs.Common.{◌≡◌, ℕ, List, [], Option, Some, None, Ok, Err, refl, ap, subst}
+use Rattle.std.specs.Prelude.{◌↔◌, IsSome}
 use Rattle.argon2_base.specs.PhcFields.{phc_of}
 use Rattle.argon2_base.specs.PhcText.{Phc}
-use Rattle.argon2_accounts.specs.Accounts.{Terms, logging_in}
+use Rattle.argon2_base.specs.declared.phc.hash.PasswordHash.{PasswordHash}
+use Rattle.argon2.specs.NamedTexts.{value_after}
+use Rattle.argon2.specs.declared.login.answers.Accepted.{Accepted}
+use Rattle.argon2.specs.declared.login.answers.Accepted.TheVariants.{Current, Kept, Rehashed}
+use Rattle.argon2_accounts.specs.Accounts.{Denial, LogsIn, Terms}
 use Rattle.argon2_accounts.specs.declared.error.AccountError.TheVariants.{NameUnknown}
-use Rattle.argon2_store.specs.AccountFile.{Call, database_of}
-use Rattle.argon2_passwd_commands.specs.Answers.{IsDecided, IsLooked, IsOutcome, IsSecret, IsVisited, Outcome, decided, login_answer, replaced, terms_by, unread}
-use Rattle.argon2_passwd_commands.specs.Asked.{Choices, choices_of}
+use Rattle.argon2_store.specs.AccountFile.{database_of}
+use Rattle.argon2_passwd_commands.specs.Answers.{decided, replaced, unread, unwritten}
 use Rattle.argon2_passwd_commands.proofs.run.accounts.log_in.Goals as goal
 
--- what was decided by a value, by the file that it was read in
-by_value : {S : Type 0} (g : Ghosts S) (Holds : List ℕ → List ℕ → Type 0)
-    (Has : List ℕ → Store → Type 0) {X : Type 0} (terms : Terms) (path name : List ℕ)
-    (call : Call X) (v : Phc) (outcome : Outcome X) (Was Closed : List S → Type 0)
-    → (looked : IsLooked g Holds Has terms path name (Ok (Some v)) (λ read. Was (read ∷ [])))
-    → IsDecided g Holds Has terms path name call v outcome (database_of looked.1) Closed
-    → IsOutcome g Holds Has terms path name call outcome Closed
-by_value g Holds Has terms path name call v (unread e) Was Closed looked is = absurd is
-by_value g Holds Has terms path name call v (decided answer) Was Closed looked is =
-    (Some v, is.0, is.1, (looked.0, looked.1, looked.2, looked.3, is.2))
-by_value g Holds Has terms path name call v (replaced x done) Was Closed looked is =
-    (v, is.0, is.1, (looked.0, looked.1, looked.2, looked.3, is.2))
+-- a login without a fresh text has nothing to write
+not_renewed : (did : Accepted) (fresh : Option PasswordHash) → fresh ≡ None
+    → IsSome fresh ↔ (did ≡ Rehashed) → unwritten did ≡ did
+not_renewed Current fresh none is = refl
+not_renewed Kept fresh none is = refl
+not_renewed Rehashed fresh none is =
+    absurd (let some : IsSome fresh = is.1 refl in let never = rw none at some in cc)
 
-visited : {S : Type 0} (g : Ghosts S) (Holds : List ℕ → List ℕ → Type 0)
-    (Has : List ℕ → Store → Type 0) {X R : Type 0} (choices : Choices) (secret path name : List ℕ)
-    (call : List ℕ → Call X) (v : Phc) (answer : Outcome X → R) (result : R)
-    (Was Closed : List S → Type 0) → IsSecret Holds choices.secret_file secret
-    → IsLooked g Holds Has (terms_by choices secret) path name (Ok (Some v))
-    (λ read. Was (read ∷ []))
-    → ((read : S) → Was (read ∷ []) → (drawn : List ℕ) × (outcome : Outcome X)
-    × (answer outcome ≡ result)
-    × IsDecided g Holds Has (terms_by choices secret) path name (call drawn) v outcome read Closed)
-    → IsVisited g Holds Has choices path name call (λ outcome. answer outcome ≡ result) Closed
-visited g Holds Has choices secret path name call v answer result Was Closed held looked decides =
-    let (drawn, outcome, same, is) = decides (database_of looked.1) looked.4 in (
-      secret,
-      drawn,
-      outcome,
-      held,
-      same,
-      by_value g Holds Has (terms_by choices secret) path name (call drawn) v outcome Was Closed
-          looked is,
-    )
+renewed : (did : Accepted) (fresh : Option PasswordHash) (text : PasswordHash) → fresh ≡ Some text
+    → IsSome fresh ↔ (did ≡ Rehashed) → unwritten did ≡ Kept
+renewed did fresh text some is = ap unwritten (is.0 (rw some refl))
+
+-- a login under equal terms, with the fresh text that was found
+logged_in : (first last : Terms) (password drawn : List ℕ) (v : Phc) (did : Accepted) (fresh found : Option PasswordHash)
+    → fresh ≡ found → first ≡ last → LogsIn first password drawn v (Ok did) (value_after v fresh)
+    → (drawn : List ℕ) × LogsIn last password drawn v (Ok did) (value_after v found)
+logged_in first last password drawn v did fresh found here same is =
+    (drawn, subst (λ (t : Terms). LogsIn t password drawn v (Ok did) (value_after v found)) same (rw here at is))
 
 pub returns-in-Ok-None-clause-ok : goal.returns-in-Ok-None-clause-ok
 returns-in-Ok-None-clause-ok g c =
-    let looked = rw (c.in-Ok-None.is, c.in-Ok-None.field-0-is) at c.in_ok-text.ensures.ok in (
-      c.args.access.now.secret.now,
-      [],
-      decided (Err NameUnknown),
-      c.requires.held,
-      refl,
-      (None, None, (refl, refl), looked),
-    )
+    let looked = rw (c.in-Ok-None.is, c.in-Ok-None.field-0-is) at c.in_ok-text.ensures.ok in
+    (c.args.access.now.secret.now, [], decided (Err NameUnknown), c.requires.held, refl, (None, None, (refl, refl), looked))
 
 pub returns-in-Err-clause-ok : goal.returns-in-Err-clause-ok
 returns-in-Err-clause-ok g c =
     let looked = rw c.in-Err.is at c.in_ok-text.ensures.ok in
     (c.args.access.now.secret.now, [], unread c.in-Err.error, c.requires.held, refl, looked)
 
-pub returns-in-Ok-Some-clause-ok : goal.returns-in-Ok-Some-clause-ok
-returns-in-Ok-Some-clause-ok g c =
-    visited g.P.File.Store g.P.Outside.holds g.P.Outside.keeps
-    (choices_of c.args.access.now.options) c.args.access.now.secret.now c.args.access.now.path.now
-    c.args.name.now (logging_in c.args.name.now c.args.password.now) (phc_of c.in-Ok-Some.text)
-    login_answer c.log_in_by.result (g.P.Outside.closed c.look.new.outside)
-    (g.P.Outside.closed c.log_in_by.new.outside) c.requires.held
-    (rw (c.in-Ok-Some.is, c.in-Ok-Some.field-0-is) at c.in_ok-text.ensures.ok) c.log_in_by.ensures
+pub returns-in-Err-log_in-clause-ok : goal.returns-in-Err-log_in-clause-ok
+returns-in-Err-log_in-clause-ok g c =
+    let v = phc_of c.in-Ok-Some.text in
+    let e = c.in-Err-log_in.error in
+    let looked = rw (c.in-Ok-Some.is, c.in-Ok-Some.field-0-is) at c.in_ok-text.ensures.ok in
+    let denied = subst (λ (t : Terms). Denial t c.args.password.now v e) c.requires.under c.in-Err-log_in.ensures.step in
+    (c.args.access.now.secret.now, [], decided (Err e), c.requires.held, refl, (Some v, Some v, (denied, refl), looked))
+
+pub returns-in_default-clause-ok : goal.returns-in_default-clause-ok
+returns-in_default-clause-ok g c =
+    let v = phc_of c.in-Ok-Some.text in
+    let did = c.in-Ok.done.accepted in
+    let looked = rw (c.in-Ok-Some.is, c.in-Ok-Some.field-0-is) at c.in_ok-text.ensures.ok in
+    let logged = logged_in _ _ c.args.password.now _ v did _ None c.in_default.is c.requires.under c.in-Ok.ensures.step in
+    let same = ap Ok (not_renewed did _ c.in_default.is c.in-Ok.ensures.fresh) in
+    (c.args.access.now.secret.now, logged.0, decided (Ok did), c.requires.held, same, (Some v, Some v, logged.1, looked))
+
+pub returns-in-Ok-Ok-clause-ok : goal.returns-in-Ok-Ok-clause-ok
+returns-in-Ok-Ok-clause-ok g c =
+    let v = phc_of c.in-Ok-Some.text in
+    let w = phc_of c.in-Some.fresh in
+    let did = c.in-Ok.done.accepted in
+    let secret = c.args.access.now.secret.now in
+    let look = rw (c.in-Ok-Some.is, c.in-Ok-Some.field-0-is) at c.in_ok-text.ensures.ok in
+    let login = logged_in _ _ c.args.password.now _ v did _ _ c.in-Some.is c.requires.under c.in-Ok.ensures.step in
+    let done = c.in-Ok-Ok.field-0-0 in
+    let renews = rw c.in-Ok-Ok.field-0-is at c.in-Ok-Ok.ensures.ok in
+    let end = renews (database_of look.1) look.4 in
+    (secret, login.0, replaced did (Ok done), c.requires.held, refl, (v, w, login.1, (look.0, look.1, look.2, look.3, end)))
+
+pub returns-in-Ok-Err-clause-ok : goal.returns-in-Ok-Err-clause-ok
+returns-in-Ok-Err-clause-ok g c =
+    let v = phc_of c.in-Ok-Some.text in
+    let w = phc_of c.in-Some.fresh in
+    let did = c.in-Ok.done.accepted in
+    let secret = c.args.access.now.secret.now in
+    let look = rw (c.in-Ok-Some.is, c.in-Ok-Some.field-0-is) at c.in_ok-text.ensures.ok in
+    let login = logged_in _ _ c.args.password.now _ v did _ _ c.in-Some.is c.requires.under c.in-Ok.ensures.step in
+    let kept = ap Ok (renewed did _ _ c.in-Some.is c.in-Ok.ensures.fresh) in
+    let done = c.in-Ok-Err.field-0-0 in
+    let renews = rw c.in-Ok-Err.field-0-is at c.in-Ok-Err.ensures.ok in
+    let end = renews (database_of look.1) look.4 in
+    (secret, login.0, replaced did (Err done), c.requires.held, kept, (v, w, login.1, (look.0, look.1, look.2, look.3, end)))
+
+pub returns-in-Err-replace-clause-ok : goal.returns-in-Err-replace-clause-ok
+returns-in-Err-replace-clause-ok g c =
+    let v = phc_of c.in-Ok-Some.text in
+    let w = phc_of c.in-Some.fresh in
+    let did = c.in-Ok.done.accepted in
+    let secret = c.args.access.now.secret.now in
+    let look = rw (c.in-Ok-Some.is, c.in-Ok-Some.field-0-is) at c.in_ok-text.ensures.ok in
+    let login = logged_in _ _ c.args.password.now _ v did _ _ c.in-Some.is c.requires.under c.in-Ok.ensures.step in
+    let kept = ap Ok (renewed did _ _ c.in-Some.is c.in-Ok.ensures.fresh) in
+    let end = c.in-Err-replace.ensures.untouched (database_of look.1) look.4 in
+    (secret, login.0, decided (Ok did), c.requires.held, kept, (Some v, Some w, login.1, (look.0, look.1, look.2, look.3, end)))

@@ -23,13 +23,13 @@ read_value before after names name (Ok text) stays shows = (stays, shows)
 read_value before after names name (Err e) stays shows = (stays, tt)
 
 pub returns-clause-ok : goal.returns-clause-ok
-returns-clause-ok g c = (
-  c.in_ok-accounts.accounts,
-  c.text_of-found.new.self,
-  c.in_ok-accounts.ensures.ok,
-  (λ names has.
-      let stays = c.text_of-found.ensures.reads names has in
-      read_value {g = g.P.File.Store} _ _ names c.args.name.now c.text_of-found.result stays
-      (c.text_of-found.ensures.shows names stays.has)),
-  (rw c.into_store.ensures at c.close.ensures [] (c.in_ok-accounts.ensures.opened [] c.requires)),
-)
+returns-clause-ok g c =
+    let closed = rw c.into_store.ensures at c.close.ensures [] (c.in_ok-accounts.ensures.opened [] c.requires) in
+    let found = c.text_of-found.ensures in (
+      _,
+      _,
+      c.in_ok-accounts.ensures.ok,
+      (λ names has. read_value {g = g.P.File.Store} _ _ names c.args.name.now
+          c.text_of-found.result (found.reads names has) (found.shows names (found.reads names has).has)),
+      closed,
+    )

@@ -5,7 +5,7 @@ use Rattle.argon2_accounts.specs.Accounts.{setting}
 use Rattle.argon2_accounts.specs.declared.error.AccountError.TheVariants.{NameUnknown}
 use Rattle.argon2_store.proofs.FileLemmas.{cannot_serve, refuses}
 use Rattle.argon2_passwd_commands.proofs.Calls.{sets}
-use Rattle.argon2_passwd_commands.proofs.run.accounts.set_text.Goals as goal
+use Rattle.argon2_passwd_commands.proofs.run.edits.set_text.Goals as goal
 
 pub returns-in_err-text : goal.returns-in_err-text
 returns-in_err-text g c password drawn fresh before has =

@@ -1,4 +1,5 @@
 use Rattle.std.proofs.Common.{[], Some, None, Ok, Err, inr, refl, subst}
+use Rattle.std.proofs.lemmas.Result.{IfOk-weaker, on_err_weaker}
 use Rattle.rand_core.specs.Stream.{fill_bytes}
 use Rattle.argon2.specs.Made.{IsFresh}
 use Rattle.argon2_base.specs.PhcFields.{phc_of}
@@ -6,24 +7,12 @@ use Rattle.argon2_accounts.specs.Accounts.{Admits, ChangeRefusal, Terms}
 use Rattle.argon2_accounts.specs.declared.error.AccountError.TheVariants.{NameUnknown}
 use Rattle.argon2_store.specs.AccountFile.{database_of}
 use Rattle.argon2_passwd_commands.specs.Answers.{decided, replaced, unread}
-use Rattle.argon2_passwd_commands.proofs.Refusals.{if_ok_then, on_err_then}
-use Rattle.argon2_passwd_commands.proofs.run.accounts.change.Goals as goal
+use Rattle.argon2_passwd_commands.proofs.run.edits.change.Goals as goal
 
 pub returns-in-Ok-None-clause-ok : goal.returns-in-Ok-None-clause-ok
 returns-in-Ok-None-clause-ok g c =
-    let looked = rw (c.in-Ok-None.is, c.in-Ok-None.field-0-is) at c.in_ok-text.ensures.ok in (
-      c.args.access.now.secret.now,
-      [],
-      decided (Err NameUnknown),
-      c.requires.held,
-      refl,
-      (
-        None,
-        None,
-        (refl, refl),
-        looked,
-      ),
-    )
+    let looked = rw (c.in-Ok-None.is, c.in-Ok-None.field-0-is) at c.in_ok-text.ensures.ok in
+    (c.args.access.now.secret.now, [], decided (Err NameUnknown), c.requires.held, refl, (None, None, (refl, refl), looked))
 
 pub returns-in-Err-clause-ok : goal.returns-in-Err-clause-ok
 returns-in-Err-clause-ok g c =
@@ -45,28 +34,13 @@ returns-clause-ok g c =
     let w = phc_of c.in-Ok.fresh in
     let drawn = (fill_bytes 16 (g.G.Rng.stream c.args.rng.now)).0 in
     let made = subst (λ (t : Terms). Admits t c.args.first.now v × IsFresh t.target c.args.second.now drawn w)
-    c.requires.under
-    c.in-Ok.ensures.made in
-    let looked = rw (c.in-Ok-Some.is, c.in-Ok-Some.field-0-is) at c.in_ok-text.ensures.ok in
-    if_ok_then c.replace.result c.replace.ensures.ok (λ done renews. (
-      c.args.access.now.secret.now,
-      drawn,
-      replaced tt done,
-      c.requires.held,
-      refl,
-      (
-        v,
-        w,
-        made,
-        (
-          looked.0,
-          looked.1,
-          looked.2,
-          looked.3,
-          renews (database_of looked.1) looked.4,
-        ),
-      ),
-    ))
+    c.requires.under c.in-Ok.ensures.made in
+    let secret = c.args.access.now.secret.now in
+    let look = rw (c.in-Ok-Some.is, c.in-Ok-Some.field-0-is) at c.in_ok-text.ensures.ok in
+    IfOk-weaker c.replace.result _ _ (λ done renews.
+    let end = renews (database_of look.1) look.4 in
+    (secret, drawn, replaced tt done, c.requires.held, refl, (v, w, made, (look.0, look.1, look.2, look.3, end))))
+    c.replace.ensures.ok
 
 pub returns-clause-once : goal.returns-clause-once
 returns-clause-once g c =
@@ -74,20 +48,10 @@ returns-clause-once g c =
     let w = phc_of c.in-Ok.fresh in
     let drawn = (fill_bytes 16 (g.G.Rng.stream c.args.rng.now)).0 in
     let made = subst (λ (t : Terms). Admits t c.args.first.now v × IsFresh t.target c.args.second.now drawn w)
-    c.requires.under
-    c.in-Ok.ensures.made in
-    let looked = rw (c.in-Ok-Some.is, c.in-Ok-Some.field-0-is) at c.in_ok-text.ensures.ok in
-    on_err_then c.replace.result c.replace.ensures.untouched (λ kept.
-    inr (
-      c.args.access.now.secret.now,
-      drawn,
-      decided (Ok tt),
-      c.requires.held,
-      refl,
-      (
-        Some v,
-        Some w,
-        made,
-        (looked.0, looked.1, looked.2, looked.3, kept (database_of looked.1) looked.4),
-      ),
-    ))
+    c.requires.under c.in-Ok.ensures.made in
+    let secret = c.args.access.now.secret.now in
+    let look = rw (c.in-Ok-Some.is, c.in-Ok-Some.field-0-is) at c.in_ok-text.ensures.ok in
+    on_err_weaker c.replace.result (λ kept.
+    let end = kept (database_of look.1) look.4 in
+    inr (secret, drawn, decided (Ok tt), c.requires.held, refl, (Some v, Some w, made, (look.0, look.1, look.2, look.3, end))))
+    c.replace.ensures.untouched

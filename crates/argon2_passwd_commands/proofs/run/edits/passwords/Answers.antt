@@ -3,24 +3,22 @@ use Rattle.std.specs.Prelude.{IfSome}
 use Rattle.argon2_passwd_commands.specs.Answers.{AreRead, AreUnread, HasNone}
 use Rattle.argon2_passwd_commands.specs.Passwords.{password_of}
 use Rattle.argon2_passwd_commands.specs.declared.command.Edit.{Edit}
-use Rattle.argon2_passwd_commands.specs.declared.command.Edit.TheVariants.{Register, Change, Set, Remove}
-use Rattle.argon2_passwd_commands.proofs.Refusals.{none_read, passed}
-use Rattle.argon2_passwd_commands.proofs.run.accounts.passwords.Goals as goal
+use Rattle.argon2_passwd_commands.specs.declared.command.Edit.TheVariants.{Change, Remove}
+use Rattle.argon2_passwd_commands.proofs.Served.{none_read, passed}
+use Rattle.argon2_passwd_commands.proofs.run.edits.passwords.Goals as goal
 
 -- a change other than `change` reads at most one password
 one_read : (act : Edit) (input : Option (List ℕ)) (first second : List ℕ) → ¬ (act ≡ Change)
     → IfSome input (λ bytes. password_of bytes ≡ Some first) → AreRead act input first second
-one_read Register input first second isnt is = is
-one_read Set input first second isnt is = is
 one_read Remove input first second isnt is = tt
 one_read Change input first second isnt is = absurd (isnt refl)
+one_read act input first second isnt is = is
 
 one_unread : (act : Edit) (input : Option (List ℕ)) → ¬ (act ≡ Remove) → HasNone input
     → AreUnread act input
-one_unread Register input isnt is = is
-one_unread Set input isnt is = is
 one_unread Remove input isnt is = absurd (isnt refl)
 one_unread Change input isnt is = inl is
+one_unread act input isnt is = is
 
 pub returns-in_err-old-in-Change-clause-err : goal.returns-in_err-old-in-Change-clause-err
 returns-in_err-old-in-Change-clause-err g c =
@@ -29,10 +27,8 @@ returns-in_err-old-in-Change-clause-err g c =
 
 pub returns-in_err-password-in_default-clause-err : goal.returns-in_err-password-in_default-clause-err
 returns-in_err-password-in_default-clause-err g c =
-    passed c.in_err-password-in_default.field-0.0 _
-    c.from_residual-in_err-password-in_default.ensures.1
-    (λ one. one_unread _ _ c.in_default.not-Remove
-    (none_read _ _ c.in_err-password-in_default.ensures.refused one))
+    passed c.in_err-password-in_default.field-0.0 _ c.from_residual-in_err-password-in_default.ensures.1
+    (λ one. one_unread _ _ c.in_default.not-Remove (none_read _ _ c.in_err-password-in_default.ensures.refused one))
 
 pub returns-in_ok-password-in_default-clause-ok : goal.returns-in_ok-password-in_default-clause-ok
 returns-in_ok-password-in_default-clause-ok g c =
