@@ -72,10 +72,9 @@ fn limits(matches: &ArgMatches<'_>) -> Limits {
         salt_len: number(matches, "min-salt"),
         hash_len: number(matches, "min-hash"),
         version: number(matches, "min-version"),
-        algorithm: match matches.get_str("require") {
-            Some(name) => Algorithm::new(name).ok(),
-            None => None,
-        },
+        algorithm: matches
+            .get_str("require")
+            .and_then(|name| Algorithm::new(name).ok()),
         allows_other: matches.get_flag("allow-other"),
     }
 }
@@ -105,13 +104,9 @@ fn command<'a>(alloc: Global) -> Result<Command<'a>, AllocError> {
         .after_help(NOTES)
         .no_binary_name(true)
         .args_override_self(true);
+    let memory = "The least memory, in blocks of 1024 bytes";
     for (name, value, default, help) in [
-        (
-            "min-m",
-            "M",
-            "19456",
-            "The least memory, in blocks of 1024 bytes",
-        ),
+        ("min-m", "M", "19456", memory),
         ("min-t", "T", "2", "The least number of passes"),
         ("min-p", "P", "1", "The least number of lanes"),
         ("min-salt", "N", "16", "The fewest bytes of a salt"),
@@ -120,12 +115,8 @@ fn command<'a>(alloc: Global) -> Result<Command<'a>, AllocError> {
         let least = option(alloc, name, value, help).value_parser(value_parser!(u32));
         command = command.arg(least.default_value(default))?;
     }
-    let version = option(
-        alloc,
-        "min-version",
-        "V",
-        "The least version [default: any]",
-    );
+    let version = "The least version [default: any]";
+    let version = option(alloc, "min-version", "V", version);
     let require = "The one sound algorithm [default: any]";
     let require = option(alloc, "require", "ALGORITHM", require);
     let other = "Other schemes, locked and blank lines and comments count as sound";

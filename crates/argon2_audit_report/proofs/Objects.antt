@@ -41,6 +41,5 @@ item_more {old = old} {value = value} added has = record {
   all = λ more. has.all (item value more);
   reads = λ more. ap (λ tokens. tokens ++ items_tokens more) added.adds.tokens
       ∙ append_assoc old.tokens (json_tokens value) (items_tokens more) ∙ has.reads (item value more);
-  are = λ more are. has.are (item value more)
-      ((added.numbers, are.0), let one = added.flat in let rest = are.1 in omega arith);
+  are = λ more are. has.are (item value more) ((added.flat.0, are.0), let flat = added.flat.1 in omega arith);
 }

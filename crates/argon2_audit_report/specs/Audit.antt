@@ -1,23 +1,21 @@
 -- What is known after so many bytes.
-use Rattle.std.specs.Prelude.{◌≡◌, ◌≢◌, ◌⊎◌, ◌↔◌, ◌<◌, ◌+◌, ◌==◌, ◌||◌, ℕ, nat_le, get_or, Bool, false, not, IsTrue, if◌then◌else◌, Option, Some, None, IfSome, List, [], ◌∷◌, ◌++◌, length}
+use Rattle.std.specs.Prelude.{◌≡◌, ◌≢◌, ◌⊎◌, ◌↔◌, ◌<◌, ◌+◌, ◌==◌, ℕ, nat_le, get_or, Bool, not, IsTrue, if◌then◌else◌, Option, IfSome, List, [], ◌∷◌, ◌++◌, length}
 use Rattle.std.specs.Bool.{MatchBool}
 use Rattle.std.specs.BTreeSet.{BTreeSet, contains_by}
 use Rattle.std.specs.Cmp.Lexicographic.{slice_cmp}
-use Rattle.std.specs.List.{AllZip, list_all}
+use Rattle.std.specs.List.{AllZip, list_all, list_any}
 use Rattle.std.specs.Ordering.{nat_cmp}
 use Rattle.std.specs.Str.{bytes_eq}
 use Rattle.arrayvec.specs.ArrayVec.{ArrayVec}
-use Rattle.argon2_audit_report.specs.Finding.{IsFinding, class_of, has_short_salt, salt_of}
+use Rattle.argon2_audit_report.specs.Finding.{IsFinding, class_of, has_short_salt, salt_of, some_passes}
 use Rattle.argon2_audit_report.specs.declared.finding.Class.{Class}
 use Rattle.argon2_audit_report.specs.declared.finding.Class.TheVariants.{Outside, NoHash, Below, Sound, Other, Locked, Empty, Blank, Comment, Unknown}
 use Rattle.argon2_audit_report.specs.declared.finding.Finding.{Finding}
 use Rattle.argon2_audit_report.specs.declared.limits.Limits.{Limits}
 use Rattle.argon2_audit_report.specs.declared.limits.Options.{Options}
 use Rattle.argon2_audit_report.specs.declared.seen.Seen.{Seen}
-use Rattle.argon2_audit_report.specs.declared.session.Audit.{Audit}
 use Rattle.argon2_audit_report.specs.declared.session.Line.{Line}
 use Rattle.argon2_audit_report.specs.declared.session.Session.{Session}
-use Rattle.argon2_audit_report.specs.declared.tally.Marks.{Marks}
 use Rattle.argon2_audit_report.specs.declared.tally.Tally.{Tally}
 
 -- ---- salts
@@ -30,15 +28,9 @@ has_key keys bytes = contains_by (λ key. slice_cmp nat_cmp bytes key.items) key
 abbrev pub has_salt : Seen → List ℕ → Bool
 has_salt seen salt = if nat_le (length salt) 24 then has_key seen.short salt else has_key seen.long salt
 
--- a text had the salt of this one
-abbrev pub has_any : Seen → Option (List ℕ) → Bool
-has_any seen None = false
-has_any seen (Some salt) = has_salt seen salt
-
 -- the salt, if there is one, is this
 abbrev pub is_salt : Option (List ℕ) → List ℕ → Bool
-is_salt None other = false
-is_salt (Some salt) other = bytes_eq salt other
+is_salt salt other = some_passes (λ s. bytes_eq s other) salt
 
 -- ---- counts
 
@@ -62,19 +54,11 @@ abbrev pub count_of : Class → Tally → ℕ
 count_of class tally = get_or tally.counts (class_number class) 0
 
 -- one line more, in its class and in no other
-pub record Counts (marks : Marks) (old new : Tally) : Type 0 where
+pub record Counts (class : Class) (is_short is_equal : Bool) (old new : Tally) : Type 0 where
   pub lines : new.lines ≡ old.lines + 1
-  pub classes : (n : ℕ) → get_or new.counts n 0 ≡ get_or old.counts n 0 + one_if (class_number marks.class == n)
-  pub short_salts : new.short_salts ≡ old.short_salts + one_if marks.short_salt
-  pub equal_salts : new.equal_salts ≡ old.equal_salts + one_if marks.equal_salt
-
--- a line in which this is found was counted as these marks say
-pub record IsAdded (finding : Finding) (marks : Marks) (old new : Audit) : Type 0 where
-  pub counts : Counts marks old.tally new.tally
-  pub class : marks.class ≡ class_of old.options.limits finding
-  pub short : marks.short_salt ≡ has_short_salt old.options.limits finding
-  pub equal : marks.equal_salt ≡ has_any old.seen (salt_of finding)
-  pub kept : (salt : List ℕ) → has_salt new.seen salt ≡ (is_salt (salt_of finding) salt || has_salt old.seen salt)
+  pub classes : (n : ℕ) → get_or new.counts n 0 ≡ get_or old.counts n 0 + one_if (class_number class == n)
+  pub short_salts : new.short_salts ≡ old.short_salts + one_if is_short
+  pub equal_salts : new.equal_salts ≡ old.equal_salts + one_if is_equal
 
 -- how many lines do not count as sound; those of other schemes and with no password do if the limits allow them
 abbrev pub unsound : Limits → Tally → ℕ
@@ -93,26 +77,12 @@ how_many test (finding ∷ earlier) = how_many test earlier + one_if (test findi
 
 -- a text has this salt
 abbrev pub any_salt : List ℕ → List Finding → Bool
-any_salt salt [] = false
-any_salt salt (finding ∷ earlier) = is_salt (salt_of finding) salt || any_salt salt earlier
-
--- an earlier text has the salt, if there is one
-abbrev pub is_repeated : Option (List ℕ) → List Finding → Bool
-is_repeated None earlier = false
-is_repeated (Some salt) earlier = any_salt salt earlier
+any_salt salt findings = list_any (λ finding. is_salt (salt_of finding) salt) findings
 
 -- how many texts have the salt of an earlier one
 abbrev pub repeated : List Finding → ℕ
 repeated [] = 0
-repeated (finding ∷ earlier) = repeated earlier + one_if (is_repeated (salt_of finding) earlier)
-
--- the counts are those of what lines come to
-pub record IsTallyOf (options : Options) (findings : List Finding) (tally : Tally) : Type 0 where
-  pub all : tally.lines ≡ length findings
-  pub classes : (n : ℕ)
-      → get_or tally.counts n 0 ≡ how_many (λ finding. class_number (class_of options.limits finding) == n) findings
-  pub short_salts : tally.short_salts ≡ how_many (has_short_salt options.limits) findings
-  pub equal_salts : tally.equal_salts ≡ repeated findings
+repeated (finding ∷ earlier) = repeated earlier + one_if (some_passes (λ salt. any_salt salt earlier) (salt_of finding))
 
 -- ---- lines, the last first
 
@@ -135,33 +105,40 @@ abbrev pub IsJoined : List ℕ → List (List ℕ) → Type 0
 IsJoined bytes [] = bytes ≡ []
 IsJoined bytes (last ∷ earlier) = (bytes ≡ joined (last ∷ earlier)) ⊎ ((bytes ≡ joined earlier ++ last) × (last ≢ []))
 
--- the counts are those of the lines of a text
-pub record IsTallied (options : Options) (bytes : List ℕ) (counts : Tally) : Type 0 where
-  pub lines : List (List ℕ)
-  pub findings : List Finding
+-- these are found in lines with no line feed, and the counts are those of what is found
+pub record AreCounted (options : Options) (lines : List (List ℕ)) (findings : List Finding) (tally : Tally) : Type 0 where
   pub feeds : IsTrue (list_all has_no_feed lines)
-  pub split : IsJoined bytes lines
   pub found : AllZip (IsFinding options.field) lines findings
-  pub tally : IsTallyOf options findings counts
+  pub all : tally.lines ≡ length findings
+  pub classes : (n : ℕ)
+      → get_or tally.counts n 0 ≡ how_many (λ finding. class_number (class_of options.limits finding) == n) findings
+  pub short_salts : tally.short_salts ≡ how_many (has_short_salt options.limits) findings
+  pub equal_salts : tally.equal_salts ≡ repeated findings
 
--- the counts are those of the lines of a text but for its end, which is kept
-pub record IsBegun (kept : Line) (audit : Audit) (bytes : List ℕ) : Type 0 where
-  pub whole : List ℕ
-  pub rest : List ℕ
-  pub split : bytes ≡ whole ++ rest
-  pub done : IsTallied audit.options whole audit.tally
-  pub ended : whole ≡ joined done.lines
-  pub salts : (salt : List ℕ) → has_salt audit.seen salt ≡ any_salt salt done.findings
+-- the counts are those of the lines of a text
+abbrev pub IsTallied : Options → List ℕ → Tally → Type 0
+IsTallied options bytes tally = (lines : List (List ℕ)) × (findings : List Finding) × IsJoined bytes lines
+    × AreCounted options lines findings tally
+
+-- the session has counted these lines, and the rest is read of a line
+pub record IsAt (options : Options) (session : Session) (lines : List (List ℕ)) (rest : List ℕ) : Type 0 where
+  pub same : session.options ≡ options
+  pub findings : List Finding
+  pub counted : AreCounted options lines findings session.tally
+  pub salts : (salt : List ℕ) → has_salt session.seen salt ≡ any_salt salt findings
   pub feed : IsTrue (has_no_feed rest)
-  pub read : IsRead kept rest
+  pub read : IsRead session.line rest
 
--- so many bytes were taken
-abbrev pub IsAfter : Session → List ℕ → Type 0
-IsAfter session bytes = IsBegun session.line session.audit bytes
+-- the session has taken these bytes but for the last ones
+pub record IsBefore (options : Options) (session : Session) (bytes more : List ℕ) : Type 0 where
+  pub lines : List (List ℕ)
+  pub rest : List ℕ
+  pub split : bytes ≡ joined lines ++ (rest ++ more)
+  pub at : IsAt options session lines rest
 
 -- ---- what the program says
 
 -- if the input is known, its lines are counted, and are clean or not
 abbrev pub IsAudit : Options → Option (List ℕ) → Bool → Type 0
-IsAudit options input clean = IfSome input (λ bytes. (tally : Tally) × IsTallied options bytes tally
-    × (IsTrue clean ↔ IsClean options.limits tally))
+IsAudit options input clean = (tally : Tally) × IfSome input (λ bytes. IsTallied options bytes tally)
+    × (IsTrue clean ↔ IsClean options.limits tally)

@@ -10,7 +10,6 @@ use Rattle.argon2_base.specs.PhcText.{Phc, PhcText}
 use Rattle.argon2_base.specs.declared.error.password_hash.Error.{Error}
 use Rattle.argon2.specs.Settings.{algorithm_number, version_number}
 use Rattle.argon2.specs.Stored.{read, shown_settings}
-use Rattle.argon2.specs.declared.algorithm.Algorithm.{Algorithm}
 use Rattle.argon2_audit_report.specs.declared.claim.Claim.{Claim}
 use Rattle.argon2_audit_report.specs.declared.claim.Claim.TheVariants.{Argon2, Other, Locked, Empty, Blank, Comment, NoField, Unknown}
 use Rattle.argon2_audit_report.specs.declared.claim.Scheme.TheVariants.{Bcrypt, Scrypt, Pbkdf2, Yescrypt, Sha256Crypt, Sha512Crypt, Md5Crypt, Django, Ldap}
@@ -21,7 +20,6 @@ use Rattle.argon2_audit_report.specs.declared.finding.Finding.{Finding}
 use Rattle.argon2_audit_report.specs.declared.finding.Finding.TheVariants.{TooLong, Claimed, NotUtf8, Refused, Shown}
 use Rattle.argon2_audit_report.specs.declared.limits.Entry.{Entry}
 use Rattle.argon2_audit_report.specs.declared.limits.Limits.{Limits}
-use Rattle.argon2_audit_report.specs.declared.limits.Shortfalls.{Shortfalls}
 
 -- ---- fields
 
@@ -46,19 +44,15 @@ werkzeug = codes "scrypt:" ∷ codes "pbkdf2:sha1:" ∷ codes "pbkdf2:sha256:" �
 abbrev pub is_werkzeug : List ℕ → Bool
 is_werkzeug line = begins_any werkzeug line && has_numbers (after_any werkzeug line)
 
--- the second of the fields, or all if there is no separator
-abbrev pub second_or_all : ℕ → List ℕ → List ℕ
-second_or_all separator line = if is_cut separator line
-    then before_first (λ byte. byte == separator) (after_first (λ byte. byte == separator) line) else line
-
 -- the field with so many before it
 abbrev pub field_numbered : ℕ → ℕ → List ℕ → Option (List ℕ)
 field_numbered zero separator line = Some (before_first (λ byte. byte == separator) line)
 field_numbered (suc before) separator line = if is_cut separator line
     then field_numbered before separator (after_first (λ byte. byte == separator) line) else None
 
+-- if no number is asked for, the second of the fields, or all if there is no separator
 abbrev pub field_by : Option ℕ → ℕ → List ℕ → Option (List ℕ)
-field_by None separator line = Some (if is_werkzeug line then line else second_or_all separator line)
+field_by None separator line = Some (if is_werkzeug line then line else unwrap_or (field_numbered 1 separator line) line)
 field_by (Some before) separator line = field_numbered before separator line
 
 abbrev pub field_in : Field → List ℕ → Option (List ℕ)
@@ -127,25 +121,20 @@ IsEntryAnswer text r =
 
 -- ---- what is below limits
 
--- another algorithm is required
-abbrev pub is_refused : Option Algorithm → Algorithm → Bool
-is_refused None algorithm = false
-is_refused (Some required) algorithm = not (algorithm_number required == algorithm_number algorithm)
+-- there is a value, and it passes
+abbrev pub some_passes : {A : Type 0} → (A → Bool) → Option A → Bool
+some_passes test None = false
+some_passes test (Some x) = test x
 
--- what limits ask for more of than there is; what is missing has no bytes
-abbrev pub shortfalls_of : Limits → Entry → Shortfalls
-shortfalls_of limits entry = record {
-  memory = nat_lt entry.kind.m_cost limits.m_cost;
-  passes = nat_lt entry.kind.t_cost limits.t_cost;
-  lanes = nat_lt entry.kind.p_cost limits.p_cost;
-  salt = nat_lt (length (unwrap_or entry.salt [])) limits.salt_len;
-  hash = nat_lt (unwrap_or entry.hash_len 0) limits.hash_len;
-  version = nat_lt (version_number entry.kind.version) limits.version;
-  algorithm = is_refused limits.algorithm entry.kind.algorithm;
-}
+abbrev pub is_short : Limits → Entry → Bool
+is_short limits entry = nat_lt (length (unwrap_or entry.salt [])) limits.salt_len
 
-abbrev pub is_any : Shortfalls → Bool
-is_any s = s.memory || s.passes || s.lanes || s.salt || s.hash || s.version || s.algorithm
+-- limits ask for more of something than there is, or for another algorithm; what is missing has no bytes
+abbrev pub is_below : Limits → Entry → Bool
+is_below limits entry = nat_lt entry.kind.m_cost limits.m_cost || nat_lt entry.kind.t_cost limits.t_cost
+    || nat_lt entry.kind.p_cost limits.p_cost || is_short limits entry
+    || nat_lt (unwrap_or entry.hash_len 0) limits.hash_len || nat_lt (version_number entry.kind.version) limits.version
+    || some_passes (λ required. not (algorithm_number required == algorithm_number entry.kind.algorithm)) limits.algorithm
 
 -- ---- what a line comes to
 
@@ -156,16 +145,12 @@ IsTextFinding text (Refused error) = IsUtf8 text × IsEntryAnswer text (Err erro
 IsTextFinding text (Shown entry) = IsUtf8 text × IsEntryAnswer text (Ok entry)
 IsTextFinding text finding = ⊥
 
--- the line claims to store a text of Argon2, which comes to this
-abbrev pub IsClaimed : Field → List ℕ → Finding → Type 0
-IsClaimed field line finding =
-    (length line ≤ 4096) × (claim_of field line ≡ Argon2) × IsTextFinding (stored_in field line) finding
-
 -- what a line comes to: it is too long, it claims to store something else, or what its text comes to
 abbrev pub IsFinding : Field → List ℕ → Finding → Type 0
 IsFinding field line TooLong = 4096 < length line
 IsFinding field line (Claimed claim) = (length line ≤ 4096) × (claim_of field line ≡ claim) × (claim ≢ Argon2)
-IsFinding field line finding = IsClaimed field line finding
+IsFinding field line finding =
+    (length line ≤ 4096) × (claim_of field line ≡ Argon2) × IsTextFinding (stored_in field line) finding
 
 abbrev pub class_of : Limits → Finding → Class
 class_of limits (Claimed (Other scheme)) = class.Other
@@ -176,12 +161,12 @@ class_of limits (Claimed Comment) = class.Comment
 class_of limits (Claimed NoField) = class.Unknown
 class_of limits (Claimed Unknown) = class.Unknown
 class_of limits (Shown entry) =
-    if is_none entry.hash_len then class.NoHash else if is_any (shortfalls_of limits entry) then class.Below else class.Sound
+    if is_none entry.hash_len then class.NoHash else if is_below limits entry then class.Below else class.Sound
 class_of limits finding = class.Outside
 
 -- the line has a text whose salt is shorter than the limits ask for, or missing
 abbrev pub has_short_salt : Limits → Finding → Bool
-has_short_salt limits (Shown entry) = (shortfalls_of limits entry).salt
+has_short_salt limits (Shown entry) = is_short limits entry
 has_short_salt limits finding = false
 
 -- the salt of the line's text, if there is one

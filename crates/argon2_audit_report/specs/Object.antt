@@ -1,29 +1,36 @@
 -- The report as a JSON object.
-use Rattle.std.specs.Prelude.{◌≡◌, ◌≤◌, ℕ, List, [], ◌∷◌, ◌++◌, codes, decimal, Option, Some, IfSome}
+use Rattle.std.specs.Prelude.{◌≡◌, ◌≤◌, ℕ, List, [], ◌∷◌, ◌++◌, codes, decimal, map, Option, Some, IfSome}
+use Rattle.std.specs.Borrow.{Bor}
 use Rattle.std.specs.Io.KnownBytes.{Appends}
-use Rattle.json.specs.Json.{Json, Items, Members, array, document, member, no_members, number, object}
+use Rattle.json.specs.Json.{Json, Items, Members, array, document, member, no_members, number, object, string}
 use Rattle.json.specs.Token.{Token, begin_array, begin_object, key}
-use Rattle.json.specs.Tree.{HasNumbers, ItemsHaveNumbers, MembersHaveNumbers, depth, items_depth, items_tokens, json_tokens, members_depth, members_tokens}
+use Rattle.json.specs.Tree.{HasNumbers, depth, items_tokens, json_tokens}
 use Rattle.json.specs.Written.{Written}
 use Rattle.argon2_audit_report.specs.Audit.{IsTallied, count_of}
 use Rattle.argon2_audit_report.specs.declared.finding.Class.TheVariants.{Outside, NoHash, Below, Sound, Other, Locked, Empty, Blank, Comment, Unknown}
+use Rattle.argon2_audit_report.specs.declared.findings.Value.{Value}
+use Rattle.argon2_audit_report.specs.declared.findings.Value.TheVariants.{Number, Text}
 use Rattle.argon2_audit_report.specs.declared.limits.Form.TheVariants.{Json as JsonForm}
 use Rattle.argon2_audit_report.specs.declared.limits.Options.{Options}
 use Rattle.argon2_audit_report.specs.declared.tally.Tally.{Tally}
 
 -- ---- the object
 
--- members that are numbers
-abbrev pub members_of : List (List ℕ × ℕ) → Members
+-- a number or a text
+abbrev pub value_of : Value → Json
+value_of (Number n) = number (decimal n)
+value_of (Text text) = string text.now
+
+abbrev pub members_of : List (List ℕ × Value) → Members
 members_of [] = no_members
-members_of (count ∷ more) = member count.0 (number (decimal count.1)) (members_of more)
+members_of (m ∷ more) = member m.0 (value_of m.1) (members_of more)
 
 abbrev pub counts_of : Tally → Json
-counts_of t = object (members_of ((codes "lines", t.lines) ∷ (codes "sound", count_of Sound t)
-    ∷ (codes "below", count_of Below t) ∷ (codes "no_hash", count_of NoHash t) ∷ (codes "outside", count_of Outside t)
-    ∷ (codes "locked", count_of Locked t) ∷ (codes "empty", count_of Empty t) ∷ (codes "blank", count_of Blank t)
-    ∷ (codes "comments", count_of Comment t) ∷ (codes "unknown", count_of Unknown t) ∷ (codes "other", count_of Other t)
-    ∷ (codes "short_salts", t.short_salts) ∷ (codes "equal_salts", t.equal_salts) ∷ []))
+counts_of t = object (members_of (map (λ (count : List ℕ × ℕ). (count.0, Number count.1)) ((codes "lines", t.lines)
+    ∷ (codes "sound", count_of Sound t) ∷ (codes "below", count_of Below t) ∷ (codes "no_hash", count_of NoHash t)
+    ∷ (codes "outside", count_of Outside t) ∷ (codes "locked", count_of Locked t) ∷ (codes "empty", count_of Empty t)
+    ∷ (codes "blank", count_of Blank t) ∷ (codes "comments", count_of Comment t) ∷ (codes "unknown", count_of Unknown t)
+    ∷ (codes "other", count_of Other t) ∷ (codes "short_salts", t.short_salts) ∷ (codes "equal_salts", t.equal_salts) ∷ [])))
 
 -- findings, the counts, how many texts there are of each other scheme, and of each kind
 abbrev pub object_of : Tally → Items → Members → Items → Json
@@ -53,26 +60,23 @@ pub record Adds (old new : Written) (added : List Token) : Type 0 where
   pub before : new.before ≡ old.before
   pub tokens : new.tokens ≡ old.tokens ++ added
 
--- a value that nests no deeper than this
+-- a value that can be printed and nests no deeper than this
+abbrev pub IsFlat : ℕ → Json → Type 0
+IsFlat most value = HasNumbers value × (depth value ≤ most)
+
 pub record AddsValue (old new : Written) (most : ℕ) (value : Json) : Type 0 where
   pub adds : Adds old new (json_tokens value)
-  pub numbers : HasNumbers value
-  pub flat : depth value ≤ most
+  pub flat : IsFlat most value
 
--- the last members of an object, which are no arrays or objects
-pub record AddsMembers (old new : Written) (members : Members) : Type 0 where
-  pub adds : Adds old new (members_tokens members)
-  pub numbers : MembersHaveNumbers members
-  pub flat : members_depth members ≤ 0
-
-abbrev pub AreItems : Items → Type 0
-AreItems items = ItemsHaveNumbers items × (items_depth items ≤ 1)
+-- the values of members, as a call takes them
+abbrev pub given : List (Bor (List ℕ) × Value) → Members
+given members = members_of (map (λ (m : Bor (List ℕ) × Value). (m.0.now, m.1)) members)
 
 -- flat items were written behind these tokens, and more may follow
 pub record HasItems (front tokens : List Token) : Type 0 where
   pub all : Items → Items
   pub reads : (more : Items) → tokens ++ items_tokens more ≡ front ++ items_tokens (all more)
-  pub are : (more : Items) → AreItems more → AreItems (all more)
+  pub are : (more : Items) → IsFlat 2 (array more) → IsFlat 2 (array (all more))
 
 -- the object has begun, with some findings
 abbrev pub HasFindings : Written → Type 0

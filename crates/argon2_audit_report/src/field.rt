@@ -3,7 +3,7 @@
 ghost use Rattle.std.specs.Prelude.{◌≡◌, ◌==◌, ◌≤◌, length};
 ghost use Rattle.std.specs.Option.{option_copied};
 ghost use Rattle.std.specs.List.{list_all, position_or_len};
-ghost use Rattle.argon2_audit_report.specs.Finding.{field_numbered, has_numbers, is_number, is_werkzeug, second_or_all};
+ghost use Rattle.argon2_audit_report.specs.Finding.{field_numbered, has_numbers, is_number, is_werkzeug};
 
 use argon2_prefixes::{after_any, begins_any};
 use memchr::memchr;
@@ -26,22 +26,10 @@ impl Field {
     {
         match self.before {
             None if is_werkzeug(line) => Some(line),
-            None => Some(second_or_all(line, self.separator)),
+            None => Some(field_numbered(line, 1, self.separator).unwrap_or(line)),
             Some(before) => field_numbered(line, before, self.separator),
         }
     }
-}
-
-// The second of the fields, or all if there is no separator.
-fn second_or_all(line: &[u8], separator: u8) -> &[u8]
-    ensures { result.now ≡ second_or_all separator line.now }
-{
-    let end = first(line, separator);
-    if end == line.len() {
-        return line;
-    }
-    let rest = &line[end + 1..];
-    &rest[..first(rest, separator)]
 }
 
 // Whether a line is a text of Werkzeug. Such a text has colons, so the line has no name.

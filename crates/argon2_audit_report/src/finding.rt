@@ -86,7 +86,7 @@ fn found_text(text: &[u8]) -> Finding
 
 impl Finding {
     ghost use Rattle.std.specs.Prelude.{◌≡◌};
-    ghost use Rattle.argon2_audit_report.specs.Finding.{class_of};
+    ghost use Rattle.argon2_audit_report.specs.Finding.{class_of, has_short_salt};
 
     /// What a line of this finding counts as.
     pub fn class(&self, limits: &Limits) -> Class
@@ -100,9 +100,16 @@ impl Finding {
             Finding::Claimed(Claim::Comment) => Class::Comment,
             Finding::Claimed(Claim::NoField | Claim::Unknown) => Class::Unknown,
             Finding::Shown(entry) if entry.hash_len.is_none() => Class::NoHash,
-            Finding::Shown(entry) if limits.shortfalls(entry).any() => Class::Below,
+            Finding::Shown(entry) if entry.is_below(limits) => Class::Below,
             Finding::Shown(_) => Class::Sound,
             _ => Class::Outside,
         }
+    }
+
+    /// Whether the line has a text whose salt is shorter than the limits ask for, or missing.
+    pub fn has_short_salt(&self, limits: &Limits) -> bool
+        ensures { result ≡ has_short_salt limits.now self.now }
+    {
+        matches!(self, Finding::Shown(entry) if entry.salt_len() < limits.salt_len)
     }
 }

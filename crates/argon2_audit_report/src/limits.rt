@@ -32,6 +32,7 @@ pub struct Entry {
 
 impl Entry {
     ghost use Rattle.std.specs.Prelude.{◌≡◌, [], length, unwrap_or};
+    ghost use Rattle.argon2_audit_report.specs.Finding.{is_below};
 
     /// How many bytes the salt has, 0 if there is none.
     pub fn salt_len(&self) -> u32
@@ -41,6 +42,24 @@ impl Entry {
             Some(salt) => salt.len() as u32,
             None => 0,
         }
+    }
+
+    /// Whether something of the text is below limits. A salt or a hash that is missing has no bytes.
+    pub fn is_below(&self, limits: &Limits) -> bool
+        ensures { result ≡ is_below limits.now self.now }
+    {
+        let (kind, salt_len) = (&self.kind, self.salt_len());
+        let is_refused = match limits.algorithm {
+            Some(required) => required != kind.algorithm,
+            None => false,
+        };
+        kind.m_cost < limits.m_cost
+            || kind.t_cost < limits.t_cost
+            || kind.p_cost < limits.p_cost
+            || salt_len < limits.salt_len
+            || self.hash_len.unwrap_or(0) < limits.hash_len
+            || u32::from(kind.version) < limits.version
+            || is_refused
     }
 }
 
@@ -90,59 +109,6 @@ pub struct Limits {
     pub algorithm: Option<Algorithm>,
     /// Texts of other schemes count as sound, and so do locked and blank lines and comments.
     pub allows_other: bool,
-}
-
-/// What of a text is below limits.
-#[derive(Clone, Copy)]
-pub struct Shortfalls {
-    pub memory: bool,
-    pub passes: bool,
-    pub lanes: bool,
-    pub salt: bool,
-    pub hash: bool,
-    pub version: bool,
-    pub algorithm: bool,
-}
-
-impl Limits {
-    ghost use Rattle.std.specs.Prelude.{◌≡◌};
-    ghost use Rattle.argon2_audit_report.specs.Finding.{shortfalls_of};
-
-    /// What of a text is below the limits. A salt or a hash that is missing has no bytes.
-    pub fn shortfalls(&self, entry: &Entry) -> Shortfalls
-        ensures { result ≡ shortfalls_of self.now entry.now }
-    {
-        Shortfalls {
-            memory: entry.kind.m_cost < self.m_cost,
-            passes: entry.kind.t_cost < self.t_cost,
-            lanes: entry.kind.p_cost < self.p_cost,
-            salt: entry.salt_len() < self.salt_len,
-            hash: entry.hash_len.unwrap_or(0) < self.hash_len,
-            version: u32::from(entry.kind.version) < self.version,
-            algorithm: match self.algorithm {
-                Some(required) => required != entry.kind.algorithm,
-                None => false,
-            },
-        }
-    }
-}
-
-impl Shortfalls {
-    ghost use Rattle.std.specs.Prelude.{◌≡◌};
-    ghost use Rattle.argon2_audit_report.specs.Finding.{is_any};
-
-    /// Whether anything is below the limits.
-    pub fn any(&self) -> bool
-        ensures { result ≡ is_any self.now }
-    {
-        self.memory
-            || self.passes
-            || self.lanes
-            || self.salt
-            || self.hash
-            || self.version
-            || self.algorithm
-    }
 }
 
 /// What is written.

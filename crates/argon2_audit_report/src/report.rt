@@ -3,8 +3,7 @@
 use crate::claim::{Claim, Scheme};
 use crate::finding::{Class, Finding};
 use crate::limits::{Entry, Limits};
-use crate::session::Audit;
-use crate::tally::Marks;
+use crate::session::Session;
 use argon2::Algorithm;
 use argon2::password_hash::Error;
 use argon2_failure::Failure;
@@ -77,7 +76,7 @@ pub fn remark_on<S: Remarks>(
     line: u64,
     finding: &Finding,
     limits: &Limits,
-    marks: Marks,
+    has_equal_salt: bool,
 ) -> Result<(), Failure> {
     let remark = match finding {
         Finding::TooLong => Some(Remark::Text("longer than 4096 bytes")),
@@ -89,7 +88,7 @@ pub fn remark_on<S: Remarks>(
     if let Some(remark) = remark {
         remarks.add(line, remark)?;
     }
-    if marks.equal_salt {
+    if has_equal_salt {
         remarks.add(line, Remark::Text("salt of an earlier line"))?;
     }
     Ok(())
@@ -118,47 +117,42 @@ fn shown<S: Remarks>(
     entry: &Entry,
     limits: &Limits,
 ) -> Result<Option<Remark<'static>>, Failure> {
-    let (short, kind) = (limits.shortfalls(entry), &entry.kind);
-    for (is_short, name, has, least) in [
-        (short.memory, 'm', kind.m_cost, limits.m_cost),
-        (short.passes, 't', kind.t_cost, limits.t_cost),
-        (short.lanes, 'p', kind.p_cost, limits.p_cost),
-        (short.version, 'v', u32::from(kind.version), limits.version),
+    let kind = &entry.kind;
+    for (name, has, least) in [
+        ('m', kind.m_cost, limits.m_cost),
+        ('t', kind.t_cost, limits.t_cost),
+        ('p', kind.p_cost, limits.p_cost),
+        ('v', u32::from(kind.version), limits.version),
     ] {
-        if is_short {
+        if has < least {
             remarks.add(line, Remark::Number(name, has, least))?;
         }
     }
     match limits.algorithm {
-        Some(required) if short.algorithm => {
+        Some(required) if required != kind.algorithm => {
             remarks.add(line, Remark::Algorithm(kind.algorithm, required))?;
         }
         _ => {}
     }
-    if short.salt {
+    let (salt_len, least) = (entry.salt_len(), limits.salt_len);
+    if salt_len < least {
         let remark = match entry.salt {
-            Some(_) => Remark::Length("salt", entry.salt_len(), limits.salt_len),
+            Some(_) => Remark::Length("salt", salt_len, least),
             None => Remark::Text("no salt"),
         };
         remarks.add(line, remark)?;
     }
     Ok(match entry.hash_len {
         None => Some(Remark::Text("no hash")),
-        Some(has) if short.hash => Some(Remark::Length("hash", has, limits.hash_len)),
+        Some(has) if has < limits.hash_len => Some(Remark::Length("hash", has, limits.hash_len)),
         Some(_) => None,
     })
 }
 
-/// Writes the counts, and then how many texts of Argon2 there are of each kind.
-pub fn write_table<W: Write>(output: &mut W, audit: &Audit) -> io::Result<()> {
-    counts(output, audit)?;
-    kinds(output, audit)?;
-    output.flush()
-}
-
-// Writes the counts, one a line; those of lines that store no text of Argon2 only if there are such lines.
-fn counts<W: Write>(output: &mut W, audit: &Audit) -> io::Result<()> {
-    let tally = &audit.tally;
+/// Writes the counts, one a line, and then how many texts of Argon2 there are of each kind. The counts of lines that store
+/// no text of Argon2 are written only if there are such lines.
+pub fn write_table<W: Write>(output: &mut W, session: &Session) -> io::Result<()> {
+    let tally = &session.tally;
     row(output, "lines", tally.lines)?;
     for (name, class, is_written) in [
         ("sound", Class::Sound, true),
@@ -177,28 +171,19 @@ fn counts<W: Write>(output: &mut W, audit: &Audit) -> io::Result<()> {
             row(output, name, lines)?;
         }
     }
-    for (scheme, lines) in audit.seen.schemes.iter() {
+    for (scheme, lines) in session.seen.schemes.iter() {
         let name = scheme.name();
         writeln!(output, "  {name:<18}{lines:>12}")?;
     }
     row(output, "short salts", tally.short_salts)?;
-    row(output, "equal salts", tally.equal_salts)
-}
-
-// Writes a count as a line.
-fn row<W: Write>(output: &mut W, name: &str, lines: u64) -> io::Result<()> {
-    writeln!(output, "{name:<20}{lines:>12}")
-}
-
-// Writes how many texts of Argon2 there are of each kind, a line each.
-fn kinds<W: Write>(output: &mut W, audit: &Audit) -> io::Result<()> {
-    if !audit.seen.kinds.is_empty() {
+    row(output, "equal salts", tally.equal_salts)?;
+    if !session.seen.kinds.is_empty() {
         writeln!(
             output,
             "\nalgorithm  version           m           t         p       lines"
         )?;
     }
-    for (kind, lines) in audit.seen.kinds.iter() {
+    for (kind, lines) in session.seen.kinds.iter() {
         let (algorithm, version) = (kind.algorithm.as_str(), u32::from(kind.version));
         let (m, t, p) = (kind.m_cost, kind.t_cost, kind.p_cost);
         writeln!(
@@ -206,5 +191,10 @@ fn kinds<W: Write>(output: &mut W, audit: &Audit) -> io::Result<()> {
             "{algorithm:<10}{version:>8}{m:>12}{t:>12}{p:>10}{lines:>12}"
         )?;
     }
-    Ok(())
+    output.flush()
+}
+
+// Writes a count as a line.
+fn row<W: Write>(output: &mut W, name: &str, lines: u64) -> io::Result<()> {
+    writeln!(output, "{name:<20}{lines:>12}")
 }

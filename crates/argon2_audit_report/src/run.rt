@@ -2,7 +2,7 @@
 
 ghost use Rattle.std.specs.Prelude.{◌≡◌, ◌⊎◌, ◌∷◌, ◌++◌, [], ℕ, List, IfOk, IfSome, IsFalse, OnOk, true, false};
 ghost use Rattle.std.specs.Io.KnownBytes.{Appends, Keeps};
-ghost use Rattle.argon2_audit_report.specs.Object.{IsObject, IsReport, IsReported};
+ghost use Rattle.argon2_audit_report.specs.Object.{IsReport, IsReported};
 ghost use Rattle.argon2_audit_report.specs.Audit.{IsAudit, IsTallied};
 
 use crate::findings::Findings;
@@ -85,38 +85,22 @@ fn write_report<R: Read, W: Write, E: Write>(
         Form::Lines => {
             let mut lines = Lines { output };
             let session = session_of(alloc, options, input, &mut lines, errors, shows_progress)?;
-            write_table(lines.output, &session.audit)?;
-            Ok(session.audit.tally)
+            write_table(lines.output, &session)?;
+            Ok(session.tally)
         }
-        Form::Json => write_object(alloc, options, input, output, errors, shows_progress),
+        Form::Json => {
+            let mut findings = Findings::new(alloc)?;
+            let session = session_of(alloc, options, input, &mut findings, errors, shows_progress)?;
+            let text = findings.object(&session)?;
+            write_line(output, text.as_slice())?;
+            Ok(session.tally)
+        }
         Form::Quiet => {
             let silent = &mut Nothing;
             let session = session_of(alloc, options, input, silent, errors, shows_progress)?;
-            Ok(session.audit.tally)
+            Ok(session.tally)
         }
     }
-}
-
-// Writes the report as a line with a JSON object, and returns the counts.
-fn write_object<R: Read, W: Write, E: Write>(
-    alloc: Global,
-    options: Options,
-    input: &mut R,
-    output: &mut W,
-    errors: &mut E,
-    shows_progress: bool,
-) -> Result<Tally, Failure>
-    ensures tally { IfOk result (λ tally. IfSome (R.remaining input.old)
-        (λ bytes. IsTallied options bytes tally)) }
-    ensures object { IfOk result (λ tally. (text : List ℕ) × IsObject tally text
-        × Appends (W.contents output.old) (W.contents output.new) (text ++ 10 ∷ [])) }
-    ensures quiet { IsFalse shows_progress → Keeps (E.contents errors.old) (E.contents errors.new) }
-{
-    let mut findings = Findings::new(alloc)?;
-    let session = session_of(alloc, options, input, &mut findings, errors, shows_progress)?;
-    let text = findings.object(&session.audit)?;
-    write_line(output, text.as_slice())?;
-    Ok(session.audit.tally)
 }
 
 // Writes a text as a line.
@@ -140,7 +124,7 @@ fn session_of<R: Read, S: Remarks, E: Write>(
     shows_progress: bool,
 ) -> Result<Session, Failure>
     ensures session { IfOk result (λ session. IfSome (R.remaining input.old)
-        (λ bytes. IsTallied options bytes session.audit.tally)) }
+        (λ bytes. IsTallied options bytes session.tally)) }
     ensures quiet { IsFalse shows_progress → Keeps (E.contents errors.old) (E.contents errors.new) }
 {
     let mut session = Session::new(alloc, options);
@@ -159,7 +143,7 @@ fn session_of<R: Read, S: Remarks, E: Write>(
             }
         }
         if shows_progress && turn % STRIDE == STRIDE - 1 {
-            let lines = session.audit.tally.lines;
+            let lines = session.tally.lines;
             let _ = writeln!(errors, "{PROGRAM}: {lines} lines");
         }
     }

@@ -4,8 +4,9 @@ ghost use Rattle.std.specs.Prelude.{◌≡◌, ◌≤◌, ◌||◌, ℕ, List, I
 ghost use Rattle.std.specs.Str.{bytes_eq};
 ghost use Rattle.argon2_audit_report.specs.Audit.{has_key};
 
-use crate::claim::Scheme;
-use crate::limits::{Entry, Kind};
+use crate::claim::{Claim, Scheme};
+use crate::finding::Finding;
+use crate::limits::Kind;
 use argon2::phc::Salt;
 use arrayvec::ArrayVec;
 use std::alloc::{AllocError, Global};
@@ -25,7 +26,8 @@ pub struct Seen {
 impl Seen {
     ghost use Rattle.std.specs.Prelude.{◌≡◌, ◌||◌, ℕ, List, false, IfOk, OnOk, not};
     ghost use Rattle.std.specs.Str.{bytes_eq};
-    ghost use Rattle.argon2_audit_report.specs.Audit.{has_any, has_salt, is_salt};
+    ghost use Rattle.argon2_audit_report.specs.Audit.{has_salt, is_salt};
+    ghost use Rattle.argon2_audit_report.specs.Finding.{salt_of, some_passes};
 
     /// No texts.
     pub fn new(alloc: Global) -> Seen
@@ -39,22 +41,34 @@ impl Seen {
         }
     }
 
-    /// Counts a text, and returns whether its salt was there before.
+    /// Counts a line's text of a scheme, if it has one, and returns whether its salt was there before.
     ///
     /// # Errors
     /// Memory may be refused. The salt may be kept then, and the text is not counted.
-    pub fn add(&mut self, entry: &Entry) -> Result<bool, AllocError>
-        ensures equal { IfOk result (λ equal. equal ≡ has_any self.old entry.now.salt) }
+    pub fn add(&mut self, finding: &Finding) -> Result<bool, AllocError>
+        ensures equal { IfOk result
+            (λ equal. equal ≡ some_passes (has_salt self.old) (salt_of finding.now)) }
         ensures kept { OnOk result ((salt : List ℕ)
-            → has_salt self.new salt ≡ (is_salt entry.now.salt salt || has_salt self.old salt)) }
+            → has_salt self.new salt
+            ≡ (is_salt (salt_of finding.now) salt || has_salt self.old salt)) }
     {
-        let is_equal = match &entry.salt {
-            Some(salt) => !self.keep(salt)?,
-            None => false,
-        };
-        let count = self.kinds.entry(entry.kind)?.or_insert(0);
-        *count = count.saturating_add(1);
-        Ok(is_equal)
+        match finding {
+            Finding::Shown(entry) => {
+                let is_equal = match &entry.salt {
+                    Some(salt) => !self.keep(salt)?,
+                    None => false,
+                };
+                let count = self.kinds.entry(entry.kind)?.or_insert(0);
+                *count = count.saturating_add(1);
+                Ok(is_equal)
+            }
+            Finding::Claimed(Claim::Other(scheme)) => {
+                let count = self.schemes.entry(*scheme)?.or_insert(0);
+                *count = count.saturating_add(1);
+                Ok(false)
+            }
+            _ => Ok(false),
+        }
     }
 
     // Keeps a salt, and returns whether it is new.
@@ -68,18 +82,6 @@ impl Seen {
         } else {
             insert(&mut self.long, salt.as_bytes())
         }
-    }
-
-    /// Counts a text of another scheme.
-    ///
-    /// # Errors
-    /// Memory may be refused, and the text is not counted then.
-    pub fn add_other(&mut self, scheme: Scheme) -> Result<(), AllocError>
-        ensures { (salt : List ℕ) → has_salt self.new salt ≡ has_salt self.old salt }
-    {
-        let count = self.schemes.entry(scheme)?.or_insert(0);
-        *count = count.saturating_add(1);
-        Ok(())
     }
 }
 

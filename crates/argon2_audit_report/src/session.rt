@@ -3,13 +3,12 @@
 ghost use Rattle.std.specs.Prelude.{◌≡◌, ◌≤◌, IsTrue, vec_len};
 ghost use Rattle.argon2_audit_report.specs.declared.session.TheConstants.{LONGEST};
 
-use crate::claim::Claim;
 use crate::field::{Field, first};
 use crate::finding::{Finding, found};
 use crate::limits::Options;
 use crate::report::{Remarks, remark_on};
 use crate::seen::Seen;
-use crate::tally::{Marks, Tally};
+use crate::tally::Tally;
 use argon2_failure::Failure;
 use std::alloc::{AllocError, Global};
 
@@ -57,60 +56,23 @@ impl Line {
     }
 }
 
-/// The counts under limits, and what texts there were.
-#[derive(Drop)]
-pub struct Audit {
-    pub options: Options,
-    pub tally: Tally,
-    pub seen: Seen,
-}
-
-impl Audit {
-    ghost use Rattle.std.specs.Prelude.{◌≡◌, ◌<◌, ◌^◌, ◌-◌, IfOk, OnErr};
-    ghost use Rattle.argon2_audit_report.specs.Audit.{IsAdded};
-
-    // Counts a line in which this is found, and returns what it is counted as. Memory may be refused, and the line is
-    // not counted then.
-    fn add(&mut self, finding: &Finding) -> Result<Marks, AllocError>
-        requires { self.old.tally.lines < 2 ^ 64 - 1 }
-        ensures options { self.new.options ≡ self.old.options }
-        ensures added { IfOk result (λ marks. IsAdded finding.now marks self.old self.new) }
-        ensures refused { OnErr result (self.new.tally ≡ self.old.tally) }
-    {
-        let mut marks = Marks {
-            class: finding.class(&self.options.limits),
-            short_salt: false,
-            equal_salt: false,
-        };
-        match finding {
-            Finding::Shown(entry) => {
-                marks.short_salt = self.options.limits.shortfalls(entry).salt;
-                marks.equal_salt = self.seen.add(entry)?;
-            }
-            Finding::Claimed(Claim::Other(scheme)) => self.seen.add_other(*scheme)?,
-            _ => {}
-        }
-        self.tally.add(marks);
-        Ok(marks)
-    }
-}
-
 /// The audit of the lines so far, and the line that is being read.
 #[derive(Drop)]
 pub struct Session {
-    pub audit: Audit,
+    pub options: Options,
+    pub tally: Tally,
+    pub seen: Seen,
     line: Line,
 }
 
 impl Session {
-    ghost use Rattle.std.specs.Prelude.{◌≡◌, ◌<◌, ◌≤◌, ◌+◌, ◌^◌, ◌-◌, ℕ, List, [], ◌∷◌, ◌++◌, length, OnOk};
-    ghost use Rattle.argon2_audit_report.specs.Audit.{IsAfter, IsRead, IsTallied};
+    ghost use Rattle.std.specs.Prelude.{◌≡◌, ◌<◌, ◌≤◌, ◌+◌, ◌^◌, ◌-◌, ℕ, List, [], ◌∷◌, length, OnOk};
+    ghost use Rattle.argon2_audit_report.specs.Audit.{IsAt, IsBefore, IsTallied};
 
     /// An audit of no bytes.
     pub fn new(alloc: Global, options: Options) -> Session
-        ensures options { result.audit.options ≡ options }
-        ensures lines { result.audit.tally.lines ≡ 0 }
-        ensures after { IsAfter result [] }
+        ensures lines { result.tally.lines ≡ 0 }
+        ensures none { IsBefore options result [] [] }
     {
         let tally = Tally {
             lines: 0,
@@ -120,11 +82,9 @@ impl Session {
         };
         let seen = Seen::new(alloc);
         Session {
-            audit: Audit {
-                options,
-                tally,
-                seen,
-            },
+            options,
+            tally,
+            seen,
             line: Line {
                 bytes: Vec::new(alloc),
                 is_long: false,
@@ -134,12 +94,11 @@ impl Session {
 
     /// Takes more bytes, with remarks on the lines that end in them.
     pub fn add<S: Remarks>(&mut self, bytes: &[u8], remarks: &mut S) -> Result<(), Failure>
-        requires { self.old.audit.tally.lines + length bytes.now < 2 ^ 64 }
-        ensures options { OnOk result (self.new.audit.options ≡ self.old.audit.options) }
+        requires { self.old.tally.lines + length bytes.now < 2 ^ 64 }
         ensures lines { OnOk result
-            (self.new.audit.tally.lines ≤ self.old.audit.tally.lines + length bytes.now) }
-        ensures after { OnOk result ((before : List ℕ) → IsAfter self.old before
-            → IsAfter self.new (before ++ bytes.now)) }
+            (self.new.tally.lines ≤ self.old.tally.lines + length bytes.now) }
+        ensures taken { OnOk result ((options : Options) (all : List ℕ)
+            → IsBefore options self.old all bytes.now → IsBefore options self.new all []) }
     {
         let mut rest = bytes;
         'lines: loop {
@@ -155,9 +114,9 @@ impl Session {
 
     /// Ends the last line if it has no line feed.
     pub fn finish<S: Remarks>(&mut self, remarks: &mut S) -> Result<(), Failure>
-        requires { self.old.audit.tally.lines < 2 ^ 64 - 1 }
-        ensures { OnOk result ((bytes : List ℕ) → IsAfter self.old bytes
-            → IsTallied self.old.audit.options bytes self.new.audit.tally) }
+        requires { self.old.tally.lines < 2 ^ 64 - 1 }
+        ensures { OnOk result ((options : Options) (bytes : List ℕ)
+            → IsBefore options self.old bytes [] → IsTallied options bytes self.new.tally) }
     {
         if self.line.bytes.is_empty() {
             return Ok(());
@@ -165,21 +124,22 @@ impl Session {
         self.end_line(remarks)
     }
 
-    // Ends a line.
+    // Ends a line, and counts it unless memory is refused.
     fn end_line<S: Remarks>(&mut self, remarks: &mut S) -> Result<(), Failure>
-        requires { self.old.audit.tally.lines < 2 ^ 64 - 1 }
-        ensures options { OnOk result (self.new.audit.options ≡ self.old.audit.options) }
-        ensures lines { OnOk result
-            (self.new.audit.tally.lines ≡ self.old.audit.tally.lines + 1) }
-        ensures after { OnOk result ((before : List ℕ) → IsAfter self.old before
-            → IsAfter self.new (before ++ 10 ∷ [])) }
-        ensures whole { OnOk result ((bytes : List ℕ) → IsAfter self.old bytes
-            → ¬ IsRead self.old.line []
-            → IsTallied self.old.audit.options bytes self.new.audit.tally) }
+        requires { self.old.tally.lines < 2 ^ 64 - 1 }
+        ensures lines { OnOk result (self.new.tally.lines ≡ self.old.tally.lines + 1) }
+        ensures ended { OnOk result ((options : Options) (lines : List (List ℕ)) (rest : List ℕ)
+            → IsAt options self.old lines rest → IsAt options self.new (rest ∷ lines) []) }
     {
-        let finding = self.line.end(self.audit.options.field);
-        let marks = self.audit.add(&finding)?;
-        let number = self.audit.tally.lines;
-        remark_on(remarks, number, &finding, &self.audit.options.limits, marks)
+        let Options { limits, field, .. } = self.options;
+        let finding = self.line.end(field);
+        let is_equal = self.seen.add(&finding)?;
+        self.tally.add(
+            finding.class(&limits),
+            finding.has_short_salt(&limits),
+            is_equal,
+        );
+        remark_on(remarks, self.tally.lines, &finding, &limits, is_equal)?;
+        Ok(())
     }
 }

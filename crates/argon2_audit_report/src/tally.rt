@@ -5,16 +5,6 @@ ghost use Rattle.std.specs.Prelude.{◌≤◌, ℕ, get_or};
 use crate::finding::Class;
 use crate::limits::Limits;
 
-/// What a line is counted as.
-#[derive(Clone, Copy)]
-pub struct Marks {
-    pub class: Class,
-    /// The salt is shorter than the limits ask for, or missing.
-    pub short_salt: bool,
-    /// The salt is that of an earlier line.
-    pub equal_salt: bool,
-}
-
 /// How many lines were read, of each class, and how many of them have a short or an equal salt.
 #[derive(Clone, Copy)]
 pub struct Tally {
@@ -32,15 +22,15 @@ impl Tally {
     ghost use Rattle.std.specs.Prelude.{◌≡◌, ◌<◌, ◌^◌, ◌-◌, ◌↔◌, IsTrue};
     ghost use Rattle.argon2_audit_report.specs.Audit.{Counts, IsClean, count_of};
 
-    /// Counts a line.
-    pub fn add(&mut self, marks: Marks)
+    /// Counts a line of a class, and its salt if it is short or that of an earlier line.
+    pub fn add(&mut self, class: Class, is_short: bool, is_equal: bool)
         requires { self.old.lines < 2 ^ 64 - 1 }
-        ensures { Counts marks self.old self.new }
+        ensures { Counts class is_short is_equal self.old self.new }
     {
         self.lines += 1;
-        self.counts[marks.class as usize] += 1;
-        self.short_salts += u64::from(marks.short_salt);
-        self.equal_salts += u64::from(marks.equal_salt);
+        self.counts[class as usize] += 1;
+        self.short_salts += u64::from(is_short);
+        self.equal_salts += u64::from(is_equal);
     }
 
     /// How many lines of a class were counted.

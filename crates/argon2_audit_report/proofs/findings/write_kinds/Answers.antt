@@ -10,13 +10,12 @@ loop-kind-init c = (c.begin_array.ensures.room.0, no_item c.in_ok-begin_array.en
 
 pub loop-kind-preserved : goal.loop-kind-preserved
 loop-kind-preserved c =
-    let added = c.in_ok-write_kind.ensures.1 in
+    let added = c.in_ok-write_object.ensures in
     (added.adds.before ∙ c.loop-kind.invariant.0, item_more added c.loop-kind.invariant.1)
 
 pub returns : goal.returns
 returns c =
     let has = c.loop-kind.invariant.1 in
-    let are = has.are no_items (tt, omega arith) in
     at_last c.end_array.ensures (λ last. (
       has.all no_items,
       record {
@@ -25,7 +24,6 @@ returns c =
           tokens = last.tokens ∙ has.reads no_items
               ∙ append_assoc c.args.json.now.tokens (begin_array ∷ []) (items_tokens (has.all no_items));
         };
-        numbers = are.0;
-        flat = let flat = are.1 in omega arith;
+        flat = has.are no_items (tt, omega arith);
       },
     ))

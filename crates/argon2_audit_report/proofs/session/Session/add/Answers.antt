@@ -1,26 +1,25 @@
-use Rattle.std.proofs.Common.{arith, ℕ, List, [], ◌∷◌, ◌++◌, ◌+◌, ◌<◌, ◌≡◌, ◌==◌, ◌&&◌, not, true, false, Bool, cond, IsTrue, ◌∙◌, append_assoc, sym, ap, subst, take, drop, length, refl}
+use Rattle.std.proofs.Common.{arith, ℕ, List, [], ◌∷◌, ◌++◌, ◌+◌, ◌-◌, ◌<◌, ◌≡◌, ◌==◌, not, true, false, Bool, cond, IsTrue, ◌∙◌, append_assoc, append-nil, sym, ap, take, drop, length, refl}
 use Rattle.std.proofs.lemmas.Bool.{eqb-true}
-use Rattle.std.proofs.lemmas.List.{length-append, length-drop, take_all}
+use Rattle.std.proofs.lemmas.List.{length-drop, take_all}
 use Rattle.std.proofs.lemmas.List.Folds.{list_all-append}
 use Rattle.std.proofs.lemmas.List.Sums.{passes_at_first, split_at_first}
 use Rattle.std.specs.List.{list_all, position_or_len, prefix_len}
-use Rattle.argon2_audit_report.specs.Audit.{IsBegun, IsRead, has_no_feed}
-use Rattle.argon2_audit_report.specs.declared.session.Audit.{Audit}
+use Rattle.argon2_audit_report.specs.Audit.{IsAt, IsRead, has_no_feed, joined}
+use Rattle.argon2_audit_report.specs.declared.limits.Options.{Options}
 use Rattle.argon2_audit_report.specs.declared.session.Line.{Line}
+use Rattle.argon2_audit_report.specs.declared.session.Session.{Session}
 use Rattle.argon2_audit_report.proofs.session.Session.add.Goals as goal
 
-part_more : (kept next : Line) (audit : Audit) (bytes part : List ℕ)
-    → ((line : List ℕ) → IsRead kept line → IsRead next (line ++ part)) → IsTrue (has_no_feed part)
-    → IsBegun kept audit bytes → IsBegun next audit (bytes ++ part)
-part_more kept next audit bytes part reads feed b = record {
-  whole = b.whole;
-  rest = b.rest ++ part;
-  split = ap (λ l. l ++ part) b.split ∙ append_assoc b.whole b.rest part;
-  done = b.done;
-  ended = b.ended;
-  salts = b.salts;
-  feed = list_all-append (λ byte. not (byte == 10)) b.rest part ∙ ap (λ passes. passes && has_no_feed part) b.feed ∙ feed;
-  read = reads b.rest b.read;
+part_more : {options : Options} {old : Session} {line : Line} {lines : List (List ℕ)} {rest : List ℕ}
+    (part : List ℕ) → ((l : List ℕ) → IsRead old.line l → IsRead line (l ++ part)) → IsTrue (has_no_feed part)
+    → IsAt options old lines rest → IsAt options (record old { line = line }) lines (rest ++ part)
+part_more {rest = rest} part reads feed at = record {
+  same = at.same;
+  findings = at.findings;
+  counted = at.counted;
+  salts = at.salts;
+  feed = rw (list_all-append (λ byte. not (byte == 10)) rest part, at.feed) feed;
+  read = reads rest at.read;
 }
 
 passed_more : (b : Bool) (test : ℕ → Bool) (x : ℕ) (xs : List ℕ) → test x ≡ b
@@ -47,42 +46,33 @@ none_before : (bytes : List ℕ) (end : ℕ) → end ≡ position_or_len (λ byt
     → IsTrue (has_no_feed (take end bytes))
 none_before bytes end is = rw is (passed (λ byte. not (byte == 10)) bytes)
 
-pub returns-then-end-rest-clause-after : goal.returns-then-end-rest-clause-after
-returns-then-end-rest-clause-after g c = λ bytes after.
-    let before = c.lines.invariant in
-    let old = c.lines.self in
+pub returns-then-end-rest-clause-taken : goal.returns-then-end-rest-clause-taken
+returns-then-end-rest-clause-taken g c = λ options all before.
+    let b = c.lines.invariant.1 options all before in
     let rest = c.lines.rest.now in
     let end = c.first-end.result in
-    subst (IsBegun c.extend.new.self old.audit)
-    (append_assoc bytes before.0 (take end rest) ∙ ap (λ l. bytes ++ (before.0 ++ l)) (take_all end rest (omega arith))
-    ∙ ap (λ l. bytes ++ l) (sym before.1))
-    (part_more old.line c.extend.new.self old.audit (bytes ++ before.0) (take end rest)
-    c.in_ok-extend.ensures (none_before rest end c.first-end.ensures.value) (before.4 bytes after))
+    let part = take end rest in record {
+      lines = b.lines;
+      rest = b.rest ++ part;
+      split = b.split ∙ rw (append-nil, take_all end rest (omega arith)) refl;
+      at = part_more part c.in_ok-extend.ensures (none_before rest end c.first-end.ensures.value) b.at;
+    }
 
 pub lines-preserved : goal.lines-preserved
 lines-preserved g c =
-    let before = c.lines.invariant in
-    let old = c.lines.self in
-    let new = c.end_line.new.self in
     let rest = c.lines.rest.now in
     let end = c.first-end.result in
+    let part = take end rest in
+    let behind = drop (end + 1) rest in
     let cut = at_feed rest end c.first-end.ensures.value (omega arith) in
-    let so : c.args.bytes.now ≡ ((before.0 ++ take end rest) ++ 10 ∷ []) ++ drop (end + 1) rest =
-    before.1 ∙ ap (λ l. before.0 ++ l) cut ∙ sym (append_assoc before.0 (take end rest) (10 ∷ drop (end + 1) rest))
-    ∙ sym (append_assoc (before.0 ++ take end rest) (10 ∷ []) (drop (end + 1) rest)) in (
-      (before.0 ++ take end rest) ++ 10 ∷ [],
-      so ∙ ap (λ l. ((before.0 ++ take end rest) ++ 10 ∷ []) ++ l) (sym (take_all _ (drop (end + 1) rest)
-          (let long = length-drop (end + 1) rest in omega arith))),
-      let long = length-append (before.0 ++ take end rest) (10 ∷ []) in
-          let more = length-append before.0 (take end rest) in
-          let lines = c.in_ok-end_line.ensures.lines in
-          let known = before.2 in omega arith,
-      c.in_ok-end_line.ensures.options ∙ before.3,
-      λ bytes after.
-          subst (IsBegun new.line new.audit)
-          (ap (λ l. l ++ 10 ∷ []) (append_assoc bytes before.0 (take end rest))
-          ∙ append_assoc bytes (before.0 ++ take end rest) (10 ∷ []))
-          (c.in_ok-end_line.ensures.after _ (part_more old.line c.extend.new.self old.audit
-          (bytes ++ before.0) (take end rest) c.in_ok-extend.ensures (none_before rest end c.first-end.ensures.value)
-          (before.4 bytes after))),
+    let whole = take_all (length rest - (end + 1)) behind (omega (arith, length-drop (end + 1) rest)) in (
+      omega (arith, length-drop (end + 1) rest, ap length whole, c.in_ok-end_line.ensures.lines, c.lines.invariant.0),
+      λ options all before.
+          let b = c.lines.invariant.1 options all before in record {
+            lines = (b.rest ++ part) ∷ b.lines;
+            rest = [];
+            split = b.split ∙ ap (λ l. joined b.lines ++ (b.rest ++ l)) cut ∙ rw whole (sym (simp append_assoc));
+            at = c.in_ok-end_line.ensures.ended options b.lines (b.rest ++ part)
+                (part_more part c.in_ok-extend.ensures (none_before rest end c.first-end.ensures.value) b.at);
+          },
     )

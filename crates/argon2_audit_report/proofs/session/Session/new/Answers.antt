@@ -1,26 +1,24 @@
 use Rattle.std.proofs.Common.{arith, rules, [], refl}
 use Rattle.argon2_audit_report.proofs.session.Session.new.Goals as goal
 
-pub returns-clause-after : goal.returns-clause-after
-returns-clause-after c = record {
-  whole = [];
+pub returns-clause-none : goal.returns-clause-none
+returns-clause-none c = record {
+  lines = [];
   rest = [];
   split = refl;
-  done = record {
-    lines = [];
+  at = record {
+    same = refl;
     findings = [];
-    feeds = refl;
-    split = refl;
-    found = tt;
-    tally = record {
+    counted = record {
+      feeds = refl;
+      found = tt;
       all = refl;
       classes = λ n. let none = c.tally-1.given.0 n in omega arith;
       short_salts = refl;
       equal_salts = refl;
     };
+    salts = c.new-seen.ensures;
+    feed = refl;
+    read = search rules;
   };
-  ended = refl;
-  salts = c.new-seen.ensures;
-  feed = refl;
-  read = search rules;
 }
