@@ -98,13 +98,17 @@ AreTrials Takes target first (last ∷ earlier) = IsNext target first earlier la
 abbrev pub IsShort : ℕ → List Choice → Choice → Type 0
 IsShort target trials choice = (choice.time < target / 2) × (choice.t_cost < below target trials)
 
+-- costs over the same memory, of as many passes or more, that were measured to be within the target unless they are the first
+pub record IsCandidate (Takes : ℕ → ℕ → Option (List ℕ) → Type 0) (target : ℕ) (first choice : Choice) : Type 0 where
+  pub memory : choice.m_cost ≡ first.m_cost
+  pub some : first.t_cost ≤ choice.t_cost
+  pub measured : IsMeasured Takes choice
+  pub within : (choice.time ≤ target) ⊎ (choice ≡ first)
+
 -- trials, four or until no more passes are left to try, and the best of them. The machine was not busy only if its
 -- three times do not scatter, and it is not short
 pub record IsBest (Takes : ℕ → ℕ → Option (List ℕ) → Type 0) (target : ℕ) (first : Choice) (found : Found) : Type 0 where
-  pub memory : found.choice.m_cost ≡ first.m_cost
-  pub some : first.t_cost ≤ found.choice.t_cost
-  pub measured : IsMeasured Takes found.choice
-  pub within : (found.choice.time ≤ target) ⊎ (found.choice ≡ first)
+  pub costs : IsCandidate Takes target first found.choice
   pub trials : List Choice
   pub tried : AreTrials Takes target first trials
   pub best : found.choice ≡ best target first trials

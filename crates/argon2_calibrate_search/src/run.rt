@@ -1,6 +1,6 @@
 //! The program over any stopwatch and streams.
 
-ghost use Rattle.std.specs.Prelude.{◌≡◌, ◌⊎◌, ◌++◌, ◌∷◌, [], ℕ, List, IfOk, OnOk, Some};
+ghost use Rattle.std.specs.Prelude.{◌≡◌, ◌⊎◌, ◌++◌, ◌∷◌, [], ℕ, List, OnOk, Some};
 ghost use Rattle.std.specs.Io.KnownBytes.{Appends};
 ghost use Rattle.json.specs.Json.{document};
 ghost use Rattle.argon2_calibrate_search.specs.Answer.{IsAnswered, end_text, json_of, lines_text};
@@ -12,7 +12,7 @@ use crate::search::search;
 use crate::stopwatch::Stopwatch;
 use argon2_failure::Failure;
 use json::Writer;
-use std::alloc::{AllocError, Global};
+use std::alloc::Global;
 use std::io::Write;
 
 /// The program's name.
@@ -63,17 +63,6 @@ fn write_json<W: Write>(alloc: Global, output: &mut W, found: Found, p: u32) -> 
     ensures { OnOk result ((text : List ℕ) × (document text ≡ Some (json_of found p))
         × Appends (W.contents output.old) (W.contents output.new) (text ++ 10 ∷ [])) }
 {
-    let text = json_text(alloc, found, p)?;
-    output.write_all(text.as_slice())?;
-    output.write_all(b"\n")?;
-    output.flush()?;
-    Ok(())
-}
-
-// Costs and their time as a JSON object.
-fn json_text(alloc: Global, found: Found, p: u32) -> Result<Vec<u8>, AllocError>
-    ensures { IfOk result (λ text. document text.items ≡ Some (json_of found p)) }
-{
     let choice = found.choice;
     let mut json = Writer::new(Vec::new(alloc));
     json.begin_object()?;
@@ -88,7 +77,11 @@ fn json_text(alloc: Global, found: Found, p: u32) -> Result<Vec<u8>, AllocError>
     json.key("busy")?;
     json.boolean(found.busy)?;
     json.end_object()?;
-    Ok(json.into_inner())
+    let text = json.into_inner();
+    output.write_all(text.as_slice())?;
+    output.write_all(b"\n")?;
+    output.flush()?;
+    Ok(())
 }
 
 // Writes costs and their time as lines.

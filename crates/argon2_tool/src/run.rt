@@ -4,7 +4,6 @@ ghost use Rattle.std.specs.Prelude.{◌≡◌, ◌↔◌, ◌≤◌, ◌⊎◌, 
 ghost use Rattle.std.specs.Io.KnownBytes.{Appends, Keeps};
 ghost use Rattle.hex.specs.Hex.{encode_lower};
 ghost use Rattle.argon2_base.specs.Blake2b.{blake2b};
-ghost use Rattle.argon2_base.specs.Hasher.{Holds};
 ghost use Rattle.argon2_tool.specs.Commands.{Fails, IsAnswered, IsCommand, IsRefused, IsReply, Spells};
 ghost use Rattle.argon2_tool.specs.Failures.{IsOfInput};
 
@@ -113,22 +112,18 @@ fn reply<R: Read>(alloc: Global, command: &Command<'_>, input: &mut R) -> Result
 {
     match *command {
         Command::Digest(len) => digest(alloc, len as usize, input),
-        Command::Long(len) => {
-            let message = read_all(alloc, input)?;
-            long(alloc, len as usize, message.as_slice())
-        }
+        Command::Long(len) => long(alloc, len as usize, &read_all(alloc, input)?),
         Command::Tag(request, len, salt) => {
-            let password = read_all(alloc, input)?;
-            tag(alloc, &request, len as usize, salt, password.as_slice())
+            tag(
+                alloc,
+                &request,
+                len as usize,
+                salt,
+                &read_all(alloc, input)?,
+            )
         }
-        Command::Phc(request, salt) => {
-            let password = read_all(alloc, input)?;
-            phc(alloc, &request, salt, password.as_slice())
-        }
-        Command::Verify(text) => {
-            let password = read_all(alloc, input)?;
-            verify(alloc, text, password.as_slice())
-        }
+        Command::Phc(request, salt) => phc(alloc, &request, salt, &read_all(alloc, input)?),
+        Command::Verify(text) => verify(alloc, text, &read_all(alloc, input)?),
         Command::Help => Ok(String::from_str(alloc, HELP)?),
         Command::Version => Ok(String::from_str(alloc, VERSION)?),
     }
@@ -154,25 +149,16 @@ fn digest<R: Read>(alloc: Global, len: usize, input: &mut R) -> Result<String, F
         (λ message. string_bytes text ≡ encode_lower (blake2b len message))) }
     ensures err { IfErr result IsOfInput }
 {
-    let hasher = hasher_of(len, input)?;
-    let mut out = [0u8; 64];
-    hasher.finalize_into(&mut out[..len]);
-    Ok(hex::encode(alloc, &out[..len])?)
-}
-
-// A hasher for a digest of `len` bytes, which holds all that is left in `input`.
-fn hasher_of<R: Read>(len: usize, input: &mut R) -> Result<Blake2b, Failure>
-    requires low { 1 ≤ len }
-    requires high { len ≤ 64 }
-    ensures holds { IfOk result (λ hasher. IfSome (R.remaining input.old) (Holds hasher)) }
-    ensures digest_len { IfOk result (λ hasher. hasher.digest_len ≡ len) }
-    ensures err { IfErr result IsOfInput }
-{
     let mut hasher = Blake2b::new(len);
     let mut piece = [0u8; 65536];
     'pieces: for turn in 0..u64::MAX {
         match input.read(&mut piece) {
-            Ok(0) => return Ok(hasher),
+            Ok(0) => {
+                let mut out = [0u8; 64];
+                hasher.finalize_into(&mut out[..len]);
+                let text = hex::encode(alloc, &out[..len])?;
+                return Ok(text);
+            }
             Ok(count) => hasher.update(&piece[..count]),
             Err(e) if e.kind() == ErrorKind::Interrupted => {}
             Err(e) => return Err(e.into()),

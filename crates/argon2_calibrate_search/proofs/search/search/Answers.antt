@@ -16,14 +16,14 @@ choice_of : (Takes : ℕ → ℕ → Option (List ℕ) → Type 0) (options : Op
     → ArePossible options → 1 ≤ first.t_cost → IsFirst Takes options first → IsBest Takes options.target first found
     → IsChoice Takes options found
 choice_of Takes options first found possible some of best =
-    let memory = best.memory in
-    let more = best.some in
+    let memory = best.costs.memory in
+    let more = best.costs.some in
     let room = of.some in
     let least : least_passes options.min_t found.choice.m_cost ≡ first.t_cost = rw memory (sym of.least) in record {
       valid = valid_within options.most (unwrap_or options.min_t 1) options.lanes found.choice.m_cost found.choice.t_cost possible
           (omega arith) (omega arith);
       least = omega arith;
-      within = elim best.within [
+      within = elim best.costs.within [
         | inl short ↦ inl short
         | inr same ↦ elim of.short [
           | inl short ↦ inl (rw same short)

@@ -1,9 +1,6 @@
-use Rattle.std.proofs.Common.{arith, ℕ, ◌≡◌}
+use Rattle.std.proofs.Common.{arith}
 use Rattle.std.proofs.KnownBytes.{Keeps-refl}
 use Rattle.argon2_tool.proofs.run.run.Goals as goal
-
-not_two : (n : ℕ) → n ≡ 1 → n ≡ 2 → ⊥
-not_two n one two = omega arith
 
 pub returns-in_default-clause-unread : goal.returns-in_default-clause-unread
 returns-in_default-clause-unread g c = λ _. Keeps-refl (g.R.Read.remaining c.args.input.now)
@@ -13,12 +10,12 @@ returns-in_default-clause-unwritten g c = λ _. Keeps-refl (g.W.Write.contents c
 
 pub returns-in-Err-clause-usage : goal.returns-in-Err-clause-usage
 returns-in-Err-clause-usage g c = (
-  λ two. absurd (not_two _ c.fail.ensures two),
+  λ two. absurd (omega (arith, c.fail.ensures)),
   λ no. absurd (no c.in-Some.command c.in-Some.ensures.found),
 )
 
 pub returns-in-Err-clause-unread : goal.returns-in-Err-clause-unread
-returns-in-Err-clause-unread g c = λ two. absurd (not_two _ c.fail.ensures two)
+returns-in-Err-clause-unread g c = λ two. absurd (omega (arith, c.fail.ensures))
 
 pub returns-in-Err-clause-unwritten : goal.returns-in-Err-clause-unwritten
-returns-in-Err-clause-unwritten g c = λ two. absurd (not_two _ c.fail.ensures two)
+returns-in-Err-clause-unwritten g c = λ two. absurd (omega (arith, c.fail.ensures))

@@ -1,7 +1,7 @@
 use Rattle.std.proofs.Common.{◌≡◌, ℕ, ◌*◌, ◌≤◌, List, length}
 use Rattle.std.specs.Io.KnownBytes.{Consumes}
 use Rattle.argon2_base.specs.Hasher.{Holds}
-use Rattle.argon2_tool.proofs.run.hasher_of.Given as goal
+use Rattle.argon2_tool.proofs.run.digest.Given as goal
 
 abbrev pub invariant-pieces : goal.invariant-pieces
 invariant-pieces g l = (l.hasher.digest_len ≡ l.fn.len) × (l.hasher.message_len ≤ 65536 * l.turn) × (length l.piece ≡ 65536)
