@@ -97,13 +97,18 @@ fn number(matches: &ArgMatches<'_>, name: &str) -> u32 {
 
 // The program's arguments.
 fn command<'a>(alloc: Global) -> Result<Command<'a>, AllocError> {
-    let mut command = Command::new(alloc, PROGRAM)
+    let command = Command::new(alloc, PROGRAM)
         .version("0.6.0")
         .about("Says which stored texts of passwords are below a policy")
         .long_about(ABOUT)
         .after_help(NOTES)
         .no_binary_name(true)
         .args_override_self(true);
+    with_output(alloc, with_lines(alloc, with_least(alloc, command)?)?)
+}
+
+// With the least numbers that a text may show.
+fn with_least<'a>(alloc: Global, mut command: Command<'a>) -> Result<Command<'a>, AllocError> {
     let memory = "The least memory, in blocks of 1024 bytes";
     for (name, value, default, help) in [
         ("min-m", "M", "19456", memory),
@@ -115,6 +120,11 @@ fn command<'a>(alloc: Global) -> Result<Command<'a>, AllocError> {
         let least = option(alloc, name, value, help).value_parser(value_parser!(u32));
         command = command.arg(least.default_value(default))?;
     }
+    Ok(command)
+}
+
+// With what else makes a line sound, and where its text is.
+fn with_lines<'a>(alloc: Global, command: Command<'a>) -> Result<Command<'a>, AllocError> {
     let version = "The least version [default: any]";
     let version = option(alloc, "min-version", "V", version);
     let require = "The one sound algorithm [default: any]";
@@ -123,6 +133,15 @@ fn command<'a>(alloc: Global) -> Result<Command<'a>, AllocError> {
     let field =
         "The text is field N, and a line without it is not sound [default: the second, or the line]";
     let field = option(alloc, "field", "N", field);
+    command
+        .arg(version.value_parser(VERSIONS.as_slice()))?
+        .arg(require.value_parser(ALGORITHMS.as_slice()))?
+        .arg(flag(alloc, "allow-other", other))?
+        .arg(field.value_parser(value_parser!(u32).range(1..)))
+}
+
+// With what divides a line, what is written, and what is read.
+fn with_output<'a>(alloc: Global, command: Command<'a>) -> Result<Command<'a>, AllocError> {
     let separator = option(alloc, "separator", "C", "The one byte between two fields");
     let json = "Write one JSON object: findings by line, counts, table";
     let files = Arg::new(alloc, "FILE")
@@ -130,10 +149,6 @@ fn command<'a>(alloc: Global) -> Result<Command<'a>, AllocError> {
         .action(ArgAction::Append)
         .help("Files with a text a line, `-` for standard input");
     command
-        .arg(version.value_parser(VERSIONS.as_slice()))?
-        .arg(require.value_parser(ALGORITHMS.as_slice()))?
-        .arg(flag(alloc, "allow-other", other))?
-        .arg(field.value_parser(value_parser!(u32).range(1..)))?
         .arg(separator.default_value(":"))?
         .arg(flag(alloc, "json", json).conflicts_with("quiet")?)?
         .arg(flag(alloc, "quiet", "Write nothing; the status says all"))?

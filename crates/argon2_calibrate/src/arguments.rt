@@ -62,45 +62,47 @@ pub fn parsed(alloc: Global, words: &[String]) -> Result<Options, Error>
 
 // The program's arguments.
 fn command<'a>(alloc: Global) -> Result<Command<'a>, AllocError> {
-    let number = value_parser!(u32);
-    Command::new(alloc, PROGRAM)
+    let command = Command::new(alloc, PROGRAM)
         .version("0.6.0")
         .about("Finds the costs under which a hash takes a given time on this machine")
         .long_about(ABOUT)
         .after_help(NOTES)
         .no_binary_name(true)
-        .args_override_self(true)
-        .arg(
-            Arg::new(alloc, "min-t")
-                .long("min-t")
-                .value_name("N")
-                .value_parser(number.range(1..))
-                .help("The least passes [default: 2 below 64 MiB of memory, 1 from there on]"),
-        )?
-        .arg(
-            Arg::new(alloc, "lanes")
-                .long("lanes")
-                .value_name("N")
-                .value_parser(number.range(1..=16_777_215))
-                .default_value("1")
-                .help("Lanes, with at least 8 blocks of 1024 bytes each"),
-        )?
-        .arg(
-            Arg::new(alloc, "json")
-                .long("json")
-                .action(ArgAction::SetTrue)
-                .help("Write one JSON object: m, t, p, microseconds, busy"),
-        )?
-        .arg(
-            Arg::new(alloc, "SECONDS")
-                .required(true)
-                .value_parser(value_parser!(f64))
-                .help("How long a hash may take, from 0.001 to 3600"),
-        )?
-        .arg(
-            Arg::new(alloc, "MEBIBYTES")
-                .value_parser(number.range(1..=4_194_303))
-                .default_value("64")
-                .help("The most memory of a hash, in MiB"),
-        )
+        .args_override_self(true);
+    with_words(alloc, with_options(alloc, command)?)
+}
+
+// With the options.
+fn with_options<'a>(alloc: Global, command: Command<'a>) -> Result<Command<'a>, AllocError> {
+    let number = value_parser!(u32);
+    let passes = "The least passes [default: 2 below 64 MiB of memory, 1 from there on]";
+    let passes = option(alloc, "min-t", passes).value_parser(number.range(1..));
+    let lanes = "Lanes, with at least 8 blocks of 1024 bytes each";
+    let lanes = option(alloc, "lanes", lanes).value_parser(number.range(1..=16_777_215));
+    let json = Arg::new(alloc, "json")
+        .long("json")
+        .action(ArgAction::SetTrue)
+        .help("Write one JSON object: m, t, p, microseconds, busy");
+    command
+        .arg(passes)?
+        .arg(lanes.default_value("1"))?
+        .arg(json)
+}
+
+// With the words behind them.
+fn with_words<'a>(alloc: Global, command: Command<'a>) -> Result<Command<'a>, AllocError> {
+    let seconds = Arg::new(alloc, "SECONDS")
+        .required(true)
+        .value_parser(value_parser!(f64))
+        .help("How long a hash may take, from 0.001 to 3600");
+    let most = Arg::new(alloc, "MEBIBYTES")
+        .value_parser(value_parser!(u32).range(1..=4_194_303))
+        .default_value("64")
+        .help("The most memory of a hash, in MiB");
+    command.arg(seconds)?.arg(most)
+}
+
+// An option with a number.
+fn option<'a>(alloc: Global, name: &'a str, help: &'a str) -> Arg<'a> {
+    Arg::new(alloc, name).long(name).value_name("N").help(help)
 }

@@ -163,45 +163,53 @@ fn costs(text: &str) -> Option<Bound> {
 
 // The program's arguments.
 fn command<'a>(alloc: Global) -> Result<clap::Command<'a>, AllocError> {
-    clap::Command::new(alloc, PROGRAM)
+    let command = clap::Command::new(alloc, PROGRAM)
         .version("0.6.0")
         .about("Makes texts of passwords, checks passwords by them, and keeps accounts in a file")
         .long_about(ABOUT)
         .after_help(NOTES)
         .override_usage(USAGE)
         .no_binary_name(true)
-        .args_override_self(true)
-        .arg(
-            Arg::new(alloc, "params")
-                .long("params")
-                .value_name("COSTS")
-                .help("What new texts are made under [default: m=19456,t=2,p=1]"),
-        )?
-        .arg(
-            Arg::new(alloc, "bound")
-                .long("bound")
-                .value_name("COSTS")
-                .help(
-                    "The most that a text may ask for [default: m=2097152,t=64,p=64, or the parameters]",
-                ),
-        )?
-        .arg(
-            Arg::new(alloc, "secret-file")
-                .long("secret-file")
-                .value_name("PATH")
-                .help("The file's bytes, 1 to 4096 of them, are the secret of all texts"),
-        )?
-        .arg(
-            Arg::new(alloc, "any-text")
-                .long("any-text")
-                .action(ArgAction::SetTrue)
-                .help("`import` takes texts of other schemes too"),
-        )?
-        .arg(
-            Arg::new(alloc, "COMMAND")
-                .required(true)
-                .num_args(1..)
-                .action(ArgAction::Append)
-                .help("A command with its text, or its file and name"),
-        )
+        .args_override_self(true);
+    with_words(alloc, with_options(alloc, command)?)
+}
+
+// With the options that have values.
+fn with_options<'a>(
+    alloc: Global,
+    command: clap::Command<'a>,
+) -> Result<clap::Command<'a>, AllocError> {
+    let params = "What new texts are made under [default: m=19456,t=2,p=1]";
+    let bound =
+        "The most that a text may ask for [default: m=2097152,t=64,p=64, or the parameters]";
+    let secret = "The file's bytes, 1 to 4096 of them, are the secret of all texts";
+    command
+        .arg(option(alloc, "params", "COSTS", params))?
+        .arg(option(alloc, "bound", "COSTS", bound))?
+        .arg(option(alloc, "secret-file", "PATH", secret))
+}
+
+// With the command's words, and the option that belongs to one of them.
+fn with_words<'a>(
+    alloc: Global,
+    command: clap::Command<'a>,
+) -> Result<clap::Command<'a>, AllocError> {
+    let any_text = Arg::new(alloc, "any-text")
+        .long("any-text")
+        .action(ArgAction::SetTrue)
+        .help("`import` takes texts of other schemes too");
+    let words = Arg::new(alloc, "COMMAND")
+        .required(true)
+        .num_args(1..)
+        .action(ArgAction::Append)
+        .help("A command with its text, or its file and name");
+    command.arg(any_text)?.arg(words)
+}
+
+// An option with a value.
+fn option<'a>(alloc: Global, name: &'a str, value: &'a str, help: &'a str) -> Arg<'a> {
+    Arg::new(alloc, name)
+        .long(name)
+        .value_name(value)
+        .help(help)
 }
