@@ -1,13 +1,9 @@
--- What passwords make of a value: within a bound, accepted, and as the step of a store.
+-- What passwords make of a value: within a bound, accepted, and as the step of a name's text.
 use Rattle.std.proofs.Common.{◌≡◌, ◌≢◌, ℕ, ◌*◌, ◌≤◌, List, Option, Some, None, Result, Ok, Err, ◌⊎◌, inl, inr, refl, sym, ap, ◌∙◌, arith, mul_comm, mul_left_comm, div-mul-le_self, false, true, not}
 use Rattle.std.proofs.lemmas.Bool.{cases_Bool}
-use Rattle.std.proofs.lemmas.Map.{update_same, update_other}
 use Rattle.std.proofs.lemmas.Slice.Eq.{bytes_eq-Decides}
-use Rattle.std.specs.BTreeMap.{BTreeMap, get_by_text}
 use Rattle.std.specs.FinMap.{get}
-use Rattle.std.specs.Map.{update}
-use Rattle.std.specs.Option.{option_map}
-use Rattle.std.specs.Prelude.{String, IsErrAnd, IsSome, MatchResult, OnOk, ok_or}
+use Rattle.std.specs.Prelude.{IsErrAnd, IsSome, MatchResult, OnOk, ok_or}
 use Rattle.std.specs.Str.{bytes_eq}
 use Rattle.rand_core.specs.Stream.{Stream, fill_bytes}
 use Rattle.argon2_base.specs.Error.{Fault, bad_algorithm, bad_version}
@@ -23,17 +19,17 @@ use Rattle.argon2.specs.declared.bound.Bound.{Bound}
 use Rattle.argon2.specs.declared.login.answers.Accepted.{Accepted}
 use Rattle.argon2.specs.declared.login.answers.Accepted.TheVariants.{Current, Kept, Rehashed}
 use Rattle.argon2.specs.declared.version.Version.{Version}
-use Rattle.argon2_accounts.specs.Accounts.{Adds, Admits, AreTerms, ChangeRefusal, Denial, HasPassword, IsAbove, MakingRefusal, OnValue, RegisteringRefusal, Registers, Sets, Terms, stream_after_making}
-use Rattle.argon2.specs.NamedTexts.{IsCurrent, IsText, KeepsOthers, Leaves, Store, values_of}
+use Rattle.argon2_accounts.specs.Accounts.{Adds, Admits, AreTerms, ByValue, ChangeRefusal, Denial, HasPassword, IsAbove, MakingRefusal, OnText, RegisteringRefusal, Registers, Sets, Terms, Texts, stream_after_making, text_of}
+use Rattle.argon2.specs.NamedTexts.{IsCurrent, IsText, Leaves}
 use Rattle.argon2.specs.Bound.{AsksWithin, IsWithin}
 use Rattle.argon2.specs.Made.{IsFresh}
 use Rattle.argon2.specs.Rfc9106.{segment_length_for}
 use Rattle.argon2.specs.Settings.{Parameters, Settings}
 use Rattle.argon2.specs.Stored.{Stored, read, shown_settings, stored_of}
-use Rattle.argon2.proofs.login_lemmas.Stores.{get-found, get-values_of}
 use Rattle.argon2.proofs.password_hash_lemmas.Answered.{stored_shows}
 use Rattle.argon2.proofs.password_hash_lemmas.MadeValues.{made_accepts, made_shows}
 use Rattle.argon2.proofs.password_hash_lemmas.Verified.{exact}
+use Rattle.argon2_accounts.proofs.TextLemmas.{is_text_of}
 
 -- ---- the bound
 
@@ -128,101 +124,89 @@ pub changes : (terms : Terms) (old password drawn : List ℕ) (v : Phc) (r : Res
 changes terms old password drawn v (Ok h) admits fresh = (admits, fresh)
 changes terms old password drawn v (Err e) admits why = inr (admits, why)
 
--- ---- a name's value
+-- ---- a name's text
 
-pub on_value : {X : Type 0} (changes : Phc → Result X AccountError → Phc → Type 0) (o p : Option Phc) (v w : Phc)
-    (answer : Result X AccountError) → o ≡ Some v → p ≡ Some w → changes v answer w → OnValue changes o answer p
-on_value changes o p v w answer had has step = rw (had, has) step
+pub on_text : {X : Type 0} (changes : List ℕ → Result X AccountError → List ℕ → Type 0) (o p : Option (List ℕ))
+    (text left : List ℕ) (answer : Result X AccountError) → o ≡ Some text → p ≡ Some left → changes text answer left
+    → OnText changes o answer p
+on_text changes o p text left answer had has step = rw (had, has) step
 
-pub on_none : {X : Type 0} (changes : Phc → Result X AccountError → Phc → Type 0) (o p : Option Phc)
-    → o ≡ None → p ≡ o → OnValue changes o (Err NameUnknown) p
+-- texts of hashes are in the grammar
+pub on_value : {X : Type 0} (changes : Phc → Result X AccountError → Phc → Type 0) (o p : Option (List ℕ))
+    (old new : PasswordHash) (answer : Result X AccountError) → o ≡ Some (text_of old) → p ≡ Some (text_of new)
+    → changes (phc_of old) answer (phc_of new) → OnText (ByValue changes) o answer p
+on_value changes o p old new answer had has step = on_text (ByValue changes) o p (text_of old) (text_of new) answer had has
+    (inl (phc_of old, phc_of new, is_text_of old, is_text_of new, step))
+
+pub on_none : {X : Type 0} (changes : List ℕ → Result X AccountError → List ℕ → Type 0) (o p : Option (List ℕ))
+    → o ≡ None → p ≡ o → OnText changes o (Err NameUnknown) p
 on_none changes o p had has = rw (has, had) (refl, refl)
 
-unequal : (name other : List ℕ) → other ≢ name → bytes_eq name other ≡ false
-unequal name other differs = elim (cases_Bool (bytes_eq name other)) [
-  | inl hit ↦ absurd (differs (sym ((bytes_eq-Decides name other).0 hit)))
-  | inr miss ↦ miss
-]
-
--- trees that differ at one name
-pub name_changes : {Y : Type 0} (m n : BTreeMap (String Y) PasswordHash) (name : List ℕ) (o : Option PasswordHash)
-    → ((q : List ℕ) → get_by_text n q ≡ update bytes_eq (get_by_text m) name o q)
-    → (get (values_of n) name ≡ option_map phc_of o) × KeepsOthers name (values_of m) (values_of n)
-name_changes m n name o updates = (
-  get-found n name o
-      (updates name ∙ update_same bytes_eq (get_by_text m) name o name ((bytes_eq-Decides name name).1 refl)),
-  λ other differs. get-found n other (get_by_text m other)
-      (updates other ∙ update_other bytes_eq (get_by_text m) name o other (unequal name other differs))
-      ∙ sym (get-values_of m other),
-)
-
--- ---- a text that is to be replaced
-
-pub is_text : (text old : List ℕ) (v : Phc) → PhcText text v → false ≡ not (bytes_eq text old) → PhcText old v
-is_text text old v says same = elim (cases_Bool (bytes_eq text old)) [
-  | inl hit ↦ (says.0, sym ((bytes_eq-Decides text old).0 hit) ∙ says.1)
+pub is_text : (text old : List ℕ) → false ≡ not (bytes_eq text old) → text ≡ old
+is_text text old same = elim (cases_Bool (bytes_eq text old)) [
+  | inl hit ↦ (bytes_eq-Decides text old).0 hit
   | inr miss ↦ absurd (let never = rw miss at same in cc)
 ]
 
-pub is_other_text : (text old : List ℕ) (v : Phc) → PhcText text v → true ≡ not (bytes_eq text old) → ¬ (PhcText old v)
-is_other_text text old v says differs is =
-    let hit = (bytes_eq-Decides text old).1 (says.1 ∙ sym is.1) in
+pub is_other_text : (text old : List ℕ) → true ≡ not (bytes_eq text old) → text ≢ old
+is_other_text text old differs is =
+    let hit = (bytes_eq-Decides text old).1 is in
     let never = rw hit at differs in cc
 
 -- ---- names that are added and registered
 
-pub not_added : (text : List ℕ) (before : Option Phc) (e : Error) (r : Result (Unit {0}) AccountError)
+pub not_added : (text : List ℕ) (before : Option (List ℕ)) (e : Error) (r : Result (Unit {0}) AccountError)
     → IsErrAnd r (λ f. f ≡ Refused e) → e ≡ EncodingInvalid → ¬ (IsText text) → Adds text before r before
 not_added text before e (Ok x) is why never = absurd is
 not_added text before e (Err f) is why never = rw (is, why) (inl (refl, never), refl)
 
--- what putting a new name's value in answers
-abbrev pub Inserts : Store → Store → List ℕ → Phc → Result (Unit {0}) AccountError → Type 0
-Inserts before after name v r = MatchResult r (λ _. get after name ≡ Some v)
+-- what putting a new name's text in answers
+abbrev pub Inserts : Texts → Texts → List ℕ → List ℕ → Result (Unit {0}) AccountError → Type 0
+Inserts before after name text r = MatchResult r (λ _. get after name ≡ Some text)
     (λ e. (e ≡ Refused OutOfMemory) × (after ≡ before))
 
-pub adds : (before after : Store) (name text : List ℕ) (v : Phc) (r : Result (Unit {0}) AccountError)
-    → PhcText text v → get before name ≡ None → Inserts before after name v r
+pub adds : (before after : Texts) (name text : List ℕ) (h : PasswordHash) (r : Result (Unit {0}) AccountError)
+    → PhcText text (phc_of h) → get before name ≡ None → Inserts before after name (text_of h) r
     → Adds text (get before name) r (get after name)
-adds before after name text v (Ok x) has none is = (none, rw is has)
-adds before after name text v (Err e) has none is =
-    (rw is.0 (inr (refl, (v, has), none)), ap (λ m. get m name) is.1)
+adds before after name text h (Ok x) says none is = (none, (phc_of h, says), is ∙ ap Some (sym says.1))
+adds before after name text h (Err e) says none is =
+    (rw is.0 (inr (refl, (phc_of h, says), none)), ap (λ m. get m name) is.1)
 
-pub taken : (password : List ℕ) (o : Option Phc) → IsSome o → RegisteringRefusal password o NameTaken
-taken password (Some v) has = tt
+pub taken : (password : List ℕ) (o : Option (List ℕ)) → IsSome o → RegisteringRefusal password o NameTaken
+taken password (Some text) has = tt
 taken password None has = absurd cc
 
 module _ (terms : Terms) (password drawn : List ℕ) where
-  pub not_registered : (o : Option Phc) (e : AccountError) (r : Result (Unit {0}) AccountError)
+  pub not_registered : (o : Option (List ℕ)) (e : AccountError) (r : Result (Unit {0}) AccountError)
       → IsErrAnd r (λ f. f ≡ e) → MakingRefusal password e → o ≡ None → Registers terms password drawn o r o
   not_registered o e (Ok x) is why none = absurd is
   not_registered o e (Err f) is why none = rw (is, none) (why, refl)
 
-  pub registers : (before after : Store) (name : List ℕ) (v : Phc) (r : Result (Unit {0}) AccountError)
-      → IsFresh terms.target password drawn v → get before name ≡ None → Inserts before after name v r
-      → Registers terms password drawn (get before name) r (get after name)
-  registers before after name v (Ok x) fresh none is = (none, rw is fresh)
-  registers before after name v (Err e) fresh none is =
+  pub registers : (before after : Texts) (name : List ℕ) (h : PasswordHash) (r : Result (Unit {0}) AccountError)
+      → IsFresh terms.target password drawn (phc_of h) → get before name ≡ None
+      → Inserts before after name (text_of h) r → Registers terms password drawn (get before name) r (get after name)
+  registers before after name h (Ok x) fresh none is = (none, rw is (phc_of h, is_text_of h, fresh))
+  registers before after name h (Err e) fresh none is =
       (rw (none, is.0) (inl refl), ap (λ m. get m name) is.1)
 
-  pub not_set : (o : Option Phc) (e : AccountError) (r : Result (Unit {0}) AccountError) → IsSome o
-      → IsErrAnd r (λ f. f ≡ e) → MakingRefusal password e → OnValue (Sets terms password drawn) o r o
+  pub not_set : (o : Option (List ℕ)) (e : AccountError) (r : Result (Unit {0}) AccountError) → IsSome o
+      → IsErrAnd r (λ f. f ≡ e) → MakingRefusal password e → OnText (Sets terms password drawn) o r o
   not_set None e r has is why = absurd cc
-  not_set (Some v) e (Ok x) has is why = absurd is
-  not_set (Some v) e (Err f) has is why = rw is (why, refl)
+  not_set (Some text) e (Ok x) has is why = absurd is
+  not_set (Some text) e (Err f) has is why = rw is (why, refl)
 
-  pub sets : (o p : Option Phc) (w : Phc) → IsSome o → p ≡ Some w → IsFresh terms.target password drawn w
-      → OnValue (Sets terms password drawn) o (Ok tt) p
-  sets None p w had has fresh = absurd cc
-  sets (Some v) p w had has fresh = rw has fresh
+  pub sets : (o p : Option (List ℕ)) (h : PasswordHash) → IsSome o → p ≡ Some (text_of h)
+      → IsFresh terms.target password drawn (phc_of h) → OnText (Sets terms password drawn) o (Ok tt) p
+  sets None p h had has fresh = absurd cc
+  sets (Some text) p h had has fresh = rw has (phc_of h, is_text_of h, fresh)
 
-pub inserted_has : (terms : Terms) (before after : Store) (name password : List ℕ) (v : Phc)
-    (r : Result (Unit {0}) AccountError) → Admits terms password v → Inserts before after name v r
+pub inserted_has : (terms : Terms) (before after : Texts) (name password : List ℕ) (h : PasswordHash)
+    (r : Result (Unit {0}) AccountError) → Admits terms password (phc_of h) → Inserts before after name (text_of h) r
     → OnOk r (HasPassword terms after name password)
-inserted_has terms before after name password v (Ok x) admits is = rw is admits
-inserted_has terms before after name password v (Err e) admits is = tt
+inserted_has terms before after name password h (Ok x) admits is = rw is (phc_of h, is_text_of h, admits)
+inserted_has terms before after name password h (Err e) admits is = tt
 
-pub inserted_drawn : (before after : Store) (name : List ℕ) (v : Phc) (r : Result (Unit {0}) AccountError)
-    (stream : Stream) → Inserts before after name v r → stream_after_making r stream ≡ (fill_bytes 16 stream).1
-inserted_drawn before after name v (Ok x) stream is = refl
-inserted_drawn before after name v (Err e) stream is = rw is.0 refl
+pub inserted_drawn : (before after : Texts) (name text : List ℕ) (r : Result (Unit {0}) AccountError)
+    (stream : Stream) → Inserts before after name text r → stream_after_making r stream ≡ (fill_bytes 16 stream).1
+inserted_drawn before after name text (Ok x) stream is = refl
+inserted_drawn before after name text (Err e) stream is = rw is.0 refl

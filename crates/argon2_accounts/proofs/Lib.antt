@@ -1,1 +1,3 @@
 pub mod AccountLemmas
+pub mod TextLemmas
+pub mod TreeLemmas

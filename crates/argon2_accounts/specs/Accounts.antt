@@ -1,12 +1,17 @@
--- Accounts: what callers see of a policy and of accounts, what each call does to its name's value, and what is true after
+-- Accounts: what callers see of a policy and of accounts, what each call does to its name's text, and what is true after
 -- every list of calls.
-use Rattle.std.specs.Prelude.{◌≡◌, ◌⊎◌, ℕ, ◌≤◌, ◌<◌, List, [], ◌∷◌, if◌then◌else◌, Option, Some, None, IsSome, IsSomeAnd, IsOk, IsErrAnd, Result, Ok, Err, codes}
-use Rattle.std.specs.FinMap.{empty, get}
+use Rattle.std.specs.Prelude.{◌≡◌, ◌≢◌, ◌⊎◌, ℕ, ◌≤◌, ◌<◌, List, [], ◌∷◌, map, if◌then◌else◌, String, string_bytes, Option, Some, None, IsSome, IsSomeAnd, IsOk, IsErrAnd, Result, Ok, Err, codes}
+use Rattle.std.specs.BTreeMap.{BTreeMap}
+use Rattle.std.specs.Cmp.Lexicographic.{slice_cmp}
+use Rattle.std.specs.FinMap.{FinMap, empty, from_entries, get}
+use Rattle.std.specs.Ordering.{nat_cmp}
 use Rattle.std.specs.Str.{bytes_eq}
 use Rattle.rand_core.specs.Stream.{Stream, fill_bytes}
 use Rattle.argon2_base.specs.Error.{hash_error_text}
-use Rattle.argon2_base.specs.PhcText.{Phc, PhcText}
+use Rattle.argon2_base.specs.PhcFields.{phc_of}
+use Rattle.argon2_base.specs.PhcText.{Phc, PhcText, phc_text}
 use Rattle.argon2_base.specs.declared.error.password_hash.Error.TheVariants.{EncodingInvalid, OutOfMemory, OutputSize}
+use Rattle.argon2_base.specs.declared.phc.hash.PasswordHash.{PasswordHash}
 use Rattle.argon2_accounts.specs.declared.accounts.Accounts.{Accounts}
 use Rattle.argon2_accounts.specs.declared.error.AccountError.{AccountError}
 use Rattle.argon2_accounts.specs.declared.error.AccountError.TheVariants.{NameTaken, NameUnknown, Refused, TextChanged, TooExpensive}
@@ -16,7 +21,7 @@ use Rattle.argon2.specs.declared.bound.BoundError.TheVariants.{TooExpensive as A
 use Rattle.argon2.specs.declared.login.answers.Accepted.{Accepted}
 use Rattle.argon2.specs.Bound.{AsksWithin, HashRefusal, IsWithin}
 use Rattle.argon2.specs.Login.{target_value}
-use Rattle.argon2.specs.NamedTexts.{IsText, KeepsOthers, Leaves, Store, newest, values_of}
+use Rattle.argon2.specs.NamedTexts.{IsText, Leaves, newest}
 use Rattle.argon2.specs.Made.{HashingRefusal, IsFresh, IsTarget, Target, tag_length}
 use Rattle.argon2.specs.Stored.{AcceptsBy, IsVerifyAnswer, stored_of}
 
@@ -37,9 +42,29 @@ terms_of policy = record { target = target_value policy.target; bound = policy.b
 abbrev pub kept_terms : Accounts → Terms
 kept_terms accounts = terms_of accounts.policy
 
+-- texts by the bytes of their names
+abbrev pub Texts : Type 0
+Texts = FinMap (slice_cmp nat_cmp) (List ℕ)
+
+-- the text of a hash
+abbrev pub text_of : PasswordHash → List ℕ
+text_of hash = phc_text (phc_of hash)
+
+-- names with their texts, in a list
+abbrev pub named_texts : {Y : Type 0} → List (String Y × PasswordHash) → List (List ℕ × List ℕ)
+named_texts items = map (λ e. (string_bytes e.0, text_of e.1)) items
+
+-- those of a tree
+abbrev pub texts_of : {Y : Type 0} → BTreeMap (String Y) PasswordHash → Texts
+texts_of tree = from_entries (named_texts tree.entries)
+
 -- the texts that accounts have
-abbrev pub store_of : Accounts → Store
-store_of accounts = values_of accounts.texts
+abbrev pub kept_texts : Accounts → Texts
+kept_texts accounts = texts_of accounts.texts
+
+-- the texts of all other names stay
+abbrev pub KeepsOthers : List ℕ → Texts → Texts → Type 0
+KeepsOthers name before after = (other : List ℕ) → other ≢ name → get after other ≡ get before other
 
 -- why there is no policy of a target and a bound
 abbrev pub PolicyRefusal : Terms → AccountError → Type 0
@@ -55,7 +80,7 @@ IsNewPolicy terms (Err e) = PolicyRefusal terms e
 
 -- accounts of these terms without names, or the refusal
 abbrev pub AreNew : Terms → Result Accounts AccountError → Type 0
-AreNew terms (Ok accounts) = AreTerms terms × (kept_terms accounts ≡ terms) × (store_of accounts ≡ empty)
+AreNew terms (Ok accounts) = AreTerms terms × (kept_terms accounts ≡ terms) × (kept_texts accounts ≡ empty)
 AreNew terms (Err e) = PolicyRefusal terms e
 
 -- ---- one value
@@ -86,21 +111,53 @@ LogsIn terms password drawn v (Ok did) w =
     Admits terms password v × Leaves terms.target password drawn v did w
 LogsIn terms password drawn v (Err e) w = Denial terms password v e × (w ≡ v)
 
--- what setting a password answers, and what it makes of the value
-abbrev pub Sets : Terms → List ℕ → List ℕ → Phc → Result (Unit {0}) AccountError → Phc → Type 0
-Sets terms password drawn v (Ok _) w = IsFresh terms.target password drawn w
-Sets terms password drawn v (Err e) w = MakingRefusal password e × (w ≡ v)
-
 -- why a password is not changed: the old one is verified first
 abbrev pub ChangeRefusal : Terms → List ℕ → List ℕ → Phc → AccountError → Type 0
 ChangeRefusal terms old password v e = Denial terms old v e ⊎ (Admits terms old v × MakingRefusal password e)
 
 -- what changing a password answers, and what it makes of the value
 abbrev pub Changes : Terms → List ℕ → List ℕ → List ℕ → Phc → Result (Unit {0}) AccountError → Phc → Type 0
-Changes terms old password drawn v (Ok x) w = Admits terms old v × Sets terms password drawn v (Ok x) w
+Changes terms old password drawn v (Ok _) w = Admits terms old v × IsFresh terms.target password drawn w
 Changes terms old password drawn v (Err e) w = ChangeRefusal terms old password v e × (w ≡ v)
 
--- ---- a call, its answer, and the value of its name
+-- ---- one text
+
+-- the text is in the grammar, and says such a value
+abbrev pub Says : (Phc → Type 0) → List ℕ → Type 0
+Says P text = (v : Phc) × PhcText text v × P v
+
+-- the text accepts the password within the bound
+abbrev pub Accepts : Terms → List ℕ → List ℕ → Type 0
+Accepts terms password = Says (Admits terms password)
+
+-- the text is one that is made of the password
+abbrev pub IsMadeOf : Terms → List ℕ → List ℕ → List ℕ → Type 0
+IsMadeOf terms password drawn = Says (IsFresh terms.target password drawn)
+
+-- a call on what a text says, by what it does to that; a text outside the grammar is refused
+abbrev pub ByValue : {X : Type 0} → (Phc → Result X AccountError → Phc → Type 0)
+    → List ℕ → Result X AccountError → List ℕ → Type 0
+ByValue changes text answer left =
+    ((v w : Phc) × PhcText text v × PhcText left w × changes v answer w)
+    ⊎ (¬ (IsText text) × (answer ≡ Err (Refused EncodingInvalid)) × (left ≡ text))
+
+-- what setting a password answers, and what it makes of a text, whatever that is
+abbrev pub Sets : Terms → List ℕ → List ℕ → List ℕ → Result (Unit {0}) AccountError → List ℕ → Type 0
+Sets terms password drawn text (Ok _) left = IsMadeOf terms password drawn left
+Sets terms password drawn text (Err e) left = MakingRefusal password e × (left ≡ text)
+
+-- why a text is not replaced
+abbrev pub ReplacingRefusal : List ℕ → List ℕ → List ℕ → AccountError → Type 0
+ReplacingRefusal old new text TextChanged = text ≢ old
+ReplacingRefusal old new text (Refused e) = (text ≡ old) × (e ≡ EncodingInvalid) × ¬ (IsText new)
+ReplacingRefusal old new text _ = ⊥
+
+-- what replacing a text answers, and what it makes of it
+abbrev pub Replaces : List ℕ → List ℕ → List ℕ → Result (Unit {0}) AccountError → List ℕ → Type 0
+Replaces old new text (Ok _) left = (text ≡ old) × IsText new × (left ≡ new)
+Replaces old new text (Err e) left = ReplacingRefusal old new text e × (left ≡ text)
+
+-- ---- a call, its answer, and the text of its name
 
 -- A call that may draw is recorded with the 16 bytes that the generator would give.
 pub data AccountEvent : Type 0 where
@@ -123,89 +180,78 @@ name_of (replacing name old new answer) = name
 name_of (removing name answer) = name
 
 -- why a text is not added
-abbrev pub AddingRefusal : List ℕ → Option Phc → AccountError → Type 0
+abbrev pub AddingRefusal : List ℕ → Option (List ℕ) → AccountError → Type 0
 AddingRefusal text before NameTaken = IsText text × IsSome before
 AddingRefusal text before (Refused e) = ((e ≡ EncodingInvalid) × ¬ (IsText text))
     ⊎ ((e ≡ OutOfMemory) × IsText text × (before ≡ None))
 AddingRefusal text before _ = ⊥
 
--- what adding a text answers, and the name's value after it
-abbrev pub Adds : List ℕ → Option Phc → Result (Unit {0}) AccountError → Option Phc → Type 0
-Adds text before (Ok _) after = (before ≡ None) × IsSomeAnd after (PhcText text)
+-- what adding a text answers, and what the name has after it
+abbrev pub Adds : List ℕ → Option (List ℕ) → Result (Unit {0}) AccountError → Option (List ℕ) → Type 0
+Adds text before (Ok _) after = (before ≡ None) × IsText text × (after ≡ Some text)
 Adds text before (Err e) after = AddingRefusal text before e × (after ≡ before)
 
 -- why a name is not registered
-abbrev pub RegisteringRefusal : List ℕ → Option Phc → AccountError → Type 0
-RegisteringRefusal password (Some v) NameTaken = Unit {0}
+abbrev pub RegisteringRefusal : List ℕ → Option (List ℕ) → AccountError → Type 0
+RegisteringRefusal password (Some text) NameTaken = Unit {0}
 RegisteringRefusal password None e = MakingRefusal password e
 RegisteringRefusal password _ _ = ⊥
 
--- what registering answers, and the name's value after it
-abbrev pub Registers :
-    Terms → List ℕ → List ℕ → Option Phc → Result (Unit {0}) AccountError → Option Phc → Type 0
+-- what registering answers, and what the name has after it
+abbrev pub Registers : Terms → List ℕ → List ℕ
+    → Option (List ℕ) → Result (Unit {0}) AccountError → Option (List ℕ) → Type 0
 Registers terms password drawn before (Ok _) after =
-    (before ≡ None) × IsSomeAnd after (IsFresh terms.target password drawn)
+    (before ≡ None) × IsSomeAnd after (IsMadeOf terms password drawn)
 Registers terms password drawn before (Err e) after =
     RegisteringRefusal password before e × (after ≡ before)
 
--- what a call on a name's value answers, and the value after it: without one it is refused
-abbrev pub OnValue : {X : Type 0} → (Phc → Result X AccountError → Phc → Type 0)
-    → Option Phc → Result X AccountError → Option Phc → Type 0
-OnValue changes (Some v) answer after = IsSomeAnd after (changes v answer)
-OnValue changes None answer after = (answer ≡ Err NameUnknown) × (after ≡ None)
+-- what a call on a name's text answers, and what the name has after it: without a text it is refused
+abbrev pub OnText : {X : Type 0} → (List ℕ → Result X AccountError → List ℕ → Type 0)
+    → Option (List ℕ) → Result X AccountError → Option (List ℕ) → Type 0
+OnText changes (Some text) answer after = IsSomeAnd after (changes text answer)
+OnText changes None answer after = (answer ≡ Err NameUnknown) × (after ≡ None)
 
--- why a name's text is not replaced
-abbrev pub ReplacingRefusal : List ℕ → List ℕ → Phc → AccountError → Type 0
-ReplacingRefusal old new v TextChanged = ¬ (PhcText old v)
-ReplacingRefusal old new v (Refused e) = PhcText old v × (e ≡ EncodingInvalid) × ¬ (IsText new)
-ReplacingRefusal old new v _ = ⊥
-
--- what replacing a text answers, and what it makes of the value
-abbrev pub Replaces : List ℕ → List ℕ → Phc → Result (Unit {0}) AccountError → Phc → Type 0
-Replaces old new v (Ok _) w = PhcText old v × PhcText new w
-Replaces old new v (Err e) w = ReplacingRefusal old new v e × (w ≡ v)
-
--- what removing answers, and the name's value after it
-abbrev pub Removes : Option Phc → Result (Unit {0}) AccountError → Option Phc → Type 0
+-- what removing answers, and what the name has after it
+abbrev pub Removes : Option (List ℕ) → Result (Unit {0}) AccountError → Option (List ℕ) → Type 0
 Removes before (Ok _) after = IsSome before × (after ≡ None)
 Removes before (Err e) after = (e ≡ NameUnknown) × (before ≡ None) × (after ≡ None)
 
--- what a call answers if its name has this value or none, and what the name has after it
-abbrev pub AccountAnswer : Terms → AccountEvent → Option Phc → Option Phc → Type 0
+-- what a call answers if its name has this text or none, and what the name has after it
+abbrev pub AccountAnswer : Terms → AccountEvent → Option (List ℕ) → Option (List ℕ) → Type 0
 AccountAnswer terms (adding name text answer) before after = Adds text before answer after
 AccountAnswer terms (registering name password drawn answer) before after =
     Registers terms password drawn before answer after
 AccountAnswer terms (logging_in name password drawn answer) before after =
-    OnValue (LogsIn terms password drawn) before answer after
+    OnText (ByValue (LogsIn terms password drawn)) before answer after
 AccountAnswer terms (changing name old password drawn answer) before after =
-    OnValue (Changes terms old password drawn) before answer after
+    OnText (ByValue (Changes terms old password drawn)) before answer after
 AccountAnswer terms (setting name password drawn answer) before after =
-    OnValue (Sets terms password drawn) before answer after
+    OnText (Sets terms password drawn) before answer after
 AccountAnswer terms (replacing name old new answer) before after =
-    OnValue (Replaces old new) before answer after
+    OnText (Replaces old new) before answer after
 AccountAnswer terms (removing name answer) before after = Removes before answer after
 
--- what a call answers, and the store after it: all other names keep their values
-abbrev pub AccountStep : Terms → Store → AccountEvent → Store → Type 0
+-- what a call answers, and the texts after it: all other names keep theirs
+abbrev pub AccountStep : Terms → Texts → AccountEvent → Texts → Type 0
 AccountStep terms before event after =
     AccountAnswer terms event (get before (name_of event)) (get after (name_of event))
     × KeepsOthers (name_of event) before after
 
 -- a call takes accounts from one state to another
 abbrev pub Steps : AccountEvent → Accounts → Accounts → Type 0
-Steps event old new = AccountStep (kept_terms old) (store_of old) event (store_of new)
+Steps event old new = AccountStep (kept_terms old) (kept_texts old) event (kept_texts new)
 
 -- the name has a text that asks for no more than the bound, and accepts the password
-abbrev pub HasPassword : Terms → Store → List ℕ → List ℕ → Type 0
-HasPassword terms store name password = IsSomeAnd (get store name) (Admits terms password)
+abbrev pub HasPassword : Terms → Texts → List ℕ → List ℕ → Type 0
+HasPassword terms texts name password = IsSomeAnd (get texts name) (Accepts terms password)
 
 -- ---- lists of calls, the newest first
 
--- the calls take the store from the first one to the last
-abbrev pub AccountRun : Terms → Store → List AccountEvent → Store → Type 0
+-- the calls take the texts from the first to the last
+abbrev pub AccountRun : Terms → Texts → List AccountEvent → Texts → Type 0
 AccountRun terms first [] last = last ≡ first
 AccountRun terms first (event ∷ older) last =
-    (before : Store) × AccountRun terms first older before × AccountStep terms before event last
+    (before : Texts) × AccountRun terms first older before × AccountStep terms before event last
 
 pub data Given : Type 0 where
   a_text : List ℕ → Given  -- a text that was added, or put in another's place
@@ -228,9 +274,9 @@ abbrev pub given : List ℕ → AccountEvent → Option Given
 given name event = if bytes_eq name (name_of event) then gives event else None
 
 -- the name has what it was given
-abbrev pub HasGiven : Terms → Option Given → Option Phc → Type 0
-HasGiven terms (Some (a_text text)) (Some v) = PhcText text v
-HasGiven terms (Some (a_password password)) (Some v) = Admits terms password v
+abbrev pub HasGiven : Terms → Option Given → Option (List ℕ) → Type 0
+HasGiven terms (Some (a_text given)) (Some text) = text ≡ given
+HasGiven terms (Some (a_password password)) (Some text) = Accepts terms password text
 HasGiven terms (Some nothing) None = Unit {0}
 HasGiven terms None None = Unit {0}
 HasGiven terms _ _ = ⊥
@@ -238,8 +284,8 @@ HasGiven terms _ _ = ⊥
 -- Each name has what the last of its accepted calls gave it, and no text if there was none.
 abbrev pub TextsAreGiven : Type 0
 TextsAreGiven = (terms : Terms) → AreTerms terms →
-    (events : List AccountEvent) (store : Store) → AccountRun terms empty events store →
-    (name : List ℕ) → HasGiven terms (newest (given name) events) (get store name)
+    (events : List AccountEvent) (texts : Texts) → AccountRun terms empty events texts →
+    (name : List ℕ) → HasGiven terms (newest (given name) events) (get texts name)
 
 -- ---- what the generator has left
 
@@ -249,15 +295,20 @@ stream_after_making (Err NameTaken) stream = stream
 stream_after_making (Err NameUnknown) stream = stream
 stream_after_making _ stream = (fill_bytes 16 stream).1
 
--- after a change of this value or none: 16 bytes are drawn once the old password is accepted, and nothing if it is denied
-abbrev pub DrawsOnce : {X : Type 0}
-    → Terms → List ℕ → Option Phc → Result X AccountError → Stream → Stream → Type 0
-DrawsOnce terms password None answer old new = new ≡ old
-DrawsOnce terms password (Some v) answer old new =
+-- after a change of this value: 16 bytes are drawn once the old password is accepted, and nothing if it is denied
+abbrev pub DrawsByValue : {X : Type 0} → Terms → List ℕ → Phc → Result X AccountError → Stream → Stream → Type 0
+DrawsByValue terms password v answer old new =
     (Admits terms password v × (new ≡ (fill_bytes 16 old).1))
     ⊎ (IsErrAnd answer (Denial terms password v) × (new ≡ old))
 
--- ---- texts
+-- after a change of this text or none: the same, and nothing for a text outside the grammar
+abbrev pub DrawsOnce : {X : Type 0}
+    → Terms → List ℕ → Option (List ℕ) → Result X AccountError → Stream → Stream → Type 0
+DrawsOnce terms password None answer old new = new ≡ old
+DrawsOnce terms password (Some text) answer old new =
+    Says (λ v. DrawsByValue terms password v answer old new) text ⊎ (¬ (IsText text) × (new ≡ old))
+
+-- ---- errors
 
 -- what a refusal prints
 abbrev pub account_error_text : AccountError → List ℕ

@@ -2,16 +2,14 @@
 //! and set anew.
 
 ghost use Rattle.std.specs.Prelude.{◌≡◌, ◌≢◌, ◌⊎◌, ◌↔◌, Err, Some, IsSome, IfOk, IsTrue, OnOk, MatchResult, length};
-ghost use Rattle.std.specs.FinMap.{empty, entries, get};
+ghost use Rattle.std.specs.FinMap.{entries, from_entries, get};
 ghost use Rattle.std.specs.Option.{IsSomeAnd, option_copied, option_map};
 ghost use Rattle.rand_core.specs.Stream.{fill_bytes};
-ghost use Rattle.argon2_base.specs.PhcFields.{phc_of};
-ghost use Rattle.argon2_base.specs.PhcText.{Phc};
 ghost use Rattle.argon2_base.specs.declared.error.password_hash.Error.TheVariants.{OutOfMemory};
 ghost use Rattle.argon2_accounts.specs.declared.error.AccountError.TheVariants.{Refused, TooExpensive};
 ghost use Rattle.argon2.specs.declared.login.answers.Accepted.TheVariants.{Kept};
-ghost use Rattle.argon2_accounts.specs.Accounts.{AreNew, DrawsOnce, HasPassword, IsAbove, Steps, adding, changing, kept_terms, logging_in, registering, removing, replacing, setting, store_of, stream_after_making};
-ghost use Rattle.argon2.specs.NamedTexts.{IsCurrent, KeepsOthers, added, named_values, stream_after};
+ghost use Rattle.argon2_accounts.specs.Accounts.{AreNew, DrawsOnce, HasPassword, IsAbove, KeepsOthers, Says, Steps, adding, changing, kept_terms, logging_in, registering, removing, replacing, setting, kept_texts, named_texts, stream_after_making, text_of};
+ghost use Rattle.argon2.specs.NamedTexts.{IsCurrent, stream_after};
 ghost use Rattle.argon2.specs.Made.{target_of};
 
 use crate::error::AccountError;
@@ -87,7 +85,7 @@ impl<'key> Accounts<'key> {
         ensures step { Steps (registering name.now password.now
             (fill_bytes 16 (R.stream rng.old)).0 result) self.old self.new }
         ensures accepted { OnOk result
-            (HasPassword (kept_terms self.new) (store_of self.new) name.now password.now) }
+            (HasPassword (kept_terms self.new) (kept_texts self.new) name.now password.now) }
         ensures drawn { R.stream rng.new ≡ stream_after_making result (R.stream rng.old) }
         ensures terms { kept_terms self.new ≡ kept_terms self.old }
     {
@@ -114,13 +112,14 @@ impl<'key> Accounts<'key> {
         ensures step { Steps (logging_in name.now password.now
             (fill_bytes 16 (R.stream rng.old)).0 result) self.old self.new }
         ensures accepted { MatchResult result
-            (λ _. HasPassword (kept_terms self.new) (store_of self.new) name.now password.now)
+            (λ _. HasPassword (kept_terms self.new) (kept_texts self.new) name.now password.now)
             (λ e. (e ≡ Refused OutOfMemory)
-            ⊎ ¬ (HasPassword (kept_terms self.old) (store_of self.old) name.now password.now)) }
+            ⊎ ¬ (HasPassword (kept_terms self.old) (kept_texts self.old) name.now password.now)) }
         ensures current { IfOk result (λ accepted. accepted ≢ Kept →
-            IsSomeAnd (get (store_of self.new) name.now) (IsCurrent (kept_terms self.new).target)) }
-        ensures expensive { IsSomeAnd (get (store_of self.old) name.now)
-            (IsAbove (kept_terms self.old).bound) → result ≡ Err TooExpensive }
+            IsSomeAnd (get (kept_texts self.new) name.now)
+            (Says (IsCurrent (kept_terms self.new).target))) }
+        ensures expensive { IsSomeAnd (get (kept_texts self.old) name.now)
+            (Says (IsAbove (kept_terms self.old).bound)) → result ≡ Err TooExpensive }
         ensures drawn { R.stream rng.new ≡ stream_after result (R.stream rng.old) }
         ensures terms { kept_terms self.new ≡ kept_terms self.old }
     {
@@ -155,9 +154,9 @@ impl<'key> Accounts<'key> {
         ensures step { Steps (changing name.now old.now new.now
             (fill_bytes 16 (R.stream rng.old)).0 result) self.old self.new }
         ensures accepted { OnOk result
-            (HasPassword (kept_terms self.new) (store_of self.new) name.now new.now) }
+            (HasPassword (kept_terms self.new) (kept_texts self.new) name.now new.now) }
         ensures drawn { DrawsOnce (kept_terms self.old) old.now
-            (get (store_of self.old) name.now) result (R.stream rng.old) (R.stream rng.new) }
+            (get (kept_texts self.old) name.now) result (R.stream rng.old) (R.stream rng.new) }
         ensures terms { kept_terms self.new ≡ kept_terms self.old }
     {
         let Some(text) = self.texts.get(name) else {
@@ -186,7 +185,7 @@ impl<'key> Accounts<'key> {
         ensures step { Steps (setting name.now new.now (fill_bytes 16 (R.stream rng.old)).0 result)
             self.old self.new }
         ensures accepted { OnOk result
-            (HasPassword (kept_terms self.new) (store_of self.new) name.now new.now) }
+            (HasPassword (kept_terms self.new) (kept_texts self.new) name.now new.now) }
         ensures drawn { R.stream rng.new ≡ stream_after_making result (R.stream rng.old) }
         ensures terms { kept_terms self.new ≡ kept_terms self.old }
     {
@@ -239,7 +238,7 @@ impl<'key> Accounts<'key> {
 
     /// The text of a name, if it has one.
     pub fn text_of(&self, name: &str) -> Option<&PasswordHash>
-        ensures { option_map phc_of (option_copied result) ≡ get (store_of self.now) name.now }
+        ensures { option_map text_of (option_copied result) ≡ get (kept_texts self.now) name.now }
     {
         self.texts.get(name)
     }
@@ -247,22 +246,22 @@ impl<'key> Accounts<'key> {
     /// The names and their texts, in the order of the names' bytes. Accounts to which
     /// [`add`](Accounts::add) gives all of them have the same texts.
     pub fn texts(&self) -> Iter<'_, String, PasswordHash>
-        ensures texts { named_values result ≡ entries (store_of self.now) }
-        ensures again { added (named_values result) empty ≡ store_of self.now }
+        ensures texts { named_texts result ≡ entries (kept_texts self.now) }
+        ensures again { from_entries (named_texts result) ≡ kept_texts self.now }
     {
         self.texts.iter()
     }
 
     /// How many names there are.
     pub fn len(&self) -> usize
-        ensures { result ≡ length (entries (store_of self.now)) }
+        ensures { result ≡ length (entries (kept_texts self.now)) }
     {
         self.texts.len()
     }
 
     /// Whether there are no names.
     pub fn is_empty(&self) -> bool
-        ensures { IsTrue result ↔ (length (entries (store_of self.now)) ≡ 0) }
+        ensures { IsTrue result ↔ (length (entries (kept_texts self.now)) ≡ 0) }
     {
         self.len() == 0
     }
@@ -270,9 +269,9 @@ impl<'key> Accounts<'key> {
     // Gives a name that has none a text.
     fn insert(&mut self, name: &str, text: PasswordHash) -> Result<(), AccountError>
         ensures inserted { MatchResult result
-            (λ _. get (store_of self.new) name.now ≡ Some (phc_of text))
-            (λ e. (e ≡ Refused OutOfMemory) × (store_of self.new ≡ store_of self.old)) }
-        ensures others { KeepsOthers name.now (store_of self.old) (store_of self.new) }
+            (λ _. get (kept_texts self.new) name.now ≡ Some (text_of text))
+            (λ e. (e ≡ Refused OutOfMemory) × (kept_texts self.new ≡ kept_texts self.old)) }
+        ensures others { KeepsOthers name.now (kept_texts self.old) (kept_texts self.new) }
         ensures terms { kept_terms self.new ≡ kept_terms self.old }
     {
         let Ok(key) = String::from_str(self.policy.alloc, name) else {
@@ -286,9 +285,9 @@ impl<'key> Accounts<'key> {
 
     // Writes a text over the one that a name has.
     fn put(&mut self, name: &str, text: PasswordHash)
-        requires { IsSome (get (store_of self.old) name.now) }
-        ensures replaced { get (store_of self.new) name.now ≡ Some (phc_of text) }
-        ensures others { KeepsOthers name.now (store_of self.old) (store_of self.new) }
+        requires { IsSome (get (kept_texts self.old) name.now) }
+        ensures replaced { get (kept_texts self.new) name.now ≡ Some (text_of text) }
+        ensures others { KeepsOthers name.now (kept_texts self.old) (kept_texts self.new) }
         ensures terms { kept_terms self.new ≡ kept_terms self.old }
     {
         let Some(place) = self.texts.get_mut(name) else {

@@ -25,13 +25,13 @@ pub struct Policy<'key> {
 }
 
 impl<'key> Policy<'key> {
-    ghost use Rattle.std.specs.Prelude.{◌≡◌, ◌≢◌, ◌⊎◌, ◌↔◌, ℕ, List, Some, Ok, Err, IsSome, IfOk, MatchResult};
+    ghost use Rattle.std.specs.Prelude.{◌≡◌, ◌≢◌, ◌⊎◌, ◌↔◌, ℕ, List, Ok, Err, IsSome, IfOk, MatchResult};
     ghost use Rattle.rand_core.specs.Stream.{fill_bytes};
     ghost use Rattle.argon2_base.specs.PhcFields.{phc_of};
     ghost use Rattle.argon2_base.specs.declared.error.password_hash.Error.TheVariants.{OutOfMemory};
     ghost use Rattle.argon2_accounts.specs.declared.error.AccountError.TheVariants.{Refused, TooExpensive};
     ghost use Rattle.argon2.specs.declared.login.answers.Accepted.TheVariants.{Kept, Rehashed};
-    ghost use Rattle.argon2_accounts.specs.Accounts.{Admits, ChangeRefusal, Denial, DrawsOnce, IsAbove, IsNewPolicy, LogsIn, MakingRefusal, terms_of};
+    ghost use Rattle.argon2_accounts.specs.Accounts.{Admits, ChangeRefusal, Denial, DrawsByValue, IsAbove, IsNewPolicy, LogsIn, MakingRefusal, terms_of};
     ghost use Rattle.argon2.specs.NamedTexts.{IsCurrent, accepted_by, stream_after, value_after};
     ghost use Rattle.argon2.specs.Bound.{AsksWithin};
     ghost use Rattle.argon2.specs.Made.{IsFresh, target_of};
@@ -147,7 +147,7 @@ impl<'key> Policy<'key> {
         ensures accepted { IfOk result (λ fresh. Admits (terms_of self.now) new.now (phc_of fresh)) }
         ensures expensive { IsAbove (terms_of self.now).bound (phc_of text.now)
             → result ≡ Err TooExpensive }
-        ensures drawn { DrawsOnce (terms_of self.now) old.now (Some (phc_of text.now)) result
+        ensures drawn { DrawsByValue (terms_of self.now) old.now (phc_of text.now) result
             (R.stream rng.old) (R.stream rng.new) }
     {
         self.target.verify(self.alloc, old, &self.admitted(text)?)?;

@@ -1,51 +1,47 @@
 -- A call that is given a text of a password does what the call does that makes it.
-use Rattle.std.proofs.Common.{arith, ◌≡◌, ◌∙◌, ℕ, List, Option, Some, None, Result, Ok, Err, inl, inr, refl, sym, subst}
+use Rattle.std.proofs.Common.{arith, ◌≡◌, ◌∙◌, ℕ, List, Option, Some, None, Result, Ok, Err, ap, inl, inr, refl}
 use Rattle.std.specs.Prelude.{IfErr, IsSomeAnd}
 use Rattle.std.specs.FinMap.{get}
 use Rattle.sqlite_trees.specs.declared.store.Store.{Ghosts}
 use Rattle.argon2_base.specs.PhcText.{Phc, PhcText}
-use Rattle.argon2_accounts.specs.Accounts.{AccountStep, Adds, OnValue, Registers, Replaces, Sets, Terms, adding, registering, replacing, setting}
+use Rattle.argon2_accounts.specs.Accounts.{AccountStep, Adds, IsMadeOf, OnText, Registers, Replaces, Sets, Terms, Texts, adding, registering, replacing, setting}
 use Rattle.argon2_accounts.specs.declared.error.AccountError.{AccountError}
 use Rattle.argon2_accounts.specs.declared.error.AccountError.TheVariants.{NameTaken, Refused, TextChanged}
 use Rattle.argon2.specs.Made.{IsFresh}
-use Rattle.argon2.specs.NamedTexts.{Store}
 use Rattle.argon2_store.specs.AccountFile.{Answers, Call, HasCause, HasNames, IfRefused, IsClosed, Serves, Stays, database_of, terms_of}
 use Rattle.argon2_store.specs.Table.{IsHonest, IsOpen}
 use Rattle.argon2_store.specs.declared.account_file.AccountFile.{AccountFile}
 use Rattle.argon2_store.specs.declared.error.FileError.{FileError}
 use Rattle.argon2_store.specs.declared.error.FileError.TheVariants.{Account, OutOfMemory, TooLong, Closed}
 use Rattle.argon2_store.proofs.TableLemmas.{more_earlier, quiet_then}
-use Rattle.argon2_store.proofs.TextLemmas.{phc_once}
 
 -- the text of a value that was made of the password
 module _ (terms : Terms) (password drawn text : List ℕ) (w : Phc) (says : PhcText text w)
     (fresh : IsFresh terms.target password drawn w) where
-  -- another value of the text is the same
-  is_fresh : (q : Option Phc) → IsSomeAnd q (PhcText text) → IsSomeAnd q (IsFresh terms.target password drawn)
-  is_fresh (Some u) is = subst (IsFresh terms.target password drawn) (phc_once w u says.0 is.0 (sym says.1 ∙ is.1)) fresh
-  is_fresh None is = is
+  made : (q : Option (List ℕ)) → q ≡ Some text → IsSomeAnd q (IsMadeOf terms password drawn)
+  made q is = rw is (w, says, fresh)
 
-  registers_value : (p q : Option Phc) (r : Result (Unit {0}) AccountError) → Adds text p r q
+  registers_text : (p q : Option (List ℕ)) (r : Result (Unit {0}) AccountError) → Adds text p r q
       → Registers terms password drawn p r q
-  registers_value p q (Ok x) is = (is.0, is_fresh q is.1)
-  registers_value (Some v) q (Err NameTaken) is = (tt, is.1)
-  registers_value None q (Err NameTaken) is = absurd (let never = is.0.1 in cc)
-  registers_value p q (Err (Refused e)) (inl outside, same) = absurd (outside.1 (w, says))
-  registers_value (Some v) q (Err (Refused e)) (inr memory, same) = absurd (let never = memory.2 in cc)
-  registers_value None q (Err (Refused e)) (inr memory, same) = (inl memory.0, same)
-  registers_value p q (Err e) is = absurd is.0
+  registers_text p q (Ok x) is = (is.0, made q is.2)
+  registers_text (Some was) q (Err NameTaken) is = (tt, is.1)
+  registers_text None q (Err NameTaken) is = absurd (let never = is.0.1 in cc)
+  registers_text p q (Err (Refused e)) (inl outside, same) = absurd (outside.1 (w, says))
+  registers_text (Some was) q (Err (Refused e)) (inr memory, same) = absurd (let never = memory.2 in cc)
+  registers_text None q (Err (Refused e)) (inr memory, same) = (inl memory.0, same)
+  registers_text p q (Err e) is = absurd is.0
 
-  sets_value : (was : List ℕ) (v : Phc) → PhcText was v → (p q : Option Phc) (r : Result (Unit {0}) AccountError) → p ≡ Some v
-      → OnValue (Replaces was text) p r q → OnValue (Sets terms password drawn) p r q
-  sets_value was v old p (Some u) (Ok x) had is = rw had (is_fresh (Some u) (rw had at is).1)
-  sets_value was v old p None (Ok x) had is = absurd (rw had at is)
-  sets_value was v old p (Some u) (Err TextChanged) had is = absurd ((rw had at is).0 old)
-  sets_value was v old p (Some u) (Err (Refused e)) had is = absurd ((rw had at is).0.2 (w, says))
-  sets_value was v old p (Some u) (Err e) had is = absurd (rw had at is).0
-  sets_value was v old p None (Err e) had is = absurd (rw had at is)
+  sets_text : (was : List ℕ) (p q : Option (List ℕ)) (r : Result (Unit {0}) AccountError) → p ≡ Some was
+      → OnText (Replaces was text) p r q → OnText (Sets terms password drawn) p r q
+  sets_text was p (Some left) (Ok x) had is = rw had (made (Some left) (ap Some (rw had at is).2))
+  sets_text was p None (Ok x) had is = absurd (rw had at is)
+  sets_text was p (Some left) (Err TextChanged) had is = absurd ((rw had at is).0 refl)
+  sets_text was p (Some left) (Err (Refused e)) had is = absurd ((rw had at is).0.2 (w, says))
+  sets_text was p (Some left) (Err e) had is = absurd (rw had at is).0
+  sets_text was p None (Err e) had is = absurd (rw had at is)
 
 -- a call on a file answers as another, if the accounts do
-answers_then : (first last : Terms) (before after : Store) (call other : Call (Unit {0}))
+answers_then : (first last : Terms) (before after : Texts) (call other : Call (Unit {0}))
     → ((r : Result (Unit {0}) AccountError) → AccountStep first before (call r) after → AccountStep last before (other r) after)
     → (r : Result (Unit {0}) FileError) → Answers first before call r after → Answers last before other r after
 answers_then first last before after call other then (Ok x) is = then (Ok x) is
@@ -58,9 +54,9 @@ pub registers : {S : Type 0} {g : Ghosts S} (old new : AccountFile S g) (name te
     → Serves (adding name text) r old new → Serves (registering name password drawn) r old new
 registers {g = g} old new name text password drawn w says fresh r serves before has =
     let (after, run) = serves before has in
-    let step = λ (end : Store). answers_then (terms_of old) (terms_of old) before end (adding name text)
+    let step = λ (end : Texts). answers_then (terms_of old) (terms_of old) before end (adding name text)
     (registering name password drawn)
-    (λ e is. (registers_value (terms_of old) password drawn text w says fresh (get before name) (get end name) e is.0, is.1)) in (
+    (λ e is. (registers_text (terms_of old) password drawn text w says fresh (get before name) (get end name) e is.0, is.1)) in (
       after,
       record {
         has = run.has;
@@ -94,21 +90,21 @@ cause_then shut closed more fault long (Err Closed) f h is = f is
 cause_then shut closed more fault long (Err e) f h is = h is
 
 -- a name's text is read, and replaced by a text of its password
-pub sets : {S : Type 0} {g : Ghosts S} (old mid new : AccountFile S g) (name was text password drawn : List ℕ) (v w : Phc)
-    → PhcText was v → PhcText text w → IsFresh (terms_of old).target password drawn w → (r : Result (Unit {0}) FileError)
-    → (IsHonest g (database_of old) → IsClosed old → ⊥) → ((names : Store) → HasNames old names → Stays None names old mid)
-    → ((names : Store) → HasNames mid names → IsHonest g (database_of mid) → get names name ≡ Some v)
+pub sets : {S : Type 0} {g : Ghosts S} (old mid new : AccountFile S g) (name was text password drawn : List ℕ) (w : Phc)
+    → PhcText text w → IsFresh (terms_of old).target password drawn w → (r : Result (Unit {0}) FileError)
+    → (IsHonest g (database_of old) → IsClosed old → ⊥) → ((names : Texts) → HasNames old names → Stays None names old mid)
+    → ((names : Texts) → HasNames mid names → IsHonest g (database_of mid) → get names name ≡ Some was)
     → Serves (replacing name was text) r mid new → Serves (setting name password drawn) r old new
-sets {g = g} old mid new name was text password drawn v w old_says says fresh r live reading had serves before has =
+sets {g = g} old mid new name was text password drawn w says fresh r live reading had serves before has =
     let reads = reading before has in
     let (after, run) = serves before reads.has in
     let open_then : IsHonest g (database_of new) → IsOpen g (database_of mid) = λ clean. reads.is_open refl (run.honest clean) in
     let earlier = more_earlier (g.faults (database_of old)) (g.faults (database_of mid)) (g.faults (database_of new))
     reads.quiet.counts in
-    let step = λ (clean : IsHonest g (database_of new)) (end : Store).
+    let step = λ (clean : IsHonest g (database_of new)) (end : Texts).
     let there = had before reads.has (run.honest clean) in
     answers_then (terms_of mid) (terms_of old) before end (replacing name was text) (setting name password drawn)
-    (λ e is. (sets_value (terms_of old) password drawn text w says fresh was v old_says _ (get end name) e there is.0, is.1)) in (
+    (λ e is. (sets_text (terms_of old) password drawn text w says fresh was _ (get end name) e there is.0, is.1)) in (
       after,
       record {
         has = run.has;

@@ -5,8 +5,7 @@ use Rattle.std.specs.Io.KnownBytes.{Appends, Keeps}
 use Rattle.std.specs.Prelude.{IfErr, IsErrAnd, OnOk}
 use Rattle.sqlite_trees.specs.declared.store.Store.{Ghosts}
 use Rattle.argon2_base.specs.declared.error.password_hash.Error.TheVariants.{OutOfMemory as NoMemory}
-use Rattle.argon2.specs.NamedTexts.{Store}
-use Rattle.argon2_accounts.specs.Accounts.{Terms}
+use Rattle.argon2_accounts.specs.Accounts.{Terms, Texts}
 use Rattle.argon2_accounts.specs.declared.error.AccountError.{AccountError}
 use Rattle.argon2_accounts.specs.declared.error.AccountError.TheVariants.{Refused}
 use Rattle.argon2_store.specs.declared.error.FileError.{FileError}
@@ -59,14 +58,14 @@ in_any_case P (Err f) p = λ one. p
 
 -- what is asked for was done at most once if no file was opened
 unopened : {S : Type 0} (g : Ghosts S) (Holds : List ℕ → List ℕ → Type 0)
-    (Has : List ℕ → Store → Type 0) (Closed : List S → Type 0) (what : Asked)
+    (Has : List ℕ → Texts → Type 0) (Closed : List S → Type 0) (what : Asked)
     (input : Option (List ℕ)) → Closed [] → IsOnce g Holds Has what input Closed
 unopened g Holds Has Closed (hash choices) input shut = shut
 unopened g Holds Has Closed (check choices text) input shut = shut
 unopened g Holds Has Closed what input shut = inl shut
 
 module _ {S : Type 0} {g : Ghosts S} {Holds : List ℕ → List ℕ → Type 0}
-    {Has : List ℕ → Store → Type 0} {Closed : List S → Type 0} {what : Asked}
+    {Has : List ℕ → Texts → Type 0} {Closed : List S → Type 0} {what : Asked}
     {input old new : Option (List ℕ)} where
   -- it ended with this failure
   pub failed : (f : Failure) (r : Result (Unit {0}) Failure) → IsErrAnd r (λ e. e ≡ f)
@@ -119,7 +118,7 @@ replied Holds choices Says terms drawn line secret old new r same held says writ
 
 -- an import is served as it ended
 pub imported : {S : Type 0} {g : Ghosts S} {Holds : List ℕ → List ℕ → Type 0}
-    {Has : List ℕ → Store → Type 0} {choices : Choices} {path : List ℕ} {any_text : Bool}
+    {Has : List ℕ → Texts → Type 0} {choices : Choices} {path : List ℕ} {any_text : Bool}
     {input output : Option (List ℕ)} {Closed : List S → Type 0} (r : Result (Unit {0}) Failure)
     → IsImported g Holds Has choices path any_text (AddsLines r) input Closed
     → IsServed g Holds Has (import choices path any_text) r input output output Closed

@@ -1,5 +1,5 @@
 -- What the program answers.
-use Rattle.std.specs.Prelude.{◌≡◌, ◌⊎◌, ⊤, ℕ, ◌==◌, false, Bool, ◌||◌, ◌+◌, IsOk, IsTrue, List, [], ◌∷◌, ◌++◌, if◌then◌else◌, Option, Some, None, IfSome, Result, Ok, Err, IfErr, IfOk, OnOk}
+use Rattle.std.specs.Prelude.{◌≡◌, ◌⊎◌, ⊤, ℕ, String, string_bytes, ◌==◌, false, Bool, ◌||◌, ◌+◌, IsOk, IsTrue, List, [], ◌∷◌, ◌++◌, if◌then◌else◌, Option, Some, None, IfSome, Result, Ok, Err, IfErr, IfOk, OnOk}
 use Rattle.std.specs.Io.BufRead.{drop_through}
 use Rattle.std.specs.List.{AllZip, after_first, before_first, list_any}
 use Rattle.std.specs.Option.{option_map}
@@ -9,12 +9,10 @@ use Rattle.std.specs.Str.Lines.{lines}
 use Rattle.std.specs.FinMap.{get}
 use Rattle.argon2_base.specs.PhcFields.{phc_of}
 use Rattle.argon2_base.specs.PhcText.{Phc, PhcText, phc_text}
-use Rattle.argon2_base.specs.declared.phc.hash.PasswordHash.{PasswordHash}
 use Rattle.sqlite_trees.specs.declared.store.Store.{Ghosts}
-use Rattle.argon2_accounts.specs.Accounts.{AccountAnswer, Admits, AreTerms, LogsIn, Terms, changing, logging_in, registering, removing, replacing, setting}
+use Rattle.argon2_accounts.specs.Accounts.{AccountAnswer, Admits, AreTerms, LogsIn, Terms, Texts, changing, logging_in, registering, removing, replacing, setting}
 use Rattle.argon2.specs.Argon2.{argon2id_with}
 use Rattle.argon2.specs.Login.{accepted_text}
-use Rattle.argon2.specs.NamedTexts.{Store}
 use Rattle.argon2.specs.Made.{IsFresh}
 use Rattle.argon2.specs.Stored.{shown_settings}
 use Rattle.argon2.specs.declared.login.answers.Accepted.{Accepted}
@@ -162,7 +160,7 @@ AreEntries any_text input es = AllZip (IsEntry any_text) (lines input) es
 abbrev pub RefusesLine : {S : Type 0} {g : Ghosts S} → Failure → List (List ℕ × List ℕ) → AccountFile S g → AccountFile S g
     → Type 0
 RefusesLine {g} failure es before after = (number : ℕ) × (why : AccountError) × (failure ≡ Line number why)
-    × ((names : Store) → HasNames before names → IsHonest g (database_of after)
+    × ((names : Texts) → HasNames before names → IsHonest g (database_of after)
     → (k : ℕ) × (number ≡ k + 1) × IsFirstRefused names es k why) × AddsOrNone es (Err (Account why)) before after
 
 -- the entries were to be added, and this is some answer to it
@@ -176,13 +174,13 @@ AddsLines (Ok _) es before after = AddsOrNone es (Ok tt) before after
 AddsLines (Err failure) es before after = IsAdded es before after × (status_of failure ≡ 1 → RefusesLine failure es before after)
 
 -- a file at a path that was opened under these terms, with its names
-abbrev pub IsOpened : {S : Type 0} {g : Ghosts S} → (List ℕ → Store → Type 0) → List ℕ → Terms → AccountFile S g → Type 0
-IsOpened Has path terms file = (names : Store) × Has path names × IsReady terms names file
+abbrev pub IsOpened : {S : Type 0} {g : Ghosts S} → (List ℕ → Texts → Type 0) → List ℕ → Terms → AccountFile S g → Type 0
+IsOpened Has path terms file = (names : Texts) × Has path names × IsReady terms names file
 
--- what the text says that was found for a name
-abbrev pub value_of : Result (Option PasswordHash) FileError → Result (Option Phc) FileError
-value_of (Ok text) = Ok (option_map phc_of text)
-value_of (Err e) = Err e
+-- the text that was found for a name
+abbrev pub text_in : {Y : Type 0} → Result (Option (String Y)) FileError → Result (Option (List ℕ)) FileError
+text_in (Ok text) = Ok (option_map string_bytes text)
+text_in (Err e) = Err e
 
 -- How far a call on a name came: its text can't be read; or the accounts decide the call, and no text is replaced; or they
 -- accept it, and this answers the replacement of the text.
@@ -211,7 +209,7 @@ change_answer (decided (Ok _)) = Err Io
 change_answer (decided (Err e)) = Err (Account e)
 change_answer (replaced _ done) = done
 
-module _ {S : Type 0} (g : Ghosts S) (Holds : List ℕ → List ℕ → Type 0) (Has : List ℕ → Store → Type 0) where
+module _ {S : Type 0} (g : Ghosts S) (Holds : List ℕ → List ℕ → Type 0) (Has : List ℕ → Texts → Type 0) where
   -- the file at a path was opened under these terms, used so, and closed with this store
   abbrev pub IsOpenFor : Terms → List ℕ → (AccountFile S g → AccountFile S g → Type 0) → (S → Type 0) → Type 0
   IsOpenFor terms path Does Next = (before after : AccountFile S g) × IsOpened Has path terms before
@@ -226,23 +224,23 @@ module _ {S : Type 0} (g : Ghosts S) (Holds : List ℕ → List ℕ → Type 0) 
   abbrev pub IsCalled : {X : Type 0} → Choices → List ℕ → (List ℕ → Call X) → Result X FileError → (List S → Type 0) → Type 0
   IsCalled choices path call result = IsDone choices path (λ drawn. Serves (call drawn) result)
 
-  -- the value of a name was read in the file at a path, which was opened under these terms and closed with this store
-  abbrev pub IsLooked : Terms → List ℕ → List ℕ → Result (Option Phc) FileError → (S → Type 0) → Type 0
-  IsLooked terms path name found = IsOpenFor terms path (λ before after. (names : Store) → HasNames before names
+  -- the text of a name was read in the file at a path, which was opened under these terms and closed with this store
+  abbrev pub IsLooked : Terms → List ℕ → List ℕ → Result (Option (List ℕ)) FileError → (S → Type 0) → Type 0
+  IsLooked terms path name found = IsOpenFor terms path (λ before after. (names : Texts) → HasNames before names
       → Stays (error_of found) names before after
-      × IfOk found (λ value. IsHonest g (database_of after) → get names name ≡ value))
+      × IfOk found (λ text. IsHonest g (database_of after) → get names name ≡ text))
 
-  -- the text of a name was replaced there, if it was still that of the first value
-  abbrev pub IsReplaced : Terms → List ℕ → List ℕ → Phc → Phc → Result (Unit {0}) FileError → (S → Type 0) → Type 0
-  IsReplaced terms path name v w done = IsOpenFor terms path (Serves (replacing name (phc_text v) (phc_text w)) done)
+  -- the text of a name was replaced there, if it was still the first
+  abbrev pub IsReplaced : Terms → List ℕ → List ℕ → List ℕ → List ℕ → Result (Unit {0}) FileError → (S → Type 0) → Type 0
+  IsReplaced terms path name old new done = IsOpenFor terms path (Serves (replacing name old new) done)
 
-  -- what was done with the file at a path for a call on a name, and that it was decided by the value that was read
+  -- what was done with the file at a path for a call on a name, and that it was decided by the text that was read
   abbrev pub IsOutcome : {X : Type 0} → Terms → List ℕ → List ℕ → Call X → Outcome X → (List S → Type 0) → Type 0
   IsOutcome terms path name call (unread e) Closed = IsLooked terms path name (Err e) (λ read. Closed (read ∷ []))
-  IsOutcome terms path name call (decided answer) Closed = (o p : Option Phc) × AccountAnswer terms (call answer) o p
+  IsOutcome terms path name call (decided answer) Closed = (o p : Option (List ℕ)) × AccountAnswer terms (call answer) o p
       × IsLooked terms path name (Ok o) (λ read. Closed (read ∷ []))
-  IsOutcome terms path name call (replaced x done) Closed = (v w : Phc) × AccountAnswer terms (call (Ok x)) (Some v) (Some w)
-      × IsLooked terms path name (Ok (Some v)) (λ read. IsReplaced terms path name v w done (λ last. Closed (read ∷ last ∷ [])))
+  IsOutcome terms path name call (replaced x done) Closed = (old new : List ℕ) × AccountAnswer terms (call (Ok x)) (Some old) (Some new)
+      × IsLooked terms path name (Ok (Some old)) (λ read. IsReplaced terms path name old new done (λ last. Closed (read ∷ last ∷ [])))
 
   -- all that was done with it, under the choices and their secret, for a call that is decided while the file is closed
   abbrev pub IsVisited : {X : Type 0} → Choices → List ℕ → List ℕ → (List ℕ → Call X) → (Outcome X → Type 0)
@@ -274,8 +272,8 @@ module _ {S : Type 0} (g : Ghosts S) (Holds : List ℕ → List ℕ → Type 0) 
       × AreRead act input first second × IsAct choices path act name first second result Closed
 
   -- no name was changed, with this error of the file if there was one, and this is a fact of its names
-  abbrev pub IsRead : Choices → List ℕ → Option FileError → (Store → Type 0) → (List S → Type 0) → Type 0
-  IsRead choices path error Shows = IsDone choices path (λ drawn before after. (names : Store) → HasNames before names
+  abbrev pub IsRead : Choices → List ℕ → Option FileError → (Texts → Type 0) → (List S → Type 0) → Type 0
+  IsRead choices path error Shows = IsDone choices path (λ drawn before after. (names : Texts) → HasNames before names
       → Stays error names before after × (IsHonest g (database_of after) → Shows names))
 
   -- that was the addition of the entries that a known input has, and the answer to it

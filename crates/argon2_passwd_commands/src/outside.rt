@@ -21,8 +21,7 @@ const LONGEST_SECRET: usize = 4096;
 /// Where the program finds the secret, random bytes and accounts. One file is open at a time.
 pub trait Outside {
     ghost use Rattle.std.specs.Prelude.{◌≡◌, ◌++◌, ◌∷◌, [], ℕ, List, IfErr, IfOk, OnErr, OnOk};
-    ghost use Rattle.argon2_accounts.specs.Accounts.{AreTerms};
-    ghost use Rattle.argon2.specs.NamedTexts.{Store as Texts};
+    ghost use Rattle.argon2_accounts.specs.Accounts.{AreTerms, Texts};
     ghost use Rattle.argon2.specs.Made.{target_of};
     ghost use Rattle.argon2_passwd_commands.specs.Answers.{IsOpened};
     ghost use Rattle.argon2_passwd_commands.specs.Failures.{status_of};

@@ -1,8 +1,8 @@
 -- Names to which several are added.
-use Rattle.argon2_store.proofs.Imports.{◌≡◌, ℕ, List, [], ◌∷◌, ◌++◌, false, Result, Ok, Err, refl, sym}
+use Rattle.argon2_store.proofs.Imports.{◌≡◌, ℕ, List, [], ◌∷◌, ◌++◌, false, Some, Result, Ok, Err, refl, sym}
 use Rattle.std.proofs.lemmas.Result.{on_ok_weaker, IfErr-weaker}
 use Rattle.argon2_store.proofs.Imports.{subst, ap, ◌∙◌, arith, inl, inr, map, Bor, get, Any}
-use Rattle.argon2_store.proofs.Imports.{StoreError, Ghosts, Store, AccountError, AddsAll, AddsName, WritesAll}
+use Rattle.argon2_store.proofs.Imports.{StoreError, Ghosts, Texts, AccountError, AddsAll, AddsName, WritesAll}
 use Rattle.argon2_store.proofs.Imports.{entry_of, Changes, changed, HasNames, IsHonest, IsLong, IsOpen, StaysQuiet}
 use Rattle.std.specs.List.Sorted.{IsPermutation}
 use Rattle.std.proofs.lemmas.List.Sorted.{Contains-permutation, IsPermutation-map, IsPermutation-sym}
@@ -11,35 +11,33 @@ use Rattle.sqlite_trees.specs.declared.error.StoreError.TheVariants.{Io}
 use Rattle.argon2_store.proofs.RowLemmas.{get-changed, one_or_other, others_kept}
 use Rattle.argon2_store.proofs.TableLemmas.{Settled, cause_map, leaves_quiet, quiet_itself, quiet_then}
 
-pub add_last : (es : List (List ℕ × List ℕ)) (before mid after : Store) (e : List ℕ × List ℕ) → AddsAll before es mid
+pub add_last : (es : List (List ℕ × List ℕ)) (before mid after : Texts) (e : List ℕ × List ℕ) → AddsAll before es mid
     → AddsName mid e (Ok tt) after → AddsAll before (es ++ e ∷ []) after
 add_last [] before mid after e same last =
-    (after, subst (λ (m : Store). AddsName m e (Ok tt) after) same last, refl)
+    (after, subst (λ (m : Texts). AddsName m e (Ok tt) after) same last, refl)
 add_last (x ∷ xs) before mid after e all last = (all.0, all.1, add_last xs all.0 mid after e all.2 last)
 
 -- ---- the order of the names
 
 abbrev Reorders : List (List ℕ × List ℕ) → List (List ℕ × List ℕ) → Type 0
-Reorders es fs = (before after : Store) → AddsAll before es after → AddsAll before fs after
+Reorders es fs = (before after : Texts) → AddsAll before es after → AddsAll before fs after
 
 -- the first two may change places
 turn : (x y : List ℕ × List ℕ) (es : List (List ℕ × List ℕ)) → Reorders (x ∷ y ∷ es) (y ∷ x ∷ es)
-turn x y es before after (one, ((none, has), kept), (two, ((gone, text), held), rest)) =
-    let apart : x.0 ≡ y.0 → ⊥ = λ is. rw (ap (get one) is ∙ gone) at has in
+turn x y es before after (one, ((none, fine, has), kept), (two, ((gone, good, put), held), rest)) =
+    let apart : x.0 ≡ y.0 → ⊥ = λ is. let never = sym has ∙ ap (get one) is ∙ gone in cc in
     let other : y.0 ≡ x.0 → ⊥ = λ is. apart (sym is) in
-    let mid = changed before y.0 (get two y.0) in (
-      mid,
-      (
-        (sym (kept y.0 other) ∙ gone, rw (get-changed before y.0 (get two y.0)) text),
-        others_kept before y.0 (get two y.0),
-      ),
+    let at = get-changed before y.0 (Some y.1) in
+    let stays = others_kept before y.0 (Some y.1) in (
+      changed before y.0 (Some y.1),
+      ((sym (kept y.0 other) ∙ gone, good, at), stays),
       (
         two,
         (
-          (others_kept before y.0 (get two y.0) x.0 apart ∙ none, rw (held x.0 apart) has),
+          (stays x.0 apart ∙ none, fine, held x.0 apart ∙ has),
           λ q differs. elim (one_or_other q y.0) [
-            | inl is ↦ rw is (sym (get-changed before y.0 (get two y.0)))
-            | inr far ↦ held q far ∙ kept q differs ∙ sym (others_kept before y.0 (get two y.0) q far)
+            | inl is ↦ rw is (put ∙ sym at)
+            | inr far ↦ held q far ∙ kept q differs ∙ sym (stays q far)
           ],
         ),
         rest,
@@ -54,7 +52,7 @@ any_order = along_permutation Reorders (λ es before after all. all)
 
 module _ {S : Type 0} (g : Ghosts S) where
   -- a change is the same after a call that changed nothing, and may have more causes
-  changes_later : {a b c : S} {x y : Store} {P Q : Type 0} {r : Result (Unit {0}) StoreError} → StaysQuiet g a b
+  changes_later : {a b c : S} {x y : Texts} {P Q : Type 0} {r : Result (Unit {0}) StoreError} → StaysQuiet g a b
       → (IsHonest g b → (g.view b).is_broken ≡ false) → (P → Q) → Changes g b c x y P r → Changes g a c x y Q r
   changes_later {a} {b} {r = r} quiet sound more change = record {
     honest = λ clean. omega (arith, change.honest clean, quiet.clean);
@@ -91,8 +89,8 @@ module _ {S : Type 0} (g : Ghosts S) where
           let (j, there, at) = Contains-permutation es fs e back (k, within, is) in (j, e, there, at, long)
 
   -- after others were written and taken back
-  module _ (old mid : S) {Q : Store → Type 0}
-      (refused : (names : Store) → HasNames g old names → HasNames g mid names × Q names × StaysQuiet g old mid) where
+  module _ (old mid : S) {Q : Texts → Type 0}
+      (refused : (names : Texts) → HasNames g old names → HasNames g mid names × Q names × StaysQuiet g old mid) where
     -- names are written
     pub written_later : (new : S) (es : List (List ℕ × List ℕ)) (r : Result (Result (Unit {0}) StoreError) (ℕ × AccountError))
         → (IsHonest g mid → IsOpen g mid) → WritesAll g mid new es r → WritesAll g old new es r

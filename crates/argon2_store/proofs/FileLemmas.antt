@@ -1,18 +1,21 @@
 -- What a call on an account file does if it is refused, writes nothing, or writes one name.
-use Rattle.argon2_store.proofs.Imports.{arith, ◌≡◌, inl, inr, ℕ, List, Option, Some, None, Result, Ok, Err, Bool, true, false, refl, sym, subst, ◌∙◌, IsTrue, get, insert}
-use Rattle.argon2_store.proofs.Imports.{Stream, is_some, option_map, phc_of, PasswordHash, ◌↔◌, IsSome, IfErr, IfSome, IsErr, IsErrAnd, MatchResult, OnErr, OnOk, length}
-use Rattle.argon2_store.proofs.Imports.{StoreError, Ghosts, Phc, AccountAnswer, AccountStep, Admits, HasPassword, Terms, name_of, Store, AccountError, NameUnknown}
-use Rattle.argon2_store.proofs.Imports.{get-same, IfOk, Answers, Call, DrawsForText, error_of, HasFailed, IfRefused, IsBeforeOrAfter, IsClosed, IsErrorAt, IsOfFile, Runs}
+use Rattle.argon2_store.proofs.Imports.{arith, ◌≡◌, inl, inr, ℕ, List, Option, Some, None, Result, Ok, Err, Bool, true, false, refl, sym, ap, subst, ◌∙◌, IsTrue, get, insert}
+use Rattle.argon2_store.proofs.Imports.{Stream, is_some, option_map, ◌↔◌, IfErr, IfSome, IsErr, IsErrAnd, MatchResult, OnErr, OnOk, length}
+use Rattle.argon2_store.proofs.Imports.{StoreError, Ghosts, AccountAnswer, AccountStep, Accepts, HasPassword, Terms, name_of, Texts, AccountError, NameUnknown, Refused}
+use Rattle.argon2_store.proofs.Imports.{IfOk, Answers, Call, DrawsForText, error_of, HasFailed, IfRefused, IsBeforeOrAfter, IsClosed, IsErrorAt, IsOfFile, Runs}
 use Rattle.argon2_store.proofs.Imports.{Stays, database_of, terms_of, answered, read_of, unwritten, Changes, IsHonest, IsLong, IsOpen, KeepsNames, CrashLeaves, StaysQuiet, changed}
 use Rattle.argon2_store.proofs.Imports.{AccountFile, FileError, Account, TooLong, Closed, err_is}
 use Rattle.argon2_store.specs.AccountFile.{HasCause, HasNames}
 use Rattle.argon2_store.specs.declared.error.FileError.TheVariants.{OutOfMemory}
-use Rattle.argon2_store.proofs.RowLemmas.{get-changed, others_kept}
+use Rattle.argon2_store.proofs.RowLemmas.{get-changed, others_kept, rows_of-once}
 use Rattle.argon2_store.proofs.TableLemmas.{Settled, leaves_kept, leaves_quiet, on_all, open_of, quiet_itself}
-use Rattle.argon2_store.proofs.TextLemmas.{rows_of-once}
 use Rattle.sqlite_trees.specs.declared.error.StoreError.TheVariants as below
 use Rattle.sqlite_trees.specs.View as view
 use Rattle.argon2_store.specs.Table as rows
+use Rattle.argon2_accounts.specs.Accounts.{ByValue}
+use Rattle.argon2_base.specs.PhcText.{Phc, PhcText}
+use Rattle.argon2_base.specs.declared.error.password_hash.Error.{Error}
+use Rattle.argon2_base.specs.declared.error.password_hash.Error.TheVariants.{EncodingInvalid}
 
 pub unwritten_cause : (v : view.View) (closed fault more long : Type 0) → (IsTrue v.is_broken → ⊥) → (fault → more)
     → (e : StoreError) → view.HasCause v fault long e → HasCause closed more long (unwritten e)
@@ -21,13 +24,16 @@ unwritten_cause v closed fault more long sound f below.Broken h = absurd (sound 
 unwritten_cause v closed fault more long sound f below.Unstorable h = h
 unwritten_cause v closed fault more long sound f e h = f h
 
-pub is_there : (o : Option PasswordHash) → is_some o ≡ true → IsSome (option_map phc_of o)
-is_there (Some text) there = refl
-is_there None there = absurd cc
+-- there is a text if and only if there are its bytes
+pub is_some-map : {X Y : Type 0} (f : X → Y) (o : Option X) {b : Bool} → is_some o ≡ b → is_some (option_map f o) ≡ b
+is_some-map f (Some x) is = is
+is_some-map f None is = is
 
-pub is_nowhere : (o : Option PasswordHash) → is_some o ≡ false → option_map phc_of o ≡ None
-is_nowhere (Some text) gone = absurd cc
-is_nowhere None gone = refl
+-- a text outside the grammar is refused where what it says is needed
+pub outside : {X : Type 0} (changes : Phc → Result X AccountError → Phc → Type 0) (shown text : List ℕ) (e : Error)
+    → shown ≡ text → e ≡ EncodingInvalid → ((v : Phc) → PhcText shown v → ⊥) → ByValue changes text (Err (Refused e)) text
+outside changes shown text e same invalid never =
+    inr (λ says. never says.0 (rw same says.1), ap (λ f. Err (Refused f)) invalid, refl)
 
 -- ---- errors of the file
 
@@ -59,7 +65,7 @@ pub kept_err : {Q : Type 0} (P : Type 0) (done : Result (Unit {0}) StoreError) �
 kept_err P (Ok x) failed is = absurd cc
 kept_err P (Err e) failed is = is
 
-unread_step : (X : Type 0) (terms : Terms) (before : Store) (call : Call X) (e : FileError) → IsOfFile e
+unread_step : (X : Type 0) (terms : Terms) (before : Texts) (call : Call X) (e : FileError) → IsOfFile e
     → Answers terms before call (Err e) before
 unread_step X terms before call (Account e) of_file = absurd of_file
 unread_step X terms before call e of_file = refl
@@ -80,12 +86,12 @@ if_quiet (Err (Account e)) p = p
 if_quiet (Err e) p = tt
 
 -- an error of writing comes with the number of entries
-at_end : (before : Store) (es : List (List ℕ × List ℕ)) (k : ℕ) → k ≡ length es → (e : StoreError)
+at_end : (before : Texts) (es : List (List ℕ × List ℕ)) (k : ℕ) → k ≡ length es → (e : StoreError)
     → IsErrorAt before es (k, unwritten e)
 at_end before es k is below.Broken = is
 at_end before es k is e = is
 
-pub writes_at : (before : Store) (es : List (List ℕ × List ℕ)) (k : ℕ) → k ≡ length es → (done : Result (Unit {0}) StoreError)
+pub writes_at : (before : Texts) (es : List (List ℕ × List ℕ)) (k : ℕ) → k ≡ length es → (done : Result (Unit {0}) StoreError)
     (error : FileError) → ◌≡◌ {A = Result (Unit {0}) FileError} (Err error) (answered done tt) → IsErrorAt before es (k, error)
 writes_at before es k is (Ok x) error same = absurd cc
 writes_at before es k is (Err e) error same =
@@ -96,10 +102,10 @@ err_if (Ok x) p = tt
 err_if (Err e) p = p
 
 -- a store that is open has one map of names
-pub same_names : {S : Type 0} (g : Ghosts S) (s : S) (a b : Store) → rows.HasNames g s a → rows.HasNames g s b → IsHonest g s
+pub same_names : {S : Type 0} (g : Ghosts S) (s : S) (a b : Texts) → rows.HasNames g s a → rows.HasNames g s b → IsHonest g s
     → IsOpen g s → a ≡ b
-same_names g s a b (good, kept) (fine, held) clean is_open =
-    rows_of-once a b good fine (sym (kept.seen clean is_open).0 ∙ (held.seen clean is_open).0)
+same_names g s a b has also clean is_open =
+    rows_of-once a b (sym (has.1.seen clean is_open).0 ∙ (also.1.seen clean is_open).0)
 
 -- a file whose test says so is not closed
 pub live_of : {S : Type 0} {g : Ghosts S} (old : AccountFile S g) {b : Bool}
@@ -108,7 +114,7 @@ pub live_of : {S : Type 0} {g : Ghosts S} (old : AccountFile S g) {b : Bool}
 live_of old tests shut clean is = absurd (let hit = (tests clean).1 is in cc)
 
 -- a file that is closed
-pub shut_out : {S : Type 0} {g : Ghosts S} → Settled g → (old : AccountFile S g) (before : Store) → HasNames old before
+pub shut_out : {S : Type 0} {g : Ghosts S} → Settled g → (old : AccountFile S g) (before : Texts) → HasNames old before
     → {b : Bool} → (IsHonest g (database_of old) → IsTrue b ↔ IsClosed old) → b ≡ true → Stays (Some Closed) before old old
 shut_out {S} {g} settled old before has tests shut = record {
   has = has;
@@ -123,7 +129,7 @@ shut_out {S} {g} settled old before has tests shut = record {
 
 -- a call that reads an open file
 pub reads_of : {S : Type 0} {g : Ghosts S} {X : Type 0} → Settled g
-    → (old new : AccountFile S g) (names : Store) → HasNames old names → {b : Bool}
+    → (old new : AccountFile S g) (names : Texts) → HasNames old names → {b : Bool}
     → (IsHonest g (database_of old) → IsTrue b ↔ IsClosed old) → b ≡ false
     → terms_of new ≡ terms_of old → (done : Result X StoreError) → KeepsNames g (database_of old) (database_of new) names done
     → (r : Result X FileError) → r ≡ read_of done → Stays (error_of r) names old new
@@ -158,7 +164,7 @@ reads_of {g = g} {X = X} settled old new names has tests shut terms done read r 
         (λ b. let h : IsTrue (g.view (database_of old)).is_broken = b in cc) (λ more. more) f (read.cause clean))
 
 -- the store does nothing
-pub unread : {S : Type 0} {g : Ghosts S} → Settled g → (old : AccountFile S g) (before : Store) → HasNames old before → {b : Bool}
+pub unread : {S : Type 0} {g : Ghosts S} → Settled g → (old : AccountFile S g) (before : Texts) → HasNames old before → {b : Bool}
     → (IsHonest g (database_of old) → IsTrue b ↔ IsClosed old) → b ≡ false → Stays None before old old
 unread {g = g} settled old before has tests shut =
     reads_of {X = Unit {0}} settled old old before has tests shut refl (Ok tt) (record {
@@ -169,8 +175,8 @@ unread {g = g} settled old before has tests shut =
     }) (Ok tt) refl
 
 -- a call that leaves the names
-pub ends_with : {S : Type 0} {g : Ghosts S} {X : Type 0} {answers : Result X FileError → Store → Type 0} {May : Store → Type 0}
-    {long : Type 0} {old new : AccountFile S g} {before : Store} (r : Result X FileError) → HasNames new before
+pub ends_with : {S : Type 0} {g : Ghosts S} {X : Type 0} {answers : Result X FileError → Texts → Type 0} {May : Texts → Type 0}
+    {long : Type 0} {old new : AccountFile S g} {before : Texts} (r : Result X FileError) → HasNames new before
     → terms_of new ≡ terms_of old → StaysQuiet g (database_of old) (database_of new)
     → (IsHonest g (database_of new) → IsOpen g (database_of old) → CrashLeaves g (database_of new) (λ left. left ≡ before))
     → (IsHonest g (database_of new) → answers r before) → May before
@@ -194,7 +200,7 @@ ends_with {May = May} r has terms quiet left step may durable closed cause = rec
 }
 
 -- A call on a file that is not closed, which has read it.
-module _ {S : Type 0} {g : Ghosts S} {old mid : AccountFile S g} {before : Store} (reads : Stays None before old mid) where
+module _ {S : Type 0} {g : Ghosts S} {old mid : AccountFile S g} {before : Texts} (reads : Stays None before old mid) where
   live : IsHonest g (database_of old) → IsClosed old → ⊥
   live clean is = let never = (reads.closed clean is).0 in cc
 
@@ -202,10 +208,10 @@ module _ {S : Type 0} {g : Ghosts S} {old mid : AccountFile S g} {before : Store
   was_honest clean = omega (arith, clean, reads.quiet.clean)
 
   -- the end of a call that changes the names, or leaves them
-  ends : {X : Type 0} {answers : Result X FileError → Store → Type 0} {May : Store → Type 0} {long other : Type 0}
-      {new : AccountFile S g} {to : Store} {done : Result (Unit {0}) StoreError} → terms_of new ≡ terms_of mid → May before
+  ends : {X : Type 0} {answers : Result X FileError → Texts → Type 0} {May : Texts → Type 0} {long other : Type 0}
+      {new : AccountFile S g} {to : Texts} {done : Result (Unit {0}) StoreError} → terms_of new ≡ terms_of mid → May before
       → (IsHonest g (database_of new) → May to) → Changes g (database_of mid) (database_of new) before to other done
-      → (r : Result X FileError) (after : Store) → HasNames new after → (IsHonest g (database_of new) → answers r after)
+      → (r : Result X FileError) (after : Texts) → HasNames new after → (IsHonest g (database_of new) → answers r after)
       → OnErr r (after ≡ before) → IfErr r (IfRefused (StaysQuiet g (database_of old) (database_of new)))
       → OnOk r (IsHonest g (database_of new) → CrashLeaves g (database_of new) (λ left. left ≡ after))
       → (IsHonest g (database_of new) → IfErr r (HasCause (IsClosed old) (HasFailed old new) long))
@@ -228,12 +234,12 @@ module _ {S : Type 0} {g : Ghosts S} {old mid : AccountFile S g} {before : Store
   }
 
   -- names are written, or stay as they were
-  pub writes_all : {X : Type 0} {answers : Result X FileError → Store → Type 0} {May : Store → Type 0} {long : Type 0}
-      {new : AccountFile S g} {to : Store} (x : X) → terms_of new ≡ terms_of mid
+  pub writes_all : {X : Type 0} {answers : Result X FileError → Texts → Type 0} {May : Texts → Type 0} {long : Type 0}
+      {new : AccountFile S g} {to : Texts} (x : X) → terms_of new ≡ terms_of mid
       → ((e : StoreError) → answers (Err (unwritten e)) before) → May before → (IsHonest g (database_of new) → May to)
       → (done : Result (Unit {0}) StoreError) → OnOk done (IsHonest g (database_of new) → answers (Ok x) to)
       → Changes g (database_of mid) (database_of new) before to long done
-      → (r : Result X FileError) → r ≡ answered done x → (after : Store) × Runs answers May long r old new before after
+      → (r : Result X FileError) → r ≡ answered done x → (after : Texts) × Runs answers May long r old new before after
   writes_all {to = to} x same failed first then (Ok _) step change r e = (
     to,
     rw e (ends same first then change (Ok x) to change.kept step tt tt (λ clean. (change.durable clean).1) (λ clean. tt)),
@@ -252,13 +258,13 @@ module _ {S : Type 0} {g : Ghosts S} {old mid : AccountFile S g} {before : Store
 -- A call on a name that has this text or none, in a file that is not closed.
 module _ {S : Type 0} {g : Ghosts S} {X : Type 0} (call : Call X) {name : List ℕ}
     (calls : (answer : Result X AccountError) → name_of (call answer) ≡ name)
-    {old mid : AccountFile S g} {before : Store} (reads : Stays None before old mid) where
+    {old mid : AccountFile S g} {before : Texts} (reads : Stays None before old mid) where
   -- the call runs, with some names after it
   abbrev Ends : Result X FileError → AccountFile S g → Type 0
-  Ends r new = (after : Store) × Runs (Answers (terms_of old) before call) (IsBeforeOrAfter X (terms_of old) before call)
+  Ends r new = (after : Texts) × Runs (Answers (terms_of old) before call) (IsBeforeOrAfter X (terms_of old) before call)
       (IsLong (name_of (call (Err NameUnknown)))) r old new before after
 
-  module _ {found o : Option Phc} (shows : HasNames mid before → IsHonest g (database_of mid) → get before name ≡ found)
+  module _ {found o : Option (List ℕ)} (shows : HasNames mid before → IsHonest g (database_of mid) → get before name ≡ found)
       (is : found ≡ o) where
     stays : (answer : Result X AccountError) → AccountAnswer (terms_of mid) (call answer) o o → IsHonest g (database_of mid)
         → AccountStep (terms_of old) before (call answer) before
@@ -283,7 +289,7 @@ module _ {S : Type 0} {g : Ghosts S} {X : Type 0} (call : Call X) {name : List �
           (λ clean h. absurd (live reads clean h)) (λ clean. tt),
     )
 
-    moves_to : (p : Option Phc) (x : X) → AccountAnswer (terms_of mid) (call (Ok x)) o p → IsHonest g (database_of mid)
+    moves_to : (p : Option (List ℕ)) (x : X) → AccountAnswer (terms_of mid) (call (Ok x)) o p → IsHonest g (database_of mid)
         → AccountStep (terms_of old) before (call (Ok x)) (changed before name p)
     moves_to p x answer clean = (
       rw (calls (Ok x), get-changed before name p, shows reads.has clean, is, ← reads.terms) answer,
@@ -291,7 +297,7 @@ module _ {S : Type 0} {g : Ghosts S} {X : Type 0} (call : Call X) {name : List �
     )
 
     -- an accepted call that could not write its name's text, while the file is still open
-    pub keeps : Settled g → {new : AccountFile S g} (p : Option Phc) (did x : X) → terms_of new ≡ terms_of mid
+    pub keeps : Settled g → {new : AccountFile S g} (p : Option (List ℕ)) (did x : X) → terms_of new ≡ terms_of mid
         → AccountAnswer (terms_of mid) (call (Ok did)) o p → AccountAnswer (terms_of mid) (call (Ok x)) o o
         → (done : Result (Unit {0}) StoreError) → IsErr done
         → Changes g (database_of mid) (database_of new) before (changed before name p) (IsLong name) done
@@ -307,7 +313,7 @@ module _ {S : Type 0} {g : Ghosts S} {X : Type 0} (call : Call X) {name : List �
     )
 
     -- an accepted call that writes its name's text
-    pub writes : {new : AccountFile S g} (p : Option Phc) (x : X) → terms_of new ≡ terms_of mid
+    pub writes : {new : AccountFile S g} (p : Option (List ℕ)) (x : X) → terms_of new ≡ terms_of mid
         → AccountAnswer (terms_of mid) (call (Ok x)) o p → (done : Result (Unit {0}) StoreError)
         → Changes g (database_of mid) (database_of new) before (changed before name p) (IsLong name) done
         → (r : Result X FileError) → r ≡ answered done x → Ends r new
@@ -320,40 +326,41 @@ module _ {S : Type 0} {g : Ghosts S} {X : Type 0} (call : Call X) {name : List �
         (sym (calls (Err NameUnknown))) change) r e
 
 -- a call on a file that can't be read
-pub fails : {S : Type 0} {g : Ghosts S} {X : Type 0} {answers : Result X FileError → Store → Type 0} {May : Store → Type 0}
-    {long : Type 0} {old mid : AccountFile S g} {before : Store} {e : FileError} → answers (Err e) before → May before
+pub fails : {S : Type 0} {g : Ghosts S} {X : Type 0} {answers : Result X FileError → Texts → Type 0} {May : Texts → Type 0}
+    {long : Type 0} {old mid : AccountFile S g} {before : Texts} {e : FileError} → answers (Err e) before → May before
     → Stays (Some e) before old mid → Runs answers May long (Err e) old mid before before
 fails {long = long} {e = e} step may reads =
     ends_with (Err e) reads.has reads.terms reads.quiet reads.left (λ clean. step) may tt
     (λ clean is. let shut = reads.closed clean is in (cc, shut.1)) (λ clean. unread_cause _ _ long e (reads.cause clean))
 
 -- and one on a name in it
-pub cannot_serve : {S : Type 0} {g : Ghosts S} {X : Type 0} (call : Call X) {old mid : AccountFile S g} {before : Store}
+pub cannot_serve : {S : Type 0} {g : Ghosts S} {X : Type 0} (call : Call X) {old mid : AccountFile S g} {before : Texts}
     {e : FileError} (r : Result X FileError) → IsErrAnd r (λ f. f ≡ e) → Stays (Some e) before old mid
-    → (after : Store) × Runs (Answers (terms_of old) before call) (IsBeforeOrAfter X (terms_of old) before call)
+    → (after : Texts) × Runs (Answers (terms_of old) before call) (IsBeforeOrAfter X (terms_of old) before call)
     (IsLong (name_of (call (Err NameUnknown)))) r old mid before after
 cannot_serve {X = X} call {old = old} {before = before} {e} r is reads =
     rw (err_is r e is) (before, fails (unread_step X (terms_of old) before call e reads.of_file) (inl refl) reads)
 
 -- ---- the password of a name
 
--- the name still has its text, which admits the password
-pub has_kept : {S : Type 0} {g : Ghosts S} {new : S} (terms : Terms) {before after : Store}
-    (name password : List ℕ) {v : Phc} → rows.HasNames g new before → rows.HasNames g new after → (IsHonest g new → IsOpen g new)
-    → (IsHonest g new → get before name ≡ Some v) → Admits terms password v
+-- the name still has its text, which accepts the password
+pub has_kept : {S : Type 0} {g : Ghosts S} {new : S} (terms : Terms) {before after : Texts}
+    (name password : List ℕ) {text : List ℕ} → rows.HasNames g new before → rows.HasNames g new after
+    → (IsHonest g new → IsOpen g new) → (IsHonest g new → get before name ≡ Some text) → Accepts terms password text
     → IsHonest g new → HasPassword terms after name password
-has_kept {g = g} {new = new} terms {before} {after} name password has held is_open had admits clean =
+has_kept {g = g} {new = new} terms {before} {after} name password has held is_open had accepts clean =
     subst (λ names. HasPassword terms names name password) (same_names g new before after has held clean (is_open clean))
-    (rw (had clean) admits)
+    (rw (had clean) accepts)
 
 -- or it has one that was written
-pub has_written : {S : Type 0} {g : Ghosts S} {s new : S} (terms : Terms) {before after : Store}
-    (name password : List ℕ) {v : Phc} {long : Type 0} {X : Type 0} (x : X) (done : Result (Unit {0}) StoreError)
-    → Changes g s new before (insert before name v) long done → rows.HasNames g new after → Admits terms password v
+pub has_written : {S : Type 0} {g : Ghosts S} {s new : S} (terms : Terms) {before after : Texts}
+    (name password : List ℕ) {text : List ℕ} {long : Type 0} {X : Type 0} (x : X) (done : Result (Unit {0}) StoreError)
+    → Changes g s new before (insert before name text) long done → rows.HasNames g new after → Accepts terms password text
     → (r : Result X FileError) → r ≡ answered done x → OnOk r (IsHonest g new → HasPassword terms after name password)
-has_written terms {before} name password {v} x (Ok _) change has admits r e = rw e (has_kept terms name password change.kept has
-    (λ clean. (change.durable clean).0) (λ clean. get-same before name v) admits)
-has_written terms name password x (Err f) change has admits r e = rw e tt
+has_written terms {before} name password {text} x (Ok _) change has accepts r e =
+    rw e (has_kept terms name password change.kept has (λ clean. (change.durable clean).0)
+    (λ clean. get-changed before name (Some text)) accepts)
+has_written terms name password x (Err f) change has accepts r e = rw e tt
 
 -- what an answer says
 pub ruleset answers = (on_read, of_file, undrawn, writes_at)

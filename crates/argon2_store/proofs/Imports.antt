@@ -1,25 +1,25 @@
 -- The words that the proofs of this crate use.
 pub use Rattle.std.proofs.Common.{Bool, Equal, Err, Greater, IsPermutation, IsSome, IsTrue, IsUtf8, Less, List, None, Ok, Option, Ordering, Result, Some, T, [], ap, append-nil}
-pub use Rattle.std.proofs.Common.{append_assoc, ap₂, arith, cond, false, get_or, inl, inr, is_eq, length, lit<, ltb, map, not, refl, rules, slice_index, subst}
-pub use Rattle.std.proofs.Common.{subst₂, suc, sym, take, true, unwrap_or, zero, zero-add, ℕ, ◌*◌, ◌++◌, ◌+◌, ◌-◌, ◌<◌, ◌==◌, ◌^◌, ◌↔◌, ◌∙◌, ◌∷◌, ◌≡◌, ◌≢◌, ◌≤◌, ◌⊎◌}
+pub use Rattle.std.proofs.Common.{append_assoc, ap₂, arith, cond, false, get_or, inl, inr, is_eq, length, lit<, ltb, map, not, refl, rules, slice_index, string_bytes, subst}
+pub use Rattle.std.proofs.Common.{subst₂, suc, sym, take, true, unwrap_or, zero, zero-add, ℕ, ◌*◌, ◌++◌, ◌+◌, ◌-◌, ◌<◌, ◌^◌, ◌↔◌, ◌∙◌, ◌∷◌, ◌≡◌, ◌≢◌, ◌≤◌, ◌⊎◌}
 pub use Rattle.std.proofs.Math.Logic.{∥∥₁_elim, ∥∥₁_map}
 pub use Rattle.std.proofs.lemmas.Bool.{and_parts, cases_Bool, cases_eq}
 pub use Rattle.std.proofs.lemmas.Bool.Decides.{nat_tests}
 pub use Rattle.std.proofs.lemmas.Cmp.{tied_itself}
-pub use Rattle.std.proofs.lemmas.Fmt.{IsAscii-decimal, decimal_injective}
+pub use Rattle.std.proofs.lemmas.Fmt.{IsAscii-decimal}
 pub use Rattle.std.proofs.lemmas.List.{get_or-map, length-map, map_more, reverse-append, take-map, take_all}
 pub use Rattle.std.proofs.lemmas.List.Elements.{All-from_recursion}
 pub use Rattle.std.proofs.lemmas.Slice.Eq.{bytes_eq-Decides}
 pub use Rattle.std.specs.Borrow.{Bor}
 pub use Rattle.std.specs.Cmp.Lexicographic.{nat_list_cmp_total, slice_cmp}
 pub use Rattle.std.specs.Coded.{Coded-set, coded_list}
-pub use Rattle.std.specs.FinMap.{empty, entries, entries-insert, entries_sorted, find, get, get-empty, get-entries, get-remove, insert, is_sorted, len-empty, len-entries}
-pub use Rattle.std.specs.FinMap.{nat_cmp-IsAntisymmetric, put, remove, same_map, slice_cmp-IsAntisymmetric}
+pub use Rattle.std.specs.FinMap.{empty, entries, entries-insert, entries_sorted, find, get, get-empty, get-entries, get-insert, get-remove, insert, is_sorted, len-empty, len-entries}
+pub use Rattle.std.specs.FinMap.{nat_cmp-IsAntisymmetric, put, remove, same_entries_map, same_map, slice_cmp-IsAntisymmetric}
 pub use Rattle.std.specs.FinMap.Entries.{below_all}
 pub use Rattle.std.specs.List.{AllByRecursion, flat_map, list_all, range_with_len}
 pub use Rattle.std.specs.Option.{is_some, option_copied, option_map}
 pub use Rattle.std.specs.Ordering.{eq_by_cmp, is_lt, nat_cmp, ordering_reverse, ordering_then}
-pub use Rattle.std.specs.Prelude.{All, Any, IfErr, IfOk, IfSome, IsErr, IsErrAnd, IsNone, MatchResult, OnErr, OnOk, if◌then◌else◌, ⊤}
+pub use Rattle.std.specs.Prelude.{All, Any, IfErr, IfOk, IfSome, IsErr, IsErrAnd, MatchResult, OnErr, OnOk, if◌then◌else◌, ⊤}
 pub use Rattle.std.specs.Str.{bytes_eq}
 pub use Rattle.sqlite_disk.specs.Disk.{MoreFaults}
 pub use Rattle.sqlite_pages.specs.PageMap.{PageMap}
@@ -55,17 +55,16 @@ pub use Rattle.sqlite_wal.proofs.PartLemmas.{held_is_part, part_within, slice_in
 pub use Rattle.sqlite_wal.specs.Files.{outcomes, seen_image}
 pub use Rattle.sqlite_wal.specs.Format.{IsSigned, be32, checksum, is_big, part}
 pub use Rattle.sqlite_wal.specs.Recovery.{AreWhole, Image, IsIgnored, Replays, header, pages_after}
-pub use Rattle.argon2.proofs.login_lemmas.Stores.{get-other, get-same}
-pub use Rattle.argon2.specs.NamedTexts.{KeepsOthers, Store}
-pub use Rattle.argon2.specs.declared.login.answers.Accepted.TheVariants.{Current, Kept, Rehashed}
+pub use Rattle.argon2.specs.declared.login.answers.Accepted.TheVariants.{Kept, Rehashed}
 pub use Rattle.argon2_accounts.proofs.AccountLemmas.{err_is, is_other_text, is_text, taken}
-pub use Rattle.argon2_accounts.specs.Accounts.{AccountAnswer, AccountEvent, AccountRun, AccountStep, Admits, AreTerms, HasPassword, Terms, adding}
+pub use Rattle.argon2_accounts.proofs.TextLemmas.{is_text_of}
+pub use Rattle.argon2_accounts.specs.Accounts.{AccountAnswer, AccountEvent, AccountRun, AccountStep, Accepts, AreTerms, HasPassword, KeepsOthers, Terms, Texts, adding, text_of}
 pub use Rattle.argon2_accounts.specs.Accounts.{changing, logging_in, name_of, registering, removing, replacing, setting}
 pub use Rattle.argon2_accounts.specs.declared.error.AccountError.{AccountError}
 pub use Rattle.argon2_accounts.specs.declared.error.AccountError.TheVariants.{NameTaken, NameUnknown, Refused, TextChanged}
-pub use Rattle.argon2_base.proofs.phc_lemmas.Base64Lemmas.{IsUtf8-strict_base64, decode_of-strict_base64, strict_base64_unique}
-pub use Rattle.argon2_base.specs.PhcFields.{NoItemFirst, NoVersionFirst, fields_of, phc_of}
-pub use Rattle.argon2_base.specs.PhcText.{HasBytes, IsPhc, Pair, Phc, are_params, field, fields_text, is_param, item, list_field, params_text, phc_text, version_text}
+pub use Rattle.argon2_base.proofs.phc_lemmas.Base64Lemmas.{IsUtf8-strict_base64}
+pub use Rattle.argon2_base.specs.PhcFields.{phc_of}
+pub use Rattle.argon2_base.specs.PhcText.{IsPhc, Pair, Phc, field, fields_text, is_param, item, list_field, params_text, phc_text, version_text}
 pub use Rattle.argon2_base.specs.Texts.{is_value, is_value_char, strict_base64}
 pub use Rattle.argon2_base.specs.declared.phc.hash.PasswordHash.{PasswordHash}
 pub use Rattle.rand_core.specs.Stream.{Stream, fill_bytes}

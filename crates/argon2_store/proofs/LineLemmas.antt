@@ -1,6 +1,6 @@
 -- Rows of names, one by one, and their lines.
-use Rattle.argon2_store.proofs.Imports.{◌≡◌, ℕ, List, [], ◌∷◌, ◌++◌, map, append_assoc, append-nil, Option, Some, None, true, false, refl, sym, ap, subst, ◌∙◌, entries, is_some}
-use Rattle.argon2_store.proofs.Imports.{IfSome, Row, phc_of, Phc, PasswordHash, Store, plain, Index, Forward, order_of, sought, Advances, with_cursor, IsAccount, line}
+use Rattle.argon2_store.proofs.Imports.{◌≡◌, ℕ, List, [], ◌∷◌, ◌++◌, map, append_assoc, append-nil, Option, Some, true, false, refl, sym, ap, subst, ◌∙◌, entries}
+use Rattle.argon2_store.proofs.Imports.{Row, Texts, plain, Index, Forward, order_of, sought, Advances, with_cursor, line}
 use Rattle.argon2_store.proofs.Imports.{lines, lines_of, row_of, rows_of}
 use Rattle.std.proofs.KnownBytes.{Appends-kept, Appends-nil, Appends-trans}
 use Rattle.std.specs.Io.KnownBytes.{Appends, Keeps}
@@ -8,34 +8,29 @@ use Rattle.sqlite_trees.specs.View.{View as Shown}
 use Rattle.sqlite_store.proofs.RowLemmas.{from_key-none}
 use Rattle.argon2_store.specs.declared.view.View.{View}
 
-pub an_account : (row : Row) (o : Option PasswordHash) → is_some o ≡ true
-    → IfSome o (λ hash. (name : List ℕ) × (row ≡ row_of (name, phc_of hash))) → IsAccount row
-an_account row (Some hash) some (name, is) = ((name, phc_of hash), hash.grammatical, is)
-an_account row None some found = absurd cc
-
 -- the next row is that of the next name
-pub next_name : (es : List (List ℕ × Phc)) (row : Row) (left : List Row) → Some (map row_of es) ≡ Some (row ∷ left)
-    → (e : List ℕ × Phc) × (fs : List (List ℕ × Phc)) × (es ≡ e ∷ fs) × (row ≡ row_of e) × (left ≡ map row_of fs)
+pub next_name : (es : List (List ℕ × List ℕ)) (row : Row) (left : List Row) → Some (map row_of es) ≡ Some (row ∷ left)
+    → (e : List ℕ × List ℕ) × (fs : List (List ℕ × List ℕ)) × (es ≡ e ∷ fs) × (row ≡ row_of e) × (left ≡ map row_of fs)
 next_name [] row left is = absurd cc
 next_name (e ∷ fs) row left is = (e, fs, refl, cc, cc)
 
-pub no_more : (es : List (List ℕ × Phc)) → Some (map row_of es) ≡ Some [] → es ≡ []
+pub no_more : (es : List (List ℕ × List ℕ)) → Some (map row_of es) ≡ Some [] → es ≡ []
 no_more [] is = refl
 no_more (e ∷ es) is = absurd cc
 
-pub lines-append : (view : View) (es fs : List (List ℕ × Phc)) → lines view (es ++ fs) ≡ lines view es ++ lines view fs
+pub lines-append : (view : View) (es fs : List (List ℕ × List ℕ)) → lines view (es ++ fs) ≡ lines view es ++ lines view fs
 lines-append view [] fs = refl
 lines-append view (e ∷ es) fs = ap (λ l. line view e ++ l) (lines-append view es fs) ∙ sym (append_assoc (line view e) _ _)
 
 -- the names of some rows are written, and the cursor has the rest
-pub record IsWriting (view : View) (first now : Shown) (names : Store) (old new : Option (List ℕ)) : Type 0 where
-  pub done : List (List ℕ × Phc)
-  pub left : List (List ℕ × Phc)
+pub record IsWriting (view : View) (first now : Shown) (names : Texts) (old new : Option (List ℕ)) : Type 0 where
+  pub done : List (List ℕ × List ℕ)
+  pub left : List (List ℕ × List ℕ)
   pub all : entries names ≡ done ++ left
   pub rows : now.cursors 0 ≡ Some (map row_of left)
   pub written : Appends old new (lines view done)
 
-pub begin_lines : (view : View) (first now : Shown) (names : Store) (out : Option (List ℕ)) → first.shape 0 ≡ Index plain
+pub begin_lines : (view : View) (first now : Shown) (names : Texts) (out : Option (List ℕ)) → first.shape 0 ≡ Index plain
     → now ≡ with_cursor first 0 (sought (order_of (first.shape 0)) Forward [] (first.trees 0)) → first.trees 0 ≡ rows_of names
     → IsWriting view first now names out out
 begin_lines view first now names out shape is rows = record {
@@ -47,9 +42,9 @@ begin_lines view first now names out shape is rows = record {
 }
 
 -- one row more
-pub next_row : (view : View) (first now next : Shown) (names : Store) (old mid new : Option (List ℕ)) (row : Row)
+pub next_row : (view : View) (first now next : Shown) (names : Texts) (old mid new : Option (List ℕ)) (row : Row)
     → IsWriting view first now names old mid → Advances now next 0 row true
-    → ((e : List ℕ × Phc) → row ≡ row_of e → Appends mid new (line view e)) → IsWriting view first next names old new
+    → ((e : List ℕ × List ℕ) → row ≡ row_of e → Appends mid new (line view e)) → IsWriting view first next names old new
 next_row view first now next names old mid new row writing moves wrote =
     let (e, fs, cut, at, rest) = next_name writing.left row moves.0 (sym writing.rows ∙ moves.1) in
     record {
@@ -62,13 +57,13 @@ next_row view first now next names old mid new row writing moves wrote =
           (Appends-trans old mid new _ _ writing.written (wrote e at));
     }
 
-pub its_name : (view : View) (first now next : Shown) (names : Store) (old mid : Option (List ℕ)) (row : Row)
-    → IsWriting view first now names old mid → Advances now next 0 row true → (e : List ℕ × Phc) × (row ≡ row_of e)
+pub its_name : (view : View) (first now next : Shown) (names : Texts) (old mid : Option (List ℕ)) (row : Row)
+    → IsWriting view first now names old mid → Advances now next 0 row true → (e : List ℕ × List ℕ) × (row ≡ row_of e)
 its_name view first now next names old mid row writing moves =
     let (e, fs, cut, at, rest) = next_name writing.left row moves.0 (sym writing.rows ∙ moves.1) in (e, at)
 
 -- the last row was written, and the output is flushed
-pub all_lines : (view : View) (first now next : Shown) (names : Store) (old mid new : Option (List ℕ)) (row : Row)
+pub all_lines : (view : View) (first now next : Shown) (names : Texts) (old mid new : Option (List ℕ)) (row : Row)
     → IsWriting view first now names old mid → Advances now next 0 row false → Keeps mid new
     → Appends old new (lines_of view names)
 all_lines view first now next names old mid new row writing ended kept =

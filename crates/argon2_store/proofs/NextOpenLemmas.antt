@@ -5,7 +5,7 @@ use Rattle.argon2_store.proofs.Imports.{catalog_tree, Trees, rows_at, reading, s
 use Rattle.argon2_store.proofs.Imports.{IsUnstarted, MayHave, StandsFor, account, ◌≤◌, true, false, cond, Option, None, length, slice_index, unwrap_or, zero-add, ◌-◌}
 use Rattle.argon2_store.proofs.Imports.{◌*◌, Some, cases_eq, plain, column, be32, part, IsIgnored, Replays, pages_after, part_within, slice_index-part, coded_list}
 use Rattle.argon2_store.proofs.Imports.{range_with_len, length-map, reserved, sealed, stored_size, length-sealed, recovers_once, Index, IsFile, recovers}
-use Rattle.argon2_store.proofs.Imports.{same_listing, file_trees, Store, HoldsNames, IsAfterOpens, IsTableOf, LeavesNames, rows_of, Holds}
+use Rattle.argon2_store.proofs.Imports.{same_listing, file_trees, Texts, HoldsNames, IsAfterOpens, IsTableOf, LeavesNames, rows_of, Holds}
 use Rattle.sqlite_disk.specs.declared.Disk.{Ghosts}
 use Rattle.sqlite_trees.specs.declared.store.Shape.TheVariants.{Table}
 use Rattle.sqlite_store.specs.Listing.{all_trees, all_reals, all_shapes}
@@ -26,7 +26,7 @@ use Rattle.sqlite_btree.proofs.StoredLemmas.{stored_root_live}
 use Rattle.sqlite_store.specs.Catalog.{describes, is_about, root_in}
 use Rattle.sqlite_store.specs.Db.{roots_of, trees_in}
 use Rattle.sqlite_store.specs.declared.catalog.Wanted.{Wanted}
-use Rattle.argon2_store.proofs.TextLemmas.{rows_of-once}
+use Rattle.argon2_store.proofs.RowLemmas.{rows_of-once}
 use Rattle.sqlite_wal.specs.Recovery as raw
 use Rattle.sqlite_value.specs.contracts.row.Row as row
 
@@ -300,7 +300,7 @@ rows_stable a b h =
 -- What an open finds in what a crash may leave, or what opens that failed have made of it, is what a crash may leave.
 pub next_open : {D : Type 0} {g : Ghosts D} (it : FileStore D g) → ((db : Trees) → recovers it db → db catalog_tree ≡ catalog)
     → (before : Image) → (state it).may_leave before → (opens : List Image) (left : Image) → IsAfterOpens opens before left
-    → (found : Store) → HoldsNames left found → ∥ ((db : Trees) × recovers it db × Holds db found) ∥₁
+    → (found : Texts) → HoldsNames left found → ∥ ((db : Trees) × recovers it db × Holds db found) ∥₁
 unfolding catalog
 next_open it listed before may opens left after found holds = ∥∥₁_elim it.safe squash₁ (λ all.
     let (pages, recs, ours) = all before may in
@@ -322,9 +322,9 @@ found_rows img rows (inl (pages, recs, file, is)) = ∥∥₁_map file (λ file.
     inl (4096, account ∷ [], pages, (omega arith, omega arith, refl, refl), recs, file, refl, is))
 found_rows img rows (inr (none, is)) = ∥∥₁_map none (λ unbegun. inr (unbegun, is))
 
-names_stay : (opens : List Image) (before left : Image) → IsAfterOpens opens before left → (names found : Store)
+names_stay : (opens : List Image) (before left : Image) → IsAfterOpens opens before left → (names found : Texts)
     → HoldsNames before names → HoldsNames left found → found ≡ names
-names_stay opens before left after names found held holds = rows_of-once found names holds.0 held.0
+names_stay opens before left after names found held holds = rows_of-once found names
     (rows_stable _ _ (λ never. ∥∥₁_elim (found_rows before _ held.1) ⊥_prop
     (λ may. (near_opens _ opens before left after (near_rows before (rows_of names) may)).0 _ holds.1 never)))
 

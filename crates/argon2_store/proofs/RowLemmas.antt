@@ -1,11 +1,11 @@
 -- Maps of names, and their rows in a tree: one more, one less, sought by a name, and read one by one.
-use Rattle.argon2_store.proofs.Imports.{IfSome, IsPhc, AreTexts, changed, subst, ◌≡◌, ◌≢◌, ◌⊎◌, ℕ, List, Option, Some, None, Bool, true, false, cond, inl, inr, refl, sym, ap, ◌∙◌}
-use Rattle.argon2_store.proofs.Imports.{cases_Bool, bytes_eq-Decides, nat_list_cmp_total, get, get-remove, insert, remove, same_map, slice_cmp-IsAntisymmetric}
-use Rattle.argon2_store.proofs.Imports.{nat_cmp-IsAntisymmetric, bytes_eq, Phc, KeepsOthers, Store, get-other, get-same, zero, suc, ◌+◌, ◌^◌, ◌≤◌, arith, length, [], ◌∷◌, map, T, not}
+use Rattle.argon2_store.proofs.Imports.{IfSome, IsUtf8, AreTexts, changed, subst, ◌≡◌, ◌≢◌, ◌⊎◌, ℕ, List, Option, Some, None, Bool, true, false, cond, inl, inr, refl, sym, ap, ◌∙◌}
+use Rattle.argon2_store.proofs.Imports.{cases_Bool, bytes_eq-Decides, nat_list_cmp_total, get, get-insert, get-remove, insert, remove, same_entries_map, same_map, slice_cmp-IsAntisymmetric}
+use Rattle.argon2_store.proofs.Imports.{nat_cmp-IsAntisymmetric, bytes_eq, KeepsOthers, Texts, ap₂, zero, suc, ◌+◌, ◌^◌, ◌≤◌, arith, length, [], ◌∷◌, map, T, not}
 use Rattle.argon2_store.proofs.Imports.{Ordering, Less, Equal, Greater, is_eq, and_parts, All, tied_itself, slice_cmp, get-entries, entries, entries-insert}
 use Rattle.argon2_store.proofs.Imports.{entries_sorted, find, put, is_sorted, below_all, AllByRecursion, eq_by_cmp, is_lt, nat_cmp, ordering_reverse}
 use Rattle.argon2_store.proofs.Imports.{ordering_then, Text, plain, entry_cmp, Row, column, number, row_cmp, value_cmp-Text, insert_entry, remove_entry, IsStorable, is_int}
-use Rattle.argon2_store.proofs.Imports.{phc_text, row_of, rows_of, IsLong, IsTrue, prefix_cmp, Index, Forward, from_key, order_of, sought, View, Advances, with_cursor}
+use Rattle.argon2_store.proofs.Imports.{row_of, rows_of, IsLong, IsTrue, prefix_cmp, Index, Forward, from_key, order_of, sought, View, Advances, with_cursor}
 use Rattle.argon2_store.proofs.Imports.{HasNoneAfter, IsAfterAll, IsFoundAs, ◌++◌, append_assoc, append-nil, empty, len-empty, len-entries, get-empty, ⊤, Ghosts, Trees, IsIndex, IsOrdered, IsAccount, Holds}
 use Rattle.argon2_store.proofs.Imports.{IsUnwritten, IsHonest, IsKept, IsReading}
 use Rattle.std.proofs.lemmas.Bool.{cases_lt}
@@ -20,30 +20,20 @@ use Rattle.sqlite_trees.proofs.ListLemmas.{filter_all}
 use Rattle.sqlite_trees.proofs.TreeLemmas.{prefix_cmp-one}
 use Rattle.std.specs.Float.Ieee
 
-pub same : (m n : Store) → ((q : List ℕ) → get m q ≡ get n q) → m ≡ n
-same m n = same_map nat_list_cmp_total (slice_cmp-IsAntisymmetric nat_cmp-IsAntisymmetric) m n
-
--- what is left once a name is taken out
-pub get-gone : (m : Store) (n q : List ℕ) → get (remove m n) q ≡ cond (bytes_eq q n) None (get m q)
-get-gone m n q = get-remove nat_list_cmp_total m n q ∙ ap (λ b. cond b None (get m q)) (is_eq-slice_cmp q n)
-
-pub get-gone-same : (m : Store) (n : List ℕ) → get (remove m n) n ≡ None
-get-gone-same m n = get-gone m n n ∙ ap (λ b. cond b None (get m n)) ((bytes_eq-Decides n n).1 refl)
-
-pub get-gone-other : (m : Store) (n : List ℕ) → KeepsOthers n m (remove m n)
-get-gone-other m n q differs = elim (cases_Bool (bytes_eq q n)) [
-  | inl hit ↦ absurd (differs ((bytes_eq-Decides q n).0 hit))
-  | inr miss ↦ get-gone m n q ∙ rw miss refl
-]
-
 -- names of which one is changed: it has what it was given, and the others keep what they have
-pub get-changed : (m : Store) (n : List ℕ) (o : Option Phc) → get (changed m n o) n ≡ o
-get-changed m n None = get-gone-same m n
-get-changed m n (Some v) = get-same m n v
+get-at : (m : Texts) (n q : List ℕ) (o : Option (List ℕ)) → get (changed m n o) q ≡ cond (bytes_eq q n) o (get m q)
+get-at m n q None = get-remove nat_list_cmp_total m n q ∙ ap (λ b. cond b None (get m q)) (is_eq-slice_cmp q n)
+get-at m n q (Some text) =
+    get-insert nat_list_cmp_total m n text q ∙ ap (λ b. cond b (Some text) (get m q)) (is_eq-slice_cmp q n)
 
-pub others_kept : (m : Store) (n : List ℕ) (o : Option Phc) → KeepsOthers n m (changed m n o)
-others_kept m n None = get-gone-other m n
-others_kept m n (Some v) = get-other m n v
+pub get-changed : (m : Texts) (n : List ℕ) (o : Option (List ℕ)) → get (changed m n o) n ≡ o
+get-changed m n o = get-at m n n o ∙ ap (λ b. cond b o (get m n)) ((bytes_eq-Decides n n).1 refl)
+
+pub others_kept : (m : Texts) (n : List ℕ) (o : Option (List ℕ)) → KeepsOthers n m (changed m n o)
+others_kept m n o q differs = elim (cases_Bool (bytes_eq q n)) [
+  | inl hit ↦ absurd (differs ((bytes_eq-Decides q n).0 hit))
+  | inr miss ↦ get-at m n q o ∙ rw miss refl
+]
 
 pub one_or_other : (q n : List ℕ) → (q ≡ n) ⊎ (q ≢ n)
 one_or_other q n = elim (cases_Bool (bytes_eq q n)) [
@@ -52,25 +42,41 @@ one_or_other q n = elim (cases_Bool (bytes_eq q n)) [
 ]
 
 -- a name that gets back what it had
-pub changed_back : (m changed_m : Store) (n : List ℕ) (o : Option Phc) → KeepsOthers n m changed_m → get m n ≡ o
+pub changed_back : (m changed_m : Texts) (n : List ℕ) (o : Option (List ℕ)) → KeepsOthers n m changed_m → get m n ≡ o
     → changed changed_m n o ≡ m
-changed_back m changed_m n o kept has = same _ _ (λ q. elim (one_or_other q n) [
-  | inl is ↦ rw is (get-changed changed_m n o ∙ sym has)
-  | inr far ↦ others_kept changed_m n o q far ∙ kept q far
-])
+changed_back m changed_m n o kept has =
+    same_map nat_list_cmp_total (slice_cmp-IsAntisymmetric nat_cmp-IsAntisymmetric) _ _ (λ q. elim (one_or_other q n) [
+      | inl is ↦ rw is (get-changed changed_m n o ∙ sym has)
+      | inr far ↦ others_kept changed_m n o q far ∙ kept q far
+    ])
 
 -- a change of a name that was taken out is a change of the name
-pub changed-remove : (m : Store) (n : List ℕ) (o : Option Phc) → changed (remove m n) n o ≡ changed m n o
+pub changed-remove : (m : Texts) (n : List ℕ) (o : Option (List ℕ)) → changed (remove m n) n o ≡ changed m n o
 changed-remove m n o = changed_back (changed m n o) (remove m n) n o
     (λ q far. others_kept m n None q far ∙ sym (others_kept m n o q far)) (get-changed m n o)
 
 -- names that are changed still are texts
-pub texts_changed : (names : Store) (name : List ℕ) (o : Option Phc) → AreTexts names → IfSome o IsPhc
+pub texts_changed : (names : Texts) (name : List ℕ) (o : Option (List ℕ)) → AreTexts names → IfSome o IsUtf8
     → AreTexts (changed names name o)
-texts_changed names name o texts good other v has = elim (one_or_other other name) [
+texts_changed names name o texts good other text has = elim (one_or_other other name) [
   | inl is ↦ rw (sym (get-changed names name o) ∙ ap (get (changed names name o)) (sym is) ∙ has) at good
-  | inr far ↦ texts other v (sym (others_kept names name o other far) ∙ has)
+  | inr far ↦ texts other text (sym (others_kept names name o other far) ∙ has)
 ]
+
+-- ---- the rows of names are those of one map
+
+one_list : (es fs : List (List ℕ × List ℕ)) → map row_of es ≡ map row_of fs → es ≡ fs
+one_list [] [] one = refl
+one_list [] (f ∷ fs) one = absurd cc
+one_list (e ∷ es) [] one = absurd cc
+one_list (e ∷ es) (f ∷ fs) one =
+    let name : e.0 ≡ f.0 = cc in
+    let text : e.1 ≡ f.1 = cc in
+    let rest : map row_of es ≡ map row_of fs = cc in
+    ap₂ (λ x l. x ∷ l) (ap₂ (λ n t. (n, t)) name text) (one_list es fs rest)
+
+pub rows_of-once : (a b : Texts) → rows_of a ≡ rows_of b → a ≡ b
+rows_of-once a b one = same_entries_map a b (one_list (entries a) (entries b) one)
 
 -- ---- the rows of names, if one name more is set or one is taken out, and which rows are too long
 
@@ -78,12 +84,12 @@ abbrev pub order : List ℕ → List ℕ → Ordering
 order = slice_cmp nat_cmp
 
 -- two rows compare by their names, and then by their texts
-pub row_cmp-row_of : (e f : List ℕ × Phc) → entry_cmp plain (row_of e) (row_of f)
-    ≡ ordering_then (order e.0 f.0) (row_cmp (Text (phc_text e.1) ∷ []) (Text (phc_text f.1) ∷ []))
+row_cmp-row_of : (e f : List ℕ × List ℕ) → entry_cmp plain (row_of e) (row_of f)
+    ≡ ordering_then (order e.0 f.0) (row_cmp (Text e.1 ∷ []) (Text f.1 ∷ []))
 row_cmp-row_of e f = entry_cmp-plain (row_of e) (row_of f)
-    ∙ ap (λ o. ordering_then o (row_cmp (Text (phc_text e.1) ∷ []) (Text (phc_text f.1) ∷ []))) (value_cmp-Text e.0 f.0)
+    ∙ ap (λ o. ordering_then o (row_cmp (Text e.1 ∷ []) (Text f.1 ∷ []))) (value_cmp-Text e.0 f.0)
 
-untied : (b : Bool) (v : Phc) (o : Option Phc) → cond b (Some v) o ≡ None → (b ≡ false) × (o ≡ None)
+untied : (b : Bool) (v : List ℕ) (o : Option (List ℕ)) → cond b (Some v) o ≡ None → (b ≡ false) × (o ≡ None)
 untied true v o h = absurd cc
 untied false v o h = (refl, h)
 
@@ -106,7 +112,7 @@ unequal j k differ = elim (cases_Bool (eq_by_cmp order j k)) [
 
 -- ---- one more name
 
-insert_entry-map : (k : List ℕ) (v : Phc) (es : List (List ℕ × Phc)) → find order k es ≡ None
+insert_entry-map : (k v : List ℕ) (es : List (List ℕ × List ℕ)) → find order k es ≡ None
     → insert_entry plain (row_of (k, v)) (map row_of es) ≡ map row_of (put order k v es)
 insert_entry-map k v [] none = refl
 insert_entry-map k v (e ∷ es) none =
@@ -117,7 +123,7 @@ insert_entry-map k v (e ∷ es) none =
           rw (row_cmp-row_of e (k, v), high.1, high.0) (ap (λ l. row_of e ∷ l) (insert_entry-map k v es later))
     ]
 
-pub insert_entry-rows_of : (names : Store) (name : List ℕ) (v : Phc) → get names name ≡ None
+pub insert_entry-rows_of : (names : Texts) (name v : List ℕ) → get names name ≡ None
     → insert_entry plain (row_of (name, v)) (rows_of names) ≡ rows_of (insert names name v)
 insert_entry-rows_of names name v none =
     insert_entry-map name v (entries names) (sym (get-entries names name) ∙ none)
@@ -126,30 +132,30 @@ insert_entry-rows_of names name v none =
 -- ---- a name taken out
 
 -- the row of another name differs
-differs : (k : List ℕ) (u : Phc) (e : List ℕ × Phc) → eq_by_cmp order k e.0 ≡ false
+differs : (k u : List ℕ) (e : List ℕ × List ℕ) → eq_by_cmp order k e.0 ≡ false
     → is_eq (entry_cmp plain (row_of e) (row_of (k, u))) ≡ false
 differs k u e differ = elim (apart k e.0 differ) [
   | inl low ↦ rw (row_cmp-row_of e (k, u), low.1) refl
   | inr high ↦ rw (row_cmp-row_of e (k, u), high.1) refl
 ]
 
-all_differ : (k : List ℕ) (u : Phc) (es : List (List ℕ × Phc)) → find order k es ≡ None
+all_differ : (k u : List ℕ) (es : List (List ℕ × List ℕ)) → find order k es ≡ None
     → AllByRecursion (λ r. not (is_eq (entry_cmp plain r (row_of (k, u)))) ≡ true) (map row_of es)
 all_differ k u [] none = tt
 all_differ k u (e ∷ es) none =
     let parts = untied (eq_by_cmp order k e.0) e.1 (find order k es) none in
     (ap not (differs k u e parts.0), all_differ k u es parts.1)
 
-itself : (e : List ℕ × Phc) → entry_cmp plain (row_of e) (row_of e) ≡ Equal
+itself : (e : List ℕ × List ℕ) → entry_cmp plain (row_of e) (row_of e) ≡ Equal
 itself e = rw (
   row_cmp-row_of e e,
   tied_itself nat_list_cmp_total e.0,
-  value_cmp-Text (phc_text e.1) (phc_text e.1),
-  tied_itself nat_list_cmp_total (phc_text e.1),
+  value_cmp-Text e.1 e.1,
+  tied_itself nat_list_cmp_total e.1,
 ) refl
 
 -- a row that was put among others is taken out again
-taken : (k : List ℕ) (u : Phc) (es : List (List ℕ × Phc)) → find order k es ≡ None
+taken : (k u : List ℕ) (es : List (List ℕ × List ℕ)) → find order k es ≡ None
     → remove_entry plain (row_of (k, u)) (map row_of (put order k u es)) ≡ map row_of es
 taken k u [] none = rw (itself (k, u)) refl
 taken k u (e ∷ es) none =
@@ -160,11 +166,11 @@ taken k u (e ∷ es) none =
       | inr high ↦ rw (high.0, differs k u e differ) (ap (λ l. row_of e ∷ l) (taken k u es later))
     ]
 
-pub is_true : (b : Bool) → T b → b ≡ true
+is_true : (b : Bool) → T b → b ≡ true
 is_true true h = refl
 is_true false h = absurd h
 
-pub remove_entry-rows_of : (names : Store) (name : List ℕ) (u : Phc) → get names name ≡ Some u
+pub remove_entry-rows_of : (names : Texts) (name u : List ℕ) → get names name ≡ Some u
     → remove_entry plain (row_of (name, u)) (rows_of names) ≡ rows_of (remove names name)
 remove_entry-rows_of names name u has =
     let gone = remove names name in
@@ -172,23 +178,23 @@ remove_entry-rows_of names name u has =
     ap entries (sym (changed_back names gone name (Some u) (others_kept names name None) has))
     ∙ entries-insert nat_list_cmp_total gone name u in
     ap (λ es. remove_entry plain (row_of (name, u)) (map row_of es)) back
-    ∙ taken name u (entries gone) (sym (get-entries gone name) ∙ get-gone-same names name)
+    ∙ taken name u (entries gone) (sym (get-entries gone name) ∙ get-changed names name None)
 
 -- ---- long rows
 
-no_int : (e : List ℕ × Phc) (c : ℕ) → is_int (column (row_of e) c) ≡ false
+no_int : (e : List ℕ × List ℕ) (c : ℕ) → is_int (column (row_of e) c) ≡ false
 no_int e zero = refl
 no_int e (suc zero) = refl
 no_int e (suc (suc c)) = refl
 
-numbers : (e : List ℕ × Phc) → All (λ v. NotNan (number v)) (row_of e)
+numbers : (e : List ℕ × List ℕ) → All (λ v. NotNan (number v)) (row_of e)
 unfolding Ieee.is_nan
 numbers e zero d h = tt
 numbers e (suc zero) d h = tt
 numbers e (suc (suc c)) d h = absurd (omega (arith, h))
 
 -- a row that may not be stored is long
-pub is_long : (reals : ℕ) (row : Row) (name : List ℕ) (v : Phc) → row ≡ row_of (name, v) → length (phc_text v) ≤ 326
+pub is_long : (reals : ℕ) (row : Row) (name v : List ℕ) → row ≡ row_of (name, v) → length v ≤ 326
     → ¬ (IsStorable reals row) → IsLong name
 is_long reals row name v is short not = elim (cases_lt (10 ^ 9) (362 + length name)) [
   | inl long ↦ long
@@ -203,11 +209,11 @@ is_long reals row name v is short not = elim (cases_lt (10 ^ 9) (362 + length na
 -- ---- a seek by a name finds its row, or the name has none
 
 -- over the name's column alone, a row compares with a key as its name does
-row_by_name : (e : List ℕ × Phc) (k : List ℕ) → prefix_cmp plain (row_of e) (Text k ∷ []) ≡ order e.0 k
-row_by_name e k = prefix_cmp-one (Text e.0) (Text (phc_text e.1) ∷ []) (Text k) ∙ value_cmp-Text e.0 k
+row_by_name : (e : List ℕ × List ℕ) (k : List ℕ) → prefix_cmp plain (row_of e) (Text k ∷ []) ≡ order e.0 k
+row_by_name e k = prefix_cmp-one (Text e.0) (Text e.1 ∷ []) (Text k) ∙ value_cmp-Text e.0 k
 
 -- a name below one that all others are above has no text
-none_below : (k n : List ℕ) (es : List (List ℕ × Phc)) → order k n ≡ Less → below_all order n es ≡ true
+none_below : (k n : List ℕ) (es : List (List ℕ × List ℕ)) → order k n ≡ Less → below_all order n es ≡ true
     → find order k es ≡ None
 none_below k n [] low h = refl
 none_below k n (e ∷ es) low h =
@@ -216,12 +222,12 @@ none_below k n (e ∷ es) low h =
     rw here (none_below k n es low parts.1)
 
 -- where a seek by a name stands, if the name has this text or none: at the row of the name, or it has none
-abbrev Stands : List ℕ → Option Phc → List Row → Type 0
+abbrev Stands : List ℕ → Option (List ℕ) → List Row → Type 0
 Stands k o [] = o ≡ None
-Stands k o (met ∷ left) = (column met 0 ≡ Text k → (v : Phc) × (o ≡ Some v) × (met ≡ row_of (k, v)))
+Stands k o (met ∷ left) = (column met 0 ≡ Text k → (v : List ℕ) × (o ≡ Some v) × (met ≡ row_of (k, v)))
     × ((column met 0 ≡ Text k → ⊥) → o ≡ None)
 
-stands : (k : List ℕ) (es : List (List ℕ × Phc)) → is_sorted order es ≡ true
+stands : (k : List ℕ) (es : List (List ℕ × List ℕ)) → is_sorted order es ≡ true
     → Stands k (find order k es) (from_key plain (Text k ∷ []) (map row_of es))
 stands k [] sorted = refl
 stands k (e ∷ es) sorted =
@@ -238,19 +244,19 @@ stands k (e ∷ es) sorted =
       ]
     ]
 
-stood : (names : Store) (k : List ℕ) (rows : List Row) → from_key plain (Text k ∷ []) (rows_of names) ≡ rows
+stood : (names : Texts) (k : List ℕ) (rows : List Row) → from_key plain (Text k ∷ []) (rows_of names) ≡ rows
     → Stands k (get names k) rows
 stood names k rows at = rw (← at, get-entries names k)
     (stands k (entries names) (is_true (is_sorted order (entries names)) (entries_sorted names)))
 
-none_at : (k : List ℕ) (es : List (List ℕ × Phc)) → AllByRecursion (λ e. order e.0 k ≡ Less) es → find order k es ≡ None
+none_at : (k : List ℕ) (es : List (List ℕ × List ℕ)) → AllByRecursion (λ e. order e.0 k ≡ Less) es → find order k es ≡ None
 none_at k [] h = refl
 none_at k (e ∷ es) h =
     let above : order k e.0 ≡ Greater = nat_list_cmp_total.antisymm k e.0 ∙ ap ordering_reverse h.0 in
     rw above (none_at k es h.1)
 
 -- if a seek by a name stands at the end, each name is below it and below those after it
-all_below : (k n : List ℕ) (es : List (List ℕ × Phc)) → order k n ≡ Less
+all_below : (k n : List ℕ) (es : List (List ℕ × List ℕ)) → order k n ≡ Less
     → from_key plain (Text k ∷ []) (map row_of es) ≡ [] → AllByRecursion (λ e. order e.0 n ≡ Less) es
 all_below k n [] after h = tt
 all_below k n (e ∷ es) after h = elim (cases_Bool (is_lt (order e.0 k))) [
@@ -261,7 +267,7 @@ all_below k n (e ∷ es) after h = elim (cases_Bool (is_lt (order e.0 k))) [
   | inr high ↦ absurd (let never = rw (row_by_name e k, high) at h in cc)
 ]
 
-none_after : (names : Store) (k : List ℕ) → from_key plain (Text k ∷ []) (rows_of names) ≡ [] → HasNoneAfter names k
+none_after : (names : Texts) (k : List ℕ) → from_key plain (Text k ∷ []) (rows_of names) ≡ [] → HasNoneAfter names k
 none_after names k h n after = get-entries names n ∙ none_at n (entries names) (all_below k n (entries names) after h)
 
 -- ---- the calls of a look-up
@@ -269,7 +275,7 @@ none_after names k h n after = get-entries names n ∙ none_at n (entries names)
 tails : (xs ys : List Row) → Some xs ≡ Some ys → xs ≡ ys
 tails xs ys h = cc
 
-module _ (old mid new : View) (names : Store) (k : List ℕ) (key met : Row) (shape : old.shape 0 ≡ Index plain)
+module _ (old mid new : View) (names : Texts) (k : List ℕ) (key met : Row) (shape : old.shape 0 ≡ Index plain)
     (rows : old.trees 0 ≡ rows_of names) (at : key ≡ Text k ∷ [])
     (is : mid ≡ with_cursor old 1 (sought (order_of (old.shape 0)) Forward key (old.trees 0))) where
   -- what the cursor has to give after the seek
@@ -306,7 +312,7 @@ insert-last : (row : Row) (rows : List Row) → AllByRecursion (λ x. entry_cmp 
 insert-last row [] h = refl
 insert-last row (x ∷ xs) h = rw (h.0) (ap (λ l. x ∷ l) (insert-last row xs h.1))
 
-pub begin : (first now : View) (names : Store) → first.shape 0 ≡ Index plain
+pub begin : (first now : View) (names : Texts) → first.shape 0 ≡ Index plain
     → now ≡ with_cursor first 0 (sought (order_of (first.shape 0)) Forward [] (first.trees 0)) → rows_of names ≡ []
     → IsReading first now names
 begin first now names shape is none = record {
@@ -328,7 +334,7 @@ last_of (x ∷ []) row = refl
 last_of (x ∷ y ∷ rows) row = last_of (y ∷ rows) row
 
 -- each name is below one whose row comes after theirs, if the last of them is another
-lower : (k : List ℕ) (v : Phc) (es : List (List ℕ × Phc)) (last : Row) → is_sorted order es ≡ true → LastIs (map row_of es) last
+lower : (k v : List ℕ) (es : List (List ℕ × List ℕ)) (last : Row) → is_sorted order es ≡ true → LastIs (map row_of es) last
     → (Text k ≡ column last 0 → ⊥) → AllByRecursion (λ x. entry_cmp plain x (row_of (k, v)) ≡ Less) (map row_of es)
     → AllByRecursion (λ e. order e.0 k ≡ Less) es
 lower k v [] last sorted is other h = tt
@@ -343,7 +349,7 @@ lower k v (e ∷ f ∷ es) last sorted is other h =
     let first = and_parts (is_lt (order e.0 f.0)) _ parts.0 in
     (nat_list_cmp_total.trans e.0 f.0 k (less _ first.0) rest.0, rest)
 
-pub step : (first now next : View) (met last : Row) (before : Store) → IsOrdered first.shape first.trees
+pub step : (first now next : View) (met last : Row) (before : Texts) → IsOrdered first.shape first.trees
     → first.shape 0 ≡ Index plain → IsReading first now before → LastIs (rows_of before) last
     → Advances now next 0 met true → (is : IsAccount met) → (column met 0 ≡ column last 0 → ⊥)
     → IsReading first next (insert before is.0.0 is.0.1) × LastIs (rows_of (insert before is.0.0 is.0.1)) met
@@ -369,7 +375,7 @@ step first now next met last before ordered shape reading ended moves ((k, v), g
     )
 
 -- all rows are read
-pub all_read : {S : Type 0} (g : Ghosts S) (old new : S) (names : Store) (met : Row)
+pub all_read : {S : Type 0} (g : Ghosts S) (old new : S) (names : Texts) (met : Row)
     → (IsHonest g new → IsHonest g old) → (IsHonest g old → IsUnwritten (g.view old))
     → (g.view old).shape 0 ≡ Index plain → (mid : S) → (IsHonest g new → IsReading (g.view old) (g.view mid) names)
     → (IsHonest g new → Advances (g.view mid) (g.view new) 0 met false)
@@ -391,14 +397,14 @@ all_read g old new names met earlier fresh shape mid reading ended =
       λ clean. ap (λ (t : Trees). t 0) (sym (fresh (earlier clean)).settled) ∙ sym (rows clean),
     )
 
-abbrev empty_store : Store
+abbrev empty_store : Texts
 empty_store = empty
 
 pub rows_of-empty : rows_of empty_store ≡ []
-rows_of-empty = ap (map row_of) (nil_from_length (entries empty_store) (sym (len-entries empty_store) ∙ len-empty order Phc))
+rows_of-empty = ap (map row_of) (nil_from_length (entries empty_store) (sym (len-entries empty_store) ∙ len-empty order (List ℕ)))
 
 pub last-empty : (last : Row) → LastIs (rows_of empty_store) last
 last-empty last = subst (λ rows. LastIs rows last) (sym rows_of-empty) (tt {0})
 
 pub texts-empty : AreTexts empty_store
-texts-empty name v has = absurd (let gone = sym (get-empty order name) ∙ has in cc)
+texts-empty name text has = absurd (let gone = sym (get-empty order name) ∙ has in cc)

@@ -1,30 +1,24 @@
 -- What calls make of a file, and what an open finds after them.
 use Rattle.argon2_store.proofs.Imports.{arith, ◌≡◌, ℕ, List, [], ◌∷◌, ◌++◌, map, Result, Ok, Err, inl, inr, refl, sym, subst, ◌∙◌, append_assoc, reverse-append, cases_Bool}
 use Rattle.argon2_store.proofs.Imports.{∥∥₁_elim, ∥∥₁_map, flat_map, ◌⊎◌, Option, IsSome, SeenMayStay, settled_at, FileStore, Trees, Ghosts, AccountEvent, AccountRun, AccountStep}
-use Rattle.argon2_store.proofs.Imports.{AreTerms, Terms, adding, Store, AddsOrNone, Call, IsBeforeOrAfter, IsClosed, Runs, Serves, Stays, database_of, terms_of, AddsAll, AreTexts}
+use Rattle.argon2_store.proofs.Imports.{Terms, adding, Texts, AddsOrNone, Call, IsBeforeOrAfter, IsClosed, Runs, Serves, Stays, database_of, terms_of, AddsAll}
 use Rattle.argon2_store.proofs.Imports.{AreEventsOf, Did, Does, EndsRun, FileCall, IsFoundAfter, IsLate, IsLateEvent, IsLateOf, IsShutOut, Run, add_all, added, event_of, events_of}
 use Rattle.argon2_store.proofs.Imports.{login, on_name, over_file, reads, IsHonest, IsOpen, CrashLeaves, StaysQuiet, AccountFile, FileError, Account, Closed}
 use Rattle.argon2_store.specs.AccountFile.{HasNames, IsReady}
 use Rattle.argon2_store.proofs.TableLemmas.{Settled, leaves_quiet}
 use Rattle.argon2_store.proofs.NextOpenLemmas.{next_open}
-use Rattle.argon2_store.proofs.TextLemmas.{rows_of-once, step_texts}
+use Rattle.argon2_store.proofs.RowLemmas.{rows_of-once}
 use Rattle.sqlite_disk.specs.declared.Disk as disk
 
 -- ---- events
 
-run_then : (terms : Terms) (first mid last : Store) (newer older : List AccountEvent) → AccountRun terms first older mid
+run_then : (terms : Terms) (first mid last : Texts) (newer older : List AccountEvent) → AccountRun terms first older mid
     → AccountRun terms mid newer last → AccountRun terms first (newer ++ older) last
 run_then terms first mid last [] older earlier later = subst (AccountRun terms first older) (sym later) earlier
 run_then terms first mid last (event ∷ newer) older earlier later =
     (later.0, run_then terms first mid later.0 newer older earlier later.1, later.2)
 
-pub run_texts : (terms : Terms) → AreTerms terms → (first last : Store) (events : List AccountEvent) → AreTexts first
-    → AccountRun terms first events last → AreTexts last
-run_texts terms are first last [] good run = subst AreTexts (sym run) good
-run_texts terms are first last (event ∷ older) good run =
-    step_texts terms are event run.0 last (run_texts terms are first run.0 older good run.1) run.2
-
-added_run : (terms : Terms) (es : List (List ℕ × List ℕ)) (before after : Store) → AddsAll before es after
+added_run : (terms : Terms) (es : List (List ℕ × List ℕ)) (before after : Texts) → AddsAll before es after
     → AccountRun terms before (added es) after
 added_run terms [] before after adds = adds
 added_run terms (e ∷ es) before after (mid, step, adds) =
@@ -35,10 +29,10 @@ added_run terms (e ∷ es) before after (mid, step, adds) =
 
 -- ---- calls
 
-module _ {S : Type 0} {g : Ghosts S} (settled : Settled g) (terms : Terms) (first : Store) where
+module _ {S : Type 0} {g : Ghosts S} (settled : Settled g) (terms : Terms) (first : Texts) where
   -- what these events made of the first names, and what a crash leaves: that, or some that come late too
   pub record Reached (events : List AccountEvent) (Late : List AccountEvent → Type 0) (file : AccountFile S g) : Type 0 where
-    pub names : Store
+    pub names : Texts
     pub has : HasNames file names
     pub under : terms_of file ≡ terms
     pub run : IsHonest g (database_of file) → AccountRun terms first events names
@@ -55,7 +49,7 @@ module _ {S : Type 0} {g : Ghosts S} (settled : Settled g) (terms : Terms) (firs
     Now Late Shut late = (late ≡ []) ⊎ (Late late ⊎ (Shut × IsLate calls late))
 
     -- the names after the call, made by newer events, and a crash leaves them, or with some events that come late
-    reaches : (Late : List AccountEvent → Type 0) (Shut : Type 0) (newer : List AccountEvent) (after : Store)
+    reaches : (Late : List AccountEvent → Type 0) (Shut : Type 0) (newer : List AccountEvent) (after : Texts)
         → HasNames new after → terms_of new ≡ terms_of old → (IsHonest g (database_of new) → IsHonest g (database_of old))
         → (IsHonest g (database_of new) → AccountRun terms before.names newer after)
         → (IsHonest g (database_of new) → IsOpen g (database_of old) → CrashLeaves g (database_of new)
@@ -93,8 +87,8 @@ module _ {S : Type 0} {g : Ghosts S} (settled : Settled g) (terms : Terms) (firs
         }
 
     -- a call that answers so
-    runs : {X : Type 0} {answers : Result X FileError → Store → Type 0} {May : Store → Type 0} {long : Type 0}
-        {result : Result X FileError} {after : Store} (Late : List AccountEvent → Type 0) (newer : List AccountEvent)
+    runs : {X : Type 0} {answers : Result X FileError → Texts → Type 0} {May : Texts → Type 0} {long : Type 0}
+        {result : Result X FileError} {after : Texts} (Late : List AccountEvent → Type 0) (newer : List AccountEvent)
         → Runs answers May long result old new before.names after
         → (IsHonest g (database_of new) → AccountRun terms before.names newer after)
         → (IsHonest g (database_of new) → IsOpen g (database_of old) → CrashLeaves g (database_of new)
@@ -105,17 +99,17 @@ module _ {S : Type 0} {g : Ghosts S} (settled : Settled g) (terms : Terms) (firs
         (shut, none shut, λ db found. subst (λ s. g.recovers s db) same found))
 
     -- one event
-    one : (event : AccountEvent) (left : Store) → AccountStep (terms_of old) before.names event left
+    one : (event : AccountEvent) (left : Texts) → AccountStep (terms_of old) before.names event left
         → AccountRun terms before.names (event ∷ []) left
     one event left step = (before.names, refl, subst (λ t. AccountStep t before.names event left) before.under step)
 
-    late_call : {X : Type 0} (call : Call X) (left : Store) → IsBeforeOrAfter X (terms_of old) before.names call left
+    late_call : {X : Type 0} (call : Call X) (left : Texts) → IsBeforeOrAfter X (terms_of old) before.names call left
         → (left ≡ before.names) ⊎ ((late : List AccountEvent) × ((x : X) × (late ≡ call (Ok x) ∷ []))
         × AccountRun terms before.names late left)
     late_call call left (inl is) = inl is
     late_call call left (inr (x, step)) = inr (call (Ok x) ∷ [], (x, refl), one (call (Ok x)) left step)
 
-    late_names : (es : List (List ℕ × List ℕ)) (left : Store) → (left ≡ before.names) ⊎ AddsAll before.names es left
+    late_names : (es : List (List ℕ × List ℕ)) (left : Texts) → (left ≡ before.names) ⊎ AddsAll before.names es left
         → (left ≡ before.names) ⊎ ((late : List AccountEvent) × (late ≡ added es) × AccountRun terms before.names late left)
     late_names es left (inl is) = inl is
     late_names es left (inr adds) = inr (added es, refl, added_run terms es before.names left adds)
@@ -160,7 +154,7 @@ module _ {S : Type 0} {g : Ghosts S} (settled : Settled g) (terms : Terms) (firs
         (λ clean is_open db found. let (names, has, left) = does.crash clean is_open db found in
         (names, has, rw does.unchanged (late_names es names left))) (λ is. refl)
 
-    keeps : (error : Option FileError) → ((names : Store) → HasNames old names → Stays error names old new)
+    keeps : (error : Option FileError) → ((names : Texts) → HasNames old names → Stays error names old new)
         → Reached events (Now (λ late. ⊥) (IsSome error)) new
     keeps error stay =
         let does = stay before.names before.has in
@@ -198,11 +192,10 @@ ends_run {D} g stay last terms names first calls before ready did clean may open
     let listed = λ (db : Trees) (found : over_file.recovers (database_of last) db). (leaves db found).1.1 in
     ∥∥₁_map (next_open {g = g} (database_of last) listed before may opens left after next holds) (λ found.
     let (left_names, held, late) = leaves found.0 found.1 in
-    let texts = run_texts terms ready.sound names left_names (late.0 ++ flat_map events_of calls) ready.has.0 late.2 in
-    let same = rows_of-once left_names next texts holds.0 (sym held.0 ∙ found.2.0) in
+    let same = rows_of-once left_names next (sym held.0 ∙ found.2.0) in
     (late.0, late.1, subst (AccountRun terms names (late.0 ++ flat_map events_of calls)) same late.2))
 
-pub runs_join : (terms : Terms) (first : Store) (runs : List Run) (names : Store) → IsFoundAfter terms first runs names
+pub runs_join : (terms : Terms) (first : Texts) (runs : List Run) (names : Texts) → IsFoundAfter terms first runs names
     → ∥ ((events : List AccountEvent) × AreEventsOf runs events × AccountRun terms first events names) ∥₁
 runs_join terms first [] names is = ∣ ([], refl, is) ∣₁
 runs_join terms first (run ∷ older) names (earlier, leaves, (opens, left, after, holds)) =

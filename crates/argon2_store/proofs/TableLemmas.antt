@@ -3,7 +3,7 @@ use Rattle.argon2_store.proofs.Imports.{◌≡◌, ℕ, ◌≤◌, List, Result,
 use Rattle.std.proofs.lemmas.Result.{on_ok_weaker, IfErr-weaker}
 use Rattle.std.specs.Result.{IsOkAnd}
 use Rattle.argon2_store.proofs.Imports.{All, IfErr, MatchResult, OnOk, Coded-set, ∥∥₁_elim, ∥∥₁_map, MoreFaults, plain, Row, StoreError, Shape, Index, Ghosts}
-use Rattle.argon2_store.proofs.Imports.{catalog_tree, Trees, order_of, View, IsFailure, KeepsSchema, OnlyWrites, SetsTree, doubt, Store, AreTexts, rows_of, Changes}
+use Rattle.argon2_store.proofs.Imports.{catalog_tree, Trees, order_of, View, IsFailure, KeepsSchema, OnlyWrites, SetsTree, doubt, Texts, AreTexts, rows_of, Changes}
 use Rattle.argon2_store.proofs.Imports.{HasBegun, HasNames, HasSome, Holds, IsHonest, IsKept, IsOpen, KeepsNames, CrashLeaves, Sees, StaysQuiet, Writes}
 use Rattle.sqlite_trees.specs.contracts.store.Shape.{the_row}
 use Rattle.sqlite_trees.specs.declared.error.StoreError.TheVariants.{OutOfMemory, Broken, Unstorable}
@@ -38,7 +38,7 @@ pub open_if_sound : (v : View) → (v.is_open ≡ false → IsTrue v.is_broken) 
 open_if_sound v broken sound = open_of v.is_open (λ shut. let h = sym sound ∙ broken shut in cc)
 
 -- the row of a name is put in or taken out
-pub row_edited : (edit : Order → Row → List Row → List Row) (old new : View) (row its : Row) (names after : Store)
+pub row_edited : (edit : Order → Row → List Row → List Row) (old new : View) (row its : Row) (names after : Texts)
     → old.shape 0 ≡ Index plain → SetsTree old new 0 (edit (order_of (old.shape 0)) row) → row ≡ its
     → edit plain its (rows_of names) ≡ rows_of after → Sees old names → Sees new after
 row_edited edit old new row its names after shape set is gives sees unbroken = (
@@ -52,14 +52,14 @@ abbrev pub Settled : {S : Type 0} → Ghosts S → Type 0
 Settled {S} g = (s : S) (db : Trees) → IsOpen g s → g.recovers s db → db ≡ (g.view s).committed
 
 -- a crash leaves the names of a store that is open
-pub leaves_kept : {S : Type 0} (g : Ghosts S) (s : S) (names : Store)
+pub leaves_kept : {S : Type 0} (g : Ghosts S) (s : S) (names : Texts)
     → ((db : Trees) → IsOpen g s → g.recovers s db → db ≡ (g.view s).committed)
     → IsKept g s names → IsHonest g s → IsOpen g s → CrashLeaves g s (λ left. left ≡ names)
 leaves_kept g s names settled kept clean is_open db found =
     (names, subst (λ t. Holds t names) (sym (settled db is_open found)) (kept.committed clean is_open), refl)
 
 -- also after a call that changed nothing
-pub leaves_quiet : {S : Type 0} (g : Ghosts S) → Settled g → (old new : S) (names : Store) → IsKept g old names
+pub leaves_quiet : {S : Type 0} (g : Ghosts S) → Settled g → (old new : S) (names : Texts) → IsKept g old names
     → StaysQuiet g old new → IsHonest g new → IsOpen g old → CrashLeaves g new (λ left. left ≡ names)
 leaves_quiet g settled old new names kept quiet clean is_open db found =
     leaves_kept g old names (settled old) kept (omega (arith, clean, quiet.clean)) is_open db (quiet.outcomes db found)
@@ -113,7 +113,7 @@ module _ {S : Type 0} (g : Ghosts S) where
   }
 
   -- a call that writes no row
-  pub writes_nothing : {s : S} {before after : Store} {long : Type 0} → (IsHonest g s → after ≡ before)
+  pub writes_nothing : {s : S} {before after : Texts} {long : Type 0} → (IsHonest g s → after ≡ before)
       → Writes g s s before after long (Ok tt)
   writes_nothing {s} same = record {
     begun = λ names clean begun. begun;
@@ -130,7 +130,7 @@ module _ {S : Type 0} (g : Ghosts S) where
   still_committed old new (Err e) writes failed is_open = (failed.kept.was_open is_open, failed.kept.committed is_open)
 
   -- a call on the store that writes a row
-  pub writes_row : {old new : S} {before after : Store} {long : Type 0} (r : Result (Unit {0}) StoreError)
+  pub writes_row : {old new : S} {before after : Texts} {long : Type 0} (r : Result (Unit {0}) StoreError)
       → OnOk r (IsHonest g new → OnlyWrites (g.view old) (g.view new))
       → (IsHonest g new → IfErr r (IsFailure (g.view old) (g.view new)))
       → OnOk r (IsHonest g new → Sees (g.view old) before → Sees (g.view new) after)
@@ -152,7 +152,7 @@ module _ {S : Type 0} (g : Ghosts S) where
   }
 
   -- a call that reads
-  pub reads_ok : {old new : S} {names : Store}
+  pub reads_ok : {old new : S} {names : Texts}
       → (IsHonest g new → g.view new ≡ record (g.view old) { cursors = (g.view new).cursors })
       → KeepsSchema (g.view old) (g.view new) → StaysQuiet g old new → Writes g old new names names ⊥ (Ok tt)
   reads_ok same schema quiet = writes_row (Ok tt) (λ clean. rw (same clean) refl) (λ clean. tt)
@@ -169,7 +169,7 @@ module _ {S : Type 0} (g : Ghosts S) where
       ∥∥₁_elim some (Coded-set the_row.coded _ _) (λ it. it.1.1.indexed clean (is_open clean))
 
   -- a store that shows the same has the same names
-  pub has_same : (old new : S) (names : Store) → (IsHonest g new → IsHonest g old) → (IsOpen g new → g.view new ≡ g.view old)
+  pub has_same : (old new : S) (names : Texts) → (IsHonest g new → IsHonest g old) → (IsOpen g new → g.view new ≡ g.view old)
       → HasNames g old names → HasNames g new names
   has_same old new names honest same (texts, kept) =
       let was : IsOpen g new → IsOpen g old = λ is. rw (same is) at is in (
@@ -185,7 +185,7 @@ module _ {S : Type 0} (g : Ghosts S) where
 
 module _ {S : Type 0} {g : Ghosts S} where
   -- rows written after others
-  pub writes_then : {a b c : S} {x y z : Store} {P Q R : Type 0} {r : Result (Unit {0}) StoreError} → Writes g a b x y P (Ok tt)
+  pub writes_then : {a b c : S} {x y z : Texts} {P Q R : Type 0} {r : Result (Unit {0}) StoreError} → Writes g a b x y P (Ok tt)
       → Writes g b c y z Q r → (Q → R) → Writes g a c x z R r
   writes_then {a} {b} {c} {r = r} first later more =
       let earlier : IsHonest g c → IsHonest g b = λ clean. omega (arith, clean, later.quiet.clean) in
@@ -199,12 +199,12 @@ module _ {S : Type 0} {g : Ghosts S} where
         quiet = quiet_then g a b c first.quiet later.quiet;
       }
 
-  pub writes_more : {a b : S} {x y : Store} {P Q : Type 0} {r : Result (Unit {0}) StoreError} → Writes g a b x y P r → (P → Q)
+  pub writes_more : {a b : S} {x y : Texts} {P Q : Type 0} {r : Result (Unit {0}) StoreError} → Writes g a b x y P r → (P → Q)
       → Writes g a b x y Q r
   writes_more wrote more = writes_then (writes_nothing g {long = ⊥} (λ clean. refl)) wrote more
 
   -- if rows are not all written, nothing is said of the names
-  pub writes_less : {a b : S} {x y z : Store} {P Q : Type 0} {r : Result (Unit {0}) StoreError} (e : StoreError)
+  pub writes_less : {a b : S} {x y z : Texts} {P Q : Type 0} {r : Result (Unit {0}) StoreError} (e : StoreError)
       → Writes g a b x y P r → (IsHonest g b → HasCause (g.view a) (MoreFaults (g.faults a) (g.faults b)) Q e)
       → Writes g a b x z Q (Err e)
   writes_less e wrote cause = record {
@@ -217,28 +217,28 @@ module _ {S : Type 0} {g : Ghosts S} where
 
   -- ---- a store with names
 
-  pub some_kept : {old new : S} → HasSome g old → ((names : Store) → HasNames g old names → HasNames g new names) → HasSome g new
+  pub some_kept : {old new : S} → HasSome g old → ((names : Texts) → HasNames g old names → HasNames g new names) → HasSome g new
   some_kept some keeps = ∥∥₁_map some (λ it. (it.0, keeps it.0 it.1))
 
   -- several rows are written, or none counts
-  pub all_or_none : {old new : S} {before after : Store} {long : Type 0} (done : Result (Unit {0}) StoreError)
-      (All : Store → Type 0)
+  pub all_or_none : {old new : S} {before after : Texts} {long : Type 0} (done : Result (Unit {0}) StoreError)
+      (All : Texts → Type 0)
       → AreTexts before → AreTexts after → Writes g old new before after long done → OnOk done (IsHonest g new → All after)
-      → (to : Store) × AreTexts to × Writes g old new before to long done × (IsHonest g new → (to ≡ before) ⊎ All to)
+      → (to : Texts) × AreTexts to × Writes g old new before to long done × (IsHonest g new → (to ≡ before) ⊎ All to)
       × OnOk done (IsHonest g new → All to)
   all_or_none {after = after} (Ok x) All texts good wrote all = (after, good, wrote, λ clean. inr (all clean), all)
   all_or_none {before = before} (Err e) All texts good wrote all =
       (before, texts, writes_less e wrote wrote.cause, λ clean. inl refl, tt)
 
   -- after a change it has either names
-  pub has_either : {old new : S} {before after : Store} {long : Type 0} (result : Result (Unit {0}) StoreError)
-      → Changes g old new before after long result → (names : Store) × HasNames g new names
+  pub has_either : {old new : S} {before after : Texts} {long : Type 0} (result : Result (Unit {0}) StoreError)
+      → Changes g old new before after long result → (names : Texts) × HasNames g new names
   has_either {after = after} (Ok x) change = (after, change.kept)
   has_either {before = before} (Err e) change = (before, change.kept)
 
   module _ (settled : Settled g) {old : S} (was_open : IsHonest g old → IsOpen g old) where
     -- nothing is written yet
-    begun_over : {names : Store} → IsKept g old names → IsHonest g old → HasBegun g old names
+    begun_over : {names : Texts} → IsKept g old names → IsHonest g old → HasBegun g old names
     begun_over {names} kept clean = record {
       indexed = kept.indexed clean (was_open clean);
       shapes = kept.shapes clean (was_open clean);
@@ -248,7 +248,7 @@ module _ {S : Type 0} {g : Ghosts S} where
     }
 
     -- names stay while rows are read
-    pub read_done : {X : Type 0} {new : S} {names : Store} (x : X)
+    pub read_done : {X : Type 0} {new : S} {names : Texts} (x : X)
         → ((s : S) → (g.view s).is_open ≡ false → IsTrue (g.view s).is_broken) → HasNames g old names
         → (AreTexts names → (IsHonest g old → Sees (g.view old) names) → Writes g old new names names ⊥ (Ok tt))
         → KeepsNames g old new names (Ok x)
@@ -277,7 +277,7 @@ module _ {S : Type 0} {g : Ghosts S} where
         }
 
     -- what was written is taken back
-    pub taken_back : {mid new : S} {before after : Store} {long : Type 0} {r : Result (Unit {0}) StoreError}
+    pub taken_back : {mid new : S} {before after : Texts} {long : Type 0} {r : Result (Unit {0}) StoreError}
         → HasNames g old before → Writes g old mid before after long r
         → ((IsHonest g new → HasBegun g mid before) → IsKept g new before) → StaysQuiet g mid new → HasNames g new before
     taken_back {before = before} (texts, kept) wrote undone quiet = (
@@ -287,7 +287,7 @@ module _ {S : Type 0} {g : Ghosts S} where
     )
 
     -- and if reading fails and is taken back
-    pub read_failed : {X : Type 0} {mid new : S} {names : Store} {e : StoreError} → HasNames g old names
+    pub read_failed : {X : Type 0} {mid new : S} {names : Texts} {e : StoreError} → HasNames g old names
         → (AreTexts names → (IsHonest g old → Sees (g.view old) names) → Writes g old mid names names ⊥ (Err e))
         → ((IsHonest g new → HasBegun g mid names) → IsKept g new names) → StaysQuiet g mid new
         → KeepsNames g {X = X} old new names (Err e)
@@ -302,7 +302,7 @@ module _ {S : Type 0} {g : Ghosts S} where
         }
 
     -- rows that are written, and then committed or taken back
-    pub changes_of : {mid new : S} {before after : Store} {long : Type 0} (done result : Result (Unit {0}) StoreError)
+    pub changes_of : {mid new : S} {before after : Texts} {long : Type 0} (done result : Result (Unit {0}) StoreError)
         → HasNames g old before → AreTexts after → Writes g old mid before after long done
         → ((IsHonest g new → HasBegun g mid before × OnOk done (Sees (g.view mid) after))
         → MatchResult result (λ _. IsKept g new after) (λ _. IsKept g new before))

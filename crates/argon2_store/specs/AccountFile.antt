@@ -3,10 +3,8 @@ use Rattle.std.specs.Prelude.{◌≡◌, ◌⊎◌, ℕ, List, false, Any, Optio
 use Rattle.rand_core.specs.Stream.{Stream, fill_bytes}
 use Rattle.sqlite_trees.specs.declared.store.Store.{Ghosts}
 use Rattle.sqlite_wal.specs.Recovery.{Image}
-use Rattle.argon2_base.specs.PhcText.{Phc}
 use Rattle.argon2_accounts.specs.Accounts as kept
-use Rattle.argon2_accounts.specs.Accounts.{AccountEvent, AccountStep, Admits, AreTerms, HasPassword, PolicyRefusal, Terms, name_of}
-use Rattle.argon2.specs.NamedTexts.{Store}
+use Rattle.argon2_accounts.specs.Accounts.{AccountEvent, AccountStep, Accepts, AreTerms, HasPassword, PolicyRefusal, Terms, Texts, name_of}
 use Rattle.argon2_accounts.specs.declared.error.AccountError.{AccountError}
 use Rattle.argon2_accounts.specs.declared.error.AccountError.TheVariants.{NameUnknown}
 use Rattle.argon2.specs.declared.login.answers.Accepted.{Accepted}
@@ -26,13 +24,13 @@ abbrev pub Call : Type 0 → Type 0
 Call X = Result X AccountError → AccountEvent
 
 -- what a call answers, and the names after it: an error of the file leaves all as it was
-abbrev pub Answers : {X : Type 0} → Terms → Store → Call X → Result X FileError → Store → Type 0
+abbrev pub Answers : {X : Type 0} → Terms → Texts → Call X → Result X FileError → Texts → Type 0
 Answers terms before call (Ok x) after = AccountStep terms before (call (Ok x)) after
 Answers terms before call (Err (Account e)) after = AccountStep terms before (call (Err e)) after
 Answers terms before call (Err e) after = after ≡ before
 
 -- the names before a call, or those that it would leave if it is accepted
-abbrev pub IsBeforeOrAfter : (X : Type 0) → Terms → Store → Call X → Store → Type 0
+abbrev pub IsBeforeOrAfter : (X : Type 0) → Terms → Texts → Call X → Texts → Type 0
 IsBeforeOrAfter X terms before call left =
     (left ≡ before) ⊎ ((x : X) × AccountStep terms before (call (Ok x)) left)
 
@@ -47,13 +45,13 @@ error_of (Ok x) = None
 error_of (Err e) = Some e
 
 -- what adding all of several names answers, and the names after it
-abbrev pub AnswersAll : Store → List (List ℕ × List ℕ) → Result (Unit {0}) FileError → Store → Type 0
+abbrev pub AnswersAll : Texts → List (List ℕ × List ℕ) → Result (Unit {0}) FileError → Texts → Type 0
 AnswersAll before es (Ok _) after = AddsAll before es after
 AnswersAll before es (Err e) after = after ≡ before
 
 -- which of the names an error is about: the first that the accounts refuse, none if the file is closed, and all if they
 -- can't be written
-abbrev pub IsErrorAt : Store → List (List ℕ × List ℕ) → ℕ × FileError → Type 0
+abbrev pub IsErrorAt : Texts → List (List ℕ × List ℕ) → ℕ × FileError → Type 0
 IsErrorAt before es (k, Account why) = IsFirstRefused before es k why
 IsErrorAt before es (k, Closed) = k ≡ 0
 IsErrorAt before es (k, _) = k ≡ length es
@@ -90,7 +88,7 @@ module _ {S : Type 0} {g : Ghosts S} where
 
   -- The names that a file has, each with its text. While the file is open and the disk has given no wrong answer that was
   -- taken as true, they are those of its rows, and nothing else.
-  abbrev pub HasNames : AccountFile S g → Store → Type 0
+  abbrev pub HasNames : AccountFile S g → Texts → Type 0
   HasNames file names = rows.HasNames g (database_of file) names
 
   -- what passwords are hashed and verified under
@@ -106,7 +104,7 @@ module _ {S : Type 0} {g : Ghosts S} where
   HasFailed old new = rows.HasFailed g (database_of old) (database_of new)
 
   -- A file that was opened under these terms and has these names: it is not closed, and a crash leaves its names.
-  pub record IsReady (terms : Terms) (names : Store) (file : AccountFile S g) : Type 0 where
+  pub record IsReady (terms : Terms) (names : Texts) (file : AccountFile S g) : Type 0 where
     pub sound : AreTerms terms
     pub under : terms_of file ≡ terms
     pub has : HasNames file names
@@ -116,7 +114,7 @@ module _ {S : Type 0} {g : Ghosts S} where
   -- a file that was opened, with the names that the two files held, and not behind a damaged log
   abbrev pub IsFrom : Terms → Image → AccountFile S g → Type 0
   IsFrom terms image file =
-      (names : Store) × IsReady terms names file × (IsHonest g (database_of file) → HoldsNames image names)
+      (names : Texts) × IsReady terms names file × (IsHonest g (database_of file) → HoldsNames image names)
       × (IsHonest g (database_of file) → ¬ IsDamaged image.log)
 
   -- a file that was opened, the refusal of the terms, or another error under sound terms
@@ -127,7 +125,7 @@ module _ {S : Type 0} {g : Ghosts S} where
 
   -- What a call does that changes no name, with its error if it failed. The clauses on the file hold while the disk has
   -- given no wrong answer that was taken as true.
-  pub record Stays (error : Option FileError) (names : Store) (old new : AccountFile S g) : Type 0 where
+  pub record Stays (error : Option FileError) (names : Texts) (old new : AccountFile S g) : Type 0 where
     pub has : HasNames new names
     pub terms : terms_of new ≡ terms_of old
     -- no fault is forgotten, a crash has no new outcome, and nothing but a failure of the disk closes the file
@@ -144,12 +142,12 @@ module _ {S : Type 0} {g : Ghosts S} where
 
   -- a call that changes no name
   abbrev pub Reads : {X : Type 0} → Result X FileError → AccountFile S g → AccountFile S g → Type 0
-  Reads result old new = (names : Store) → HasNames old names → Stays (error_of result) names old new
+  Reads result old new = (names : Texts) → HasNames old names → Stays (error_of result) names old new
 
   -- What a call does that answers so. The clauses on the file hold while the disk has given no wrong answer that was
   -- taken as true.
-  pub record Runs {X : Type 0} (answers : Result X FileError → Store → Type 0) (May : Store → Type 0) (too_long : Type 0)
-      (result : Result X FileError) (old new : AccountFile S g) (before after : Store) : Type 0 where
+  pub record Runs {X : Type 0} (answers : Result X FileError → Texts → Type 0) (May : Texts → Type 0) (too_long : Type 0)
+      (result : Result X FileError) (old new : AccountFile S g) (before after : Texts) : Type 0 where
     pub has : HasNames new after
     pub step : IsHonest g (database_of new) → answers result after
     pub terms : terms_of new ≡ terms_of old
@@ -171,19 +169,19 @@ module _ {S : Type 0} {g : Ghosts S} where
 
   -- A call on one name. A crash leaves the names from before it, or those that it was to leave.
   abbrev pub Serves : {X : Type 0} → Call X → Result X FileError → AccountFile S g → AccountFile S g → Type 0
-  Serves {X} call result old new = (before : Store) → HasNames old before → (after : Store)
+  Serves {X} call result old new = (before : Texts) → HasNames old before → (after : Texts)
       × Runs (Answers (terms_of old) before call) (IsBeforeOrAfter X (terms_of old) before call)
       (IsLong (name_of (call (Err NameUnknown)))) result old new before after
 
   -- An addition of several names. A crash leaves the names from before it, or all of the new ones too.
   abbrev pub AddsOrNone : List (List ℕ × List ℕ) → Result (Unit {0}) FileError → AccountFile S g → AccountFile S g → Type 0
-  AddsOrNone es result old new = (before : Store) → HasNames old before → (after : Store)
+  AddsOrNone es result old new = (before : Texts) → HasNames old before → (after : Texts)
       × Runs (AnswersAll before es) (λ left. (left ≡ before) ⊎ AddsAll before es left) (Any (λ e. IsLong e.0) es)
       result old new before after
 
   -- once a call is accepted, the name has a text that accepts the password
   abbrev pub Grants : {X : Type 0} → List ℕ → List ℕ → Result X FileError → AccountFile S g → AccountFile S g → Type 0
-  Grants name password result old new = (before after : Store) → HasNames old before → HasNames new after →
+  Grants name password result old new = (before after : Texts) → HasNames old before → HasNames new after →
       OnOk result (IsHonest g (database_of new) → HasPassword (terms_of new) after name password)
 
 -- ---- what the generator has left
@@ -208,8 +206,8 @@ DrawsForLogin (Err (Account e)) old new = new ≡ old
 DrawsForLogin (Err e) old new = MayDraw old new
 
 -- after a change: as for accounts, but nothing if the file is closed
-abbrev pub DrawsOnce : Terms → List ℕ → Option Phc → Result (Unit {0}) FileError → Stream → Stream → Type 0
-DrawsOnce terms password before (Ok x) old new = IsSomeAnd before (Admits terms password) × (new ≡ (fill_bytes 16 old).1)
+abbrev pub DrawsOnce : Terms → List ℕ → Option (List ℕ) → Result (Unit {0}) FileError → Stream → Stream → Type 0
+DrawsOnce terms password before (Ok x) old new = IsSomeAnd before (Accepts terms password) × (new ≡ (fill_bytes 16 old).1)
 DrawsOnce terms password before (Err Closed) old new = new ≡ old
 DrawsOnce terms password before (Err (Account e)) old new =
     kept.DrawsOnce {X = Unit {0}} terms password before (Err e) old new

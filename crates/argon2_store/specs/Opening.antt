@@ -18,7 +18,7 @@ use Rattle.sqlite_wal.specs.Format.{IsSigned}
 use Rattle.sqlite_wal.specs.Recovery.{Image, header}
 use Rattle.sqlite_value.specs.declared.value.Value.TheVariants.{Text}
 use Rattle.sqlite_value.specs.Keys.{plain}
-use Rattle.argon2.specs.NamedTexts.{Store}
+use Rattle.argon2_accounts.specs.Accounts.{Texts}
 use Rattle.argon2_store.specs.Rows.{AreTexts, rows_of}
 
 -- there is no database yet, or one that lists no table
@@ -43,7 +43,7 @@ FoundIn size image rows =
     ⊎ (∥ IsUnstarted size image ∥₁ × (rows ≡ []))
 
 -- the two files hold exactly these names with their texts
-abbrev pub HoldsNames : Image → Store → Type 0
+abbrev pub HoldsNames : Image → Texts → Type 0
 HoldsNames image names = AreTexts names × FoundIn 4096 image (rows_of names)
 
 -- ---- an open that fails
@@ -96,4 +96,4 @@ LeavesNames g old new = AreSynced g old → AreUnharmed g old new
     → AreClean g new.0 new.1 → (left : Image) → outcomes g new.0 new.1 left
     → (opens : List Image) (before : Image) → IsAfterOpens opens before (seen_image g old.0 old.1)
     → IsAfterOpens (seen_image g old.0 old.1 ∷ opens) before left
-    × ((names found : Store) → HoldsNames before names → HoldsNames left found → found ≡ names)
+    × ((names found : Texts) → HoldsNames before names → HoldsNames left found → found ≡ names)

@@ -7,8 +7,8 @@ use Rattle.sqlite_store.specs.FileStore.{IsStep, NamesFault, blamed, faults, is_
 use Rattle.sqlite_store.specs.declared.store.FileStore.{FileStore}
 use Rattle.sqlite_trees.specs.declared.store.Store.{Ghosts}
 use Rattle.sqlite_wal.specs.Recovery.{Image}
-use Rattle.argon2_accounts.specs.Accounts.{AccountEvent, AccountRun, AreTerms, HasGiven, Terms, adding, given}
-use Rattle.argon2.specs.NamedTexts.{Store, newest}
+use Rattle.argon2_accounts.specs.Accounts.{AccountEvent, AccountRun, AreTerms, HasGiven, Terms, Texts, adding, given}
+use Rattle.argon2.specs.NamedTexts.{newest}
 use Rattle.argon2.specs.declared.login.answers.Accepted.{Accepted}
 use Rattle.argon2_store.specs.AccountFile.{AddsOrNone, Call, HasNames, IsReady, Serves, Stays, database_of}
 use Rattle.argon2_store.specs.Opening.{HoldsNames, IsAfterOpens}
@@ -78,7 +78,7 @@ module _ {S : Type 0} {g : Ghosts S} where
   Does (on_name call result) old new = Serves call result old new
   Does (login call result) old new = Serves call result old new
   Does (add_all es result) old new = AddsOrNone es result old new
-  Does (reads error) old new = (names : Store) → HasNames old names → Stays error names old new
+  Does (reads error) old new = (names : Texts) → HasNames old names → Stays error names old new
 
   -- calls, the newest first, took the old file to the new one
   abbrev pub Did : List FileCall → AccountFile S g → AccountFile S g → Type 0
@@ -87,14 +87,14 @@ module _ {S : Type 0} {g : Ghosts S} where
 
 -- a run: the names that its open found, its calls, the newest first, and what it left of the two files
 pub record Run : Type 0 where
-  pub found : Store
+  pub found : Texts
   pub calls : List FileCall
   pub left : Image
 
 -- An open finds what the run left: the names as its calls made them, and perhaps what came late. Before it, others may fail.
 abbrev pub IsFound : Terms → Run → Type 0
 IsFound terms run = (opens : List Image) (left : Image) → IsAfterOpens opens run.left left
-    → (names : Store) → HoldsNames left names
+    → (names : Texts) → HoldsNames left names
     → ∥ ((late : List AccountEvent) × IsLate run.calls late
     × AccountRun terms run.found (late ++ flat_map events_of run.calls) names) ∥₁
 
@@ -111,7 +111,7 @@ over_file = record {
 
 -- Whatever calls led to the file, an open finds what a crash leaves of it now.
 abbrev pub EndsRun : {D : Type 0} {g : disk.Ghosts D} → AccountFile (FileStore D g) over_file → Type 0
-EndsRun last = (terms : Terms) (names : Store) (first : AccountFile _ over_file) (calls : List FileCall) (left : Image) →
+EndsRun last = (terms : Terms) (names : Texts) (first : AccountFile _ over_file) (calls : List FileCall) (left : Image) →
     IsReady terms names first → Did calls first last → IsHonest over_file (database_of last)
     → (state (database_of last)).may_leave left → IsFound terms (record { found = names; calls = calls; left = left })
 
@@ -119,7 +119,7 @@ EndsRun last = (terms : Terms) (names : Store) (first : AccountFile _ over_file)
 
 -- An open finds the names after runs, the newest first. Each found what the one before it left, after opens that failed, if
 -- there were any, and the oldest found `first`.
-abbrev pub IsFoundAfter : Terms → Store → List Run → Store → Type 0
+abbrev pub IsFoundAfter : Terms → Texts → List Run → Texts → Type 0
 IsFoundAfter terms first [] names = names ≡ first
 IsFoundAfter terms first (run ∷ older) names =
     IsFoundAfter terms first older run.found × IsFound terms run
@@ -133,11 +133,11 @@ AreEventsOf (run ∷ older) events = (late earlier : List AccountEvent) × IsLat
 
 -- The names that an open finds after runs are what their events made of the first ones.
 abbrev pub NamesAreRun : Type 0
-NamesAreRun = (terms : Terms) (first : Store) (runs : List Run) (names : Store) → IsFoundAfter terms first runs names
+NamesAreRun = (terms : Terms) (first : Texts) (runs : List Run) (names : Texts) → IsFoundAfter terms first runs names
     → ∥ ((events : List AccountEvent) × AreEventsOf runs events × AccountRun terms first events names) ∥₁
 
 -- If these were none, each name has what the last of its accepted calls gave it, and no text if there was none.
 abbrev pub TextsAreKept : Type 0
-TextsAreKept = (terms : Terms) → AreTerms terms → (runs : List Run) (names : Store) → IsFoundAfter terms empty runs names
+TextsAreKept = (terms : Terms) → AreTerms terms → (runs : List Run) (names : Texts) → IsFoundAfter terms empty runs names
     → ∥ ((events : List AccountEvent) × AreEventsOf runs events
     × ((name : List ℕ) → HasGiven terms (newest (given name) events) (get names name))) ∥₁

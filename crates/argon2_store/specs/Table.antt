@@ -10,27 +10,26 @@ use Rattle.sqlite_trees.specs.declared.store.Store.{Ghosts}
 use Rattle.sqlite_trees.specs.Objects.{catalog_tree}
 use Rattle.sqlite_trees.specs.Tree.{Trees}
 use Rattle.sqlite_trees.specs.View.{View, IsClean, IsQuiet, HasCause}
-use Rattle.argon2_base.specs.PhcText.{Phc}
 use Rattle.sqlite_store.specs.Listing.{listed_from}
-use Rattle.argon2.specs.NamedTexts.{Store}
+use Rattle.argon2_accounts.specs.Accounts.{Texts}
 use Rattle.argon2_store.specs.Opening.{account}
 use Rattle.argon2_store.specs.Rows.{AreTexts, rows_of}
 
 -- the names with this one's text set, or with this one taken out
-abbrev pub changed : Store → List ℕ → Option Phc → Store
+abbrev pub changed : Texts → List ℕ → Option (List ℕ) → Texts
 changed names name None = remove names name
-changed names name (Some v) = insert names name v
+changed names name (Some text) = insert names name text
 
 -- what a database lists that has the table of the accounts alone
 unfoldable pub catalog : List Row
 catalog = listed_from 0 (account ∷ [])
 
 -- the database has that table alone, with the rows of these names
-abbrev pub Holds : Trees → Store → Type 0
+abbrev pub Holds : Trees → Texts → Type 0
 Holds db names = (db 0 ≡ rows_of names) × (db catalog_tree ≡ catalog)
 
 -- the transaction sees these names, unless it is broken
-abbrev pub Sees : View → Store → Type 0
+abbrev pub Sees : View → Texts → Type 0
 Sees v names = v.is_broken ≡ false → Holds v.trees names
 
 -- a row of the name may be longer than a billion bytes, less 18 for each column; a text has at most 326
@@ -55,7 +54,7 @@ written_of (Ok done) = done
 written_of (Err e) = Ok tt
 
 -- Some of the tree's rows are read, and the names are theirs.
-pub record IsReading (first now : View) (names : Store) : Type 0 where
+pub record IsReading (first now : View) (names : Texts) : Type 0 where
   pub same : now ≡ record first { cursors = now.cursors }
   pub rest : List Row
   pub left : now.cursors 0 ≡ Some rest
@@ -70,11 +69,11 @@ module _ {S : Type 0} (g : Ghosts S) where
   IsOpen s = IsTrue (g.view s).is_open
 
   -- whatever a crash at this moment leaves holds such names
-  abbrev pub CrashLeaves : S → (Store → Type 0) → Type 0
-  CrashLeaves s P = (db : Trees) → g.recovers s db → (names : Store) × Holds db names × P names
+  abbrev pub CrashLeaves : S → (Texts → Type 0) → Type 0
+  CrashLeaves s P = (db : Trees) → g.recovers s db → (names : Texts) × Holds db names × P names
 
   -- While the store is open, its rows are those of these names, and nothing waits to be committed.
-  pub record IsKept (s : S) (names : Store) : Type 0 where
+  pub record IsKept (s : S) (names : Texts) : Type 0 where
     pub indexed : IsHonest s → IsOpen s → (g.view s).shape 0 ≡ Index plain
     pub shapes : IsHonest s → IsOpen s → (g.view s).shape ≡ (g.view s).committed_shape
     pub sound : IsHonest s → IsOpen s → (g.view s).is_broken ≡ false
@@ -82,15 +81,15 @@ module _ {S : Type 0} (g : Ghosts S) where
     pub committed : IsHonest s → IsOpen s → Holds (g.view s).committed names
 
   -- they are the names of its rows
-  abbrev pub HasNames : S → Store → Type 0
+  abbrev pub HasNames : S → Texts → Type 0
   HasNames s names = AreTexts names × IsKept s names
 
   -- it has names
   abbrev pub HasSome : S → Type 0
-  HasSome s = ∥ ((names : Store) × HasNames s names) ∥₁
+  HasSome s = ∥ ((names : Texts) × HasNames s names) ∥₁
 
   -- A transaction has begun over these names: they are committed, and a crash leaves them.
-  pub record HasBegun (s : S) (names : Store) : Type 0 where
+  pub record HasBegun (s : S) (names : Texts) : Type 0 where
     pub indexed : (g.view s).shape 0 ≡ Index plain
     pub shapes : (g.view s).shape ≡ (g.view s).committed_shape
     pub committed : IsOpen s → Holds (g.view s).committed names
@@ -105,16 +104,16 @@ module _ {S : Type 0} (g : Ghosts S) where
   StaysQuiet old new = IsQuiet g.view g.faults g.recovers g.is_shielded old new
 
   -- Rows written into a transaction, which change the names that it sees, up to the first that fails.
-  pub record Writes (old new : S) (before after : Store) (too_long : Type 0) (result : Result (Unit {0}) StoreError)
+  pub record Writes (old new : S) (before after : Texts) (too_long : Type 0) (result : Result (Unit {0}) StoreError)
       : Type 0 where
-    pub begun : (names : Store) → IsHonest new → HasBegun old names → HasBegun new names
+    pub begun : (names : Texts) → IsHonest new → HasBegun old names → HasBegun new names
     pub sees : OnOk result (IsHonest new → Sees (g.view old) before → Sees (g.view new) after)
     pub broken : OnOk result (IsHonest new → (g.view new).is_broken ≡ (g.view old).is_broken)
     pub cause : IsHonest new → IfErr result (HasCause (g.view old) (HasFailed old new) too_long)
     pub quiet : StaysQuiet old new
 
   -- A change from one list of names to another, with its answer.
-  pub record Changes (old new : S) (before after : Store) (too_long : Type 0) (result : Result (Unit {0}) StoreError)
+  pub record Changes (old new : S) (before after : Texts) (too_long : Type 0) (result : Result (Unit {0}) StoreError)
       : Type 0 where
     pub honest : IsHonest new → IsHonest old
     pub kept : MatchResult result (λ _. HasNames new after) (λ _. HasNames new before)
@@ -124,7 +123,7 @@ module _ {S : Type 0} (g : Ghosts S) where
     pub closes : IsHonest new → IsOpen new ⊎ HasFailed old new
 
   -- A call that reads: the names stay.
-  pub record KeepsNames {X : Type 0} (old new : S) (names : Store) (result : Result X StoreError) : Type 0 where
+  pub record KeepsNames {X : Type 0} (old new : S) (names : Texts) (result : Result X StoreError) : Type 0 where
     pub has : HasNames new names
     pub is_open : OnOk result (IsHonest new → IsOpen new)
     pub cause : IsHonest new → IfErr result (HasCause (g.view old) (HasFailed old new) ⊥)

@@ -1,15 +1,13 @@
 //! Accounts in a file.
 #![tactic(auto, using(crate::proofs::FileLemmas::answers))]
 
-ghost use Rattle.std.specs.Prelude.{◌≡◌, ◌⊎◌, ◌↔◌, Ok, Err, IsTrue, IfErr, IfOk, OnOk, MatchResult, map};
+ghost use Rattle.std.specs.Prelude.{◌≡◌, ◌⊎◌, ◌↔◌, Ok, Err, IsTrue, IfErr, IfOk, OnOk, MatchResult, map, string_bytes};
 ghost use Rattle.std.specs.FinMap.{get};
 ghost use Rattle.std.specs.Io.KnownBytes.{Appends};
 ghost use Rattle.std.specs.Option.{option_map};
 ghost use Rattle.rand_core.specs.Stream.{fill_bytes};
-ghost use Rattle.argon2_base.specs.PhcFields.{phc_of};
 ghost use Rattle.argon2_accounts.specs.Accounts as kept;
-ghost use Rattle.argon2_accounts.specs.Accounts.{AreTerms, adding, changing, logging_in, registering, removing, replacing, setting};
-ghost use Rattle.argon2.specs.NamedTexts.{Store as Named};
+ghost use Rattle.argon2_accounts.specs.Accounts.{AreTerms, Texts as Named, adding, changing, logging_in, registering, removing, replacing, setting};
 ghost use Rattle.argon2.specs.Made.{target_of};
 ghost use Rattle.argon2_store.specs.Adding.{entry_of};
 ghost use Rattle.argon2_store.specs.Errors.{IsOfDatabase, answered, read_of};
@@ -162,6 +160,8 @@ impl<'key, S: Store> AccountFile<'key, S> {
     /// - those of [`text_of`](AccountFile::text_of): the file has to be opened again, or can't be read.
     /// - [`FileError::Account`] with [`AccountError::NameUnknown`]: the name has no text. The password is
     ///   hashed all the same, as [`Policy::hash_for_nobody`] does.
+    /// - [`FileError::Account`] with [`Error::EncodingInvalid`](argon2::password_hash::Error::EncodingInvalid):
+    ///   the text is outside the grammar of PHC texts.
     /// - [`FileError::Account`] with those of [`Policy::log_in`].
     /// - those of writing, as [`add`](AccountFile::add): the password is right, and writing the fresh text
     ///   has closed the file.
@@ -183,11 +183,12 @@ impl<'key, S: Store> AccountFile<'key, S> {
             self.policy.hash_for_nobody(password);
             return Err(AccountError::NameUnknown.into());
         };
-        let LoggedIn { accepted, fresh } = self.policy.log_in(rng, &text, password)?;
+        let hash = PasswordHash::new(text.as_str())?;
+        let LoggedIn { accepted, fresh } = self.policy.log_in(rng, &hash, password)?;
         let Some(fresh) = fresh else {
             return Ok(accepted);
         };
-        let done = self.table.change(name, Some(&text), Some(&fresh));
+        let done = self.table.change(name, Some(text.as_str()), Some(&fresh));
         if done.is_err() && !self.is_closed() {
             return Ok(Accepted::Kept);
         }
@@ -203,6 +204,8 @@ impl<'key, S: Store> AccountFile<'key, S> {
     /// - those of [`text_of`](AccountFile::text_of): the file has to be opened again, or can't be read.
     /// - [`FileError::Account`] with [`AccountError::NameUnknown`]: the name has no text. The old password
     ///   is hashed all the same, as [`Policy::hash_for_nobody`] does.
+    /// - [`FileError::Account`] with [`Error::EncodingInvalid`](argon2::password_hash::Error::EncodingInvalid):
+    ///   the text is outside the grammar of PHC texts.
     /// - [`FileError::Account`] with those of [`Policy::change_password`].
     /// - those of writing, as [`add`](AccountFile::add).
     pub fn change_password<R: Rng>(
@@ -224,8 +227,10 @@ impl<'key, S: Store> AccountFile<'key, S> {
             self.policy.hash_for_nobody(old);
             return Err(AccountError::NameUnknown.into());
         };
-        let fresh = self.policy.change_password(rng, &text, old, new)?;
-        written(self.table.change(name, Some(&text), Some(&fresh)), ())
+        let current = PasswordHash::new(text.as_str())?;
+        let fresh = self.policy.change_password(rng, &current, old, new)?;
+        let done = self.table.change(name, Some(text.as_str()), Some(&fresh));
+        written(done, ())
     }
 
     /// Gives a name a text of a new password, whatever text it had, as [`Policy::hash_password`]
@@ -253,7 +258,8 @@ impl<'key, S: Store> AccountFile<'key, S> {
             return Err(AccountError::NameUnknown.into());
         };
         let fresh = self.policy.hash_password(rng, new)?;
-        written(self.table.change(name, Some(&text), Some(&fresh)), ())
+        let done = self.table.change(name, Some(text.as_str()), Some(&fresh));
+        written(done, ())
     }
 
     /// Gives a name the text `new` if it still has the text `old`, as
@@ -273,11 +279,12 @@ impl<'key, S: Store> AccountFile<'key, S> {
         let Some(text) = self.text_of(name)? else {
             return Err(AccountError::NameUnknown.into());
         };
-        if text.text().as_str() != old {
+        if text.as_str() != old {
             return Err(AccountError::TextChanged.into());
         }
         let fresh = PasswordHash::new(new)?;
-        written(self.table.change(name, Some(&text), Some(&fresh)), ())
+        let done = self.table.change(name, Some(text.as_str()), Some(&fresh));
+        written(done, ())
     }
 
     /// Removes a name and its text.
@@ -293,7 +300,7 @@ impl<'key, S: Store> AccountFile<'key, S> {
         let Some(text) = self.text_of(name)? else {
             return Err(AccountError::NameUnknown.into());
         };
-        written(self.table.change(name, Some(&text), None), ())
+        written(self.table.change(name, Some(text.as_str()), None), ())
     }
 
     /// Whether the file has to be opened again, since the disk failed.
@@ -303,17 +310,17 @@ impl<'key, S: Store> AccountFile<'key, S> {
         self.table.is_closed()
     }
 
-    /// The text of a name, if it has one.
+    /// The text of a name, if it has one. It may be outside the grammar of PHC texts, if another program wrote it.
     ///
     /// # Errors
     /// The first of these that holds:
     /// - [`FileError::Closed`]: the file has to be opened again.
     /// - [`FileError::OutOfMemory`], [`FileError::Io`], [`FileError::Damaged`], [`FileError::Full`]: the file
     ///   can't be read. It stays open, unless [`is_closed`](AccountFile::is_closed) says otherwise.
-    pub fn text_of(&mut self, name: &str) -> Result<Option<PasswordHash>, FileError>
+    pub fn text_of(&mut self, name: &str) -> Result<Option<String>, FileError>
         ensures reads { Reads result self.old self.new }
         ensures shows { (names : Named) → HasNames self.new names → IfOk result (λ text.
-            IsHonest S.Store (database_of self.new) → get names name.now ≡ option_map phc_of text) }
+            IsHonest S.Store (database_of self.new) → get names name.now ≡ option_map string_bytes text) }
         ensures open { OnOk result (IsHonest S.Store (database_of self.new) →
             IsOpen S.Store (database_of self.new)) }
         ensures error { IfErr result IsOfFile }

@@ -107,7 +107,7 @@ pub enum OpenError {
     DamagedLog,
     /// The file is no SQLite database, is damaged, or has other tables than that of the accounts.
     NotAccounts,
-    /// A row is not a name with a PHC text.
+    /// A row is not a name with a text of one line, or a name has two rows.
     Row,
 }
 
@@ -127,7 +127,7 @@ impl fmt::Display for OpenError {
             OpenError::Full => f.write_str("the disk or the file is full"),
             OpenError::DamagedLog => f.write_str("the log is damaged"),
             OpenError::NotAccounts => f.write_str("the file does not hold accounts"),
-            OpenError::Row => f.write_str("a row is no name with a PHC text"),
+            OpenError::Row => f.write_str("a row is not a name with a text"),
         }
     }
 }

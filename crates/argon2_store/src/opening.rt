@@ -17,7 +17,7 @@ ghost use Rattle.sqlite_wal.specs.Recovery.{Image};
 ghost use Rattle.argon2_store.specs.Errors.{IsOfDatabase, IsOfPath};
 ghost use Rattle.argon2_store.specs.Opening.{AreSynced, AreUnharmed, FoundIn, IsDamaged, IsUnstarted, StandsFor, account};
 ghost use Rattle.argon2_store.specs.Rows.{rows_of};
-ghost use Rattle.argon2.specs.NamedTexts.{Store};
+ghost use Rattle.argon2_accounts.specs.Accounts.{Texts};
 ghost use Rattle.argon2_store.specs.Runs.{over_file};
 ghost use Rattle.argon2_store.specs.Table as table;
 ghost use Rattle.argon2_store.specs.Table.{HasNames};
@@ -210,7 +210,7 @@ pub(crate) fn open_table<D: Disk + Drop>(
     seed: u64,
 ) -> Result<Table<FileStore<D>>, (OpenError, Files<D>)>
     requires { IsTrue (D.Disk.is_usable files.log) × IsTrue (D.Disk.is_usable files.db) }
-    ensures found { IfOk result (λ it. (names : Store) × HasNames over_file it.store names
+    ensures found { IfOk result (λ it. (names : Texts) × HasNames over_file it.store names
         × (IsClean (view it.store) →
         FoundIn 4096 (seen_image D.Disk files.log files.db) (rows_of names))) }
     ensures open { IfOk result (λ it. IsClean (view it.store) → IsTrue (view it.store).is_open) }

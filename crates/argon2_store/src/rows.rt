@@ -1,31 +1,29 @@
 //! The rows of the tree of the accounts.
 
-ghost use Rattle.std.specs.Prelude.{◌≡◌, ◌≤◌, ◌⊎◌, [], ◌∷◌, ℕ, List, false, IsSomeAnd, IsTrue, IfErr, IfOk, IfSome, OnOk, length};
+ghost use Rattle.std.specs.Prelude.{◌≡◌, ◌⊎◌, [], ◌∷◌, ℕ, List, false, string_bytes, IsSomeAnd, IsTrue, IsUtf8, IfErr, IfOk, IfSome, MatchResult, OnOk};
 ghost use Rattle.std.specs.Io.KnownBytes.{Appends};
 ghost use Rattle.std.specs.Option.{option_map};
 ghost use Rattle.std.specs.FinMap.{get};
 ghost use Rattle.sqlite_value.specs.Keys.{plain};
 ghost use Rattle.sqlite_value.specs.declared.value.Value.TheVariants.{Text};
 ghost use Rattle.sqlite_trees.specs.View.{HasCause, IsFailure, KeepsSchema};
+ghost use Rattle.sqlite_trees.specs.declared.error.StoreError.TheVariants.{OutOfMemory};
 ghost use Rattle.sqlite_trees.specs.declared.store.Shape.TheVariants.{Index};
-ghost use Rattle.argon2_base.specs.PhcFields.{phc_of};
-ghost use Rattle.argon2_base.specs.PhcText.{IsPhc, Phc, phc_text};
-ghost use Rattle.argon2.specs.NamedTexts.{Store as Named};
+ghost use Rattle.argon2_accounts.specs.Accounts.{Texts as Named};
 ghost use Rattle.argon2_store.specs.Errors.{IsOfDatabase};
-ghost use Rattle.argon2_store.specs.Rows.{AreTexts, HasNoneAfter, IsAccount, IsFoundAs, line, lines_of, row_of, rows_of};
+ghost use Rattle.argon2_store.specs.Rows.{AreTexts, IsAccount, IsFoundAs, line, lines_of, row_of, rows_of};
 ghost use Rattle.argon2_store.specs.Table.{HasFailed, HasNames, IsUnwritten, IsHonest, IsOpen, Sees, StaysQuiet, Writes, done_of};
 ghost use Rattle.argon2_store.specs.declared.error.OpenError.TheVariants.{Row as NoAccount};
 
 use crate::error::OpenError;
 use crate::view::View;
-use argon2::PasswordHash;
 use sqlite_trees::error::StoreError;
 use sqlite_trees::store::{Direction, Shape, Store};
 use sqlite_value::keys::Order;
 use sqlite_value::order::is_same;
 use sqlite_value::row::Row;
 use sqlite_value::value::ValueRef;
-use std::alloc::AllocError;
+use std::alloc::{AllocError, Global};
 use std::io::{self, Write};
 use std::mem;
 
@@ -33,14 +31,12 @@ use std::mem;
 pub(crate) const ACCOUNTS: u32 = 0;
 
 // The row of a name with its text.
-pub(crate) fn lay(row: &mut Row, name: &str, hash: &PasswordHash) -> Result<(), AllocError>
-    ensures row { OnOk result (row.new ≡ row_of (name.now, phc_of hash.now)) }
-    ensures short { length (phc_text (phc_of hash.now)) ≤ 326 }
+pub(crate) fn lay(row: &mut Row, name: &str, text: &str) -> Result<(), AllocError>
+    ensures { OnOk result (row.new ≡ row_of (name.now, text.now)) }
 {
-    let text = hash.text();
     row.clear();
     row.push(ValueRef::Text(name.as_bytes()))?;
-    row.push(ValueRef::Text(text.as_str().as_bytes()))
+    row.push(ValueRef::Text(text.as_bytes()))
 }
 
 // The two texts of a row that has nothing else.
@@ -58,35 +54,21 @@ fn texts_in(row: &Row) -> Option<(&[u8], &[u8])>
     }
 }
 
-// The PHC text of a row that is a name with one.
-fn text_in(row: &Row) -> Option<PasswordHash>
-    ensures found { IfSome result (λ hash.
-        (name : List ℕ) × (row.now ≡ row_of (name, phc_of hash))) }
-    ensures only { (e : List ℕ × Phc) → IsPhc e.1 → row.now ≡ row_of e →
-        IsSomeAnd result (λ hash. phc_of hash ≡ e.1) }
-{
-    let (_, text) = texts_in(row)?;
-    match str::from_utf8(text) {
-        Ok(text) => match PasswordHash::new(text) {
-            Ok(hash) => Some(hash),
-            Err(_) => None,
-        },
-        Err(_) => None,
-    }
-}
-
-// Whether a row is that of a name with a PHC text.
+// Whether a row is that of a name with a text of one line: behind a line break, it would read as a line of another name.
 fn is_account(row: &Row) -> bool
     ensures { IsTrue result → IsAccount row.now }
 {
     match texts_in(row) {
-        Some((name, _)) => str::from_utf8(name).is_ok() && text_in(row).is_some(),
+        Some((name, text)) => {
+            let is_line = !text.contains(&b'\n');
+            is_line && str::from_utf8(name).is_ok() && str::from_utf8(text).is_ok()
+        }
         None => false,
     }
 }
 
 // Whether the tree has a row of the name, which is then in `row`: `None` if no later name has one either.
-fn find<S: Store>(
+pub(crate) fn find<S: Store>(
     store: &mut S,
     row: &mut Row,
     key: &mut Row,
@@ -115,39 +97,47 @@ fn find<S: Store>(
     Ok(Some(is_same(row.get(0), key.get(0))))
 }
 
-// The text of a name, if the tree has a row of it. `true` with it says that no later name has one.
+// The text in the row of a name.
+fn copy_text(alloc: Global, row: &Row) -> Result<String, StoreError>
+    ensures { (e : List ℕ × List ℕ) → IsUtf8 e.1 → row.now ≡ row_of e → MatchResult result
+        (λ text. string_bytes text ≡ e.1) (λ why. why ≡ OutOfMemory) }
+{
+    match texts_in(row) {
+        Some((_, text)) => match str::from_utf8(text) {
+            Ok(text) => Ok(String::from_str(alloc, text)?),
+            Err(_) => Err(StoreError::Corrupt),
+        },
+        None => Err(StoreError::Corrupt),
+    }
+}
+
+// The text of a name, if the tree has a row of it.
 pub(crate) fn look_up<S: Store>(
+    alloc: Global,
     store: &mut S,
     row: &mut Row,
     key: &mut Row,
     name: &str,
-) -> Result<(Option<PasswordHash>, bool), StoreError>
+) -> Result<Option<String>, StoreError>
     requires { IsHonest S.Store store.old → (S.Store.view store.old).shape 0 ≡ Index plain }
     ensures found { (names : Named) → AreTexts names → Sees (S.Store.view store.old) names →
-        IfOk result (λ it. IsHonest S.Store store.new →
-        (get names name.now ≡ option_map phc_of it.0)
-        × (IsTrue it.1 → HasNoneAfter names name.now)) }
+        IfOk result (λ text. IsHonest S.Store store.new →
+        get names name.now ≡ option_map string_bytes text) }
     ensures same { OnOk result (IsHonest S.Store store.new → S.Store.view store.new
         ≡ record (S.Store.view store.old) { cursors = (S.Store.view store.new).cursors }) }
     ensures sound { OnOk result (IsHonest S.Store store.new →
         (S.Store.view store.old).is_broken ≡ false) }
-    ensures schema { KeepsSchema (S.Store.view store.old) (S.Store.view store.new) }
-    ensures quiet { StaysQuiet S.Store store.old store.new }
     ensures reads { (names : Named) → AreTexts names →
         (IsHonest S.Store store.old → Sees (S.Store.view store.old) names) →
         Writes S.Store store.old store.new names names ⊥ (done_of result) }
 {
     match find(store, row, key, name)? {
-        Some(true) => match text_in(row) {
-            Some(hash) => Ok((Some(hash), false)),
-            None => Err(StoreError::Corrupt),
-        },
-        Some(false) => Ok((None, false)),
-        None => Ok((None, true)),
+        Some(true) => Ok(Some(copy_text(alloc, row)?)),
+        _ => Ok(None),
     }
 }
 
-// Reads all rows once: each is that of a name with a PHC text, and no name has two.
+// Reads all rows once: each is that of a name with a text, and no name has two.
 pub(crate) fn load<S: Store>(store: &mut S, row: &mut Row, last: &mut Row) -> Result<(), OpenError>
     requires { IsHonest S.Store store.old → IsUnwritten (S.Store.view store.old) }
     ensures found { OnOk result ((names : Named) × HasNames S.Store store.new names
@@ -177,7 +167,7 @@ pub(crate) fn load<S: Store>(store: &mut S, row: &mut Row, last: &mut Row) -> Re
 
 // Writes the line of a row, if it has two texts and nothing else.
 fn write_line<W: Write>(row: &Row, view: View, output: &mut W) -> Option<io::Result<()>>
-    ensures { (e : List ℕ × Phc) → row.now ≡ row_of e → IsSomeAnd result (λ done.
+    ensures { (e : List ℕ × List ℕ) → row.now ≡ row_of e → IsSomeAnd result (λ done.
         OnOk done (Appends (W.contents output.old) (W.contents output.new) (line view e))) }
 {
     let (name, text) = texts_in(row)?;
@@ -186,7 +176,7 @@ fn write_line<W: Write>(row: &Row, view: View, output: &mut W) -> Option<io::Res
 
 // Writes the line of a name with its text.
 fn write_texts<W: Write>(name: &[u8], text: &[u8], view: View, output: &mut W) -> io::Result<()>
-    ensures { (e : List ℕ × Phc) → name.now ≡ e.0 → text.now ≡ phc_text e.1 →
+    ensures { (e : List ℕ × List ℕ) → name.now ≡ e.0 → text.now ≡ e.1 →
         OnOk result (Appends (W.contents output.old) (W.contents output.new) (line view e)) }
 {
     output.write_all(name)?;

@@ -1,7 +1,7 @@
 //! Names with their texts, in a tree of a store.
 #![tactic(auto, using(crate::proofs::TableLemmas::kept))]
 
-ghost use Rattle.std.specs.Prelude.{◌≡◌, ◌≤◌, ◌⊎◌, ◌↔◌, false, Any, Ok, Err, None, Some, IsTrue, IsOkAnd, OnOk, IfErr, IfOk, MatchResult, map};
+ghost use Rattle.std.specs.Prelude.{◌≡◌, ◌≤◌, ◌⊎◌, ◌↔◌, false, Any, Ok, Err, None, Some, IsTrue, IsOkAnd, OnOk, IfErr, IfOk, MatchResult, map, string_bytes};
 ghost use Rattle.std.specs.Cmp.Lexicographic.{slice_cmp};
 ghost use Rattle.std.specs.FinMap.{get, remove};
 ghost use Rattle.std.specs.Ordering.{nat_cmp};
@@ -12,8 +12,7 @@ ghost use Rattle.sqlite_value.specs.Keys.{plain};
 ghost use Rattle.sqlite_trees.specs.Tree.{Trees};
 ghost use Rattle.sqlite_trees.specs.View.{HasCause, KeepsSchema, doubt};
 ghost use Rattle.sqlite_trees.specs.declared.store.Shape.TheVariants.{Index};
-ghost use Rattle.argon2_base.specs.PhcFields.{phc_of};
-ghost use Rattle.argon2.specs.NamedTexts.{Store as Named};
+ghost use Rattle.argon2_accounts.specs.Accounts.{Texts as Named, text_of};
 ghost use Rattle.argon2_store.specs.Adding.{AddsAll, AddsName, IsFirstRefused, WritesAll, entry_of};
 ghost use Rattle.argon2_store.specs.Errors.{IsOfDatabase};
 ghost use Rattle.argon2_store.specs.Rows.{AreTexts, HasNoneAfter, IsAfterAll, lines_of, rows_of};
@@ -21,7 +20,7 @@ ghost use Rattle.argon2_store.specs.declared.error.OpenError.TheVariants.{Row as
 ghost use Rattle.argon2_store.specs.Table.{Changes, HasBegun, HasFailed, HasNames, HasSome, IsUnwritten, IsHonest, IsKept, IsOpen, IsLong, Sees, StaysQuiet, Writes, changed, written_of};
 
 use crate::error::OpenError;
-use crate::rows::{ACCOUNTS, lay, load, look_up, write_rows};
+use crate::rows::{ACCOUNTS, find, lay, load, look_up, write_rows};
 use crate::view::View;
 use argon2::PasswordHash;
 use argon2_accounts::AccountError;
@@ -55,13 +54,14 @@ fn put<S: Store>(
     ensures quiet { StaysQuiet S.Store store.old store.new }
     ensures writes { (names : Named) → (IsHonest S.Store store.old → get names name.now ≡ None) →
         Writes S.Store store.old store.new names
-        (changed names name.now (option_map phc_of (option_copied new.entry)))
+        (changed names name.now (option_map text_of (option_copied new.entry)))
         (IsLong name.now) result }
 {
     let Some(hash) = new else {
         return Ok(());
     };
-    lay(row, name, hash)?;
+    let text = hash.text();
+    lay(row, name, text.as_str())?;
     store.insert(ACCOUNTS, row)
 }
 
@@ -70,16 +70,16 @@ fn take_out<S: Store>(
     store: &mut S,
     row: &mut Row,
     name: &str,
-    hash: &PasswordHash,
+    text: &str,
 ) -> Result<(), StoreError>
     requires { IsHonest S.Store store.old → (S.Store.view store.old).shape 0 ≡ Index plain }
     ensures schema { KeepsSchema (S.Store.view store.old) (S.Store.view store.new) }
     ensures quiet { StaysQuiet S.Store store.old store.new }
     ensures writes { (names : Named) →
-        (IsHonest S.Store store.old → get names name.now ≡ Some (phc_of hash.now)) →
+        (IsHonest S.Store store.old → get names name.now ≡ Some text.now) →
         Writes S.Store store.old store.new names (remove names name.now) ⊥ result }
 {
-    lay(row, name, hash)?;
+    lay(row, name, text)?;
     store.remove(ACCOUNTS, row)
 }
 
@@ -88,20 +88,20 @@ fn write<S: Store>(
     store: &mut S,
     row: &mut Row,
     name: &str,
-    old: Option<&PasswordHash>,
+    old: Option<&str>,
     new: Option<&PasswordHash>,
 ) -> Result<(), StoreError>
     requires { IsHonest S.Store store.old → (S.Store.view store.old).shape 0 ≡ Index plain }
     ensures { (names : Named) → (IsHonest S.Store store.old →
-        get names name.now ≡ option_map phc_of (option_copied old.entry)) →
+        get names name.now ≡ option_copied old.entry) →
         Writes S.Store store.old store.new names
-        (changed names name.now (option_map phc_of (option_copied new.entry)))
+        (changed names name.now (option_map text_of (option_copied new.entry)))
         (IsLong name.now) result }
 {
-    let Some(hash) = old else {
+    let Some(text) = old else {
         return put(store, row, name, new);
     };
-    take_out(store, row, name, hash)?;
+    take_out(store, row, name, text)?;
     put(store, row, name, new)
 }
 
@@ -134,12 +134,13 @@ fn add<S: Store>(
     if *is_last {
         return Ok(put(store, row, name, Some(&hash)));
     }
-    match look_up(store, row, key, name) {
-        Ok((None, none_after)) => {
-            *is_last = none_after;
+    match find(store, row, key, name) {
+        Ok(Some(true)) => Err(AccountError::NameTaken),
+        Ok(Some(false)) => Ok(put(store, row, name, Some(&hash))),
+        Ok(None) => {
+            *is_last = true;
             Ok(put(store, row, name, Some(&hash)))
         }
-        Ok((Some(_), _)) => Err(AccountError::NameTaken),
         Err(error) => Ok(Err(error)),
     }
 }
@@ -249,7 +250,7 @@ impl<S: Store> Table<S> {
     ghost use Rattle.argon2_store.specs.Table.{KeepsNames};
 
     // The text of a name.
-    pub(crate) fn get(&mut self, name: &str) -> Result<Option<PasswordHash>, StoreError>
+    pub(crate) fn get(&mut self, name: &str) -> Result<Option<String>, StoreError>
         requires { IsHonest S.Store self.old.store → IsOpen S.Store self.old.store }
         ensures reads { (names : Named) → HasNames S.Store self.old.store names →
             KeepsNames S.Store self.old.store self.new.store names result }
@@ -257,10 +258,16 @@ impl<S: Store> Table<S> {
             (IsHonest S.Store self.new.store → IsOpen S.Store self.new.store) }
         ensures found { (names : Named) → HasNames S.Store self.new.store names →
             IfOk result (λ text. IsHonest S.Store self.new.store →
-            get names name.now ≡ option_map phc_of text) }
+            get names name.now ≡ option_map string_bytes text) }
     {
-        match look_up(&mut self.store, &mut self.row, &mut self.key, name) {
-            Ok((text, _)) => Ok(text),
+        match look_up(
+            self.alloc,
+            &mut self.store,
+            &mut self.row,
+            &mut self.key,
+            name,
+        ) {
+            Ok(text) => Ok(text),
             Err(error) => {
                 undo(&mut self.store);
                 Err(error)
@@ -294,16 +301,16 @@ impl<S: Store> Table<S> {
     pub(crate) fn change(
         &mut self,
         name: &str,
-        old: Option<&PasswordHash>,
+        old: Option<&str>,
         new: Option<&PasswordHash>,
     ) -> Result<(), StoreError>
         requires open { IsHonest S.Store self.old.store → IsOpen S.Store self.old.store }
         requires known { (names : Named) → HasNames S.Store self.old.store names →
             IsHonest S.Store self.old.store →
-            get names name.now ≡ option_map phc_of (option_copied old) }
+            get names name.now ≡ option_copied old }
         ensures { (before : Named) → HasNames S.Store self.old.store before →
             Changes S.Store self.old.store self.new.store before
-            (changed before name.now (option_map phc_of (option_copied new.entry)))
+            (changed before name.now (option_map text_of (option_copied new.entry)))
             (IsLong name.now) result }
     {
         let done = write(&mut self.store, &mut self.row, name, old, new);

@@ -77,7 +77,7 @@ fn show_calls<D: Disk + Drop>(
 // Whether a file has the name ann with its text.
 fn has_ann<S: Store>(file: &mut AccountFile<'_, S>) -> Result<bool, FileError> {
     match file.text_of("ann")? {
-        Some(hash) => Ok(hash.text().as_str() == TEXT),
+        Some(text) => Ok(text.as_str() == TEXT),
         None => Ok(false),
     }
 }

@@ -1,10 +1,9 @@
 //! Accounts in a file.
 
 ghost use Rattle.std.specs.Prelude.{◌≡◌, ◌∷◌, [], ℕ, List, Option, IfErr, IfOk, OnErr, OnOk, map};
-ghost use Rattle.argon2_base.specs.PhcFields.{phc_of};
-ghost use Rattle.argon2_accounts.specs.Accounts.{AreTerms, terms_of as policy_terms};
+ghost use Rattle.argon2_accounts.specs.Accounts.{AreTerms, terms_of as policy_terms, text_of};
 ghost use Rattle.argon2_store.specs.Adding.{entry_of};
-ghost use Rattle.argon2_passwd_commands.specs.Answers.{AddsLines, IsLogin, IsLooked, IsOpened, IsReplaced, IsSecret, IsServed, terms_in, value_of};
+ghost use Rattle.argon2_passwd_commands.specs.Answers.{AddsLines, IsLogin, IsLooked, IsOpened, IsReplaced, IsSecret, IsServed, terms_in, text_in};
 ghost use Rattle.argon2_passwd_commands.specs.Asked.{Asked, choices_of};
 ghost use Rattle.argon2_passwd_commands.specs.Failures.{status_of};
 
@@ -189,15 +188,19 @@ fn log_in<P: Outside, G: Rng>(
         }
         Err(error) => return Ok(Err(error)),
     };
-    let LoggedIn { accepted, fresh } = match policy.log_in(rng, &text, password) {
+    let hash = match PasswordHash::new(text.as_str()) {
+        Ok(hash) => hash,
+        Err(error) => return Ok(Err(error.into())),
+    };
+    let LoggedIn { accepted, fresh } = match policy.log_in(rng, &hash, password) {
         Ok(done) => done,
-        Err(error) => return Ok(Err(FileError::Account(error))),
+        Err(error) => return Ok(Err(error.into())),
     };
     let Some(fresh) = fresh else {
         return Ok(Ok(accepted));
     };
     // The password is accepted, whether the fresh text can be written or not.
-    match replace(outside, access, name, &text, &fresh) {
+    match replace(outside, access, name, text.as_str(), &fresh) {
         Ok(Ok(())) => Ok(Ok(accepted)),
         Ok(Err(_)) => Ok(Ok(Accepted::Kept)),
         Err(_) => Ok(Ok(Accepted::Kept)),
@@ -209,10 +212,10 @@ pub(super) fn look<P: Outside>(
     outside: &mut P,
     access: &Access<'_>,
     name: &str,
-) -> Result<Result<Option<PasswordHash>, FileError>, Failure>
+) -> Result<Result<Option<String>, FileError>, Failure>
     requires { P.closed outside.old [] }
     ensures ok { IfOk result (λ found. IsLooked P.File.Store P.holds P.keeps (terms_in access.now)
-        access.now.path.now name.now (value_of found) (λ read. P.closed outside.new (read ∷ []))) }
+        access.now.path.now name.now (text_in found) (λ read. P.closed outside.new (read ∷ []))) }
     ensures err { IfErr result (λ f. status_of f ≡ 1 → ¬ (AreTerms (terms_in access.now))) }
     ensures untouched { OnErr result (P.closed outside.new []) }
 {
@@ -228,19 +231,19 @@ pub(super) fn replace<P: Outside>(
     outside: &mut P,
     access: &Access<'_>,
     name: &str,
-    old: &PasswordHash,
+    old: &str,
     new: &PasswordHash,
 ) -> Result<Result<(), FileError>, Failure>
     requires { (read : P.File) × P.closed outside.old (read ∷ []) }
     ensures ok { IfOk result (λ done. (read : P.File) → P.closed outside.old (read ∷ [])
         → IsReplaced P.File.Store P.holds P.keeps (terms_in access.now) access.now.path.now name.now
-        (phc_of old.now) (phc_of new.now) done (λ last. P.closed outside.new (read ∷ last ∷ []))) }
+        old.now (text_of new.now) done (λ last. P.closed outside.new (read ∷ last ∷ []))) }
     ensures err { IfErr result (λ f. status_of f ≡ 1 → ¬ (AreTerms (terms_in access.now))) }
     ensures untouched { OnErr result ((read : P.File) →
         P.closed outside.old (read ∷ []) → P.closed outside.new (read ∷ [])) }
 {
     let mut accounts = open(outside, access)?;
-    let done = accounts.replace(name, old.text().as_str(), new.text().as_str());
+    let done = accounts.replace(name, old, new.text().as_str());
     outside.close(accounts.into_store());
     Ok(done)
 }

@@ -213,11 +213,15 @@ fn change<P: Outside, G: Rng>(
         }
         Err(error) => return Ok(Err(error)),
     };
-    let fresh = match policy.change_password(rng, &text, first, second) {
-        Ok(fresh) => fresh,
-        Err(error) => return Ok(Err(FileError::Account(error))),
+    let hash = match PasswordHash::new(text.as_str()) {
+        Ok(hash) => hash,
+        Err(error) => return Ok(Err(error.into())),
     };
-    replace(outside, access, name, &text, &fresh)
+    let fresh = match policy.change_password(rng, &hash, first, second) {
+        Ok(fresh) => fresh,
+        Err(error) => return Ok(Err(error.into())),
+    };
+    replace(outside, access, name, text.as_str(), &fresh)
 }
 
 // Gives a name that is there this text, whatever text it had.
@@ -233,5 +237,5 @@ fn set_text<S: Store>(
     let Some(text) = accounts.text_of(name)? else {
         return Err(AccountError::NameUnknown.into());
     };
-    accounts.replace(name, text.text().as_str(), fresh.text().as_str())
+    accounts.replace(name, text.as_str(), fresh.text().as_str())
 }

@@ -1,6 +1,15 @@
-use Rattle.std.proofs.Common.{◌∙◌, sym}
-use Rattle.argon2_store.proofs.LineLemmas.{an_account}
+use Rattle.argon2_store.proofs.Imports.{◌∙◌, ◌≡◌, sym, true, Result, Ok, Err, MatchResult}
+use Rattle.std.specs.Prelude.{is_ok}
 use Rattle.argon2_store.proofs.rows.is_account.Goals as goal
 
+accepted : {T E Q : Type 0} (P : T → Type 0) (R : E → Type 0) (r : Result T E) → is_ok r ≡ true
+    → MatchResult r (λ x. P x × Q) R → Q
+accepted P R (Ok x) is p = p.1
+accepted P R (Err e) is r = absurd cc
+
 pub returns-then-is_ok : goal.returns-then-is_ok
-returns-then-is_ok c is = an_account _ c.text_in.result (sym c.is_some.ensures ∙ is) c.text_in.ensures.found
+returns-then-is_ok c is = (
+  (c.in-Some.name.now, c.in-Some.text.now),
+  accepted _ _ c.from_utf8-then-is_ok.result (sym c.is_ok-then-is_ok.ensures.value ∙ is) c.from_utf8-then-is_ok.ensures.cases,
+  c.in-Some.ensures.found,
+)

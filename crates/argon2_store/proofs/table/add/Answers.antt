@@ -1,7 +1,8 @@
-use Rattle.argon2_store.proofs.Imports.{arith, ap, sym, inl, refl, HasNoneAfter, Phc, Store, List, get-other, get-same, tied_itself, nat_list_cmp_total, slice_cmp, nat_cmp, AddsName, ◌∙◌, ◌≡◌, ℕ, None, Some, Ok, get, insert, phc_of, IsHonest, err_is}
+use Rattle.argon2_store.proofs.Imports.{arith, ap, sym, inl, refl, HasNoneAfter, AreTexts, PasswordHash, Texts, List, Ghosts, StoreError, Writes, IsLong, OnOk, IsTrue, Bool, false, tied_itself, nat_list_cmp_total, slice_cmp, nat_cmp, AddsName, ◌∙◌, ◌≡◌, ℕ, None, Some, Ok, Err, Result, get, insert, phc_of, text_of, IsHonest, err_is}
 use Rattle.argon2_base.specs.PhcText.{PhcText}
-use Rattle.argon2_store.proofs.RowLemmas.{texts_changed}
-use Rattle.argon2_store.proofs.TableLemmas.{on_all, writes_more, writes_nothing, writes_then}
+use Rattle.argon2_store.proofs.RowLemmas.{get-changed, others_kept, texts_changed}
+use Rattle.argon2_store.proofs.TableLemmas.{on_all, reads_ok, writes_more, writes_nothing, writes_row, writes_then}
+use Rattle.argon2_store.proofs.TextLemmas.{text_is_utf8}
 use Rattle.argon2_store.proofs.table.add.Goals as goal
 
 pub returns-in_err-hash-clause-writes : goal.returns-in_err-hash-clause-writes
@@ -16,65 +17,80 @@ returns-in_err-hash-clause-writes g c before texts sees last =
       ),
     )
 
-adds_name : (before : Store) (name : List ℕ) (v : Phc) (text : List ℕ) → PhcText text v → get before name ≡ None
-    → AddsName before (name, text) (Ok tt) (insert before name v)
-adds_name before name v text has none = ((none, rw (get-same before name v) has), get-other before name v)
-
--- a new name is after all if none came after it
-still_last : (before : Store) (name : List ℕ) (v : Phc) → HasNoneAfter before name
-    → HasNoneAfter (insert before name v) name
-still_last before name v none later less = get-other before name v later
-    (λ is. let tied = sym (tied_itself nat_list_cmp_total name) ∙ ap (slice_cmp nat_cmp name) (sym is) ∙ less in cc)
-    ∙ none later less
+-- a row that is written for a name that has none, after reads
+module _ {S : Type 0} (g : Ghosts S) {old mid new : S} (before : Texts) (name text : List ℕ) (hash : PasswordHash)
+    (is_last : Bool) (r : Result (Unit {0}) StoreError) where
+  added : PhcText text (phc_of hash) → AreTexts before → Writes g old mid before before ⊥ (Ok tt)
+      → (IsHonest g mid → (get before name ≡ None) × (IsTrue is_last → HasNoneAfter before name))
+      → ((IsHonest g mid → get before name ≡ None) → Writes g mid new before (insert before name (text_of hash)) (IsLong name) r)
+      → (after : Texts) × AreTexts after × Writes g old new before after (IsLong name) r
+      × OnOk r (IsHonest g new → AddsName before (name, text) (Ok tt) after × (IsTrue is_last → HasNoneAfter after name))
+  added is texts read none writes =
+      let wrote = writes (λ clean. (none clean).0) in (
+        insert before name (text_of hash),
+        texts_changed before name (Some (text_of hash)) texts (text_is_utf8 (phc_of hash) hash.grammatical),
+        writes_then read wrote (λ long. long),
+        on_all r (λ clean.
+            let first = none (omega (arith, clean, wrote.quiet.clean)) in (
+              (
+                (first.0, (phc_of hash, is), get-changed before name (Some (text_of hash)) ∙ ap Some (sym is.1)),
+                others_kept before name (Some (text_of hash)),
+              ),
+              λ last later less. others_kept before name (Some (text_of hash)) later
+                  (λ same. let tied = sym (tied_itself nat_list_cmp_total name) ∙ ap (slice_cmp nat_cmp name) (sym same) ∙ less in
+                  cc) ∙ first.1 last later less,
+            )),
+      )
 
 pub returns-then-is_last-clause-writes : goal.returns-then-is_last-clause-writes
 returns-then-is_last-clause-writes g c before texts sees last =
-    let name = c.args.name.now in
-    let v = phc_of c.in_ok-hash.hash in
-    let past = last c.if-is_last.true in
-    let wrote = c.put.ensures.writes before (λ clean. (past clean).0) in (
-      insert before name v,
-      texts_changed before name (Some v) texts c.in_ok-hash.hash.grammatical,
-      wrote,
-      on_all c.put.result (λ clean.
-          let first = past (omega (arith, clean, wrote.quiet.clean)) in
-          (adds_name before name v _ c.in_ok-hash.ensures.found first.0, λ is. still_last before name v first.1)),
-    )
+    added g.S.Store before c.args.name.now _ c.in_ok-hash.hash _ c.put.result c.in_ok-hash.ensures.found texts
+    (writes_nothing g.S.Store (λ clean. refl)) (λ clean. let past = last c.if-is_last.true clean in (past.0, λ is. past.1))
+    (c.put.ensures.writes before)
 
-pub returns-in-Ok-None-default-clause-writes : goal.returns-in-Ok-None-default-clause-writes
-returns-in-Ok-None-default-clause-writes g c before texts sees last =
-    let name = c.args.name.now in
-    let v = phc_of c.in_ok-hash.hash in
-    let found = λ (clean : IsHonest g.S.Store c.look_up.new.store). c.in-Ok-None-default.ensures.found before texts
-    (sees (omega (arith, clean, c.look_up.ensures.quiet.clean))) clean in
-    let none : IsHonest g.S.Store c.look_up.new.store → get before name ≡ None = λ clean.
-    (rw c.in-Ok-None-default.field-0-0-is at (found clean)).0 in
-    let wrote = c.put-in-Ok-None-default.ensures.writes before none in (
-      insert before name v,
-      texts_changed before name (Some v) texts c.in_ok-hash.hash.grammatical,
-      writes_then (c.in-Ok-None-default.ensures.reads before texts sees) wrote (λ long. long),
-      on_all c.put-in-Ok-None-default.result (λ clean.
-          let mid : IsHonest g.S.Store c.look_up.new.store = omega (arith, clean, wrote.quiet.clean) in
-          (adds_name before name v _ c.in_ok-hash.ensures.found (none mid), λ is. still_last before name v ((found mid).1 is))),
-    )
-
-pub returns-in-Ok-Some-default-clause-writes : goal.returns-in-Ok-Some-default-clause-writes
-returns-in-Ok-Some-default-clause-writes g c before texts sees last = (
+pub returns-in-Ok-Some-true-clause-writes : goal.returns-in-Ok-Some-true-clause-writes
+returns-in-Ok-Some-true-clause-writes g c before texts sees last = (
   before,
   texts,
-  writes_more (c.in-Ok-Some-default.ensures.reads before texts sees) (λ never. absurd never),
+  writes_more (reads_ok g.S.Store c.in-Ok-Some-true.ensures.same c.find.ensures.schema c.find.ensures.quiet)
+      (λ never. absurd never),
   λ clean.
-      let has = (rw c.in-Ok-Some-default.field-0-0-is at (c.in-Ok-Some-default.ensures.found before texts
-      (sees (omega (arith, clean, c.look_up.ensures.quiet.clean))) clean)).0 in (
+      let (text, has, row) = (rw (c.in-Ok-Some-true.field-0-is, c.in-Ok-Some-true.field-0-0-test) at
+      c.in-Ok-Some-true.ensures.found) before clean (sees (omega (arith, clean, c.find.ensures.quiet.clean))
+      (c.in-Ok-Some-true.ensures.sound clean)).0 in (
         (((phc_of c.in_ok-hash.hash, c.in_ok-hash.ensures.found), rw has refl), refl),
         λ other differs. refl,
       ),
 )
 
+not_both : (b : Bool) → b ≡ false → IsTrue b → ⊥
+not_both b off is = cc
+
+pub returns-in-Ok-Some-false-clause-writes : goal.returns-in-Ok-Some-false-clause-writes
+returns-in-Ok-Some-false-clause-writes g c before texts sees last =
+    added g.S.Store before c.args.name.now _ c.in_ok-hash.hash _ c.put-in-Ok-Some-false.result c.in_ok-hash.ensures.found texts
+    (reads_ok g.S.Store c.in-Ok-Some-false.ensures.same c.find.ensures.schema c.find.ensures.quiet) (λ clean. (
+      (rw (c.in-Ok-Some-false.field-0-is, c.in-Ok-Some-false.field-0-0-test) at c.in-Ok-Some-false.ensures.found) before clean
+          (sees (omega (arith, clean, c.find.ensures.quiet.clean)) (c.in-Ok-Some-false.ensures.sound clean)).0,
+      λ is. absurd (not_both _ c.if-is_last.false is),
+    ))
+    (c.put-in-Ok-Some-false.ensures.writes before)
+
+pub returns-in-Ok-None-clause-writes : goal.returns-in-Ok-None-clause-writes
+returns-in-Ok-None-clause-writes g c before texts sees last =
+    added g.S.Store before c.args.name.now _ c.in_ok-hash.hash _ c.put-in-Ok-None.result c.in_ok-hash.ensures.found texts
+    (reads_ok g.S.Store c.in-Ok-None.ensures.same c.find.ensures.schema c.find.ensures.quiet) (λ clean.
+    let past = (rw (c.in-Ok-None.field-0-is) at c.in-Ok-None.ensures.found) before clean
+    (sees (omega (arith, clean, c.find.ensures.quiet.clean)) (c.in-Ok-None.ensures.sound clean)).0 in
+    (past.0, λ is. past.1))
+    (c.put-in-Ok-None.ensures.writes before)
+
 pub returns-in-Err-clause-writes : goal.returns-in-Err-clause-writes
-returns-in-Err-clause-writes g c before texts sees last = (
-  before,
-  texts,
-  writes_more (c.in-Err.ensures.reads before texts sees) (λ never. absurd never),
-  tt,
-)
+returns-in-Err-clause-writes g c before texts sees last =
+    let failed : Result (Unit {0}) StoreError = Err c.in-Err.error in (
+      before,
+      texts,
+      writes_more (writes_row g.S.Store failed tt c.in-Err.ensures.err tt c.in-Err.ensures.cause c.find.ensures.schema
+          c.find.ensures.quiet) (λ never. absurd never),
+      tt,
+    )

@@ -1,5 +1,5 @@
 use Rattle.argon2_store.proofs.Imports.{◌<◌, ◌≡◌, arith, length, ℕ, List, [], Err, refl, subst, take, map, get_or, sym, Bor, get_or-map, length-map, map_more}
-use Rattle.argon2_store.proofs.Imports.{take-map, take_all, Any, AddsAll, AddsName, entry_of, IsHonest, IsLong, Sees, Store, HasNoneAfter, IsAfterAll, Less, slice_cmp, nat_cmp, nat_list_cmp_total}
+use Rattle.argon2_store.proofs.Imports.{take-map, take_all, Any, AddsAll, AddsName, entry_of, IsHonest, IsLong, Sees, Texts, HasNoneAfter, IsAfterAll, Less, slice_cmp, nat_cmp, nat_list_cmp_total}
 use Rattle.argon2_store.proofs.AddLemmas.{add_last}
 use Rattle.argon2_store.proofs.TableLemmas.{keeps_index, writes_nothing, writes_then}
 use Rattle.argon2_store.proofs.table.add_each.Goals as goal
@@ -18,7 +18,7 @@ some_long new i within long = (
 )
 
 -- a name after the last one is after all if that is
-past : {P Q : Type 0} (names : Store) (last name : List ℕ) → (P → Q × (slice_cmp nat_cmp last name ≡ Less))
+past : {P Q : Type 0} (names : Texts) (last name : List ℕ) → (P → Q × (slice_cmp nat_cmp last name ≡ Less))
     → {H : Type 0} → (Q → H → HasNoneAfter names last) → P → H → IsAfterAll names name
 past names last name later none is clean =
     let (was, less) = later is in (

@@ -1,4 +1,4 @@
-use Rattle.argon2_store.proofs.Imports.{arith, IsHonest, remove_entry, phc_of}
+use Rattle.argon2_store.proofs.Imports.{arith, IsHonest, remove_entry}
 use Rattle.std.proofs.lemmas.Result.{on_ok_weaker}
 use Rattle.argon2_store.proofs.RowLemmas.{remove_entry-rows_of}
 use Rattle.argon2_store.proofs.TableLemmas.{row_edited, writes_row}
@@ -11,6 +11,6 @@ returns-clause-writes g c names has =
     (on_ok_weaker c.remove.result (λ ok clean sees.
     let first : IsHonest g.S.Store c.args.store.now = omega (arith, clean, c.remove.ensures.quiet.clean) in
     row_edited remove_entry (view c.args.store.now) (view c.remove.new.self) _ _ names _ (c.requires first) (ok clean)
-    c.in_ok-lay.ensures.row (remove_entry-rows_of names c.args.name.now (phc_of c.args.hash.now) (has first)) sees)
+    c.in_ok-lay.ensures (remove_entry-rows_of names c.args.name.now c.args.text.now (has first)) sees)
     c.remove.ensures.ok)
     c.remove.ensures.cause c.remove.ensures.schema c.remove.ensures.quiet

@@ -1,26 +1,22 @@
-use Rattle.argon2_store.proofs.Imports.{ap, ◌∙◌, subst, remove, option_copied, option_map, phc_of, IsHonest, IsLong, Writes, err_is}
-use Rattle.argon2_store.proofs.RowLemmas.{changed-remove, get-gone-same}
+use Rattle.argon2_store.proofs.Imports.{ap, ◌∙◌, subst, None, remove, option_copied, option_map, text_of, IsLong, Writes, err_is}
+use Rattle.argon2_store.proofs.RowLemmas.{changed-remove, get-changed}
 use Rattle.argon2_store.proofs.TableLemmas.{writes_less, writes_more, writes_then}
 use Rattle.argon2_store.proofs.table.write.Goals as goal
 
 pub returns-in_default : goal.returns-in_default
-returns-in_default g c names has =
-    c.put.ensures.writes names (λ clean. has clean ∙ ap (λ n. option_map phc_of (option_copied n)) c.in_default.is)
+returns-in_default g c names has = c.put.ensures.writes names (λ clean. has clean ∙ ap option_copied c.in_default.is)
 
 pub returns-in_err-take_out : goal.returns-in_err-take_out
 returns-in_err-take_out g c names has =
-    let here = λ (clean : IsHonest g.S.Store c.args.store.now). has clean
-    ∙ ap (λ n. option_map phc_of (option_copied n)) c.in-Some.is in
     rw (err_is c.from_residual.result _ c.from_residual.ensures.1)
-    (let wrote = writes_more (c.in_err-take_out.ensures.writes names here) (λ never. absurd never) in
+    (let wrote = writes_more (c.in_err-take_out.ensures.writes names (λ clean. has clean ∙ ap option_copied c.in-Some.is))
+    (λ never. absurd never) in
     writes_less _ wrote wrote.cause)
 
 pub returns : goal.returns
 returns g c names has =
     let name = c.args.name.now in
-    let here = λ (clean : IsHonest g.S.Store c.args.store.now). has clean
-    ∙ ap (λ n. option_map phc_of (option_copied n)) c.in-Some.is in
-    writes_then (c.in_ok-take_out.ensures.writes names here)
+    writes_then (c.in_ok-take_out.ensures.writes names (λ clean. has clean ∙ ap option_copied c.in-Some.is))
     (subst (λ s. Writes g.S.Store c.take_out.new.store c.put-2.new.store (remove names name) s (IsLong name) c.put-2.result)
-    (changed-remove names name (option_map phc_of (option_copied c.args.new)))
-    (c.put-2.ensures.writes (remove names name) (λ clean. get-gone-same names name))) (λ long. long)
+    (changed-remove names name (option_map text_of (option_copied c.args.new)))
+    (c.put-2.ensures.writes (remove names name) (λ clean. get-changed names name None))) (λ long. long)

@@ -1,8 +1,8 @@
 use Rattle.std.proofs.Common.{refl, sym, ◌∙◌}
 use Rattle.argon2_base.specs.PhcFields.{phc_of}
-use Rattle.argon2_accounts.specs.Accounts.{store_of}
+use Rattle.argon2_accounts.specs.Accounts.{kept_texts}
 use Rattle.argon2_accounts.proofs.AccountLemmas.{adds, not_added}
-use Rattle.argon2.proofs.login_lemmas.Stores.{absent, present}
+use Rattle.argon2_accounts.proofs.TreeLemmas.{absent, present}
 use Rattle.argon2_accounts.proofs.accounts.Accounts.add.Goals as goal
 
 pub returns-in_err-parsed-clause-step : goal.returns-in_err-parsed-clause-step
@@ -26,8 +26,8 @@ returns-then-contains_key-clause-step c = (
 
 pub returns-clause-step : goal.returns-clause-step
 returns-clause-step c = (
-  adds (store_of c.args.self.now) (store_of c.insert.new.self) c.args.name.now c.args.text.now
-      (phc_of c.in_ok-parsed.parsed) c.insert.result c.in_ok-parsed.ensures.found
+  adds (kept_texts c.args.self.now) (kept_texts c.insert.new.self) c.args.name.now c.args.text.now
+      c.in_ok-parsed.parsed c.insert.result c.in_ok-parsed.ensures.found
       (absent c.args.self.now.texts c.args.name.now (sym c.contains_key.ensures ∙ c.if-contains_key.false))
       c.insert.ensures.inserted,
   c.insert.ensures.others,

@@ -1,15 +1,16 @@
-use Rattle.std.proofs.Common.{refl, sym, Some, None}
+use Rattle.std.proofs.Common.{inl, refl, sym, Some, None}
 use Rattle.rand_core.specs.Stream.{fill_bytes}
 use Rattle.argon2_base.specs.PhcFields.{phc_of}
-use Rattle.argon2.proofs.login_lemmas.Stores.{get-found}
-use Rattle.argon2_accounts.specs.Accounts.{Changes, kept_terms}
+use Rattle.argon2_accounts.specs.Accounts.{ByValue, Changes, kept_terms}
 use Rattle.argon2_accounts.proofs.AccountLemmas.{err_is, on_none, on_value}
+use Rattle.argon2_accounts.proofs.TextLemmas.{is_text_of}
+use Rattle.argon2_accounts.proofs.TreeLemmas.{get-found}
 use Rattle.argon2_accounts.proofs.accounts.Accounts.change_password.Goals as goal
 
 pub returns-in_default-clause-step : goal.returns-in_default-clause-step
 returns-in_default-clause-step g c = (
-  on_none (Changes (kept_terms c.args.self.now) c.args.old.now c.args.new.now
-      (fill_bytes 16 (g.R.Rng.stream c.args.rng.now)).0) _ _
+  on_none (ByValue (Changes (kept_terms c.args.self.now) c.args.old.now c.args.new.now
+      (fill_bytes 16 (g.R.Rng.stream c.args.rng.now)).0)) _ _
       (get-found c.args.self.now.texts c.args.name.now None (sym c.in_default.ensures.value)) refl,
   λ other differs. refl,
 )
@@ -26,12 +27,12 @@ returns-in_err-fresh g c =
     rw same (record {
       step = (
         on_value (Changes (kept_terms c.args.self.now) c.args.old.now c.args.new.now
-            (fill_bytes 16 (g.R.Rng.stream c.args.rng.now)).0) _ _ (phc_of text) (phc_of text) _ had had
+            (fill_bytes 16 (g.R.Rng.stream c.args.rng.now)).0) _ _ text text _ had had
             (c.in_err-fresh.ensures.made, refl),
         λ other differs. refl,
       );
       accepted = tt;
-      drawn = rw had c.in_err-fresh.ensures.drawn;
+      drawn = rw had (inl (phc_of text, is_text_of text, c.in_err-fresh.ensures.drawn));
       terms = refl;
     })
 
@@ -48,11 +49,11 @@ returns g c =
     record {
       step = (
         on_value (Changes (kept_terms c.args.self.now) c.args.old.now c.args.new.now
-            (fill_bytes 16 (g.R.Rng.stream c.args.rng.now)).0) _ _ (phc_of text) (phc_of fresh) _ had has
+            (fill_bytes 16 (g.R.Rng.stream c.args.rng.now)).0) _ _ text fresh _ had has
             c.in_ok-fresh.ensures.made,
         c.put.ensures.others,
       );
-      accepted = rw (c.put.ensures.terms, has) c.in_ok-fresh.ensures.accepted;
-      drawn = rw had c.in_ok-fresh.ensures.drawn;
+      accepted = rw (c.put.ensures.terms, has) (phc_of fresh, is_text_of fresh, c.in_ok-fresh.ensures.accepted);
+      drawn = rw had (inl (phc_of text, is_text_of text, c.in_ok-fresh.ensures.drawn));
       terms = c.put.ensures.terms;
     }

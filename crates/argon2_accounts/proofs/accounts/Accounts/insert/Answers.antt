@@ -1,6 +1,6 @@
 use Rattle.std.proofs.Common.{rules, refl, string_bytes, Some, ◌≡◌}
 use Rattle.std.proofs.lemmas.Map.Text.{btree_map_updates_text}
-use Rattle.argon2_accounts.proofs.AccountLemmas.{name_changes}
+use Rattle.argon2_accounts.proofs.TreeLemmas.{name_changes}
 use Rattle.argon2_accounts.proofs.accounts.Accounts.insert.Goals as goal
 
 pub returns-in_default-insert : goal.returns-in_default-insert

@@ -1,14 +1,13 @@
 use Rattle.std.proofs.Common.{◌≡◌, None, Some, refl, sym}
 use Rattle.std.proofs.lemmas.Map.Text.{btree_map_updates_text}
 use Rattle.std.specs.FinMap.{get}
-use Rattle.argon2_accounts.specs.Accounts.{store_of}
-use Rattle.argon2.proofs.login_lemmas.Stores.{get-found}
-use Rattle.argon2_accounts.proofs.AccountLemmas.{name_changes}
+use Rattle.argon2_accounts.specs.Accounts.{kept_texts}
+use Rattle.argon2_accounts.proofs.TreeLemmas.{get-found, name_changes}
 use Rattle.argon2_accounts.proofs.accounts.Accounts.put.Goals as goal
 
 pub unreachable-requires : goal.unreachable-requires
 unreachable-requires c =
-    let none : get (store_of c.args.self.now) c.args.name.now ≡ None =
+    let none : get (kept_texts c.args.self.now) c.args.name.now ≡ None =
     get-found c.args.self.now.texts c.args.name.now None (sym c.in_default.ensures.value) in
     absurd (let h = rw none at c.requires in cc)
 

@@ -1,7 +1,6 @@
 use Rattle.std.proofs.Common.{refl, sym, Some, None}
 use Rattle.std.proofs.lemmas.Map.Text.{btree_map_updates_text}
-use Rattle.argon2_accounts.proofs.AccountLemmas.{name_changes}
-use Rattle.argon2.proofs.login_lemmas.Stores.{get-found}
+use Rattle.argon2_accounts.proofs.TreeLemmas.{get-found, name_changes}
 use Rattle.argon2_accounts.proofs.accounts.Accounts.remove.Goals as goal
 
 pub returns-in_default-clause-step : goal.returns-in_default-clause-step

@@ -1,9 +1,10 @@
 use Rattle.std.proofs.Common.{refl, sym, ◌∙◌}
 use Rattle.rand_core.specs.Stream.{fill_bytes}
 use Rattle.argon2_base.specs.PhcFields.{phc_of}
-use Rattle.argon2.proofs.login_lemmas.Stores.{absent, present}
 use Rattle.argon2_accounts.specs.Accounts.{Sets, kept_terms}
 use Rattle.argon2_accounts.proofs.AccountLemmas.{not_set, on_none, sets}
+use Rattle.argon2_accounts.proofs.TextLemmas.{is_text_of}
+use Rattle.argon2_accounts.proofs.TreeLemmas.{absent, present}
 use Rattle.argon2_accounts.proofs.accounts.Accounts.set_password.Goals as goal
 
 pub returns-then-not-contains_key-clause-step : goal.returns-then-not-contains_key-clause-step
@@ -29,7 +30,7 @@ put-requires g c =
 pub returns-clause-step : goal.returns-clause-step
 returns-clause-step g c = (
   sets (kept_terms c.args.self.now) c.args.new.now (fill_bytes 16 (g.R.Rng.stream c.args.rng.now)).0 _ _
-      (phc_of c.in_ok-fresh.fresh)
+      c.in_ok-fresh.fresh
       (present c.args.self.now.texts c.args.name.now (sym c.contains_key.ensures ∙ c.if-not-contains_key.false))
       c.put.ensures.replaced c.in_ok-fresh.ensures.made,
   c.put.ensures.others,
@@ -37,4 +38,5 @@ returns-clause-step g c = (
 
 pub returns-clause-accepted : goal.returns-clause-accepted
 returns-clause-accepted g c =
-    rw (c.put.ensures.terms, c.put.ensures.replaced) c.in_ok-fresh.ensures.accepted
+    let fresh = c.in_ok-fresh.fresh in
+    rw (c.put.ensures.terms, c.put.ensures.replaced) (phc_of fresh, is_text_of fresh, c.in_ok-fresh.ensures.accepted)

@@ -6,6 +6,6 @@ returns-clause-ok g c = λ read was. (
   c.in_ok-accounts.accounts,
   c.replace-done.new.self,
   c.in_ok-accounts.ensures.ok,
-  (rw (c.as_str.ensures.value, c.as_str-2.ensures.value, c.text.ensures.1, c.text-2.ensures.1) at c.replace-done.ensures),
+  (rw (c.as_str.ensures.value, c.text.ensures.1) at c.replace-done.ensures),
   (rw c.into_store.ensures at c.close.ensures (read ∷ []) (c.in_ok-accounts.ensures.opened (read ∷ []) was)),
 )

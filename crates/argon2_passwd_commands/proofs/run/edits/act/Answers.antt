@@ -4,8 +4,7 @@ use Rattle.sqlite_trees.specs.declared.store.Store.{Ghosts}
 use Rattle.rand_core.specs.Stream.{fill_bytes}
 use Rattle.argon2_base.specs.PhcText.{Phc}
 use Rattle.argon2.specs.Made.{IsFresh}
-use Rattle.argon2.specs.NamedTexts.{Store}
-use Rattle.argon2_accounts.specs.Accounts.{Terms, registering, removing, setting}
+use Rattle.argon2_accounts.specs.Accounts.{Terms, Texts, registering, removing, setting}
 use Rattle.argon2_store.specs.AccountFile.{Call, Serves, terms_of}
 use Rattle.argon2_store.specs.declared.account_file.AccountFile.{AccountFile}
 use Rattle.argon2_store.specs.declared.error.FileError.{FileError}
@@ -21,7 +20,7 @@ made_under first mid last password drawn v here there fresh =
     subst (λ (t : Terms). IsFresh t.target password drawn v) (here ∙ sym there) fresh
 
 -- what was done with an open file was a call
-called : {S : Type 0} (g : Ghosts S) (Holds : List ℕ → List ℕ → Type 0) (Has : List ℕ → Store → Type 0) (choices : Choices)
+called : {S : Type 0} (g : Ghosts S) (Holds : List ℕ → List ℕ → Type 0) (Has : List ℕ → Texts → Type 0) (choices : Choices)
     (secret path drawn : List ℕ) (call : List ℕ → Call (Unit {0})) (Closed : List S → Type 0)
     (Does : Result (Unit {0}) FileError → AccountFile S g → AccountFile S g → Type 0)
     (r : Result (Result (Unit {0}) FileError) Failure) → IsSecret Holds choices.secret_file secret

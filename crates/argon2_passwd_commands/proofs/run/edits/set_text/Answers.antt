@@ -1,5 +1,6 @@
 use Rattle.std.proofs.Common.{◌∙◌, ap, refl}
 use Rattle.std.specs.Option.{option_map}
+use Rattle.std.specs.Prelude.{string_bytes}
 use Rattle.argon2_base.specs.PhcFields.{phc_of}
 use Rattle.argon2_accounts.specs.Accounts.{setting}
 use Rattle.argon2_accounts.specs.declared.error.AccountError.TheVariants.{NameUnknown}
@@ -14,12 +15,12 @@ returns-in_err-text g c password drawn fresh before has =
 pub returns-in_default : goal.returns-in_default
 returns-in_default g c password drawn fresh before has =
     refuses (setting c.args.name.now password drawn) (λ answer. refl) (c.in_ok-text.ensures.reads before has)
-    (c.in_ok-text.ensures.shows before) (ap (option_map phc_of) c.in_default.is) NameUnknown _ c.into.ensures (refl, refl)
+    (c.in_ok-text.ensures.shows before) (ap (option_map string_bytes) c.in_default.is) NameUnknown _ c.into.ensures (refl, refl)
 
 pub returns : goal.returns
 returns g c password drawn fresh =
     sets {g = g.S.Store} c.args.accounts.now c.text_of.new.self c.replace.new.self c.args.name.now _ _ password drawn
-    (phc_of c.in-Some.text) (phc_of c.args.fresh.now) c.text.ensures c.text-2.ensures fresh _
+    (phc_of c.args.fresh.now) c.text.ensures fresh _
     (λ clean is. absurd (let never = (c.in_ok-text.ensures.closed clean is).0 in cc)) c.in_ok-text.ensures.reads
-    (λ names has clean. c.in_ok-text.ensures.shows names has clean ∙ ap (option_map phc_of) c.in-Some.is)
+    (λ names has clean. c.in_ok-text.ensures.shows names has clean ∙ ap (option_map string_bytes) c.in-Some.is)
     (rw (c.as_str.ensures.value, c.as_str-2.ensures.value) at c.replace.ensures)

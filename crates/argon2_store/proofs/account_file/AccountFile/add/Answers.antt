@@ -1,5 +1,6 @@
-use Rattle.argon2_store.proofs.Imports.{◌∙◌, Err, Some, inl, refl, sym, phc_of, adding, NameTaken, Refused, Closed}
-use Rattle.argon2_store.proofs.FileLemmas.{cannot_serve, is_nowhere, is_there, refuses, shut_out, unread, writes}
+use Rattle.argon2_store.proofs.Imports.{◌∙◌, Err, Some, ap, inl, refl, sym, phc_of, string_bytes, text_of, adding, NameTaken, Refused, Closed}
+use Rattle.std.proofs.option.Match.{None-if_not_some}
+use Rattle.argon2_store.proofs.FileLemmas.{cannot_serve, is_some-map, refuses, shut_out, unread, writes}
 use Rattle.argon2_store.proofs.account_file.AccountFile.add.Goals as goal
 
 pub returns-then-is_closed : goal.returns-then-is_closed
@@ -25,7 +26,7 @@ returns-then-is_some g c before has =
     (c.in_ok-text_of.ensures.shows before) refl NameTaken _ c.into.ensures (
       (
         (phc_of c.in_ok-parsed.parsed, c.in_ok-parsed.ensures.found),
-        is_there _ (sym c.is_some.ensures ∙ c.if-is_some.true),
+        is_some-map string_bytes _ (sym c.is_some.ensures ∙ c.if-is_some.true),
       ),
       refl,
     )
@@ -33,6 +34,8 @@ returns-then-is_some g c before has =
 pub returns : goal.returns
 returns g c before has =
     let reads = c.in_ok-text_of.ensures.reads before has in
+    let says = c.in_ok-parsed.ensures.found in
     writes (adding c.args.name.now c.args.text.now) (λ answer. refl) reads (c.in_ok-text_of.ensures.shows before)
-    (is_nowhere _ (sym c.is_some.ensures ∙ c.if-is_some.false)) (Some (phc_of c.in_ok-parsed.parsed)) tt refl
-    (refl, c.in_ok-parsed.ensures.found) _ (c.change.ensures before reads.has) _ c.written.ensures
+    (None-if_not_some _ (is_some-map string_bytes _ (sym c.is_some.ensures ∙ c.if-is_some.false)))
+    (Some (text_of c.in_ok-parsed.parsed)) tt refl (refl, (phc_of c.in_ok-parsed.parsed, says), ap Some (sym says.1)) _
+    (c.change.ensures before reads.has) _ c.written.ensures

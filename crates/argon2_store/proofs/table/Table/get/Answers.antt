@@ -37,5 +37,5 @@ returns-in-Ok-clause-found g c names has clean =
     let new = g.S.Store.view c.look_up.new.store in
     let still = is_open old new (g.met.S.Store.broken_if_shut c.look_up.new.store) (c.in-Ok.ensures.same clean)
     (c.in-Ok.ensures.sound clean) in
-    (c.in-Ok.ensures.found names has.0
-    (λ unbroken. subst (λ (v : View). Holds v.trees names) (c.in-Ok.ensures.same clean) (has.1.seen clean still)) clean).0
+    c.in-Ok.ensures.found names has.0
+    (λ unbroken. subst (λ (v : View). Holds v.trees names) (c.in-Ok.ensures.same clean) (has.1.seen clean still)) clean
