@@ -1,8 +1,9 @@
 //! The options of the command line, and the names of files.
 
+use crate::field::Field;
+use crate::limits::{Form, Limits, Options};
+use crate::run::PROGRAM;
 use argon2::Algorithm;
-use argon2_audit_report::run::PROGRAM;
-use argon2_audit_report::{Field, Form, Limits, Options};
 use argon2_commands::invalid;
 use clap::{Arg, ArgAction, ArgMatches, Command, Error, value_parser};
 use std::alloc::{AllocError, Global};

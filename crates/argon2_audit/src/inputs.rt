@@ -1,6 +1,6 @@
 //! What is read: files one after another.
 
-use argon2_audit_report::run::Named;
+use crate::run::Named;
 use std::fs::File;
 use std::io::{Read, Stdin};
 use std::{fs, io};

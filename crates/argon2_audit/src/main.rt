@@ -1,16 +1,26 @@
 //! `argon2-audit`: says which lines of its input store passwords below a policy.
 #![tactic(auto)]
 
-use argon2_audit_report::run::{PROGRAM, run};
 use argon2_commands::{answer, words};
 use argon2_failure::Failure;
 use inputs::Inputs;
+use run::{PROGRAM, run};
 use std::alloc::AllocError;
 use std::io::{BufWriter, IsTerminal};
 use std::process::ExitCode;
 
 mod arguments;
+mod claim;
+mod field;
+mod finding;
+mod findings;
 mod inputs;
+mod limits;
+mod report;
+mod run;
+mod seen;
+mod session;
+mod tally;
 
 fn main(rt: HostRuntime) -> ExitCode {
     let mut errors = rt.stderr();

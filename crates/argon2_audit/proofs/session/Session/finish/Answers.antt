@@ -1,0 +1,39 @@
+use Rattle.std.proofs.Common.{arith, rules, ◌≡◌, ◌∙◌, ◌<◌, ◌++◌, Bool, true, false, List, [], ◌∷◌, ℕ, length, MatchBool, vec_len, ◌==◌, sym, ap, append-nil, inl, inr}
+use Rattle.argon2_audit.specs.Audit.{IsJoined, joined}
+use Rattle.argon2_audit.proofs.Objects.{then}
+use Rattle.argon2_audit.proofs.session.Session.finish.Goals as goal
+
+no_byte : (is_long : Bool) (items line : List ℕ) → length items ≡ 0
+    → MatchBool is_long ((length items ≡ 4096) × (4096 < length line)) (items ≡ line) → line ≡ []
+no_byte true items line none long = absurd (let full = long.0 in omega arith)
+no_byte false [] line none is = sym is
+no_byte false (x ∷ xs) line none is = absurd (omega arith)
+
+of_none : (is_long : Bool) (items line : List ℕ) → MatchBool is_long ((length items ≡ 4096) × (4096 < length line)) (items ≡ line)
+    → line ≡ [] → length items ≡ 0
+of_none true items line long none = absurd (let past = long.1 in let empty = ap length none in omega arith)
+of_none false items line is none = ap length (is ∙ none)
+
+whole : {bytes : List ℕ} (lines : List (List ℕ)) → bytes ≡ joined lines → IsJoined bytes lines
+whole [] is = is
+whole (last ∷ earlier) is = inl is
+
+pub returns-then-is_empty : goal.returns-then-is_empty
+returns-then-is_empty g c = λ options bytes b.
+    let none = no_byte _ _ b.rest (search rules) b.at.read in
+    (b.lines, b.at.findings, whole b.lines (b.split ∙ rw none (append-nil (joined b.lines))), b.at.counted)
+
+pub returns : goal.returns
+returns g c = then c.end_line.result c.end_line.ensures.ended (λ ended options bytes b.
+    let after = ended options b.lines b.rest b.at in (
+      b.rest ∷ b.lines,
+      after.findings,
+      inr (
+        b.split ∙ ap (λ l. joined b.lines ++ l) (append-nil b.rest),
+        λ none. absurd (
+            let items = of_none _ _ b.rest b.at.read none in
+            let empty : vec_len c.args.self.now.line.bytes ≡ 0 = search rules in
+            let clash : false ≡ true = c.if-is_empty.ensures ∙ ap (λ n. n == 0) empty in cc),
+      ),
+      after.counted,
+    ))

@@ -1,0 +1,144 @@
+-- What is known after so many bytes.
+use Rattle.std.specs.Prelude.{◌≡◌, ◌≢◌, ◌⊎◌, ◌↔◌, ◌<◌, ◌+◌, ◌==◌, ℕ, nat_le, get_or, Bool, not, IsTrue, if◌then◌else◌, Option, IfSome, List, [], ◌∷◌, ◌++◌, length}
+use Rattle.std.specs.Bool.{MatchBool}
+use Rattle.std.specs.BTreeSet.{BTreeSet, contains_by}
+use Rattle.std.specs.Cmp.Lexicographic.{slice_cmp}
+use Rattle.std.specs.List.{AllZip, list_all, list_any}
+use Rattle.std.specs.Ordering.{nat_cmp}
+use Rattle.std.specs.Str.{bytes_eq}
+use Rattle.arrayvec.specs.ArrayVec.{ArrayVec}
+use Rattle.argon2_audit.specs.Finding.{IsFinding, class_of, has_short_salt, salt_of, some_passes}
+use Rattle.argon2_audit.specs.declared.finding.Class.{Class}
+use Rattle.argon2_audit.specs.declared.finding.Class.TheVariants.{Outside, NoHash, Below, Sound, Other, Locked, Empty, Blank, Comment, Unknown}
+use Rattle.argon2_audit.specs.declared.finding.Finding.{Finding}
+use Rattle.argon2_audit.specs.declared.limits.Limits.{Limits}
+use Rattle.argon2_audit.specs.declared.limits.Options.{Options}
+use Rattle.argon2_audit.specs.declared.seen.Seen.{Seen}
+use Rattle.argon2_audit.specs.declared.session.Line.{Line}
+use Rattle.argon2_audit.specs.declared.session.Session.{Session}
+use Rattle.argon2_audit.specs.declared.tally.Tally.{Tally}
+
+-- ---- salts
+
+-- a key has these bytes
+abbrev pub has_key : BTreeSet (ArrayVec ℕ) → List ℕ → Bool
+has_key keys bytes = contains_by (λ key. slice_cmp nat_cmp bytes key.items) keys
+
+-- a text had this salt
+abbrev pub has_salt : Seen → List ℕ → Bool
+has_salt seen salt = if nat_le (length salt) 24 then has_key seen.short salt else has_key seen.long salt
+
+-- the salt, if there is one, is this
+abbrev pub is_salt : Option (List ℕ) → List ℕ → Bool
+is_salt salt other = some_passes (λ s. bytes_eq s other) salt
+
+-- ---- counts
+
+abbrev pub one_if : Bool → ℕ
+one_if b = if b then 1 else 0
+
+abbrev pub class_number : Class → ℕ
+class_number Outside = 0
+class_number NoHash = 1
+class_number Below = 2
+class_number Sound = 3
+class_number Other = 4
+class_number Locked = 5
+class_number Empty = 6
+class_number Blank = 7
+class_number Comment = 8
+class_number Unknown = 9
+
+-- how many lines of a class were counted
+abbrev pub count_of : Class → Tally → ℕ
+count_of class tally = get_or tally.counts (class_number class) 0
+
+-- one line more, in its class and in no other
+pub record Counts (class : Class) (is_short is_equal : Bool) (old new : Tally) : Type 0 where
+  pub lines : new.lines ≡ old.lines + 1
+  pub classes : (n : ℕ) → get_or new.counts n 0 ≡ get_or old.counts n 0 + one_if (class_number class == n)
+  pub short_salts : new.short_salts ≡ old.short_salts + one_if is_short
+  pub equal_salts : new.equal_salts ≡ old.equal_salts + one_if is_equal
+
+-- how many lines do not count as sound; those of other schemes and with no password do if the limits allow them
+abbrev pub unsound : Limits → Tally → ℕ
+unsound limits tally = count_of Outside tally + count_of NoHash tally + count_of Below tally + count_of Empty tally
+    + count_of Unknown tally + (if limits.allows_other then 0
+    else count_of Other tally + count_of Locked tally + count_of Blank tally + count_of Comment tally)
+
+-- each line counts as sound, and no salt was there before
+abbrev pub IsClean : Limits → Tally → Type 0
+IsClean limits tally = (unsound limits tally ≡ 0) × (tally.equal_salts ≡ 0)
+
+-- how many pass a test, the last first
+abbrev pub how_many : (Finding → Bool) → List Finding → ℕ
+how_many test [] = 0
+how_many test (finding ∷ earlier) = how_many test earlier + one_if (test finding)
+
+-- a text has this salt
+abbrev pub any_salt : List ℕ → List Finding → Bool
+any_salt salt findings = list_any (λ finding. is_salt (salt_of finding) salt) findings
+
+-- how many texts have the salt of an earlier one
+abbrev pub repeated : List Finding → ℕ
+repeated [] = 0
+repeated (finding ∷ earlier) = repeated earlier + one_if (some_passes (λ salt. any_salt salt earlier) (salt_of finding))
+
+-- ---- lines, the last first
+
+-- these bytes of a line were read; of those of a long one not all are kept
+abbrev pub IsRead : Line → List ℕ → Type 0
+IsRead kept line = MatchBool kept.is_long ((length kept.bytes.items ≡ 4096) × (4096 < length line))
+    (kept.bytes.items ≡ line)
+
+-- no line feed is in a line
+abbrev pub has_no_feed : List ℕ → Bool
+has_no_feed line = list_all (λ byte. not (byte == 10)) line
+
+-- lines one after another, each with a line feed
+abbrev pub joined : List (List ℕ) → List ℕ
+joined [] = []
+joined (line ∷ earlier) = joined earlier ++ (line ++ 10 ∷ [])
+
+-- each line ends with a line feed, but that the last may have none if it is not empty
+abbrev pub IsJoined : List ℕ → List (List ℕ) → Type 0
+IsJoined bytes [] = bytes ≡ []
+IsJoined bytes (last ∷ earlier) = (bytes ≡ joined (last ∷ earlier)) ⊎ ((bytes ≡ joined earlier ++ last) × (last ≢ []))
+
+-- these are found in lines with no line feed, and the counts are those of what is found
+pub record AreCounted (options : Options) (lines : List (List ℕ)) (findings : List Finding) (tally : Tally) : Type 0 where
+  pub feeds : IsTrue (list_all has_no_feed lines)
+  pub found : AllZip (IsFinding options.field) lines findings
+  pub all : tally.lines ≡ length findings
+  pub classes : (n : ℕ)
+      → get_or tally.counts n 0 ≡ how_many (λ finding. class_number (class_of options.limits finding) == n) findings
+  pub short_salts : tally.short_salts ≡ how_many (has_short_salt options.limits) findings
+  pub equal_salts : tally.equal_salts ≡ repeated findings
+
+-- the counts are those of the lines of a text
+abbrev pub IsTallied : Options → List ℕ → Tally → Type 0
+IsTallied options bytes tally = (lines : List (List ℕ)) × (findings : List Finding) × IsJoined bytes lines
+    × AreCounted options lines findings tally
+
+-- the session has counted these lines, and the rest is read of a line
+pub record IsAt (options : Options) (session : Session) (lines : List (List ℕ)) (rest : List ℕ) : Type 0 where
+  pub same : session.options ≡ options
+  pub findings : List Finding
+  pub counted : AreCounted options lines findings session.tally
+  pub salts : (salt : List ℕ) → has_salt session.seen salt ≡ any_salt salt findings
+  pub feed : IsTrue (has_no_feed rest)
+  pub read : IsRead session.line rest
+
+-- the session has taken these bytes but for the last ones
+pub record IsBefore (options : Options) (session : Session) (bytes more : List ℕ) : Type 0 where
+  pub lines : List (List ℕ)
+  pub rest : List ℕ
+  pub split : bytes ≡ joined lines ++ (rest ++ more)
+  pub at : IsAt options session lines rest
+
+-- ---- what the program says
+
+-- if the input is known, its lines are counted, and are clean or not
+abbrev pub IsAudit : Options → Option (List ℕ) → Bool → Type 0
+IsAudit options input clean = (tally : Tally) × IfSome input (λ bytes. IsTallied options bytes tally)
+    × (IsTrue clean ↔ IsClean options.limits tally)

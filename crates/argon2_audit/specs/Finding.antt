@@ -1,0 +1,175 @@
+-- What is found in a line.
+use Rattle.std.specs.Prelude.{ℕ, zero, suc, ◌≡◌, ◌≢◌, ◌⊎◌, ◌<◌, ◌≤◌, ◌==◌, nat_lt, Bool, false, not, ◌&&◌, ◌||◌, List, [], ◌∷◌, codes, get_or, length, if◌then◌else◌, Option, Some, None, is_none, option_map, unwrap_or, Result, Ok, Err}
+use Rattle.std.specs.Char.{is_ascii_digit}
+use Rattle.std.specs.List.{after_first, before_first, list_all, position_or_len}
+use Rattle.std.specs.Io.BufRead.{strip_last}
+use Rattle.std.specs.Str.{IsUtf8}
+use Rattle.argon2_prefixes.specs.Prefixes.{after_any, bare, begins_any}
+use Rattle.argon2_base.specs.Error.{Fault, bad_encoding, outcome_of}
+use Rattle.argon2_base.specs.PhcText.{Phc, PhcText}
+use Rattle.argon2_base.specs.declared.error.password_hash.Error.{Error}
+use Rattle.argon2.specs.Settings.{algorithm_number, version_number}
+use Rattle.argon2.specs.Stored.{read, shown_settings}
+use Rattle.argon2_audit.specs.declared.claim.Claim.{Claim}
+use Rattle.argon2_audit.specs.declared.claim.Claim.TheVariants.{Argon2, Other, Locked, Empty, Blank, Comment, NoField, Unknown}
+use Rattle.argon2_audit.specs.declared.claim.Scheme.TheVariants.{Bcrypt, Scrypt, Pbkdf2, Yescrypt, Sha256Crypt, Sha512Crypt, Md5Crypt, Django, Ldap}
+use Rattle.argon2_audit.specs.declared.field.Field.{Field}
+use Rattle.argon2_audit.specs.declared.finding.Class.{Class}
+use Rattle.argon2_audit.specs.declared.finding.Class.TheVariants as class
+use Rattle.argon2_audit.specs.declared.finding.Finding.{Finding}
+use Rattle.argon2_audit.specs.declared.finding.Finding.TheVariants.{TooLong, Claimed, NotUtf8, Refused, Shown}
+use Rattle.argon2_audit.specs.declared.limits.Entry.{Entry}
+use Rattle.argon2_audit.specs.declared.limits.Limits.{Limits}
+
+-- ---- fields
+
+-- a separator stands in the line
+abbrev pub is_cut : ℕ → List ℕ → Bool
+is_cut separator line = nat_lt (position_or_len (λ byte. byte == separator) line) (length line)
+
+-- a byte of numbers with colons between them
+abbrev pub is_number : ℕ → Bool
+is_number byte = is_ascii_digit byte || (byte == 58)
+
+-- numbers with colons between them, and then `$`
+abbrev pub has_numbers : List ℕ → Bool
+has_numbers text = is_cut 36 text && is_ascii_digit (get_or text 0 0)
+    && list_all is_number (before_first (λ byte. byte == 36) text)
+
+-- what Werkzeug writes before the numbers of a text
+abbrev pub werkzeug : List (List ℕ)
+werkzeug = codes "scrypt:" ∷ codes "pbkdf2:sha1:" ∷ codes "pbkdf2:sha256:" ∷ codes "pbkdf2:sha512:" ∷ []
+
+-- a text of Werkzeug, which has colons
+abbrev pub is_werkzeug : List ℕ → Bool
+is_werkzeug line = begins_any werkzeug line && has_numbers (after_any werkzeug line)
+
+-- the field with so many before it
+abbrev pub field_numbered : ℕ → ℕ → List ℕ → Option (List ℕ)
+field_numbered zero separator line = Some (before_first (λ byte. byte == separator) line)
+field_numbered (suc before) separator line = if is_cut separator line
+    then field_numbered before separator (after_first (λ byte. byte == separator) line) else None
+
+-- if no number is asked for, the second of the fields, or all if there is no separator
+abbrev pub field_by : Option ℕ → ℕ → List ℕ → Option (List ℕ)
+field_by None separator line = Some (if is_werkzeug line then line else unwrap_or (field_numbered 1 separator line) line)
+field_by (Some before) separator line = field_numbered before separator line
+
+abbrev pub field_in : Field → List ℕ → Option (List ℕ)
+field_in field line = field_by field.before field.separator line
+
+-- ---- what a line claims to store
+
+-- a line without the byte order mark U+FEFF at its start and a carriage return at its end
+abbrev pub trimmed : List ℕ → List ℕ
+trimmed line = strip_last 13 (after_any ((239 ∷ 187 ∷ 191 ∷ []) ∷ []) line)
+
+abbrev pub is_space : ℕ → Bool
+is_space byte = (byte == 32) || (byte == 9)
+
+-- what a text claims to be, by its prefix
+abbrev pub claim_of_text : List ℕ → Claim
+claim_of_text text =
+    if begins_any (codes "$argon2" ∷ []) text then Argon2
+    else if length text == 0 then Empty
+    else if begins_any (codes "!" ∷ codes "*" ∷ []) text then Locked
+    else if begins_any (codes "$2$" ∷ codes "$2a$" ∷ codes "$2b$" ∷ codes "$2x$" ∷ codes "$2y$" ∷ []) text
+    || begins_any (codes "bcrypt$" ∷ codes "bcrypt_sha256$" ∷ []) text then Other Bcrypt
+    else if begins_any (codes "$7$" ∷ codes "$scrypt$" ∷ codes "scrypt" ∷ []) text then Other Scrypt
+    else if begins_any (codes "$pbkdf2" ∷ codes "pbkdf2" ∷ codes "{PBKDF2" ∷ []) text then Other Pbkdf2
+    else if begins_any (codes "$y$" ∷ codes "$gy$" ∷ []) text then Other Yescrypt
+    else if begins_any (codes "$5$" ∷ []) text then Other Sha256Crypt
+    else if begins_any (codes "$6$" ∷ []) text then Other Sha512Crypt
+    else if begins_any (codes "$1$" ∷ codes "$apr1$" ∷ []) text then Other Md5Crypt
+    else if begins_any (codes "md5$" ∷ codes "sha1$" ∷ []) text then Other Django
+    else if begins_any (codes "{MD5}" ∷ codes "{SMD5}" ∷ codes "{SHA" ∷ codes "{SSHA" ∷ []) text then Other Ldap
+    else Unknown
+
+-- a line of spaces and tabs is blank, one that begins with `#` is a comment, and any other claims what its field does
+abbrev pub claim_of : Field → List ℕ → Claim
+claim_of field line =
+    if list_all is_space (trimmed line) then Blank
+    else if begins_any (codes "#" ∷ []) (trimmed line) then Comment
+    else unwrap_or (option_map (λ text. claim_of_text (bare text)) (field_in field (trimmed line))) NoField
+
+-- the text of a line, empty if it lacks the field
+abbrev pub stored_in : Field → List ℕ → List ℕ
+stored_in field line = unwrap_or (option_map bare (field_in field (trimmed line))) []
+
+-- ---- what a stored text shows
+
+-- the settings that a value shows, with the salt and the hash's length if they are there; or the
+-- fault of the settings
+abbrev pub entry_of : Phc → Result Entry Fault
+entry_of v = read (shown_settings v) (λ settings. Ok (record {
+  kind = record {
+    algorithm = settings.algorithm;
+    version = settings.version;
+    m_cost = settings.parameters.m_cost;
+    t_cost = settings.parameters.t_cost;
+    p_cost = settings.parameters.p_cost;
+  };
+  salt = v.salt;
+  hash_len = option_map length v.hash;
+}))
+
+-- what a text shows by its value, or `EncodingInvalid` if it is no value's
+abbrev pub IsEntryAnswer : List ℕ → Result Entry Error → Type 0
+IsEntryAnswer text r =
+    ((v : Phc) × PhcText text v × (outcome_of (λ entry. entry) r ≡ entry_of v))
+    ⊎ (((v : Phc) → PhcText text v → ⊥) × (outcome_of (λ entry. entry) r ≡ Err bad_encoding))
+
+-- ---- what is below limits
+
+-- there is a value, and it passes
+abbrev pub some_passes : {A : Type 0} → (A → Bool) → Option A → Bool
+some_passes test None = false
+some_passes test (Some x) = test x
+
+abbrev pub is_short : Limits → Entry → Bool
+is_short limits entry = nat_lt (length (unwrap_or entry.salt [])) limits.salt_len
+
+-- limits ask for more of something than there is, or for another algorithm; what is missing has no bytes
+abbrev pub is_below : Limits → Entry → Bool
+is_below limits entry = nat_lt entry.kind.m_cost limits.m_cost || nat_lt entry.kind.t_cost limits.t_cost
+    || nat_lt entry.kind.p_cost limits.p_cost || is_short limits entry
+    || nat_lt (unwrap_or entry.hash_len 0) limits.hash_len || nat_lt (version_number entry.kind.version) limits.version
+    || some_passes (λ required. not (algorithm_number required == algorithm_number entry.kind.algorithm)) limits.algorithm
+
+-- ---- what a line comes to
+
+-- what a text that claims to be Argon2's comes to: it is no UTF-8, or what it shows
+abbrev pub IsTextFinding : List ℕ → Finding → Type 0
+IsTextFinding text NotUtf8 = ¬ IsUtf8 text
+IsTextFinding text (Refused error) = IsUtf8 text × IsEntryAnswer text (Err error)
+IsTextFinding text (Shown entry) = IsUtf8 text × IsEntryAnswer text (Ok entry)
+IsTextFinding text finding = ⊥
+
+-- what a line comes to: it is too long, it claims to store something else, or what its text comes to
+abbrev pub IsFinding : Field → List ℕ → Finding → Type 0
+IsFinding field line TooLong = 4096 < length line
+IsFinding field line (Claimed claim) = (length line ≤ 4096) × (claim_of field line ≡ claim) × (claim ≢ Argon2)
+IsFinding field line finding =
+    (length line ≤ 4096) × (claim_of field line ≡ Argon2) × IsTextFinding (stored_in field line) finding
+
+abbrev pub class_of : Limits → Finding → Class
+class_of limits (Claimed (Other scheme)) = class.Other
+class_of limits (Claimed Locked) = class.Locked
+class_of limits (Claimed Empty) = class.Empty
+class_of limits (Claimed Blank) = class.Blank
+class_of limits (Claimed Comment) = class.Comment
+class_of limits (Claimed NoField) = class.Unknown
+class_of limits (Claimed Unknown) = class.Unknown
+class_of limits (Shown entry) =
+    if is_none entry.hash_len then class.NoHash else if is_below limits entry then class.Below else class.Sound
+class_of limits finding = class.Outside
+
+-- the line has a text whose salt is shorter than the limits ask for, or missing
+abbrev pub has_short_salt : Limits → Finding → Bool
+has_short_salt limits (Shown entry) = is_short limits entry
+has_short_salt limits finding = false
+
+-- the salt of the line's text, if there is one
+abbrev pub salt_of : Finding → Option (List ℕ)
+salt_of (Shown entry) = entry.salt
+salt_of finding = None

@@ -1,0 +1,151 @@
+//! The program over any streams.
+
+ghost use Rattle.std.specs.Prelude.{◌≡◌, ◌⊎◌, ◌∷◌, ◌++◌, [], ℕ, List, IfOk, IfSome, IsFalse, OnOk, true, false};
+ghost use Rattle.std.specs.Io.KnownBytes.{Appends, Keeps};
+ghost use Rattle.argon2_audit.specs.Object.{IsReport, IsReported};
+ghost use Rattle.argon2_audit.specs.Audit.{IsAudit, IsTallied};
+
+use crate::findings::Findings;
+use crate::limits::{Form, Options};
+use crate::report::{Lines, Nothing, Remarks, write_table};
+use crate::session::Session;
+use crate::tally::Tally;
+use argon2_failure::Failure;
+use std::alloc::Global;
+use std::io::{ErrorKind, Read, Write};
+
+/// Something that is read and has a name for errors.
+pub trait Named {
+    /// The path of the file that is read or can't be opened, or `standard input`.
+    fn name(&self) -> &str;
+}
+
+/// The program's name.
+pub const PROGRAM: &str = "argon2-audit";
+
+// How many bytes are read at once.
+const PIECE: usize = 65536;
+
+// How many pieces are read at the most, so that lines can be counted.
+const PIECES: u64 = 1 << 47;
+
+// How many pieces are read between two lines of progress.
+const STRIDE: u64 = 256;
+
+/// Audits the lines of `input`, and returns the exit status.
+///
+/// Status 0: the report is written, each line counts as sound and no two salts are equal. A text of another scheme, a
+/// locked line, a blank one and a comment count as sound only if the limits allow other schemes. Status 1: the report
+/// is written, and that is not so. Status 3: the failure's text is written to `errors`, which gets none if nobody reads
+/// `output` any more.
+///
+/// The JSON report is a line with one object, which is written once it is whole. If progress is to be shown, `errors`
+/// gets the number of lines read so far from time to time. If `errors` can't be written, the status stays.
+pub fn run<R: Read + Named, W: Write, E: Write>(
+    alloc: Global,
+    options: Options,
+    input: &mut R,
+    output: &mut W,
+    errors: &mut E,
+    shows_progress: bool,
+) -> u8
+    ensures status { (result ≡ 0) ⊎ (result ≡ 1) ⊎ (result ≡ 3) }
+    ensures passed { result ≡ 0 → IsAudit options (R.remaining input.old) true }
+    ensures refused { result ≡ 1 → IsAudit options (R.remaining input.old) false }
+    ensures object { (result ≡ 0) ⊎ (result ≡ 1) → IsReported options (R.remaining input.old)
+        (W.contents output.old) (W.contents output.new) }
+    ensures silent { options.form ≡ Form.Quiet → output.new ≡ output.old }
+    ensures quiet { IsFalse shows_progress → result ≡ 0
+        → Keeps (E.contents errors.old) (E.contents errors.new) }
+{
+    match write_report(alloc, options, input, output, errors, shows_progress) {
+        Ok(tally) if tally.is_clean(&options.limits) => 0,
+        Ok(_) => 1,
+        Err(failure) => failure.report(PROGRAM, input.name(), errors),
+    }
+}
+
+// Writes the report on all lines, and returns the counts.
+fn write_report<R: Read, W: Write, E: Write>(
+    alloc: Global,
+    options: Options,
+    input: &mut R,
+    output: &mut W,
+    errors: &mut E,
+    shows_progress: bool,
+) -> Result<Tally, Failure>
+    ensures tally { IfOk result (λ tally. IfSome (R.remaining input.old)
+        (λ bytes. IsTallied options bytes tally)) }
+    ensures object { IfOk result (λ tally. IsReport options tally
+        (W.contents output.old) (W.contents output.new)) }
+    ensures silent { options.form ≡ Form.Quiet → output.new ≡ output.old }
+    ensures quiet { IsFalse shows_progress → Keeps (E.contents errors.old) (E.contents errors.new) }
+{
+    match options.form {
+        Form::Lines => {
+            let mut lines = Lines { output };
+            let session = session_of(alloc, options, input, &mut lines, errors, shows_progress)?;
+            write_table(lines.output, &session)?;
+            Ok(session.tally)
+        }
+        Form::Json => {
+            let mut findings = Findings::new(alloc)?;
+            let session = session_of(alloc, options, input, &mut findings, errors, shows_progress)?;
+            let text = findings.object(&session)?;
+            write_line(output, text.as_slice())?;
+            Ok(session.tally)
+        }
+        Form::Quiet => {
+            let silent = &mut Nothing;
+            let session = session_of(alloc, options, input, silent, errors, shows_progress)?;
+            Ok(session.tally)
+        }
+    }
+}
+
+// Writes a text as a line.
+fn write_line<W: Write>(output: &mut W, text: &[u8]) -> Result<(), Failure>
+    ensures { OnOk result (Appends (W.contents output.old) (W.contents output.new)
+        (text.now ++ 10 ∷ [])) }
+{
+    output.write_all(text)?;
+    output.write_all(b"\n")?;
+    output.flush()?;
+    Ok(())
+}
+
+// The session after all that is left in `input`.
+fn session_of<R: Read, S: Remarks, E: Write>(
+    alloc: Global,
+    options: Options,
+    input: &mut R,
+    remarks: &mut S,
+    errors: &mut E,
+    shows_progress: bool,
+) -> Result<Session, Failure>
+    ensures session { IfOk result (λ session. IfSome (R.remaining input.old)
+        (λ bytes. IsTallied options bytes session.tally)) }
+    ensures quiet { IsFalse shows_progress → Keeps (E.contents errors.old) (E.contents errors.new) }
+{
+    let mut session = Session::new(alloc, options);
+    let mut piece = [0u8; PIECE];
+    'pieces: for turn in 0..PIECES {
+        match input.read(&mut piece) {
+            Ok(0) => {
+                session.finish(remarks)?;
+                return Ok(session);
+            }
+            Ok(count) => session.add(&piece[..count], remarks)?,
+            Err(e) => {
+                if e.kind() != ErrorKind::Interrupted {
+                    return Err(Failure::of_reading(e));
+                }
+            }
+        }
+        if shows_progress && turn % STRIDE == STRIDE - 1 {
+            let lines = session.tally.lines;
+            let _ = writeln!(errors, "{PROGRAM}: {lines} lines");
+        }
+    }
+    Err(Failure::Other("the input has too many pieces"))
+}

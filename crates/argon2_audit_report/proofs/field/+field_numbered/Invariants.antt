@@ -1,4 +1,0 @@
-use Rattle.argon2_audit_report.proofs.field.+field_numbered.Given as goal
-
-abbrev pub decreases-field_numbered : goal.decreases-field_numbered
-decreases-field_numbered l = l.before

@@ -1,5 +1,0 @@
-use Rattle.std.proofs.Common.{length}
-use Rattle.argon2_audit_report.proofs.findings.+write_members.Given as goal
-
-abbrev pub decreases-write_members : goal.decreases-write_members
-decreases-write_members l = length l.members.now
