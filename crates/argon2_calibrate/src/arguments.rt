@@ -1,10 +1,10 @@
 //! The options of the command line.
 
 ghost use Rattle.std.specs.Prelude.{IfOk};
-ghost use Rattle.argon2_calibrate_search.specs.Choice.{ArePossible};
+ghost use Rattle.argon2_calibrate.specs.Choice.{ArePossible};
 
-use argon2_calibrate_search::Options;
-use argon2_calibrate_search::run::PROGRAM;
+use crate::options::Options;
+use crate::run::PROGRAM;
 use argon2_commands::invalid;
 use clap::{Arg, ArgAction, Command, Error, value_parser};
 use std::alloc::{AllocError, Global};

@@ -1,11 +1,12 @@
 //! The options of the command line, and the command.
 
+use crate::command::{Command, Edit};
+use crate::options::Options;
+use crate::run::PROGRAM;
 use argon2::Params;
 use argon2::bound::Bound;
 use argon2::phc::read_decimal;
 use argon2_commands::invalid;
-use argon2_passwd_commands::run::PROGRAM;
-use argon2_passwd_commands::{Command, Edit, Options};
 use argon2_store::View;
 use clap::error::ErrorKind;
 use clap::{Arg, ArgAction, Error};

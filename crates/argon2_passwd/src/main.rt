@@ -3,13 +3,20 @@
 
 use argon2_commands::{answer, words};
 use argon2_failure::Failure;
-use argon2_passwd_commands::Machine;
-use argon2_passwd_commands::run::{PROGRAM, run};
+use outside::Machine;
+use run::{PROGRAM, run};
 use std::alloc::AllocError;
 use std::io::BufWriter;
 use std::process::ExitCode;
 
 mod arguments;
+mod command;
+mod entries;
+mod failure;
+mod options;
+mod outside;
+mod passwords;
+mod run;
 
 fn main(rt: HostRuntime) -> ExitCode {
     let mut errors = rt.stderr();

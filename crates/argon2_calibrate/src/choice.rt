@@ -1,0 +1,74 @@
+//! Costs that are chosen by measured times.
+
+ghost use Rattle.std.specs.Prelude.{◌≡◌, ◌≤◌, ◌<◌, IfSome};
+ghost use Rattle.argon2_calibrate.specs.Choice.{IsGreatest, further_of, least_passes, scatter};
+
+/// Memory and passes, and how long three hashes under them take.
+#[derive(Clone, Copy, Debug, PartialEq, Eq)]
+pub struct Choice {
+    /// Memory in blocks of 1024 bytes.
+    pub m_cost: u32,
+    /// Passes.
+    pub t_cost: u32,
+    /// The least of the three times, in microseconds.
+    pub time: u64,
+    /// Whether the three times scatter.
+    pub busy: bool,
+}
+
+/// Costs that were searched for.
+#[derive(Clone, Copy, Debug, PartialEq, Eq)]
+pub struct Found {
+    /// The costs.
+    pub choice: Choice,
+    /// Whether the machine may have been too busy to find better ones.
+    pub busy: bool,
+}
+
+/// Whether the greatest of three times is above the least by more than a quarter.
+pub fn scatter(a: u64, b: u64, c: u64) -> bool
+    ensures { result ≡ scatter a b c }
+{
+    let least = a.min(b).min(c);
+    a.max(b).max(c) - least > least / 4
+}
+
+/// The least number of passes over so much memory: what is asked for, or else 2 below 64 MiB and 1 from there on.
+pub fn least_passes(min_t: Option<u32>, m_cost: u32) -> u32
+    requires { IfSome min_t (λ least. 1 ≤ least) }
+    ensures value { result ≡ least_passes min_t m_cost }
+    ensures some { 1 ≤ result }
+{
+    match min_t {
+        Some(least) => least,
+        None if m_cost < 65536 => 2,
+        None => 1,
+    }
+}
+
+/// How long a further pass takes, by the times of the least passes and of so many: no less than half of the
+/// average, as the first hash of all can be slower than the others.
+pub fn further(first: Choice, passes: u32, time: u64) -> u64
+    requires { first.t_cost < passes }
+    ensures { result ≡ further_of first passes time }
+{
+    let more = u64::from(passes - first.t_cost);
+    let apart = time.saturating_sub(first.time) / more;
+    apart.max(time / (2 * u64::from(passes))).max(1)
+}
+
+/// The greatest number of passes that takes no longer than the target, or the least if none does.
+pub fn passes(target: u64, first: Choice, further: u64) -> u32
+    requires { 0 < further }
+    ensures { IsGreatest target first further result }
+{
+    if target <= first.time {
+        return first.t_cost;
+    }
+    let more = (target - first.time) / further;
+    if more < u64::from(u32::MAX - first.t_cost) {
+        more as u32 + first.t_cost
+    } else {
+        u32::MAX
+    }
+}

@@ -1,0 +1,164 @@
+//! The search for costs.
+
+ghost use Rattle.std.specs.Prelude.{◌≡◌, ◌≤◌, IfOk, IsFalse, MatchOption, None};
+ghost use Rattle.argon2_calibrate.specs.Choice.{ArePossible, IsBest, IsChoice, IsFirst, IsMeasured};
+
+use crate::choice::{Choice, Found, further, least_passes, passes, scatter};
+use crate::options::Options;
+use crate::run::PROGRAM;
+use crate::stopwatch::Stopwatch;
+use argon2_failure::Failure;
+use std::alloc::AllocError;
+use std::io::Write;
+
+// How many numbers of passes are tried beside the least.
+const TRIALS: u32 = 4;
+
+// How often costs are measured at the most.
+const MEASUREMENTS: u32 = 5;
+
+/// The most memory up to a limit with which the least passes take no longer than the target, by halves, and then
+/// the most passes: as RFC 9106, section 4, goes about it. Each measured time is written to `errors`.
+///
+/// # Errors
+/// Those of the stopwatch, and out of memory: for the least memory, or for more passes over memory that was there.
+pub fn search<S: Stopwatch, E: Write>(
+    stopwatch: &mut S,
+    errors: &mut E,
+    options: Options,
+) -> Result<Found, Failure>
+    requires { ArePossible options }
+    ensures { IfOk result (IsChoice (S.may_take options.lanes) options) }
+{
+    let first = most_memory(stopwatch, errors, options)?;
+    most_passes(stopwatch, errors, options, first)
+}
+
+// The least passes over the most memory, by halves, with which they take no longer than the target.
+fn most_memory<S: Stopwatch, E: Write>(
+    stopwatch: &mut S,
+    errors: &mut E,
+    options: Options,
+) -> Result<Found, Failure>
+    requires { ArePossible options }
+    ensures some { IfOk result (λ found. 1 ≤ found.choice.t_cost) }
+    ensures first { IfOk result (λ found. IsFirst (S.may_take options.lanes) options found.choice) }
+    ensures quiet { IfOk result (λ found. IsFalse found.busy → IsFalse found.choice.busy) }
+{
+    let (mut m_cost, mut busy) = (options.most, false);
+    'halves: loop {
+        let least = least_passes(options.min_t, m_cost);
+        let is_least = m_cost < 16 * options.lanes;
+        match measured(stopwatch, errors, options, m_cost, least)? {
+            Some(choice) => {
+                busy |= choice.busy;
+                if is_least || choice.time <= options.target {
+                    return Ok(Found { choice, busy });
+                }
+            }
+            None if is_least => return Err(Failure::Memory(AllocError)),
+            None => {
+                let _ = writeln!(
+                    errors,
+                    "{PROGRAM}: m={m_cost} is out of memory, trying half"
+                );
+            }
+        }
+        m_cost /= 2;
+    }
+}
+
+// The most passes over the same memory that take no longer than the target. The last measured time says how many
+// passes are tried next, and always fewer than any that took longer.
+fn most_passes<S: Stopwatch, E: Write>(
+    stopwatch: &mut S,
+    errors: &mut E,
+    options: Options,
+    found: Found,
+) -> Result<Found, Failure>
+    requires some { 1 ≤ found.choice.t_cost }
+    requires measured { IsMeasured (S.may_take options.lanes) found.choice }
+    requires quiet { IsFalse found.busy → IsFalse found.choice.busy }
+    ensures { IfOk result (IsBest (S.may_take options.lanes) options.target found.choice) }
+{
+    let first = found.choice;
+    let (mut best, mut busy) = (first, found.busy);
+    let (mut most, mut next) = (u32::MAX, first.t_cost.saturating_add(1));
+    'trials: for _ in 0..TRIALS {
+        if next <= best.t_cost {
+            break;
+        }
+        let Some(trial) = measured(stopwatch, errors, options, first.m_cost, next)? else {
+            return Err(Failure::Memory(AllocError));
+        };
+        busy |= trial.busy;
+        if trial.time <= options.target {
+            best = trial;
+        } else {
+            most = next - 1;
+        }
+        let further = further(first, next, trial.time);
+        next = passes(options.target, first, further).min(most);
+    }
+    let is_short = best.time < options.target / 2 && best.t_cost < most;
+    Ok(Found {
+        choice: best,
+        busy: busy || is_short,
+    })
+}
+
+// Costs with how long a hash takes, which is written to `errors`, or none if the memory is refused.
+fn measured<S: Stopwatch, E: Write>(
+    stopwatch: &mut S,
+    errors: &mut E,
+    options: Options,
+    m_cost: u32,
+    t_cost: u32,
+) -> Result<Option<Choice>, Failure>
+    ensures { IfOk result (λ choice. MatchOption choice
+        (S.may_take options.lanes m_cost t_cost None)
+        (λ c. (c.m_cost ≡ m_cost) × (c.t_cost ≡ t_cost) × IsMeasured (S.may_take options.lanes) c)) }
+{
+    let lanes = options.lanes;
+    let Some(taken) = times(stopwatch, errors, lanes, m_cost, t_cost)? else {
+        return Ok(None);
+    };
+    let [a, b, c] = taken;
+    let choice = Choice {
+        m_cost,
+        t_cost,
+        time: a.min(b).min(c),
+        busy: scatter(a, b, c),
+    };
+    let (seconds, micros) = (choice.time / 1_000_000, choice.time % 1_000_000);
+    let _ = writeln!(
+        errors,
+        "{PROGRAM}: m={m_cost},t={t_cost},p={lanes} takes {seconds}.{micros:06} seconds"
+    );
+    Ok(Some(choice))
+}
+
+// The times of three hashes, measured again while they scatter.
+fn times<S: Stopwatch, E: Write>(
+    stopwatch: &mut S,
+    errors: &mut E,
+    lanes: u32,
+    m_cost: u32,
+    t_cost: u32,
+) -> Result<Option<[u64; 3]>, Failure>
+    ensures { IfOk result (λ times. S.may_take lanes m_cost t_cost times) }
+{
+    let mut times = stopwatch.times(lanes, m_cost, t_cost)?;
+    'again: for _ in 1..MEASUREMENTS {
+        let Some(taken) = times else {
+            break;
+        };
+        let [a, b, c] = taken;
+        if !scatter(a, b, c) {
+            break;
+        }
+        let _ = writeln!(errors, "{PROGRAM}: the machine is busy, measuring again");
+        times = stopwatch.times(lanes, m_cost, t_cost)?;
+    }
+    Ok(times)
+}

@@ -1,0 +1,19 @@
+//! The machine that the tests run on.
+
+use crate::stopwatch::{Machine, Stopwatch};
+use std::test::Fail;
+
+// Costs below the least are refused, and higher costs take longer.
+#[test]
+fn measures_this_machine(rt: HostRuntime) -> Result<(), Fail> {
+    let mut machine = Machine::new(rt.alloc(), &rt);
+    assert!(rt; machine.times(2, 15, 1).is_err());
+    let (Some(short), Some(long)) = (machine.times(1, 8, 1)?, machine.times(1, 4096, 4)?) else {
+        return Err(Fail::from("out of memory"));
+    };
+    assert!(rt;
+        long.iter().min() > short.iter().min(),
+        "{short:?} {long:?}"
+    );
+    Ok(())
+}

@@ -1,0 +1,88 @@
+//! Stopwatches that need no clock.
+
+use crate::stopwatch::Stopwatch;
+use argon2_failure::Failure;
+
+/// A machine that takes so many nanoseconds a block and pass, and so many microseconds beside. So many times the
+/// last hash of three takes too long by a microsecond.
+#[derive(Drop)]
+pub(crate) struct Even {
+    pub(crate) a_block: u64,
+    pub(crate) once: u64,
+    pub(crate) busy: u32,
+}
+
+impl Stopwatch for Even {
+    fn times(
+        &mut self,
+        _lanes: u32,
+        m_cost: u32,
+        t_cost: u32,
+    ) -> Result<Option<[u64; 3]>, Failure> {
+        let blocks = u64::from(m_cost).saturating_mul(u64::from(t_cost));
+        let taken = (blocks.saturating_mul(self.a_block) / 1000).saturating_add(self.once);
+        let close = taken.saturating_add(taken / 4);
+        if self.busy == 0 {
+            return Ok(Some([close, taken, taken]));
+        }
+        self.busy -= 1;
+        Ok(Some([close, taken, close.saturating_add(1)]))
+    }
+}
+
+/// A machine that takes 10 ms a pass, but so many microseconds for two passes, and then once twice as many.
+#[derive(Drop)]
+pub(crate) struct Uneven(pub(crate) u64);
+
+impl Stopwatch for Uneven {
+    fn times(
+        &mut self,
+        _lanes: u32,
+        _m_cost: u32,
+        t_cost: u32,
+    ) -> Result<Option<[u64; 3]>, Failure> {
+        if t_cost == 2 {
+            return Ok(Some([self.0, self.0.saturating_mul(2), self.0]));
+        }
+        let taken = u64::from(t_cost).saturating_mul(10_000);
+        Ok(Some([taken, taken, taken]))
+    }
+}
+
+/// A machine with so many blocks of memory, on which each hash takes a millisecond. After so many measurements it has
+/// no memory left.
+#[derive(Drop)]
+pub(crate) struct Full {
+    pub(crate) blocks: u32,
+    pub(crate) measurements: u32,
+}
+
+impl Stopwatch for Full {
+    fn times(
+        &mut self,
+        _lanes: u32,
+        m_cost: u32,
+        _t_cost: u32,
+    ) -> Result<Option<[u64; 3]>, Failure> {
+        if m_cost > self.blocks || self.measurements == 0 {
+            return Ok(None);
+        }
+        self.measurements -= 1;
+        Ok(Some([1000, 1000, 1000]))
+    }
+}
+
+/// A machine whose clock can't be read.
+#[derive(Drop)]
+pub(crate) struct Stopped;
+
+impl Stopwatch for Stopped {
+    fn times(
+        &mut self,
+        _lanes: u32,
+        _m_cost: u32,
+        _t_cost: u32,
+    ) -> Result<Option<[u64; 3]>, Failure> {
+        Err(Failure::Other("the clock can't be read"))
+    }
+}

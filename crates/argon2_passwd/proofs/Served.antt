@@ -1,0 +1,134 @@
+-- How what is asked for ended, by how a call for it ended.
+use Rattle.std.proofs.Common.{◌≡◌, ◌≢◌, ◌∙◌, ◌++◌, ◌∷◌, ℕ, Bool, List, [], Option, Some, None, Result, Ok, Err, ap, inl, inr, refl, subst, sym}
+use Rattle.std.proofs.lemmas.Result.{on_ok_weaker}
+use Rattle.std.specs.Io.KnownBytes.{Appends, Keeps}
+use Rattle.std.specs.Prelude.{IfErr, IsErrAnd, OnOk}
+use Rattle.sqlite_trees.specs.declared.store.Store.{Ghosts}
+use Rattle.argon2_base.specs.declared.error.password_hash.Error.TheVariants.{OutOfMemory as NoMemory}
+use Rattle.argon2_accounts.specs.Accounts.{Terms, Texts}
+use Rattle.argon2_accounts.specs.declared.error.AccountError.{AccountError}
+use Rattle.argon2_accounts.specs.declared.error.AccountError.TheVariants.{Refused}
+use Rattle.argon2_store.specs.declared.error.FileError.{FileError}
+use Rattle.argon2_store.specs.declared.error.FileError.TheVariants.{Account, OutOfMemory}
+use Rattle.argon2_passwd.specs.Answers.{AddsLines, HasNone, IsAnswered, IsImported, IsOnce, IsRefused, IsReplied, IsSecret, IsServed, terms_by}
+use Rattle.argon2_passwd.specs.Asked.{Asked, Choices, check, hash, import}
+use Rattle.argon2_passwd.specs.Failures.{IsMemory, IsOfAccount, IsOfFile, status_of}
+use Rattle.argon2_passwd.specs.Passwords.{IsUnread}
+use Rattle.argon2_passwd.specs.declared.failure.Failure.{Failure}
+use Rattle.argon2_passwd.specs.declared.failure.Failure.TheVariants as failure
+use Rattle.argon2_passwd.specs.declared.failure.Failure.TheVariants.{LongPassword, Memory, NoPassword}
+
+-- a refusal by the accounts is reported as such
+pub is_account : (refusal : AccountError) (f : Failure) → IsOfAccount refusal f → status_of f ≡ 1
+    → (f ≡ failure.Account refusal) × (refusal ≢ Refused NoMemory)
+is_account refusal (failure.Account error) is one = (ap failure.Account is.0, is.1)
+is_account refusal (Memory refused) is one = absurd cc
+is_account refusal f is one = absurd is
+
+-- a refusal of a call on a file is one by its accounts
+pub of_account : (P : Type 0) (e : FileError) (f : Failure) → IsOfFile e f → status_of f ≡ 1
+    → ((refusal : AccountError) → e ≡ Account refusal → P) → P
+of_account P (Account refusal) f is one why = why refusal refl
+of_account P OutOfMemory (Memory refused) is one why = absurd cc
+of_account P OutOfMemory f is one why = absurd is
+of_account P e f is one why = absurd (let same = rw is at one in cc)
+
+pub passed : {X : Type 0} {P : Type 0} → (f : Failure) (r : Result X Failure) → IsErrAnd r (λ e. e ≡ f)
+    → (status_of f ≡ 1 → P) → IfErr r (λ e. status_of e ≡ 1 → P)
+passed f (Ok x) is why = tt
+passed f (Err e) is why = λ one. why (subst (λ e. status_of e ≡ 1) is one)
+
+pub keeps_same : (known : Option (List ℕ)) → Keeps known known
+keeps_same None = tt
+keeps_same (Some bytes) = refl
+
+-- an input that is refused for its password has none
+pub none_read : (input : Option (List ℕ)) (f : Failure) → IsUnread input f → status_of f ≡ 1
+    → HasNone input
+none_read None f is one = tt
+none_read (Some bytes) NoPassword is one = rw is refl
+none_read (Some bytes) LongPassword is one = is.0
+none_read (Some bytes) f is one = absurd (let never = sym is ∙ one in cc)
+
+-- what holds in any case holds if a call is refused
+pub in_any_case : {X : Type 0} (P : Type 0) (r : Result X Failure) → P
+    → IfErr r (λ f. status_of f ≡ 1 → P)
+in_any_case P (Ok x) p = tt
+in_any_case P (Err f) p = λ one. p
+
+-- what is asked for was done at most once if no file was opened
+unopened : {S : Type 0} (g : Ghosts S) (Holds : List ℕ → List ℕ → Type 0)
+    (Has : List ℕ → Texts → Type 0) (Closed : List S → Type 0) (what : Asked)
+    (input : Option (List ℕ)) → Closed [] → IsOnce g Holds Has what input Closed
+unopened g Holds Has Closed (hash choices) input shut = shut
+unopened g Holds Has Closed (check choices text) input shut = shut
+unopened g Holds Has Closed what input shut = inl shut
+
+module _ {S : Type 0} {g : Ghosts S} {Holds : List ℕ → List ℕ → Type 0}
+    {Has : List ℕ → Texts → Type 0} {Closed : List S → Type 0} {what : Asked}
+    {input old new : Option (List ℕ)} where
+  -- it ended with this failure
+  pub failed : (f : Failure) (r : Result (Unit {0}) Failure) → IsErrAnd r (λ e. e ≡ f)
+      → (status_of f ≡ 1 → IsRefused g Holds Has what input Closed × Keeps old new)
+      → IsOnce g Holds Has what input Closed
+      → IsServed g Holds Has what r input old new Closed
+  failed f (Ok x) is why once = absurd is
+  failed f (Err e) is why once = record { ok = tt; err = rw is why; once = once }
+
+  -- it ended with this failure before a file was opened
+  pub not_begun : (f : Failure) (r : Result (Unit {0}) Failure) → IsErrAnd r (λ e. e ≡ f)
+      → status_of f ≡ 3 → Closed [] → IsServed g Holds Has what r input old new Closed
+  not_begun f r is three shut =
+      failed f r is (λ one. absurd (let never = sym three ∙ one in cc)) (unopened g Holds Has Closed what input shut)
+
+  -- it ended since memory ran out before a file was opened
+  pub no_memory : (r : Result (Unit {0}) Failure) → IsErrAnd r IsMemory → Closed []
+      → IsServed g Holds Has what r input old new Closed
+  no_memory (Ok x) is shut = absurd is
+  no_memory (Err (Memory refused)) is shut = not_begun (Memory refused) _ refl refl shut
+  no_memory (Err f) is shut = absurd is
+
+  -- it ended with an error of a call on the file
+  pub failed_by : (e : FileError) (r : Result (Unit {0}) Failure) → IsErrAnd r (IsOfFile e)
+      → ((refusal : AccountError) → e ≡ Account refusal
+      → IsRefused g Holds Has what input Closed × Keeps old new)
+      → IsOnce g Holds Has what input Closed → IsServed g Holds Has what r input old new Closed
+  failed_by e (Ok x) is why once = absurd is
+  failed_by e (Err f) is why once = record { ok = tt; err = λ one. of_account _ e f is one why; once = once }
+
+  -- it ended as a call of which all is known
+  pub ended : {P Q : Type 0} (r : Result (Unit {0}) Failure) → OnOk r P
+      → IfErr r (λ f. status_of f ≡ 1 → Q) → (P → IsAnswered g Holds Has what input old new Closed)
+      → (Q → IsRefused g Holds Has what input Closed × Keeps old new)
+      → IsOnce g Holds Has what input Closed → IsServed g Holds Has what r input old new Closed
+  ended (Ok x) is refuses next why once = record { ok = next is; err = tt; once = once }
+  ended (Err f) is refuses next why once =
+      record { ok = tt; err = λ one. why (refuses one); once = once }
+
+-- a line that is written is a reply under the choices and their secret
+pub replied : (Holds : List ℕ → List ℕ → Type 0) (choices : Choices)
+    (Says : Terms → List ℕ → List ℕ → Type 0) (terms : Terms) (drawn line secret : List ℕ)
+    (old new : Option (List ℕ)) (r : Result (Unit {0}) Failure)
+    → terms ≡ terms_by choices secret → IsSecret Holds choices.secret_file secret
+    → Says terms drawn line → OnOk r (Appends old new (line ++ 10 ∷ []))
+    → OnOk r (IsReplied Holds choices Says old new)
+replied Holds choices Says terms drawn line secret old new r same held says written =
+    on_ok_weaker {Q = IsReplied Holds choices Says old new} r
+    (λ appended. (secret, drawn, line, held, subst (λ t. Says t drawn line) same says, appended)) written
+
+-- an import is served as it ended
+pub imported : {S : Type 0} {g : Ghosts S} {Holds : List ℕ → List ℕ → Type 0}
+    {Has : List ℕ → Texts → Type 0} {choices : Choices} {path : List ℕ} {any_text : Bool}
+    {input output : Option (List ℕ)} {Closed : List S → Type 0} (r : Result (Unit {0}) Failure)
+    → IsImported g Holds Has choices path any_text (AddsLines r) input Closed
+    → IsServed g Holds Has (import choices path any_text) r input output output Closed
+imported (Ok x) (es, known, (secret, drawn, held, (before, after, ready, adds, closed))) = record {
+  ok = ((es, known, (secret, drawn, held, (before, after, ready, adds, closed))), keeps_same _);
+  err = tt;
+  once = inr (es, known, (secret, drawn, held, (before, after, ready, (Ok tt, adds), closed)));
+}
+imported (Err f) (es, known, (secret, drawn, held, (before, after, ready, adds, closed))) = record {
+  ok = tt;
+  err = λ one. (inr (f, (es, known, (secret, drawn, held, (before, after, ready, adds.1 one, closed)))), keeps_same _);
+  once = inr (es, known, (secret, drawn, held, (before, after, ready, adds.0, closed)));
+}

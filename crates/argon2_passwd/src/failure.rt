@@ -1,0 +1,162 @@
+//! Why the program fails.
+
+ghost use Rattle.std.specs.Prelude.{◌≡◌, ◌≢◌};
+ghost use Rattle.std.specs.IoError.{error_kind};
+ghost use Rattle.argon2_passwd.specs.Failures.{IsMemory, IsOfAccount, IsOfFile, IsOfOpen, status_of};
+
+use argon2::password_hash;
+use argon2_accounts::AccountError;
+use argon2_store::{FileError, OpenError};
+use std::alloc::AllocError;
+use std::io;
+use std::io::ErrorKind;
+use thiserror::Error;
+
+/// Why the program fails, with the text that it prints.
+#[derive(Debug, Drop, Error)]
+pub enum Failure {
+    /// Standard input has no line for a password.
+    #[error("standard input has no password")]
+    NoPassword,
+    /// A line for a password is longer than it may be.
+    #[error("a password has at most 4096 bytes")]
+    LongPassword,
+    /// A new name has a line break or a colon.
+    #[error("a name has no line break and no colon")]
+    Name,
+    /// The parameters are above the bound; or a text is outside the grammar, is above the bound or does not
+    /// accept the password; or a name is taken or unknown.
+    #[error(transparent)]
+    Account(AccountError),
+    /// The text of the line of this number is outside the grammar, or the line's name is taken.
+    #[error("line {0}: {1}")]
+    Line(usize, AccountError),
+    /// What is at the path of the file with the accounts is no such file.
+    #[error("{0}")]
+    Unfit(&'static str),
+    /// The file with the accounts can't be opened.
+    #[error(transparent)]
+    Unopened(OpenError),
+    /// The file with the accounts can't be written.
+    #[error(transparent)]
+    File(FileError),
+    /// The file with the secret can't be read.
+    #[error("the secret's file can't be read")]
+    Secret,
+    /// The file with the secret is empty or too long.
+    #[error("a secret has 1 to 4096 bytes")]
+    SecretLength,
+    /// The system gives no random bytes.
+    #[error("the system gives no random bytes")]
+    Random,
+    /// Standard input can't be read to its end.
+    #[error("standard input can't be read")]
+    Input,
+    /// Standard output can't be written.
+    #[error("standard output can't be written")]
+    Output,
+    /// A request for memory was refused.
+    #[error("out of memory")]
+    Memory(AllocError),
+}
+
+impl Failure {
+    ghost use Rattle.std.specs.Prelude.{◌≡◌, ◌⊎◌};
+    ghost use Rattle.argon2_passwd.specs.Failures.{status_of};
+
+    /// The exit status: 1 if the answer is no, 3 if a file, a stream or a request for memory fails.
+    pub fn status(&self) -> u8
+        ensures value { result ≡ status_of self.now }
+        ensures one { (result ≡ 1) ⊎ (result ≡ 3) }
+    {
+        match self {
+            Failure::NoPassword => 1,
+            Failure::LongPassword => 1,
+            Failure::Name => 1,
+            Failure::Account(_) => 1,
+            Failure::Line(..) => 1,
+            _ => 3,
+        }
+    }
+}
+
+/// The failure of a read from standard input; out of memory is reported as that.
+pub fn of_reading(error: &io::Error) -> Failure
+    ensures memory { error_kind error.now ≡ ErrorKind.OutOfMemory → IsMemory result }
+    ensures input { error_kind error.now ≢ ErrorKind.OutOfMemory → result ≡ Failure.Input }
+    ensures trouble { status_of result ≡ 3 }
+{
+    if error.kind() == ErrorKind::OutOfMemory {
+        Failure::Memory(AllocError)
+    } else {
+        Failure::Input
+    }
+}
+
+impl From<AllocError> for Failure {
+    ghost from_gives = { λ _. IsMemory };
+
+    fn from(refused: AllocError) -> Failure {
+        Failure::Memory(refused)
+    }
+}
+
+/// The failure of a write.
+impl From<io::Error> for Failure {
+    ghost use Rattle.argon2_passwd.specs.declared.failure.Failure.TheVariants.{Output};
+
+    ghost from_gives = { λ _ failure. failure ≡ Output };
+
+    fn from(_error: io::Error) -> Failure {
+        Failure::Output
+    }
+}
+
+/// Out of memory is reported as that, wherever it was found.
+impl From<AccountError> for Failure {
+    ghost from_gives = { IsOfAccount };
+
+    fn from(error: AccountError) -> Failure {
+        match error {
+            AccountError::Refused(password_hash::Error::OutOfMemory) => Failure::Memory(AllocError),
+            error => Failure::Account(error),
+        }
+    }
+}
+
+/// The same of a text that can't be read.
+impl From<password_hash::Error> for Failure {
+    ghost use Rattle.argon2_accounts.specs.declared.error.AccountError.TheVariants.{Refused};
+
+    ghost from_gives = { λ error. IsOfAccount (Refused error) };
+
+    fn from(error: password_hash::Error) -> Failure {
+        Failure::from(AccountError::Refused(error))
+    }
+}
+
+/// The failure of a call on a file.
+impl From<FileError> for Failure {
+    ghost from_gives = { IsOfFile };
+
+    fn from(error: FileError) -> Failure {
+        match error {
+            FileError::Account(error) => Failure::from(error),
+            FileError::OutOfMemory => Failure::Memory(AllocError),
+            error => Failure::File(error),
+        }
+    }
+}
+
+/// The failure of an open.
+impl From<OpenError> for Failure {
+    ghost from_gives = { IsOfOpen };
+
+    fn from(error: OpenError) -> Failure {
+        match error {
+            OpenError::Terms(error) => Failure::from(error),
+            OpenError::OutOfMemory => Failure::Memory(AllocError),
+            error => Failure::Unopened(error),
+        }
+    }
+}

@@ -1,0 +1,39 @@
+//! Under what the program makes and verifies texts.
+
+use argon2::Params;
+use argon2::bound::Bound;
+
+/// Under what texts are made and verified.
+#[derive(Clone, Copy)]
+pub struct Options<'a> {
+    /// What new texts are made under, by Argon2id of version 0x13.
+    pub params: Params,
+    /// The most that a stored text may ask for, if it is given.
+    pub bound: Option<Bound>,
+    /// The file with the secret, if it is given.
+    pub secret_file: Option<&'a str>,
+}
+
+impl Options<'_> {
+    ghost use Rattle.std.specs.Prelude.{◌≡◌};
+    ghost use Rattle.argon2_passwd.specs.Asked.{bound_of, choices_of};
+
+    /// The library's parameters, the bound that goes with them, and no secret.
+    pub const DEFAULT: Options<'static> = Options {
+        params: Params::DEFAULT,
+        bound: None,
+        secret_file: None,
+    };
+
+    /// The most that a stored text may ask for: what was given, or 2 GiB, 64 passes and 64 lanes,
+    /// and no less than the parameters.
+    pub fn bound(&self) -> Bound
+        ensures { result ≡ bound_of (choices_of self.now) }
+    {
+        self.bound.unwrap_or(Bound {
+            m_cost: self.params.m_cost().max(2_097_152),
+            t_cost: self.params.t_cost().max(64),
+            p_cost: self.params.p_cost().max(64),
+        })
+    }
+}

@@ -1,0 +1,88 @@
+//! Texts of passwords, of which the program keeps none.
+
+ghost use Rattle.std.specs.Prelude.{◌≡◌, Ok, IfErr, IfOk, string_bytes};
+ghost use Rattle.argon2.specs.Made.{IsFresh};
+ghost use Rattle.rand_core.specs.Stream.{fill_bytes};
+ghost use Rattle.argon2_accounts.specs.Accounts.{Admits, LogsIn, terms_of};
+ghost use Rattle.argon2_passwd.specs.Answers.{Denies, IsCheckReply, login_text};
+ghost use Rattle.argon2_passwd.specs.Failures.{status_of};
+ghost use Rattle.argon2_base.specs.PhcFields.{phc_of};
+ghost use Rattle.argon2_base.specs.PhcText.{Phc, PhcText};
+
+use crate::failure::Failure;
+use crate::passwords::password;
+use argon2::PasswordHash;
+use argon2::login::{Accepted, LoggedIn};
+use argon2_accounts::Policy;
+use rand_core::Rng;
+use std::alloc::{AllocError, Global};
+use std::io::BufRead;
+
+/// A fresh text of a password.
+pub fn fresh<G: Rng>(
+    policy: &Policy<'_>,
+    rng: &mut G,
+    password: &[u8],
+) -> Result<PasswordHash, Failure>
+    ensures ok { IfOk result (λ text. IsFresh (terms_of policy.now).target password.now
+        (fill_bytes 16 (G.stream rng.old)).0 (phc_of text)) }
+    ensures err { IfErr result (λ failure. status_of failure ≡ 3) }
+{
+    match policy.hash_password(rng, password) {
+        Ok(text) => Ok(text),
+        // A password that was read is short enough, so that only memory is refused.
+        Err(_) => Err(Failure::Memory(AllocError)),
+    }
+}
+
+/// What the text does with the next password, if it accepts it, and a line with another text if it
+/// was made under other parameters.
+pub fn check<G: Rng, R: BufRead>(
+    alloc: Global,
+    policy: &Policy<'_>,
+    rng: &mut G,
+    text: &str,
+    input: &mut R,
+) -> Result<String, Failure>
+    ensures ok { IfOk result (λ reply. IsCheckReply (terms_of policy.now)
+        (fill_bytes 16 (G.stream rng.old)).0 text.now (R.remaining input.old)
+        (string_bytes reply)) }
+    ensures err { IfErr result (λ failure. status_of failure ≡ 1
+        → Denies (terms_of policy.now) text.now (R.remaining input.old)) }
+{
+    let password = password(alloc, input)?;
+    let (accepted, hash) = login(policy, rng, text, password.as_slice())?;
+    Ok(reply(alloc, accepted, &hash)?)
+}
+
+// What a text does with a password, and what it is then.
+fn login<G: Rng>(
+    policy: &Policy<'_>,
+    rng: &mut G,
+    text: &str,
+    password: &[u8],
+) -> Result<(Accepted, PasswordHash), Failure>
+    ensures ok { IfOk result (λ done. (v : Phc) × PhcText text.now v
+        × LogsIn (terms_of policy.now) password.now (fill_bytes 16 (G.stream rng.old)).0 v
+        (Ok done.0) (phc_of done.1)) }
+    ensures err { IfErr result (λ failure. status_of failure ≡ 1 → (v : Phc) → PhcText text.now v
+        → ¬ (Admits (terms_of policy.now) password.now v)) }
+{
+    let hash = PasswordHash::new(text)?;
+    let LoggedIn { accepted, fresh } = policy.log_in(rng, &hash, password)?;
+    match fresh {
+        Some(fresh) => Ok((accepted, fresh)),
+        None => Ok((accepted, hash)),
+    }
+}
+
+// What is written of it.
+fn reply(alloc: Global, accepted: Accepted, hash: &PasswordHash) -> Result<String, AllocError>
+    ensures { IfOk result (λ text. string_bytes text ≡ login_text accepted (phc_of hash.now)) }
+{
+    match accepted {
+        Accepted::Rehashed => format!(in alloc; "{accepted}\n{hash}"),
+        Accepted::Current => format!(in alloc; "{accepted}"),
+        Accepted::Kept => format!(in alloc; "{accepted}"),
+    }
+}

@@ -1,6 +1,0 @@
-use Rattle.std.specs.Prelude.{List}
-use Rattle.argon2_passwd_commands.proofs.run.accounts.open.Given as goal
-
-abbrev pub invariant-loop-waits : goal.invariant-loop-waits
-invariant-loop-waits g l =
-    (before : List g.row.P-File.Denot) → g.P.Outside.closed l.fn.outside before → g.P.Outside.closed l.outside before
