@@ -63,7 +63,7 @@ asks_within bound v settings shows within = record {
   memory = filled_within settings.parameters.m_cost settings.parameters.p_cost bound.m_cost within.0;
 }
 
--- and one that shows others
+-- a value that shows costs above the bound
 pub asks_above : (bound : Bound) (v : Phc) (stored : Stored) → Ok stored ≡ stored_of v
     → (IsWithin bound stored.settings.parameters → ⊥) → IsAbove bound v
 asks_above bound v stored is never = (

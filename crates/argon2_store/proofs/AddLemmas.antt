@@ -102,7 +102,7 @@ module _ {S : Type 0} (g : Ghosts S) where
         let (had, first, quiet) = refused before has in
         let (names, refusal, later) = wrote before had in (names, refusal, quiet_then g old mid new quiet later)
 
-    -- or not, since that has closed the file
+    -- names are not written, since taking others back has closed the file
     pub unwritten : (es : List (List ℕ × List ℕ)) → Settled g → (IsHonest g old → IsOpen g old)
         → (IsHonest g mid → (g.view mid).is_open ≡ false) → WritesAll g old mid es (Ok (Err Io))
     unwritten es settled was_open shut before has =

@@ -333,7 +333,7 @@ fails {long = long} {e = e} step may reads =
     ends_with (Err e) reads.has reads.terms reads.quiet reads.left (λ clean. step) may tt
     (λ clean is. let shut = reads.closed clean is in (cc, shut.1)) (λ clean. unread_cause _ _ long e (reads.cause clean))
 
--- and one on a name in it
+-- a call on a name in a file that can't be read
 pub cannot_serve : {S : Type 0} {g : Ghosts S} {X : Type 0} (call : Call X) {old mid : AccountFile S g} {before : Texts}
     {e : FileError} (r : Result X FileError) → IsErrAnd r (λ f. f ≡ e) → Stays (Some e) before old mid
     → (after : Texts) × Runs (Answers (terms_of old) before call) (IsBeforeOrAfter X (terms_of old) before call)
@@ -352,7 +352,7 @@ has_kept {g = g} {new = new} terms {before} {after} name password has held is_op
     subst (λ names. HasPassword terms names name password) (same_names g new before after has held clean (is_open clean))
     (rw (had clean) accepts)
 
--- or it has one that was written
+-- the name has the text that was written, which accepts the password
 pub has_written : {S : Type 0} {g : Ghosts S} {s new : S} (terms : Terms) {before after : Texts}
     (name password : List ℕ) {text : List ℕ} {long : Type 0} {X : Type 0} (x : X) (done : Result (Unit {0}) StoreError)
     → Changes g s new before (insert before name text) long done → rows.HasNames g new after → Accepts terms password text

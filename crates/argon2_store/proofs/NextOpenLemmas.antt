@@ -89,7 +89,7 @@ module _ (w : Wanted) (rest : List Wanted) (same : listed_from 0 (w ∷ rest) �
   root-same [] = refl
   root-same (entry ∷ entries) = rw (describes-same entry, root-same entries)
 
--- so the first tree is the table
+-- the first tree is the table
 first_tree : (size : ℕ) (schema : List Wanted) (pages : PageMap) → listed_from 0 schema ≡ listed_from 0 (account ∷ [])
     → file_trees size schema pages 0 ≡ file_trees size (account ∷ []) pages 0
 unfolding all_trees trees_in roots_of
@@ -97,7 +97,7 @@ first_tree size [] pages same = absurd cc
 first_tree size (w ∷ rest) pages same =
     rw (root-same w rest same (rows_at size (in_use size pages) Table 1), shape w rest same, reals w rest same)
 
--- and it is not there in a file that lists none
+-- the table is not there in a file that lists none
 no_table : (size : ℕ) (schema : List Wanted) (pages : PageMap) → listed_from 0 schema ≡ listed_from 0 (account ∷ [])
     → IsFile size schema pages → rows_at size (in_use size pages) Table 1 ≡ [] → ⊥
 unfolding roots_of

@@ -255,7 +255,7 @@ none_at k (e ∷ es) h =
     let above : order k e.0 ≡ Greater = nat_list_cmp_total.antisymm k e.0 ∙ ap ordering_reverse h.0 in
     rw above (none_at k es h.1)
 
--- if a seek by a name stands at the end, each name is below it and below those after it
+-- if a seek by a name ends behind all rows, each name is below it and below those after it
 all_below : (k n : List ℕ) (es : List (List ℕ × List ℕ)) → order k n ≡ Less
     → from_key plain (Text k ∷ []) (map row_of es) ≡ [] → AllByRecursion (λ e. order e.0 n ≡ Less) es
 all_below k n [] after h = tt

@@ -58,7 +58,7 @@ pub leaves_kept : {S : Type 0} (g : Ghosts S) (s : S) (names : Texts)
 leaves_kept g s names settled kept clean is_open db found =
     (names, subst (λ t. Holds t names) (sym (settled db is_open found)) (kept.committed clean is_open), refl)
 
--- also after a call that changed nothing
+-- a crash leaves the names after a call that changed nothing
 pub leaves_quiet : {S : Type 0} (g : Ghosts S) → Settled g → (old new : S) (names : Texts) → IsKept g old names
     → StaysQuiet g old new → IsHonest g new → IsOpen g old → CrashLeaves g new (λ left. left ≡ names)
 leaves_quiet g settled old new names kept quiet clean is_open db found =
@@ -286,7 +286,7 @@ module _ {S : Type 0} {g : Ghosts S} where
           (begun_over kept (omega (arith, clean, quiet.clean, wrote.quiet.clean)))),
     )
 
-    -- and if reading fails and is taken back
+    -- reading fails and is taken back
     pub read_failed : {X : Type 0} {mid new : S} {names : Texts} {e : StoreError} → HasNames g old names
         → (AreTexts names → (IsHonest g old → Sees (g.view old) names) → Writes g old mid names names ⊥ (Err e))
         → ((IsHonest g new → HasBegun g mid names) → IsKept g new names) → StaysQuiet g mid new

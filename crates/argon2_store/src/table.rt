@@ -105,8 +105,8 @@ fn write<S: Store>(
     put(store, row, name, new)
 }
 
-// Writes the row of a new name with its text, unless it is refused. `is_last` says that the name comes after all others,
-// and then it is not looked up; the call sets it if the look-up shows that.
+// Writes the row of a new name with its text, unless it is refused. If `is_last` says that the name comes after all
+// others, it is not looked up. The call sets `is_last` if a look-up shows that.
 fn add<S: Store>(
     store: &mut S,
     row: &mut Row,

@@ -174,7 +174,7 @@ module _ (ctx : Context) (first : FirstColumns) (memory : ℕ → ℕ → Memory
       (is.before pass slice t (omega arith)) (is.after pass slice t (omega arith))
       (slices_filled pass slice t (omega arith) h)
 
-  -- so are the passes
+  -- the passes are filled one after the other
   passes_filled : (pass : ℕ) → pass < ctx.t_cost
       → HasBlocksUpTo ctx first pass (λ _. begun ctx pass 0) (in_lanes ctx (memory pass 0))
   passes_filled zero t = slices_begun ctx first is.begins.0 (memory 0 0) is.begins.1
@@ -184,7 +184,7 @@ module _ (ctx : Context) (first : FirstColumns) (memory : ℕ → ℕ → Memory
       (next_pass ctx first pass (in_lanes ctx (memory pass 4))
       (slices_filled pass 4 (omega arith) (omega arith) (passes_filled pass (omega arith))))
 
--- so the last column's hash is the tag
+-- the last column's hash is the tag
 pub segments_give_tag : (ctx : Context) (password salt : List ℕ) (n : ℕ) (memory : ℕ → ℕ → Memory)
     → IsFilledBySegments ctx (first_block ctx password salt n) memory
     → long_hash n (bytes_of (last_of_slice ctx (slices_after ctx 2 (memory (ctx.t_cost - 1) 4)))) ≡ tag_of ctx password salt n

@@ -48,7 +48,7 @@ unfolding addresses_at
 same_addresses ctx pass lane slice i j same =
     ap (λ n. (if is_independent ctx pass slice then Some (address_block ctx pass lane slice (n + 1)) else None)) same
 
--- and no more is mixed for them
+-- within a block of 128 indexes no more is mixed
 pub same_mixings : (ctx : Context) (pass slice i j : ℕ) → i / 128 ≡ j / 128
     → address_mixings ctx pass slice i ≡ address_mixings ctx pass slice j
 unfolding address_mixings
