@@ -226,7 +226,7 @@ addresses_at ctx pass lane slice index =
     then Some (address_block ctx pass lane slice (address_counter index))
     else None
 
--- that of a block
+-- the address block that has the word of a block
 abbrev pub addresses_of : Context → ℕ → ℕ → ℕ → Option (List ℕ)
 addresses_of ctx pass lane column =
     addresses_at ctx pass lane (column / segment_length ctx) (column % segment_length ctx)

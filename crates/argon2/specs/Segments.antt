@@ -47,7 +47,7 @@ pub record BeginsLanes (ctx : Context) (width : ℕ) (first : FirstColumns) (old
   pub others : (lane column : ℕ) → lane < ctx.p_cost → 2 ≤ column → column < width →
       slice_index_or new (lane * width + column) [] ≡ slice_index_or old (lane * width + column) []
 
--- that in the first slice
+-- the same on the first slice, in which each lane has the columns of one segment
 abbrev pub BeginsSlices : Context → FirstColumns → Memory → Memory → Type 0
 BeginsSlices ctx first old new = BeginsLanes ctx (segment_length ctx) first old new
 

@@ -87,7 +87,7 @@ plain m t p output_len = record {
   output_len = output_len;
 }
 
--- those that are used if none are given
+-- the parameters that are used if none are given
 abbrev pub default_parameters : Parameters
 default_parameters = plain 19456 2 1 None
 

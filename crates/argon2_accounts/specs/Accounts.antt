@@ -35,7 +35,7 @@ pub record AreTerms (terms : Terms) : Type 0 where
   pub is_target : IsTarget terms.target
   pub within : IsWithin terms.bound terms.target.settings.parameters
 
--- those of a policy, and of accounts
+-- the terms of a policy
 abbrev pub terms_of : Policy → Terms
 terms_of policy = record { target = target_value policy.target; bound = policy.bound }
 
@@ -54,7 +54,7 @@ text_of hash = phc_text (phc_of hash)
 abbrev pub named_texts : {Y : Type 0} → List (String Y × PasswordHash) → List (List ℕ × List ℕ)
 named_texts items = map (λ e. (string_bytes e.0, text_of e.1)) items
 
--- those of a tree
+-- the names with their texts in a tree
 abbrev pub texts_of : {Y : Type 0} → BTreeMap (String Y) PasswordHash → Texts
 texts_of tree = from_entries (named_texts tree.entries)
 
@@ -93,7 +93,7 @@ IsAbove bound v = IsOk (stored_of v) × HashRefusal bound v AboveBound
 abbrev pub Admits : Terms → List ℕ → Phc → Type 0
 Admits terms password v = AsksWithin terms.bound v × AcceptsBy terms.target.secret password v
 
--- why the value does not
+-- why the value is above the bound, or does not accept the password
 abbrev pub Denial : Terms → List ℕ → Phc → AccountError → Type 0
 Denial terms password v TooExpensive = IsAbove terms.bound v
 Denial terms password v (Refused e) =

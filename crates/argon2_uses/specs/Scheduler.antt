@@ -4,7 +4,7 @@ use Rattle.std.specs.List.{range_with_len}
 use Rattle.argon2.specs.Rfc9106.{Context}
 use Rattle.argon2.specs.Steps.{turn_count}
 
--- so many lanes in order, so many times
+-- all lanes in order, in each of so many rounds
 unfoldable pub rounds : ℕ → ℕ → List ℕ
 rounds lanes zero = []
 rounds lanes (suc n) = range_with_len 0 lanes ++ rounds lanes n
