@@ -5,8 +5,8 @@
  * Argon2 (RFC 9106) for C, over a proved library: the names, numbers and layouts of libargon2's argon2.h,
  * so that a program that was made for libargon2 runs on this library unchanged.
  *
- * Contracts of the crate argon2_c state what each function returns; docs/DIFFERENCES.md lists what differs from the
- * reference. A function that does not return ARGON2_OK writes nothing, except that argon2_verify_ctx writes the tag
+ * Contracts of the crate argon2_c state what each function returns; docs/DIFFERENCES.md of the repository lists what
+ * differs from the reference. A function that does not return ARGON2_OK writes nothing, except that argon2_verify_ctx writes the tag
  * of a password that does not match. Outputs may overlap inputs and each other.
  * All functions may be called by several threads at once. A call takes up to 32 KiB of the caller's stack, and 256 KiB
  * for the stack of each thread that it starts.
