@@ -84,7 +84,7 @@ params_of output_len ps = checked (items_fault ps) (read (ok_or (number_at (code
       output_len = output_len;
     }))))))
 
--- valid costs with bytes, listed, are read as the same with any length of output
+-- valid costs with bytes, listed, are read as the same, with no length of output
 abbrev pub AreReadAgain : ℕ → ℕ → ℕ → List ℕ → List ℕ → Type 0
 AreReadAgain m t p keyid associated = (output_len : Option ℕ) → IsNone (first_fault m t p output_len) →
     params_of None (listed m t p keyid associated)
@@ -150,7 +150,7 @@ IsTextAnswer text r =
     × (((ps : List Pair) × ParamsText text ps)
     ⊎ (((ps : List Pair) → ParamsText text ps → ⊥) × (outcome_of parameters_of r ≡ Err bad_params)))
 
--- the list of parameters, which is read as the same with any length of output
+-- the list of parameters, which is read as the same, with no length of output
 abbrev pub IsListOf : Parameters → Result (List Pair) HashError → Type 0
 IsListOf v r =
     (r ≡ Ok (list_of v)) × (params_of None (list_of v) ≡ Ok (record v { output_len = None }))

@@ -154,12 +154,12 @@ pub record Reference : Type 0 where
 abbrev pub place_of : Context → Reference → ℕ
 place_of ctx from = from.lane * lane_length ctx + from.column
 
--- in the first slice of all the block's own lane, else by the word's high half
+-- the block's own lane in the first slice of pass 0, else by the word's high half
 unfoldable pub reference_lane : Context → ℕ → ℕ → ℕ → ℕ → ℕ
 reference_lane ctx pass lane column word =
     if pass == 0 && (column / segment_length ctx == 0) then lane else (word / 2 ^ 32) % ctx.p_cost
 
--- a lane that the block may refer to: in the first slice of all its own
+-- a lane that the block may refer to: in the first slice of pass 0 only the block's own lane
 pub record MayReferTo (ctx : Context) (pass lane column other : ℕ) : Type 0 where
   pub within : other < ctx.p_cost
   pub alone : pass ≡ 0 → column / segment_length ctx ≡ 0 → other ≡ lane

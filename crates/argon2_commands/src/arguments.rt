@@ -3,6 +3,7 @@
 ghost use Rattle.std.specs.Prelude.{◌≡◌, ◌⊎◌};
 ghost use Rattle.std.specs.Io.KnownBytes.{Keeps};
 ghost use Rattle.clap.specs.Words.{kind_of};
+ghost use Rattle.clap.specs.declared.error.kind.ErrorKind.TheVariants.{OutOfMemory};
 ghost use Rattle.argon2_commands.specs.Pages.{IsPage};
 
 use argon2_failure::Failure;
@@ -38,10 +39,12 @@ pub fn answer<W: Write, E: Write>(
     output: &mut W,
     errors: &mut E,
 ) -> u8
-    ensures status { (result ≡ 0) ⊎ (result ≡ 2) ⊎ (result ≡ 3) }
-    ensures page { result ≡ 0 → IsPage (kind_of error.now) }
-    ensures wrong { result ≡ 2 → ¬ IsPage (kind_of error.now) }
-    ensures unwritten { result ≡ 2 → Keeps (W.contents output.old) (W.contents output.new) }
+    ensures page { IsPage (kind_of error.now) → (result ≡ 0) ⊎ (result ≡ 3) }
+    ensures memory { kind_of error.now ≡ OutOfMemory → result ≡ 3 }
+    ensures wrong { ¬ IsPage (kind_of error.now) → ¬ (kind_of error.now ≡ OutOfMemory) →
+        result ≡ 2 }
+    ensures unwritten { ¬ IsPage (kind_of error.now) →
+        Keeps (W.contents output.old) (W.contents output.new) }
 {
     match error.kind() {
         ErrorKind::DisplayHelp | ErrorKind::DisplayVersion => match page(error, output) {

@@ -49,7 +49,7 @@ file_of (edit choices path act name) = Some path
 file_of (show choices path view) = Some path
 file_of (import choices path any_text) = Some path
 
--- the bound that is given, or 2 GiB, 64 passes and 64 lanes, and no less than the parameters
+-- the bound that is given; if none is, 2 GiB, 64 passes and 64 lanes, each no less than the parameter
 abbrev pub bound_of : Choices → Bound
 bound_of choices = unwrap_or choices.bound (record {
   m_cost = max choices.parameters.m_cost 2097152;
