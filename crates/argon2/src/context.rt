@@ -190,9 +190,10 @@ impl<'key> Argon2<'key> {
     /// [`hash_password_into_with_memory`](Argon2::hash_password_into_with_memory).
     ///
     /// # Errors
-    /// [`Error::OutOfMemory`] if the request was refused, else those of
-    /// [`hash_password_into_with_memory`](Argon2::hash_password_into_with_memory) but
-    /// [`Error::MemoryTooLittle`], in their order. `out` is then as before.
+    /// The first of these that holds; `out` is then as before:
+    /// - those of [`hash_password_into_with_memory`](Argon2::hash_password_into_with_memory) but
+    ///   [`Error::MemoryTooLittle`], in their order. Then no memory is requested.
+    /// - [`Error::OutOfMemory`]: the request was refused.
     pub fn hash_password_into<A: Allocator>(
         &self,
         alloc: A,
@@ -237,9 +238,9 @@ impl<'key> Argon2<'key> {
         if associated.len() > MAX_AD_LEN {
             return Err(Error::AdTooLong);
         }
+        self.check(out.len(), pwd, salt, self.params.block_count())?;
         let mut memory = self.zeroed_blocks(alloc)?;
         let blocks = memory.as_mut_slice();
-        self.check(out.len(), pwd, salt, blocks.len())?;
         let instance = self.instance_under(associated);
         instance.hash(pwd, salt, out, blocks, &mut [], &mut Work::new());
         Ok(())
