@@ -102,8 +102,3 @@ unfoldable pub slices_calls : Context → ℕ → ℕ → ℕ
 slices_calls ctx pass zero = 0
 slices_calls ctx pass (suc slice) =
     slices_calls ctx pass slice + ctx.p_cost * segment_calls ctx pass slice
-
--- the mixing calls of the first passes
-unfoldable pub passes_calls : Context → ℕ → ℕ
-passes_calls ctx zero = 0
-passes_calls ctx (suc pass) = passes_calls ctx pass + slices_calls ctx pass 4

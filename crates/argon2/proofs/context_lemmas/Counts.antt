@@ -5,7 +5,12 @@ use Rattle.std.proofs.Math.Nat.{mul-le-mul, mul-le-mul_left, mul-le-mul_right}
 use Rattle.std.proofs.lemmas.Bool.{cases_lt, cond_both}
 use Rattle.std.proofs.lemmas.Bool.Decides.{nat_tests}
 use Rattle.argon2.specs.Rfc9106.{Context, Sizes, address_counter, block_count, is_independent, lane_length, segment_length}
-use Rattle.argon2.specs.Watching.{address_mixings, independent_segments, mixing_calls, segment_calls, slices_calls, passes_calls}
+use Rattle.argon2.specs.Watching.{address_mixings, independent_segments, mixing_calls, segment_calls, slices_calls}
+
+-- the mixings of the first passes
+unfoldable pub passes_calls : Context → ℕ → ℕ
+passes_calls ctx zero = 0
+passes_calls ctx (suc pass) = passes_calls ctx pass + slices_calls ctx pass 4
 
 module _ (ctx : Context) (sizes : Sizes ctx) where
   -- the mixings of the address blocks of a segment that has them

@@ -1,6 +1,5 @@
 use Rattle.std.proofs.Common.{◌≡◌, suc, ap, ◌∙◌, add-one, arith}
-use Rattle.argon2.specs.Watching.{passes_calls}
-use Rattle.argon2.proofs.context_lemmas.Counts.{passes_calls-le, passes_calls-all, mixing_calls-few}
+use Rattle.argon2.proofs.context_lemmas.Counts.{passes_calls, passes_calls-le, passes_calls-all, mixing_calls-few}
 use Rattle.argon2.proofs.context_lemmas.InOrder.{filled_first, filled_last, filled_next}
 use Rattle.argon2.proofs.context.instance.Instance.fill.Goals as goal
 

@@ -1,7 +1,8 @@
 use Rattle.std.proofs.Common.{◌≡◌, ◌+◌, map}
-use Rattle.argon2.specs.Watching.{IsFilledUpTo, begun, passes_calls}
+use Rattle.argon2.specs.Watching.{IsFilledUpTo, begun}
 use Rattle.argon2.specs.Laws.{Begins}
 use Rattle.argon2.specs.Rfc9106.{FirstColumns}
+use Rattle.argon2.proofs.context_lemmas.Counts.{passes_calls}
 use Rattle.argon2.proofs.context.instance.Instance.fill.Given as goal
 
 abbrev pub invariant-loop-pass : goal.invariant-loop-pass
