@@ -67,14 +67,15 @@ fills_words ctx password salt n old new places places' is = rw (map-id old, map-
 
 -- a fill that begins in the first blocks begins in the memory
 pub is_begun : (argon2 : Argon2) (count : ℕ) → count ≡ block_count (context_of argon2) → (old blocks : Memory)
-    → IsValid (context_of argon2) → (password salt : List ℕ) (n : ℕ)
+    → IsValid (context_of argon2) → length (context_of argon2).associated ≤ 32 → (password salt : List ℕ) (n : ℕ)
     → Begins (context_of argon2) (first_block (context_of argon2) password salt n) blocks
     → KeepsOtherColumns (context_of argon2) (take count old) blocks
     → IsBegun argon2 password salt n old (blocks ++ drop count old)
-is_begun argon2 count all old blocks valid password salt n begins same =
+is_begun argon2 count all old blocks valid short password salt n begins same =
     let ctx = context_of argon2 in
     record {
       valid = valid;
+      associated = short;
       begins = subst (Begins ctx (first_block ctx password salt n)) (sym (blocks_of-front ctx count all old blocks begins.size)) begins;
       others = KeepsOtherColumns-front ctx count all old blocks begins.size same;
       rest = KeepsRest-behind ctx count all old blocks begins.size;

@@ -66,10 +66,12 @@ pub record FillsFront (ctx : Context) (password salt : List ℕ) (n : ℕ) (old 
 
 -- ---- what a call leaves
 
--- the beginning under a valid context for a tag of n bytes: columns 0 and 1 of each lane, and all other blocks as before
+-- the beginning under a valid context for a tag of n bytes: columns 0 and 1 of each lane, and all other blocks as before;
+-- the associated data is that of parameters, at most 32 bytes
 pub record IsBegun (argon2 : Argon2) (password salt : List ℕ) (n : ℕ) (old new : Memory) : Type 0
   where
     pub valid : IsValid (context_of argon2)
+    pub associated : length (context_of argon2).associated ≤ 32
     pub begins : let ctx = context_of argon2 in
         Begins ctx (first_block ctx password salt n) (blocks_of ctx new)
     pub others : KeepsOtherColumns (context_of argon2) old new
@@ -88,10 +90,12 @@ pub record IsFilled (argon2 : Argon2) (password salt : List ℕ) (n : ℕ) (old 
     pub matrix : let ctx = context_of argon2 in blocks_of ctx new ≡ matrix_of ctx password salt n
     pub rest : KeepsRest (context_of argon2) old new
 
--- a valid context, an output that is the tag, the matrix that it was made of, and the rest as before
+-- a valid context with at most 32 bytes of associated data, an output that is the tag, the matrix that it was made of, and
+-- the rest as before
 pub record IsHashed (argon2 : Argon2) (password salt output : List ℕ) (old new : Memory) : Type 0
   where
     pub valid : IsValid (context_of argon2)
+    pub associated : length (context_of argon2).associated ≤ 32
     pub tag : output ≡ tag_of (context_of argon2) password salt (length output)
     pub matrix : let ctx = context_of argon2 in
         blocks_of ctx new ≡ matrix_of ctx password salt (length output)

@@ -65,7 +65,7 @@ pub record IsValid (ctx : Context) : Type 0 where
   pub algorithm : ctx.algorithm ≤ 2
   pub version : (ctx.version ≡ 16) ⊎ (ctx.version ≡ 19)
   pub secret : length ctx.secret < 2 ^ 32
-  pub associated : length ctx.associated ≤ 32
+  pub associated : length ctx.associated < 2 ^ 32
 
 -- what costs that are not refused amount to
 pub record Sizes (ctx : Context) : Type 0 where

@@ -364,6 +364,7 @@ impl<'key> Argon2<'key> {
     fn instance(&self) -> Instance<'_>
         ensures value { result ≡ context_of self.now }
         ensures valid { IsValid (context_of self.now) }
+        ensures associated { length (context_of self.now).associated ≤ 32 }
     {
         self.instance_under(self.params.data())
     }

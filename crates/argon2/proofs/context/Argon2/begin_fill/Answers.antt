@@ -10,7 +10,7 @@ returns-clause-begun c =
     let same = c.instance-instance.ensures.value in
     let count = c.block_count.ensures.value ∙ ap block_count same in
     is_begun c.args.self.now c.block_count.result count c.args.memory.now c.begin.new.blocks
-    c.instance-instance.ensures.valid c.args.pwd.now c.args.salt.now c.args.out_len
+    c.instance-instance.ensures.valid c.instance-instance.ensures.associated c.args.pwd.now c.args.salt.now c.args.out_len
     (rw (map-id c.begin.new.blocks, same) at c.begin.ensures.begins)
     (rw (map-id c.begin.new.blocks, map-id (take c.block_count.result c.args.memory.now), same) at c.begin.ensures.others)
 

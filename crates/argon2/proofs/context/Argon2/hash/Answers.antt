@@ -28,6 +28,7 @@ returns c =
           ((rw (c.new-work.ensures, same) at c.hash.ensures.work) ∙ all);
       hashed = record {
         valid = c.instance.ensures.valid;
+        associated = c.instance.ensures.associated;
         tag = (rw same at c.hash.ensures.tag) ∙ ap (tag_of ctx c.args.pwd.now c.args.salt.now) size;
         matrix = filled.matrix ∙ ap (matrix_of ctx c.args.pwd.now c.args.salt.now) size;
         rest = filled.rest;
