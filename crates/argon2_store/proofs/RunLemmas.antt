@@ -1,6 +1,6 @@
 -- What calls make of a file, and what an open finds after them.
 use Rattle.argon2_store.proofs.Imports.{arith, ◌≡◌, ℕ, List, [], ◌∷◌, ◌++◌, map, Result, Ok, Err, inl, inr, refl, sym, subst, ◌∙◌, append_assoc, reverse-append, cases_Bool}
-use Rattle.argon2_store.proofs.Imports.{∥∥₁_elim, ∥∥₁_map, flat_map, ◌⊎◌, Option, IsSome, SeenMayStay, settled_at, FileStore, Trees, Ghosts, AccountEvent, AccountRun, AccountStep}
+use Rattle.argon2_store.proofs.Imports.{∥∥₁_elim, ∥∥₁_map, flat_map, ◌⊎◌, Option, Some, SeenMayStay, settled_at, FileStore, Trees, Ghosts, AccountEvent, AccountRun, AccountStep}
 use Rattle.argon2_store.proofs.Imports.{Terms, adding, Texts, AddsOrNone, Call, IsBeforeOrAfter, IsClosed, Runs, Serves, Stays, database_of, terms_of, AddsAll}
 use Rattle.argon2_store.proofs.Imports.{AreEventsOf, Did, Does, EndsRun, FileCall, IsFoundAfter, IsLate, IsLateEvent, IsLateOf, IsShutOut, Run, add_all, added, event_of, events_of}
 use Rattle.argon2_store.proofs.Imports.{login, on_name, over_file, reads, IsHonest, IsOpen, CrashLeaves, StaysQuiet, AccountFile, FileError, Account, Closed}
@@ -155,14 +155,14 @@ module _ {S : Type 0} {g : Ghosts S} (settled : Settled g) (terms : Terms) (firs
         (names, has, rw does.unchanged (late_names es names left))) (λ is. refl)
 
     keeps : (error : Option FileError) → ((names : Texts) → HasNames old names → Stays error names old new)
-        → Reached events (Now (λ late. ⊥) (IsSome error)) new
+        → Reached events (Now (λ late. ⊥) (error ≡ Some Closed)) new
     keeps error stay =
         let does = stay before.names before.has in
         let honest : IsHonest g (database_of new) → IsHonest g (database_of old) = λ clean. omega (arith, clean, does.quiet.clean)
         in
         reaches (λ late. ⊥) _ [] before.names does.has does.terms honest (λ clean. refl)
         (λ clean is_open db found. let (names, has, is) = does.left clean is_open db found in (names, has, inl is))
-        (λ clean is_closed. (rw (does.closed (honest clean) is_closed).0 refl, refl, does.quiet.outcomes))
+        (λ clean is_closed. ((does.closed (honest clean) is_closed).0, refl, does.quiet.outcomes))
 
     pub one_more : (call : FileCall) → Does call old new
         → Reached (events_of call ++ events) (Now (IsLateOf call) (IsShutOut call)) new

@@ -1,5 +1,5 @@
 -- Runs on an account file, each of which opens what the last one left.
-use Rattle.std.specs.Prelude.{◌≡◌, ◌⊎◌, ℕ, List, [], ◌∷◌, ◌++◌, map, reverse, Option, IsSome, Result, Ok, Err}
+use Rattle.std.specs.Prelude.{◌≡◌, ◌⊎◌, ℕ, List, [], ◌∷◌, ◌++◌, map, reverse, Option, Some, Result, Ok, Err}
 use Rattle.std.specs.FinMap.{empty, get}
 use Rattle.std.specs.List.{flat_map}
 use Rattle.sqlite_disk.specs.declared.Disk as disk
@@ -63,7 +63,7 @@ abbrev pub IsShutOut : FileCall → Type 0
 IsShutOut (on_name call result) = result ≡ Err Closed
 IsShutOut (login call result) = result ≡ Err Closed
 IsShutOut (add_all es result) = result ≡ Err Closed
-IsShutOut (reads error) = IsSome error
+IsShutOut (reads error) = error ≡ Some Closed
 
 -- what comes late of calls, the newest first: nothing, or the last of them that was not shut out
 abbrev pub IsLate : List FileCall → List AccountEvent → Type 0
