@@ -9,6 +9,8 @@ ghost use Rattle.rand_core.specs.Stream.{fill_bytes};
 ghost use Rattle.argon2_accounts.specs.Accounts as kept;
 ghost use Rattle.argon2_accounts.specs.Accounts.{AreTerms, Texts as Named, adding, changing, logging_in, registering, removing, replacing, setting};
 ghost use Rattle.argon2.specs.Made.{target_of};
+ghost use Rattle.argon2.specs.NamedTexts.{IsText};
+ghost use Rattle.argon2_base.specs.declared.error.password_hash.Error.TheVariants.{EncodingInvalid};
 ghost use Rattle.argon2_store.specs.Adding.{entry_of};
 ghost use Rattle.argon2_store.specs.Errors.{IsOfDatabase, answered, read_of};
 ghost use Rattle.argon2_store.specs.Rows.{lines_of};
@@ -83,7 +85,10 @@ impl<'key, S: Store> AccountFile<'key, S> {
     /// - [`FileError::OutOfMemory`], [`FileError::Io`], [`FileError::Damaged`], [`FileError::Full`] or
     ///   [`FileError::TooLong`]: the change can't be written.
     pub fn add(&mut self, name: &str, text: &str) -> Result<(), FileError>
-        ensures { Serves (adding name.now text.now) result self.old self.new }
+        ensures call { Serves (adding name.now text.now) result self.old self.new }
+        ensures outside { IsHonest S.Store (database_of self.old) → ¬ IsClosed self.old →
+            ¬ IsText text.now →
+            result ≡ Err (FileError.Account (AccountError.Refused EncodingInvalid)) }
     {
         if self.is_closed() {
             return Err(FileError::Closed);
@@ -336,6 +341,8 @@ impl<'key, S: Store> AccountFile<'key, S> {
     /// Writes a line for each name, in the order of the names' bytes, and flushes `output`. The inner result is
     /// that of writing; after its error some lines may be written.
     ///
+    /// No clause says that `output` is flushed.
+    ///
     /// # Errors
     /// As [`text_of`](AccountFile::text_of).
     pub fn write_lines<W: Write>(
@@ -450,8 +457,9 @@ impl<'key, D: Disk> AccountFile<'key, FileStore<D>> {
     ghost use Rattle.sqlite_store.specs.FileStore.{HasSpilled, log_frames};
     ghost use Rattle.argon2_store.specs.AccountFile.{Reads, database_of};
 
-    /// Copies the log into the file, so that the file alone has all accounts, and empties the log. To drop
-    /// the value without it loses nothing: the next open reads the log.
+    /// Copies the log into the file, so that the file alone has all accounts, and empties the log, unless
+    /// frames of an unfinished change are in it. To drop the value without it loses nothing: the next open
+    /// reads the log.
     ///
     /// # Errors
     /// - [`FileError::Closed`]: the file has to be opened again.

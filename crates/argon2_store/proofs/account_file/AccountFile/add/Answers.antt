@@ -3,25 +3,25 @@ use Rattle.std.proofs.option.Match.{None-if_not_some}
 use Rattle.argon2_store.proofs.FileLemmas.{cannot_serve, is_some-map, refuses, shut_out, unread, writes}
 use Rattle.argon2_store.proofs.account_file.AccountFile.add.Goals as goal
 
-pub returns-then-is_closed : goal.returns-then-is_closed
-returns-then-is_closed g c before has =
+pub returns-then-is_closed-clause-call : goal.returns-then-is_closed-clause-call
+returns-then-is_closed-clause-call g c before has =
     cannot_serve (adding c.args.name.now c.args.text.now) (Err Closed) refl
     (shut_out g.met.S.Store.settled c.args.self.now before has c.is_closed.ensures c.if-is_closed.true)
 
-pub returns-in_err-parsed : goal.returns-in_err-parsed
-returns-in_err-parsed g c before has =
+pub returns-in_err-parsed-clause-call : goal.returns-in_err-parsed-clause-call
+returns-in_err-parsed-clause-call g c before has =
     refuses (adding c.args.name.now c.args.text.now) (λ answer. refl)
     (unread g.met.S.Store.settled c.args.self.now before has c.is_closed.ensures c.if-is_closed.false) (λ there clean. refl) refl
     (Refused c.in_err-parsed.field-0.0) _ c.from_residual.ensures.1
     (inl (c.in_err-parsed.ensures.invalid, λ is. c.in_err-parsed.ensures.only is.0 is.1), refl)
 
-pub returns-in_err-text_of : goal.returns-in_err-text_of
-returns-in_err-text_of g c before has =
+pub returns-in_err-text_of-clause-call : goal.returns-in_err-text_of-clause-call
+returns-in_err-text_of-clause-call g c before has =
     cannot_serve (adding c.args.name.now c.args.text.now) _ c.from_residual-in_err-text_of.ensures.1
     (c.in_err-text_of.ensures.reads before has)
 
-pub returns-then-is_some : goal.returns-then-is_some
-returns-then-is_some g c before has =
+pub returns-then-is_some-clause-call : goal.returns-then-is_some-clause-call
+returns-then-is_some-clause-call g c before has =
     refuses (adding c.args.name.now c.args.text.now) (λ answer. refl) (c.in_ok-text_of.ensures.reads before has)
     (c.in_ok-text_of.ensures.shows before) refl NameTaken _ c.into.ensures (
       (
@@ -31,8 +31,8 @@ returns-then-is_some g c before has =
       refl,
     )
 
-pub returns : goal.returns
-returns g c before has =
+pub returns-clause-call : goal.returns-clause-call
+returns-clause-call g c before has =
     let reads = c.in_ok-text_of.ensures.reads before has in
     let says = c.in_ok-parsed.ensures.found in
     writes (adding c.args.name.now c.args.text.now) (λ answer. refl) reads (c.in_ok-text_of.ensures.shows before)
