@@ -76,7 +76,7 @@ pub use Rattle.argon2_store.specs.Opening.{AreUnharmed, FoundIn, HoldsNames, IsA
 pub use Rattle.argon2_store.specs.Rows.{AreTexts, HasNoneAfter, IsAccount, IsAfterAll, IsFoundAs, line, lines, lines_of, row_of, rows_of}
 pub use Rattle.argon2_store.specs.Runs.{AreEventsOf, Did, Does, EndsRun, FileCall, IsFoundAfter, IsLate, IsLateEvent, IsLateOf, IsShutOut, Run, add_all, added, event_of, events_of}
 pub use Rattle.argon2_store.specs.Runs.{login, on_name, over_file, reads}
-pub use Rattle.argon2_store.specs.Table.{Changes, HasBegun, HasNames, HasSome, Holds, IsUnwritten, IsHonest, IsKept, IsLong, IsOpen, IsReading, KeepsNames, CrashLeaves, Sees, StaysQuiet}
+pub use Rattle.argon2_store.specs.Table.{Changes, HasBegun, HasNames, HasSome, Holds, IsUnwritten, IsHonest, IsKept, IsLong, IsOpen, KeepsNames, CrashLeaves, Sees, StaysQuiet}
 pub use Rattle.argon2_store.specs.Table.{Writes, changed}
 pub use Rattle.argon2_store.specs.declared.account_file.AccountFile.{AccountFile}
 pub use Rattle.argon2_store.specs.declared.error.FileError.{FileError}

@@ -7,7 +7,7 @@ use Rattle.argon2_store.proofs.Imports.{entries_sorted, find, put, is_sorted, be
 use Rattle.argon2_store.proofs.Imports.{ordering_then, Text, plain, entry_cmp, Row, column, number, row_cmp, value_cmp-Text, insert_entry, remove_entry, IsStorable, is_int}
 use Rattle.argon2_store.proofs.Imports.{row_of, rows_of, IsLong, IsTrue, prefix_cmp, Index, Forward, from_key, order_of, sought, View, Advances, with_cursor}
 use Rattle.argon2_store.proofs.Imports.{HasNoneAfter, IsAfterAll, IsFoundAs, ◌++◌, append_assoc, append-nil, empty, len-empty, len-entries, get-empty, ⊤, Ghosts, Trees, IsIndex, IsOrdered, IsAccount, Holds}
-use Rattle.argon2_store.proofs.Imports.{IsUnwritten, IsHonest, IsKept, IsReading}
+use Rattle.argon2_store.proofs.Imports.{IsUnwritten, IsHonest, IsKept}
 use Rattle.std.proofs.lemmas.Bool.{cases_lt}
 use Rattle.std.proofs.lemmas.List.{nil_from_length}
 use Rattle.std.proofs.lemmas.Map.Text.{is_eq-slice_cmp}
@@ -295,6 +295,13 @@ module _ (old mid new : View) (names : Texts) (k : List ℕ) (key met : Row) (sh
       (stood names k [] none, none_after names k none)
 
 -- ---- reading the rows of a table one by one
+
+-- some of the tree's rows are read, and the names are theirs
+pub record IsReading (first now : View) (names : Texts) : Type 0 where
+  pub same : now ≡ record first { cursors = now.cursors }
+  pub rest : List Row
+  pub left : now.cursors 0 ≡ Some rest
+  pub all : rows_of names ++ rest ≡ first.trees 0
 
 -- what stands before a row in an ascending list is below it
 below : (xs : List Row) (y : Row) (zs : List Row) → IsIndex plain (xs ++ y ∷ zs)

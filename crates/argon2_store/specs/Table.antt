@@ -1,5 +1,5 @@
 -- What a table of names shows, and what a change of it leaves in the file.
-use Rattle.std.specs.Prelude.{◌≡◌, ◌⊎◌, ℕ, ◌^◌, ◌+◌, ◌<◌, List, [], ◌∷◌, ◌++◌, length, false, Option, Some, None, Result, Ok, Err, IsTrue, IfErr, OnOk, MatchResult}
+use Rattle.std.specs.Prelude.{◌≡◌, ◌⊎◌, ℕ, ◌^◌, ◌+◌, ◌<◌, List, [], ◌∷◌, length, false, Option, Some, None, Result, Ok, Err, IsTrue, IfErr, OnOk, MatchResult}
 use Rattle.std.specs.FinMap.{insert, remove}
 use Rattle.sqlite_disk.specs.Disk.{MoreFaults}
 use Rattle.sqlite_value.specs.Keys.{plain}
@@ -52,13 +52,6 @@ done_of (Err e) = Err e
 abbrev pub written_of : {E : Type 0} → Result (Result (Unit {0}) StoreError) E → Result (Unit {0}) StoreError
 written_of (Ok done) = done
 written_of (Err e) = Ok tt
-
--- Some of the tree's rows are read, and the names are theirs.
-pub record IsReading (first now : View) (names : Texts) : Type 0 where
-  pub same : now ≡ record first { cursors = now.cursors }
-  pub rest : List Row
-  pub left : now.cursors 0 ≡ Some rest
-  pub all : rows_of names ++ rest ≡ first.trees 0
 
 module _ {S : Type 0} (g : Ghosts S) where
   -- the disk has given no wrong answer that was taken as true

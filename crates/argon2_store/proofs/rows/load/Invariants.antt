@@ -1,5 +1,5 @@
-use Rattle.argon2_store.proofs.Imports.{IsSome, Texts, AreTexts, rows_of, IsHonest, IsReading, StaysQuiet}
-use Rattle.argon2_store.proofs.RowLemmas.{LastIs}
+use Rattle.argon2_store.proofs.Imports.{IsSome, Texts, AreTexts, rows_of, IsHonest, StaysQuiet}
+use Rattle.argon2_store.proofs.RowLemmas.{IsReading, LastIs}
 use Rattle.argon2_store.proofs.rows.load.Given as goal
 
 abbrev pub invariant-loop : goal.invariant-loop
