@@ -1,13 +1,9 @@
 -- What is known after some numbers of passes were tried.
-use Rattle.std.proofs.Common.{arith, ◌≡◌, inl, ℕ, ◌+◌, ◌-◌, ◌<◌, ◌≤◌, ◌||◌, min, Bool, IsFalse, List, ◌∷◌, length, true, false, ap, refl, Option}
+use Rattle.std.proofs.Common.{arith, ◌≡◌, inl, ℕ, ◌+◌, ◌-◌, ◌<◌, ◌≤◌, min, Bool, List, ◌∷◌, length, true, false, ap, refl, Option}
 use Rattle.std.specs.Prelude.{nat_le, if◌then◌else◌}
 use Rattle.std.proofs.lemmas.Bool.{leb-true}
 use Rattle.argon2_calibrate.specs.Choice.{AreTrials, IsCandidate, IsGreatest, IsNext, IsMeasured, below, best, further_of}
 use Rattle.argon2_calibrate.specs.declared.choice.Choice.{Choice}
-
-pub either_false : (a b : Bool) → IsFalse (a || b) → IsFalse a × IsFalse b
-either_false true b never = absurd (let clash : true ≡ false = never in cc)
-either_false false b are = (refl, are)
 
 -- the search after so many trials
 pub record IsTried (Takes : ℕ → ℕ → Option (List ℕ) → Type 0) (target : ℕ) (first now : Choice)

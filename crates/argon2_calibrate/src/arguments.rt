@@ -6,7 +6,7 @@ ghost use Rattle.argon2_calibrate.specs.Choice.{ArePossible};
 use crate::options::Options;
 use crate::run::PROGRAM;
 use argon2_commands::invalid;
-use clap::{Arg, ArgAction, Command, Error, value_parser};
+use clap::{Command, Error, arg, value_parser};
 use std::alloc::{AllocError, Global};
 use std::num::saturating_f64_to_u64;
 
@@ -75,34 +75,23 @@ fn command<'a>(alloc: Global) -> Result<Command<'a>, AllocError> {
 // With the options.
 fn with_options<'a>(alloc: Global, command: Command<'a>) -> Result<Command<'a>, AllocError> {
     let number = value_parser!(u32);
-    let passes = "The least passes [default: 2 below 64 MiB of memory, 1 from there on]";
-    let passes = option(alloc, "min-t", passes).value_parser(number.range(1..));
-    let lanes = "Lanes, with at least 8 blocks of 1024 bytes each";
-    let lanes = option(alloc, "lanes", lanes).value_parser(number.range(1..=16_777_215));
-    let json = Arg::new(alloc, "json")
-        .long("json")
-        .action(ArgAction::SetTrue)
-        .help("Write one JSON object: m, t, p, microseconds, busy");
+    let passes = arg!(in alloc; --"min-t" <N>
+        "The least passes [default: 2 below 64 MiB of memory, 1 from there on]");
+    let lanes = arg!(in alloc; --lanes <N> "Lanes, with at least 8 blocks of 1024 bytes each");
+    let json = arg!(in alloc; --json "Write one JSON object: m, t, p, microseconds, busy");
+    let lanes = lanes.value_parser(number.range(1..=16_777_215));
     command
-        .arg(passes)?
+        .arg(passes.value_parser(number.range(1..)))?
         .arg(lanes.default_value("1"))?
         .arg(json)
 }
 
 // With the words behind them.
 fn with_words<'a>(alloc: Global, command: Command<'a>) -> Result<Command<'a>, AllocError> {
-    let seconds = Arg::new(alloc, "SECONDS")
-        .required(true)
-        .value_parser(value_parser!(f64))
-        .help("How long a hash may take, from 0.001 to 3600");
-    let most = Arg::new(alloc, "MEBIBYTES")
-        .value_parser(value_parser!(u32).range(1..=4_194_303))
-        .default_value("64")
-        .help("The most memory of a hash, in MiB");
-    command.arg(seconds)?.arg(most)
-}
-
-// An option with a number.
-fn option<'a>(alloc: Global, name: &'a str, help: &'a str) -> Arg<'a> {
-    Arg::new(alloc, name).long(name).value_name("N").help(help)
+    let seconds = arg!(in alloc; <SECONDS> "How long a hash may take, from 0.001 to 3600");
+    let most = arg!(in alloc; [MEBIBYTES] "The most memory of a hash, in MiB");
+    let most = most.value_parser(value_parser!(u32).range(1..=4_194_303));
+    command
+        .arg(seconds.value_parser(value_parser!(f64)))?
+        .arg(most.default_value("64"))
 }

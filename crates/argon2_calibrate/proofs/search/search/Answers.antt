@@ -1,4 +1,4 @@
-use Rattle.std.proofs.Common.{arith, ◌≡◌, ◌*◌, ◌≤◌, ℕ, List, Option, None, inl, inr, sym}
+use Rattle.std.proofs.Common.{arith, ◌≡◌, ◌*◌, ◌≤◌, ℕ, List, Option, None, sym}
 use Rattle.std.specs.Prelude.{unwrap_or}
 use Rattle.std.proofs.lemmas.Bool.Decides.{nat_tests}
 use Rattle.std.proofs.lemmas.Result.{IfOk-weaker}
@@ -23,13 +23,7 @@ choice_of Takes options first found possible some of best =
       valid = valid_within options.most (unwrap_or options.min_t 1) options.lanes found.choice.m_cost found.choice.t_cost possible
           (omega arith) (omega arith);
       least = omega arith;
-      within = elim best.costs.within [
-        | inl short ↦ inl short
-        | inr same ↦ elim of.short [
-          | inl short ↦ inl (rw same short)
-          | inr small ↦ inr (rw same of.least, rw same small)
-        ]
-      ];
+      within = grind (arith, best.costs.within, of.short, of.least);
       first = first;
       memory = of;
       passes = best;
