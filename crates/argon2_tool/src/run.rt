@@ -56,8 +56,8 @@ pub fn run<R: Read, W: Write, E: Write>(
 ) -> u8
     ensures status { result ≤ 2 }
     ensures usage { (result ≡ 2) ↔ ((c : Command) → ¬ Spells (map string_bytes args.now) c) }
-    ensures unread { result ≡ 2 → Keeps (R.remaining input.old) (R.remaining input.new) }
-    ensures unwritten { result ≡ 2 → Keeps (W.contents output.old) (W.contents output.new) }
+    ensures unread { result ≡ 2 → input.new ≡ input.old }
+    ensures unwritten { result ≡ 2 → output.new ≡ output.old }
     ensures answered { result ≡ 0 → (c : Command) × Spells (map string_bytes args.now) c
         × IsAnswered c (R.remaining input.old) (W.contents output.old) (W.contents output.new) }
     ensures quiet { result ≡ 0 → Keeps (E.contents errors.old) (E.contents errors.new) }
@@ -114,15 +114,9 @@ fn reply<R: Read>(alloc: Global, command: &Command<'_>, input: &mut R) -> Result
         Command::Digest(len) => digest(alloc, len as usize, input),
         Command::Long(len) => long(alloc, len as usize, &read_all(alloc, input)?),
         Command::Tag(request, len, salt) => {
-            tag(
-                alloc,
-                &request,
-                len as usize,
-                salt,
-                &read_all(alloc, input)?,
-            )
+            tag(alloc, request, len, salt, &read_all(alloc, input)?)
         }
-        Command::Phc(request, salt) => phc(alloc, &request, salt, &read_all(alloc, input)?),
+        Command::Phc(request, salt) => phc(alloc, request, salt, &read_all(alloc, input)?),
         Command::Verify(text) => verify(alloc, text, &read_all(alloc, input)?),
         Command::Help => Ok(String::from_str(alloc, HELP)?),
         Command::Version => Ok(String::from_str(alloc, VERSION)?),
@@ -156,8 +150,7 @@ fn digest<R: Read>(alloc: Global, len: usize, input: &mut R) -> Result<String, F
             Ok(0) => {
                 let mut out = [0u8; 64];
                 hasher.finalize_into(&mut out[..len]);
-                let text = hex::encode(alloc, &out[..len])?;
-                return Ok(text);
+                return Ok(hex::encode(alloc, &out[..len])?);
             }
             Ok(count) => hasher.update(&piece[..count]),
             Err(e) if e.kind() == ErrorKind::Interrupted => {}
@@ -180,22 +173,22 @@ fn long(alloc: Global, len: usize, message: &[u8]) -> Result<String, Failure>
 // The tag of a password, of `len` bytes, in hex.
 fn tag(
     alloc: Global,
-    request: &Request<'_>,
-    len: usize,
+    request: Request<'_>,
+    len: u32,
     salt: &str,
     password: &[u8],
 ) -> Result<String, Failure>
-    ensures { IsReply (Command.Tag request.now len salt.entry) password.now result }
+    ensures { IsReply (Command.Tag request.entry len salt.entry) password.now result }
 {
     let argon2 = request.argon2()?;
-    let mut out = vec![in alloc; 0u8; len]?;
+    let mut out = vec![in alloc; 0u8; len as usize]?;
     argon2.hash_password_into(alloc, password, salt.as_bytes(), out.as_mut_slice())?;
     Ok(hex::encode(alloc, out.as_slice())?)
 }
 
 // The PHC text of a password.
-fn phc(alloc: Global, request: &Request<'_>, salt: &str, password: &[u8]) -> Result<String, Failure>
-    ensures { IsReply (Command.Phc request.now salt.entry) password.now result }
+fn phc(alloc: Global, request: Request<'_>, salt: &str, password: &[u8]) -> Result<String, Failure>
+    ensures { IsReply (Command.Phc request.entry salt.entry) password.now result }
 {
     let argon2 = request.argon2()?;
     let hash = argon2.hash_password_with_salt(alloc, password, salt.as_bytes())?;
