@@ -1,5 +1,6 @@
 -- The tokens of a JSON object, written one after another.
-use Rattle.std.proofs.Common.{arith, ◌≡◌, ◌∙◌, List, [], ◌∷◌, ◌++◌, Result, Ok, Err, OnOk, ap, append_assoc}
+use Rattle.std.proofs.Common.{arith, ◌≡◌, ◌∙◌, List, [], ◌∷◌, ◌++◌, Result, OnOk, ap, append_assoc}
+use Rattle.std.proofs.lemmas.Result.{on_ok_weaker}
 use Rattle.json.specs.Json.{Json, item}
 use Rattle.json.specs.Token.{Token}
 use Rattle.json.specs.Tree.{items_tokens, json_tokens}
@@ -13,13 +14,7 @@ one writes tokens = record { before = writes.room.0; tokens = tokens }
 
 pub at_last : {E P : Type 0} {r : Result (Unit {0}) E} {old new : Written} {t : Token} → Writes r old new t
     → (Adds old new (t ∷ []) → P) → OnOk r P
-at_last {r = Ok x} writes more = more (one writes writes.ok)
-at_last {r = Err e} writes more = tt
-
--- the same of a call of which something else is known
-pub then : {T E P Q : Type 0} (r : Result T E) → OnOk r P → (P → Q) → OnOk r Q
-then (Ok x) is more = more is
-then (Err e) is more = tt
+at_last {r = r} writes more = on_ok_weaker r (λ tokens. more (one writes tokens)) writes.ok
 
 -- what two calls add, one after the other
 pub further : {old middle new : Written} {xs ys : List Token} → Adds old middle xs → Adds middle new ys → Adds old new (xs ++ ys)

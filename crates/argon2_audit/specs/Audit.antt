@@ -1,9 +1,9 @@
 -- What is known after so many bytes.
-use Rattle.std.specs.Prelude.{◌≡◌, ◌≢◌, ◌⊎◌, ◌↔◌, ◌<◌, ◌+◌, ◌==◌, ℕ, nat_le, get_or, Bool, not, IsTrue, if◌then◌else◌, Option, IfSome, List, [], ◌∷◌, ◌++◌, length}
+use Rattle.std.specs.Prelude.{◌≡◌, ◌≢◌, ◌⊎◌, ◌<◌, ◌+◌, ◌==◌, ℕ, nat_le, get_or, Bool, if◌then◌else◌, Option, List, [], ◌∷◌, ◌++◌, length}
 use Rattle.std.specs.Bool.{MatchBool}
 use Rattle.std.specs.BTreeSet.{BTreeSet, contains_by}
 use Rattle.std.specs.Cmp.Lexicographic.{slice_cmp}
-use Rattle.std.specs.List.{AllZip, list_all, list_any}
+use Rattle.std.specs.List.{All, AllZip, list_any}
 use Rattle.std.specs.Ordering.{nat_cmp}
 use Rattle.std.specs.Str.{bytes_eq}
 use Rattle.arrayvec.specs.ArrayVec.{ArrayVec}
@@ -92,8 +92,8 @@ IsRead kept line = MatchBool kept.is_long ((length kept.bytes.items ≡ 4096) ×
     (kept.bytes.items ≡ line)
 
 -- no line feed is in a line
-abbrev pub has_no_feed : List ℕ → Bool
-has_no_feed line = list_all (λ byte. not (byte == 10)) line
+abbrev pub HasNoFeed : List ℕ → Type 0
+HasNoFeed line = All (λ byte. byte ≢ 10) line
 
 -- lines one after another, each with a line feed
 abbrev pub joined : List (List ℕ) → List ℕ
@@ -102,13 +102,12 @@ joined (line ∷ earlier) = joined earlier ++ (line ++ 10 ∷ [])
 
 -- each line ends with a line feed, but that the last may have none if it is not empty
 abbrev pub IsJoined : List ℕ → List (List ℕ) → Type 0
-IsJoined bytes [] = bytes ≡ []
-IsJoined bytes (last ∷ earlier) = (bytes ≡ joined (last ∷ earlier)) ⊎ ((bytes ≡ joined earlier ++ last) × (last ≢ []))
+IsJoined bytes lines = (bytes ≡ joined lines) ⊎ ((last : List ℕ) × (earlier : List (List ℕ))
+    × (lines ≡ last ∷ earlier) × (bytes ≡ joined earlier ++ last) × (last ≢ []))
 
 -- these are found in lines with no line feed, and the counts are those of what is found
 pub record AreCounted (options : Options) (lines : List (List ℕ)) (findings : List Finding) (tally : Tally) : Type 0 where
-  pub feeds : IsTrue (list_all has_no_feed lines)
-  pub found : AllZip (IsFinding options.field) lines findings
+  pub found : AllZip (λ line finding. HasNoFeed line × IsFinding options.field line finding) lines findings
   pub all : tally.lines ≡ length findings
   pub classes : (n : ℕ)
       → get_or tally.counts n 0 ≡ how_many (λ finding. class_number (class_of options.limits finding) == n) findings
@@ -126,7 +125,7 @@ pub record IsAt (options : Options) (session : Session) (lines : List (List ℕ)
   pub findings : List Finding
   pub counted : AreCounted options lines findings session.tally
   pub salts : (salt : List ℕ) → has_salt session.seen salt ≡ any_salt salt findings
-  pub feed : IsTrue (has_no_feed rest)
+  pub feed : HasNoFeed rest
   pub read : IsRead session.line rest
 
 -- the session has taken these bytes but for the last ones
@@ -135,10 +134,3 @@ pub record IsBefore (options : Options) (session : Session) (bytes more : List �
   pub rest : List ℕ
   pub split : bytes ≡ joined lines ++ (rest ++ more)
   pub at : IsAt options session lines rest
-
--- ---- what the program says
-
--- if the input is known, its lines are counted, and are clean or not
-abbrev pub IsAudit : Options → Option (List ℕ) → Bool → Type 0
-IsAudit options input clean = (tally : Tally) × IfSome input (λ bytes. IsTallied options bytes tally)
-    × (IsTrue clean ↔ IsClean options.limits tally)

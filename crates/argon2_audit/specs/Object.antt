@@ -1,12 +1,12 @@
 -- The report as a JSON object.
-use Rattle.std.specs.Prelude.{◌≡◌, ◌≤◌, ℕ, List, [], ◌∷◌, ◌++◌, codes, decimal, map, Option, Some, IfSome}
+use Rattle.std.specs.Prelude.{◌≡◌, ◌≤◌, ◌↔◌, Bool, IsTrue, ℕ, List, [], ◌∷◌, ◌++◌, codes, decimal, map, Option, Some, IfSome}
 use Rattle.std.specs.Borrow.{Bor}
 use Rattle.std.specs.Io.KnownBytes.{Appends}
 use Rattle.json.specs.Json.{Json, Items, Members, array, document, member, no_members, number, object, string}
 use Rattle.json.specs.Token.{Token, begin_array, begin_object, key}
 use Rattle.json.specs.Tree.{HasNumbers, depth, items_tokens, json_tokens}
 use Rattle.json.specs.Written.{Written}
-use Rattle.argon2_audit.specs.Audit.{IsTallied, count_of}
+use Rattle.argon2_audit.specs.Audit.{IsClean, IsTallied, count_of}
 use Rattle.argon2_audit.specs.declared.finding.Class.TheVariants.{Outside, NoHash, Below, Sound, Other, Locked, Empty, Blank, Comment, Unknown}
 use Rattle.argon2_audit.specs.declared.findings.Value.{Value}
 use Rattle.argon2_audit.specs.declared.findings.Value.TheVariants.{Number, Text}
@@ -48,10 +48,10 @@ abbrev pub IsReport : Options → Tally → Option (List ℕ) → Option (List �
 IsReport options tally old new =
     options.form ≡ JsonForm → (text : List ℕ) × IsObject tally text × Appends old new (text ++ 10 ∷ [])
 
--- the same with the counts of the lines, if the input is known
-abbrev pub IsReported : Options → Option (List ℕ) → Option (List ℕ) → Option (List ℕ) → Type 0
-IsReported options input old new = (tally : Tally) × IfSome input (λ bytes. IsTallied options bytes tally)
-    × IsReport options tally old new
+-- the lines are counted if the input is known, are clean or not, and are reported
+abbrev pub IsAudit : Options → Option (List ℕ) → Option (List ℕ) → Option (List ℕ) → Bool → Type 0
+IsAudit options input old new clean = (tally : Tally) × IfSome input (λ bytes. IsTallied options bytes tally)
+    × IsReport options tally old new × (IsTrue clean ↔ IsClean options.limits tally)
 
 -- ---- what calls write of it
 

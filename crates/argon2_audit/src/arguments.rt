@@ -3,14 +3,9 @@
 use crate::field::Field;
 use crate::limits::{Form, Limits, Options};
 use crate::run::PROGRAM;
-use argon2::Algorithm;
 use argon2_commands::invalid;
-use clap::{Arg, ArgAction, ArgMatches, Command, Error, value_parser};
+use clap::{ArgMatches, Command, Error, arg, value_parser};
 use std::alloc::{AllocError, Global};
-
-static ALGORITHMS: [&str; 3] = ["argon2d", "argon2i", "argon2id"];
-
-static VERSIONS: [&str; 2] = ["16", "19"];
 
 const ABOUT: &str = "\
 Says which stored texts of passwords are below a policy.
@@ -48,10 +43,7 @@ pub fn parsed<'a>(alloc: Global, words: &'a [String]) -> Result<(Options, Vec<&'
         let why = "it is not one byte";
         return Err(invalid(&mut command, alloc, "--separator <C>", separator, why)?);
     };
-    let mut names = Vec::new(alloc);
-    for name in matches.get_strs("FILE").unwrap_or(&["-"]) {
-        names.push(*name)?;
-    }
+    let names = matches.get_strs("FILE").unwrap_or(&["-"]).to_vec(alloc)?;
     let field = matches.get_one::<u32>("field");
     let options = Options {
         limits: limits(&matches),
@@ -73,27 +65,23 @@ fn limits(matches: &ArgMatches<'_>) -> Limits {
         salt_len: number(matches, "min-salt"),
         hash_len: number(matches, "min-hash"),
         version: number(matches, "min-version"),
-        algorithm: matches
-            .get_str("require")
-            .and_then(|name| Algorithm::new(name).ok()),
+        algorithm: matches.get_one("require"),
         allows_other: matches.get_flag("allow-other"),
     }
 }
 
 // What is to be written.
 fn form(matches: &ArgMatches<'_>) -> Form {
-    if matches.get_flag("json") {
-        Form::Json
-    } else if matches.get_flag("quiet") {
-        Form::Quiet
-    } else {
-        Form::Lines
+    match (matches.get_flag("json"), matches.get_flag("quiet")) {
+        (true, _) => Form::Json,
+        (_, true) => Form::Quiet,
+        _ => Form::Lines,
     }
 }
 
 // The number of an option, 0 if it has none.
 fn number(matches: &ArgMatches<'_>, name: &str) -> u32 {
-    matches.get_one::<u32>(name).unwrap_or(0)
+    matches.get_one(name).unwrap_or(0)
 }
 
 // The program's arguments.
@@ -109,66 +97,45 @@ fn command<'a>(alloc: Global) -> Result<Command<'a>, AllocError> {
 }
 
 // With the least numbers that a text may show.
-fn with_least<'a>(alloc: Global, mut command: Command<'a>) -> Result<Command<'a>, AllocError> {
-    let memory = "The least memory, in blocks of 1024 bytes";
-    for (name, value, default, help) in [
-        ("min-m", "M", "19456", memory),
-        ("min-t", "T", "2", "The least number of passes"),
-        ("min-p", "P", "1", "The least number of lanes"),
-        ("min-salt", "N", "16", "The fewest bytes of a salt"),
-        ("min-hash", "N", "32", "The fewest bytes of a hash"),
-    ] {
-        let least = option(alloc, name, value, help).value_parser(value_parser!(u32));
-        command = command.arg(least.default_value(default))?;
-    }
-    Ok(command)
+fn with_least<'a>(alloc: Global, command: Command<'a>) -> Result<Command<'a>, AllocError> {
+    let number = value_parser!(u32);
+    let memory = arg!(in alloc; --"min-m" <M> "The least memory, in blocks of 1024 bytes");
+    let passes = arg!(in alloc; --"min-t" <T> "The least number of passes");
+    let lanes = arg!(in alloc; --"min-p" <P> "The least number of lanes");
+    let salt = arg!(in alloc; --"min-salt" <N> "The fewest bytes of a salt");
+    let hash = arg!(in alloc; --"min-hash" <N> "The fewest bytes of a hash");
+    command
+        .arg(memory.value_parser(number).default_value("19456"))?
+        .arg(passes.value_parser(number).default_value("2"))?
+        .arg(lanes.value_parser(number).default_value("1"))?
+        .arg(salt.value_parser(number).default_value("16"))?
+        .arg(hash.value_parser(number).default_value("32"))
 }
 
 // With what else makes a line sound, and where its text is.
 fn with_lines<'a>(alloc: Global, command: Command<'a>) -> Result<Command<'a>, AllocError> {
-    let version = "The least version [default: any]";
-    let version = option(alloc, "min-version", "V", version);
-    let require = "The one sound algorithm [default: any]";
-    let require = option(alloc, "require", "ALGORITHM", require);
-    let other = "Other schemes, locked and blank lines and comments count as sound";
-    let field =
-        "The text is field N, and a line without it is not sound [default: the second, or the line]";
-    let field = option(alloc, "field", "N", field);
+    let version = arg!(in alloc; --"min-version" <V> "The least version [default: any]");
+    let require = arg!(in alloc; --require <ALGORITHM> "The one sound algorithm [default: any]");
+    let other = arg!(in alloc; --"allow-other"
+        "Other schemes, locked and blank lines and comments count as sound");
+    let field = arg!(in alloc; --field <N>
+        "The text is field N, and a line without it is not sound [default: the second, or the line]");
     command
-        .arg(version.value_parser(VERSIONS.as_slice()))?
-        .arg(require.value_parser(ALGORITHMS.as_slice()))?
-        .arg(flag(alloc, "allow-other", other))?
+        .arg(version.value_parser(["16", "19"].as_slice()))?
+        .arg(require.value_parser(["argon2d", "argon2i", "argon2id"].as_slice()))?
+        .arg(other)?
         .arg(field.value_parser(value_parser!(u32).range(1..)))
 }
 
 // With what divides a line, what is written, and what is read.
 fn with_output<'a>(alloc: Global, command: Command<'a>) -> Result<Command<'a>, AllocError> {
-    let separator = option(alloc, "separator", "C", "The one byte between two fields");
-    let json = "Write one JSON object: findings by line, counts, table";
-    let files = Arg::new(alloc, "FILE")
-        .num_args(0..)
-        .action(ArgAction::Append)
-        .help("Files with a text a line, `-` for standard input");
+    let separator = arg!(in alloc; --separator <C> "The one byte between two fields");
+    let json = arg!(in alloc; --json "Write one JSON object: findings by line, counts, table");
+    let quiet = arg!(in alloc; --quiet "Write nothing; the status says all");
+    let files = arg!(in alloc; [FILE] ... "Files with a text a line, `-` for standard input");
     command
         .arg(separator.default_value(":"))?
-        .arg(flag(alloc, "json", json).conflicts_with("quiet")?)?
-        .arg(flag(alloc, "quiet", "Write nothing; the status says all"))?
-        .arg(files)
-}
-
-// An option with a value.
-fn option<'a>(alloc: Global, name: &'a str, value: &'a str, help: &'a str) -> Arg<'a> {
-    Arg::new(alloc, name)
-        .long(name)
-        .value_name(value)
-        .action(ArgAction::Set)
-        .help(help)
-}
-
-// An option without a value.
-fn flag<'a>(alloc: Global, name: &'a str, help: &'a str) -> Arg<'a> {
-    Arg::new(alloc, name)
-        .long(name)
-        .action(ArgAction::SetTrue)
-        .help(help)
+        .arg(json.conflicts_with("quiet")?)?
+        .arg(quiet)?
+        .arg(files.num_args(0..))
 }

@@ -76,8 +76,8 @@ fn field_numbered(line: &[u8], before: u32, separator: u8) -> Option<&[u8]>
     field_numbered(rest, before - 1, separator)
 }
 
-/// The index of the first separator, or the length if there is none.
-pub fn first(bytes: &[u8], separator: u8) -> usize
+// The index of the first separator, or the length if there is none.
+fn first(bytes: &[u8], separator: u8) -> usize
     ensures value { result ≡ position_or_len (λ byte. byte == separator) bytes.now }
     ensures max { result ≤ length bytes.now }
 {

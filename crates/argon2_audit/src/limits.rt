@@ -38,28 +38,23 @@ impl Entry {
     pub fn salt_len(&self) -> u32
         ensures { result ≡ length (unwrap_or self.now.salt []) }
     {
-        match &self.salt {
-            Some(salt) => salt.len() as u32,
-            None => 0,
-        }
+        self.salt.as_ref().map_or(0, |salt| salt.len() as u32)
     }
 
     /// Whether something of the text is below limits. A salt or a hash that is missing has no bytes.
     pub fn is_below(&self, limits: &Limits) -> bool
         ensures { result ≡ is_below limits.now self.now }
     {
-        let (kind, salt_len) = (&self.kind, self.salt_len());
-        let is_refused = match limits.algorithm {
-            Some(required) => required != kind.algorithm,
-            None => false,
-        };
+        let kind = &self.kind;
         kind.m_cost < limits.m_cost
             || kind.t_cost < limits.t_cost
             || kind.p_cost < limits.p_cost
-            || salt_len < limits.salt_len
+            || self.salt_len() < limits.salt_len
             || self.hash_len.unwrap_or(0) < limits.hash_len
             || u32::from(kind.version) < limits.version
-            || is_refused
+            || limits
+                .algorithm
+                .is_some_and(|required| required != kind.algorithm)
     }
 }
 

@@ -11,6 +11,9 @@ use std::fmt::Display;
 use std::io::Write;
 use std::{fmt, io};
 
+// The head of the table of kinds.
+const KINDS: &str = "\nalgorithm  version           m           t         p       lines";
+
 /// What keeps a line from being sound. Nothing of its name, salt and hash is said.
 #[derive(Drop)]
 pub enum Remark<'a> {
@@ -30,10 +33,7 @@ impl Display for Remark<'_> {
         match self {
             Remark::Text(text) => f.write_str(text),
             Remark::Refused(error) => write!(f, "{error}"),
-            Remark::Other(scheme) => {
-                let name = scheme.name();
-                write!(f, "{name}, not Argon2")
-            }
+            Remark::Other(scheme) => write!(f, "{}, not Argon2", scheme.name()),
             Remark::Algorithm(has, required) => write!(f, "{has} is not {required}"),
             Remark::Number(name, has, least) => write!(f, "{name}={has} is below {least}"),
             Remark::Length(of, has, least) => write!(f, "a {of} of {has} bytes is below {least}"),
@@ -56,16 +56,6 @@ pub struct Lines<'a, W: Write> {
 impl<W: Write> Remarks for Lines<'_, W> {
     fn add(&mut self, line: u64, remark: Remark<'_>) -> Result<(), Failure> {
         writeln!(self.output, "line {line}: {remark}")?;
-        Ok(())
-    }
-}
-
-/// No remark is written.
-#[derive(Drop)]
-pub struct Nothing;
-
-impl Remarks for Nothing {
-    fn add(&mut self, _line: u64, _remark: Remark<'_>) -> Result<(), Failure> {
         Ok(())
     }
 }
@@ -128,11 +118,10 @@ fn shown<S: Remarks>(
             remarks.add(line, Remark::Number(name, has, least))?;
         }
     }
-    match limits.algorithm {
-        Some(required) if required != kind.algorithm => {
-            remarks.add(line, Remark::Algorithm(kind.algorithm, required))?;
-        }
-        _ => {}
+    if let Some(required) = limits.algorithm
+        && required != kind.algorithm
+    {
+        remarks.add(line, Remark::Algorithm(kind.algorithm, required))?;
     }
     let (salt_len, least) = (entry.salt_len(), limits.salt_len);
     if salt_len < least {
@@ -172,16 +161,12 @@ pub fn write_table<W: Write>(output: &mut W, session: &Session) -> io::Result<()
         }
     }
     for (scheme, lines) in session.seen.schemes.iter() {
-        let name = scheme.name();
-        writeln!(output, "  {name:<18}{lines:>12}")?;
+        writeln!(output, "  {:<18}{lines:>12}", scheme.name())?;
     }
     row(output, "short salts", tally.short_salts)?;
     row(output, "equal salts", tally.equal_salts)?;
     if !session.seen.kinds.is_empty() {
-        writeln!(
-            output,
-            "\nalgorithm  version           m           t         p       lines"
-        )?;
+        writeln!(output, "{KINDS}")?;
     }
     for (kind, lines) in session.seen.kinds.iter() {
         let (algorithm, version) = (kind.algorithm.as_str(), u32::from(kind.version));

@@ -1,17 +1,18 @@
 //! The program over any streams.
 
-ghost use Rattle.std.specs.Prelude.{◌≡◌, ◌⊎◌, ◌∷◌, ◌++◌, [], ℕ, List, IfOk, IfSome, IsFalse, OnOk, true, false};
+ghost use Rattle.std.specs.Prelude.{◌≡◌, ◌==◌, ◌⊎◌, ◌∷◌, ◌++◌, [], ℕ, List, IfOk, IfSome, IsFalse, OnOk};
 ghost use Rattle.std.specs.Io.KnownBytes.{Appends, Keeps};
-ghost use Rattle.argon2_audit.specs.Object.{IsReport, IsReported};
-ghost use Rattle.argon2_audit.specs.Audit.{IsAudit, IsTallied};
+ghost use Rattle.argon2_audit.specs.Audit.{IsTallied};
+ghost use Rattle.argon2_audit.specs.Object.{IsAudit, IsReport};
 
 use crate::findings::Findings;
 use crate::limits::{Form, Options};
-use crate::report::{Lines, Nothing, Remarks, write_table};
+use crate::report::{Lines, Remarks, write_table};
 use crate::session::Session;
 use crate::tally::Tally;
 use argon2_failure::Failure;
 use std::alloc::Global;
+use std::io;
 use std::io::{ErrorKind, Read, Write};
 
 /// Something that is read and has a name for errors.
@@ -50,10 +51,8 @@ pub fn run<R: Read + Named, W: Write, E: Write>(
     shows_progress: bool,
 ) -> u8
     ensures status { (result ≡ 0) ⊎ (result ≡ 1) ⊎ (result ≡ 3) }
-    ensures passed { result ≡ 0 → IsAudit options (R.remaining input.old) true }
-    ensures refused { result ≡ 1 → IsAudit options (R.remaining input.old) false }
-    ensures object { (result ≡ 0) ⊎ (result ≡ 1) → IsReported options (R.remaining input.old)
-        (W.contents output.old) (W.contents output.new) }
+    ensures audit { (result ≡ 0) ⊎ (result ≡ 1) → IsAudit options (R.remaining input.old)
+        (W.contents output.old) (W.contents output.new) (result == 0) }
     ensures silent { options.form ≡ Form.Quiet → output.new ≡ output.old }
     ensures quiet { IsFalse shows_progress → result ≡ 0
         → Keeps (E.contents errors.old) (E.contents errors.new) }
@@ -96,8 +95,9 @@ fn write_report<R: Read, W: Write, E: Write>(
             Ok(session.tally)
         }
         Form::Quiet => {
-            let silent = &mut Nothing;
-            let session = session_of(alloc, options, input, silent, errors, shows_progress)?;
+            let output = &mut io::sink();
+            let mut lines = Lines { output };
+            let session = session_of(alloc, options, input, &mut lines, errors, shows_progress)?;
             Ok(session.tally)
         }
     }
@@ -136,15 +136,11 @@ fn session_of<R: Read, S: Remarks, E: Write>(
                 return Ok(session);
             }
             Ok(count) => session.add(&piece[..count], remarks)?,
-            Err(e) => {
-                if e.kind() != ErrorKind::Interrupted {
-                    return Err(Failure::of_reading(e));
-                }
-            }
+            Err(e) if e.kind() == ErrorKind::Interrupted => {}
+            Err(e) => return Err(Failure::of_reading(e)),
         }
         if shows_progress && turn % STRIDE == STRIDE - 1 {
-            let lines = session.tally.lines;
-            let _ = writeln!(errors, "{PROGRAM}: {lines} lines");
+            let _ = writeln!(errors, "{PROGRAM}: {} lines", session.tally.lines);
         }
     }
     Err(Failure::Other("the input has too many pieces"))

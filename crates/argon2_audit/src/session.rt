@@ -3,13 +3,14 @@
 ghost use Rattle.std.specs.Prelude.{◌≡◌, ◌≤◌, IsTrue, vec_len};
 ghost use Rattle.argon2_audit.specs.declared.session.TheConstants.{LONGEST};
 
-use crate::field::{Field, first};
+use crate::field::Field;
 use crate::finding::{Finding, found};
 use crate::limits::Options;
 use crate::report::{Remarks, remark_on};
 use crate::seen::Seen;
 use crate::tally::Tally;
 use argon2_failure::Failure;
+use memchr::memchr;
 use std::alloc::{AllocError, Global};
 
 /// The most bytes that a line may have, without its line feed.
@@ -74,17 +75,15 @@ impl Session {
         ensures lines { result.tally.lines ≡ 0 }
         ensures none { IsBefore options result [] [] }
     {
-        let tally = Tally {
-            lines: 0,
-            counts: [0; 10],
-            short_salts: 0,
-            equal_salts: 0,
-        };
-        let seen = Seen::new(alloc);
         Session {
             options,
-            tally,
-            seen,
+            tally: Tally {
+                lines: 0,
+                counts: [0; 10],
+                short_salts: 0,
+                equal_salts: 0,
+            },
+            seen: Seen::new(alloc),
             line: Line {
                 bytes: Vec::new(alloc),
                 is_long: false,
@@ -101,15 +100,13 @@ impl Session {
             → IsBefore options self.old all bytes.now → IsBefore options self.new all []) }
     {
         let mut rest = bytes;
-        'lines: loop {
-            let end = first(rest, b'\n');
+        'lines: while let Some(end) = memchr(b'\n', rest) {
             self.line.extend(&rest[..end])?;
-            if end == rest.len() {
-                return Ok(());
-            }
             self.end_line(remarks)?;
             rest = &rest[end + 1..];
         }
+        self.line.extend(rest)?;
+        Ok(())
     }
 
     /// Ends the last line if it has no line feed.

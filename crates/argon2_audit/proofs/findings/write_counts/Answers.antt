@@ -1,8 +1,8 @@
-use Rattle.argon2_audit.proofs.Objects.{then}
+use Rattle.std.proofs.lemmas.Result.{on_ok_weaker}
 use Rattle.argon2_audit.proofs.findings.write_counts.Goals as goal
 
 pub returns : goal.returns
-returns c = then c.write_object.result c.write_object.ensures (λ all. rw (
+returns c = on_ok_weaker c.write_object.result (λ all. rw (
   ← c.count.ensures,
   ← c.count-2.ensures,
   ← c.count-3.ensures,
@@ -13,4 +13,4 @@ returns c = then c.write_object.result c.write_object.ensures (λ all. rw (
   ← c.count-8.ensures,
   ← c.count-9.ensures,
   ← c.count-10.ensures,
-) all)
+) all) c.write_object.ensures

@@ -4,7 +4,7 @@ use Rattle.std.specs.Io.KnownBytes.{Keeps}
 use Rattle.argon2_audit.specs.Audit.{IsBefore}
 use Rattle.argon2_audit.specs.declared.limits.Options.{Options}
 use Rattle.argon2_audit.specs.declared.session.Session.{Session}
-use Rattle.argon2_audit.proofs.run.session_of.Goals.{in-Ok+in_ok-add-in-Ok, in-Err+else-ne, then-shows_progress+then-turn, else-shows_progress}
+use Rattle.argon2_audit.proofs.run.session_of.Goals.{in-Ok+in_ok-add-in-Ok, in-Err, then-shows_progress+then-turn, else-shows_progress}
 use Rattle.argon2_audit.proofs.run.session_of.Goals as goal
 
 more : {options : Options} {session : Session} {read : List ℕ} (piece : List ℕ) → IsBefore options session read []
@@ -34,7 +34,7 @@ pieces-preserved g c =
             ),
             quiet,
           )
-      | in-Err+else-ne w ↦
+      | in-Err w ↦
           rw w.session-is (
             omega arith,
             search rules,

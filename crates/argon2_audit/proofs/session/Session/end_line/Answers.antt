@@ -1,10 +1,7 @@
-use Rattle.std.proofs.Common.{◌≡◌, ◌∷◌, Bool, Option, Some, None, arith, refl}
-use Rattle.argon2_audit.specs.Finding.{some_passes, salt_of}
+use Rattle.std.proofs.Common.{◌∷◌, arith, refl}
+use Rattle.std.proofs.lemmas.List.Elements.{All-nil}
+use Rattle.std.proofs.Math.Path.{fun_ext}
 use Rattle.argon2_audit.proofs.session.Session.end_line.Goals as goal
-
-same_passes : {A : Type 0} (p q : A → Bool) (o : Option A) → ((x : A) → p x ≡ q x) → some_passes p o ≡ some_passes q o
-same_passes p q None same = refl
-same_passes p q (Some x) same = same x
 
 pub returns-clause-ended : goal.returns-clause-ended
 returns-clause-ended g c = λ options lines rest at.
@@ -15,14 +12,13 @@ returns-clause-ended g c = λ options lines rest at.
       same = at.same;
       findings = finding ∷ at.findings;
       counted = record {
-        feeds = rw at.feed known.feeds;
-        found = (rw at.same at (c.end-finding.ensures.finding rest at.read), known.found);
+        found = ((at.feed, rw at.same at (c.end-finding.ensures.finding rest at.read)), known.found);
         all = omega (arith, known.all, counts.lines);
         classes = λ n. rw (counts.classes n, known.classes n, c.class.ensures, at.same) refl;
         short_salts = rw (counts.short_salts, known.short_salts, c.has_short_salt.ensures, at.same) refl;
-        equal_salts = rw (counts.equal_salts, known.equal_salts, texts.equal, same_passes _ _ (salt_of finding) at.salts) refl;
+        equal_salts = rw (counts.equal_salts, known.equal_salts, texts.equal, fun_ext at.salts) refl;
       };
       salts = λ salt. rw (texts.kept salt, at.salts salt) refl;
-      feed = refl;
+      feed = All-nil _;
       read = c.end-finding.ensures.next;
     }

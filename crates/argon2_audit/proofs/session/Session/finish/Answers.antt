@@ -1,6 +1,6 @@
-use Rattle.std.proofs.Common.{arith, rules, ◌≡◌, ◌∙◌, ◌<◌, ◌++◌, Bool, true, false, List, [], ◌∷◌, ℕ, length, MatchBool, vec_len, ◌==◌, sym, ap, append-nil, inl, inr}
-use Rattle.argon2_audit.specs.Audit.{IsJoined, joined}
-use Rattle.argon2_audit.proofs.Objects.{then}
+use Rattle.std.proofs.Common.{arith, rules, ◌≡◌, ◌∙◌, ◌<◌, ◌++◌, Bool, true, false, List, [], ◌∷◌, ℕ, length, MatchBool, vec_len, ◌==◌, refl, sym, ap, append-nil, inl, inr}
+use Rattle.std.proofs.lemmas.Result.{on_ok_weaker}
+use Rattle.argon2_audit.specs.Audit.{joined}
 use Rattle.argon2_audit.proofs.session.Session.finish.Goals as goal
 
 no_byte : (is_long : Bool) (items line : List ℕ) → length items ≡ 0
@@ -14,21 +14,20 @@ of_none : (is_long : Bool) (items line : List ℕ) → MatchBool is_long ((lengt
 of_none true items line long none = absurd (let past = long.1 in let empty = ap length none in omega arith)
 of_none false items line is none = ap length (is ∙ none)
 
-whole : {bytes : List ℕ} (lines : List (List ℕ)) → bytes ≡ joined lines → IsJoined bytes lines
-whole [] is = is
-whole (last ∷ earlier) is = inl is
-
 pub returns-then-is_empty : goal.returns-then-is_empty
 returns-then-is_empty g c = λ options bytes b.
     let none = no_byte _ _ b.rest (search rules) b.at.read in
-    (b.lines, b.at.findings, whole b.lines (b.split ∙ rw none (append-nil (joined b.lines))), b.at.counted)
+    (b.lines, b.at.findings, inl (b.split ∙ rw none (append-nil (joined b.lines))), b.at.counted)
 
 pub returns : goal.returns
-returns g c = then c.end_line.result c.end_line.ensures.ended (λ ended options bytes b.
+returns g c = on_ok_weaker c.end_line.result (λ ended options bytes b.
     let after = ended options b.lines b.rest b.at in (
       b.rest ∷ b.lines,
       after.findings,
       inr (
+        b.rest,
+        b.lines,
+        refl,
         b.split ∙ ap (λ l. joined b.lines ++ l) (append-nil b.rest),
         λ none. absurd (
             let items = of_none _ _ b.rest b.at.read none in
@@ -37,3 +36,4 @@ returns g c = then c.end_line.result c.end_line.ensures.ended (λ ended options 
       ),
       after.counted,
     ))
+    c.end_line.ensures.ended
