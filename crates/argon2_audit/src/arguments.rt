@@ -10,11 +10,11 @@ use std::alloc::{AllocError, Global};
 const ABOUT: &str = "\
 Says which stored texts of passwords are below a policy.
 
-It reads the files one after another, or standard input if none is named or one is `-`, a text a line; of a
-line with colons, as a password file has them, the text is the second field. It writes a remark for each
-thing that keeps a line from being sound, then how many lines there are of each class, and how many of each
-algorithm, version and costs. Lines are named by their numbers, counted through all files, and nothing of
-their names, salts and hashes is written.";
+It reads the files one after another, or standard input if none is named or one is `-`. Each line has one
+stored text; in a line with colons, such as one of a password file, it is the second field. It writes a remark
+for each thing that keeps a line from being sound, then how many lines there are of each class, and how many
+of each algorithm, version and costs. Lines are named by their numbers, counted through all files, and nothing
+of their names, salts and hashes is written.";
 
 const NOTES: &str = "\
 Example: argon2-audit --min-m 65536 --allow-other /etc/shadow
@@ -22,19 +22,19 @@ Example: argon2-audit --min-m 65536 --allow-other /etc/shadow
 A line is sound if its text is in the grammar, names an algorithm and a version of Argon2, has valid
 parameters, a salt and a hash, and has nothing below the policy. A line may have 4096 bytes. A byte order
 mark at the start of a line and a carriage return at its end are skipped, and so is what Django, Dovecot and
-LDAP servers put before a text: argon2, {argon2}, {ARGON2}, {ARGON2I}, {ARGON2ID} and {CRYPT}. Texts of other
-schemes are named by how they begin: bcrypt, scrypt, PBKDF2, yescrypt, sha256crypt, sha512crypt, md5crypt,
-and digests of Django and LDAP. A line `scrypt:N:R:P$..` or `pbkdf2:sha256:N$..` is a text of Werkzeug
-without a name. A text that begins with ! or * is locked. An empty text is never sound: some
+LDAP servers put before a text: argon2, {argon2}, {ARGON2}, {ARGON2I}, {ARGON2ID}, {CRYPT} and {crypt}. Texts
+of other schemes are named by how they begin: bcrypt, scrypt, PBKDF2, yescrypt, sha256crypt, sha512crypt,
+md5crypt, and digests of Django and LDAP. A line `scrypt:N:R:P$..` or `pbkdf2:sha256:N$..` (also sha1, sha512)
+is a text of Werkzeug without a name. A text that begins with ! or * is locked. An empty text is never sound: some
 systems take any password for it. All salts are kept, to find equal ones.
 
 The status is 0 if each line is sound and no two salts are equal, 1 if that is not so, 2 if the arguments are
 wrong, and 3 if a file, reading, writing or a request for memory fails, which standard error says.";
 
-/// The options that words spell, of equal ones the last, and the names of files, `-` if there are none.
+/// Reads the options, of which the last counts if one is given twice, and the names of files, `-` if there are none.
 ///
 /// # Errors
-/// A page that the words ask for, what is wrong with them, and out of memory.
+/// The page that the words ask for, what is wrong with them, and out of memory.
 pub fn parsed<'a>(alloc: Global, words: &'a [String]) -> Result<(Options, Vec<&'a str>), Error> {
     let mut command = command(alloc)?;
     let matches = command.try_get_matches_from_mut(words)?;
@@ -130,7 +130,7 @@ fn with_lines<'a>(alloc: Global, command: Command<'a>) -> Result<Command<'a>, Al
 // With what divides a line, what is written, and what is read.
 fn with_output<'a>(alloc: Global, command: Command<'a>) -> Result<Command<'a>, AllocError> {
     let separator = arg!(in alloc; --separator <C> "The one byte between two fields");
-    let json = arg!(in alloc; --json "Write one JSON object: findings by line, counts, table");
+    let json = arg!(in alloc; --json "Write one JSON object: findings by line, counts, schemes, table");
     let quiet = arg!(in alloc; --quiet "Write nothing; the status says all");
     let files = arg!(in alloc; [FILE] ... "Files with a text a line, `-` for standard input");
     command

@@ -21,7 +21,7 @@ pub struct Kind {
     pub p_cost: u32,
 }
 
-/// What a stored text shows, beside its parameters that are not costs and the bytes of its hash.
+/// What an audit takes from a stored text: its algorithm, version and costs, its salt, and the length of its hash.
 #[derive(Drop)]
 pub struct Entry {
     pub kind: Kind,

@@ -29,10 +29,10 @@ Example: argon2-calibrate --lanes 4 0.5 1024
 The status is 0 if the costs are written, 2 if the arguments are wrong, and 3 if the clock, writing or a
 request for memory fails, which standard error says.";
 
-/// The options that words spell, of equal ones the last.
+/// Reads the options, of which the last counts if one is given twice.
 ///
 /// # Errors
-/// A page that the words ask for, what is wrong with them, and out of memory.
+/// The page that the words ask for, what is wrong with them, and out of memory.
 pub fn parsed(alloc: Global, words: &[String]) -> Result<Options, Error>
     ensures { IfOk result ArePossible }
 {

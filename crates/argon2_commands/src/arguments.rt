@@ -1,4 +1,4 @@
-//! The words of a command line, and what is written if they ask for no work.
+//! The words of a command line, and what is answered to those that ask for a page or are wrong.
 
 ghost use Rattle.std.specs.Prelude.{◌≡◌, ◌⊎◌};
 ghost use Rattle.std.specs.Io.KnownBytes.{Keeps};

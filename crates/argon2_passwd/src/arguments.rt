@@ -26,8 +26,8 @@ The password is the first line of standard input. The line's end, LF or CR LF, i
 most 4096 bytes.
 
   hash                write a text of the password, with a salt of 16 bytes from the system
-  check TEXT          accept or refuse the password; write \"text is current\" if it is accepted and TEXT
-                      was made under the parameters, and \"text is renewed\" and a new text if it was not
+  check TEXT          accept or refuse the password; if it is accepted, write \"text is current\" if TEXT was
+                      made under the parameters, and else \"text is renewed\" and a new text
   register FILE NAME  give a new name, which has no line break and no colon, a text of the password
   verify FILE NAME    accept or refuse the password; write \"text is current\" if it is accepted, or
                       \"text is renewed\" once FILE has a new text in place of one under other parameters
@@ -51,10 +51,10 @@ parameters are above the bound, or the name is taken, unknown or not allowed. It
 wrong, and 3 if a file, a stream, random bytes or a request for memory fails. If it is not 0, standard error
 says why.";
 
-/// What words ask for, of equal options the last.
+/// Reads the command with its options, of which the last counts if one is given twice.
 ///
 /// # Errors
-/// A page that the words ask for, what is wrong with them, and out of memory.
+/// The page that the words ask for, what is wrong with them, and out of memory.
 pub fn parsed<'a>(alloc: Global, words: &'a [String]) -> Result<Command<'a>, Error> {
     let mut command = command(alloc)?;
     let matches = command.try_get_matches_from_mut(words)?;

@@ -3,8 +3,8 @@
 use crate::stopwatch::Stopwatch;
 use argon2_failure::Failure;
 
-/// A machine that takes so many nanoseconds a block and pass, and so many microseconds beside. So many times the
-/// last hash of three takes too long by a microsecond.
+/// A machine on which a hash takes `a_block` nanoseconds for each block and pass, and `once` microseconds more. In the
+/// first `busy` measurements the last of three hashes takes a microsecond more than a machine that is not busy may.
 #[derive(Drop)]
 pub(crate) struct Even {
     pub(crate) a_block: u64,

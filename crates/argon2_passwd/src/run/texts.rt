@@ -1,4 +1,4 @@
-//! Texts of passwords, of which the program keeps none.
+//! Makes texts of passwords, and checks passwords by texts. No file is opened.
 
 ghost use Rattle.std.specs.Prelude.{◌≡◌, Ok, IfErr, IfOk, string_bytes};
 ghost use Rattle.argon2.specs.Made.{IsFresh};
@@ -55,7 +55,7 @@ pub fn check<G: Rng, R: BufRead>(
     Ok(reply(alloc, accepted, &hash)?)
 }
 
-// What a text does with a password, and what it is then.
+// Checks a password by a text, and returns what was done and the text to keep.
 fn login<G: Rng>(
     policy: &Policy<'_>,
     rng: &mut G,
@@ -76,7 +76,7 @@ fn login<G: Rng>(
     }
 }
 
-// What is written of it.
+// What `check` writes of a login that is accepted.
 fn reply(alloc: Global, accepted: Accepted, hash: &PasswordHash) -> Result<String, AllocError>
     ensures { IfOk result (λ text. string_bytes text ≡ login_text accepted (phc_of hash.now)) }
 {
