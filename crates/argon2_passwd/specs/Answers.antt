@@ -1,7 +1,7 @@
 -- What the program answers.
-use Rattle.std.specs.Prelude.{◌≡◌, ◌⊎◌, ⊤, ℕ, String, string_bytes, ◌==◌, false, Bool, ◌||◌, ◌+◌, IsOk, IsTrue, List, [], ◌∷◌, ◌++◌, if◌then◌else◌, Option, Some, None, IfSome, Result, Ok, Err, IfErr, IfOk, OnOk}
+use Rattle.std.specs.Prelude.{◌≡◌, ◌⊎◌, ⊤, ℕ, String, string_bytes, ◌==◌, false, Bool, ◌+◌, IsOk, IsTrue, List, [], ◌∷◌, ◌++◌, if◌then◌else◌, Option, Some, None, IfSome, Result, Ok, Err, IfErr, IfOk, OnOk}
 use Rattle.std.specs.Io.BufRead.{drop_through}
-use Rattle.std.specs.List.{AllZip, after_first, before_first, list_any}
+use Rattle.std.specs.List.{AllZip, after_first, before_first}
 use Rattle.std.specs.Option.{option_map}
 use Rattle.std.specs.Io.KnownBytes.{Appends, Keeps}
 use Rattle.std.specs.Str.{is_utf8}
@@ -21,11 +21,12 @@ use Rattle.argon2_accounts.specs.declared.error.AccountError.{AccountError}
 use Rattle.argon2_prefixes.specs.Prefixes.{bare}
 use Rattle.argon2_store.specs.AccountFile.{AddsOrNone, Call, HasNames, IsReady, Serves, Stays, error_of, database_of, terms_of}
 use Rattle.argon2_store.specs.Adding.{IsFirstRefused}
-use Rattle.argon2_store.specs.Rows.{lines_of}
+use Rattle.argon2_store.specs.Rows.{FitLines, breaks_line, lines_of}
 use Rattle.argon2_store.specs.Table.{IsHonest}
 use Rattle.argon2_store.specs.declared.account_file.AccountFile.{AccountFile}
 use Rattle.argon2_store.specs.declared.error.FileError.{FileError}
 use Rattle.argon2_store.specs.declared.error.FileError.TheVariants.{Account, Io}
+use Rattle.argon2_store.specs.declared.view.View.TheVariants as views
 use Rattle.argon2_passwd.specs.Asked.{Asked, Choices, bound_of, check, choices_of, edit, hash, import, show, verify}
 use Rattle.argon2_passwd.specs.declared.command.Edit.{Edit}
 use Rattle.argon2_passwd.specs.declared.command.Edit.TheVariants.{Register, Change, Set, Remove}
@@ -113,9 +114,9 @@ AreUnread Remove input = ⊥
 AreUnread Change input = HasNone input ⊎ HasNone (behind input)
 AreUnread act input = HasNone input
 
--- the name of a new text would break the lines that show it
+-- the name of a new text would break its line in an export
 abbrev pub breaks_lines : Edit → List ℕ → Bool
-breaks_lines Register name = list_any (λ b. b == 10) name || list_any (λ b. b == 58) name
+breaks_lines Register name = breaks_line views.Texts name
 breaks_lines act name = false
 
 -- the call of a change, but for its answer
@@ -293,7 +294,7 @@ module _ {S : Type 0} (g : Ghosts S) (Holds : List ℕ → List ℕ → Type 0) 
   IsAnswered (edit choices path act name) input old new Closed =
       IsEdited choices path act name (Ok tt) input Closed × Keeps old new
   IsAnswered (show choices path view) input old new Closed =
-      IsRead choices path None (λ names. Appends old new (lines_of view names)) Closed
+      IsRead choices path None (λ names. Appends old new (lines_of view names) × FitLines view names) Closed
   IsAnswered (import choices path any_text) input old new Closed =
       IsImported choices path any_text (λ es. AddsOrNone es (Ok tt)) input Closed × Keeps old new
 

@@ -40,6 +40,9 @@ pub enum Failure {
     /// The file with the accounts can't be written.
     #[error(transparent)]
     File(FileError),
+    /// A name in the file breaks its line.
+    #[error("a name has a line break or a colon")]
+    BrokenLine,
     /// The file with the secret can't be read.
     #[error("the secret's file can't be read")]
     Secret,
@@ -90,6 +93,19 @@ pub fn of_reading(error: &io::Error) -> Failure
         Failure::Memory(AllocError)
     } else {
         Failure::Input
+    }
+}
+
+/// The failure of writing the lines of a file; that a name breaks its line is reported as that.
+pub fn of_lines(error: &io::Error) -> Failure
+    ensures name { error_kind error.now ≡ ErrorKind.InvalidData → result ≡ Failure.BrokenLine }
+    ensures output { error_kind error.now ≢ ErrorKind.InvalidData → result ≡ Failure.Output }
+    ensures trouble { status_of result ≡ 3 }
+{
+    if error.kind() == ErrorKind::InvalidData {
+        Failure::BrokenLine
+    } else {
+        Failure::Output
     }
 }
 

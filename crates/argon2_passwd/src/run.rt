@@ -68,7 +68,9 @@ fn fail<E: Write>(errors: &mut E, command: &Command<'_>, failure: &Failure) -> u
     ensures one { (result ≡ 1) ⊎ (result ≡ 3) }
 {
     let file = match failure {
-        Failure::Unfit(_) | Failure::Unopened(_) | Failure::File(_) => command.file(),
+        Failure::Unfit(_) | Failure::Unopened(_) | Failure::File(_) | Failure::BrokenLine => {
+            command.file()
+        }
         Failure::Secret | Failure::SecretLength => command.options().secret_file,
         _ => None,
     };

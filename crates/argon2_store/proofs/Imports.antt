@@ -73,7 +73,7 @@ pub use Rattle.argon2_store.specs.AccountFile.{Runs, Serves, Stays, error_of, da
 pub use Rattle.argon2_store.specs.Adding.{AddsAll, AddsName, WritesAll, entry_of}
 pub use Rattle.argon2_store.specs.Errors.{IsOfDatabase, answered, read_of, unwritten}
 pub use Rattle.argon2_store.specs.Opening.{AreUnharmed, FoundIn, HoldsNames, IsAfterOpens, IsTableOf, IsUnstarted, LeavesNames, MayHave, StandsFor, account}
-pub use Rattle.argon2_store.specs.Rows.{AreTexts, HasNoneAfter, IsAccount, IsAfterAll, IsFoundAs, line, lines, lines_of, row_of, rows_of}
+pub use Rattle.argon2_store.specs.Rows.{AreTexts, FitLines, HasNoneAfter, IsAccount, IsAfterAll, IsFoundAs, breaks_line, line, lines, lines_of, row_of, rows_of}
 pub use Rattle.argon2_store.specs.Runs.{AreEventsOf, Did, Does, EndsRun, FileCall, IsFoundAfter, IsLate, IsLateEvent, IsLateOf, IsShutOut, Run, add_all, added, event_of, events_of}
 pub use Rattle.argon2_store.specs.Runs.{login, on_name, over_file, reads}
 pub use Rattle.argon2_store.specs.Table.{Changes, HasBegun, HasNames, HasSome, Holds, IsUnwritten, IsHonest, IsKept, IsLong, IsOpen, KeepsNames, CrashLeaves, Sees, StaysQuiet}

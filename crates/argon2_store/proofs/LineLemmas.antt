@@ -1,7 +1,8 @@
 -- Rows of names, one by one, and their lines.
-use Rattle.argon2_store.proofs.Imports.{◌≡◌, ℕ, List, [], ◌∷◌, ◌++◌, map, append_assoc, append-nil, Option, Some, true, false, refl, sym, ap, subst, ◌∙◌, entries}
-use Rattle.argon2_store.proofs.Imports.{Row, Texts, plain, Index, Forward, order_of, sought, Advances, with_cursor, line}
+use Rattle.argon2_store.proofs.Imports.{◌≡◌, ℕ, List, [], ◌∷◌, ◌++◌, map, append_assoc, append-nil, All, Option, Some, true, false, refl, sym, ap, subst, ◌∙◌, entries}
+use Rattle.argon2_store.proofs.Imports.{Row, Texts, plain, Index, Forward, order_of, sought, Advances, with_cursor, FitLines, breaks_line, line}
 use Rattle.argon2_store.proofs.Imports.{lines, lines_of, row_of, rows_of}
+use Rattle.std.proofs.lemmas.List.Elements.{All-nil, All-push, All-same}
 use Rattle.std.proofs.KnownBytes.{Appends-kept, Appends-nil, Appends-trans}
 use Rattle.std.specs.Io.KnownBytes.{Appends, Keeps}
 use Rattle.sqlite_trees.specs.View.{View as Shown}
@@ -22,6 +23,10 @@ pub lines-append : (view : View) (es fs : List (List ℕ × List ℕ)) → lines
 lines-append view [] fs = refl
 lines-append view (e ∷ es) fs = ap (λ l. line view e ++ l) (lines-append view es fs) ∙ sym (append_assoc (line view e) _ _)
 
+-- the name fits its line
+abbrev pub Fits : View → List ℕ × List ℕ → Type 0
+Fits view e = breaks_line view e.0 ≡ false
+
 -- the names of some rows are written, and the cursor has the rest
 pub record IsWriting (view : View) (first now : Shown) (names : Texts) (old new : Option (List ℕ)) : Type 0 where
   pub done : List (List ℕ × List ℕ)
@@ -29,6 +34,7 @@ pub record IsWriting (view : View) (first now : Shown) (names : Texts) (old new 
   pub all : entries names ≡ done ++ left
   pub rows : now.cursors 0 ≡ Some (map row_of left)
   pub written : Appends old new (lines view done)
+  pub fit : All (Fits view) done
 
 pub begin_lines : (view : View) (first now : Shown) (names : Texts) (out : Option (List ℕ)) → first.shape 0 ≡ Index plain
     → now ≡ with_cursor first 0 (sought (order_of (first.shape 0)) Forward [] (first.trees 0)) → first.trees 0 ≡ rows_of names
@@ -39,12 +45,14 @@ begin_lines view first now names out shape is rows = record {
   all = refl;
   rows = rw (is, shape) (ap Some (from_key-none plain (first.trees 0) ∙ rows));
   written = Appends-nil out;
+  fit = All-nil (Fits view);
 }
 
 -- one row more
 pub next_row : (view : View) (first now next : Shown) (names : Texts) (old mid new : Option (List ℕ)) (row : Row)
     → IsWriting view first now names old mid → Advances now next 0 row true
-    → ((e : List ℕ × List ℕ) → row ≡ row_of e → Appends mid new (line view e)) → IsWriting view first next names old new
+    → ((e : List ℕ × List ℕ) → row ≡ row_of e → Appends mid new (line view e) × Fits view e)
+    → IsWriting view first next names old new
 next_row view first now next names old mid new row writing moves wrote =
     let (e, fs, cut, at, rest) = next_name writing.left row moves.0 (sym writing.rows ∙ moves.1) in
     record {
@@ -54,7 +62,8 @@ next_row view first now next names old mid new row writing moves wrote =
       rows = ap (λ (w : Shown). w.cursors 0) moves.2 ∙ ap Some rest;
       written = subst (Appends old new) (sym (lines-append view writing.done (e ∷ [])
           ∙ ap (λ l. lines view writing.done ++ l) (append-nil (line view e))))
-          (Appends-trans old mid new _ _ writing.written (wrote e at));
+          (Appends-trans old mid new _ _ writing.written (wrote e at).0);
+      fit = All-push (Fits view) writing.done e writing.fit (wrote e at).1;
     }
 
 pub its_name : (view : View) (first now next : Shown) (names : Texts) (old mid : Option (List ℕ)) (row : Row)
@@ -65,8 +74,10 @@ its_name view first now next names old mid row writing moves =
 -- the last row was written, and the output is flushed
 pub all_lines : (view : View) (first now next : Shown) (names : Texts) (old mid new : Option (List ℕ)) (row : Row)
     → IsWriting view first now names old mid → Advances now next 0 row false → Keeps mid new
-    → Appends old new (lines_of view names)
+    → Appends old new (lines_of view names) × FitLines view names
 all_lines view first now next names old mid new row writing ended kept =
     let none = no_more writing.left (sym writing.rows ∙ ended.0) in
-    let all : entries names ≡ writing.done = writing.all ∙ ap (λ l. writing.done ++ l) none ∙ append-nil writing.done in
-    subst (λ es. Appends old new (lines view es)) (sym all) (Appends-kept old mid new _ writing.written kept)
+    let all : entries names ≡ writing.done = writing.all ∙ ap (λ l. writing.done ++ l) none ∙ append-nil writing.done in (
+      subst (λ es. Appends old new (lines view es)) (sym all) (Appends-kept old mid new _ writing.written kept),
+      All-same (Fits view) (entries names) writing.done all writing.fit,
+    )

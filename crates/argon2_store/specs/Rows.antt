@@ -1,7 +1,8 @@
 -- How a tree of rows holds names with their texts.
-use Rattle.std.specs.Prelude.{◌≡◌, ℕ, Bool, true, false, List, [], ◌∷◌, ◌++◌, map, Option, Some, None, IsUtf8}
+use Rattle.std.specs.Prelude.{◌≡◌, ◌==◌, ◌||◌, ℕ, Bool, true, false, List, [], ◌∷◌, ◌++◌, map, All, Option, Some, None, IsUtf8}
 use Rattle.std.specs.Cmp.Lexicographic.{slice_cmp}
 use Rattle.std.specs.FinMap.{entries, get}
+use Rattle.std.specs.List.{list_any}
 use Rattle.std.specs.Ordering.{nat_cmp}
 use Rattle.std.specs.declared.cmp.Ordering.TheVariants.{Less}
 use Rattle.sqlite_value.specs.declared.value.Value.TheVariants.{Text}
@@ -54,3 +55,12 @@ lines view (e ∷ es) = line view e ++ lines view es
 
 abbrev pub lines_of : View → Named → List ℕ
 lines_of view names = lines view (entries names)
+
+-- a line of the name would read as that of another: it has a line break, or a colon that would end it before its text
+abbrev pub breaks_line : View → List ℕ → Bool
+breaks_line Names name = list_any (λ b. b == 10) name
+breaks_line Texts name = list_any (λ b. b == 10) name || list_any (λ b. b == 58) name
+
+-- none of the names breaks its line
+abbrev pub FitLines : View → Named → Type 0
+FitLines view names = All (λ e. breaks_line view e.0 ≡ false) (entries names)

@@ -13,7 +13,7 @@ ghost use Rattle.argon2.specs.NamedTexts.{IsText};
 ghost use Rattle.argon2_base.specs.declared.error.password_hash.Error.TheVariants.{EncodingInvalid};
 ghost use Rattle.argon2_store.specs.Adding.{entry_of};
 ghost use Rattle.argon2_store.specs.Errors.{IsOfDatabase, answered, read_of};
-ghost use Rattle.argon2_store.specs.Rows.{lines_of};
+ghost use Rattle.argon2_store.specs.Rows.{FitLines, lines_of};
 ghost use Rattle.argon2_store.specs.declared.error.OpenError.TheVariants.{DamagedLog, Row as NoAccount};
 
 use crate::error::{FileError, OpenError};
@@ -339,7 +339,9 @@ impl<'key, S: Store> AccountFile<'key, S> {
     }
 
     /// Writes a line for each name, in the order of the names' bytes, and flushes `output`. The inner result is
-    /// that of writing; after its error some lines may be written.
+    /// that of writing; after its error some lines may be written. A name that
+    /// [breaks its line](View::breaks_line) ends the writing with an error of the kind
+    /// [`InvalidData`](io::ErrorKind::InvalidData).
     ///
     /// No clause says that `output` is flushed.
     ///
@@ -353,7 +355,8 @@ impl<'key, S: Store> AccountFile<'key, S> {
         ensures reads { Reads result self.old self.new }
         ensures shows { (names : Named) → HasNames self.old names → IfOk result (λ done.
             IsHonest S.Store (database_of self.new) → OnOk done
-            (Appends (W.contents output.old) (W.contents output.new) (lines_of view names))) }
+            (Appends (W.contents output.old) (W.contents output.new) (lines_of view names)
+            × FitLines view names)) }
         ensures closed { IsHonest S.Store (database_of self.old) → IsClosed self.old →
             output.new ≡ output.old }
     {

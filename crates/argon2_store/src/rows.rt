@@ -11,7 +11,7 @@ ghost use Rattle.sqlite_trees.specs.declared.error.StoreError.TheVariants.{OutOf
 ghost use Rattle.sqlite_trees.specs.declared.store.Shape.TheVariants.{Index};
 ghost use Rattle.argon2_accounts.specs.Accounts.{Texts as Named};
 ghost use Rattle.argon2_store.specs.Errors.{IsOfDatabase};
-ghost use Rattle.argon2_store.specs.Rows.{AreTexts, IsAccount, IsFoundAs, line, lines_of, row_of, rows_of};
+ghost use Rattle.argon2_store.specs.Rows.{AreTexts, FitLines, IsAccount, IsFoundAs, breaks_line, line, lines_of, row_of, rows_of};
 ghost use Rattle.argon2_store.specs.Table.{HasFailed, HasNames, IsUnwritten, IsHonest, IsOpen, Sees, StaysQuiet, Writes, done_of};
 ghost use Rattle.argon2_store.specs.declared.error.OpenError.TheVariants.{Row as NoAccount};
 
@@ -24,7 +24,7 @@ use sqlite_value::order::is_same;
 use sqlite_value::row::Row;
 use sqlite_value::value::ValueRef;
 use std::alloc::{AllocError, Global};
-use std::io::{self, Write};
+use std::io::{self, ErrorKind, Write};
 use std::mem;
 
 // The tree of the accounts.
@@ -167,18 +167,22 @@ pub(crate) fn load<S: Store>(store: &mut S, row: &mut Row, last: &mut Row) -> Re
 
 // Writes the line of a row, if it has two texts and nothing else.
 fn write_line<W: Write>(row: &Row, view: View, output: &mut W) -> Option<io::Result<()>>
-    ensures { (e : List ℕ × List ℕ) → row.now ≡ row_of e → IsSomeAnd result (λ done.
-        OnOk done (Appends (W.contents output.old) (W.contents output.new) (line view e))) }
+    ensures { (e : List ℕ × List ℕ) → row.now ≡ row_of e → IsSomeAnd result (λ done. OnOk done
+        (Appends (W.contents output.old) (W.contents output.new) (line view e)
+        × (breaks_line view e.0 ≡ false))) }
 {
     let (name, text) = texts_in(row)?;
     Some(write_texts(name, text, view, output))
 }
 
-// Writes the line of a name with its text.
+// Writes the line of a name with its text, unless the name breaks it.
 fn write_texts<W: Write>(name: &[u8], text: &[u8], view: View, output: &mut W) -> io::Result<()>
-    ensures { (e : List ℕ × List ℕ) → name.now ≡ e.0 → text.now ≡ e.1 →
-        OnOk result (Appends (W.contents output.old) (W.contents output.new) (line view e)) }
+    ensures { OnOk result (Appends (W.contents output.old) (W.contents output.new)
+        (line view (name.now, text.now)) × (breaks_line view name.now ≡ false)) }
 {
+    if view.breaks_line(name) {
+        return Err(io::Error::new(ErrorKind::InvalidData, "a name breaks its line"));
+    }
     output.write_all(name)?;
     if let View::Texts = view {
         output.write_all(b":")?;
@@ -187,7 +191,7 @@ fn write_texts<W: Write>(name: &[u8], text: &[u8], view: View, output: &mut W) -
     output.write_all(b"\n")
 }
 
-// Writes a line for each row.
+// Writes a line for each row, up to the first whose name breaks it.
 pub(crate) fn write_rows<S: Store, W: Write>(
     store: &mut S,
     row: &mut Row,
@@ -197,7 +201,8 @@ pub(crate) fn write_rows<S: Store, W: Write>(
     requires { IsHonest S.Store store.old → (S.Store.view store.old).shape 0 ≡ Index plain }
     ensures shows { (names : Named) → AreTexts names → Sees (S.Store.view store.old) names →
         IfOk result (λ done. IsHonest S.Store store.new → OnOk done
-        (Appends (W.contents output.old) (W.contents output.new) (lines_of view names))) }
+        (Appends (W.contents output.old) (W.contents output.new) (lines_of view names)
+        × FitLines view names)) }
     ensures reads { (names : Named) → AreTexts names →
         (IsHonest S.Store store.old → Sees (S.Store.view store.old) names) →
         Writes S.Store store.old store.new names names ⊥ (done_of result) }

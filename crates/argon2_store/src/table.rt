@@ -15,7 +15,7 @@ ghost use Rattle.sqlite_trees.specs.declared.store.Shape.TheVariants.{Index};
 ghost use Rattle.argon2_accounts.specs.Accounts.{Texts as Named, text_of};
 ghost use Rattle.argon2_store.specs.Adding.{AddsAll, AddsName, IsFirstRefused, WritesAll, entry_of};
 ghost use Rattle.argon2_store.specs.Errors.{IsOfDatabase};
-ghost use Rattle.argon2_store.specs.Rows.{AreTexts, HasNoneAfter, IsAfterAll, lines_of, rows_of};
+ghost use Rattle.argon2_store.specs.Rows.{AreTexts, FitLines, HasNoneAfter, IsAfterAll, lines_of, rows_of};
 ghost use Rattle.argon2_store.specs.declared.error.OpenError.TheVariants.{Row as NoAccount};
 ghost use Rattle.argon2_store.specs.Table.{Changes, HasBegun, HasFailed, HasNames, HasSome, IsUnwritten, IsHonest, IsKept, IsOpen, IsLong, Sees, StaysQuiet, Writes, changed, written_of};
 
@@ -275,7 +275,7 @@ impl<S: Store> Table<S> {
         }
     }
 
-    // Writes a line for each name.
+    // Writes a line for each name, up to the first that breaks it.
     pub(crate) fn write_lines<W: Write>(
         &mut self,
         view: View,
@@ -286,7 +286,8 @@ impl<S: Store> Table<S> {
             KeepsNames S.Store self.old.store self.new.store names result }
         ensures shows { (names : Named) → HasNames S.Store self.old.store names →
             IfOk result (λ done. IsHonest S.Store self.new.store → OnOk done
-            (Appends (W.contents output.old) (W.contents output.new) (lines_of view names))) }
+            (Appends (W.contents output.old) (W.contents output.new) (lines_of view names)
+            × FitLines view names)) }
     {
         match write_rows(&mut self.store, &mut self.row, view, output) {
             Ok(done) => Ok(done),

@@ -1,5 +1,8 @@
 //! What is written of accounts.
 
+ghost use Rattle.std.specs.Prelude.{◌≡◌};
+ghost use Rattle.argon2_store.specs.Rows.{breaks_line};
+
 /// What is written of accounts, a line for each name.
 #[derive(Clone, Copy)]
 pub enum View {
@@ -7,4 +10,17 @@ pub enum View {
     Names,
     /// The names with their texts: a name, a colon and a text.
     Texts,
+}
+
+impl View {
+    /// Whether the line of a name would read as that of another: the name has a line break, or a colon if its
+    /// text follows.
+    pub fn breaks_line(self, name: &[u8]) -> bool
+        ensures { result ≡ breaks_line self name.now }
+    {
+        match self {
+            View::Names => name.contains(&b'\n'),
+            View::Texts => name.contains(&b'\n') || name.contains(&b':'),
+        }
+    }
 }

@@ -9,7 +9,7 @@ ghost use Rattle.argon2_passwd.specs.Failures.{status_of};
 
 use super::{policy, secret, target, write_accepted};
 use crate::entries::{entries, read_all};
-use crate::failure::Failure;
+use crate::failure::{Failure, of_lines};
 use crate::options::Options;
 use crate::outside::Outside;
 use crate::passwords::password;
@@ -73,7 +73,7 @@ pub fn verify<P: Outside, R: BufRead, W: Write>(
     write_accepted(output, accepted)
 }
 
-/// Writes what a file has, a line for each name.
+/// Writes what a file has, a line for each name, up to the first that breaks it.
 pub fn show<P: Outside, W: Write>(
     alloc: Global,
     options: &Options<'_>,
@@ -97,7 +97,10 @@ pub fn show<P: Outside, W: Write>(
     let mut accounts = open(outside, &access)?;
     let written = accounts.write_lines(view, output);
     outside.close(accounts.into_store());
-    Ok(written??)
+    match written? {
+        Ok(()) => Ok(()),
+        Err(error) => Err(of_lines(&error)),
+    }
 }
 
 /// Adds all names and texts of the input, each a line, to a file, or none.

@@ -19,7 +19,7 @@ use crate::outside::Outside;
 use crate::passwords::password;
 use argon2::PasswordHash;
 use argon2_accounts::{AccountError, Policy};
-use argon2_store::{AccountFile, FileError};
+use argon2_store::{AccountFile, FileError, View};
 use rand_core::Rng;
 use sqlite_trees::store::Store;
 use std::alloc::Global;
@@ -72,12 +72,12 @@ pub fn edit<P: Outside, R: BufRead>(
     )??)
 }
 
-// Whether the name of a new text would break the lines that show it.
+// Whether the name of a new text would break its line in an export.
 fn breaks_lines(edit: Edit, name: &str) -> bool
     ensures { result ≡ breaks_lines edit name.now }
 {
     match edit {
-        Edit::Register => name.as_bytes().contains(&b'\n') || name.as_bytes().contains(&b':'),
+        Edit::Register => View::Texts.breaks_line(name.as_bytes()),
         _ => false,
     }
 }

@@ -1,4 +1,4 @@
-use Rattle.std.proofs.Common.{[], inl, inr}
+use Rattle.std.proofs.Common.{[], inl, inr, refl, sym, ◌∙◌}
 use Rattle.argon2_passwd.proofs.Served.{failed, failed_by, keeps_same, not_begun}
 use Rattle.argon2_passwd.proofs.run.accounts.show.Goals as goal
 
@@ -22,20 +22,20 @@ returns-in_err-written g c input =
     (λ refusal is. absurd (rw is at (reads opened.0 opened.2.has).of_file))
     (inr (_, (secret, [], c.in_ok-secret.ensures.ok, (_, _, opened, (λ names has. (reads names has, λ _. tt)), closed))))
 
-pub returns-in_err-branch : goal.returns-in_err-branch
-returns-in_err-branch g c input =
+pub returns : goal.returns
+returns g c input =
     let opened = rw c.as_slice.ensures.value at c.in_ok-accounts.ensures.ok in
     let secret = c.in_ok-secret.secret.items in
     let reads = c.write_lines-written.ensures.reads in
     let closed = rw c.into_store.ensures at c.close.ensures [] (c.in_ok-accounts.ensures.opened [] c.requires) in
-    failed _ _ c.from_residual-in_err-branch.ensures.1 (λ one. absurd cc)
+    failed _ _ refl (λ one. absurd (let never = sym c.of_lines.ensures.trouble ∙ one in cc))
     (inr (_, (secret, [], c.in_ok-secret.ensures.ok, (_, _, opened, (λ names has. (reads names has, λ _. tt)), closed))))
 
-pub returns : goal.returns
-returns g c input =
+pub returns-in-Ok : goal.returns-in-Ok
+returns-in-Ok g c input =
     let opened = rw c.as_slice.ensures.value at c.in_ok-accounts.ensures.ok in
     let reads = rw c.in_ok-written.was at c.write_lines-written.ensures.reads in
-    let shows = rw (c.in_ok-written.was, c.in_ok-branch.was) at c.write_lines-written.ensures.shows in
+    let shows = rw (c.in_ok-written.was, c.in-Ok.is) at c.write_lines-written.ensures.shows in
     let closed = rw c.into_store.ensures at c.close.ensures [] (c.in_ok-accounts.ensures.opened [] c.requires) in
     let secret = c.in_ok-secret.secret.items in
     record {
