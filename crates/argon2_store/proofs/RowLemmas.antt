@@ -56,10 +56,13 @@ changed-remove m n o = changed_back (changed m n o) (remove m n) n o
     (λ q far. others_kept m n None q far ∙ sym (others_kept m n o q far)) (get-changed m n o)
 
 -- names that are changed still are texts
-pub texts_changed : (names : Texts) (name : List ℕ) (o : Option (List ℕ)) → AreTexts names → IfSome o IsUtf8
-    → AreTexts (changed names name o)
-texts_changed names name o texts good other text has = elim (one_or_other other name) [
-  | inl is ↦ rw (sym (get-changed names name o) ∙ ap (get (changed names name o)) (sym is) ∙ has) at good
+pub texts_changed : (names : Texts) (name : List ℕ) (o : Option (List ℕ)) → AreTexts names → IsUtf8 name
+    → IfSome o IsUtf8 → AreTexts (changed names name o)
+texts_changed names name o texts named good other text has = elim (one_or_other other name) [
+  | inl is ↦ (
+    subst IsUtf8 (sym is) named,
+    rw (sym (get-changed names name o) ∙ ap (get (changed names name o)) (sym is) ∙ has) at good,
+  )
   | inr far ↦ texts other text (sym (others_kept names name o other far) ∙ has)
 ]
 
@@ -360,7 +363,7 @@ pub step : (first now next : View) (met last : Row) (before : Texts) → IsOrder
     → first.shape 0 ≡ Index plain → IsReading first now before → LastIs (rows_of before) last
     → Advances now next 0 met true → (is : IsAccount met) → (column met 0 ≡ column last 0 → ⊥)
     → IsReading first next (insert before is.0.0 is.0.1) × LastIs (rows_of (insert before is.0.0 is.0.1)) met
-step first now next met last before ordered shape reading ended moves ((k, v), good, at) apart =
+step first now next met last before ordered shape reading ended moves ((k, v), named, good, at) apart =
     let rest = tails reading.rest (met ∷ moves.0) (sym reading.left ∙ moves.1) in
     let all : rows_of before ++ met ∷ moves.0 ≡ first.trees 0 = ap (λ l. rows_of before ++ l) (sym rest) ∙ reading.all in
     let index : IsIndex plain (first.trees 0) = rw shape at (ordered 0) in

@@ -19,9 +19,9 @@ row_of e = Text e.0 ∷ Text e.1 ∷ []
 abbrev pub rows_of : Named → List Row
 rows_of names = map row_of (entries names)
 
--- each text is UTF-8
+-- each name and each text is UTF-8
 abbrev pub AreTexts : Named → Type 0
-AreTexts names = (name text : List ℕ) → get names name ≡ Some text → IsUtf8 text
+AreTexts names = (name text : List ℕ) → get names name ≡ Some text → IsUtf8 name × IsUtf8 text
 
 -- no name after this one has a text
 abbrev pub HasNoneAfter : Named → List ℕ → Type 0
@@ -37,9 +37,9 @@ IsFoundAs names name (Some true) row = (text : List ℕ) × (get names name ≡ 
 IsFoundAs names name (Some false) row = get names name ≡ None
 IsFoundAs names name None row = IsAfterAll names name
 
--- the row is that of a name with a text
+-- the row is that of a name with a text, both UTF-8
 abbrev pub IsAccount : Row → Type 0
-IsAccount row = (e : List ℕ × List ℕ) × IsUtf8 e.1 × (row ≡ row_of e)
+IsAccount row = (e : List ℕ × List ℕ) × IsUtf8 e.0 × IsUtf8 e.1 × (row ≡ row_of e)
 
 -- ---- lines
 

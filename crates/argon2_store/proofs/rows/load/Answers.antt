@@ -24,7 +24,7 @@ loop-preserved g c =
       search rules,
       (
         insert names is.0.0 is.0.1,
-        texts_changed names is.0.0 (Some is.0.1) texts is.1,
+        texts_changed names is.0.0 (Some is.0.1) texts is.1 is.2,
         λ clean.
             let later : IsClean (g.S.Store.view c.next.new.self) = clean in
             let then : IsClean (g.S.Store.view c.loop.store) = omega (arith, c.next.ensures.quiet.clean, later) in

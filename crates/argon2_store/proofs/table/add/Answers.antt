@@ -1,4 +1,4 @@
-use Rattle.argon2_store.proofs.Imports.{arith, ap, sym, inl, refl, HasNoneAfter, AreTexts, PasswordHash, Texts, List, Ghosts, StoreError, Writes, IsLong, OnOk, IsTrue, Bool, false, tied_itself, nat_list_cmp_total, slice_cmp, nat_cmp, AddsName, ◌∙◌, ◌≡◌, ℕ, None, Some, Ok, Err, Result, get, insert, phc_of, text_of, IsHonest, err_is}
+use Rattle.argon2_store.proofs.Imports.{arith, ap, sym, inl, refl, HasNoneAfter, AreTexts, PasswordHash, Texts, List, Ghosts, StoreError, Writes, IsLong, OnOk, IsTrue, IsUtf8, Bool, false, tied_itself, nat_list_cmp_total, slice_cmp, nat_cmp, AddsName, ◌∙◌, ◌≡◌, ℕ, None, Some, Ok, Err, Result, get, insert, phc_of, text_of, IsHonest, err_is}
 use Rattle.argon2_base.specs.PhcText.{PhcText}
 use Rattle.argon2_store.proofs.RowLemmas.{get-changed, others_kept, texts_changed}
 use Rattle.argon2_store.proofs.TableLemmas.{on_all, reads_ok, writes_more, writes_nothing, writes_row, writes_then}
@@ -20,15 +20,15 @@ returns-in_err-hash-clause-writes g c before texts sees last =
 -- a row that is written for a name that has none, after reads
 module _ {S : Type 0} (g : Ghosts S) {old mid new : S} (before : Texts) (name text : List ℕ) (hash : PasswordHash)
     (is_last : Bool) (r : Result (Unit {0}) StoreError) where
-  added : PhcText text (phc_of hash) → AreTexts before → Writes g old mid before before ⊥ (Ok tt)
+  added : IsUtf8 name → PhcText text (phc_of hash) → AreTexts before → Writes g old mid before before ⊥ (Ok tt)
       → (IsHonest g mid → (get before name ≡ None) × (IsTrue is_last → HasNoneAfter before name))
       → ((IsHonest g mid → get before name ≡ None) → Writes g mid new before (insert before name (text_of hash)) (IsLong name) r)
       → (after : Texts) × AreTexts after × Writes g old new before after (IsLong name) r
       × OnOk r (IsHonest g new → AddsName before (name, text) (Ok tt) after × (IsTrue is_last → HasNoneAfter after name))
-  added is texts read none writes =
+  added named is texts read none writes =
       let wrote = writes (λ clean. (none clean).0) in (
         insert before name (text_of hash),
-        texts_changed before name (Some (text_of hash)) texts (text_is_utf8 (phc_of hash) hash.grammatical),
+        texts_changed before name (Some (text_of hash)) texts named (text_is_utf8 (phc_of hash) hash.grammatical),
         writes_then read wrote (λ long. long),
         on_all r (λ clean.
             let first = none (omega (arith, clean, wrote.quiet.clean)) in (
@@ -44,7 +44,7 @@ module _ {S : Type 0} (g : Ghosts S) {old mid new : S} (before : Texts) (name te
 
 pub returns-then-is_last-clause-writes : goal.returns-then-is_last-clause-writes
 returns-then-is_last-clause-writes g c before texts sees last =
-    added g.S.Store before c.args.name.now _ c.in_ok-hash.hash _ c.put.result c.in_ok-hash.ensures.found texts
+    added g.S.Store before c.args.name.now _ c.in_ok-hash.hash _ c.put.result c.utf8.name c.in_ok-hash.ensures.found texts
     (writes_nothing g.S.Store (λ clean. refl)) (λ clean. let past = last c.if-is_last.true clean in (past.0, λ is. past.1))
     (c.put.ensures.writes before)
 
@@ -68,7 +68,7 @@ not_both b off is = cc
 
 pub returns-in-Ok-Some-false-clause-writes : goal.returns-in-Ok-Some-false-clause-writes
 returns-in-Ok-Some-false-clause-writes g c before texts sees last =
-    added g.S.Store before c.args.name.now _ c.in_ok-hash.hash _ c.put-in-Ok-Some-false.result c.in_ok-hash.ensures.found texts
+    added g.S.Store before c.args.name.now _ c.in_ok-hash.hash _ c.put-in-Ok-Some-false.result c.utf8.name c.in_ok-hash.ensures.found texts
     (reads_ok g.S.Store c.in-Ok-Some-false.ensures.same c.find.ensures.schema c.find.ensures.quiet) (λ clean. (
       (rw (c.in-Ok-Some-false.field-0-is, c.in-Ok-Some-false.field-0-0-test) at c.in-Ok-Some-false.ensures.found) before clean
           (sees (omega (arith, clean, c.find.ensures.quiet.clean)) (c.in-Ok-Some-false.ensures.sound clean)).0,
@@ -78,7 +78,7 @@ returns-in-Ok-Some-false-clause-writes g c before texts sees last =
 
 pub returns-in-Ok-None-clause-writes : goal.returns-in-Ok-None-clause-writes
 returns-in-Ok-None-clause-writes g c before texts sees last =
-    added g.S.Store before c.args.name.now _ c.in_ok-hash.hash _ c.put-in-Ok-None.result c.in_ok-hash.ensures.found texts
+    added g.S.Store before c.args.name.now _ c.in_ok-hash.hash _ c.put-in-Ok-None.result c.utf8.name c.in_ok-hash.ensures.found texts
     (reads_ok g.S.Store c.in-Ok-None.ensures.same c.find.ensures.schema c.find.ensures.quiet) (λ clean.
     let past = (rw (c.in-Ok-None.field-0-is) at c.in-Ok-None.ensures.found) before clean
     (sees (omega (arith, clean, c.find.ensures.quiet.clean)) (c.in-Ok-None.ensures.sound clean)).0 in

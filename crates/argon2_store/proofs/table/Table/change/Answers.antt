@@ -13,7 +13,7 @@ returns g c before has =
     let after = changed before c.args.name.now (option_map text_of (option_copied c.args.new)) in
     let end = c.finish.ensures in
     changes_of g.met.S.Store.settled c.requires.open c.write-done.result c.finish.result has
-    (texts_changed before c.args.name.now _ has.0 (is_text c.args.new))
+    (texts_changed before c.args.name.now _ has.0 c.utf8.name (is_text c.args.new))
     (c.write-done.ensures before (c.requires.known before has))
     (end.kept before after) end.crash end.«open» end.cause end.closes end.clean end.counts
 
@@ -24,7 +24,7 @@ invariant_of-self g c = record {
       let after = changed before c.args.name.now (option_map text_of (option_copied c.args.new)) in
       let end = c.finish.ensures in
       has_either c.finish.result (changes_of g.met.S.Store.settled c.requires.open c.write-done.result c.finish.result has
-      (texts_changed before c.args.name.now _ has.0 (is_text c.args.new))
+      (texts_changed before c.args.name.now _ has.0 c.utf8.name (is_text c.args.new))
       (c.write-done.ensures before (c.requires.known before has))
       (end.kept before after) end.crash end.«open» end.cause end.closes end.clean end.counts));
 }
