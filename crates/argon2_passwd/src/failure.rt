@@ -40,7 +40,7 @@ pub enum Failure {
     /// The file with the accounts can't be written.
     #[error(transparent)]
     File(FileError),
-    /// A name in the file breaks its line.
+    /// A name in the file has a line break, or a colon if its text follows.
     #[error("a name has a line break or a colon")]
     BrokenLine,
     /// The file with the secret can't be read.
@@ -96,7 +96,7 @@ pub fn of_reading(error: &io::Error) -> Failure
     }
 }
 
-/// The failure of writing the lines of a file; that a name breaks its line is reported as that.
+/// The failure of writing the lines of a file; a name that breaks its line is reported as that.
 pub fn of_lines(error: &io::Error) -> Failure
     ensures name { error_kind error.now ≡ ErrorKind.InvalidData → result ≡ Failure.BrokenLine }
     ensures output { error_kind error.now ≢ ErrorKind.InvalidData → result ≡ Failure.Output }

@@ -56,7 +56,7 @@ lines view (e ∷ es) = line view e ++ lines view es
 abbrev pub lines_of : View → Named → List ℕ
 lines_of view names = lines view (entries names)
 
--- a line of the name would read as that of another: it has a line break, or a colon that would end it before its text
+-- the line of the name would read as that of another: the name has a line break, or a colon if its text follows
 abbrev pub breaks_line : View → List ℕ → Bool
 breaks_line Names name = list_any (λ b. b == 10) name
 breaks_line Texts name = list_any (λ b. b == 10) name || list_any (λ b. b == 58) name
