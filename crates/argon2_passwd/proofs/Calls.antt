@@ -13,40 +13,27 @@ use Rattle.argon2_store.specs.Table.{IsHonest, IsOpen}
 use Rattle.argon2_store.specs.declared.account_file.AccountFile.{AccountFile}
 use Rattle.argon2_store.specs.declared.error.FileError.{FileError}
 use Rattle.argon2_store.specs.declared.error.FileError.TheVariants.{Account, OutOfMemory, TooLong, Closed}
-use Rattle.argon2_store.proofs.TableLemmas.{more_earlier, quiet_then}
+use Rattle.argon2_store.proofs.TableLemmas.{quiet_then}
 
 -- the text of a value that was made of the password
 module _ (terms : Terms) (password drawn text : List ℕ) (w : Phc) (says : PhcText text w)
     (fresh : IsFresh terms.target password drawn w) where
   made : (q : Option (List ℕ)) → q ≡ Some text → IsSomeAnd q (IsMadeOf terms password drawn)
-  made q is = rw is (w, says, fresh)
+  made q is = search arith
 
   registers_text : (p q : Option (List ℕ)) (r : Result (Unit {0}) AccountError) → Adds text p r q
       → Registers terms password drawn p r q
-  registers_text p q (Ok x) is = (is.0, made q is.2)
-  registers_text (Some was) q (Err NameTaken) is = (tt, is.1)
-  registers_text None q (Err NameTaken) is = absurd (let never = is.0.1 in cc)
-  registers_text p q (Err (Refused e)) (inl outside, same) = absurd (outside.1 (w, says))
-  registers_text (Some was) q (Err (Refused e)) (inr memory, same) = absurd (let never = memory.2 in cc)
-  registers_text None q (Err (Refused e)) (inr memory, same) = (inl memory.0, same)
-  registers_text p q (Err e) is = absurd is.0
+  registers_text p q r is = grind arith
 
   sets_text : (was : List ℕ) (p q : Option (List ℕ)) (r : Result (Unit {0}) AccountError) → p ≡ Some was
       → OnText (Replaces was text) p r q → OnText (Sets terms password drawn) p r q
-  sets_text was p (Some left) (Ok x) had is = rw had (made (Some left) (ap Some (rw had at is).2))
-  sets_text was p None (Ok x) had is = absurd (rw had at is)
-  sets_text was p (Some left) (Err TextChanged) had is = absurd ((rw had at is).0 refl)
-  sets_text was p (Some left) (Err (Refused e)) had is = absurd ((rw had at is).0.2 (w, says))
-  sets_text was p (Some left) (Err e) had is = absurd (rw had at is).0
-  sets_text was p None (Err e) had is = absurd (rw had at is)
+  sets_text was p q r had is = grind arith
 
 -- a call on a file answers as another, if the accounts do
 answers_then : (first last : Terms) (before after : Texts) (call other : Call (Unit {0}))
     → ((r : Result (Unit {0}) AccountError) → AccountStep first before (call r) after → AccountStep last before (other r) after)
     → (r : Result (Unit {0}) FileError) → Answers first before call r after → Answers last before other r after
-answers_then first last before after call other then (Ok x) is = then (Ok x) is
-answers_then first last before after call other then (Err (Account e)) is = then (Err e) is
-answers_then first last before after call other then (Err e) is = is
+answers_then first last before after call other then r is = grind arith
 
 -- a name is added with a text of its password
 pub registers : {S : Type 0} {g : Ghosts S} (old new : AccountFile S g) (name text password drawn : List ℕ) (w : Phc)
@@ -76,18 +63,11 @@ registers {g = g} old new name text password drawn w says fresh r serves before 
     )
 
 refused_then : (P Q : Type 0) (r : Result (Unit {0}) FileError) → (P → Q) → IfErr r (IfRefused P) → IfErr r (IfRefused Q)
-refused_then P Q (Ok x) then is = tt
-refused_then P Q (Err (Account e)) then is = then is
-refused_then P Q (Err e) then is = tt
+refused_then P Q r then is = grind arith
 
 cause_then : (shut closed more fault long : Type 0) (r : Result (Unit {0}) FileError) → (shut → closed) → (more → fault)
     → IfErr r (HasCause shut more long) → IfErr r (HasCause closed fault long)
-cause_then shut closed more fault long (Ok x) f h is = tt
-cause_then shut closed more fault long (Err (Account e)) f h is = tt
-cause_then shut closed more fault long (Err OutOfMemory) f h is = tt
-cause_then shut closed more fault long (Err TooLong) f h is = is
-cause_then shut closed more fault long (Err Closed) f h is = f is
-cause_then shut closed more fault long (Err e) f h is = h is
+cause_then shut closed more fault long r f h is = grind arith
 
 -- a name's text is read, and replaced by a text of its password
 pub sets : {S : Type 0} {g : Ghosts S} (old mid new : AccountFile S g) (name was text password drawn : List ℕ) (w : Phc)
@@ -99,8 +79,6 @@ sets {g = g} old mid new name was text password drawn w says fresh r live readin
     let reads = reading before has in
     let (after, run) = serves before reads.has in
     let open_then : IsHonest g (database_of new) → IsOpen g (database_of mid) = λ clean. reads.is_open refl (run.honest clean) in
-    let earlier = more_earlier (g.faults (database_of old)) (g.faults (database_of mid)) (g.faults (database_of new))
-    reads.quiet.counts in
     let step = λ (clean : IsHonest g (database_of new)) (end : Texts).
     let there = had before reads.has (run.honest clean) in
     answers_then (terms_of mid) (terms_of old) before end (replacing name was text) (setting name password drawn)
@@ -118,7 +96,11 @@ sets {g = g} old mid new name was text password drawn w says fresh r live readin
             (left.0, left.1, elim left.2 [ inl same ↦ inl same | inr (x, is) ↦ inr (x, step clean left.0 (Ok x) is) ]);
         durable = run.durable;
         closed = λ clean is. absurd (live clean is);
-        closes = λ clean is_open. elim (run.closes clean (open_then clean)) [ inl yet ↦ inl yet | inr more ↦ inr (earlier more) ];
-        cause = λ clean. cause_then _ _ _ _ _ r (λ shut. absurd (let yet = open_then clean in cc)) earlier (run.cause clean);
+        closes = λ clean is_open. elim (run.closes clean (open_then clean)) [
+          | inl yet ↦ inl yet
+          | inr more ↦ inr (omega (arith, reads.quiet.counts, more))
+        ];
+        cause = λ clean. cause_then _ _ _ _ _ r (λ shut. absurd (let yet = open_then clean in cc))
+            (λ more. omega (arith, reads.quiet.counts, more)) (run.cause clean);
       },
     )

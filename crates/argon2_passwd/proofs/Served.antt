@@ -1,5 +1,5 @@
 -- How what is asked for ended, by how a call for it ended.
-use Rattle.std.proofs.Common.{◌≡◌, ◌≢◌, ◌∙◌, ◌++◌, ◌∷◌, ℕ, Bool, List, [], Option, Some, None, Result, Ok, Err, ap, inl, inr, refl, subst, sym}
+use Rattle.std.proofs.Common.{arith, ◌≡◌, ◌≢◌, ◌∙◌, ◌++◌, ◌∷◌, ℕ, Bool, List, [], Option, Some, None, Result, Ok, Err, ap, inl, inr, refl, subst, sym}
 use Rattle.std.proofs.lemmas.Result.{on_ok_weaker}
 use Rattle.std.specs.Io.KnownBytes.{Appends, Keeps}
 use Rattle.std.specs.Prelude.{IfErr, IsErrAnd, OnOk}
@@ -21,48 +21,35 @@ use Rattle.argon2_passwd.specs.declared.failure.Failure.TheVariants.{LongPasswor
 -- a refusal by the accounts is reported as such
 pub is_account : (refusal : AccountError) (f : Failure) → IsOfAccount refusal f → status_of f ≡ 1
     → (f ≡ failure.Account refusal) × (refusal ≢ Refused NoMemory)
-is_account refusal (failure.Account error) is one = (ap failure.Account is.0, is.1)
-is_account refusal (Memory refused) is one = absurd cc
-is_account refusal f is one = absurd is
+is_account refusal f is one = grind arith
 
 -- a refusal of a call on a file is one by its accounts
 pub of_account : (P : Type 0) (e : FileError) (f : Failure) → IsOfFile e f → status_of f ≡ 1
     → ((refusal : AccountError) → e ≡ Account refusal → P) → P
-of_account P (Account refusal) f is one why = why refusal refl
-of_account P OutOfMemory (Memory refused) is one why = absurd cc
-of_account P OutOfMemory f is one why = absurd is
-of_account P e f is one why = absurd (let same = rw is at one in cc)
+of_account P e f is one why = grind arith
 
 pub passed : {X : Type 0} {P : Type 0} → (f : Failure) (r : Result X Failure) → IsErrAnd r (λ e. e ≡ f)
     → (status_of f ≡ 1 → P) → IfErr r (λ e. status_of e ≡ 1 → P)
-passed f (Ok x) is why = tt
-passed f (Err e) is why = λ one. why (subst (λ e. status_of e ≡ 1) is one)
+passed f r is why = grind arith
 
 pub keeps_same : (known : Option (List ℕ)) → Keeps known known
-keeps_same None = tt
-keeps_same (Some bytes) = refl
+keeps_same known = grind arith
 
 -- an input that is refused for its password has none
 pub none_read : (input : Option (List ℕ)) (f : Failure) → IsUnread input f → status_of f ≡ 1
     → HasNone input
-none_read None f is one = tt
-none_read (Some bytes) NoPassword is one = rw is refl
-none_read (Some bytes) LongPassword is one = is.0
-none_read (Some bytes) f is one = absurd (let never = sym is ∙ one in cc)
+none_read input f is one = grind arith
 
 -- what holds in any case holds if a call is refused
 pub in_any_case : {X : Type 0} (P : Type 0) (r : Result X Failure) → P
     → IfErr r (λ f. status_of f ≡ 1 → P)
-in_any_case P (Ok x) p = tt
-in_any_case P (Err f) p = λ one. p
+in_any_case P r p = grind arith
 
 -- what is asked for was done at most once if no file was opened
 unopened : {S : Type 0} (g : Ghosts S) (Holds : List ℕ → List ℕ → Type 0)
     (Has : List ℕ → Texts → Type 0) (Closed : List S → Type 0) (what : Asked)
     (input : Option (List ℕ)) → Closed [] → IsOnce g Holds Has what input Closed
-unopened g Holds Has Closed (hash choices) input shut = shut
-unopened g Holds Has Closed (check choices text) input shut = shut
-unopened g Holds Has Closed what input shut = inl shut
+unopened g Holds Has Closed what input shut = grind arith
 
 module _ {S : Type 0} {g : Ghosts S} {Holds : List ℕ → List ℕ → Type 0}
     {Has : List ℕ → Texts → Type 0} {Closed : List S → Type 0} {what : Asked}
@@ -72,38 +59,31 @@ module _ {S : Type 0} {g : Ghosts S} {Holds : List ℕ → List ℕ → Type 0}
       → (status_of f ≡ 1 → IsRefused g Holds Has what input Closed × Keeps old new)
       → IsOnce g Holds Has what input Closed
       → IsServed g Holds Has what r input old new Closed
-  failed f (Ok x) is why once = absurd is
-  failed f (Err e) is why once = record { ok = tt; err = rw is why; once = once }
+  failed f r is why once = grind arith
 
   -- it ended with this failure before a file was opened
   pub not_begun : (f : Failure) (r : Result (Unit {0}) Failure) → IsErrAnd r (λ e. e ≡ f)
       → status_of f ≡ 3 → Closed [] → IsServed g Holds Has what r input old new Closed
-  not_begun f r is three shut =
-      failed f r is (λ one. absurd (let never = sym three ∙ one in cc)) (unopened g Holds Has Closed what input shut)
+  not_begun f r is three shut = grind (arith, unopened)
 
   -- it ended since memory ran out before a file was opened
   pub no_memory : (r : Result (Unit {0}) Failure) → IsErrAnd r IsMemory → Closed []
       → IsServed g Holds Has what r input old new Closed
-  no_memory (Ok x) is shut = absurd is
-  no_memory (Err (Memory refused)) is shut = not_begun (Memory refused) _ refl refl shut
-  no_memory (Err f) is shut = absurd is
+  no_memory r is shut = grind (arith, not_begun)
 
   -- it ended with an error of a call on the file
   pub failed_by : (e : FileError) (r : Result (Unit {0}) Failure) → IsErrAnd r (IsOfFile e)
       → ((refusal : AccountError) → e ≡ Account refusal
       → IsRefused g Holds Has what input Closed × Keeps old new)
       → IsOnce g Holds Has what input Closed → IsServed g Holds Has what r input old new Closed
-  failed_by e (Ok x) is why once = absurd is
-  failed_by e (Err f) is why once = record { ok = tt; err = λ one. of_account _ e f is one why; once = once }
+  failed_by e r is why once = grind (arith, of_account)
 
   -- it ended as a call of which all is known
   pub ended : {P Q : Type 0} (r : Result (Unit {0}) Failure) → OnOk r P
       → IfErr r (λ f. status_of f ≡ 1 → Q) → (P → IsAnswered g Holds Has what input old new Closed)
       → (Q → IsRefused g Holds Has what input Closed × Keeps old new)
       → IsOnce g Holds Has what input Closed → IsServed g Holds Has what r input old new Closed
-  ended (Ok x) is refuses next why once = record { ok = next is; err = tt; once = once }
-  ended (Err f) is refuses next why once =
-      record { ok = tt; err = λ one. why (refuses one); once = once }
+  ended r is refuses next why once = grind arith
 
 -- a line that is written is a reply under the choices and their secret
 pub replied : (Holds : List ℕ → List ℕ → Type 0) (choices : Choices)

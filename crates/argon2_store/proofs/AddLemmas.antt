@@ -1,15 +1,11 @@
 -- Names to which several are added.
-use Rattle.argon2_store.proofs.Imports.{◌≡◌, ℕ, List, [], ◌∷◌, ◌++◌, false, Some, Result, Ok, Err, refl, sym}
-use Rattle.std.proofs.lemmas.Result.{on_ok_weaker, IfErr-weaker}
-use Rattle.argon2_store.proofs.Imports.{subst, ap, ◌∙◌, arith, inl, inr, map, Bor, get, Any}
-use Rattle.argon2_store.proofs.Imports.{StoreError, Ghosts, Texts, AccountError, AddsAll, AddsName, WritesAll}
-use Rattle.argon2_store.proofs.Imports.{entry_of, Changes, changed, HasNames, IsHonest, IsLong, IsOpen, StaysQuiet}
-use Rattle.std.specs.List.Sorted.{IsPermutation}
+use Rattle.argon2_store.proofs.Imports.{◌≡◌, ℕ, List, [], ◌∷◌, ◌++◌, false, Some, Result, Ok, Err, refl, sym, Io, subst, ap, ◌∙◌, arith, inl, inr, map, Bor, get}
+use Rattle.argon2_store.proofs.Imports.{Any, on_ok_weaker, StoreError, Ghosts, Texts, AccountError, AddsAll, AddsName, WritesAll, IsPermutation, entry_of, Changes}
+use Rattle.argon2_store.proofs.Imports.{changed, HasNames, IsHonest, IsLong, IsOpen, StaysQuiet}
 use Rattle.std.proofs.lemmas.List.Sorted.{Contains-permutation, IsPermutation-map, IsPermutation-sym}
 use Rattle.sqlite_trees.proofs.ListLemmas.{along_permutation}
-use Rattle.sqlite_trees.specs.declared.error.StoreError.TheVariants.{Io}
 use Rattle.argon2_store.proofs.RowLemmas.{get-changed, one_or_other, others_kept}
-use Rattle.argon2_store.proofs.TableLemmas.{Settled, cause_map, leaves_quiet, quiet_itself, quiet_then}
+use Rattle.argon2_store.proofs.TableLemmas.{Settled, leaves_quiet, quiet_itself, quiet_then}
 
 pub add_last : (es : List (List ℕ × List ℕ)) (before mid after : Texts) (e : List ℕ × List ℕ) → AddsAll before es mid
     → AddsName mid e (Ok tt) after → AddsAll before (es ++ e ∷ []) after
@@ -54,17 +50,7 @@ module _ {S : Type 0} (g : Ghosts S) where
   -- a change is the same after a call that changed nothing, and may have more causes
   changes_later : {a b c : S} {x y : Texts} {P Q : Type 0} {r : Result (Unit {0}) StoreError} → StaysQuiet g a b
       → (IsHonest g b → (g.view b).is_broken ≡ false) → (P → Q) → Changes g b c x y P r → Changes g a c x y Q r
-  changes_later {a} {b} {r = r} quiet sound more change = record {
-    honest = λ clean. omega (arith, change.honest clean, quiet.clean);
-    kept = change.kept;
-    crash = change.crash;
-    durable = change.durable;
-    cause = λ clean. IfErr-weaker r _ _ (cause_map (g.view b) (g.view a)
-        (λ broken. absurd (let whole = sound (change.honest clean) in cc)) (λ failed. omega (arith, quiet.counts, failed)) more)
-        (change.cause clean);
-    closes = λ clean.
-        elim (change.closes clean) [ inl still ↦ inl still | inr failed ↦ inr (omega (arith, quiet.counts, failed)) ];
-  }
+  changes_later quiet sound more change = search arith
 
   -- names that are written in another order
   pub reordered : (old new : S) (xs ys : List (Bor (List ℕ) × Bor (List ℕ))) (done : Result (Unit {0}) StoreError)
@@ -76,10 +62,7 @@ module _ {S : Type 0} (g : Ghosts S) where
       let fs = map entry_of xs in
       let (after, may, all, change) = wrote before has in (
         after,
-        λ clean. elim (may clean) [
-          | inl as_before ↦ inl as_before
-          | inr adds ↦ inr (any_order es fs back before after adds)
-        ],
+        λ clean. let moves = any_order es fs back before after in let either = may clean in grind arith,
         on_ok_weaker done (λ f clean. any_order es fs back before after (f clean)) all,
         changes_later (quiet_itself g old) (λ clean. has.1.sound clean (was_open clean)) (some_moved es fs back) change,
       )
@@ -118,10 +101,8 @@ module _ {S : Type 0} (g : Ghosts S) where
                 let left = leaves_quiet g settled old mid before has.1 quiet clean (was_open (earlier clean)) db found in
                 (left.0, left.1, inl left.2);
             durable = tt;
-            cause = λ clean. elim (quiet.closes clean (was_open (earlier clean))) [
-              | inl still ↦ absurd (let closed = shut clean in cc)
-              | inr failed ↦ failed
-            ];
+            cause = λ clean.
+                let end = quiet.closes clean (was_open (earlier clean)) in let closed = shut clean in grind arith;
             closes = λ clean. quiet.closes clean (was_open (earlier clean));
           },
         )

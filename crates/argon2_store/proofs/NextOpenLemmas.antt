@@ -1,11 +1,11 @@
 -- What an open finds after opens that failed, and what the next one finds then.
-use Rattle.argon2_store.proofs.Imports.{◌≡◌, ℕ, Bool, List, [], ◌∷◌, inl, inr, refl, sym, ap, ap₂, subst, subst₂, ◌∙◌, arith, ∥∥₁_elim, ∥∥₁_map, Row, outcomes}
-use Rattle.argon2_store.proofs.Imports.{seen_image, AreWhole, Image, PageMap, IsSoundFile, in_use, IsBlankFile, IsUnreadable, Recovers, RecoversAs, size_is_allowed}
-use Rattle.argon2_store.proofs.Imports.{catalog_tree, Trees, rows_at, reading, schema_in, state, catalog_rows, all_shapes, listed_from, FileStore, FoundIn}
-use Rattle.argon2_store.proofs.Imports.{IsUnstarted, MayHave, StandsFor, account, ◌≤◌, true, false, cond, Option, None, length, slice_index, unwrap_or, zero-add, ◌-◌}
+use Rattle.argon2_store.proofs.Imports.{◌≡◌, ℕ, List, [], ◌∷◌, inl, inr, refl, sym, ap, ap₂, subst, subst₂, ◌∙◌, arith, ∥∥₁_elim, ∥∥₁_map, Row, outcomes}
+use Rattle.argon2_store.proofs.Imports.{seen_image, AreWhole, Image, PageMap, IsSoundFile, in_use, IsBlankFile, IsUnreadable, Recovers, RecoversAs}
+use Rattle.argon2_store.proofs.Imports.{catalog_tree, Trees, rows_at, state, all_shapes, listed_from, FileStore, FoundIn}
+use Rattle.argon2_store.proofs.Imports.{IsUnstarted, MayHave, StandsFor, account, ◌≤◌, Option, None, length, slice_index, unwrap_or, zero-add, ◌-◌}
 use Rattle.argon2_store.proofs.Imports.{◌*◌, Some, cases_eq, plain, column, be32, part, IsIgnored, Replays, pages_after, part_within, slice_index-part, coded_list}
 use Rattle.argon2_store.proofs.Imports.{range_with_len, length-map, reserved, sealed, stored_size, length-sealed, recovers_once, Index, IsFile, recovers}
-use Rattle.argon2_store.proofs.Imports.{same_listing, file_trees, Texts, HoldsNames, IsAfterOpens, IsTableOf, LeavesNames, rows_of, Holds}
+use Rattle.argon2_store.proofs.Imports.{same_listing, file_trees, Texts, HoldsNames, IsAfterOpens, LeavesNames, rows_of, Holds}
 use Rattle.sqlite_disk.specs.declared.Disk.{Ghosts}
 use Rattle.sqlite_trees.specs.declared.store.Shape.TheVariants.{Table}
 use Rattle.sqlite_store.specs.Listing.{all_trees, all_reals, all_shapes}
@@ -26,6 +26,7 @@ use Rattle.sqlite_btree.proofs.StoredLemmas.{stored_root_live}
 use Rattle.sqlite_store.specs.Catalog.{describes, is_about, root_in}
 use Rattle.sqlite_store.specs.Db.{roots_of, trees_in}
 use Rattle.sqlite_store.specs.declared.catalog.Wanted.{Wanted}
+use Rattle.argon2_store.proofs.OpenLemmas.{left_table}
 use Rattle.argon2_store.proofs.RowLemmas.{rows_of-once}
 use Rattle.sqlite_wal.specs.Recovery as raw
 use Rattle.sqlite_value.specs.contracts.row.Row as row
@@ -56,14 +57,9 @@ once img a b p q found also large big sound whole =
 
 -- ---- the table
 
-either : {X : Type 0} (b : Bool) (x y : Option X) → x ≡ None → y ≡ None → cond b x y ≡ None
-either true x y h k = h
-either false x y h k = k
-
 no_page_zero : (size : ℕ) (pages : PageMap) → IsSoundFile size pages → in_use size pages 0 ≡ None
 unfolding in_use live unlocked
-no_page_zero size pages sound =
-    either _ _ _ (either _ _ _ refl (none_of (pages 0) (λ some. omega (arith, ((sound.counted 0).0 some).0)))) refl
+no_page_zero size pages sound = grind (arith, none_of)
 
 -- a list of one table says all of it but its root
 module _ (w : Wanted) (rest : List Wanted) (same : listed_from 0 (w ∷ rest) ≡ listed_from 0 (account ∷ [])) where
@@ -143,13 +139,8 @@ magic size img pages recs large sound q found whole =
           let once = raw_once 4096 img q ours.stored found (subst (λ n. raw.Recovers n img ours.stored) same ours.found) in
           ap begin once ∙ starts
       | inr other ↦
-          let none : Replays 4096 img.log 0 × Replays (stored_size size) img.log 0 = elim ours.found.replays [
-            | inl ignored ↦ (inl (ignored.0, refl), inl (ignored.0, refl))
-            | inr own ↦ elim found.replays [
-              | inl ignored ↦ (inl (ignored.0, refl), inl (ignored.0, refl))
-              | inr taken ↦ absurd (other (sym own.0.head.size ∙ taken.0.head.size))
-            ]
-          ] in
+          let none : Replays 4096 img.log 0 × Replays (stored_size size) img.log 0 =
+          let own = ours.found.replays in let also = found.replays in grind arith in
           (front 4096 img q found whole (omega arith) none.0).1
           ∙ sym (front (stored_size size) img ours.stored ours.found ours.whole (omega arith) none.1).1 ∙ starts
     ]
@@ -164,13 +155,7 @@ not_begun img (inl none) q found whole is = omega (arith, none, found.present)
 not_begun img (inr blank) q found whole is =
     let (long, byte) = front 4096 img q found whole (omega arith) (subst (λ n. Replays n img.log 0) first_length blank.0) in
     let db : slice_index img.db 0 ≡ 83 = sym byte ∙ is in
-    elim blank.1.0 [
-      | inl short ↦ omega arith
-      | inr more ↦ elim more [
-        | inl zero ↦ omega (arith, zero.1)
-        | inr rest ↦ rest.1 (db ∙ sym (first_byte 4096 (omega arith)))
-      ]
-    ]
+    let first = first_byte 4096 (omega arith) in grind arith
 
 -- what a file that carries the pages of another has is not new to that
 carried_back : (old new : Image) → RecoversAs 4096 old new → (pages : PageMap) → Recovers 4096 new pages
@@ -178,14 +163,7 @@ carried_back : (old new : Image) → RecoversAs 4096 old new → (pages : PageMa
 carried_back old new same pages recs q found =
     let one : q ≡ recs.stored = raw_once 4096 new q recs.stored (same q found) recs.found in
     let was : raw.Recovers 4096 old recs.stored = subst (raw.Recovers 4096 old) one found in
-    record {
-      stored = recs.stored;
-      found = was;
-      whole = recs.whole;
-      sealed = recs.sealed;
-      shows = recs.shows;
-      present = was.present;
-    }
+    search arith
 
 -- a database of the table is not one that is still to be begun
 begun : (size : ℕ) (schema : List Wanted) (img : Image) (pages : PageMap) → 504 ≤ size → Recovers size img pages
@@ -196,16 +174,16 @@ begun size schema img pages large recs file list (inr bare) =
     let (sized, one) = once img size 4096 pages bare.0 recs bare.1 large (omega arith) file.sound bare.2 in
     no_table size schema pages list file (subst₂ (λ n p. rows_at n (in_use n p) Table 1 ≡ []) (sym sized) (sym one) bare.3)
 
--- an open finds such rows alone, and the files begin as a database does unless these may be none
-abbrev Near : (List Row → Type 0) → Image → Type 0
-Near Q img = ((rows : List Row) → FoundIn 4096 img rows → ¬ ¬ Q rows)
-    × (¬ Q [] → (q : PageMap) → raw.Recovers 4096 img q → AreWhole 4096 q → begin q ≡ 83)
+-- an open finds these rows alone, and the files begin as a database does unless these are none
+abbrev Near : List Row → Image → Type 0
+Near first img = ((rows : List Row) → FoundIn 4096 img rows → ¬ ¬ (rows ≡ first))
+    × (¬ (first ≡ []) → (q : PageMap) → raw.Recovers 4096 img q → AreWhole 4096 q → ¬ ¬ (begin q ≡ 83))
 
 large_size : (size : ℕ) → IsPageSize (stored_size size) → 504 ≤ size
 large_size size allowed = let few : reserved size ≤ 8 = grind arith in omega (arith, allowed.0)
 
-near_table : (img : Image) (first : List Row) → IsTableOf img first → Near (λ rows. rows ≡ first) img
-near_table img first (size, schema, pages, allowed, recs, file, list, is) =
+near_rows : (img : Image) (first : List Row) → MayHave img first → Near first img
+near_rows img first (inl (size, schema, pages, allowed, recs, file, list, is)) =
     let large = large_size size allowed in (
       λ rows found never. elim found [
         | inl there ↦ ∥∥₁_elim there.2 ⊥_prop (λ theirs.
@@ -214,72 +192,63 @@ near_table img first (size, schema, pages, allowed, recs, file, list, is) =
             never (sym (first_tree size schema pages list ∙ read) ∙ is))
         | inr none ↦ ∥∥₁_elim none.0 ⊥_prop (begun size schema img pages large recs file list)
       ],
-      λ _ q. magic size img pages recs large file.sound q,
+      λ _ q found whole never. never (magic size img pages recs large file.sound q found whole),
     )
-
-near_rows : (img : Image) (first : List Row) → MayHave img first → Near (λ rows. rows ≡ first) img
-near_rows img first (inl table) = near_table img first table
 near_rows img first (inr (unbegun, none)) = (
   λ rows found never. elim found [
     | inl there ↦ ∥∥₁_elim there.2 ⊥_prop
         (λ file. begun 4096 (account ∷ []) img there.0 (omega arith) there.1 file refl unbegun)
     | inr also ↦ never (also.1 ∙ sym none)
   ],
-  λ some _ _ _. absurd (some (sym none)),
+  λ some _ _ _. absurd (some none),
 )
 
-module _ (Q : List Row → Type 0) (old new : Image) (near : Near Q old) where
+module _ (first : List Row) (old new : Image) (near : Near first old) where
   module _ (same : RecoversAs 4096 old new) (unread : IsUnreadable 4096 old → new ≡ old) where
     back : (pages : PageMap) → Recovers 4096 new pages → ¬ ¬ Recovers 4096 old pages
     back pages recs never =
         let gone : IsUnreadable 4096 old = λ q found whole. never (carried_back old new same pages recs q found) in
         never (subst (λ i. Recovers 4096 i pages) (unread gone) recs)
 
-    near_carried : Near Q new
+    near_carried : Near first new
     near_carried = (
       λ rows found never. elim found [
         | inl there ↦ back there.0 there.1 (λ was. near.0 rows (inl (there.0, was, there.2, there.3)) never)
         | inr none ↦ ∥∥₁_elim none.0 ⊥_prop (λ unbegun. elim unbegun [
           | inl blank ↦
-              let empty : ¬ Q [] = subst (λ (r : List Row). ¬ Q r) none.1 never in
-              let gone : IsUnreadable 4096 old =
-              λ q was whole. not_begun new blank q (same q was) whole (near.1 empty q was whole) in
-              near.0 [] (inr (∣ inl (subst (IsBlankFile 4096) (unread gone) blank) ∣₁, refl)) empty
+              let some : ¬ (first ≡ []) = λ is. never (none.1 ∙ sym is) in
+              let gone : IsUnreadable 4096 old = λ q was whole. near.1 some q was whole (not_begun new blank q (same q was) whole)
+              in
+              near.0 [] (inr (∣ inl (subst (IsBlankFile 4096) (unread gone) blank) ∣₁, refl)) (λ is. some (sym is))
           | inr bare ↦ back bare.0 bare.1
               (λ was. near.0 rows (inr (∣ inr (bare.0, was, bare.2, bare.3) ∣₁, none.1)) never)
         ])
       ],
-      λ empty q found whole. elim (cases_eq (begin q) 83) [
-        | inl is ↦ is
-        | inr never ↦ absurd (
-            let gone : IsUnreadable 4096 old = λ p was full.
-            never (ap begin (raw_once 4096 new q p found (same p was)) ∙ near.1 empty p was full) in
-            never (near.1 empty q (subst (λ i. raw.Recovers 4096 i q) (unread gone) found) whole))
-      ],
+      λ some q found whole never.
+          let gone : IsUnreadable 4096 old = λ p was full.
+          near.1 some p was full (λ is. never (ap begin (raw_once 4096 new q p found (same p was)) ∙ is)) in
+          near.1 some q (subst (λ i. raw.Recovers 4096 i q) (unread gone) found) whole never,
     )
 
-  near_same : (rows : List Row) → ∥ FoundIn 4096 old rows ∥₁ → ∥ MayHave new rows ∥₁ → Near Q new
+  near_same : (rows : List Row) → ∥ FoundIn 4096 old rows ∥₁ → ∥ MayHave new rows ∥₁ → Near first new
   near_same rows before after =
-      let some : ¬ ¬ Q rows = λ never. ∥∥₁_elim before ⊥_prop (λ found. near.0 rows found never) in (
-        λ more found never. ∥∥₁_elim after ⊥_prop (λ may.
-            (near_rows new rows may).0 more found (λ same. some (λ yes. never (subst Q (sym same) yes)))),
-        λ empty q found whole. elim (cases_eq (begin q) 83) [
-          | inl is ↦ is
-          | inr never ↦ absurd (∥∥₁_elim after ⊥_prop (λ may.
-              never ((near_rows new rows may).1 (λ none. some (λ yes. empty (subst Q (sym none) yes))) q found whole)))
-        ],
+      let is : ¬ ¬ (rows ≡ first) = λ never. ∥∥₁_elim before ⊥_prop (λ found. near.0 rows found never) in (
+        λ more found never. ∥∥₁_elim after ⊥_prop
+            (λ may. (near_rows new rows may).0 more found (λ same. is (λ yes. never (same ∙ yes)))),
+        λ some q found whole never. ∥∥₁_elim after ⊥_prop
+            (λ may. (near_rows new rows may).1 (λ none. is (λ yes. some (sym yes ∙ none))) q found whole never),
       )
 
-  near_after : StandsFor (λ image. image ≡ old) old new → Near Q new
-  near_after (inl is) = subst (Near Q) (sym is) near
+  near_after : StandsFor (λ image. image ≡ old) old new → Near first new
+  near_after (inl is) = subst (Near first) (sym is) near
   near_after (inr (inl pages)) = near_carried pages.0 pages.1
   near_after (inr (inr rows)) = near_same rows.0 rows.1 rows.2
 
-near_opens : (Q : List Row → Type 0) (opens : List Image) (before left : Image) → IsAfterOpens opens before left
-    → Near Q before → Near Q left
-near_opens Q [] before left is near = subst (Near Q) (sym is) near
-near_opens Q (found ∷ older) before left (earlier, stands) near =
-    near_after Q found left (near_opens Q older before found earlier near) stands
+near_opens : (first : List Row) (opens : List Image) (before left : Image) → IsAfterOpens opens before left
+    → Near first before → Near first left
+near_opens first [] before left is near = subst (Near first) (sym is) near
+near_opens first (found ∷ older) before left (earlier, stands) near =
+    near_after first found left (near_opens first older before found earlier near) stands
 
 -- ---- an equation of rows that can't be false holds
 
@@ -301,18 +270,9 @@ rows_stable a b h =
 pub next_open : {D : Type 0} {g : Ghosts D} (it : FileStore D g) → ((db : Trees) → recovers it db → db catalog_tree ≡ catalog)
     → (before : Image) → (state it).may_leave before → (opens : List Image) (left : Image) → IsAfterOpens opens before left
     → (found : Texts) → HoldsNames left found → ∥ ((db : Trees) × recovers it db × Holds db found) ∥₁
-unfolding catalog
-next_open it listed before may opens left after found holds = ∥∥₁_elim it.safe squash₁ (λ all.
-    let (pages, recs, ours) = all before may in
-    let size = (state it).page_size in
-    let db = reading it pages in
-    let can : recovers it db = (before, pages, may, ∣ recs ∣₁, refl) in
-    let list : listed_from 0 (schema_in it pages) ≡ listed_from 0 (account ∷ []) =
-    sym (catalog_rows size (schema_in it pages) _) ∙ listed db can in
-    ∥∥₁_elim (size_is_allowed it.pool) squash₁ (λ allowed. ∥∥₁_map ours (λ ours.
-    let near = near_opens _ opens before left after
-    (near_table before (db 0) (size, schema_in it pages, pages, allowed, recs, ours.file, list, refl)) in
-    (db, can, (sym (rows_stable _ _ (near.0 _ holds.1)), listed db can)))))
+next_open it listed before may opens left after found holds = ∥∥₁_map (left_table it listed before may) (λ (db, can, table).
+    let near = near_opens _ opens before left after (near_rows before (db 0) (inl table)) in
+    (db, can, (sym (rows_stable _ _ (near.0 _ holds.1)), listed db can)))
 
 -- ---- one more open that failed
 

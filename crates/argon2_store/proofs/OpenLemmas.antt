@@ -4,9 +4,9 @@ use Rattle.argon2_store.proofs.Imports.{outcomes, seen_image, AreWhole, Image, P
 use Rattle.argon2_store.proofs.Imports.{RecoversAs-from, readable, trimmed_whole, clean_if_left, clean_is, size_is_allowed, clean_of, no_doubt, catalog_tree, Trees}
 use Rattle.argon2_store.proofs.Imports.{IsClean, rows_at, not_broken, settled_at, both_clean, SeenMayStay, files, reading, schema_in, schema_of, state, view}
 use Rattle.argon2_store.proofs.Imports.{catalog_rows, all_shapes, listed_from, kept_schema, files_of, image, state_of, wanted_by, FileStore, AreUnharmed, FoundIn}
-use Rattle.argon2_store.proofs.Imports.{IsUnstarted, MayHave, StandsFor, account, IsUnwritten}
+use Rattle.argon2_store.proofs.Imports.{IsTableOf, IsUnstarted, MayHave, StandsFor, account, IsUnwritten, recovers}
 use Rattle.sqlite_disk.specs.declared.Disk.{Ghosts}
-use Rattle.sqlite_wal.specs.Reads.{AreClean, OnlyReads, OnlyReadsBoth}
+use Rattle.sqlite_wal.specs.Reads.{AreClean, OnlyReads}
 use Rattle.sqlite_pool.specs.Pool.{files as pool_files, state as pool_state}
 use Rattle.sqlite_trees.specs.declared.store.Shape.TheVariants.{Table}
 use Rattle.sqlite_store.proofs.BuildLemmas.{new_is_empty}
@@ -21,18 +21,14 @@ use Rattle.sqlite_store.specs.Unopened as below
 
 -- ---- a store that is ready
 
-lists : {D : Type 0} {g : Ghosts D} (it : FileStore D g) → IsTrue (state it).is_clean → schema_of it ≡ account ∷ []
-    → (view it).trees catalog_tree ≡ catalog
-unfolding catalog
-lists it clean is = rw clean (catalog_rows _ (schema_of it) _ ∙ ap (listed_from 0) is)
-
 pub fresh : {D : Type 0} {g : Ghosts D} (it : FileStore D g) → IsReady it → schema_of it ≡ account ∷ [] → IsClean (view it)
     → IsUnwritten (view it)
+unfolding catalog
 fresh it ready is clean = record {
   unbroken = ready.sound clean;
   settled = ready.clean;
   shapes = sym (ap (λ o. all_shapes (kept_schema o it.schema.items)) ready.unaltered);
-  listed = lists it (clean_of _ clean) is;
+  listed = rw (clean_of _ clean) (catalog_rows _ (schema_of it) _ ∙ ap (listed_from 0) is);
 }
 
 -- ---- an open that fails
@@ -124,68 +120,69 @@ module _ {D : Type 0} {g : Ghosts D} where
 
     may_leave : AreClean g files.0 files.1 → (left : Image) → outcomes g files.0 files.1 left → (pool_state it).may_leave left
     unfolding pool_state pool_files
-    may_leave clean left may =
-        subst (λ (p : D × D). AreClean g p.0 p.1 × outcomes g p.0 p.1 left) (sym same) (clean, may)
+    may_leave clean left may = search arith
 
     leaves : (left : Image) → (pool_state it).may_leave left → outcomes g files.0 files.1 left
     unfolding pool_state pool_files
     leaves left may = subst (λ (p : D × D). outcomes g p.0 p.1 left) same may.1
 
-  module _ (old : D × D) (it : Unopened D g) (mid : D × D) (same : files_of it ≡ mid) (reads : OnlyReadsBoth g old mid) where
-    pub image_is : image it ≡ seen_image g old.0 old.1
+  module _ {log db mid_log mid_db : D} (reads : OnlyReads g log mid_log) (also : OnlyReads g db mid_db) (it : Unopened D g)
+      (same : files_of it ≡ (mid_log, mid_db)) where
+    pub image_is : image it ≡ seen_image g log db
     image_is = ap (λ (p : D × D). seen_image g p.0 p.1) same
-        ∙ ap₂ (λ (a b : List ℕ). record { log = a; db = b }) reads.0.seen reads.1.seen
+        ∙ ap₂ (λ (a b : List ℕ). record { log = a; db = b }) reads.seen also.seen
 
-    pub was_clean : IsTrue (state_of it).is_clean → AreClean g old.0 old.1
-    was_clean clean = both_clean (g.is_clean old.0) (g.is_clean old.1) (g.is_clean mid.0) (g.is_clean mid.1) reads.0.clean
-        reads.1.clean (is_clean it.pool mid same clean)
+    pub was_clean : IsTrue (state_of it).is_clean → AreClean g log db
+    was_clean clean = both_clean (g.is_clean log) (g.is_clean db) (g.is_clean mid_log) (g.is_clean mid_db) reads.clean
+        also.clean (is_clean it.pool (mid_log, mid_db) same clean)
 
     -- what was probed says so of the files as they were
     pub probed : (b : Bool) (size : ℕ) → (state_of it).page_size ≡ size
-        → (AreClean g mid.0 mid.1 → (IsTrue b ↔ IsBlankFile size (seen_image g old.0 old.1)))
+        → (AreClean g mid_log mid_db → (IsTrue b ↔ IsBlankFile size (seen_image g log db)))
         → IsTrue b → IsTrue (state_of it).is_clean → IsBlankFile (state_of it).page_size (image it)
     probed b size sized probe new clean = subst₂ IsBlankFile (sym sized) (sym image_is)
-        ((probe (is_clean it.pool mid same clean)).0 new)
+        ((probe (is_clean it.pool (mid_log, mid_db) same clean)).0 new)
 
     pub unharmed : (state_of it).page_size ≡ 4096 → (end : Unopened D g) (new : D × D) → new ≡ files_of end
         → ((state_of it).page_size ≡ 4096 → IsTrue (state_of end).is_clean → (left : Image) → (state_of end).may_leave left
         → StandsFor (state_of it).may_leave (image it) left)
-        → AreUnharmed g old new
+        → AreUnharmed g (log, db) new
     unharmed sized end new closed stands clean left may =
-        let within : (l : Image) → (state_of it).may_leave l → outcomes g old.0 old.1 l =
-        λ l m. (reads.0.crash l.log (leaves it.pool mid same l m).0, reads.1.crash l.db (leaves it.pool mid same l m).1) in
+        let within : (l : Image) → (state_of it).may_leave l → outcomes g log db l = λ l m.
+        let out = leaves it.pool (mid_log, mid_db) same l m in (reads.crash l.log out.0, also.crash l.db out.1) in
         let left_so = may_leave end.pool new (sym closed) clean left may in
         stands_for _ _ _ _ left within image_is (stands sized (clean_if_left end.pool left left_so) left left_so)
+
+-- Whatever a crash leaves of a store that lists the table alone is a table with the rows that it recovers to.
+pub left_table : {D : Type 0} {g : Ghosts D} (it : FileStore D g) → ((db : Trees) → recovers it db → db catalog_tree ≡ catalog)
+    → (left : Image) → (state it).may_leave left → ∥ ((db : Trees) × recovers it db × IsTableOf left (db 0)) ∥₁
+unfolding catalog
+left_table it listed left may = ∥∥₁_elim it.safe squash₁ (λ all.
+    let (pages, recs, ours) = all left may in
+    let size = (state it).page_size in
+    let db = reading it pages in
+    let can : recovers it db = (left, pages, may, ∣ recs ∣₁, refl) in
+    let list : listed_from 0 (schema_in it pages) ≡ listed_from 0 (account ∷ []) =
+    sym (catalog_rows size (schema_in it pages) _) ∙ listed db can in
+    ∥∥₁_elim (size_is_allowed it.pool) squash₁ (λ allowed. ∥∥₁_map ours (λ ours.
+    (db, can, (size, schema_in it pages, pages, allowed, recs, ours.file, list, refl)))))
 
 -- The rows were read, or not all of them: whatever a crash leaves has those that the open found.
 pub unharmed_by_reads : {D : Type 0} {g : Ghosts D} (old : D × D) (it end : FileStore D g) (new : D × D) → SeenMayStay g
     → IsQuietCall it end → (IsClean (view it) → IsUnwritten (view it))
     → (IsClean (view it) → FoundIn 4096 (seen_image g old.0 old.1) ((view it).committed 0)) → new ≡ files end
     → AreUnharmed g old new
-unfolding catalog
-unharmed_by_reads {D} {g} old it end new stay quiet fresh found closed clean left may =
+unharmed_by_reads old it end new stay quiet fresh found closed clean left may =
     let may_so = may_leave end.pool new (sym closed) clean left may in
-    let now = clean_if_left end.pool left may_so in
-    let was : IsClean (view it) = omega (arith, quiet.clean, no_doubt _ now) in
+    let was : IsClean (view it) = omega (arith, quiet.clean, no_doubt _ (clean_if_left end.pool left may_so)) in
     let first = fresh was in
-    let size = (state end).page_size in
+    let same = λ (db : Trees) (can : recovers end db).
+    settled_at it stay db (not_broken _ _ first.unbroken).1 (quiet.outcomes db can) in
+    let listed = λ (db : Trees) (can : recovers end db).
+    ap (λ (t : Trees). t catalog_tree) (same db can ∙ sym first.settled) ∙ first.listed in
     inr (inr (
       (view it).committed 0,
       ∣ found was ∣₁,
-      ∥∥₁_elim end.safe squash₁ (λ all.
-          let (pages, recs, ours) = all left may_so in
-          let db = reading end pages in
-          let same = settled_at it stay db (not_broken _ _ first.unbroken).1
-          (quiet.outcomes db (left, pages, may_so, ∣ recs ∣₁, refl)) in
-          ∥∥₁_elim (size_is_allowed end.pool) squash₁ (λ allowed. ∥∥₁_map ours (λ ours. inl (
-            size,
-            schema_in end pages,
-            pages,
-            allowed,
-            recs,
-            ours.file,
-            sym (catalog_rows size (schema_in end pages) _) ∙ ap (λ (t : Trees). t catalog_tree) (same ∙ sym first.settled)
-                ∙ first.listed,
-            ap (λ (t : Trees). t 0) same,
-          )))),
+      ∥∥₁_map (left_table end listed left may_so)
+          (λ (db, can, table). inl (subst (λ (t : Trees). IsTableOf left (t 0)) (same db can) table)),
     ))

@@ -1,19 +1,16 @@
 -- Maps of names, and their rows in a tree: one more, one less, sought by a name, and read one by one.
 use Rattle.argon2_store.proofs.Imports.{IfSome, IsUtf8, AreTexts, changed, subst, ◌≡◌, ◌≢◌, ◌⊎◌, ℕ, List, Option, Some, None, Bool, true, false, cond, inl, inr, refl, sym, ap, ◌∙◌}
-use Rattle.argon2_store.proofs.Imports.{cases_Bool, bytes_eq-Decides, nat_list_cmp_total, get, get-insert, get-remove, insert, remove, same_entries_map, same_map, slice_cmp-IsAntisymmetric}
-use Rattle.argon2_store.proofs.Imports.{nat_cmp-IsAntisymmetric, bytes_eq, KeepsOthers, Texts, ap₂, zero, suc, ◌+◌, ◌^◌, ◌≤◌, arith, length, [], ◌∷◌, map, T, not}
+use Rattle.argon2_store.proofs.Imports.{bytes_eq-Decides, nat_list_cmp_total, get, get-insert, get-remove, insert, remove, same_entries_map, same_map, slice_cmp-IsAntisymmetric}
+use Rattle.argon2_store.proofs.Imports.{nat_cmp-IsAntisymmetric, bytes_eq, KeepsOthers, Texts, ap₂, ◌+◌, ◌^◌, ◌≤◌, arith, length, [], ◌∷◌, map, T, not}
 use Rattle.argon2_store.proofs.Imports.{Ordering, Less, Equal, Greater, is_eq, and_parts, All, tied_itself, slice_cmp, get-entries, entries, entries-insert}
 use Rattle.argon2_store.proofs.Imports.{entries_sorted, find, put, is_sorted, below_all, AllByRecursion, eq_by_cmp, is_lt, nat_cmp, ordering_reverse}
 use Rattle.argon2_store.proofs.Imports.{ordering_then, Text, plain, entry_cmp, Row, column, number, row_cmp, value_cmp-Text, insert_entry, remove_entry, IsStorable, is_int}
 use Rattle.argon2_store.proofs.Imports.{row_of, rows_of, IsLong, IsTrue, prefix_cmp, Index, Forward, from_key, order_of, sought, View, Advances, with_cursor}
-use Rattle.argon2_store.proofs.Imports.{HasNoneAfter, IsAfterAll, IsFoundAs, ◌++◌, append_assoc, append-nil, empty, len-empty, len-entries, get-empty, ⊤, Ghosts, Trees, IsIndex, IsOrdered, IsAccount, Holds}
-use Rattle.argon2_store.proofs.Imports.{IsUnwritten, IsHonest, IsKept}
-use Rattle.std.proofs.lemmas.Bool.{cases_lt}
-use Rattle.std.proofs.lemmas.List.{nil_from_length}
+use Rattle.argon2_store.proofs.Imports.{HasNoneAfter, IsAfterAll, IsFoundAs, ◌++◌, append_assoc, append-nil, empty, len-empty, len-entries, get-empty, ⊤, Ghosts, IsIndex, IsOrdered, IsAccount}
+use Rattle.argon2_store.proofs.Imports.{IsUnwritten, IsHonest, IsKept, cases_lt, nil_from_length, less}
 use Rattle.std.proofs.lemmas.Map.Text.{is_eq-slice_cmp}
-use Rattle.std.specs.Cmp.{Equal-is}
+use Rattle.std.proofs.lemmas.Option.{same_Some}
 use Rattle.std.specs.Float.{NotNan}
-use Rattle.sqlite_store.proofs.OrderLemmas.{less}
 use Rattle.sqlite_store.proofs.RowLemmas.{from_key-none}
 use Rattle.sqlite_value.proofs.KeyLemmas.{entry_cmp-plain}
 use Rattle.sqlite_trees.proofs.ListLemmas.{filter_all}
@@ -30,16 +27,10 @@ pub get-changed : (m : Texts) (n : List ℕ) (o : Option (List ℕ)) → get (ch
 get-changed m n o = get-at m n n o ∙ ap (λ b. cond b o (get m n)) ((bytes_eq-Decides n n).1 refl)
 
 pub others_kept : (m : Texts) (n : List ℕ) (o : Option (List ℕ)) → KeepsOthers n m (changed m n o)
-others_kept m n o q differs = elim (cases_Bool (bytes_eq q n)) [
-  | inl hit ↦ absurd (differs ((bytes_eq-Decides q n).0 hit))
-  | inr miss ↦ get-at m n q o ∙ rw miss refl
-]
+others_kept m n o q differs = let at = get-at m n q o in let test = bytes_eq-Decides q n in grind arith
 
 pub one_or_other : (q n : List ℕ) → (q ≡ n) ⊎ (q ≢ n)
-one_or_other q n = elim (cases_Bool (bytes_eq q n)) [
-  | inl hit ↦ inl ((bytes_eq-Decides q n).0 hit)
-  | inr miss ↦ inr (λ is. let hit = (bytes_eq-Decides q n).1 is in cc)
-]
+one_or_other q n = let test = bytes_eq-Decides q n in grind arith
 
 -- a name that gets back what it had
 pub changed_back : (m changed_m : Texts) (n : List ℕ) (o : Option (List ℕ)) → KeepsOthers n m changed_m → get m n ≡ o
@@ -93,25 +84,15 @@ row_cmp-row_of e f = entry_cmp-plain (row_of e) (row_of f)
     ∙ ap (λ o. ordering_then o (row_cmp (Text e.1 ∷ []) (Text f.1 ∷ []))) (value_cmp-Text e.0 f.0)
 
 untied : (b : Bool) (v : List ℕ) (o : Option (List ℕ)) → cond b (Some v) o ≡ None → (b ≡ false) × (o ≡ None)
-untied true v o h = absurd cc
-untied false v o h = (refl, h)
-
-flipped : (o p : Ordering) → p ≡ ordering_reverse o → is_eq o ≡ false
-    → ((o ≡ Less) × (p ≡ Greater)) ⊎ ((o ≡ Greater) × (p ≡ Less))
-flipped Less p flip differ = inl (refl, flip)
-flipped Equal p flip differ = absurd cc
-flipped Greater p flip differ = inr (refl, flip)
+untied b v o h = grind arith
 
 -- of two names that differ one is below the other
 apart : (j k : List ℕ) → eq_by_cmp order j k ≡ false
     → ((order j k ≡ Less) × (order k j ≡ Greater)) ⊎ ((order j k ≡ Greater) × (order k j ≡ Less))
-apart j k = flipped (order j k) (order k j) (nat_list_cmp_total.antisymm k j)
+apart j k differ = let back = nat_list_cmp_total.antisymm j k in grind arith
 
 unequal : (j k : List ℕ) → (j ≡ k → ⊥) → eq_by_cmp order j k ≡ false
-unequal j k differ = elim (cases_Bool (eq_by_cmp order j k)) [
-  | inl hit ↦ absurd (differ (slice_cmp-IsAntisymmetric nat_cmp-IsAntisymmetric j k ((Equal-is (order j k)).0 hit)))
-  | inr miss ↦ miss
-]
+unequal j k differ = let same = slice_cmp-IsAntisymmetric nat_cmp-IsAntisymmetric j k in grind arith
 
 -- ---- one more name
 
@@ -119,12 +100,11 @@ insert_entry-map : (k v : List ℕ) (es : List (List ℕ × List ℕ)) → find 
     → insert_entry plain (row_of (k, v)) (map row_of es) ≡ map row_of (put order k v es)
 insert_entry-map k v [] none = refl
 insert_entry-map k v (e ∷ es) none =
-    let (differ, later) = untied (eq_by_cmp order k e.0) e.1 (find order k es) none in
-    elim (apart k e.0 differ) [
-      | inl low ↦ rw (row_cmp-row_of e (k, v), low.1, low.0) refl
-      | inr high ↦
-          rw (row_cmp-row_of e (k, v), high.1, high.0) (ap (λ l. row_of e ∷ l) (insert_entry-map k v es later))
-    ]
+    let parts = untied (eq_by_cmp order k e.0) e.1 (find order k es) none in
+    let two = apart k e.0 parts.0 in
+    let cmp = row_cmp-row_of e (k, v) in
+    let rest = insert_entry-map k v es parts.1 in
+    grind arith
 
 pub insert_entry-rows_of : (names : Texts) (name v : List ℕ) → get names name ≡ None
     → insert_entry plain (row_of (name, v)) (rows_of names) ≡ rows_of (insert names name v)
@@ -137,10 +117,7 @@ insert_entry-rows_of names name v none =
 -- the row of another name differs
 differs : (k u : List ℕ) (e : List ℕ × List ℕ) → eq_by_cmp order k e.0 ≡ false
     → is_eq (entry_cmp plain (row_of e) (row_of (k, u))) ≡ false
-differs k u e differ = elim (apart k e.0 differ) [
-  | inl low ↦ rw (row_cmp-row_of e (k, u), low.1) refl
-  | inr high ↦ rw (row_cmp-row_of e (k, u), high.1) refl
-]
+differs k u e differ = let cmp = row_cmp-row_of e (k, u) in let two = apart k e.0 differ in grind arith
 
 all_differ : (k u : List ℕ) (es : List (List ℕ × List ℕ)) → find order k es ≡ None
     → AllByRecursion (λ r. not (is_eq (entry_cmp plain r (row_of (k, u)))) ≡ true) (map row_of es)
@@ -150,12 +127,7 @@ all_differ k u (e ∷ es) none =
     (ap not (differs k u e parts.0), all_differ k u es parts.1)
 
 itself : (e : List ℕ × List ℕ) → entry_cmp plain (row_of e) (row_of e) ≡ Equal
-itself e = rw (
-  row_cmp-row_of e e,
-  tied_itself nat_list_cmp_total e.0,
-  value_cmp-Text e.1 e.1,
-  tied_itself nat_list_cmp_total e.1,
-) refl
+itself e = grind (arith, row_cmp-row_of, value_cmp-Text, tied_itself nat_list_cmp_total e.0, tied_itself nat_list_cmp_total e.1)
 
 -- a row that was put among others is taken out again
 taken : (k u : List ℕ) (es : List (List ℕ × List ℕ)) → find order k es ≡ None
@@ -186,15 +158,11 @@ remove_entry-rows_of names name u has =
 -- ---- long rows
 
 no_int : (e : List ℕ × List ℕ) (c : ℕ) → is_int (column (row_of e) c) ≡ false
-no_int e zero = refl
-no_int e (suc zero) = refl
-no_int e (suc (suc c)) = refl
+no_int e c = grind arith
 
 numbers : (e : List ℕ × List ℕ) → All (λ v. NotNan (number v)) (row_of e)
 unfolding Ieee.is_nan
-numbers e zero d h = tt
-numbers e (suc zero) d h = tt
-numbers e (suc (suc c)) d h = absurd (omega (arith, h))
+numbers e c d h = grind arith
 
 -- a row that may not be stored is long
 pub is_long : (reals : ℕ) (row : Row) (name v : List ℕ) → row ≡ row_of (name, v) → length v ≤ 326
@@ -213,7 +181,7 @@ is_long reals row name v is short not = elim (cases_lt (10 ^ 9) (362 + length na
 
 -- over the name's column alone, a row compares with a key as its name does
 row_by_name : (e : List ℕ × List ℕ) (k : List ℕ) → prefix_cmp plain (row_of e) (Text k ∷ []) ≡ order e.0 k
-row_by_name e k = prefix_cmp-one (Text e.0) (Text e.1 ∷ []) (Text k) ∙ value_cmp-Text e.0 k
+row_by_name e k = grind (arith, prefix_cmp-one (Text e.0) (Text e.1 ∷ []) (Text k), value_cmp-Text)
 
 -- a name below one that all others are above has no text
 none_below : (k n : List ℕ) (es : List (List ℕ × List ℕ)) → order k n ≡ Less → below_all order n es ≡ true
@@ -235,17 +203,14 @@ stands : (k : List ℕ) (es : List (List ℕ × List ℕ)) → is_sorted order e
 stands k [] sorted = refl
 stands k (e ∷ es) sorted =
     let parts = and_parts (below_all order e.0 es) _ sorted in
-    elim (one_or_other e.0 k) [
-      | inl one ↦
-          let tied = tied_itself nat_list_cmp_total k in
-          rw (row_by_name e k, ap (λ n. order n k) one ∙ tied, ap (order k) one ∙ tied)
-          (λ same. (e.1, refl, ap (λ n. row_of (n, e.1)) one), λ other. absurd (other (ap Text one)))
-      | inr differ ↦ elim (apart k e.0 (unequal k e.0 (λ one. differ (sym one)))) [
-        | inl low ↦ rw (row_by_name e k, low.1, low.0)
-            (λ same. absurd (differ (let one : e.0 ≡ k = cc same in one)), λ other. none_below k e.0 es low.0 parts.0)
-        | inr high ↦ rw (row_by_name e k, high.1, high.0) (stands k es parts.1)
-      ]
-    ]
+    let rest = stands k es parts.1 in
+    let same = one_or_other e.0 k in
+    let two = apart k e.0 in
+    let far = unequal k e.0 in
+    let by = row_by_name e k in
+    let low = none_below k e.0 es in
+    let tied = tied_itself nat_list_cmp_total k in
+    grind arith
 
 stood : (names : Texts) (k : List ℕ) (rows : List Row) → from_key plain (Text k ∷ []) (rows_of names) ≡ rows
     → Stands k (get names k) rows
@@ -262,21 +227,17 @@ none_at k (e ∷ es) h =
 all_below : (k n : List ℕ) (es : List (List ℕ × List ℕ)) → order k n ≡ Less
     → from_key plain (Text k ∷ []) (map row_of es) ≡ [] → AllByRecursion (λ e. order e.0 n ≡ Less) es
 all_below k n [] after h = tt
-all_below k n (e ∷ es) after h = elim (cases_Bool (is_lt (order e.0 k))) [
-  | inl low ↦ (
-    nat_list_cmp_total.trans e.0 k n (less _ low) after,
-    all_below k n es after (rw (row_by_name e k, low) at h),
-  )
-  | inr high ↦ absurd (let never = rw (row_by_name e k, high) at h in cc)
-]
+all_below k n (e ∷ es) after h =
+    let by = row_by_name e k in
+    let rest = all_below k n es after in
+    let trans = nat_list_cmp_total.trans e.0 k n in
+    let low = less (order e.0 k) in
+    grind arith
 
 none_after : (names : Texts) (k : List ℕ) → from_key plain (Text k ∷ []) (rows_of names) ≡ [] → HasNoneAfter names k
 none_after names k h n after = get-entries names n ∙ none_at n (entries names) (all_below k n (entries names) after h)
 
 -- ---- the calls of a look-up
-
-tails : (xs ys : List Row) → Some xs ≡ Some ys → xs ≡ ys
-tails xs ys h = cc
 
 module _ (old mid new : View) (names : Texts) (k : List ℕ) (key met : Row) (shape : old.shape 0 ≡ Index plain)
     (rows : old.trees 0 ≡ rows_of names) (at : key ≡ Text k ∷ [])
@@ -288,13 +249,13 @@ module _ (old mid new : View) (names : Texts) (k : List ℕ) (key met : Row) (sh
   pub gives : Advances mid new 1 met true → (b : Bool) → (IsTrue b → column met 0 ≡ column key 0)
       → (column met 0 ≡ column key 0 → IsTrue b) → IsFoundAs names k (Some b) met
   gives moves true same back =
-      (stood names k (met ∷ moves.0) (tails _ _ (sym placed ∙ moves.1))).0 (same refl ∙ ap (λ r. column r 0) at)
-  gives moves false same back = (stood names k (met ∷ moves.0) (tails _ _ (sym placed ∙ moves.1))).1
+      (stood names k (met ∷ moves.0) (same_Some _ _ (sym placed ∙ moves.1))).0 (same refl ∙ ap (λ r. column r 0) at)
+  gives moves false same back = (stood names k (met ∷ moves.0) (same_Some _ _ (sym placed ∙ moves.1))).1
       (λ one. absurd (let wrong = back (one ∙ sym (ap (λ r. column r 0) at)) in cc))
 
   pub ends : Advances mid new 1 met false → IsAfterAll names k
   ends moves =
-      let none = tails _ [] (sym placed ∙ moves.0) in
+      let none = same_Some _ [] (sym placed ∙ moves.0) in
       (stood names k [] none, none_after names k none)
 
 -- ---- reading the rows of a table one by one
@@ -348,11 +309,10 @@ lower : (k v : List ℕ) (es : List (List ℕ × List ℕ)) (last : Row) → is_
     → (Text k ≡ column last 0 → ⊥) → AllByRecursion (λ x. entry_cmp plain x (row_of (k, v)) ≡ Less) (map row_of es)
     → AllByRecursion (λ e. order e.0 k ≡ Less) es
 lower k v [] last sorted is other h = tt
-lower k v (e ∷ []) last sorted is other h = elim (apart e.0 k (unequal e.0 k (λ one.
-    other (ap Text (sym one) ∙ ap (λ r. column r 0) (sym is))))) [
-      | inl low ↦ (low.0, tt)
-      | inr high ↦ absurd (let above = rw (row_cmp-row_of e (k, v), high.0) at h.0 in cc)
-    ]
+lower k v (e ∷ []) last sorted is other h =
+    let two = apart e.0 k (unequal e.0 k (λ one. other (ap Text (sym one) ∙ ap (λ r. column r 0) (sym is)))) in
+    let cmp = row_cmp-row_of e (k, v) in
+    grind arith
 lower k v (e ∷ f ∷ es) last sorted is other h =
     let parts = and_parts (below_all order e.0 (f ∷ es)) _ sorted in
     let rest = lower k v (f ∷ es) last parts.1 is other h.1 in
@@ -364,7 +324,7 @@ pub step : (first now next : View) (met last : Row) (before : Texts) → IsOrder
     → Advances now next 0 met true → (is : IsAccount met) → (column met 0 ≡ column last 0 → ⊥)
     → IsReading first next (insert before is.0.0 is.0.1) × LastIs (rows_of (insert before is.0.0 is.0.1)) met
 step first now next met last before ordered shape reading ended moves ((k, v), named, good, at) apart =
-    let rest = tails reading.rest (met ∷ moves.0) (sym reading.left ∙ moves.1) in
+    let rest = same_Some reading.rest (met ∷ moves.0) (sym reading.left ∙ moves.1) in
     let all : rows_of before ++ met ∷ moves.0 ≡ first.trees 0 = ap (λ l. rows_of before ++ l) (sym rest) ∙ reading.all in
     let index : IsIndex plain (first.trees 0) = rw shape at (ordered 0) in
     let here = subst (λ r. AllByRecursion (λ x. entry_cmp plain x r ≡ Less) (rows_of before)) at
@@ -390,22 +350,7 @@ pub all_read : {S : Type 0} (g : Ghosts S) (old new : S) (names : Texts) (met : 
     → (g.view old).shape 0 ≡ Index plain → (mid : S) → (IsHonest g new → IsReading (g.view old) (g.view mid) names)
     → (IsHonest g new → Advances (g.view mid) (g.view new) 0 met false)
     → IsKept g new names × (IsHonest g new → (g.view old).committed 0 ≡ rows_of names)
-all_read g old new names met earlier fresh shape mid reading ended =
-    let rows : IsHonest g new → rows_of names ≡ (g.view old).trees 0 = λ clean.
-    let last = tails (reading clean).rest [] (sym (reading clean).left ∙ (ended clean).0) in
-    sym (append-nil (rows_of names)) ∙ ap (λ l. rows_of names ++ l) (sym last) ∙ (reading clean).all in
-    let same : IsHonest g new → g.view new ≡ record (g.view old) { cursors = (g.view new).cursors } = λ clean.
-    rw (ended clean).1 (reading clean).same in (
-      record {
-        indexed = λ clean is_open. rw (same clean) shape;
-        shapes = λ clean is_open. rw (same clean) (fresh (earlier clean)).shapes;
-        sound = λ clean is_open. rw (same clean) (fresh (earlier clean)).unbroken;
-        seen = λ clean is_open. rw (same clean) (sym (rows clean), (fresh (earlier clean)).listed);
-        committed = λ clean is_open. rw (same clean)
-            (subst (λ t. Holds t names) (fresh (earlier clean)).settled (sym (rows clean), (fresh (earlier clean)).listed));
-      },
-      λ clean. ap (λ (t : Trees). t 0) (sym (fresh (earlier clean)).settled) ∙ sym (rows clean),
-    )
+all_read g old new names met earlier fresh shape mid reading ended = grind (arith, append-nil)
 
 abbrev empty_store : Texts
 empty_store = empty

@@ -111,8 +111,7 @@ module _ {S : Type 0} {g : Ghosts S} (settled : Settled g) (terms : Terms) (firs
 
     late_names : (es : List (List ℕ × List ℕ)) (left : Texts) → (left ≡ before.names) ⊎ AddsAll before.names es left
         → (left ≡ before.names) ⊎ ((late : List AccountEvent) × (late ≡ added es) × AccountRun terms before.names late left)
-    late_names es left (inl is) = inl is
-    late_names es left (inr adds) = inr (added es, refl, added_run terms es before.names left adds)
+    late_names es left may = grind (arith, added_run)
 
     -- a refusal leaves what was there
     refused_left : StaysQuiet g (database_of old) (database_of new) → IsHonest g (database_of new) → IsOpen g (database_of old)

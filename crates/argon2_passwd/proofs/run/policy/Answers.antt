@@ -6,9 +6,7 @@ use Rattle.argon2_passwd.proofs.Served.{in_any_case}
 use Rattle.argon2_passwd.proofs.run.policy.Goals as goal
 
 unsound : (terms : Terms) (e : AccountError) → PolicyRefusal terms e → AreTerms terms → ⊥
-unsound terms (Refused e) is sound = omega (arith, is.1, sound.is_target.tag_length)
-unsound terms TooExpensive is sound = is.1 sound.within
-unsound terms e is sound = is
+unsound terms e is sound = grind arith
 
 pub returns-in_err-policy-clause-err : goal.returns-in_err-policy-clause-err
 returns-in_err-policy-clause-err g c =

@@ -1,5 +1,5 @@
-use Rattle.argon2_store.proofs.Imports.{arith, rules, ℕ, [], ◌∷◌, inl, inr, ◌≡◌, sym, ap, ap₂, subst, subst₂, ◌∙◌, IsTrue, ∥∥₁_map, if◌then◌else◌, Recovers}
-use Rattle.argon2_store.proofs.Imports.{clean_of, no_trees, IsFile, FileStore, schema_of, state, view, file_trees, kept_schema, state_of, image, account}
+use Rattle.argon2_store.proofs.Imports.{arith, rules, ℕ, [], ◌∷◌, inl, inr, ◌≡◌, ap, subst, subst₂, ◌∙◌, IsTrue, ∥∥₁_map, Recovers}
+use Rattle.argon2_store.proofs.Imports.{clean_of, IsFile, FileStore, schema_of, state, view, file_trees, kept_schema, state_of, image, account}
 use Rattle.sqlite_disk.specs.declared.Disk.{Ghosts}
 use Rattle.argon2_store.proofs.OpenLemmas.{as_before, fresh, made}
 use Rattle.argon2_store.proofs.opening.attach.Goals as goal
@@ -7,9 +7,7 @@ use Rattle.argon2_store.proofs.opening.attach.Goals as goal
 committed_as : {D : Type 0} {g : Ghosts D} (it : FileStore D g) (size : ℕ)
     → IsTrue (state it).is_clean → (state it).page_size ≡ size → kept_schema it.saved (schema_of it) ≡ account ∷ []
     → file_trees size (account ∷ []) (state it).committed 0 ≡ (view it).committed 0
-committed_as it size clean sized same = sym (
-    ap₂ (λ n s. (if (state it).is_clean then file_trees n s (state it).committed else no_trees) 0) sized same
-    ∙ ap (λ b. (if b then file_trees size (account ∷ []) (state it).committed else no_trees) 0) clean)
+committed_as it size clean sized same = grind arith
 
 pub returns-in-Ok-clause-found : goal.returns-in-Ok-clause-found
 returns-in-Ok-clause-found g c clean =

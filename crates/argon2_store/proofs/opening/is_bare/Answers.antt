@@ -1,5 +1,4 @@
-use Rattle.argon2_store.proofs.Imports.{rules, ◌≡◌, inl, length, subst, Recovers, recovers_once}
-use Rattle.std.proofs.lemmas.List.{nil_from_length}
+use Rattle.argon2_store.proofs.Imports.{rules, ◌≡◌, inl, length, subst, Recovers, recovers_once, nil_from_length}
 use Rattle.argon2_store.proofs.OpenLemmas.{after, bare}
 use Rattle.argon2_store.proofs.opening.is_bare.Goals as goal
 

@@ -1,5 +1,4 @@
-use Rattle.argon2_store.proofs.Imports.{arith, rules, ◌≡◌, ◌≤◌, length, slice_index, sym, subst, ◌∙◌, IsSigned, header, held_is_part}
-use Rattle.std.proofs.lemmas.Bool.Decides.{Decides-not}
+use Rattle.argon2_store.proofs.Imports.{arith, rules, ◌≡◌, ◌≤◌, length, slice_index, sym, subst, ◌∙◌, IsSigned, header, held_is_part, Decides-not}
 use Rattle.sqlite_disk.specs.Disk.{Holds}
 use Rattle.argon2_store.proofs.opening.is_damaged.Goals as goal
 

@@ -4,25 +4,23 @@ use Rattle.argon2_store.proofs.opening.open_files.Goals as goal
 
 pub attach-requires-clause-blank : goal.attach-requires-clause-blank
 attach-requires-clause-blank g c =
-    probed (c.args.files.log, c.args.files.db) c.in-Ok-new-2.unopened _
-    (c.in-Ok-new-2.ensures.files ∙ c.in-Ok-new.ensures.files) (c.probe_blank.ensures.log, c.probe_blank.ensures.db)
-    c.in-Ok.is_new c.in-Some.size.bytes (c.in-Ok-new-2.ensures.size ∙ c.in-Ok-new.ensures.size) c.in-Ok.ensures.ok
+    probed c.probe_blank.ensures.log c.probe_blank.ensures.db c.in-Ok-new-2.unopened
+    (c.in-Ok-new-2.ensures.files ∙ c.in-Ok-new.ensures.files) c.in-Ok.is_new c.in-Some.size.bytes
+    (c.in-Ok-new-2.ensures.size ∙ c.in-Ok-new.ensures.size) c.in-Ok.ensures.ok
 
 pub returns-in-Ok-attach-clause-found : goal.returns-in-Ok-attach-clause-found
 returns-in-Ok-attach-clause-found g c clean =
     subst₂ (λ n i. FoundIn n i ((view c.in-Ok-attach.store).committed 0)) (search rules)
-    (image_is (c.args.files.log, c.args.files.db) c.in-Ok-new-2.unopened _
-    (c.in-Ok-new-2.ensures.files ∙ c.in-Ok-new.ensures.files) (c.probe_blank.ensures.log, c.probe_blank.ensures.db))
-    (c.in-Ok-attach.ensures.found clean)
+    (image_is c.probe_blank.ensures.log c.probe_blank.ensures.db c.in-Ok-new-2.unopened
+    (c.in-Ok-new-2.ensures.files ∙ c.in-Ok-new.ensures.files)) (c.in-Ok-attach.ensures.found clean)
 
 pub returns-in-Err-attach-clause-left : goal.returns-in-Err-attach-clause-left
 returns-in-Err-attach-clause-left g c =
-    unharmed (c.args.files.log, c.args.files.db) c.in-Ok-new-2.unopened _
-    (c.in-Ok-new-2.ensures.files ∙ c.in-Ok-new.ensures.files) (c.probe_blank.ensures.log, c.probe_blank.ensures.db)
-    (search rules) c.in-Err-attach.left _ c.close-in-Err-attach.ensures c.in-Err-attach.ensures.left
+    unharmed c.probe_blank.ensures.log c.probe_blank.ensures.db c.in-Ok-new-2.unopened
+    (c.in-Ok-new-2.ensures.files ∙ c.in-Ok-new.ensures.files) (search rules) c.in-Err-attach.left _
+    c.close-in-Err-attach.ensures c.in-Err-attach.ensures.left
 
 pub returns-in-Ok-attach-clause-honest : goal.returns-in-Ok-attach-clause-honest
 returns-in-Ok-attach-clause-honest g c clean =
-    was_clean (c.args.files.log, c.args.files.db) c.in-Ok-new-2.unopened _
-    (c.in-Ok-new-2.ensures.files ∙ c.in-Ok-new.ensures.files) (c.probe_blank.ensures.log, c.probe_blank.ensures.db)
-    (c.in-Ok-attach.ensures.honest clean)
+    was_clean c.probe_blank.ensures.log c.probe_blank.ensures.db c.in-Ok-new-2.unopened
+    (c.in-Ok-new-2.ensures.files ∙ c.in-Ok-new.ensures.files) (c.in-Ok-attach.ensures.honest clean)

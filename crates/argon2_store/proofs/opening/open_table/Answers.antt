@@ -1,12 +1,11 @@
-use Rattle.argon2_store.proofs.Imports.{arith, ◌≡◌, ◌⊎◌, inl, inr, subst, subst₂, sym, ◌∙◌, view, IsClean, halves, IsOfDatabase, FoundIn}
+use Rattle.argon2_store.proofs.Imports.{arith, ◌≡◌, ◌⊎◌, inl, subst₂, view, IsClean, halves, IsOfDatabase, FoundIn}
 use Rattle.argon2_store.specs.declared.error.OpenError.{OpenError}
 use Rattle.argon2_store.specs.declared.error.OpenError.TheVariants.{DamagedLog, Row as NoAccount}
 use Rattle.argon2_store.proofs.OpenLemmas.{seen_same, unharmed_by_reads, unharmed_then}
 use Rattle.argon2_store.proofs.opening.open_table.Goals as goal
 
 not_log : (e : OpenError) → (e ≡ NoAccount) ⊎ IsOfDatabase e → e ≡ DamagedLog → ⊥
-not_log e (inl row) is = let both : NoAccount ≡ DamagedLog = sym row ∙ is in cc
-not_log e (inr of_database) is = subst IsOfDatabase is of_database
+not_log e why is = grind arith
 
 pub returns-in-Err-clause-unharmed : goal.returns-in-Err-clause-unharmed
 returns-in-Err-clause-unharmed g c clean left may = inl (c.is_damaged.ensures.same.crash left.log may.0, may.1)

@@ -1,5 +1,4 @@
-use Rattle.argon2_store.proofs.Imports.{arith, ap, sym, inl, refl, HasNoneAfter, AreTexts, PasswordHash, Texts, List, Ghosts, StoreError, Writes, IsLong, OnOk, IsTrue, IsUtf8, Bool, false, tied_itself, nat_list_cmp_total, slice_cmp, nat_cmp, AddsName, ◌∙◌, ◌≡◌, ℕ, None, Some, Ok, Err, Result, get, insert, phc_of, text_of, IsHonest, err_is}
-use Rattle.argon2_base.specs.PhcText.{PhcText}
+use Rattle.argon2_store.proofs.Imports.{arith, ap, sym, inl, refl, HasNoneAfter, AreTexts, PasswordHash, Texts, List, Ghosts, StoreError, Writes, IsLong, OnOk, IsTrue, IsUtf8, Bool, both_ways, tied_itself, nat_list_cmp_total, AddsName, ◌∙◌, ◌≡◌, ℕ, None, Some, Ok, Err, Result, get, insert, phc_of, text_of, IsHonest, err_is, PhcText}
 use Rattle.argon2_store.proofs.RowLemmas.{get-changed, others_kept, texts_changed}
 use Rattle.argon2_store.proofs.TableLemmas.{on_all, reads_ok, writes_more, writes_nothing, writes_row, writes_then}
 use Rattle.argon2_store.proofs.TextLemmas.{text_is_utf8}
@@ -31,15 +30,11 @@ module _ {S : Type 0} (g : Ghosts S) {old mid new : S} (before : Texts) (name te
         texts_changed before name (Some (text_of hash)) texts named (text_is_utf8 (phc_of hash) hash.grammatical),
         writes_then read wrote (λ long. long),
         on_all r (λ clean.
-            let first = none (omega (arith, clean, wrote.quiet.clean)) in (
-              (
-                (first.0, (phc_of hash, is), get-changed before name (Some (text_of hash)) ∙ ap Some (sym is.1)),
-                others_kept before name (Some (text_of hash)),
-              ),
-              λ last later less. others_kept before name (Some (text_of hash)) later
-                  (λ same. let tied = sym (tied_itself nat_list_cmp_total name) ∙ ap (slice_cmp nat_cmp name) (sym same) ∙ less in
-                  cc) ∙ first.1 last later less,
-            )),
+            let first = none (omega (arith, clean, wrote.quiet.clean)) in
+            let has = get-changed before name (Some (text_of hash)) in
+            let others = others_kept before name (Some (text_of hash)) in
+            let tied = tied_itself nat_list_cmp_total name in
+            (((first.0, (phc_of hash, is), has ∙ ap Some (sym is.1)), others), λ last later less. grind arith)),
       )
 
 pub returns-then-is_last-clause-writes : goal.returns-then-is_last-clause-writes
@@ -63,16 +58,13 @@ returns-in-Ok-Some-true-clause-writes g c before texts sees last = (
       ),
 )
 
-not_both : (b : Bool) → b ≡ false → IsTrue b → ⊥
-not_both b off is = cc
-
 pub returns-in-Ok-Some-false-clause-writes : goal.returns-in-Ok-Some-false-clause-writes
 returns-in-Ok-Some-false-clause-writes g c before texts sees last =
     added g.S.Store before c.args.name.now _ c.in_ok-hash.hash _ c.put-in-Ok-Some-false.result c.utf8.name c.in_ok-hash.ensures.found texts
     (reads_ok g.S.Store c.in-Ok-Some-false.ensures.same c.find.ensures.schema c.find.ensures.quiet) (λ clean. (
       (rw (c.in-Ok-Some-false.field-0-is, c.in-Ok-Some-false.field-0-0-test) at c.in-Ok-Some-false.ensures.found) before clean
           (sees (omega (arith, clean, c.find.ensures.quiet.clean)) (c.in-Ok-Some-false.ensures.sound clean)).0,
-      λ is. absurd (not_both _ c.if-is_last.false is),
+      λ is. absurd (both_ways _ c.if-is_last.false is),
     ))
     (c.put-in-Ok-Some-false.ensures.writes before)
 

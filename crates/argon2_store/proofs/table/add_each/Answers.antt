@@ -1,5 +1,5 @@
 use Rattle.argon2_store.proofs.Imports.{◌<◌, ◌≡◌, arith, length, ℕ, List, [], Err, refl, subst, take, map, get_or, sym, Bor, get_or-map, length-map, map_more}
-use Rattle.argon2_store.proofs.Imports.{take-map, take_all, Any, AddsAll, AddsName, entry_of, IsHonest, IsLong, Sees, Texts, HasNoneAfter, IsAfterAll, Less, slice_cmp, nat_cmp, nat_list_cmp_total}
+use Rattle.argon2_store.proofs.Imports.{take-map, take_all, Any, AddsAll, AddsName, entry_of, IsLong, Texts, HasNoneAfter, IsAfterAll, Less, slice_cmp, nat_cmp, nat_list_cmp_total}
 use Rattle.argon2_store.proofs.AddLemmas.{add_last}
 use Rattle.argon2_store.proofs.TableLemmas.{keeps_index, writes_nothing, writes_then}
 use Rattle.argon2_store.proofs.table.add_each.Goals as goal
@@ -20,11 +20,7 @@ some_long new i within long = (
 -- a name after the last one is after all if that is
 past : {P Q : Type 0} (names : Texts) (last name : List ℕ) → (P → Q × (slice_cmp nat_cmp last name ≡ Less))
     → {H : Type 0} → (Q → H → HasNoneAfter names last) → P → H → IsAfterAll names name
-past names last name later none is clean =
-    let (was, less) = later is in (
-      none was clean name less,
-      λ other above. none was clean other (nat_list_cmp_total.trans last name other less above),
-    )
+past names last name later none is clean = search (arith, nat_list_cmp_total.trans)
 
 pub add-requires : goal.add-requires
 add-requires g c = c.loop-k.invariant.0
@@ -43,9 +39,8 @@ loop-k-init g c = (
 pub returns-in-Ok-Err : goal.returns-in-Ok-Err
 returns-in-Ok-Err g c before texts sees =
     let (mid, fine, all, wrote) = c.loop-k.invariant.1 before texts sees in
-    let seen : IsHonest g.S.Store c.loop-k.store → Sees (g.S.Store.view c.loop-k.store) mid = λ clean.
-    wrote.sees clean (sees (omega (arith, clean, wrote.quiet.clean))) in
-    let (after, good, more, done) = (rw c.in-Ok-Err.field-0-is at (c.in-Ok-Err.ensures.writes mid fine seen
+    let (after, good, more, done) = (rw c.in-Ok-Err.field-0-is at (c.in-Ok-Err.ensures.writes mid fine
+    (λ clean. wrote.sees clean (sees (omega (arith, clean, wrote.quiet.clean))))
     (past mid _ _ c.comes_after-is_last.ensures (λ is clean. (all clean).1 is)))) in (
       after,
       good,
@@ -56,9 +51,8 @@ returns-in-Ok-Err g c before texts sees =
 pub returns-in-Err : goal.returns-in-Err
 returns-in-Err g c before texts sees =
     let (mid, fine, all, wrote) = c.loop-k.invariant.1 before texts sees in
-    let seen : IsHonest g.S.Store c.loop-k.store → Sees (g.S.Store.view c.loop-k.store) mid = λ clean.
-    wrote.sees clean (sees (omega (arith, clean, wrote.quiet.clean))) in
-    let (after, good, more, why) = c.in-Err.ensures.writes mid fine seen
+    let (after, good, more, why) = c.in-Err.ensures.writes mid fine
+    (λ clean. wrote.sees clean (sees (omega (arith, clean, wrote.quiet.clean))))
     (past mid _ _ c.comes_after-is_last.ensures (λ is clean. (all clean).1 is)) in
     let new = c.args.new.now in
     let es = map entry_of new in (
@@ -79,9 +73,8 @@ loop-k-preserved g c = (
   keeps_index g.S.Store c.add.ensures.schema c.add.ensures.quiet c.loop-k.invariant.0,
   λ before texts sees.
       let (mid, fine, all, wrote) = c.loop-k.invariant.1 before texts sees in
-      let seen : IsHonest g.S.Store c.loop-k.store → Sees (g.S.Store.view c.loop-k.store) mid = λ clean.
-      wrote.sees clean (sees (omega (arith, clean, wrote.quiet.clean))) in
-      let (after, good, more, done) = (rw c.in-Ok-Ok.field-0-is at (c.in-Ok-Ok.ensures.writes mid fine seen
+      let (after, good, more, done) = (rw c.in-Ok-Ok.field-0-is at (c.in-Ok-Ok.ensures.writes mid fine
+      (λ clean. wrote.sees clean (sees (omega (arith, clean, wrote.quiet.clean))))
       (past mid _ _ c.comes_after-is_last.ensures (λ is clean. (all clean).1 is)))) in
       let new = c.args.new.now in
       let within : c.loop-k.k < length new = c.loop-k-test.true in

@@ -1,5 +1,4 @@
-use Rattle.argon2_store.proofs.Imports.{◌∙◌, sym, ap, is_lt}
-use Rattle.sqlite_store.proofs.OrderLemmas.{less}
+use Rattle.argon2_store.proofs.Imports.{◌∙◌, sym, ap, is_lt, less}
 use Rattle.argon2_store.proofs.table.comes_after.Goals as goal
 
 pub returns-then-is_last : goal.returns-then-is_last

@@ -10,8 +10,7 @@ use Rattle.argon2_passwd.proofs.run.accounts.add_all.Goals as goal
 
 -- only a refusal of the accounts fails as one
 by_account : (e : FileError) (why : AccountError) → IsOfFile e (failure.Account why) → e ≡ Account why
-by_account e why is = of_account (e ≡ Account why) e (failure.Account why) is refl
-    (λ refusal same. rw same (ap Account (sym (rw same at is).0)))
+by_account e why is = grind (arith, is_account)
 
 pub returns-in-Account : goal.returns-in-Account
 returns-in-Account g c =

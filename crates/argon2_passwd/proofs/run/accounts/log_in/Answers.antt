@@ -1,4 +1,4 @@
-use Rattle.std.proofs.Common.{◌≡◌, ℕ, List, [], Option, Some, None, Ok, Err, inl, inr, refl, ap, subst, sym}
+use Rattle.std.proofs.Common.{arith, ◌≡◌, ℕ, List, [], Option, Some, None, Ok, Err, inl, inr, refl, ap, subst, sym}
 use Rattle.std.specs.Prelude.{string_bytes, ◌↔◌, IsSome}
 use Rattle.argon2_base.specs.PhcFields.{phc_of}
 use Rattle.argon2_base.specs.PhcText.{Phc, PhcText}
@@ -15,14 +15,11 @@ use Rattle.argon2_passwd.proofs.run.accounts.log_in.Goals as goal
 -- a login without a fresh text has nothing to write
 not_renewed : (did : Accepted) (fresh : Option PasswordHash) → fresh ≡ None
     → IsSome fresh ↔ (did ≡ Rehashed) → unwritten did ≡ did
-not_renewed Current fresh none is = refl
-not_renewed Kept fresh none is = refl
-not_renewed Rehashed fresh none is =
-    absurd (let some : IsSome fresh = is.1 refl in let never = rw none at some in cc)
+not_renewed did fresh none is = grind arith
 
 renewed : (did : Accepted) (fresh : Option PasswordHash) (text : PasswordHash) → fresh ≡ Some text
     → IsSome fresh ↔ (did ≡ Rehashed) → unwritten did ≡ Kept
-renewed did fresh text some is = ap unwritten (is.0 (rw some refl))
+renewed did fresh text some is = grind arith
 
 -- a login by what a text says, under equal terms, with the fresh text that was found
 logged_in : (first last : Terms) (password drawn was left : List ℕ) (v : Phc) (did : Accepted) (fresh found : Option PasswordHash)

@@ -1,4 +1,4 @@
-use Rattle.std.proofs.Common.{◌≡◌, [], ℕ, List, Option, Result, Ok, Err}
+use Rattle.std.proofs.Common.{arith, ◌≡◌, [], ℕ, List, Option, Result, Ok, Err}
 use Rattle.std.specs.FinMap.{get}
 use Rattle.std.specs.Option.{option_map}
 use Rattle.std.specs.Prelude.{String, string_bytes, IfOk}
@@ -17,8 +17,7 @@ read_bytes : {S Y : Type 0} {g : Ghosts S} (before after : AccountFile S g) (nam
     → IfOk found (λ text. IsHonest g (database_of after) → get names name ≡ option_map string_bytes text)
     → Stays (error_of (text_in found)) names before after
     × IfOk (text_in found) (λ text. IsHonest g (database_of after) → get names name ≡ text)
-read_bytes before after names name (Ok text) stays shows = (stays, shows)
-read_bytes before after names name (Err e) stays shows = (stays, tt)
+read_bytes before after names name found stays shows = grind arith
 
 pub returns-clause-ok : goal.returns-clause-ok
 returns-clause-ok g c =

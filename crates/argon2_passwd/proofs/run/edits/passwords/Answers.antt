@@ -1,4 +1,4 @@
-use Rattle.std.proofs.Common.{◌≡◌, ℕ, List, Option, Some, inl, refl}
+use Rattle.std.proofs.Common.{arith, ◌≡◌, ℕ, List, Option, Some, inl, refl}
 use Rattle.std.specs.Prelude.{IfSome}
 use Rattle.argon2_passwd.specs.Answers.{AreRead, AreUnread, HasNone}
 use Rattle.argon2_passwd.specs.Passwords.{password_of}
@@ -10,15 +10,11 @@ use Rattle.argon2_passwd.proofs.run.edits.passwords.Goals as goal
 -- a change other than `change` reads at most one password
 one_read : (act : Edit) (input : Option (List ℕ)) (first second : List ℕ) → ¬ (act ≡ Change)
     → IfSome input (λ bytes. password_of bytes ≡ Some first) → AreRead act input first second
-one_read Remove input first second isnt is = tt
-one_read Change input first second isnt is = absurd (isnt refl)
-one_read act input first second isnt is = is
+one_read act input first second isnt is = grind arith
 
 one_unread : (act : Edit) (input : Option (List ℕ)) → ¬ (act ≡ Remove) → HasNone input
     → AreUnread act input
-one_unread Remove input isnt is = absurd (isnt refl)
-one_unread Change input isnt is = inl is
-one_unread act input isnt is = is
+one_unread act input isnt is = grind arith
 
 pub returns-in_err-old-in-Change-clause-err : goal.returns-in_err-old-in-Change-clause-err
 returns-in_err-old-in-Change-clause-err g c =

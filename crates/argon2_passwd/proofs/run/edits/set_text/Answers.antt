@@ -9,13 +9,13 @@ use Rattle.argon2_passwd.proofs.Calls.{sets}
 use Rattle.argon2_passwd.proofs.run.edits.set_text.Goals as goal
 
 pub returns-in_err-text : goal.returns-in_err-text
-returns-in_err-text g c password drawn fresh before has =
-    cannot_serve (setting c.args.name.now password drawn) _ c.from_residual.ensures.1 (c.in_err-text.ensures.reads before has)
+returns-in_err-text g c password drawn fresh =
+    cannot_serve (setting c.args.name.now password drawn) _ c.from_residual.ensures.1 c.in_err-text.ensures.reads
 
 pub returns-in_default : goal.returns-in_default
-returns-in_default g c password drawn fresh before has =
-    refuses (setting c.args.name.now password drawn) (λ answer. refl) (c.in_ok-text.ensures.reads before has)
-    (c.in_ok-text.ensures.shows before) (ap (option_map string_bytes) c.in_default.is) NameUnknown _ c.into.ensures (refl, refl)
+returns-in_default g c password drawn fresh =
+    refuses (setting c.args.name.now password drawn) c.in_ok-text.ensures.reads c.in_default.is NameUnknown
+    c.in_ok-text.ensures.shows _ c.into.ensures (refl, refl)
 
 pub returns : goal.returns
 returns g c password drawn fresh =

@@ -1,4 +1,4 @@
-use Rattle.std.proofs.Common.{◌≡◌, ◌⊎◌, inl, inr, sym, subst, Result, Ok, Err}
+use Rattle.std.proofs.Common.{arith, ◌≡◌, ◌⊎◌, inl, inr, sym, subst, Result, Ok, Err}
 use Rattle.std.specs.Prelude.{IfErr, IsErrAnd}
 use Rattle.argon2_base.specs.PhcFields.{phc_of}
 use Rattle.argon2_base.specs.declared.error.password_hash.Error.TheVariants.{OutOfMemory}
@@ -13,9 +13,7 @@ use Rattle.argon2_passwd.proofs.run.texts.login.Goals as goal
 -- a refusal that is not out of memory has its reason
 refused : {X : Type 0} → (P Q : Type 0) (e : AccountError) (r : Result X Failure) → (P → Q) → (e ≡ Refused OutOfMemory) ⊎ P
     → IsErrAnd r (IsOfAccount e) → IfErr r (λ f. status_of f ≡ 1 → Q)
-refused P Q e (Ok x) then why is = tt
-refused P Q e (Err f) then (inl memory) is = λ one. absurd ((is_account e f is one).1 memory)
-refused P Q e (Err f) then (inr p) is = λ one. then p
+refused P Q e r then why is = grind (arith, is_account)
 
 pub returns-in_err-accepted-clause-err : goal.returns-in_err-accepted-clause-err
 returns-in_err-accepted-clause-err g c =

@@ -3,11 +3,11 @@ use Rattle.argon2_store.proofs.FileLemmas.{reads_of, shut_out}
 use Rattle.argon2_store.proofs.account_file.AccountFile+FileStore+D.checkpoint.Goals as goal
 
 pub returns-then-is_closed-clause-call : goal.returns-then-is_closed-clause-call
-returns-then-is_closed-clause-call g c names has =
-    shut_out {g = over_file {g = g.D.Disk}} (λ s db. settled_at s g.met.D.Disk.seen_may_stay db) c.args.self.now names has
+returns-then-is_closed-clause-call g c =
+    shut_out {g = over_file {g = g.D.Disk}} (λ s db. settled_at s g.met.D.Disk.seen_may_stay db) c.args.self.now
     c.is_closed.ensures c.if-is_closed.true
 
 pub returns-clause-call : goal.returns-clause-call
-returns-clause-call g c names has =
-    reads_of {g = over_file {g = g.D.Disk}} (λ s db. settled_at s g.met.D.Disk.seen_may_stay db) c.args.self.now _ names has
-    c.is_closed.ensures c.if-is_closed.false refl c.checkpoint.result (c.checkpoint.ensures.reads names has) _ c.read.ensures
+returns-clause-call g c =
+    reads_of {g = over_file {g = g.D.Disk}} (λ s db. settled_at s g.met.D.Disk.seen_may_stay db) c.args.self.now
+    c.is_closed.ensures c.if-is_closed.false _ refl c.checkpoint.result c.checkpoint.ensures.reads _ c.read.ensures

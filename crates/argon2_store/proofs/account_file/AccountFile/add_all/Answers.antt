@@ -1,5 +1,5 @@
-use Rattle.argon2_store.proofs.Imports.{inl, refl, Ok, Err, database_of}
-use Rattle.argon2_store.proofs.FileLemmas.{ends_with, fails, live_of, shut_out, unread, writes_all}
+use Rattle.argon2_store.proofs.Imports.{inl, refl, Ok, Err, database_of, iff_false}
+use Rattle.argon2_store.proofs.FileLemmas.{ends_with, fails, shut_out, unread, writes_all}
 use Rattle.argon2_store.proofs.TableLemmas.{leaves_quiet}
 use Rattle.argon2_store.proofs.account_file.AccountFile.add_all.Goals as goal
 
@@ -7,27 +7,26 @@ pub returns-then-is_closed-clause-call : goal.returns-then-is_closed-clause-call
 returns-then-is_closed-clause-call g c before has = (
   before,
   fails refl (inl refl)
-      (shut_out g.met.S.Store.settled c.args.self.now before has c.is_closed.ensures c.if-is_closed.true),
+      (shut_out g.met.S.Store.settled c.args.self.now c.is_closed.ensures c.if-is_closed.true before has),
 )
 
 pub returns-in-Ok-written-clause-call : goal.returns-in-Ok-written-clause-call
 returns-in-Ok-written-clause-call g c before has =
     let (to, may, all, change) = c.in-Ok.ensures before has in
-    writes_all (unread g.met.S.Store.settled c.args.self.now before has c.is_closed.ensures c.if-is_closed.false) tt refl
+    writes_all (unread g.met.S.Store.settled c.args.self.now c.is_closed.ensures c.if-is_closed.false before has) tt refl
     (λ why. refl) (inl refl) may c.in-Ok.done all change (Ok tt) c.in-Ok-written.ensures
 
 pub returns-in-Err-written-clause-call : goal.returns-in-Err-written-clause-call
 returns-in-Err-written-clause-call g c before has =
     let (to, may, all, change) = c.in-Ok.ensures before has in
-    writes_all (unread g.met.S.Store.settled c.args.self.now before has c.is_closed.ensures c.if-is_closed.false) tt refl
+    writes_all (unread g.met.S.Store.settled c.args.self.now c.is_closed.ensures c.if-is_closed.false before has) tt refl
     (λ why. refl) (inl refl) may c.in-Ok.done all change (Err c.in-Err-written.error) c.in-Err-written.ensures
 
 pub returns-in-Err-clause-call : goal.returns-in-Err-clause-call
 returns-in-Err-clause-call g c before has =
-    let live = live_of {g = g.S.Store} c.args.self.now c.is_closed.ensures c.if-is_closed.false in
     let (names, first, quiet) = c.in-Err.ensures before has in (
       before,
       rw c.into.ensures (ends_with _ names refl quiet
           (leaves_quiet g.S.Store g.met.S.Store.settled (database_of c.args.self.now) _ before has.1 quiet) (λ clean. refl)
-          (inl refl) tt (λ clean is. absurd (live clean is)) (λ clean. tt)),
+          (inl refl) tt (λ clean is. absurd (iff_false (c.is_closed.ensures clean) c.if-is_closed.false is)) (λ clean. tt)),
     )

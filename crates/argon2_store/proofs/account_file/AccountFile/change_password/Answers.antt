@@ -1,8 +1,6 @@
-use Rattle.argon2_store.proofs.Imports.{ℕ, List, Result, ◌≡◌, ◌∙◌, Ok, Err, Some, ap, inl, inr, refl, subst, get, option_map, string_bytes, Stream, fill_bytes, is_text_of, phc_of, text_of, Accepts, Terms, changing}
-use Rattle.argon2_store.proofs.Imports.{NameUnknown, Refused, StoreError, DrawsOnce, terms_of, answered, err_is, Phc}
-use Rattle.argon2_accounts.specs.Accounts.{Changes, DrawsByValue}
-use Rattle.argon2_base.specs.PhcText.{PhcText}
-use Rattle.sqlite_trees.specs.declared.error.StoreError.TheVariants.{OutOfMemory}
+use Rattle.argon2_store.proofs.Imports.{arith, ℕ, List, Result, ◌≡◌, ◌∙◌, Ok, Err, Some, ap, inl, refl, subst, get, option_map, string_bytes, Stream, fill_bytes, is_text_of, phc_of, text_of, Terms, changing}
+use Rattle.argon2_store.proofs.Imports.{NameUnknown, Refused, StoreError, DrawsOnce, terms_of, answered, err_is, Phc, PhcText, DrawsByValue}
+use Rattle.argon2_accounts.specs.Accounts.{Changes}
 use Rattle.argon2_store.proofs.FileLemmas.{cannot_serve, has_written, outside, refuses, writes}
 use Rattle.argon2_store.proofs.account_file.AccountFile.change_password.Goals as goal
 
@@ -10,57 +8,46 @@ use Rattle.argon2_store.proofs.account_file.AccountFile.change_password.Goals as
 drawn_written : {X : Type 0} (x : X) (terms first : Terms) → terms ≡ first → (password text : List ℕ) (v : Phc)
     (old new : Stream) → PhcText text v → DrawsByValue terms password v (Ok x) old new → (done : Result (Unit {0}) StoreError)
     → DrawsOnce first password (Some text) (answered done tt) old new
-drawn_written x terms first same password text v old new says (inl (admits, drawn)) (Ok y) =
-    (subst (λ t. Accepts t password text) same (v, says, admits), drawn)
-drawn_written x terms first same password text v old new says (inl (admits, drawn)) (Err OutOfMemory) = inr drawn
-drawn_written x terms first same password text v old new says (inl (admits, drawn)) (Err e) = inr drawn
-drawn_written x terms first same password text v old new says (inr (denied, nothing)) done = absurd denied
+drawn_written x terms first same password text v old new says draws done = grind arith
 
 pub returns-in_err-text-clause-call : goal.returns-in_err-text-clause-call
-returns-in_err-text-clause-call g c before has =
+returns-in_err-text-clause-call g c =
     cannot_serve (changing c.args.name.now c.args.old.now c.args.new.now (fill_bytes 16 (g.R.Rng.stream c.args.rng.now)).0)
-    _ c.from_residual.ensures.1 (c.in_err-text.ensures.reads before has)
+    _ c.from_residual.ensures.1 c.in_err-text.ensures.reads
 
 pub returns-in_default-clause-call : goal.returns-in_default-clause-call
-returns-in_default-clause-call g c before has =
+returns-in_default-clause-call g c =
     refuses (changing c.args.name.now c.args.old.now c.args.new.now (fill_bytes 16 (g.R.Rng.stream c.args.rng.now)).0)
-    (λ answer. refl) (c.in_ok-text.ensures.reads before has) (c.in_ok-text.ensures.shows before)
-    (ap (option_map string_bytes) c.in_default.is) NameUnknown _ c.into.ensures (refl, refl)
+    c.in_ok-text.ensures.reads c.in_default.is NameUnknown c.in_ok-text.ensures.shows _ c.into.ensures (refl, refl)
 
 pub returns-in_err-current-clause-call : goal.returns-in_err-current-clause-call
-returns-in_err-current-clause-call g c before has =
+returns-in_err-current-clause-call g c =
     let drawn = (fill_bytes 16 (g.R.Rng.stream c.args.rng.now)).0 in
-    refuses (changing c.args.name.now c.args.old.now c.args.new.now drawn) (λ answer. refl)
-    (c.in_ok-text.ensures.reads before has) (c.in_ok-text.ensures.shows before)
-    (ap (option_map string_bytes) c.in-Some.is) (Refused c.in_err-current.field-0.0) _
-    c.from_residual-in_err-current.ensures.1
+    refuses (changing c.args.name.now c.args.old.now c.args.new.now drawn) c.in_ok-text.ensures.reads c.in-Some.is
+    (Refused c.in_err-current.field-0.0) c.in_ok-text.ensures.shows _ c.from_residual-in_err-current.ensures.1
     (outside (Changes (terms_of c.text_of.new.self) c.args.old.now c.args.new.now drawn) _ (string_bytes c.in-Some.text) _
     c.as_str.ensures.value c.in_err-current.ensures.invalid c.in_err-current.ensures.only)
 
 pub returns-in_err-fresh-clause-call : goal.returns-in_err-fresh-clause-call
-returns-in_err-fresh-clause-call g c before has =
+returns-in_err-fresh-clause-call g c =
     let v = phc_of c.in_ok-current.current in
     let says = rw c.as_str.ensures.value at c.in_ok-current.ensures.found in
     refuses (changing c.args.name.now c.args.old.now c.args.new.now (fill_bytes 16 (g.R.Rng.stream c.args.rng.now)).0)
-    (λ answer. refl) (c.in_ok-text.ensures.reads before has) (c.in_ok-text.ensures.shows before)
-    (ap (option_map string_bytes) c.in-Some.is) c.in_err-fresh.field-0.0 _ c.from_residual-in_err-fresh.ensures.1
-    (inl (v, v, says, says, (c.in_err-fresh.ensures.made, refl)))
+    c.in_ok-text.ensures.reads c.in-Some.is c.in_err-fresh.field-0.0 c.in_ok-text.ensures.shows _
+    c.from_residual-in_err-fresh.ensures.1 (inl (v, v, says, says, (c.in_err-fresh.ensures.made, refl)))
 
 pub returns-clause-call : goal.returns-clause-call
-returns-clause-call g c before has =
-    let reads = c.in_ok-text.ensures.reads before has in
+returns-clause-call g c =
     let fresh = c.in_ok-fresh.fresh in
     let says = rw c.as_str.ensures.value at c.in_ok-current.ensures.found in
     writes (changing c.args.name.now c.args.old.now c.args.new.now (fill_bytes 16 (g.R.Rng.stream c.args.rng.now)).0)
-    (λ answer. refl) reads (c.in_ok-text.ensures.shows before) (ap (option_map string_bytes) c.in-Some.is)
-    (Some (text_of fresh)) tt refl
+    c.in_ok-text.ensures.reads c.in-Some.is _ (Some (text_of fresh)) tt refl c.in_ok-text.ensures.shows
     (inl (phc_of c.in_ok-current.current, phc_of fresh, says, is_text_of fresh, c.in_ok-fresh.ensures.made)) _
-    (c.change-done.ensures before reads.has) _ c.written.ensures
+    c.change-done.ensures _ c.written.ensures
 
 pub returns-clause-accepted : goal.returns-clause-accepted
-returns-clause-accepted g c before after has held =
-    has_written (terms_of c.text_of.new.self) c.args.name.now c.args.new.now tt _
-    (c.change-done.ensures before (c.in_ok-text.ensures.reads before has).has) held
+returns-clause-accepted g c =
+    has_written c.in_ok-text.ensures.reads (terms_of c.text_of.new.self) c.args.name.now c.args.new.now tt _ c.change-done.ensures
     (phc_of c.in_ok-fresh.fresh, is_text_of c.in_ok-fresh.fresh, c.in_ok-fresh.ensures.accepted) _ c.written.ensures
 
 pub returns-in_err-fresh-clause-drawn : goal.returns-in_err-fresh-clause-drawn

@@ -1,39 +1,33 @@
-use Rattle.argon2_store.proofs.Imports.{◌∙◌, Some, refl, sym, fill_bytes, is_text_of, phc_of, string_bytes, text_of, registering, NameTaken, taken, terms_of}
-use Rattle.std.proofs.option.Match.{None-if_not_some}
+use Rattle.argon2_store.proofs.Imports.{◌∙◌, Some, refl, sym, fill_bytes, is_text_of, phc_of, string_bytes, text_of, registering, NameTaken, taken, terms_of, None-if_not_some}
 use Rattle.argon2_store.proofs.FileLemmas.{cannot_serve, has_written, is_some-map, refuses, writes}
 use Rattle.argon2_store.proofs.account_file.AccountFile.register.Goals as goal
 
 pub returns-in_err-text_of-clause-call : goal.returns-in_err-text_of-clause-call
-returns-in_err-text_of-clause-call g c before has =
+returns-in_err-text_of-clause-call g c =
     cannot_serve (registering c.args.name.now c.args.password.now (fill_bytes 16 (g.R.Rng.stream c.args.rng.now)).0)
-    _ c.from_residual.ensures.1 (c.in_err-text_of.ensures.reads before has)
+    _ c.from_residual.ensures.1 c.in_err-text_of.ensures.reads
 
 pub returns-then-is_some-clause-call : goal.returns-then-is_some-clause-call
-returns-then-is_some-clause-call g c before has =
+returns-then-is_some-clause-call g c =
     refuses (registering c.args.name.now c.args.password.now (fill_bytes 16 (g.R.Rng.stream c.args.rng.now)).0)
-    (λ answer. refl) (c.in_ok-text_of.ensures.reads before has) (c.in_ok-text_of.ensures.shows before) refl
-    NameTaken _ c.into.ensures
+    c.in_ok-text_of.ensures.reads refl NameTaken c.in_ok-text_of.ensures.shows _ c.into.ensures
     (taken c.args.password.now _ (is_some-map string_bytes _ (sym c.is_some.ensures ∙ c.if-is_some.true)), refl)
 
 pub returns-in_err-text-clause-call : goal.returns-in_err-text-clause-call
-returns-in_err-text-clause-call g c before has =
+returns-in_err-text-clause-call g c =
     refuses (registering c.args.name.now c.args.password.now (fill_bytes 16 (g.R.Rng.stream c.args.rng.now)).0)
-    (λ answer. refl) (c.in_ok-text_of.ensures.reads before has) (c.in_ok-text_of.ensures.shows before)
-    (None-if_not_some _ (is_some-map string_bytes _ (sym c.is_some.ensures ∙ c.if-is_some.false))) c.in_err-text.field-0.0 _
-    c.from_residual-in_err-text.ensures.1 (c.in_err-text.ensures.made, refl)
+    c.in_ok-text_of.ensures.reads (None-if_not_some _ (sym c.is_some.ensures ∙ c.if-is_some.false)) c.in_err-text.field-0.0
+    c.in_ok-text_of.ensures.shows _ c.from_residual-in_err-text.ensures.1 (c.in_err-text.ensures.made, refl)
 
 pub returns-clause-call : goal.returns-clause-call
-returns-clause-call g c before has =
-    let reads = c.in_ok-text_of.ensures.reads before has in
+returns-clause-call g c =
     writes (registering c.args.name.now c.args.password.now (fill_bytes 16 (g.R.Rng.stream c.args.rng.now)).0)
-    (λ answer. refl) reads (c.in_ok-text_of.ensures.shows before)
-    (None-if_not_some _ (is_some-map string_bytes _ (sym c.is_some.ensures ∙ c.if-is_some.false)))
-    (Some (text_of c.in_ok-text.text)) tt refl
-    (refl, (phc_of c.in_ok-text.text, is_text_of c.in_ok-text.text, c.in_ok-text.ensures.made)) _
-    (c.change.ensures before reads.has) _ c.written.ensures
+    c.in_ok-text_of.ensures.reads (None-if_not_some _ (sym c.is_some.ensures ∙ c.if-is_some.false))
+    _ (Some (text_of c.in_ok-text.text)) tt refl c.in_ok-text_of.ensures.shows
+    (refl, (phc_of c.in_ok-text.text, is_text_of c.in_ok-text.text, c.in_ok-text.ensures.made)) _ c.change.ensures _
+    c.written.ensures
 
 pub returns-clause-accepted : goal.returns-clause-accepted
-returns-clause-accepted g c before after has held =
-    has_written (terms_of c.text_of.new.self) c.args.name.now c.args.password.now tt _
-    (c.change.ensures before (c.in_ok-text_of.ensures.reads before has).has) held
+returns-clause-accepted g c =
+    has_written c.in_ok-text_of.ensures.reads (terms_of c.text_of.new.self) c.args.name.now c.args.password.now tt _ c.change.ensures
     (phc_of c.in_ok-text.text, is_text_of c.in_ok-text.text, c.in_ok-text.ensures.accepted) _ c.written.ensures

@@ -1,6 +1,5 @@
-use Rattle.argon2_store.proofs.Imports.{IsPermutation}
+use Rattle.argon2_store.proofs.Imports.{IsPermutation, iff_false, true_from_ne_false}
 use Rattle.argon2_store.proofs.AddLemmas.{reordered, unwritten, written_later}
-use Rattle.argon2_store.proofs.TableLemmas.{open_of}
 use Rattle.argon2_store.proofs.table.Table.add_all.Goals as goal
 
 pub returns-in-Ok-add_listed : goal.returns-in-Ok-add_listed
@@ -17,12 +16,11 @@ returns-then-is_closed g c =
     (λ clean. (c.is_closed.ensures clean).0 c.if-is_closed.true)
 
 pub add_listed-requires-3 : goal.add_listed-requires-3
-add_listed-requires-3 g c clean = open_of _ (λ shut. let hit = (c.is_closed.ensures clean).1 shut in
-    let no = c.if-is_closed.false in cc)
+add_listed-requires-3 g c clean = true_from_ne_false _ (iff_false (c.is_closed.ensures clean) c.if-is_closed.false)
 
 pub returns : goal.returns
 returns g c =
     written_later g.S.Store c.args.self.now.store c.add_listed-2.new.self.store
     (rw c.in_default-add_listed.is at c.add_listed-2.ensures) c.add_listed-3.new.self.store _ c.add_listed-3.result
-    (λ clean. open_of _ (λ shut. let hit = (c.is_closed.ensures clean).1 shut in let no = c.if-is_closed.false in cc))
+    (λ clean. true_from_ne_false _ (iff_false (c.is_closed.ensures clean) c.if-is_closed.false))
     c.add_listed-3.ensures

@@ -1,5 +1,5 @@
-use Rattle.argon2_store.proofs.Imports.{IsTrue, false, ◌≡◌, ap, subst, ◌∙◌, Holds, View}
-use Rattle.argon2_store.proofs.TableLemmas.{open_if_sound, read_done, read_failed, some_kept}
+use Rattle.argon2_store.proofs.Imports.{arith, IsTrue, false, ◌≡◌, subst, Holds, View}
+use Rattle.argon2_store.proofs.TableLemmas.{read_done, read_failed, some_kept}
 use Rattle.argon2_store.proofs.table.Table.get.Goals as goal
 
 pub returns-in-Ok-clause-reads : goal.returns-in-Ok-clause-reads
@@ -25,7 +25,7 @@ invariant_of-self-in-Err g c = record {
 
 is_open : (old new : View) → (new.is_open ≡ false → IsTrue new.is_broken) → new ≡ record old { cursors = new.cursors }
     → old.is_broken ≡ false → IsTrue new.is_open
-is_open old new shut same sound = open_if_sound new shut (ap (λ (v : View). v.is_broken) same ∙ sound)
+is_open old new shut same sound = grind arith
 
 pub returns-in-Ok-clause-open : goal.returns-in-Ok-clause-open
 returns-in-Ok-clause-open g c clean = is_open (g.S.Store.view c.args.self.now.store) (g.S.Store.view c.look_up.new.store)
