@@ -21,6 +21,7 @@ part_more {rest = rest} part reads feed at = record {
   read = reads rest at.read;
 }
 
+-- no line feed comes before the first
 none_before : (bytes : List ℕ) (end : ℕ) → Nowhere (Passes (is_byte 10) bytes) 0 end → HasNoFeed (take end bytes)
 none_before bytes end never = λ k d below. grind (arith, common_steps, never k)
 
@@ -32,11 +33,12 @@ at_feed bytes end below is = grind (arith, common_steps)
 pub returns-clause-taken : goal.returns-clause-taken
 returns-clause-taken g c = λ options all before.
     let b = c.lines.invariant.1 options all before in
-    let rest = c.lines.rest.now in record {
+    let rest = c.lines.rest.now in
+    let whole = take_all (length rest) rest (omega arith) in record {
       lines = b.lines;
       rest = b.rest ++ rest;
       split = b.split ∙ rw append-nil refl;
-      at = part_more rest c.in_ok-extend-2.ensures (rw (take_all (length rest) rest (omega arith)) at (none_before rest (length rest) c.in_default.ensures)) b.at;
+      at = part_more rest c.in_ok-extend-2.ensures (rw whole at (none_before rest (length rest) c.in_default.ensures)) b.at;
     }
 
 pub lines-preserved : goal.lines-preserved
