@@ -1,18 +1,16 @@
 -- A call that is given a text of a password does what the call does that makes it.
-use Rattle.std.proofs.Common.{arith, ◌≡◌, ◌∙◌, ℕ, List, Option, Some, None, Result, Ok, Err, ap, inl, inr, refl}
+use Rattle.std.proofs.Common.{arith, ◌≡◌, ◌∙◌, ℕ, List, Option, Some, None, Result, Ok, inl, inr, refl}
 use Rattle.std.specs.Prelude.{IfErr, IsSomeAnd}
 use Rattle.std.specs.FinMap.{get}
 use Rattle.sqlite_trees.specs.declared.store.Store.{Ghosts}
 use Rattle.argon2_base.specs.PhcText.{Phc, PhcText}
 use Rattle.argon2_accounts.specs.Accounts.{AccountStep, Adds, IsMadeOf, OnText, Registers, Replaces, Sets, Terms, Texts, adding, registering, replacing, setting}
 use Rattle.argon2_accounts.specs.declared.error.AccountError.{AccountError}
-use Rattle.argon2_accounts.specs.declared.error.AccountError.TheVariants.{NameTaken, Refused, TextChanged}
 use Rattle.argon2.specs.Made.{IsFresh}
 use Rattle.argon2_store.specs.AccountFile.{Answers, Call, HasCause, HasNames, IfRefused, IsClosed, Serves, Stays, database_of, terms_of}
 use Rattle.argon2_store.specs.Table.{IsHonest, IsOpen}
 use Rattle.argon2_store.specs.declared.account_file.AccountFile.{AccountFile}
 use Rattle.argon2_store.specs.declared.error.FileError.{FileError}
-use Rattle.argon2_store.specs.declared.error.FileError.TheVariants.{Account, OutOfMemory, TooLong, Closed}
 use Rattle.argon2_store.proofs.TableLemmas.{quiet_then}
 
 -- the text of a value that was made of the password
@@ -96,10 +94,7 @@ sets {g = g} old mid new name was text password drawn w says fresh r live readin
             (left.0, left.1, elim left.2 [ inl same ↦ inl same | inr (x, is) ↦ inr (x, step clean left.0 (Ok x) is) ]);
         durable = run.durable;
         closed = λ clean is. absurd (live clean is);
-        closes = λ clean is_open. elim (run.closes clean (open_then clean)) [
-          | inl yet ↦ inl yet
-          | inr more ↦ inr (omega (arith, reads.quiet.counts, more))
-        ];
+        closes = λ clean is_open. let end = run.closes clean (open_then clean) in grind arith;
         cause = λ clean. cause_then _ _ _ _ _ r (λ shut. absurd (let yet = open_then clean in cc))
             (λ more. omega (arith, reads.quiet.counts, more)) (run.cause clean);
       },

@@ -1,5 +1,5 @@
 -- How what is asked for ended, by how a call for it ended.
-use Rattle.std.proofs.Common.{arith, ◌≡◌, ◌≢◌, ◌∙◌, ◌++◌, ◌∷◌, ℕ, Bool, List, [], Option, Some, None, Result, Ok, Err, ap, inl, inr, refl, subst, sym}
+use Rattle.std.proofs.Common.{arith, ◌≡◌, ◌≢◌, ◌++◌, ◌∷◌, ℕ, Bool, List, [], Option, Result, Ok, Err, inr, subst}
 use Rattle.std.proofs.lemmas.Result.{on_ok_weaker}
 use Rattle.std.specs.Io.KnownBytes.{Appends, Keeps}
 use Rattle.std.specs.Prelude.{IfErr, IsErrAnd, OnOk}
@@ -9,9 +9,9 @@ use Rattle.argon2_accounts.specs.Accounts.{Terms, Texts}
 use Rattle.argon2_accounts.specs.declared.error.AccountError.{AccountError}
 use Rattle.argon2_accounts.specs.declared.error.AccountError.TheVariants.{Refused}
 use Rattle.argon2_store.specs.declared.error.FileError.{FileError}
-use Rattle.argon2_store.specs.declared.error.FileError.TheVariants.{Account, OutOfMemory}
+use Rattle.argon2_store.specs.declared.error.FileError.TheVariants.{Account}
 use Rattle.argon2_passwd.specs.Answers.{AddsLines, HasNone, IsAnswered, IsImported, IsOnce, IsRefused, IsReplied, IsSecret, IsServed, terms_by}
-use Rattle.argon2_passwd.specs.Asked.{Asked, Choices, check, hash, import}
+use Rattle.argon2_passwd.specs.Asked.{Asked, Choices, import}
 use Rattle.argon2_passwd.specs.Failures.{IsMemory, IsOfAccount, IsOfFile, status_of}
 use Rattle.argon2_passwd.specs.Passwords.{IsUnread}
 use Rattle.argon2_passwd.specs.declared.failure.Failure.{Failure}

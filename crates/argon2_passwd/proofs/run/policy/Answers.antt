@@ -1,7 +1,6 @@
 use Rattle.std.proofs.Common.{arith}
 use Rattle.argon2_accounts.specs.Accounts.{AreTerms, PolicyRefusal, Terms}
 use Rattle.argon2_accounts.specs.declared.error.AccountError.{AccountError}
-use Rattle.argon2_accounts.specs.declared.error.AccountError.TheVariants.{Refused, TooExpensive}
 use Rattle.argon2_passwd.proofs.Served.{in_any_case}
 use Rattle.argon2_passwd.proofs.run.policy.Goals as goal
 

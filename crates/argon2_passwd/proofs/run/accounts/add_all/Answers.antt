@@ -1,4 +1,4 @@
-use Rattle.std.proofs.Common.{arith, rules, ◌≡◌, refl, sym, ap}
+use Rattle.std.proofs.Common.{arith, rules, ◌≡◌, refl}
 use Rattle.std.proofs.lemmas.Grind.{common_steps}
 use Rattle.argon2_accounts.specs.declared.error.AccountError.{AccountError}
 use Rattle.argon2_store.specs.declared.error.FileError.{FileError}

@@ -5,7 +5,7 @@ use Rattle.argon2_base.specs.PhcText.{Phc, PhcText}
 use Rattle.argon2_base.specs.declared.phc.hash.PasswordHash.{PasswordHash}
 use Rattle.argon2.specs.NamedTexts.{value_after}
 use Rattle.argon2.specs.declared.login.answers.Accepted.{Accepted}
-use Rattle.argon2.specs.declared.login.answers.Accepted.TheVariants.{Current, Kept, Rehashed}
+use Rattle.argon2.specs.declared.login.answers.Accepted.TheVariants.{Kept, Rehashed}
 use Rattle.argon2_accounts.specs.Accounts.{ByValue, Denial, LogsIn, Terms, text_of}
 use Rattle.argon2_accounts.specs.declared.error.AccountError.TheVariants.{NameUnknown, Refused}
 use Rattle.argon2_store.specs.AccountFile.{database_of}

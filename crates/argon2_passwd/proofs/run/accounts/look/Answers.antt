@@ -1,4 +1,4 @@
-use Rattle.std.proofs.Common.{arith, ◌≡◌, [], ℕ, List, Option, Result, Ok, Err}
+use Rattle.std.proofs.Common.{arith, ◌≡◌, [], ℕ, List, Option, Result}
 use Rattle.std.specs.FinMap.{get}
 use Rattle.std.specs.Option.{option_map}
 use Rattle.std.specs.Prelude.{String, string_bytes, IfOk}

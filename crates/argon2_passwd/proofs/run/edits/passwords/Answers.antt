@@ -1,4 +1,4 @@
-use Rattle.std.proofs.Common.{arith, ◌≡◌, ℕ, List, Option, Some, inl, refl}
+use Rattle.std.proofs.Common.{arith, ◌≡◌, ℕ, List, Option, Some, inl}
 use Rattle.std.specs.Prelude.{IfSome}
 use Rattle.argon2_passwd.specs.Answers.{AreRead, AreUnread, HasNone}
 use Rattle.argon2_passwd.specs.Passwords.{password_of}
