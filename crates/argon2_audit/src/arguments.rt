@@ -130,7 +130,8 @@ fn with_lines<'a>(alloc: Global, command: Command<'a>) -> Result<Command<'a>, Al
 // With what divides a line, what is written, and what is read.
 fn with_output<'a>(alloc: Global, command: Command<'a>) -> Result<Command<'a>, AllocError> {
     let separator = arg!(in alloc; --separator <C> "The one byte between two fields");
-    let json = arg!(in alloc; --json "Write one JSON object: findings by line, counts, schemes, table");
+    let json =
+        arg!(in alloc; --json "Write one JSON object: findings by line, counts, schemes, table");
     let quiet = arg!(in alloc; --quiet "Write nothing; the status says all");
     let files = arg!(in alloc; [FILE] ... "Files with a text a line, `-` for standard input");
     command
