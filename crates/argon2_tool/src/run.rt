@@ -150,7 +150,8 @@ fn digest<R: Read>(alloc: Global, len: usize, input: &mut R) -> Result<String, F
             Ok(0) => {
                 let mut out = [0u8; 64];
                 hasher.finalize_into(&mut out[..len]);
-                return Ok(hex::encode(alloc, &out[..len])?);
+                let text = hex::encode(alloc, &out[..len])?;
+                return Ok(text);
             }
             Ok(count) => hasher.update(&piece[..count]),
             Err(e) if e.kind() == ErrorKind::Interrupted => {}

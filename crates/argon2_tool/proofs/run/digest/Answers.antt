@@ -11,7 +11,7 @@ returns-in-Ok-eq0-clause-ok g c =
     let (read, holds, consumed) = c.pieces.invariant.3 in
     let last = rw (c.in-Ok-eq0.is, c.in-Ok-eq0.field-0-test) at c.read.ensures.bytes in
     let all = Consumes-trans _ _ _ _ _ consumed last.0 in
-    let text = c.in_ok-encode-in-Ok-eq0.field-0 in
+    let text = c.in_ok-text-in-Ok-eq0.text in
     let digest : string_bytes text ≡ encode_lower (blake2b c.args.len read) =
     grind (arith, common_steps, c.finalize_into.ensures read holds) in
     Consumes-whole _ _ _ (λ message. string_bytes text ≡ encode_lower (blake2b c.args.len message))
