@@ -7,8 +7,7 @@ use Rattle.argon2_base.specs.Hasher.{hash_after, blocks_before}
 use Rattle.argon2_base.proofs.blake2b_lemmas.Absorbing.{held, IsAbsorbed, hash_after-append, hash_after_next}
 
 -- one block is the last
-hash_blocks_one : (l t : ℕ) (h b : List ℕ)
-    → hash_blocks l t h (b ∷ []) ≡ compress h b (min (t + 128) l) true
+hash_blocks_one : (l t : ℕ) (h b : List ℕ) → hash_blocks l t h (b ∷ []) ≡ compress h b (min (t + 128) l) true
 unfolding hash_blocks
 hash_blocks_one l t h b = refl
 
@@ -22,21 +21,13 @@ hash_blocks_more l t h b c bs = refl
 hash_blocks_from : (l : ℕ) (i p : List ℕ) (k j : ℕ) → (k + j) * 128 ≤ l
     → hash_blocks l (k * 128) (hash_after i p k) (first_chunks 128 (suc j) (drop (k * 128) p))
     ≡ compress (hash_after i p (k + j)) (take 128 (drop ((k + j) * 128) p)) (min ((k + j) * 128 + 128) l) true
-hash_blocks_from l i p k zero h =
-    hash_blocks_one l (k * 128) (hash_after i p k) (take 128 (drop (k * 128) p)) ∙ rw add-zero refl
+hash_blocks_from l i p k zero h = hash_blocks_one l (k * 128) _ _ ∙ rw add-zero refl
 hash_blocks_from l i p k (suc j) h =
     let clock : min (k * 128 + 128) l ≡ k * 128 + 128 = omega arith in
     let along : k + suc j ≡ (k + 1) + j = omega arith in
     let on : (k + 1) * 128 ≡ k * 128 + 128 = omega arith in
-    let hash : List ℕ = hash_after i p k in
-    let b : List ℕ = take 128 (drop (k * 128) p) in
-    let after : List ℕ = drop 128 (drop (k * 128) p) in
-    let step : hash_blocks l (k * 128) hash (first_chunks 128 (suc (suc j)) (drop (k * 128) p))
-    ≡ hash_blocks l (k * 128 + 128) (compress hash b (min (k * 128 + 128) l) false)
-    (first_chunks 128 (suc j) after) =
-    hash_blocks_more l (k * 128) hash b (take 128 after) (first_chunks 128 j (drop 128 after)) in
     let rest = rw (on, hash_after_next i p k) at (hash_blocks_from l i p (k + 1) j (omega arith)) in
-    step ∙ rw (clock, drop-drop 128 (k * 128) p, along) rest
+    hash_blocks_more l (k * 128) _ _ _ _ ∙ rw (clock, drop-drop 128 (k * 128) p, along) rest
 
 -- the last block x is the bytes that are held, and zeros
 pub hash_blocks_whole : (i m b x h : List ℕ) → IsAbsorbed i h b m
@@ -50,8 +41,7 @@ hash_blocks_whole i m b x h a ex =
     let zeros : List ℕ = replicate (128 * suc q - l) 0 in
     let p : List ℕ = m ++ zeros in
     let room : 128 * suc q - l ≡ 128 - held m = omega arith in
-    let lp : length p ≡ l + (128 * suc q - l) =
-    length-append m zeros ∙ ap (λ (k : ℕ). l + k) (length-replicate (128 * suc q - l) 0) in
+    let lp : length p ≡ l + (128 * suc q - l) = omega (arith, length-append m zeros, length-replicate {A = ℕ}) in
     let tail : drop (q * 128) p ≡ x =
     drop-append-le (q * 128) m zeros (omega arith) ∙ rw (room, ← a.1) (sym ex) in
     let lx : length x ≡ 128 = omega (arith, ap length tail, length-drop (q * 128) p) in
@@ -59,10 +49,4 @@ hash_blocks_whole i m b x h a ex =
     let whole : hash_blocks l 0 i (first_chunks 128 (suc q) p)
     ≡ compress (hash_after i p q) (take 128 (drop (q * 128) p)) (min (q * 128 + 128) l) true =
     rw (zero-add q) at (hash_blocks_from l i p 0 q (omega arith)) in
-    rw n (sym (rw (
-      hash_after-append i m zeros q (omega arith),
-      tail,
-      take_all 128 x (omega arith),
-      clock,
-      ← a.0,
-    ) at whole))
+    rw n (sym (rw (hash_after-append i m zeros q (omega arith), tail, take_all 128 x (omega arith), clock, ← a.0) at whole))

@@ -1,7 +1,6 @@
 -- How the output of the hash of any length grows piece by piece.
-use Rattle.std.proofs.Common.{◌≡◌, ℕ, zero, suc, ◌+◌, ◌-◌, ◌*◌, ◌<◌, ◌≤◌, List, [], ◌∷◌, ◌++◌, ◌^◌, length, take, drop, slice_index_or, refl, sym, ap, ◌∙◌, arith, add-one, add-zero, length-drop}
-use Rattle.std.proofs.lemmas.List.{append-nil, drop_all, take_at}
-use Rattle.std.proofs.lemmas.Grind.{flat_map-append}
+use Rattle.std.proofs.Common.{◌≡◌, ℕ, zero, suc, ◌+◌, ◌-◌, ◌*◌, ◌<◌, ◌≤◌, List, [], ◌++◌, ◌^◌, length, take, drop, slice_index_or, refl, sym, arith, add-one, add-zero, length-drop}
+use Rattle.std.proofs.lemmas.List.{append-nil, append_assoc, drop_all, take_at}
 use Rattle.std.proofs.lemmas.Slice.{take-put_mid}
 use Rattle.std.specs.List.{flat_map, range_with_len}
 use Rattle.argon2_base.specs.Blake2b.{blake2b}
@@ -15,25 +14,11 @@ use borrow.Rule.Slice.PartMut.{put_mid, post_of}
 abbrev pub first_halves : List ℕ → ℕ → List ℕ
 first_halves first i = flat_map (half first) (range_with_len 1 i)
 
--- a longer range ends with one more number
-range_with_len_more : (a n : ℕ) → range_with_len a (suc n) ≡ range_with_len a n ++ (a + n) ∷ []
-range_with_len_more a zero = rw add-zero refl
-range_with_len_more a (suc n) =
-    let e : (a + 1) + n ≡ a + suc n = omega arith in
-    ap (λ (xs : List ℕ). a ∷ xs) (rw e at (range_with_len_more (a + 1) n))
-
--- one more half is appended
-first_halves_more : (first : List ℕ) (i : ℕ)
-    → first_halves first (i + 1) ≡ first_halves first i ++ half first (i + 1)
-first_halves_more first i =
-    let along : i + 1 ≡ suc i = omega arith in
-    let e : 1 + i ≡ i + 1 = omega arith in
-    let range : range_with_len 1 (i + 1) ≡ range_with_len 1 i ++ (1 + i) ∷ [] =
-    ap (λ (k : ℕ). range_with_len 1 k) along ∙ range_with_len_more 1 i in
-    let last : flat_map (half first) ((1 + i) ∷ []) ≡ half first (i + 1) =
-    append-nil (half first (1 + i)) ∙ ap (half first) e in
-    ap (flat_map (half first)) range ∙ flat_map-append (half first) (range_with_len 1 i) ((1 + i) ∷ [])
-    ∙ ap (λ (xs : List ℕ). first_halves first i ++ xs) last
+-- one more of the lists at the numbers from a on is appended
+flat_map_more : (f : ℕ → List ℕ) (a n m : ℕ) → a + n ≡ m
+    → flat_map f (range_with_len a (suc n)) ≡ flat_map f (range_with_len a n) ++ f m
+flat_map_more f a zero m e = rw (← e, add-zero) (append-nil (f a))
+flat_map_more f a (suc n) m e = rw (flat_map_more f (a + 1) n m (omega arith), append_assoc) refl
 
 -- V(i + 1) is the digest of V(i)
 chain_more : (first : List ℕ) (i : ℕ) → chain first (i + 1) ≡ blake2b 64 (chain first i)
@@ -58,7 +43,7 @@ next_piece first out before now ys i n k held fits eb en e64 ey len =
     let front : take (32 * (i + 1)) (put_mid (32 * i) k out ys) ≡ take (32 * i) out ++ ys =
     take-put_mid (32 * i) k out ys (32 * (i + 1)) (omega arith) fits in
     let piece : ys ≡ half first (i + 1) = rw (ey, at) refl in
-    (at, rw (front, held, piece) (sym (first_halves_more first i)))
+    (at, rw (front, held, piece, add-one) (sym (flat_map_more (half first) 1 i (suc i) (omega arith))))
 
 -- what stands in it after the last piece ys, the digest of V(i)
 pub last_piece : (first out now ys : List ℕ) (n i a k t : ℕ) → take (32 * i) out ≡ first_halves first i
@@ -78,8 +63,7 @@ input_fits inputs i n d lt e fits =
     omega arith
 
 -- an output of at most 64 bytes is one digest
-pub long_hash_short : (n : ℕ) (m out : List ℕ) → n ≤ 64 → out ≡ blake2b n (to_le_bytes w32 n ++ m)
-    → out ≡ long_hash n m
+pub long_hash_short : (n : ℕ) (m out : List ℕ) → n ≤ 64 → out ≡ blake2b n (to_le_bytes w32 n ++ m) → out ≡ long_hash n m
 unfolding chain long_hash
 long_hash_short n m out small eo =
     let none : half_count n ≡ 0 = omega arith in

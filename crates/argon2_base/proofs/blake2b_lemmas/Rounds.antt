@@ -1,5 +1,5 @@
 -- Rounds follow one another, and the halves are joined word by word.
-use Rattle.std.proofs.Common.{◌≡◌, ℕ, suc, ◌+◌, ◌<◌, List, [], ◌∷◌, ◌++◌, bit_xor, length, map, take, slice_index, slice_set, sym, ap, ◌∙◌, arith}
+use Rattle.std.proofs.Common.{◌≡◌, ℕ, suc, ◌+◌, ◌<◌, List, bit_xor, length, map, take, slice_index, slice_set, sym, ap, ◌∙◌, arith}
 use Rattle.std.proofs.lemmas.List.{take_more_set}
 use Rattle.std.proofs.lemmas.List.FromFn.{map-range_with_len_more}
 use Rattle.std.specs.List.{range_with_len}
@@ -23,5 +23,4 @@ first_words h v i = map (xored_word h v) (range_with_len 0 i)
 pub first_words_more : (h v out : List ℕ) (i : ℕ) → i < length out → take i out ≡ first_words h v i
     → take (i + 1) (slice_set out i (xored_word h v i)) ≡ first_words h v (i + 1)
 first_words_more h v out i more before =
-    take_more_set out i (xored_word h v i) more ∙ ap (λ xs. xs ++ xored_word h v i ∷ []) before
-    ∙ sym (map-range_with_len_more (xored_word h v) 0 i i (omega arith))
+    rw (take_more_set out i (xored_word h v i) more, before) (sym (map-range_with_len_more (xored_word h v) 0 i i (omega arith)))

@@ -1,5 +1,6 @@
 -- Vectors of eight lanes, and what the steps of the mixing do in each lane.
 use Rattle.std.proofs.Common.{◌≡◌, ℕ, zero, suc, ◌<◌, ◌+◌, ◌-◌, ◌*◌, ◌/◌, ◌%◌, ◌^◌, List, [], ◌∷◌, ◌++◌, length, slice_index, ◌==◌, if◌then◌else◌, bit_and, bit_or, bit_xor, slice_index_or, map, arith, refl, ap, subst, ◌∙◌, lit<, sym, ap₂}
+use Rattle.std.specs.Int.{w64, rotate_right}
 use Rattle.std.specs.List.{range_with_len}
 use Rattle.std.proofs.lemmas.Nat.{and_mask}
 use Rattle.std.proofs.lemmas.List.{ext_get_or}
@@ -16,15 +17,10 @@ below_two P p0 p1 (suc (suc n)) h = absurd (omega arith)
 
 -- what is true of each of eight lanes
 pub below_eight : (P : ℕ → Type 0) → P 0 → P 1 → P 2 → P 3 → P 4 → P 5 → P 6 → P 7 → (j : ℕ) → j < 8 → P j
-below_eight P p0 p1 p2 p3 p4 p5 p6 p7 zero h = p0
-below_eight P p0 p1 p2 p3 p4 p5 p6 p7 (suc zero) h = p1
-below_eight P p0 p1 p2 p3 p4 p5 p6 p7 (suc (suc zero)) h = p2
-below_eight P p0 p1 p2 p3 p4 p5 p6 p7 (suc (suc (suc zero))) h = p3
-below_eight P p0 p1 p2 p3 p4 p5 p6 p7 (suc (suc (suc (suc zero)))) h = p4
-below_eight P p0 p1 p2 p3 p4 p5 p6 p7 (suc (suc (suc (suc (suc zero))))) h = p5
-below_eight P p0 p1 p2 p3 p4 p5 p6 p7 (suc (suc (suc (suc (suc (suc zero)))))) h = p6
-below_eight P p0 p1 p2 p3 p4 p5 p6 p7 (suc (suc (suc (suc (suc (suc (suc zero))))))) h = p7
-below_eight P p0 p1 p2 p3 p4 p5 p6 p7 (suc (suc (suc (suc (suc (suc (suc (suc n)))))))) h = absurd (omega arith)
+below_eight P p0 p1 p2 p3 p4 p5 p6 p7 j h =
+    subst P (omega arith) (below_two (λ a. (b : ℕ) → b < 2 → (c : ℕ) → c < 2 → P (4 * a + 2 * b + c))
+    (below_two _ (below_two _ p0 p1) (below_two _ p2 p3)) (below_two _ (below_two _ p4 p5) (below_two _ p6 p7))
+    (j / 4) (omega arith) (j / 2 % 2) (omega arith) (j % 2) (omega arith))
 
 -- what is true of each of sixteen words
 pub below_sixteen : (P : ℕ → Type 0) → P 0 → P 1 → P 2 → P 3 → P 4 → P 5 → P 6 → P 7
@@ -102,14 +98,14 @@ unfolding xor_rotate
 shifts_rotate k low high =
     let left : (64 - k) % 64 ≡ 64 - k = omega arith in
     let right : k % 64 ≡ k = omega arith in
+    let turns : (x : ℕ) → bit_or (x / 2 ^ k) (x * 2 ^ (64 - k) % 2 ^ 64) ≡ rotate_right w64 x k =
+    λ x. rw (right, left) refl in
     two_vectors (Rotates k) (λ a0 a1 a2 a3 a4 a5 a6 a7 b0 b1 b2 b3 b4 b5 b6 b7.
-    below_eight _ (rw (right, left) refl) (rw (right, left) refl) (rw (right, left) refl) (rw (right, left) refl)
-    (rw (right, left) refl) (rw (right, left) refl) (rw (right, left) refl) (rw (right, left) refl))
+    below_eight _ (turns _) (turns _) (turns _) (turns _) (turns _) (turns _) (turns _) (turns _))
 
 -- what two shuffles of two vectors are
 abbrev Shuffled : List ℕ → List ℕ → (List ℕ → List ℕ → List ℕ) → (List ℕ → List ℕ → List ℕ) → List ℕ → List ℕ → Type 0
-Shuffled lefts rights left right a b =
-    (pick_l 0 (a ++ b) lefts ≡ left a b) × (pick_l 0 (a ++ b) rights ≡ right a b)
+Shuffled lefts rights left right a b = (pick_l 0 (a ++ b) lefts ≡ left a b) × (pick_l 0 (a ++ b) rights ≡ right a b)
 
 pub exchanged_ones : (a : List ℕ) → length a ≡ 8 → (b : List ℕ) → length b ≡ 8
     → Shuffled (0 ∷ 8 ∷ 2 ∷ 10 ∷ 4 ∷ 12 ∷ 6 ∷ 14 ∷ []) (1 ∷ 9 ∷ 3 ∷ 11 ∷ 5 ∷ 13 ∷ 7 ∷ 15 ∷ []) ones_left ones_right a b
@@ -132,8 +128,7 @@ lanes x i =
 -- a vector of these, lane by lane
 pub turned_lanes : (x : List (List ℕ)) (v : List ℕ) (i : ℕ) → v ≡ lanes x i → (k : ℕ) → k < 8 → slice_index v k ≡ lane_word x k i
 turned_lanes x v i same k h =
-    ap (λ v. slice_index v k) same
-    ∙ below_eight (λ k. slice_index (lanes x i) k ≡ lane_word x k i) refl refl refl refl refl refl refl refl k h
+    rw same (below_eight (λ k. slice_index (lanes x i) k ≡ lane_word x k i) refl refl refl refl refl refl refl refl k h)
 
 -- the lanes of two vectors in turn
 abbrev Interleaved : List ℕ → List ℕ → Type 0
@@ -163,20 +158,21 @@ lane_is x j f h =
     ext_get_or 0 (lane j x) (map f (range_with_len 0 16)) refl (λ k below.
     slice_index-lane x j k below ∙ h k below ∙ sym (get_or-map-range_with_len f 0 16 k k 0 below (omega arith)))
 
+-- the vector of a number
+abbrev row_at : List (List ℕ) → ℕ → List ℕ
+row_at x i = slice_index_or x i []
+
 -- vectors of y and of z in turn
 abbrev column_vectors : List (List ℕ) → List (List ℕ) → List (List ℕ)
 column_vectors y z =
-    slice_index_or y 0 [] ∷ slice_index_or z 0 [] ∷ slice_index_or y 1 [] ∷ slice_index_or z 1 []
-    ∷ slice_index_or y 2 [] ∷ slice_index_or z 2 [] ∷ slice_index_or y 3 [] ∷ slice_index_or z 3 []
-    ∷ slice_index_or y 4 [] ∷ slice_index_or z 4 [] ∷ slice_index_or y 5 [] ∷ slice_index_or z 5 []
-    ∷ slice_index_or y 6 [] ∷ slice_index_or z 6 [] ∷ slice_index_or y 7 [] ∷ slice_index_or z 7 [] ∷ []
+    row_at y 0 ∷ row_at z 0 ∷ row_at y 1 ∷ row_at z 1 ∷ row_at y 2 ∷ row_at z 2 ∷ row_at y 3 ∷ row_at z 3
+    ∷ row_at y 4 ∷ row_at z 4 ∷ row_at y 5 ∷ row_at z 5 ∷ row_at y 6 ∷ row_at z 6 ∷ row_at y 7 ∷ row_at z 7 ∷ []
 
 -- the vectors of even or of odd numbers
 abbrev every_second : List (List ℕ) → ℕ → List (List ℕ)
 every_second x e =
-    slice_index_or x (0 + e) [] ∷ slice_index_or x (2 + e) [] ∷ slice_index_or x (4 + e) []
-    ∷ slice_index_or x (6 + e) [] ∷ slice_index_or x (8 + e) [] ∷ slice_index_or x (10 + e) []
-    ∷ slice_index_or x (12 + e) [] ∷ slice_index_or x (14 + e) [] ∷ []
+    row_at x (0 + e) ∷ row_at x (2 + e) ∷ row_at x (4 + e) ∷ row_at x (6 + e)
+    ∷ row_at x (8 + e) ∷ row_at x (10 + e) ∷ row_at x (12 + e) ∷ row_at x (14 + e) ∷ []
 
 -- sixteen vectors turned by two transpositions, of the vectors of even and of odd numbers
 pub columns_from : (x y z : List (List ℕ))
@@ -224,10 +220,8 @@ half_row x i k e hi hk he =
 -- vectors of y, and then those of z
 abbrev one_after_the_other : List (List ℕ) → List (List ℕ) → List (List ℕ)
 one_after_the_other y z =
-    slice_index_or y 0 [] ∷ slice_index_or y 1 [] ∷ slice_index_or y 2 [] ∷ slice_index_or y 3 []
-    ∷ slice_index_or y 4 [] ∷ slice_index_or y 5 [] ∷ slice_index_or y 6 [] ∷ slice_index_or y 7 []
-    ∷ slice_index_or z 0 [] ∷ slice_index_or z 1 [] ∷ slice_index_or z 2 [] ∷ slice_index_or z 3 []
-    ∷ slice_index_or z 4 [] ∷ slice_index_or z 5 [] ∷ slice_index_or z 6 [] ∷ slice_index_or z 7 [] ∷ []
+    row_at y 0 ∷ row_at y 1 ∷ row_at y 2 ∷ row_at y 3 ∷ row_at y 4 ∷ row_at y 5 ∷ row_at y 6 ∷ row_at y 7
+    ∷ row_at z 0 ∷ row_at z 1 ∷ row_at z 2 ∷ row_at z 3 ∷ row_at z 4 ∷ row_at z 5 ∷ row_at z 6 ∷ row_at z 7 ∷ []
 
 -- sixteen vectors of two transpositions, of the left and of the right halves of the rows
 pub rows_from : (y z : List (List ℕ)) (words : List ℕ) (i : ℕ)

@@ -1,5 +1,5 @@
 -- From the vectors of the kernel to the mixing that the standard defines.
-use Rattle.std.proofs.Common.{◌≡◌, ℕ, ◌<◌, ◌≤◌, ◌+◌, ◌-◌, ◌*◌, ◌/◌, ◌%◌, List, [], inl, inr, length, slice_index, slice_index_or, slice_set, ◌==◌, if◌then◌else◌, bit_xor, arith, refl, sym, ap, ap₂, ◌∙◌}
+use Rattle.std.proofs.Common.{◌≡◌, ℕ, ◌<◌, ◌≤◌, ◌+◌, ◌-◌, ◌*◌, ◌/◌, ◌%◌, List, [], inl, inr, length, slice_index, slice_index_or, slice_set, ◌==◌, if◌then◌else◌, bit_xor, arith, refl, sym, ap, ap₂, ◌∙◌, zero-add}
 use Rattle.std.proofs.lemmas.Bool.{cases_eq, cases_lt}
 use Rattle.std.proofs.lemmas.List.{ext_get_or, get_or-set_other, length-set}
 use Rattle.std.proofs.lemmas.Grind.{get_or-set_at}
@@ -17,12 +17,9 @@ lane-slice_set x i n y below long =
     (sym (length-set (lane n x) i (slice_index y n))) (λ k h.
     slice_index-lane (slice_set x i y) n k h ∙ elim (cases_eq k i) [
       | inl same ↦
-          ap (λ v. slice_index v n) (get_or-set_at x i k y [] same (omega arith))
-          ∙ sym (get_or-set_at (lane n x) i k (slice_index y n) 0 same below)
-      | inr other ↦
-          ap (λ v. slice_index v n) (get_or-set_other x i k y [] other)
-          ∙ sym (slice_index-lane x n k h)
-          ∙ sym (get_or-set_other (lane n x) i k (slice_index y n) 0 other)
+          rw (get_or-set_at x i k y [] same (omega arith), get_or-set_at (lane n x) i k (slice_index y n) 0 same below) refl
+      | inr other ↦ rw (get_or-set_other x i k y [] other, get_or-set_other (lane n x) i k (slice_index y n) 0 other)
+          (sym (slice_index-lane x n k h))
     ])
 
 -- a lane of the vectors once four of them are mixed
@@ -61,18 +58,23 @@ perm_steps v s1 s2 s3 s4 s5 s6 s7 s8 =
 
 -- lane q of the vector of an even or an odd number, of two neighbours
 abbrev one_of : List (List ℕ) → ℕ → ℕ → ℕ → ℕ
-one_of x i e q =
-    slice_index (if e == 0 then slice_index_or x (2 * i) [] else slice_index_or x (2 * i + 1) []) q
+one_of x i e q = slice_index (if e == 0 then slice_index_or x (2 * i) [] else slice_index_or x (2 * i + 1) []) q
 
 -- the word is the lane of the vector of that number
 one_of-lane_word : (x : List (List ℕ)) (i q e : ℕ) → e < 2 → one_of x i e q ≡ lane_word x (2 * i + e) q
-one_of-lane_word x i q =
-    below_two _ (ap (λ k. lane_word x k q) (omega arith)) refl
+one_of-lane_word x i q = below_two _ (ap (λ k. lane_word x k q) (omega arith)) refl
 
 -- word w of the columns, xored with the word of r
 abbrev Stored : List (List ℕ) → List ℕ → List ℕ → ℕ → Type 0
-Stored x r out w =
-    slice_index out w ≡ bit_xor (lane_word x (2 * (w / 16) + w % 2) (w % 16 / 2)) (slice_index r w)
+Stored x r out w = slice_index out w ≡ bit_xor (lane_word x (2 * (w / 16) + w % 2) (w % 16 / 2)) (slice_index r w)
+
+-- a word that is stored at its place
+word_stored : (x : List (List ℕ)) (r out : List ℕ) (i w place e q : ℕ)
+    → slice_index out place ≡ bit_xor (one_of x i e q) (slice_index r place) → e < 2 → place ≡ w
+    → 2 * i + e ≡ 2 * (w / 16) + w % 2 → q ≡ w % 16 / 2 → Stored x r out w
+word_stored x r out i w place e q stored below here vector lane_of =
+    rw here at stored
+    ∙ ap (λ a. bit_xor a (slice_index r w)) (one_of-lane_word x i q e below ∙ ap₂ (lane_word x) vector lane_of)
 
 -- the words of a row that is stored by halves
 pub row_stored : (x : List (List ℕ)) (r out : List ℕ) (i : ℕ)
@@ -85,30 +87,19 @@ row_stored x r out i left right w low high =
     elim (cases_lt w (16 * i + 8)) [
       | inl in_left ↦
           let k = w - 16 * i in
-          let place : 16 * i + k ≡ w = omega arith in
-          let vector : 2 * i + k % 2 ≡ 2 * (w / 16) + w % 2 = omega arith in
-          let lane_of : k / 2 ≡ w % 16 / 2 = omega arith in
-          ap (slice_index out) (sym place)
-          ∙ left k (omega arith)
-          ∙ ap₂ bit_xor (one_of-lane_word x i (k / 2) (k % 2) (omega arith) ∙ ap₂ (lane_word x) vector lane_of)
-          (ap (slice_index r) place)
+          word_stored x r out i w (16 * i + k) (k % 2) (k / 2) (left k (omega arith))
+          (omega arith) (omega arith) (omega arith) (omega arith)
       | inr in_right ↦
           let k = w - (16 * i + 8) in
-          let place : 16 * i + 8 + k ≡ w = omega arith in
-          let vector : 2 * i + k % 2 ≡ 2 * (w / 16) + w % 2 = omega arith in
-          let lane_of : 4 + k / 2 ≡ w % 16 / 2 = omega arith in
-          ap (slice_index out) (sym place)
-          ∙ right k (omega arith)
-          ∙ ap₂ bit_xor (one_of-lane_word x i (4 + k / 2) (k % 2) (omega arith) ∙ ap₂ (lane_word x) vector lane_of)
-          (ap (slice_index r) place)
+          word_stored x r out i w (16 * i + 8 + k) (k % 2) (4 + k / 2) (right k (omega arith))
+          (omega arith) (omega arith) (omega arith) (omega arith)
     ]
 
 -- a word of the rows that P mixed
 by_rows_word : (r : List ℕ) (i k : ℕ) → i < 8 → k < 16 → slice_index (by_rows r) (16 * i + k) ≡ slice_index (perm (row i r)) k
 unfolding by_rows
 by_rows_word r i k hi hk =
-    get_or-map-range_with_len (λ w. slice_index (perm (row (w / 16) r)) (w % 16)) 0 128 (16 * i + k) (16 * i + k) 0
-    (omega arith) (omega arith)
+    get_or-map-range_with_len (λ w. slice_index (perm (row (w / 16) r)) (w % 16)) 0 128 (16 * i + k) _ 0 (omega arith) refl
     ∙ ap₂ (λ a b. slice_index (perm (row a r)) b) (omega arith) (omega arith)
 
 -- a word of the columns that P mixed
@@ -116,8 +107,7 @@ by_columns_word : (q : List ℕ) (w : ℕ) → w < 128
     → slice_index (by_columns q) w ≡ slice_index (perm (column (w % 16 / 2) q)) (2 * (w / 16) + w % 2)
 unfolding by_columns
 by_columns_word q w h =
-    let at_start : 0 + w ≡ w = omega arith in
-    get_or-map-range_with_len (λ w. slice_index (perm (column (w % 16 / 2) q)) (2 * (w / 16) + w % 2)) 0 128 w w 0 h at_start
+    get_or-map-range_with_len (λ w. slice_index (perm (column (w % 16 / 2) q)) (2 * (w / 16) + w % 2)) 0 128 w w 0 h (zero-add w)
 
 -- the columns are a block again
 length-by_columns : (q : List ℕ) → length (by_columns q) ≡ 128
@@ -153,9 +143,8 @@ kernel_mixes r out rows across cols down long_r long_out rows_are across_are col
     sym (slice_index-lane down j k hk)
     ∙ ap (λ l. slice_index l k) (down_are j hj ∙ ap perm (column_is j hj))
     in
-    let long : length (by_columns q) ≡ 128 = length-by_columns q in
-    let long_xor : length (xor_blocks (by_columns q) r) ≡ length (by_columns q) =
-    length-zip2 bit_xor (by_columns q) r (long ∙ sym long_r) in
+    let long = length-by_columns q in
+    let long_xor = length-zip2 bit_xor (by_columns q) r (omega arith) in
     ext_get_or 0 out (xor_blocks (by_columns q) r) (omega arith) (λ w h.
     let below : w < 128 = omega arith in
     let below_r : w < length r = omega arith in

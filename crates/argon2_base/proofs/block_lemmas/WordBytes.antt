@@ -1,5 +1,5 @@
 -- The bytes of words, written word after word.
-use Rattle.std.proofs.Common.{◌≡◌, ℕ, ◌<◌, ◌≤◌, ◌+◌, List, [], ◌∷◌, length, take, slice_index, ap, sym, ◌∙◌}
+use Rattle.std.proofs.Common.{◌≡◌, ℕ, ◌<◌, ◌≤◌, ◌+◌, List, [], ◌∷◌, length, take, slice_index, sym}
 use Rattle.std.proofs.lemmas.Grind.{flat_map-append}
 use Rattle.std.proofs.lemmas.List.{take_more}
 use Rattle.std.proofs.lemmas.Slice.{take-put_mid}
@@ -14,6 +14,5 @@ pub one_more_word : (out words piece : List ℕ) (i at k next : ℕ) → next �
     → take next (put_mid at k out piece) ≡ flat_map (to_le_bytes w64) (take (i + 1) words)
 one_more_word out words piece i at k next eight fits more is before =
     let long : next ≡ at + length piece = rw is eight in
-    take-put_mid at k out piece next long fits
-    ∙ rw (before, is) (sym (flat_map-append (to_le_bytes w64) (take i words) (slice_index words i ∷ [])))
-    ∙ ap (flat_map (to_le_bytes w64)) (sym (take_more words i 0 more))
+    rw (take-put_mid at k out piece next long fits, before, is, take_more words i 0 more)
+    (sym (flat_map-append (to_le_bytes w64) (take i words) (slice_index words i ∷ [])))

@@ -1,6 +1,6 @@
 -- The engine without padding reads and writes strict Base64, and nothing else.
-use Rattle.std.proofs.Common.{◌≡◌, ◌≢◌, ℕ, zero, suc, ◌+◌, ◌*◌, ◌/◌, ◌<◌, ◌≤◌, Bool, true, ◌&&◌, nat_le, nat_lt, List, [], ◌∷◌, ◌++◌, length, take, drop, Ok, Err, codes, refl, sym, ◌∙◌, ap, arith, Result, Option, Some, None, inl, inr}
-use Rattle.std.proofs.lemmas.Bool.{and_parts, cases_Bool, le-leb, leb-true, lt-ltb, ltb-true}
+use Rattle.std.proofs.Common.{◌≡◌, ◌≢◌, ℕ, zero, suc, ◌+◌, ◌*◌, ◌/◌, ◌<◌, ◌≤◌, Bool, true, ◌&&◌, nat_le, nat_lt, List, [], ◌∷◌, ◌++◌, length, take, drop, Ok, Err, codes, refl, sym, ◌∙◌, ap, arith, Result, Option, Some, None}
+use Rattle.std.proofs.lemmas.Bool.{and_parts, le-leb, leb-true, lt-ltb, ltb-true}
 use Rattle.std.proofs.lemmas.List.{append-nil}
 use Rattle.std.proofs.lemmas.Str.{IsUtf8-from_ascii}
 use Rattle.std.specs.List.{list_all}
@@ -57,14 +57,7 @@ passes most b = nat_le (length b) most && list_all (λ x. nat_lt x 256) b
 short_by : (most : ℕ) (s b : List ℕ) (r : Result (List ℕ) DecodeError) → decode_of standard_no_pad s ≡ r
     → short_bytes most s ≡ Some b → (r ≡ Ok b) × (passes most b ≡ true)
 unfolding decoded_of
-short_by most s b (Err e) is h = absurd (let f = rw is at h in cc)
-short_by most s b (Ok d) is h = elim (cases_Bool (passes most d)) [
-  | inl passed ↦
-      let f = rw (is, passed) at h in
-      let same : d ≡ b = cc f in
-      (ap Ok same, rw (← same) passed)
-  | inr failed ↦ absurd (let f = rw (is, failed) at h in cc)
-]
+short_by most s b r is h = let found = rw is at h in grind arith
 
 -- `short_bytes` finds the bytes, at most so many, whose strict Base64 a text is
 pub short_bytes_found : (most : ℕ) (s b : List ℕ) → IsBytes s → short_bytes most s ≡ Some b
@@ -82,8 +75,7 @@ short_bytes_again most s b bytes short is =
     rw (is, decode_of-strict_base64 b bytes, le-leb (length b) most short, bytes_pass b bytes) refl
 
 none_unless : (o : Option (List ℕ)) → ((b : List ℕ) → o ≡ Some b → ⊥) → o ≡ None
-none_unless None h = refl
-none_unless (Some b) h = absurd (h b refl)
+none_unless o h = grind arith
 
 -- a text that is refused is that of no bytes which would fit
 pub refused_text : (most : ℕ) (s : List ℕ) (cause : B64Error) → IsBase64Cause (base64_length most) s cause
@@ -100,16 +92,12 @@ short_bytes_refused most s cause bytes refused = none_unless (short_bytes most s
 
 -- two byte lists with one text are one
 pub strict_base64_unique : (s b d : List ℕ) → IsBytes b → s ≡ strict_base64 b → decode_of standard_no_pad s ≡ Ok d → b ≡ d
-strict_base64_unique s b d bytes is ok =
-    let again : decode_of standard_no_pad s ≡ Ok b = rw is (decode_of-strict_base64 b bytes) in
-    cc (sym again ∙ ok)
+strict_base64_unique s b d bytes is ok = cc (decode_of-strict_base64 b bytes)
 
 -- a strict text is never refused
 pub strict_base64_never_refused : (s b : List ℕ) (e : DecodeError) → IsBytes b → s ≡ strict_base64 b
     → decode_of standard_no_pad s ≡ Err e → ⊥
-strict_base64_never_refused s b e bytes is err =
-    let again : decode_of standard_no_pad s ≡ Ok b = rw is (decode_of-strict_base64 b bytes) in
-    cc (sym again ∙ err)
+strict_base64_never_refused s b e bytes is err = cc (decode_of-strict_base64 b bytes)
 
 abbrev written : ℕ → Result ℕ EncodeSliceError
 written n = Ok n

@@ -1,5 +1,5 @@
 -- Words as eight bytes, the low byte first, and the rotation of a word by three of them.
-use Rattle.std.proofs.Common.{◌≡◌, ℕ, ◌<◌, ◌≤◌, ◌+◌, ◌*◌, ◌/◌, ◌%◌, ◌^◌, List, [], ◌∷◌, ◌++◌, length, slice_index, bit_or, refl, ap, sym, arith, lit<, ◌∙◌}
+use Rattle.std.proofs.Common.{◌≡◌, ℕ, ◌<◌, ◌≤◌, ◌+◌, ◌*◌, ◌/◌, ◌%◌, ◌^◌, List, [], ◌∷◌, ◌++◌, length, slice_index, bit_or, refl, ap, sym, arith, lit<, ◌∙◌, zero-add}
 use Rattle.std.specs.Int.{w64, rotate_right}
 use Rattle.std.specs.Simd.Lanes.{chunk, number_l, pick_l}
 use Rattle.std.proofs.lemmas.Nat.{or_comm, or_shifted}
@@ -7,23 +7,18 @@ use Rattle.std.proofs.lemmas.Simd.{get_or-chunk, length-chunk, pick_l_left}
 use Rattle.argon2_base.specs.Lanes.{word_from}
 use Rattle.argon2_base.proofs.block_lemmas.LaneLemmas.{below_eight, eight_lanes}
 
+-- a word whose eight bytes are given by number
+word_of_bytes : (bs : List ℕ) (i : ℕ) (f : ℕ → ℕ) → ((k : ℕ) → k < 8 → slice_index bs (i + k) ≡ f k)
+    → word_from bs i ≡ f 0 + 256 * (f 1 + 256 * (f 2 + 256 * (f 3 + 256 * (f 4 + 256 * (f 5 + 256 * (f 6 + 256 * f 7))))))
+word_of_bytes bs i f byte =
+    rw (byte 0 (lit< tt), byte 1 (lit< tt), byte 2 (lit< tt), byte 3 (lit< tt))
+    (rw (byte 4 (lit< tt), byte 5 (lit< tt), byte 6 (lit< tt), byte 7 (lit< tt)) refl)
+
 -- the number that eight bytes of a list write
 pub number_l-chunk : (bs : List ℕ) (i : ℕ) → i + 8 ≤ length bs → number_l 256 (chunk i 8 bs) ≡ word_from bs i
 number_l-chunk bs i le =
-    let byte : (k : ℕ) → k < 8 → slice_index (chunk i 8 bs) k ≡ slice_index bs (i + k) =
-    λ k h. get_or-chunk i 8 bs k 0 h
-    in
     eight_lanes (λ bs. number_l 256 bs ≡ word_from bs 0) (λ a b c d e f g h. omega arith) (chunk i 8 bs) (length-chunk i 8 bs le)
-    ∙ rw (
-      byte 0 (lit< tt),
-      byte 1 (lit< tt),
-      byte 2 (lit< tt),
-      byte 3 (lit< tt),
-      byte 4 (lit< tt),
-      byte 5 (lit< tt),
-      byte 6 (lit< tt),
-      byte 7 (lit< tt),
-    ) refl
+    ∙ word_of_bytes (chunk i 8 bs) 0 (λ k. slice_index bs (i + k)) (λ k h. rw (zero-add k) (get_or-chunk i 8 bs k 0 h))
 
 -- the two shifts of a rotation by 24 bits
 shifted_or : (x : ℕ) → x < 2 ^ 64 → rotate_right w64 x 24 ≡ x % 2 ^ 24 * 2 ^ 40 + x / 2 ^ 24
@@ -48,16 +43,7 @@ turned_sum x small = omega arith
 pub word_from-turned : (bs : List ℕ) (i x : ℕ) → x < 2 ^ 64
     → ((k : ℕ) → k < 8 → slice_index bs (i + k) ≡ x / 256 ^ ((k + 3) % 8) % 256) → word_from bs i ≡ rotate_right w64 x 24
 word_from-turned bs i x small byte =
-    rw (
-      byte 0 (lit< tt),
-      byte 1 (lit< tt),
-      byte 2 (lit< tt),
-      byte 3 (lit< tt),
-      byte 4 (lit< tt),
-      byte 5 (lit< tt),
-      byte 6 (lit< tt),
-      byte 7 (lit< tt),
-    ) (turned_sum x small ∙ sym (shifted_or x small))
+    word_of_bytes bs i (λ k. x / 256 ^ ((k + 3) % 8) % 256) byte ∙ turned_sum x small ∙ sym (shifted_or x small)
 
 -- the places of 64 bytes, each eight of them turned by three
 abbrev pub turned_places : List ℕ

@@ -1,6 +1,7 @@
 -- Byte lists with zeros behind their bytes: what copying and decoding into zeros leaves.
-use Rattle.std.proofs.Common.{◌≡◌, ℕ, ◌/◌, ◌-◌, ◌≤◌, Bool, true, false, List, ◌++◌, length, take, drop, replicate, if◌then◌else◌, nat_lt, Option, Some, None, Result, Ok, Err, refl, sym, ap, ◌∙◌, arith, inl, inr}
-use Rattle.std.proofs.lemmas.Bool.{cases_Bool, le-ltb, ltb-false}
+use Rattle.std.proofs.Common.{◌≡◌, ℕ, ◌/◌, ◌-◌, ◌≤◌, Bool, false, List, ◌++◌, length, take, drop, replicate, if◌then◌else◌, Option, Result, Ok, Err, refl, sym, ap, ◌∙◌, arith}
+use Rattle.std.proofs.lemmas.Bool.Decides.{nat_tests}
+use Rattle.std.proofs.lemmas.Bool.{le-ltb}
 use Rattle.std.proofs.lemmas.List.{drop-replicate, take_at}
 use Rattle.std.proofs.lemmas.Slice.{drop-append-drop}
 use Rattle.base64.specs.Engines.{standard_no_pad}
@@ -24,25 +25,13 @@ answer x small y d room = or_error x (if small then Err OutputSliceTooSmall else
 -- an answer that counts bytes comes of no error, and they fit
 answer_ok : (x y : Option DecodeError) (small : Bool) (d : List ℕ) (room n : ℕ) → answer x small y d room ≡ Ok n
     → (decode_outcome (or_else x y) d ≡ Ok d) × (n ≡ length d) × (length d ≤ room)
-answer_ok (Some e) y small d room n h = cc h
-answer_ok None y true d room n h = cc h
-answer_ok None (Some e) false d room n h = cc h
-answer_ok None None false d room n h = elim (cases_Bool (nat_lt room (length d))) [
-  | inl small ↦ absurd (let f = rw small at h in cc)
-  | inr wide ↦ (refl, (let f = rw wide at h in cc), ltb-false room (length d) wide)
-]
+answer_ok x y small d room n h = grind (arith, nat_tests)
 
 -- if there is no error and room for the bytes, nothing is refused
 answer_err : (x y : Option DecodeError) (small : Bool) (d b : List ℕ) (room : ℕ) (f : DecodeSliceError)
     → decode_outcome (or_else x y) d ≡ Ok b
     → length b ≤ room → small ≡ false → answer x small y d room ≡ Err f → ⊥
-answer_err (Some e) y small d b room f ok fits wide h = cc ok
-answer_err None y true d b room f ok fits wide h = cc wide
-answer_err None (Some e) false d b room f ok fits wide h = cc ok
-answer_err None None false d b room f ok fits wide h =
-    let same : d ≡ b = cc ok in
-    let bad = rw (le-ltb room (length d) (rw same fits)) at h in
-    cc bad
+answer_err x y small d b room f ok fits wide h = grind (arith, nat_tests)
 
 -- What was decoded into zeros.
 pub record IsDecoded (s new : List ℕ) (room n : ℕ) : Type 0 where

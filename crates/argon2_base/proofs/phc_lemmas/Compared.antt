@@ -1,17 +1,16 @@
 -- Bytes that are compared by the bits in which they differ.
-use Rattle.std.proofs.Common.{◌≡◌, ◌∙◌, ℕ, ◌≤◌, sym, ap, arith, refl}
+use Rattle.std.proofs.Common.{◌≡◌, ◌∙◌, ℕ, sym, arith, refl}
 use Rattle.std.specs.Int.Bits.{bit_or, bit_xor, xor_zero_l, xor_zero_r, xor_self, xor_assoc}
 use Rattle.std.proofs.lemmas.Nat.{le_or_l, le_or_r}
 
 -- if no difference is noted after two bytes, none was before them, and they are equal
 pub no_difference : (d x y : ℕ) → bit_or d (bit_xor x y) ≡ 0 → (d ≡ 0) × (x ≡ y)
 no_difference d x y h =
-    let left : d ≤ bit_or d (bit_xor x y) = le_or_l d (bit_xor x y) in
-    let right : bit_xor x y ≤ bit_or d (bit_xor x y) = le_or_r d (bit_xor x y) in
-    let none : bit_xor x y ≡ 0 = omega arith in (
-      omega arith,
-      sym (xor_zero_r x) ∙ ap (bit_xor x) (sym (xor_self y)) ∙ sym (xor_assoc x y y) ∙ ap (λ (z : ℕ). bit_xor z y) none ∙ xor_zero_l y,
-    )
+    let left = le_or_l d (bit_xor x y) in
+    let right = le_or_r d (bit_xor x y) in
+    let none : bit_xor x y ≡ 0 = omega arith in
+    let back : bit_xor x (bit_xor y y) ≡ y = rw (← xor_assoc x y y, none) (xor_zero_l y) in
+    (omega arith, sym (xor_zero_r x) ∙ rw xor_self at back)
 
 -- equal bytes add no difference
 pub difference_none : (d x y : ℕ) → d ≡ 0 → x ≡ y → bit_or d (bit_xor x y) ≡ 0

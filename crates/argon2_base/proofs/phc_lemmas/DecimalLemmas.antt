@@ -1,9 +1,9 @@
 -- Which number a decimal is of.
-use Rattle.std.proofs.Common.{◌≡◌, ℕ, ◌^◌, ◌<◌, ◌&&◌, List, Some, None, refl, sym, arith, inl, inr, nat_lt}
-use Rattle.std.proofs.lemmas.Bool.{cases_Bool, ltb-true, lt-ltb, and_parts}
+use Rattle.std.proofs.Common.{◌≡◌, ℕ, ◌^◌, ◌<◌, List, Some, None, refl, arith}
+use Rattle.std.proofs.lemmas.Bool.{lt-ltb}
+use Rattle.std.proofs.lemmas.Bool.Decides.{nat_tests}
 use Rattle.std.proofs.lemmas.Slice.Eq.{bytes_eq-Decides}
 use Rattle.std.proofs.lemmas.Fmt.{decimal_is_IsNumeral}
-use Rattle.std.specs.Str.{bytes_eq}
 use Rattle.std.specs.Str.Parse.{digits_value}
 use Rattle.std.specs.Fmt.{decimal}
 use Rattle.argon2_base.specs.Texts.{number_of}
@@ -18,9 +18,6 @@ number_again text n small is =
 pub number_none : (text : List ℕ) → ((n : ℕ) → n < 2 ^ 32 → text ≡ decimal n → ⊥) → number_of text ≡ None
 number_none text h =
     let n = digits_value 10 text in
-    elim (cases_Bool (bytes_eq (decimal n) text && nat_lt n (2 ^ 32))) [
-      | inl e ↦
-          let t = and_parts (bytes_eq (decimal (digits_value 10 text)) text) (nat_lt (digits_value 10 text) (2 ^ 32)) e in
-          absurd (h (digits_value 10 text) (ltb-true _ _ t.1) (sym ((bytes_eq-Decides _ _).0 t.0)))
-      | inr e ↦ rw e refl
-    ]
+    let test = bytes_eq-Decides (decimal n) text in
+    let no = h n in
+    grind (arith, nat_tests)

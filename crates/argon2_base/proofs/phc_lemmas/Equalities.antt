@@ -1,5 +1,5 @@
 -- The equalities of lists of parameters and of what PHC texts say: each value equals itself alone.
-use Rattle.std.proofs.Common.{◌≡◌, Bool, ◌&&◌, List, Option, Some, None, refl, ap}
+use Rattle.std.proofs.Common.{◌≡◌, Bool, ◌&&◌, List, Option, refl, arith}
 use Rattle.std.specs.Bool.{Decides}
 use Rattle.std.specs.Cmp.{unsigned_Decides}
 use Rattle.std.specs.Cmp.Lexicographic.{pointwise_decides}
@@ -13,7 +13,7 @@ use Rattle.argon2_base.specs.PhcText.{Pair, Phc, pairs_eq, phc_eq}
 pair_eq-Decides : (p q : Pair) → Decides (bytes_eq p.0 q.0 && bytes_eq p.1 q.1) (p ≡ q)
 pair_eq-Decides p q =
     let parts = Decides-and (bytes_eq p.0 q.0) (bytes_eq p.1 q.1) (bytes_eq-Decides p.0 q.0) (bytes_eq-Decides p.1 q.1) in
-    (λ e. let same = parts.0 e in λ i. (same.0 i, same.1 i), λ e. parts.1 (ap (λ (r : Pair). r.0) e, ap (λ (r : Pair). r.1) e))
+    (λ e. let same = parts.0 e in λ i. (same.0 i, same.1 i), λ e. parts.1 (cc, cc))
 
 -- two lists are equal if their parameters are
 pub pairs_eq-Decides : (ps qs : List Pair) → Decides (pairs_eq ps qs) (ps ≡ qs)
@@ -22,10 +22,7 @@ pairs_eq-Decides = pointwise_decides pair_eq-Decides
 -- two options are equal if what they hold is
 option_eq-Decides : {T : Type 0} {E : T → T → Bool} → ((x y : T) → Decides (E x y) (x ≡ y)) → (o r : Option T)
     → Decides (option_eq E o r) (o ≡ r)
-option_eq-Decides decides None None = (λ e. refl, λ e. refl)
-option_eq-Decides decides None (Some y) = (λ e. absurd cc, λ e. absurd cc)
-option_eq-Decides decides (Some x) None = (λ e. absurd cc, λ e. absurd cc)
-option_eq-Decides decides (Some x) (Some y) = (λ e. ap Some ((decides x y).0 e), λ e. (decides x y).1 cc)
+option_eq-Decides decides o r = (grind arith, grind arith)
 
 -- two values are equal if their fields are
 pub phc_eq-Decides : (v w : Phc) → Decides (phc_eq v w) (v ≡ w)
@@ -36,21 +33,9 @@ phc_eq-Decides v w =
     (pairs_eq-Decides v.params w.params))
     (option_eq-Decides bytes_eq-Decides v.salt w.salt))
     (option_eq-Decides bytes_eq-Decides v.hash w.hash) in (
-      λ e. let same = parts.0 e in
-          λ i. record {
-            algorithm = same.0.0.0.0 i;
-            version = same.0.0.0.1 i;
-            params = same.0.0.1 i;
-            salt = same.0.1 i;
-            hash = same.1 i;
-          },
-      λ e. parts.1 (
-        (
-          ((ap (λ (x : Phc). x.algorithm) e, ap (λ (x : Phc). x.version) e), ap (λ (x : Phc). x.params) e),
-          ap (λ (x : Phc). x.salt) e,
-        ),
-        ap (λ (x : Phc). x.hash) e,
-      ),
+      λ e. let is = parts.0 e in
+          λ i. record { algorithm = is.0.0.0.0 i; version = is.0.0.0.1 i; params = is.0.0.1 i; salt = is.0.1 i; hash = is.1 i },
+      λ e. parts.1 (rw e ((((refl, refl), refl), refl), refl)),
     )
 
 -- what the test of two values answers

@@ -1,10 +1,10 @@
 -- Reading a list item by item.
-use Rattle.std.proofs.Common.{◌≡◌, ℕ, ◌<◌, ◌≤◌, true, false, ◌&&◌, List, [], ◌∷◌, ◌++◌, length, map, refl, sym, ap, ◌∙◌, arith, inl, inr, nat_le, ◌==◌, length-append}
-use Rattle.std.proofs.lemmas.Bool.{cases_Bool, eqb-true, le-leb, leb-true, and_parts}
+use Rattle.std.proofs.Common.{◌≡◌, ℕ, ◌<◌, ◌≤◌, true, false, ◌&&◌, List, [], ◌∷◌, ◌++◌, length, map, refl, sym, ap, ◌∙◌, arith, nat_le, length-append}
+use Rattle.std.proofs.lemmas.Bool.Decides.{nat_tests}
+use Rattle.std.proofs.lemmas.Bool.{le-leb, and_parts}
 use Rattle.std.proofs.lemmas.List.Folds.{list_all-append}
 use Rattle.std.proofs.lemmas.List.Splits.{join_with_byte-slice_split}
 use Rattle.std.specs.List.{list_all, join_with_byte}
-use Rattle.std.specs.Str.{bytes_eq}
 use Rattle.std.specs.Prelude.{is_none}
 use Rattle.argon2_base.specs.PhcText.{Pair, item, params_text, value_of, are_distinct, is_param, are_params, ParamsText, pair_of, items_of, pairs_of}
 use Rattle.argon2_base.proofs.phc_lemmas.ParamsTextLemmas.{all_params, pairs_again, param_value}
@@ -22,70 +22,54 @@ one_list text ps qs h k = sym (read_again text ps h) ∙ read_again text qs k
 -- a name that a list lacks, its front lacks
 absent_front : (n : List ℕ) (a b : List Pair) → is_none (value_of n (a ++ b)) ≡ true → is_none (value_of n a) ≡ true
 absent_front n [] b h = refl
-absent_front n (p ∷ a) b h = elim (cases_Bool (bytes_eq p.0 n)) [
-  | inl e ↦ absurd (let f = rw e at h in cc)
-  | inr e ↦ let f = rw e at h in rw e (absent_front n a b f)
-]
+absent_front n (p ∷ a) b h = let front = absent_front n a b in grind arith
 
 -- the names of a front are distinct
 distinct_front : (a b : List Pair) → are_distinct (a ++ b) ≡ true → are_distinct a ≡ true
 distinct_front [] b h = refl
 distinct_front (p ∷ a) b h =
-    let d = and_parts (is_none (value_of p.0 (a ++ b))) (are_distinct (a ++ b)) h in
-    rw (absent_front p.0 a b d.0, distinct_front a b d.1) refl
+    let absent = absent_front p.0 a b in
+    let distinct = distinct_front a b in
+    grind arith
 
 -- the text of a front is no longer
 text_front : (a b : List Pair) → length (params_text a) ≤ length (params_text (a ++ b))
 text_front [] b = omega arith
 text_front (q ∷ []) [] = omega arith
 text_front (q ∷ []) (r ∷ b) = omega (arith, length-append (item q) (44 ∷ params_text (r ∷ b)))
-text_front (q ∷ r ∷ a) b = omega (
-  arith,
-  text_front (r ∷ a) b,
-  length-append (item q) (44 ∷ params_text (r ∷ a)),
-  length-append (item q) (44 ∷ params_text ((r ∷ a) ++ b)),
-)
+text_front (q ∷ r ∷ a) b = omega (arith, text_front (r ∷ a) b, length-append {A = ℕ})
 
 -- the front of a list in the grammar is in the grammar
 pub params_front : (a b : List Pair) → are_params (a ++ b) ≡ true → are_params a ≡ true
 params_front a b h =
-    let t = and_parts (list_all is_param (a ++ b) && are_distinct (a ++ b)) (nat_le (length (params_text (a ++ b))) 127) h in
-    let d = and_parts (list_all is_param (a ++ b)) (are_distinct (a ++ b)) t.0 in
-    let l = and_parts (list_all is_param a) (list_all is_param b) (sym (list_all-append is_param a b) ∙ d.0) in
-    let short : length (params_text a) ≤ 127 = omega (arith, text_front a b, leb-true (length (params_text (a ++ b))) 127 t.1) in
-    rw (l.0, distinct_front a b d.1, le-leb (length (params_text a)) 127 short) refl
+    let distinct = distinct_front a b in
+    let no_longer = text_front a b in
+    let all = list_all-append is_param a b in
+    grind (arith, nat_tests)
 
 -- ---- the length of a value
 
--- a value has 1 to 64 characters
-value_length : (p : Pair) → is_param p ≡ true → (0 < length p.1) × (length p.1 ≤ 64)
-value_length p h =
-    let b = and_parts (nat_le 1 (length p.1)) (nat_le (length p.1) 64) (and_parts _ _ (param_value p h)).0 in
-    (leb-true 1 (length p.1) b.0, leb-true (length p.1) 64 b.1)
+-- a value has a character
+value_length : (p : Pair) → is_param p ≡ true → 0 < length p.1
+value_length p h = let value = param_value p h in grind (arith, nat_tests)
 
 -- what is longer is no value
 pub long_value : (n v : List ℕ) → 64 < length v → is_param (n, v) ≡ false
-long_value n v h = elim (cases_Bool (is_param (n, v))) [
-  | inl e ↦ absurd (omega (arith, value_length (n, v) e))
-  | inr e ↦ e
-]
+long_value n v h = grind (arith, nat_tests)
 
 -- ---- reading a text
 
 -- what has a value is an item
 item_again : (x : List ℕ) → 0 < length (pair_of x).1 → item (pair_of x) ≡ x
 item_again [] h = absurd (omega arith)
-item_again (c ∷ s) h = elim (cases_Bool (c == 61)) [
-  | inl e ↦ rw e (ap (λ d. d ∷ s) (sym (eqb-true c 61 e)))
-  | inr e ↦ let f = rw e at h in rw e (ap (λ (t : List ℕ). c ∷ t) (item_again s f))
-]
+item_again (c ∷ s) h = let again = item_again s in grind (arith, nat_tests)
 
 -- parts that are read as parameters are their items
 pub parts_again : (xs : List (List ℕ)) → list_all is_param (map pair_of xs) ≡ true → map item (map pair_of xs) ≡ xs
 parts_again [] h = refl
 parts_again (x ∷ xs) h =
     let b = and_parts (is_param (pair_of x)) (list_all is_param (map pair_of xs)) h in
-    rw (item_again x ((value_length (pair_of x) b.0).0), parts_again xs b.1) refl
+    rw (item_again x (value_length (pair_of x) b.0), parts_again xs b.1) refl
 
 -- the parts of a list's text are parameters with distinct names
 pub good_items : (text : List ℕ) (ps : List Pair) → ParamsText text ps

@@ -1,8 +1,8 @@
 -- What a list says, and what longer lists are.
-use Rattle.std.proofs.Common.{◌≡◌, ℕ, ◌<◌, Bool, true, false, not, ◌&&◌, List, [], ◌∷◌, ◌++◌, length, map, refl, sym, ap, ◌∙◌, arith, inl, inr, ◌==◌, nat_le, length-append, append_assoc}
+use Rattle.std.proofs.Common.{◌≡◌, ℕ, ◌<◌, true, false, not, ◌&&◌, List, [], ◌∷◌, ◌++◌, length, map, refl, sym, ap, ◌∙◌, arith, ◌==◌, nat_le, length-append, append_assoc}
 use Rattle.std.specs.Cmp.Lexicographic.{nat_list_eq_equiv}
 use Rattle.std.proofs.Math.Bool.{and-false, and-true}
-use Rattle.std.proofs.lemmas.Bool.{cases_Bool, and_parts}
+use Rattle.std.proofs.lemmas.Bool.{and_parts}
 use Rattle.std.specs.List.{list_all, AllByRecursion}
 use Rattle.std.proofs.lemmas.List.Folds.{list_all-append}
 use Rattle.std.specs.Str.{bytes_eq}
@@ -31,19 +31,11 @@ param_value p h = (and_parts _ (is_value p.1) h).1
 pub name_lacks : (c : ℕ) → is_name_char c ≡ false → (s : List ℕ) → is_name s ≡ true → Lacks c s
 name_lacks c fails s h = lacks_by is_name_char c fails s (name_chars s h)
 
--- a value lacks what is no character of values
-pub value_lacks : (c : ℕ) → is_value_char c ≡ false → (s : List ℕ) → is_value s ≡ true → Lacks c s
-value_lacks c fails s h = lacks_by is_value_char c fails s (and_parts _ (list_all is_value_char s) h).1
-
--- an item is read as its parameter
-pub param_again : (p : Pair) → is_param p ≡ true → pair_of (item p) ≡ p
-param_again p h = pair_again p.0 p.1 (name_lacks 61 refl p.0 (param_name p h))
-
 -- an item lacks what is in no name and no value, and is no `=`
 pub item_lacks : (c : ℕ) → is_name_char c ≡ false → is_value_char c ≡ false → (61 == c) ≡ false → (p : Pair)
     → is_param p ≡ true → Lacks c (item p)
 item_lacks c a b d p h = Lacks-append c p.0 (61 ∷ p.1) (name_lacks c a p.0 (param_name p h))
-    (d, value_lacks c b p.1 (param_value p h))
+    (d, lacks_by is_value_char c b p.1 (and_parts _ (list_all is_value_char p.1) (param_value p h)).1)
 
 -- items have no `,`
 pub items_lack : (ps : List Pair) → list_all is_param ps ≡ true → AllByRecursion (Lacks 44) (map item ps)
@@ -55,7 +47,9 @@ items_lack (p ∷ ps) h =
 -- items are read as their parameters
 pub map_again : (ps : List Pair) → list_all is_param ps ≡ true → map pair_of (map item ps) ≡ ps
 map_again [] h = refl
-map_again (p ∷ ps) h = let b = and_parts (is_param p) (list_all is_param ps) h in rw (param_again p b.0, map_again ps b.1) refl
+map_again (p ∷ ps) h =
+    let b = and_parts (is_param p) (list_all is_param ps) h in
+    rw (pair_again p.0 p.1 (name_lacks 61 refl p.0 (param_name p b.0)), map_again ps b.1) refl
 
 -- ---- the whole list
 
@@ -65,8 +59,7 @@ all_params ps h = (and_parts (list_all is_param ps) _ (and_parts _ (nat_le (leng
 
 -- a text that isn't empty has the pairs of its parts
 pub pairs_of_items : (t : List ℕ) → 0 < length t → pairs_of t ≡ map pair_of (items_of t)
-pairs_of_items [] h = absurd (omega arith)
-pairs_of_items (c ∷ t) h = refl
+pairs_of_items t h = grind arith
 
 -- an item is not empty
 item_long : (p : Pair) → 0 < length (item p)
@@ -77,67 +70,42 @@ pub text_long : (p : Pair) (ps : List Pair) → 0 < length (params_text (p ∷ p
 text_long p [] = item_long p
 text_long p (q ∷ ps) = omega (arith, item_long p, length-append (item p) (44 ∷ params_text (q ∷ ps)))
 
--- the items of a list's text
-pub items_again : (p : Pair) (ps : List Pair) → list_all is_param (p ∷ ps) ≡ true
-    → items_of (params_text (p ∷ ps)) ≡ map item (p ∷ ps)
-items_again p ps h = cut_joined 44 (item p) (map item ps) (items_lack (p ∷ ps) h)
-
 -- what a list's text says is the list
 pub pairs_again : (ps : List Pair) → list_all is_param ps ≡ true → pairs_of (params_text ps) ≡ ps
 pairs_again [] h = refl
-pairs_again (p ∷ ps) h = pairs_of_items _ (text_long p ps) ∙ ap (map pair_of) (items_again p ps h) ∙ map_again (p ∷ ps) h
+pairs_again (p ∷ ps) h = pairs_of_items _ (text_long p ps)
+    ∙ ap (map pair_of) (cut_joined 44 (item p) (map item ps) (items_lack (p ∷ ps) h)) ∙ map_again (p ∷ ps) h
 
 -- ---- a list with one more
 
 -- an item behind other text
 with_item_some : (t : List ℕ) (p : Pair) → 0 < length t → with_item t p ≡ t ++ 44 ∷ item p
-with_item_some [] p h = absurd (omega arith)
-with_item_some (c ∷ t) p h = refl
+with_item_some t p h = grind arith
 
 -- the text of a list with one more parameter
 pub params_text-more : (ps : List Pair) (p : Pair) → params_text (ps ++ p ∷ []) ≡ with_item (params_text ps) p
 params_text-more [] p = refl
 params_text-more (q ∷ []) p = sym (with_item_some (item q) p (item_long q))
 params_text-more (q ∷ r ∷ ps) p =
-    let rest : params_text ((r ∷ ps) ++ p ∷ []) ≡ params_text (r ∷ ps) ++ 44 ∷ item p =
-    params_text-more (r ∷ ps) p ∙ with_item_some (params_text (r ∷ ps)) p (text_long r ps) in
-    ap (λ (t : List ℕ). item q ++ 44 ∷ t) rest ∙ sym (append_assoc (item q) (44 ∷ params_text (r ∷ ps)) (44 ∷ item p))
-    ∙ sym (with_item_some (params_text (q ∷ r ∷ ps)) p (text_long q (r ∷ ps)))
+    rw (with_item_some _ p (text_long q (r ∷ ps)), params_text-more (r ∷ ps) p, with_item_some _ p (text_long r ps))
+    (sym (append_assoc (item q) (44 ∷ params_text (r ∷ ps)) (44 ∷ item p)))
 
 -- whether a name is there
 value_of-more : (n : List ℕ) (ps : List Pair) (p : Pair)
     → is_none (value_of n (ps ++ p ∷ [])) ≡ (is_none (value_of n ps) && not (bytes_eq p.0 n))
-value_of-more n [] p = elim (cases_Bool (bytes_eq p.0 n)) [
-  | inl e ↦ rw e refl
-  | inr e ↦ rw e refl
-]
-value_of-more n (q ∷ ps) p = elim (cases_Bool (bytes_eq q.0 n)) [
-  | inl e ↦ rw e refl
-  | inr e ↦ rw e (value_of-more n ps p)
-]
+value_of-more n [] p = grind arith
+value_of-more n (q ∷ ps) p = let more = value_of-more n ps p in grind arith
 
 -- whether a name is there, by the first parameter
 value_of-first : (n : List ℕ) (q : Pair) (ps : List Pair)
     → is_none (value_of n (q ∷ ps)) ≡ (not (bytes_eq q.0 n) && is_none (value_of n ps))
-value_of-first n q ps = elim (cases_Bool (bytes_eq q.0 n)) [
-  | inl e ↦ rw e refl
-  | inr e ↦ rw e refl
-]
-
--- two pairs of tests, the other way
-and_swap : (a b c d : Bool) → ((a && b) && (c && d)) ≡ ((a && c) && (b && d))
-and_swap true true c d = refl
-and_swap true false true d = refl
-and_swap true false false d = refl
-and_swap false b c d = refl
+value_of-first n q ps = grind arith
 
 -- whether names are distinct with one more
 pub are_distinct-more : (ps : List Pair) (p : Pair) → are_distinct (ps ++ p ∷ []) ≡ (are_distinct ps && is_none (value_of p.0 ps))
 are_distinct-more [] p = refl
 are_distinct-more (q ∷ ps) p =
-    let symmetric : bytes_eq p.0 q.0 ≡ bytes_eq q.0 p.0 = nat_list_eq_equiv.symm p.0 q.0 in
-    rw (value_of-more q.0 ps p, are_distinct-more ps p, value_of-first p.0 q ps, symmetric)
-    (and_swap (is_none (value_of q.0 ps)) (not (bytes_eq q.0 p.0)) (are_distinct ps) (is_none (value_of p.0 ps)))
+    rw (value_of-more q.0 ps p, are_distinct-more ps p, value_of-first p.0 q ps, nat_list_eq_equiv.symm p.0 q.0) (grind arith)
 
 -- whether all are parameters with one more
 list_all-more : (ps : List Pair) (p : Pair) → list_all is_param (ps ++ p ∷ []) ≡ (list_all is_param ps && is_param p)
@@ -147,10 +115,7 @@ list_all-more ps p = list_all-append is_param ps (p ∷ []) ∙ ap (λ b. list_a
 pub are_params-more : (ps : List Pair) (p : Pair) → are_params ps ≡ true
     → are_params (ps ++ p ∷ [])
     ≡ ((is_param p && is_none (value_of p.0 ps)) && nat_le (length (with_item (params_text ps) p)) 127)
-are_params-more ps p h =
-    let b = and_parts (list_all is_param ps && are_distinct ps) _ h in
-    let d = and_parts (list_all is_param ps) (are_distinct ps) b.0 in
-    rw (list_all-more ps p, are_distinct-more ps p, params_text-more ps p, d.0, d.1) refl
+are_params-more ps p h = rw (list_all-more ps p, are_distinct-more ps p, params_text-more ps p) (search arith)
 
 -- ---- where an item is cut
 
@@ -163,14 +128,11 @@ pair_of_name (c ∷ n) h = rw (h.0, pair_of_name n h.1) refl
 
 -- a list with what is no parameter is refused
 pub refused_param : (ps : List Pair) (p : Pair) → is_param p ≡ false → false ≡ are_params (ps ++ p ∷ [])
-refused_param ps p h = sym (rw (list_all-more ps p, h, and-false (list_all is_param ps)) refl)
+refused_param ps p h = rw (list_all-more ps p, h, and-false) refl
 
 -- a list with a name twice is refused
 pub refused_name : (ps : List Pair) (p : Pair) → is_some (value_of p.0 ps) ≡ true → false ≡ are_params (ps ++ p ∷ [])
-refused_name ps p h =
-    let one : are_distinct (ps ++ p ∷ []) ≡ false =
-    are_distinct-more ps p ∙ rw (ap not h) (and-false (are_distinct ps)) in
-    sym (rw (one, and-false (list_all is_param (ps ++ p ∷ []))) refl)
+refused_name ps p h = rw (are_distinct-more ps p) (grind arith)
 
 -- what a list is after an item was appended, or didn't fit
 pub record Grows (text new : List ℕ) (p : Pair) : Type 0 where
@@ -180,24 +142,19 @@ pub record Grows (text new : List ℕ) (p : Pair) : Type 0 where
 
 -- the list after an item was appended
 pub params_grown : (text new : List ℕ) (p : Pair) → are_params (pairs_of text) ≡ true → text ≡ params_text (pairs_of text)
-    → is_param p ≡ true
-    → is_some (value_of p.0 (pairs_of text)) ≡ false → nat_le (length (with_item text p)) 127 ≡ true
+    → is_param p ≡ true → is_some (value_of p.0 (pairs_of text)) ≡ false → nat_le (length (with_item text p)) 127 ≡ true
     → new ≡ with_item text p → Grows text new p
 params_grown text new p h is param name fits e =
     let ps : List Pair = pairs_of text in
-    let good : are_params (ps ++ p ∷ []) ≡ true =
-    rw (are_params-more ps p h, param, ap not name, ← is) fits in
-    let whole : new ≡ params_text (ps ++ p ∷ []) = e ∙ ap (λ (t : List ℕ). with_item t p) is ∙ sym (params_text-more ps p) in
+    let good : are_params (ps ++ p ∷ []) ≡ true = rw (are_params-more ps p h, param, ap not name, ← is) fits in
+    let whole : new ≡ params_text (ps ++ p ∷ []) = rw (e, params_text-more ps p, ← is) refl in
     record {
       good = good;
-      view = ap pairs_of whole
-          ∙ pairs_again (ps ++ p ∷ []) (all_params (ps ++ p ∷ []) good);
+      view = ap pairs_of whole ∙ pairs_again (ps ++ p ∷ []) (all_params (ps ++ p ∷ []) good);
       spelled = whole;
     }
 
 -- a list that is too long is refused
 pub refused_long : (text : List ℕ) (p : Pair) → are_params (pairs_of text) ≡ true → text ≡ params_text (pairs_of text)
     → nat_le (length (with_item text p)) 127 ≡ false → false ≡ are_params (pairs_of text ++ p ∷ [])
-refused_long text p h is long =
-    let ps : List Pair = pairs_of text in
-    sym (are_params-more ps p h ∙ rw (← is, long) (and-false (is_param p && is_none (value_of p.0 ps))))
+refused_long text p h is long = rw (are_params-more (pairs_of text) p h, ← is, long, and-false) refl

@@ -2,43 +2,36 @@
 use Rattle.std.proofs.Common.{◌≡◌, ◌≢◌, ℕ, ◌<◌, ◌^◌, true, false, List, [], ◌∷◌, ◌++◌, length, refl, sym, ap, ◌∙◌, subst, arith, Option, Some, None, Ok, Err, append_assoc, codes, ◌==◌}
 use Rattle.std.proofs.lemmas.List.{append-nil}
 use Rattle.std.proofs.lemmas.Grind.{flat_map-append}
-use Rattle.std.proofs.lemmas.Bool.{not-true, and_parts}
+use Rattle.std.proofs.lemmas.Bool.{and_parts}
 use Rattle.std.specs.Prelude.{IfSome, IsSome, IsNone, is_some}
 use Rattle.std.specs.Borrow.{Bor}
 use Rattle.std.proofs.lemmas.List.Splits.{join_with_byte-slice_split, length-slice_split}
 use Rattle.std.specs.List.{list_all, flat_map, AllByRecursion, join_with_byte}
 use Rattle.std.specs.Fmt.{decimal}
-use Rattle.std.specs.Str.{bytes_eq}
-use Rattle.argon2_base.specs.Texts.{IsBytes, is_name, is_name_char, is_value, is_value_char, strict_base64}
+use Rattle.argon2_base.specs.Texts.{IsBytes, is_value_char, strict_base64}
 use Rattle.argon2_base.specs.PhcText.{HasBytes, IsPhc, Pair, Phc, PhcText, are_params, field, fields, fields_text, is_param, item, list_field, pair_of, params_text, phc_text, version_text}
 use Rattle.argon2_base.specs.PhcFields.{fields_of, fields_left, IsBytesField, NoVersionFirst, NoItemFirst}
 use Rattle.argon2_base.specs.declared.error.password_hash.Error.TheVariants.{EncodingInvalid}
 use Rattle.argon2_base.proofs.phc_lemmas.Base64Lemmas.{decode_of-strict_base64, strict_base64_unique}
 use Rattle.argon2_base.proofs.phc_lemmas.Characters.{lacks_by}
-use Rattle.argon2_base.proofs.phc_lemmas.Separators.{Lacks, Lacks-append, Lacks_not, cut_joined}
+use Rattle.argon2_base.proofs.phc_lemmas.Separators.{Lacks, Lacks-append, Lacks_not, all-append, cut_joined}
 use Rattle.argon2_base.proofs.phc_lemmas.ParamsTextLemmas.{all_params, name_lacks, item_lacks, pair_again, param_name}
 use Rattle.argon2_base.proofs.phc_lemmas.ValueCharacters.{decimal_chars, base64_chars}
 
 -- ---- no field has a `$`
 
--- a list's text lacks what no item has, and is no `,`
-params_text_lacks : (c : ℕ) → is_name_char c ≡ false → is_value_char c ≡ false → (61 == c) ≡ false → (44 == c) ≡ false
-    → (ps : List Pair) → list_all is_param ps ≡ true → Lacks c (params_text ps)
-params_text_lacks c a b d e [] h = tt
-params_text_lacks c a b d e (p ∷ []) h = item_lacks c a b d p (and_parts (is_param p) true h).0
-params_text_lacks c a b d e (p ∷ q ∷ ps) h =
+-- a list's text has no `$`
+params_text_lacks : (ps : List Pair) → list_all is_param ps ≡ true → Lacks 36 (params_text ps)
+params_text_lacks [] h = tt
+params_text_lacks (p ∷ []) h = item_lacks 36 refl refl refl p (and_parts (is_param p) true h).0
+params_text_lacks (p ∷ q ∷ ps) h =
     let k = and_parts (is_param p) (list_all is_param (q ∷ ps)) h in
-    Lacks-append c (item p) (44 ∷ params_text (q ∷ ps)) (item_lacks c a b d p k.0) (e, params_text_lacks c a b d e (q ∷ ps) k.1)
+    Lacks-append 36 (item p) (44 ∷ params_text (q ∷ ps)) (item_lacks 36 refl refl refl p k.0)
+    (refl, params_text_lacks (q ∷ ps) k.1)
 
 -- strict Base64 lacks what is no character of values
 base64_lacks : (c : ℕ) → is_value_char c ≡ false → (b : List ℕ) → IsBytes b → Lacks c (strict_base64 b)
 base64_lacks c fails b bytes = lacks_by is_value_char c fails (strict_base64 b) (base64_chars b bytes)
-
--- two lists of texts without the character, joined
-and_then : (c : ℕ) (xs ys : List (List ℕ)) → AllByRecursion (Lacks c) xs → AllByRecursion (Lacks c) ys
-    → AllByRecursion (Lacks c) (xs ++ ys)
-and_then c [] ys h k = k
-and_then c (x ∷ xs) ys h k = (h.0, and_then c xs ys h.1 k)
 
 -- the field of a version has no `$`
 version_field_lacks : (o : Option ℕ) → IfSome o (λ n. n < 2 ^ 32) → AllByRecursion (Lacks 36) (field version_text o)
@@ -55,15 +48,15 @@ bytes_field_lacks low high (Some b) h = (base64_lacks 36 refl b h.0, tt)
 -- the field of parameters has no `$`
 list_field_lacks : (ps : List Pair) → are_params ps ≡ true → AllByRecursion (Lacks 36) (list_field ps)
 list_field_lacks [] h = tt
-list_field_lacks (p ∷ ps) h = (params_text_lacks 36 refl refl refl refl (p ∷ ps) (all_params (p ∷ ps) h), tt)
+list_field_lacks (p ∷ ps) h = (params_text_lacks (p ∷ ps) (all_params (p ∷ ps) h), tt)
 
 -- no field has a `$`
 fields_lack : (v : Phc) → IsPhc v → AllByRecursion (Lacks 36) (fields v)
 fields_lack v h = (
   name_lacks 36 refl v.algorithm h.algorithm,
-  and_then 36 (field version_text v.version) _ (version_field_lacks v.version h.version)
-      (and_then 36 (list_field v.params) _ (list_field_lacks v.params h.params)
-      (and_then 36 (field strict_base64 v.salt) (field strict_base64 v.hash) (bytes_field_lacks 8 48 v.salt h.salt)
+  all-append _ (field version_text v.version) _ (version_field_lacks v.version h.version)
+      (all-append _ (list_field v.params) _ (list_field_lacks v.params h.params)
+      (all-append _ (field strict_base64 v.salt) (field strict_base64 v.hash) (bytes_field_lacks 8 48 v.salt h.salt)
       (bytes_field_lacks 4 64 v.hash h.hash))),
 )
 
@@ -87,11 +80,9 @@ pub first_and_left : {text t first : List ℕ} {left : List (List ℕ)} (v : Phc
     → fields_of t ≡ first ∷ left → (first ≡ v.algorithm) × (left ≡ field version_text v.version ++ from_params v)
 first_and_left {text} {t} {first} {left} v h e f =
     let behind : List (List ℕ) = field version_text v.version ++ from_params v in
-    let same : 36 ∷ t ≡ 36 ∷ join_with_byte 36 (fields v) = sym e ∙ h.1 ∙ flat_map-dollar v.algorithm behind in
-    let t-is : t ≡ join_with_byte 36 (fields v) = cc in
-    let cut : fields_of t ≡ fields v = ap fields_of t-is ∙ cut_joined 36 v.algorithm behind (fields_lack v h.0) in
-    let parts : first ∷ left ≡ fields v = sym f ∙ cut in
-    (cc parts, cc parts)
+    let same = flat_map-dollar v.algorithm behind in
+    let cut = cut_joined 36 v.algorithm behind (fields_lack v h.0) in
+    (cc h.1, cc h.1)
 
 -- a text in the grammar begins with a `$`
 pub begins_with_dollar : (text : List ℕ) (v : Phc) → PhcText text v → (rest : List ℕ) × (text ≡ 36 ∷ rest)
@@ -100,8 +91,9 @@ begins_with_dollar text v h = (_, h.1 ∙ flat_map-dollar v.algorithm (field ver
 -- the text of the fields
 pub text_of_fields : (text t : List ℕ) (v : Phc) → text ≡ 36 ∷ t → fields_of t ≡ fields v → text ≡ phc_text v
 text_of_fields text t v e f =
-    let whole : t ≡ join_with_byte 36 (fields v) = sym (join_with_byte-slice_split 36 t) ∙ ap (join_with_byte 36) f in
-    e ∙ ap (λ (r : List ℕ). 36 ∷ r) whole ∙ sym (flat_map-dollar v.algorithm (field version_text v.version ++ from_params v))
+    let back = join_with_byte-slice_split 36 t in
+    let whole = flat_map-dollar v.algorithm (field version_text v.version ++ from_params v) in
+    cc
 
 -- ---- which field comes next
 
@@ -114,16 +106,10 @@ text_item p (q ∷ ps) = (p.1 ++ 44 ∷ params_text (q ∷ ps), append_assoc p.0
 base64_no_item : (b : List ℕ) (p : Pair) → IsBytes b → strict_base64 b ≡ item p → ⊥
 base64_no_item b p bytes e = Lacks_not 61 p.0 p.1 (subst (Lacks 61) e (base64_lacks 61 refl b bytes))
 
--- a hash is no item
-hash_no_item : (o : Option (List ℕ)) → IfSome o (HasBytes 4 64) → NoItemFirst (field strict_base64 o)
-hash_no_item None h p more e = absurd cc
-hash_no_item (Some b) h p more e = base64_no_item b p h.0 cc
-
 -- a salt, or a hash in its place, is no item
 bytes_no_item : (o r : Option (List ℕ)) → IfSome o (HasBytes 8 48) → IfSome r (HasBytes 4 64)
     → NoItemFirst (field strict_base64 o ++ field strict_base64 r)
-bytes_no_item None r h k = hash_no_item r k
-bytes_no_item (Some b) r h k = λ p more e. base64_no_item b p h.0 cc
+bytes_no_item o r h k p more e = grind (arith, base64_no_item)
 
 -- behind the parameters there is no item
 pub no_item : (v : Phc) → IsPhc v → NoItemFirst (from_salt v)
@@ -137,11 +123,9 @@ list_no_version (p ∷ ps) rest h k d more e =
     let one = and_parts (is_param p) (list_all is_param ps) (all_params (p ∷ ps) h) in
     let t = text_item p ps in
     let same : item (p.0, t.0) ≡ item (codes "v", d) = sym t.1 ∙ cc in
-    let pairs : ◌≡◌ {A = Pair} (p.0, t.0) (codes "v", d) =
-    sym (pair_again p.0 t.0 (name_lacks 61 refl p.0 (param_name p one.0))) ∙ ap pair_of same in
-    let named : p.0 ≡ codes "v" = ap (λ (q : Pair). q.0) pairs in
-    let differs : bytes_eq p.0 (codes "v") ≡ false =
-    not-true _ (and_parts (is_name p.0) _ (and_parts _ (is_value p.1) one.0).0).1 in
+    let again = pair_again p.0 t.0 (name_lacks 61 refl p.0 (param_name p one.0)) in
+    let named : p.0 ≡ codes "v" = ap (λ (q : Pair). q.0) (sym again ∙ ap pair_of same) in
+    let wrong = rw named at one.0 in
     absurd cc
 
 -- behind the version there is no version
@@ -150,9 +134,7 @@ no_version v h = list_no_version v.params (from_salt v) h.params (no_item v h)
 
 -- without a salt there is no hash
 pub none_after : (s o : Option (List ℕ)) → (IsSome o → IsSome s) → IsNone s → field strict_base64 o ≡ []
-none_after s None h n = refl
-none_after None (Some b) h n = absurd (let f = h refl in cc)
-none_after (Some s) (Some b) h n = absurd cc
+none_after s o h n = grind arith
 
 -- ---- the field that is read
 
@@ -174,20 +156,24 @@ list_read f more rest (q ∷ ps) p is k e = (cc e, cc e)
 base64_one : (b d : List ℕ) → IsBytes b → IsBytes d → strict_base64 b ≡ strict_base64 d → b ≡ d
 base64_one b d bytes others e = strict_base64_unique (strict_base64 d) b d bytes (sym e) (decode_of-strict_base64 d others)
 
+-- what the first field f says of the bytes that are read
+first_only : (low high : ℕ) (f : List ℕ) (left more : List (List ℕ)) (P : Option (List ℕ) → List (List ℕ) → Type 0)
+    → left ≡ f ∷ more → ((d : List ℕ) → HasBytes low high d → f ≡ strict_base64 d → P (Some d) more)
+    → (o : Option (List ℕ)) (rest : List (List ℕ)) → IfSome o (HasBytes low high) → (IsNone o → rest ≡ [])
+    → left ≡ field strict_base64 o ++ rest → P o rest
+first_only low high f left more P e says None rest has none is = absurd (let g = none refl in cc)
+first_only low high f left more P e says (Some d) rest has none is =
+    subst (P (Some d)) (cc (sym e ∙ is)) (says d has (cc (sym e ∙ is)))
+
 -- bytes whose strict Base64 is the first field are read
 pub bytes_read : (low high : ℕ) (b : List ℕ) (left : List (List ℕ)) (more : Option (Bor (List ℕ)))
     → left ≡ strict_base64 b ∷ fields_left more → HasBytes low high b → IsBytesField low high left (Ok (Some b, more))
 bytes_read low high b left more e h = record {
   found = (e, h);
   end = λ none. absurd cc;
-  only = read;
+  only = first_only low high _ left _ _ e (λ d has same. (ap Some (base64_one b d h.0 has.0 same), refl));
   invalid = tt;
 }
-  where
-    read : (o : Option (List ℕ)) (rest : List (List ℕ)) → IfSome o (HasBytes low high) → (IsNone o → rest ≡ [])
-        → left ≡ field strict_base64 o ++ rest → (◌≡◌ {A = Option (List ℕ)} (Some b) o) × (fields_left more ≡ rest)
-    read None rest has none is = absurd (let f = none refl in cc)
-    read (Some d) rest has none is = (ap Some (base64_one b d h.0 has.0 (cc)), cc)
 
 -- a field that is the strict Base64 of no such bytes is refused
 pub bytes_refused : (low high : ℕ) (f : List ℕ) (left more : List (List ℕ)) → left ≡ f ∷ more
@@ -195,14 +181,9 @@ pub bytes_refused : (low high : ℕ) (f : List ℕ) (left more : List (List ℕ)
 bytes_refused low high f left more e h = record {
   found = tt;
   end = tt;
-  only = refused;
+  only = first_only low high f left more (λ _ _. ⊥) e h;
   invalid = refl;
 }
-  where
-    refused : (o : Option (List ℕ)) (rest : List (List ℕ)) → IfSome o (HasBytes low high) → (IsNone o → rest ≡ [])
-        → left ≡ field strict_base64 o ++ rest → ⊥
-    refused None rest has none is = absurd (let f = none refl in cc)
-    refused (Some d) rest has none is = h d has (cc)
 
 -- ---- the whole text
 
@@ -213,15 +194,12 @@ left_none (Some x) e = absurd (omega (arith, ap length e, length-slice_split (λ
 
 -- no field if nothing is left
 pub none_left : (o : Option (Bor (List ℕ))) → is_some o ≡ false → fields_left o ≡ []
-none_left None e = refl
-none_left (Some x) e = absurd cc
+none_left o e = grind arith
 
 -- a hash that was read has a salt before it
 pub salt_before_hash : (s o : Option (List ℕ)) (left left' : Option (Bor (List ℕ))) → (IsNone s → left ≡ None)
     → fields_left left ≡ field strict_base64 o ++ fields_left left' → is_some o ≡ true → is_some s ≡ true
-salt_before_hash (Some s) o left more h e some = refl
-salt_before_hash None None left more h e some = absurd cc
-salt_before_hash None (Some b) left more h e some = absurd (let n = sym (ap fields_left (h refl)) ∙ e in cc)
+salt_before_hash s o left more h e some = grind arith
 
 -- values with the same fields are one
 pub same_phc : (v : Phc) (a : List ℕ) (n : Option ℕ) (ps : List Pair) (s o : Option (List ℕ)) → a ≡ v.algorithm
@@ -254,9 +232,8 @@ text_of_printed v {first = first} e0 e1 ea e2 e3 e4 es e5 eh =
     let s : List (List ℕ) = field strict_base64 v.salt in
     let h : List (List ℕ) = field strict_base64 v.hash in
     let p : List ℕ = 36 ∷ v.algorithm in
-    let whole : phc_text v ≡ p ++ (flat_map f a ++ (flat_map f b ++ (flat_map f s ++ flat_map f h))) =
-    rw (flat_map-append f a (b ++ (s ++ h)), flat_map-append f b (s ++ h), flat_map-append f s h) refl in
     rw (e5, eh, e4, es, e3, e2, e1, e0, ea)
+    (rw (flat_map-append f a (b ++ (s ++ h)), flat_map-append f b (s ++ h), flat_map-append f s h)
     (append_assoc ((p ++ flat_map f a) ++ flat_map f b) (flat_map f s) (flat_map f h)
     ∙ append_assoc (p ++ flat_map f a) (flat_map f b) (flat_map f s ++ flat_map f h)
-    ∙ append_assoc p (flat_map f a) (flat_map f b ++ (flat_map f s ++ flat_map f h)) ∙ sym whole)
+    ∙ append_assoc p (flat_map f a) (flat_map f b ++ (flat_map f s ++ flat_map f h))))

@@ -13,5 +13,4 @@ blocks-2-preserved c =
     refl (omega arith) (omega arith) (omega arith) c.compress.ensures
 
 pub returns-clause-hash : goal.returns-clause-hash
-returns-clause-hash c =
-    c.blocks-2.invariant ∙ ap (hash_on c.args.h.now c.args.total c.args.input.now) (omega arith)
+returns-clause-hash c = c.blocks-2.invariant ∙ ap (hash_on c.args.h.now c.args.total c.args.input.now) (omega arith)

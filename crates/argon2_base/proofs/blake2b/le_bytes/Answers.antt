@@ -1,7 +1,5 @@
-use Rattle.std.proofs.Common.{◌∙◌, ◌*◌, ap, sym, arith}
+use Rattle.std.proofs.Common.{◌∙◌, ◌*◌, arith}
 use Rattle.std.proofs.lemmas.List.{take_all}
-use Rattle.std.specs.Int.{w64, to_le_bytes}
-use Rattle.std.specs.List.{flat_map}
 use Rattle.argon2_base.proofs.block_lemmas.WordBytes.{one_more_word}
 use Rattle.argon2_base.proofs.blake2b.le_bytes.Goals as goal
 use borrow.Rule.Slice.PartMut.{same_len_mid}
@@ -15,6 +13,5 @@ words-preserved c = (
 
 pub returns : goal.returns
 returns c =
-    let all = take_all (8 * c.words.i) c.words.out (omega arith) in
-    let whole = take_all c.words.i c.args.words.now (omega arith) in
-    sym all ∙ c.words.invariant.1 ∙ ap (flat_map (to_le_bytes w64)) whole
+    rw (take_all (8 * c.words.i) c.words.out (omega arith), take_all c.words.i c.args.words.now (omega arith)) at
+    c.words.invariant.1

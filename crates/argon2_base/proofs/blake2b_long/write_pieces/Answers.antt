@@ -4,18 +4,14 @@ use Rattle.argon2_base.proofs.blake2b_lemmas.Pieces.{first_piece, next_piece, la
 use Rattle.argon2_base.proofs.blake2b_long.write_pieces.Goals as goal
 
 pub copy_from_slice-requires : goal.copy_from_slice-requires
-copy_from_slice-requires c =
-    length-take-le 32 c.args.out.now (omega arith) ∙ sym c.first_half.ensures.len
+copy_from_slice-requires c = length-take-le 32 c.args.out.now (omega arith) ∙ sym c.first_half.ensures.len
 
 pub pieces-init : goal.pieces-init
 pieces-init c =
-    let written = c.copy_from_slice.ensures.after in (
+    let written = c.copy_from_slice.ensures.after in
+    let front = c.first_half.ensures in (
       omega arith,
-      λ first start. (
-        start,
-        first_piece first c.args.start.now _ _ 1 start (written ∙ c.first_half.ensures.value)
-            (ap length written ∙ c.first_half.ensures.len) refl,
-      ),
+      λ first start. (start, first_piece first _ _ _ 1 start (written ∙ front.value) (ap length written ∙ front.len) refl),
     )
 
 pub pieces-preserved : goal.pieces-preserved

@@ -1,10 +1,7 @@
-use Rattle.std.proofs.Common.{◌≡◌, ap, sym, ◌∙◌, arith, refl}
+use Rattle.std.proofs.Common.{◌≡◌, ◌∙◌, arith}
 use Rattle.std.proofs.lemmas.List.{take_all, length-set}
-use Rattle.argon2_base.proofs.blake2b_lemmas.Rounds.{first_words, first_words_more}
+use Rattle.argon2_base.proofs.blake2b_lemmas.Rounds.{first_words_more}
 use Rattle.argon2_base.proofs.blake2b.compression.xor_halves.Goals as goal
-
-pub words-init : goal.words-init
-words-init c = record { long = refl; done = refl }
 
 pub words-preserved : goal.words-preserved
 words-preserved c = record {
@@ -15,5 +12,4 @@ words-preserved c = record {
 pub returns : goal.returns
 returns c =
     let all : c.words.i ≡ 8 = omega arith in
-    sym (take_all c.words.i c.words.out (omega arith)) ∙ c.words.invariant.done
-    ∙ ap (first_words c.args.h.now c.args.v.now) all
+    rw (take_all c.words.i c.words.out (omega arith), all) at c.words.invariant.done

@@ -1,6 +1,5 @@
-use Rattle.std.proofs.Common.{◌∙◌, ap, sym, refl, arith}
+use Rattle.std.proofs.Common.{◌∙◌, refl, arith}
 use Rattle.std.proofs.lemmas.List.{take_all}
-use Rattle.argon2_base.specs.Block.{bytes_of}
 use Rattle.argon2_base.proofs.block_lemmas.WordBytes.{one_more_word}
 use Rattle.argon2_base.proofs.block.Block.to_bytes.Goals as goal
 use borrow.Rule.Slice.PartMut.{same_len_mid}
@@ -17,6 +16,5 @@ words-preserved c =
 
 pub returns : goal.returns
 returns c =
-    let all = take_all c.words.at c.words.out (omega arith) in
     let whole = take_all c.words.word-index c.self.inside.words (omega arith) in
-    sym all ∙ c.words.invariant.done ∙ ap bytes_of (whole ∙ c.self.view_is)
+    rw (take_all c.words.at c.words.out (omega arith), whole, c.self.view_is) at c.words.invariant.done

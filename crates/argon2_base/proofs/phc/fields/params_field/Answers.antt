@@ -7,15 +7,13 @@ use Rattle.argon2_base.proofs.phc.fields.params_field.Goals as goal
 pub returns-in_default-cut-clause-only : goal.returns-in_default-cut-clause-only
 returns-in_default-cut-clause-only c = λ ps rest good k e.
     let parts = ap fields_left c.in-Some.is ∙ c.first_field.ensures in
-    let r = no_list_read c.first_field.result.0.now (fields_left c.first_field.result.1) rest ps
-    (λ p is. Lacks_not 61 p.0 p.1 (rw is at c.in_default-cut.ensures)) (sym parts ∙ e) in
+    let r = no_list_read _ _ rest ps (λ p is. Lacks_not 61 p.0 p.1 (rw is at c.in_default-cut.ensures)) (sym parts ∙ e) in
     (c.new-in_default-cut.ensures ∙ r.0, parts ∙ r.1)
 
 pub returns-in_default-read-clause-only : goal.returns-in_default-read-clause-only
 returns-in_default-read-clause-only c = λ ps rest good k e.
     let pair = c.in-Some-cut._pair in
-    let r = list_read c.first_field.result.0.now (fields_left c.first_field.result.1) rest ps (pair.0.now, pair.1.now)
-    c.in-Some-cut.ensures.0 k
+    let r = list_read _ _ rest ps (pair.0.now, pair.1.now) c.in-Some-cut.ensures.0 k
     (sym (ap fields_left c.in-Some.is ∙ c.first_field.ensures) ∙ e) in
     let x = c.in_default-read.ensures.only ps (good, r.0) in
     cc
@@ -23,8 +21,7 @@ returns-in_default-read-clause-only c = λ ps rest good k e.
 pub returns-clause-only : goal.returns-clause-only
 returns-clause-only c = λ ps rest good k e.
     let pair = c.in-Some-cut._pair in
-    let r = list_read c.first_field.result.0.now (fields_left c.first_field.result.1) rest ps (pair.0.now, pair.1.now)
-    c.in-Some-cut.ensures.0 k
+    let r = list_read _ _ rest ps (pair.0.now, pair.1.now) c.in-Some-cut.ensures.0 k
     (sym (ap fields_left c.in-Some.is ∙ c.first_field.ensures) ∙ e) in
     let x = c.in-Ok.ensures.only ps (good, r.0) in
     (cc, r.1)

@@ -39,16 +39,8 @@ returns-in_err-salt-clause-only c = λ v h.
 
 pub invariant_of-result : goal.invariant_of-result
 invariant_of-result c =
-    let last = c.in_ok-salt.ensures.found in record {
-      grammatical = record {
-        algorithm = rw c.in_ok-algorithm.ensures.value c.in_ok-algorithm.ensures.when;
-        version = c.in_ok-version.ensures.found.1;
-        params = c.in_ok-params.ensures.found.1;
-        salt = last.1;
-        hash = last.2;
-        salted = last.3;
-      };
-    }
+    let name = rw (← c.in_ok-algorithm.ensures.value) at c.in_ok-algorithm.ensures.when in
+    assumption (name, c.in_ok-version.ensures, c.in_ok-params.ensures, c.in_ok-salt.ensures)
 
 pub returns-clause-only : goal.returns-clause-only
 returns-clause-only c = λ v h.
@@ -62,15 +54,9 @@ returns-clause-only c = λ v h.
 pub returns-clause-found : goal.returns-clause-found
 returns-clause-found c =
     let e = strip_prefix_char 36 c.args.text.now (Some c.in-Some.text) c.in-Some.ensures.cases (lit< tt) in
-    let last = c.in_ok-salt.ensures.found in (
-      record {
-        algorithm = rw c.in_ok-algorithm.ensures.value c.in_ok-algorithm.ensures.when;
-        version = c.in_ok-version.ensures.found.1;
-        params = c.in_ok-params.ensures.found.1;
-        salt = last.1;
-        hash = last.2;
-        salted = last.3;
-      },
+    let name = rw (← c.in_ok-algorithm.ensures.value) at c.in_ok-algorithm.ensures.when in (
+      assumption (name, c.in_ok-version.ensures, c.in_ok-params.ensures, c.in_ok-salt.ensures),
       text_of_fields c.args.text.now c.in-Some.text.now _ e (fields_of_parts c.in-Some.text.now _ c.first_field.ensures
-          c.in_ok-algorithm.ensures.value c.in_ok-version.ensures.found.0 c.in_ok-params.ensures.found.0 last.0),
+          c.in_ok-algorithm.ensures.value c.in_ok-version.ensures.found.0 c.in_ok-params.ensures.found.0
+          c.in_ok-salt.ensures.found.0),
     )

@@ -7,16 +7,13 @@ use Rattle.argon2_base.proofs.phc_lemmas.Characters.{name_length}
 use Rattle.argon2_base.proofs.phc.hash.PasswordHash.text.Goals as goal
 
 pub push_field-requires : goal.push_field-requires
-push_field-requires c =
-    omega (arith, ap length c.new-text.ensures, name_length c.as_str.ensures.value c.as_str.ensures.name)
+push_field-requires c = omega (arith, ap length c.new-text.ensures, name_length c.as_str.ensures.value c.as_str.ensures.name)
 
 pub push_version-requires : goal.push_version-requires
-push_version-requires c =
-    omega (arith, ap length c.new-text.ensures, name_length c.as_str.ensures.value c.as_str.ensures.name)
+push_version-requires c = omega (arith, ap length c.new-text.ensures, name_length c.as_str.ensures.value c.as_str.ensures.name)
 
 pub push_params-requires : goal.push_params-requires
-push_params-requires c =
-    omega (arith, ap length c.new-text.ensures, name_length c.as_str.ensures.value c.as_str.ensures.name)
+push_params-requires c = omega (arith, ap length c.new-text.ensures, name_length c.as_str.ensures.value c.as_str.ensures.name)
 
 pub push_base64-requires : goal.push_base64-requires
 push_base64-requires c =

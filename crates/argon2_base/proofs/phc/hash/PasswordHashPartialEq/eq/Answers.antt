@@ -8,5 +8,4 @@ returns-then-eq-4-clause-same c =
     equal_phcs (phc_of c.args.self.now) (phc_of c.args.other.now) c.eq-then-eq-4.result (search rules)
 
 pub returns-else-eq-4-clause-same : goal.returns-else-eq-4-clause-same
-returns-else-eq-4-clause-same c =
-    equal_phcs (phc_of c.args.self.now) (phc_of c.args.other.now) c.if-eq-3.value (search rules)
+returns-else-eq-4-clause-same c = equal_phcs (phc_of c.args.self.now) (phc_of c.args.other.now) c.if-eq-3.value (search rules)

@@ -1,4 +1,5 @@
-use Rattle.std.proofs.Common.{ap, sym, refl, Ok}
+use Rattle.std.proofs.Common.{ap, sym, refl, Ok, ◌∙◌}
+use Rattle.std.proofs.lemmas.Bool.{false≢true}
 use Rattle.argon2_base.specs.PhcText.{ParamsText, pairs_of}
 use Rattle.argon2_base.proofs.phc_lemmas.ParamsReading.{read_again, read_list, good_items}
 use Rattle.argon2_base.proofs.phc.list.ParamsString.read.Goals as goal
@@ -7,7 +8,7 @@ pub returns-then-not-are_params_in-clause-only : goal.returns-then-not-are_param
 returns-then-not-are_params_in-clause-only c = λ ps h.
     let good = good_items c.args.text.now ps h in
     let bad = rw c.items_in.ensures at c.if-not-are_params_in.ensures in
-    absurd cc
+    absurd (false≢true (bad ∙ good))
 
 -- the text is that of its list
 is_list : (c : goal.Else-not-are_params_in) → ParamsText c.args.text.now (pairs_of c.args.text.now)
