@@ -1,6 +1,6 @@
 -- Lent memory after its first blocks were written.
 use Rattle.std.proofs.Common.{◌≡◌, ℕ, ◌+◌, ◌*◌, ◌++◌, ◌≤◌, List, [], length, map, take, drop, sym, ap, subst, ◌∙◌, arith}
-use Rattle.std.proofs.lemmas.List.{drop-map, get_or_append_left, get_or-take, length-take-le, map-append, map-id}
+use Rattle.std.proofs.lemmas.List.{drop-map, get_or_append_left, get_or-take, map-append}
 use Rattle.std.proofs.lemmas.List.FromFn.{length-map-range_with_len}
 use Rattle.std.proofs.lemmas.Nat.{mul-add-lt}
 use Rattle.std.proofs.lemmas.Slice.{drop-append-drop}
@@ -8,9 +8,8 @@ use Rattle.std.proofs.Math.Seq.{take-append_seam}
 use Rattle.argon2.specs.declared.context.Argon2.{Argon2}
 use Rattle.argon2.specs.Argon2.{context_of}
 use Rattle.argon2.specs.Rfc9106.{Context, IsValid, Memory, block_count, first_block, lane_length, matrix, matrix_of}
-use Rattle.argon2.specs.Hashing.{blocks_of, KeepsOtherColumns, KeepsRest, FillsFront, IsBegun}
+use Rattle.argon2.specs.Hashing.{blocks_of, KeepsOtherColumns, KeepsRest, IsBegun}
 use Rattle.argon2.specs.Laws.{Begins}
-use Rattle.argon2.specs.Steps.{step}
 
 -- the matrix has as many blocks as are filled
 length-matrix_of : (ctx : Context) (password salt : List ℕ) (n : ℕ)
@@ -36,15 +35,6 @@ module _ (ctx : Context) (count : ℕ) (all : count ≡ block_count ctx) (old bl
       get_or_append_left blocks (drop count old) [] place (omega (arith, below, size))
       ∙ same lane column l low high ∙ get_or-take count old place [] (omega (arith, below, all))
 
-  -- a step that writes one of the first blocks leaves the others
-  pub is_stepped : block_count ctx ≤ length old → length blocks ≡ length (take count old) → (pass lane column : ℕ)
-      → blocks ≡ step ctx (take count old) pass lane column
-      → (blocks_of ctx (blocks ++ drop count old) ≡ step ctx (blocks_of ctx old) pass lane column)
-      × KeepsRest ctx old (blocks ++ drop count old)
-  is_stepped room long pass lane column made =
-      let size : length blocks ≡ block_count ctx = long ∙ length-take-le count old (omega (arith, room, all)) ∙ all in
-      (blocks_of-front size ∙ made ∙ ap (λ n. step ctx (take n old) pass lane column) all, KeepsRest-behind size)
-
   -- if the first blocks are the matrix, it is in the memory, and the rest is as before
   pub has_matrix : (password salt : List ℕ) (n : ℕ) → blocks ≡ matrix_of ctx password salt n
       → (blocks_of ctx (blocks ++ drop count old) ≡ matrix_of ctx password salt n)
@@ -58,12 +48,6 @@ pub words_behind : {B : Type 0} (words : B → List ℕ) (front old : List B) (c
     → map words (front ++ drop count old) ≡ map words front ++ drop count (map words old)
 words_behind words front old count =
     map-append words front (drop count old) ∙ ap (λ (rest : Memory). map words front ++ rest) (sym (drop-map words count old))
-
--- what is filled by words is filled
-pub fills_words : (ctx : Context) (password salt : List ℕ) (n : ℕ) (old new : Memory) (places places' : List ℕ)
-    → FillsFront ctx password salt n (map (λ block. block) old) (map (λ block. block) new) places places'
-    → FillsFront ctx password salt n old new places places'
-fills_words ctx password salt n old new places places' is = rw (map-id old, map-id new) at is
 
 -- a fill that begins in the first blocks begins in the memory
 pub is_begun : (argon2 : Argon2) (count : ℕ) → count ≡ block_count (context_of argon2) → (old blocks : Memory)

@@ -2,7 +2,7 @@
 use Rattle.std.proofs.Common.{◌≡◌, ℕ, zero, suc, ◌+◌, ◌-◌, ◌*◌, ◌/◌, ◌^◌, ◌<◌, ◌≤◌, inl, inr, Bool, true, false, refl, ap, arith}
 use Rattle.std.specs.Prelude.{◌==◌, if◌then◌else◌}
 use Rattle.std.proofs.Math.Nat.{mul-le-mul, mul-le-mul_left, mul-le-mul_right}
-use Rattle.std.proofs.lemmas.Bool.{cases_lt, cond_both}
+use Rattle.std.proofs.lemmas.Bool.{cases_lt}
 use Rattle.std.proofs.lemmas.Bool.Decides.{nat_tests}
 use Rattle.argon2.specs.Rfc9106.{Context, Sizes, address_counter, block_count, is_independent, lane_length, segment_length}
 use Rattle.argon2.specs.Watching.{address_mixings, independent_segments, mixing_calls, segment_calls, slices_calls}
@@ -55,10 +55,7 @@ module _ (ctx : Context) (sizes : Sizes ctx) where
   unfolding passes_calls
   passes_calls-sum zero = let e = ap (λ x. ctx.p_cost * x) pass_calls-first in let s = slices_calls-4 0 in omega arith
   passes_calls-sum (suc r) =
-      let i = passes_calls-sum r in
-      let e = ap (λ x. ctx.p_cost * x) (pass_calls-later r) in
-      let s = slices_calls-4 (suc r) in
-      omega arith
+      omega (arith, passes_calls-sum r, ap (λ x. ctx.p_cost * x) (pass_calls-later r), slices_calls-4 (suc r))
 
   -- how many segments have address blocks
   independent_segments-sum : (r : ℕ) → ctx.t_cost ≡ suc r
@@ -82,9 +79,7 @@ module _ (ctx : Context) (sizes : Sizes ctx) where
       let segments = ap (λ n. address_calls * n) (independent_segments-sum r t) in
       let eight : 8 ≤ lane_length ctx = omega arith in
       let big : 2 * ctx.p_cost ≤ suc r * block_count ctx = omega (arith, mul-le-mul_left ctx.p_cost eight) in
-      let all = ap (λ n. n * block_count ctx) t in
-      let passes = ap (passes_calls ctx) t in
-      omega arith
+      omega (arith, ap (λ n. n * block_count ctx) t, ap (passes_calls ctx) t)
 
 -- what grows at each number is at most what it is later
 grows : (f : ℕ → ℕ) → ((n : ℕ) → f n ≤ f (suc n)) → (k n : ℕ) → k ≤ n → f k ≤ f n
@@ -113,15 +108,11 @@ mixing_calls-few ctx sizes =
     let t = ctx.t_cost in
     let two = sizes.two_columns in
     let n : independent_segments ctx ≤ 4 * t * p =
-    (let positive : 1 * p ≤ t * p = mul-le-mul_right p sizes.some_pass in
-    cond_both (ctx.algorithm == 1) _ _ (λ x. x ≤ 4 * t * p) (λ _. omega arith) (λ _.
-    cond_both (ctx.algorithm == 2) _ _ (λ x. x ≤ 4 * t * p) (λ _. omega arith) (λ _. omega arith))) in
+    (let positive : 1 * p ≤ t * p = mul-le-mul_right p sizes.some_pass in grind (arith, nat_tests)) in
     let a : (s - 1) / 128 + 1 ≤ s = omega arith in
     let h : ((s - 1) / 128 + 1) * independent_segments ctx ≤ s * (4 * t * p) = mul-le-mul a n in
     let b : t * (p * (4 * s)) ≤ 2 ^ 32 * (p * (4 * s)) = mul-le-mul_right (p * (4 * s)) (let w = sizes.t_cost in omega arith) in
-    let room = sizes.in_memory in
-    let most = sizes.m_cost in
-    omega arith
+    omega (arith, sizes.in_memory, sizes.m_cost)
 
 -- all passes' mixings are those of the formula
 pub passes_calls-all : (ctx : Context) → Sizes ctx → passes_calls ctx ctx.t_cost ≡ mixing_calls ctx

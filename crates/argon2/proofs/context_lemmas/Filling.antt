@@ -38,11 +38,7 @@ module _ (ctx : Context) (sizes : Sizes ctx) (first : FirstColumns) (pass lane c
   step_reads r l c reads =
       let a = about l reads.in_lanes in
       let apart = rw (div-eq_of_lt-le (segment_length ctx) here.above here.below) at reads.apart in
-      let read : (c < column → c < done l) × (column ≤ c → done l ≤ c) = elim apart [
-        | inl e ↦ (let d : done l ≡ column = ap done e ∙ now in (λ lt. omega arith, λ le. omega arith))
-        | inr (inl before) ↦ (λ lt. omega arith, λ le. omega arith)
-        | inr (inr after) ↦ (λ lt. omega arith, λ le. omega arith)
-      ] in
+      let read : (c < column → c < done l) × (column ≤ c → done l ≤ c) = (grind arith, grind arith) in
       elim reads.newest [
         | inl n ↦ (h.new l c reads.in_lanes reads.in_columns (read.0 n.1) ∙ ap (λ p. block_of ctx first p l c) (sym n.0))
         | inr n ↦ h.old r l c n.0 reads.in_lanes reads.in_columns (read.1 n.1)

@@ -1,8 +1,8 @@
 -- What a step reads of a memory, by places.
-use Rattle.std.proofs.Common.{◌≡◌, ℕ, zero, suc, ◌+◌, ◌-◌, ◌*◌, ◌<◌, ◌&&◌, List, [], length, map, refl, sym, ap, ◌∙◌, arith}
+use Rattle.std.proofs.Common.{◌≡◌, ℕ, ◌+◌, ◌*◌, ◌<◌, ◌&&◌, List, [], length, map, refl, sym, ap, ◌∙◌, arith}
 use Rattle.std.specs.Prelude.{slice_index_or, nat_lt, ◌==◌, if◌then◌else◌}
 use Rattle.std.proofs.lemmas.Nat.{mul-add-lt}
-use Rattle.std.proofs.lemmas.Bool.{cond-false, ne_eqb}
+use Rattle.std.proofs.lemmas.Bool.Decides.{nat_tests}
 use Rattle.std.proofs.lemmas.List.{get_or-map}
 use Rattle.argon2_base.proofs.block_lemmas.MixingLaws.{xor_blocks-comm}
 use Rattle.argon2_base.specs.Block.{mixed, xor_blocks}
@@ -23,11 +23,7 @@ words_read words memory place block below is = ap words is ∙ sym (get_or-map w
 pub previous_in_memory : (ctx : Context) (memory : Memory) (pass lane column : ℕ)
     → previous ctx (in_memory ctx memory) pass lane column ≡ slice_index_or memory (previous_place ctx lane column) []
 unfolding previous in_memory
-previous_in_memory ctx memory pass lane zero = refl
-previous_in_memory ctx memory pass lane (suc column) =
-    ap (λ n. slice_index_or memory (lane * lane_length ctx + n) [])
-    (sym (cond-false (suc column == 0) (lane_length ctx - 1) (suc column - 1) (ne_eqb (suc column) 0 (λ e. omega arith))
-    ∙ omega arith))
+previous_in_memory ctx memory pass lane column = grind (arith, nat_tests)
 
 -- the block that a step makes, of those at their places
 pub made_by_places : (ctx : Context) (memory : Memory) (pass lane column word : ℕ)
@@ -39,11 +35,7 @@ pub made_by_places : (ctx : Context) (memory : Memory) (pass lane column word : 
     then xor_blocks (slice_index_or memory (lane * lane_length ctx + column) []) block else block)
 unfolding made_block reference_of in_memory
 made_by_places ctx memory pass lane column word is =
-    let old = slice_index_or memory (lane * lane_length ctx + column) [] in
-    let block = mixed (slice_index_or memory (previous_place ctx lane column) [])
-    (slice_index_or memory (place_of ctx (reference ctx pass lane column word)) []) in
-    rw (is, ← previous_in_memory ctx memory pass lane column) refl
-    ∙ ap (λ b. if (ctx.version == 19) && nat_lt 0 pass then b else block) (xor_blocks-comm block old)
+    rw (is, ← previous_in_memory ctx memory pass lane column, xor_blocks-comm) refl
 
 -- the place of the reference that a word takes
 pub place_by_word : (ctx : Context) (memory : Memory) (pass lane column word : ℕ)

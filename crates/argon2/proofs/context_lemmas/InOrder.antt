@@ -20,11 +20,6 @@ IsFilledUpTo-like ctx first pass done done' memory old new same is = record {
   positions = λ size. HasPositionsUpTo-like ctx first pass done done' old new same (is.positions size);
 }
 
--- a slice begins with its first lane
-pub in_order-first : (ctx : Context) (pass slice l : ℕ)
-    → begun ctx pass slice ≡ in_order ctx pass slice 0 (begun ctx pass slice) l
-in_order-first ctx pass slice l = grind (arith, nat_tests)
-
 -- a lane that is done is followed by the next
 pub in_order-next : (ctx : Context) (pass slice lane l : ℕ)
     → in_order ctx pass slice lane ((slice + 1) * segment_length ctx) l

@@ -1,5 +1,5 @@
 -- The last column of a memory that is the matrix, and the tag.
-use Rattle.std.proofs.Common.{◌≡◌, ℕ, ◌+◌, ◌-◌, ◌*◌, ◌/◌, ◌%◌, ◌<◌, List, [], map, fold, ap, ◌∙◌, arith}
+use Rattle.std.proofs.Common.{refl, ◌≡◌, ℕ, ◌+◌, ◌-◌, ◌*◌, ◌/◌, ◌%◌, ◌<◌, List, [], map, fold, ap, ◌∙◌, arith}
 use Rattle.std.specs.Prelude.{slice_index_or}
 use Rattle.std.specs.List.{range_with_len}
 use Rattle.std.proofs.lemmas.List.FromFn.{get_or-map-range_with_len, length-map-range_with_len, fill_by_all}
@@ -22,8 +22,7 @@ matrix_at ctx sizes first lane column a b =
     let below : n < q * ctx.p_cost = mul-add-lt lane q column ctx.p_cost a b in
     get_or-map-range_with_len (λ place. block_of ctx first (ctx.t_cost - 1) (place / q) (place % q)) 0 (block_count ctx) n n []
     (omega arith) (omega arith)
-    ∙ ap (λ l. block_of ctx first (ctx.t_cost - 1) l (n % q)) (div-mul-add lane q column b)
-    ∙ ap (block_of ctx first (ctx.t_cost - 1) lane) (mod-mul-add lane q column b)
+    ∙ rw (div-mul-add lane q column b, mod-mul-add lane q column b) refl
 
 -- equal blocks of each lane have one exclusive or
 pub xor_lanes_cong : (ctx : Context) (f g : ℕ → List ℕ)

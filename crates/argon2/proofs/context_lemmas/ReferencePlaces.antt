@@ -1,6 +1,6 @@
 -- The places that the steps record are those of the recurrence's references.
-use Rattle.std.proofs.Common.{◌≡◌, ℕ, suc, ◌+◌, ◌-◌, ◌*◌, ◌<◌, ◌≤◌, ◌≢◌, inl, inr, List, length, refl, sym, ap, ◌∙◌, arith}
-use Rattle.std.specs.Prelude.{slice_index, slice_set}
+use Rattle.std.proofs.Common.{◌≡◌, ℕ, suc, ◌+◌, ◌-◌, ◌*◌, ◌<◌, ◌≤◌, ◌≢◌, inl, inr, List, length, refl, sym, ◌∙◌, arith}
+use Rattle.std.specs.Prelude.{slice_set}
 use Rattle.std.proofs.lemmas.List.{length-set, get_or-set_same, get_or-set_other}
 use Rattle.std.proofs.lemmas.Nat.{mul-add-lt, same_from_place}
 use Rattle.std.proofs.lemmas.Bool.{cases_eq}
@@ -25,8 +25,7 @@ position_index-below : (ctx : Context) (pass lane column : ℕ) → pass < ctx.t
     → column < lane_length ctx → position_index ctx pass lane column < place_count ctx
 position_index-below ctx pass lane column t a b =
     let place = place_below ctx lane column a b in
-    let below = mul-add-lt pass (block_count ctx) (lane * lane_length ctx + column) ctx.t_cost t place in
-    omega arith
+    omega (arith, mul-add-lt pass (block_count ctx) (lane * lane_length ctx + column) ctx.t_cost t place)
 
 -- counts of made columns that agree say the same
 pub HasPositionsUpTo-like : (ctx : Context) (first : FirstColumns) (pass : ℕ) (done done' : ℕ → ℕ) (old new : List ℕ)
@@ -55,27 +54,12 @@ step_positions ctx sizes first pass lane column done done' old new place st t is
       of_steps = λ r l c s st' h. elim (cases_eq (position_index ctx r l c) i) [
         | inl e ↦ (
             let one = position_index-same ctx pass lane column r l c st.in_lanes st.in_columns st'.in_lanes st'.in_columns e in
-            ap (slice_index (slice_set new i place)) e ∙ get_or-set_same new i place 0 (omega arith) ∙ is
-            ∙ ap (λ x. reference_places ctx first x lane column) (sym one.0)
-            ∙ ap (λ x. reference_places ctx first r x column) (sym one.1)
-            ∙ ap (reference_places ctx first r l) (sym one.2))
-        | inr ne ↦ (get_or-set_other new i (position_index ctx r l c) place 0 ne ∙ has.of_steps r l c s st' (elim h [
-          | inl x ↦ inl x
-          | inr x ↦ inr (
-            x.0,
-            elim (cases_eq l lane) [
-              | inl e ↦ (
-                  let d : done' l ≡ done' lane = ap done' e in
-                  let d' : done l ≡ done lane = ap done e in
-                  let lt : c < done' l = x.1 in
-                  let apart : c ≢ column =
-                  λ f. ne (ap (λ y. position_index ctx y l c) x.0 ∙ ap (λ y. position_index ctx pass y c) e
-                  ∙ ap (position_index ctx pass lane) f) in
-                  omega arith)
-              | inr f ↦ (let d = others l f in let lt : c < done' l = x.1 in omega arith)
-            ],
-          )
-        ]))
+            let set = get_or-set_same new i place 0 (omega arith) in cc)
+        | inr ne ↦ (
+            let apart : r ≡ pass → l ≡ lane → c ≢ column = λ p e f. ne (cc) in
+            let own = cases_eq l lane in
+            let other = others l in
+            get_or-set_other new i (position_index ctx r l c) place 0 ne ∙ has.of_steps r l c s st' (grind arith))
       ];
       of_first_columns = λ l c a b.
           let apart : position_index ctx 0 l c ≢ i = λ e. (
@@ -95,10 +79,7 @@ next_positions ctx first pass old new has =
     let e = turn_count-later_slice ctx pass 3 in
     record {
       size = has.size;
-      of_steps = λ r l c t st h. has.of_steps r l c t st (elim h [
-        | inl x ↦ elim (cases_eq r pass) [ inl f ↦ inr (f, (let b = st.in_columns in omega arith)) | inr f ↦ inl (omega arith) ]
-        | inr x ↦ absurd (let lt = x.1 in omega arith)
-      ]);
+      of_steps = λ r l c t st h. has.of_steps r l c t st (let b = st.in_columns in let o = cases_eq r pass in grind arith);
       of_first_columns = has.of_first_columns;
     }
 
@@ -110,9 +91,6 @@ first_positions ctx sizes first old size =
     let turns : turn_count ctx 0 0 ≡ segment_length ctx - 2 = refl in
     record {
       size = size;
-      of_steps = λ r l c t st h. absurd (elim h [
-        | inl x ↦ omega arith
-        | inr x ↦ (let high : 2 ≤ c = st.later x.0 in let lt = x.1 in omega arith)
-      ]);
+      of_steps = λ r l c t st h. absurd (let later = st.later in grind arith);
       of_first_columns = λ l c a b. refl;
     }

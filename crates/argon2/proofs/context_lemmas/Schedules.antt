@@ -6,7 +6,7 @@ use Rattle.std.specs.List.{AllByRecursion}
 use Rattle.std.proofs.lemmas.List.{get_or-set_other, set_comm}
 use Rattle.std.proofs.lemmas.List.Sums.{sum_by-cons, sum_by-append}
 use Rattle.std.proofs.lemmas.Nat.{same_from_place}
-use Rattle.std.proofs.lemmas.Bool.{cond_both, cond-true, cond-false, cases_eq, eq-eqb, ne_eqb}
+use Rattle.std.proofs.lemmas.Bool.{cond_both, cases_eq}
 use Rattle.std.proofs.lemmas.Bool.Decides.{nat_tests}
 use Rattle.argon2.specs.Rfc9106.{Context, Sizes, lane_length, made_block, segment_length}
 use Rattle.argon2.specs.Steps.{IsStep, in_memory, step, turns, turn_count, IsSchedule, run}
@@ -34,11 +34,7 @@ made_kept ctx sizes pass lane column l c slice st here other below there memory 
     let e = div-eq_of_lt-le (segment_length ctx) here.above here.below in
     made_cong ctx sizes pass lane column st _ _ (λ r l' c' reads.
     let apart = rw e at reads.apart in
-    set_apart (lane_length ctx) l' c' l c memory b reads.in_columns below (λ p q. elim apart [
-      | inl o ↦ other (sym p ∙ o)
-      | inr (inl before) ↦ omega arith
-      | inr (inr after) ↦ omega arith
-    ]))
+    set_apart (lane_length ctx) l' c' l c memory b reads.in_columns below (λ p q. grind arith))
 
 -- two steps of different lanes in one slice may change places
 steps_commute : (ctx : Context) → Sizes ctx → (pass slice : ℕ) (l c m d : ℕ) → l ≢ m
@@ -67,13 +63,11 @@ turns-cons lane x xs = sum_by-cons (λ y. (if y == lane then 1 else 0)) x xs
 
 -- a lane's own turn counts
 pub turns-same : (lane : ℕ) (xs : List ℕ) → turns lane (lane ∷ xs) ≡ suc (turns lane xs)
-turns-same lane xs = turns-cons lane lane xs ∙ ap (λ n. n + turns lane xs) (cond-true (lane == lane) 1 0 (eq-eqb lane lane refl))
-    ∙ omega arith
+turns-same lane xs = let e = turns-cons lane lane xs in grind (arith, nat_tests)
 
 -- another lane's turn does not count
 pub turns-other : (lane x : ℕ) (xs : List ℕ) → x ≢ lane → turns lane (x ∷ xs) ≡ turns lane xs
-turns-other lane x xs ne = turns-cons lane x xs ∙ ap (λ n. n + turns lane xs) (cond-false (x == lane) 1 0 (ne_eqb x lane ne))
-    ∙ omega arith
+turns-other lane x xs ne = let e = turns-cons lane x xs in grind (arith, nat_tests)
 
 -- the turns of two lists add up
 pub turns-append : (lane : ℕ) (xs ys : List ℕ)
@@ -83,11 +77,6 @@ turns-append lane xs ys = sum_by-append (λ y. (if y == lane then 1 else 0)) xs 
 -- a tail has no more turns
 turns-tail : (lane x : ℕ) (xs : List ℕ) → turns lane xs ≤ turns lane (x ∷ xs)
 turns-tail lane x xs = omega (arith, turns-cons lane x xs)
-
--- a turn counts wherever it stands
-turns-between : (lane x : ℕ) (xs ys : List ℕ)
-    → turns lane (xs ++ x ∷ ys) ≡ (if x == lane then 1 else 0) + turns lane (xs ++ ys)
-turns-between lane x xs ys = omega (arith, turns-append lane xs (x ∷ ys), turns-append lane xs ys, turns-cons lane x ys)
 
 -- ---- the step of a turn
 
@@ -175,10 +164,10 @@ first_to_front ctx sizes pass slice lane four (x ∷ xs) ys none m memory =
     let later = xs ++ ys in
     let tail : MayRun ctx pass slice (xs ++ lane ∷ ys) = MayRun-tail ctx pass slice x (xs ++ lane ∷ ys) m in
     let tx : turns x (xs ++ lane ∷ ys) ≡ turns x later =
-    turns-between x lane xs ys ∙ sym (turns-cons x lane later) ∙ turns-other x lane later (λ e. ne (sym e)) in
+    omega (arith, turns-append x xs (lane ∷ ys), turns-append x xs ys, turns-other x lane ys (λ e. ne (sym e))) in
     let tl : turns lane (x ∷ later) ≡ turns lane later = turns-other lane x later ne in
     let w : turns lane (xs ++ lane ∷ ys) ≡ suc (turns lane later) =
-    turns-between lane lane xs ys ∙ sym (turns-cons lane lane later) ∙ turns-same lane later in
+    omega (arith, turns-append lane xs (lane ∷ ys), turns-append lane xs ys, turns-same lane ys) in
     let lane_in : lane < ctx.p_cost = lane_among ctx.p_cost lane xs ys m.lanes.1 in
     let px = turn_step ctx sizes pass slice x (turns x later) four m.lanes.0
     (let a = m.few x m.lanes.0 in let b = turns-same x (xs ++ lane ∷ ys) in omega arith) in
@@ -232,8 +221,15 @@ same_turns ctx sizes pass slice four (x ∷ xs) ys mx my same memory =
     let t = first_turn x ys (let a = same x mx.lanes.0 in let b = turns-same x xs in omega arith) in
     let later = t.before ++ t.after in
     let my' : MayRun ctx pass slice (t.before ++ x ∷ t.after) = subst (MayRun ctx pass slice) t.is my in
-    let same' : (lane : ℕ) → lane < ctx.p_cost → turns lane xs ≡ turns lane later = λ lane h.
-    omega (arith, same lane h, ap (turns lane) t.is, turns-cons lane x xs, turns-between lane x t.before t.after) in
+    let same' : (lane : ℕ) → lane < ctx.p_cost → turns lane xs ≡ turns lane later = λ lane h. omega (
+      arith,
+      same lane h,
+      ap (turns lane) t.is,
+      turns-cons lane x xs,
+      turns-cons lane x t.after,
+      turns-append lane t.before (x ∷ t.after),
+      turns-append lane t.before t.after,
+    ) in
     let mlater : MayRun ctx pass slice later = record {
       lanes = lanes_without ctx.p_cost x t.before t.after my'.lanes;
       few = λ lane h. let a = same' lane h in let b = (MayRun-tail ctx pass slice x xs mx).few lane h in omega arith;

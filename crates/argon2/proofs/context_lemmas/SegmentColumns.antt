@@ -1,15 +1,14 @@
 -- The columns of a segment, by their index in it.
-use Rattle.std.proofs.Common.{◌≡◌, ℕ, zero, suc, refl, ◌+◌, ◌-◌, ◌*◌, ◌/◌, ◌%◌, ◌<◌, ◌≤◌, ◌≢◌, ◌⊎◌, inl, inr, ◌^◌, arith}
+use Rattle.std.proofs.Common.{◌≡◌, ℕ, zero, suc, refl, ◌+◌, ◌-◌, ◌*◌, ◌/◌, ◌%◌, ◌<◌, ◌≤◌, ◌≢◌, ◌⊎◌, arith}
 use Rattle.std.proofs.Math.Nat.{mul-le-mul_right}
-use Rattle.std.proofs.lemmas.Nat.{mul-add-lt, mul-le}
-use Rattle.argon2.specs.Rfc9106.{Context, Sizes, segment_length}
+use Rattle.std.proofs.lemmas.Nat.{mul-add-lt}
+use Rattle.argon2.specs.Rfc9106.{Context, segment_length}
 use Rattle.argon2.specs.Steps.{IsStep}
 use Rattle.argon2.proofs.recurrence.PermittedPlaces.{InSlice}
 
 -- at an index that begins no address block the one at hand serves on
 pub serves_on : (index : ℕ) → (index % 128 ≢ 0) ⊎ (index ≤ 0) → (index - 1) / 128 ≡ index / 128
-serves_on index (inl e) = omega arith
-serves_on index (inr e) = omega arith
+serves_on index e = grind arith
 
 -- at any other index the next address block begins
 pub serves_next : (index : ℕ) → 0 < index → index % 128 ≡ 0 → index / 128 ≡ (index - 1) / 128 + 1
@@ -18,8 +17,7 @@ serves_next index some e = omega arith
 -- a column of a segment is one of its lane
 pub in_lane : (n slice index : ℕ) → slice < 4 → index < n → slice * n + index < 4 * n
 in_lane n slice index h k =
-    let place = mul-add-lt slice n index 4 h k in
-    omega arith
+    omega (arith, mul-add-lt slice n index 4 h k)
 
 -- a segment's columns are steps, from column 2 on in pass 0
 pub a_step : (ctx : Context) (pass lane slice index : ℕ) → lane < ctx.p_cost → slice < 4 → index < segment_length ctx
@@ -35,17 +33,6 @@ a_step ctx pass lane slice index l h k later = record {
 pub a_column : (n slice index : ℕ) → slice < 4 → index < n → InSlice n (slice * n + index) slice
 a_column n slice index h k =
     record { above = omega arith; below = omega arith; whole = mul-le-mul_right n (omega arith); one_of_four = h }
-
--- a segment's columns are numbers of 32 bits
-pub column_fits : (ctx : Context) (slice index : ℕ) → Sizes ctx → slice < 4 → index < segment_length ctx
-    → slice * segment_length ctx + index < 2 ^ 32
-column_fits ctx slice index sizes h k =
-    let n : ℕ = 4 * segment_length ctx in
-    let lane : 1 * n ≤ ctx.p_cost * n = mul-le 1 n ctx.p_cost n sizes.some_lane (omega arith) in
-    let column = in_lane (segment_length ctx) slice index h k in
-    let memory = sizes.in_memory in
-    let small = sizes.m_cost in
-    omega arith
 
 -- a later slice begins at column 2 or above
 pub later_slice : (slice segment start : ℕ) → slice ≢ 0 → 2 ≤ segment → 2 ≤ slice * segment + start

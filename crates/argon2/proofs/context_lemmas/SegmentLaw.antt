@@ -48,17 +48,13 @@ in_lanes_at ctx memory k lane i four l h =
     let at : ℕ → ℕ → List ℕ = λ lane column. slice_index_or memory ((column / s * ctx.p_cost + lane) * s + column % s) [] in
     get_or-map-range_with_len (λ place. at (place / q) (place % q)) 0 (block_count ctx) n n []
     (place_below ctx lane column l high) (omega arith)
-    ∙ ap (λ x. at x (n % q)) (div-mul-add lane q column high)
-    ∙ ap (at lane) (mod-mul-add lane q column high)
-    ∙ ap (λ x. slice_index_or memory ((x * ctx.p_cost + lane) * s + column % s) []) (div-mul-add k s i h)
-    ∙ ap (λ x. slice_index_or memory ((k * ctx.p_cost + lane) * s + x) []) (mod-mul-add k s i h)
+    ∙ rw (div-mul-add lane q column high, mod-mul-add lane q column high, div-mul-add k s i h, mod-mul-add k s i h) refl
 
 -- a place in the slices before one
 place_before : (p s slice k lane i : ℕ) → k < slice → lane < p → i < s → (k * p + lane) * s + i < slice * (p * s)
 place_before p s slice k lane i below l h =
     let row = mul-add-lt k p lane slice below l in
-    let at = mul-add-lt (k * p + lane) s i (p * slice) row h in
-    omega arith
+    omega (arith, mul-add-lt (k * p + lane) s i (p * slice) row h)
 
 -- the parts of a memory are parts of it
 parts_of : (ctx : Context) (slice lane : ℕ) (memory : Memory) → slice < 4 → lane < ctx.p_cost

@@ -1,5 +1,5 @@
 -- One login as a step.
-use Rattle.std.proofs.Common.{◌≡◌, ℕ, Bool, true, false, List, Option, Some, None, Result, Ok, Err, ◌⊎◌, inl, inr, refl, ap, ◌∙◌}
+use Rattle.std.proofs.Common.{◌≡◌, ℕ, Bool, true, false, List, Option, Some, None, Result, Ok, ◌⊎◌, inl, inr, refl, ap, ◌∙◌, arith}
 use Rattle.std.specs.Prelude.{◌≢◌, IfOk, IsSomeAnd, MatchResult}
 use Rattle.std.specs.FinMap.{get, insert}
 use Rattle.argon2_base.specs.Error.{Fault}
@@ -17,7 +17,6 @@ use Rattle.argon2.specs.ListedParameters.{checked}
 use Rattle.argon2.specs.Login.{AcceptedStep, HasPassword, LoginAnswer, LoginStep, logging_in}
 use Rattle.argon2.specs.NamedTexts.{Store, IsCurrent, Leaves}
 use Rattle.argon2.specs.Made.{Target, IsTarget, made, IsHashAnswer}
-use Rattle.argon2.specs.Settings.{Settings}
 use Rattle.argon2.proofs.login_lemmas.Stores.{insert-same}
 use Rattle.argon2.proofs.password_hash_lemmas.MadeValues.{made_accepts, made_shows}
 
@@ -55,23 +54,16 @@ refused_text e (inr never) = inr never
 
 -- if a test fails, what it decides is not so
 pub false_refutes : {P : Type 0} (b : Bool) → b ≡ false → (P → b ≡ true) → ¬ P
-false_refutes true fails decides is = absurd cc
-false_refutes false fails decides is = let passes = decides is in absurd cc
+false_refutes b fails decides is = let passes = decides is in absurd cc
 
 checked_ok : (f : Option Fault) (v w : Phc) → Ok v ≡ checked f (Ok w) → v ≡ w
-checked_ok None v w e = cc
-checked_ok (Some fault) v w e = absurd cc
+checked_ok f v w e = grind arith
 
 -- what a hash that was answered is
 pub hash_made : (target : Target) (password salt : List ℕ) (h : PasswordHash) →
     IsHashAnswer target password salt (Ok h) → phc_of h ≡ made target password salt
 hash_made target password salt h (inl e) = checked_ok _ (phc_of h) (made target password salt) e
 hash_made target password salt h (inr r) = let e = r.0 in absurd cc
-
--- a value shows its settings once
-pub shown_once : (r : Result Settings Fault) (a b : Settings) → r ≡ Ok a → r ≡ Ok b → a ≡ b
-shown_once (Ok own) a b first second = cc
-shown_once (Err fault) a b first second = absurd cc
 
 -- ---- what an accepted login leaves
 

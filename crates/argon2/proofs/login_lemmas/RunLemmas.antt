@@ -35,22 +35,6 @@ reached_none : (target : Target) (last : Option (List ℕ × Accepted)) (o : Opt
 reached_none target None o h = tt
 reached_none target (Some last) o h = absurd h
 
--- a call that neither gives the name a text nor logs it in
-known_after_other : (target : Target) (name : List ℕ) (event : Event) (older : List Event) (o p : Option Phc) →
-    source name event ≡ None → accepted name event ≡ None → p ≡ o →
-    Known target name older o → Known target name (event ∷ older) p
-known_after_other target name event older o p s a e known = rw (e, s, a) known
-
--- an accepted login of the name that leaves its text
-known_after_login : (target : Target) (name given : List ℕ) (did : Accepted) (event : Event) (older : List Event) (v : Phc)
-    (o p : Option Phc) →
-    source name event ≡ None → accepted name event ≡ Some (given, did) → o ≡ Some v → p ≡ o →
-    AcceptsBy target.secret given v → (did ≢ Kept → IsCurrent target v) →
-    Known target name older o → Known target name (event ∷ older) p
-known_after_login target name given did event older v o p s a is e accepts current known =
-    let old = rw is at known in
-    rw (e, s, a, is) (old.0, old.1, (accepts, current))
-
 module _ (target : Target)
     (made_phc : (password salt : List ℕ) → HasBytes 8 48 salt → IsPhc (made target password salt))
     (made_accepts : (password salt : List ℕ) → length password ≤ 4294967295 →
@@ -59,8 +43,7 @@ module _ (target : Target)
   add_keeps : (before after : Store) (n added : List ℕ) (answer : Result (Unit {0}) LoginError) (older : List Event) →
       AddStep before n added answer after → ((name : List ℕ) → Known target name older (get before name)) →
       (name : List ℕ) → Known target name (adding n added answer ∷ older) (get after name)
-  add_keeps before after n added (Err e) older step known name =
-      known_after_other target name (adding n added (Err e)) older _ _ refl refl (ap (λ m. get m name) step.1) (known name)
+  add_keeps before after n added (Err e) older step known name = rw step.1 (known name)
   add_keeps before after n added (Ok x) older step known name =
       let v = step.1 in
       let set = ap (λ m. get m name) step.3 ∙ get-set before n v name in
@@ -69,40 +52,34 @@ module _ (target : Target)
             let none : get before name ≡ None = ap (get before) ((bytes_eq-Decides name n).0 hit) ∙ step.0 in
             let reached = reached_none target (newest (accepted name) older) (Some v) (rw none at (known name).2) in
             rw (set, hit) (step.2, step.2.0, reached)
-        | inr miss ↦
-            known_after_other target name (adding n added (Ok x)) older _ _ (rw miss refl) refl (set ∙ rw miss refl) (known name)
+        | inr miss ↦ rw (set, miss) (known name)
       ]
+
+  -- an accepted login that leaves the name's text
+  same_keeps : (before after : Store) (n given drawn : List ℕ) (v : Phc) (did : Accepted) (older : List Event) (name : List ℕ) →
+      source name (logging_in n given drawn (Ok did)) ≡ None → get before n ≡ Some v → AcceptsBy target.secret given v →
+      (did ≢ Kept → IsCurrent target v) → after ≡ before → Known target name older (get before name) →
+      Known target name (logging_in n given drawn (Ok did) ∷ older) (get after name)
+  same_keeps before after n given drawn v did older name none is accepts shows same known = elim (cases_Bool (bytes_eq name n)) [
+    | inl hit ↦
+        let found : get before name ≡ Some v = ap (get before) ((bytes_eq-Decides name n).0 hit) ∙ is in
+        let old = rw found at known in
+        rw (same, none, hit, found) (old.0, old.1, (accepts, shows))
+    | inr miss ↦ rw (same, none, miss) known
+  ]
 
   login_keeps : (before after : Store) (n given drawn : List ℕ) (o : Option Phc)
       (answer : Result Accepted LoginError) (older : List Event) →
       get before n ≡ o → LoginAnswer target before n given drawn o answer after →
       ((name : List ℕ) → Known target name older (get before name)) →
       (name : List ℕ) → Known target name (logging_in n given drawn answer ∷ older) (get after name)
-  login_keeps before after n given drawn None (Err e) older is step known name =
-      known_after_other target name (logging_in n given drawn (Err e)) older _ _ refl refl (ap (λ m. get m name) step.1)
-      (known name)
-  login_keeps before after n given drawn (Some v) (Err e) older is step known name =
-      known_after_other target name (logging_in n given drawn (Err e)) older _ _ refl refl (ap (λ m. get m name) step.1)
-      (known name)
+  login_keeps before after n given drawn None (Err e) older is step known name = rw step.1 (known name)
+  login_keeps before after n given drawn (Some v) (Err e) older is step known name = rw step.1 (known name)
   login_keeps before after n given drawn None (Ok did) older is step known name = absurd step
-  login_keeps before after n given drawn (Some v) (Ok Current) older is step known name = elim (cases_Bool (bytes_eq name n)) [
-    | inl hit ↦
-        known_after_login target name given Current (logging_in n given drawn (Ok Current)) older v _ _ refl (rw hit refl)
-        (ap (get before) ((bytes_eq-Decides name n).0 hit) ∙ is) (ap (λ m. get m name) step.1.1) step.0
-        (λ _. step.1.0) (known name)
-    | inr miss ↦
-        known_after_other target name (logging_in n given drawn (Ok Current)) older _ _ refl (rw miss refl)
-        (ap (λ m. get m name) step.1.1) (known name)
-  ]
-  login_keeps before after n given drawn (Some v) (Ok Kept) older is step known name = elim (cases_Bool (bytes_eq name n)) [
-    | inl hit ↦
-        known_after_login target name given Kept (logging_in n given drawn (Ok Kept)) older v _ _ refl (rw hit refl)
-        (ap (get before) ((bytes_eq-Decides name n).0 hit) ∙ is) (ap (λ m. get m name) step.1.1) step.0
-        (λ other. absurd (other refl)) (known name)
-    | inr miss ↦
-        known_after_other target name (logging_in n given drawn (Ok Kept)) older _ _ refl (rw miss refl)
-        (ap (λ m. get m name) step.1.1) (known name)
-  ]
+  login_keeps before after n given drawn (Some v) (Ok Current) older is step known name =
+      same_keeps before after n given drawn v Current older name refl is step.0 (λ _. step.1.0) step.1.1 (known name)
+  login_keeps before after n given drawn (Some v) (Ok Kept) older is step known name =
+      same_keeps before after n given drawn v Kept older name refl is step.0 (λ other. absurd (other refl)) step.1.1 (known name)
   login_keeps before after n given drawn (Some v) (Ok Rehashed) older is step known name =
       let set = ap (λ m. get m name) step.1.2 ∙ get-set before n (made target given drawn) name in
       elim (cases_Bool (bytes_eq name n)) [
@@ -112,9 +89,7 @@ module _ (target : Target)
               made_phc given drawn step.1.1,
               (made_accepts given drawn step.0.short, λ _. made_current given drawn),
             )
-        | inr miss ↦
-            known_after_other target name (logging_in n given drawn (Ok Rehashed)) older _ _ (rw miss refl) (rw miss refl)
-            (set ∙ rw miss refl) (known name)
+        | inr miss ↦ rw (set, miss) (known name)
       ]
 
   step_keeps : (before after : Store) (event : Event) (older : List Event) → LoginStep target before event after →

@@ -1,5 +1,5 @@
 -- Stores: one name set, names added, and the tree that a store stands for.
-use Rattle.std.proofs.Common.{rules, ◌≡◌, ℕ, List, [], ◌∷◌, Option, Some, None, Bool, true, false, if◌then◌else◌, string_bytes, inl, inr, refl, sym, ap, ◌∙◌}
+use Rattle.std.proofs.Common.{◌≡◌, ℕ, List, [], ◌∷◌, Option, Some, None, Bool, true, false, if◌then◌else◌, string_bytes, inl, inr, refl, sym, ap, ◌∙◌, arith}
 use Rattle.std.proofs.lemmas.Bool.{and_parts, cases_Bool}
 use Rattle.std.proofs.lemmas.Map.Text.{is_eq-slice_cmp}
 use Rattle.std.proofs.lemmas.Slice.Eq.{bytes_eq-Decides}
@@ -15,12 +15,13 @@ use Rattle.std.specs.Option.{is_some, option_map, option_or}
 use Rattle.std.specs.Cmp.{Equal-is}
 use Rattle.std.specs.Ordering.{eq_by_cmp, is_eq, is_lt, nat_cmp}
 use Rattle.std.specs.declared.cmp.Ordering.{Ordering}
-use Rattle.std.specs.declared.cmp.Ordering.TheVariants.{Equal, Greater, Less}
+use Rattle.std.specs.declared.cmp.Ordering.TheVariants.{Equal, Less}
 use Rattle.std.specs.String.{string_cmp}
 use Rattle.std.specs.Str.{bytes_eq}
 use Rattle.argon2_base.specs.PhcFields.{phc_of}
 use Rattle.argon2_base.specs.PhcText.{Phc}
 use Rattle.argon2_base.specs.declared.phc.hash.PasswordHash.{PasswordHash}
+use Rattle.argon2.proofs.params_lemmas.ListReading.{or_none}
 use Rattle.argon2.specs.NamedTexts.{Store, KeepsOthers, added, named_values, values_of}
 
 -- what a store with one name set has
@@ -32,31 +33,22 @@ get-set m n v q =
 -- a store with a name set has the text of that name
 pub get-same : (m : Store) (n : List ℕ) (v : Phc) → get (insert m n v) n ≡ Some v
 get-same m n v =
-    let same = (bytes_eq-Decides n n).1 refl in
-    get-set m n v n ∙ ap (λ b. if b then Some v else get m n) same
+    get-set m n v n ∙ ap (λ b. if b then Some v else get m n) ((bytes_eq-Decides n n).1 refl)
 
 -- what it has under any other name stays
 pub get-other : (m : Store) (n : List ℕ) (v : Phc) → KeepsOthers n m (insert m n v)
-get-other m n v q differs = elim (cases_Bool (bytes_eq q n)) [
-  | inl hit ↦ absurd (differs ((bytes_eq-Decides q n).0 hit))
-  | inr miss ↦ get-set m n v q ∙ rw miss refl
-]
+get-other m n v q differs = let set = get-set m n v q in let same = (bytes_eq-Decides q n).0 in grind arith
 
 -- setting the text that a name has changes nothing
 pub insert-same : (m : Store) (n : List ℕ) (v : Phc) → get m n ≡ Some v → insert m n v ≡ m
 insert-same m n v has =
     same_map nat_list_cmp_total (slice_cmp-IsAntisymmetric nat_cmp-IsAntisymmetric) _ _ (λ q.
-    get-set m n v q ∙ elim (cases_Bool (bytes_eq q n)) [
-      | inl hit ↦ rw hit (sym has ∙ ap (get m) (sym ((bytes_eq-Decides q n).0 hit)))
-      | inr miss ↦ rw miss refl
-    ])
+    let set = get-set m n v q in let same = (bytes_eq-Decides q n).0 in grind arith)
 
 -- ---- names that are added
 
 is_eq-less : (r s : Ordering) → r ≡ s → is_lt s ≡ true → is_eq r ≡ false
-is_eq-less r Less e h = ap is_eq e
-is_eq-less r Equal e h = absurd cc
-is_eq-less r Greater e h = absurd cc
+is_eq-less r s e h = grind arith
 
 -- a name that stands before all others is not among them
 none_below : (n q : List ℕ) (es : List (List ℕ × Phc)) → slice_cmp nat_cmp q n ≡ Equal →
@@ -65,10 +57,6 @@ none_below n q [] e h = refl
 none_below n q (x ∷ es) e h =
     let parts = and_parts (is_lt (slice_cmp nat_cmp n x.0)) _ h in
     rw (is_eq-less _ _ (nat_list_cmp_total.congr q n x.0 e) parts.0) (none_below n q es e parts.1)
-
-or_none : (o : Option Phc) → option_or o None ≡ o
-or_none None = refl
-or_none (Some v) = refl
 
 -- what a store has after names in order are added
 get-added : (es : List (List ℕ × Phc)) (m : Store) (q : List ℕ) → is_sorted (slice_cmp nat_cmp) es ≡ true →
@@ -80,15 +68,13 @@ get-added (x ∷ es) m q h =
     ∙ ap (option_or (find (slice_cmp nat_cmp) q es)) (get-insert nat_list_cmp_total m x.0 x.1 q) in
     elim (cases_Bool (eq_by_cmp (slice_cmp nat_cmp) q x.0)) [
       | inl hit ↦
-          let none = none_below x.0 q es ((Equal-is (slice_cmp nat_cmp q x.0)).0 hit) parts.0 in
-          rest ∙ rw (hit, none) refl
+          rest ∙ rw (hit, none_below x.0 q es ((Equal-is (slice_cmp nat_cmp q x.0)).0 hit) parts.0) refl
       | inr miss ↦ rest ∙ rw miss refl
     ]
 
 map_cond : (b : Bool) (h : PasswordHash) (o : Option PasswordHash) →
     (if b then Some (phc_of h) else option_map phc_of o) ≡ option_map phc_of (if b then Some h else o)
-map_cond true h o = refl
-map_cond false h o = refl
+map_cond b h o = grind arith
 
 module _ {Y : Type 0} where
   find_named : (es : List (String Y × PasswordHash)) (q : List ℕ) →
@@ -125,19 +111,11 @@ module _ {Y : Type 0} where
   -- a name that the tree has, and one that it has not
   pub present : (m : BTreeMap (String Y) PasswordHash) (q : List ℕ) → is_some (get_by_text m q) ≡ true →
       IsSome (get (values_of m) q)
-  present m q h = rw (get-values_of m q) (kept (get_by_text m q) h)
-    where
-      kept : (o : Option PasswordHash) → is_some o ≡ true → IsSome (option_map phc_of o)
-      kept None h = absurd cc
-      kept (Some v) h = search rules
+  present m q h = let has = get-values_of m q in grind arith
 
   pub absent : (m : BTreeMap (String Y) PasswordHash) (q : List ℕ) → is_some (get_by_text m q) ≡ false →
       get (values_of m) q ≡ None
-  absent m q h = get-values_of m q ∙ kept (get_by_text m q) h
-    where
-      kept : (o : Option PasswordHash) → is_some o ≡ false → option_map phc_of o ≡ None
-      kept None h = refl
-      kept (Some v) h = absurd cc
+  absent m q h = let has = get-values_of m q in grind arith
 
   -- ---- the texts in order
 

@@ -51,34 +51,20 @@ pub listed_good : (m t p : ℕ) (k d : List ℕ) → m < 2 ^ 32 → t < 2 ^ 32 �
     → length k ≤ 8 → length d ≤ 32 → are_params (listed m t p k d) ≡ true
 listed_good m t p [] [] hm ht hp bk bd lk ld =
     good_from (listed m t p [] []) (rw (decimal_value m hm, decimal_value t ht, decimal_value p hp) refl) refl
-    (omega (arith, length-cost m hm, length-cost t ht, length-cost p hp))
+    (omega (arith, length-cost))
 listed_good m t p (x ∷ k) [] hm ht hp bk bd lk ld =
     good_from (listed m t p (x ∷ k) [])
     (rw (decimal_value m hm, decimal_value t ht, decimal_value p hp, base64_value x k bk (omega (arith, lk))) refl) refl
-    (omega (arith, length-cost m hm, length-cost t ht, length-cost p hp, length-strict_base64 (x ∷ k), lk))
+    (omega (arith, length-cost, length-strict_base64))
 listed_good m t p [] (y ∷ d) hm ht hp bk bd lk ld =
     good_from (listed m t p [] (y ∷ d))
     (rw (decimal_value m hm, decimal_value t ht, decimal_value p hp, base64_value y d bd ld) refl) refl
-    (omega (arith, length-cost m hm, length-cost t ht, length-cost p hp, length-strict_base64 (y ∷ d), ld))
+    (omega (arith, length-cost, length-strict_base64))
 listed_good m t p (x ∷ k) (y ∷ d) hm ht hp bk bd lk ld =
+    let keyid = base64_value x k bk (omega (arith, lk)) in
     good_from (listed m t p (x ∷ k) (y ∷ d))
-    (rw (
-      decimal_value m hm,
-      decimal_value t ht,
-      decimal_value p hp,
-      base64_value x k bk (omega (arith, lk)),
-      base64_value y d bd ld,
-    ) refl) refl
-    (omega (
-      arith,
-      length-cost m hm,
-      length-cost t ht,
-      length-cost p hp,
-      length-strict_base64 (x ∷ k),
-      length-strict_base64 (y ∷ d),
-      lk,
-      ld,
-    ))
+    (rw (decimal_value m hm, decimal_value t ht, decimal_value p hp, keyid, base64_value y d bd ld) refl) refl
+    (omega (arith, length-cost, length-strict_base64))
 
 -- the list as it grows
 pub record Fronts (m t p : ℕ) (k d : List ℕ) : Type 0 where

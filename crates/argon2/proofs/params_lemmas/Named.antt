@@ -1,5 +1,5 @@
 -- Algorithms by their names and versions by their numbers.
-use Rattle.std.proofs.Common.{◌≡◌, ◌≢◌, ℕ, List, Bool, true, false, Some, None, Result, Ok, Err, refl}
+use Rattle.std.proofs.Common.{◌≡◌, ◌≢◌, ℕ, List, Bool, false, Some, None, Result, Ok, Err, refl, arith}
 use Rattle.std.specs.Bool.{Decides}
 use Rattle.std.specs.Result.{result_ok}
 use Rattle.std.proofs.lemmas.Bool.Decides.{Decides-eqb}
@@ -14,8 +14,7 @@ use Rattle.argon2_base.specs.declared.error.password_hash.Error.TheVariants.{Alg
 
 -- a test of what does not hold fails
 false_by_decides : {P : Type 0} (test : Bool) → Decides test P → (P → ⊥) → test ≡ false
-false_by_decides true d not = absurd (not (d.0 refl))
-false_by_decides false d not = refl
+false_by_decides test d not = grind arith
 
 -- a variant is found by its name
 pub algorithm_named-name : (algorithm : Algorithm) → algorithm_named (algorithm_name algorithm) ≡ Some algorithm

@@ -1,11 +1,12 @@
 -- What parameters are listed as is read as the same.
-use Rattle.std.proofs.Common.{◌≡◌, ℕ, ◌^◌, ◌<◌, ◌≤◌, List, [], ◌∷◌, length, refl, arith, Option, None, Ok}
+use Rattle.std.proofs.Common.{◌≡◌, ℕ, ◌^◌, ◌<◌, ◌≤◌, List, [], ◌∷◌, length, refl, arith, Option, None, Ok, Some}
 use Rattle.std.proofs.lemmas.Bool.Decides.{nat_tests}
 use Rattle.std.specs.Prelude.{IsNone}
 use Rattle.std.specs.Fmt.{decimal}
 use Rattle.argon2_base.specs.Texts.{IsBytes}
 use Rattle.argon2_base.proofs.phc_lemmas.Base64Lemmas.{short_bytes_again}
 use Rattle.argon2_base.proofs.phc_lemmas.DecimalLemmas.{number_again}
+use Rattle.argon2_base.specs.Texts.{number_of, short_bytes, strict_base64}
 use Rattle.argon2.specs.ListedParameters.{listed, params_of}
 use Rattle.argon2.specs.Settings.{first_fault, plain}
 
@@ -13,35 +14,23 @@ use Rattle.argon2.specs.Settings.{first_fault, plain}
 pub valid_without : (m t p : ℕ) (o : Option ℕ) → IsNone (first_fault m t p o) → first_fault m t p None ≡ None
 valid_without m t p o valid = grind (arith, nat_tests)
 
+-- a cost, and bytes that are there, are read as they were printed
+cost : (n : ℕ) → n < 2 ^ 32 → number_of (decimal n) ≡ Some n
+cost n h = number_again (decimal n) n h refl
+
+some_bytes : (most x : ℕ) (b : List ℕ) → IsBytes (x ∷ b) → length (x ∷ b) ≤ most
+    → short_bytes most (strict_base64 (x ∷ b)) ≡ Some (x ∷ b)
+some_bytes most x b bytes h = short_bytes_again most _ (x ∷ b) bytes h refl
+
 -- the parameters that were listed, with an output length that is valid
 pub read_again : (m t p : ℕ) (k d : List ℕ) (o : Option ℕ) → m < 2 ^ 32 → t < 2 ^ 32 → p < 2 ^ 32
     → IsBytes k → IsBytes d → length k ≤ 8 → length d ≤ 32
     → first_fault m t p o ≡ None
     → params_of o (listed m t p k d) ≡ Ok (record (plain m t p o) { keyid = k; associated = d })
-read_again m t p [] [] o hm ht hp bk bd lk ld valid =
-    rw (number_again (decimal m) m hm refl, number_again (decimal t) t ht refl, number_again (decimal p) p hp refl, valid) refl
+read_again m t p [] [] o hm ht hp bk bd lk ld valid = rw (cost m hm, cost t ht, cost p hp, valid) refl
 read_again m t p (x ∷ k) [] o hm ht hp bk bd lk ld valid =
-    rw (
-      number_again (decimal m) m hm refl,
-      number_again (decimal t) t ht refl,
-      number_again (decimal p) p hp refl,
-      short_bytes_again 8 _ (x ∷ k) bk lk refl,
-      valid,
-    ) refl
+    rw (cost m hm, cost t ht, cost p hp, some_bytes 8 x k bk lk, valid) refl
 read_again m t p [] (y ∷ d) o hm ht hp bk bd lk ld valid =
-    rw (
-      number_again (decimal m) m hm refl,
-      number_again (decimal t) t ht refl,
-      number_again (decimal p) p hp refl,
-      short_bytes_again 32 _ (y ∷ d) bd ld refl,
-      valid,
-    ) refl
+    rw (cost m hm, cost t ht, cost p hp, some_bytes 32 y d bd ld, valid) refl
 read_again m t p (x ∷ k) (y ∷ d) o hm ht hp bk bd lk ld valid =
-    rw (
-      number_again (decimal m) m hm refl,
-      number_again (decimal t) t ht refl,
-      number_again (decimal p) p hp refl,
-      short_bytes_again 8 _ (x ∷ k) bk lk refl,
-      short_bytes_again 32 _ (y ∷ d) bd ld refl,
-      valid,
-    ) refl
+    rw (cost m hm, cost t ht, cost p hp, some_bytes 8 x k bk lk, some_bytes 32 y d bd ld, valid) refl

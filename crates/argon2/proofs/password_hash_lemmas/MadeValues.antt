@@ -12,7 +12,6 @@ use Rattle.argon2_base.specs.declared.error.password_hash.Error.{Error as HashEr
 use Rattle.argon2.specs.declared.algorithm.Algorithm.{Algorithm}
 use Rattle.argon2.specs.declared.algorithm.Algorithm.TheVariants.{Argon2d, Argon2i, Argon2id}
 use Rattle.argon2.specs.declared.version.Version.{Version}
-use Rattle.argon2.specs.declared.version.Version.TheVariants.{V0x10, V0x13}
 use Rattle.argon2.specs.Stored.{Accepts, AcceptsBy, shown_settings}
 use Rattle.argon2.specs.declared.context.Argon2.{Argon2}
 use Rattle.argon2.specs.Argon2.{settings_of}
@@ -26,15 +25,11 @@ use Rattle.argon2.proofs.params_lemmas.ReadAgain.{read_again}
 use Rattle.argon2.proofs.password_hash_lemmas.TagBytes.{tag_bytes}
 
 none_of : {X : Type 0} (o : Option X) → IsNone o → o ≡ None
-none_of None h = refl
-none_of (Some x) h = absurd cc
+none_of o h = grind arith
 
 -- a list has no more bytes than its capacity
 list_fits : (n : ℕ) (list : ByteList n) → length (list_bytes list) ≤ n
-list_fits n list =
-    let is = length-take list.len list.bytes in
-    let fits = list.fits in
-    omega (arith, is)
+list_fits n list = omega (arith, length-take list.len list.bytes, list.fits)
 
 -- an `Argon2` is a target if its hashes fit into texts
 pub is_target : (argon2 : Argon2) → tag_length (settings_of argon2) ≤ 64 → IsTarget (target_of argon2)
@@ -54,14 +49,10 @@ fault_with v o = first_fault v.m_cost v.t_cost v.p_cost o
 few_lanes : (v : Parameters) (o : Option ℕ) → fault_with v o ≡ None → v.p_cost < 2 ^ 32
 few_lanes v o h = grind (arith, nat_tests)
 
-least_output : (v : Parameters) (n : ℕ) → fault_with v (Some n) ≡ None → 4 ≤ n
-least_output v n h = grind (arith, nat_tests)
-
 -- an output length is at least 4, and so is the one of a hash if none is set
 set_length : (v : Parameters) (o : Option ℕ) → fault_with v o ≡ None
     → (fault_with v (Some (unwrap_or o 32)) ≡ None) × (4 ≤ unwrap_or o 32)
-set_length v None h = (h, omega arith)
-set_length v (Some n) h = (h, least_output v n h)
+set_length v o h = grind (arith, nat_tests)
 
 is_name-name : (algorithm : Algorithm) → is_name (algorithm_name algorithm) ≡ true
 is_name-name Argon2d = refl
@@ -69,8 +60,7 @@ is_name-name Argon2i = refl
 is_name-name Argon2id = refl
 
 version_small : (version : Version) → version_number version < 2 ^ 32
-version_small V0x10 = omega arith
-version_small V0x13 = omega arith
+version_small version = grind arith
 
 module _ (target : Target) (is : IsTarget target) (password salt : List ℕ) where
   valid : fault_with target.settings.parameters target.settings.parameters.output_len ≡ None
@@ -120,12 +110,9 @@ module _ (target : Target) (is : IsTarget target) (password salt : List ℕ) whe
 
   -- a made value shows the target's settings
   pub made_shows : (v : Phc) → v ≡ made target password salt → shown_settings v ≡ Ok (sized target.settings)
-  made_shows v e = rw (
-    e,
-    parameters_shown,
-    algorithm_named-name target.settings.algorithm,
-    version_numbered-number target.settings.version,
-  ) refl
+  made_shows v e =
+      let named = algorithm_named-name target.settings.algorithm in
+      rw (e, parameters_shown, named, version_numbered-number target.settings.version) refl
 
   -- the text of a made value accepts the password
   pub made_accepted : (v : Phc) → v ≡ made target password salt → HasBytes 8 48 salt → length password ≤ 4294967295

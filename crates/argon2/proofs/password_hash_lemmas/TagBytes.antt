@@ -1,5 +1,6 @@
 -- How long a tag is that fits into a text, and that it is of bytes.
-use Rattle.std.proofs.Common.{◌≡◌, ℕ, zero, suc, ◌+◌, ◌*◌, ◌<◌, ◌≤◌, List, [], ◌∷◌, ◌++◌, length, take, refl, arith, length-append}
+use Rattle.std.proofs.lemmas.Grind.{common_steps}
+use Rattle.std.proofs.Common.{◌-◌, ◌≡◌, ℕ, zero, suc, ◌+◌, ◌*◌, ◌<◌, ◌≤◌, List, [], ◌∷◌, ◌++◌, length, take, refl, arith, length-append}
 use Rattle.std.proofs.lemmas.List.{length-take}
 use Rattle.std.specs.Int.{w32, w64, to_le_bytes, byte_at, bytes_low_first}
 use Rattle.std.specs.List.{flat_map}
@@ -13,19 +14,13 @@ use Rattle.argon2.specs.Rfc9106.{Context, first_block, last_block, tag_of}
 -- ---- lists of bytes
 
 IsBytes-append : (a b : List ℕ) → IsBytes a → IsBytes b → IsBytes (a ++ b)
-IsBytes-append [] b ha hb i = hb i
-IsBytes-append (x ∷ a) b ha hb zero = ha 0
-IsBytes-append (x ∷ a) b ha hb (suc i) = IsBytes-append a b (λ j. ha (suc j)) hb i
+IsBytes-append a b ha hb i = grind (arith, common_steps, ha i, hb (i - length a))
 
 IsBytes-take : (n : ℕ) (a : List ℕ) → IsBytes a → IsBytes (take n a)
-IsBytes-take zero a h i = omega arith
-IsBytes-take (suc n) [] h i = omega arith
-IsBytes-take (suc n) (x ∷ a) h zero = h 0
-IsBytes-take (suc n) (x ∷ a) h (suc i) = IsBytes-take n a (λ j. h (suc j)) i
+IsBytes-take n a h i = grind (arith, common_steps, h i)
 
 byte_small : (i n : ℕ) → byte_at i n < 256
-byte_small zero n = omega arith
-byte_small (suc i) n = omega arith
+byte_small i n = grind arith
 
 IsBytes-low_first : (i k n : ℕ) → IsBytes (bytes_low_first i k n)
 IsBytes-low_first i zero n j = omega arith

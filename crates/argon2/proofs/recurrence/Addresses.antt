@@ -1,45 +1,22 @@
 -- Which address block has the word of a block, and how many a segment has.
-use Rattle.std.proofs.Common.{◌≡◌, ℕ, ◌+◌, ◌*◌, ◌/◌, ◌%◌, ◌≤◌, Bool, true, false, List, Some, None, refl, ap, arith}
-use Rattle.std.proofs.lemmas.Bool.{cond_both}
+use Rattle.std.proofs.Common.{◌≡◌, ℕ, ◌+◌, ◌*◌, ◌/◌, ◌%◌, ◌≤◌, List, Some, None, refl, ap, arith}
 use Rattle.std.specs.Prelude.{slice_index_or, if◌then◌else◌}
 use Rattle.argon2.specs.Rfc9106.{Blocks, Context, address_block, address_word, addresses_at, addresses_of, is_independent, previous, reference_word, segment_length}
 use Rattle.argon2.specs.Watching.{address_mixings}
-
--- an optional block has a word, or there is another
-word_of_option : (b : Bool) (a x : List ℕ) (i other : ℕ) → (if b then Some a else None) ≡ Some x
-    → (if b then slice_index_or a i 0 else other) ≡ slice_index_or x i 0
-word_of_option true a x i other e = cc
-word_of_option false a x i other e = cc
-
--- without a block it is the other
-other_of_option : (b : Bool) (a : List ℕ) (i other : ℕ) → (if b then Some a else None) ≡ None
-    → (if b then slice_index_or a i 0 else other) ≡ other
-other_of_option true a i other e = cc
-other_of_option false a i other e = refl
 
 -- the word of a block that has an address block is one of that
 pub word_addressed : (ctx : Context) (blocks : Blocks) (pass lane column : ℕ) (x : List ℕ)
     → addresses_of ctx pass lane column ≡ Some x
     → reference_word ctx blocks pass lane column ≡ slice_index_or x (column % segment_length ctx % 128) 0
 unfolding addresses_at reference_word address_word
-word_addressed ctx blocks pass lane column x e =
-    let s = segment_length ctx in
-    word_of_option (is_independent ctx pass (column / s)) _ x (column % s % 128) _ e
+word_addressed ctx blocks pass lane column x e = grind arith
 
 -- the word of any other block is the previous block's first
 pub word_not_addressed : (ctx : Context) (blocks : Blocks) (pass lane column : ℕ)
     → addresses_of ctx pass lane column ≡ None
     → reference_word ctx blocks pass lane column ≡ slice_index_or (previous ctx blocks pass lane column) 0 0
 unfolding addresses_at reference_word address_word
-word_not_addressed ctx blocks pass lane column e =
-    let s = segment_length ctx in
-    other_of_option (is_independent ctx pass (column / s)) _ (column % s % 128) _ e
-
--- the mixings of one address block more
-two_more : (b : Bool) (m n : ℕ) → n ≡ m + 1
-    → (if b then 2 * (n + 1) else 0) ≡ (if b then 2 * (m + 1) else 0) + (if b then 2 else 0)
-two_more true m n e = omega arith
-two_more false m n e = refl
+word_not_addressed ctx blocks pass lane column e = grind arith
 
 -- one address block serves 128 indexes
 pub same_addresses : (ctx : Context) (pass lane slice i j : ℕ) → i / 128 ≡ j / 128
@@ -64,10 +41,9 @@ first_mixings ctx pass slice = refl
 pub next_mixings : (ctx : Context) (pass slice i j : ℕ) → j / 128 ≡ i / 128 + 1
     → address_mixings ctx pass slice j ≡ address_mixings ctx pass slice i + (if is_independent ctx pass slice then 2 else 0)
 unfolding address_mixings
-next_mixings ctx pass slice i j next = two_more (is_independent ctx pass slice) (i / 128) (j / 128) next
+next_mixings ctx pass slice i j next = grind arith
 
 -- they are few
 pub few_mixings : (ctx : Context) (pass slice index : ℕ) → address_mixings ctx pass slice index ≤ 2 * (index / 128 + 1)
 unfolding address_mixings
-few_mixings ctx pass slice index =
-    cond_both (is_independent ctx pass slice) _ _ (λ n. n ≤ 2 * (index / 128 + 1)) (λ _. omega arith) (λ _. omega arith)
+few_mixings ctx pass slice index = grind arith

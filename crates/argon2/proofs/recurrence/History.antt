@@ -1,11 +1,12 @@
 -- The blocks satisfy the recurrence, and they alone do.
-use Rattle.std.proofs.Common.{◌≡◌, ℕ, zero, suc, ◌+◌, ◌*◌, ◌/◌, ◌%◌, ◌<◌, ◌≤◌, inl, inr, Bool, true, false, ◌&&◌, List, [], map, length, refl, sym, ap, ◌∙◌, arith}
-use Rattle.std.specs.Prelude.{slice_index_or, nat_lt, ◌==◌, if◌then◌else◌}
+use Rattle.std.proofs.Common.{◌≡◌, ℕ, zero, suc, ◌+◌, ◌*◌, ◌/◌, ◌%◌, ◌<◌, inl, inr, ◌&&◌, List, [], map, length, refl, sym, ap, ◌∙◌, arith}
+use Rattle.std.specs.Prelude.{slice_index_or, nat_lt, ◌==◌}
 use Rattle.std.specs.List.{range_with_len}
 use Rattle.std.proofs.lemmas.List.{get_or_append_left, length_push, get_or_push}
 use Rattle.std.proofs.lemmas.List.FromFn.{get_or-map-range_with_len}
 use Rattle.std.proofs.lemmas.Nat.{div-mul-add, mod-mul-add}
-use Rattle.std.proofs.lemmas.Bool.{cond-true, cond-false, cases_lt, eqb-true, ltb-true, eq-eqb, lt-ltb, and_parts, and_from, false_from_ne_true}
+use Rattle.std.proofs.lemmas.Bool.{cases_Bool, cases_lt}
+use Rattle.std.proofs.lemmas.Bool.Decides.{nat_tests}
 use Rattle.argon2.specs.Rfc9106.{Blocks, Context, FirstColumns, Sizes, block_of, history, in_history, lane_length, made_block, rule}
 use Rattle.argon2.specs.Steps.{IsStep}
 use Rattle.argon2.specs.Laws.{IsRecurrence}
@@ -19,14 +20,7 @@ moment ctx pass column = pass * lane_length ctx + column
 reads_earlier : (ctx : Context) (pass lane column r l c : ℕ)
     → Reads ctx pass lane column r l c → moment ctx r c < moment ctx pass column
 reads_earlier ctx pass lane column r l c reads =
-    let q = lane_length ctx in
-    let below : c < q = reads.in_columns in
-    elim reads.newest [
-      | inl h ↦ (let e : r * q ≡ pass * q = ap (λ x. x * q) h.0 in let lt = h.1 in omega arith)
-      | inr h ↦
-          (let e : pass * q ≡ (r + 1) * q =
-          ap (λ x. x * q) (let p : pass ≡ suc r = h.0 in let o : pass ≡ r + 1 = omega arith in o) in omega arith)
-    ]
+    let below = reads.in_columns in let newest = reads.newest in grind arith
 
 -- a rule reads earlier moments alone
 rule_cong : (ctx : Context) → Sizes ctx → (first : FirstColumns) (pass lane column : ℕ)
@@ -34,23 +28,12 @@ rule_cong : (ctx : Context) → Sizes ctx → (first : FirstColumns) (pass lane 
     → ((r l c : ℕ) → l < ctx.p_cost → c < lane_length ctx → moment ctx r c < moment ctx pass column → f r l c ≡ g r l c)
     → rule ctx first f pass lane column ≡ rule ctx first g pass lane column
 unfolding rule
-rule_cong ctx sizes first pass lane column in_lanes in_columns f g h = go ((pass == 0) && nat_lt column 2) refl
-  where
-    go : (b : Bool) → ((pass == 0) && nat_lt column 2) ≡ b
-        → (if b then first lane column else made_block ctx f pass lane column)
-        ≡ (if b then first lane column else made_block ctx g pass lane column)
-    go true e = refl
-    go false e = made_cong ctx sizes pass lane column
-        (record {
-          in_lanes = in_lanes;
-          in_columns = in_columns;
-          later = λ z. elim (cases_lt column 2) [
-            | inl lt ↦
-                absurd (let t : true ≡ false = sym (and_from (pass == 0) (nat_lt column 2) (eq-eqb pass 0 z) (lt-ltb column 2 lt))
-                ∙ e in cc)
-            | inr le ↦ le
-          ];
-        }) f g (λ r l c reads. h r l c reads.in_lanes reads.in_columns (reads_earlier ctx pass lane column r l c reads))
+rule_cong ctx sizes first pass lane column in_lanes in_columns f g h = elim (cases_Bool ((pass == 0) && nat_lt column 2)) [
+  | inl own ↦ rw own refl
+  | inr made ↦ rw made (made_cong ctx sizes pass lane column
+      (record { in_lanes = in_lanes; in_columns = in_columns; later = λ z. grind (arith, nat_tests) }) f g
+      (λ r l c reads. h r l c reads.in_lanes reads.in_columns (reads_earlier ctx pass lane column r l c reads)))
+]
 
 -- a history of n columns has length n
 length-history : (ctx : Context) (first : FirstColumns) (n : ℕ) → length (history ctx first n) ≡ n
@@ -145,9 +128,7 @@ pub first_columns : (ctx : Context) → Sizes ctx → (first : FirstColumns) (la
 unfolding rule
 first_columns ctx sizes first lane column a b =
     let two = sizes.two_columns in
-    recurrence ctx sizes first 0 lane column a (omega arith)
-    ∙ cond-true ((0 == 0) && nat_lt column 2) (first lane column) (made_block ctx (block_of ctx first) 0 lane column)
-    (and_from (0 == 0) (nat_lt column 2) refl (lt-ltb column 2 b))
+    recurrence ctx sizes first 0 lane column a (omega arith) ∙ grind (arith, nat_tests)
 
 -- all other blocks are made of others
 pub made_blocks : (ctx : Context) → Sizes ctx → (first : FirstColumns) (pass lane column : ℕ)
@@ -155,10 +136,4 @@ pub made_blocks : (ctx : Context) → Sizes ctx → (first : FirstColumns) (pass
     → block_of ctx first pass lane column ≡ made_block ctx (block_of ctx first) pass lane column
 unfolding rule
 made_blocks ctx sizes first pass lane column st =
-    recurrence ctx sizes first pass lane column st.in_lanes st.in_columns
-    ∙ cond-false ((pass == 0) && nat_lt column 2) (first lane column) (made_block ctx (block_of ctx first) pass lane column)
-    (false_from_ne_true ((pass == 0) && nat_lt column 2) (λ e.
-    let parts = and_parts (pass == 0) (nat_lt column 2) e in
-    let low : column < 2 = ltb-true column 2 parts.1 in
-    let high : 2 ≤ column = st.later (eqb-true pass 0 parts.0) in
-    omega arith))
+    let later = st.later in recurrence ctx sizes first pass lane column st.in_lanes st.in_columns ∙ grind (arith, nat_tests)

@@ -1,10 +1,9 @@
 -- If addressing is independent, the place of a reference is a function of the algorithm, the three
 -- costs and the block's place.
 use Rattle.std.proofs.Common.{◌≡◌, ℕ, zero, suc, ◌+◌, ◌*◌, ◌/◌, ◌%◌, ◌<◌, true, refl, sym, ap, ◌∙◌, arith}
-use Rattle.std.specs.Prelude.{slice_index_or, nat_lt, ◌==◌}
-use Rattle.std.proofs.lemmas.Bool.{cond-true, eq-eqb, lt-ltb, and_from, or_left, or_right}
+use Rattle.std.proofs.lemmas.Bool.Decides.{nat_tests}
 use Rattle.std.proofs.lemmas.Nat.{div_below}
-use Rattle.argon2.specs.Rfc9106.{Context, FirstColumns, Sizes, address_block, address_word, block_of, finished_segments, is_independent, lane_length, permitted, previous, reference, reference_lane, reference_of, reference_places, reference_word, segment_length}
+use Rattle.argon2.specs.Rfc9106.{Context, FirstColumns, Sizes, address_block, address_word, finished_segments, is_independent, lane_length, permitted, reference, reference_lane, reference_of, reference_places, reference_word, segment_length}
 use Rattle.argon2.specs.Laws.{AreAlike}
 
 -- the place of the block that the address word takes
@@ -20,10 +19,7 @@ reference_place-addressed : (ctx : Context) (first : FirstColumns) (pass lane co
     → reference_places ctx first pass lane column ≡ addressed_place ctx pass lane column
 unfolding reference_places reference_of reference_word addressed_place
 reference_place-addressed ctx first pass lane column e =
-    ap (λ w. (reference ctx pass lane column w).lane * lane_length ctx + (reference ctx pass lane column w).column)
-    (cond-true (is_independent ctx pass (column / segment_length ctx))
-    (address_word ctx pass lane (column / segment_length ctx) (column % segment_length ctx))
-    (slice_index_or (previous ctx (block_of ctx first) pass lane column) 0 0) e)
+    rw e refl
 
 -- the same context with another version, secret and data
 with_rest : Context → Context → Context
@@ -68,7 +64,7 @@ positions_agree a b h first second pass lane column e =
 pub argon2i_independent : (ctx : Context) (pass slice : ℕ) → ctx.algorithm ≡ 1
     → is_independent ctx pass slice ≡ true
 unfolding is_independent
-argon2i_independent ctx pass slice h = or_left (ctx.algorithm == 1) _ (eq-eqb ctx.algorithm 1 h)
+argon2i_independent ctx pass slice h = grind (arith, nat_tests)
 
 -- Argon2id's addressing is independent in the first half of pass 0
 pub argon2id_independent : (ctx : Context) → Sizes ctx → (column : ℕ) → ctx.algorithm ≡ 2
@@ -76,7 +72,6 @@ pub argon2id_independent : (ctx : Context) → Sizes ctx → (column : ℕ) → 
     → is_independent ctx 0 (column / segment_length ctx) ≡ true
 unfolding is_independent
 argon2id_independent ctx sizes column h low =
-    let s = segment_length ctx in
     let two = sizes.two_columns in
-    or_right (ctx.algorithm == 1) _ (and_from (ctx.algorithm == 2) _ (eq-eqb ctx.algorithm 2 h)
-    (and_from (0 == 0) (nat_lt (column / s) 2) refl (lt-ltb (column / s) 2 (div_below column s 2 (omega arith) low))))
+    let first = div_below column (segment_length ctx) 2 (omega arith) low in
+    grind (arith, nat_tests)

@@ -1,9 +1,9 @@
 -- What may be referred to, as numbers: how many blocks, and in which columns.
-use Rattle.std.proofs.Common.{◌≡◌, ℕ, zero, suc, ◌+◌, ◌-◌, ◌*◌, ◌/◌, ◌%◌, ◌<◌, ◌≤◌, inl, inr, List, [], ◌++◌, take, length, refl, sym, ap, ◌∙◌, arith}
+use Rattle.std.proofs.Common.{◌≡◌, ℕ, zero, suc, ◌+◌, ◌-◌, ◌*◌, ◌/◌, ◌%◌, ◌<◌, ◌≤◌, inl, inr, List, [], ◌++◌, take, length, refl, ap, ◌∙◌, arith}
 use Rattle.std.specs.Prelude.{slice_index_or, nat_lt, ◌==◌, if◌then◌else◌}
 use Rattle.std.proofs.Math.Nat.{mul-le-mul_right, div-lt_iff_lt-mul, div-mul-le_self, lt-mul-div-succ, div-add-mod', zero-mul}
 use Rattle.std.specs.List.{range_with_len}
-use Rattle.std.proofs.lemmas.List.{length-append, length-map, length-take, length-take-le, get_or_append_left, get_or-append_right, get_or-take}
+use Rattle.std.proofs.lemmas.List.{length-append, length-map, length-take, get_or_append_left, get_or-append_right, get_or-take}
 use Rattle.std.proofs.lemmas.List.FromFn.{get_or-map-range_with_len, length-range_with_len}
 use Rattle.std.proofs.lemmas.Bool.Decides.{nat_tests}
 use Rattle.std.proofs.lemmas.Bool.{cond_both, cases_eq, cases_lt}
@@ -58,13 +58,10 @@ module _ (ctx : Context) (sizes : Sizes ctx) (column : ℕ) (in_columns : column
   unfolding finished_segments
   length-finished zero = length-columns 0 0 _ ∙ omega arith
   length-finished (suc pass) =
-      let here = bounds in
       let from = (column / segment_length ctx + 1) * segment_length ctx in
       let to = column / segment_length ctx * segment_length ctx in
       let both = length-append (columns pass from (lane_length ctx)) (columns (suc pass) 0 to) in
-      let old = length-columns pass from (lane_length ctx) in
-      let new = length-columns (suc pass) 0 to in
-      grind (arith, nat_tests)
+      grind (arith, bounds, length-columns pass from (lane_length ctx), length-columns (suc pass) 0 to, nat_tests)
 
   -- the one at an index has that column
   get_or-finished : (pass i : ℕ) → i < length (finished_segments ctx pass (column / segment_length ctx))
@@ -75,7 +72,6 @@ module _ (ctx : Context) (sizes : Sizes ctx) (column : ℕ) (in_columns : column
       let l = length-columns 0 0 (column / segment_length ctx * segment_length ctx) in
       get_or-columns 0 0 _ i (omega arith) ∙ omega arith
   get_or-finished (suc pass) i h =
-      let here = bounds in
       let from = (column / segment_length ctx + 1) * segment_length ctx in
       let to = column / segment_length ctx * segment_length ctx in
       let q = lane_length ctx in
@@ -84,16 +80,10 @@ module _ (ctx : Context) (sizes : Sizes ctx) (column : ℕ) (in_columns : column
       let old : length xs ≡ q - from = length-columns pass from q in
       let new : length ys ≡ to - 0 = length-columns (suc pass) 0 to in
       let both : length (xs ++ ys) ≡ length xs + length ys = length-append xs ys in
-      elim (cases_lt i (length xs)) [
-        | inl lt ↦ (
-            let is : finished_column ctx (suc pass) (column / segment_length ctx) i ≡ from + i = grind (arith, nat_tests) in
-            ap (λ (x : ℕ × ℕ). x.1) (get_or_append_left xs ys (0, 0) i lt) ∙ get_or-columns pass from q i (omega arith) ∙ sym is)
-        | inr le ↦ (
-            let is : finished_column ctx (suc pass) (column / segment_length ctx) i ≡ 0 + (i - length xs) =
-            grind (arith, nat_tests) in
-            ap (λ (x : ℕ × ℕ). x.1) (get_or-append_right xs ys (length xs) i (0, 0) refl le)
-            ∙ get_or-columns (suc pass) 0 to (i - length xs) (omega arith) ∙ sym is)
-      ]
+      let side = cases_lt i (length xs) in
+      let left = get_or_append_left xs ys (0, 0) i in
+      let right = get_or-append_right xs ys (length xs) i (0, 0) refl in
+      grind (arith, bounds, get_or-columns pass from q i, get_or-columns (suc pass) 0 to (i - length xs), nat_tests)
 
   -- how many permitted blocks there are
   pub length-permitted : (pass lane other : ℕ) → (pass ≡ 0 → 2 ≤ column)
@@ -106,20 +96,10 @@ module _ (ctx : Context) (sizes : Sizes ctx) (column : ℕ) (in_columns : column
       let s = segment_length ctx in
       let slice = column / s in
       let f = finished_segments ctx pass slice in
-      let n = length-finished pass in
       let split : slice * s + column % s ≡ column = div-add-mod' column s in
-      let Counts = λ (xs : List (ℕ × ℕ)). length xs
-      ≡ (let finished = finished_count ctx pass slice in
-      let index = column % s in
-      if index == 0 then finished - 1 else finished + (if other == lane then index - 1 else 0)) in
-      cond_both (column % s == 0) _ _ Counts
-      (λ e. let l = length-take-le (length f - 1) f (omega arith) in grind (arith, nat_tests))
-      (λ e. cond_both (other == lane) _ _ (λ own. Counts (f ++ own))
-      (λ o.
-      let all = length-append f (columns pass (slice * s) (column - 1)) in
+      let front = length-take (length f - 1) f in
       let own = length-columns pass (slice * s) (column - 1) in
-      grind (arith, nat_tests))
-      (λ o. let all = length-append f [] in grind (arith, nat_tests)))
+      grind (arith, length-finished pass, length-append f (columns pass (slice * s) (column - 1)), length-append f [], nat_tests)
 
   -- some block is permitted, if in the first slice of all the lane itself is asked
   pub some_permitted : (pass lane other : ℕ) → (pass ≡ 0 → 2 ≤ column)

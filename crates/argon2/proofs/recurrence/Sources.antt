@@ -1,14 +1,13 @@
 -- Which blocks a block is made of. All else rests on two laws, `reference_reads` and `made_cong`.
-use Rattle.std.proofs.Common.{◌≡◌, ℕ, zero, suc, ◌+◌, ◌-◌, ◌*◌, ◌/◌, ◌%◌, ◌^◌, ◌<◌, ◌≤◌, ◌⊎◌, inl, inr, Bool, true, false, ◌&&◌, List, [], length, refl, sym, ap, ◌∙◌, subst, arith}
-use Rattle.std.specs.Prelude.{slice_index_or, nat_lt, ◌==◌, if◌then◌else◌}
+use Rattle.std.proofs.Common.{◌≡◌, ℕ, zero, suc, ◌+◌, ◌-◌, ◌*◌, ◌/◌, ◌%◌, ◌^◌, ◌<◌, ◌≤◌, ◌⊎◌, inl, inr, [], length, refl, sym, subst, arith}
+use Rattle.std.specs.Prelude.{◌==◌, if◌then◌else◌}
 use Rattle.std.proofs.Math.Nat.{mod-lt}
 use Rattle.std.specs.List.{range_with_len, All}
 use Rattle.std.proofs.lemmas.List.FromFn.{length-range_with_len, get_or-range_with_len}
 use Rattle.std.proofs.lemmas.List.Elements.{All-map, All-append, All-take, All-get_or, All-nil}
-use Rattle.std.proofs.lemmas.Bool.{cond_both, eqb-true, ltb-true, and_parts}
+use Rattle.std.proofs.lemmas.Bool.{cond_both, eqb-true}
 use Rattle.std.proofs.lemmas.Bool.Decides.{nat_tests}
-use Rattle.argon2_base.specs.Block.{mixed, xor_blocks}
-use Rattle.argon2.specs.Rfc9106.{Blocks, Context, Reference, Sizes, address_word, columns, finished_segments, is_independent, lane_length, made_block, permitted, previous, reference, reference_index, reference_lane, reference_of, reference_word, segment_length}
+use Rattle.argon2.specs.Rfc9106.{Blocks, Context, Sizes, columns, finished_segments, lane_length, made_block, permitted, previous, reference, reference_index, reference_lane, reference_of, reference_word, segment_length}
 use Rattle.argon2.specs.Segments.{IsPlaceFor}
 use Rattle.argon2.specs.Steps.{IsStep}
 use Rattle.argon2.proofs.recurrence.PermittedPlaces.{InSlice, in_slice, some_permitted}
@@ -82,8 +81,7 @@ lane_below : (ctx : Context) → Sizes ctx → (pass lane column w : ℕ) → la
     → reference_lane ctx pass lane column w < ctx.p_cost
 unfolding reference_lane
 lane_below ctx sizes pass lane column w h =
-    cond_both ((pass == 0) && (column / segment_length ctx == 0)) lane ((w / 2 ^ 32) % ctx.p_cost) (λ x. x < ctx.p_cost)
-    (λ _. h) (λ _. mod-lt (w / 2 ^ 32) sizes.some_lane)
+    let small = mod-lt (w / 2 ^ 32) sizes.some_lane in grind (arith, nat_tests)
 
 -- in the first slice of all the lane referred to is the block's own
 lane_alone : (ctx : Context) (pass lane column w : ℕ) → pass ≡ 0
@@ -91,17 +89,12 @@ lane_alone : (ctx : Context) (pass lane column w : ℕ) → pass ≡ 0
 unfolding reference_lane
 lane_alone ctx pass lane column w p slice = grind (arith, nat_tests)
 
--- the index that a word takes is below the count
-index_below : (count w : ℕ) → 0 < count → reference_index count w < count
-unfolding reference_index
-index_below count w h = omega arith
-
 -- whatever the word, the block that it takes is a source
 pub reference_reads : (ctx : Context) → Sizes ctx → (pass lane column w : ℕ)
     → IsStep ctx pass lane column
     → Reads ctx pass lane column (reference ctx pass lane column w).pass (reference ctx pass lane column w).lane
     (reference ctx pass lane column w).column
-unfolding reference
+unfolding reference reference_index
 reference_reads ctx sizes pass lane column w st =
     let other = reference_lane ctx pass lane column w in
     let below : other < ctx.p_cost = lane_below ctx sizes pass lane column w st.in_lanes in
@@ -109,7 +102,7 @@ reference_reads ctx sizes pass lane column w st =
     let some : 0 < length blocks =
     some_permitted ctx sizes column st.in_columns pass lane other st.later (lane_alone ctx pass lane column w) in
     All-get_or (λ (x : ℕ × ℕ). Reads ctx pass lane column x.0 other x.1) blocks (reference_index (length blocks) w) (0, 0)
-    (index_below (length blocks) w some)
+    (omega arith)
     (permitted_sources ctx sizes lane column other below st.in_columns pass)
 
 -- a source is in a place for the step
@@ -121,8 +114,7 @@ Reads-place ctx sizes pass lane column r l c reads = record {
   apart = elim reads.apart [
     | inl own ↦ inl own
     | inr other ↦ inr (λ same.
-        let here = rw same at (in_slice (segment_length ctx) c sizes.two_columns reads.in_columns) in
-        elim other [ inl before ↦ omega arith | inr after ↦ omega arith ])
+        let here = rw same at (in_slice (segment_length ctx) c sizes.two_columns reads.in_columns) in grind arith)
   ];
 }
 
@@ -145,24 +137,12 @@ previous_cong ctx sizes pass lane (suc column) st f g h =
     h pass lane column
     (record { in_lanes = st.in_lanes; in_columns = omega arith; newest = inl (refl, omega arith); apart = inl refl })
 
--- such blocks have one word
-word_cong : (ctx : Context) → Sizes ctx → (pass lane column : ℕ) → IsStep ctx pass lane column
-    → (f g : Blocks) → AgreeOn ctx pass lane column f g
-    → reference_word ctx f pass lane column ≡ reference_word ctx g pass lane column
-unfolding reference_word
-word_cong ctx sizes pass lane column st f g h =
-    let slice = column / segment_length ctx in
-    ap (λ (b : List ℕ). if is_independent ctx pass slice
-    then address_word ctx pass lane slice (column % segment_length ctx) else slice_index_or b 0 0)
-    (previous_cong ctx sizes pass lane column st f g h)
-
 -- such blocks have one reference
 pub reference_of_cong : (ctx : Context) → Sizes ctx → (pass lane column : ℕ)
     → IsStep ctx pass lane column → (f g : Blocks) → AgreeOn ctx pass lane column f g
     → reference_of ctx f pass lane column ≡ reference_of ctx g pass lane column
-unfolding reference_of
-reference_of_cong ctx sizes pass lane column st f g h =
-    ap (reference ctx pass lane column) (word_cong ctx sizes pass lane column st f g h)
+unfolding reference_of reference_word
+reference_of_cong ctx sizes pass lane column st f g h = rw (previous_cong ctx sizes pass lane column st f g h) refl
 
 -- the reference is a source
 reference_of_reads : (ctx : Context) → Sizes ctx → (pass lane column : ℕ)
@@ -173,11 +153,6 @@ unfolding reference_of
 reference_of_reads ctx sizes pass lane column st f =
     reference_reads ctx sizes pass lane column (reference_word ctx f pass lane column) st
 
--- a branch that is taken may be changed for an equal one
-cond_same : {X : Type 0} (b : Bool) (x u y : X) → (b ≡ true → x ≡ u) → (if b then x else y) ≡ (if b then u else y)
-cond_same true x u y h = h refl
-cond_same false x u y h = refl
-
 -- such blocks make one block
 pub made_cong : (ctx : Context) → Sizes ctx → (pass lane column : ℕ) → IsStep ctx pass lane column
     → (f g : Blocks) → AgreeOn ctx pass lane column f g
@@ -185,21 +160,9 @@ pub made_cong : (ctx : Context) → Sizes ctx → (pass lane column : ℕ) → I
 unfolding made_block
 made_cong ctx sizes pass lane column st f g h =
     let from = reference_of ctx f pass lane column in
-    let to = reference_of ctx g pass lane column in
-    let e : from ≡ to = reference_of_cong ctx sizes pass lane column st f g h in
-    let p = previous_cong ctx sizes pass lane column st f g h in
-    let read : f from.pass from.lane from.column ≡ g to.pass to.lane to.column =
-    h from.pass from.lane from.column (reference_of_reads ctx sizes pass lane column st f)
-    ∙ ap (λ (x : Reference). g x.pass x.lane x.column) e in
-    let block = mixed (previous ctx f pass lane column) (f from.pass from.lane from.column) in
-    let block' = mixed (previous ctx g pass lane column) (g to.pass to.lane to.column) in
-    let m : block ≡ block' = ap (λ x. mixed x (f from.pass from.lane from.column)) p
-    ∙ ap (mixed (previous ctx g pass lane column)) read in
-    cond_same ((ctx.version == 19) && nat_lt 0 pass) (xor_blocks block (f (pass - 1) lane column))
-    (xor_blocks block' (g (pass - 1) lane column)) block
-    (λ b.
-    let pos : 0 < pass = ltb-true 0 pass (and_parts (ctx.version == 19) (nat_lt 0 pass) b).1 in
-    let own : Reads ctx pass lane column (pass - 1) lane column =
-    record { in_lanes = st.in_lanes; in_columns = st.in_columns; newest = inr (omega arith, omega arith); apart = inl refl } in
-    ap (λ x. xor_blocks x (f (pass - 1) lane column)) m ∙ ap (xor_blocks block') (h (pass - 1) lane column own))
-    ∙ ap (λ x. if (ctx.version == 19) && nat_lt 0 pass then xor_blocks block' (g (pass - 1) lane column) else x) m
+    let same = reference_of_cong ctx sizes pass lane column st f g h in
+    let previous = previous_cong ctx sizes pass lane column st f g h in
+    let read = h from.pass from.lane from.column (reference_of_reads ctx sizes pass lane column st f) in
+    let own : 0 < pass → f (pass - 1) lane column ≡ g (pass - 1) lane column = λ some. h (pass - 1) lane column
+    (record { in_lanes = st.in_lanes; in_columns = st.in_columns; newest = inr (omega arith, omega arith); apart = inl refl }) in
+    grind (arith, nat_tests)

@@ -11,9 +11,7 @@ loop-lane-init g c = record { begun = λ k d low two. absurd (omega arith); othe
 pub overflow_mul-first : goal.overflow_mul-first
 overflow_mul-first g c =
     let fits = lane_fits _ c.lanes-lane-end.ensures.sizes c.loop-lane.lane c.args.width (omega arith) c.requires.most in
-    let end = fits.0 in
-    let small = fits.1 in
-    omega arith
+    omega (arith, fits.0, fits.1)
 
 pub offset_bounds-blocks-first-in-loop-lane : goal.offset_bounds-blocks-first-in-loop-lane
 offset_bounds-blocks-first-in-loop-lane g c =

@@ -16,10 +16,7 @@ fill_pass-requires-clause-count g c =
     let ctx = c.args.self.now in
     let sizes = c.passes-pass-end.ensures.sizes in
     let more = passes_calls-le ctx (suc c.loop-pass.pass) ctx.t_cost (omega arith) in
-    let all = passes_calls-all ctx sizes in
-    let few = mixing_calls-few ctx sizes in
-    let before = c.loop-pass.invariant.work in
-    omega arith
+    omega (arith, passes_calls-all ctx sizes, mixing_calls-few ctx sizes, c.loop-pass.invariant.work)
 
 pub loop-pass-preserved : goal.loop-pass-preserved
 unfolding passes_calls
@@ -40,6 +37,4 @@ pub returns-clause-work : goal.returns-clause-work
 returns-clause-work g c =
     let ctx = c.args.self.now in
     let all : c.loop-pass.pass ≡ ctx.t_cost = omega arith in
-    let calls = ap (passes_calls ctx) all ∙ passes_calls-all ctx c.passes-pass-end.ensures.sizes in
-    let before = c.loop-pass.invariant.work in
-    omega arith
+    omega (arith, ap (passes_calls ctx) all ∙ passes_calls-all ctx c.passes-pass-end.ensures.sizes, c.loop-pass.invariant.work)

@@ -11,8 +11,7 @@ pub fill_slice-requires-clause-count : goal.fill_slice-requires-clause-count
 unfolding slices_calls
 fill_slice-requires-clause-count g c =
     let more = slices_calls-le c.args.self.now c.args.pass (suc c.loop-slice.slice) 4 (omega arith) in
-    let before = c.loop-slice.invariant.work in
-    omega arith
+    omega (arith, c.loop-slice.invariant.work)
 
 pub loop-slice-preserved : goal.loop-slice-preserved
 unfolding slices_calls

@@ -1,13 +1,10 @@
+use Rattle.std.proofs.lemmas.Grind.{common_steps}
 use Rattle.std.proofs.Common.{arith}
-use Rattle.argon2.proofs.context_lemmas.InOrder.{in_order-first, in_order-last, in_order-next, IsFilledUpTo-like}
+use Rattle.argon2.proofs.context_lemmas.InOrder.{in_order-last, in_order-next, IsFilledUpTo-like}
 use Rattle.argon2.proofs.context.instance.Instance.fill_slice.Goals as goal
 
 pub loop-lane-init : goal.loop-lane-init
-loop-lane-init g c = record {
-  filled = λ first old.
-      IsFilledUpTo-like _ first _ _ _ _ old _ (λ l _. in_order-first c.args.self.now c.args.pass c.args.slice l);
-  work = omega arith;
-}
+loop-lane-init g c = grind (arith, common_steps)
 
 pub loop-lane-preserved : goal.loop-lane-preserved
 loop-lane-preserved g c =

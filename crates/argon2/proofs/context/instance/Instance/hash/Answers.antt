@@ -1,12 +1,6 @@
-use Rattle.std.proofs.Common.{◌∙◌, arith}
+use Rattle.std.proofs.Common.{◌∙◌}
 use Rattle.argon2.proofs.context_lemmas.LastColumn.{tag_of_matrix}
 use Rattle.argon2.proofs.context.instance.Instance.hash.Goals as goal
-
-pub overflow_cast-out : goal.overflow_cast-out
-overflow_cast-out g c = omega (arith, c.requires.output)
-
-pub write_tag-requires-clause-some : goal.write_tag-requires-clause-some
-write_tag-requires-clause-some g c = omega (arith, c.requires.output)
 
 pub returns-clause-tag : goal.returns-clause-tag
 returns-clause-tag g c =

@@ -7,21 +7,15 @@ use Rattle.argon2.proofs.context.instance.Instance.place.Goals as goal
 place_fits : (ctx : Context) (lane q column : ℕ) → IsSize lane_length ctx q → lane < ctx.p_cost → column < lane_length ctx
     → lane * q + column < 2 ^ 32
 place_fits ctx lane q column size l c =
-    let below = place_below ctx lane column l c in
-    let product = ap (λ n. lane * n) size.value in
-    let memory = size.sizes.in_memory in
-    let small = size.sizes.m_cost in
-    omega arith
+    omega (arith, place_below ctx lane column l c, ap (λ n. lane * n) size.value, size.sizes.in_memory, size.sizes.m_cost)
 
 pub overflow_mul-result : goal.overflow_mul-result
 overflow_mul-result c =
-    let fits = place_fits _ c.args.lane _ c.args.column c.lane_length.ensures c.requires.in_lanes c.requires.in_columns in
-    omega arith
+    omega (arith, place_fits _ c.args.lane _ c.args.column c.lane_length.ensures c.requires.in_lanes c.requires.in_columns)
 
 pub overflow_add-result : goal.overflow_add-result
 overflow_add-result c =
-    let fits = place_fits _ c.args.lane _ c.args.column c.lane_length.ensures c.requires.in_lanes c.requires.in_columns in
-    omega arith
+    omega (arith, place_fits _ c.args.lane _ c.args.column c.lane_length.ensures c.requires.in_lanes c.requires.in_columns)
 
 pub returns-clause-within : goal.returns-clause-within
 returns-clause-within c =

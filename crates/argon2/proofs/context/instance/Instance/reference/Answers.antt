@@ -15,9 +15,3 @@ returns-clause-column c =
     let e = c.permitted_column.ensures.value c.reference_lane-lane.result
     (let w = c.reference_index-index.ensures.within in omega arith) in
     cc
-
-pub permitted_column-requires-clause-few : goal.permitted_column-requires-clause-few
-permitted_column-requires-clause-few c =
-    let within = c.reference_index-index.ensures.within in
-    let short = c.permitted_count-count.ensures.short in
-    omega arith

@@ -12,8 +12,7 @@ returns-then-index-eq0-clause-work c =
     let i = ap (λ n. column % n) c.segment_length.ensures.value in
     let more = next_mixings c.args.self.now c.args.at.pass (column / s) (column % s - 1) (column % s)
     (serves_next (column % s) (omega arith) (omega (arith, c.if-index-eq0.true))) in
-    let two = c.addresses.ensures.work in
-    omega arith
+    omega (arith, c.addresses.ensures.work)
 
 -- the address block serves on
 pub returns-else-index-gt0 : goal.returns-else-index-gt0

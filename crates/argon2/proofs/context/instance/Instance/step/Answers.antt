@@ -3,7 +3,7 @@ use Rattle.std.specs.Prelude.{nat_lt, ◌==◌}
 use Rattle.std.proofs.lemmas.Bool.{cond-true, cond-false}
 use Rattle.std.proofs.lemmas.List.{map-set}
 use Rattle.argon2.specs.Steps.{step}
-use Rattle.argon2.proofs.context_lemmas.InMemory.{made_by_places, words_read}
+use Rattle.argon2.proofs.context_lemmas.InMemory.{made_by_places, place_by_word, words_read}
 use Rattle.argon2.proofs.context.instance.Instance.step.Goals as goal
 
 pub returns-then-xors-clause-step : goal.returns-then-xors-clause-step
@@ -37,3 +37,13 @@ returns-else-xors-clause-step g c =
     let by = made_by_places ctx (map f m) c.args.at.pass c.args.at.lane c.args.at.column _
     (c.word-word.ensures _ c.previous_word.ensures) ∙ cond-false ((ctx.version == 19) && (nat_lt 0 c.args.at.pass)) _ _ no in
     cc
+
+pub returns-then-xors-clause-place : goal.returns-then-xors-clause-place
+returns-then-xors-clause-place g c =
+    c.reference_place-reference.ensures.value ∙ sym (place_by_word c.args.self.now (map g.B.MemoryBlock.words c.args.memory.now)
+    c.args.at.pass c.args.at.lane c.args.at.column _ (c.word-word.ensures _ c.previous_word.ensures))
+
+pub returns-else-xors-clause-place : goal.returns-else-xors-clause-place
+returns-else-xors-clause-place g c =
+    c.reference_place-reference.ensures.value ∙ sym (place_by_word c.args.self.now (map g.B.MemoryBlock.words c.args.memory.now)
+    c.args.at.pass c.args.at.lane c.args.at.column _ (c.word-word.ensures _ c.previous_word.ensures))

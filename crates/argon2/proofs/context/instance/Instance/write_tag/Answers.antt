@@ -8,9 +8,8 @@ use Rattle.argon2.proofs.context.instance.Instance.write_tag.Goals as goal
 
 pub returns : goal.returns
 returns g c =
-    let ctx = c.args.self.now in
     let words = g.B.MemoryBlock.words in
     let memory = c.args.memory.now in
-    let tag = λ (blocks : Memory). long_hash (length c.args.out.now) (bytes_of (last_column ctx blocks)) in
+    let tag = λ (blocks : Memory). long_hash (length c.args.out.now) (bytes_of (last_column c.args.self.now blocks)) in
     rw c.lane_length.ensures.value at c.write_tag_of_lanes.ensures
     ∙ ap tag (sym (take-map words c.block_count.result memory) ∙ ap (λ n. take n (map words memory)) c.block_count.ensures.value)

@@ -12,17 +12,12 @@ use Rattle.argon2.proofs.context.instance.Instance.write_tag_of_lanes.Goals as g
 pub overflow_mul-place : goal.overflow_mul-place
 overflow_mul-place g c =
     let fits = lane_fits _ c.lanes-lane-end.ensures.sizes c.loop-lane.lane c.args.width (omega arith) c.requires.most in
-    let end = fits.0 in
-    let small = fits.1 in
-    omega arith
+    omega (arith, fits.0, fits.1)
 
 pub overflow_add-place : goal.overflow_add-place
 overflow_add-place g c =
     let fits = lane_fits _ c.lanes-lane-end.ensures.sizes c.loop-lane.lane c.args.width (omega arith) c.requires.most in
-    let end = fits.0 in
-    let small = fits.1 in
-    let one = c.requires.one in
-    omega arith
+    omega (arith, fits.0, fits.1, c.requires.one)
 
 pub loop-lane-preserved : goal.loop-lane-preserved
 loop-lane-preserved g c =

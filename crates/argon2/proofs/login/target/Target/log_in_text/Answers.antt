@@ -26,12 +26,8 @@ returns-in-Err-log_in-clause-accepted g c =
 
 pub returns-in_default-clause-step : goal.returns-in_default-clause-step
 returns-in_default-clause-step g c = λ store name has.
-    let v = phc_of c.args.text.now in
-    let step = rw c.in_default.is at (c.in-Ok-log_in.ensures.step v (sym c.in-Ok.ensures)) in (
-      step.0,
-      leaves_step (target_value c.args.self.now) store name c.args.password.now
-          (fill_bytes 16 (g.R.Rng.stream c.args.rng.now)).0 v v c.in-Ok-log_in.done.accepted has step.1,
-    )
+    let step = rw c.in_default.is at (c.in-Ok-log_in.ensures.step (phc_of c.args.text.now) (sym c.in-Ok.ensures)) in
+    (step.0, leaves_step (target_value c.args.self.now) store name _ _ _ _ c.in-Ok-log_in.done.accepted has step.1)
 
 pub returns-in_default-clause-current : goal.returns-in_default-clause-current
 returns-in_default-clause-current g c =
@@ -42,13 +38,8 @@ returns-in_default-clause-current g c =
 
 pub returns-clause-step : goal.returns-clause-step
 returns-clause-step g c = λ store name has.
-    let v = phc_of c.args.text.now in
-    let step = rw c.in-Some.is at (c.in-Ok-log_in.ensures.step v (sym c.in-Ok.ensures)) in (
-      step.0,
-      leaves_step (target_value c.args.self.now) store name c.args.password.now
-          (fill_bytes 16 (g.R.Rng.stream c.args.rng.now)).0 v (phc_of c.in-Some.fresh) c.in-Ok-log_in.done.accepted has
-          step.1,
-    )
+    let step = rw c.in-Some.is at (c.in-Ok-log_in.ensures.step (phc_of c.args.text.now) (sym c.in-Ok.ensures)) in
+    (step.0, leaves_step (target_value c.args.self.now) store name _ _ _ _ c.in-Ok-log_in.done.accepted has step.1)
 
 pub returns-clause-accepted : goal.returns-clause-accepted
 returns-clause-accepted g c =

@@ -4,23 +4,9 @@ use Rattle.argon2.specs.Settings.{algorithm_name, version_number}
 use Rattle.argon2.specs.Argon2.{settings_of}
 use Rattle.argon2.specs.Made.{tag_length, target_of}
 use Rattle.argon2.specs.Params.{parameters_of}
-use Rattle.argon2.proofs.password_hash_lemmas.Hashed.{answer_bad_salt, answer_no_tag, answer_made}
+use Rattle.argon2.proofs.password_hash_lemmas.Hashed.{answer_made}
 use Rattle.argon2.proofs.password_hash_lemmas.MadeValues.{is_made, is_target, made_accepted, made_shows}
 use Rattle.argon2.proofs.password_hash.hashing.Argon2PasswordHasherPasswordHash.hash_password_with_salt.Goals as goal
-
-pub returns-in_err-salt-clause-answer : goal.returns-in_err-salt-clause-answer
-returns-in_err-salt-clause-answer c = answer_bad_salt (target_of c.args.self.now) c.args.password.now c.args.salt.now
-    c.in_err-salt.field-0.0 c.from_residual.result c.in_err-salt.ensures.when c.from_residual.ensures.1
-
-pub tag-requires-clause-fits : goal.tag-requires-clause-fits
-tag-requires-clause-fits c = omega (arith, c.if-tag_len-gt-MAX_LENGTH.false, c.tag_len.ensures)
-
-pub returns-in_err-hash-clause-answer : goal.returns-in_err-hash-clause-answer
-returns-in_err-hash-clause-answer c = answer_no_tag (target_of c.args.self.now) c.args.password.now c.args.salt.now
-    c.in_ok-salt.ensures.when.0 c.in_ok-salt.ensures.when.1
-    (omega (arith, c.if-tag_len-gt-MAX_LENGTH.false, c.tag_len.ensures))
-    c.in_err-hash.field-0.0 c.from_residual-in_err-hash.result c.in_err-hash.ensures
-    c.from_residual-in_err-hash.ensures.1
 
 pub returns : goal.returns
 returns c =
