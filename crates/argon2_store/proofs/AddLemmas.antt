@@ -1,5 +1,5 @@
 -- Names to which several are added.
-use Rattle.argon2_store.proofs.Imports.{◌≡◌, ℕ, List, [], ◌∷◌, ◌++◌, false, Some, Result, Ok, Err, refl, sym, Io, subst, ap, ◌∙◌, arith, inl, inr, map, Bor, get}
+use Rattle.argon2_store.proofs.Imports.{◌≡◌, ℕ, List, [], ◌∷◌, ◌++◌, false, Some, Result, Ok, Err, refl, sym, Io, subst, ap, ◌∙◌, arith, inl, map, Bor, get}
 use Rattle.argon2_store.proofs.Imports.{Any, on_ok_weaker, StoreError, Ghosts, Texts, AccountError, AddsAll, AddsName, WritesAll, IsPermutation, entry_of, Changes}
 use Rattle.argon2_store.proofs.Imports.{changed, HasNames, IsHonest, IsLong, IsOpen, StaysQuiet}
 use Rattle.std.proofs.lemmas.List.Sorted.{Contains-permutation, IsPermutation-map, IsPermutation-sym}
@@ -31,10 +31,8 @@ turn x y es before after (one, ((none, fine, has), kept), (two, ((gone, good, pu
         two,
         (
           (stays x.0 apart ∙ none, fine, held x.0 apart ∙ has),
-          λ q differs. elim (one_or_other q y.0) [
-            | inl is ↦ rw is (put ∙ sym at)
-            | inr far ↦ held q far ∙ kept q differs ∙ sym (stays q far)
-          ],
+          λ q differs.
+              let two = one_or_other q y.0 in let last = held q in let first = kept q differs in let s = stays q in grind arith,
         ),
         rest,
       ),

@@ -1,5 +1,5 @@
 -- What a call on an account file does if it is refused, writes nothing, or writes one name.
-use Rattle.argon2_store.proofs.Imports.{arith, ◌≡◌, inl, inr, ℕ, List, Option, Some, None, Result, Ok, Err, Bool, true, false, refl, sym, ap, subst, ◌∙◌, IsTrue, get, insert}
+use Rattle.argon2_store.proofs.Imports.{arith, ◌≡◌, inl, inr, ℕ, List, Option, Some, None, Result, Ok, Err, Bool, true, false, refl, sym, subst, ◌∙◌, IsTrue, get, insert}
 use Rattle.argon2_store.proofs.Imports.{Stream, is_some, option_map, string_bytes, ◌↔◌, IfErr, IsErr, IsErrAnd, MatchResult, OnErr, OnOk, length, iff_false, true_from_ne_false}
 use Rattle.argon2_store.proofs.Imports.{StoreError, Ghosts, AccountAnswer, AccountStep, Accepts, HasPassword, Terms, name_of, Texts, AccountError, NameUnknown, Refused}
 use Rattle.argon2_store.proofs.Imports.{IfOk, Answers, Call, DrawsForText, error_of, HasFailed, IfRefused, IsClosed, IsErrorAt, IsOfFile, Runs, Serves}
@@ -78,9 +78,7 @@ module _ {S : Type 0} {g : Ghosts S} (settled : Settled g) (old : AccountFile S 
         let read = reads names has in
         let left = leaves_quiet g settled (database_of old) (database_of new) names has.1 read.quiet in
         let never = λ (clean : IsTrusted old). iff_false (tests clean) shut in
-        let was_open = is_open in
-        let errors = is_of_file in
-        grind arith
+        let was_open = is_open in grind (arith, is_of_file)
 
     -- the store does nothing
     pub unread : NamesStay None old old
@@ -88,8 +86,7 @@ module _ {S : Type 0} {g : Ghosts S} (settled : Settled g) (old : AccountFile S 
         let left = leaves_kept g (database_of old) names (settled (database_of old)) has.1 in
         let itself = quiet_itself g (database_of old) in
         let never = λ (clean : IsTrusted old). iff_false (tests clean) shut in
-        let was_open = is_open in
-        grind arith
+        let was_open = is_open in grind arith
 
 -- a call that leaves the names
 pub ends_with : {S : Type 0} {g : Ghosts S} {X : Type 0} {answers : Result X FileError → Texts → Type 0} {May : Texts → Type 0}
@@ -157,15 +154,12 @@ module _ {S : Type 0} {g : Ghosts S} {old mid : AccountFile S g} {before : Texts
       → (done : Result (Unit {0}) StoreError) → OnOk done (IsTrusted new → answers (Ok x) to)
       → Changes g (database_of mid) (database_of new) before to long done
       → (r : Result X FileError) → r ≡ answered done x → (after : Texts) × Runs answers May long r old new before after
-  writes_all {to = to} x same failed first then (Ok _) step change r e = (
-    to,
-    rw e (ends same first then change (Ok x) to change.kept step tt tt (λ clean. (change.durable clean).1) (λ clean. tt)),
-  )
+  writes_all {to = to} x same failed first then (Ok _) step change r e =
+      (to, rw e (ends same first then change (Ok x) to change.kept step tt tt (λ clean. (change.durable clean).1) (λ clean. tt)))
   writes_all x same failed first then (Err f) step change r e = (
     before,
     rw e (ends same first then change (Err (unwritten f)) before change.kept (λ clean. failed f) refl
-        (grind arith) tt (λ clean.
-        let was = change.honest clean in
+        (grind arith) tt (λ clean. let was = change.honest clean in
         let sound = reads.has.1.sound was (reads.is_open refl was) in let why = change.cause clean in grind arith)),
   )
 
@@ -189,8 +183,8 @@ module _ {S : Type 0} {g : Ghosts S} {X : Type 0} (call : Call X) {old mid : Acc
       let read = reads before has in
       rw (err_is r (Account e) failed) (
         before,
-        ends_with (Err (Account e)) read.has read.terms read.quiet read.left (stays_so (Err e) shows answer before has)
-            (inl refl) tt (λ clean h. absurd (live read clean h)) (λ clean. tt),
+        ends_with (Err (Account e)) read.has read.terms read.quiet read.left
+            (stays_so (Err e) shows answer before has) (inl refl) tt (search (arith, live read)) (λ clean. tt),
       )
 
   -- an accepted call that writes nothing
@@ -201,7 +195,7 @@ module _ {S : Type 0} {g : Ghosts S} {X : Type 0} (call : Call X) {old mid : Acc
       let read = reads before has in (
         before,
         ends_with (Ok x) read.has read.terms read.quiet read.left (stays_so (Ok x) shows answer before has) (inl refl)
-            (λ clean. read.left clean (was_open read clean)) (λ clean h. absurd (live read clean h)) (λ clean. tt),
+            (λ clean. read.left clean (was_open read clean)) (search (arith, live read)) (λ clean. tt),
       )
 
   -- an accepted call that writes its name's text
@@ -212,12 +206,7 @@ module _ {S : Type 0} {g : Ghosts S} {X : Type 0} (call : Call X) {old mid : Acc
       (changed names (name_of (call (Ok x))) p) (IsLong (name_of (call (Err NameUnknown)))) done) where
     moves : (before : Texts) → HasNames old before → IsTrusted new
         → AccountStep (terms_of old) before (call (Ok x)) (changed before (name_of (call (Ok x))) p)
-    moves before has clean =
-        let read = reads before has in
-        let had = shows before read.has ((change before read.has).honest clean) ∙ ap (option_map string_bytes) is in (
-          rw (get-changed before (name_of (call (Ok x))) p, had, ← read.terms) answer,
-          others_kept before (name_of (call (Ok x))) p,
-        )
+    moves before has clean = search (arith, get-changed, others_kept)
 
     pub writes : (r : Result X FileError) → r ≡ answered done x → Serves call r old new
     writes r e before has =
@@ -232,12 +221,12 @@ module _ {S : Type 0} {g : Ghosts S} {X : Type 0} (call : Call X) {old mid : Acc
     keeps settled failed tests shut y kept shown before has =
         let read = reads before has in
         let wrote = change before read.has in
-        let stayed = kept_err _ done failed wrote.kept in (
+        let stayed = kept_err _ done failed wrote.kept in
+        let left = leaves_kept g (database_of new) before (settled (database_of new)) stayed.1 in (
           before,
           ends read same (inl refl) (λ now. inr (x, moves before has now)) wrote (Ok y) before stayed
               (λ clean. stays_so (Ok y) shown kept before has (wrote.honest clean)) tt tt
-              (λ clean. leaves_kept g (database_of new) before (settled (database_of new)) stayed.1 clean
-              (true_from_ne_false _ (iff_false (tests clean) shut))) (λ clean. tt),
+              (λ clean. left clean (true_from_ne_false _ (iff_false (tests clean) shut))) (λ clean. tt),
         )
 
 -- a call on a file that can't be read

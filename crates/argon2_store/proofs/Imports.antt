@@ -1,10 +1,10 @@
 -- The words that the proofs of this crate use.
 pub use Rattle.std.proofs.Common.{Bool, Equal, Err, Greater, IsPermutation, IsSome, IsTrue, IsUtf8, Less, List, None, Ok, Option, Ordering, Result, Some, T, [], ap, append-nil}
 pub use Rattle.std.proofs.Common.{append_assoc, ap₂, arith, cond, false, get_or, inl, inr, is_eq, length, lit<, ltb, map, not, refl, rules, slice_index, string_bytes, subst}
-pub use Rattle.std.proofs.Common.{subst₂, suc, sym, take, true, unwrap_or, zero, zero-add, ℕ, ◌*◌, ◌++◌, ◌+◌, ◌-◌, ◌<◌, ◌^◌, ◌↔◌, ◌∙◌, ◌∷◌, ◌≡◌, ◌≢◌, ◌≤◌, ◌⊎◌}
+pub use Rattle.std.proofs.Common.{subst₂, sym, take, true, unwrap_or, ℕ, ◌++◌, ◌+◌, ◌<◌, ◌^◌, ◌↔◌, ◌∙◌, ◌∷◌, ◌≡◌, ◌≢◌, ◌≤◌, ◌⊎◌}
 pub use Rattle.std.proofs.Math.Logic.{∥∥₁_elim, ∥∥₁_map}
 pub use Rattle.std.proofs.lemmas.Bool.{and_parts, both_ways, cases_Bool, cases_eq, cases_lt, iff_false, true_from_ne_false}
-pub use Rattle.std.proofs.lemmas.Bool.Decides.{Decides-not, nat_tests}
+pub use Rattle.std.proofs.lemmas.Bool.Decides.{nat_tests}
 pub use Rattle.std.proofs.lemmas.Cmp.{tied_itself}
 pub use Rattle.std.proofs.lemmas.Fmt.{IsAscii-decimal}
 pub use Rattle.std.proofs.lemmas.List.{get_or-map, length-map, map_more, nil_from_length, reverse-append, take-map, take_all}
@@ -21,7 +21,7 @@ pub use Rattle.std.specs.FinMap.Entries.{below_all}
 pub use Rattle.std.specs.List.{AllByRecursion, flat_map, list_all, range_with_len}
 pub use Rattle.std.specs.Option.{is_some, option_copied, option_map}
 pub use Rattle.std.specs.Ordering.{eq_by_cmp, is_lt, nat_cmp, ordering_reverse, ordering_then}
-pub use Rattle.std.specs.Prelude.{All, Any, IfErr, IfOk, IfSome, IsErr, IsErrAnd, IsOkAnd, MatchResult, OnErr, OnOk, String, if◌then◌else◌, ⊤}
+pub use Rattle.std.specs.Prelude.{All, Any, IfErr, IfOk, IfSome, IsErr, IsErrAnd, IsOkAnd, MatchResult, OnErr, OnOk, String, ⊤}
 pub use Rattle.std.specs.Str.{bytes_eq}
 pub use Rattle.sqlite_disk.specs.Disk.{MoreFaults}
 pub use Rattle.sqlite_pages.specs.PageMap.{PageMap}
@@ -41,7 +41,7 @@ pub use Rattle.sqlite_store.specs.Unopened.{files_of, image, state_of, wanted_by
 pub use Rattle.sqlite_store.specs.declared.store.FileStore.{FileStore}
 pub use Rattle.sqlite_trees.proofs.Doubt.{clean_of, no_doubt}
 pub use Rattle.sqlite_trees.specs.Objects.{catalog_tree}
-pub use Rattle.sqlite_trees.specs.Tree.{IsIndex, Trees, from_key, insert_entry, no_trees, order_of, remove_entry, sought}
+pub use Rattle.sqlite_trees.specs.Tree.{IsIndex, Trees, from_key, insert_entry, order_of, remove_entry, sought}
 pub use Rattle.sqlite_trees.specs.View.{Advances, IsClean, IsFailure, IsOrdered, IsStorable, KeepsSchema, OnlyWrites, SetsTree, View, doubt, is_int, with_cursor}
 pub use Rattle.sqlite_trees.specs.declared.error.StoreError.{StoreError}
 pub use Rattle.sqlite_trees.specs.declared.error.StoreError.TheVariants.{Io}
@@ -57,7 +57,7 @@ pub use Rattle.sqlite_wal.proofs.CleanLemmas.{both_clean, halves}
 pub use Rattle.sqlite_wal.proofs.LogLemmas.{SeenMayStay}
 pub use Rattle.sqlite_wal.proofs.PartLemmas.{held_is_part, part_within, slice_index-part}
 pub use Rattle.sqlite_wal.specs.Files.{outcomes, seen_image}
-pub use Rattle.sqlite_wal.specs.Format.{IsSigned, be32, checksum, is_big, part}
+pub use Rattle.sqlite_wal.specs.Format.{be32, checksum, is_big, part}
 pub use Rattle.sqlite_wal.specs.Recovery.{AreWhole, Image, IsIgnored, Replays, header, pages_after}
 pub use Rattle.argon2.specs.declared.login.answers.Accepted.TheVariants.{Kept, Rehashed}
 pub use Rattle.argon2_accounts.proofs.AccountLemmas.{err_is, is_other_text, is_text, taken}
@@ -84,4 +84,4 @@ pub use Rattle.argon2_store.specs.Table.{Changes, HasBegun, HasNames, HasSome, H
 pub use Rattle.argon2_store.specs.Table.{Writes, changed}
 pub use Rattle.argon2_store.specs.declared.account_file.AccountFile.{AccountFile}
 pub use Rattle.argon2_store.specs.declared.error.FileError.{FileError}
-pub use Rattle.argon2_store.specs.declared.error.FileError.TheVariants.{Account, Closed, TooLong}
+pub use Rattle.argon2_store.specs.declared.error.FileError.TheVariants.{Account, Closed}

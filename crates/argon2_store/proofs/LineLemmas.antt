@@ -1,9 +1,9 @@
 -- Rows of names, one by one, and their lines.
-use Rattle.argon2_store.proofs.Imports.{◌≡◌, ℕ, List, [], ◌∷◌, ◌++◌, map, append_assoc, append-nil, All, Option, Some, true, false, refl, sym, ap, subst, ◌∙◌, entries}
+use Rattle.argon2_store.proofs.Imports.{arith, ◌≡◌, ℕ, List, [], ◌∷◌, ◌++◌, map, append_assoc, append-nil, All, Option, Some, true, false, refl, sym, ap, ◌∙◌, entries}
 use Rattle.argon2_store.proofs.Imports.{Row, Texts, plain, Index, Forward, order_of, sought, Advances, with_cursor, FitLines, breaks_line, line}
 use Rattle.argon2_store.proofs.Imports.{lines, lines_of, row_of, rows_of}
-use Rattle.std.proofs.lemmas.List.Elements.{All-nil, All-push, All-same}
-use Rattle.std.proofs.KnownBytes.{Appends-kept, Appends-nil, Appends-trans}
+use Rattle.std.proofs.lemmas.List.Elements.{All-nil, All-push}
+use Rattle.std.proofs.KnownBytes.{Appends-nil, Appends-trans}
 use Rattle.std.specs.Io.KnownBytes.{Appends, Keeps}
 use Rattle.sqlite_trees.specs.View.{View as Shown}
 use Rattle.sqlite_store.proofs.RowLemmas.{from_key-none}
@@ -60,8 +60,7 @@ next_row view first now next names old mid new row writing moves wrote =
       left = fs;
       all = writing.all ∙ ap (λ l. writing.done ++ l) cut ∙ sym (append_assoc writing.done (e ∷ []) fs);
       rows = ap (λ (w : Shown). w.cursors 0) moves.2 ∙ ap Some rest;
-      written = subst (Appends old new) (sym (lines-append view writing.done (e ∷ [])
-          ∙ ap (λ l. lines view writing.done ++ l) (append-nil (line view e))))
+      written = rw (lines-append view writing.done (e ∷ []), append-nil (line view e))
           (Appends-trans old mid new _ _ writing.written (wrote e at).0);
       fit = All-push (Fits view) writing.done e writing.fit (wrote e at).1;
     }
@@ -75,9 +74,4 @@ its_name view first now next names old mid row writing moves =
 pub all_lines : (view : View) (first now next : Shown) (names : Texts) (old mid new : Option (List ℕ)) (row : Row)
     → IsWriting view first now names old mid → Advances now next 0 row false → Keeps mid new
     → Appends old new (lines_of view names) × FitLines view names
-all_lines view first now next names old mid new row writing ended kept =
-    let none = no_more writing.left (sym writing.rows ∙ ended.0) in
-    let all : entries names ≡ writing.done = writing.all ∙ ap (λ l. writing.done ++ l) none ∙ append-nil writing.done in (
-      subst (λ es. Appends old new (lines view es)) (sym all) (Appends-kept old mid new _ writing.written kept),
-      All-same (Fits view) (entries names) writing.done all writing.fit,
-    )
+all_lines view first now next names old mid new row writing ended kept = search (arith, no_more, append-nil)

@@ -2,8 +2,8 @@
 use Rattle.argon2_store.proofs.Imports.{◌≡◌, ℕ, List, [], ◌∷◌, inl, inr, refl, sym, ap, ap₂, subst, subst₂, ◌∙◌, arith, ∥∥₁_elim, ∥∥₁_map, Row, outcomes}
 use Rattle.argon2_store.proofs.Imports.{seen_image, AreWhole, Image, PageMap, IsSoundFile, in_use, IsBlankFile, IsUnreadable, Recovers, RecoversAs}
 use Rattle.argon2_store.proofs.Imports.{catalog_tree, Trees, rows_at, state, all_shapes, listed_from, FileStore, FoundIn}
-use Rattle.argon2_store.proofs.Imports.{IsUnstarted, MayHave, StandsFor, account, ◌≤◌, Option, None, length, slice_index, unwrap_or, zero-add, ◌-◌}
-use Rattle.argon2_store.proofs.Imports.{◌*◌, Some, cases_eq, plain, column, be32, part, IsIgnored, Replays, pages_after, part_within, slice_index-part, coded_list}
+use Rattle.argon2_store.proofs.Imports.{IsUnstarted, MayHave, StandsFor, account, ◌≤◌, Option, None, length, slice_index, unwrap_or}
+use Rattle.argon2_store.proofs.Imports.{Some, cases_eq, plain, be32, part, IsIgnored, Replays, pages_after, part_within, slice_index-part, coded_list}
 use Rattle.argon2_store.proofs.Imports.{range_with_len, length-map, reserved, sealed, stored_size, length-sealed, recovers_once, Index, IsFile, recovers}
 use Rattle.argon2_store.proofs.Imports.{same_listing, file_trees, Texts, HoldsNames, IsAfterOpens, LeavesNames, rows_of, Holds}
 use Rattle.sqlite_disk.specs.declared.Disk.{Ghosts}
@@ -13,7 +13,7 @@ use Rattle.argon2_store.specs.Table.{catalog}
 use Rattle.sqlite_wal.proofs.RecoveryLemmas.{recovers_once as raw_once, replays_once}
 use Rattle.sqlite_wal.proofs.AppendLemmas.{page_from_pages, some_value}
 use Rattle.sqlite_wal.specs.PageSize.{IsPageSize}
-use Rattle.sqlite_pool.specs.Header.{first_page, first_page_byte}
+use Rattle.sqlite_pool.specs.Header.{first_page}
 use Rattle.std.proofs.lemmas.List.FromFn.{length-range_with_len}
 use mathlib.Core.HLevel.{⊥_prop}
 use base.Stored.{Gv, gcons, gnil, gnum, num}
@@ -26,7 +26,7 @@ use Rattle.sqlite_btree.proofs.StoredLemmas.{stored_root_live}
 use Rattle.sqlite_store.specs.Catalog.{describes, is_about, root_in}
 use Rattle.sqlite_store.specs.Db.{roots_of, trees_in}
 use Rattle.sqlite_store.specs.declared.catalog.Wanted.{Wanted}
-use Rattle.argon2_store.proofs.OpenLemmas.{left_table}
+use Rattle.argon2_store.proofs.OpenLemmas.{left_table, stands_for}
 use Rattle.argon2_store.proofs.RowLemmas.{rows_of-once}
 use Rattle.sqlite_wal.specs.Recovery as raw
 use Rattle.sqlite_value.specs.contracts.row.Row as row
@@ -73,13 +73,7 @@ module _ (w : Wanted) (rest : List Wanted) (same : listed_from 0 (w ∷ rest) �
 
   describes-same : (entry : Row) → describes w entry ≡ describes account entry
   unfolding describes is_about
-  describes-same entry =
-      let is = rw shape at same in
-      let kind : column (w.row) 0 ≡ column (account.row) 0 = cc is in
-      let name : column (w.row) 1 ≡ column (account.row) 1 = cc is in
-      let table : column (w.row) 2 ≡ column (account.row) 2 = cc is in
-      let sql : column (w.row) 3 ≡ column (account.row) 3 = cc is in
-      rw (shape, kind, name, table, sql)
+  describes-same entry = search (arith, shape)
 
   root-same : (entries : List Row) → root_in entries w ≡ root_in entries account
   root-same [] = refl
@@ -115,15 +109,11 @@ front : (size : ℕ) (img : Image) (q : PageMap) → raw.Recovers size img q →
 front size img q found whole some none =
     let (page, is) = some_value (q 1) whole.first in
     let zero = replays_once size img.log found.frames 0 found.replays none in
-    let alone : pages_after size img.log img.db 0 1 ≡ Some page =
-    ap (λ (p : PageMap). p 1) (ap (pages_after size img.log img.db) (sym zero) ∙ found.gives) ∙ is in
-    let start : (1 - 1) * size ≡ 0 = omega arith in
-    let head : part img.db 0 size ≡ page =
-    ap (λ (at : ℕ). part img.db at size) (sym start) ∙ (page_from_pages size img.log img.db 0 1 page alone).0 in
+    let alone : pages_after size img.log img.db 0 1 ≡ Some page = rw (zero, is) at (ap (λ (p : PageMap). p 1) found.gives) in
+    let head : part img.db 0 size ≡ page = search (arith, page_from_pages size img.log img.db 0 1 page alone) in
     let long = part_within img.db 0 size (omega arith) (ap length head ∙ whole.sized 1 page is) in (
       omega arith,
-      ap (λ (o : Option (List ℕ)). slice_index (unwrap_or o []) 0) is ∙ ap (λ (b : List ℕ). slice_index b 0) (sym head)
-          ∙ slice_index-part img.db 0 size 0 (omega arith) ∙ ap (slice_index img.db) (zero-add 0),
+      rw (is, ← head) (slice_index-part img.db 0 size 0 (omega arith)),
     )
 
 -- a sound file of any size of a page begins with the S of SQLite's magic, also as pages of 4096 bytes
@@ -147,8 +137,7 @@ magic size img pages recs large sound q found whole =
 
 first_length : length (sealed (first_page 4096)) ≡ 4096
 unfolding first_page
-first_length = length-sealed (first_page 4096)
-    ∙ ap stored_size (length-map (range_with_len 0 4096) (first_page_byte 4096) ∙ length-range_with_len 0 4096)
+first_length = search (arith, length-sealed, length-map, range_with_len, length-range_with_len)
 
 not_begun : (img : Image) → IsBlankFile 4096 img → (q : PageMap) → raw.Recovers 4096 img q → AreWhole 4096 q → ¬ (begin q ≡ 83)
 not_begun img (inl none) q found whole is = omega (arith, none, found.present)
@@ -160,10 +149,7 @@ not_begun img (inr blank) q found whole is =
 -- what a file that carries the pages of another has is not new to that
 carried_back : (old new : Image) → RecoversAs 4096 old new → (pages : PageMap) → Recovers 4096 new pages
     → (q : PageMap) → raw.Recovers 4096 old q → Recovers 4096 old pages
-carried_back old new same pages recs q found =
-    let one : q ≡ recs.stored = raw_once 4096 new q recs.stored (same q found) recs.found in
-    let was : raw.Recovers 4096 old recs.stored = subst (raw.Recovers 4096 old) one found in
-    search arith
+carried_back old new same pages recs q found = search (arith, raw_once)
 
 -- a database of the table is not one that is still to be begun
 begun : (size : ℕ) (schema : List Wanted) (img : Image) (pages : PageMap) → 504 ≤ size → Recovers size img pages
@@ -196,8 +182,7 @@ near_rows img first (inl (size, schema, pages, allowed, recs, file, list, is)) =
     )
 near_rows img first (inr (unbegun, none)) = (
   λ rows found never. elim found [
-    | inl there ↦ ∥∥₁_elim there.2 ⊥_prop
-        (λ file. begun 4096 (account ∷ []) img there.0 (omega arith) there.1 file refl unbegun)
+    | inl there ↦ ∥∥₁_elim there.2 ⊥_prop (λ file. begun 4096 _ img there.0 (omega arith) there.1 file refl unbegun)
     | inr also ↦ never (also.1 ∙ sym none)
   ],
   λ some _ _ _. absurd (some none),
@@ -217,8 +202,7 @@ module _ (first : List Row) (old new : Image) (near : Near first old) where
         | inr none ↦ ∥∥₁_elim none.0 ⊥_prop (λ unbegun. elim unbegun [
           | inl blank ↦
               let some : ¬ (first ≡ []) = λ is. never (none.1 ∙ sym is) in
-              let gone : IsUnreadable 4096 old = λ q was whole. near.1 some q was whole (not_begun new blank q (same q was) whole)
-              in
+              let gone : IsUnreadable 4096 old = λ q was full. near.1 some q was full (not_begun new blank q (same q was) full) in
               near.0 [] (inr (∣ inl (subst (IsBlankFile 4096) (unread gone) blank) ∣₁, refl)) (λ is. some (sym is))
           | inr bare ↦ back bare.0 bare.1
               (λ was. near.0 rows (inr (∣ inr (bare.0, was, bare.2, bare.3) ∣₁, none.1)) never)
@@ -255,8 +239,7 @@ near_opens first (found ∷ older) before left (earlier, stands) near =
 stable : (a b : Gv) → ¬ ¬ (a ≡ b) → a ≡ b
 stable gnil gnil h = refl
 stable (gnum m) (gnum n) h = elim (cases_eq m n) [ inl same ↦ ap gnum same | inr other ↦ absurd (h (λ e. other (ap num e))) ]
-stable (gcons a d) (gcons b c) h =
-    ap₂ gcons (stable a b (λ never. h (λ e. never (cc)))) (stable d c (λ never. h (λ e. never (cc))))
+stable (gcons a d) (gcons b c) h = ap₂ gcons (stable a b (λ never. h (λ e. never cc))) (stable d c (λ never. h (λ e. never cc)))
 stable a b h = absurd (h (λ e. cc))
 
 rows_stable : (a b : List Row) → ¬ ¬ (a ≡ b) → a ≡ b
@@ -291,14 +274,7 @@ names_stay opens before left after names found held holds = rows_of-once found n
 pub leaves_names : {D : Type 0} (g : Ghosts D) (old new : D × D) → LeavesNames g old new
 leaves_names g old new synced unharmed clean left may opens before after =
     let found = seen_image g old.0 old.1 in
-    let same : (img : Image) → outcomes g old.0 old.1 img → img ≡ found =
-    λ img was. ap₂ (λ (a b : List ℕ). record { log = a; db = b }) (synced.0 img.log was.0) (synced.1 img.db was.1) in
-    let stands : StandsFor (λ img. img ≡ found) found left = elim (unharmed clean left may) [
-      | inl was ↦ inl (same left was)
-      | inr more ↦ inr (elim more [
-        | inl pages ↦ inl (pages.0, λ none. same left (pages.1 none))
-        | inr rows ↦ inr rows
-      ])
-    ] in
-    let chain : IsAfterOpens (found ∷ opens) before left = (after, stands) in
-    (chain, names_stay (found ∷ opens) before left chain)
+    let stands = stands_for (outcomes g old.0 old.1) (λ img. img ≡ found) found found left (λ img was.
+    ap₂ (λ (a b : List ℕ). record { log = a; db = b }) (synced.0 img.log was.0) (synced.1 img.db was.1)) refl
+    (unharmed clean left may) in
+    ((after, stands), names_stay (found ∷ opens) before left (after, stands))

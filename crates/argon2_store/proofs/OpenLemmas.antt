@@ -1,9 +1,9 @@
 -- A store that is ready, and what an open that fails leaves.
-use Rattle.argon2_store.proofs.Imports.{◌≡◌, ℕ, Bool, List, [], ◌∷◌, inl, inr, refl, sym, ap, ap₂, subst, subst₂, ◌∙◌, arith, IsTrue, ◌↔◌, ∥∥₁_elim, ∥∥₁_map, Row}
+use Rattle.argon2_store.proofs.Imports.{◌≡◌, ℕ, Bool, List, [], ◌∷◌, inl, inr, refl, sym, ap, subst, subst₂, ◌∙◌, arith, IsTrue, ◌↔◌, ∥∥₁_elim, ∥∥₁_map, Row}
 use Rattle.argon2_store.proofs.Imports.{outcomes, seen_image, AreWhole, Image, PageMap, IsSoundFile, in_use, IsBlankFile, IsUnreadable, Recovers, RecoversAs}
 use Rattle.argon2_store.proofs.Imports.{RecoversAs-from, readable, trimmed_whole, clean_if_left, clean_is, size_is_allowed, clean_of, no_doubt, catalog_tree, Trees}
 use Rattle.argon2_store.proofs.Imports.{IsClean, rows_at, not_broken, settled_at, both_clean, SeenMayStay, files, reading, schema_in, schema_of, state, view}
-use Rattle.argon2_store.proofs.Imports.{catalog_rows, all_shapes, listed_from, kept_schema, files_of, image, state_of, wanted_by, FileStore, AreUnharmed, FoundIn}
+use Rattle.argon2_store.proofs.Imports.{catalog_rows, listed_from, files_of, image, state_of, wanted_by, FileStore, AreUnharmed, FoundIn}
 use Rattle.argon2_store.proofs.Imports.{IsTableOf, IsUnstarted, MayHave, StandsFor, account, IsUnwritten, recovers}
 use Rattle.sqlite_disk.specs.declared.Disk.{Ghosts}
 use Rattle.sqlite_wal.specs.Reads.{AreClean, OnlyReads}
@@ -13,7 +13,7 @@ use Rattle.sqlite_store.proofs.BuildLemmas.{new_is_empty}
 use Rattle.sqlite_store.specs.Calls.{IsQuietCall}
 use Rattle.sqlite_pool.specs.declared.pool.Pool.{Pool}
 use Rattle.sqlite_store.specs.FileStore.{IsReady}
-use Rattle.sqlite_store.specs.Listing.{all_trees, all_shapes}
+use Rattle.sqlite_store.specs.Listing.{all_trees}
 use Rattle.sqlite_store.specs.declared.store.open.Unopened.{Unopened}
 use Rattle.argon2_store.specs.Table.{catalog}
 use Rattle.sqlite_pool.specs.File.{in_use}
@@ -24,25 +24,17 @@ use Rattle.sqlite_store.specs.Unopened as below
 pub fresh : {D : Type 0} {g : Ghosts D} (it : FileStore D g) → IsReady it → schema_of it ≡ account ∷ [] → IsClean (view it)
     → IsUnwritten (view it)
 unfolding catalog
-fresh it ready is clean = record {
-  unbroken = ready.sound clean;
-  settled = ready.clean;
-  shapes = sym (ap (λ o. all_shapes (kept_schema o it.schema.items)) ready.unaltered);
-  listed = rw (clean_of _ clean) (catalog_rows _ (schema_of it) _ ∙ ap (listed_from 0) is);
-}
+fresh it ready is clean = search (arith, clean_of, catalog_rows)
 
 -- ---- an open that fails
 
 -- what stands for two files stands for those that they were before they were read
-stands_for : (was first : Image → Type 0) (i j left : Image) → ((l : Image) → was l → first l) → i ≡ j → StandsFor was i left
+pub stands_for : (was first : Image → Type 0) (i j left : Image) → ((l : Image) → was l → first l) → i ≡ j → StandsFor was i left
     → StandsFor first j left
 stands_for was first i j left within same (inl may) = inl (within left may)
-stands_for was first i j left within same (inr (inl pages)) = inr (inl (
-  subst (λ k. RecoversAs 4096 k left) same pages.0,
-  λ none. within left (pages.1 (subst (IsUnreadable 4096) (sym same) none)),
-))
-stands_for was first i j left within same (inr (inr rows)) =
-    inr (inr (rows.0, subst (λ k. ∥ FoundIn 4096 k (rows.0) ∥₁) same rows.1, rows.2))
+stands_for was first i j left within same (inr (inl pages)) =
+    subst (λ k. StandsFor first k left) same (inr (inl (pages.0, λ none. within left (pages.1 none))))
+stands_for was first i j left within same (inr (inr rows)) = subst (λ k. StandsFor first k left) same (inr (inr rows))
 
 -- the log was read before
 pub seen_same : {D : Type 0} {g : Ghosts D} (old mid db : D) → OnlyReads g old mid → seen_image g mid db ≡ seen_image g old db
@@ -86,28 +78,21 @@ module _ {D : Type 0} {g : Ghosts D} (old : Unopened D g) (sized : (state_of old
 pub made : {D : Type 0} {g : Ghosts D} (old mid : Unopened D g) (sized : (state_of old).page_size ≡ 4096)
     → (state_of mid).page_size ≡ (state_of old).page_size → (left : Image) → wanted_by mid ≡ account ∷ []
     → ∥ IsUnstarted (state_of old).page_size (image old) ∥₁ → below.IsOnTheWay mid left → Stays old sized left
-made old mid sized same left wants none way = inr (inr (
-  [],
-  ∣ inr (subst (λ n. ∥ IsUnstarted n (image old) ∥₁) sized none, refl) ∣₁,
-  table_there mid (same ∙ sized) left wants way,
-))
+made old mid sized same left wants none way =
+    inr (inr ([], ∣ inr ((rw sized at none), refl) ∣₁, table_there mid (same ∙ sized) left wants way))
 
 -- after the schema was read
 module _ {D : Type 0} {g : Ghosts D} (old mid : Unopened D g) (rows : List Row) (listed : below.IsCatalogOf old mid rows)
     (sized : (state_of mid).page_size ≡ (state_of old).page_size) where
   pub bare : rows ≡ [] → ∥ IsUnstarted (state_of old).page_size (image old) ∥₁
-  bare none = ∥∥₁_map listed.shows.clean.sound (λ sound. inr (
-    listed.pages,
-    listed.found,
-    subst₂ IsSoundFile sized listed.shows.committed sound,
-    sym listed.lists ∙ none,
-  ))
+  bare none = ∥∥₁_map listed.shows.clean.sound (λ sound.
+      inr (listed.pages, listed.found, subst₂ IsSoundFile sized listed.shows.committed sound, sym listed.lists ∙ none))
 
   pub after : below.Opens old (state_of mid) → (left : Image) → below.IsAsBefore mid left → below.IsAsBefore old left
   after opens left is = record {
     same = elim is.same [
       | inl may ↦ (opens.crash left may).same
-      | inr same ↦ inr (λ pages was. subst (λ n. RecoversAs n (image mid) left) sized same pages
+      | inr same ↦ inr (λ pages was. (rw sized at same) pages
           (RecoversAs-from _ (image old) (image mid) listed.pages listed.found listed.again pages was))
     ];
     unread = λ none. absurd (readable _ (image old) listed.pages listed.found none);
@@ -129,8 +114,7 @@ module _ {D : Type 0} {g : Ghosts D} where
   module _ {log db mid_log mid_db : D} (reads : OnlyReads g log mid_log) (also : OnlyReads g db mid_db) (it : Unopened D g)
       (same : files_of it ≡ (mid_log, mid_db)) where
     pub image_is : image it ≡ seen_image g log db
-    image_is = ap (λ (p : D × D). seen_image g p.0 p.1) same
-        ∙ ap₂ (λ (a b : List ℕ). record { log = a; db = b }) reads.seen also.seen
+    image_is = search arith
 
     pub was_clean : IsTrue (state_of it).is_clean → AreClean g log db
     was_clean clean = both_clean (g.is_clean log) (g.is_clean db) (g.is_clean mid_log) (g.is_clean mid_db) reads.clean
@@ -140,8 +124,7 @@ module _ {D : Type 0} {g : Ghosts D} where
     pub probed : (b : Bool) (size : ℕ) → (state_of it).page_size ≡ size
         → (AreClean g mid_log mid_db → (IsTrue b ↔ IsBlankFile size (seen_image g log db)))
         → IsTrue b → IsTrue (state_of it).is_clean → IsBlankFile (state_of it).page_size (image it)
-    probed b size sized probe new clean = subst₂ IsBlankFile (sym sized) (sym image_is)
-        ((probe (is_clean it.pool (mid_log, mid_db) same clean)).0 new)
+    probed b size sized probe new clean = search (arith, image_is, is_clean)
 
     pub unharmed : (state_of it).page_size ≡ 4096 → (end : Unopened D g) (new : D × D) → new ≡ files_of end
         → ((state_of it).page_size ≡ 4096 → IsTrue (state_of end).is_clean → (left : Image) → (state_of end).may_leave left

@@ -1,7 +1,7 @@
 -- Maps of names, and their rows in a tree: one more, one less, sought by a name, and read one by one.
 use Rattle.argon2_store.proofs.Imports.{IfSome, IsUtf8, AreTexts, changed, subst, ◌≡◌, ◌≢◌, ◌⊎◌, ℕ, List, Option, Some, None, Bool, true, false, cond, inl, inr, refl, sym, ap, ◌∙◌}
 use Rattle.argon2_store.proofs.Imports.{bytes_eq-Decides, nat_list_cmp_total, get, get-insert, get-remove, insert, remove, same_entries_map, same_map, slice_cmp-IsAntisymmetric}
-use Rattle.argon2_store.proofs.Imports.{nat_cmp-IsAntisymmetric, bytes_eq, KeepsOthers, Texts, ap₂, ◌+◌, ◌^◌, ◌≤◌, arith, length, [], ◌∷◌, map, T, not}
+use Rattle.argon2_store.proofs.Imports.{nat_cmp-IsAntisymmetric, bytes_eq, KeepsOthers, Texts, ◌+◌, ◌^◌, ◌≤◌, arith, length, [], ◌∷◌, map, T, not}
 use Rattle.argon2_store.proofs.Imports.{Ordering, Less, Equal, Greater, is_eq, and_parts, All, tied_itself, slice_cmp, get-entries, entries, entries-insert}
 use Rattle.argon2_store.proofs.Imports.{entries_sorted, find, put, is_sorted, below_all, AllByRecursion, eq_by_cmp, is_lt, nat_cmp, ordering_reverse}
 use Rattle.argon2_store.proofs.Imports.{ordering_then, Text, plain, entry_cmp, Row, column, number, row_cmp, value_cmp-Text, insert_entry, remove_entry, IsStorable, is_int}
@@ -20,8 +20,7 @@ use Rattle.std.specs.Float.Ieee
 -- names of which one is changed: it has what it was given, and the others keep what they have
 get-at : (m : Texts) (n q : List ℕ) (o : Option (List ℕ)) → get (changed m n o) q ≡ cond (bytes_eq q n) o (get m q)
 get-at m n q None = get-remove nat_list_cmp_total m n q ∙ ap (λ b. cond b None (get m q)) (is_eq-slice_cmp q n)
-get-at m n q (Some text) =
-    get-insert nat_list_cmp_total m n text q ∙ ap (λ b. cond b (Some text) (get m q)) (is_eq-slice_cmp q n)
+get-at m n q (Some text) = search (arith, get-insert nat_list_cmp_total m n text q, is_eq-slice_cmp q n)
 
 pub get-changed : (m : Texts) (n : List ℕ) (o : Option (List ℕ)) → get (changed m n o) n ≡ o
 get-changed m n o = get-at m n n o ∙ ap (λ b. cond b o (get m n)) ((bytes_eq-Decides n n).1 refl)
@@ -36,10 +35,8 @@ one_or_other q n = let test = bytes_eq-Decides q n in grind arith
 pub changed_back : (m changed_m : Texts) (n : List ℕ) (o : Option (List ℕ)) → KeepsOthers n m changed_m → get m n ≡ o
     → changed changed_m n o ≡ m
 changed_back m changed_m n o kept has =
-    same_map nat_list_cmp_total (slice_cmp-IsAntisymmetric nat_cmp-IsAntisymmetric) _ _ (λ q. elim (one_or_other q n) [
-      | inl is ↦ rw is (get-changed changed_m n o ∙ sym has)
-      | inr far ↦ others_kept changed_m n o q far ∙ kept q far
-    ])
+    same_map nat_list_cmp_total (slice_cmp-IsAntisymmetric nat_cmp-IsAntisymmetric) _ _ (λ q.
+    let at = get-at changed_m n q o in let stays = kept q in let test = bytes_eq-Decides q n in grind arith)
 
 -- a change of a name that was taken out is a change of the name
 pub changed-remove : (m : Texts) (n : List ℕ) (o : Option (List ℕ)) → changed (remove m n) n o ≡ changed m n o
@@ -49,13 +46,8 @@ changed-remove m n o = changed_back (changed m n o) (remove m n) n o
 -- names that are changed still are texts
 pub texts_changed : (names : Texts) (name : List ℕ) (o : Option (List ℕ)) → AreTexts names → IsUtf8 name
     → IfSome o IsUtf8 → AreTexts (changed names name o)
-texts_changed names name o texts named good other text has = elim (one_or_other other name) [
-  | inl is ↦ (
-    subst IsUtf8 (sym is) named,
-    rw (sym (get-changed names name o) ∙ ap (get (changed names name o)) (sym is) ∙ has) at good,
-  )
-  | inr far ↦ texts other text (sym (others_kept names name o other far) ∙ has)
-]
+texts_changed names name o texts named good other text has =
+    let at = get-at names name other o in let was = texts other text in let test = bytes_eq-Decides other name in grind arith
 
 -- ---- the rows of names are those of one map
 
@@ -63,11 +55,7 @@ one_list : (es fs : List (List ℕ × List ℕ)) → map row_of es ≡ map row_o
 one_list [] [] one = refl
 one_list [] (f ∷ fs) one = absurd cc
 one_list (e ∷ es) [] one = absurd cc
-one_list (e ∷ es) (f ∷ fs) one =
-    let name : e.0 ≡ f.0 = cc in
-    let text : e.1 ≡ f.1 = cc in
-    let rest : map row_of es ≡ map row_of fs = cc in
-    ap₂ (λ x l. x ∷ l) (ap₂ (λ n t. (n, t)) name text) (one_list es fs rest)
+one_list (e ∷ es) (f ∷ fs) one = let rest = one_list es fs cc in grind arith
 
 pub rows_of-once : (a b : Texts) → rows_of a ≡ rows_of b → a ≡ b
 rows_of-once a b one = same_entries_map a b (one_list (entries a) (entries b) one)
@@ -80,8 +68,7 @@ order = slice_cmp nat_cmp
 -- two rows compare by their names, and then by their texts
 row_cmp-row_of : (e f : List ℕ × List ℕ) → entry_cmp plain (row_of e) (row_of f)
     ≡ ordering_then (order e.0 f.0) (row_cmp (Text e.1 ∷ []) (Text f.1 ∷ []))
-row_cmp-row_of e f = entry_cmp-plain (row_of e) (row_of f)
-    ∙ ap (λ o. ordering_then o (row_cmp (Text e.1 ∷ []) (Text f.1 ∷ []))) (value_cmp-Text e.0 f.0)
+row_cmp-row_of e f = search (arith, entry_cmp-plain, ordering_then, row_cmp, value_cmp-Text)
 
 untied : (b : Bool) (v : List ℕ) (o : Option (List ℕ)) → cond b (Some v) o ≡ None → (b ≡ false) × (o ≡ None)
 untied b v o h = grind arith
@@ -108,9 +95,7 @@ insert_entry-map k v (e ∷ es) none =
 
 pub insert_entry-rows_of : (names : Texts) (name v : List ℕ) → get names name ≡ None
     → insert_entry plain (row_of (name, v)) (rows_of names) ≡ rows_of (insert names name v)
-insert_entry-rows_of names name v none =
-    insert_entry-map name v (entries names) (sym (get-entries names name) ∙ none)
-    ∙ ap (map row_of) (sym (entries-insert nat_list_cmp_total names name v))
+insert_entry-rows_of names name v none = search (arith, insert_entry-map, get-entries, entries-insert, nat_list_cmp_total)
 
 -- ---- a name taken out
 
@@ -169,12 +154,7 @@ pub is_long : (reals : ℕ) (row : Row) (name v : List ℕ) → row ≡ row_of (
     → ¬ (IsStorable reals row) → IsLong name
 is_long reals row name v is short not = elim (cases_lt (10 ^ 9) (362 + length name)) [
   | inl long ↦ long
-  | inr few ↦ absurd (not (rw is (record {
-    typed = λ c h. no_int (name, v) c;
-    columns = (omega arith, omega arith);
-    numbers = numbers (name, v);
-    short = omega (arith, few, short);
-  })))
+  | inr few ↦ absurd (not (rw is (search (arith, no_int (name, v), numbers (name, v)))))
 ]
 
 -- ---- a seek by a name finds its row, or the name has none
@@ -214,25 +194,17 @@ stands k (e ∷ es) sorted =
 
 stood : (names : Texts) (k : List ℕ) (rows : List Row) → from_key plain (Text k ∷ []) (rows_of names) ≡ rows
     → Stands k (get names k) rows
-stood names k rows at = rw (← at, get-entries names k)
-    (stands k (entries names) (is_true (is_sorted order (entries names)) (entries_sorted names)))
+stood names k rows at = search (arith, get-entries, stands, is_true, is_sorted, entries_sorted)
 
 none_at : (k : List ℕ) (es : List (List ℕ × List ℕ)) → AllByRecursion (λ e. order e.0 k ≡ Less) es → find order k es ≡ None
 none_at k [] h = refl
-none_at k (e ∷ es) h =
-    let above : order k e.0 ≡ Greater = nat_list_cmp_total.antisymm k e.0 ∙ ap ordering_reverse h.0 in
-    rw above (none_at k es h.1)
+none_at k (e ∷ es) h = search (arith, nat_list_cmp_total, ordering_reverse, none_at k es h.1)
 
 -- if a seek by a name ends behind all rows, each name is below it and below those after it
 all_below : (k n : List ℕ) (es : List (List ℕ × List ℕ)) → order k n ≡ Less
     → from_key plain (Text k ∷ []) (map row_of es) ≡ [] → AllByRecursion (λ e. order e.0 n ≡ Less) es
 all_below k n [] after h = tt
-all_below k n (e ∷ es) after h =
-    let by = row_by_name e k in
-    let rest = all_below k n es after in
-    let trans = nat_list_cmp_total.trans e.0 k n in
-    let low = less (order e.0 k) in
-    grind arith
+all_below k n (e ∷ es) after h = search (arith, row_by_name, nat_list_cmp_total, less, all_below k n es after)
 
 none_after : (names : Texts) (k : List ℕ) → from_key plain (Text k ∷ []) (rows_of names) ≡ [] → HasNoneAfter names k
 none_after names k h n after = get-entries names n ∙ none_at n (entries names) (all_below k n (entries names) after h)
@@ -324,8 +296,7 @@ pub step : (first now next : View) (met last : Row) (before : Texts) → IsOrder
     → Advances now next 0 met true → (is : IsAccount met) → (column met 0 ≡ column last 0 → ⊥)
     → IsReading first next (insert before is.0.0 is.0.1) × LastIs (rows_of (insert before is.0.0 is.0.1)) met
 step first now next met last before ordered shape reading ended moves ((k, v), named, good, at) apart =
-    let rest = same_Some reading.rest (met ∷ moves.0) (sym reading.left ∙ moves.1) in
-    let all : rows_of before ++ met ∷ moves.0 ≡ first.trees 0 = ap (λ l. rows_of before ++ l) (sym rest) ∙ reading.all in
+    let all : rows_of before ++ met ∷ moves.0 ≡ first.trees 0 = rw (same_Some _ _ (sym reading.left ∙ moves.1)) at reading.all in
     let index : IsIndex plain (first.trees 0) = rw shape at (ordered 0) in
     let here = subst (λ r. AllByRecursion (λ x. entry_cmp plain x r ≡ Less) (rows_of before)) at
     (below (rows_of before) met moves.0 (subst (IsIndex plain) (sym all) index)) in

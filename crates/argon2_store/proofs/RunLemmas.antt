@@ -96,7 +96,7 @@ module _ {S : Type 0} {g : Ghosts S} (settled : Settled g) (terms : Terms) (firs
         → (result ≡ Err Closed → newer ≡ []) → Reached (newer ++ events) (Now Late (result ≡ Err Closed)) new
     runs Late newer does step crash none = reaches Late _ newer _ does.has does.terms does.honest step crash
         (λ clean is_closed. let (shut, same) = does.closed (does.honest clean) is_closed in
-        (shut, none shut, λ db found. subst (λ s. g.recovers s db) same found))
+        (shut, none shut, λ db found. rw same at found))
 
     -- one event
     one : (event : AccountEvent) (left : Texts) → AccountStep (terms_of old) before.names event left
@@ -157,8 +157,7 @@ module _ {S : Type 0} {g : Ghosts S} (settled : Settled g) (terms : Terms) (firs
         → Reached events (Now (λ late. ⊥) (error ≡ Some Closed)) new
     keeps error stay =
         let does = stay before.names before.has in
-        let honest : IsHonest g (database_of new) → IsHonest g (database_of old) = λ clean. omega (arith, clean, does.quiet.clean)
-        in
+        let honest : IsHonest g (database_of new) → IsHonest g (database_of old) = search arith in
         reaches (λ late. ⊥) _ [] before.names does.has does.terms honest (λ clean. refl)
         (λ clean is_open db found. let (names, has, is) = does.left clean is_open db found in (names, has, inl is))
         (λ clean is_closed. ((does.closed (honest clean) is_closed).0, refl, does.quiet.outcomes))
@@ -179,8 +178,7 @@ module _ {S : Type 0} {g : Ghosts S} (settled : Settled g) (terms : Terms) (firs
     run = λ clean. refl;
     left = λ clean db found. let (names, has, same) = ready.left clean db found in (names, has, ([], refl, same));
   })
-  reached begun ready (call ∷ older) last (mid, did, does) = one_more older mid last (reached begun ready older mid did) call
-      does
+  reached begun ready (call ∷ older) last (mid, did, does) = search (arith, one_more, reached begun ready older mid did)
 
 -- ---- runs
 

@@ -87,8 +87,7 @@ module _ {S : Type 0} (g : Ghosts S) where
   pub reads_ok : {old new : S} {names : Texts}
       → (IsHonest g new → g.view new ≡ record (g.view old) { cursors = (g.view new).cursors })
       → KeepsSchema (g.view old) (g.view new) → StaysQuiet g old new → Writes g old new names names ⊥ (Ok tt)
-  reads_ok same schema quiet = writes_row (Ok tt) (λ clean. rw (same clean) refl) (λ clean. tt)
-      (λ clean sees. rw (same clean) sees) (λ clean. tt) schema quiet
+  reads_ok same schema quiet = search (arith, writes_row)
 
   pub keeps_index : {a b : S} → KeepsSchema (g.view a) (g.view b) → StaysQuiet g a b
       → (IsHonest g a → (g.view a).shape 0 ≡ Index plain) → IsHonest g b → (g.view b).shape 0 ≡ Index plain

@@ -48,7 +48,7 @@ abbrev pub line : View → List ℕ × List ℕ → List ℕ
 line Names e = e.0 ++ 10 ∷ []
 line Texts e = e.0 ++ 58 ∷ e.1 ++ 10 ∷ []
 
--- those of all names
+-- the lines of all names
 abbrev pub lines : View → List (List ℕ × List ℕ) → List ℕ
 lines view [] = []
 lines view (e ∷ es) = line view e ++ lines view es

@@ -1,4 +1,4 @@
-use Rattle.argon2_store.proofs.Imports.{arith, rules, ℕ, [], ◌∷◌, inl, inr, ◌≡◌, ap, subst, subst₂, ◌∙◌, IsTrue, ∥∥₁_map, Recovers}
+use Rattle.argon2_store.proofs.Imports.{arith, rules, ℕ, [], ◌∷◌, inl, inr, ◌≡◌, subst, subst₂, ◌∙◌, IsTrue, ∥∥₁_map, Recovers}
 use Rattle.argon2_store.proofs.Imports.{clean_of, IsFile, FileStore, schema_of, state, view, file_trees, kept_schema, state_of, image, account}
 use Rattle.sqlite_disk.specs.declared.Disk.{Ghosts}
 use Rattle.argon2_store.proofs.OpenLemmas.{as_before, fresh, made}
@@ -10,12 +10,7 @@ committed_as : {D : Type 0} {g : Ghosts D} (it : FileStore D g) (size : ℕ)
 committed_as it size clean sized same = grind arith
 
 pub returns-in-Ok-clause-found : goal.returns-in-Ok-clause-found
-returns-in-Ok-clause-found g c clean =
-    let now = clean_of _ clean in
-    inr (
-      c.in-Ok-true.ensures.bare (c.in-Ok.ensures.honest now) (search rules),
-      c.in-Ok.ensures.empty now 0 (omega arith),
-    )
+returns-in-Ok-clause-found g c clean = search (arith, clean_of)
 
 pub returns-in-Err-create-clause-left : goal.returns-in-Err-create-clause-left
 returns-in-Err-create-clause-left g c sized clean left may =
@@ -43,8 +38,7 @@ returns-in-Ok-open-clause-found g c clean =
     let was = c.in-Ok-open.ensures.honest now in
     let size = c.is_bare.ensures.size was in
     let sized = (c.in-Ok-open.ensures.kept now).size ∙ size in
-    let schema = ap (λ o. kept_schema o store.schema.items) ready.unaltered
-    ∙ c.in-Ok-open.ensures.schema ∙ c.is_bare.ensures.schema ∙ c.requires.schema in
+    let schema : kept_schema store.saved (schema_of store) ≡ account ∷ [] = search arith in
     inl (
       (state store).committed,
       c.in-Ok-false.ensures.same was (state store).committed
@@ -55,9 +49,7 @@ returns-in-Ok-open-clause-found g c clean =
     )
 
 pub returns-in-Ok-clause-fresh : goal.returns-in-Ok-clause-fresh
-returns-in-Ok-clause-fresh g c = fresh c.in-Ok.store c.in-Ok.ensures.ready
-    (c.in-Ok.ensures.schema ∙ c.is_bare.ensures.schema ∙ c.requires.schema)
+returns-in-Ok-clause-fresh g c = search (arith, fresh)
 
 pub returns-in-Ok-open-clause-fresh : goal.returns-in-Ok-open-clause-fresh
-returns-in-Ok-open-clause-fresh g c = fresh c.in-Ok-open.store c.in-Ok-open.ensures.ready
-    (c.in-Ok-open.ensures.schema ∙ c.is_bare.ensures.schema ∙ c.requires.schema)
+returns-in-Ok-open-clause-fresh g c = search (arith, fresh)

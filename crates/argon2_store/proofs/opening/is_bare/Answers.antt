@@ -1,4 +1,4 @@
-use Rattle.argon2_store.proofs.Imports.{rules, ◌≡◌, inl, length, subst, Recovers, recovers_once, nil_from_length}
+use Rattle.argon2_store.proofs.Imports.{arith, rules, inl, subst, Recovers, recovers_once, nil_from_length}
 use Rattle.argon2_store.proofs.OpenLemmas.{after, bare}
 use Rattle.argon2_store.proofs.opening.is_bare.Goals as goal
 
@@ -7,9 +7,8 @@ returns-then-is_new-clause-bare g c clean is = ∣ inl (c.requires.blank c.if-is
 
 pub returns-clause-bare : goal.returns-clause-bare
 returns-clause-bare g c clean is =
-    let none : length c.in_ok-rows.rows.items ≡ 0 = search rules in
     bare c.args.files.now c.read_catalog.new.self c.in_ok-rows.rows.items (c.in_ok-rows.ensures.ok clean)
-    (c.read_catalog.ensures.kept clean).size (nil_from_length c.in_ok-rows.rows.items none)
+    (c.read_catalog.ensures.kept clean).size (nil_from_length c.in_ok-rows.rows.items (search rules))
 
 pub returns-clause-same : goal.returns-clause-same
 returns-clause-same g c clean pages found =
@@ -17,5 +16,4 @@ returns-clause-same g c clean pages found =
     subst (Recovers _ _) (recovers_once _ _ _ _ listed.again found) listed.found
 
 pub returns-clause-before : goal.returns-clause-before
-returns-clause-before g c clean = after c.args.files.now c.read_catalog.new.self c.in_ok-rows.rows.items
-    (c.in_ok-rows.ensures.ok clean) (c.read_catalog.ensures.kept clean).size (c.read_catalog.ensures.kept clean)
+returns-clause-before g c clean = search (arith, after)

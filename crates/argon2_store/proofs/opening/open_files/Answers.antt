@@ -1,4 +1,4 @@
-use Rattle.argon2_store.proofs.Imports.{rules, ◌∙◌, subst₂, view, FoundIn}
+use Rattle.argon2_store.proofs.Imports.{arith, rules, ◌∙◌, subst₂, view, FoundIn}
 use Rattle.argon2_store.proofs.OpenLemmas.{image_is, probed, unharmed, was_clean}
 use Rattle.argon2_store.proofs.opening.open_files.Goals as goal
 
@@ -21,6 +21,4 @@ returns-in-Err-attach-clause-left g c =
     c.close-in-Err-attach.ensures c.in-Err-attach.ensures.left
 
 pub returns-in-Ok-attach-clause-honest : goal.returns-in-Ok-attach-clause-honest
-returns-in-Ok-attach-clause-honest g c clean =
-    was_clean c.probe_blank.ensures.log c.probe_blank.ensures.db c.in-Ok-new-2.unopened
-    (c.in-Ok-new-2.ensures.files ∙ c.in-Ok-new.ensures.files) (c.in-Ok-attach.ensures.honest clean)
+returns-in-Ok-attach-clause-honest g c clean = search (arith, was_clean)

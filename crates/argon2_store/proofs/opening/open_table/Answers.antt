@@ -1,4 +1,4 @@
-use Rattle.argon2_store.proofs.Imports.{arith, ◌≡◌, ◌⊎◌, inl, subst₂, view, IsClean, halves, IsOfDatabase, FoundIn}
+use Rattle.argon2_store.proofs.Imports.{arith, ◌≡◌, ◌⊎◌, inl, subst₂, halves, IsOfDatabase, FoundIn}
 use Rattle.argon2_store.specs.declared.error.OpenError.{OpenError}
 use Rattle.argon2_store.specs.declared.error.OpenError.TheVariants.{DamagedLog, Row as NoAccount}
 use Rattle.argon2_store.proofs.OpenLemmas.{seen_same, unharmed_by_reads, unharmed_then}
@@ -12,20 +12,11 @@ returns-in-Err-clause-unharmed g c clean left may = inl (c.is_damaged.ensures.sa
 
 pub returns-in-Ok-open-clause-found : goal.returns-in-Ok-open-clause-found
 returns-in-Ok-open-clause-found g c =
-    let (names, has, rows) = c.in-Ok-open.ensures.found in (
-      names,
-      has,
-      λ clean.
-          let was : IsClean (view c.in-Ok.store) = omega (arith, clean, c.in-Ok-open.ensures.quiet.clean) in
-          subst₂ (FoundIn 4096) (seen_same c.args.files.log c.is_damaged.new.log c.args.files.db c.is_damaged.ensures.same)
-          (rows clean) (c.in-Ok.ensures.found was),
-    )
+    let (names, has, rows) = c.in-Ok-open.ensures.found in
+    (names, has, λ clean. subst₂ (FoundIn 4096) (search (arith, seen_same)) (rows clean) (c.in-Ok.ensures.found (search arith)))
 
 pub returns-in-Ok-open-clause-whole : goal.returns-in-Ok-open-clause-whole
-returns-in-Ok-open-clause-whole g c clean damaged =
-    let was : IsClean (view c.in-Ok.store) = omega (arith, clean, c.in-Ok-open.ensures.quiet.clean) in
-    let known = halves g.D.Disk c.is_damaged.new.log c.args.files.db (c.in-Ok.ensures.honest was) in
-    let yes = (c.in-Ok-false.ensures.found known.0).1 damaged in cc
+returns-in-Ok-open-clause-whole g c clean damaged = search (arith, halves)
 
 pub returns-in-Err-open-clause-damaged : goal.returns-in-Err-open-clause-damaged
 returns-in-Err-open-clause-damaged g c is = absurd (not_log _ c.in-Err-open.ensures.error is)

@@ -1,5 +1,5 @@
-use Rattle.argon2_store.proofs.Imports.{rules, arith, ◌∙◌, ◌≡◌, subst, sym, empty, insert, Some, IsClean, rows_of}
-use Rattle.argon2_store.proofs.RowLemmas.{LastIs, all_read, begin, last-empty, rows_of-empty, step, texts-empty, texts_changed}
+use Rattle.argon2_store.proofs.Imports.{rules, arith, ◌≡◌, empty, insert, Some}
+use Rattle.argon2_store.proofs.RowLemmas.{all_read, begin, last-empty, rows_of-empty, step, texts-empty, texts_changed}
 use Rattle.argon2_store.proofs.rows.load.Goals as goal
 
 pub loop-init : goal.loop-init
@@ -26,27 +26,21 @@ loop-preserved g c =
         insert names is.0.0 is.0.1,
         texts_changed names is.0.0 (Some is.0.1) texts is.1 is.2,
         λ clean.
-            let later : IsClean (g.S.Store.view c.next.new.self) = clean in
-            let then : IsClean (g.S.Store.view c.loop.store) = omega (arith, c.next.ensures.quiet.clean, later) in
-            let first : IsClean (g.S.Store.view c.args.store.now) = omega (arith, c.loop.invariant.1.clean, then) in
-            let reading = read then in
+            let reading = read (search arith) in
             let more = step (g.S.Store.view c.args.store.now) (g.S.Store.view c.loop.store) (g.S.Store.view c.next.new.self)
-            c.next.new.row c.loop.last names (g.met.S.Store.ordered c.args.store.now (c.requires first).unbroken) (search rules)
-            reading.0 reading.1 (rw c.if-not-branch.false at (c.in_ok-next.ensures.ok later)) is
-            (λ same. absurd (
-            let hit = c.is_same.ensures.1 (c.get.ensures ∙ same ∙ sym c.get-else-not-is_account.ensures) in
-            let miss = c.if-is_same.false in cc)) in
+            c.next.new.row c.loop.last names (g.met.S.Store.ordered c.args.store.now (c.requires (search arith)).unbroken)
+            (search rules)
+            reading.0 reading.1 (rw c.if-not-branch.false at (c.in_ok-next.ensures.ok clean)) is
+            (λ same. search arith) in
             let turned : c.swap.new.y ≡ c.next.new.row = search rules in
-            (more.0, subst (LastIs (rows_of (insert names is.0.0 is.0.1))) (sym turned) more.1),
+            (more.0, rw (← turned) at more.1),
       ),
     )
 
 pub returns-then-not-branch-clause-found : goal.returns-then-not-branch-clause-found
 returns-then-not-branch-clause-found g c =
     let (names, texts, read) = c.loop.invariant.2 in
-    let mid : IsClean (g.S.Store.view c.next.new.self) → IsClean (g.S.Store.view c.loop.store) = λ clean.
-    omega (arith, c.next.ensures.quiet.clean, clean) in
     let all = all_read g.S.Store c.args.store.now c.next.new.self names c.next.new.row
-    (λ clean. omega (arith, c.loop.invariant.1.clean, mid clean)) c.requires (search rules) c.loop.store
-    (λ clean. (read (mid clean)).0) (λ clean. rw c.if-not-branch.true at (c.in_ok-next.ensures.ok clean)) in
+    (search arith) c.requires (search rules) c.loop.store (λ clean. (read (search arith)).0)
+    (λ clean. rw c.if-not-branch.true at (c.in_ok-next.ensures.ok clean)) in
     (names, (texts, all.0), all.1)

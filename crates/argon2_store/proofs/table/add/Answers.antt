@@ -1,4 +1,4 @@
-use Rattle.argon2_store.proofs.Imports.{arith, ap, sym, inl, refl, HasNoneAfter, AreTexts, PasswordHash, Texts, List, Ghosts, StoreError, Writes, IsLong, OnOk, IsTrue, IsUtf8, Bool, both_ways, tied_itself, nat_list_cmp_total, AddsName, ◌∙◌, ◌≡◌, ℕ, None, Some, Ok, Err, Result, get, insert, phc_of, text_of, IsHonest, err_is, PhcText}
+use Rattle.argon2_store.proofs.Imports.{arith, ap, sym, refl, HasNoneAfter, AreTexts, PasswordHash, Texts, List, Ghosts, StoreError, Writes, IsLong, OnOk, IsTrue, IsUtf8, Bool, both_ways, tied_itself, nat_list_cmp_total, AddsName, ◌∙◌, ◌≡◌, ℕ, None, Some, Ok, Result, get, insert, phc_of, text_of, IsHonest, err_is, PhcText}
 use Rattle.argon2_store.proofs.RowLemmas.{get-changed, others_kept, texts_changed}
 use Rattle.argon2_store.proofs.TableLemmas.{on_all, reads_ok, writes_more, writes_nothing, writes_row, writes_then}
 use Rattle.argon2_store.proofs.TextLemmas.{text_is_utf8}
@@ -6,15 +6,8 @@ use Rattle.argon2_store.proofs.table.add.Goals as goal
 
 pub returns-in_err-hash-clause-writes : goal.returns-in_err-hash-clause-writes
 returns-in_err-hash-clause-writes g c before texts sees last =
-    rw (err_is c.from_residual.result _ c.from_residual.ensures.1) (
-      before,
-      texts,
-      writes_nothing g.S.Store (λ clean. refl),
-      λ clean. (
-        (inl (c.in_err-hash.ensures.invalid, λ is. c.in_err-hash.ensures.only is.0 is.1), refl),
-        λ other differs. refl,
-      ),
-    )
+    rw (err_is c.from_residual.result _ c.from_residual.ensures.1)
+    (before, texts, writes_nothing g.S.Store (λ clean. refl), search arith)
 
 -- a row that is written for a name that has none, after reads
 module _ {S : Type 0} (g : Ghosts S) {old mid new : S} (before : Texts) (name text : List ℕ) (hash : PasswordHash)
@@ -47,13 +40,13 @@ pub returns-in-Ok-Some-true-clause-writes : goal.returns-in-Ok-Some-true-clause-
 returns-in-Ok-Some-true-clause-writes g c before texts sees last = (
   before,
   texts,
-  writes_more (reads_ok g.S.Store c.in-Ok-Some-true.ensures.same c.find.ensures.schema c.find.ensures.quiet)
+  writes_more (search (arith, reads_ok))
       (λ never. absurd never),
   λ clean.
       let (text, has, row) = (rw (c.in-Ok-Some-true.field-0-is, c.in-Ok-Some-true.field-0-0-test) at
-      c.in-Ok-Some-true.ensures.found) before clean (sees (omega (arith, clean, c.find.ensures.quiet.clean))
+      c.in-Ok-Some-true.ensures.found) before clean (sees (search arith)
       (c.in-Ok-Some-true.ensures.sound clean)).0 in (
-        (((phc_of c.in_ok-hash.hash, c.in_ok-hash.ensures.found), rw has refl), refl),
+        (((_, c.in_ok-hash.ensures.found), rw has refl), refl),
         λ other differs. refl,
       ),
 )
@@ -61,9 +54,9 @@ returns-in-Ok-Some-true-clause-writes g c before texts sees last = (
 pub returns-in-Ok-Some-false-clause-writes : goal.returns-in-Ok-Some-false-clause-writes
 returns-in-Ok-Some-false-clause-writes g c before texts sees last =
     added g.S.Store before c.args.name.now _ c.in_ok-hash.hash _ c.put-in-Ok-Some-false.result c.utf8.name c.in_ok-hash.ensures.found texts
-    (reads_ok g.S.Store c.in-Ok-Some-false.ensures.same c.find.ensures.schema c.find.ensures.quiet) (λ clean. (
+    (search (arith, reads_ok)) (λ clean. (
       (rw (c.in-Ok-Some-false.field-0-is, c.in-Ok-Some-false.field-0-0-test) at c.in-Ok-Some-false.ensures.found) before clean
-          (sees (omega (arith, clean, c.find.ensures.quiet.clean)) (c.in-Ok-Some-false.ensures.sound clean)).0,
+          (sees (search arith) (c.in-Ok-Some-false.ensures.sound clean)).0,
       λ is. absurd (both_ways _ c.if-is_last.false is),
     ))
     (c.put-in-Ok-Some-false.ensures.writes before)
@@ -71,18 +64,12 @@ returns-in-Ok-Some-false-clause-writes g c before texts sees last =
 pub returns-in-Ok-None-clause-writes : goal.returns-in-Ok-None-clause-writes
 returns-in-Ok-None-clause-writes g c before texts sees last =
     added g.S.Store before c.args.name.now _ c.in_ok-hash.hash _ c.put-in-Ok-None.result c.utf8.name c.in_ok-hash.ensures.found texts
-    (reads_ok g.S.Store c.in-Ok-None.ensures.same c.find.ensures.schema c.find.ensures.quiet) (λ clean.
+    (search (arith, reads_ok)) (λ clean.
     let past = (rw (c.in-Ok-None.field-0-is) at c.in-Ok-None.ensures.found) before clean
-    (sees (omega (arith, clean, c.find.ensures.quiet.clean)) (c.in-Ok-None.ensures.sound clean)).0 in
+    (sees (search arith) (c.in-Ok-None.ensures.sound clean)).0 in
     (past.0, λ is. past.1))
     (c.put-in-Ok-None.ensures.writes before)
 
 pub returns-in-Err-clause-writes : goal.returns-in-Err-clause-writes
 returns-in-Err-clause-writes g c before texts sees last =
-    let failed : Result (Unit {0}) StoreError = Err c.in-Err.error in (
-      before,
-      texts,
-      writes_more (writes_row g.S.Store failed tt c.in-Err.ensures.err tt c.in-Err.ensures.cause c.find.ensures.schema
-          c.find.ensures.quiet) (λ never. absurd never),
-      tt,
-    )
+    (before, texts, writes_more (search (arith, writes_row)) (λ never. absurd never), tt)

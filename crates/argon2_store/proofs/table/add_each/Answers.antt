@@ -26,33 +26,20 @@ pub add-requires : goal.add-requires
 add-requires g c = c.loop-k.invariant.0
 
 pub loop-k-init : goal.loop-k-init
-loop-k-init g c = (
-  c.requires,
-  λ before texts sees. (
-    before,
-    texts,
-    λ clean. (refl, λ is. absurd cc),
-    writes_nothing g.S.Store (λ clean. refl),
-  ),
-)
+loop-k-init g c =
+    (c.requires, λ before texts sees. (before, texts, λ clean. (refl, λ is. absurd cc), search (arith, writes_nothing)))
 
 pub returns-in-Ok-Err : goal.returns-in-Ok-Err
 returns-in-Ok-Err g c before texts sees =
     let (mid, fine, all, wrote) = c.loop-k.invariant.1 before texts sees in
-    let (after, good, more, done) = (rw c.in-Ok-Err.field-0-is at (c.in-Ok-Err.ensures.writes mid fine
-    (λ clean. wrote.sees clean (sees (omega (arith, clean, wrote.quiet.clean))))
-    (past mid _ _ c.comes_after-is_last.ensures (λ is clean. (all clean).1 is)))) in (
-      after,
-      good,
-      writes_then wrote more (some_long c.args.new.now c.loop-k.k c.loop-k-test.true),
-      tt,
-    )
+    let (after, good, more, done) = (rw c.in-Ok-Err.field-0-is at (c.in-Ok-Err.ensures.writes mid fine (search arith)
+    (past mid _ _ c.comes_after-is_last.ensures (λ is clean. (all clean).1 is)))) in
+    (after, good, writes_then wrote more (some_long c.args.new.now c.loop-k.k c.loop-k-test.true), tt)
 
 pub returns-in-Err : goal.returns-in-Err
 returns-in-Err g c before texts sees =
     let (mid, fine, all, wrote) = c.loop-k.invariant.1 before texts sees in
-    let (after, good, more, why) = c.in-Err.ensures.writes mid fine
-    (λ clean. wrote.sees clean (sees (omega (arith, clean, wrote.quiet.clean))))
+    let (after, good, more, why) = c.in-Err.ensures.writes mid fine (search arith)
     (past mid _ _ c.comes_after-is_last.ensures (λ is clean. (all clean).1 is)) in
     let new = c.args.new.now in
     let es = map entry_of new in (
@@ -73,8 +60,7 @@ loop-k-preserved g c = (
   keeps_index g.S.Store c.add.ensures.schema c.add.ensures.quiet c.loop-k.invariant.0,
   λ before texts sees.
       let (mid, fine, all, wrote) = c.loop-k.invariant.1 before texts sees in
-      let (after, good, more, done) = (rw c.in-Ok-Ok.field-0-is at (c.in-Ok-Ok.ensures.writes mid fine
-      (λ clean. wrote.sees clean (sees (omega (arith, clean, wrote.quiet.clean))))
+      let (after, good, more, done) = (rw c.in-Ok-Ok.field-0-is at (c.in-Ok-Ok.ensures.writes mid fine (search arith)
       (past mid _ _ c.comes_after-is_last.ensures (λ is clean. (all clean).1 is)))) in
       let new = c.args.new.now in
       let within : c.loop-k.k < length new = c.loop-k-test.true in

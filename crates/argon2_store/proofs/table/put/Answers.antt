@@ -1,19 +1,17 @@
-use Rattle.argon2_store.proofs.Imports.{arith, None, refl, ap, ◌∙◌, ◌≡◌, length, option_copied, option_map, row_of, text_of, changed, insert_entry, IfErr-weaker}
+use Rattle.argon2_store.proofs.Imports.{arith, ap, ◌∙◌, ◌≡◌, length, option_copied, option_map, text_of, insert_entry, IfErr-weaker}
 use Rattle.argon2_store.proofs.RowLemmas.{changed_back, insert_entry-rows_of, is_long}
 use Rattle.argon2_store.proofs.TableLemmas.{cause_map, edits_row, writes_nothing}
 use Rattle.argon2_store.proofs.table.put.Goals as goal
 
 pub returns-in_default-clause-writes : goal.returns-in_default-clause-writes
-returns-in_default-clause-writes g c names none =
-    let same = ap (λ n. changed names c.args.name.now (option_map text_of (option_copied n))) c.in_default.is in
-    writes_nothing g.S.Store (λ clean. same ∙ changed_back names names c.args.name.now None (λ q far. refl) (none clean))
+returns-in_default-clause-writes g c names none = search (arith, writes_nothing, changed_back)
 
 pub returns-clause-writes : goal.returns-clause-writes
 returns-clause-writes g c names none =
     let old = g.S.Store.view c.args.store.now in
     let text = text_of c.in-Some.hash.now in
     let spelled : c.as_str.result.now ≡ text = c.as_str.ensures.value ∙ c.text-text.ensures.1 in
-    let row = c.in_ok-lay.ensures ∙ ap (λ t. row_of (c.args.name.now, t)) spelled in
+    let row = rw spelled at c.in_ok-lay.ensures in
     rw (ap (λ n. option_map text_of (option_copied n)) c.in-Some.is)
     (edits_row g.S.Store insert_entry c.insert.result c.requires row
     (λ clean. insert_entry-rows_of names c.args.name.now text (none clean)) c.insert.ensures.ok c.insert.ensures.frame

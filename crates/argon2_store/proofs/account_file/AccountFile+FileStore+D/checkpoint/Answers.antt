@@ -1,11 +1,9 @@
-use Rattle.argon2_store.proofs.Imports.{settled_at, refl, over_file}
+use Rattle.argon2_store.proofs.Imports.{arith, settled_at, refl, over_file}
 use Rattle.argon2_store.proofs.FileLemmas.{reads_of, shut_out}
 use Rattle.argon2_store.proofs.account_file.AccountFile+FileStore+D.checkpoint.Goals as goal
 
 pub returns-then-is_closed-clause-call : goal.returns-then-is_closed-clause-call
-returns-then-is_closed-clause-call g c =
-    shut_out {g = over_file {g = g.D.Disk}} (λ s db. settled_at s g.met.D.Disk.seen_may_stay db) c.args.self.now
-    c.is_closed.ensures c.if-is_closed.true
+returns-then-is_closed-clause-call g c = search (arith, shut_out, over_file, settled_at)
 
 pub returns-clause-call : goal.returns-clause-call
 returns-clause-call g c =

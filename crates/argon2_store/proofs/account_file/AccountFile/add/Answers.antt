@@ -1,4 +1,4 @@
-use Rattle.argon2_store.proofs.Imports.{◌∙◌, Err, Some, ap, inl, refl, sym, phc_of, string_bytes, text_of, adding, NameTaken, Refused, Account, Closed, err_is, iff_false, None-if_not_some}
+use Rattle.argon2_store.proofs.Imports.{arith, ◌∙◌, Err, Some, ap, inl, refl, sym, phc_of, string_bytes, text_of, adding, NameTaken, Refused, Account, Closed, err_is, None-if_not_some}
 use Rattle.argon2_store.proofs.FileLemmas.{cannot_serve, ends_with, is_some-map, refuses, shut_out, unread, writes}
 use Rattle.argon2_store.proofs.account_file.AccountFile.add.Goals as goal
 
@@ -12,10 +12,8 @@ returns-in_err-parsed-clause-call g c before has =
     let read = unread g.met.S.Store.settled c.args.self.now c.is_closed.ensures c.if-is_closed.false before has in
     rw (err_is _ _ c.from_residual.ensures.1) (
       before,
-      ends_with (Err (Account (Refused c.in_err-parsed.field-0.0))) has refl read.quiet read.left (λ clean. (
-        (inl (c.in_err-parsed.ensures.invalid, λ is. c.in_err-parsed.ensures.only is.0 is.1), refl),
-        λ other differs. refl,
-      )) (inl refl) tt (λ clean is. absurd (iff_false (c.is_closed.ensures clean) c.if-is_closed.false is)) (λ clean. tt),
+      ends_with (Err (Account (Refused c.in_err-parsed.field-0.0))) has refl read.quiet read.left (search arith) (inl refl) tt
+          (search arith) (λ clean. tt),
     )
 
 pub returns-in_err-text_of-clause-call : goal.returns-in_err-text_of-clause-call
@@ -26,13 +24,8 @@ returns-in_err-text_of-clause-call g c =
 pub returns-then-is_some-clause-call : goal.returns-then-is_some-clause-call
 returns-then-is_some-clause-call g c =
     refuses (adding c.args.name.now c.args.text.now) c.in_ok-text_of.ensures.reads refl NameTaken
-    c.in_ok-text_of.ensures.shows _ c.into.ensures (
-      (
-        (phc_of c.in_ok-parsed.parsed, c.in_ok-parsed.ensures.found),
-        is_some-map string_bytes _ (sym c.is_some.ensures ∙ c.if-is_some.true),
-      ),
-      refl,
-    )
+    c.in_ok-text_of.ensures.shows _ c.into.ensures
+    (((_, c.in_ok-parsed.ensures.found), is_some-map string_bytes _ (sym c.is_some.ensures ∙ c.if-is_some.true)), refl)
 
 pub returns-clause-call : goal.returns-clause-call
 returns-clause-call g c =

@@ -1,4 +1,4 @@
-use Rattle.argon2_store.proofs.Imports.{inl, refl, Ok, Err, database_of, iff_false}
+use Rattle.argon2_store.proofs.Imports.{arith, inl, refl, Ok, Err, database_of}
 use Rattle.argon2_store.proofs.FileLemmas.{ends_with, fails, shut_out, unread, writes_all}
 use Rattle.argon2_store.proofs.TableLemmas.{leaves_quiet}
 use Rattle.argon2_store.proofs.account_file.AccountFile.add_all.Goals as goal
@@ -24,9 +24,6 @@ returns-in-Err-written-clause-call g c before has =
 
 pub returns-in-Err-clause-call : goal.returns-in-Err-clause-call
 returns-in-Err-clause-call g c before has =
-    let (names, first, quiet) = c.in-Err.ensures before has in (
-      before,
-      rw c.into.ensures (ends_with _ names refl quiet
-          (leaves_quiet g.S.Store g.met.S.Store.settled (database_of c.args.self.now) _ before has.1 quiet) (λ clean. refl)
-          (inl refl) tt (λ clean is. absurd (iff_false (c.is_closed.ensures clean) c.if-is_closed.false is)) (λ clean. tt)),
-    )
+    let (names, first, quiet) = c.in-Err.ensures before has in
+    let left = leaves_quiet g.S.Store g.met.S.Store.settled (database_of c.args.self.now) _ before has.1 quiet in
+    (before, rw c.into.ensures (ends_with _ names refl quiet left (λ clean. refl) (inl refl) tt (search arith) (λ clean. tt)))

@@ -1,4 +1,4 @@
-use Rattle.argon2_store.proofs.Imports.{arith, ℕ, List, Result, ◌≡◌, ◌∙◌, Ok, Err, Some, ap, inl, refl, subst, get, option_map, string_bytes, Stream, fill_bytes, is_text_of, phc_of, text_of, Terms, changing}
+use Rattle.argon2_store.proofs.Imports.{arith, ℕ, List, Result, ◌≡◌, Ok, Err, Some, inl, refl, subst, get, string_bytes, Stream, fill_bytes, is_text_of, phc_of, text_of, Terms, changing}
 use Rattle.argon2_store.proofs.Imports.{NameUnknown, Refused, StoreError, DrawsOnce, terms_of, answered, err_is, Phc, PhcText, DrawsByValue}
 use Rattle.argon2_accounts.specs.Accounts.{Changes}
 use Rattle.argon2_store.proofs.FileLemmas.{cannot_serve, has_written, outside, refuses, writes}
@@ -30,31 +30,28 @@ returns-in_err-current-clause-call g c =
 
 pub returns-in_err-fresh-clause-call : goal.returns-in_err-fresh-clause-call
 returns-in_err-fresh-clause-call g c =
-    let v = phc_of c.in_ok-current.current in
     let says = rw c.as_str.ensures.value at c.in_ok-current.ensures.found in
     refuses (changing c.args.name.now c.args.old.now c.args.new.now (fill_bytes 16 (g.R.Rng.stream c.args.rng.now)).0)
     c.in_ok-text.ensures.reads c.in-Some.is c.in_err-fresh.field-0.0 c.in_ok-text.ensures.shows _
-    c.from_residual-in_err-fresh.ensures.1 (inl (v, v, says, says, (c.in_err-fresh.ensures.made, refl)))
+    c.from_residual-in_err-fresh.ensures.1 (inl (_, _, says, says, (c.in_err-fresh.ensures.made, refl)))
 
 pub returns-clause-call : goal.returns-clause-call
 returns-clause-call g c =
-    let fresh = c.in_ok-fresh.fresh in
     let says = rw c.as_str.ensures.value at c.in_ok-current.ensures.found in
     writes (changing c.args.name.now c.args.old.now c.args.new.now (fill_bytes 16 (g.R.Rng.stream c.args.rng.now)).0)
-    c.in_ok-text.ensures.reads c.in-Some.is _ (Some (text_of fresh)) tt refl c.in_ok-text.ensures.shows
-    (inl (phc_of c.in_ok-current.current, phc_of fresh, says, is_text_of fresh, c.in_ok-fresh.ensures.made)) _
+    c.in_ok-text.ensures.reads c.in-Some.is _ (Some (text_of c.in_ok-fresh.fresh)) tt refl c.in_ok-text.ensures.shows
+    (inl (_, _, says, is_text_of c.in_ok-fresh.fresh, c.in_ok-fresh.ensures.made)) _
     c.change-done.ensures _ c.written.ensures
 
 pub returns-clause-accepted : goal.returns-clause-accepted
 returns-clause-accepted g c =
     has_written c.in_ok-text.ensures.reads (terms_of c.text_of.new.self) c.args.name.now c.args.new.now tt _ c.change-done.ensures
-    (phc_of c.in_ok-fresh.fresh, is_text_of c.in_ok-fresh.fresh, c.in_ok-fresh.ensures.accepted) _ c.written.ensures
+    (_, is_text_of c.in_ok-fresh.fresh, c.in_ok-fresh.ensures.accepted) _ c.written.ensures
 
 pub returns-in_err-fresh-clause-drawn : goal.returns-in_err-fresh-clause-drawn
 returns-in_err-fresh-clause-drawn g c names has clean =
     let reads = c.in_ok-text.ensures.reads names has in
-    let had : get names c.args.name.now ≡ Some (string_bytes c.in-Some.text) =
-    c.in_ok-text.ensures.shows names reads.has clean ∙ ap (option_map string_bytes) c.in-Some.is in
+    let had : get names c.args.name.now ≡ Some (string_bytes c.in-Some.text) = search (arith, c.in_ok-text.ensures.shows) in
     let v = phc_of c.in_ok-current.current in
     let says = rw c.as_str.ensures.value at c.in_ok-current.ensures.found in
     let draws = λ (t : Terms). DrawsByValue {X = Unit {0}} t c.args.old.now v (Err c.in_err-fresh.field-0.0)
@@ -67,7 +64,7 @@ returns-clause-drawn g c names has clean =
     let reads = c.in_ok-text.ensures.reads names has in
     let change = c.change-done.ensures names reads.has in
     let had : get names c.args.name.now ≡ Some (string_bytes c.in-Some.text) =
-    c.in_ok-text.ensures.shows names reads.has (change.honest clean) ∙ ap (option_map string_bytes) c.in-Some.is in
+    search (arith, c.in_ok-text.ensures.shows names reads.has (change.honest clean)) in
     rw (had, c.written.ensures)
     (drawn_written c.in_ok-fresh.fresh _ (terms_of c.args.self.now) reads.terms c.args.old.now _ _ _ _
     (rw c.as_str.ensures.value at c.in_ok-current.ensures.found) c.in_ok-fresh.ensures.drawn c.change-done.result)

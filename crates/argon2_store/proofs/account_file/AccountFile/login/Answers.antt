@@ -1,4 +1,4 @@
-use Rattle.argon2_store.proofs.Imports.{◌≡◌, ◌∙◌, Some, ap, inl, refl, sym, option_map, fill_bytes, is_text_of, phc_of, string_bytes, text_of, logging_in, NameUnknown, Refused, Kept, Rehashed, terms_of, iff_false, true_from_ne_false, LogsIn}
+use Rattle.argon2_store.proofs.Imports.{arith, ◌≡◌, ◌∙◌, Some, inl, refl, sym, fill_bytes, is_text_of, string_bytes, text_of, logging_in, NameUnknown, Refused, Kept, Rehashed, terms_of, iff_false, true_from_ne_false, LogsIn}
 use Rattle.argon2_store.proofs.FileLemmas.{accepts, cannot_serve, has_kept, has_written, keeps, kept_err, outside, refuses, writes}
 use Rattle.argon2_store.proofs.account_file.AccountFile.login.Goals as goal
 
@@ -22,27 +22,23 @@ returns-in_err-hash-clause-call g c =
 
 pub returns-in_err-accepted-clause-call : goal.returns-in_err-accepted-clause-call
 returns-in_err-accepted-clause-call g c =
-    let v = phc_of c.in_ok-hash.hash in
     let says = rw c.as_str.ensures.value at c.in_ok-hash.ensures.found in
     refuses (logging_in c.args.name.now c.args.password.now (fill_bytes 16 (g.R.Rng.stream c.args.rng.now)).0)
     c.in_ok-text.ensures.reads c.in-Some.is c.in_err-accepted.field-0.0 c.in_ok-text.ensures.shows _
-    c.from_residual-in_err-accepted.ensures.1 (inl (v, v, says, says, (c.in_err-accepted.ensures.step, refl)))
+    c.from_residual-in_err-accepted.ensures.1 (inl (_, _, says, says, (c.in_err-accepted.ensures.step, refl)))
 
 pub returns-in_default-fresh-clause-call : goal.returns-in_default-fresh-clause-call
 returns-in_default-fresh-clause-call g c =
-    let v = phc_of c.in_ok-hash.hash in
     let says = rw c.as_str.ensures.value at c.in_ok-hash.ensures.found in
     accepts (logging_in c.args.name.now c.args.password.now (fill_bytes 16 (g.R.Rng.stream c.args.rng.now)).0)
     c.in_ok-text.ensures.reads c.in-Some.is c.in_ok-accepted.field-0.accepted c.in_ok-text.ensures.shows
-    (inl (v, v, says, says, (rw c.in_default-fresh.is at c.in_ok-accepted.ensures.step)))
+    (inl (_, _, says, says, (rw c.in_default-fresh.is at c.in_ok-accepted.ensures.step)))
 
 pub returns-in_default-fresh-clause-accepted : goal.returns-in_default-fresh-clause-accepted
 returns-in_default-fresh-clause-accepted g c =
-    let says = rw c.as_str.ensures.value at c.in_ok-hash.ensures.found in
-    has_kept c.in_ok-text.ensures.reads (terms_of c.text_of.new.self) c.args.name.now c.args.password.now (λ names has. (has, λ clean. clean))
-    c.in_ok-text.ensures.«open»
-    (λ names has clean. c.in_ok-text.ensures.shows names has clean ∙ ap (option_map string_bytes) c.in-Some.is)
-    (phc_of c.in_ok-hash.hash, says, (rw c.in_default-fresh.is at c.in_ok-accepted.ensures.accepted))
+    has_kept c.in_ok-text.ensures.reads (terms_of c.text_of.new.self) c.args.name.now c.args.password.now
+    (λ names has. (has, λ clean. clean)) c.in_ok-text.ensures.«open» (search (arith, c.in_ok-text.ensures.shows))
+    (_, rw c.as_str.ensures.value at c.in_ok-hash.ensures.found, rw c.in_default-fresh.is at c.in_ok-accepted.ensures.accepted)
 
 pub returns-then-not-is_closed-clause-call : goal.returns-then-not-is_closed-clause-call
 returns-then-not-is_closed-clause-call g c =
@@ -50,28 +46,24 @@ returns-then-not-is_closed-clause-call g c =
     let rehashed : did ≡ Rehashed = c.in_ok-accepted.ensures.fresh.0 (rw c.in-Some-fresh.is refl) in
     let step = rw c.in-Some-fresh.is at c.in_ok-accepted.ensures.step in
     let fresh = c.in-Some-fresh.fresh in
-    let v = phc_of c.in_ok-hash.hash in
     let says = rw c.as_str.ensures.value at c.in_ok-hash.ensures.found in
     keeps (logging_in c.args.name.now c.args.password.now (fill_bytes 16 (g.R.Rng.stream c.args.rng.now)).0)
     c.in_ok-text.ensures.reads c.in-Some.is _ (Some (text_of fresh)) did refl c.in_ok-text.ensures.shows
-    (inl (v, phc_of fresh, says, is_text_of fresh, step)) c.change-done.result c.change-done.ensures g.met.S.Store.settled
+    (inl (_, _, says, is_text_of fresh, step)) c.change-done.result c.change-done.ensures g.met.S.Store.settled
     (sym c.is_err.ensures.value ∙ c.if-is_err.true) c.is_closed.ensures c.if-not-is_closed.true Kept
-    (inl (v, v, says, says, (step.0, ((rw rehashed at step.1).0, refl)))) c.in_ok-text.ensures.shows
+    (inl (_, _, says, says, (step.0, ((rw rehashed at step.1).0, refl)))) c.in_ok-text.ensures.shows
 
 pub returns-then-not-is_closed-clause-accepted : goal.returns-then-not-is_closed-clause-accepted
 returns-then-not-is_closed-clause-accepted g c =
-    let says = rw c.as_str.ensures.value at c.in_ok-hash.ensures.found in
     has_kept c.in_ok-text.ensures.reads (terms_of c.text_of.new.self) c.args.name.now c.args.password.now (λ names has.
     let change = c.change-done.ensures names has in
     (kept_err _ c.change-done.result (sym c.is_err.ensures.value ∙ c.if-is_err.true) change.kept, change.honest))
     (λ clean. true_from_ne_false _ (iff_false (c.is_closed.ensures clean) c.if-not-is_closed.true))
-    (λ names has clean. c.in_ok-text.ensures.shows names has clean ∙ ap (option_map string_bytes) c.in-Some.is)
-    (phc_of c.in_ok-hash.hash, says, c.in_ok-accepted.ensures.step.0)
+    (search (arith, c.in_ok-text.ensures.shows))
+    (_, rw c.as_str.ensures.value at c.in_ok-hash.ensures.found, c.in_ok-accepted.ensures.step.0)
 
 pub returns-then-not-is_closed-clause-drawn : goal.returns-then-not-is_closed-clause-drawn
-returns-then-not-is_closed-clause-drawn g c =
-    let rehashed : c.in_ok-accepted.field-0.accepted ≡ Rehashed = c.in_ok-accepted.ensures.fresh.0 (rw c.in-Some-fresh.is refl) in
-    (rw rehashed at c.in_ok-accepted.ensures.drawn)
+returns-then-not-is_closed-clause-drawn g c = search arith
 
 -- the fresh text is written
 pub returns-clause-call : goal.returns-clause-call
@@ -81,12 +73,11 @@ returns-clause-call g c =
     let fresh = c.in-Some-fresh.fresh in
     writes (logging_in c.args.name.now c.args.password.now (fill_bytes 16 (g.R.Rng.stream c.args.rng.now)).0)
     c.in_ok-text.ensures.reads c.in-Some.is _ (Some (text_of fresh)) c.in_ok-accepted.field-0.accepted refl
-    c.in_ok-text.ensures.shows (inl (phc_of c.in_ok-hash.hash, phc_of fresh, says, is_text_of fresh, step))
+    c.in_ok-text.ensures.shows (inl (_, _, says, is_text_of fresh, step))
     c.change-done.result c.change-done.ensures _ c.written.ensures
 
 pub returns-clause-accepted : goal.returns-clause-accepted
 returns-clause-accepted g c =
-    let admits = rw c.in-Some-fresh.is at c.in_ok-accepted.ensures.accepted in
     has_written c.in_ok-text.ensures.reads (terms_of c.text_of.new.self) c.args.name.now c.args.password.now c.in_ok-accepted.field-0.accepted
     c.change-done.result c.change-done.ensures
-    (phc_of c.in-Some-fresh.fresh, is_text_of c.in-Some-fresh.fresh, admits) _ c.written.ensures
+    (_, is_text_of c.in-Some-fresh.fresh, rw c.in-Some-fresh.is at c.in_ok-accepted.ensures.accepted) _ c.written.ensures

@@ -1,4 +1,4 @@
-use Rattle.argon2_store.proofs.Imports.{◌∙◌, Some, refl, sym, fill_bytes, is_text_of, phc_of, string_bytes, text_of, registering, NameTaken, taken, terms_of, None-if_not_some}
+use Rattle.argon2_store.proofs.Imports.{◌∙◌, Some, refl, sym, fill_bytes, is_text_of, string_bytes, text_of, registering, NameTaken, taken, terms_of, None-if_not_some}
 use Rattle.argon2_store.proofs.FileLemmas.{cannot_serve, has_written, is_some-map, refuses, writes}
 use Rattle.argon2_store.proofs.account_file.AccountFile.register.Goals as goal
 
@@ -24,10 +24,9 @@ returns-clause-call g c =
     writes (registering c.args.name.now c.args.password.now (fill_bytes 16 (g.R.Rng.stream c.args.rng.now)).0)
     c.in_ok-text_of.ensures.reads (None-if_not_some _ (sym c.is_some.ensures ∙ c.if-is_some.false))
     _ (Some (text_of c.in_ok-text.text)) tt refl c.in_ok-text_of.ensures.shows
-    (refl, (phc_of c.in_ok-text.text, is_text_of c.in_ok-text.text, c.in_ok-text.ensures.made)) _ c.change.ensures _
-    c.written.ensures
+    (refl, (_, is_text_of c.in_ok-text.text, c.in_ok-text.ensures.made)) _ c.change.ensures _ c.written.ensures
 
 pub returns-clause-accepted : goal.returns-clause-accepted
 returns-clause-accepted g c =
     has_written c.in_ok-text_of.ensures.reads (terms_of c.text_of.new.self) c.args.name.now c.args.password.now tt _ c.change.ensures
-    (phc_of c.in_ok-text.text, is_text_of c.in_ok-text.text, c.in_ok-text.ensures.accepted) _ c.written.ensures
+    (_, is_text_of c.in_ok-text.text, c.in_ok-text.ensures.accepted) _ c.written.ensures

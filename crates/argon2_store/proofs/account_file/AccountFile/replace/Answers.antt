@@ -1,4 +1,4 @@
-use Rattle.argon2_store.proofs.Imports.{◌∙◌, Some, refl, sym, phc_of, string_bytes, text_of, replacing, NameUnknown, TextChanged, Refused, is_other_text, is_text}
+use Rattle.argon2_store.proofs.Imports.{◌∙◌, Some, refl, sym, string_bytes, text_of, replacing, NameUnknown, TextChanged, Refused, is_other_text, is_text}
 use Rattle.argon2_store.proofs.FileLemmas.{cannot_serve, refuses, writes}
 use Rattle.argon2_store.proofs.account_file.AccountFile.replace.Goals as goal
 
@@ -34,4 +34,4 @@ returns g c =
     let says = c.in_ok-fresh.ensures.found in
     writes (replacing c.args.name.now c.args.old.now c.args.new.now) c.in_ok-text.ensures.reads c.in-Some.is
     _ (Some (text_of c.in_ok-fresh.fresh)) tt refl c.in_ok-text.ensures.shows
-    (is, (phc_of c.in_ok-fresh.fresh, says), sym says.1) _ c.change-done.ensures _ c.written.ensures
+    (is, (_, says), sym says.1) _ c.change-done.ensures _ c.written.ensures

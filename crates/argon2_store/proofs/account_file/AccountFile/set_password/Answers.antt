@@ -1,4 +1,4 @@
-use Rattle.argon2_store.proofs.Imports.{Some, refl, fill_bytes, is_text_of, phc_of, text_of, setting, NameUnknown, terms_of}
+use Rattle.argon2_store.proofs.Imports.{Some, refl, fill_bytes, is_text_of, text_of, setting, NameUnknown, terms_of}
 use Rattle.argon2_store.proofs.FileLemmas.{cannot_serve, has_written, refuses, writes}
 use Rattle.argon2_store.proofs.account_file.AccountFile.set_password.Goals as goal
 
@@ -20,12 +20,12 @@ returns-in_err-fresh-clause-call g c =
 
 pub returns-clause-call : goal.returns-clause-call
 returns-clause-call g c =
-    let fresh = c.in_ok-fresh.fresh in
     writes (setting c.args.name.now c.args.new.now (fill_bytes 16 (g.R.Rng.stream c.args.rng.now)).0)
-    c.in_ok-text.ensures.reads c.in-Some.is _ (Some (text_of fresh)) tt refl c.in_ok-text.ensures.shows
-    (phc_of fresh, is_text_of fresh, c.in_ok-fresh.ensures.made) _ c.change-done.ensures _ c.written.ensures
+    c.in_ok-text.ensures.reads c.in-Some.is _ (Some (text_of c.in_ok-fresh.fresh)) tt refl
+    c.in_ok-text.ensures.shows (_, is_text_of c.in_ok-fresh.fresh, c.in_ok-fresh.ensures.made)
+    _ c.change-done.ensures _ c.written.ensures
 
 pub returns-clause-accepted : goal.returns-clause-accepted
 returns-clause-accepted g c =
     has_written c.in_ok-text.ensures.reads (terms_of c.text_of.new.self) c.args.name.now c.args.new.now tt _ c.change-done.ensures
-    (phc_of c.in_ok-fresh.fresh, is_text_of c.in_ok-fresh.fresh, c.in_ok-fresh.ensures.accepted) _ c.written.ensures
+    (_, is_text_of c.in_ok-fresh.fresh, c.in_ok-fresh.ensures.accepted) _ c.written.ensures
