@@ -6,7 +6,7 @@ ghost use Rattle.argon2_calibrate.specs.Choice.{ArePossible};
 use crate::options::Options;
 use crate::run::PROGRAM;
 use argon2_commands::invalid;
-use clap::{Command, Error, arg, value_parser};
+use clap::{ArgMatches, Command, Error, arg, value_parser};
 use std::alloc::{AllocError, Global};
 use std::num::saturating_f64_to_u64;
 
@@ -38,11 +38,22 @@ pub fn parsed(alloc: Global, words: &[String]) -> Result<Options, Error>
 {
     let mut command = command(alloc)?;
     let matches = command.try_get_matches_from_mut(words)?;
+    options(alloc, &mut command, &matches)
+}
+
+// The options that the words ask for.
+fn options(
+    alloc: Global,
+    command: &mut Command<'_>,
+    matches: &ArgMatches<'_>,
+) -> Result<Options, Error>
+    ensures { IfOk result ArePossible }
+{
     let seconds = matches.get_one::<f64>("SECONDS").unwrap_or(0.0);
     if !(0.001 <= seconds && seconds <= 3600.0) {
         let value = matches.get_str("SECONDS").unwrap_or("");
         let why = "it is not in 0.001..=3600";
-        return Err(invalid(&mut command, alloc, "<SECONDS>", value, why)?);
+        return Err(invalid(command, alloc, "<SECONDS>", value, why)?);
     }
     let mebibytes = matches.get_one::<u32>("MEBIBYTES").unwrap_or(64);
     let options = Options {
@@ -55,7 +66,7 @@ pub fn parsed(alloc: Global, words: &[String]) -> Result<Options, Error>
     if !options.are_possible() {
         let value = matches.get_str("lanes").unwrap_or("");
         let why = "the memory has less than 8 blocks of 1024 bytes for each lane";
-        return Err(invalid(&mut command, alloc, "--lanes <N>", value, why)?);
+        return Err(invalid(command, alloc, "--lanes <N>", value, why)?);
     }
     Ok(options)
 }
