@@ -1,5 +1,5 @@
 -- What the program answers.
-use Rattle.std.specs.Prelude.{◌≡◌, ◌⊎◌, ⊤, ℕ, String, string_bytes, ◌==◌, false, Bool, ◌+◌, IsOk, IsTrue, List, [], ◌∷◌, ◌++◌, if◌then◌else◌, Option, Some, None, IfSome, Result, Ok, Err, IfErr, IfOk, OnOk}
+use Rattle.std.specs.Prelude.{◌≡◌, ◌⊎◌, ⊤, ℕ, ◌==◌, false, Bool, ◌+◌, IsOk, IsTrue, List, [], ◌∷◌, ◌++◌, if◌then◌else◌, Option, Some, None, IfSome, Result, Ok, Err, IfErr, IfOk, OnOk}
 use Rattle.std.specs.Io.BufRead.{drop_through}
 use Rattle.std.specs.List.{AllZip, after_first, before_first}
 use Rattle.std.specs.Option.{option_map}
@@ -9,15 +9,18 @@ use Rattle.std.specs.Str.Lines.{lines}
 use Rattle.std.specs.FinMap.{get}
 use Rattle.argon2_base.specs.PhcFields.{phc_of}
 use Rattle.argon2_base.specs.PhcText.{Phc, PhcText, phc_text}
+use Rattle.argon2_base.specs.declared.error.password_hash.Error.TheVariants.{EncodingInvalid}
 use Rattle.sqlite_trees.specs.declared.store.Store.{Ghosts}
 use Rattle.argon2_accounts.specs.Accounts.{AccountAnswer, Admits, AreTerms, LogsIn, Terms, Texts, changing, logging_in, registering, removing, replacing, setting}
 use Rattle.argon2.specs.Argon2.{argon2id_with}
 use Rattle.argon2.specs.Login.{accepted_text}
 use Rattle.argon2.specs.Made.{IsFresh}
+use Rattle.argon2.specs.NamedTexts.{IsText}
 use Rattle.argon2.specs.Stored.{shown_settings}
 use Rattle.argon2.specs.declared.login.answers.Accepted.{Accepted}
 use Rattle.argon2.specs.declared.login.answers.Accepted.TheVariants.{Kept, Rehashed}
 use Rattle.argon2_accounts.specs.declared.error.AccountError.{AccountError}
+use Rattle.argon2_accounts.specs.declared.error.AccountError.TheVariants.{NameUnknown, Refused}
 use Rattle.argon2_prefixes.specs.Prefixes.{bare}
 use Rattle.argon2_store.specs.AccountFile.{AddsOrNone, Call, HasNames, IsReady, Serves, Stays, error_of, database_of, terms_of}
 use Rattle.argon2_store.specs.Adding.{IsFirstRefused}
@@ -80,7 +83,7 @@ terms_by choices secret = record {
   bound = bound_of choices;
 }
 
--- those that a file is opened under
+-- the terms that a file is opened under
 abbrev pub terms_in : Access → Terms
 terms_in access = terms_by (choices_of access.options) access.secret.now
 
@@ -153,7 +156,7 @@ IsTaken any_text text taken = ((taken ≡ text) × (IsTrue any_text ⊎ IsArgon2
 abbrev pub IsEntry : Bool → List ℕ → List ℕ × List ℕ → Type 0
 IsEntry any_text line e = (e.0 ≡ (parts_of line).0) × IsTaken any_text (bare (parts_of line).1) e.1
 
--- those of all lines
+-- the entries of all lines
 abbrev pub AreEntries : Bool → List ℕ → List (List ℕ × List ℕ) → Type 0
 AreEntries any_text input es = AllZip (IsEntry any_text) (lines input) es
 
@@ -178,10 +181,11 @@ AddsLines (Err failure) es before after = IsAdded es before after × (status_of 
 abbrev pub IsOpened : {S : Type 0} {g : Ghosts S} → (List ℕ → Texts → Type 0) → List ℕ → Terms → AccountFile S g → Type 0
 IsOpened Has path terms file = (names : Texts) × Has path names × IsReady terms names file
 
--- the text that was found for a name
-abbrev pub text_in : {Y : Type 0} → Result (Option (String Y)) FileError → Result (Option (List ℕ)) FileError
-text_in (Ok text) = Ok (option_map string_bytes text)
-text_in (Err e) = Err e
+-- why a call by a password is refused, whatever the password: the name has no text, or one outside the grammar
+abbrev pub HasNoValue : Option (List ℕ) → AccountError → Type 0
+HasNoValue None NameUnknown = ⊤
+HasNoValue (Some text) (Refused EncodingInvalid) = ¬ (IsText text)
+HasNoValue _ _ = ⊥
 
 -- How far a call on a name came: its text can't be read; or the accounts decide the call, and no text is replaced; or they
 -- accept it, and this answers the replacement of the text.
@@ -212,16 +216,20 @@ change_answer (replaced _ done) = done
 
 module _ {S : Type 0} (g : Ghosts S) (Holds : List ℕ → List ℕ → Type 0) (Has : List ℕ → Texts → Type 0) where
   -- the file at a path was opened under these terms, used so, and closed with this store
-  abbrev pub IsOpenFor : Terms → List ℕ → (AccountFile S g → AccountFile S g → Type 0) → (S → Type 0) → Type 0
-  IsOpenFor terms path Does Next = (before after : AccountFile S g) × IsOpened Has path terms before
-      × Does before after × Next (database_of after)
+  pub record IsOpenFor (terms : Terms) (path : List ℕ) (Does : AccountFile S g → AccountFile S g → Type 0)
+      (Next : S → Type 0) : Type 0 where
+    pub before : AccountFile S g
+    pub after : AccountFile S g
+    pub opened : IsOpened Has path terms before
+    pub does : Does before after
+    pub next : Next (database_of after)
 
   -- all that was done with the file at a path: it was opened under the choices and their secret, and closed
   abbrev pub IsDone : Choices → List ℕ → (List ℕ → AccountFile S g → AccountFile S g → Type 0) → (List S → Type 0) → Type 0
   IsDone choices path Does Closed = (secret drawn : List ℕ) × IsSecret Holds choices.secret_file secret
       × IsOpenFor (terms_by choices secret) path (Does drawn) (λ last. Closed (last ∷ []))
 
-  -- that was one call
+  -- one call was all that was done with the file at a path
   abbrev pub IsCalled : {X : Type 0} → Choices → List ℕ → (List ℕ → Call X) → Result X FileError → (List S → Type 0) → Type 0
   IsCalled choices path call result = IsDone choices path (λ drawn. Serves (call drawn) result)
 
@@ -231,11 +239,17 @@ module _ {S : Type 0} (g : Ghosts S) (Holds : List ℕ → List ℕ → Type 0) 
       → Stays (error_of found) names before after
       × IfOk found (λ text. IsHonest g (database_of after) → get names name ≡ text))
 
+  -- no value of the text of a name was read there: why a call by a password is refused, or an error of the file
+  abbrev pub IsNotFound : Terms → List ℕ → List ℕ → (S → Type 0) → FileError → Type 0
+  IsNotFound terms path name Next (Account e) =
+      (o : Option (List ℕ)) × HasNoValue o e × IsLooked terms path name (Ok o) Next
+  IsNotFound terms path name Next e = IsLooked terms path name (Err e) Next
+
   -- the text of a name was replaced there, if it was still the first
   abbrev pub IsReplaced : Terms → List ℕ → List ℕ → List ℕ → List ℕ → Result (Unit {0}) FileError → (S → Type 0) → Type 0
   IsReplaced terms path name old new done = IsOpenFor terms path (Serves (replacing name old new) done)
 
-  -- what was done with the file at a path for a call on a name, and that it was decided by the text that was read
+  -- what was done with the file at a path for a call on a name, which was decided by the text that was read
   abbrev pub IsOutcome : {X : Type 0} → Terms → List ℕ → List ℕ → Call X → Outcome X → (List S → Type 0) → Type 0
   IsOutcome terms path name call (unread e) Closed = IsLooked terms path name (Err e) (λ read. Closed (read ∷ []))
   IsOutcome terms path name call (decided answer) Closed = (o p : Option (List ℕ)) × AccountAnswer terms (call answer) o p
@@ -244,30 +258,33 @@ module _ {S : Type 0} (g : Ghosts S) (Holds : List ℕ → List ℕ → Type 0) 
       × IsLooked terms path name (Ok (Some old)) (λ read. IsReplaced terms path name old new done (λ last. Closed (read ∷ last ∷ [])))
 
   -- all that was done with it, under the choices and their secret, for a call that is decided while the file is closed
-  abbrev pub IsVisited : {X : Type 0} → Choices → List ℕ → List ℕ → (List ℕ → Call X) → (Outcome X → Type 0)
-      → (List S → Type 0) → Type 0
-  IsVisited {X} choices path name call Answers Closed = (secret drawn : List ℕ) × (outcome : Outcome X)
-      × IsSecret Holds choices.secret_file secret × Answers outcome
-      × IsOutcome (terms_by choices secret) path name (call drawn) outcome Closed
+  pub record IsVisited {X : Type 0} (choices : Choices) (path name : List ℕ) (call : List ℕ → Call X)
+      (Answers : Outcome X → Type 0) (Closed : List S → Type 0) : Type 0 where
+    pub secret : List ℕ
+    pub drawn : List ℕ
+    pub outcome : Outcome X
+    pub held : IsSecret Holds choices.secret_file secret
+    pub answers : Answers outcome
+    pub done : IsOutcome (terms_by choices secret) path name (call drawn) outcome Closed
 
-  -- that was a change of this kind
+  -- a change of this kind was all that was done with the file at a path
   abbrev pub IsAct : Choices → List ℕ → Edit → List ℕ → List ℕ → List ℕ → Result (Unit {0}) FileError → (List S → Type 0) → Type 0
   IsAct choices path Change name first second result Closed =
       IsVisited choices path name (call_of Change name first second) (λ outcome. change_answer outcome ≡ result) Closed
   IsAct choices path act name first second result Closed =
       IsCalled choices path (call_of act name first second) result Closed
 
-  -- that was a login with the password
+  -- a login with the password was all that was done with the file at a path
   abbrev pub IsLogin : Choices → List ℕ → List ℕ → List ℕ → Result Accepted FileError → (List S → Type 0) → Type 0
   IsLogin choices path name password result Closed =
       IsVisited choices path name (logging_in name password) (λ outcome. login_answer outcome ≡ result) Closed
 
-  -- that was a login with the password that is read
+  -- a login with the password that is read was all that was done with it
   abbrev pub IsVerified : Choices → List ℕ → List ℕ → Result Accepted FileError → Option (List ℕ) → (List S → Type 0) → Type 0
   IsVerified choices path name result input Closed =
       OfPassword (λ password. IsLogin choices path name password result Closed) input
 
-  -- that was a change of the text of a name, by the passwords that are read
+  -- a change of the text of a name by the passwords that are read was all that was done with it
   abbrev pub IsEdited : Choices → List ℕ → Edit → List ℕ → Result (Unit {0}) FileError → Option (List ℕ) → (List S → Type 0) → Type 0
   IsEdited choices path act name result input Closed = (breaks_lines act name ≡ false) × (first second : List ℕ)
       × AreRead act input first second × IsAct choices path act name first second result Closed
@@ -277,7 +294,7 @@ module _ {S : Type 0} (g : Ghosts S) (Holds : List ℕ → List ℕ → Type 0) 
   IsRead choices path error Shows = IsDone choices path (λ drawn before after. (names : Texts) → HasNames before names
       → Stays error names before after × (IsHonest g (database_of after) → Shows names))
 
-  -- that was the addition of the entries that a known input has, and the answer to it
+  -- adding the entries of a known input was all that was done with it, with this answer
   abbrev pub IsImported : Choices → List ℕ → Bool → (List (List ℕ × List ℕ) → AccountFile S g → AccountFile S g → Type 0)
       → Option (List ℕ) → (List S → Type 0) → Type 0
   IsImported choices path any_text Adds input Closed = (es : List (List ℕ × List ℕ))
@@ -324,7 +341,7 @@ module _ {S : Type 0} (g : Ghosts S) (Holds : List ℕ → List ℕ → Type 0) 
   IsOnce (import choices path any_text) input Closed = Closed [] ⊎ IsImported choices path any_text IsAdded input Closed
   IsOnce _ input Closed = Closed []
 
-  -- how it ended: it is answered, or refused with this failure, and no more was done with a file
+  -- how a command ended: it is answered, or refused with this failure, and no more was done with a file
   pub record IsServed (what : Asked) (result : Result (Unit {0}) Failure)
       (input old new : Option (List ℕ)) (Closed : List S → Type 0) : Type 0 where
     pub ok : OnOk result (IsAnswered what input old new Closed)

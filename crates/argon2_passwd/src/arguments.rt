@@ -9,7 +9,7 @@ use argon2::phc::read_decimal;
 use argon2_commands::invalid;
 use argon2_store::View;
 use clap::error::ErrorKind;
-use clap::{Arg, ArgAction, Error};
+use clap::{ArgAction, ArgMatches, Error, arg};
 use std::alloc::{AllocError, Global};
 
 const USAGE: &str = "\
@@ -58,6 +58,15 @@ says why.";
 pub fn parsed<'a>(alloc: Global, words: &'a [String]) -> Result<Command<'a>, Error> {
     let mut command = command(alloc)?;
     let matches = command.try_get_matches_from_mut(words)?;
+    asked(alloc, &mut command, &matches)
+}
+
+// What the words ask for.
+fn asked<'a>(
+    alloc: Global,
+    command: &mut clap::Command<'_>,
+    matches: &ArgMatches<'a>,
+) -> Result<Command<'a>, Error> {
     let mut options = Options {
         secret_file: matches.get_str("secret-file"),
         ..Options::DEFAULT
@@ -65,7 +74,7 @@ pub fn parsed<'a>(alloc: Global, words: &'a [String]) -> Result<Command<'a>, Err
     if let Some(value) = matches.get_str("params") {
         let Some(params) = params(value) else {
             let why = "it is not m=M,t=T,p=P with valid parameters";
-            return Err(invalid(&mut command, alloc, "--params <COSTS>", value, why)?);
+            return Err(invalid(command, alloc, "--params <COSTS>", value, why)?);
         };
         options.params = params;
     }
@@ -73,13 +82,13 @@ pub fn parsed<'a>(alloc: Global, words: &'a [String]) -> Result<Command<'a>, Err
         options.bound = costs(value);
         if options.bound.is_none() {
             let why = "it is not m=M,t=T,p=P with numbers up to 4294967295";
-            return Err(invalid(&mut command, alloc, "--bound <COSTS>", value, why)?);
+            return Err(invalid(command, alloc, "--bound <COSTS>", value, why)?);
         }
     }
     let words = matches.get_strs("COMMAND").unwrap_or(&[]);
     match task(options, matches.get_flag("any-text"), words) {
         Some(task) => Ok(task),
-        None => Err(unknown(&mut command, alloc, words)?),
+        None => Err(unknown(command, alloc, words)?),
     }
 }
 
@@ -180,14 +189,13 @@ fn with_options<'a>(
     alloc: Global,
     command: clap::Command<'a>,
 ) -> Result<clap::Command<'a>, AllocError> {
-    let params = "What new texts are made under [default: m=19456,t=2,p=1]";
-    let bound =
-        "The most that a text may ask for [default: m=2097152,t=64,p=64, or the parameters]";
-    let secret = "The file's bytes, 1 to 4096 of them, are the secret of all texts";
-    command
-        .arg(option(alloc, "params", "COSTS", params))?
-        .arg(option(alloc, "bound", "COSTS", bound))?
-        .arg(option(alloc, "secret-file", "PATH", secret))
+    let params = arg!(in alloc; --params <COSTS>
+        "What new texts are made under [default: m=19456,t=2,p=1]");
+    let bound = arg!(in alloc; --bound <COSTS>
+        "The most that a text may ask for [default: m=2097152,t=64,p=64, or the parameters]");
+    let secret = arg!(in alloc; --"secret-file" <PATH>
+        "The file's bytes, 1 to 4096 of them, are the secret of all texts");
+    command.arg(params)?.arg(bound)?.arg(secret)
 }
 
 // With the command's words, and the option that belongs to one of them.
@@ -195,22 +203,9 @@ fn with_words<'a>(
     alloc: Global,
     command: clap::Command<'a>,
 ) -> Result<clap::Command<'a>, AllocError> {
-    let any_text = Arg::new(alloc, "any-text")
-        .long("any-text")
-        .action(ArgAction::SetTrue)
-        .help("`import` takes texts of other schemes too");
-    let words = Arg::new(alloc, "COMMAND")
-        .required(true)
-        .num_args(1..)
-        .action(ArgAction::Append)
-        .help("A command with its text, or its file and name");
-    command.arg(any_text)?.arg(words)
-}
-
-// An option with a value.
-fn option<'a>(alloc: Global, name: &'a str, value: &'a str, help: &'a str) -> Arg<'a> {
-    Arg::new(alloc, name)
-        .long(name)
-        .value_name(value)
-        .help(help)
+    let any_text = arg!(in alloc; --"any-text" "`import` takes texts of other schemes too");
+    let words = arg!(in alloc; <COMMAND> "A command with its text, or its file and name");
+    command
+        .arg(any_text)?
+        .arg(words.num_args(1..).action(ArgAction::Append))
 }

@@ -1,9 +1,11 @@
 //! Accounts in a file.
 
-ghost use Rattle.std.specs.Prelude.{◌≡◌, ◌∷◌, [], ℕ, List, Option, IfErr, IfOk, OnErr, OnOk, map};
+ghost use Rattle.std.specs.Prelude.{◌≡◌, ◌∷◌, [], ℕ, List, Option, Some, Ok, IfErr, IfOk, MatchResult, OnErr, OnOk, map, string_bytes};
+ghost use Rattle.argon2_base.specs.PhcFields.{phc_of};
+ghost use Rattle.argon2_base.specs.PhcText.{PhcText};
 ghost use Rattle.argon2_accounts.specs.Accounts.{AreTerms, terms_of as policy_terms, text_of};
 ghost use Rattle.argon2_store.specs.Adding.{entry_of};
-ghost use Rattle.argon2_passwd.specs.Answers.{AddsLines, IsLogin, IsLooked, IsOpened, IsReplaced, IsSecret, IsServed, terms_in, text_in};
+ghost use Rattle.argon2_passwd.specs.Answers.{AddsLines, IsLogin, IsLooked, IsNotFound, IsOpened, IsReplaced, IsSecret, IsServed, terms_in};
 ghost use Rattle.argon2_passwd.specs.Asked.{Asked, choices_of};
 ghost use Rattle.argon2_passwd.specs.Failures.{status_of};
 
@@ -183,17 +185,9 @@ fn log_in<P: Outside, G: Rng>(
     ensures err { IfErr result (λ f. status_of f ≡ 1 → ¬ (AreTerms (terms_in access.now))) }
     ensures untouched { OnErr result (P.closed outside.new []) }
 {
-    let text = match look(outside, access, name)? {
-        Ok(Some(text)) => text,
-        Ok(None) => {
-            policy.hash_for_nobody(password);
-            return Ok(Err(FileError::Account(AccountError::NameUnknown)));
-        }
+    let (text, hash) = match look(outside, access, name, policy, password)? {
+        Ok(found) => found,
         Err(error) => return Ok(Err(error)),
-    };
-    let hash = match PasswordHash::new(text.as_str()) {
-        Ok(hash) => hash,
-        Err(error) => return Ok(Err(error.into())),
     };
     let LoggedIn { accepted, fresh } = match policy.log_in(rng, &hash, password) {
         Ok(done) => done,
@@ -210,22 +204,39 @@ fn log_in<P: Outside, G: Rng>(
     }
 }
 
-// The text of a name in a file.
+// The text of a name in a file, and what it says. If the name is unknown, the password is hashed all the same.
 pub(super) fn look<P: Outside>(
     outside: &mut P,
     access: &Access<'_>,
     name: &str,
-) -> Result<Result<Option<String>, FileError>, Failure>
+    policy: &Policy<'_>,
+    password: &[u8],
+) -> Result<Result<(String, PasswordHash), FileError>, Failure>
     requires { P.closed outside.old [] }
-    ensures ok { IfOk result (λ found. IsLooked P.File.Store P.holds P.keeps (terms_in access.now)
-        access.now.path.now name.now (text_in found) (λ read. P.closed outside.new (read ∷ []))) }
+    ensures ok { IfOk result (λ read. MatchResult read
+        (λ found. PhcText (string_bytes found.0) (phc_of found.1)
+        × IsLooked P.File.Store P.holds P.keeps (terms_in access.now) access.now.path.now name.now
+        (Ok (Some (string_bytes found.0))) (λ read. P.closed outside.new (read ∷ [])))
+        (IsNotFound P.File.Store P.holds P.keeps (terms_in access.now) access.now.path.now name.now
+        (λ read. P.closed outside.new (read ∷ [])))) }
     ensures err { IfErr result (λ f. status_of f ≡ 1 → ¬ (AreTerms (terms_in access.now))) }
     ensures untouched { OnErr result (P.closed outside.new []) }
 {
     let mut accounts = open(outside, access)?;
     let found = accounts.text_of(name);
     outside.close(accounts.into_store());
-    Ok(found)
+    let text = match found {
+        Ok(Some(text)) => text,
+        Ok(None) => {
+            policy.hash_for_nobody(password);
+            return Ok(Err(FileError::Account(AccountError::NameUnknown)));
+        }
+        Err(error) => return Ok(Err(error)),
+    };
+    match PasswordHash::new(text.as_str()) {
+        Ok(hash) => Ok(Ok((text, hash))),
+        Err(error) => Ok(Err(error.into())),
+    }
 }
 
 // Replaces the text of a name in a file that was closed, if it is still the one that was read. That the file

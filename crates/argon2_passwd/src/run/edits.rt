@@ -205,17 +205,9 @@ fn change<P: Outside, G: Rng>(
         ⊎ IsAct P.File.Store P.holds P.keeps (choices_of access.now.options) access.now.path.now
         Edit.Change name.now first.now second.now (Err FileError.Io) (P.closed outside.new)) }
 {
-    let text = match look(outside, access, name)? {
-        Ok(Some(text)) => text,
-        Ok(None) => {
-            policy.hash_for_nobody(first);
-            return Ok(Err(FileError::Account(AccountError::NameUnknown)));
-        }
+    let (text, hash) = match look(outside, access, name, policy, first)? {
+        Ok(found) => found,
         Err(error) => return Ok(Err(error)),
-    };
-    let hash = match PasswordHash::new(text.as_str()) {
-        Ok(hash) => hash,
-        Err(error) => return Ok(Err(error.into())),
     };
     let fresh = match policy.change_password(rng, &hash, first, second) {
         Ok(fresh) => fresh,

@@ -2,7 +2,7 @@ use Rattle.std.proofs.Common.{◌∙◌, [], inl, map, subst}
 use Rattle.std.proofs.lemmas.Option.{IfSome_then}
 use Rattle.argon2_store.specs.Adding.{entry_of}
 use Rattle.argon2_passwd.specs.Answers.{AreEntries}
-use Rattle.argon2_passwd.proofs.Served.{failed, imported, keeps_same, no_memory, not_begun}
+use Rattle.argon2_passwd.proofs.Served.{failed, imported, keeps_same, no_memory, not_begun, opened_for}
 use Rattle.argon2_passwd.proofs.run.accounts.import.Goals as goal
 
 pub returns-in_err-bytes : goal.returns-in_err-bytes
@@ -31,5 +31,5 @@ returns g c output =
       es,
       IfSome_then (g.R.Read.remaining c.args.input.now) c.in_ok-bytes.ensures.ok (λ known all.
           subst (λ bytes. AreEntries c.args.any_text bytes es) (c.as_slice.ensures.value ∙ all) c.in_ok-entries.ensures),
-      (c.in_ok-secret.secret.items, [], c.in_ok-secret.ensures.ok, (_, _, opened, adds, closed)),
+      (c.in_ok-secret.secret.items, [], c.in_ok-secret.ensures.ok, opened_for _ _ opened adds closed),
     )

@@ -1,5 +1,5 @@
 use Rattle.std.proofs.Common.{[], inl, inr, refl, sym, ◌∙◌}
-use Rattle.argon2_passwd.proofs.Served.{failed, failed_by, keeps_same, not_begun}
+use Rattle.argon2_passwd.proofs.Served.{failed, failed_by, keeps_same, not_begun, opened_for}
 use Rattle.argon2_passwd.proofs.run.accounts.show.Goals as goal
 
 pub returns-in_err-secret : goal.returns-in_err-secret
@@ -20,7 +20,7 @@ returns-in_err-written g c input =
     let closed = rw c.into_store.ensures at c.close.ensures [] (c.in_ok-accounts.ensures.opened [] c.requires) in
     failed_by c.in_err-written.field-0.0 _ c.from_residual-in_err-written.ensures.1
     (λ refusal is. absurd (rw is at (reads opened.0 opened.2.has).of_file))
-    (inr (_, (secret, [], c.in_ok-secret.ensures.ok, (_, _, opened, (λ names has. (reads names has, λ _. tt)), closed))))
+    (inr (_, (secret, [], c.in_ok-secret.ensures.ok, opened_for _ _ opened (λ names has. (reads names has, λ _. tt)) closed)))
 
 pub returns : goal.returns
 returns g c input =
@@ -29,7 +29,7 @@ returns g c input =
     let reads = c.write_lines-written.ensures.reads in
     let closed = rw c.into_store.ensures at c.close.ensures [] (c.in_ok-accounts.ensures.opened [] c.requires) in
     failed _ _ refl (λ one. absurd (let never = sym c.of_lines.ensures.trouble ∙ one in cc))
-    (inr (_, (secret, [], c.in_ok-secret.ensures.ok, (_, _, opened, (λ names has. (reads names has, λ _. tt)), closed))))
+    (inr (_, (secret, [], c.in_ok-secret.ensures.ok, opened_for _ _ opened (λ names has. (reads names has, λ _. tt)) closed)))
 
 pub returns-in-Ok : goal.returns-in-Ok
 returns-in-Ok g c input =
@@ -38,8 +38,9 @@ returns-in-Ok g c input =
     let shows = rw (c.in_ok-written.was, c.in-Ok.is) at c.write_lines-written.ensures.shows in
     let closed = rw c.into_store.ensures at c.close.ensures [] (c.in_ok-accounts.ensures.opened [] c.requires) in
     let secret = c.in_ok-secret.secret.items in
+    let held = c.in_ok-secret.ensures.ok in
     record {
-      ok = (secret, [], c.in_ok-secret.ensures.ok, (_, _, opened, (λ names has. (reads names has, shows names has)), closed));
+      ok = (secret, [], held, opened_for _ _ opened (λ names has. (reads names has, shows names has)) closed);
       err = tt;
-      once = inr (_, (secret, [], c.in_ok-secret.ensures.ok, (_, _, opened, (λ names has. (reads names has, λ _. tt)), closed)));
+      once = inr (_, (secret, [], held, opened_for _ _ opened (λ names has. (reads names has, λ _. tt)) closed));
     }

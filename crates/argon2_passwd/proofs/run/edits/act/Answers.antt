@@ -11,6 +11,7 @@ use Rattle.argon2_store.specs.declared.error.FileError.{FileError}
 use Rattle.argon2_passwd.specs.Answers.{IsCalled, IsOpenFor, IsSecret, terms_by}
 use Rattle.argon2_passwd.specs.Asked.{Choices, choices_of}
 use Rattle.argon2_passwd.specs.declared.failure.Failure.{Failure}
+use Rattle.argon2_passwd.proofs.Served.{does_then}
 use Rattle.argon2_passwd.proofs.run.edits.act.Goals as goal
 
 -- a text that is fresh under some terms is fresh under equal ones
@@ -28,8 +29,8 @@ called : {S : Type 0} (g : Ghosts S) (Holds : List ℕ → List ℕ → Type 0) 
     → Does done before after → Serves (call drawn) done before after)
     → IfOk r (λ done. IsOpenFor g Holds Has (terms_by choices secret) path (Does done) (λ last. Closed (last ∷ [])))
     → IfOk r (λ done. IsCalled g Holds Has choices path call done Closed)
-called g Holds Has choices secret path drawn call Closed Does (Ok done) held serves (before, after, opened, does, closed) =
-    (secret, drawn, held, (before, after, opened, serves done before after opened.2.under does, closed))
+called g Holds Has choices secret path drawn call Closed Does (Ok done) held serves is =
+    (secret, drawn, held, does_then (serves done) is)
 called g Holds Has choices secret path drawn call Closed Does (Err f) held serves is = tt
 
 pub returns-in_ok-fresh-in-Register-clause-ok : goal.returns-in_ok-fresh-in-Register-clause-ok
