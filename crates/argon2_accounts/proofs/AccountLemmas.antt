@@ -1,16 +1,13 @@
 -- What passwords make of a value: within a bound, accepted, and as the step of a name's text.
-use Rattle.std.proofs.Common.{◌≡◌, ◌≢◌, ℕ, ◌*◌, ◌≤◌, List, Option, Some, None, Result, Ok, Err, ◌⊎◌, inl, inr, refl, sym, ap, ◌∙◌, arith, mul_comm, mul_left_comm, div-mul-le_self, false, true, not}
-use Rattle.std.proofs.lemmas.Bool.{cases_Bool}
+use Rattle.std.proofs.Common.{◌≡◌, ◌≢◌, ℕ, ◌*◌, ◌≤◌, List, Option, Some, None, Result, Ok, Err, ◌⊎◌, inl, inr, refl, ap, arith, div-mul-le_self, false, true, not}
 use Rattle.std.proofs.lemmas.Slice.Eq.{bytes_eq-Decides}
 use Rattle.std.specs.FinMap.{get}
-use Rattle.std.specs.Prelude.{IsErrAnd, IsSome, MatchResult, OnOk, ok_or}
+use Rattle.std.specs.Prelude.{IsErrAnd, IsSome, MatchResult, ok_or}
 use Rattle.std.specs.Str.{bytes_eq}
-use Rattle.rand_core.specs.Stream.{Stream, fill_bytes}
 use Rattle.argon2_base.specs.Error.{Fault, bad_algorithm, bad_version}
 use Rattle.argon2_base.specs.PhcFields.{phc_of}
 use Rattle.argon2_base.specs.PhcText.{Phc, PhcText}
-use Rattle.argon2_base.specs.declared.error.password_hash.Error.{Error}
-use Rattle.argon2_base.specs.declared.error.password_hash.Error.TheVariants.{EncodingInvalid, OutOfMemory}
+use Rattle.argon2_base.specs.declared.error.password_hash.Error.TheVariants.{OutOfMemory}
 use Rattle.argon2_base.specs.declared.phc.hash.PasswordHash.{PasswordHash}
 use Rattle.argon2_accounts.specs.declared.error.AccountError.{AccountError}
 use Rattle.argon2_accounts.specs.declared.error.AccountError.TheVariants.{NameTaken, NameUnknown, Refused, TextChanged, TooExpensive}
@@ -19,8 +16,8 @@ use Rattle.argon2.specs.declared.bound.Bound.{Bound}
 use Rattle.argon2.specs.declared.login.answers.Accepted.{Accepted}
 use Rattle.argon2.specs.declared.login.answers.Accepted.TheVariants.{Current, Kept, Rehashed}
 use Rattle.argon2.specs.declared.version.Version.{Version}
-use Rattle.argon2_accounts.specs.Accounts.{Adds, Admits, AreTerms, ByValue, ChangeRefusal, Denial, HasPassword, IsAbove, MakingRefusal, OnText, RegisteringRefusal, Registers, Sets, Terms, Texts, stream_after_making, text_of}
-use Rattle.argon2.specs.NamedTexts.{IsCurrent, IsText, Leaves}
+use Rattle.argon2_accounts.specs.Accounts.{Adds, Admits, AreTerms, ByValue, ChangeRefusal, Denial, IsAbove, MakingRefusal, OnText, RegisteringRefusal, Registers, Sets, Terms, Texts, text_of}
+use Rattle.argon2.specs.NamedTexts.{IsCurrent, Leaves}
 use Rattle.argon2.specs.Bound.{AsksWithin, IsWithin}
 use Rattle.argon2.specs.Made.{IsFresh}
 use Rattle.argon2.specs.Rfc9106.{segment_length_for}
@@ -35,23 +32,14 @@ use Rattle.argon2_accounts.proofs.TextLemmas.{is_text_of}
 
 filled_within : (m p most : ℕ) → m ≤ most → 1024 * (p * (4 * segment_length_for m p)) ≤ 1024 * most
 unfolding segment_length_for
-filled_within m p most within =
-    let q = segment_length_for m p in
-    let same = mul_left_comm p 4 q ∙ ap (λ n. 4 * n) (mul_comm p q) ∙ sym (mul_left_comm q 4 p) in
-    let least = div-mul-le_self m (4 * p) in
-    omega (arith, same, least, within)
+filled_within m p most within = let least = div-mul-le_self m (4 * p) in grind arith
 
 shown_parameters : (r : Result Parameters Fault) (algorithm : Option Algorithm) (version : Option Version)
     (settings : Settings) → read r (λ parameters. read (ok_or algorithm bad_algorithm) (λ own.
     read (ok_or version bad_version) (λ number.
     Ok (record { algorithm = own; version = number; parameters = parameters })))) ≡ Ok settings
     → r ≡ Ok settings.parameters
-shown_parameters (Err fault) algorithm version settings is = absurd cc
-shown_parameters (Ok q) None version settings is = absurd cc
-shown_parameters (Ok q) (Some own) None settings is = absurd cc
-shown_parameters (Ok q) (Some own) (Some number) settings is =
-    let shown : record { algorithm = own; version = number; parameters = q } ≡ settings = cc in
-    ap (λ (s : Settings). Ok s.parameters) shown
+shown_parameters r algorithm version settings is = grind arith
 
 -- a value that shows costs within the bound
 pub asks_within : (bound : Bound) (v : Phc) (settings : Settings) → shown_settings v ≡ Ok settings
@@ -66,15 +54,12 @@ asks_within bound v settings shows within = record {
 -- a value that shows costs above the bound
 pub asks_above : (bound : Bound) (v : Phc) (stored : Stored) → Ok stored ≡ stored_of v
     → (IsWithin bound stored.settings.parameters → ⊥) → IsAbove bound v
-asks_above bound v stored is never = (
-  rw (← is) refl,
-  (stored.settings.parameters, shown_parameters _ _ _ stored.settings (stored_shows v stored is), never),
-)
+asks_above bound v stored is never =
+    let shown = shown_parameters _ _ _ stored.settings (stored_shows v stored is) in
+    (rw (← is) refl, (stored.settings.parameters, shown, never))
 
 pub within_not_above : (bound : Bound) (v : Phc) → AsksWithin bound v → ¬ (IsAbove bound v)
-within_not_above bound v asks above =
-    let is : asks.parameters ≡ above.1.0 = let a = asks.asked in let b = above.1.1 in cc in
-    above.1.2 (rw (sym is) asks.within)
+within_not_above bound v asks above = let a = asks.asked in let w = asks.within in grind arith
 
 -- ---- what a policy makes and accepts
 
@@ -108,21 +93,15 @@ denied terms password v (Refused e) why = elim (exact terms.target.secret passwo
 ]
 
 -- an error that was passed on
-pub passed : {X E : Type 0} (P : X → Type 0) (Q : E → Type 0) (e : E) (r : Result X E) → IsErrAnd r (λ f. f ≡ e) → Q e
-    → MatchResult r P Q
-passed P Q e (Ok x) is why = absurd is
-passed P Q e (Err f) is why = rw is why
-
 pub err_is : {X E : Type 0} (r : Result X E) (e : E) → IsErrAnd r (λ f. f ≡ e) → r ≡ Err e
-err_is (Ok x) e is = absurd is
-err_is (Err f) e is = ap Err is
+err_is r e is = grind arith
 
 -- what changing a password answers once the old one is accepted
 pub changes : (terms : Terms) (old password drawn : List ℕ) (v : Phc) (r : Result PasswordHash AccountError)
     → Admits terms old v → MatchResult r (λ h. IsFresh terms.target password drawn (phc_of h)) (MakingRefusal password)
-    → MatchResult r (λ h. Admits terms old v × IsFresh terms.target password drawn (phc_of h)) (ChangeRefusal terms old password v)
-changes terms old password drawn v (Ok h) admits fresh = (admits, fresh)
-changes terms old password drawn v (Err e) admits why = inr (admits, why)
+    → MatchResult r (λ h. Admits terms old v × IsFresh terms.target password drawn (phc_of h))
+    (ChangeRefusal terms old password v)
+changes terms old password drawn v r admits made = grind arith
 
 -- ---- a name's text
 
@@ -143,22 +122,12 @@ pub on_none : {X : Type 0} (changes : List ℕ → Result X AccountError → Lis
 on_none changes o p had has = rw (has, had) (refl, refl)
 
 pub is_text : (text old : List ℕ) → false ≡ not (bytes_eq text old) → text ≡ old
-is_text text old same = elim (cases_Bool (bytes_eq text old)) [
-  | inl hit ↦ (bytes_eq-Decides text old).0 hit
-  | inr miss ↦ absurd (let never = rw miss at same in cc)
-]
+is_text text old same = grind (arith, bytes_eq-Decides)
 
 pub is_other_text : (text old : List ℕ) → true ≡ not (bytes_eq text old) → text ≢ old
-is_other_text text old differs is =
-    let hit = (bytes_eq-Decides text old).1 is in
-    let never = rw hit at differs in cc
+is_other_text text old differs = grind (arith, bytes_eq-Decides)
 
 -- ---- names that are added and registered
-
-pub not_added : (text : List ℕ) (before : Option (List ℕ)) (e : Error) (r : Result (Unit {0}) AccountError)
-    → IsErrAnd r (λ f. f ≡ Refused e) → e ≡ EncodingInvalid → ¬ (IsText text) → Adds text before r before
-not_added text before e (Ok x) is why never = absurd is
-not_added text before e (Err f) is why never = rw (is, why) (inl (refl, never), refl)
 
 -- what putting a new name's text in answers
 abbrev pub Inserts : Texts → Texts → List ℕ → List ℕ → Result (Unit {0}) AccountError → Type 0
@@ -168,45 +137,25 @@ Inserts before after name text r = MatchResult r (λ _. get after name ≡ Some 
 pub adds : (before after : Texts) (name text : List ℕ) (h : PasswordHash) (r : Result (Unit {0}) AccountError)
     → PhcText text (phc_of h) → get before name ≡ None → Inserts before after name (text_of h) r
     → Adds text (get before name) r (get after name)
-adds before after name text h (Ok x) says none is = (none, (phc_of h, says), is ∙ ap Some (sym says.1))
-adds before after name text h (Err e) says none is =
-    (rw is.0 (inr (refl, (phc_of h, says), none)), ap (λ m. get m name) is.1)
+adds before after name text h r says none is = grind arith
 
 pub taken : (password : List ℕ) (o : Option (List ℕ)) → IsSome o → RegisteringRefusal password o NameTaken
-taken password (Some text) has = tt
-taken password None has = absurd cc
+taken password o has = grind arith
 
 module _ (terms : Terms) (password drawn : List ℕ) where
   pub not_registered : (o : Option (List ℕ)) (e : AccountError) (r : Result (Unit {0}) AccountError)
       → IsErrAnd r (λ f. f ≡ e) → MakingRefusal password e → o ≡ None → Registers terms password drawn o r o
-  not_registered o e (Ok x) is why none = absurd is
-  not_registered o e (Err f) is why none = rw (is, none) (why, refl)
+  not_registered o e r is why none = grind arith
 
   pub registers : (before after : Texts) (name : List ℕ) (h : PasswordHash) (r : Result (Unit {0}) AccountError)
       → IsFresh terms.target password drawn (phc_of h) → get before name ≡ None
       → Inserts before after name (text_of h) r → Registers terms password drawn (get before name) r (get after name)
-  registers before after name h (Ok x) fresh none is = (none, rw is (phc_of h, is_text_of h, fresh))
-  registers before after name h (Err e) fresh none is =
-      (rw (none, is.0) (inl refl), ap (λ m. get m name) is.1)
+  registers before after name h r fresh none is = let says = is_text_of h in grind arith
 
   pub not_set : (o : Option (List ℕ)) (e : AccountError) (r : Result (Unit {0}) AccountError) → IsSome o
       → IsErrAnd r (λ f. f ≡ e) → MakingRefusal password e → OnText (Sets terms password drawn) o r o
-  not_set None e r has is why = absurd cc
-  not_set (Some text) e (Ok x) has is why = absurd is
-  not_set (Some text) e (Err f) has is why = rw is (why, refl)
+  not_set o e r has is why = grind arith
 
   pub sets : (o p : Option (List ℕ)) (h : PasswordHash) → IsSome o → p ≡ Some (text_of h)
       → IsFresh terms.target password drawn (phc_of h) → OnText (Sets terms password drawn) o (Ok tt) p
-  sets None p h had has fresh = absurd cc
-  sets (Some text) p h had has fresh = rw has (phc_of h, is_text_of h, fresh)
-
-pub inserted_has : (terms : Terms) (before after : Texts) (name password : List ℕ) (h : PasswordHash)
-    (r : Result (Unit {0}) AccountError) → Admits terms password (phc_of h) → Inserts before after name (text_of h) r
-    → OnOk r (HasPassword terms after name password)
-inserted_has terms before after name password h (Ok x) admits is = rw is (phc_of h, is_text_of h, admits)
-inserted_has terms before after name password h (Err e) admits is = tt
-
-pub inserted_drawn : (before after : Texts) (name text : List ℕ) (r : Result (Unit {0}) AccountError)
-    (stream : Stream) → Inserts before after name text r → stream_after_making r stream ≡ (fill_bytes 16 stream).1
-inserted_drawn before after name text (Ok x) stream is = refl
-inserted_drawn before after name text (Err e) stream is = rw is.0 refl
+  sets o p h had has fresh = let is = is_text_of h in grind arith

@@ -1,8 +1,7 @@
 -- A PHC text is that of one value, and so a hash has what its text says.
-use Rattle.std.proofs.Common.{◌≡◌, ◌⊎◌, ℕ, ◌<◌, ◌^◌, ◌==◌, true, List, [], ◌∷◌, ◌++◌, length, Option, Some, None, inl, inr, refl, sym, ap, subst, ◌∙◌, arith}
+use Rattle.std.proofs.Common.{◌≡◌, ◌⊎◌, ℕ, ◌<◌, ◌^◌, ◌==◌, true, List, [], ◌∷◌, ◌++◌, length, Option, Some, None, refl, sym, ap, subst, ◌∙◌, arith}
 use Rattle.std.proofs.lemmas.Fmt.{decimal_injective}
 use Rattle.std.proofs.lemmas.List.Splits.{length-slice_split}
-use Rattle.std.specs.Fmt.{decimal}
 use Rattle.std.specs.Prelude.{IfSome, IsNone}
 use Rattle.argon2_base.proofs.phc_lemmas.Base64Lemmas.{decode_of-strict_base64, strict_base64_unique}
 use Rattle.argon2_base.proofs.phc_lemmas.ParamsReading.{one_list}
@@ -18,12 +17,7 @@ use Rattle.argon2_accounts.specs.Accounts.{Says, text_of}
 version_once : (m n : Option ℕ) (xs ys : List (List ℕ)) → IfSome m (λ k. k < 2 ^ 32) → IfSome n (λ k. k < 2 ^ 32)
     → NoVersionFirst xs → NoVersionFirst ys → field version_text m ++ xs ≡ field version_text n ++ ys
     → (m ≡ n) × (xs ≡ ys)
-version_once None None xs ys low small h k e = (refl, e)
-version_once None (Some n) xs ys low small h k e = absurd (h (decimal n) ys e)
-version_once (Some m) None xs ys low small h k e = absurd (k (decimal m) xs (sym e))
-version_once (Some m) (Some n) xs ys low small h k e =
-    let digits : decimal m ≡ decimal n = cc e in
-    (ap Some (decimal_injective m n (omega (arith, low)) (omega (arith, small)) digits), cc e)
+version_once m n xs ys low small h k e = grind (arith, decimal_injective)
 
 list_once : (ps qs : List Pair) (xs ys : List (List ℕ)) → are_params ps ≡ true → are_params qs ≡ true
     → NoItemFirst xs → NoItemFirst ys → list_field ps ++ xs ≡ list_field qs ++ ys → (ps ≡ qs) × (xs ≡ ys)
@@ -39,8 +33,7 @@ list_once (p ∷ ps) (q ∷ qs) xs ys good fine h k e =
 bytes_once : (low high : ℕ) (a b : Option (List ℕ)) (xs ys : List (List ℕ)) → IfSome a (HasBytes low high)
     → IfSome b (HasBytes low high) → (IsNone a → xs ≡ []) → (IsNone b → ys ≡ [])
     → field strict_base64 a ++ xs ≡ field strict_base64 b ++ ys → (a ≡ b) × (xs ≡ ys)
-bytes_once low high None None xs ys good fine h k e = (refl, e)
-bytes_once low high None (Some b) xs ys good fine h k e = absurd (let none = h refl in cc)
+bytes_once low high None b xs ys good fine h k e = grind arith
 bytes_once low high (Some a) None xs ys good fine h k e = absurd (let none = k refl in cc)
 bytes_once low high (Some a) (Some b) xs ys good fine h k e =
     let text : strict_base64 a ≡ strict_base64 b = cc e in
@@ -76,5 +69,4 @@ pub said : (P : Phc → Type 0) (h : PasswordHash) → Says P (text_of h) → P 
 said P h says = subst P (sym (phc_once (phc_of h) says.0 h.grammatical says.1.0 says.1.1)) says.2
 
 pub not_said : {M : Type 0} (P : Phc → Type 0) (h : PasswordHash) → M ⊎ ¬ (P (phc_of h)) → M ⊎ ¬ (Says P (text_of h))
-not_said P h (inl other) = inl other
-not_said P h (inr never) = inr (λ says. never (said P h says))
+not_said P h either = let once = said P h in grind arith

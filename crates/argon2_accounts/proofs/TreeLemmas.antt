@@ -1,7 +1,5 @@
 -- Trees as maps from names to texts: what they have, in which order, and that trees differ at one name.
-use Rattle.std.proofs.Common.{◌≡◌, ℕ, List, [], ◌∷◌, Option, Some, None, Bool, true, false, if◌then◌else◌, string_bytes, refl, sym, ap, ◌∙◌}
-use Rattle.std.proofs.lemmas.Bool.{false_from_ne_true}
-use Rattle.std.proofs.lemmas.Map.{update_same, update_other}
+use Rattle.std.proofs.Common.{◌≡◌, ℕ, List, [], ◌∷◌, Option, None, true, false, string_bytes, refl, sym, ap, arith, ◌∙◌}
 use Rattle.std.proofs.lemmas.Slice.Eq.{bytes_eq-Decides}
 use Rattle.std.specs.BTreeMap.{BTreeMap, IsOrdered, get_by_text, is_at}
 use Rattle.std.specs.Cmp.Lexicographic.{slice_cmp, nat_list_cmp_total}
@@ -19,27 +17,12 @@ use Rattle.std.specs.declared.cmp.Ordering.TheVariants.{Less}
 use Rattle.argon2_base.specs.declared.phc.hash.PasswordHash.{PasswordHash}
 use Rattle.argon2_accounts.specs.Accounts.{KeepsOthers, named_texts, text_of, texts_of}
 
-map_cond : (b : Bool) (h : PasswordHash) (o : Option PasswordHash) →
-    (if b then Some (text_of h) else option_map text_of o) ≡ option_map text_of (if b then Some h else o)
-map_cond true h o = refl
-map_cond false h o = refl
-
-has_text : (o : Option PasswordHash) → is_some (option_map text_of o) ≡ is_some o
-has_text None = refl
-has_text (Some h) = refl
-
-has_none : (o : Option (List ℕ)) → is_some o ≡ false → o ≡ None
-has_none None h = refl
-has_none (Some text) h = absurd cc
-
 module _ {Y : Type 0} where
   find_named : (es : List (String Y × PasswordHash)) (q : List ℕ) →
       find (slice_cmp nat_cmp) q (named_texts es)
       ≡ option_map text_of (lookup (is_at (λ k. slice_cmp nat_cmp q (string_bytes k))) es)
   find_named [] q = refl
-  find_named (e ∷ es) q =
-      ap (λ o. if is_at (λ k. slice_cmp nat_cmp q (string_bytes k)) e.0 then Some (text_of e.1) else o) (find_named es q)
-      ∙ map_cond (is_at (λ k. slice_cmp nat_cmp q (string_bytes k)) e.0) e.1 _
+  find_named (e ∷ es) q = let older = find_named es q in grind arith
 
   -- the map has the texts of what the tree has
   pub get-texts_of : (m : BTreeMap (String Y) PasswordHash) (q : List ℕ) →
@@ -49,28 +32,24 @@ module _ {Y : Type 0} where
   -- one that the tree has, or has not
   pub get-found : (m : BTreeMap (String Y) PasswordHash) (q : List ℕ) (o : Option PasswordHash) →
       get_by_text m q ≡ o → get (texts_of m) q ≡ option_map text_of o
-  get-found m q o e = get-texts_of m q ∙ ap (option_map text_of) e
+  get-found m q o e = cc (get-texts_of m q)
 
   -- a name that the tree has, and one that it has not
   pub present : (m : BTreeMap (String Y) PasswordHash) (q : List ℕ) → is_some (get_by_text m q) ≡ true →
       IsSome (get (texts_of m) q)
-  present m q h = ap is_some (get-texts_of m q) ∙ has_text (get_by_text m q) ∙ h
+  present m q h = grind (arith, get-texts_of)
 
   pub absent : (m : BTreeMap (String Y) PasswordHash) (q : List ℕ) → is_some (get_by_text m q) ≡ false →
       get (texts_of m) q ≡ None
-  absent m q h = has_none _ (ap is_some (get-texts_of m q) ∙ has_text (get_by_text m q) ∙ h)
+  absent m q h = grind (arith, get-texts_of)
 
   -- trees that differ at one name
   pub name_changes : (m n : BTreeMap (String Y) PasswordHash) (name : List ℕ) (o : Option PasswordHash)
       → ((q : List ℕ) → get_by_text n q ≡ update bytes_eq (get_by_text m) name o q)
       → (get (texts_of n) name ≡ option_map text_of o) × KeepsOthers name (texts_of m) (texts_of n)
   name_changes m n name o updates = (
-    get-found n name o
-        (updates name ∙ update_same bytes_eq (get_by_text m) name o name ((bytes_eq-Decides name name).1 refl)),
-    λ other differs.
-        let apart = false_from_ne_true (bytes_eq name other) (λ hit. differs (sym ((bytes_eq-Decides name other).0 hit))) in
-        get-found n other (get_by_text m other) (updates other ∙ update_other bytes_eq (get_by_text m) name o other apart)
-        ∙ sym (get-texts_of m other),
+    grind (arith, get-texts_of, bytes_eq-Decides),
+    λ other differs. grind (arith, get-texts_of, bytes_eq-Decides),
   )
 
   -- ---- the texts in order

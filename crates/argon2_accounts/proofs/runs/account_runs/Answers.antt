@@ -1,5 +1,5 @@
 -- By induction on the calls: a call keeps what other names have, and gives its own.
-use Rattle.std.proofs.Common.{◌≡◌, ◌≢◌, ℕ, List, [], ◌∷◌, Option, Some, None, Result, Ok, Err, inl, inr, refl, sym, ap, subst, ◌∙◌}
+use Rattle.std.proofs.Common.{arith, ◌≡◌, ◌≢◌, ℕ, List, [], ◌∷◌, Option, Some, Result, Ok, Err, inl, inr, sym, subst}
 use Rattle.std.proofs.lemmas.Bool.{cases_Bool}
 use Rattle.std.proofs.lemmas.Slice.Eq.{bytes_eq-Decides}
 use Rattle.std.specs.Cmp.Lexicographic.{slice_cmp}
@@ -7,36 +7,24 @@ use Rattle.std.specs.FinMap.{empty, get, get-empty}
 use Rattle.std.specs.Option.{option_or}
 use Rattle.std.specs.Ordering.{nat_cmp}
 use Rattle.std.specs.Str.{bytes_eq}
-use Rattle.argon2_base.specs.PhcText.{Phc, phc_text}
+use Rattle.argon2_base.specs.PhcText.{Phc}
 use Rattle.argon2_accounts.specs.declared.error.AccountError.{AccountError}
-use Rattle.argon2_accounts.specs.Accounts.{Accepts, AccountAnswer, AccountEvent, AccountRun, Admits, AreTerms, ByValue, Changes, Given, HasGiven, IsMadeOf, LogsIn, OnText, Replaces, Sets, Terms, Texts, a_password, adding, changing, given, gives, logging_in, name_of, registering, removing, replacing, setting}
+use Rattle.argon2_accounts.specs.Accounts.{Accepts, AccountAnswer, AccountEvent, AccountRun, Admits, AreTerms, ByValue, Changes, Given, HasGiven, IsMadeOf, LogsIn, OnText, Terms, Texts, a_password, adding, changing, given, gives, logging_in, name_of, registering, removing, replacing, setting}
 use Rattle.argon2.specs.NamedTexts.{newest}
 use Rattle.argon2_accounts.proofs.AccountLemmas.{fresh_admits, leaves_admits}
 use Rattle.argon2_accounts.proofs.runs.account_runs.Goals as goal
 
--- a refused call on a text keeps it
-kept : {X : Type 0} (changes : List ℕ → Result X AccountError → List ℕ → Type 0) (e : AccountError) (o p : Option (List ℕ))
-    → ((text left : List ℕ) → changes text (Err e) left → left ≡ text) → OnText changes o (Err e) p → p ≡ o
-kept changes e (Some text) (Some left) same step = ap Some (same text left step)
-kept changes e (Some text) None same step = absurd step
-kept changes e None p same step = step.1
-
+-- a refused call on a value keeps its text
 kept_value : {X : Type 0} (changes : Phc → Result X AccountError → Phc → Type 0) (e : AccountError) (o p : Option (List ℕ))
     → ((v w : Phc) → changes v (Err e) w → w ≡ v) → OnText (ByValue changes) o (Err e) p → p ≡ o
-kept_value changes e o p same = kept (ByValue changes) e o p same_text
-  where
-    same_text : (text left : List ℕ) → ByValue changes text (Err e) left → left ≡ text
-    same_text text left (inl is) = is.3.1 ∙ ap phc_text (same is.0 is.1 is.4) ∙ sym is.2.1
-    same_text text left (inr is) = is.2
+kept_value changes e o p same step = grind arith
 
 module _ (terms : Terms) (are : AreTerms terms) where
   -- an accepted one leaves a text with its password
   chosen : {X : Type 0} (changes : List ℕ → Result X AccountError → List ℕ → Type 0) (x : X) (last : List ℕ)
       (o p : Option (List ℕ)) → ((text left : List ℕ) → changes text (Ok x) left → Accepts terms last left)
       → OnText changes o (Ok x) p → HasGiven terms (Some (a_password last)) p
-  chosen changes x last (Some text) (Some left) accepts step = accepts text left step
-  chosen changes x last (Some text) None accepts step = absurd step
-  chosen changes x last None p accepts step = let never = step.0 in absurd cc
+  chosen changes x last o p accepts step = grind arith
 
   chosen_value : {X : Type 0} (changes : Phc → Result X AccountError → Phc → Type 0) (x : X) (last : List ℕ)
       (o p : Option (List ℕ)) → ((v w : Phc) → changes v (Ok x) w → Admits terms last w)
@@ -53,11 +41,8 @@ module _ (terms : Terms) (are : AreTerms terms) where
   -- what a call gives its name
   call_gives : (event : AccountEvent) (older : Option Given) (o p : Option (List ℕ)) → AccountAnswer terms event o p
       → HasGiven terms older o → HasGiven terms (option_or (gives event) older) p
-  call_gives (adding name added (Ok x)) older o p step has = rw step.2 refl
-  call_gives (adding name added (Err e)) older o p step has = rw step.1 has
-  call_gives (registering name last drawn (Ok x)) older o (Some text) step has = made_accepts last drawn text step.1
-  call_gives (registering name last drawn (Ok x)) older o None step has = absurd step.1
-  call_gives (registering name last drawn (Err e)) older o p step has = rw step.1 has
+  call_gives (adding name added r) older o p step has = grind arith
+  call_gives (registering name last drawn r) older o p step has = let made = made_accepts last drawn in grind arith
   call_gives (logging_in name last drawn (Ok did)) older o p step has = chosen_value (LogsIn terms last drawn) did last o p
       (λ v w is. leaves_admits terms are last drawn v w did is.1 is.0) step
   call_gives (logging_in name last drawn (Err e)) older o p step has =
@@ -66,17 +51,9 @@ module _ (terms : Terms) (are : AreTerms terms) where
       (λ v w is. fresh_admits terms are last drawn w is.1) step
   call_gives (changing name old last drawn (Err e)) older o p step has =
       rw (kept_value (Changes terms old last drawn) e o p (λ v w is. is.1) step) has
-  call_gives (setting name last drawn (Ok x)) older o p step has =
-      chosen (Sets terms last drawn) x last o p (λ text left. made_accepts last drawn left) step
-  call_gives (setting name last drawn (Err e)) older o p step has =
-      rw (kept (Sets terms last drawn) e o p (λ text left is. is.1) step) has
-  call_gives (replacing name old new (Ok x)) older (Some text) (Some left) step has = step.2
-  call_gives (replacing name old new (Ok x)) older (Some text) None step has = absurd step
-  call_gives (replacing name old new (Ok x)) older None p step has = let never = step.0 in absurd cc
-  call_gives (replacing name old new (Err e)) older o p step has =
-      rw (kept (Replaces old new) e o p (λ text left is. is.1) step) has
-  call_gives (removing name (Ok x)) older o p step has = rw step.1 tt
-  call_gives (removing name (Err e)) older o p step has = rw step.2 (rw step.1 at has)
+  call_gives (setting name last drawn r) older o p step has = let made = made_accepts last drawn in grind arith
+  call_gives (replacing name old new r) older o p step has = grind arith
+  call_gives (removing name r) older o p step has = grind arith
 
   has_given : (events : List AccountEvent) (texts : Texts) → AccountRun terms empty events texts →
       (name : List ℕ) → HasGiven terms (newest (given name) events) (get texts name)

@@ -1,16 +1,9 @@
 use Rattle.std.proofs.Common.{refl, sym, ◌∙◌}
 use Rattle.argon2_base.specs.PhcFields.{phc_of}
 use Rattle.argon2_accounts.specs.Accounts.{kept_texts}
-use Rattle.argon2_accounts.proofs.AccountLemmas.{adds, not_added}
+use Rattle.argon2_accounts.proofs.AccountLemmas.{adds}
 use Rattle.argon2_accounts.proofs.TreeLemmas.{absent, present}
 use Rattle.argon2_accounts.proofs.accounts.Accounts.add.Goals as goal
-
-pub returns-in_err-parsed-clause-step : goal.returns-in_err-parsed-clause-step
-returns-in_err-parsed-clause-step c = (
-  not_added c.args.text.now _ c.in_err-parsed.field-0.0 c.from_residual.result c.from_residual.ensures.1
-      c.in_err-parsed.ensures.invalid (λ is. c.in_err-parsed.ensures.only is.0 is.1),
-  λ other differs. refl,
-)
 
 pub returns-then-contains_key-clause-step : goal.returns-then-contains_key-clause-step
 returns-then-contains_key-clause-step c = (

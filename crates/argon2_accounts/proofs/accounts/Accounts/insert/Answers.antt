@@ -3,13 +3,6 @@ use Rattle.std.proofs.lemmas.Map.Text.{btree_map_updates_text}
 use Rattle.argon2_accounts.proofs.TreeLemmas.{name_changes}
 use Rattle.argon2_accounts.proofs.accounts.Accounts.insert.Goals as goal
 
-pub returns-in_default-insert : goal.returns-in_default-insert
-returns-in_default-insert c = record {
-  inserted = (refl, search rules);
-  others = λ other differs. search rules;
-  terms = refl;
-}
-
 pub returns : goal.returns
 returns c =
     let key = c.in-Ok.key in

@@ -1,15 +1,12 @@
-use Rattle.std.proofs.Common.{◌≡◌, None, Some, refl, sym}
+use Rattle.std.proofs.Common.{None, Some, refl, sym}
 use Rattle.std.proofs.lemmas.Map.Text.{btree_map_updates_text}
-use Rattle.std.specs.FinMap.{get}
-use Rattle.argon2_accounts.specs.Accounts.{kept_texts}
 use Rattle.argon2_accounts.proofs.TreeLemmas.{get-found, name_changes}
 use Rattle.argon2_accounts.proofs.accounts.Accounts.put.Goals as goal
 
 pub unreachable-requires : goal.unreachable-requires
 unreachable-requires c =
-    let none : get (kept_texts c.args.self.now) c.args.name.now ≡ None =
-    get-found c.args.self.now.texts c.args.name.now None (sym c.in_default.ensures.value) in
-    absurd (let h = rw none at c.requires in cc)
+    let none = get-found c.args.self.now.texts c.args.name.now None (sym c.in_default.ensures.value) in
+    let h = rw none at c.requires in absurd cc
 
 pub returns : goal.returns
 returns c =

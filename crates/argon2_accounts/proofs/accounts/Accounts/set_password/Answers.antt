@@ -1,9 +1,7 @@
 use Rattle.std.proofs.Common.{refl, sym, ◌∙◌}
 use Rattle.rand_core.specs.Stream.{fill_bytes}
-use Rattle.argon2_base.specs.PhcFields.{phc_of}
 use Rattle.argon2_accounts.specs.Accounts.{Sets, kept_terms}
 use Rattle.argon2_accounts.proofs.AccountLemmas.{not_set, on_none, sets}
-use Rattle.argon2_accounts.proofs.TextLemmas.{is_text_of}
 use Rattle.argon2_accounts.proofs.TreeLemmas.{absent, present}
 use Rattle.argon2_accounts.proofs.accounts.Accounts.set_password.Goals as goal
 
@@ -35,8 +33,3 @@ returns-clause-step g c = (
       c.put.ensures.replaced c.in_ok-fresh.ensures.made,
   c.put.ensures.others,
 )
-
-pub returns-clause-accepted : goal.returns-clause-accepted
-returns-clause-accepted g c =
-    let fresh = c.in_ok-fresh.fresh in
-    rw (c.put.ensures.terms, c.put.ensures.replaced) (phc_of fresh, is_text_of fresh, c.in_ok-fresh.ensures.accepted)

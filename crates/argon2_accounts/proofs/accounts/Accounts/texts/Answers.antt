@@ -1,5 +1,4 @@
 use Rattle.std.proofs.Common.{ap, sym, ◌∙◌}
-use Rattle.std.specs.FinMap.{from_entries}
 use Rattle.argon2_accounts.specs.Accounts.{named_texts}
 use Rattle.argon2_accounts.proofs.TreeLemmas.{entries-texts_of}
 use Rattle.argon2_accounts.proofs.accounts.Accounts.texts.Goals as goal
@@ -7,6 +6,3 @@ use Rattle.argon2_accounts.proofs.accounts.Accounts.texts.Goals as goal
 pub returns-clause-texts : goal.returns-clause-texts
 returns-clause-texts c =
     ap named_texts c.iter.ensures.rest ∙ sym (entries-texts_of c.args.self.now.texts c.iter.ensures.ordered)
-
-pub returns-clause-again : goal.returns-clause-again
-returns-clause-again c = ap (λ items. from_entries (named_texts items)) c.iter.ensures.rest
