@@ -1,7 +1,7 @@
 -- What calls of the login store leave, why `add` refuses, and the names of a store one after the other.
-use Rattle.std.proofs.Common.{◌≡◌, ℕ, ◌≤◌, List, [], ◌∷◌, Option, Some, None, true, Result, Ok, Err, inl, inr, ap, ◌∙◌}
+use Rattle.std.proofs.Common.{◌≡◌, ℕ, ◌≤◌, List, [], ◌∷◌, Option, Some, None, true, Result, Ok, Err, inl, inr, refl, ap, ◌∙◌}
 use Rattle.std.proofs.lemmas.Bool.{and_parts, cases_Bool}
-use Rattle.std.specs.Prelude.{◌≢◌, IfErr, IsErr, IsErrAnd, IsSomeAnd, OnOk}
+use Rattle.std.specs.Prelude.{◌≢◌, IfErr, IsErr, IsErrAnd, IsOk, IsSomeAnd, OnOk}
 use Rattle.std.specs.Cmp.{tied_itself}
 use Rattle.std.specs.Cmp.Lexicographic.{slice_cmp, nat_list_cmp_total}
 use Rattle.std.specs.FinMap.{empty, entries, entries_sorted, get, get-empty, is_sorted}
@@ -10,8 +10,9 @@ use Rattle.std.specs.List.{AllByRecursion}
 use Rattle.std.specs.Ordering.{is_lt, nat_cmp}
 use Rattle.argon2.specs.Login.{AcceptedStep, AddStep, LoginAnswer, store_of, login_target}
 use Rattle.argon2.specs.NamedTexts.{Store, KeepsOthers}
-use Rattle.argon2.specs.Made.{Target, tag_length}
+use Rattle.argon2.specs.Made.{Target, IsHashAnswer, hashed, tag_length}
 use Rattle.argon2.specs.PhcText.{Phc, PhcText}
+use Rattle.argon2.specs.base_declared.phc.hash.PasswordHash.{PasswordHash}
 use Rattle.argon2.specs.declared.login.answers.Accepted.{Accepted}
 use Rattle.argon2.specs.declared.login.Login.{Login}
 use Rattle.argon2.specs.declared.login.answers.LoginError.{LoginError}
@@ -31,17 +32,23 @@ pub add_gives : (answer : Result (Unit {0}) LoginError) (o : Option Phc) (text :
 add_gives (Ok x) o text v w is same says = says v is ∙ ap Some same
 add_gives (Err e) o text v w is same says = tt
 
+-- a text that was made is of lengths that are taken
+pub hashed_ok : (target : Target) (password salt : List ℕ) (h : PasswordHash) →
+    IsHashAnswer target password salt (Ok h) → IsOk (hashed target password salt)
+hashed_ok target password salt h (inl is) = rw (← is) refl
+hashed_ok target password salt h (inr is) = is.1
+
 -- `add` refuses a text of the grammar if the name is taken or memory is out
 pub add_refuses : (target : Target) (login : Login) (name password salt text : List ℕ) (v : Phc)
     (answer : Result (Unit {0}) LoginError) (after : Store) → PhcText text v →
-    AddStep (store_of login) name text answer after →
+    IsOk (hashed target password salt) → AddStep (store_of login) name text answer after →
     IfErr answer (RegisterRefusal target login name password salt)
-add_refuses target login name password salt text v (Ok x) after is step = tt
-add_refuses target login name password salt text v (Err Text) after is step = absurd (step.0 v is)
-add_refuses target login name password salt text v (Err NameTaken) after is step = step.0.1
-add_refuses target login name password salt text v (Err NameUnknown) after is step = absurd step.0
-add_refuses target login name password salt text v (Err OutOfMemory) after is step = tt
-add_refuses target login name password salt text v (Err (Refused e)) after is step = absurd step.0
+add_refuses target login name password salt text v (Ok x) after is made step = tt
+add_refuses target login name password salt text v (Err Text) after is made step = absurd (step.0 v is)
+add_refuses target login name password salt text v (Err NameTaken) after is made step = (made, step.0.1)
+add_refuses target login name password salt text v (Err NameUnknown) after is made step = absurd step.0
+add_refuses target login name password salt text v (Err OutOfMemory) after is made step = (made, step.0.1)
+add_refuses target login name password salt text v (Err (Refused e)) after is made step = absurd step.0
 
 -- ---- the names of a store
 

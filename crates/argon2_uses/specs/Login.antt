@@ -1,10 +1,10 @@
 -- What a service asks of its login store.
-use Rattle.std.specs.Prelude.{◌≡◌, ◌≤◌, ◌⊎◌, ℕ, List, Option, Some, Result, Ok, Err, IsErrAnd, IsSome, IsSomeAnd}
+use Rattle.std.specs.Prelude.{◌≡◌, ◌≤◌, ◌⊎◌, ℕ, List, Option, Some, None, Result, Ok, Err, IsErrAnd, IsOk, IsSome, IsSomeAnd}
 use Rattle.std.specs.FinMap.{get}
 use Rattle.argon2.specs.Stored.{AcceptsBy}
 use Rattle.argon2.specs.Login.{AcceptedStep, AddStep, IsNew, LoginAnswer, store_of, login_target}
 use Rattle.argon2.specs.NamedTexts.{Store}
-use Rattle.argon2.specs.Made.{Target, IsHashAnswer, tag_length}
+use Rattle.argon2.specs.Made.{Target, IsHashAnswer, hashed, tag_length}
 use Rattle.argon2.specs.declared.login.Login.{Login}
 use Rattle.argon2.specs.declared.login.answers.Accepted.{Accepted}
 use Rattle.argon2.specs.declared.login.answers.LoginError.{LoginError}
@@ -22,10 +22,12 @@ FindsAndLeaves old name password drawn (Ok (Some did)) new = IsSomeAnd (get (sto
     AcceptedStep (login_target old) (store_of old) name password drawn v did (store_of new))
 FindsAndLeaves old name password drawn _ new = store_of new ≡ store_of old
 
--- why a name is not registered with a password and a salt
+-- why a name is not registered with a password and a salt: no text is made, or else `add` refuses it
 abbrev pub RegisterRefusal : Target → Login → List ℕ → List ℕ → List ℕ → LoginError → Type 0
-RegisterRefusal target login name password salt NameTaken = IsSome (get (store_of login) name)
-RegisterRefusal target login name password salt OutOfMemory = Unit {0}
+RegisterRefusal target login name password salt NameTaken =
+    IsOk (hashed target password salt) × IsSome (get (store_of login) name)
+RegisterRefusal target login name password salt OutOfMemory =
+    IsOk (hashed target password salt) × (get (store_of login) name ≡ None)
 RegisterRefusal target login name password salt (Refused e) = IsHashAnswer target password salt (Err e)
 RegisterRefusal target login name password salt _ = ⊥
 

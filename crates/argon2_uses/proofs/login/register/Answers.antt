@@ -4,14 +4,17 @@ use Rattle.argon2.specs.PhcFields.{phc_of}
 use Rattle.argon2.specs.Login.{store_of}
 use Rattle.argon2.specs.Made.{target_of}
 use Rattle.argon2.proofs.login_lemmas.LoginLemmas.{hash_made}
-use Rattle.argon2_uses.proofs.Stores.{add_gives, add_refuses}
+use Rattle.argon2_uses.proofs.Stores.{add_gives, add_refuses, hashed_ok}
 use Rattle.argon2_uses.proofs.login.register.Goals as goal
 
 pub returns-clause-refused : goal.returns-clause-refused
 returns-clause-refused g c =
-    add_refuses (target_of c.args.argon2.now) c.args.store.now c.args.name.now c.args.password.now
-    (fill_bytes 16 (g.R.Rng.stream c.args.rng.now)).0 c.as_str.result.now (phc_of c.in-Ok.hash) c.add.result
-    (store_of c.add.new.self) (search rules) c.add.ensures.step
+    let target = target_of c.args.argon2.now in
+    let password = c.args.password.now in
+    let salt = (fill_bytes 16 (g.R.Rng.stream c.args.rng.now)).0 in
+    add_refuses target c.args.store.now c.args.name.now password salt c.as_str.result.now (phc_of c.in-Ok.hash)
+    c.add.result (store_of c.add.new.self) (search rules)
+    (hashed_ok target password salt c.in-Ok.hash c.in-Ok.ensures.answer) c.add.ensures.step
 
 pub returns-clause-text : goal.returns-clause-text
 returns-clause-text g c =
