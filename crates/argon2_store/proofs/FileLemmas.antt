@@ -3,12 +3,11 @@ use Rattle.argon2_store.proofs.Imports.{arith, ◌≡◌, inl, inr, ℕ, List, O
 use Rattle.argon2_store.proofs.Imports.{Stream, is_some, option_map, string_bytes, ◌↔◌, IfErr, IsErr, IsErrAnd, MatchResult, OnErr, OnOk, length, iff_false, true_from_ne_false}
 use Rattle.argon2_store.proofs.Imports.{StoreError, Ghosts, AccountAnswer, AccountStep, Accepts, HasPassword, Terms, name_of, Texts, AccountError, NameUnknown, Refused}
 use Rattle.argon2_store.proofs.Imports.{IfOk, Answers, Call, DrawsForText, error_of, HasFailed, IfRefused, IsClosed, IsErrorAt, IsOfFile, Runs, Serves}
-use Rattle.argon2_store.proofs.Imports.{Stays, database_of, terms_of, answered, read_of, unwritten, Changes, IsHonest, IsLong, IsOpen, KeepsNames, CrashLeaves, StaysQuiet, changed}
+use Rattle.argon2_store.proofs.Imports.{Stays, database_of, terms_of, answered, read_of, unwritten, Changes, IsHonest, IsLong, IsOpen, CrashLeaves, StaysQuiet, changed}
 use Rattle.argon2_store.proofs.Imports.{AccountFile, FileError, Account, Closed, err_is, String, ByValue, Phc, PhcText}
 use Rattle.argon2_store.specs.AccountFile.{HasCause, HasNames}
 use Rattle.argon2_store.proofs.RowLemmas.{get-changed, others_kept, rows_of-once}
-use Rattle.argon2_store.proofs.TableLemmas.{Settled, leaves_kept, leaves_quiet, on_all, quiet_itself}
-use Rattle.argon2_store.specs.Table as rows
+use Rattle.argon2_store.proofs.TableLemmas.{Keeps, Settled, leaves_kept, leaves_quiet, on_all, quiet_itself}
 use Rattle.argon2_base.specs.declared.error.password_hash.Error.{Error}
 use Rattle.argon2_base.specs.declared.error.password_hash.Error.TheVariants.{EncodingInvalid}
 
@@ -67,26 +66,22 @@ module _ {S : Type 0} {g : Ghosts S} (settled : Settled g) (old : AccountFile S 
   shut_out shut names has = search (arith, leaves_kept)
 
   module _ (shut : b ≡ false) where
-    is_open : IsTrusted old → IsOpen g (database_of old)
+    pub is_open : IsTrusted old → IsOpen g (database_of old)
     is_open clean = true_from_ne_false _ (iff_false (tests clean) shut)
 
     -- a call that reads an open file
     pub reads_of : {X : Type 0} (new : AccountFile S g) → terms_of new ≡ terms_of old → (done : Result X StoreError)
-        → ((names : Texts) → HasNames old names → KeepsNames g (database_of old) (database_of new) names done)
-        → (r : Result X FileError) → r ≡ read_of done → NamesStay (error_of r) old new
-    reads_of new terms done reads r is names has =
-        let read = reads names has in
-        let left = leaves_quiet g settled (database_of old) (database_of new) names has.1 read.quiet in
+        → (names : Texts) → HasNames old names → Keeps g (database_of old) (database_of new) names done
+        → (r : Result X FileError) → r ≡ read_of done → Stays (error_of r) names old new
+    reads_of new terms done names has (had, opens, why, quiet) r is =
+        let left = leaves_quiet g settled (database_of old) (database_of new) names has.1 quiet in
         let never = λ (clean : IsTrusted old). iff_false (tests clean) shut in
         let was_open = is_open in grind (arith, is_of_file)
 
     -- the store does nothing
     pub unread : NamesStay None old old
     unread names has =
-        let left = leaves_kept g (database_of old) names (settled (database_of old)) has.1 in
-        let itself = quiet_itself g (database_of old) in
-        let never = λ (clean : IsTrusted old). iff_false (tests clean) shut in
-        let was_open = is_open in grind arith
+        reads_of old refl (Ok (tt {0})) names has (has, is_open, (λ clean. tt), quiet_itself g (database_of old)) _ refl
 
 -- a call that leaves the names
 pub ends_with : {S : Type 0} {g : Ghosts S} {X : Type 0} {answers : Result X FileError → Texts → Type 0} {May : Texts → Type 0}
@@ -239,39 +234,40 @@ fails {long = long} {e = e} step may reads =
 
 -- a call on a name in a file that can't be read
 pub cannot_serve : {S : Type 0} {g : Ghosts S} {X : Type 0} (call : Call X) {old mid : AccountFile S g} {e : FileError}
-    (r : Result X FileError) → IsErrAnd r (λ f. f ≡ e) → NamesStay (Some e) old mid → Serves call r old mid
-cannot_serve {X = X} call {old} {e = e} r is reads before has =
+    (r : Result X FileError) → NamesStay (Some e) old mid → r ≡ Err e → Serves call r old mid
+cannot_serve {X = X} call {old} {e = e} r reads is before has =
     let read = reads before has in
-    rw (err_is r e is) (before, fails (unread_step X (terms_of old) before call e read.of_file) (inl refl) read)
+    rw is (before, fails (unread_step X (terms_of old) before call e read.of_file) (inl refl) read)
 
 -- ---- the password of a name
 
-module _ {S : Type 0} {g : Ghosts S} {old mid : AccountFile S g} (reads : NamesStay None old mid) (terms : Terms)
-    (name password : List ℕ) where
-  -- a store that is open has one map of names
-  once : {new : S} {names after : Texts} → rows.HasNames g new names → rows.HasNames g new after → IsHonest g new
-      → IsOpen g new → HasPassword terms names name password → HasPassword terms after name password
-  once {names = names} {after} kept held clean open_now = subst (λ t. HasPassword terms t name password)
-      (rows_of-once names after (sym (kept.1.seen clean open_now).0 ∙ (held.1.seen clean open_now).0))
+module _ {S : Type 0} {g : Ghosts S} {old mid : AccountFile S g} (reads : NamesStay None old mid) (new : AccountFile S g)
+    (same : terms_of new ≡ terms_of mid) (name password : List ℕ) {text : List ℕ} (fits : Accepts (terms_of mid) password text) where
+  -- an open file has one map of names, in which the name has this text
+  granted : {names : Texts} → HasNames new names → (IsTrusted new → get names name ≡ Some text)
+      → (IsTrusted new → IsOpen g (database_of new)) → (after : Texts) → HasNames new after → IsTrusted new
+      → HasPassword (terms_of new) after name password
+  granted {names = names} kept has opens after held clean =
+      subst (λ t. HasPassword (terms_of new) t name password) (rows_of-once names after
+      (sym (kept.1.seen clean (opens clean)).0 ∙ (held.1.seen clean (opens clean)).0)) (rw (same, has clean) fits)
 
   -- the name still has its text, which accepts the password
-  pub has_kept : {new : S} {text : List ℕ}
-      → ((names : Texts) → HasNames mid names → rows.HasNames g new names × (IsHonest g new → IsTrusted mid))
-      → (IsHonest g new → IsOpen g new)
+  pub has_kept : ((names : Texts) → HasNames mid names → HasNames new names × (IsTrusted new → IsTrusted mid))
+      → (IsTrusted new → IsOpen g (database_of new))
       → ((names : Texts) → HasNames mid names → IsTrusted mid → get names name ≡ Some text)
-      → Accepts terms password text → (before after : Texts) → HasNames old before → rows.HasNames g new after
-      → IsHonest g new → HasPassword terms after name password
-  has_kept stay open_now had fits before after has held clean = search (arith, once)
+      → (before after : Texts) → HasNames old before → HasNames new after → IsTrusted new
+      → HasPassword (terms_of new) after name password
+  has_kept stay opens had before after has held = search (arith, granted)
 
   -- the name has the text that was written, which accepts the password
-  pub has_written : {new : S} {text : List ℕ} {long : Type 0} {X : Type 0} (x : X) (done : Result (Unit {0}) StoreError)
-      → ((names : Texts) → HasNames mid names → Changes g (database_of mid) new names (insert names name text) long done)
-      → Accepts terms password text → (r : Result X FileError) → r ≡ answered done x → (before after : Texts)
-      → HasNames old before → rows.HasNames g new after → OnOk r (IsHonest g new → HasPassword terms after name password)
-  has_written {text = text} x (Ok _) change fits r e before after has held =
+  pub has_written : {long : Type 0} {X : Type 0} (x : X) (done : Result (Unit {0}) StoreError) → ((names : Texts)
+      → HasNames mid names → Changes g (database_of mid) (database_of new) names (insert names name text) long done)
+      → (r : Result X FileError) → r ≡ answered done x → (before after : Texts) → HasNames old before → HasNames new after
+      → OnOk r (IsTrusted new → HasPassword (terms_of new) after name password)
+  has_written x (Ok _) change r e before after has held =
       let wrote = change before (reads before has).has in
-      rw e (λ clean. once wrote.kept held clean (wrote.durable clean).0 (rw (get-changed before name (Some text)) fits))
-  has_written x (Err f) change fits r e before after has held = rw e tt
+      rw e (granted wrote.kept (λ clean. get-changed before name (Some text)) (λ clean. (wrote.durable clean).0) after held)
+  has_written x (Err f) change r e before after has held = rw e tt
 
 -- what an answer says
 pub ruleset answers = (on_read, of_file, undrawn, writes_at)

@@ -21,7 +21,7 @@ pub use Rattle.std.specs.FinMap.Entries.{below_all}
 pub use Rattle.std.specs.List.{AllByRecursion, flat_map, list_all, range_with_len}
 pub use Rattle.std.specs.Option.{is_some, option_copied, option_map}
 pub use Rattle.std.specs.Ordering.{eq_by_cmp, is_lt, nat_cmp, ordering_reverse, ordering_then}
-pub use Rattle.std.specs.Prelude.{All, Any, IfErr, IfOk, IfSome, IsErr, IsErrAnd, IsOkAnd, MatchResult, OnErr, OnOk, String, ⊤}
+pub use Rattle.std.specs.Prelude.{All, Any, IfErr, IfOk, IfSome, IsErr, IsErrAnd, MatchResult, OnErr, OnOk, String, ⊤}
 pub use Rattle.std.specs.Str.{bytes_eq}
 pub use Rattle.sqlite_disk.specs.Disk.{MoreFaults}
 pub use Rattle.sqlite_pages.specs.PageMap.{PageMap}
@@ -42,7 +42,7 @@ pub use Rattle.sqlite_store.specs.declared.store.FileStore.{FileStore}
 pub use Rattle.sqlite_trees.proofs.Doubt.{clean_of, no_doubt}
 pub use Rattle.sqlite_trees.specs.Objects.{catalog_tree}
 pub use Rattle.sqlite_trees.specs.Tree.{IsIndex, Trees, from_key, insert_entry, order_of, remove_entry, sought}
-pub use Rattle.sqlite_trees.specs.View.{Advances, IsClean, IsFailure, IsOrdered, IsStorable, KeepsSchema, OnlyWrites, SetsTree, View, doubt, is_int, with_cursor}
+pub use Rattle.sqlite_trees.specs.View.{Advances, IsClean, IsFailure, IsOrdered, IsStorable, KeepsSchema, OnlyWrites, SetsTree, View, is_int, with_cursor}
 pub use Rattle.sqlite_trees.specs.declared.error.StoreError.{StoreError}
 pub use Rattle.sqlite_trees.specs.declared.error.StoreError.TheVariants.{Io}
 pub use Rattle.sqlite_trees.specs.declared.store.Direction.TheVariants.{Forward}
@@ -75,13 +75,13 @@ pub use Rattle.rand_core.specs.Stream.{Stream, fill_bytes}
 pub use Rattle.argon2_store.specs.AccountFile.{AddsOrNone, Answers, Call, DrawsForText, DrawsOnce, HasFailed, IfRefused, IsBeforeOrAfter, IsClosed, IsErrorAt, IsFrom, IsOfFile}
 pub use Rattle.argon2_store.specs.AccountFile.{Runs, Serves, Stays, error_of, database_of, terms_of}
 pub use Rattle.argon2_store.specs.Adding.{AddsAll, AddsName, WritesAll, entry_of}
-pub use Rattle.argon2_store.specs.Errors.{IsOfDatabase, answered, read_of, unwritten}
+pub use Rattle.argon2_store.specs.Errors.{answered, read_of, unwritten}
 pub use Rattle.argon2_store.specs.Opening.{AreUnharmed, FoundIn, HoldsNames, IsAfterOpens, IsTableOf, IsUnstarted, LeavesNames, MayHave, StandsFor, account}
 pub use Rattle.argon2_store.specs.Rows.{AreTexts, FitLines, HasNoneAfter, IsAccount, IsAfterAll, IsFoundAs, breaks_line, line, lines, lines_of, row_of, rows_of}
 pub use Rattle.argon2_store.specs.Runs.{AreEventsOf, Did, Does, EndsRun, FileCall, IsFoundAfter, IsLate, IsLateEvent, IsLateOf, IsShutOut, Run, add_all, added, event_of, events_of}
 pub use Rattle.argon2_store.specs.Runs.{login, on_name, over_file, reads}
-pub use Rattle.argon2_store.specs.Table.{Changes, HasBegun, HasNames, HasSome, Holds, IsUnwritten, IsHonest, IsKept, IsLong, IsOpen, KeepsNames, CrashLeaves, Sees, StaysQuiet}
-pub use Rattle.argon2_store.specs.Table.{Writes, changed}
+pub use Rattle.argon2_store.specs.Table.{Changes, EndsRead, Finishes, HasBegun, HasNames, HasSome, Holds, IsUnwritten, IsHonest, IsKept, IsLong, IsOpen, CrashLeaves, Sees, StaysQuiet}
+pub use Rattle.argon2_store.specs.Table.{Writes, changed, done_of}
 pub use Rattle.argon2_store.specs.declared.account_file.AccountFile.{AccountFile}
 pub use Rattle.argon2_store.specs.declared.error.FileError.{FileError}
 pub use Rattle.argon2_store.specs.declared.error.FileError.TheVariants.{Account, Closed}

@@ -1,8 +1,8 @@
 -- What the rows of a table are after each step of a change.
-use Rattle.argon2_store.proofs.Imports.{◌≡◌, ℕ, ◌≤◌, List, Result, Ok, Err, false, refl, ap, ◌∙◌, IsTrue, arith, inl, inr, ◌⊎◌, IsOkAnd}
+use Rattle.argon2_store.proofs.Imports.{◌≡◌, ℕ, List, Result, Ok, Err, false, refl, ap, ◌∙◌, IsTrue, arith, inl, inr, ◌⊎◌}
 use Rattle.argon2_store.proofs.Imports.{All, IfErr, MatchResult, OnOk, both_ways, true_from_ne_false, Coded-set, ∥∥₁_elim, ∥∥₁_map, MoreFaults, plain, Row, StoreError, Shape, Index, Ghosts}
-use Rattle.argon2_store.proofs.Imports.{Trees, order_of, View, IsFailure, KeepsSchema, OnlyWrites, SetsTree, doubt, Texts, AreTexts, rows_of, Changes}
-use Rattle.argon2_store.proofs.Imports.{HasBegun, HasNames, HasSome, IsHonest, IsKept, IsOpen, KeepsNames, CrashLeaves, Sees, StaysQuiet, Writes, on_ok_weaker}
+use Rattle.argon2_store.proofs.Imports.{Trees, order_of, View, IsFailure, KeepsSchema, OnlyWrites, SetsTree, Texts, AreTexts, rows_of, Changes}
+use Rattle.argon2_store.proofs.Imports.{EndsRead, Finishes, HasBegun, HasNames, HasSome, IsHonest, IsKept, IsOpen, CrashLeaves, Sees, StaysQuiet, Writes, done_of, on_ok_weaker}
 use Rattle.sqlite_trees.specs.contracts.store.Shape.{the_row}
 use Rattle.sqlite_trees.specs.View.{HasCause}
 use Rattle.sqlite_value.specs.declared.keys.Order.{Order}
@@ -104,6 +104,11 @@ module _ {S : Type 0} (g : Ghosts S) where
       → HasNames g old names → HasNames g new names
   has_same old new names honest same has = search arith
 
+  -- a call that reads: the names stay
+  abbrev pub Keeps : {X : Type 0} → S → S → Texts → Result X StoreError → Type 0
+  Keeps old new names done = HasNames g new names × OnOk done (IsHonest g new → IsOpen g new)
+      × (IsHonest g new → IfErr done (HasCause (g.view old) (MoreFaults (g.faults old) (g.faults new)) ⊥)) × StaysQuiet g old new
+
 module _ {S : Type 0} {g : Ghosts S} where
   -- rows written after others
   pub writes_then : {a b c : S} {x y z : Texts} {P Q R : Type 0} {r : Result (Unit {0}) StoreError} → Writes g a b x y P (Ok tt)
@@ -146,62 +151,49 @@ module _ {S : Type 0} {g : Ghosts S} where
     begun_over : {names : Texts} → IsKept g old names → IsHonest g old → HasBegun g old names
     begun_over kept clean = search arith
 
-    -- names stay while rows are read
-    pub read_done : {X : Type 0} {new : S} {names : Texts} (x : X)
-        → ((s : S) → (g.view s).is_open ≡ false → IsTrue (g.view s).is_broken) → HasNames g old names
-        → (AreTexts names → (IsHonest g old → Sees (g.view old) names) → Writes g old new names names ⊥ (Ok tt))
-        → KeepsNames g old new names (Ok x)
-    read_done x shut has writes = search arith
-
     -- what was written is taken back
     pub taken_back : {mid new : S} {before after : Texts} {long : Type 0} {r : Result (Unit {0}) StoreError}
         → HasNames g old before → Writes g old mid before after long r
         → ((IsHonest g new → HasBegun g mid before) → IsKept g new before) → StaysQuiet g mid new → HasNames g new before
     taken_back has wrote undone quiet = search arith
 
-    -- reading fails and is taken back
-    pub read_failed : {X : Type 0} {mid new : S} {names : Texts} {e : StoreError} → HasNames g old names
-        → (AreTexts names → (IsHonest g old → Sees (g.view old) names) → Writes g old mid names names ⊥ (Err e))
-        → ((IsHonest g new → HasBegun g mid names) → IsKept g new names) → StaysQuiet g mid new
-        → KeepsNames g {X = X} old new names (Err e)
-    read_failed has writes undone quiet = search arith
+    -- rows are read, and what a failure leaves is taken back
+    pub still : {X : Type 0} {mid new : S} {names : Texts} (done : Result X StoreError)
+        → ((s : S) → (g.view s).is_open ≡ false → IsTrue (g.view s).is_broken) → HasNames g old names
+        → (AreTexts names → (IsHonest g old → Sees (g.view old) names) → Writes g old mid names names ⊥ (done_of done))
+        → EndsRead g mid new done → Keeps g old new names done
+    still (Ok x) shut has writes ends = search arith
+    still (Err e) shut has writes ends =
+        let wrote = writes has.0 (λ clean unbroken. has.1.seen clean (was_open clean)) in
+        let quiet = quiet_then g _ _ _ wrote.quiet ends.quiet in
+        (taken_back has wrote (ends.kept _) ends.quiet, tt, (let later = ends.quiet in search (arith, cause_map)), quiet)
 
     -- rows that are written, and then committed or taken back
     pub changes_of : {mid new : S} {before after : Texts} {long : Type 0} (done result : Result (Unit {0}) StoreError)
         → HasNames g old before → AreTexts after → Writes g old mid before after long done
-        → ((IsHonest g new → HasBegun g mid before × OnOk done (Sees (g.view mid) after))
-        → MatchResult result (λ _. IsKept g new after) (λ _. IsKept g new before))
-        → ((db : Trees) → g.recovers new db
-        → IsOkAnd done (λ _. ((g.view mid).is_broken ≡ false) × (db ≡ (g.view mid).trees)) ⊎ g.recovers mid db)
-        → OnOk result (IsHonest g new → IsOpen g new)
-        → (IsHonest g new → MatchResult done
-        (λ _. IfErr result (HasCause (g.view mid) (MoreFaults (g.faults mid) (g.faults new)) ⊥)) (λ e. result ≡ Err e))
-        → (IsHonest g new → IsOpen g mid → IsOpen g new ⊎ MoreFaults (g.faults mid) (g.faults new))
-        → doubt (g.view mid).is_clean ≤ doubt (g.view new).is_clean → g.faults mid ≤ g.faults new
-        → Changes g old new before after long result
-    changes_of {mid} {new} {before} {after} {long} done result (texts, kept) fine wrote keeps crash is_open cause closes clean
-        counts =
-        let to_mid : IsHonest g new → IsHonest g mid = λ now. omega (arith, now, clean) in
-        let to_old : IsHonest g new → IsHonest g old = λ now. omega (arith, now, clean, wrote.quiet.clean) in
+        → Finishes g mid new done result → Changes g old new before after long result
+    changes_of {mid} {new} {before} {after} {long} done result (texts, kept) fine wrote ends =
+        let to_mid : IsHonest g new → IsHonest g mid = λ now. omega (arith, now, ends.clean) in
+        let to_old : IsHonest g new → IsHonest g old = λ now. omega (arith, now, ends.clean, wrote.quiet.clean) in
         let begun : IsHonest g new → HasBegun g mid before = λ now.
         wrote.begun before (to_mid now) (begun_over kept (to_old now)) in
         let sees : IsHonest g new → OnOk done (Sees (g.view mid) after) = λ now. on_ok_weaker done (λ f.
         f (to_mid now) (λ unbroken. kept.seen (to_old now) (was_open (to_old now)))) wrote.sees in
-        let is = keeps (λ now. (begun now, sees now)) in
+        let is = ends.kept before after (λ now. (begun now, sees now)) in
         let leaves = leaves_kept g new after (settled new) in
         record {
           honest = to_old;
           kept = grind arith;
-          crash = λ now db found. elim (crash db found) [
+          crash = λ now db found. elim (ends.crash db found) [
             | inl made ↦ (after, (let seen = sees now in grind arith), inr refl)
             | inr earlier ↦ (before, (begun now).left db earlier, inl refl)
           ];
-          durable = on_both _ result is is_open (λ ended opens clean. (opens clean, leaves ended clean (opens clean)));
+          durable = on_both _ result is ends.is_open (λ ended opens clean. (opens clean, leaves ended clean (opens clean)));
           cause = λ now.
-              let first = wrote.cause (to_mid now) in let later = cause now in let same = wrote.broken in grind arith;
+              let first = wrote.cause (to_mid now) in let later = ends.cause now in let same = wrote.broken in let counts = ends.counts in grind arith;
           closes = λ now.
-              let first = wrote.quiet.closes (to_mid now) (was_open (to_old now)) in let later = closes now in grind arith;
+              let first = wrote.quiet.closes (to_mid now) (was_open (to_old now)) in let later = ends.closes now in let counts = ends.counts in grind arith;
         }
 
 -- what no call changes
-pub ruleset kept = (quiet_itself, quiet_then, shape_of, keeps_index)
+pub ruleset kept = (quiet_itself, quiet_then, shape_of, keeps_index, open_if_sound)

@@ -84,7 +84,7 @@ IsOfFile _ = ⊤
 module _ {S : Type 0} {g : Ghosts S} where
   -- the store that holds the names
   abbrev pub database_of : AccountFile S g → S
-  database_of file = file.table.store
+  database_of file = file.store
 
   -- The names that a file has, each with its text. While the file is open and the disk has given no wrong answer that was
   -- taken as true, they are those of its rows, and nothing else.

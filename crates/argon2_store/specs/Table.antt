@@ -1,5 +1,5 @@
 -- What a table of names shows, and what a change of it leaves in the file.
-use Rattle.std.specs.Prelude.{◌≡◌, ◌⊎◌, ℕ, ◌^◌, ◌+◌, ◌<◌, List, [], ◌∷◌, length, false, Option, Some, None, Result, Ok, Err, IsTrue, IfErr, OnOk, MatchResult}
+use Rattle.std.specs.Prelude.{◌≡◌, ◌⊎◌, ℕ, ◌^◌, ◌+◌, ◌<◌, List, [], ◌∷◌, length, false, Option, Some, None, Result, Ok, Err, IsTrue, IfErr, IsOkAnd, OnErr, OnOk, MatchResult, ◌≤◌}
 use Rattle.std.specs.FinMap.{insert, remove}
 use Rattle.sqlite_disk.specs.Disk.{MoreFaults}
 use Rattle.sqlite_value.specs.Keys.{plain}
@@ -9,7 +9,7 @@ use Rattle.sqlite_trees.specs.declared.store.Shape.TheVariants.{Index}
 use Rattle.sqlite_trees.specs.declared.store.Store.{Ghosts}
 use Rattle.sqlite_trees.specs.Objects.{catalog_tree}
 use Rattle.sqlite_trees.specs.Tree.{Trees}
-use Rattle.sqlite_trees.specs.View.{View, IsClean, IsQuiet, HasCause}
+use Rattle.sqlite_trees.specs.View.{View, IsClean, IsQuiet, HasCause, doubt}
 use Rattle.sqlite_store.specs.Listing.{listed_from}
 use Rattle.argon2_accounts.specs.Accounts.{Texts}
 use Rattle.argon2_store.specs.Opening.{account}
@@ -105,6 +105,25 @@ module _ {S : Type 0} (g : Ghosts S) where
     pub cause : IsHonest new → IfErr result (HasCause (g.view old) (HasFailed old new) too_long)
     pub quiet : StaysQuiet old new
 
+  -- Rows were read, and what a failure leaves is taken back.
+  pub record EndsRead {X : Type 0} (old new : S) (done : Result X StoreError) : Type 0 where
+    pub same : OnOk done (new ≡ old)
+    pub kept : (names : Texts) → (IsHonest new → HasBegun old names) → OnErr done (IsKept new names)
+    pub quiet : StaysQuiet old new
+
+  -- What was written is committed, or taken back if that has failed.
+  pub record Finishes (old new : S) (done result : Result (Unit {0}) StoreError) : Type 0 where
+    pub kept : (before after : Texts) → (IsHonest new → HasBegun old before × OnOk done (Sees (g.view old) after))
+        → MatchResult result (λ _. IsKept new after) (λ _. IsKept new before)
+    pub crash : (db : Trees) → g.recovers new db
+        → IsOkAnd done (λ _. ((g.view old).is_broken ≡ false) × (db ≡ (g.view old).trees)) ⊎ g.recovers old db
+    pub is_open : OnOk result (IsHonest new → IsOpen new)
+    pub cause : IsHonest new
+        → MatchResult done (λ _. IfErr result (HasCause (g.view old) (HasFailed old new) ⊥)) (λ e. result ≡ Err e)
+    pub closes : IsHonest new → IsOpen old → IsOpen new ⊎ HasFailed old new
+    pub clean : doubt (g.view old).is_clean ≤ doubt (g.view new).is_clean
+    pub counts : g.faults old ≤ g.faults new
+
   -- A change from one list of names to another, with its answer.
   pub record Changes (old new : S) (before after : Texts) (too_long : Type 0) (result : Result (Unit {0}) StoreError)
       : Type 0 where
@@ -114,10 +133,3 @@ module _ {S : Type 0} (g : Ghosts S) where
     pub durable : OnOk result (IsHonest new → IsOpen new × CrashLeaves new (λ left. left ≡ after))
     pub cause : IsHonest new → IfErr result (HasCause (g.view old) (HasFailed old new) too_long)
     pub closes : IsHonest new → IsOpen new ⊎ HasFailed old new
-
-  -- A call that reads: the names stay.
-  pub record KeepsNames {X : Type 0} (old new : S) (names : Texts) (result : Result X StoreError) : Type 0 where
-    pub has : HasNames new names
-    pub is_open : OnOk result (IsHonest new → IsOpen new)
-    pub cause : IsHonest new → IfErr result (HasCause (g.view old) (HasFailed old new) ⊥)
-    pub quiet : StaysQuiet old new

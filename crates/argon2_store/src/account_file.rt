@@ -1,7 +1,7 @@
 //! Accounts in a file.
 #![tactic(auto, using(crate::proofs::FileLemmas::answers))]
 
-ghost use Rattle.std.specs.Prelude.{◌≡◌, ◌⊎◌, ◌↔◌, Ok, Err, IsTrue, IfErr, IfOk, OnOk, MatchResult, map, string_bytes};
+ghost use Rattle.std.specs.Prelude.{◌≡◌, ◌⊎◌, ◌↔◌, Ok, Err, IsTrue, IfErr, IfOk, OnOk, map, string_bytes};
 ghost use Rattle.std.specs.FinMap.{get};
 ghost use Rattle.std.specs.Io.KnownBytes.{Appends};
 ghost use Rattle.std.specs.Option.{option_map};
@@ -12,13 +12,15 @@ ghost use Rattle.argon2.specs.Made.{target_of};
 ghost use Rattle.argon2.specs.NamedTexts.{IsText};
 ghost use Rattle.argon2_base.specs.declared.error.password_hash.Error.TheVariants.{EncodingInvalid};
 ghost use Rattle.argon2_store.specs.Adding.{entry_of};
-ghost use Rattle.argon2_store.specs.Errors.{IsOfDatabase, answered, read_of};
+ghost use Rattle.argon2_store.specs.Errors.{IsOfDatabase};
 ghost use Rattle.argon2_store.specs.Rows.{FitLines, lines_of};
+ghost use Rattle.argon2_store.specs.Table.{HasSome, IsHonest, IsOpen};
 ghost use Rattle.argon2_store.specs.declared.error.OpenError.TheVariants.{DamagedLog, Row as NoAccount};
 
-use crate::error::{FileError, OpenError};
-use crate::opening::{open_path, open_table};
-use crate::table::Table;
+use crate::error::{FileError, OpenError, read, written};
+use crate::opening::{is_damaged, open_files, open_path};
+use crate::rows::{load, look_up, write_rows};
+use crate::table::ends;
 use crate::view::View;
 use argon2::bound::Bound;
 use argon2::login::{Accepted, LoggedIn};
@@ -28,8 +30,8 @@ use rand_core::Rng;
 use sqlite_disk::{Disk, Files};
 use sqlite_std_file::{FileFrom, Start};
 use sqlite_store::FileStore;
-use sqlite_trees::error::StoreError;
 use sqlite_trees::store::Store;
+use sqlite_value::row::Row;
 use std::alloc::Global;
 use std::io::{self, Write};
 
@@ -43,35 +45,19 @@ use std::io::{self, Write};
 #[derive(Drop)]
 pub struct AccountFile<'key, S: Store> {
     policy: Policy<'key>,
-    table: Table<S>,
+    pub(crate) store: S,
+    // The rows to read and to look up with.
+    pub(crate) row: Row,
+    pub(crate) key: Row,
+    pub(crate) alloc: Global,
+    ghost kept: { HasSome S.Store store } by { squash₁ },
 }
 
 /// Accounts in the file at a path. `T` stands for what the file and its log held as they were opened.
 pub type AccountsAt<'key, T> = AccountFile<'key, FileStore<FileFrom<T>>>;
 
-// What a call returns that read an open file.
-fn read<X>(done: Result<X, StoreError>) -> Result<X, FileError>
-    ensures { result ≡ read_of done }
-{
-    match done {
-        Ok(answer) => Ok(answer),
-        // Only a wrong answer of the disk breaks a store that was open.
-        Err(StoreError::Broken) => Err(FileError::Damaged),
-        Err(error) => Err(error.into()),
-    }
-}
-
-// What a call returns that wrote to an open file.
-fn written<X: Copy>(done: Result<(), StoreError>, answer: X) -> Result<X, FileError>
-    ensures { result ≡ answered done answer }
-{
-    read(done)?;
-    Ok(answer)
-}
-
 impl<'key, S: Store> AccountFile<'key, S> {
     ghost use Rattle.argon2_store.specs.AccountFile.{AddsOrNone, DrawsForLogin, DrawsForText, DrawsOnce, Grants, HasNames, IfOfFile, IsClosed, IsErrorAt, IsOfFile, Reads, Serves, database_of, terms_of, unindexed};
-    ghost use Rattle.argon2_store.specs.Table.{IsHonest, IsOpen};
 
     /// Gives a new name a text, which may ask for more than the bound.
     ///
@@ -97,7 +83,7 @@ impl<'key, S: Store> AccountFile<'key, S> {
         if self.text_of(name)?.is_some() {
             return Err(AccountError::NameTaken.into());
         }
-        written(self.table.change(name, None, Some(&parsed)), ())
+        written(self.change(name, None, Some(&parsed)), ())
     }
 
     /// Adds all of these new names with their texts, as [`add`](AccountFile::add) in order, or none. They
@@ -119,7 +105,7 @@ impl<'key, S: Store> AccountFile<'key, S> {
         if self.is_closed() {
             return Err((0, FileError::Closed));
         }
-        match self.table.add_all(new) {
+        match self.add_in_order(new) {
             Ok(done) => match written(done, ()) {
                 Ok(()) => Ok(()),
                 Err(error) => Err((new.len(), error)),
@@ -153,7 +139,7 @@ impl<'key, S: Store> AccountFile<'key, S> {
             return Err(AccountError::NameTaken.into());
         }
         let text = self.policy.hash_password(rng, password)?;
-        written(self.table.change(name, None, Some(&text)), ())
+        written(self.change(name, None, Some(&text)), ())
     }
 
     /// Verifies a password against the text of a name, and renews the text, as [`Policy::log_in`]. It
@@ -193,7 +179,7 @@ impl<'key, S: Store> AccountFile<'key, S> {
         let Some(fresh) = fresh else {
             return Ok(accepted);
         };
-        let done = self.table.change(name, Some(text.as_str()), Some(&fresh));
+        let done = self.change(name, Some(text.as_str()), Some(&fresh));
         if done.is_err() && !self.is_closed() {
             return Ok(Accepted::Kept);
         }
@@ -234,7 +220,7 @@ impl<'key, S: Store> AccountFile<'key, S> {
         };
         let current = PasswordHash::new(text.as_str())?;
         let fresh = self.policy.change_password(rng, &current, old, new)?;
-        let done = self.table.change(name, Some(text.as_str()), Some(&fresh));
+        let done = self.change(name, Some(text.as_str()), Some(&fresh));
         written(done, ())
     }
 
@@ -263,7 +249,7 @@ impl<'key, S: Store> AccountFile<'key, S> {
             return Err(AccountError::NameUnknown.into());
         };
         let fresh = self.policy.hash_password(rng, new)?;
-        let done = self.table.change(name, Some(text.as_str()), Some(&fresh));
+        let done = self.change(name, Some(text.as_str()), Some(&fresh));
         written(done, ())
     }
 
@@ -288,7 +274,7 @@ impl<'key, S: Store> AccountFile<'key, S> {
             return Err(AccountError::TextChanged.into());
         }
         let fresh = PasswordHash::new(new)?;
-        let done = self.table.change(name, Some(text.as_str()), Some(&fresh));
+        let done = self.change(name, Some(text.as_str()), Some(&fresh));
         written(done, ())
     }
 
@@ -305,14 +291,14 @@ impl<'key, S: Store> AccountFile<'key, S> {
         let Some(text) = self.text_of(name)? else {
             return Err(AccountError::NameUnknown.into());
         };
-        written(self.table.change(name, Some(text.as_str()), None), ())
+        written(self.change(name, Some(text.as_str()), None), ())
     }
 
     /// Whether the file has to be opened again, since the disk failed.
     pub fn is_closed(&self) -> bool
         ensures { IsHonest S.Store (database_of self.now) → IsTrue result ↔ IsClosed self.now }
     {
-        self.table.is_closed()
+        self.store.is_broken()
     }
 
     /// The text of a name, if it has one. It may be outside the grammar of PHC texts, if another program wrote it.
@@ -335,7 +321,14 @@ impl<'key, S: Store> AccountFile<'key, S> {
         if self.is_closed() {
             return Err(FileError::Closed);
         }
-        read(self.table.get(name))
+        let text = look_up(
+            self.alloc,
+            &mut self.store,
+            &mut self.row,
+            &mut self.key,
+            name,
+        );
+        ends(&mut self.store, text)
     }
 
     /// Writes a line for each name, in the order of the names' bytes, and flushes `output`. The inner result is
@@ -363,14 +356,15 @@ impl<'key, S: Store> AccountFile<'key, S> {
         if self.is_closed() {
             return Err(FileError::Closed);
         }
-        read(self.table.write_lines(view, output))
+        let done = write_rows(&mut self.store, &mut self.row, view, output);
+        ends(&mut self.store, done)
     }
 
     /// The store that holds the names.
     pub fn into_store(self) -> S
         ensures { result ≡ database_of self.entry }
     {
-        self.table.store
+        self.store
     }
 }
 
@@ -434,7 +428,7 @@ impl<'key, D: Disk + Drop> AccountFile<'key, FileStore<D>> {
     /// [`OpenError::Full`] and [`OpenError::OutOfMemory`], as [`open`](AccountFile::open).
     pub fn open_from(
         alloc: Global,
-        files: Files<D>,
+        mut files: Files<D>,
         seed: u64,
         policy: Policy<'key>,
     ) -> Result<AccountFile<'key, FileStore<D>>, (OpenError, Files<D>)>
@@ -449,9 +443,25 @@ impl<'key, D: Disk + Drop> AccountFile<'key, FileStore<D>> {
         ensures unharmed { IfErr result (λ e.
             AreUnharmed D.Disk (files.log, files.db) (e.1.log, e.1.db)) }
     {
-        match open_table(alloc, files, seed) {
-            Ok(table) => Ok(AccountFile { policy, table }),
-            Err(failed) => Err(failed),
+        match is_damaged(&mut files.log) {
+            Ok(false) => {}
+            Ok(true) => return Err((OpenError::DamagedLog, files)),
+            Err(_) => return Err((OpenError::Io, files)),
+        }
+        let mut store = match open_files(alloc, files, seed) {
+            Ok(store) => store,
+            Err(failed) => return Err(failed),
+        };
+        let (mut row, mut key) = (Row::new(alloc), Row::new(alloc));
+        match load(&mut store, &mut row, &mut key) {
+            Ok(()) => Ok(AccountFile {
+                policy,
+                store,
+                row,
+                key,
+                alloc,
+            }),
+            Err(error) => Err((error, store.close())),
         }
     }
 }
@@ -476,6 +486,6 @@ impl<'key, D: Disk> AccountFile<'key, FileStore<D>> {
         if self.is_closed() {
             return Err(FileError::Closed);
         }
-        read(self.table.checkpoint())
+        read(self.store.checkpoint())
     }
 }

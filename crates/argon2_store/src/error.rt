@@ -1,7 +1,7 @@
 //! Why calls on an account file are refused.
 
 ghost use Rattle.std.specs.Prelude.{◌≡◌, Some};
-ghost use Rattle.argon2_store.specs.Errors.{IsOfDatabase, IsOfPath, file_error_text, files_error, log_error, named, open_error_text, path_error, store_error};
+ghost use Rattle.argon2_store.specs.Errors.{IsOfDatabase, IsOfPath, answered, file_error_text, files_error, log_error, named, open_error_text, path_error, read_of, store_error};
 
 use argon2::password_hash::Error;
 use argon2_accounts::AccountError;
@@ -84,6 +84,26 @@ impl From<StoreError> for FileError {
             StoreError::Unstorable => FileError::TooLong,
         }
     }
+}
+
+// What a call returns that read an open file.
+pub(crate) fn read<X>(done: Result<X, StoreError>) -> Result<X, FileError>
+    ensures { result ≡ read_of done }
+{
+    match done {
+        Ok(answer) => Ok(answer),
+        // Only a wrong answer of the disk breaks a store that was open.
+        Err(StoreError::Broken) => Err(FileError::Damaged),
+        Err(error) => Err(error.into()),
+    }
+}
+
+// What a call returns that wrote to an open file.
+pub(crate) fn written<X: Copy>(done: Result<(), StoreError>, answer: X) -> Result<X, FileError>
+    ensures { result ≡ answered done answer }
+{
+    read(done)?;
+    Ok(answer)
 }
 
 /// Why a file is not opened. The accounts in it are then as they were.

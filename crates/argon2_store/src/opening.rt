@@ -1,7 +1,7 @@
 //! Opening the file at a path, or making it.
 #![tactic(auto, using(sqlite_trees::proofs::Doubt::clean_of))]
 
-ghost use Rattle.std.specs.Prelude.{◌≡◌, ◌+◌, ◌≤◌, ◌⊎◌, ◌↔◌, [], ◌∷◌, true, false, IsTrue, IfErr, IfOk, OnErr, OnOk};
+ghost use Rattle.std.specs.Prelude.{◌≡◌, ◌+◌, ◌≤◌, ◌↔◌, [], ◌∷◌, true, false, IsTrue, IfErr, IfOk, OnErr, OnOk};
 ghost use Rattle.sqlite_store.specs.FileStore.{view};
 ghost use Rattle.sqlite_store.specs.Unopened.{AreUsable, Opens, image, state_of, wanted_by};
 ghost use Rattle.sqlite_store.specs.Unopened as below;
@@ -16,15 +16,9 @@ ghost use Rattle.sqlite_wal.specs.Reads.{AreClean, OnlyReads};
 ghost use Rattle.sqlite_wal.specs.Recovery.{Image};
 ghost use Rattle.argon2_store.specs.Errors.{IsOfDatabase, IsOfPath};
 ghost use Rattle.argon2_store.specs.Opening.{AreSynced, AreUnharmed, FoundIn, IsDamaged, IsUnstarted, StandsFor, account};
-ghost use Rattle.argon2_store.specs.Rows.{rows_of};
-ghost use Rattle.argon2_accounts.specs.Accounts.{Texts};
-ghost use Rattle.argon2_store.specs.Runs.{over_file};
 ghost use Rattle.argon2_store.specs.Table as table;
-ghost use Rattle.argon2_store.specs.Table.{HasNames};
-ghost use Rattle.argon2_store.specs.declared.error.OpenError.TheVariants.{DamagedLog, Row as NoAccount};
 
 use crate::error::OpenError;
-use crate::table::Table;
 use sqlite_disk::{Disk, Files};
 use sqlite_pager::{Options, PageSize, Pager};
 use sqlite_pool::probe_blank;
@@ -189,7 +183,7 @@ fn is_signed(head: &[u8; 32]) -> bool
 }
 
 // Whether a log that is long enough to have a frame has a damaged header.
-fn is_damaged<D: Disk>(log: &mut D) -> io::Result<bool>
+pub(crate) fn is_damaged<D: Disk>(log: &mut D) -> io::Result<bool>
     requires { IsTrue (D.Disk.is_usable log.old) }
     ensures found { IfOk result (λ is. IsTrue (D.Disk.is_clean log.new) →
         IsTrue is ↔ IsDamaged (D.Disk.seen log.old)) }
@@ -201,42 +195,6 @@ fn is_damaged<D: Disk>(log: &mut D) -> io::Result<bool>
     let mut head = [0; 32];
     log.read_at(0, &mut head)?;
     Ok(head[0] == MAGIC && !is_signed(&head))
-}
-
-// Opens two files as `open_files`, and reads the accounts. An error comes with the files.
-pub(crate) fn open_table<D: Disk + Drop>(
-    alloc: Global,
-    mut files: Files<D>,
-    seed: u64,
-) -> Result<Table<FileStore<D>>, (OpenError, Files<D>)>
-    requires { IsTrue (D.Disk.is_usable files.log) × IsTrue (D.Disk.is_usable files.db) }
-    ensures found { IfOk result (λ it. (names : Texts) × HasNames over_file it.store names
-        × (IsClean (view it.store) →
-        FoundIn 4096 (seen_image D.Disk files.log files.db) (rows_of names))) }
-    ensures open { IfOk result (λ it. IsClean (view it.store) → IsTrue (view it.store).is_open) }
-    ensures whole { IfOk result (λ it.
-        IsClean (view it.store) → ¬ IsDamaged (D.Disk.seen files.log)) }
-    ensures error { IfErr result (λ e.
-        (e.0 ≡ NoAccount) ⊎ ((e.0 ≡ DamagedLog) ⊎ IsOfDatabase e.0)) }
-    ensures damaged { IfErr result (λ e. e.0 ≡ DamagedLog →
-        (IsTrue (D.Disk.is_clean e.1.log) → IsDamaged (D.Disk.seen files.log))
-        × OnlyReads D.Disk files.log e.1.log × (e.1.db ≡ files.db)) }
-    ensures unharmed { IfErr result (λ e.
-        AreUnharmed D.Disk (files.log, files.db) (e.1.log, e.1.db)) }
-{
-    match is_damaged(&mut files.log) {
-        Ok(false) => {}
-        Ok(true) => return Err((OpenError::DamagedLog, files)),
-        Err(_) => return Err((OpenError::Io, files)),
-    }
-    let store = match open_files(alloc, files, seed) {
-        Ok(store) => store,
-        Err(failed) => return Err(failed),
-    };
-    match Table::open(alloc, store) {
-        Ok(table) => Ok(table),
-        Err((error, store)) => Err((error, store.close())),
-    }
 }
 
 // Opens the files at a path, or makes them, and draws a seed.

@@ -1,46 +1,29 @@
-//! Names with their texts, in a tree of a store.
+//! Changes of names with their texts, in a tree of a store.
 #![tactic(auto, using(crate::proofs::TableLemmas::kept))]
 
-ghost use Rattle.std.specs.Prelude.{◌≡◌, ◌≤◌, ◌⊎◌, ◌↔◌, false, Any, Ok, Err, None, Some, IsTrue, IsOkAnd, OnOk, IfErr, IfOk, MatchResult, map, string_bytes};
+ghost use Rattle.std.specs.Prelude.{◌≡◌, false, Any, Ok, Err, None, Some, IsTrue, OnOk, MatchResult, map};
 ghost use Rattle.std.specs.Cmp.Lexicographic.{slice_cmp};
-ghost use Rattle.std.specs.FinMap.{get, remove};
+ghost use Rattle.std.specs.FinMap.{get};
 ghost use Rattle.std.specs.Ordering.{nat_cmp};
 ghost use Rattle.std.specs.declared.cmp.Ordering.TheVariants.{Less};
-ghost use Rattle.std.specs.Io.KnownBytes.{Appends};
 ghost use Rattle.std.specs.Option.{option_copied, option_map};
 ghost use Rattle.sqlite_value.specs.Keys.{plain};
-ghost use Rattle.sqlite_trees.specs.Tree.{Trees};
-ghost use Rattle.sqlite_trees.specs.View.{HasCause, KeepsSchema, doubt};
+ghost use Rattle.sqlite_trees.specs.View.{KeepsSchema};
 ghost use Rattle.sqlite_trees.specs.declared.store.Shape.TheVariants.{Index};
 ghost use Rattle.argon2_accounts.specs.Accounts.{Texts as Named, text_of};
 ghost use Rattle.argon2_store.specs.Adding.{AddsAll, AddsName, IsFirstRefused, WritesAll, entry_of};
-ghost use Rattle.argon2_store.specs.Errors.{IsOfDatabase};
-ghost use Rattle.argon2_store.specs.Rows.{AreTexts, FitLines, HasNoneAfter, IsAfterAll, lines_of, rows_of};
-ghost use Rattle.argon2_store.specs.declared.error.OpenError.TheVariants.{Row as NoAccount};
-ghost use Rattle.argon2_store.specs.Table.{Changes, HasBegun, HasFailed, HasNames, HasSome, IsUnwritten, IsHonest, IsKept, IsOpen, IsLong, Sees, StaysQuiet, Writes, changed, written_of};
+ghost use Rattle.argon2_store.specs.Errors.{read_of};
+ghost use Rattle.argon2_store.specs.Rows.{AreTexts, HasNoneAfter, IsAfterAll};
+ghost use Rattle.argon2_store.specs.Table.{Changes, EndsRead, Finishes, HasBegun, HasNames, IsHonest, IsKept, IsOpen, IsLong, Sees, StaysQuiet, Writes, changed, written_of};
 
-use crate::error::OpenError;
-use crate::rows::{ACCOUNTS, find, lay, load, look_up, write_rows};
-use crate::view::View;
+use crate::account_file::AccountFile;
+use crate::error::{FileError, read};
+use crate::rows::{ACCOUNTS, find, lay};
 use argon2::PasswordHash;
 use argon2_accounts::AccountError;
-use sqlite_disk::Disk;
-use sqlite_store::FileStore;
 use sqlite_trees::error::StoreError;
 use sqlite_trees::store::Store;
 use sqlite_value::row::Row;
-use std::alloc::Global;
-use std::io::{self, Write};
-
-// Names with their texts in a store, and two rows to read and to look up with.
-#[derive(Drop)]
-pub(crate) struct Table<S: Store> {
-    pub(crate) store: S,
-    row: Row,
-    key: Row,
-    alloc: Global,
-    ghost kept: { HasSome S.Store store } by { squash₁ },
-}
 
 // Writes the row of a name that has none, if there is a text for it.
 fn put<S: Store>(
@@ -65,24 +48,6 @@ fn put<S: Store>(
     store.insert(ACCOUNTS, row)
 }
 
-// Takes the row of a name out of the tree.
-fn take_out<S: Store>(
-    store: &mut S,
-    row: &mut Row,
-    name: &str,
-    text: &str,
-) -> Result<(), StoreError>
-    requires { IsHonest S.Store store.old → (S.Store.view store.old).shape 0 ≡ Index plain }
-    ensures schema { KeepsSchema (S.Store.view store.old) (S.Store.view store.new) }
-    ensures quiet { StaysQuiet S.Store store.old store.new }
-    ensures writes { (names : Named) →
-        (IsHonest S.Store store.old → get names name.now ≡ Some text.now) →
-        Writes S.Store store.old store.new names (remove names name.now) ⊥ result }
-{
-    lay(row, name, text)?;
-    store.remove(ACCOUNTS, row)
-}
-
 // Takes a name's row out if it has one, and writes another if there is one.
 fn write<S: Store>(
     store: &mut S,
@@ -101,7 +66,8 @@ fn write<S: Store>(
     let Some(text) = old else {
         return put(store, row, name, new);
     };
-    take_out(store, row, name, text)?;
+    lay(row, name, text)?;
+    store.remove(ACCOUNTS, row)?;
     put(store, row, name, new)
 }
 
@@ -192,25 +158,20 @@ fn undo<S: Store>(store: &mut S)
     store.rollback();
 }
 
+// What a call returns that reads rows. What a failure leaves is taken back.
+pub(crate) fn ends<S: Store, X>(store: &mut S, done: Result<X, StoreError>) -> Result<X, FileError>
+    ensures answer { result ≡ read_of done }
+    ensures ends { EndsRead S.Store store.old store.new done }
+{
+    if done.is_err() {
+        undo(store);
+    }
+    read(done)
+}
+
 // Commits what was written, or takes it back if that has failed.
 fn finish<S: Store>(store: &mut S, done: Result<(), StoreError>) -> Result<(), StoreError>
-    ensures kept { (before after : Named) → (IsHonest S.Store store.new →
-        HasBegun S.Store store.old before × OnOk done (Sees (S.Store.view store.old) after)) →
-        MatchResult result (λ _. IsKept S.Store store.new after)
-        (λ _. IsKept S.Store store.new before) }
-    ensures crash { (db : Trees) → S.Store.recovers store.new db →
-        IsOkAnd done (λ _. ((S.Store.view store.old).is_broken ≡ false)
-        × (db ≡ (S.Store.view store.old).trees)) ⊎ S.Store.recovers store.old db }
-    ensures open { OnOk result (IsHonest S.Store store.new → IsOpen S.Store store.new) }
-    ensures cause { IsHonest S.Store store.new → MatchResult done
-        (λ _. IfErr result (HasCause (S.Store.view store.old)
-        (HasFailed S.Store store.old store.new) ⊥))
-        (λ e. result ≡ Err e) }
-    ensures closes { IsHonest S.Store store.new → IsOpen S.Store store.old →
-        IsOpen S.Store store.new ⊎ HasFailed S.Store store.old store.new }
-    ensures clean { doubt (S.Store.view store.old).is_clean
-        ≤ doubt (S.Store.view store.new).is_clean }
-    ensures counts { S.Store.faults store.old ≤ S.Store.faults store.new }
+    ensures { Finishes S.Store store.old store.new done result }
 {
     match done {
         Ok(()) => store.commit(),
@@ -221,82 +182,8 @@ fn finish<S: Store>(store: &mut S, done: Result<(), StoreError>) -> Result<(), S
     }
 }
 
-impl<S: Store + Drop> Table<S> {
-    // The names of a store in which nothing is written yet. An error comes with the store.
-    pub(crate) fn open(alloc: Global, mut store: S) -> Result<Table<S>, (OpenError, S)>
-        requires { IsHonest S.Store store → IsUnwritten (S.Store.view store) }
-        ensures found { IfOk result (λ table. (names : Named) × HasNames S.Store table.store names
-            × (IsHonest S.Store table.store → (S.Store.view store).committed 0 ≡ rows_of names)) }
-        ensures open { IfOk result (λ table.
-            IsHonest S.Store table.store → IsOpen S.Store table.store) }
-        ensures quiet { IfOk result (λ table. StaysQuiet S.Store store table.store) }
-        ensures back { IfErr result (λ e. StaysQuiet S.Store store e.1) }
-        ensures error { IfErr result (λ e. (e.0 ≡ NoAccount) ⊎ IsOfDatabase e.0) }
-    {
-        let (mut row, mut key) = (Row::new(alloc), Row::new(alloc));
-        match load(&mut store, &mut row, &mut key) {
-            Ok(()) => Ok(Table {
-                store,
-                row,
-                key,
-                alloc,
-            }),
-            Err(error) => Err((error, store)),
-        }
-    }
-}
-
-impl<S: Store> Table<S> {
-    ghost use Rattle.argon2_store.specs.Table.{KeepsNames};
-
-    // The text of a name.
-    pub(crate) fn get(&mut self, name: &str) -> Result<Option<String>, StoreError>
-        requires { IsHonest S.Store self.old.store → IsOpen S.Store self.old.store }
-        ensures reads { (names : Named) → HasNames S.Store self.old.store names →
-            KeepsNames S.Store self.old.store self.new.store names result }
-        ensures open { OnOk result
-            (IsHonest S.Store self.new.store → IsOpen S.Store self.new.store) }
-        ensures found { (names : Named) → HasNames S.Store self.new.store names →
-            IfOk result (λ text. IsHonest S.Store self.new.store →
-            get names name.now ≡ option_map string_bytes text) }
-    {
-        match look_up(
-            self.alloc,
-            &mut self.store,
-            &mut self.row,
-            &mut self.key,
-            name,
-        ) {
-            Ok(text) => Ok(text),
-            Err(error) => {
-                undo(&mut self.store);
-                Err(error)
-            }
-        }
-    }
-
-    // Writes a line for each name, up to the first that breaks it.
-    pub(crate) fn write_lines<W: Write>(
-        &mut self,
-        view: View,
-        output: &mut W,
-    ) -> Result<io::Result<()>, StoreError>
-        requires { IsHonest S.Store self.old.store → IsOpen S.Store self.old.store }
-        ensures reads { (names : Named) → HasNames S.Store self.old.store names →
-            KeepsNames S.Store self.old.store self.new.store names result }
-        ensures shows { (names : Named) → HasNames S.Store self.old.store names →
-            IfOk result (λ done. IsHonest S.Store self.new.store → OnOk done
-            (Appends (W.contents output.old) (W.contents output.new) (lines_of view names)
-            × FitLines view names)) }
-    {
-        match write_rows(&mut self.store, &mut self.row, view, output) {
-            Ok(done) => Ok(done),
-            Err(error) => {
-                undo(&mut self.store);
-                Err(error)
-            }
-        }
-    }
+impl<S: Store> AccountFile<'_, S> {
+    ghost use Rattle.argon2_store.specs.AccountFile.{database_of, terms_of};
 
     // Changes what a name has, and commits.
     pub(crate) fn change(
@@ -305,12 +192,13 @@ impl<S: Store> Table<S> {
         old: Option<&str>,
         new: Option<&PasswordHash>,
     ) -> Result<(), StoreError>
-        requires open { IsHonest S.Store self.old.store → IsOpen S.Store self.old.store }
-        requires known { (names : Named) → HasNames S.Store self.old.store names →
-            IsHonest S.Store self.old.store →
+        requires open { IsHonest S.Store (database_of self.old) → IsOpen S.Store (database_of self.old) }
+        requires known { (names : Named) → HasNames S.Store (database_of self.old) names →
+            IsHonest S.Store (database_of self.old) →
             get names name.now ≡ option_copied old }
-        ensures { (before : Named) → HasNames S.Store self.old.store before →
-            Changes S.Store self.old.store self.new.store before
+        ensures terms { terms_of self.new ≡ terms_of self.old }
+        ensures change { (before : Named) → HasNames S.Store (database_of self.old) before →
+            Changes S.Store (database_of self.old) (database_of self.new) before
             (changed before name.now (option_map text_of (option_copied new.entry)))
             (IsLong name.now) result }
     {
@@ -323,8 +211,9 @@ impl<S: Store> Table<S> {
         &mut self,
         new: &[(&str, &str)],
     ) -> Result<Result<(), StoreError>, (usize, AccountError)>
-        requires { IsHonest S.Store self.old.store → IsOpen S.Store self.old.store }
-        ensures { WritesAll S.Store self.old.store self.new.store (map entry_of new.now) result }
+        requires { IsHonest S.Store (database_of self.old) → IsOpen S.Store (database_of self.old) }
+        ensures terms { terms_of self.new ≡ terms_of self.old }
+        ensures all { WritesAll S.Store (database_of self.old) (database_of self.new) (map entry_of new.now) result }
     {
         match add_each(&mut self.store, &mut self.row, &mut self.key, new) {
             Ok(done) => Ok(finish(&mut self.store, done)),
@@ -337,12 +226,13 @@ impl<S: Store> Table<S> {
 
     // The same, written in the order of the names, so that each page is written once. They are written as they are listed
     // if they are in order, if there is no memory for a list in order, or to find the first that is refused.
-    pub(crate) fn add_all(
+    pub(crate) fn add_in_order(
         &mut self,
         new: &[(&str, &str)],
     ) -> Result<Result<(), StoreError>, (usize, AccountError)>
-        requires { IsHonest S.Store self.old.store → IsOpen S.Store self.old.store }
-        ensures { WritesAll S.Store self.old.store self.new.store (map entry_of new.now) result }
+        requires { IsHonest S.Store (database_of self.old) → IsOpen S.Store (database_of self.old) }
+        ensures terms { terms_of self.new ≡ terms_of self.old }
+        ensures all { WritesAll S.Store (database_of self.old) (database_of self.new) (map entry_of new.now) result }
     {
         if new.is_sorted() {
             return self.add_listed(new);
@@ -359,29 +249,5 @@ impl<S: Store> Table<S> {
             return Ok(Err(StoreError::Io));
         }
         self.add_listed(new)
-    }
-
-    // Whether the file has to be opened again, since the disk failed.
-    pub(crate) fn is_closed(&self) -> bool
-        ensures { IsHonest S.Store self.now.store →
-            IsTrue result ↔ ((S.Store.view self.now.store).is_open ≡ false) }
-    {
-        self.store.is_broken()
-    }
-}
-
-impl<D: Disk> Table<FileStore<D>> {
-    ghost use Rattle.sqlite_store.specs.FileStore.{HasSpilled, log_frames};
-    ghost use Rattle.argon2_store.specs.Runs.{over_file};
-    ghost use Rattle.argon2_store.specs.Table.{KeepsNames};
-
-    // Copies the log into the file.
-    pub(crate) fn checkpoint(&mut self) -> Result<(), StoreError>
-        ensures reads { (names : Named) → HasNames over_file self.old.store names →
-            KeepsNames over_file self.old.store self.new.store names result }
-        ensures copied { OnOk result
-            (¬ HasSpilled self.old.store → log_frames self.new.store ≡ 0) }
-    {
-        self.store.checkpoint()
     }
 }

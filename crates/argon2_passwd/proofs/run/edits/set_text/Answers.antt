@@ -2,6 +2,7 @@ use Rattle.std.proofs.Common.{◌∙◌, ap, refl}
 use Rattle.std.specs.Option.{option_map}
 use Rattle.std.specs.Prelude.{string_bytes}
 use Rattle.argon2_base.specs.PhcFields.{phc_of}
+use Rattle.argon2_accounts.proofs.AccountLemmas.{err_is}
 use Rattle.argon2_accounts.specs.Accounts.{setting}
 use Rattle.argon2_accounts.specs.declared.error.AccountError.TheVariants.{NameUnknown}
 use Rattle.argon2_store.proofs.FileLemmas.{cannot_serve, refuses}
@@ -10,7 +11,8 @@ use Rattle.argon2_passwd.proofs.run.edits.set_text.Goals as goal
 
 pub returns-in_err-text : goal.returns-in_err-text
 returns-in_err-text g c password drawn fresh =
-    cannot_serve (setting c.args.name.now password drawn) _ c.from_residual.ensures.1 c.in_err-text.ensures.reads
+    cannot_serve (setting c.args.name.now password drawn) _ c.in_err-text.ensures.reads
+    (err_is _ _ c.from_residual.ensures.1)
 
 pub returns-in_default : goal.returns-in_default
 returns-in_default g c password drawn fresh =

@@ -1,16 +1,12 @@
-use Rattle.argon2_store.proofs.Imports.{◌∙◌, Some, refl, sym, string_bytes, text_of, replacing, NameUnknown, TextChanged, Refused, is_other_text, is_text}
+use Rattle.argon2_store.proofs.Imports.{err_is, arith, ◌∙◌, Some, refl, sym, string_bytes, text_of, replacing, TextChanged, Refused, is_other_text, is_text}
 use Rattle.argon2_store.proofs.FileLemmas.{cannot_serve, refuses, writes}
 use Rattle.argon2_store.proofs.account_file.AccountFile.replace.Goals as goal
 
 pub returns-in_err-text : goal.returns-in_err-text
-returns-in_err-text g c =
-    cannot_serve (replacing c.args.name.now c.args.old.now c.args.new.now) _ c.from_residual.ensures.1
-    c.in_err-text.ensures.reads
+returns-in_err-text g c = search (arith, cannot_serve, err_is _ _ c.from_residual.ensures.1, c.in_err-text.ensures.reads)
 
 pub returns-in_default : goal.returns-in_default
-returns-in_default g c =
-    refuses (replacing c.args.name.now c.args.old.now c.args.new.now) c.in_ok-text.ensures.reads c.in_default.is NameUnknown
-    c.in_ok-text.ensures.shows _ c.into.ensures (refl, refl)
+returns-in_default g c = search (arith, refuses, c.in_ok-text.ensures.reads, c.in_ok-text.ensures.shows)
 
 pub returns-then-ne : goal.returns-then-ne
 returns-then-ne g c =
@@ -33,5 +29,5 @@ returns g c =
     let is = is_text (string_bytes c.in-Some.text) c.args.old.now same in
     let says = c.in_ok-fresh.ensures.found in
     writes (replacing c.args.name.now c.args.old.now c.args.new.now) c.in_ok-text.ensures.reads c.in-Some.is
-    _ (Some (text_of c.in_ok-fresh.fresh)) tt refl c.in_ok-text.ensures.shows
-    (is, (_, says), sym says.1) _ c.change-done.ensures _ c.written.ensures
+    _ (Some (text_of c.in_ok-fresh.fresh)) tt c.change-done.ensures.terms c.in_ok-text.ensures.shows
+    (is, (_, says), sym says.1) _ c.change-done.ensures.change _ c.written.ensures

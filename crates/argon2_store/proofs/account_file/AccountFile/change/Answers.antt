@@ -2,8 +2,8 @@ use Rattle.argon2_store.proofs.Imports.{Option, Some, None, ∥∥₁_map, Bor, 
 use Rattle.argon2_store.proofs.RowLemmas.{texts_changed}
 use Rattle.argon2_store.proofs.TableLemmas.{changes_of, has_either}
 use Rattle.argon2_store.proofs.TextLemmas.{text_is_utf8}
-use Rattle.argon2_store.proofs.table.Table.change.Goals as goal
-use Rattle.argon2_store.proofs.table.Table.change.Goals.{After-finish}
+use Rattle.argon2_store.proofs.account_file.AccountFile.change.Goals as goal
+use Rattle.argon2_store.proofs.account_file.AccountFile.change.Goals.{After-finish}
 
 is_text : (o : Option (Bor PasswordHash)) → IfSome (option_map text_of (option_copied o)) IsUtf8
 is_text (Some hash) = text_is_utf8 (phc_of hash.now) hash.now.grammatical
@@ -14,15 +14,13 @@ written : (g : _) (c : After-finish g) (before : Texts) → HasNames g.S.Store c
     → Changes g.S.Store c.args.self.now.store c.finish.new.store before
     (changed before c.args.name.now (option_map text_of (option_copied c.args.new))) (IsLong c.args.name.now) c.finish.result
 written g c before has =
-    let after = changed before c.args.name.now (option_map text_of (option_copied c.args.new)) in
-    let end = c.finish.ensures in
     changes_of g.met.S.Store.settled c.requires.open c.write-done.result c.finish.result has
     (texts_changed before c.args.name.now _ has.0 c.utf8.name (is_text c.args.new))
     (c.write-done.ensures before (c.requires.known before has))
-    (end.kept before after) end.crash end.«open» end.cause end.closes end.clean end.counts
+    c.finish.ensures
 
-pub returns : goal.returns
-returns g c = written g (goal.at.returns g c).After-finish
+pub returns-clause-change : goal.returns-clause-change
+returns-clause-change g c = written g (goal.at.returns-clause-change g c).After-finish
 
 pub invariant_of-self : goal.invariant_of-self
 invariant_of-self g c = record {
