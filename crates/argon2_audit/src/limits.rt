@@ -120,7 +120,10 @@ pub enum Form {
 /// What an audit is asked for.
 #[derive(Clone, Copy)]
 pub struct Options {
+    /// What a sound text has.
     pub limits: Limits,
+    /// Which field of a line is its text.
     pub field: Field,
+    /// What is written.
     pub form: Form,
 }

@@ -4,21 +4,13 @@
 ghost use Rattle.std.specs.Prelude.{IfOk};
 ghost use Rattle.argon2_calibrate.specs.Choice.{ArePossible};
 
+use argon2_calibrate::run::{PROGRAM, run};
+use argon2_calibrate::{Machine, Options};
 use argon2_commands::{answer, words};
 use clap::Error;
-use options::Options;
-use run::{PROGRAM, run};
 use std::process::ExitCode;
-use stopwatch::Machine;
 
 mod arguments;
-mod choice;
-mod options;
-mod run;
-mod search;
-mod stopwatch;
-#[cfg(test)]
-mod tests;
 
 fn main(rt: HostRuntime) -> ExitCode {
     let (mut output, mut errors) = (rt.stdout(), rt.stderr());

@@ -1,12 +1,11 @@
 //! The options of the command line, and the command.
 
-use crate::command::{Command, Edit};
-use crate::options::Options;
-use crate::run::PROGRAM;
 use argon2::Params;
 use argon2::bound::Bound;
 use argon2::phc::read_decimal;
 use argon2_commands::invalid;
+use argon2_passwd::run::PROGRAM;
+use argon2_passwd::{Command, Edit, Options};
 use argon2_store::View;
 use clap::error::ErrorKind;
 use clap::{ArgAction, ArgMatches, Error, arg};
@@ -189,13 +188,12 @@ fn with_options<'a>(
     alloc: Global,
     command: clap::Command<'a>,
 ) -> Result<clap::Command<'a>, AllocError> {
-    let params = arg!(in alloc; --params <COSTS>
-        "What new texts are made under [default: m=19456,t=2,p=1]");
-    let bound = arg!(in alloc; --bound <COSTS>
-        "The most that a text may ask for [default: m=2097152,t=64,p=64, or the parameters]");
-    let secret = arg!(in alloc; --"secret-file" <PATH>
-        "The file's bytes, 1 to 4096 of them, are the secret of all texts");
-    command.arg(params)?.arg(bound)?.arg(secret)
+    let command = command.arg(arg!(in alloc; --params <COSTS>
+        "What new texts are made under [default: m=19456,t=2,p=1]"))?;
+    let command = command.arg(arg!(in alloc; --bound <COSTS>
+        "The most that a text may ask for [default: m=2097152,t=64,p=64, or the parameters]"))?;
+    command.arg(arg!(in alloc; --"secret-file" <PATH>
+        "The file's bytes, 1 to 4096 of them, are the secret of all texts"))
 }
 
 // With the command's words, and the option that belongs to one of them.
@@ -203,9 +201,8 @@ fn with_words<'a>(
     alloc: Global,
     command: clap::Command<'a>,
 ) -> Result<clap::Command<'a>, AllocError> {
-    let any_text = arg!(in alloc; --"any-text" "`import` takes texts of other schemes too");
+    let command = command.arg(arg!(in alloc; --"any-text"
+        "`import` takes texts of other schemes too"))?;
     let words = arg!(in alloc; <COMMAND> "A command with its text, or its file and name");
-    command
-        .arg(any_text)?
-        .arg(words.num_args(1..).action(ArgAction::Append))
+    command.arg(words.num_args(1..).action(ArgAction::Append))
 }

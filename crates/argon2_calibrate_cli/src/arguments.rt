@@ -3,8 +3,8 @@
 ghost use Rattle.std.specs.Prelude.{IfOk};
 ghost use Rattle.argon2_calibrate.specs.Choice.{ArePossible};
 
-use crate::options::Options;
-use crate::run::PROGRAM;
+use argon2_calibrate::Options;
+use argon2_calibrate::run::PROGRAM;
 use argon2_commands::invalid;
 use clap::{ArgMatches, Command, Error, arg, value_parser};
 use std::alloc::{AllocError, Global};
@@ -88,21 +88,18 @@ fn with_options<'a>(alloc: Global, command: Command<'a>) -> Result<Command<'a>, 
     let number = value_parser!(u32);
     let passes = arg!(in alloc; --"min-t" <N>
         "The least passes [default: 2 below 64 MiB of memory, 1 from there on]");
+    let command = command.arg(passes.value_parser(number.range(1..)))?;
     let lanes = arg!(in alloc; --lanes <N> "Lanes, with at least 8 blocks of 1024 bytes each");
-    let json = arg!(in alloc; --json "Write one JSON object: m, t, p, microseconds, busy");
     let lanes = lanes.value_parser(number.range(1..=16_777_215));
-    command
-        .arg(passes.value_parser(number.range(1..)))?
-        .arg(lanes.default_value("1"))?
-        .arg(json)
+    let command = command.arg(lanes.default_value("1"))?;
+    command.arg(arg!(in alloc; --json "Write one JSON object: m, t, p, microseconds, busy"))
 }
 
 // With the words behind them.
 fn with_words<'a>(alloc: Global, command: Command<'a>) -> Result<Command<'a>, AllocError> {
     let seconds = arg!(in alloc; <SECONDS> "How long a hash may take, from 0.001 to 3600");
+    let command = command.arg(seconds.value_parser(value_parser!(f64)))?;
     let most = arg!(in alloc; [MEBIBYTES] "The most memory of a hash, in MiB");
     let most = most.value_parser(value_parser!(u32).range(1..=4_194_303));
-    command
-        .arg(seconds.value_parser(value_parser!(f64)))?
-        .arg(most.default_value("64"))
+    command.arg(most.default_value("64"))
 }

@@ -1,6 +1,6 @@
 //! What is read: files one after another.
 
-use crate::run::Named;
+use argon2_audit::run::Named;
 use std::fs::File;
 use std::io::{Read, Stdin};
 use std::{fs, io};

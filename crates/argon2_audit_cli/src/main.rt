@@ -1,22 +1,16 @@
-//! `argon2-passwd`: makes texts of passwords, checks passwords by them, and keeps accounts in a file.
+//! `argon2-audit`: says which lines of its input store passwords below a policy.
 #![tactic(auto)]
 
+use argon2_audit::run::{PROGRAM, run};
 use argon2_commands::{answer, words};
 use argon2_failure::Failure;
-use outside::Machine;
-use run::{PROGRAM, run};
+use inputs::Inputs;
 use std::alloc::AllocError;
-use std::io::BufWriter;
+use std::io::{BufWriter, IsTerminal};
 use std::process::ExitCode;
 
 mod arguments;
-mod command;
-mod entries;
-mod failure;
-mod options;
-mod outside;
-mod passwords;
-mod run;
+mod inputs;
 
 fn main(rt: HostRuntime) -> ExitCode {
     let mut errors = rt.stderr();
@@ -28,14 +22,11 @@ fn main(rt: HostRuntime) -> ExitCode {
         Err(error) => return ExitCode::from(answer(PROGRAM, &error, &mut output, &mut errors)),
     };
     let status = match arguments::parsed(rt.alloc(), words.as_slice()) {
-        Ok(command) => run(
-            rt.alloc(),
-            command,
-            &mut Machine::new(&rt),
-            &mut rt.reader(),
-            &mut output,
-            &mut errors,
-        ),
+        Ok((options, names)) => {
+            let mut inputs = Inputs::new(&rt, names.as_slice());
+            let (alloc, shows) = (rt.alloc(), errors.is_terminal());
+            run(alloc, options, &mut inputs, &mut output, &mut errors, shows)
+        }
         Err(error) => answer(PROGRAM, &error, &mut output, &mut errors),
     };
     ExitCode::from(status)

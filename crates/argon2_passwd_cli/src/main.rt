@@ -1,26 +1,16 @@
-//! `argon2-audit`: says which lines of its input store passwords below a policy.
+//! `argon2-passwd`: makes texts of passwords, checks passwords by them, and keeps accounts in a file.
 #![tactic(auto)]
 
 use argon2_commands::{answer, words};
 use argon2_failure::Failure;
-use inputs::Inputs;
-use run::{PROGRAM, run};
+use argon2_passwd::run::{PROGRAM, run};
+use machine::Machine;
 use std::alloc::AllocError;
-use std::io::{BufWriter, IsTerminal};
+use std::io::BufWriter;
 use std::process::ExitCode;
 
 mod arguments;
-mod claim;
-mod field;
-mod finding;
-mod findings;
-mod inputs;
-mod limits;
-mod report;
-mod run;
-mod seen;
-mod session;
-mod tally;
+mod machine;
 
 fn main(rt: HostRuntime) -> ExitCode {
     let mut errors = rt.stderr();
@@ -32,11 +22,14 @@ fn main(rt: HostRuntime) -> ExitCode {
         Err(error) => return ExitCode::from(answer(PROGRAM, &error, &mut output, &mut errors)),
     };
     let status = match arguments::parsed(rt.alloc(), words.as_slice()) {
-        Ok((options, names)) => {
-            let mut inputs = Inputs::new(&rt, names.as_slice());
-            let (alloc, shows) = (rt.alloc(), errors.is_terminal());
-            run(alloc, options, &mut inputs, &mut output, &mut errors, shows)
-        }
+        Ok(command) => run(
+            rt.alloc(),
+            command,
+            &mut Machine::new(&rt),
+            &mut rt.reader(),
+            &mut output,
+            &mut errors,
+        ),
         Err(error) => answer(PROGRAM, &error, &mut output, &mut errors),
     };
     ExitCode::from(status)

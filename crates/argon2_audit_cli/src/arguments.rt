@@ -1,8 +1,7 @@
 //! The options of the command line, and the names of files.
 
-use crate::field::Field;
-use crate::limits::{Form, Limits, Options};
-use crate::run::PROGRAM;
+use argon2_audit::run::PROGRAM;
+use argon2_audit::{Field, Form, Limits, Options};
 use argon2_commands::invalid;
 use clap::{ArgMatches, Command, Error, arg, value_parser};
 use std::alloc::{AllocError, Global};
@@ -100,43 +99,39 @@ fn command<'a>(alloc: Global) -> Result<Command<'a>, AllocError> {
 fn with_least<'a>(alloc: Global, command: Command<'a>) -> Result<Command<'a>, AllocError> {
     let number = value_parser!(u32);
     let memory = arg!(in alloc; --"min-m" <M> "The least memory, in blocks of 1024 bytes");
+    let command = command.arg(memory.value_parser(number).default_value("19456"))?;
     let passes = arg!(in alloc; --"min-t" <T> "The least number of passes");
+    let command = command.arg(passes.value_parser(number).default_value("2"))?;
     let lanes = arg!(in alloc; --"min-p" <P> "The least number of lanes");
+    let command = command.arg(lanes.value_parser(number).default_value("1"))?;
     let salt = arg!(in alloc; --"min-salt" <N> "The fewest bytes of a salt");
+    let command = command.arg(salt.value_parser(number).default_value("16"))?;
     let hash = arg!(in alloc; --"min-hash" <N> "The fewest bytes of a hash");
-    command
-        .arg(memory.value_parser(number).default_value("19456"))?
-        .arg(passes.value_parser(number).default_value("2"))?
-        .arg(lanes.value_parser(number).default_value("1"))?
-        .arg(salt.value_parser(number).default_value("16"))?
-        .arg(hash.value_parser(number).default_value("32"))
+    command.arg(hash.value_parser(number).default_value("32"))
 }
 
 // With what else makes a line sound, and where its text is.
 fn with_lines<'a>(alloc: Global, command: Command<'a>) -> Result<Command<'a>, AllocError> {
     let version = arg!(in alloc; --"min-version" <V> "The least version [default: any]");
+    let command = command.arg(version.value_parser(["16", "19"].as_slice()))?;
     let require = arg!(in alloc; --require <ALGORITHM> "The one sound algorithm [default: any]");
-    let other = arg!(in alloc; --"allow-other"
-        "Other schemes, locked and blank lines and comments count as sound");
+    let require = require.value_parser(["argon2d", "argon2i", "argon2id"].as_slice());
+    let command = command.arg(require)?;
+    let command = command.arg(arg!(in alloc; --"allow-other"
+        "Other schemes, locked and blank lines and comments count as sound"))?;
     let field = arg!(in alloc; --field <N>
         "The text is field N, and a line without it is not sound [default: the second, or the line]");
-    command
-        .arg(version.value_parser(["16", "19"].as_slice()))?
-        .arg(require.value_parser(["argon2d", "argon2i", "argon2id"].as_slice()))?
-        .arg(other)?
-        .arg(field.value_parser(value_parser!(u32).range(1..)))
+    command.arg(field.value_parser(value_parser!(u32).range(1..)))
 }
 
 // With what divides a line, what is written, and what is read.
 fn with_output<'a>(alloc: Global, command: Command<'a>) -> Result<Command<'a>, AllocError> {
     let separator = arg!(in alloc; --separator <C> "The one byte between two fields");
+    let command = command.arg(separator.default_value(":"))?;
     let json =
         arg!(in alloc; --json "Write one JSON object: findings by line, counts, schemes, table");
-    let quiet = arg!(in alloc; --quiet "Write nothing; the status says all");
+    let command = command.arg(json.conflicts_with("quiet")?)?;
+    let command = command.arg(arg!(in alloc; --quiet "Write nothing; the status says all"))?;
     let files = arg!(in alloc; [FILE] ... "Files with a text a line, `-` for standard input");
-    command
-        .arg(separator.default_value(":"))?
-        .arg(json.conflicts_with("quiet")?)?
-        .arg(quiet)?
-        .arg(files.num_args(0..))
+    command.arg(files.num_args(0..))
 }

@@ -1,0 +1,15 @@
+//! What `argon2-passwd` does, with any streams and any world outside it.
+#![tactic(auto)]
+
+mod command;
+mod entries;
+mod failure;
+mod options;
+mod outside;
+mod passwords;
+pub mod run;
+
+pub use command::{Command, Edit};
+pub use failure::Failure;
+pub use options::Options;
+pub use outside::Outside;
