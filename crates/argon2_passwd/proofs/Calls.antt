@@ -8,10 +8,10 @@ use Rattle.argon2_accounts.specs.Accounts.{AccountStep, Adds, IsMadeOf, OnText, 
 use Rattle.argon2_accounts.specs.declared.error.AccountError.{AccountError}
 use Rattle.argon2.specs.Made.{IsFresh}
 use Rattle.argon2_store.specs.AccountFile.{Answers, Call, HasCause, HasNames, IfRefused, IsClosed, Serves, Stays, database_of, terms_of}
-use Rattle.argon2_store.specs.Table.{IsHonest, IsOpen}
+use Rattle.argon2_rows.specs.Table.{IsHonest, IsOpen}
 use Rattle.argon2_store.specs.declared.account_file.AccountFile.{AccountFile}
 use Rattle.argon2_store.specs.declared.error.FileError.{FileError}
-use Rattle.argon2_store.proofs.TableLemmas.{quiet_then}
+use Rattle.argon2_rows.proofs.TableLemmas.{quiet_then}
 
 -- the text of a value that was made of the password
 module _ (terms : Terms) (password drawn text : List ℕ) (w : Phc) (says : PhcText text w)

@@ -23,13 +23,13 @@ use Rattle.argon2_accounts.specs.declared.error.AccountError.{AccountError}
 use Rattle.argon2_accounts.specs.declared.error.AccountError.TheVariants.{NameUnknown, Refused}
 use Rattle.argon2_prefixes.specs.Prefixes.{bare}
 use Rattle.argon2_store.specs.AccountFile.{AddsOrNone, Call, HasNames, IsReady, Serves, Stays, error_of, database_of, terms_of}
-use Rattle.argon2_store.specs.Adding.{IsFirstRefused}
-use Rattle.argon2_store.specs.Rows.{FitLines, breaks_line, lines_of}
-use Rattle.argon2_store.specs.Table.{IsHonest}
+use Rattle.argon2_rows.specs.Adding.{IsFirstRefused}
+use Rattle.argon2_rows.specs.Rows.{FitLines, breaks_line, lines_of}
+use Rattle.argon2_rows.specs.Table.{IsHonest}
 use Rattle.argon2_store.specs.declared.account_file.AccountFile.{AccountFile}
 use Rattle.argon2_store.specs.declared.error.FileError.{FileError}
 use Rattle.argon2_store.specs.declared.error.FileError.TheVariants.{Account, Io}
-use Rattle.argon2_store.specs.declared.view.View.TheVariants as views
+use Rattle.argon2_rows.specs.declared.view.View.TheVariants as views
 use Rattle.argon2_passwd.specs.Asked.{Asked, Choices, bound_of, check, choices_of, edit, hash, import, show, verify}
 use Rattle.argon2_passwd.specs.declared.command.Edit.{Edit}
 use Rattle.argon2_passwd.specs.declared.command.Edit.TheVariants.{Register, Change, Set, Remove}

@@ -4,7 +4,7 @@ use Rattle.std.specs.Option.{option_copied}
 use Rattle.argon2.specs.Params.{parameters_of}
 use Rattle.argon2.specs.Settings.{Parameters}
 use Rattle.argon2.specs.declared.bound.Bound.{Bound}
-use Rattle.argon2_store.specs.declared.view.View.{View}
+use Rattle.argon2_rows.specs.declared.view.View.{View}
 use Rattle.argon2_passwd.specs.declared.command.Command.{Command}
 use Rattle.argon2_passwd.specs.declared.command.Command.TheVariants.{Hash, Check, Verify, Edit as Edits, Show, Import}
 use Rattle.argon2_passwd.specs.declared.command.Edit.{Edit}

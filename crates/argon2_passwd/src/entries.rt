@@ -1,7 +1,7 @@
 //! Names with their texts, each a line of standard input.
 
 ghost use Rattle.std.specs.Prelude.{◌≡◌, ◌↔◌, IfErr, IfOk, IfSome, IsTrue, map};
-ghost use Rattle.argon2_store.specs.Adding.{entry_of};
+ghost use Rattle.argon2_rows.specs.Adding.{entry_of};
 ghost use Rattle.argon2_passwd.specs.Answers.{AreEntries, IsArgon2, IsEntry, parts_of};
 ghost use Rattle.argon2_passwd.specs.Failures.{status_of};
 

@@ -6,8 +6,8 @@ use Rattle.argon2_store.proofs.Imports.{IfOk, Answers, Call, DrawsForText, error
 use Rattle.argon2_store.proofs.Imports.{Stays, database_of, terms_of, answered, read_of, unwritten, Changes, IsHonest, IsLong, IsOpen, CrashLeaves, StaysQuiet, changed}
 use Rattle.argon2_store.proofs.Imports.{AccountFile, FileError, Account, Closed, err_is, String, ByValue, Phc, PhcText}
 use Rattle.argon2_store.specs.AccountFile.{HasCause, HasNames}
-use Rattle.argon2_store.proofs.RowLemmas.{get-changed, others_kept, rows_of-once}
-use Rattle.argon2_store.proofs.TableLemmas.{Keeps, Settled, leaves_kept, leaves_quiet, on_all, quiet_itself}
+use Rattle.argon2_rows.proofs.RowLemmas.{get-changed, others_kept, rows_of-once}
+use Rattle.argon2_rows.proofs.TableLemmas.{Keeps, Settled, leaves_kept, leaves_quiet, on_all, quiet_itself}
 use Rattle.argon2_base.specs.declared.error.password_hash.Error.{Error}
 use Rattle.argon2_base.specs.declared.error.password_hash.Error.TheVariants.{EncodingInvalid}
 
@@ -242,7 +242,8 @@ cannot_serve {X = X} call {old} {e = e} r reads is before has =
 -- ---- the password of a name
 
 module _ {S : Type 0} {g : Ghosts S} {old mid : AccountFile S g} (reads : NamesStay None old mid) (new : AccountFile S g)
-    (same : terms_of new ≡ terms_of mid) (name password : List ℕ) {text : List ℕ} (fits : Accepts (terms_of mid) password text) where
+    (same : terms_of new ≡ terms_of mid) (name password : List ℕ) {text : List ℕ}
+    (fits : Accepts (terms_of mid) password text) where
   -- an open file has one map of names, in which the name has this text
   granted : {names : Texts} → HasNames new names → (IsTrusted new → get names name ≡ Some text)
       → (IsTrusted new → IsOpen g (database_of new)) → (after : Texts) → HasNames new after → IsTrusted new

@@ -1,10 +1,5 @@
-pub mod AddLemmas
 pub mod FileLemmas
 pub mod Imports
-pub mod LineLemmas
 pub mod NextOpenLemmas
 pub mod OpenLemmas
-pub mod RowLemmas
 pub mod RunLemmas
-pub mod TableLemmas
-pub mod TextLemmas

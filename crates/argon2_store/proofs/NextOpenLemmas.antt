@@ -9,7 +9,7 @@ use Rattle.argon2_store.proofs.Imports.{same_listing, file_trees, Texts, HoldsNa
 use Rattle.sqlite_disk.specs.declared.Disk.{Ghosts}
 use Rattle.sqlite_trees.specs.declared.store.Shape.TheVariants.{Table}
 use Rattle.sqlite_store.specs.Listing.{all_trees, all_reals, all_shapes}
-use Rattle.argon2_store.specs.Table.{catalog}
+use Rattle.argon2_rows.specs.Table.{catalog}
 use Rattle.sqlite_wal.proofs.RecoveryLemmas.{recovers_once as raw_once, replays_once}
 use Rattle.sqlite_wal.proofs.AppendLemmas.{page_from_pages, some_value}
 use Rattle.sqlite_wal.specs.PageSize.{IsPageSize}
@@ -27,7 +27,7 @@ use Rattle.sqlite_store.specs.Catalog.{describes, is_about, root_in}
 use Rattle.sqlite_store.specs.Db.{roots_of, trees_in}
 use Rattle.sqlite_store.specs.declared.catalog.Wanted.{Wanted}
 use Rattle.argon2_store.proofs.OpenLemmas.{left_table, stands_for}
-use Rattle.argon2_store.proofs.RowLemmas.{rows_of-once}
+use Rattle.argon2_rows.proofs.RowLemmas.{rows_of-once}
 use Rattle.sqlite_wal.specs.Recovery as raw
 use Rattle.sqlite_value.specs.contracts.row.Row as row
 

@@ -13,9 +13,9 @@ use Rattle.sqlite_store.proofs.BuildLemmas.{new_is_empty}
 use Rattle.sqlite_store.specs.Calls.{IsQuietCall}
 use Rattle.sqlite_pool.specs.declared.pool.Pool.{Pool}
 use Rattle.sqlite_store.specs.FileStore.{IsReady}
-use Rattle.sqlite_store.specs.Listing.{all_trees}
+use Rattle.sqlite_store.specs.Listing.{all_shapes, all_trees}
 use Rattle.sqlite_store.specs.declared.store.open.Unopened.{Unopened}
-use Rattle.argon2_store.specs.Table.{catalog}
+use Rattle.argon2_rows.specs.Table.{catalog}
 use Rattle.sqlite_pool.specs.File.{in_use}
 use Rattle.sqlite_store.specs.Unopened as below
 
@@ -23,7 +23,7 @@ use Rattle.sqlite_store.specs.Unopened as below
 
 pub fresh : {D : Type 0} {g : Ghosts D} (it : FileStore D g) → IsReady it → schema_of it ≡ account ∷ [] → IsClean (view it)
     → IsUnwritten (view it)
-unfolding catalog
+unfolding catalog all_shapes
 fresh it ready is clean = search (arith, clean_of, catalog_rows)
 
 -- ---- an open that fails

@@ -5,9 +5,9 @@ use Rattle.argon2_store.proofs.Imports.{Terms, adding, Texts, AddsOrNone, Call, 
 use Rattle.argon2_store.proofs.Imports.{AreEventsOf, Did, Does, EndsRun, FileCall, IsFoundAfter, IsLate, IsLateEvent, IsLateOf, IsShutOut, Run, add_all, added, event_of, events_of}
 use Rattle.argon2_store.proofs.Imports.{login, on_name, over_file, reads, IsHonest, IsOpen, CrashLeaves, StaysQuiet, AccountFile, FileError, Account, Closed}
 use Rattle.argon2_store.specs.AccountFile.{HasNames, IsReady}
-use Rattle.argon2_store.proofs.TableLemmas.{Settled, leaves_quiet}
+use Rattle.argon2_rows.proofs.TableLemmas.{Settled, leaves_quiet}
 use Rattle.argon2_store.proofs.NextOpenLemmas.{next_open}
-use Rattle.argon2_store.proofs.RowLemmas.{rows_of-once}
+use Rattle.argon2_rows.proofs.RowLemmas.{rows_of-once}
 use Rattle.sqlite_disk.specs.declared.Disk as disk
 
 -- ---- events

@@ -9,10 +9,10 @@ use Rattle.argon2_accounts.specs.declared.error.AccountError.{AccountError}
 use Rattle.argon2_accounts.specs.declared.error.AccountError.TheVariants.{NameUnknown}
 use Rattle.argon2.specs.declared.login.answers.Accepted.{Accepted}
 use Rattle.argon2.specs.declared.login.answers.Accepted.TheVariants.{Current}
-use Rattle.argon2_store.specs.Adding.{AddsAll, IsFirstRefused}
+use Rattle.argon2_rows.specs.Adding.{AddsAll, IsFirstRefused}
 use Rattle.argon2_store.specs.Opening.{HoldsNames, IsDamaged}
-use Rattle.argon2_store.specs.Table as rows
-use Rattle.argon2_store.specs.Table.{IsHonest, IsLong, IsOpen, CrashLeaves, StaysQuiet}
+use Rattle.argon2_rows.specs.Table as rows
+use Rattle.argon2_rows.specs.Table.{IsHonest, IsLong, IsOpen, CrashLeaves, StaysQuiet}
 use Rattle.argon2_store.specs.declared.account_file.AccountFile.{AccountFile}
 use Rattle.argon2_store.specs.declared.error.FileError.{FileError}
 use Rattle.argon2_store.specs.declared.error.OpenError.{OpenError}

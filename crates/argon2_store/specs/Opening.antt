@@ -1,5 +1,5 @@
 -- What opening a file finds.
-use Rattle.std.specs.Prelude.{◌≡◌, ◌⊎◌, ◌≤◌, ℕ, List, [], ◌∷◌, length, slice_index, codes}
+use Rattle.std.specs.Prelude.{◌≡◌, ◌⊎◌, ◌≤◌, ℕ, List, [], ◌∷◌, length, slice_index}
 use Rattle.sqlite_value.specs.Order.{Row}
 use Rattle.sqlite_disk.specs.declared.Disk.{Ghosts}
 use Rattle.sqlite_disk.specs.Disk.{Only}
@@ -10,30 +10,20 @@ use Rattle.sqlite_store.specs.Listing.{file_trees, listed_from}
 use Rattle.sqlite_store.specs.declared.catalog.Wanted.{Wanted}
 use Rattle.sqlite_store.specs.Db.{IsFile, rows_at}
 use Rattle.sqlite_pool.specs.File.{IsSoundFile, in_use}
-use Rattle.sqlite_trees.specs.declared.store.Shape.TheVariants.{Index, Table}
+use Rattle.sqlite_trees.specs.declared.store.Shape.TheVariants.{Table}
 use Rattle.sqlite_wal.specs.Files.{outcomes, seen_image}
 use Rattle.sqlite_wal.specs.PageSize.{IsPageSize}
 use Rattle.sqlite_wal.specs.Reads.{AreClean}
 use Rattle.sqlite_wal.specs.Format.{IsSigned}
 use Rattle.sqlite_wal.specs.Recovery.{Image, header}
-use Rattle.sqlite_value.specs.declared.value.Value.TheVariants.{Text}
-use Rattle.sqlite_value.specs.Keys.{plain}
 use Rattle.argon2_accounts.specs.Accounts.{Texts}
-use Rattle.argon2_store.specs.Rows.{AreTexts, rows_of}
+use Rattle.argon2_rows.specs.Rows.{AreTexts, rows_of}
+use Rattle.argon2_rows.specs.Table.{account}
 
 -- there is no database yet, or one that lists no table
 abbrev pub IsUnstarted : ℕ → Image → Type 0
 IsUnstarted size image = IsBlankFile size image
     ⊎ ((pages : PageMap) × Recovers size image pages × IsSoundFile size pages × (rows_at size (in_use size pages) Table 1 ≡ []))
-
--- the table of the accounts, as `sqlite_schema` lists it
-abbrev pub account : Wanted
-account = record {
-  shape = Index plain;
-  reals = 0;
-  row = Text (codes "table") ∷ Text (codes "account") ∷ Text (codes "account")
-      ∷ Text (codes "CREATE TABLE account (name TEXT NOT NULL PRIMARY KEY, phc TEXT NOT NULL) WITHOUT ROWID") ∷ [];
-}
 
 -- the files recover to a database of that table, which has these rows, or there was no table and these are none
 abbrev pub FoundIn : ℕ → Image → List Row → Type 0

@@ -12,7 +12,7 @@ use Rattle.argon2.specs.NamedTexts.{newest}
 use Rattle.argon2.specs.declared.login.answers.Accepted.{Accepted}
 use Rattle.argon2_store.specs.AccountFile.{AddsOrNone, Call, HasNames, IsReady, Serves, Stays, database_of}
 use Rattle.argon2_store.specs.Opening.{HoldsNames, IsAfterOpens}
-use Rattle.argon2_store.specs.Table.{IsHonest}
+use Rattle.argon2_rows.specs.Table.{IsHonest}
 use Rattle.argon2_store.specs.declared.account_file.AccountFile.{AccountFile}
 use Rattle.argon2_store.specs.declared.error.FileError.{FileError}
 use Rattle.argon2_store.specs.declared.error.FileError.TheVariants.{Account, Closed}

@@ -11,21 +11,21 @@ ghost use Rattle.argon2_accounts.specs.Accounts.{AreTerms, Texts as Named, addin
 ghost use Rattle.argon2.specs.Made.{target_of};
 ghost use Rattle.argon2.specs.NamedTexts.{IsText};
 ghost use Rattle.argon2_base.specs.declared.error.password_hash.Error.TheVariants.{EncodingInvalid};
-ghost use Rattle.argon2_store.specs.Adding.{entry_of};
+ghost use Rattle.argon2_rows.specs.Adding.{entry_of};
 ghost use Rattle.argon2_store.specs.Errors.{IsOfDatabase};
-ghost use Rattle.argon2_store.specs.Rows.{FitLines, lines_of};
-ghost use Rattle.argon2_store.specs.Table.{HasSome, IsHonest, IsOpen};
+ghost use Rattle.argon2_rows.specs.Rows.{FitLines, lines_of};
+ghost use Rattle.argon2_rows.specs.Table.{HasSome, IsHonest, IsOpen};
 ghost use Rattle.argon2_store.specs.declared.error.OpenError.TheVariants.{DamagedLog, Row as NoAccount};
 
 use crate::error::{FileError, OpenError, read, written};
 use crate::opening::{is_damaged, open_files, open_path};
-use crate::rows::{load, look_up, write_rows};
-use crate::table::ends;
-use crate::view::View;
 use argon2::bound::Bound;
 use argon2::login::{Accepted, LoggedIn};
 use argon2::{Argon2, PasswordHash};
 use argon2_accounts::{AccountError, Policy};
+use argon2_rows::View;
+use argon2_rows::rows::{load, look_up, write_rows};
+use argon2_rows::table::undo_failed;
 use rand_core::Rng;
 use sqlite_disk::{Disk, Files};
 use sqlite_std_file::{FileFrom, Start};
@@ -328,7 +328,8 @@ impl<'key, S: Store> AccountFile<'key, S> {
             &mut self.key,
             name,
         );
-        ends(&mut self.store, text)
+        undo_failed(&mut self.store, &text);
+        read(text)
     }
 
     /// Writes a line for each name, in the order of the names' bytes, and flushes `output`. The inner result is
@@ -357,7 +358,8 @@ impl<'key, S: Store> AccountFile<'key, S> {
             return Err(FileError::Closed);
         }
         let done = write_rows(&mut self.store, &mut self.row, view, output);
-        ends(&mut self.store, done)
+        undo_failed(&mut self.store, &done);
+        read(done)
     }
 
     /// The store that holds the names.
@@ -453,16 +455,20 @@ impl<'key, D: Disk + Drop> AccountFile<'key, FileStore<D>> {
             Err(failed) => return Err(failed),
         };
         let (mut row, mut key) = (Row::new(alloc), Row::new(alloc));
-        match load(&mut store, &mut row, &mut key) {
-            Ok(()) => Ok(AccountFile {
-                policy,
-                store,
-                row,
-                key,
-                alloc,
-            }),
-            Err(error) => Err((error, store.close())),
-        }
+        let error = match load(&mut store, &mut row, &mut key) {
+            Ok(true) => {
+                return Ok(AccountFile {
+                    policy,
+                    store,
+                    row,
+                    key,
+                    alloc,
+                });
+            }
+            Ok(false) => OpenError::Row,
+            Err(error) => error.into(),
+        };
+        Err((error, store.close()))
     }
 }
 

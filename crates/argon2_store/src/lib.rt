@@ -24,14 +24,12 @@
 #![tactic(auto)]
 
 mod account_file;
+mod changes;
 mod error;
 mod opening;
-mod rows;
 mod runs;
-mod table;
-mod view;
 
 pub use account_file::{AccountFile, AccountsAt};
+pub use argon2_rows::View;
 pub use error::{FileError, OpenError};
 pub use runs::{account_file_runs, failed_open, next_run};
-pub use view::View;

@@ -15,8 +15,9 @@ ghost use Rattle.sqlite_wal.specs.Format.{IsSigned, be32};
 ghost use Rattle.sqlite_wal.specs.Reads.{AreClean, OnlyReads};
 ghost use Rattle.sqlite_wal.specs.Recovery.{Image};
 ghost use Rattle.argon2_store.specs.Errors.{IsOfDatabase, IsOfPath};
-ghost use Rattle.argon2_store.specs.Opening.{AreSynced, AreUnharmed, FoundIn, IsDamaged, IsUnstarted, StandsFor, account};
-ghost use Rattle.argon2_store.specs.Table as table;
+ghost use Rattle.argon2_store.specs.Opening.{AreSynced, AreUnharmed, FoundIn, IsDamaged, IsUnstarted, StandsFor};
+ghost use Rattle.argon2_rows.specs.Table as table;
+ghost use Rattle.argon2_rows.specs.Table.{account};
 
 use crate::error::OpenError;
 use sqlite_disk::{Disk, Files};

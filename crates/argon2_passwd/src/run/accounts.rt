@@ -4,7 +4,7 @@ ghost use Rattle.std.specs.Prelude.{◌≡◌, ◌∷◌, [], ℕ, List, Option,
 ghost use Rattle.argon2_base.specs.PhcFields.{phc_of};
 ghost use Rattle.argon2_base.specs.PhcText.{PhcText};
 ghost use Rattle.argon2_accounts.specs.Accounts.{AreTerms, terms_of as policy_terms, text_of};
-ghost use Rattle.argon2_store.specs.Adding.{entry_of};
+ghost use Rattle.argon2_rows.specs.Adding.{entry_of};
 ghost use Rattle.argon2_passwd.specs.Answers.{AddsLines, IsLogin, IsLooked, IsNotFound, IsOpened, IsReplaced, IsSecret, IsServed, terms_in};
 ghost use Rattle.argon2_passwd.specs.Asked.{Asked, choices_of};
 ghost use Rattle.argon2_passwd.specs.Failures.{status_of};

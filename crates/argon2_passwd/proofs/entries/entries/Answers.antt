@@ -7,7 +7,7 @@ use Rattle.std.proofs.lemmas.List.Splits.{length-slice_split, slice_split_at, sl
 use Rattle.std.specs.Io.BufRead.{strip_last}
 use Rattle.std.specs.List.{AllZip, IsFirstMatchOrLen, slice_split}
 use Rattle.std.specs.Str.Lines.{lines, lines_of_parts, strip_carriage_return}
-use Rattle.argon2_store.specs.Adding.{entry_of}
+use Rattle.argon2_rows.specs.Adding.{entry_of}
 use Rattle.argon2_passwd.specs.Answers.{AreEntries, IsEntry}
 use Rattle.argon2_passwd.specs.Passwords.{line_of}
 use Rattle.argon2_passwd.proofs.entries.entries.Goals as goal

@@ -1,6 +1,6 @@
 use Rattle.std.proofs.Common.{map, ℕ, List, ◌++◌}
 use Rattle.std.specs.Slice.Iter.{split_inclusive_rest}
-use Rattle.argon2_store.specs.Adding.{entry_of}
+use Rattle.argon2_rows.specs.Adding.{entry_of}
 use Rattle.argon2_passwd.specs.Answers.{AreEntries}
 use Rattle.argon2_passwd.proofs.entries.entries.Given as goal
 

@@ -1,6 +1,6 @@
 use Rattle.std.proofs.Common.{◌∙◌, [], inl, map, subst}
 use Rattle.std.proofs.lemmas.Option.{IfSome_then}
-use Rattle.argon2_store.specs.Adding.{entry_of}
+use Rattle.argon2_rows.specs.Adding.{entry_of}
 use Rattle.argon2_passwd.specs.Answers.{AreEntries}
 use Rattle.argon2_passwd.proofs.Served.{failed, imported, keeps_same, no_memory, not_begun, opened_for}
 use Rattle.argon2_passwd.proofs.run.accounts.import.Goals as goal

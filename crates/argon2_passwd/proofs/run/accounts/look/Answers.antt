@@ -5,7 +5,7 @@ use Rattle.std.specs.Prelude.{String, string_bytes, IfOk}
 use Rattle.sqlite_trees.specs.declared.store.Store.{Ghosts}
 use Rattle.argon2_accounts.specs.Accounts.{Terms, Texts}
 use Rattle.argon2_store.specs.AccountFile.{HasNames, IsOfFile, Reads, database_of}
-use Rattle.argon2_store.specs.Table.{IsHonest}
+use Rattle.argon2_rows.specs.Table.{IsHonest}
 use Rattle.argon2_store.specs.declared.account_file.AccountFile.{AccountFile}
 use Rattle.argon2_store.specs.declared.error.FileError.{FileError}
 use Rattle.argon2_store.specs.declared.error.FileError.TheVariants.{Account}

@@ -1,22 +1,24 @@
 use Rattle.argon2_store.proofs.Imports.{arith, inl, refl, subst₂, halves, settled_at, over_file, FoundIn}
 use Rattle.argon2_store.proofs.OpenLemmas.{seen_same, unharmed_by_reads, unharmed_then}
-use Rattle.argon2_store.proofs.TableLemmas.{leaves_kept}
+use Rattle.argon2_rows.proofs.TableLemmas.{leaves_kept}
 use Rattle.argon2_store.proofs.account_file.AccountFile+FileStore+D.open_from.Goals as goal
+use Rattle.argon2_store.proofs.account_file.AccountFile+FileStore+D.open_from.Goals.{in-Ok-false-load, in-Err-load}
 
 pub invariant_of-result : goal.invariant_of-result
-invariant_of-result g c = record { kept = ∣ (c.in-Ok-load.ensures.found.0, c.in-Ok-load.ensures.found.1) ∣₁ }
+invariant_of-result g c =
+    let found = c.in-Ok-true-load.ensures.found c.in-Ok-true-load.field-0-test in record { kept = ∣ (found.0, found.1) ∣₁ }
 
-pub returns-in-Ok-load-clause-ready : goal.returns-in-Ok-load-clause-ready
-returns-in-Ok-load-clause-ready g c sound =
-    let (names, has, rows) = c.in-Ok-load.ensures.found in (
+pub returns-in-Ok-true-load-clause-ready : goal.returns-in-Ok-true-load-clause-ready
+returns-in-Ok-true-load-clause-ready g c sound =
+    let (names, has, rows) = c.in-Ok-true-load.ensures.found c.in-Ok-true-load.field-0-test in (
       names,
       record {
         sound = sound;
         under = refl;
         has = has;
-        is_open = c.in-Ok-load.ensures.«open»;
+        is_open = c.in-Ok-true-load.ensures.«open»;
         left = λ clean. leaves_kept (over_file {g = g.D.Disk}) c.load.new.store names
-            (settled_at c.load.new.store g.met.D.Disk.seen_may_stay) has.1 clean (c.in-Ok-load.ensures.«open» clean);
+            (settled_at c.load.new.store g.met.D.Disk.seen_may_stay) has.1 clean (c.in-Ok-true-load.ensures.«open» clean);
       },
       λ clean. (has.0, subst₂ (FoundIn 4096) (search (arith, seen_same)) (rows clean) (c.in-Ok.ensures.found (search arith))),
       λ clean damaged. search (arith, halves),
@@ -36,3 +38,10 @@ pub returns-in-Err-open_files-clause-unharmed : goal.returns-in-Err-open_files-c
 returns-in-Err-open_files-clause-unharmed g c =
     unharmed_then c.args.files.log c.is_damaged.new.log c.args.files.db _ c.is_damaged.ensures.same
     c.in-Err-open_files.ensures.left
+
+-- behind a log that is not damaged
+pub returns-clause-damaged : goal.returns-clause-damaged
+returns-clause-damaged g c is = elim c.match-load.branch [
+  | in-Ok-false-load w ↦ let same = w.error-is in grind arith
+  | in-Err-load w ↦ let same = w.error-is in let of = w.into-error.ensures in grind arith
+]

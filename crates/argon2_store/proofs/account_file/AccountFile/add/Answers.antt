@@ -17,7 +17,8 @@ returns-in_err-parsed-clause-call g c before has =
     )
 
 pub returns-in_err-text_of-clause-call : goal.returns-in_err-text_of-clause-call
-returns-in_err-text_of-clause-call g c = search (arith, cannot_serve, err_is _ _ c.from_residual-in_err-text_of.ensures.1, c.in_err-text_of.ensures.reads)
+returns-in_err-text_of-clause-call g c =
+    search (arith, cannot_serve, err_is _ _ c.from_residual-in_err-text_of.ensures.1, c.in_err-text_of.ensures.reads)
 
 pub returns-then-is_some-clause-call : goal.returns-then-is_some-clause-call
 returns-then-is_some-clause-call g c =
@@ -29,6 +30,7 @@ pub returns-clause-call : goal.returns-clause-call
 returns-clause-call g c =
     let says = c.in_ok-parsed.ensures.found in
     writes (adding c.args.name.now c.args.text.now) c.in_ok-text_of.ensures.reads
-    (None-if_not_some _ (sym c.is_some.ensures ∙ c.if-is_some.false)) _ (Some (text_of c.in_ok-parsed.parsed)) tt c.change.ensures.terms
+    (None-if_not_some _ (sym c.is_some.ensures ∙ c.if-is_some.false)) _ (Some (text_of c.in_ok-parsed.parsed)) tt
+    c.change.ensures.terms
     c.in_ok-text_of.ensures.shows (refl, (phc_of c.in_ok-parsed.parsed, says), ap Some (sym says.1)) _ c.change.ensures.change _
     c.written.ensures

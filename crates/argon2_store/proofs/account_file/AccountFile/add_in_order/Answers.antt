@@ -1,5 +1,5 @@
 use Rattle.argon2_store.proofs.Imports.{IsPermutation, iff_false, true_from_ne_false}
-use Rattle.argon2_store.proofs.AddLemmas.{reordered, unwritten, written_later}
+use Rattle.argon2_rows.proofs.AddLemmas.{reordered, unwritten, written_later}
 use Rattle.argon2_store.proofs.account_file.AccountFile.add_in_order.Goals as goal
 
 pub returns-in-Ok-add_listed-clause-all : goal.returns-in-Ok-add_listed-clause-all

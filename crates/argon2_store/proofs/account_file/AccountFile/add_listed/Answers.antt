@@ -1,5 +1,5 @@
 use Rattle.argon2_store.proofs.Imports.{arith, Ok, WritesAll, map, ∥∥₁_map, AddsAll, entry_of}
-use Rattle.argon2_store.proofs.TableLemmas.{all_or_none, changes_of, committed, has_either, quiet_then, some_kept, taken_back}
+use Rattle.argon2_rows.proofs.TableLemmas.{all_or_none, changes_of, committed, has_either, quiet_then, some_kept, taken_back}
 use Rattle.argon2_store.proofs.account_file.AccountFile.add_listed.Goals as goal
 use Rattle.argon2_store.proofs.account_file.AccountFile.add_listed.Goals.{After-finish}
 

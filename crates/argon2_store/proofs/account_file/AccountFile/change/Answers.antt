@@ -1,7 +1,7 @@
 use Rattle.argon2_store.proofs.Imports.{Option, Some, None, ∥∥₁_map, Bor, option_copied, option_map, IfSome, IsUtf8, phc_of, text_of, PasswordHash, changed, Texts, HasNames, Changes, IsLong}
-use Rattle.argon2_store.proofs.RowLemmas.{texts_changed}
-use Rattle.argon2_store.proofs.TableLemmas.{changes_of, has_either}
-use Rattle.argon2_store.proofs.TextLemmas.{text_is_utf8}
+use Rattle.argon2_rows.proofs.RowLemmas.{texts_changed}
+use Rattle.argon2_rows.proofs.TableLemmas.{changes_of, has_either}
+use Rattle.argon2_rows.proofs.TextLemmas.{text_is_utf8}
 use Rattle.argon2_store.proofs.account_file.AccountFile.change.Goals as goal
 use Rattle.argon2_store.proofs.account_file.AccountFile.change.Goals.{After-finish}
 

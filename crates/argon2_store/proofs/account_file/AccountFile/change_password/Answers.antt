@@ -11,7 +11,8 @@ drawn_written : {X : Type 0} (x : X) (terms first : Terms) → terms ≡ first �
 drawn_written x terms first same password text v old new says draws done = grind arith
 
 pub returns-in_err-text-clause-call : goal.returns-in_err-text-clause-call
-returns-in_err-text-clause-call g c = search (arith, cannot_serve, err_is _ _ c.from_residual.ensures.1, c.in_err-text.ensures.reads)
+returns-in_err-text-clause-call g c =
+    search (arith, cannot_serve, err_is _ _ c.from_residual.ensures.1, c.in_err-text.ensures.reads)
 
 pub returns-in_default-clause-call : goal.returns-in_default-clause-call
 returns-in_default-clause-call g c = search (arith, refuses, c.in_ok-text.ensures.reads, c.in_ok-text.ensures.shows)
@@ -35,7 +36,8 @@ pub returns-clause-call : goal.returns-clause-call
 returns-clause-call g c =
     let says = rw c.as_str.ensures.value at c.in_ok-current.ensures.found in
     writes (changing c.args.name.now c.args.old.now c.args.new.now (fill_bytes 16 (g.R.Rng.stream c.args.rng.now)).0)
-    c.in_ok-text.ensures.reads c.in-Some.is _ (Some (text_of c.in_ok-fresh.fresh)) tt c.change-done.ensures.terms c.in_ok-text.ensures.shows
+    c.in_ok-text.ensures.reads c.in-Some.is _ (Some (text_of c.in_ok-fresh.fresh)) tt c.change-done.ensures.terms
+    c.in_ok-text.ensures.shows
     (inl (_, _, says, is_text_of c.in_ok-fresh.fresh, c.in_ok-fresh.ensures.made)) _
     c.change-done.ensures.change _ c.written.ensures
 

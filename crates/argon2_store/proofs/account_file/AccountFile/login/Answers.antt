@@ -3,7 +3,8 @@ use Rattle.argon2_store.proofs.FileLemmas.{accepts, cannot_serve, has_kept, has_
 use Rattle.argon2_store.proofs.account_file.AccountFile.login.Goals as goal
 
 pub returns-in_err-text-clause-call : goal.returns-in_err-text-clause-call
-returns-in_err-text-clause-call g c = search (arith, cannot_serve, err_is _ _ c.from_residual.ensures.1, c.in_err-text.ensures.reads)
+returns-in_err-text-clause-call g c =
+    search (arith, cannot_serve, err_is _ _ c.from_residual.ensures.1, c.in_err-text.ensures.reads)
 
 pub returns-in_default-clause-call : goal.returns-in_default-clause-call
 returns-in_default-clause-call g c = search (arith, refuses, c.in_ok-text.ensures.reads, c.in_ok-text.ensures.shows)

@@ -3,7 +3,8 @@ use Rattle.argon2_store.proofs.FileLemmas.{cannot_serve, has_written, is_some-ma
 use Rattle.argon2_store.proofs.account_file.AccountFile.register.Goals as goal
 
 pub returns-in_err-text_of-clause-call : goal.returns-in_err-text_of-clause-call
-returns-in_err-text_of-clause-call g c = search (arith, cannot_serve, err_is _ _ c.from_residual.ensures.1, c.in_err-text_of.ensures.reads)
+returns-in_err-text_of-clause-call g c =
+    search (arith, cannot_serve, err_is _ _ c.from_residual.ensures.1, c.in_err-text_of.ensures.reads)
 
 pub returns-then-is_some-clause-call : goal.returns-then-is_some-clause-call
 returns-then-is_some-clause-call g c =

@@ -1,6 +1,6 @@
 use Rattle.argon2_store.proofs.Imports.{arith, refl}
 use Rattle.argon2_store.proofs.FileLemmas.{is_open, reads_of}
-use Rattle.argon2_store.proofs.TableLemmas.{shape_of, some_kept, still}
+use Rattle.argon2_rows.proofs.TableLemmas.{reads_keep, shape_of, some_kept}
 use Rattle.argon2_store.proofs.account_file.AccountFile.write_lines.Goals as goal
 
 pub write_rows-done-requires : goal.write_rows-done-requires
@@ -8,13 +8,14 @@ write_rows-done-requires g c = search (arith, shape_of, is_open, g.met.S.Store.s
 
 pub invariant_of-self : goal.invariant_of-self
 invariant_of-self g c = record {
-  kept = some_kept c.args.self.now.kept (λ names has. (still g.met.S.Store.settled
+  kept = some_kept c.args.self.now.kept (λ names has. (reads_keep g.met.S.Store.settled
       (is_open g.met.S.Store.settled c.args.self.now c.is_closed.ensures c.if-is_closed.false) c.write_rows-done.result
-      g.met.S.Store.broken_if_shut has (c.write_rows-done.ensures.reads names) c.ends.ensures.ends).0);
+      g.met.S.Store.broken_if_shut has (c.write_rows-done.ensures.reads names) c.undo_failed.ensures).0);
 }
 
 pub returns-clause-reads : goal.returns-clause-reads
 returns-clause-reads g c names has =
-    reads_of g.met.S.Store.settled c.args.self.now c.is_closed.ensures c.if-is_closed.false _ refl c.write_rows-done.result names has
-    (still g.met.S.Store.settled (is_open g.met.S.Store.settled c.args.self.now c.is_closed.ensures c.if-is_closed.false) _
-    g.met.S.Store.broken_if_shut has (c.write_rows-done.ensures.reads names) c.ends.ensures.ends) _ c.ends.ensures.answer
+    reads_of g.met.S.Store.settled c.args.self.now c.is_closed.ensures c.if-is_closed.false _ refl
+    c.write_rows-done.result names has
+    (reads_keep g.met.S.Store.settled (is_open g.met.S.Store.settled c.args.self.now c.is_closed.ensures c.if-is_closed.false) _
+    g.met.S.Store.broken_if_shut has (c.write_rows-done.ensures.reads names) c.undo_failed.ensures) _ c.read.ensures

@@ -1,0 +1,106 @@
+-- Names to which several are added.
+use Rattle.argon2_rows.proofs.Imports.{◌≡◌, ℕ, List, [], ◌∷◌, ◌++◌, false, Some, Result, Ok, Err, refl, sym, Io, subst, ap, ◌∙◌, arith, inl, map, Bor, get}
+use Rattle.argon2_rows.proofs.Imports.{Any, on_ok_weaker, StoreError, Ghosts, Texts, AccountError, AddsAll, AddsName, WritesAll, IsPermutation, entry_of, Changes}
+use Rattle.argon2_rows.proofs.Imports.{changed, HasNames, IsHonest, IsLong, IsOpen, StaysQuiet}
+use Rattle.std.proofs.lemmas.List.Sorted.{Contains-permutation, IsPermutation-map, IsPermutation-sym}
+use Rattle.sqlite_trees.proofs.ListLemmas.{along_permutation}
+use Rattle.argon2_rows.proofs.RowLemmas.{get-changed, one_or_other, others_kept}
+use Rattle.argon2_rows.proofs.TableLemmas.{Settled, leaves_quiet, quiet_itself, quiet_then}
+
+pub add_last : (es : List (List ℕ × List ℕ)) (before mid after : Texts) (e : List ℕ × List ℕ) → AddsAll before es mid
+    → AddsName mid e (Ok tt) after → AddsAll before (es ++ e ∷ []) after
+add_last [] before mid after e same last =
+    (after, subst (λ (m : Texts). AddsName m e (Ok tt) after) same last, refl)
+add_last (x ∷ xs) before mid after e all last = (all.0, all.1, add_last xs all.0 mid after e all.2 last)
+
+-- ---- the order of the names
+
+abbrev Reorders : List (List ℕ × List ℕ) → List (List ℕ × List ℕ) → Type 0
+Reorders es fs = (before after : Texts) → AddsAll before es after → AddsAll before fs after
+
+-- the first two may change places
+turn : (x y : List ℕ × List ℕ) (es : List (List ℕ × List ℕ)) → Reorders (x ∷ y ∷ es) (y ∷ x ∷ es)
+turn x y es before after (one, ((none, fine, has), kept), (two, ((gone, good, put), held), rest)) =
+    let apart : x.0 ≡ y.0 → ⊥ = λ is. let never = sym has ∙ ap (get one) is ∙ gone in cc in
+    let other : y.0 ≡ x.0 → ⊥ = λ is. apart (sym is) in
+    let at = get-changed before y.0 (Some y.1) in
+    let stays = others_kept before y.0 (Some y.1) in (
+      changed before y.0 (Some y.1),
+      ((sym (kept y.0 other) ∙ gone, good, at), stays),
+      (
+        two,
+        (
+          (stays x.0 apart ∙ none, fine, held x.0 apart ∙ has),
+          λ q differs.
+              let two = one_or_other q y.0 in let last = held q in let first = kept q differs in let s = stays q in grind arith,
+        ),
+        rest,
+      ),
+    )
+
+-- names may be added in any order
+any_order : (es fs : List (List ℕ × List ℕ)) → IsPermutation es fs → Reorders es fs
+any_order = along_permutation Reorders (λ es before after all. all)
+    (λ x es fs moved before after all. (all.0, all.1, moved all.0 after all.2)) turn
+    (λ es fs gs first then before after all. then before after (first before after all))
+
+module _ {S : Type 0} (g : Ghosts S) where
+  -- a change is the same after a call that changed nothing, and may have more causes
+  changes_later : {a b c : S} {x y : Texts} {P Q : Type 0} {r : Result (Unit {0}) StoreError} → StaysQuiet g a b
+      → (IsHonest g b → (g.view b).is_broken ≡ false) → (P → Q) → Changes g b c x y P r → Changes g a c x y Q r
+  changes_later quiet sound more change = search arith
+
+  -- names that are written in another order
+  pub reordered : (old new : S) (xs ys : List (Bor (List ℕ) × Bor (List ℕ))) (done : Result (Unit {0}) StoreError)
+      → (IsHonest g old → IsOpen g old) → IsPermutation xs ys
+      → WritesAll g old new (map entry_of ys) (Ok done) → WritesAll g old new (map entry_of xs) (Ok done)
+  reordered old new xs ys done was_open moved wrote before has =
+      let back = IsPermutation-map entry_of ys xs (IsPermutation-sym xs ys moved) in
+      let es = map entry_of ys in
+      let fs = map entry_of xs in
+      let (after, may, all, change) = wrote before has in (
+        after,
+        λ clean. let moves = any_order es fs back before after in let either = may clean in grind arith,
+        on_ok_weaker done (λ f clean. any_order es fs back before after (f clean)) all,
+        changes_later (quiet_itself g old) (λ clean. has.1.sound clean (was_open clean)) (some_moved es fs back) change,
+      )
+    where
+      some_moved : (es fs : List (List ℕ × List ℕ)) → IsPermutation es fs → Any (λ e. IsLong e.0) es → Any (λ e. IsLong e.0) fs
+      some_moved es fs back (k, e, within, is, long) =
+          let (j, there, at) = Contains-permutation es fs e back (k, within, is) in (j, e, there, at, long)
+
+  -- after others were written and taken back
+  module _ (old mid : S) {Q : Texts → Type 0}
+      (refused : (names : Texts) → HasNames g old names → HasNames g mid names × Q names × StaysQuiet g old mid) where
+    -- names are written
+    pub written_later : (new : S) (es : List (List ℕ × List ℕ)) (r : Result (Result (Unit {0}) StoreError) (ℕ × AccountError))
+        → (IsHonest g mid → IsOpen g mid) → WritesAll g mid new es r → WritesAll g old new es r
+    written_later new es (Ok done) is_open wrote before has =
+        let (had, first, quiet) = refused before has in
+        let (after, may, all, change) = wrote before had in
+        (after, may, all, changes_later quiet (λ clean. had.1.sound clean (is_open clean)) (λ l. l) change)
+    written_later new es (Err e) is_open wrote before has =
+        let (had, first, quiet) = refused before has in
+        let (names, refusal, later) = wrote before had in (names, refusal, quiet_then g old mid new quiet later)
+
+    -- names are not written, since taking others back has closed the file
+    pub unwritten : (es : List (List ℕ × List ℕ)) → Settled g → (IsHonest g old → IsOpen g old)
+        → (IsHonest g mid → (g.view mid).is_open ≡ false) → WritesAll g old mid es (Ok (Err Io))
+    unwritten es settled was_open shut before has =
+        let (had, first, quiet) = refused before has in
+        let earlier : IsHonest g mid → IsHonest g old = λ clean. omega (arith, clean, quiet.clean) in (
+          before,
+          λ clean. inl refl,
+          tt,
+          record {
+            honest = earlier;
+            kept = had;
+            crash = λ clean db found.
+                let left = leaves_quiet g settled old mid before has.1 quiet clean (was_open (earlier clean)) db found in
+                (left.0, left.1, inl left.2);
+            durable = tt;
+            cause = λ clean.
+                let end = quiet.closes clean (was_open (earlier clean)) in let closed = shut clean in grind arith;
+            closes = λ clean. quiet.closes clean (was_open (earlier clean));
+          },
+        )

@@ -1,0 +1,6 @@
+pub mod AddLemmas
+pub mod Imports
+pub mod LineLemmas
+pub mod RowLemmas
+pub mod TableLemmas
+pub mod TextLemmas

@@ -1,0 +1,77 @@
+-- Rows of names, one by one, and their lines.
+use Rattle.argon2_rows.proofs.Imports.{arith, ◌≡◌, ℕ, List, [], ◌∷◌, ◌++◌, map, append_assoc, append-nil, All, Option, Some, true, false, refl, sym, ap, ◌∙◌, entries}
+use Rattle.argon2_rows.proofs.Imports.{Row, Texts, plain, Index, Forward, order_of, sought, Advances, with_cursor, FitLines, breaks_line, line}
+use Rattle.argon2_rows.proofs.Imports.{lines, lines_of, row_of, rows_of}
+use Rattle.std.proofs.lemmas.List.Elements.{All-nil, All-push}
+use Rattle.std.proofs.KnownBytes.{Appends-nil, Appends-trans}
+use Rattle.std.specs.Io.KnownBytes.{Appends, Keeps}
+use Rattle.sqlite_trees.specs.View.{View as Shown}
+use Rattle.sqlite_store.proofs.RowLemmas.{from_key-none}
+use Rattle.argon2_rows.specs.declared.view.View.{View}
+
+-- the next row is that of the next name
+pub next_name : (es : List (List ℕ × List ℕ)) (row : Row) (left : List Row) → Some (map row_of es) ≡ Some (row ∷ left)
+    → (e : List ℕ × List ℕ) × (fs : List (List ℕ × List ℕ)) × (es ≡ e ∷ fs) × (row ≡ row_of e) × (left ≡ map row_of fs)
+next_name [] row left is = absurd cc
+next_name (e ∷ fs) row left is = (e, fs, refl, cc, cc)
+
+pub no_more : (es : List (List ℕ × List ℕ)) → Some (map row_of es) ≡ Some [] → es ≡ []
+no_more [] is = refl
+no_more (e ∷ es) is = absurd cc
+
+pub lines-append : (view : View) (es fs : List (List ℕ × List ℕ)) → lines view (es ++ fs) ≡ lines view es ++ lines view fs
+lines-append view [] fs = refl
+lines-append view (e ∷ es) fs = ap (λ l. line view e ++ l) (lines-append view es fs) ∙ sym (append_assoc (line view e) _ _)
+
+-- the name fits its line
+abbrev pub Fits : View → List ℕ × List ℕ → Type 0
+Fits view e = breaks_line view e.0 ≡ false
+
+-- the names of some rows are written, and the cursor has the rest
+pub record IsWriting (view : View) (first now : Shown) (names : Texts) (old new : Option (List ℕ)) : Type 0 where
+  pub done : List (List ℕ × List ℕ)
+  pub left : List (List ℕ × List ℕ)
+  pub all : entries names ≡ done ++ left
+  pub rows : now.cursors 0 ≡ Some (map row_of left)
+  pub written : Appends old new (lines view done)
+  pub fit : All (Fits view) done
+
+pub begin_lines : (view : View) (first now : Shown) (names : Texts) (out : Option (List ℕ)) → first.shape 0 ≡ Index plain
+    → now ≡ with_cursor first 0 (sought (order_of (first.shape 0)) Forward [] (first.trees 0)) → first.trees 0 ≡ rows_of names
+    → IsWriting view first now names out out
+begin_lines view first now names out shape is rows = record {
+  done = [];
+  left = entries names;
+  all = refl;
+  rows = rw (is, shape) (ap Some (from_key-none plain (first.trees 0) ∙ rows));
+  written = Appends-nil out;
+  fit = All-nil (Fits view);
+}
+
+-- one row more
+pub next_row : (view : View) (first now next : Shown) (names : Texts) (old mid new : Option (List ℕ)) (row : Row)
+    → IsWriting view first now names old mid → Advances now next 0 row true
+    → ((e : List ℕ × List ℕ) → row ≡ row_of e → Appends mid new (line view e) × Fits view e)
+    → IsWriting view first next names old new
+next_row view first now next names old mid new row writing moves wrote =
+    let (e, fs, cut, at, rest) = next_name writing.left row moves.0 (sym writing.rows ∙ moves.1) in
+    record {
+      done = writing.done ++ e ∷ [];
+      left = fs;
+      all = writing.all ∙ ap (λ l. writing.done ++ l) cut ∙ sym (append_assoc writing.done (e ∷ []) fs);
+      rows = ap (λ (w : Shown). w.cursors 0) moves.2 ∙ ap Some rest;
+      written = rw (lines-append view writing.done (e ∷ []), append-nil (line view e))
+          (Appends-trans old mid new _ _ writing.written (wrote e at).0);
+      fit = All-push (Fits view) writing.done e writing.fit (wrote e at).1;
+    }
+
+pub its_name : (view : View) (first now next : Shown) (names : Texts) (old mid : Option (List ℕ)) (row : Row)
+    → IsWriting view first now names old mid → Advances now next 0 row true → (e : List ℕ × List ℕ) × (row ≡ row_of e)
+its_name view first now next names old mid row writing moves =
+    let (e, fs, cut, at, rest) = next_name writing.left row moves.0 (sym writing.rows ∙ moves.1) in (e, at)
+
+-- the last row was written, and the output is flushed
+pub all_lines : (view : View) (first now next : Shown) (names : Texts) (old mid new : Option (List ℕ)) (row : Row)
+    → IsWriting view first now names old mid → Advances now next 0 row false → Keeps mid new
+    → Appends old new (lines_of view names) × FitLines view names
+all_lines view first now next names old mid new row writing ended kept = search (arith, no_more, append-nil)

@@ -1,0 +1,336 @@
+-- Maps of names, and their rows in a tree: one more, one less, sought by a name, and read one by one.
+use Rattle.argon2_rows.proofs.Imports.{IfSome, IsUtf8, AreTexts, changed, subst, ◌≡◌, ◌≢◌, ◌⊎◌, ℕ, List, Option, Some, None, Bool, true, false, cond, inl, inr, refl, sym, ap, ◌∙◌}
+use Rattle.argon2_rows.proofs.Imports.{bytes_eq-Decides, nat_list_cmp_total, get, get-insert, get-remove, insert, remove, same_entries_map, same_map, slice_cmp-IsAntisymmetric}
+use Rattle.argon2_rows.proofs.Imports.{nat_cmp-IsAntisymmetric, bytes_eq, KeepsOthers, Texts, ◌+◌, ◌^◌, ◌≤◌, arith, length, [], ◌∷◌, map, T, not}
+use Rattle.argon2_rows.proofs.Imports.{Ordering, Less, Equal, Greater, is_eq, and_parts, All, tied_itself, slice_cmp, get-entries, entries, entries-insert}
+use Rattle.argon2_rows.proofs.Imports.{entries_sorted, find, put, is_sorted, below_all, AllByRecursion, eq_by_cmp, is_lt, nat_cmp, ordering_reverse}
+use Rattle.argon2_rows.proofs.Imports.{ordering_then, Text, plain, entry_cmp, Row, column, number, row_cmp, value_cmp-Text, insert_entry, remove_entry, IsStorable, is_int}
+use Rattle.argon2_rows.proofs.Imports.{row_of, rows_of, IsLong, IsTrue, prefix_cmp, Index, Forward, from_key, order_of, sought, View, Advances, with_cursor}
+use Rattle.argon2_rows.proofs.Imports.{HasNoneAfter, IsAfterAll, IsFoundAs, ◌++◌, append_assoc, append-nil, empty, len-empty, len-entries, get-empty, ⊤, Ghosts, IsIndex, IsOrdered, IsAccount}
+use Rattle.argon2_rows.proofs.Imports.{IsUnwritten, IsHonest, IsKept, cases_lt, nil_from_length, less}
+use Rattle.std.proofs.lemmas.Map.Text.{is_eq-slice_cmp}
+use Rattle.std.proofs.lemmas.Option.{same_Some}
+use Rattle.std.specs.Float.{NotNan}
+use Rattle.sqlite_store.proofs.RowLemmas.{from_key-none}
+use Rattle.sqlite_value.proofs.KeyLemmas.{entry_cmp-plain}
+use Rattle.sqlite_trees.proofs.ListLemmas.{filter_all}
+use Rattle.sqlite_trees.proofs.TreeLemmas.{prefix_cmp-one}
+use Rattle.std.specs.Float.Ieee
+
+-- names of which one is changed: it has what it was given, and the others keep what they have
+get-at : (m : Texts) (n q : List ℕ) (o : Option (List ℕ)) → get (changed m n o) q ≡ cond (bytes_eq q n) o (get m q)
+get-at m n q None = get-remove nat_list_cmp_total m n q ∙ ap (λ b. cond b None (get m q)) (is_eq-slice_cmp q n)
+get-at m n q (Some text) = search (arith, get-insert nat_list_cmp_total m n text q, is_eq-slice_cmp q n)
+
+pub get-changed : (m : Texts) (n : List ℕ) (o : Option (List ℕ)) → get (changed m n o) n ≡ o
+get-changed m n o = get-at m n n o ∙ ap (λ b. cond b o (get m n)) ((bytes_eq-Decides n n).1 refl)
+
+pub others_kept : (m : Texts) (n : List ℕ) (o : Option (List ℕ)) → KeepsOthers n m (changed m n o)
+others_kept m n o q differs = let at = get-at m n q o in let test = bytes_eq-Decides q n in grind arith
+
+pub one_or_other : (q n : List ℕ) → (q ≡ n) ⊎ (q ≢ n)
+one_or_other q n = let test = bytes_eq-Decides q n in grind arith
+
+-- a name that gets back what it had
+pub changed_back : (m changed_m : Texts) (n : List ℕ) (o : Option (List ℕ)) → KeepsOthers n m changed_m → get m n ≡ o
+    → changed changed_m n o ≡ m
+changed_back m changed_m n o kept has =
+    same_map nat_list_cmp_total (slice_cmp-IsAntisymmetric nat_cmp-IsAntisymmetric) _ _ (λ q.
+    let at = get-at changed_m n q o in let stays = kept q in let test = bytes_eq-Decides q n in grind arith)
+
+-- a change of a name that was taken out is a change of the name
+pub changed-remove : (m : Texts) (n : List ℕ) (o : Option (List ℕ)) → changed (remove m n) n o ≡ changed m n o
+changed-remove m n o = changed_back (changed m n o) (remove m n) n o
+    (λ q far. others_kept m n None q far ∙ sym (others_kept m n o q far)) (get-changed m n o)
+
+-- names that are changed still are texts
+pub texts_changed : (names : Texts) (name : List ℕ) (o : Option (List ℕ)) → AreTexts names → IsUtf8 name
+    → IfSome o IsUtf8 → AreTexts (changed names name o)
+texts_changed names name o texts named good other text has =
+    let at = get-at names name other o in let was = texts other text in let test = bytes_eq-Decides other name in grind arith
+
+-- ---- the rows of names are those of one map
+
+one_list : (es fs : List (List ℕ × List ℕ)) → map row_of es ≡ map row_of fs → es ≡ fs
+one_list [] [] one = refl
+one_list [] (f ∷ fs) one = absurd cc
+one_list (e ∷ es) [] one = absurd cc
+one_list (e ∷ es) (f ∷ fs) one = let rest = one_list es fs cc in grind arith
+
+pub rows_of-once : (a b : Texts) → rows_of a ≡ rows_of b → a ≡ b
+rows_of-once a b one = same_entries_map a b (one_list (entries a) (entries b) one)
+
+-- ---- the rows of names, if one name more is set or one is taken out, and which rows are too long
+
+abbrev pub order : List ℕ → List ℕ → Ordering
+order = slice_cmp nat_cmp
+
+-- two rows compare by their names, and then by their texts
+row_cmp-row_of : (e f : List ℕ × List ℕ) → entry_cmp plain (row_of e) (row_of f)
+    ≡ ordering_then (order e.0 f.0) (row_cmp (Text e.1 ∷ []) (Text f.1 ∷ []))
+row_cmp-row_of e f = search (arith, entry_cmp-plain, ordering_then, row_cmp, value_cmp-Text)
+
+untied : (b : Bool) (v : List ℕ) (o : Option (List ℕ)) → cond b (Some v) o ≡ None → (b ≡ false) × (o ≡ None)
+untied b v o h = grind arith
+
+-- of two names that differ one is below the other
+apart : (j k : List ℕ) → eq_by_cmp order j k ≡ false
+    → ((order j k ≡ Less) × (order k j ≡ Greater)) ⊎ ((order j k ≡ Greater) × (order k j ≡ Less))
+apart j k differ = let back = nat_list_cmp_total.antisymm j k in grind arith
+
+unequal : (j k : List ℕ) → (j ≡ k → ⊥) → eq_by_cmp order j k ≡ false
+unequal j k differ = let same = slice_cmp-IsAntisymmetric nat_cmp-IsAntisymmetric j k in grind arith
+
+-- ---- one more name
+
+insert_entry-map : (k v : List ℕ) (es : List (List ℕ × List ℕ)) → find order k es ≡ None
+    → insert_entry plain (row_of (k, v)) (map row_of es) ≡ map row_of (put order k v es)
+insert_entry-map k v [] none = refl
+insert_entry-map k v (e ∷ es) none =
+    let parts = untied (eq_by_cmp order k e.0) e.1 (find order k es) none in
+    let two = apart k e.0 parts.0 in
+    let cmp = row_cmp-row_of e (k, v) in
+    let rest = insert_entry-map k v es parts.1 in
+    grind arith
+
+pub insert_entry-rows_of : (names : Texts) (name v : List ℕ) → get names name ≡ None
+    → insert_entry plain (row_of (name, v)) (rows_of names) ≡ rows_of (insert names name v)
+insert_entry-rows_of names name v none = search (arith, insert_entry-map, get-entries, entries-insert, nat_list_cmp_total)
+
+-- ---- a name taken out
+
+-- the row of another name differs
+differs : (k u : List ℕ) (e : List ℕ × List ℕ) → eq_by_cmp order k e.0 ≡ false
+    → is_eq (entry_cmp plain (row_of e) (row_of (k, u))) ≡ false
+differs k u e differ = let cmp = row_cmp-row_of e (k, u) in let two = apart k e.0 differ in grind arith
+
+all_differ : (k u : List ℕ) (es : List (List ℕ × List ℕ)) → find order k es ≡ None
+    → AllByRecursion (λ r. not (is_eq (entry_cmp plain r (row_of (k, u)))) ≡ true) (map row_of es)
+all_differ k u [] none = tt
+all_differ k u (e ∷ es) none =
+    let parts = untied (eq_by_cmp order k e.0) e.1 (find order k es) none in
+    (ap not (differs k u e parts.0), all_differ k u es parts.1)
+
+itself : (e : List ℕ × List ℕ) → entry_cmp plain (row_of e) (row_of e) ≡ Equal
+itself e = grind (arith, row_cmp-row_of, value_cmp-Text, tied_itself nat_list_cmp_total e.0, tied_itself nat_list_cmp_total e.1)
+
+-- a row that was put among others is taken out again
+taken : (k u : List ℕ) (es : List (List ℕ × List ℕ)) → find order k es ≡ None
+    → remove_entry plain (row_of (k, u)) (map row_of (put order k u es)) ≡ map row_of es
+taken k u [] none = rw (itself (k, u)) refl
+taken k u (e ∷ es) none =
+    let (differ, later) = untied (eq_by_cmp order k e.0) e.1 (find order k es) none in
+    elim (apart k e.0 differ) [
+      | inl low ↦ rw (low.0, itself (k, u)) (filter_all (λ r. not (is_eq (entry_cmp plain r (row_of (k, u)))))
+          (map row_of (e ∷ es)) (all_differ k u (e ∷ es) none))
+      | inr high ↦ rw (high.0, differs k u e differ) (ap (λ l. row_of e ∷ l) (taken k u es later))
+    ]
+
+is_true : (b : Bool) → T b → b ≡ true
+is_true true h = refl
+is_true false h = absurd h
+
+pub remove_entry-rows_of : (names : Texts) (name u : List ℕ) → get names name ≡ Some u
+    → remove_entry plain (row_of (name, u)) (rows_of names) ≡ rows_of (remove names name)
+remove_entry-rows_of names name u has =
+    let gone = remove names name in
+    let back : entries names ≡ put order name u (entries gone) =
+    ap entries (sym (changed_back names gone name (Some u) (others_kept names name None) has))
+    ∙ entries-insert nat_list_cmp_total gone name u in
+    ap (λ es. remove_entry plain (row_of (name, u)) (map row_of es)) back
+    ∙ taken name u (entries gone) (sym (get-entries gone name) ∙ get-changed names name None)
+
+-- ---- long rows
+
+no_int : (e : List ℕ × List ℕ) (c : ℕ) → is_int (column (row_of e) c) ≡ false
+no_int e c = grind arith
+
+numbers : (e : List ℕ × List ℕ) → All (λ v. NotNan (number v)) (row_of e)
+unfolding Ieee.is_nan
+numbers e c d h = grind arith
+
+-- a row that may not be stored is long
+pub is_long : (reals : ℕ) (row : Row) (name v : List ℕ) → row ≡ row_of (name, v) → length v ≤ 326
+    → ¬ (IsStorable reals row) → IsLong name
+is_long reals row name v is short not = elim (cases_lt (10 ^ 9) (362 + length name)) [
+  | inl long ↦ long
+  | inr few ↦ absurd (not (rw is (search (arith, no_int (name, v), numbers (name, v)))))
+]
+
+-- ---- a seek by a name finds its row, or the name has none
+
+-- over the name's column alone, a row compares with a key as its name does
+row_by_name : (e : List ℕ × List ℕ) (k : List ℕ) → prefix_cmp plain (row_of e) (Text k ∷ []) ≡ order e.0 k
+row_by_name e k = grind (arith, prefix_cmp-one (Text e.0) (Text e.1 ∷ []) (Text k), value_cmp-Text)
+
+-- a name below one that all others are above has no text
+none_below : (k n : List ℕ) (es : List (List ℕ × List ℕ)) → order k n ≡ Less → below_all order n es ≡ true
+    → find order k es ≡ None
+none_below k n [] low h = refl
+none_below k n (e ∷ es) low h =
+    let parts = and_parts (is_lt (order n e.0)) _ h in
+    let here = nat_list_cmp_total.trans k n e.0 low (less _ parts.0) in
+    rw here (none_below k n es low parts.1)
+
+-- where a seek by a name stands, if the name has this text or none: at the row of the name, or it has none
+abbrev Stands : List ℕ → Option (List ℕ) → List Row → Type 0
+Stands k o [] = o ≡ None
+Stands k o (met ∷ left) = (column met 0 ≡ Text k → (v : List ℕ) × (o ≡ Some v) × (met ≡ row_of (k, v)))
+    × ((column met 0 ≡ Text k → ⊥) → o ≡ None)
+
+stands : (k : List ℕ) (es : List (List ℕ × List ℕ)) → is_sorted order es ≡ true
+    → Stands k (find order k es) (from_key plain (Text k ∷ []) (map row_of es))
+stands k [] sorted = refl
+stands k (e ∷ es) sorted =
+    let parts = and_parts (below_all order e.0 es) _ sorted in
+    let rest = stands k es parts.1 in
+    let same = one_or_other e.0 k in
+    let two = apart k e.0 in
+    let far = unequal k e.0 in
+    let by = row_by_name e k in
+    let low = none_below k e.0 es in
+    let tied = tied_itself nat_list_cmp_total k in
+    grind arith
+
+stood : (names : Texts) (k : List ℕ) (rows : List Row) → from_key plain (Text k ∷ []) (rows_of names) ≡ rows
+    → Stands k (get names k) rows
+stood names k rows at = search (arith, get-entries, stands, is_true, is_sorted, entries_sorted)
+
+none_at : (k : List ℕ) (es : List (List ℕ × List ℕ)) → AllByRecursion (λ e. order e.0 k ≡ Less) es → find order k es ≡ None
+none_at k [] h = refl
+none_at k (e ∷ es) h = search (arith, nat_list_cmp_total, ordering_reverse, none_at k es h.1)
+
+-- if a seek by a name ends behind all rows, each name is below it and below those after it
+all_below : (k n : List ℕ) (es : List (List ℕ × List ℕ)) → order k n ≡ Less
+    → from_key plain (Text k ∷ []) (map row_of es) ≡ [] → AllByRecursion (λ e. order e.0 n ≡ Less) es
+all_below k n [] after h = tt
+all_below k n (e ∷ es) after h = search (arith, row_by_name, nat_list_cmp_total, less, all_below k n es after)
+
+none_after : (names : Texts) (k : List ℕ) → from_key plain (Text k ∷ []) (rows_of names) ≡ [] → HasNoneAfter names k
+none_after names k h n after = get-entries names n ∙ none_at n (entries names) (all_below k n (entries names) after h)
+
+-- ---- the calls of a look-up
+
+module _ (old mid new : View) (names : Texts) (k : List ℕ) (key met : Row) (shape : old.shape 0 ≡ Index plain)
+    (rows : old.trees 0 ≡ rows_of names) (at : key ≡ Text k ∷ [])
+    (is : mid ≡ with_cursor old 1 (sought (order_of (old.shape 0)) Forward key (old.trees 0))) where
+  -- what the cursor has to give after the seek
+  placed : mid.cursors 1 ≡ Some (from_key plain (Text k ∷ []) (rows_of names))
+  placed = rw (is, shape, at, rows) refl
+
+  pub gives : Advances mid new 1 met true → (b : Bool) → (IsTrue b → column met 0 ≡ column key 0)
+      → (column met 0 ≡ column key 0 → IsTrue b) → IsFoundAs names k (Some b) met
+  gives moves true same back =
+      (stood names k (met ∷ moves.0) (same_Some _ _ (sym placed ∙ moves.1))).0 (same refl ∙ ap (λ r. column r 0) at)
+  gives moves false same back = (stood names k (met ∷ moves.0) (same_Some _ _ (sym placed ∙ moves.1))).1
+      (λ one. absurd (let wrong = back (one ∙ sym (ap (λ r. column r 0) at)) in cc))
+
+  pub ends : Advances mid new 1 met false → IsAfterAll names k
+  ends moves =
+      let none = same_Some _ [] (sym placed ∙ moves.0) in
+      (stood names k [] none, none_after names k none)
+
+-- ---- reading the rows of a table one by one
+
+-- some of the tree's rows are read, and the names are theirs
+pub record IsReading (first now : View) (names : Texts) : Type 0 where
+  pub same : now ≡ record first { cursors = now.cursors }
+  pub rest : List Row
+  pub left : now.cursors 0 ≡ Some rest
+  pub all : rows_of names ++ rest ≡ first.trees 0
+
+-- what stands before a row in an ascending list is below it
+below : (xs : List Row) (y : Row) (zs : List Row) → IsIndex plain (xs ++ y ∷ zs)
+    → AllByRecursion (λ x. entry_cmp plain x y ≡ Less) xs
+below [] y zs h = tt
+below (x ∷ xs) y zs h = (middle (λ z. entry_cmp plain x z ≡ Less) xs y zs h.0, below xs y zs h.1)
+  where
+    middle : (P : Row → Type 0) (xs : List Row) (y : Row) (zs : List Row) → AllByRecursion P (xs ++ y ∷ zs) → P y
+    middle P [] y zs h = h.0
+    middle P (x ∷ xs) y zs h = middle P xs y zs h.1
+
+-- a row that all others are below comes after them
+insert-last : (row : Row) (rows : List Row) → AllByRecursion (λ x. entry_cmp plain x row ≡ Less) rows
+    → insert_entry plain row rows ≡ rows ++ row ∷ []
+insert-last row [] h = refl
+insert-last row (x ∷ xs) h = rw (h.0) (ap (λ l. x ∷ l) (insert-last row xs h.1))
+
+pub begin : (first now : View) (names : Texts) → first.shape 0 ≡ Index plain
+    → now ≡ with_cursor first 0 (sought (order_of (first.shape 0)) Forward [] (first.trees 0)) → rows_of names ≡ []
+    → IsReading first now names
+begin first now names shape is none = record {
+  same = rw is refl;
+  rest = first.trees 0;
+  left = rw (is, shape) (ap Some (from_key-none plain (first.trees 0)));
+  all = ap (λ l. l ++ first.trees 0) none;
+}
+
+-- the last of these rows, if there is one, is this
+abbrev pub LastIs : List Row → Row → Type 0
+LastIs [] last = ⊤
+LastIs (r ∷ []) last = last ≡ r
+LastIs (r ∷ s ∷ rows) last = LastIs (s ∷ rows) last
+
+last_of : (rows : List Row) (row : Row) → LastIs (rows ++ row ∷ []) row
+last_of [] row = refl
+last_of (x ∷ []) row = refl
+last_of (x ∷ y ∷ rows) row = last_of (y ∷ rows) row
+
+-- each name is below one whose row comes after theirs, if the last of them is another
+lower : (k v : List ℕ) (es : List (List ℕ × List ℕ)) (last : Row) → is_sorted order es ≡ true → LastIs (map row_of es) last
+    → (Text k ≡ column last 0 → ⊥) → AllByRecursion (λ x. entry_cmp plain x (row_of (k, v)) ≡ Less) (map row_of es)
+    → AllByRecursion (λ e. order e.0 k ≡ Less) es
+lower k v [] last sorted is other h = tt
+lower k v (e ∷ []) last sorted is other h =
+    let two = apart e.0 k (unequal e.0 k (λ one. other (ap Text (sym one) ∙ ap (λ r. column r 0) (sym is)))) in
+    let cmp = row_cmp-row_of e (k, v) in
+    grind arith
+lower k v (e ∷ f ∷ es) last sorted is other h =
+    let parts = and_parts (below_all order e.0 (f ∷ es)) _ sorted in
+    let rest = lower k v (f ∷ es) last parts.1 is other h.1 in
+    let first = and_parts (is_lt (order e.0 f.0)) _ parts.0 in
+    (nat_list_cmp_total.trans e.0 f.0 k (less _ first.0) rest.0, rest)
+
+pub step : (first now next : View) (met last : Row) (before : Texts) → IsOrdered first.shape first.trees
+    → first.shape 0 ≡ Index plain → IsReading first now before → LastIs (rows_of before) last
+    → Advances now next 0 met true → (is : IsAccount met) → (column met 0 ≡ column last 0 → ⊥)
+    → IsReading first next (insert before is.0.0 is.0.1) × LastIs (rows_of (insert before is.0.0 is.0.1)) met
+step first now next met last before ordered shape reading ended moves ((k, v), named, good, at) apart =
+    let all : rows_of before ++ met ∷ moves.0 ≡ first.trees 0 = rw (same_Some _ _ (sym reading.left ∙ moves.1)) at reading.all in
+    let index : IsIndex plain (first.trees 0) = rw shape at (ordered 0) in
+    let here = subst (λ r. AllByRecursion (λ x. entry_cmp plain x r ≡ Less) (rows_of before)) at
+    (below (rows_of before) met moves.0 (subst (IsIndex plain) (sym all) index)) in
+    let sorted = is_true (is_sorted order (entries before)) (entries_sorted before) in
+    let none : find order k (entries before) ≡ None = none_at k (entries before)
+    (lower k v (entries before) last sorted ended (λ is. apart (ap (λ r. column r 0) at ∙ is)) here) in
+    let after : rows_of (insert before k v) ≡ rows_of before ++ met ∷ [] =
+    sym (insert_entry-rows_of before k v (get-entries before k ∙ none)) ∙ insert-last (row_of (k, v)) (rows_of before) here
+    ∙ ap (λ r. rows_of before ++ r ∷ []) (sym at) in (
+      record {
+        same = rw (moves.2, reading.same) refl;
+        rest = moves.0;
+        left = ap (λ (w : View). w.cursors 0) moves.2;
+        all = ap (λ l. l ++ moves.0) after ∙ append_assoc (rows_of before) (met ∷ []) moves.0 ∙ all;
+      },
+      subst (λ rows. LastIs rows met) (sym after) (last_of (rows_of before) met),
+    )
+
+-- all rows are read
+pub all_read : {S : Type 0} (g : Ghosts S) (old new : S) (names : Texts) (met : Row)
+    → (IsHonest g new → IsHonest g old) → (IsHonest g old → IsUnwritten (g.view old))
+    → (mid : S) → (IsHonest g new → IsReading (g.view old) (g.view mid) names)
+    → (IsHonest g new → Advances (g.view mid) (g.view new) 0 met false)
+    → IsKept g new names × (IsHonest g new → (g.view old).committed 0 ≡ rows_of names)
+all_read g old new names met earlier fresh mid reading ended = grind (arith, append-nil)
+
+abbrev empty_store : Texts
+empty_store = empty
+
+pub rows_of-empty : rows_of empty_store ≡ []
+rows_of-empty = ap (map row_of) (nil_from_length (entries empty_store) (sym (len-entries empty_store) ∙ len-empty order (List ℕ)))
+
+pub last-empty : (last : Row) → LastIs (rows_of empty_store) last
+last-empty last = subst (λ rows. LastIs rows last) (sym rows_of-empty) (tt {0})
+
+pub texts-empty : AreTexts empty_store
+texts-empty name text has = absurd (let gone = sym (get-empty order name) ∙ has in cc)

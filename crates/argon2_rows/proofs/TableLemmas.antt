@@ -1,0 +1,206 @@
+-- What the rows of a table are after each step of a change.
+use Rattle.argon2_rows.proofs.Imports.{◌≡◌, ℕ, List, Result, Ok, Err, false, refl, ap, ◌∙◌, IsTrue, arith, inl, inr, ◌⊎◌}
+use Rattle.argon2_rows.proofs.Imports.{All, IfErr, MatchResult, OnOk, both_ways, true_from_ne_false, Coded-set, ∥∥₁_elim, ∥∥₁_map, MoreFaults, plain, Row, StoreError, Shape, Index, Ghosts}
+use Rattle.argon2_rows.proofs.Imports.{Trees, order_of, View, IsFailure, KeepsSchema, OnlyWrites, SetsTree, Texts, AreTexts, rows_of, Changes}
+use Rattle.argon2_rows.proofs.Imports.{EndsRead, Finishes, HasBegun, HasNames, HasSome, IsHonest, IsKept, IsOpen, CrashLeaves, Sees, StaysQuiet, Writes, done_of, on_ok_weaker}
+use Rattle.sqlite_trees.specs.contracts.store.Shape.{the_row}
+use Rattle.sqlite_trees.specs.View.{HasCause}
+use Rattle.sqlite_value.specs.declared.keys.Order.{Order}
+
+-- ---- answers
+
+pub on_all : {T E P : Type 0} (r : Result T E) → P → OnOk r P
+on_all r p = search arith
+
+-- what a commit keeps of what was written
+pub committed : {H P Q : Type 0} (A : Type 0) (done result : Result (Unit {0}) StoreError) → OnOk done P
+    → (H → MatchResult done (λ _. A) (λ e. result ≡ Err e)) → (H → P → Q) → OnOk result (H → Q)
+committed A done result p later f = search arith
+
+on_both : {T E P Q R : Type 0} (W : Type 0) (r : Result T E) → MatchResult r (λ _. P) (λ _. W) → OnOk r Q → (P → Q → R)
+    → OnOk r R
+on_both W r p q then = grind arith
+
+-- ---- views
+
+-- a store that is sound is open
+pub open_if_sound : (v : View) → (v.is_open ≡ false → IsTrue v.is_broken) → v.is_broken ≡ false → IsTrue v.is_open
+open_if_sound v broken sound = true_from_ne_false v.is_open (λ shut. both_ways v.is_broken sound (broken shut))
+
+-- while a store is open, a crash leaves its last commit
+abbrev pub Settled : {S : Type 0} → Ghosts S → Type 0
+Settled {S} g = (s : S) (db : Trees) → IsOpen g s → g.recovers s db → db ≡ (g.view s).committed
+
+-- a crash leaves the names of a store that is open
+pub leaves_kept : {S : Type 0} (g : Ghosts S) (s : S) (names : Texts)
+    → ((db : Trees) → IsOpen g s → g.recovers s db → db ≡ (g.view s).committed)
+    → IsKept g s names → IsHonest g s → IsOpen g s → CrashLeaves g s (λ left. left ≡ names)
+leaves_kept g s names settled kept clean is_open db found = (names, (search arith), refl)
+
+-- a crash leaves the names after a call that changed nothing
+pub leaves_quiet : {S : Type 0} (g : Ghosts S) → Settled g → (old new : S) (names : Texts) → IsKept g old names
+    → StaysQuiet g old new → IsHonest g new → IsOpen g old → CrashLeaves g new (λ left. left ≡ names)
+leaves_quiet g settled old new names kept quiet clean is_open db found =
+    leaves_kept g old names (settled old) kept (omega (arith, clean, quiet.clean)) is_open db (quiet.outcomes db found)
+
+-- ---- causes
+
+-- a cause by weaker conditions
+pub cause_map : (old new : View) {P Q R U : Type 0} → (IsTrue old.is_broken → IsTrue new.is_broken) → (P → Q) → (R → U)
+    → (e : StoreError) → HasCause old P R e → HasCause new Q U e
+cause_map old new b f h e cause = grind arith
+
+-- ---- writing
+
+module _ {S : Type 0} (g : Ghosts S) where
+  pub quiet_itself : (s : S) → StaysQuiet g s s
+  quiet_itself s = search arith
+
+  pub quiet_then : (a b c : S) → StaysQuiet g a b → StaysQuiet g b c → StaysQuiet g a c
+  quiet_then a b c x y = search arith
+
+  -- a call that writes no row
+  pub writes_nothing : {s : S} {before after : Texts} {long : Type 0} → (IsHonest g s → after ≡ before)
+      → Writes g s s before after long (Ok tt)
+  writes_nothing same = search arith
+
+  -- a call on the store that writes a row
+  pub writes_row : {old new : S} {before after : Texts} {long : Type 0} (r : Result (Unit {0}) StoreError)
+      → OnOk r (IsHonest g new → OnlyWrites (g.view old) (g.view new))
+      → (IsHonest g new → IfErr r (IsFailure (g.view old) (g.view new)))
+      → OnOk r (IsHonest g new → Sees (g.view old) before → Sees (g.view new) after)
+      → (IsHonest g new → IfErr r (HasCause (g.view old) (MoreFaults (g.faults old) (g.faults new)) long))
+      → KeepsSchema (g.view old) (g.view new) → StaysQuiet g old new → Writes g old new before after long r
+  writes_row r frame failed sees cause schema quiet = search arith
+
+  -- a call that puts the row of a name in, or takes it out
+  pub edits_row : {old new : S} {names after : Texts} {long : Type 0} {row its : Row} (edit : Order → Row → List Row → List Row)
+      (r : Result (Unit {0}) StoreError) → (IsHonest g old → (g.view old).shape 0 ≡ Index plain) → row ≡ its
+      → (IsHonest g old → edit plain its (rows_of names) ≡ rows_of after)
+      → OnOk r (IsHonest g new → SetsTree (g.view old) (g.view new) 0 (edit (order_of ((g.view old).shape 0)) row))
+      → OnOk r (IsHonest g new → OnlyWrites (g.view old) (g.view new)) → IfErr r (IsFailure (g.view old) (g.view new))
+      → (IsHonest g new → IfErr r (HasCause (g.view old) (MoreFaults (g.faults old) (g.faults new)) long))
+      → KeepsSchema (g.view old) (g.view new) → StaysQuiet g old new → Writes g old new names after long r
+  edits_row edit r shape is gives set frame failed cause schema quiet = search arith
+
+  -- a call that reads
+  pub reads_ok : {old new : S} {names : Texts}
+      → (IsHonest g new → g.view new ≡ record (g.view old) { cursors = (g.view new).cursors })
+      → KeepsSchema (g.view old) (g.view new) → StaysQuiet g old new → Writes g old new names names ⊥ (Ok tt)
+  reads_ok same schema quiet = search (arith, writes_row)
+
+  pub keeps_index : {a b : S} → KeepsSchema (g.view a) (g.view b) → StaysQuiet g a b
+      → (IsHonest g a → (g.view a).shape 0 ≡ Index plain) → IsHonest g b → (g.view b).shape 0 ≡ Index plain
+  keeps_index schema quiet had clean =
+      ap (λ (f : ℕ → Shape). f 0) schema.shape ∙ had (omega (arith, clean, quiet.clean))
+
+  -- a store that has names is a tree in their order
+  pub shape_of : {s : S} → HasSome g s → (IsHonest g s → IsOpen g s) → IsHonest g s → (g.view s).shape 0 ≡ Index plain
+  shape_of some is_open clean =
+      ∥∥₁_elim some (Coded-set the_row.coded _ _) (λ it. it.1.1.indexed clean (is_open clean))
+
+  -- a store that shows the same has the same names
+  pub has_same : (old new : S) (names : Texts) → (IsHonest g new → IsHonest g old) → (IsOpen g new → g.view new ≡ g.view old)
+      → HasNames g old names → HasNames g new names
+  has_same old new names honest same has = search arith
+
+  -- a call that reads: the names stay
+  abbrev pub Keeps : {X : Type 0} → S → S → Texts → Result X StoreError → Type 0
+  Keeps old new names done = HasNames g new names × OnOk done (IsHonest g new → IsOpen g new)
+      × (IsHonest g new → IfErr done (HasCause (g.view old) (MoreFaults (g.faults old) (g.faults new)) ⊥)) × StaysQuiet g old new
+
+module _ {S : Type 0} {g : Ghosts S} where
+  -- rows written after others
+  pub writes_then : {a b c : S} {x y z : Texts} {P Q R : Type 0} {r : Result (Unit {0}) StoreError} → Writes g a b x y P (Ok tt)
+      → Writes g b c y z Q r → (Q → R) → Writes g a c x z R r
+  writes_then first later more = search arith
+
+  pub writes_more : {a b : S} {x y : Texts} {P Q : Type 0} {r : Result (Unit {0}) StoreError} → Writes g a b x y P r → (P → Q)
+      → Writes g a b x y Q r
+  writes_more wrote more = writes_then (writes_nothing g {long = ⊥} (λ clean. refl)) wrote more
+
+  -- if rows are not all written, nothing is said of the names
+  pub writes_less : {a b : S} {x y z : Texts} {P Q : Type 0} {r : Result (Unit {0}) StoreError} (e : StoreError)
+      → Writes g a b x y P r → (IsHonest g b → HasCause (g.view a) (MoreFaults (g.faults a) (g.faults b)) Q e)
+      → Writes g a b x z Q (Err e)
+  writes_less e wrote cause = search arith
+
+  -- ---- a store with names
+
+  pub some_kept : {old new : S} → HasSome g old → ((names : Texts) → HasNames g old names → HasNames g new names) → HasSome g new
+  some_kept some keeps = ∥∥₁_map some (λ it. (it.0, keeps it.0 it.1))
+
+  -- several rows are written, or none counts
+  pub all_or_none : {old new : S} {before after : Texts} {long : Type 0} (done : Result (Unit {0}) StoreError)
+      (All : Texts → Type 0)
+      → AreTexts before → AreTexts after → Writes g old new before after long done → OnOk done (IsHonest g new → All after)
+      → (to : Texts) × AreTexts to × Writes g old new before to long done × (IsHonest g new → (to ≡ before) ⊎ All to)
+      × OnOk done (IsHonest g new → All to)
+  all_or_none {after = after} (Ok x) All texts good wrote all = (after, good, wrote, λ clean. inr (all clean), all)
+  all_or_none {before = before} (Err e) All texts good wrote all =
+      (before, texts, writes_less e wrote wrote.cause, λ clean. inl refl, tt)
+
+  -- after a change it has either names
+  pub has_either : {old new : S} {before after : Texts} {long : Type 0} (result : Result (Unit {0}) StoreError)
+      → Changes g old new before after long result → (names : Texts) × HasNames g new names
+  has_either {after = after} (Ok x) change = (after, change.kept)
+  has_either {before = before} (Err e) change = (before, change.kept)
+
+  module _ (settled : Settled g) {old : S} (was_open : IsHonest g old → IsOpen g old) where
+    -- nothing is written yet
+    begun_over : {names : Texts} → IsKept g old names → IsHonest g old → HasBegun g old names
+    begun_over kept clean = search arith
+
+    -- what was written is taken back
+    pub taken_back : {mid new : S} {before after : Texts} {long : Type 0} {r : Result (Unit {0}) StoreError}
+        → HasNames g old before → Writes g old mid before after long r
+        → ((IsHonest g new → HasBegun g mid before) → IsKept g new before) → StaysQuiet g mid new → HasNames g new before
+    taken_back has wrote undone quiet = search arith
+
+    -- rows are read, and what a failure leaves is taken back
+    pub reads_keep : {X : Type 0} {mid new : S} {names : Texts} (done : Result X StoreError)
+        → ((s : S) → (g.view s).is_open ≡ false → IsTrue (g.view s).is_broken) → HasNames g old names
+        → (AreTexts names → (IsHonest g old → Sees (g.view old) names) → Writes g old mid names names ⊥ (done_of done))
+        → EndsRead g mid new done → Keeps g old new names done
+    reads_keep (Ok x) shut has writes ends = search arith
+    reads_keep (Err e) shut has writes ends =
+        let wrote = writes has.0 (λ clean unbroken. has.1.seen clean (was_open clean)) in
+        let quiet = quiet_then g _ _ _ wrote.quiet ends.quiet in
+        (taken_back has wrote (ends.kept _) ends.quiet, tt, (let later = ends.quiet in search (arith, cause_map)), quiet)
+
+    -- rows that are written, and then committed or taken back
+    pub changes_of : {mid new : S} {before after : Texts} {long : Type 0} (done result : Result (Unit {0}) StoreError)
+        → HasNames g old before → AreTexts after → Writes g old mid before after long done
+        → Finishes g mid new done result → Changes g old new before after long result
+    changes_of {mid} {new} {before} {after} {long} done result (texts, kept) fine wrote ends =
+        let to_mid : IsHonest g new → IsHonest g mid = λ now. omega (arith, now, ends.clean) in
+        let to_old : IsHonest g new → IsHonest g old = λ now. omega (arith, now, ends.clean, wrote.quiet.clean) in
+        let begun : IsHonest g new → HasBegun g mid before = λ now.
+        wrote.begun before (to_mid now) (begun_over kept (to_old now)) in
+        let sees : IsHonest g new → OnOk done (Sees (g.view mid) after) = λ now. on_ok_weaker done (λ f.
+        f (to_mid now) (λ unbroken. kept.seen (to_old now) (was_open (to_old now)))) wrote.sees in
+        let is = ends.kept before after (λ now. (begun now, sees now)) in
+        let leaves = leaves_kept g new after (settled new) in
+        record {
+          honest = to_old;
+          kept = grind arith;
+          crash = λ now db found. elim (ends.crash db found) [
+            | inl made ↦ (after, (let seen = sees now in grind arith), inr refl)
+            | inr earlier ↦ (before, (begun now).left db earlier, inl refl)
+          ];
+          durable = on_both _ result is ends.is_open (λ ended opens clean. (opens clean, leaves ended clean (opens clean)));
+          cause = λ now.
+              let first = wrote.cause (to_mid now) in
+              let later = ends.cause now in
+              let same = wrote.broken in
+              let counts = ends.counts in
+              grind arith;
+          closes = λ now.
+              let first = wrote.quiet.closes (to_mid now) (was_open (to_old now)) in
+              let later = ends.closes now in
+              let counts = ends.counts in
+              grind arith;
+        }
+
+-- what no call changes
+pub ruleset kept = (quiet_itself, quiet_then, shape_of, keeps_index, open_if_sound)

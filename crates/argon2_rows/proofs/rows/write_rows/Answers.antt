@@ -1,0 +1,55 @@
+use Rattle.argon2_rows.proofs.Imports.{rules, arith, Result, Err, StoreError, IsHonest, err_is}
+use Rattle.sqlite_trees.specs.declared.error.StoreError.TheVariants.{Corrupt, OutOfMemory}
+use Rattle.argon2_rows.proofs.LineLemmas.{all_lines, begin_lines, its_name, next_row}
+use Rattle.argon2_rows.proofs.TableLemmas.{on_all, reads_ok, writes_less, writes_row, writes_then}
+use Rattle.argon2_rows.proofs.rows.write_rows.Goals as goal
+
+pub loop-init : goal.loop-init
+loop-init g c = search (arith, reads_ok, begin_lines)
+
+pub next-requires : goal.next-requires
+next-requires g c = c.loop.invariant.0
+
+pub loop-preserved : goal.loop-preserved
+loop-preserved g c = (
+  search rules,
+  λ names. writes_then (c.loop.invariant.1 names) (search (arith, reads_ok)) (λ never. never),
+  λ clean names sees. next_row c.args.view _ _ _ names _ _ _ _ (c.loop.invariant.2 (search arith) names sees)
+      (rw c.if-not-branch.false at (c.in_ok-next.ensures.ok clean))
+      (λ e is. rw c.in-Some-Ok.field-0-is at (c.in-Some-Ok.ensures e is)),
+)
+
+pub returns-in_err-next-clause-reads : goal.returns-in_err-next-clause-reads
+returns-in_err-next-clause-reads g c names texts sees =
+    rw (err_is c.from_residual-in_err-next.result _ c.from_residual-in_err-next.ensures.1)
+    (writes_then (c.loop.invariant.1 names) (search (arith, writes_row)) (λ never. never))
+
+pub returns-then-not-branch-clause-shows : goal.returns-then-not-branch-clause-shows
+returns-then-not-branch-clause-shows g c names texts sees clean =
+    on_all c.flush.result (all_lines c.args.view _ _ (g.S.Store.view c.next.new.self) names _ _ _ c.next.new.row
+    (c.loop.invariant.2 (search arith) names sees) (rw c.if-not-branch.true at (c.in_ok-next.ensures.ok clean))
+    c.flush.ensures.bytes)
+
+pub returns-then-not-branch-clause-reads : goal.returns-then-not-branch-clause-reads
+returns-then-not-branch-clause-reads g c names texts sees =
+    writes_then (c.loop.invariant.1 names) (search (arith, reads_ok)) (λ never. never)
+
+pub returns-in-Some-Err-clause-reads : goal.returns-in-Some-Err-clause-reads
+returns-in-Some-Err-clause-reads g c names texts sees =
+    writes_then (c.loop.invariant.1 names) (search (arith, reads_ok)) (λ never. never)
+
+-- each row has two texts
+pub returns-in-None-clause-reads : goal.returns-in-None-clause-reads
+returns-in-None-clause-reads g c names texts sees =
+    let failed : Result (Unit {0}) StoreError = Err Corrupt in
+    let quiet = (c.loop.invariant.1 names).quiet in
+    let never : IsHonest g.S.Store c.next.new.self → ⊥ = λ clean.
+    let (e, is) = its_name c.args.view _ _ (g.S.Store.view c.next.new.self) names _ _ _
+    (c.loop.invariant.2 (search arith) names (sees (search arith)))
+    (rw c.if-not-branch.false at (c.in_ok-next.ensures.ok clean)) in
+    c.in-None.ensures e is in
+    writes_then (c.loop.invariant.1 names) (writes_row g.S.Store failed tt (λ clean. absurd {0} (never clean)) tt
+    (λ clean. absurd {0} (never clean)) c.next.ensures.schema c.next.ensures.quiet) (λ never. never)
+
+pub returns-clause-reads : goal.returns-clause-reads
+returns-clause-reads g c names texts sees = writes_less OutOfMemory (c.loop.invariant.1 names) (λ clean. tt)

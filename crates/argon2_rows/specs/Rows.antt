@@ -1,0 +1,66 @@
+-- How a tree of rows holds names with their texts.
+use Rattle.std.specs.Prelude.{◌≡◌, ◌==◌, ◌||◌, ℕ, Bool, true, false, List, [], ◌∷◌, ◌++◌, map, All, Option, Some, None, IsUtf8}
+use Rattle.std.specs.Cmp.Lexicographic.{slice_cmp}
+use Rattle.std.specs.FinMap.{entries, get}
+use Rattle.std.specs.List.{list_any}
+use Rattle.std.specs.Ordering.{nat_cmp}
+use Rattle.std.specs.declared.cmp.Ordering.TheVariants.{Less}
+use Rattle.sqlite_value.specs.declared.value.Value.TheVariants.{Text}
+use Rattle.sqlite_value.specs.Order.{Row}
+use Rattle.argon2_accounts.specs.Accounts.{Texts as Named}
+use Rattle.argon2_rows.specs.declared.view.View.{View}
+use Rattle.argon2_rows.specs.declared.view.View.TheVariants.{Names, Texts}
+
+-- the row of a name with its text
+abbrev pub row_of : List ℕ × List ℕ → Row
+row_of e = Text e.0 ∷ Text e.1 ∷ []
+
+-- the rows of names with their texts, in the order of the names' bytes
+abbrev pub rows_of : Named → List Row
+rows_of names = map row_of (entries names)
+
+-- each name and each text is UTF-8
+abbrev pub AreTexts : Named → Type 0
+AreTexts names = (name text : List ℕ) → get names name ≡ Some text → IsUtf8 name × IsUtf8 text
+
+-- no name after this one has a text
+abbrev pub HasNoneAfter : Named → List ℕ → Type 0
+HasNoneAfter names name = (later : List ℕ) → slice_cmp nat_cmp name later ≡ Less → get names later ≡ None
+
+-- neither this name nor one after it has a text
+abbrev pub IsAfterAll : Named → List ℕ → Type 0
+IsAfterAll names name = (get names name ≡ None) × HasNoneAfter names name
+
+-- the name has a text, and this is its row, or it has none, or comes after all names
+abbrev pub IsFoundAs : Named → List ℕ → Option Bool → Row → Type 0
+IsFoundAs names name (Some true) row = (text : List ℕ) × (get names name ≡ Some text) × (row ≡ row_of (name, text))
+IsFoundAs names name (Some false) row = get names name ≡ None
+IsFoundAs names name None row = IsAfterAll names name
+
+-- the row is that of a name with a text, both UTF-8
+abbrev pub IsAccount : Row → Type 0
+IsAccount row = (e : List ℕ × List ℕ) × IsUtf8 e.0 × IsUtf8 e.1 × (row ≡ row_of e)
+
+-- ---- lines
+
+-- the line of a name with its text
+abbrev pub line : View → List ℕ × List ℕ → List ℕ
+line Names e = e.0 ++ 10 ∷ []
+line Texts e = e.0 ++ 58 ∷ e.1 ++ 10 ∷ []
+
+-- the lines of all names
+abbrev pub lines : View → List (List ℕ × List ℕ) → List ℕ
+lines view [] = []
+lines view (e ∷ es) = line view e ++ lines view es
+
+abbrev pub lines_of : View → Named → List ℕ
+lines_of view names = lines view (entries names)
+
+-- the line of the name would read as that of another: the name has a line break, or a colon if its text follows
+abbrev pub breaks_line : View → List ℕ → Bool
+breaks_line Names name = list_any (λ b. b == 10) name
+breaks_line Texts name = list_any (λ b. b == 10) name || list_any (λ b. b == 58) name
+
+-- none of the names breaks its line
+abbrev pub FitLines : View → Named → Type 0
+FitLines view names = All (λ e. breaks_line view e.0 ≡ false) (entries names)

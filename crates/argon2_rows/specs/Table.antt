@@ -1,0 +1,146 @@
+-- What a table of names shows, and what a change of it leaves in the store.
+use Rattle.std.specs.Prelude.{◌≡◌, ◌⊎◌, ℕ, ◌^◌, ◌+◌, ◌<◌, List, [], ◌∷◌, length, codes, false, Option, Some, None, Result, Ok, Err, IsTrue, IfErr, IsOkAnd, OnErr, OnOk, MatchResult, ◌≤◌}
+use Rattle.std.specs.FinMap.{insert, remove}
+use Rattle.sqlite_disk.specs.Disk.{MoreFaults}
+use Rattle.sqlite_value.specs.Keys.{plain}
+use Rattle.sqlite_value.specs.Order.{Row}
+use Rattle.sqlite_trees.specs.declared.error.StoreError.{StoreError}
+use Rattle.sqlite_trees.specs.declared.store.Shape.TheVariants.{Index}
+use Rattle.sqlite_trees.specs.declared.store.Store.{Ghosts}
+use Rattle.sqlite_trees.specs.Objects.{catalog_tree}
+use Rattle.sqlite_trees.specs.Tree.{Trees}
+use Rattle.sqlite_trees.specs.View.{View, IsClean, IsQuiet, HasCause, doubt}
+use Rattle.sqlite_store.specs.Listing.{listed_from}
+use Rattle.sqlite_store.specs.declared.catalog.Wanted.{Wanted}
+use Rattle.sqlite_value.specs.declared.value.Value.TheVariants.{Text}
+use Rattle.argon2_accounts.specs.Accounts.{Texts}
+use Rattle.argon2_rows.specs.Rows.{AreTexts, rows_of}
+
+-- the names with this one's text set, or with this one taken out
+abbrev pub changed : Texts → List ℕ → Option (List ℕ) → Texts
+changed names name None = remove names name
+changed names name (Some text) = insert names name text
+
+-- the table of the accounts, as `sqlite_schema` lists it
+abbrev pub account : Wanted
+account = record {
+  shape = Index plain;
+  reals = 0;
+  row = Text (codes "table") ∷ Text (codes "account") ∷ Text (codes "account")
+      ∷ Text (codes "CREATE TABLE account (name TEXT NOT NULL PRIMARY KEY, phc TEXT NOT NULL) WITHOUT ROWID") ∷ [];
+}
+
+-- what a database lists that has the table of the accounts alone
+unfoldable pub catalog : List Row
+catalog = listed_from 0 (account ∷ [])
+
+-- the database has that table alone, with the rows of these names
+abbrev pub Holds : Trees → Texts → Type 0
+Holds db names = (db 0 ≡ rows_of names) × (db catalog_tree ≡ catalog)
+
+-- the transaction sees these names, unless it is broken
+abbrev pub Sees : View → Texts → Type 0
+Sees v names = v.is_broken ≡ false → Holds v.trees names
+
+-- a row of the name may be longer than a billion bytes, less 18 for each column; a text has at most 326
+abbrev pub IsLong : List ℕ → Type 0
+IsLong name = 10 ^ 9 < 362 + length name
+
+-- nothing is written yet
+pub record IsUnwritten (v : View) : Type 0 where
+  pub indexed : v.shape 0 ≡ Index plain
+  pub unbroken : v.is_broken ≡ false
+  pub settled : v.trees ≡ v.committed
+  pub shapes : v.shape ≡ v.committed_shape
+  pub listed : v.trees catalog_tree ≡ catalog
+
+-- whether a call succeeded, without what it answered
+abbrev pub done_of : {X : Type 0} → Result X StoreError → Result (Unit {0}) StoreError
+done_of (Ok x) = Ok tt
+done_of (Err e) = Err e
+
+-- what writing answered, if it was not refused
+abbrev pub written_of : {E : Type 0} → Result (Result (Unit {0}) StoreError) E → Result (Unit {0}) StoreError
+written_of (Ok done) = done
+written_of (Err e) = Ok tt
+
+module _ {S : Type 0} (g : Ghosts S) where
+  -- the disk has given no wrong answer that was taken as true
+  abbrev pub IsHonest : S → Type 0
+  IsHonest s = IsClean (g.view s)
+
+  abbrev pub IsOpen : S → Type 0
+  IsOpen s = IsTrue (g.view s).is_open
+
+  -- whatever a crash at this moment leaves holds such names
+  abbrev pub CrashLeaves : S → (Texts → Type 0) → Type 0
+  CrashLeaves s P = (db : Trees) → g.recovers s db → (names : Texts) × Holds db names × P names
+
+  -- While the store is open, its rows are those of these names, and nothing waits to be committed.
+  pub record IsKept (s : S) (names : Texts) : Type 0 where
+    pub indexed : IsHonest s → IsOpen s → (g.view s).shape 0 ≡ Index plain
+    pub shapes : IsHonest s → IsOpen s → (g.view s).shape ≡ (g.view s).committed_shape
+    pub sound : IsHonest s → IsOpen s → (g.view s).is_broken ≡ false
+    pub seen : IsHonest s → IsOpen s → Holds (g.view s).trees names
+    pub committed : IsHonest s → IsOpen s → Holds (g.view s).committed names
+
+  -- they are the names of its rows
+  abbrev pub HasNames : S → Texts → Type 0
+  HasNames s names = AreTexts names × IsKept s names
+
+  -- it has names
+  abbrev pub HasSome : S → Type 0
+  HasSome s = ∥ ((names : Texts) × HasNames s names) ∥₁
+
+  -- A transaction has begun over these names: they are committed, and a crash leaves them.
+  pub record HasBegun (s : S) (names : Texts) : Type 0 where
+    pub indexed : (g.view s).shape 0 ≡ Index plain
+    pub shapes : (g.view s).shape ≡ (g.view s).committed_shape
+    pub committed : IsOpen s → Holds (g.view s).committed names
+    pub left : (db : Trees) → g.recovers s db → Holds db names
+
+  -- the disk failed or refused from the one to the other
+  abbrev pub HasFailed : S → S → Type 0
+  HasFailed old new = MoreFaults (g.faults old) (g.faults new)
+
+  -- no fault is forgotten, and a crash has no new outcome
+  abbrev pub StaysQuiet : S → S → Type 0
+  StaysQuiet old new = IsQuiet g.view g.faults g.recovers g.is_shielded old new
+
+  -- Rows written into a transaction, which change the names that it sees, up to the first that fails.
+  pub record Writes (old new : S) (before after : Texts) (too_long : Type 0) (result : Result (Unit {0}) StoreError)
+      : Type 0 where
+    pub begun : (names : Texts) → IsHonest new → HasBegun old names → HasBegun new names
+    pub sees : OnOk result (IsHonest new → Sees (g.view old) before → Sees (g.view new) after)
+    pub broken : OnOk result (IsHonest new → (g.view new).is_broken ≡ (g.view old).is_broken)
+    pub cause : IsHonest new → IfErr result (HasCause (g.view old) (HasFailed old new) too_long)
+    pub quiet : StaysQuiet old new
+
+  -- Rows were read, and what a failure leaves is taken back.
+  pub record EndsRead {X : Type 0} (old new : S) (done : Result X StoreError) : Type 0 where
+    pub same : OnOk done (new ≡ old)
+    pub kept : (names : Texts) → (IsHonest new → HasBegun old names) → OnErr done (IsKept new names)
+    pub quiet : StaysQuiet old new
+
+  -- What was written is committed, or taken back if that has failed.
+  pub record Finishes (old new : S) (done result : Result (Unit {0}) StoreError) : Type 0 where
+    pub kept : (before after : Texts) → (IsHonest new → HasBegun old before × OnOk done (Sees (g.view old) after))
+        → MatchResult result (λ _. IsKept new after) (λ _. IsKept new before)
+    pub crash : (db : Trees) → g.recovers new db
+        → IsOkAnd done (λ _. ((g.view old).is_broken ≡ false) × (db ≡ (g.view old).trees)) ⊎ g.recovers old db
+    pub is_open : OnOk result (IsHonest new → IsOpen new)
+    pub cause : IsHonest new
+        → MatchResult done (λ _. IfErr result (HasCause (g.view old) (HasFailed old new) ⊥)) (λ e. result ≡ Err e)
+    pub closes : IsHonest new → IsOpen old → IsOpen new ⊎ HasFailed old new
+    pub clean : doubt (g.view old).is_clean ≤ doubt (g.view new).is_clean
+    pub counts : g.faults old ≤ g.faults new
+
+  -- A change from one list of names to another, with its answer.
+  pub record Changes (old new : S) (before after : Texts) (too_long : Type 0) (result : Result (Unit {0}) StoreError)
+      : Type 0 where
+    pub honest : IsHonest new → IsHonest old
+    pub kept : MatchResult result (λ _. HasNames new after) (λ _. HasNames new before)
+    pub crash : IsHonest new → CrashLeaves new (λ left. (left ≡ before) ⊎ (left ≡ after))
+    pub durable : OnOk result (IsHonest new → IsOpen new × CrashLeaves new (λ left. left ≡ after))
+    pub cause : IsHonest new → IfErr result (HasCause (g.view old) (HasFailed old new) too_long)
+    pub closes : IsHonest new → IsOpen new ⊎ HasFailed old new

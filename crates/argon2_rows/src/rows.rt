@@ -1,0 +1,228 @@
+//! Reading the rows.
+
+ghost use Rattle.std.specs.Prelude.{◌≡◌, [], ◌∷◌, ℕ, List, false, string_bytes, IsSomeAnd, IsTrue, IsUtf8, IfErr, IfOk, IfSome, MatchResult, OnOk};
+ghost use Rattle.std.specs.Io.KnownBytes.{Appends};
+ghost use Rattle.std.specs.Option.{option_map};
+ghost use Rattle.std.specs.FinMap.{get};
+ghost use Rattle.sqlite_value.specs.Keys.{plain};
+ghost use Rattle.sqlite_value.specs.declared.value.Value.TheVariants.{Text};
+ghost use Rattle.sqlite_trees.specs.View.{HasCause, IsFailure, KeepsSchema};
+ghost use Rattle.sqlite_trees.specs.declared.error.StoreError.TheVariants.{OutOfMemory};
+ghost use Rattle.sqlite_trees.specs.declared.store.Shape.TheVariants.{Index};
+ghost use Rattle.argon2_accounts.specs.Accounts.{Texts as Named};
+ghost use Rattle.argon2_rows.specs.Rows.{AreTexts, FitLines, IsAccount, IsFoundAs, breaks_line, line, lines_of, row_of, rows_of};
+ghost use Rattle.argon2_rows.specs.Table.{HasFailed, HasNames, IsUnwritten, IsHonest, IsOpen, Sees, StaysQuiet, Writes, done_of};
+
+use crate::view::View;
+use sqlite_trees::error::StoreError;
+use sqlite_trees::store::{Direction, Store};
+use sqlite_value::order::is_same;
+use sqlite_value::row::Row;
+use sqlite_value::value::ValueRef;
+use std::alloc::{AllocError, Global};
+use std::io::{self, ErrorKind, Write};
+use std::mem;
+
+// The tree of the accounts.
+pub(crate) const ACCOUNTS: u32 = 0;
+
+// The row of a name with its text.
+pub(crate) fn lay(row: &mut Row, name: &str, text: &str) -> Result<(), AllocError>
+    ensures { OnOk result (row.new ≡ row_of (name.now, text.now)) }
+{
+    row.clear();
+    row.push(ValueRef::Text(name.as_bytes()))?;
+    row.push(ValueRef::Text(text.as_bytes()))
+}
+
+// The two texts of a row that has nothing else.
+fn texts_in(row: &Row) -> Option<(&[u8], &[u8])>
+    ensures found { IfSome result (λ it. row.now ≡ Text it.0.now ∷ Text it.1.now ∷ []) }
+    ensures only { (name text : List ℕ) → row.now ≡ Text name ∷ Text text ∷ [] →
+        IsSomeAnd result (λ it. (it.0.now ≡ name) × (it.1.now ≡ text)) }
+{
+    if row.len() != 2 {
+        return None;
+    }
+    match (row.get(0), row.get(1)) {
+        (ValueRef::Text(name), ValueRef::Text(text)) => Some((name, text)),
+        _ => None,
+    }
+}
+
+// Whether a row is that of a name with a text of one line: behind a line break, it would read as a line of another name.
+fn is_account(row: &Row) -> bool
+    ensures { IsTrue result → IsAccount row.now }
+{
+    match texts_in(row) {
+        Some((name, text)) => {
+            let is_line = !text.contains(&b'\n');
+            is_line && str::from_utf8(name).is_ok() && str::from_utf8(text).is_ok()
+        }
+        None => false,
+    }
+}
+
+// Whether the tree has a row of the name, which is then in `row`: `None` if no later name has one either.
+pub(crate) fn find<S: Store>(
+    store: &mut S,
+    row: &mut Row,
+    key: &mut Row,
+    name: &str,
+) -> Result<Option<bool>, StoreError>
+    requires { IsHonest S.Store store.old → (S.Store.view store.old).shape 0 ≡ Index plain }
+    ensures found { (names : Named) → IfOk result (λ is. IsHonest S.Store store.new →
+        (S.Store.view store.old).trees 0 ≡ rows_of names → IsFoundAs names name.now is row.new) }
+    ensures same { OnOk result (IsHonest S.Store store.new → S.Store.view store.new
+        ≡ record (S.Store.view store.old) { cursors = (S.Store.view store.new).cursors }) }
+    ensures sound { OnOk result (IsHonest S.Store store.new →
+        (S.Store.view store.old).is_broken ≡ false) }
+    ensures err { IsHonest S.Store store.new → IfErr result
+        (IsFailure (S.Store.view store.old) (S.Store.view store.new)) }
+    ensures cause { IsHonest S.Store store.new → IfErr result
+        (HasCause (S.Store.view store.old) (HasFailed S.Store store.old store.new) ⊥) }
+    ensures schema { KeepsSchema (S.Store.view store.old) (S.Store.view store.new) }
+    ensures quiet { StaysQuiet S.Store store.old store.new }
+{
+    key.clear();
+    key.push(ValueRef::Text(name.as_bytes()))?;
+    store.seek(1, ACCOUNTS, key, Direction::Forward)?;
+    if !store.next(1, row)? {
+        return Ok(None);
+    }
+    Ok(Some(is_same(row.get(0), key.get(0))))
+}
+
+// The text in the row of a name.
+fn copy_text(alloc: Global, row: &Row) -> Result<String, StoreError>
+    ensures { (e : List ℕ × List ℕ) → IsUtf8 e.1 → row.now ≡ row_of e → MatchResult result
+        (λ text. string_bytes text ≡ e.1) (λ why. why ≡ OutOfMemory) }
+{
+    match texts_in(row) {
+        Some((_, text)) => match str::from_utf8(text) {
+            Ok(text) => Ok(String::from_str(alloc, text)?),
+            Err(_) => Err(StoreError::Corrupt),
+        },
+        None => Err(StoreError::Corrupt),
+    }
+}
+
+/// The text of a name, if the tree has a row of it. `row` and `key` are memory for rows.
+///
+/// # Errors
+/// Those of the store, and out of memory.
+pub fn look_up<S: Store>(
+    alloc: Global,
+    store: &mut S,
+    row: &mut Row,
+    key: &mut Row,
+    name: &str,
+) -> Result<Option<String>, StoreError>
+    requires { IsHonest S.Store store.old → (S.Store.view store.old).shape 0 ≡ Index plain }
+    ensures found { (names : Named) → AreTexts names → Sees (S.Store.view store.old) names →
+        IfOk result (λ text. IsHonest S.Store store.new →
+        get names name.now ≡ option_map string_bytes text) }
+    ensures same { OnOk result (IsHonest S.Store store.new → S.Store.view store.new
+        ≡ record (S.Store.view store.old) { cursors = (S.Store.view store.new).cursors }) }
+    ensures sound { OnOk result (IsHonest S.Store store.new →
+        (S.Store.view store.old).is_broken ≡ false) }
+    ensures reads { (names : Named) → AreTexts names →
+        (IsHonest S.Store store.old → Sees (S.Store.view store.old) names) →
+        Writes S.Store store.old store.new names names ⊥ (done_of result) }
+{
+    match find(store, row, key, name)? {
+        Some(true) => Ok(Some(copy_text(alloc, row)?)),
+        _ => Ok(None),
+    }
+}
+
+/// Reads all rows once, and returns whether each is that of a name with a text of one line, and no name has two.
+/// `row` and `last` are memory for rows.
+///
+/// # Errors
+/// Those of the store.
+pub fn load<S: Store>(store: &mut S, row: &mut Row, last: &mut Row) -> Result<bool, StoreError>
+    requires { IsHonest S.Store store.old → IsUnwritten (S.Store.view store.old) }
+    ensures found { IfOk result (λ all. IsTrue all → (names : Named) × HasNames S.Store store.new names
+        × (IsHonest S.Store store.new →
+        (S.Store.view store.old).committed 0 ≡ rows_of names)) }
+    ensures open { OnOk result (IsHonest S.Store store.new → IsOpen S.Store store.new) }
+    ensures quiet { StaysQuiet S.Store store.old store.new }
+{
+    row.clear();
+    last.clear();
+    store.seek(0, ACCOUNTS, row, Direction::Forward)?;
+    for _ in 0..u64::MAX {
+        if !store.next(0, row)? {
+            return Ok(true);
+        }
+        if !is_account(row) || is_same(row.get(0), last.get(0)) {
+            return Ok(false);
+        }
+        mem::swap(row, last);
+    }
+    // No file has so many rows.
+    Err(StoreError::OutOfMemory)
+}
+
+// Writes the line of a row, if it has two texts and nothing else.
+fn write_line<W: Write>(row: &Row, view: View, output: &mut W) -> Option<io::Result<()>>
+    ensures { (e : List ℕ × List ℕ) → row.now ≡ row_of e → IsSomeAnd result (λ done. OnOk done
+        (Appends (W.contents output.old) (W.contents output.new) (line view e)
+        × (breaks_line view e.0 ≡ false))) }
+{
+    let (name, text) = texts_in(row)?;
+    Some(write_texts(name, text, view, output))
+}
+
+// Writes the line of a name with its text, unless the name breaks it.
+fn write_texts<W: Write>(name: &[u8], text: &[u8], view: View, output: &mut W) -> io::Result<()>
+    ensures { OnOk result (Appends (W.contents output.old) (W.contents output.new)
+        (line view (name.now, text.now)) × (breaks_line view name.now ≡ false)) }
+{
+    if view.breaks_line(name) {
+        return Err(io::Error::new(ErrorKind::InvalidData, "a name breaks its line"));
+    }
+    output.write_all(name)?;
+    if let View::Texts = view {
+        output.write_all(b":")?;
+        output.write_all(text)?;
+    }
+    output.write_all(b"\n")
+}
+
+/// Writes a line for each row, up to the first whose name [breaks it](View::breaks_line), and flushes `output`. The
+/// inner result is that of writing. `row` is memory for a row.
+///
+/// # Errors
+/// Those of the store.
+pub fn write_rows<S: Store, W: Write>(
+    store: &mut S,
+    row: &mut Row,
+    view: View,
+    output: &mut W,
+) -> Result<io::Result<()>, StoreError>
+    requires { IsHonest S.Store store.old → (S.Store.view store.old).shape 0 ≡ Index plain }
+    ensures shows { (names : Named) → AreTexts names → Sees (S.Store.view store.old) names →
+        IfOk result (λ done. IsHonest S.Store store.new → OnOk done
+        (Appends (W.contents output.old) (W.contents output.new) (lines_of view names)
+        × FitLines view names)) }
+    ensures reads { (names : Named) → AreTexts names →
+        (IsHonest S.Store store.old → Sees (S.Store.view store.old) names) →
+        Writes S.Store store.old store.new names names ⊥ (done_of result) }
+{
+    row.clear();
+    store.seek(0, ACCOUNTS, row, Direction::Forward)?;
+    for _ in 0..u64::MAX {
+        if !store.next(0, row)? {
+            return Ok(output.flush());
+        }
+        match write_line(row, view, output) {
+            Some(Ok(())) => {}
+            Some(Err(error)) => return Ok(Err(error)),
+            None => return Err(StoreError::Corrupt),
+        }
+    }
+    // No file has so many rows.
+    Err(StoreError::OutOfMemory)
+}

@@ -1,0 +1,26 @@
+//! What is written of accounts.
+
+ghost use Rattle.std.specs.Prelude.{◌≡◌};
+ghost use Rattle.argon2_rows.specs.Rows.{breaks_line};
+
+/// What is written of accounts, a line for each name.
+#[derive(Clone, Copy)]
+pub enum View {
+    /// The names.
+    Names,
+    /// The names with their texts: a name, a colon and a text.
+    Texts,
+}
+
+impl View {
+    /// Whether the line of a name would read as that of another: the name has a line break, or a colon if its
+    /// text follows.
+    pub fn breaks_line(self, name: &[u8]) -> bool
+        ensures { result ≡ breaks_line self name.now }
+    {
+        match self {
+            View::Names => name.contains(&b'\n'),
+            View::Texts => name.contains(&b'\n') || name.contains(&b':'),
+        }
+    }
+}
