@@ -45,6 +45,6 @@ pub use Rattle.argon2_base.specs.PhcText.{IsPhc, Pair, Phc, PhcText, field, fiel
 pub use Rattle.argon2_base.specs.Texts.{is_value, is_value_char, strict_base64}
 pub use Rattle.argon2_base.specs.declared.phc.hash.PasswordHash.{PasswordHash}
 pub use Rattle.argon2_rows.specs.Adding.{AddsAll, AddsName, WritesAll, entry_of}
-pub use Rattle.argon2_rows.specs.Rows.{AreTexts, FitLines, HasNoneAfter, IsAccount, IsAfterAll, IsFoundAs, breaks_line, line, lines, lines_of, row_of, rows_of}
+pub use Rattle.argon2_rows.specs.Rows.{AreLines, AreTexts, FitLines, HasNoneAfter, IsAccount, IsAfterAll, IsFoundAs, IsLine, breaks_line, line, lines, lines_of, row_of, rows_of}
 pub use Rattle.argon2_rows.specs.Table.{Changes, EndsRead, Finishes, HasBegun, HasNames, HasSome, IsUnwritten, IsHonest, IsKept, IsLong, IsOpen, CrashLeaves, Sees, StaysQuiet}
 pub use Rattle.argon2_rows.specs.Table.{Writes, changed, done_of}

@@ -6,7 +6,7 @@ use Rattle.argon2_rows.proofs.Imports.{Ordering, Less, Equal, Greater, is_eq, an
 use Rattle.argon2_rows.proofs.Imports.{entries_sorted, find, put, is_sorted, below_all, AllByRecursion, eq_by_cmp, is_lt, nat_cmp, ordering_reverse}
 use Rattle.argon2_rows.proofs.Imports.{ordering_then, Text, plain, entry_cmp, Row, column, number, row_cmp, value_cmp-Text, insert_entry, remove_entry, IsStorable, is_int}
 use Rattle.argon2_rows.proofs.Imports.{row_of, rows_of, IsLong, IsTrue, prefix_cmp, Index, Forward, from_key, order_of, sought, View, Advances, with_cursor}
-use Rattle.argon2_rows.proofs.Imports.{HasNoneAfter, IsAfterAll, IsFoundAs, ◌++◌, append_assoc, append-nil, empty, len-empty, len-entries, get-empty, ⊤, Ghosts, IsIndex, IsOrdered, IsAccount}
+use Rattle.argon2_rows.proofs.Imports.{HasNoneAfter, IsAfterAll, IsFoundAs, ◌++◌, append_assoc, append-nil, empty, len-empty, len-entries, get-empty, ⊤, Ghosts, IsIndex, IsOrdered, IsAccount, AreLines, IsLine}
 use Rattle.argon2_rows.proofs.Imports.{IsUnwritten, IsHonest, IsKept, cases_lt, nil_from_length, less}
 use Rattle.std.proofs.lemmas.Map.Text.{is_eq-slice_cmp}
 use Rattle.std.proofs.lemmas.Option.{same_Some}
@@ -48,6 +48,11 @@ pub texts_changed : (names : Texts) (name : List ℕ) (o : Option (List ℕ)) �
     → IfSome o IsUtf8 → AreTexts (changed names name o)
 texts_changed names name o texts named good other text has =
     let at = get-at names name other o in let was = texts other text in let test = bytes_eq-Decides other name in grind arith
+
+pub lines_changed : (names : Texts) (name : List ℕ) (o : Option (List ℕ)) → AreLines names → IfSome o IsLine
+    → AreLines (changed names name o)
+lines_changed names name o lines good other text has =
+    let at = get-at names name other o in let was = lines other text in let test = bytes_eq-Decides other name in grind arith
 
 -- ---- the rows of names are those of one map
 
@@ -265,9 +270,9 @@ begin first now names shape is none = record {
   all = ap (λ l. l ++ first.trees 0) none;
 }
 
--- the last of these rows, if there is one, is this
+-- the last of these rows is this, or an empty one if there are none
 abbrev pub LastIs : List Row → Row → Type 0
-LastIs [] last = ⊤
+LastIs [] last = last ≡ []
 LastIs (r ∷ []) last = last ≡ r
 LastIs (r ∷ s ∷ rows) last = LastIs (s ∷ rows) last
 
@@ -295,7 +300,7 @@ pub step : (first now next : View) (met last : Row) (before : Texts) → IsOrder
     → first.shape 0 ≡ Index plain → IsReading first now before → LastIs (rows_of before) last
     → Advances now next 0 met true → (is : IsAccount met) → (column met 0 ≡ column last 0 → ⊥)
     → IsReading first next (insert before is.0.0 is.0.1) × LastIs (rows_of (insert before is.0.0 is.0.1)) met
-step first now next met last before ordered shape reading ended moves ((k, v), named, good, at) apart =
+step first now next met last before ordered shape reading ended moves ((k, v), named, good, line, at) apart =
     let all : rows_of before ++ met ∷ moves.0 ≡ first.trees 0 = rw (same_Some _ _ (sym reading.left ∙ moves.1)) at reading.all in
     let index : IsIndex plain (first.trees 0) = rw shape at (ordered 0) in
     let here = subst (λ r. AllByRecursion (λ x. entry_cmp plain x r ≡ Less) (rows_of before)) at
@@ -315,6 +320,76 @@ step first now next met last before ordered shape reading ended moves ((k, v), n
       subst (λ rows. LastIs rows met) (sym after) (last_of (rows_of before) met),
     )
 
+-- ---- rows that are read are those of names
+
+-- a name that all others are above is not among them
+not_above : (k : List ℕ) (es : List (List ℕ × List ℕ)) → below_all order k es ≡ true → find order k es ≡ None
+not_above k [] h = refl
+not_above k (e ∷ es) h =
+    let parts = and_parts (is_lt (order k e.0)) _ h in
+    let here = less _ parts.0 in
+    rw here (not_above k es parts.1)
+
+-- a row of names is that of a name with its text
+its_entry : (es : List (List ℕ × List ℕ)) (xs : List Row) (met : Row) (ys : List Row) → map row_of es ≡ xs ++ met ∷ ys
+    → is_sorted order es ≡ true → (e : List ℕ × List ℕ) × (find order e.0 es ≡ Some e.1) × (met ≡ row_of e)
+its_entry [] [] met ys is sorted = absurd cc
+its_entry [] (x ∷ xs) met ys is sorted = absurd cc
+its_entry (e ∷ es) [] met ys is sorted = (e, (let tied = tied_itself nat_list_cmp_total e.0 in grind arith), cc)
+its_entry (e ∷ es) (x ∷ xs) met ys is sorted =
+    let parts = and_parts (below_all order e.0 es) _ sorted in
+    let rest : map row_of es ≡ xs ++ met ∷ ys = cc in
+    let (f, found, at) = its_entry es xs met ys rest parts.1 in
+    let far : f.0 ≡ e.0 → ⊥ = λ same.
+    let none = subst (λ k. find order k es ≡ None) (sym same) (not_above e.0 es parts.0) in let both = sym none ∙ found in cc in
+    (f, (let differ = unequal f.0 e.0 far in grind arith), at)
+
+-- two rows of names, one behind the other, are of two names
+two_names : (es : List (List ℕ × List ℕ)) (xs : List Row) (last met : Row) (ys : List Row)
+    → map row_of es ≡ xs ++ last ∷ met ∷ ys → is_sorted order es ≡ true → column met 0 ≡ column last 0 → ⊥
+two_names [] [] last met ys is sorted same = absurd cc
+two_names [] (x ∷ xs) last met ys is sorted same = absurd cc
+two_names (e ∷ []) [] last met ys is sorted same = absurd cc
+two_names (e ∷ f ∷ es) [] last met ys is sorted same =
+    let parts = and_parts (below_all order e.0 (f ∷ es)) _ sorted in
+    let first = and_parts (is_lt (order e.0 f.0)) _ parts.0 in
+    let low = less _ first.0 in
+    let tied = tied_itself nat_list_cmp_total e.0 in
+    let one : f.0 ≡ e.0 = cc in
+    let never = subst (λ k. order e.0 k ≡ Less) one low in cc
+two_names (e ∷ es) (x ∷ xs) last met ys is sorted same =
+    let rest : map row_of es ≡ xs ++ last ∷ met ∷ ys = cc in
+    two_names es xs last met ys rest (and_parts (below_all order e.0 es) _ sorted).1 same
+
+-- the last of some rows
+split_last : (rows : List Row) (last : Row) → LastIs rows last
+    → ((rows ≡ []) × (last ≡ [])) ⊎ ((xs : List Row) × (rows ≡ xs ++ last ∷ []))
+split_last [] last is = inl (refl, is)
+split_last (r ∷ []) last is = inr ([], ap (λ x. x ∷ []) (sym is))
+split_last (r ∷ s ∷ rows) last is = elim (split_last (s ∷ rows) last is) [
+  | inl none ↦ absurd (let never = none.0 in cc)
+  | inr more ↦ inr (r ∷ more.0, ap (λ l. r ∷ l) more.1)
+]
+
+-- if the rows are those of names with texts of one line, the next is that of an account, and of another name than the last
+pub is_next : (first now next : View) (met last : Row) (before names : Texts) → IsReading first now before
+    → LastIs (rows_of before) last → Advances now next 0 met true → AreTexts names → AreLines names
+    → first.trees 0 ≡ rows_of names → IsAccount met × (column met 0 ≡ column last 0 → ⊥)
+is_next first now next met last before names reading ended moves texts lines is =
+    let all : rows_of names ≡ rows_of before ++ met ∷ moves.0 =
+    sym (rw (same_Some _ _ (sym reading.left ∙ moves.1)) at reading.all ∙ is) in
+    let sorted = is_true (is_sorted order (entries names)) (entries_sorted names) in
+    let (e, found, at) = its_entry (entries names) (rows_of before) met moves.0 all sorted in
+    let has = get-entries names e.0 ∙ found in
+    let good = texts e.0 e.1 has in (
+      (e, good.0, good.1, lines e.0 e.1 has, at),
+      elim (split_last (rows_of before) last ended) [
+        | inl (none, empty) ↦ λ same. let never = ap (λ r. column r 0) (sym at) ∙ same ∙ ap (λ r. column r 0) empty in cc
+        | inr (xs, split) ↦ two_names (entries names) xs last met moves.0
+            (all ∙ ap (λ l. l ++ met ∷ moves.0) split ∙ append_assoc xs (last ∷ []) (met ∷ moves.0)) sorted
+      ],
+    )
+
 -- all rows are read
 pub all_read : {S : Type 0} (g : Ghosts S) (old new : S) (names : Texts) (met : Row)
     → (IsHonest g new → IsHonest g old) → (IsHonest g old → IsUnwritten (g.view old))
@@ -329,8 +404,11 @@ empty_store = empty
 pub rows_of-empty : rows_of empty_store ≡ []
 rows_of-empty = ap (map row_of) (nil_from_length (entries empty_store) (sym (len-entries empty_store) ∙ len-empty order (List ℕ)))
 
-pub last-empty : (last : Row) → LastIs (rows_of empty_store) last
-last-empty last = subst (λ rows. LastIs rows last) (sym rows_of-empty) (tt {0})
+pub last-empty : (last : Row) → last ≡ [] → LastIs (rows_of empty_store) last
+last-empty last is = subst (λ rows. LastIs rows last) (sym rows_of-empty) is
 
-pub texts-empty : AreTexts empty_store
-texts-empty name text has = absurd (let gone = sym (get-empty order name) ∙ has in cc)
+pub texts-empty : AreTexts empty_store × AreLines empty_store
+texts-empty = (
+  λ name text has. absurd (let gone = sym (get-empty order name) ∙ has in cc),
+  λ name text has. absurd (let gone = sym (get-empty order name) ∙ has in cc),
+)

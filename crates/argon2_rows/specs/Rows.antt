@@ -37,9 +37,17 @@ IsFoundAs names name (Some true) row = (text : List ℕ) × (get names name ≡ 
 IsFoundAs names name (Some false) row = get names name ≡ None
 IsFoundAs names name None row = IsAfterAll names name
 
--- the row is that of a name with a text, both UTF-8
+-- the text is one line
+abbrev pub IsLine : List ℕ → Type 0
+IsLine text = list_any (λ b. b == 10) text ≡ false
+
+-- each text is one line
+abbrev pub AreLines : Named → Type 0
+AreLines names = (name text : List ℕ) → get names name ≡ Some text → IsLine text
+
+-- the row is that of a name with a text of one line, both UTF-8
 abbrev pub IsAccount : Row → Type 0
-IsAccount row = (e : List ℕ × List ℕ) × IsUtf8 e.0 × IsUtf8 e.1 × (row ≡ row_of e)
+IsAccount row = (e : List ℕ × List ℕ) × IsUtf8 e.0 × IsUtf8 e.1 × IsLine e.1 × (row ≡ row_of e)
 
 -- ---- lines
 

@@ -1,6 +1,6 @@
 //! Reading the rows.
 
-ghost use Rattle.std.specs.Prelude.{◌≡◌, [], ◌∷◌, ℕ, List, false, string_bytes, IsSomeAnd, IsTrue, IsUtf8, IfErr, IfOk, IfSome, MatchResult, OnOk};
+ghost use Rattle.std.specs.Prelude.{◌≡◌, ◌↔◌, [], ◌∷◌, ℕ, List, false, string_bytes, IsSomeAnd, IsTrue, IsUtf8, IfErr, IfOk, IfSome, MatchResult, OnOk};
 ghost use Rattle.std.specs.Io.KnownBytes.{Appends};
 ghost use Rattle.std.specs.Option.{option_map};
 ghost use Rattle.std.specs.FinMap.{get};
@@ -10,7 +10,7 @@ ghost use Rattle.sqlite_trees.specs.View.{HasCause, IsFailure, KeepsSchema};
 ghost use Rattle.sqlite_trees.specs.declared.error.StoreError.TheVariants.{OutOfMemory};
 ghost use Rattle.sqlite_trees.specs.declared.store.Shape.TheVariants.{Index};
 ghost use Rattle.argon2_accounts.specs.Accounts.{Texts as Named};
-ghost use Rattle.argon2_rows.specs.Rows.{AreTexts, FitLines, IsAccount, IsFoundAs, breaks_line, line, lines_of, row_of, rows_of};
+ghost use Rattle.argon2_rows.specs.Rows.{AreLines, AreTexts, FitLines, IsAccount, IsFoundAs, breaks_line, line, lines_of, row_of, rows_of};
 ghost use Rattle.argon2_rows.specs.Table.{HasFailed, HasNames, IsUnwritten, IsHonest, IsOpen, Sees, StaysQuiet, Writes, done_of};
 
 use crate::view::View;
@@ -50,17 +50,24 @@ fn texts_in(row: &Row) -> Option<(&[u8], &[u8])>
     }
 }
 
+// Whether bytes are UTF-8.
+fn is_text(bytes: &[u8]) -> bool
+    ensures { IsTrue result ↔ IsUtf8 bytes.now }
+{
+    str::from_utf8(bytes).is_ok()
+}
+
 // Whether a row is that of a name with a text of one line: behind a line break, it would read as a line of another name.
 fn is_account(row: &Row) -> bool
-    ensures { IsTrue result → IsAccount row.now }
+    ensures { IsTrue result ↔ IsAccount row.now }
 {
-    match texts_in(row) {
-        Some((name, text)) => {
-            let is_line = !text.contains(&b'\n');
-            is_line && str::from_utf8(name).is_ok() && str::from_utf8(text).is_ok()
-        }
-        None => false,
+    let Some((name, text)) = texts_in(row) else {
+        return false;
+    };
+    if text.contains(&b'\n') {
+        return false;
     }
+    is_text(name) && is_text(text)
 }
 
 // Whether the tree has a row of the name, which is then in `row`: `None` if no later name has one either.
@@ -143,10 +150,15 @@ pub fn look_up<S: Store>(
 /// Those of the store.
 pub fn load<S: Store>(store: &mut S, row: &mut Row, last: &mut Row) -> Result<bool, StoreError>
     requires { IsHonest S.Store store.old → IsUnwritten (S.Store.view store.old) }
-    ensures found { IfOk result (λ all. IsTrue all → (names : Named) × HasNames S.Store store.new names
-        × (IsHonest S.Store store.new →
+    ensures found { IfOk result (λ all. IsTrue all → (names : Named) × AreLines names
+        × HasNames S.Store store.new names × (IsHonest S.Store store.new →
         (S.Store.view store.old).committed 0 ≡ rows_of names)) }
+    ensures refused { IfOk result (λ all. all ≡ false → IsHonest S.Store store.new →
+        (names : Named) → AreTexts names → AreLines names →
+        ¬ ((S.Store.view store.old).committed 0 ≡ rows_of names)) }
     ensures open { OnOk result (IsHonest S.Store store.new → IsOpen S.Store store.new) }
+    ensures cause { IsHonest S.Store store.new → IfErr result
+        (HasCause (S.Store.view store.old) (HasFailed S.Store store.old store.new) ⊥) }
     ensures quiet { StaysQuiet S.Store store.old store.new }
 {
     row.clear();

@@ -265,6 +265,11 @@ found_rows img rows (inl (pages, recs, file, is)) = ∥∥₁_map file (λ file.
     inl (4096, account ∷ [], pages, (omega arith, omega arith, refl, refl), recs, file, refl, is))
 found_rows img rows (inr (none, is)) = ∥∥₁_map none (λ unbegun. inr (unbegun, is))
 
+-- an open finds no other rows in the same files
+pub found_once : (img : Image) (a b : List Row) → FoundIn 4096 img a → FoundIn 4096 img b → b ≡ a
+found_once img a b one other = rows_stable b a (λ never. ∥∥₁_elim (found_rows img a one) ⊥_prop
+    (λ may. (near_rows img a may).0 b other never))
+
 names_stay : (opens : List Image) (before left : Image) → IsAfterOpens opens before left → (names found : Texts)
     → HoldsNames before names → HoldsNames left found → found ≡ names
 names_stay opens before left after names found held holds = rows_of-once found names

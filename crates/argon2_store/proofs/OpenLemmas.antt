@@ -103,6 +103,10 @@ module _ {D : Type 0} {g : Ghosts D} where
     is_clean : IsTrue (pool_state it).is_clean → AreClean g files.0 files.1
     is_clean clean = subst (λ (p : D × D). AreClean g p.0 p.1) same (subst IsTrue (clean_is it) clean)
 
+    pub is_honest : AreClean g files.0 files.1 → IsTrue (pool_state it).is_clean
+    is_honest clean =
+        subst IsTrue (sym (clean_is it)) (subst (λ (p : D × D). AreClean g p.0 p.1) (sym same) clean)
+
     may_leave : AreClean g files.0 files.1 → (left : Image) → outcomes g files.0 files.1 left → (pool_state it).may_leave left
     unfolding pool_state pool_files
     may_leave clean left may = search arith

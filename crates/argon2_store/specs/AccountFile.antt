@@ -11,6 +11,7 @@ use Rattle.argon2.specs.declared.login.answers.Accepted.{Accepted}
 use Rattle.argon2.specs.declared.login.answers.Accepted.TheVariants.{Current}
 use Rattle.argon2_rows.specs.Adding.{AddsAll, IsFirstRefused}
 use Rattle.argon2_store.specs.Opening.{HoldsNames, IsDamaged}
+use Rattle.argon2_rows.specs.Rows.{AreLines}
 use Rattle.argon2_rows.specs.Table as rows
 use Rattle.argon2_rows.specs.Table.{IsHonest, IsLong, IsOpen, CrashLeaves, StaysQuiet}
 use Rattle.argon2_store.specs.declared.account_file.AccountFile.{AccountFile}
@@ -111,10 +112,11 @@ module _ {S : Type 0} {g : Ghosts S} where
     pub is_open : IsHonest g (database_of file) → IsOpen g (database_of file)
     pub left : IsHonest g (database_of file) → CrashLeaves g (database_of file) (λ left. left ≡ names)
 
-  -- a file that was opened, with the names that the two files held, and not behind a damaged log
+  -- a file that was opened, with the names that the two files held, each with a text of one line, and not behind a damaged log
   abbrev pub IsFrom : Terms → Image → AccountFile S g → Type 0
   IsFrom terms image file =
-      (names : Texts) × IsReady terms names file × (IsHonest g (database_of file) → HoldsNames image names)
+      (names : Texts) × IsReady terms names file × AreLines names
+      × (IsHonest g (database_of file) → HoldsNames image names)
       × (IsHonest g (database_of file) → ¬ IsDamaged image.log)
 
   -- a file that was opened, the refusal of the terms, or another error under sound terms

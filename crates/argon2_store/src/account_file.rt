@@ -13,7 +13,7 @@ ghost use Rattle.argon2.specs.NamedTexts.{IsText};
 ghost use Rattle.argon2_base.specs.declared.error.password_hash.Error.TheVariants.{EncodingInvalid};
 ghost use Rattle.argon2_rows.specs.Adding.{entry_of};
 ghost use Rattle.argon2_store.specs.Errors.{IsOfDatabase};
-ghost use Rattle.argon2_rows.specs.Rows.{FitLines, lines_of};
+ghost use Rattle.argon2_rows.specs.Rows.{AreLines, FitLines, lines_of};
 ghost use Rattle.argon2_rows.specs.Table.{HasSome, IsHonest, IsOpen};
 ghost use Rattle.argon2_store.specs.declared.error.OpenError.TheVariants.{DamagedLog, Row as NoAccount};
 
@@ -416,9 +416,9 @@ impl<'key, T: Start> AccountsAt<'key, T> {
 
 impl<'key, D: Disk + Drop> AccountFile<'key, FileStore<D>> {
     ghost use Rattle.argon2_store.specs.AccountFile.{IsFrom};
-    ghost use Rattle.argon2_store.specs.Opening.{AreUnharmed, IsDamaged};
+    ghost use Rattle.argon2_store.specs.Opening.{AreUnharmed, HoldsNames, IsDamaged};
     ghost use Rattle.sqlite_wal.specs.Files.{seen_image};
-    ghost use Rattle.sqlite_wal.specs.Reads.{OnlyReads};
+    ghost use Rattle.sqlite_wal.specs.Reads.{AreClean, OnlyReads};
 
     /// Opens the accounts in a database file and its log, or makes them if there is no table yet.
     /// [`open`](AccountFile::open) does so with the files at a path. `seed` is a random number, for the
@@ -439,6 +439,9 @@ impl<'key, D: Disk + Drop> AccountFile<'key, FileStore<D>> {
             (IsFrom (kept.terms_of policy.entry) (seen_image D.Disk files.log files.db)) }
         ensures error { IfErr result (λ e.
             (e.0 ≡ NoAccount) ⊎ ((e.0 ≡ DamagedLog) ⊎ IsOfDatabase e.0)) }
+        ensures row { IfErr result (λ e. e.0 ≡ NoAccount → AreClean D.Disk e.1.log e.1.db →
+            (names : Named) → AreLines names →
+            ¬ HoldsNames (seen_image D.Disk files.log files.db) names) }
         ensures damaged { IfErr result (λ e. e.0 ≡ DamagedLog →
             (IsTrue (D.Disk.is_clean e.1.log) → IsDamaged (D.Disk.seen files.log))
             × OnlyReads D.Disk files.log e.1.log × (e.1.db ≡ files.db)) }

@@ -1,16 +1,17 @@
-use Rattle.argon2_store.proofs.Imports.{arith, inl, refl, subst₂, halves, settled_at, over_file, FoundIn}
-use Rattle.argon2_store.proofs.OpenLemmas.{seen_same, unharmed_by_reads, unharmed_then}
+use Rattle.argon2_store.proofs.Imports.{arith, inl, refl, subst, subst₂, sym, halves, no_doubt, settled_at, over_file, view, FoundIn}
+use Rattle.argon2_store.proofs.NextOpenLemmas.{found_once}
+use Rattle.argon2_store.proofs.OpenLemmas.{is_honest, seen_same, unharmed_by_reads, unharmed_then}
 use Rattle.argon2_rows.proofs.TableLemmas.{leaves_kept}
 use Rattle.argon2_store.proofs.account_file.AccountFile+FileStore+D.open_from.Goals as goal
 use Rattle.argon2_store.proofs.account_file.AccountFile+FileStore+D.open_from.Goals.{in-Ok-false-load, in-Err-load}
 
 pub invariant_of-result : goal.invariant_of-result
 invariant_of-result g c =
-    let found = c.in-Ok-true-load.ensures.found c.in-Ok-true-load.field-0-test in record { kept = ∣ (found.0, found.1) ∣₁ }
+    let found = c.in-Ok-true-load.ensures.found c.in-Ok-true-load.field-0-test in record { kept = ∣ (found.0, found.2) ∣₁ }
 
 pub returns-in-Ok-true-load-clause-ready : goal.returns-in-Ok-true-load-clause-ready
 returns-in-Ok-true-load-clause-ready g c sound =
-    let (names, has, rows) = c.in-Ok-true-load.ensures.found c.in-Ok-true-load.field-0-test in (
+    let (names, lines, has, rows) = c.in-Ok-true-load.ensures.found c.in-Ok-true-load.field-0-test in (
       names,
       record {
         sound = sound;
@@ -20,6 +21,7 @@ returns-in-Ok-true-load-clause-ready g c sound =
         left = λ clean. leaves_kept (over_file {g = g.D.Disk}) c.load.new.store names
             (settled_at c.load.new.store g.met.D.Disk.seen_may_stay) has.1 clean (c.in-Ok-true-load.ensures.«open» clean);
       },
+      lines,
       λ clean. (has.0, subst₂ (FoundIn 4096) (search (arith, seen_same)) (rows clean) (c.in-Ok.ensures.found (search arith))),
       λ clean damaged. search (arith, halves),
     )
@@ -43,5 +45,17 @@ returns-in-Err-open_files-clause-unharmed g c =
 pub returns-clause-damaged : goal.returns-clause-damaged
 returns-clause-damaged g c is = elim c.match-load.branch [
   | in-Ok-false-load w ↦ let same = w.error-is in grind arith
+  | in-Err-load w ↦ let same = w.error-is in let of = w.into-error.ensures in grind arith
+]
+
+-- a row that is no account
+pub returns-clause-row : goal.returns-clause-row
+returns-clause-row g c is clean names lines holds = elim c.match-load.branch [
+  | in-Ok-false-load w ↦
+      let honest = no_doubt _ (is_honest c.load.new.store.pool _ (sym c.close.ensures) clean) in
+      let found = subst (λ i. FoundIn 4096 i ((view c.in-Ok.store).committed 0)) (seen_same c.args.files.log
+      c.is_damaged.new.log c.args.files.db c.is_damaged.ensures.same) (c.in-Ok.ensures.found (search arith)) in
+      w.in-Ok-false-load.ensures.refused w.in-Ok-false-load.field-0-test honest names holds.0 lines
+      (sym (found_once _ _ _ found holds.1))
   | in-Err-load w ↦ let same = w.error-is in let of = w.into-error.ensures in grind arith
 ]
