@@ -1,5 +1,5 @@
 -- Hashing by an `Argon2`: when a call is refused, and what it leaves.
-use Rattle.std.specs.Prelude.{◌≡◌, ℕ, ◌+◌, ◌*◌, ◌^◌, ◌<◌, ◌≤◌, List, [], ◌++◌, Option, Some, None, Result, Err, IfErr, OnOk, OnErr, length, take, drop, slice_index_or}
+use Rattle.std.specs.Prelude.{◌≡◌, ℕ, ◌+◌, ◌*◌, ◌^◌, ◌<◌, ◌≤◌, ◌⊎◌, List, [], ◌++◌, Option, Some, None, Result, Err, IfErr, OnOk, OnErr, length, take, drop, slice_index_or}
 use Rattle.argon2_base.specs.declared.error.Error.{Error}
 use Rattle.argon2_base.specs.declared.error.Error.TheVariants.{OutOfMemory}
 use Rattle.argon2.specs.declared.context.Argon2.{Argon2}
@@ -28,10 +28,14 @@ abbrev pub fill_refusal : Argon2 → List ℕ → List ℕ → ℕ → Option Er
 fill_refusal argon2 password salt blocks = first_of (input_faults (length password) (length salt)
     ++ memory_faults (block_count (context_of argon2)) blocks)
 
--- what a call that asks for memory may answer: a refusal, and if there is none Ok or that there is no memory
-abbrev pub MayAnswer : Option Error → Result (Unit {0}) Error → Type 0
-MayAnswer (Some fault) result = result ≡ Err fault
-MayAnswer None result = IfErr result (λ e. e ≡ OutOfMemory)
+-- what a call that asks for memory before its checks may answer: no memory, or the refusal, or Ok if there is none
+abbrev pub AsksFirst : Option Error → Result (Unit {0}) Error → Type 0
+AsksFirst refusal result = (result ≡ Err OutOfMemory) ⊎ (result ≡ answer_unless refusal tt)
+
+-- what one that asks after its checks may answer: the refusal, and if there is none Ok or no memory
+abbrev pub ChecksFirst : Option Error → Result (Unit {0}) Error → Type 0
+ChecksFirst (Some fault) result = result ≡ Err fault
+ChecksFirst None result = IfErr result (λ e. e ≡ OutOfMemory)
 
 -- a length that an output may have if none is set
 abbrev pub IsOutputLength : ℕ → Type 0

@@ -1,5 +1,5 @@
 -- The value that hashing makes, and what hashing to a text answers.
-use Rattle.std.specs.Prelude.{◌≡◌, ◌≤◌, ◌<◌, ◌^◌, ◌⊎◌, ℕ, Bool, List, [], ◌∷◌, length, nat_lt, Option, Some, IsOk, Result, Ok, Err, codes, ok_or, unwrap_or}
+use Rattle.std.specs.Prelude.{◌≡◌, ◌≤◌, ◌<◌, ◌^◌, ◌⊎◌, ℕ, Bool, List, [], ◌∷◌, ◌++◌, length, nat_lt, Option, Some, IsNone, Result, Ok, Err, codes, ok_or, unwrap_or}
 use Rattle.argon2_base.specs.Error.{Fault, bad_algorithm, bad_output_size, bad_password, bad_salt, bad_version, no_memory, outcome_of}
 use Rattle.argon2_base.specs.PhcFields.{phc_of}
 use Rattle.argon2_base.specs.PhcText.{Phc, HasBytes}
@@ -34,10 +34,10 @@ sized settings = record settings {
   parameters = record settings.parameters { output_len = Some (tag_length settings) };
 }
 
--- why no hash is made: a password of more than 4294967295 bytes, or else no memory
+-- why no hash is made: no memory, or a password of more than 4294967295 bytes
 abbrev pub HashingRefusal : List ℕ → Error → Type 0
+HashingRefusal password OutOfMemory = Unit {0}
 HashingRefusal password PasswordInvalid = max_len < length password
-HashingRefusal password OutOfMemory = length password ≤ max_len
 HashingRefusal password _ = ⊥
 
 -- the tag of that length, or the refusal
@@ -72,22 +72,26 @@ pub record IsTarget (target : Target) : Type 0 where
 
 -- ---- what hashing to a text answers
 
--- a salt, a hash and a password of so many bytes
-abbrev pub text_faults : ℕ → ℕ → ℕ → List (Bool × Fault)
-text_faults salt hash password =
-    (nat_lt salt 8, bad_salt) ∷ (nat_lt 48 salt, bad_salt)
-    ∷ (nat_lt 64 hash, bad_output_size) ∷ (nat_lt max_len password, bad_password) ∷ []
+-- a salt and a hash of so many bytes
+abbrev pub text_faults : ℕ → ℕ → List (Bool × Fault)
+text_faults salt hash =
+    (nat_lt salt 8, bad_salt) ∷ (nat_lt 48 salt, bad_salt) ∷ (nat_lt 64 hash, bad_output_size) ∷ []
+
+-- a password of so many bytes
+abbrev pub password_faults : ℕ → List (Bool × Fault)
+password_faults password = (nat_lt max_len password, bad_password) ∷ []
 
 -- the value that is made, or the fault of the first length that is refused
 abbrev pub hashed : Target → List ℕ → List ℕ → Result Phc Fault
 hashed target password salt =
-    checked (first_of (text_faults (length salt) (tag_length target.settings) (length password)))
-    (Ok (made target password salt))
+    checked (first_of (text_faults (length salt) (tag_length target.settings)
+    ++ password_faults (length password))) (Ok (made target password salt))
 
--- what hashing to a text may answer: that, or no memory if no length is refused
+-- what hashing to a text may answer: that, or no memory if salt and hash fit into a text
 abbrev pub IsHashAnswer : Target → List ℕ → List ℕ → Result PasswordHash Error → Type 0
 IsHashAnswer target password salt r = (outcome_of phc_of r ≡ hashed target password salt)
-    ⊎ ((outcome_of phc_of r ≡ Err no_memory) × IsOk (hashed target password salt))
+    ⊎ ((outcome_of phc_of r ≡ Err no_memory)
+    × IsNone (first_of (text_faults (length salt) (tag_length target.settings))))
 
 -- ---- settings that the caller gives
 

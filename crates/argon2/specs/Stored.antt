@@ -75,10 +75,10 @@ abbrev pub verified : List ℕ → List ℕ → Phc → Result (Unit {0}) Fault
 verified secret password v =
     read (stored_of v) (λ stored. if is_tag secret password stored then Ok tt else Err bad_password)
 
--- what verifying a value may answer: that, or no memory if the value can be checked and the password isn't too long
+-- what verifying a value may answer: that, or no memory if the value can be checked
 abbrev pub IsVerifyAnswer : List ℕ → List ℕ → Phc → Result (Unit {0}) Error → Type 0
 IsVerifyAnswer secret password v r = (outcome_of (λ x. x) r ≡ verified secret password v)
-    ⊎ ((outcome_of (λ x. x) r ≡ Err no_memory) × IsOk (stored_of v) × (length password ≤ max_len))
+    ⊎ ((outcome_of (λ x. x) r ≡ Err no_memory) × IsOk (stored_of v))
 
 -- what verifying a text may answer: that of its value, or `EncodingInvalid` if it is no value's
 abbrev pub IsVerifyTextAnswer : List ℕ → List ℕ → List ℕ → Result (Unit {0}) Error → Type 0

@@ -65,7 +65,7 @@ impl<'key> Argon2<'key> {
     ghost use Rattle.argon2.specs.Argon2.{context_of, context_under, own_parameters, secret_of, settings_of, settings_with, IsKeyed, IsWith};
     ghost use Rattle.argon2.specs.Rfc9106.{IsValid, block_count, first_block, matrix_of, tag_of};
     ghost use Rattle.argon2.specs.Watching.{AreReferencePlaces, mixing_calls, place_count};
-    ghost use Rattle.argon2.specs.Hashing.{blocks_of, fill_refusal, refusal_of, IsFilled, IsHashed, IsWatched, KeepsRest, MayAnswer};
+    ghost use Rattle.argon2.specs.Hashing.{blocks_of, fill_refusal, refusal_of, AsksFirst, ChecksFirst, IsFilled, IsHashed, IsWatched, KeepsRest};
     ghost use Rattle.argon2.specs.Params.{parameters_of};
     ghost use Rattle.argon2.specs.Refusals.{answer_unless, data_refusal, length_refusal};
 
@@ -191,9 +191,9 @@ impl<'key> Argon2<'key> {
     ///
     /// # Errors
     /// The first of these that holds; `out` is then as before:
+    /// - [`Error::OutOfMemory`]: the request was refused. It is made before any check.
     /// - those of [`hash_password_into_with_memory`](Argon2::hash_password_into_with_memory) but
-    ///   [`Error::MemoryTooLittle`], in their order. Then no memory is requested.
-    /// - [`Error::OutOfMemory`]: the request was refused.
+    ///   [`Error::MemoryTooLittle`], in their order.
     pub fn hash_password_into<A: Allocator>(
         &self,
         alloc: A,
@@ -201,14 +201,15 @@ impl<'key> Argon2<'key> {
         salt: &[u8],
         out: &mut [u8],
     ) -> Result<()>
-        ensures answer { MayAnswer (length_refusal (own_parameters self.now).output_len
+        ensures answer { AsksFirst (length_refusal (own_parameters self.now).output_len
             (length out.old) (length pwd.now) (length salt.now)) result }
 
         ensures tag { OnOk result (out.new
             ≡ tag_of (context_of self.now) pwd.now salt.now (length out.old)) }
         ensures same { OnErr result (out.new ≡ out.old) }
     {
-        self.hash_password_into_with_data(alloc, self.params.data(), pwd, salt, out)
+        let mut memory = self.zeroed_blocks(alloc)?;
+        self.hash_password_into_with_memory(pwd, salt, out, memory.as_mut_slice())
     }
 
     /// Writes the tag as [`hash_password_into`](Argon2::hash_password_into) does, under this associated
@@ -216,8 +217,11 @@ impl<'key> Argon2<'key> {
     /// carries such data, so the calls that make and read texts take the parameters'.
     ///
     /// # Errors
-    /// Those of [`hash_password_into`](Argon2::hash_password_into), and before them
-    /// [`Error::AdTooLong`] if the data is longer. `out` is then as before.
+    /// The first of these that holds; `out` is then as before:
+    /// - [`Error::AdTooLong`]: the data is longer.
+    /// - those of [`hash_password_into_with_memory`](Argon2::hash_password_into_with_memory) but
+    ///   [`Error::MemoryTooLittle`], in their order. Then no memory is requested.
+    /// - [`Error::OutOfMemory`]: the request was refused.
     pub fn hash_password_into_with_data<A: Allocator>(
         &self,
         alloc: A,
@@ -226,7 +230,7 @@ impl<'key> Argon2<'key> {
         salt: &[u8],
         out: &mut [u8],
     ) -> Result<()>
-        ensures answer { MayAnswer (data_refusal (length associated.now)
+        ensures answer { ChecksFirst (data_refusal (length associated.now)
             (own_parameters self.now).output_len
             (length out.old) (length pwd.now) (length salt.now)) result }
 

@@ -33,8 +33,8 @@ pub trait PasswordHasher<H> {
     /// The first of these that holds:
     /// - [`Error::SaltInvalid`]: the salt has fewer than 8 or more than 48 bytes.
     /// - [`Error::OutputSize`]: the output length is above 64.
-    /// - [`Error::PasswordInvalid`]: the password is longer than 4294967295 bytes.
     /// - [`Error::OutOfMemory`]: the request was refused.
+    /// - [`Error::PasswordInvalid`]: the password is longer than 4294967295 bytes.
     fn hash_password_with_salt(&self, alloc: Global, password: &[u8], salt: &[u8]) -> Result<H>
         ensures answer { hash_gives self.now password.now salt.now result }
         ensures accepted { IfOk result (accepts self.now password.now) }
@@ -108,9 +108,9 @@ pub trait PasswordVerifier<H> {
     /// - [`Error::ParamInvalid`] and [`Error::ParamsInvalid`], as of reading the parameters.
     /// - [`Error::Algorithm`]: no algorithm has the identifier.
     /// - [`Error::Version`]: no version has the number.
-    /// - [`Error::PasswordInvalid`]: the password is longer than 4294967295 bytes.
     /// - [`Error::OutOfMemory`]: the request was refused.
-    /// - [`Error::PasswordInvalid`]: the password has another hash.
+    /// - [`Error::PasswordInvalid`]: the password is longer than 4294967295 bytes, or has another
+    ///   hash.
     fn verify_password(&self, alloc: Global, password: &[u8], hash: H) -> Result<()>
         ensures answer { verify_gives self.now password.now hash result }
         ensures accepted { MatchResult result (λ _. accepts self.now password.now hash)

@@ -67,8 +67,8 @@ impl<'key> Policy<'key> {
     /// drawn even if the call is refused.
     ///
     /// # Errors
-    /// [`AccountError::Refused`] with the error of [`Target::hash_password`]: the password is longer
-    /// than 4294967295 bytes, or else a request for memory was refused.
+    /// [`AccountError::Refused`] with the error of [`Target::hash_password`]: a request for memory was
+    /// refused, or else the password is longer than 4294967295 bytes.
     pub fn hash_password<R: Rng>(
         &self,
         rng: &mut R,

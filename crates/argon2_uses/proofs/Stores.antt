@@ -36,7 +36,7 @@ add_gives (Err e) o text v w is same says = tt
 pub hashed_ok : (target : Target) (password salt : List ℕ) (h : PasswordHash) →
     IsHashAnswer target password salt (Ok h) → IsOk (hashed target password salt)
 hashed_ok target password salt h (inl is) = rw (← is) refl
-hashed_ok target password salt h (inr is) = is.1
+hashed_ok target password salt h (inr is) = let no = is.0 in absurd cc
 
 -- `add` refuses a text of the grammar if the name is taken or memory is out
 pub add_refuses : (target : Target) (login : Login) (name password salt text : List ℕ) (v : Phc)

@@ -1,5 +1,5 @@
 -- The key of a vault, and what opens it.
-use Rattle.std.specs.Prelude.{◌≡◌, ℕ, List, None, length, take, drop, unwrap_or}
+use Rattle.std.specs.Prelude.{◌≡◌, ◌⊎◌, ℕ, List, None, Some, length, take, drop}
 use Rattle.argon2.specs.Argon2.{argon2id_with, own_parameters}
 use Rattle.argon2.specs.Rfc9106.{Context, tag_of}
 use Rattle.argon2.specs.Settings.{Settings, plain}
@@ -21,7 +21,7 @@ key_of ctx passphrase salt = take 32 (tag_of ctx passphrase salt 64)
 abbrev pub Opens : Context → List ℕ → Header → Type 0
 Opens ctx passphrase header = header.tag ≡ drop 32 (tag_of ctx passphrase header.salt 64)
 
--- the first length that is refused if 64 bytes are derived, or else no memory
+-- no memory, or the first length that is refused if 64 bytes are derived
 abbrev pub VaultRefusal : Argon2 → List ℕ → List ℕ → Error → Type 0
-VaultRefusal argon2 passphrase salt e = e ≡ unwrap_or
-    (length_refusal (own_parameters argon2).output_len 64 (length passphrase) (length salt)) OutOfMemory
+VaultRefusal argon2 passphrase salt e = (e ≡ OutOfMemory)
+    ⊎ (length_refusal (own_parameters argon2).output_len 64 (length passphrase) (length salt) ≡ Some e)

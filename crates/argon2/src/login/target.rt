@@ -89,9 +89,9 @@ impl<'key> Target<'key> {
     ///
     /// # Errors
     /// The first of these that holds:
-    /// - [`Error::PasswordInvalid`]: the password is longer than 4294967295 bytes.
     /// - [`Error::OutOfMemory`]: the request was refused.
-    /// - [`Error::PasswordInvalid`]: the text does not accept the password.
+    /// - [`Error::PasswordInvalid`]: the password is longer than 4294967295 bytes, or the text does
+    ///   not accept it.
     pub fn verify(&self, alloc: Global, password: &[u8], stored: &Stored<'_>) -> Result<()>
         ensures { (v : Phc) → stored_of v ≡ Ok (stored_value stored.now) → MatchResult result
             (λ _. AcceptsBy (target_value self.now).secret password.now v)
@@ -148,8 +148,8 @@ impl<'key> Target<'key> {
     ///
     /// # Errors
     /// The first of these that holds:
-    /// - [`Error::PasswordInvalid`]: the password is longer than 4294967295 bytes.
     /// - [`Error::OutOfMemory`]: the request was refused.
+    /// - [`Error::PasswordInvalid`]: the password is longer than 4294967295 bytes.
     pub fn hash_password<R: Rng>(
         &self,
         alloc: Global,
