@@ -76,7 +76,7 @@ impl Bound {
     }
 
     /// Ok if the text asks for no more than this bound, and accepts the password under the
-    /// secret of `argon2`.
+    /// secret of `argon2`. Memory is requested as by [`PasswordVerifier::verify_password`].
     ///
     /// # Errors
     /// The first of these that holds:

@@ -15,7 +15,7 @@ pub trait Kdf {
     ghost key_of: { Self → List ℕ → List ℕ → ℕ → List ℕ };
 
     /// Writes the key of a password and a salt into `out`, as many bytes as it has. The memory for
-    /// this is requested from `alloc`, and freed before the call returns.
+    /// this is requested from `alloc` in one request, and freed before the call returns.
     ///
     /// # Errors
     /// [`Error`] if a length is not taken, or a request for memory was refused; `out` is then

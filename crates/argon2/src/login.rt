@@ -55,7 +55,7 @@ impl<'key> Login<'key> {
         })
     }
 
-    /// Gives a new name its text.
+    /// Gives a new name its text. It allocates a copy of the name and, if the map has no room, a node.
     ///
     /// # Errors
     /// The first of these that holds; the store is then as before:
@@ -92,6 +92,8 @@ impl<'key> Login<'key> {
     /// over the old one, which takes no memory. [`Accepted`] says what was done.
     ///
     /// Nothing is drawn but for a fresh text; then 16 bytes are, even if there is no memory for it.
+    /// Verifying makes one request for memory and a fresh text another; both are freed before the call
+    /// returns.
     ///
     /// # Errors
     /// The store is then as before:

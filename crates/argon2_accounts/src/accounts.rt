@@ -49,7 +49,8 @@ impl<'key> Accounts<'key> {
         })
     }
 
-    /// Gives a new name a text, which may ask for more than the bound.
+    /// Gives a new name a text, which may ask for more than the bound. It allocates a copy of the name
+    /// and, if the map has no room, a node.
     ///
     /// # Errors
     /// The first of these that holds; the accounts are then as before:
@@ -68,8 +69,9 @@ impl<'key> Accounts<'key> {
         self.insert(name, parsed)
     }
 
-    /// Gives a new name a text of a password, as [`Policy::hash_password`] makes it. 16 bytes are
-    /// drawn from `rng`, even if there is no memory for it, but not if the name is taken.
+    /// Gives a new name a text of a password, as [`Policy::hash_password`] makes it, and allocates as
+    /// [`add`](Accounts::add). 16 bytes are drawn from `rng`, even if there is no memory for it, but not
+    /// if the name is taken.
     ///
     /// # Errors
     /// The first of these that holds; the accounts are then as before:

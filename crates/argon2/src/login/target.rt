@@ -85,7 +85,8 @@ impl<'key> Target<'key> {
     }
 
     /// Ok if a text accepts the password under the target's secret. `stored` is what the text shows.
-    /// The memory of the hash is requested from `alloc`, and freed before the call returns.
+    /// The memory of the hash is requested from `alloc` in one request, and freed before the call
+    /// returns.
     ///
     /// # Errors
     /// The first of these that holds:
@@ -143,8 +144,8 @@ impl<'key> Target<'key> {
     }
 
     /// A fresh text of a password, with a salt of 16 bytes that are drawn from `rng`. They are drawn
-    /// also if the call is refused. The memory of the hash is requested from `alloc`, and freed before
-    /// the call returns.
+    /// also if the call is refused. The memory of the hash is requested from `alloc` in one request,
+    /// and freed before the call returns.
     ///
     /// # Errors
     /// The first of these that holds:
