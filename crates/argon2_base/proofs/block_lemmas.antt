@@ -1,3 +1,4 @@
+pub mod ChainLemmas
 pub mod LaneLemmas
 pub mod MixingLaws
 pub mod MixingLemmas

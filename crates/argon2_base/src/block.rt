@@ -9,6 +9,7 @@ use std::convert::AsSlice;
 use std::marker::Model;
 use std::ops::{BitXor, BitXorAssign};
 
+mod chains;
 mod kernel;
 
 /// The words of a block, as a C caller has them.
@@ -48,6 +49,13 @@ impl<T> Block<T> {
 impl Block {
     /// The size of a block in bytes.
     pub const SIZE: usize = 1024;
+
+    /// The words, by which [`mix_words`] and [`xor_words`] take a block.
+    pub fn as_words(&self) -> &Words
+        ensures { result.now ≡ self.now }
+    {
+        &self.words
+    }
 
     /// The block of zeros.
     #[tactic(auto, unfolding(crate::specs::Block::zero_block))]
@@ -94,9 +102,8 @@ impl Block {
         ensures block { result ≡ mixed x.now y.now }
         ensures counted { work.new ≡ work.old + 1 }
     {
-        Block {
-            words: mix_words(&x.words, &y.words, work),
-        }
+        work.mixes += 1;
+        Block::from(kernel::mix(&x.words, &y.words))
     }
 }
 
@@ -105,6 +112,15 @@ impl Default for Block {
 
     fn default() -> Self {
         Block::new()
+    }
+}
+
+impl From<Words> for Block {
+    ghost from_gives = { λ words b. b ≡ words };
+
+    /// The block of these words.
+    fn from(words: Words) -> Self {
+        Block { words }
     }
 }
 
@@ -153,8 +169,8 @@ impl BitXorAssign<&Block> for Block {
     }
 }
 
-/// A count of mixings. Nothing but [`mix_words`] adds to it, by which [`Block::mix`] mixes, and it
-/// cannot be copied.
+/// A count of mixings. Nothing but [`Block::mix`] and [`mix_words`] adds to it, and it cannot be
+/// copied.
 #[derive(Debug, Drop)]
 pub struct Work {
     mixes: u128,
@@ -182,14 +198,15 @@ impl Work {
     }
 }
 
-/// Mixes two blocks that are given by their words, as [`Block::mix`] does.
+/// Mixes two blocks that are given by their words, as [`Block::mix`] does, by another body, which is
+/// faster on processors with AVX2. Memory is filled by it.
 pub fn mix_words(x: &Words, y: &Words, work: &mut Work) -> Words
     requires { work.old < 2 ^ 128 - 1 }
     ensures words { result ≡ mixed x.now y.now }
     ensures counted { work.new ≡ work.old + 1 }
 {
     work.mixes += 1;
-    kernel::mix(x, y)
+    chains::mix(x, y)
 }
 
 /// The exclusive or with the words of a block.

@@ -1,9 +1,9 @@
 -- Vectors of eight lanes, and what the steps of the mixing do in each lane.
-use Rattle.std.proofs.Common.{◌≡◌, ℕ, zero, suc, ◌<◌, ◌+◌, ◌-◌, ◌*◌, ◌/◌, ◌%◌, ◌^◌, List, [], ◌∷◌, ◌++◌, length, slice_index, ◌==◌, if◌then◌else◌, bit_and, bit_or, bit_xor, slice_index_or, map, arith, refl, ap, subst, ◌∙◌, lit<, sym, ap₂}
-use Rattle.std.specs.Int.{w64, rotate_right}
+use Rattle.std.proofs.Common.{◌≡◌, ℕ, zero, suc, ◌<◌, ◌+◌, ◌-◌, ◌*◌, ◌/◌, ◌%◌, ◌^◌, List, [], ◌∷◌, ◌++◌, length, slice_index, ◌==◌, if◌then◌else◌, bit_and, bit_or, bit_xor, slice_index_or, map, replicate, arith, refl, ap, subst, ◌∙◌, lit<, sym, ap₂}
 use Rattle.std.specs.List.{range_with_len}
 use Rattle.std.proofs.lemmas.Nat.{and_mask}
-use Rattle.std.proofs.lemmas.List.{ext_get_or}
+use Rattle.std.proofs.lemmas.List.{ext_get_or, get_or-replicate, length-replicate}
+use Rattle.std.proofs.lemmas.Simd.{get_or-zip2, length-zip2}
 use Rattle.std.proofs.lemmas.List.FromFn.{get_or-map-range_with_len, length-map-range_with_len}
 use Rattle.std.specs.Simd.Lanes.{zip2, pick_l}
 use Rattle.argon2_base.specs.Block.{add_mul, xor_rotate, row}
@@ -63,48 +63,67 @@ add_mul_word a b =
     let product : 2 * (a % 2 ^ 32) * (b % 2 ^ 32) ≡ 2 * (a % 2 ^ 32 * (b % 2 ^ 32)) = omega arith in
     rw (and_mask a 32, and_mask b 32, product) (wrapped_sum (a + b) (a % 2 ^ 32 * (b % 2 ^ 32)))
 
--- eight words at once
+-- an element of two vectors of n lanes that are put together
+zipped : (f : ℕ → ℕ → ℕ) (n : ℕ) (a b : List ℕ) → length a ≡ n → length b ≡ n → (j : ℕ) → j < n
+    → slice_index (zip2 f a b) j ≡ f (slice_index a j) (slice_index b j)
+zipped f n a b long_a long_b j h = get_or-zip2 f a b j 0 0 0 (omega arith) (omega arith)
+
+length-zipped : (f : ℕ → ℕ → ℕ) (n : ℕ) (a b : List ℕ) → length a ≡ n → length b ≡ n → length (zip2 f a b) ≡ n
+length-zipped f n a b long_a long_b = length-zip2 f a b (long_a ∙ sym long_b) ∙ long_a
+
+-- n words at once
 abbrev wrapped_add : List ℕ → List ℕ → List ℕ
 wrapped_add = zip2 (λ x y. (x + y) % 2 ^ 64)
 
-abbrev masked : List ℕ → List ℕ
-masked a =
-    zip2 bit_and a
-    (0xffffffff ∷ 0xffffffff ∷ 0xffffffff ∷ 0xffffffff ∷ 0xffffffff ∷ 0xffffffff ∷ 0xffffffff ∷ 0xffffffff ∷ [])
+abbrev masked_product : ℕ → List ℕ → List ℕ → List ℕ
+masked_product n a b =
+    let low = replicate n 0xffffffff in zip2 (λ x y. x * y % 2 ^ 64) (zip2 bit_and a low) (zip2 bit_and b low)
 
-abbrev AddsMul : List ℕ → List ℕ → Type 0
-AddsMul a b = (j : ℕ) → j < 8
-    → slice_index (wrapped_add (wrapped_add a b)
-    (wrapped_add (zip2 (λ x y. x * y % 2 ^ 64) (masked a) (masked b)) (zip2 (λ x y. x * y % 2 ^ 64) (masked a) (masked b)))) j
+pub add_mul_lanes : (n : ℕ) (a b : List ℕ) → length a ≡ n → length b ≡ n → (j : ℕ) → j < n
+    → slice_index (wrapped_add (wrapped_add a b) (wrapped_add (masked_product n a b) (masked_product n a b))) j
     ≡ add_mul (slice_index a j) (slice_index b j)
-
-pub add_mul_lanes : (a : List ℕ) → length a ≡ 8 → (b : List ℕ) → length b ≡ 8 → AddsMul a b
-add_mul_lanes =
-    two_vectors AddsMul (λ a0 a1 a2 a3 a4 a5 a6 a7 b0 b1 b2 b3 b4 b5 b6 b7.
-    below_eight _ (add_mul_word a0 b0) (add_mul_word a1 b1) (add_mul_word a2 b2) (add_mul_word a3 b3)
-    (add_mul_word a4 b4) (add_mul_word a5 b5) (add_mul_word a6 b6) (add_mul_word a7 b7))
+add_mul_lanes n a b long_a long_b j h =
+    let low = replicate n 0xffffffff in
+    let long_low = length-replicate n 0xffffffff in
+    let mask_a = zip2 bit_and a low in
+    let mask_b = zip2 bit_and b low in
+    let long_mask_a = length-zipped bit_and n a low long_a long_low in
+    let long_mask_b = length-zipped bit_and n b low long_b long_low in
+    let p = masked_product n a b in
+    let long_p = length-zipped (λ x y. x * y % 2 ^ 64) n mask_a mask_b long_mask_a long_mask_b in
+    let add = λ (x y : ℕ). (x + y) % 2 ^ 64 in
+    let masked : (c : List ℕ) → length c ≡ n → slice_index (zip2 bit_and c low) j ≡ bit_and (slice_index c j) 0xffffffff =
+    λ c long_c. zipped bit_and n c low long_c long_low j h ∙ ap (bit_and (slice_index c j)) (get_or-replicate n j 0xffffffff 0 h) in
+    let product : slice_index p j ≡ bit_and (slice_index a j) 0xffffffff * bit_and (slice_index b j) 0xffffffff % 2 ^ 64 =
+    zipped (λ x y. x * y % 2 ^ 64) n mask_a mask_b long_mask_a long_mask_b j h
+    ∙ ap₂ (λ x y. x * y % 2 ^ 64) (masked a long_a) (masked b long_b) in
+    zipped add n (wrapped_add a b) (wrapped_add p p) (length-zipped add n a b long_a long_b) (length-zipped add n p p long_p long_p) j h
+    ∙ ap₂ add (zipped add n a b long_a long_b j h) (zipped add n p p long_p long_p j h ∙ ap₂ add product product)
+    ∙ add_mul_word (slice_index a j) (slice_index b j)
 
 -- two shifts of each lane and an or are a rotation
-abbrev Rotates : ℕ → List ℕ → List ℕ → Type 0
-Rotates k a b = (j : ℕ) → j < 8
+pub shifts_rotate : (n k : ℕ) → 0 < k → k < 64 → (a b : List ℕ) → length a ≡ n → length b ≡ n → (j : ℕ) → j < n
     → slice_index (zip2 bit_or
-    (zip2 (λ x n. x / 2 ^ n) (zip2 bit_xor a b) (k ∷ k ∷ k ∷ k ∷ k ∷ k ∷ k ∷ k ∷ []))
-    (zip2 (λ x n. x * 2 ^ n % 2 ^ 64) (zip2 bit_xor a b)
-    ((64 - k) ∷ (64 - k) ∷ (64 - k) ∷ (64 - k) ∷ (64 - k) ∷ (64 - k) ∷ (64 - k) ∷ (64 - k) ∷ []))) j
+    (zip2 (λ x m. x / 2 ^ m) (zip2 bit_xor a b) (replicate n k))
+    (zip2 (λ x m. x * 2 ^ m % 2 ^ 64) (zip2 bit_xor a b) (replicate n (64 - k)))) j
     ≡ xor_rotate (slice_index a j) (slice_index b j) k
-
-pub shifts_rotate : (k : ℕ) → 0 < k → k < 64 → (a : List ℕ) → length a ≡ 8 → (b : List ℕ) → length b ≡ 8 → Rotates k a b
 unfolding xor_rotate
-shifts_rotate k low high =
+shifts_rotate n k low high a b long_a long_b j h =
+    let x = zip2 bit_xor a b in
+    let long_x = length-zipped bit_xor n a b long_a long_b in
+    let is_x = zipped bit_xor n a b long_a long_b j h in
+    let shifted : (f : ℕ → ℕ → ℕ) (m : ℕ) → slice_index (zip2 f x (replicate n m)) j ≡ f (bit_xor (slice_index a j) (slice_index b j)) m =
+    λ f m. zipped f n x (replicate n m) long_x (length-replicate n m) j h ∙ ap₂ f is_x (get_or-replicate n j m 0 h) in
+    let long : (f : ℕ → ℕ → ℕ) (m : ℕ) → length (zip2 f x (replicate n m)) ≡ n =
+    λ f m. length-zipped f n x (replicate n m) long_x (length-replicate n m) in
     let left : (64 - k) % 64 ≡ 64 - k = omega arith in
     let right : k % 64 ≡ k = omega arith in
-    let turns : (x : ℕ) → bit_or (x / 2 ^ k) (x * 2 ^ (64 - k) % 2 ^ 64) ≡ rotate_right w64 x k =
-    λ x. rw (right, left) refl in
-    two_vectors (Rotates k) (λ a0 a1 a2 a3 a4 a5 a6 a7 b0 b1 b2 b3 b4 b5 b6 b7.
-    below_eight _ (turns _) (turns _) (turns _) (turns _) (turns _) (turns _) (turns _) (turns _))
+    zipped bit_or n _ _ (long _ k) (long _ (64 - k)) j h
+    ∙ ap₂ bit_or (shifted (λ x m. x / 2 ^ m) k) (shifted (λ x m. x * 2 ^ m % 2 ^ 64) (64 - k))
+    ∙ rw (right, left) refl
 
 -- what two shuffles of two vectors are
-abbrev Shuffled : List ℕ → List ℕ → (List ℕ → List ℕ → List ℕ) → (List ℕ → List ℕ → List ℕ) → List ℕ → List ℕ → Type 0
+abbrev pub Shuffled : List ℕ → List ℕ → (List ℕ → List ℕ → List ℕ) → (List ℕ → List ℕ → List ℕ) → List ℕ → List ℕ → Type 0
 Shuffled lefts rights left right a b = (pick_l 0 (a ++ b) lefts ≡ left a b) × (pick_l 0 (a ++ b) rights ≡ right a b)
 
 pub exchanged_ones : (a : List ℕ) → length a ≡ 8 → (b : List ℕ) → length b ≡ 8
@@ -151,12 +170,20 @@ slice_index-lane x j =
     below_sixteen (λ k. slice_index (lane j x) k ≡ lane_word x k j) refl refl refl refl refl refl refl refl refl refl
     refl refl refl refl refl refl
 
+-- a word of sixteen
+pub word_at : (f : ℕ → ℕ) (k : ℕ) → k < 16 → slice_index (map f (range_with_len 0 16)) k ≡ f k
+word_at f k h = get_or-map-range_with_len f 0 16 k k 0 h (omega arith)
+
+-- sixteen words, given by number
+pub words_are : (f g : ℕ → ℕ) → ((k : ℕ) → k < 16 → f k ≡ g k) → map f (range_with_len 0 16) ≡ map g (range_with_len 0 16)
+words_are f g h =
+    ext_get_or 0 (map f (range_with_len 0 16)) (map g (range_with_len 0 16)) refl (λ k below.
+    word_at f k below ∙ h k below ∙ sym (word_at g k below))
+
 -- the words of a lane, given by number
 pub lane_is : (x : List (List ℕ)) (j : ℕ) (f : ℕ → ℕ) → ((k : ℕ) → k < 16 → lane_word x k j ≡ f k)
     → lane j x ≡ map f (range_with_len 0 16)
-lane_is x j f h =
-    ext_get_or 0 (lane j x) (map f (range_with_len 0 16)) refl (λ k below.
-    slice_index-lane x j k below ∙ h k below ∙ sym (get_or-map-range_with_len f 0 16 k k 0 below (omega arith)))
+lane_is x j f = words_are (λ k. lane_word x k j) f
 
 -- the vector of a number
 abbrev row_at : List (List ℕ) → ℕ → List ℕ

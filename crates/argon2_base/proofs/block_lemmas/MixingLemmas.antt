@@ -6,8 +6,8 @@ use Rattle.std.proofs.lemmas.Grind.{get_or-set_at}
 use Rattle.std.proofs.lemmas.List.FromFn.{get_or-map-range_with_len, length-map-range_with_len}
 use Rattle.std.proofs.lemmas.Simd.{get_or-zip2, length-zip2}
 use Rattle.argon2_base.specs.Block.{by_columns, by_rows, column, gb, gb_at, mix_columns, mix_diagonals, perm, row, xor_blocks}
-use Rattle.argon2_base.specs.Lanes.{lane, lane_word}
-use Rattle.argon2_base.proofs.block_lemmas.LaneLemmas.{below_two, lane_is, slice_index-lane}
+use Rattle.argon2_base.specs.Lanes.{column_lanes, lane, lane_word, vector_words}
+use Rattle.argon2_base.proofs.block_lemmas.LaneLemmas.{below_two, lane_is, slice_index-lane, word_at, words_are}
 
 -- a lane of the vectors once one of them is replaced
 lane-slice_set : (x : List (List ℕ)) (i n : ℕ) (y : List ℕ) → i < 16 → length x ≡ 16
@@ -114,6 +114,24 @@ length-by_columns : (q : List ℕ) → length (by_columns q) ≡ 128
 unfolding by_columns
 length-by_columns q = length-map-range_with_len (λ w. slice_index (perm (column (w % 16 / 2) q)) (2 * (w / 16) + w % 2)) 0 128
 
+-- the words of the columns of the rows, each xored with the word of r, are G
+stored_mixed : (r out : List ℕ) → length r ≡ 128 → length out ≡ 128
+    → ((w : ℕ) → w < 128
+    → slice_index out w
+    ≡ bit_xor (slice_index (perm (column (w % 16 / 2) (by_rows r))) (2 * (w / 16) + w % 2)) (slice_index r w))
+    → out ≡ xor_blocks (by_columns (by_rows r)) r
+unfolding xor_blocks
+stored_mixed r out long_r long_out stored =
+    let q = by_rows r in
+    let long = length-by_columns q in
+    let long_xor = length-zip2 bit_xor (by_columns q) r (omega arith) in
+    ext_get_or 0 out (xor_blocks (by_columns q) r) (omega arith) (λ w h.
+    let below : w < 128 = omega arith in
+    let below_r : w < length r = omega arith in
+    stored w below
+    ∙ ap (λ a. bit_xor a (slice_index r w)) (sym (by_columns_word q w below))
+    ∙ sym (get_or-zip2 bit_xor (by_columns q) r w 0 0 0 (omega arith) below_r))
+
 -- the vectors of the rows, mixed, turned, mixed and stored, are G
 pub kernel_mixes : (r out : List ℕ) (rows across cols down : List (List ℕ)) → length r ≡ 128 → length out ≡ 128
     → ((i : ℕ) → i < 8 → lane i rows ≡ row i r)
@@ -122,7 +140,7 @@ pub kernel_mixes : (r out : List ℕ) (rows across cols down : List (List ℕ)) 
     → ((j : ℕ) → j < 8 → lane j down ≡ perm (lane j cols))
     → ((w : ℕ) → w < 128 → Stored down r out w)
     → out ≡ xor_blocks (by_columns (by_rows r)) r
-unfolding column xor_blocks
+unfolding column
 kernel_mixes r out rows across cols down long_r long_out rows_are across_are cols_are down_are stored =
     let q = by_rows r in
     let across_word : (i k : ℕ) → i < 8 → k < 16 → lane_word across k i ≡ slice_index q (16 * i + k) =
@@ -143,12 +161,37 @@ kernel_mixes r out rows across cols down long_r long_out rows_are across_are col
     sym (slice_index-lane down j k hk)
     ∙ ap (λ l. slice_index l k) (down_are j hj ∙ ap perm (column_is j hj))
     in
-    let long = length-by_columns q in
-    let long_xor = length-zip2 bit_xor (by_columns q) r (omega arith) in
-    ext_get_or 0 out (xor_blocks (by_columns q) r) (omega arith) (λ w h.
-    let below : w < 128 = omega arith in
-    let below_r : w < length r = omega arith in
-    stored w below
-    ∙ ap (λ a. bit_xor a (slice_index r w))
-    (down_word (w % 16 / 2) (2 * (w / 16) + w % 2) (omega arith) (omega arith) ∙ sym (by_columns_word q w below))
-    ∙ sym (get_or-zip2 bit_xor (by_columns q) r w 0 0 0 (omega arith) below_r))
+    stored_mixed r out long_r long_out (λ w h.
+    stored w h ∙ ap (λ a. bit_xor a (slice_index r w)) (down_word (w % 16 / 2) (2 * (w / 16) + w % 2) (omega arith) (omega arith)))
+
+-- the rows and then the columns of eight vectors, mixed and stored, are G
+pub chains_mix : (r out : List ℕ) (x across down : List (List ℕ)) → length r ≡ 128 → length out ≡ 128
+    → ((i : ℕ) → i < 8 → (k : ℕ) → k < 16 → lane_word x i k ≡ slice_index r (16 * i + k))
+    → ((i : ℕ) → i < 8 → vector_words i across ≡ perm (vector_words i x))
+    → ((j : ℕ) → j < 8 → column_lanes j down ≡ perm (column_lanes j across))
+    → ((w : ℕ) → w < 128 → slice_index out w ≡ bit_xor (lane_word down (w / 16) (w % 16)) (lane_word x (w / 16) (w % 16)))
+    → out ≡ xor_blocks (by_columns (by_rows r)) r
+unfolding column row
+chains_mix r out x across down long_r long_out x_is across_are down_are stored =
+    let q = by_rows r in
+    let across_word : (i k : ℕ) → i < 8 → k < 16 → lane_word across i k ≡ slice_index q (16 * i + k) =
+    λ i k hi hk.
+    sym (word_at (lane_word across i) k hk)
+    ∙ ap (λ l. slice_index l k) (across_are i hi ∙ ap perm (words_are (lane_word x i) (λ k. slice_index r (16 * i + k)) (x_is i hi)))
+    ∙ sym (by_rows_word r i k hi hk)
+    in
+    let column_is : (j : ℕ) → j < 8 → column_lanes j across ≡ column j q =
+    λ j hj. words_are (λ k. lane_word across (k / 2) (2 * j + k % 2)) (λ k. slice_index q (16 * (k / 2) + 2 * j + k % 2)) (λ k hk.
+    across_word (k / 2) (2 * j + k % 2) (omega arith) (omega arith) ∙ ap (slice_index q) (omega arith))
+    in
+    let down_word : (j k : ℕ) → j < 8 → k < 16 → lane_word down (k / 2) (2 * j + k % 2) ≡ slice_index (perm (column j q)) k =
+    λ j k hj hk.
+    sym (word_at (λ k. lane_word down (k / 2) (2 * j + k % 2)) k hk)
+    ∙ ap (λ l. slice_index l k) (down_are j hj ∙ ap perm (column_is j hj))
+    in
+    stored_mixed r out long_r long_out (λ w h.
+    stored w h
+    ∙ ap₂ bit_xor
+    (ap₂ (lane_word down) (omega arith) (omega arith)
+    ∙ down_word (w % 16 / 2) (2 * (w / 16) + w % 2) (omega arith) (omega arith))
+    (x_is (w / 16) (omega arith) (w % 16) (omega arith) ∙ ap (slice_index r) (omega arith)))

@@ -1,0 +1,5 @@
+use Rattle.std.proofs.lemmas.Simd.{get_or-chunk}
+use Rattle.argon2_base.proofs.block.chains.load.Goals as goal
+
+pub returns : goal.returns
+returns c k h = get_or-chunk c.args.at 16 c.args.words.now k 0 h

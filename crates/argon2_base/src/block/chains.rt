@@ -1,0 +1,284 @@
+//! The mixing of two blocks over eight vectors of sixteen words, each a row. P goes on four rows or four
+//! columns at once, over four vectors: then GB is four chains that wait for nothing of one another.
+
+ghost use Rattle.std.specs.Prelude.{◌≡◌, ℕ, ◌+◌, ◌*◌, ◌/◌, ◌%◌, ◌<◌, ◌≤◌, length, slice_index, bit_xor};
+ghost use Rattle.argon2_base.specs.Block.{add_mul, gb, mixed, perm, xor_blocks, xor_rotate};
+ghost use Rattle.argon2_base.specs.Lanes.{column_lanes, exchanged_left, exchanged_right, fours, lane_word, pairs, vector_words};
+
+use std::simd::u64x16;
+
+// u + v + 2 * low32(u) * low32(v) in each lane.
+#[inline(always)]
+fn add_mul(a: u64x16, b: u64x16) -> u64x16
+    ensures { (j : ℕ) → j < 16 → slice_index result j
+        ≡ add_mul (slice_index a j) (slice_index b j) }
+{
+    let low = u64x16::splat(0xffff_ffff);
+    let product = (a & low) * (b & low);
+    a + b + (product + product)
+}
+
+// (a xor b) >>> k in each lane.
+#[inline(always)]
+fn xor_rotate(a: u64x16, b: u64x16, k: u64) -> u64x16
+    requires { (0 < k) × (k < 64) }
+    ensures { (j : ℕ) → j < 16 → slice_index result j
+        ≡ xor_rotate (slice_index a j) (slice_index b j) k }
+{
+    let x = a ^ b;
+    (x >> u64x16::splat(k)) | (x << u64x16::splat(64 - k))
+}
+
+// GB in each lane of four vectors.
+#[inline(always)]
+fn gb(v: [u64x16; 4]) -> [u64x16; 4]
+    ensures { (j : ℕ) → j < 16
+        → (
+          lane_word result 0 j,
+          lane_word result 1 j,
+          lane_word result 2 j,
+          lane_word result 3 j,
+        )
+        ≡ gb (lane_word v 0 j) (lane_word v 1 j) (lane_word v 2 j) (lane_word v 3 j) }
+{
+    let [a, b, c, d] = v;
+    let a1 = add_mul(a, b);
+    let d1 = xor_rotate(d, a1, 32);
+    let c1 = add_mul(c, d1);
+    let b1 = xor_rotate(b, c1, 24);
+    let a2 = add_mul(a1, b1);
+    let d2 = xor_rotate(d1, a2, 16);
+    let c2 = add_mul(c1, d2);
+    let b2 = xor_rotate(b1, c2, 63);
+    [a2, b2, c2, d2]
+}
+
+// Each group of four lanes turned by one.
+#[inline(always)]
+fn fours_by_one(x: u64x16) -> u64x16
+    ensures { (i : ℕ) → i < 4 → (k : ℕ) → k < 4
+        → slice_index result (4 * i + k) ≡ slice_index x (4 * i + (k + 1) % 4) }
+{
+    x.swizzle([1, 2, 3, 0, 5, 6, 7, 4, 9, 10, 11, 8, 13, 14, 15, 12])
+}
+
+// Each group of four lanes turned by two.
+#[inline(always)]
+fn fours_by_two(x: u64x16) -> u64x16
+    ensures { (i : ℕ) → i < 4 → (k : ℕ) → k < 4
+        → slice_index result (4 * i + k) ≡ slice_index x (4 * i + (k + 2) % 4) }
+{
+    x.swizzle([2, 3, 0, 1, 6, 7, 4, 5, 10, 11, 8, 9, 14, 15, 12, 13])
+}
+
+// Each group of four lanes turned by three.
+#[inline(always)]
+fn fours_by_three(x: u64x16) -> u64x16
+    ensures { (i : ℕ) → i < 4 → (k : ℕ) → k < 4
+        → slice_index result (4 * i + k) ≡ slice_index x (4 * i + (k + 3) % 4) }
+{
+    x.swizzle([3, 0, 1, 2, 7, 4, 5, 6, 11, 8, 9, 10, 15, 12, 13, 14])
+}
+
+// P on each of four rows: word 4 * q + k of row i is lane 4 * i + k of vector q.
+#[inline(always)]
+fn perm_fours(v: [u64x16; 4]) -> [u64x16; 4]
+    ensures { (i : ℕ) → i < 4 → fours i result ≡ perm (fours i v) }
+{
+    let [a, b, c, d] = gb(v);
+    let [a, b, c, d] = gb([fours_by_three(a), b, fours_by_one(c), fours_by_two(d)]);
+    [fours_by_one(a), b, fours_by_three(c), fours_by_two(d)]
+}
+
+// Each group of two pairs, one in each half, turned by one lane.
+#[inline(always)]
+fn pairs_by_one(x: u64x16) -> u64x16
+    ensures { (j : ℕ) → j < 4 → (k : ℕ) → k < 4
+        → slice_index result (8 * (k / 2) + 2 * j + k % 2)
+        ≡ slice_index x (8 * ((k + 1) % 4 / 2) + 2 * j + (k + 1) % 4 % 2) }
+{
+    x.swizzle([1, 8, 3, 10, 5, 12, 7, 14, 9, 0, 11, 2, 13, 4, 15, 6])
+}
+
+// Each group of two pairs turned by two lanes: the halves change places.
+#[inline(always)]
+fn pairs_by_two(x: u64x16) -> u64x16
+    ensures { (j : ℕ) → j < 4 → (k : ℕ) → k < 4
+        → slice_index result (8 * (k / 2) + 2 * j + k % 2)
+        ≡ slice_index x (8 * ((k + 2) % 4 / 2) + 2 * j + (k + 2) % 4 % 2) }
+{
+    x.swizzle([8, 9, 10, 11, 12, 13, 14, 15, 0, 1, 2, 3, 4, 5, 6, 7])
+}
+
+// Each group of two pairs turned by three lanes.
+#[inline(always)]
+fn pairs_by_three(x: u64x16) -> u64x16
+    ensures { (j : ℕ) → j < 4 → (k : ℕ) → k < 4
+        → slice_index result (8 * (k / 2) + 2 * j + k % 2)
+        ≡ slice_index x (8 * ((k + 3) % 4 / 2) + 2 * j + (k + 3) % 4 % 2) }
+{
+    x.swizzle([9, 0, 11, 2, 13, 4, 15, 6, 1, 8, 3, 10, 5, 12, 7, 14])
+}
+
+// P on each of four columns: word 4 * q + k of column j is lane 8 * (k / 2) + 2 * j + k % 2 of vector q.
+#[inline(always)]
+fn perm_pairs(v: [u64x16; 4]) -> [u64x16; 4]
+    ensures { (j : ℕ) → j < 4 → pairs j result ≡ perm (pairs j v) }
+{
+    let [a, b, c, d] = gb(v);
+    let [a, b, c, d] = gb([pairs_by_three(a), b, pairs_by_one(c), pairs_by_two(d)]);
+    [pairs_by_one(a), b, pairs_by_three(c), pairs_by_two(d)]
+}
+
+// The second four lanes of each half of a and the first four of each half of b change places.
+#[inline(always)]
+fn exchange_fours(a: u64x16, b: u64x16) -> (u64x16, u64x16)
+    ensures left { result.0 ≡ exchanged_left 4 a b }
+    ensures right { result.1 ≡ exchanged_right 4 a b }
+{
+    let left = a.shuffle(
+        b,
+        [0, 1, 2, 3, 16, 17, 18, 19, 8, 9, 10, 11, 24, 25, 26, 27],
+    );
+    let right = a.shuffle(
+        b,
+        [4, 5, 6, 7, 20, 21, 22, 23, 12, 13, 14, 15, 28, 29, 30, 31],
+    );
+    (left, right)
+}
+
+// The second half of a and the first half of b change places.
+#[inline(always)]
+fn exchange_halves(a: u64x16, b: u64x16) -> (u64x16, u64x16)
+    ensures left { result.0 ≡ exchanged_left 8 a b }
+    ensures right { result.1 ≡ exchanged_right 8 a b }
+{
+    let left = a.shuffle(b, [0, 1, 2, 3, 4, 5, 6, 7, 16, 17, 18, 19, 20, 21, 22, 23]);
+    let right = a.shuffle(
+        b,
+        [8, 9, 10, 11, 12, 13, 14, 15, 24, 25, 26, 27, 28, 29, 30, 31],
+    );
+    (left, right)
+}
+
+// Group i of vector q goes to group q of vector i.
+#[inline(always)]
+fn transpose(x: [u64x16; 4]) -> [u64x16; 4]
+    ensures to_fours { (i : ℕ) → i < 4 → fours i result ≡ vector_words i x }
+    ensures to_vectors { (i : ℕ) → i < 4 → vector_words i result ≡ fours i x }
+{
+    let [x0, x1, x2, x3] = x;
+    let (a0, a1) = exchange_fours(x0, x1);
+    let (a2, a3) = exchange_fours(x2, x3);
+    let (b0, b2) = exchange_halves(a0, a2);
+    let (b1, b3) = exchange_halves(a1, a3);
+    [b0, b1, b2, b3]
+}
+
+// P on four rows.
+#[inline(always)]
+fn four_rows(x: [u64x16; 4]) -> [u64x16; 4]
+    ensures { (i : ℕ) → i < 4 → vector_words i result ≡ perm (vector_words i x) }
+{
+    transpose(perm_fours(transpose(x)))
+}
+
+// P on each row.
+#[inline(always)]
+fn rows(r: [u64x16; 8]) -> [u64x16; 8]
+    ensures { (i : ℕ) → i < 8 → vector_words i result ≡ perm (vector_words i r) }
+{
+    let [r0, r1, r2, r3, r4, r5, r6, r7] = r;
+    let [r0, r1, r2, r3] = four_rows([r0, r1, r2, r3]);
+    let [r4, r5, r6, r7] = four_rows([r4, r5, r6, r7]);
+    [r0, r1, r2, r3, r4, r5, r6, r7]
+}
+
+// P on each column.
+#[inline(always)]
+fn columns(r: [u64x16; 8]) -> [u64x16; 8]
+    ensures { (j : ℕ) → j < 8 → column_lanes j result ≡ perm (column_lanes j r) }
+{
+    let [r0, r1, r2, r3, r4, r5, r6, r7] = r;
+    let (a, e) = exchange_halves(r0, r1);
+    let (b, f) = exchange_halves(r2, r3);
+    let (c, g) = exchange_halves(r4, r5);
+    let (d, h) = exchange_halves(r6, r7);
+    let [a, b, c, d] = perm_pairs([a, b, c, d]);
+    let [e, f, g, h] = perm_pairs([e, f, g, h]);
+    let (r0, r1) = exchange_halves(a, e);
+    let (r2, r3) = exchange_halves(b, f);
+    let (r4, r5) = exchange_halves(c, g);
+    let (r6, r7) = exchange_halves(d, h);
+    [r0, r1, r2, r3, r4, r5, r6, r7]
+}
+
+// The sixteen words from a place on.
+#[inline(always)]
+fn load(words: &[u64], at: usize) -> u64x16
+    requires { at + 16 ≤ length words.now }
+    ensures { (k : ℕ) → k < 16 → slice_index result k ≡ slice_index words.now (at + k) }
+{
+    u64x16::from_slice(&words[at..])
+}
+
+// Sixteen words of the exclusive or of two blocks, from a place on.
+#[inline(always)]
+fn load_xor(x: &[u64; 128], y: &[u64; 128], at: usize) -> u64x16
+    requires { at + 16 ≤ 128 }
+    ensures { (k : ℕ) → k < 16 → slice_index result k
+        ≡ slice_index (xor_blocks x.now y.now) (at + k) }
+{
+    load(x, at) ^ load(y, at)
+}
+
+// Writes the exclusive or of two vectors from a place on.
+#[inline(always)]
+fn store_xor(words: &mut [u64], at: usize, v: u64x16, r: u64x16)
+    requires { at + 16 ≤ length words.old }
+    ensures here { (k : ℕ) → k < 16 → slice_index words.new (at + k)
+        ≡ bit_xor (slice_index v k) (slice_index r k) }
+    ensures below { (k : ℕ) → k < at → slice_index words.new k ≡ slice_index words.old k }
+{
+    (v ^ r).copy_to_slice(&mut words[at..]);
+}
+
+// The exclusive or of two blocks, a row a vector.
+#[inline(always)]
+fn exclusive_or(x: &[u64; 128], y: &[u64; 128]) -> [u64x16; 8]
+    ensures { (i : ℕ) → i < 8 → (k : ℕ) → k < 16 → lane_word result i k
+        ≡ slice_index (xor_blocks x.now y.now) (16 * i + k) }
+{
+    [
+        load_xor(x, y, 0),
+        load_xor(x, y, 16),
+        load_xor(x, y, 32),
+        load_xor(x, y, 48),
+        load_xor(x, y, 64),
+        load_xor(x, y, 80),
+        load_xor(x, y, 96),
+        load_xor(x, y, 112),
+    ]
+}
+
+// The words of the rows, each xored with the word of r in its place.
+#[inline(always)]
+fn words(v: &[u64x16; 8], r: &[u64x16; 8]) -> [u64; 128]
+    ensures { (w : ℕ) → w < 128 → slice_index result w
+        ≡ bit_xor (lane_word v.now (w / 16) (w % 16)) (lane_word r.now (w / 16) (w % 16)) }
+{
+    let mut out = [0; 128];
+    'rows: for i in 0..8 {
+        store_xor(&mut out, 16 * i, v[i], r[i]);
+    }
+    out
+}
+
+/// G of two blocks.
+pub fn mix(x: &[u64; 128], y: &[u64; 128]) -> [u64; 128]
+    ensures { result ≡ mixed x.now y.now }
+{
+    let r = exclusive_or(x, y);
+    let v = columns(rows(r));
+    words(&v, &r)
+}
