@@ -50,7 +50,7 @@ impl MemoryBlock for Block {
     }
 
     fn mixed(x: &Block, y: &Block, work: &mut Work) -> Block {
-        Block::mix(x, y, work)
+        Block::from(mix_words(x.as_words(), y.as_words(), work))
     }
 
     fn xor(&mut self, other: &Block) {
@@ -62,15 +62,11 @@ impl MemoryBlock for Words {
     ghost words = { λ words. words };
 
     fn of(block: Block) -> Words {
-        let mut words = [0; 128];
-        words.copy_from_slice(block.as_slice());
-        words
+        *block.as_words()
     }
 
     fn block(&self) -> Block {
-        let mut block = Block::new();
-        block.as_mut_slice().copy_from_slice(self);
-        block
+        Block::from(*self)
     }
 
     fn first_word(&self) -> u64 {
