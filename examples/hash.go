@@ -1,0 +1,45 @@
+// Hashes a password to a text and verifies it.
+package main
+
+// #cgo pkg-config: libargon2
+// #include <argon2.h>
+// #include <stdlib.h>
+import "C"
+
+import (
+	"crypto/rand"
+	"errors"
+	"fmt"
+	"unsafe"
+)
+
+// hash returns the text of a password that is not empty, or why there is none.
+func hash(password []byte) (string, error) {
+	salt := make([]byte, 16)
+	if _, err := rand.Read(salt); err != nil {
+		return "", err
+	}
+	text := make([]byte, 128)
+	code := C.argon2id_hash_encoded(2, 19456, 1, unsafe.Pointer(&password[0]), C.size_t(len(password)),
+		unsafe.Pointer(&salt[0]), C.size_t(len(salt)), 32, (*C.char)(unsafe.Pointer(&text[0])), C.size_t(len(text)))
+	if code != C.ARGON2_OK {
+		return "", errors.New(C.GoString(C.argon2_error_message(code)))
+	}
+	return C.GoString((*C.char)(unsafe.Pointer(&text[0]))), nil
+}
+
+// accepts tells whether a stored text accepts a password that is not empty.
+func accepts(text string, password []byte) bool {
+	encoded := C.CString(text)
+	defer C.free(unsafe.Pointer(encoded))
+	return C.argon2id_verify(encoded, unsafe.Pointer(&password[0]), C.size_t(len(password))) == C.ARGON2_OK
+}
+
+func main() {
+	text, err := hash([]byte("correct horse"))
+	if err != nil {
+		panic(err)
+	}
+	fmt.Println(text)
+	fmt.Println(accepts(text, []byte("correct horse")), accepts(text, []byte("wrong horse")))
+}
