@@ -1,11 +1,11 @@
 -- Vectors of sixteen lanes, and P on groups of lanes of four of them.
-use Rattle.std.proofs.Common.{◌≡◌, ℕ, zero, suc, ◌<◌, ◌+◌, ◌*◌, ◌/◌, ◌%◌, List, [], ◌∷◌, ◌++◌, length, slice_index, slice_index_or, map, arith, refl, ap, subst, sym, ◌∙◌, lit<}
+use Rattle.std.proofs.Common.{◌≡◌, ℕ, zero, suc, ◌<◌, ◌+◌, ◌%◌, List, [], ◌∷◌, ◌++◌, length, slice_index, map, arith, refl, ap, ◌∙◌, lit<}
 use Rattle.std.specs.List.{range_with_len}
-use Rattle.std.proofs.lemmas.List.{ext_get_or}
+use Rattle.std.proofs.lemmas.List.{get_or-map, get_or_append_left}
 use Rattle.std.specs.Simd.Lanes.{pick_l}
-use Rattle.argon2_base.specs.Block.{gb, mix_columns, mix_diagonals, perm}
+use Rattle.argon2_base.specs.Block.{gb, mix_diagonals, perm}
 use Rattle.argon2_base.specs.Lanes.{column_lanes, exchanged_left, exchanged_right, fours, group, lane_word, pairs, vector_words}
-use Rattle.argon2_base.proofs.block_lemmas.LaneLemmas.{below_eight, below_sixteen, Shuffled}
+use Rattle.argon2_base.proofs.block_lemmas.LaneLemmas.{below_eight, columns_mixed, diagonals_mixed, row_at, Shuffled, two_vectors, word_at}
 
 -- what is true of 0 to 3 is true of each number below 4
 pub below_four : (P : ℕ → Type 0) → P 0 → P 1 → P 2 → P 3 → (k : ℕ) → k < 4 → P k
@@ -15,68 +15,13 @@ below_four P p0 p1 p2 p3 (suc (suc zero)) h = p2
 below_four P p0 p1 p2 p3 (suc (suc (suc zero))) h = p3
 below_four P p0 p1 p2 p3 (suc (suc (suc (suc n)))) h = absurd (omega arith)
 
--- what is true of each list of sixteen elements
-pub sixteen_lanes : (P : List ℕ → Type 0) → ((x : List ℕ) → P (map (slice_index x) (range_with_len 0 16)))
-    → (x : List ℕ) → length x ≡ 16 → P x
-sixteen_lanes P p x long = subst P (ext_get_or 0 (map (slice_index x) (range_with_len 0 16)) x (sym long)
-    (below_sixteen _ refl refl refl refl refl refl refl refl refl refl refl refl refl refl refl refl)) (p x)
-
--- each of four groups of four lanes turned by n
-abbrev Turned : (ℕ → ℕ → ℕ) → ℕ → List ℕ → List ℕ → Type 0
-Turned lane n places x =
-    (i : ℕ) → i < 4 → (k : ℕ) → k < 4 → slice_index (pick_l 0 (x ++ x) places) (lane i k) ≡ slice_index x (lane i ((k + n) % 4))
-
-pub fours_turned_by_one : (x : List ℕ) → length x ≡ 16
-    → Turned (λ i k. 4 * i + k) 1 (1 ∷ 2 ∷ 3 ∷ 0 ∷ 5 ∷ 6 ∷ 7 ∷ 4 ∷ 9 ∷ 10 ∷ 11 ∷ 8 ∷ 13 ∷ 14 ∷ 15 ∷ 12 ∷ []) x
-fours_turned_by_one =
-    sixteen_lanes _ (λ x. below_four _ (below_four _ refl refl refl refl) (below_four _ refl refl refl refl)
-    (below_four _ refl refl refl refl) (below_four _ refl refl refl refl))
-
-pub fours_turned_by_two : (x : List ℕ) → length x ≡ 16
-    → Turned (λ i k. 4 * i + k) 2 (2 ∷ 3 ∷ 0 ∷ 1 ∷ 6 ∷ 7 ∷ 4 ∷ 5 ∷ 10 ∷ 11 ∷ 8 ∷ 9 ∷ 14 ∷ 15 ∷ 12 ∷ 13 ∷ []) x
-fours_turned_by_two =
-    sixteen_lanes _ (λ x. below_four _ (below_four _ refl refl refl refl) (below_four _ refl refl refl refl)
-    (below_four _ refl refl refl refl) (below_four _ refl refl refl refl))
-
-pub fours_turned_by_three : (x : List ℕ) → length x ≡ 16
-    → Turned (λ i k. 4 * i + k) 3 (3 ∷ 0 ∷ 1 ∷ 2 ∷ 7 ∷ 4 ∷ 5 ∷ 6 ∷ 11 ∷ 8 ∷ 9 ∷ 10 ∷ 15 ∷ 12 ∷ 13 ∷ 14 ∷ []) x
-fours_turned_by_three =
-    sixteen_lanes _ (λ x. below_four _ (below_four _ refl refl refl refl) (below_four _ refl refl refl refl)
-    (below_four _ refl refl refl refl) (below_four _ refl refl refl refl))
-
-pub pairs_turned_by_one : (x : List ℕ) → length x ≡ 16
-    → Turned (λ j k. 8 * (k / 2) + 2 * j + k % 2) 1 (1 ∷ 8 ∷ 3 ∷ 10 ∷ 5 ∷ 12 ∷ 7 ∷ 14 ∷ 9 ∷ 0 ∷ 11 ∷ 2 ∷ 13 ∷ 4 ∷ 15 ∷ 6 ∷ []) x
-pairs_turned_by_one =
-    sixteen_lanes _ (λ x. below_four _ (below_four _ refl refl refl refl) (below_four _ refl refl refl refl)
-    (below_four _ refl refl refl refl) (below_four _ refl refl refl refl))
-
-pub pairs_turned_by_two : (x : List ℕ) → length x ≡ 16
-    → Turned (λ j k. 8 * (k / 2) + 2 * j + k % 2) 2 (8 ∷ 9 ∷ 10 ∷ 11 ∷ 12 ∷ 13 ∷ 14 ∷ 15 ∷ 0 ∷ 1 ∷ 2 ∷ 3 ∷ 4 ∷ 5 ∷ 6 ∷ 7 ∷ []) x
-pairs_turned_by_two =
-    sixteen_lanes _ (λ x. below_four _ (below_four _ refl refl refl refl) (below_four _ refl refl refl refl)
-    (below_four _ refl refl refl refl) (below_four _ refl refl refl refl))
-
-pub pairs_turned_by_three : (x : List ℕ) → length x ≡ 16
-    → Turned (λ j k. 8 * (k / 2) + 2 * j + k % 2) 3 (9 ∷ 0 ∷ 11 ∷ 2 ∷ 13 ∷ 4 ∷ 15 ∷ 6 ∷ 1 ∷ 8 ∷ 3 ∷ 10 ∷ 5 ∷ 12 ∷ 7 ∷ 14 ∷ []) x
-pairs_turned_by_three =
-    sixteen_lanes _ (λ x. below_four _ (below_four _ refl refl refl refl) (below_four _ refl refl refl refl)
-    (below_four _ refl refl refl refl) (below_four _ refl refl refl refl))
-
--- the words that four mixings make, each of a column
-columns_mixed : (m0 m1 m2 m3 : ℕ × ℕ × ℕ × ℕ) (a0 a1 a2 a3 b0 b1 b2 b3 c0 c1 c2 c3 d0 d1 d2 d3 : ℕ)
-    → m0 ≡ gb a0 b0 c0 d0 → m1 ≡ gb a1 b1 c1 d1 → m2 ≡ gb a2 b2 c2 d2 → m3 ≡ gb a3 b3 c3 d3
-    → m0.0 ∷ m1.0 ∷ m2.0 ∷ m3.0 ∷ m0.1 ∷ m1.1 ∷ m2.1 ∷ m3.1 ∷ m0.2 ∷ m1.2 ∷ m2.2 ∷ m3.2 ∷ m0.3 ∷ m1.3 ∷ m2.3 ∷ m3.3 ∷ []
-    ≡ mix_columns (a0 ∷ a1 ∷ a2 ∷ a3 ∷ b0 ∷ b1 ∷ b2 ∷ b3 ∷ c0 ∷ c1 ∷ c2 ∷ c3 ∷ d0 ∷ d1 ∷ d2 ∷ d3 ∷ [])
-unfolding mix_columns
-columns_mixed m0 m1 m2 m3 a0 a1 a2 a3 b0 b1 b2 b3 c0 c1 c2 c3 d0 d1 d2 d3 e0 e1 e2 e3 = rw (e0, e1, e2, e3) refl
-
--- the same of diagonals, each with the word of row b by whose column it is counted
-diagonals_mixed : (m0 m1 m2 m3 : ℕ × ℕ × ℕ × ℕ) (a0 a1 a2 a3 b0 b1 b2 b3 c0 c1 c2 c3 d0 d1 d2 d3 : ℕ)
-    → m0 ≡ gb a3 b0 c1 d2 → m1 ≡ gb a0 b1 c2 d3 → m2 ≡ gb a1 b2 c3 d0 → m3 ≡ gb a2 b3 c0 d1
-    → m1.0 ∷ m2.0 ∷ m3.0 ∷ m0.0 ∷ m0.1 ∷ m1.1 ∷ m2.1 ∷ m3.1 ∷ m3.2 ∷ m0.2 ∷ m1.2 ∷ m2.2 ∷ m2.3 ∷ m3.3 ∷ m0.3 ∷ m1.3 ∷ []
-    ≡ mix_diagonals (a0 ∷ a1 ∷ a2 ∷ a3 ∷ b0 ∷ b1 ∷ b2 ∷ b3 ∷ c0 ∷ c1 ∷ c2 ∷ c3 ∷ d0 ∷ d1 ∷ d2 ∷ d3 ∷ [])
-unfolding mix_diagonals
-diagonals_mixed m0 m1 m2 m3 a0 a1 a2 a3 b0 b1 b2 b3 c0 c1 c2 c3 d0 d1 d2 d3 e0 e1 e2 e3 = rw (e0, e1, e2, e3) refl
+-- lane m of a vector whose lanes change their places
+pub moved_lane : (place : ℕ → ℕ) (x : List ℕ) → length x ≡ 16 → (m j : ℕ) → m < 16 → place m ≡ j → j < 16
+    → slice_index (pick_l 0 (x ++ x) (map place (range_with_len 0 16))) m ≡ slice_index x j
+moved_lane place x long m j below is within =
+    get_or-map (slice_index (x ++ x)) (map place (range_with_len 0 16)) m 0 0 below
+    ∙ ap (slice_index (x ++ x)) (word_at place m below ∙ is)
+    ∙ get_or_append_left x x 0 j (omega arith)
 
 -- GB in four lanes of four vectors
 abbrev Mixes : (ℕ → ℕ) → List (List ℕ) → List (List ℕ) → Type 0
@@ -110,36 +55,24 @@ group_permuted lane x a b c d at ct dt e f g h ea gc hd first to_a to_c to_d sec
     ∙ ap mix_diagonals (columns_mixed _ _ _ _ _ _ _ _ _ _ _ _ _ _ _ _ _ _ _ _
     (first 0 (lit< tt)) (first 1 (lit< tt)) (first 2 (lit< tt)) (first 3 (lit< tt)))
 
--- what is true of any two lists of sixteen elements
-two_vectors : (P : List ℕ → List ℕ → Type 0)
-    → ((a b : List ℕ) → P (map (slice_index a) (range_with_len 0 16)) (map (slice_index b) (range_with_len 0 16)))
-    → (a : List ℕ) → length a ≡ 16 → (b : List ℕ) → length b ≡ 16 → P a b
-two_vectors P p =
-    sixteen_lanes (λ a. (b : List ℕ) → length b ≡ 16 → P a b) (λ a.
-    sixteen_lanes (P (map (slice_index a) (range_with_len 0 16))) (p a))
-
 pub exchanged_fours_of_sixteen : (a : List ℕ) → length a ≡ 16 → (b : List ℕ) → length b ≡ 16
     → Shuffled (0 ∷ 1 ∷ 2 ∷ 3 ∷ 16 ∷ 17 ∷ 18 ∷ 19 ∷ 8 ∷ 9 ∷ 10 ∷ 11 ∷ 24 ∷ 25 ∷ 26 ∷ 27 ∷ [])
-    (4 ∷ 5 ∷ 6 ∷ 7 ∷ 20 ∷ 21 ∷ 22 ∷ 23 ∷ 12 ∷ 13 ∷ 14 ∷ 15 ∷ 28 ∷ 29 ∷ 30 ∷ 31 ∷ []) (exchanged_left 4) (exchanged_right 4) a b
-exchanged_fours_of_sixteen = two_vectors _ (λ a b. (refl, refl))
+    (4 ∷ 5 ∷ 6 ∷ 7 ∷ 20 ∷ 21 ∷ 22 ∷ 23 ∷ 12 ∷ 13 ∷ 14 ∷ 15 ∷ 28 ∷ 29 ∷ 30 ∷ 31 ∷ []) (exchanged_left 16 4) (exchanged_right 16 4) a b
+exchanged_fours_of_sixteen = two_vectors 16 _ (λ a b. (refl, refl))
 
 pub exchanged_halves : (a : List ℕ) → length a ≡ 16 → (b : List ℕ) → length b ≡ 16
     → Shuffled (0 ∷ 1 ∷ 2 ∷ 3 ∷ 4 ∷ 5 ∷ 6 ∷ 7 ∷ 16 ∷ 17 ∷ 18 ∷ 19 ∷ 20 ∷ 21 ∷ 22 ∷ 23 ∷ [])
-    (8 ∷ 9 ∷ 10 ∷ 11 ∷ 12 ∷ 13 ∷ 14 ∷ 15 ∷ 24 ∷ 25 ∷ 26 ∷ 27 ∷ 28 ∷ 29 ∷ 30 ∷ 31 ∷ []) (exchanged_left 8) (exchanged_right 8) a b
-exchanged_halves = two_vectors _ (λ a b. (refl, refl))
-
--- the vector of a number
-abbrev row_at : List (List ℕ) → ℕ → List ℕ
-row_at x i = slice_index_or x i []
+    (8 ∷ 9 ∷ 10 ∷ 11 ∷ 12 ∷ 13 ∷ 14 ∷ 15 ∷ 24 ∷ 25 ∷ 26 ∷ 27 ∷ 28 ∷ 29 ∷ 30 ∷ 31 ∷ []) (exchanged_left 16 8) (exchanged_right 16 8) a b
+exchanged_halves = two_vectors 16 _ (λ a b. (refl, refl))
 
 -- four vectors of which groups of four lanes, and then halves, changed places
 abbrev transposed : List (List ℕ) → List (List ℕ)
 transposed x =
-    let a0 = exchanged_left 4 (row_at x 0) (row_at x 1) in
-    let a1 = exchanged_right 4 (row_at x 0) (row_at x 1) in
-    let a2 = exchanged_left 4 (row_at x 2) (row_at x 3) in
-    let a3 = exchanged_right 4 (row_at x 2) (row_at x 3) in
-    exchanged_left 8 a0 a2 ∷ exchanged_left 8 a1 a3 ∷ exchanged_right 8 a0 a2 ∷ exchanged_right 8 a1 a3 ∷ []
+    let a0 = exchanged_left 16 4 (row_at x 0) (row_at x 1) in
+    let a1 = exchanged_right 16 4 (row_at x 0) (row_at x 1) in
+    let a2 = exchanged_left 16 4 (row_at x 2) (row_at x 3) in
+    let a3 = exchanged_right 16 4 (row_at x 2) (row_at x 3) in
+    exchanged_left 16 8 a0 a2 ∷ exchanged_left 16 8 a1 a3 ∷ exchanged_right 16 8 a0 a2 ∷ exchanged_right 16 8 a1 a3 ∷ []
 
 pub fours_of_transposed : (x : List (List ℕ)) (i : ℕ) → i < 4 → fours i (transposed x) ≡ vector_words i x
 fours_of_transposed x = below_four _ refl refl refl refl
@@ -150,21 +83,21 @@ vectors_of_transposed x = below_four _ refl refl refl refl
 -- the left halves of eight vectors, two in one, and the right halves
 abbrev left_halves : List (List ℕ) → List (List ℕ)
 left_halves x =
-    exchanged_left 8 (row_at x 0) (row_at x 1) ∷ exchanged_left 8 (row_at x 2) (row_at x 3)
-    ∷ exchanged_left 8 (row_at x 4) (row_at x 5) ∷ exchanged_left 8 (row_at x 6) (row_at x 7) ∷ []
+    exchanged_left 16 8 (row_at x 0) (row_at x 1) ∷ exchanged_left 16 8 (row_at x 2) (row_at x 3)
+    ∷ exchanged_left 16 8 (row_at x 4) (row_at x 5) ∷ exchanged_left 16 8 (row_at x 6) (row_at x 7) ∷ []
 
 abbrev right_halves : List (List ℕ) → List (List ℕ)
 right_halves x =
-    exchanged_right 8 (row_at x 0) (row_at x 1) ∷ exchanged_right 8 (row_at x 2) (row_at x 3)
-    ∷ exchanged_right 8 (row_at x 4) (row_at x 5) ∷ exchanged_right 8 (row_at x 6) (row_at x 7) ∷ []
+    exchanged_right 16 8 (row_at x 0) (row_at x 1) ∷ exchanged_right 16 8 (row_at x 2) (row_at x 3)
+    ∷ exchanged_right 16 8 (row_at x 4) (row_at x 5) ∷ exchanged_right 16 8 (row_at x 6) (row_at x 7) ∷ []
 
 -- the eight vectors of such halves
 abbrev joined : List (List ℕ) → List (List ℕ) → List (List ℕ)
 joined y z =
-    exchanged_left 8 (row_at y 0) (row_at z 0) ∷ exchanged_right 8 (row_at y 0) (row_at z 0)
-    ∷ exchanged_left 8 (row_at y 1) (row_at z 1) ∷ exchanged_right 8 (row_at y 1) (row_at z 1)
-    ∷ exchanged_left 8 (row_at y 2) (row_at z 2) ∷ exchanged_right 8 (row_at y 2) (row_at z 2)
-    ∷ exchanged_left 8 (row_at y 3) (row_at z 3) ∷ exchanged_right 8 (row_at y 3) (row_at z 3) ∷ []
+    exchanged_left 16 8 (row_at y 0) (row_at z 0) ∷ exchanged_right 16 8 (row_at y 0) (row_at z 0)
+    ∷ exchanged_left 16 8 (row_at y 1) (row_at z 1) ∷ exchanged_right 16 8 (row_at y 1) (row_at z 1)
+    ∷ exchanged_left 16 8 (row_at y 2) (row_at z 2) ∷ exchanged_right 16 8 (row_at y 2) (row_at z 2)
+    ∷ exchanged_left 16 8 (row_at y 3) (row_at z 3) ∷ exchanged_right 16 8 (row_at y 3) (row_at z 3) ∷ []
 
 -- P on the columns of the left and of the right halves
 pub columns_permuted : (x y z : List (List ℕ))

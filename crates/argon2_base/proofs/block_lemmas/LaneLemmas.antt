@@ -6,8 +6,8 @@ use Rattle.std.proofs.lemmas.List.{ext_get_or, get_or-replicate, length-replicat
 use Rattle.std.proofs.lemmas.Simd.{get_or-zip2, length-zip2}
 use Rattle.std.proofs.lemmas.List.FromFn.{get_or-map-range_with_len, length-map-range_with_len}
 use Rattle.std.specs.Simd.Lanes.{zip2, pick_l}
-use Rattle.argon2_base.specs.Block.{add_mul, xor_rotate, row}
-use Rattle.argon2_base.specs.Lanes.{lane, lane_word, words_in_eights, ones_left, ones_right, twos_left, twos_right, fours_left, fours_right}
+use Rattle.argon2_base.specs.Block.{add_mul, gb, mix_columns, mix_diagonals, row, xor_rotate}
+use Rattle.argon2_base.specs.Lanes.{exchanged_left, exchanged_right, lane, lane_word, words_in_eights}
 
 -- what is true of 0 and 1 is true of each number below 2
 pub below_two : (P : ℕ → Type 0) → P 0 → P 1 → (e : ℕ) → e < 2 → P e
@@ -31,20 +31,21 @@ below_sixteen P a0 a1 a2 a3 a4 a5 a6 a7 b0 b1 b2 b3 b4 b5 b6 b7 k h =
     (below_two _ b0 b1) (below_two _ b2 b3) (below_two _ b4 b5) (below_two _ b6 b7)
     (k / 2) (omega arith) (k % 2) (omega arith))
 
--- what is true of each list of eight elements
-pub eight_lanes : (P : List ℕ → Type 0)
-    → ((a b c d e f g h : ℕ) → P (a ∷ b ∷ c ∷ d ∷ e ∷ f ∷ g ∷ h ∷ [])) → (xs : List ℕ) → length xs ≡ 8 → P xs
-eight_lanes P p xs l = subst P (ext_get_or 0 (
-    slice_index xs 0 ∷ slice_index xs 1 ∷ slice_index xs 2 ∷ slice_index xs 3 ∷ slice_index xs 4 ∷ slice_index xs 5
-    ∷ slice_index xs 6 ∷ slice_index xs 7 ∷ []) xs (sym l) (below_eight _ refl refl refl refl refl refl refl refl)) (p _ _ _ _ _ _ _ _)
+-- what is true of each list of n elements
+pub any_vector : (n : ℕ) (P : List ℕ → Type 0) → ((x : List ℕ) → P (map (slice_index x) (range_with_len 0 n)))
+    → (x : List ℕ) → length x ≡ n → P x
+any_vector n P p x long =
+    let same_length : length (map (slice_index x) (range_with_len 0 n)) ≡ n = length-map-range_with_len (slice_index x) 0 n in
+    subst P (ext_get_or 0 (map (slice_index x) (range_with_len 0 n)) x (same_length ∙ sym long) (λ k h.
+    get_or-map-range_with_len (slice_index x) 0 n k k 0 (omega arith) (omega arith))) (p x)
 
--- what is true of any two lists of eight elements
-two_vectors : (P : List ℕ → List ℕ → Type 0)
-    → ((a b c d e f g h i j k l m n o p : ℕ) → P (a ∷ b ∷ c ∷ d ∷ e ∷ f ∷ g ∷ h ∷ []) (i ∷ j ∷ k ∷ l ∷ m ∷ n ∷ o ∷ p ∷ []))
-    → (x : List ℕ) → length x ≡ 8 → (y : List ℕ) → length y ≡ 8 → P x y
-two_vectors P t =
-    eight_lanes (λ x. (y : List ℕ) → length y ≡ 8 → P x y) (λ a b c d e f g h.
-    eight_lanes (P (a ∷ b ∷ c ∷ d ∷ e ∷ f ∷ g ∷ h ∷ [])) (t a b c d e f g h))
+-- what is true of any two lists of n elements
+pub two_vectors : (n : ℕ) (P : List ℕ → List ℕ → Type 0)
+    → ((x y : List ℕ) → P (map (slice_index x) (range_with_len 0 n)) (map (slice_index y) (range_with_len 0 n)))
+    → (x : List ℕ) → length x ≡ n → (y : List ℕ) → length y ≡ n → P x y
+two_vectors n P p =
+    any_vector n (λ x. (y : List ℕ) → length y ≡ n → P x y) (λ x.
+    any_vector n (P (map (slice_index x) (range_with_len 0 n))) (p x))
 
 -- a sum and twice a product, each kept below 2 ^ 64
 wrapped_sum : (s x : ℕ) → (s % 2 ^ 64 + (x % 2 ^ 64 + x % 2 ^ 64) % 2 ^ 64) % 2 ^ 64 ≡ (s + 2 * x) % 2 ^ 64
@@ -122,21 +123,37 @@ shifts_rotate n k low high a b long_a long_b j h =
     ∙ ap₂ bit_or (shifted (λ x m. x / 2 ^ m) k) (shifted (λ x m. x * 2 ^ m % 2 ^ 64) (64 - k))
     ∙ rw (right, left) refl
 
+-- the words that four mixings make, each of a column
+pub columns_mixed : (m0 m1 m2 m3 : ℕ × ℕ × ℕ × ℕ) (a0 a1 a2 a3 b0 b1 b2 b3 c0 c1 c2 c3 d0 d1 d2 d3 : ℕ)
+    → m0 ≡ gb a0 b0 c0 d0 → m1 ≡ gb a1 b1 c1 d1 → m2 ≡ gb a2 b2 c2 d2 → m3 ≡ gb a3 b3 c3 d3
+    → m0.0 ∷ m1.0 ∷ m2.0 ∷ m3.0 ∷ m0.1 ∷ m1.1 ∷ m2.1 ∷ m3.1 ∷ m0.2 ∷ m1.2 ∷ m2.2 ∷ m3.2 ∷ m0.3 ∷ m1.3 ∷ m2.3 ∷ m3.3 ∷ []
+    ≡ mix_columns (a0 ∷ a1 ∷ a2 ∷ a3 ∷ b0 ∷ b1 ∷ b2 ∷ b3 ∷ c0 ∷ c1 ∷ c2 ∷ c3 ∷ d0 ∷ d1 ∷ d2 ∷ d3 ∷ [])
+unfolding mix_columns
+columns_mixed m0 m1 m2 m3 a0 a1 a2 a3 b0 b1 b2 b3 c0 c1 c2 c3 d0 d1 d2 d3 e0 e1 e2 e3 = rw (e0, e1, e2, e3) refl
+
+-- the same of diagonals, each with the word of row b by whose column it is counted
+pub diagonals_mixed : (m0 m1 m2 m3 : ℕ × ℕ × ℕ × ℕ) (a0 a1 a2 a3 b0 b1 b2 b3 c0 c1 c2 c3 d0 d1 d2 d3 : ℕ)
+    → m0 ≡ gb a3 b0 c1 d2 → m1 ≡ gb a0 b1 c2 d3 → m2 ≡ gb a1 b2 c3 d0 → m3 ≡ gb a2 b3 c0 d1
+    → m1.0 ∷ m2.0 ∷ m3.0 ∷ m0.0 ∷ m0.1 ∷ m1.1 ∷ m2.1 ∷ m3.1 ∷ m3.2 ∷ m0.2 ∷ m1.2 ∷ m2.2 ∷ m2.3 ∷ m3.3 ∷ m0.3 ∷ m1.3 ∷ []
+    ≡ mix_diagonals (a0 ∷ a1 ∷ a2 ∷ a3 ∷ b0 ∷ b1 ∷ b2 ∷ b3 ∷ c0 ∷ c1 ∷ c2 ∷ c3 ∷ d0 ∷ d1 ∷ d2 ∷ d3 ∷ [])
+unfolding mix_diagonals
+diagonals_mixed m0 m1 m2 m3 a0 a1 a2 a3 b0 b1 b2 b3 c0 c1 c2 c3 d0 d1 d2 d3 e0 e1 e2 e3 = rw (e0, e1, e2, e3) refl
+
 -- what two shuffles of two vectors are
 abbrev pub Shuffled : List ℕ → List ℕ → (List ℕ → List ℕ → List ℕ) → (List ℕ → List ℕ → List ℕ) → List ℕ → List ℕ → Type 0
 Shuffled lefts rights left right a b = (pick_l 0 (a ++ b) lefts ≡ left a b) × (pick_l 0 (a ++ b) rights ≡ right a b)
 
 pub exchanged_ones : (a : List ℕ) → length a ≡ 8 → (b : List ℕ) → length b ≡ 8
-    → Shuffled (0 ∷ 8 ∷ 2 ∷ 10 ∷ 4 ∷ 12 ∷ 6 ∷ 14 ∷ []) (1 ∷ 9 ∷ 3 ∷ 11 ∷ 5 ∷ 13 ∷ 7 ∷ 15 ∷ []) ones_left ones_right a b
-exchanged_ones = two_vectors _ (λ a0 a1 a2 a3 a4 a5 a6 a7 b0 b1 b2 b3 b4 b5 b6 b7. (refl, refl))
+    → Shuffled (0 ∷ 8 ∷ 2 ∷ 10 ∷ 4 ∷ 12 ∷ 6 ∷ 14 ∷ []) (1 ∷ 9 ∷ 3 ∷ 11 ∷ 5 ∷ 13 ∷ 7 ∷ 15 ∷ []) (exchanged_left 8 1) (exchanged_right 8 1) a b
+exchanged_ones = two_vectors 8 _ (λ a b. (refl, refl))
 
 pub exchanged_twos : (a : List ℕ) → length a ≡ 8 → (b : List ℕ) → length b ≡ 8
-    → Shuffled (0 ∷ 1 ∷ 8 ∷ 9 ∷ 4 ∷ 5 ∷ 12 ∷ 13 ∷ []) (2 ∷ 3 ∷ 10 ∷ 11 ∷ 6 ∷ 7 ∷ 14 ∷ 15 ∷ []) twos_left twos_right a b
-exchanged_twos = two_vectors _ (λ a0 a1 a2 a3 a4 a5 a6 a7 b0 b1 b2 b3 b4 b5 b6 b7. (refl, refl))
+    → Shuffled (0 ∷ 1 ∷ 8 ∷ 9 ∷ 4 ∷ 5 ∷ 12 ∷ 13 ∷ []) (2 ∷ 3 ∷ 10 ∷ 11 ∷ 6 ∷ 7 ∷ 14 ∷ 15 ∷ []) (exchanged_left 8 2) (exchanged_right 8 2) a b
+exchanged_twos = two_vectors 8 _ (λ a b. (refl, refl))
 
 pub exchanged_fours : (a : List ℕ) → length a ≡ 8 → (b : List ℕ) → length b ≡ 8
-    → Shuffled (0 ∷ 1 ∷ 2 ∷ 3 ∷ 8 ∷ 9 ∷ 10 ∷ 11 ∷ []) (4 ∷ 5 ∷ 6 ∷ 7 ∷ 12 ∷ 13 ∷ 14 ∷ 15 ∷ []) fours_left fours_right a b
-exchanged_fours = two_vectors _ (λ a0 a1 a2 a3 a4 a5 a6 a7 b0 b1 b2 b3 b4 b5 b6 b7. (refl, refl))
+    → Shuffled (0 ∷ 1 ∷ 2 ∷ 3 ∷ 8 ∷ 9 ∷ 10 ∷ 11 ∷ []) (4 ∷ 5 ∷ 6 ∷ 7 ∷ 12 ∷ 13 ∷ 14 ∷ 15 ∷ []) (exchanged_left 8 4) (exchanged_right 8 4) a b
+exchanged_fours = two_vectors 8 _ (λ a b. (refl, refl))
 
 -- lane i of each of eight vectors
 abbrev lanes : List (List ℕ) → ℕ → List ℕ
@@ -161,18 +178,16 @@ Interleaved a b =
 
 pub interleaved_words : (a : List ℕ) → length a ≡ 8 → (b : List ℕ) → length b ≡ 8 → Interleaved a b
 interleaved_words =
-    two_vectors Interleaved (λ a0 a1 a2 a3 a4 a5 a6 a7 b0 b1 b2 b3 b4 b5 b6 b7.
+    two_vectors 8 Interleaved (λ a b.
     (below_eight _ refl refl refl refl refl refl refl refl, below_eight _ refl refl refl refl refl refl refl refl))
-
--- word k of a lane
-pub slice_index-lane : (x : List (List ℕ)) (j k : ℕ) → k < 16 → slice_index (lane j x) k ≡ lane_word x k j
-slice_index-lane x j =
-    below_sixteen (λ k. slice_index (lane j x) k ≡ lane_word x k j) refl refl refl refl refl refl refl refl refl refl
-    refl refl refl refl refl refl
 
 -- a word of sixteen
 pub word_at : (f : ℕ → ℕ) (k : ℕ) → k < 16 → slice_index (map f (range_with_len 0 16)) k ≡ f k
 word_at f k h = get_or-map-range_with_len f 0 16 k k 0 h (omega arith)
+
+-- word k of a lane
+pub slice_index-lane : (x : List (List ℕ)) (j k : ℕ) → k < 16 → slice_index (lane j x) k ≡ lane_word x k j
+slice_index-lane x j = word_at (λ k. lane_word x k j)
 
 -- sixteen words, given by number
 pub words_are : (f g : ℕ → ℕ) → ((k : ℕ) → k < 16 → f k ≡ g k) → map f (range_with_len 0 16) ≡ map g (range_with_len 0 16)
@@ -186,7 +201,7 @@ pub lane_is : (x : List (List ℕ)) (j : ℕ) (f : ℕ → ℕ) → ((k : ℕ) �
 lane_is x j f = words_are (λ k. lane_word x k j) f
 
 -- the vector of a number
-abbrev row_at : List (List ℕ) → ℕ → List ℕ
+abbrev pub row_at : List (List ℕ) → ℕ → List ℕ
 row_at x i = slice_index_or x i []
 
 -- vectors of y and of z in turn

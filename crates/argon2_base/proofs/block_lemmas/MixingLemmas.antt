@@ -1,60 +1,12 @@
 -- From the vectors of the kernel to the mixing that the standard defines.
-use Rattle.std.proofs.Common.{◌≡◌, ℕ, ◌<◌, ◌≤◌, ◌+◌, ◌-◌, ◌*◌, ◌/◌, ◌%◌, List, [], inl, inr, length, slice_index, slice_index_or, slice_set, ◌==◌, if◌then◌else◌, bit_xor, arith, refl, sym, ap, ap₂, ◌∙◌, zero-add}
-use Rattle.std.proofs.lemmas.Bool.{cases_eq, cases_lt}
-use Rattle.std.proofs.lemmas.List.{ext_get_or, get_or-set_other, length-set}
-use Rattle.std.proofs.lemmas.Grind.{get_or-set_at}
+use Rattle.std.proofs.Common.{◌≡◌, ℕ, ◌<◌, ◌≤◌, ◌+◌, ◌-◌, ◌*◌, ◌/◌, ◌%◌, List, [], inl, inr, length, slice_index, slice_index_or, ◌==◌, if◌then◌else◌, bit_xor, arith, refl, sym, ap, ap₂, ◌∙◌, zero-add}
+use Rattle.std.proofs.lemmas.Bool.{cases_lt}
+use Rattle.std.proofs.lemmas.List.{ext_get_or}
 use Rattle.std.proofs.lemmas.List.FromFn.{get_or-map-range_with_len, length-map-range_with_len}
 use Rattle.std.proofs.lemmas.Simd.{get_or-zip2, length-zip2}
-use Rattle.argon2_base.specs.Block.{by_columns, by_rows, column, gb, gb_at, mix_columns, mix_diagonals, perm, row, xor_blocks}
+use Rattle.argon2_base.specs.Block.{by_columns, by_rows, column, perm, row, xor_blocks}
 use Rattle.argon2_base.specs.Lanes.{column_lanes, lane, lane_word, vector_words}
 use Rattle.argon2_base.proofs.block_lemmas.LaneLemmas.{below_two, lane_is, slice_index-lane, word_at, words_are}
-
--- a lane of the vectors once one of them is replaced
-lane-slice_set : (x : List (List ℕ)) (i n : ℕ) (y : List ℕ) → i < 16 → length x ≡ 16
-    → lane n (slice_set x i y) ≡ slice_set (lane n x) i (slice_index y n)
-lane-slice_set x i n y below long =
-    ext_get_or 0 (lane n (slice_set x i y)) (slice_set (lane n x) i (slice_index y n))
-    (sym (length-set (lane n x) i (slice_index y n))) (λ k h.
-    slice_index-lane (slice_set x i y) n k h ∙ elim (cases_eq k i) [
-      | inl same ↦
-          rw (get_or-set_at x i k y [] same (omega arith), get_or-set_at (lane n x) i k (slice_index y n) 0 same below) refl
-      | inr other ↦ rw (get_or-set_other x i k y [] other, get_or-set_other (lane n x) i k (slice_index y n) 0 other)
-          (sym (slice_index-lane x n k h))
-    ])
-
--- a lane of the vectors once four of them are mixed
-pub lane-gb_at : (x : List (List ℕ)) (i j k l n : ℕ) → i < 16 → j < 16 → k < 16 → l < 16 → length x ≡ 16
-    → (a b c d : List ℕ)
-    → (slice_index a n, slice_index b n, slice_index c n, slice_index d n)
-    ≡ gb (lane_word x i n) (lane_word x j n) (lane_word x k n) (lane_word x l n)
-    → lane n (slice_set (slice_set (slice_set (slice_set x i a) j b) k c) l d) ≡ gb_at i j k l (lane n x)
-lane-gb_at x i j k l n hi hj hk hl long a b c d mixed =
-    let x1 = slice_set x i a in
-    let x2 = slice_set x1 j b in
-    let long1 : length x1 ≡ 16 = length-set x i a ∙ long in
-    let long2 : length x2 ≡ 16 = length-set x1 j b ∙ long1 in
-    let word : (k : ℕ) → k < 16 → lane_word x k n ≡ slice_index (lane n x) k = λ k h. sym (slice_index-lane x n k h) in
-    lane-slice_set (slice_set x2 k c) l n d hl (length-set x2 k c ∙ long2)
-    ∙ ap (λ v. slice_set v l (slice_index d n)) (lane-slice_set x2 k n c hk long2
-    ∙ ap (λ v. slice_set v k (slice_index c n)) (lane-slice_set x1 j n b hj long1
-    ∙ ap (λ v. slice_set v j (slice_index b n)) (lane-slice_set x i n a hi long)))
-    ∙ ap (λ (m : ℕ × ℕ × ℕ × ℕ). slice_set (slice_set (slice_set (slice_set (lane n x) i m.0) j m.1) k m.2) l m.3)
-    (mixed ∙ (λ p. gb (word i hi p) (word j hj p) (word k hk p) (word l hl p)))
-
--- P in its eight steps
-pub perm_steps : (v : List ℕ) {a b c d e f g h : List ℕ}
-    → a ≡ gb_at 0 4 8 12 v → b ≡ gb_at 1 5 9 13 a → c ≡ gb_at 2 6 10 14 b → d ≡ gb_at 3 7 11 15 c
-    → e ≡ gb_at 0 5 10 15 d → f ≡ gb_at 1 6 11 12 e → g ≡ gb_at 2 7 8 13 f → h ≡ gb_at 3 4 9 14 g
-    → h ≡ perm v
-unfolding mix_columns mix_diagonals perm
-perm_steps v s1 s2 s3 s4 s5 s6 s7 s8 =
-    s8 ∙ ap (gb_at 3 4 9 14)
-    (s7 ∙ ap (gb_at 2 7 8 13)
-    (s6 ∙ ap (gb_at 1 6 11 12)
-    (s5 ∙ ap (gb_at 0 5 10 15)
-    (s4 ∙ ap (gb_at 3 7 11 15)
-    (s3 ∙ ap (gb_at 2 6 10 14)
-    (s2 ∙ ap (gb_at 1 5 9 13) s1))))))
 
 -- lane q of the vector of an even or an odd number, of two neighbours
 abbrev one_of : List (List ℕ) → ℕ → ℕ → ℕ → ℕ

@@ -5,7 +5,7 @@ use Rattle.std.specs.Simd.Lanes.{chunk, number_l, pick_l}
 use Rattle.std.proofs.lemmas.Nat.{or_comm, or_shifted}
 use Rattle.std.proofs.lemmas.Simd.{get_or-chunk, length-chunk, pick_l_left}
 use Rattle.argon2_base.specs.Lanes.{word_from}
-use Rattle.argon2_base.proofs.block_lemmas.LaneLemmas.{below_eight, eight_lanes}
+use Rattle.argon2_base.proofs.block_lemmas.LaneLemmas.{any_vector, below_eight}
 
 -- a word whose eight bytes are given by number
 word_of_bytes : (bs : List ℕ) (i : ℕ) (f : ℕ → ℕ) → ((k : ℕ) → k < 8 → slice_index bs (i + k) ≡ f k)
@@ -17,7 +17,7 @@ word_of_bytes bs i f byte =
 -- the number that eight bytes of a list write
 pub number_l-chunk : (bs : List ℕ) (i : ℕ) → i + 8 ≤ length bs → number_l 256 (chunk i 8 bs) ≡ word_from bs i
 number_l-chunk bs i le =
-    eight_lanes (λ bs. number_l 256 bs ≡ word_from bs 0) (λ a b c d e f g h. omega arith) (chunk i 8 bs) (length-chunk i 8 bs le)
+    any_vector 8 (λ bs. number_l 256 bs ≡ word_from bs 0) (λ x. omega arith) (chunk i 8 bs) (length-chunk i 8 bs le)
     ∙ word_of_bytes (chunk i 8 bs) 0 (λ k. slice_index bs (i + k)) (λ k h. rw (zero-add k) (get_or-chunk i 8 bs k 0 h))
 
 -- the two shifts of a rotation by 24 bits

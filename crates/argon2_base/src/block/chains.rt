@@ -133,8 +133,8 @@ fn perm_pairs(v: [u64x16; 4]) -> [u64x16; 4]
 // The second four lanes of each half of a and the first four of each half of b change places.
 #[inline(always)]
 fn exchange_fours(a: u64x16, b: u64x16) -> (u64x16, u64x16)
-    ensures left { result.0 ≡ exchanged_left 4 a b }
-    ensures right { result.1 ≡ exchanged_right 4 a b }
+    ensures left { result.0 ≡ exchanged_left 16 4 a b }
+    ensures right { result.1 ≡ exchanged_right 16 4 a b }
 {
     let left = a.shuffle(
         b,
@@ -150,8 +150,8 @@ fn exchange_fours(a: u64x16, b: u64x16) -> (u64x16, u64x16)
 // The second half of a and the first half of b change places.
 #[inline(always)]
 fn exchange_halves(a: u64x16, b: u64x16) -> (u64x16, u64x16)
-    ensures left { result.0 ≡ exchanged_left 8 a b }
-    ensures right { result.1 ≡ exchanged_right 8 a b }
+    ensures left { result.0 ≡ exchanged_left 16 8 a b }
+    ensures right { result.1 ≡ exchanged_right 16 8 a b }
 {
     let left = a.shuffle(b, [0, 1, 2, 3, 4, 5, 6, 7, 16, 17, 18, 19, 20, 21, 22, 23]);
     let right = a.shuffle(

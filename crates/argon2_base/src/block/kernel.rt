@@ -2,8 +2,8 @@
 //! and then word k of column i, so that P goes on eight rows and on eight columns at once.
 
 ghost use Rattle.std.specs.Prelude.{◌≡◌, ℕ, ◌+◌, ◌*◌, ◌/◌, ◌%◌, ◌^◌, ◌<◌, ◌≤◌, length, slice_index, bit_xor, ◌==◌, if◌then◌else◌};
-ghost use Rattle.argon2_base.specs.Block.{add_mul, column, gb, gb_at, mixed, perm, row, xor_blocks, xor_rotate};
-ghost use Rattle.argon2_base.specs.Lanes.{lane, lane_word, ones_left, ones_right, twos_left, twos_right, fours_left, fours_right, word_from, words_in_eights};
+ghost use Rattle.argon2_base.specs.Block.{add_mul, column, gb, mixed, perm, row, xor_blocks, xor_rotate};
+ghost use Rattle.argon2_base.specs.Lanes.{exchanged_left, exchanged_right, lane, lane_word, word_from, words_in_eights};
 
 use std::simd::{u8x64, u64x8};
 
@@ -90,29 +90,40 @@ fn gb(a: u64x8, b: u64x8, c: u64x8, d: u64x8) -> (u64x8, u64x8, u64x8, u64x8)
     (a2, b2, c2, d2)
 }
 
-// GB on the vectors at four places.
-#[inline(always)]
-fn gb_at(v: &mut [u64x8; 16], i: usize, j: usize, k: usize, l: usize)
-    requires { (i < 16) × (j < 16) × (k < 16) × (l < 16) }
-    ensures { (n : ℕ) → n < 8 → lane n v.new ≡ gb_at i j k l (lane n v.old) }
-{
-    (v[i], v[j], v[k], v[l]) = gb(v[i], v[j], v[k], v[l]);
-}
-
 // P in each lane.
 #[inline(always)]
-fn perm(mut v: [u64x8; 16]) -> [u64x8; 16]
+fn perm(v: [u64x8; 16]) -> [u64x8; 16]
     ensures { (n : ℕ) → n < 8 → lane n result ≡ perm (lane n v) }
 {
-    gb_at(&mut v, 0, 4, 8, 12);
-    gb_at(&mut v, 1, 5, 9, 13);
-    gb_at(&mut v, 2, 6, 10, 14);
-    gb_at(&mut v, 3, 7, 11, 15);
-    gb_at(&mut v, 0, 5, 10, 15);
-    gb_at(&mut v, 1, 6, 11, 12);
-    gb_at(&mut v, 2, 7, 8, 13);
-    gb_at(&mut v, 3, 4, 9, 14);
-    v
+    let [
+        a0,
+        a1,
+        a2,
+        a3,
+        b0,
+        b1,
+        b2,
+        b3,
+        c0,
+        c1,
+        c2,
+        c3,
+        d0,
+        d1,
+        d2,
+        d3,
+    ] = v;
+    let (a0, b0, c0, d0) = gb(a0, b0, c0, d0);
+    let (a1, b1, c1, d1) = gb(a1, b1, c1, d1);
+    let (a2, b2, c2, d2) = gb(a2, b2, c2, d2);
+    let (a3, b3, c3, d3) = gb(a3, b3, c3, d3);
+    let (a0, b1, c2, d3) = gb(a0, b1, c2, d3);
+    let (a1, b2, c3, d0) = gb(a1, b2, c3, d0);
+    let (a2, b3, c0, d1) = gb(a2, b3, c0, d1);
+    let (a3, b0, c1, d2) = gb(a3, b0, c1, d2);
+    [
+        a0, a1, a2, a3, b0, b1, b2, b3, c0, c1, c2, c3, d0, d1, d2, d3,
+    ]
 }
 
 // The lanes of two vectors in turn.
@@ -129,8 +140,8 @@ fn interleave(a: u64x8, b: u64x8) -> (u64x8, u64x8)
 // The odd lanes of a and the even lanes of b change places.
 #[inline(always)]
 fn exchange_ones(a: u64x8, b: u64x8) -> (u64x8, u64x8)
-    ensures left { result.0 ≡ ones_left a b }
-    ensures right { result.1 ≡ ones_right a b }
+    ensures left { result.0 ≡ exchanged_left 8 1 a b }
+    ensures right { result.1 ≡ exchanged_right 8 1 a b }
 {
     let left = a.shuffle(b, [0, 8, 2, 10, 4, 12, 6, 14]);
     let right = a.shuffle(b, [1, 9, 3, 11, 5, 13, 7, 15]);
@@ -140,8 +151,8 @@ fn exchange_ones(a: u64x8, b: u64x8) -> (u64x8, u64x8)
 // The second pair of each half of a and the first pair of each half of b change places.
 #[inline(always)]
 fn exchange_twos(a: u64x8, b: u64x8) -> (u64x8, u64x8)
-    ensures left { result.0 ≡ twos_left a b }
-    ensures right { result.1 ≡ twos_right a b }
+    ensures left { result.0 ≡ exchanged_left 8 2 a b }
+    ensures right { result.1 ≡ exchanged_right 8 2 a b }
 {
     let left = a.shuffle(b, [0, 1, 8, 9, 4, 5, 12, 13]);
     let right = a.shuffle(b, [2, 3, 10, 11, 6, 7, 14, 15]);
@@ -151,8 +162,8 @@ fn exchange_twos(a: u64x8, b: u64x8) -> (u64x8, u64x8)
 // The second half of a and the first half of b change places.
 #[inline(always)]
 fn exchange_fours(a: u64x8, b: u64x8) -> (u64x8, u64x8)
-    ensures left { result.0 ≡ fours_left a b }
-    ensures right { result.1 ≡ fours_right a b }
+    ensures left { result.0 ≡ exchanged_left 8 4 a b }
+    ensures right { result.1 ≡ exchanged_right 8 4 a b }
 {
     let left = a.shuffle(b, [0, 1, 2, 3, 8, 9, 10, 11]);
     let right = a.shuffle(b, [4, 5, 6, 7, 12, 13, 14, 15]);
