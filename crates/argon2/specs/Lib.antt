@@ -18,6 +18,7 @@ pub use Rattle.argon2_base.specs.PhcText
 pub mod Refusals
 pub mod Rfc9106
 pub mod Runs
+pub mod SegmentSteps
 pub mod Segments
 pub mod Settings
 pub mod Steps

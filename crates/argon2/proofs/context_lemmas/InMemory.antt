@@ -1,6 +1,6 @@
 -- What a step reads of a memory, by places.
 use Rattle.std.proofs.Common.{◌≡◌, ℕ, ◌+◌, ◌*◌, ◌<◌, ◌&&◌, List, [], length, map, refl, sym, ap, ◌∙◌, arith}
-use Rattle.std.specs.Prelude.{slice_index_or, nat_lt, ◌==◌, if◌then◌else◌}
+use Rattle.std.specs.Prelude.{slice_index, slice_index_or, nat_lt, ◌==◌, if◌then◌else◌}
 use Rattle.std.proofs.lemmas.Nat.{mul-add-lt}
 use Rattle.std.proofs.lemmas.Bool.Decides.{nat_tests}
 use Rattle.std.proofs.lemmas.List.{get_or-map}
@@ -24,6 +24,16 @@ pub previous_in_memory : (ctx : Context) (memory : Memory) (pass lane column : �
     → previous ctx (in_memory ctx memory) pass lane column ≡ slice_index_or memory (previous_place ctx lane column) []
 unfolding previous in_memory
 previous_in_memory ctx memory pass lane column = grind (arith, nat_tests)
+
+-- so that the first word that is read there is the previous block's
+pub first_word_read : {B : Type 0} (words : B → List ℕ) (ctx : Context) (memory : List B) (pass lane column place word : ℕ) (other : B)
+    → place < length memory → place ≡ previous_place ctx lane column
+    → word ≡ slice_index (words (slice_index_or memory place other)) 0
+    → word ≡ slice_index (previous ctx (in_memory ctx (map words memory)) pass lane column) 0
+first_word_read words ctx memory pass lane column place word other below at first =
+    let read = get_or-map words memory place other [] below in
+    let before = previous_in_memory ctx (map words memory) pass lane column in
+    cc
 
 -- the block that a step makes, of those at their places
 pub made_by_places : (ctx : Context) (memory : Memory) (pass lane column word : ℕ)

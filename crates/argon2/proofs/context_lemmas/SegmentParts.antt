@@ -1,16 +1,17 @@
 -- A step on the parts of a memory is that step on the memory.
-use Rattle.std.proofs.Common.{◌≡◌, ℕ, suc, ◌+◌, ◌*◌, ◌/◌, ◌%◌, ◌<◌, ◌≢◌, inl, inr, List, [], length, sym, ◌∙◌, subst, arith}
+use Rattle.std.proofs.Common.{◌≡◌, ℕ, suc, ◌+◌, ◌*◌, ◌<◌, ◌≢◌, inl, inr, List, [], length, sym, ◌∙◌, arith}
 use Rattle.std.specs.Prelude.{slice_index_or, slice_set, ◌==◌, if◌then◌else◌}
-use Rattle.std.proofs.Math.Nat.{mod-lt}
-use Rattle.std.proofs.lemmas.Nat.{div-add-mod', mul-add-lt}
+use Rattle.std.proofs.lemmas.Nat.{mul-add-lt}
 use Rattle.std.proofs.lemmas.Bool.{cases_eq}
 use Rattle.std.proofs.lemmas.Bool.Decides.{nat_tests}
 use Rattle.std.proofs.lemmas.List.{get_or-set_other, get_or-set_same}
 use Rattle.argon2.specs.Rfc9106.{Context, FirstColumns, Memory, Sizes, block_count, lane_length, made_block, segment_length}
 use Rattle.argon2.specs.Segments.{AreParts}
+use Rattle.argon2.specs.SegmentSteps.{column_of, IsStepAt}
 use Rattle.argon2.specs.Steps.{IsStep, in_memory, step}
 use Rattle.argon2.specs.Watching.{HasBlocksUpTo, begun}
-use Rattle.argon2.proofs.recurrence.PermittedPlaces.{InSlice, in_slice}
+use Rattle.argon2.specs.declared.context.fill.Step.{Step}
+use Rattle.argon2.proofs.recurrence.PermittedPlaces.{InSlice}
 use Rattle.argon2.proofs.context_lemmas.Filling.{step_fills}
 use Rattle.argon2.proofs.context_lemmas.InMemory.{place_below}
 use Rattle.argon2.proofs.context_lemmas.Schedules.{set_apart, turn_count-le}
@@ -50,23 +51,15 @@ parts_set ctx slice lane index memory before own after b four l h size all parts
     }
 
 -- a step writes one block of each
-pub step_parts : (ctx : Context) → Sizes ctx → (pass lane column : ℕ) (memory before own after : Memory) (b : List ℕ)
-    → IsStep ctx pass lane column → length own ≡ segment_length ctx → length memory ≡ block_count ctx
-    → AreParts ctx (column / segment_length ctx) lane memory before own after
-    → b ≡ made_block ctx (in_memory ctx memory) pass lane column
-    → AreParts ctx (column / segment_length ctx) lane (step ctx memory pass lane column) before
-    (slice_set own (column % segment_length ctx) b) after
+pub step_parts : (ctx : Context) (at : Step) (memory before own after : Memory) (b : List ℕ)
+    → IsStepAt ctx at → length own ≡ segment_length ctx → length memory ≡ block_count ctx
+    → AreParts ctx at.slice at.lane memory before own after
+    → b ≡ made_block ctx (in_memory ctx memory) at.pass at.lane (column_of ctx at)
+    → AreParts ctx at.slice at.lane (step ctx memory at.pass at.lane (column_of ctx at)) before (slice_set own at.index b) after
 unfolding step
-step_parts ctx sizes pass lane column memory before own after b st size all parts made =
-    let s = segment_length ctx in
-    let slice = column / s in
-    let two = sizes.two_columns in
-    let set = parts_set ctx slice lane (column % s) memory before own after b
-    (in_slice s column two st.in_columns).one_of_four st.in_lanes (mod-lt column (omega arith)) size all parts in
-    subst (λ x. AreParts ctx slice lane (slice_set memory (lane * lane_length ctx + column) x) before
-    (slice_set own (column % s) b) after) made
-    (subst (λ n. AreParts ctx slice lane (slice_set memory (lane * lane_length ctx + n) b) before
-    (slice_set own (column % s) b) after) (div-add-mod' column s) set)
+step_parts ctx at memory before own after b st size all parts made =
+    rw (← made)
+    (parts_set ctx at.slice at.lane at.index memory before own after b st.in_slices st.step.in_lanes st.in_segment size all parts)
 
 -- ---- a lane that goes ahead of the others in its slice
 

@@ -7,9 +7,10 @@
 ghost use Rattle.std.specs.Prelude.{◌≡◌, ℕ, ◌*◌, ◌+◌, ◌-◌, ◌/◌, ◌<◌, ◌≤◌, ◌^◌, ◌&&◌, ◌==◌, [], if◌then◌else◌, length, nat_lt, slice_index_or};
 ghost use Rattle.argon2_base.specs.Block.{bytes_of, xor_blocks};
 ghost use Rattle.argon2_base.specs.LongHash.{long_hash};
-ghost use Rattle.argon2.specs.Rfc9106.{AreShort, Memory, addresses_of, block_count, first_block, lane_length, segment_length};
+ghost use Rattle.argon2.specs.Rfc9106.{AreShort, Memory, addresses_at, block_count, first_block, lane_length, segment_length};
 ghost use Rattle.argon2.specs.Segments.{AreLengths, AreParts, BeginsSlices, FillsSegment, IsPlaceFor, last_of_slice, slice_length};
-ghost use Rattle.argon2.specs.Steps.{IsStep, step};
+ghost use Rattle.argon2.specs.SegmentSteps.{column_of, IsStepAt};
+ghost use Rattle.argon2.specs.Steps.{step};
 
 use super::Argon2;
 use super::fill::Step;
@@ -102,10 +103,15 @@ impl<'a> Instance<'a> {
     {
         let segment = self.segment_length();
         let start = self.first_index(pass, slice);
-        let first = self.step_at(pass, slice, lane, 0);
+        let first = Step {
+            pass,
+            lane,
+            slice,
+            index: 0,
+        };
         let mut addresses = self.addresses(first, &mut Work::new());
         for index in start..segment {
-            let at = self.step_at(pass, slice, lane, index);
+            let at = Step { index, ..first };
             self.renew(&mut addresses, at, &mut Work::new());
             self.step_own(before, own, after, &addresses, at);
         }
@@ -120,24 +126,24 @@ impl<'a> Instance<'a> {
         addresses: &Option<Block>,
         at: Step,
     )
-        requires parts { let slice = at.column / segment_length self.now in AreLengths self.now
-            slice at.lane (length before.now) (length own.old) (length after.now) }
-        requires step { IsStep self.now at.pass at.lane at.column }
-        requires addresses { addresses.now ≡ addresses_of self.now at.pass at.lane at.column }
+        requires parts { AreLengths self.now at.slice at.lane (length before.now) (length own.old)
+            (length after.now) }
+        requires step { IsStepAt self.now at }
+        requires addresses { addresses.now
+            ≡ addresses_at self.now at.pass at.lane at.slice at.index }
         ensures size { length own.new ≡ length own.old }
-        ensures step { let slice = at.column / segment_length self.now in
+        ensures step { let column = column_of self.now at in
             (memory : Memory) → length memory ≡ block_count self.now
-            → AreParts self.now slice at.lane memory before.now own.old after.now
-            → AreParts self.now slice at.lane (step self.now memory at.pass at.lane at.column)
+            → AreParts self.now at.slice at.lane memory before.now own.old after.now
+            → AreParts self.now at.slice at.lane (step self.now memory at.pass at.lane column)
             before.now own.new after.now }
     {
-        let index = at.column % self.segment_length();
         let x = self.block(before, own, after, at, at.lane, self.previous_column(at));
         let word = self.word(x[0], addresses, at);
         let (lane, column) = self.reference(at, word);
         let y = self.block(before, own, after, at, lane, column);
         let mixed = mix_words(x, y, &mut Work::new());
-        self.write_mixed(&mut own[index as usize], &mixed, at.pass);
+        self.write_mixed(&mut own[at.index as usize], &mixed, at.pass);
     }
 
     /// Writes `mixed` to a step's block, or xors it into that block if the pass xors.
@@ -162,24 +168,36 @@ impl<'a> Instance<'a> {
         lane: u32,
         column: u32,
     ) -> &'m Words
-        requires parts { let slice = at.column / segment_length self.now in AreLengths self.now
-            slice at.lane (length before.now) (length own.now) (length after.now) }
-        requires place { IsPlaceFor self.now at.lane at.column lane column }
-        ensures { let slice = at.column / segment_length self.now in
-            (memory : Memory)
-            → AreParts self.now slice at.lane memory before.now own.now after.now
+        requires parts { AreLengths self.now at.slice at.lane (length before.now) (length own.now)
+            (length after.now) }
+        requires in_segment { at.index < segment_length self.now }
+        requires place { IsPlaceFor self.now at.lane (column_of self.now at) lane column }
+        ensures { (memory : Memory)
+            → AreParts self.now at.slice at.lane memory before.now own.now after.now
             → result.now ≡ slice_index_or memory (lane * lane_length self.now + column) [] }
     {
-        let segment = self.segment_length();
-        let at_hand = at.column / segment;
-        let slice = column / segment;
-        let index = column % segment;
-        if slice == at_hand {
+        let slice = self.slice_of(column);
+        let index = column - slice * self.segment_length();
+        if slice == at.slice {
             &own[index as usize]
-        } else if slice < at_hand {
+        } else if slice < at.slice {
             &before[self.place_in_slices(slice, lane, index) as usize]
         } else {
-            &after[self.place_in_slices(slice - (at_hand + 1), lane, index) as usize]
+            &after[self.place_in_slices(slice - (at.slice + 1), lane, index) as usize]
+        }
+    }
+
+    /// The slice of a column, without a division.
+    fn slice_of(&self, column: u32) -> u32
+        requires { column < lane_length self.now }
+        ensures { result ≡ column / segment_length self.now }
+    {
+        let segment = self.segment_length();
+        let half = if column < 2 * segment { 0 } else { 2 };
+        if column < (half + 1) * segment {
+            half
+        } else {
+            half + 1
         }
     }
 

@@ -1,24 +1,26 @@
 //! From the inputs of a hash to its matrix, step by step (RFC 9106, section 3.2, steps 1 to 6).
 
-ghost use Rattle.std.specs.Prelude.{◌≡◌, ◌+◌, ◌-◌, ◌*◌, ◌/◌, ◌%◌, ◌^◌, ◌<◌, ◌≤◌, ◌==◌, [], if◌then◌else◌, length, map, slice_index, slice_index_or, slice_set};
+ghost use Rattle.std.specs.Prelude.{◌≡◌, ◌+◌, ◌-◌, ◌*◌, ◌^◌, ◌<◌, ◌≤◌, ◌==◌, [], if◌then◌else◌, length, map, slice_index_or, slice_set};
 ghost use Rattle.argon2_base.specs.Block.{mixed};
-ghost use Rattle.argon2.specs.Rfc9106.{AreShort, FirstColumns, addresses_of, block_count, lane_length, previous, segment_length, tag_of};
+ghost use Rattle.argon2.specs.Rfc9106.{AreShort, FirstColumns, addresses_at, block_count, lane_length, segment_length, tag_of};
 ghost use Rattle.argon2.specs.Hashing.{FillsFront, IsOutputLength};
 ghost use Rattle.argon2.specs.Watching.{Fills, IsFilledFrom, begun, in_order, mixing_calls, position_index, segment_calls, slices_calls};
 ghost use Rattle.argon2.specs.Laws.{Begins};
-ghost use Rattle.argon2.specs.Steps.{in_memory, previous_place, reference_place, step, turn_count, IsStep, IsStepIn};
+ghost use Rattle.argon2.specs.SegmentSteps.{column_of, IsStepAt};
+ghost use Rattle.argon2.specs.Steps.{previous_place, reference_place, step, turn_count, IsStep};
 
 use super::instance::Instance;
 use super::memory_block::MemoryBlock;
 use crate::params::SLICES;
 use crate::{Block, Work};
 
-/// Which block a step writes.
+/// Which block a step writes: that of an index of a segment (RFC 9106, section 3.4).
 #[derive(Clone, Copy)]
 pub(super) struct Step {
     pub(super) pass: u32,
     pub(super) lane: u32,
-    pub(super) column: u32,
+    pub(super) slice: u32,
+    pub(super) index: u32,
 }
 
 impl<'a> Instance<'a> {
@@ -151,9 +153,15 @@ impl<'a> Instance<'a> {
     {
         let segment = self.segment_length();
         let start = self.first_index(pass, slice);
-        let mut addresses = self.addresses(self.step_at(pass, slice, lane, 0), work);
+        let first = Step {
+            pass,
+            lane,
+            slice,
+            index: 0,
+        };
+        let mut addresses = self.addresses(first, work);
         for index in start..segment {
-            let at = self.step_at(pass, slice, lane, index);
+            let at = Step { index, ..first };
             self.renew(&mut addresses, at, work);
             let reference = self.step(memory, &addresses, at, work);
             self.put_position(positions, at, reference);
@@ -170,28 +178,41 @@ impl<'a> Instance<'a> {
         if pass == 0 && slice == 0 { 2 } else { 0 }
     }
 
-    /// The step of an index of a segment.
-    pub(super) fn step_at(&self, pass: u32, slice: u32, lane: u32, index: u32) -> Step
-        requires in_slices { slice < SLICES }
-        requires in_segment { index < segment_length self.now }
+    /// The step of a column.
+    pub(super) fn step_of(&self, pass: u32, lane: u32, column: u32) -> Step
+        requires { IsStep self.now pass lane column }
         ensures pass { result.pass ≡ pass }
         ensures lane { result.lane ≡ lane }
-        ensures column { result.column ≡ slice * segment_length self.now + index }
-        ensures slice { result.column / segment_length self.now ≡ slice }
-        ensures index { result.column % segment_length self.now ≡ index }
-        ensures in_columns { result.column < lane_length self.now }
+        ensures column { column_of self.now result ≡ column }
+        ensures step { IsStepAt self.now result }
     {
-        let column = slice * self.segment_length() + index;
-        Step { pass, lane, column }
+        let segment = self.segment_length();
+        let slice = column / segment;
+        let index = column % segment;
+        Step {
+            pass,
+            lane,
+            slice,
+            index,
+        }
+    }
+
+    /// The column of a step.
+    pub(super) fn column(&self, at: Step) -> u32
+        requires { IsStepAt self.now at }
+        ensures value { result ≡ column_of self.now at }
+        ensures within { result < lane_length self.now }
+    {
+        at.slice * self.segment_length() + at.index
     }
 
     /// Writes the place of a step's reference, if there is room for it.
     fn put_position(&self, positions: &mut [u32], at: Step, reference: u32)
-        requires { IsStep self.now at.pass at.lane at.column }
-        ensures { let index = position_index self.now at.pass at.lane at.column in
+        requires { IsStepAt self.now at }
+        ensures { let index = position_index self.now at.pass at.lane (column_of self.now at) in
             positions.new ≡ slice_set positions.old index reference }
     {
-        let place = self.place(at.lane, at.column) as usize;
+        let place = self.place(at.lane, self.column(at)) as usize;
         let index = at.pass as usize * self.block_count() + place;
         if index < positions.len() {
             positions[index] = reference;
@@ -199,7 +220,7 @@ impl<'a> Instance<'a> {
     }
 
     /// Writes the block of a step, and returns the place of its reference.
-    #[tactic(auto, using(crate::proofs::context_lemmas::InMemory::place_by_word))]
+    #[tactic(auto, using(crate::proofs::context_lemmas::InMemory::first_word_read, crate::proofs::context_lemmas::InMemory::place_by_word))]
     pub(super) fn step<B: MemoryBlock>(
         &self,
         memory: &mut [B],
@@ -207,66 +228,35 @@ impl<'a> Instance<'a> {
         at: Step,
         work: &mut Work,
     ) -> u32
-        requires place { IsStepIn self.now (length memory.old) at.pass at.lane at.column }
-        requires addresses { addresses.now ≡ addresses_of self.now at.pass at.lane at.column }
+        requires step { IsStepAt self.now at }
+        requires room { block_count self.now ≤ length memory.old }
+        requires addresses { addresses.now
+            ≡ addresses_at self.now at.pass at.lane at.slice at.index }
         requires count { work.old < 2 ^ 128 - 1 }
         ensures step { map B.words memory.new
-            ≡ step self.now (map B.words memory.old) at.pass at.lane at.column }
-        ensures place { result
-            ≡ reference_place self.now (map B.words memory.old) at.pass at.lane at.column }
+            ≡ step self.now (map B.words memory.old) at.pass at.lane (column_of self.now at) }
+        ensures place { let column = column_of self.now at in
+            result ≡ reference_place self.now (map B.words memory.old) at.pass at.lane column }
         ensures work { work.new ≡ work.old + 1 }
     {
-        let word = self.word(self.previous_word(memory, at), addresses, at);
+        let previous = self.previous_place(at) as usize;
+        let word = self.word(memory[previous].first_word(), addresses, at);
         let reference = self.reference_place(at, word);
-        let place = self.place(at.lane, at.column) as usize;
+        let place = self.place(at.lane, self.column(at)) as usize;
         // Each arm mixes for itself: a result that is used once is not copied.
         if self.xors(at.pass) {
-            let block = &self.mixed_block(memory, at, reference, work);
+            let block = &mixed_blocks(memory, previous, reference as usize, work);
             memory[place].xor(block);
         } else {
-            memory[place] = self.mixed_block(memory, at, reference, work);
+            memory[place] = mixed_blocks(memory, previous, reference as usize, work);
         }
         reference
     }
 
-    /// The previous block mixed with that of a place.
-    fn mixed_block<B: MemoryBlock>(
-        &self,
-        memory: &[B],
-        at: Step,
-        reference: u32,
-        work: &mut Work,
-    ) -> B
-        requires place { IsStepIn self.now (length memory.now) at.pass at.lane at.column }
-        requires within { reference < block_count self.now }
-        requires count { work.old < 2 ^ 128 - 1 }
-        ensures block { let blocks = map B.words memory.now in B.words result ≡ mixed
-            (slice_index_or blocks (previous_place self.now at.lane at.column) [])
-            (slice_index_or blocks reference []) }
-        ensures work { work.new ≡ work.old + 1 }
-    {
-        let previous = self.previous_place(at);
-        B::mixed(
-            &memory[previous as usize],
-            &memory[reference as usize],
-            work,
-        )
-    }
-
-    /// The previous block's first word.
-    fn previous_word<B: MemoryBlock>(&self, memory: &[B], at: Step) -> u64
-        requires { IsStepIn self.now (length memory.now) at.pass at.lane at.column }
-        ensures { let blocks = in_memory self.now (map B.words memory.now) in
-            result ≡ slice_index (previous self.now blocks at.pass at.lane at.column) 0 }
-    {
-        let previous = self.previous_place(at);
-        memory[previous as usize].first_word()
-    }
-
     /// The place of the previous block.
     fn previous_place(&self, at: Step) -> u32
-        requires { IsStep self.now at.pass at.lane at.column }
-        ensures value { result ≡ previous_place self.now at.lane at.column }
+        requires { IsStepAt self.now at }
+        ensures value { result ≡ previous_place self.now at.lane (column_of self.now at) }
         ensures within { result < block_count self.now }
     {
         self.place(at.lane, self.previous_column(at))
@@ -274,15 +264,33 @@ impl<'a> Instance<'a> {
 
     /// The column of the previous block, which before column 0 is the last.
     pub(super) fn previous_column(&self, at: Step) -> u32
-        requires { at.column < lane_length self.now }
-        ensures value { result
-            ≡ (if at.column == 0 then lane_length self.now - 1 else at.column - 1) }
+        requires { IsStepAt self.now at }
+        ensures value { let column = column_of self.now at in
+            result ≡ (if column == 0 then lane_length self.now - 1 else column - 1) }
         ensures within { result < lane_length self.now }
     {
-        if at.column == 0 {
+        let column = self.column(at);
+        if column == 0 {
             self.lane_length() - 1
         } else {
-            at.column - 1
+            column - 1
         }
     }
+}
+
+/// The blocks of two places, mixed.
+fn mixed_blocks<B: MemoryBlock>(
+    memory: &[B],
+    previous: usize,
+    reference: usize,
+    work: &mut Work,
+) -> B
+    requires previous { previous < length memory.now }
+    requires reference { reference < length memory.now }
+    requires count { work.old < 2 ^ 128 - 1 }
+    ensures block { let blocks = map B.words memory.now in B.words result
+        ≡ mixed (slice_index_or blocks previous []) (slice_index_or blocks reference []) }
+    ensures work { work.new ≡ work.old + 1 }
+{
+    B::mixed(&memory[previous], &memory[reference], work)
 }

@@ -1,9 +1,9 @@
 //! Which block a block refers to: a word of the previous block takes it, or one of address blocks,
 //! which depend on no other block (RFC 9106, sections 3.4.1 and 3.4.2).
 
-ghost use Rattle.std.specs.Prelude.{◌≡◌, ℕ, ◌+◌, ◌-◌, ◌*◌, ◌/◌, ◌%◌, ◌^◌, ◌<◌, ◌≤◌, ◌==◌, ◌++◌, length, replicate, slice_index, slice_index_or, if◌then◌else◌};
-ghost use Rattle.argon2.specs.Rfc9106.{Blocks, MayReferTo, address_block, addresses_at, addresses_of, block_count, is_independent, lane_length, permitted, place_of, previous, reference, reference_index, reference_lane, reference_word, segment_length};
-ghost use Rattle.argon2.specs.Steps.{IsStep};
+ghost use Rattle.std.specs.Prelude.{◌≡◌, ℕ, ◌+◌, ◌-◌, ◌^◌, ◌<◌, ◌≤◌, ◌++◌, length, replicate, slice_index, slice_index_or, if◌then◌else◌};
+ghost use Rattle.argon2.specs.Rfc9106.{Blocks, MayReferTo, address_block, addresses_at, block_count, is_independent, lane_length, permitted, place_of, previous, reference, reference_index, reference_lane, reference_word, segment_length};
+ghost use Rattle.argon2.specs.SegmentSteps.{column_of, IsStepAt};
 ghost use Rattle.argon2.specs.Watching.{address_mixings};
 
 use super::fill::Step;
@@ -42,33 +42,30 @@ fn reference_index(count: u32, word: u64) -> u32
 impl<'a> Instance<'a> {
     /// The word of a step: of its address block, or else `first`, the previous block's first.
     pub(super) fn word(&self, first: u64, addresses: &Option<Block>, at: Step) -> u64
-        requires { addresses.now ≡ addresses_of self.now at.pass at.lane at.column }
-        ensures { (blocks : Blocks)
-            → first ≡ slice_index (previous self.now blocks at.pass at.lane at.column) 0
-            → result ≡ reference_word self.now blocks at.pass at.lane at.column }
+        requires in_segment { at.index < segment_length self.now }
+        requires addresses { addresses.now
+            ≡ addresses_at self.now at.pass at.lane at.slice at.index }
+        ensures { let column = column_of self.now at in
+            (blocks : Blocks) → first ≡ slice_index (previous self.now blocks at.pass at.lane column) 0
+            → result ≡ reference_word self.now blocks at.pass at.lane column }
     {
         match addresses {
-            Some(block) => {
-                let index = at.column % self.segment_length();
-                block.as_slice()[(index % ADDRESS_COLUMNS) as usize]
-            }
+            Some(block) => block.as_slice()[(at.index % ADDRESS_COLUMNS) as usize],
             None => first,
         }
     }
 
     /// Replaces the address block of the column before by that of a step, if another begins there.
     pub(super) fn renew(&self, addresses: &mut Option<Block>, at: Step, work: &mut Work)
-        requires before { let segment = segment_length self.now in addresses.old ≡ addresses_at
-            self.now at.pass at.lane (at.column / segment) (at.column % segment - 1) }
+        requires before { addresses.old
+            ≡ addresses_at self.now at.pass at.lane at.slice (at.index - 1) }
         requires count { work.old + 2 < 2 ^ 128 }
-        ensures block { addresses.new ≡ addresses_of self.now at.pass at.lane at.column }
-        ensures work { let segment = segment_length self.now in
-            let mixings = address_mixings self.now at.pass (at.column / segment) in
-            let index = at.column % segment in
-            work.new + mixings (index - 1) ≡ work.old + mixings index }
+        ensures block { addresses.new
+            ≡ addresses_at self.now at.pass at.lane at.slice at.index }
+        ensures work { let mixings = address_mixings self.now at.pass at.slice in
+            work.new + mixings (at.index - 1) ≡ work.old + mixings at.index }
     {
-        let index = at.column % self.segment_length();
-        if index > 0 && index % ADDRESS_COLUMNS == 0 {
+        if at.index > 0 && at.index % ADDRESS_COLUMNS == 0 {
             *addresses = self.addresses(at, work);
         }
     }
@@ -78,15 +75,13 @@ impl<'a> Instance<'a> {
     #[tactic(auto, unfolding(crate::specs::Rfc9106::addresses_at))]
     pub(super) fn addresses(&self, at: Step, work: &mut Work) -> Option<Block>
         requires { work.old + 2 < 2 ^ 128 }
-        ensures block { result ≡ addresses_of self.now at.pass at.lane at.column }
-        ensures work { let slice = at.column / segment_length self.now in
-            work.new ≡ work.old + (if is_independent self.now at.pass slice then 2 else 0) }
+        ensures block { result ≡ addresses_at self.now at.pass at.lane at.slice at.index }
+        ensures work { work.new
+            ≡ work.old + (if is_independent self.now at.pass at.slice then 2 else 0) }
     {
-        let slice = at.column / self.segment_length();
-        let index = at.column % self.segment_length();
-        if self.is_independent(at.pass, slice) {
-            let counter = index / ADDRESS_COLUMNS + 1;
-            Some(self.address_block(at.pass, at.lane, slice, counter, work))
+        if self.is_independent(at.pass, at.slice) {
+            let counter = at.index / ADDRESS_COLUMNS + 1;
+            Some(self.address_block(at.pass, at.lane, at.slice, counter, work))
         } else {
             None
         }
@@ -133,9 +128,9 @@ impl<'a> Instance<'a> {
 
     /// The place of the block that a word takes for a step.
     pub(super) fn reference_place(&self, at: Step, word: u64) -> u32
-        requires { IsStep self.now at.pass at.lane at.column }
-        ensures value { result ≡ place_of self.now (reference self.now at.pass at.lane at.column
-            word) }
+        requires { IsStepAt self.now at }
+        ensures value { result
+            ≡ place_of self.now (reference self.now at.pass at.lane (column_of self.now at) word) }
         ensures within { result < block_count self.now }
     {
         let (lane, column) = self.reference(at, word);
@@ -144,9 +139,11 @@ impl<'a> Instance<'a> {
 
     /// The lane and the column of that block.
     pub(super) fn reference(&self, at: Step, word: u64) -> (u32, u32)
-        requires { IsStep self.now at.pass at.lane at.column }
-        ensures lane { result.0 ≡ (reference self.now at.pass at.lane at.column word).lane }
-        ensures column { result.1 ≡ (reference self.now at.pass at.lane at.column word).column }
+        requires { IsStepAt self.now at }
+        ensures lane { let column = column_of self.now at in
+            result.0 ≡ (reference self.now at.pass at.lane column word).lane }
+        ensures column { let column = column_of self.now at in
+            result.1 ≡ (reference self.now at.pass at.lane column word).column }
         ensures in_lanes { result.0 < self.now.p_cost }
         ensures in_columns { result.1 < lane_length self.now }
     {
@@ -157,14 +154,15 @@ impl<'a> Instance<'a> {
     }
 
     /// The lane that is referred to.
+    #[tactic(auto, using(std::proofs::lemmas::Bool::Decides::nat_tests, crate::proofs::context_lemmas::SegmentColumns::slice_of_column), unfolding(crate::specs::Rfc9106::reference_lane))]
     fn reference_lane(&self, at: Step, word: u64) -> u32
-        requires { IsStep self.now at.pass at.lane at.column }
-        ensures value { result ≡ reference_lane self.now at.pass at.lane at.column word }
-        ensures lane { MayReferTo self.now at.pass at.lane at.column result }
+        requires { IsStepAt self.now at }
+        ensures value { let column = column_of self.now at in
+            result ≡ reference_lane self.now at.pass at.lane column word }
+        ensures lane { MayReferTo self.now at.pass at.lane (column_of self.now at) result }
     {
-        let slice = at.column / self.segment_length();
         let lanes = self.lanes();
-        if lanes == 1 || at.pass == 0 && slice == 0 {
+        if lanes == 1 || at.pass == 0 && at.slice == 0 {
             at.lane
         } else {
             (word >> 32) as u32 % lanes
@@ -172,41 +170,43 @@ impl<'a> Instance<'a> {
     }
 
     /// How many blocks of a lane may be referred to.
+    #[tactic(auto, using(std::proofs::lemmas::Bool::Decides::nat_tests, crate::proofs::context_lemmas::SegmentColumns::permitted_count_of))]
     fn permitted_count(&self, at: Step, other: u32) -> u32
-        requires step { IsStep self.now at.pass at.lane at.column }
-        requires lane { MayReferTo self.now at.pass at.lane at.column other }
-        ensures value { result ≡ length (permitted self.now at.pass at.lane at.column other) }
+        requires step { IsStepAt self.now at }
+        requires lane { MayReferTo self.now at.pass at.lane (column_of self.now at) other }
+        ensures value { let column = column_of self.now at in
+            result ≡ length (permitted self.now at.pass at.lane column other) }
         ensures some { 0 < result }
         ensures short { result < lane_length self.now }
     {
         let segment = self.segment_length();
-        let index = at.column % segment;
         let finished = if at.pass == 0 {
-            at.column / segment * segment
+            at.slice * segment
         } else {
             (SLICES - 1) * segment
         };
-        if index == 0 {
+        if at.index == 0 {
             finished - 1
         } else if other == at.lane {
-            finished + (index - 1)
+            finished + (at.index - 1)
         } else {
             finished
         }
     }
 
     /// The column of one of them.
+    #[tactic(auto, using(std::proofs::lemmas::Bool::Decides::nat_tests, crate::proofs::context_lemmas::SegmentColumns::permitted_column_of))]
     fn permitted_column(&self, at: Step, index: u32) -> u32
-        requires step { IsStep self.now at.pass at.lane at.column }
+        requires step { IsStepAt self.now at }
         requires few { index < lane_length self.now }
         ensures value { (other : ℕ)
-            → let blocks = permitted self.now at.pass at.lane at.column other in
+            → let blocks = permitted self.now at.pass at.lane (column_of self.now at) other in
             index < length blocks → result ≡ (slice_index_or blocks index (0, 0)).1 }
         ensures within { result < lane_length self.now }
     {
         let segment = self.segment_length();
         let length = self.lane_length();
-        let finished = (at.column / segment + 1) * segment;
+        let finished = (at.slice + 1) * segment;
         if at.pass == 0 {
             index
         } else if index < length - finished {

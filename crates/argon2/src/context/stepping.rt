@@ -1,7 +1,6 @@
 //! Filling by single steps, whose order the caller chooses.
 
 use super::Argon2;
-use super::fill::Step;
 use crate::{Block, Work};
 use argon2_base::error::Result;
 
@@ -62,7 +61,7 @@ impl Argon2<'_> {
         let instance = self.instance();
         let blocks = &mut memory[..instance.block_count()];
         let mut work = Work::new();
-        let at = Step { pass, lane, column };
+        let at = instance.step_of(pass, lane, column);
         let addresses = instance.addresses(at, &mut work);
         instance.step(blocks, &addresses, at, &mut work)
     }

@@ -9,18 +9,15 @@ use Rattle.argon2.proofs.context.instance.Instance.fill_columns.Goals as goal
 pub loop-index-init : goal.loop-index-init
 loop-index-init g c =
     let ctx = c.args.self.now in
-    let at = c.step_at.ensures in
     let start = c.first_index-start.ensures in
     let begins : begun ctx c.args.pass c.args.slice ≡ c.args.slice * segment_length ctx + c.first_index-start.result =
     (let turns = start.turns in omega arith) in
     let serves : 0 / 128 ≡ (c.first_index-start.result - 1) / 128 = (let few = start.few in omega arith) in
     record {
       filled = λ first old is. rw (← begins) is;
-      addresses =
-          let block = rw (at.pass, at.lane, at.slice, at.index) at c.addresses-addresses.ensures.block in
-          block ∙ same_addresses ctx c.args.pass c.args.lane c.args.slice _ _ serves;
+      addresses = c.addresses-addresses.ensures.block ∙ same_addresses ctx c.args.pass c.args.lane c.args.slice _ _ serves;
       work =
-          let two = rw (at.pass, at.slice) at c.addresses-addresses.ensures.work in
+          let two = c.addresses-addresses.ensures.work in
           let first = first_mixings ctx c.args.pass c.args.slice in
           let mixings = same_mixings ctx c.args.pass c.args.slice 0 (c.first_index-start.result - 1) serves in
           omega arith;
@@ -37,9 +34,20 @@ step-reference-requires-clause-count g c =
     let few = few_mixings c.args.self.now c.args.pass c.args.slice (c.loop-index.index - 1) in
     let few' = few_mixings c.args.self.now c.args.pass c.args.slice c.loop-index.index in
     let work = c.loop-index.invariant.work in
-    let at = c.step_at-at.ensures in
-    let renewed = rw (at.pass, at.slice, at.index) at c.renew.ensures.work in
+    let renewed = c.renew.ensures.work in
     omega arith
+
+pub step-reference-requires-clause-step : goal.step-reference-requires-clause-step
+step-reference-requires-clause-step g c =
+    a_step _ c.segment_length-segment.ensures.sizes _ c.requires.in_lanes c.requires.in_slices
+    (rw c.segment_length-segment.ensures.value at c.loop-index-test.true)
+    (λ first. let two = c.first_index-start.ensures.later first in omega arith)
+
+pub put_position-requires : goal.put_position-requires
+put_position-requires g c =
+    a_step _ c.segment_length-segment.ensures.sizes _ c.requires.in_lanes c.requires.in_slices
+    (rw c.segment_length-segment.ensures.value at c.loop-index-test.true)
+    (λ first. let two = c.first_index-start.ensures.later first in omega arith)
 
 pub loop-index-preserved : goal.loop-index-preserved
 loop-index-preserved g c =
@@ -47,26 +55,24 @@ loop-index-preserved g c =
     let i = c.loop-index.index in
     let n = segment_length ctx in
     let before = c.loop-index.invariant in
-    let at = c.step_at-at.ensures in
     let column = c.args.slice * n + i in
     let end : column + 1 ≡ c.args.slice * n + (i + 1) = omega arith in
     let same : i ≡ i + 1 - 1 = omega arith in
-    let below = rw c.segment_length-segment.ensures.value at c.loop-index-test.true in
-    let later = c.first_index-start.ensures.later in
-    let st = a_step ctx c.args.pass c.args.lane c.args.slice i c.requires.in_lanes c.requires.in_slices below
-    (λ first. let two = later first in omega arith) in
+    let st = a_step ctx c.segment_length-segment.ensures.sizes
+    (record { pass = c.args.pass; lane = c.args.lane; slice = c.args.slice; index = i }) c.requires.in_lanes
+    c.requires.in_slices (rw c.segment_length-segment.ensures.value at c.loop-index-test.true)
+    (λ first. let two = c.first_index-start.ensures.later first in omega arith) in
     record {
       filled = λ first old is.
           let position = c.put_position.ensures in
           let place = c.step-reference.ensures.place in
           let made = c.step-reference.ensures.step in
-          rw (position, place, made, at.pass, at.lane, at.column, ← end)
-          (filled_step ctx c.segment_length-segment.ensures.sizes first c.args.pass c.args.slice c.args.lane column _ old _
-          c.requires.in_passes st (a_column n c.args.slice i c.requires.in_slices below) (before.filled first old is));
-      addresses = c.renew.ensures.block
-          ∙ rw (at.pass, at.lane, at.slice, at.index) (ap (addresses_at ctx c.args.pass c.args.lane c.args.slice) same);
+          rw (position, place, made, ← end)
+          (filled_step ctx st.sizes first c.args.pass c.args.slice c.args.lane column _ old _
+          c.requires.in_passes st.step (a_column ctx _ st) (before.filled first old is));
+      addresses = c.renew.ensures.block ∙ ap (addresses_at ctx c.args.pass c.args.lane c.args.slice) same;
       work =
-          let renewed = rw (at.pass, at.slice, at.index) at c.renew.ensures.work in
+          let renewed = c.renew.ensures.work in
           let next = ap (address_mixings ctx c.args.pass c.args.slice) same in
           omega (arith, before.work, c.step-reference.ensures.work);
     }

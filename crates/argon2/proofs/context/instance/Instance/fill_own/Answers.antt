@@ -12,7 +12,6 @@ use Rattle.argon2.proofs.context.instance.Instance.fill_own.Goals as goal
 pub loop-index-init : goal.loop-index-init
 loop-index-init c =
     let ctx = c.args.self.now in
-    let at = c.step_at-first.ensures in
     let start = c.first_index-start.ensures in
     let begins : begun ctx c.args.pass c.args.slice ≡ c.args.slice * segment_length ctx + c.first_index-start.result =
     (let turns = start.turns in omega arith) in
@@ -28,10 +27,14 @@ loop-index-init c =
               (λ l _. ahead-first ctx c.args.pass c.args.slice c.args.lane l) is),
         ),
       );
-      addresses =
-          let block = rw (at.pass, at.lane, at.slice, at.index) at c.addresses-addresses.ensures.block in
-          block ∙ same_addresses ctx c.args.pass c.args.lane c.args.slice _ _ serves;
+      addresses = c.addresses-addresses.ensures.block ∙ same_addresses ctx c.args.pass c.args.lane c.args.slice _ _ serves;
     }
+
+pub step_own-requires-clause-step : goal.step_own-requires-clause-step
+step_own-requires-clause-step c =
+    a_step _ c.segment_length-segment.ensures.sizes _ c.requires.in_lanes c.requires.in_slices
+    (rw c.segment_length-segment.ensures.value at c.loop-index-test.true)
+    (λ first. let two = c.first_index-start.ensures.later first in omega arith)
 
 pub loop-index-preserved : goal.loop-index-preserved
 loop-index-preserved c =
@@ -41,18 +44,15 @@ loop-index-preserved c =
     let lane = c.args.lane in
     let i = c.loop-index.index in
     let n = segment_length ctx in
-    let sizes = c.segment_length-segment.ensures.sizes in
     let before = c.loop-index.invariant in
-    let at = c.step_at-at.ensures in
     let column = slice * n + i in
     let end : column + 1 ≡ slice * n + (i + 1) = omega arith in
     let same : i ≡ i + 1 - 1 = omega arith in
-    let below = rw c.segment_length-segment.ensures.value at c.loop-index-test.true in
-    let later = c.first_index-start.ensures.later in
-    let st = a_step ctx pass lane slice i c.requires.in_lanes c.requires.in_slices below
-    (λ first. let two = later first in omega arith) in
-    let here = a_column n slice i c.requires.in_slices below in
-    let made = rw (at.slice, at.pass, at.lane, at.column) at c.step_own.ensures.step in
+    let st = a_step ctx c.segment_length-segment.ensures.sizes
+    (record { pass = pass; lane = lane; slice = slice; index = i }) c.requires.in_lanes c.requires.in_slices
+    (rw c.segment_length-segment.ensures.value at c.loop-index-test.true)
+    (λ first. let two = c.first_index-start.ensures.later first in omega arith) in
+    let made = c.step_own.ensures.step in
     record {
       size = c.step_own.ensures.size ∙ before.size;
       filled = λ first memory parts is.
@@ -60,11 +60,10 @@ loop-index-preserved c =
             step ctx m.0 pass lane column,
             (
               made m.0 m.1.1.size m.1.0,
-              rw (← end) (ahead_step ctx sizes first pass slice lane column m.0 st here m.1.1),
+              rw (← end) (ahead_step ctx st.sizes first pass slice lane column m.0 st.step (a_column ctx _ st) m.1.1),
             ),
           );
-      addresses = c.renew.ensures.block
-          ∙ rw (at.pass, at.lane, at.slice, at.index) (ap (addresses_at ctx pass lane slice) same);
+      addresses = c.renew.ensures.block ∙ ap (addresses_at ctx pass lane slice) same;
     }
 
 pub returns : goal.returns

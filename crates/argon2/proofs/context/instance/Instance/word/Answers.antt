@@ -4,14 +4,11 @@ use Rattle.argon2.proofs.context.instance.Instance.word.Goals as goal
 
 pub returns-in-Some : goal.returns-in-Some
 returns-in-Some c = λ blocks _.
-    let s = c.segment_length.ensures.value in
     let i = c.as_slice.ensures.items in
-    let w = word_addressed c.args.self.now blocks c.args.at.pass c.args.at.lane c.args.at.column _
-    (sym c.requires ∙ c.in-Some.is) in
+    let w = word_addressed c.args.self.now blocks c.args.at c.requires.in_segment _ (sym c.requires.addresses ∙ c.in-Some.is) in
     cc
 
 pub returns-in-None : goal.returns-in-None
 returns-in-None c = λ blocks is.
-    let w = word_not_addressed c.args.self.now blocks c.args.at.pass c.args.at.lane c.args.at.column
-    (sym c.requires ∙ c.in-None.is) in
+    let w = word_not_addressed c.args.self.now blocks c.args.at c.requires.in_segment (sym c.requires.addresses ∙ c.in-None.is) in
     cc
