@@ -32,10 +32,10 @@ pub struct Params {
 }
 
 impl Params {
-    ghost use Rattle.std.specs.Prelude.{◌≤◌};
+    ghost use Rattle.std.specs.Prelude.{◌≤◌, ◌*◌};
     ghost use Rattle.argon2.specs.Params.{AreBytes, IsParamsOf, IsSetting, parameters_of};
     ghost use Rattle.argon2.specs.Settings.{plain};
-    ghost use Rattle.argon2.specs.Rfc9106.{block_count_for, lane_length_for};
+    ghost use Rattle.argon2.specs.Rfc9106.{block_count_for, lane_length_for, segment_length_for};
 
     /// The memory cost by default.
     pub const DEFAULT_M_COST: u32 = 19456;
@@ -164,24 +164,33 @@ impl Params {
 
     /// The number of blocks that a hash fills: the greatest multiple of 4 times the number of lanes
     /// that is at most the memory cost (RFC 9106, section 3.2).
-    #[tactic(auto, unfolding(crate::specs::Rfc9106::segment_length_for))]
     pub fn block_count(&self) -> usize
         ensures value { result ≡ block_count_for (parameters_of self.now).m_cost
             (parameters_of self.now).p_cost }
         ensures in_memory { result ≤ (parameters_of self.now).m_cost }
         ensures small { result < 2 ^ 32 }
     {
-        let segments = SLICES as usize * self.p_cost as usize;
-        self.m_cost as usize / segments * segments
+        (SLICES * self.p_cost * self.segment_length()) as usize
     }
 
     /// The number of columns of a lane: four segments (RFC 9106, section 3.2, where it is `q`).
-    #[tactic(auto, unfolding(crate::specs::Rfc9106::segment_length_for))]
     pub fn lane_length(&self) -> u32
         ensures { result ≡ lane_length_for (parameters_of self.now).m_cost
             (parameters_of self.now).p_cost }
     {
-        SLICES * (self.m_cost / (SLICES * self.p_cost))
+        SLICES * self.segment_length()
+    }
+
+    // The number of columns of a segment.
+    #[tactic(auto, unfolding(crate::specs::Rfc9106::segment_length_for))]
+    pub(crate) fn segment_length(&self) -> u32
+        ensures value { result ≡ segment_length_for (parameters_of self.now).m_cost
+            (parameters_of self.now).p_cost }
+        ensures lane { 4 * result ≤ (parameters_of self.now).m_cost }
+        ensures lanes { (parameters_of self.now).p_cost * (4 * result)
+            ≤ (parameters_of self.now).m_cost }
+    {
+        self.m_cost / (SLICES * self.p_cost)
     }
 }
 

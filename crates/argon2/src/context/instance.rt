@@ -23,9 +23,9 @@ pub(crate) struct Instance<'a> {
 }
 
 impl<'a> Model for Instance<'a> {
-    ghost use Rattle.std.specs.Prelude.{◌≡◌, ◌<◌, ◌*◌, ◌/◌, ◌^◌, length, None, IsNone};
+    ghost use Rattle.std.specs.Prelude.{◌≡◌, ◌<◌, ◌*◌, ◌^◌, length, None, IsNone};
     ghost use Rattle.argon2.specs.Settings.{algorithm_number, first_fault, version_number};
-    ghost use Rattle.argon2.specs.Rfc9106.{Context};
+    ghost use Rattle.argon2.specs.Rfc9106.{Context, segment_length_for};
 
     ghost Value = { Context };
 
@@ -40,7 +40,7 @@ impl<'a> Model for Instance<'a> {
     } };
 
     ghost invariant = { λ a. IsNone (first_fault a.m_cost a.t_cost a.p_cost None)
-        × (a.segment_length ≡ a.m_cost / (4 * a.p_cost))
+        × (a.segment_length ≡ segment_length_for a.m_cost a.p_cost)
         × (length a.secret.now < 2 ^ 32) × (length a.associated.now < 2 ^ 32) };
 }
 
@@ -58,15 +58,13 @@ impl<'a> Instance<'a> {
         ensures { let own = settings_with algorithm version params.now in
             result ≡ record (context_with own secret.now) { associated = associated.now } }
     {
-        let m_cost = params.m_cost();
-        let p_cost = params.p_cost();
         Instance {
             algorithm,
             version,
-            m_cost,
+            m_cost: params.m_cost(),
             t_cost: params.t_cost(),
-            p_cost,
-            segment_length: m_cost / (SLICES * p_cost),
+            p_cost: params.p_cost(),
+            segment_length: params.segment_length(),
             secret,
             associated,
         }

@@ -4,7 +4,6 @@ use Rattle.argon2.proofs.recurrence.Validity.{sizes_of_valid}
 use Rattle.argon2.proofs.context.instance.Instance.segment_length.Goals as goal
 
 pub returns : goal.returns
-unfolding segment_length_for
 returns c = record {
   value = subst (λ (x : Context). c.self.inside.segment_length ≡ segment_length_for x.m_cost x.p_cost) c.self.view_is
       c.self.invariant.1;
