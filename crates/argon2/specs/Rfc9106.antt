@@ -226,11 +226,6 @@ addresses_at ctx pass lane slice index =
     then Some (address_block ctx pass lane slice (address_counter index))
     else None
 
--- the address block that has the word of a block
-abbrev pub addresses_of : Context → ℕ → ℕ → ℕ → Option (List ℕ)
-addresses_of ctx pass lane column =
-    addresses_at ctx pass lane (column / segment_length ctx) (column % segment_length ctx)
-
 -- the block one column before, or at column 0 the last of the pass before
 unfoldable pub previous : Context → Blocks → ℕ → ℕ → ℕ → List ℕ
 previous ctx blocks pass lane zero = blocks (pass - 1) lane (lane_length ctx - 1)

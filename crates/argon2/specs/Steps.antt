@@ -1,6 +1,6 @@
 -- The blocks in one memory, lane after lane, where a block overwrites that of the pass before; and
 -- the orders of the steps that write them.
-use Rattle.argon2.specs.Rfc9106.{Context, Memory, block_count, lane_length, made_block, place_of, reference_of, segment_length, xor_lanes}
+use Rattle.argon2.specs.Rfc9106.{Context, Memory, lane_length, made_block, place_of, reference_of, segment_length, xor_lanes}
 use Rattle.std.specs.Prelude.{◌≡◌, ℕ, zero, suc, ◌+◌, ◌-◌, ◌*◌, ◌<◌, ◌≤◌, ◌&&◌, List, [], ◌∷◌, ◌==◌, count_by, slice_index_or, slice_set, if◌then◌else◌}
 use Rattle.std.specs.List.{AllByRecursion}
 
@@ -18,11 +18,6 @@ pub record IsStep (ctx : Context) (pass lane column : ℕ) : Type 0 where
   pub in_lanes : lane < ctx.p_cost
   pub in_columns : column < lane_length ctx
   pub later : pass ≡ 0 → 2 ≤ column
-
--- such a block in a memory of so many, which has its place
-pub record IsStepIn (ctx : Context) (blocks pass lane column : ℕ) : Type 0 where
-  pub step : IsStep ctx pass lane column
-  pub room : block_count ctx ≤ blocks
 
 -- the memory after the block of a pass, a lane and a column is written
 unfoldable pub step : Context → Memory → ℕ → ℕ → ℕ → Memory

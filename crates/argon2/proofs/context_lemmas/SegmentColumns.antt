@@ -1,12 +1,13 @@
 -- The columns of a segment, by their index in it.
-use Rattle.std.proofs.Common.{◌≡◌, ℕ, zero, suc, refl, ◌+◌, ◌-◌, ◌*◌, ◌/◌, ◌%◌, ◌<◌, ◌≤◌, ◌≢◌, ◌⊎◌, length, arith}
-use Rattle.std.specs.Prelude.{slice_index_or, ◌==◌, if◌then◌else◌}
-use Rattle.std.proofs.Math.Nat.{mul-le-mul_right}
-use Rattle.std.proofs.lemmas.Nat.{div-mul-add, mod-mul-add, mul-add-lt}
-use Rattle.argon2.specs.Rfc9106.{Context, Sizes, permitted, segment_length}
+use Rattle.std.proofs.Common.{◌≡◌, ℕ, zero, suc, refl, ◌+◌, ◌-◌, ◌*◌, ◌/◌, ◌%◌, ◌<◌, ◌≤◌, ◌≢◌, ◌⊎◌, arith}
+use Rattle.std.proofs.lemmas.Bool.Decides.{nat_tests}
+use Rattle.std.proofs.Math.Nat.{mod-eq-sub-div-mul, mod-lt, mul-le-mul_right}
+use Rattle.std.proofs.lemmas.Nat.{div-add-mod', div-mul-add, mod-mul-add, mul-add-lt}
+use Rattle.argon2.specs.Rfc9106.{Context, Sizes, segment_length}
 use Rattle.argon2.specs.SegmentSteps.{column_of, IsStepAt}
 use Rattle.argon2.specs.declared.context.fill.Step.{Step}
-use Rattle.argon2.proofs.recurrence.PermittedPlaces.{InSlice, finished_column, finished_count, get_or-permitted, length-permitted}
+use Rattle.argon2.proofs.recurrence.Addresses.{few_mixings, next_mixings, same_addresses, same_mixings}
+use Rattle.argon2.proofs.recurrence.PermittedPlaces.{InSlice, in_slice, get_or-permitted, length-permitted}
 
 -- at an index that begins no address block the one at hand serves on
 pub serves_on : (index : ℕ) → (index % 128 ≢ 0) ⊎ (index ≤ 0) → (index - 1) / 128 ≡ index / 128
@@ -44,25 +45,22 @@ pub slice_of_column : (ctx : Context) (at : Step) → at.index < segment_length 
     → column_of ctx at / segment_length ctx ≡ at.slice
 slice_of_column ctx at h = div-mul-add at.slice (segment_length ctx) at.index h
 
--- and so is its index
+-- and the index that in the segment
 pub index_of_column : (ctx : Context) (at : Step) → at.index < segment_length ctx
     → column_of ctx at % segment_length ctx ≡ at.index
 index_of_column ctx at h = mod-mul-add at.slice (segment_length ctx) at.index h
 
--- how many blocks a step may refer to
-pub permitted_count_of : (ctx : Context) (at : Step) → IsStepAt ctx at → (other : ℕ)
-    → length (permitted ctx at.pass at.lane (column_of ctx at) other)
-    ≡ (let finished = finished_count ctx at.pass at.slice in
-    if at.index == 0 then finished - 1 else finished + (if other == at.lane then at.index - 1 else 0))
-permitted_count_of ctx at st other = rw (slice_of_column ctx at st.in_segment, index_of_column ctx at st.in_segment) at
-    (length-permitted ctx st.sizes (column_of ctx at) st.step.in_columns at.pass at.lane other st.step.later)
+-- each index of a segment is a step, and its address blocks take few mixings
+pub ruleset steps = (a_step, few_mixings)
 
--- the column of the one at an index
-pub permitted_column_of : (ctx : Context) (at : Step) → IsStepAt ctx at → (other i : ℕ)
-    → i < length (permitted ctx at.pass at.lane (column_of ctx at) other)
-    → (slice_index_or (permitted ctx at.pass at.lane (column_of ctx at) other) i (0, 0)).1 ≡ finished_column ctx at.pass at.slice i
-permitted_column_of ctx at st other i h = rw (slice_of_column ctx at st.in_segment) at
-    (get_or-permitted ctx st.sizes (column_of ctx at) st.step.in_columns at.pass at.lane other i h)
+-- which address block serves a step
+pub ruleset served = (serves_on, serves_next, next_mixings, same_addresses, same_mixings)
+
+-- where a column is in its slice
+pub ruleset in_its_slice = (slice_of_column, mod-eq-sub-div-mul, mod-lt, div-add-mod', in_slice)
+
+-- which block a step refers to
+pub ruleset references = (nat_tests, length-permitted, get_or-permitted, slice_of_column, index_of_column)
 
 -- a later slice begins at column 2 or above
 pub later_slice : (slice segment start : ℕ) → slice ≢ 0 → 2 ≤ segment → 2 ≤ slice * segment + start

@@ -12,6 +12,7 @@ use Rattle.argon2.specs.Steps.{IsStep, in_memory, step}
 use Rattle.argon2.specs.Watching.{HasBlocksUpTo, begun}
 use Rattle.argon2.specs.declared.context.fill.Step.{Step}
 use Rattle.argon2.proofs.recurrence.PermittedPlaces.{InSlice}
+use Rattle.argon2.proofs.recurrence.Sources.{Reads-place, reference_reads}
 use Rattle.argon2.proofs.context_lemmas.Filling.{step_fills}
 use Rattle.argon2.proofs.context_lemmas.InMemory.{place_below}
 use Rattle.argon2.proofs.context_lemmas.Schedules.{set_apart, turn_count-le}
@@ -60,6 +61,9 @@ unfolding step
 step_parts ctx at memory before own after b st size all parts made =
     rw (← made)
     (parts_set ctx at.slice at.lane at.index memory before own after b st.in_slices st.step.in_lanes st.in_segment size all parts)
+
+-- a step may read the block that it refers to
+pub ruleset readable = (Reads-place, reference_reads)
 
 -- ---- a lane that goes ahead of the others in its slice
 

@@ -88,6 +88,7 @@ impl Argon2<'_> {
 impl<'a> Instance<'a> {
     /// Makes the steps of a lane in a slice. `own` is its segment, `before` has the slices before it,
     /// and `after` those after it.
+    #[tactic(auto, using(crate::proofs::context_lemmas::SegmentColumns::steps))]
     fn fill_own(
         &self,
         before: &[Words],
@@ -118,6 +119,7 @@ impl<'a> Instance<'a> {
     }
 
     /// Writes the block of a step into its segment.
+    #[tactic(auto, using(crate::proofs::context_lemmas::SegmentParts::readable))]
     fn step_own(
         &self,
         before: &[Words],
@@ -159,6 +161,7 @@ impl<'a> Instance<'a> {
     }
 
     /// A block that a step may read.
+    #[tactic(auto, using(crate::proofs::context_lemmas::SegmentColumns::in_its_slice))]
     fn block<'m>(
         &self,
         before: &'m [Words],

@@ -131,6 +131,7 @@ impl<'a> Instance<'a> {
 
     /// The steps of a lane in a slice. `positions` has an entry for each block of each pass, which
     /// gets the place of the block's reference; or it is empty.
+    #[tactic(auto, using(crate::proofs::context_lemmas::SegmentColumns::steps))]
     fn fill_columns<B: MemoryBlock>(
         &self,
         memory: &mut [B],
@@ -187,13 +188,11 @@ impl<'a> Instance<'a> {
         ensures step { IsStepAt self.now result }
     {
         let segment = self.segment_length();
-        let slice = column / segment;
-        let index = column % segment;
         Step {
             pass,
             lane,
-            slice,
-            index,
+            slice: column / segment,
+            index: column % segment,
         }
     }
 

@@ -106,6 +106,7 @@ impl<'a> Instance<'a> {
     }
 
     /// The place of a lane's column in a memory that lies lane after lane.
+    #[tactic(auto, using(crate::proofs::context_lemmas::InMemory::place_below))]
     pub(super) fn place(&self, lane: u32, column: u32) -> u32
         requires in_lanes { lane < self.now.p_cost }
         requires in_columns { column < lane_length self.now }

@@ -41,6 +41,7 @@ fn reference_index(count: u32, word: u64) -> u32
 
 impl<'a> Instance<'a> {
     /// The word of a step: of its address block, or else `first`, the previous block's first.
+    #[tactic(auto, using(crate::proofs::context_lemmas::SegmentColumns::references), unfolding(crate::specs::Rfc9106::addresses_at, crate::specs::Rfc9106::address_word, crate::specs::Rfc9106::reference_word))]
     pub(super) fn word(&self, first: u64, addresses: &Option<Block>, at: Step) -> u64
         requires in_segment { at.index < segment_length self.now }
         requires addresses { addresses.now
@@ -56,6 +57,7 @@ impl<'a> Instance<'a> {
     }
 
     /// Replaces the address block of the column before by that of a step, if another begins there.
+    #[tactic(auto, using(crate::proofs::context_lemmas::SegmentColumns::served))]
     pub(super) fn renew(&self, addresses: &mut Option<Block>, at: Step, work: &mut Work)
         requires before { addresses.old
             ≡ addresses_at self.now at.pass at.lane at.slice (at.index - 1) }
@@ -138,6 +140,7 @@ impl<'a> Instance<'a> {
     }
 
     /// The lane and the column of that block.
+    #[tactic(auto, unfolding(crate::specs::Rfc9106::reference))]
     pub(super) fn reference(&self, at: Step, word: u64) -> (u32, u32)
         requires { IsStepAt self.now at }
         ensures lane { let column = column_of self.now at in
@@ -154,7 +157,7 @@ impl<'a> Instance<'a> {
     }
 
     /// The lane that is referred to.
-    #[tactic(auto, using(std::proofs::lemmas::Bool::Decides::nat_tests, crate::proofs::context_lemmas::SegmentColumns::slice_of_column), unfolding(crate::specs::Rfc9106::reference_lane))]
+    #[tactic(auto, using(crate::proofs::context_lemmas::SegmentColumns::references), unfolding(crate::specs::Rfc9106::reference_lane))]
     fn reference_lane(&self, at: Step, word: u64) -> u32
         requires { IsStepAt self.now at }
         ensures value { let column = column_of self.now at in
@@ -170,7 +173,7 @@ impl<'a> Instance<'a> {
     }
 
     /// How many blocks of a lane may be referred to.
-    #[tactic(auto, using(std::proofs::lemmas::Bool::Decides::nat_tests, crate::proofs::context_lemmas::SegmentColumns::permitted_count_of))]
+    #[tactic(auto, using(crate::proofs::context_lemmas::SegmentColumns::references))]
     fn permitted_count(&self, at: Step, other: u32) -> u32
         requires step { IsStepAt self.now at }
         requires lane { MayReferTo self.now at.pass at.lane (column_of self.now at) other }
@@ -195,7 +198,7 @@ impl<'a> Instance<'a> {
     }
 
     /// The column of one of them.
-    #[tactic(auto, using(std::proofs::lemmas::Bool::Decides::nat_tests, crate::proofs::context_lemmas::SegmentColumns::permitted_column_of))]
+    #[tactic(auto, using(crate::proofs::context_lemmas::SegmentColumns::references))]
     fn permitted_column(&self, at: Step, index: u32) -> u32
         requires step { IsStepAt self.now at }
         requires few { index < lane_length self.now }

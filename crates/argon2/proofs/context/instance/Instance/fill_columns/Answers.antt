@@ -1,7 +1,7 @@
 use Rattle.std.proofs.Common.{◌≡◌, ◌+◌, ◌-◌, ◌*◌, ◌/◌, ap, ◌∙◌, arith}
 use Rattle.argon2.specs.Rfc9106.{addresses_at, segment_length}
 use Rattle.argon2.specs.Watching.{address_mixings, begun, segment_calls}
-use Rattle.argon2.proofs.recurrence.Addresses.{few_mixings, first_mixings, same_addresses, same_mixings}
+use Rattle.argon2.proofs.recurrence.Addresses.{first_mixings, same_addresses, same_mixings}
 use Rattle.argon2.proofs.context_lemmas.InOrder.{filled_step}
 use Rattle.argon2.proofs.context_lemmas.SegmentColumns.{a_column, a_step}
 use Rattle.argon2.proofs.context.instance.Instance.fill_columns.Goals as goal
@@ -22,32 +22,6 @@ loop-index-init g c =
           let mixings = same_mixings ctx c.args.pass c.args.slice 0 (c.first_index-start.result - 1) serves in
           omega arith;
     }
-
-pub renew-requires-clause-count : goal.renew-requires-clause-count
-renew-requires-clause-count g c =
-    let few = few_mixings c.args.self.now c.args.pass c.args.slice (c.loop-index.index - 1) in
-    let work = c.loop-index.invariant.work in
-    omega arith
-
-pub step-reference-requires-clause-count : goal.step-reference-requires-clause-count
-step-reference-requires-clause-count g c =
-    let few = few_mixings c.args.self.now c.args.pass c.args.slice (c.loop-index.index - 1) in
-    let few' = few_mixings c.args.self.now c.args.pass c.args.slice c.loop-index.index in
-    let work = c.loop-index.invariant.work in
-    let renewed = c.renew.ensures.work in
-    omega arith
-
-pub step-reference-requires-clause-step : goal.step-reference-requires-clause-step
-step-reference-requires-clause-step g c =
-    a_step _ c.segment_length-segment.ensures.sizes _ c.requires.in_lanes c.requires.in_slices
-    (rw c.segment_length-segment.ensures.value at c.loop-index-test.true)
-    (λ first. let two = c.first_index-start.ensures.later first in omega arith)
-
-pub put_position-requires : goal.put_position-requires
-put_position-requires g c =
-    a_step _ c.segment_length-segment.ensures.sizes _ c.requires.in_lanes c.requires.in_slices
-    (rw c.segment_length-segment.ensures.value at c.loop-index-test.true)
-    (λ first. let two = c.first_index-start.ensures.later first in omega arith)
 
 pub loop-index-preserved : goal.loop-index-preserved
 loop-index-preserved g c =

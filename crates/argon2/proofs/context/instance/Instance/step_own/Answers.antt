@@ -3,19 +3,9 @@ use Rattle.std.specs.Prelude.{slice_index}
 use Rattle.argon2.specs.Rfc9106.{made_block, previous}
 use Rattle.argon2.specs.SegmentSteps.{column_of}
 use Rattle.argon2.specs.Steps.{in_memory}
-use Rattle.argon2.proofs.recurrence.Sources.{Reads-place, reference_reads}
 use Rattle.argon2.proofs.context_lemmas.InMemory.{made_by_places, previous_in_memory}
 use Rattle.argon2.proofs.context_lemmas.SegmentParts.{step_parts}
 use Rattle.argon2.proofs.context.instance.Instance.step_own.Goals as goal
-
-pub block-y-requires-clause-place : goal.block-y-requires-clause-place
-block-y-requires-clause-place c =
-    let ctx = c.args.self.now in
-    let at = c.args.at in
-    let st = c.requires.step in
-    rw (c.reference-lane.ensures.lane, c.reference-lane.ensures.column)
-    (Reads-place ctx st.sizes at.pass at.lane (column_of ctx at) _ _ _
-    (reference_reads ctx st.sizes at.pass at.lane (column_of ctx at) c.word-word.result st.step))
 
 pub returns-clause-step : goal.returns-clause-step
 returns-clause-step c = λ memory all parts.
