@@ -134,9 +134,13 @@ static int hash_on(const argon2_context *c, argon2_type type, uint8_t *out, bloc
     const struct request request = requested(c, type);
     const uint32_t workers = worker_count(c);
     const size_t n = block_count(c);
-    const int answer = workers > 1 ? hash_in_threads(c, &request, out, memory, wipes, workers)
-        : argon2_c_hash(&request, INPUTS(c), memory, n, out, c->outlen);
-    if (wipes && workers == 1) wipe(memory, n * sizeof(block));
+    int answer;
+    if (workers > 1) {
+        answer = hash_in_threads(c, &request, out, memory, wipes, workers);
+    } else {
+        answer = argon2_c_hash(&request, INPUTS(c), memory, n, out, c->outlen);
+        if (wipes) wipe(memory, n * sizeof(block));
+    }
     wipe_stack();
     return answer;
 }
