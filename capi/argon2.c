@@ -6,7 +6,6 @@
 #define _GNU_SOURCE
 #include "argon2.h"
 
-#include <malloc.h>
 #include <stdbool.h>
 #include <stdlib.h>
 #include <string.h>
@@ -84,17 +83,29 @@ static __attribute__((noinline)) void wipe_stack(void) {
 
 /* ---- memory */
 
-enum { HUGE_PAGE = 2 << 20, LARGE = 4 << 20, MAPPED = 32 << 20 };
+enum { LINES = 128, HUGE_PAGE = 2 << 20, LARGE = 4 << 20, MAPPED = 32 << 20 };
 
-/* The blocks of a hash. Large memory is in huge pages, which saves most page faults; without huge pages nothing is lost.
- * Below 32 MiB malloc gives the same memory to the next hash, without a fault. From there on it maps memory anew for each
- * hash, which begins with a huge page. */
+/* The blocks of a hash, which begin on a line of the cache. In front of them is the address that malloc gave: a program may
+ * have a malloc and a free of its own, and no memalign. Large memory is in huge pages, which saves most page faults; without
+ * huge pages nothing is lost. Below 32 MiB malloc gives the same memory to the next hash, without a fault. From there on it
+ * maps memory anew for each hash, so the blocks begin with a huge page. */
 static block *new_blocks(size_t n) {
-    const size_t whole = n * sizeof(block);
-    uint8_t *const at = whole < MAPPED ? malloc(whole) : memalign(HUGE_PAGE, whole);
-    const size_t before = -(uintptr_t)at % HUGE_PAGE; /* the bytes up to the first huge page */
-    if (at && whole >= LARGE) (void)madvise(at + before, (whole - before) / HUGE_PAGE * HUGE_PAGE, MADV_HUGEPAGE);
+    const size_t whole = n * sizeof(block), multiple = whole < MAPPED ? LINES : HUGE_PAGE;
+    uint8_t *const given = malloc(whole + multiple + sizeof given);
+    uint8_t *at = given + sizeof given;
+    size_t before; /* the bytes up to the first huge page */
+    if (!given) return NULL;
+    at += -(uintptr_t)at % multiple;
+    memcpy(at - sizeof given, &given, sizeof given);
+    before = -(uintptr_t)at % HUGE_PAGE;
+    if (whole >= LARGE) (void)madvise(at + before, (whole - before) / HUGE_PAGE * HUGE_PAGE, MADV_HUGEPAGE);
     return (block *)at;
+}
+
+static void free_blocks(block *blocks) {
+    void *given;
+    memcpy(&given, (uint8_t *)blocks - sizeof given, sizeof given);
+    free(given);
 }
 
 /* ---- hashing */
@@ -151,7 +162,7 @@ static int hash_into(const argon2_context *c, argon2_type type, uint8_t *out) {
     int answer;
     if (!memory) return ARGON2_MEMORY_ALLOCATION_ERROR;
     answer = hash_on(c, type, out, memory, true);
-    free(memory);
+    free_blocks(memory);
     return answer;
 }
 
@@ -253,7 +264,7 @@ int argon2_verify(const char *encoded, const void *pwd, size_t pwdlen, argon2_ty
             answer = verify_on(type, encoded, n, pwd, pwdlen, &shown, room, memory, block_count(&c));
             wipe(memory, block_count(&c) * sizeof(block));
         }
-        free(memory);
+        if (memory) free_blocks(memory);
     }
     if (room) wipe_and_free(room, 2 * n);
     wipe_stack();

@@ -52,6 +52,7 @@ static void once(bool holds) {
 
 int32_t watched_begin(const struct request *request, bytes pwd, size_t pwdlen, bytes salt, size_t saltlen, bytes secret,
     size_t secretlen, bytes ad, size_t adlen, size_t outlen, block *first, size_t width) {
+    once((uintptr_t)first % 128 == 0);
     if (ANNOTATES) __tsan_write_range(first, width * sizeof *first);
     return argon2_c_begin(request, pwd, pwdlen, salt, saltlen, secret, secretlen, ad, adlen, outlen, first, width);
 }
@@ -108,7 +109,7 @@ int main(void) {
         hash(all[i].type, all[i].version, all[i].passes, 4, tag);
         expect(!memcmp(tag, alone, 32), "the tag of one thread", lanes);
     }
-    expect(wrong == 0, "each segment once and in order", lanes);
+    expect(wrong == 0, "blocks on a line of the cache, and each segment once and in order", lanes);
     printf("%d passed, %d failed\n", passed, failed);
     return failed != 0;
 }
