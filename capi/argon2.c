@@ -188,7 +188,9 @@ int argon2_ctx(argon2_context *context, argon2_type type) {
         if (!given) return ARGON2_MEMORY_ALLOCATION_ERROR;
     }
     is_lent = given && (uintptr_t)given % _Alignof(block) == 0 && !meets_input(&c, given, n);
-    if (meets_input(&c, c.out, c.outlen) || meet(c.out, c.outlen, given, n)) apart = malloc(c.outlen);
+    if (meets_input(&c, c.out, c.outlen) || meet(c.out, c.outlen, given, n)
+        || meet(c.out, c.outlen, context, sizeof c)) /* whose lengths a flag clears */
+        apart = malloc(c.outlen);
     else apart = c.out;
     if (!apart) answer = ARGON2_MEMORY_ALLOCATION_ERROR;
     else if (is_lent) answer = hash_on(&c, type, apart, (block *)given, false);
