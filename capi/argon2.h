@@ -8,8 +8,8 @@
  * Contracts of the crate argon2_c state what each function returns; docs/DIFFERENCES.md of the repository lists what
  * differs from the reference. A function that does not return ARGON2_OK writes nothing, except that argon2_verify_ctx writes the tag
  * of a password that does not match. Outputs may overlap inputs and each other.
- * All functions may be called by several threads at once. A call takes up to 32 KiB of the caller's stack, and 256 KiB
- * for the stack of each thread that it starts.
+ * All functions may be called by several threads at once. A call takes up to 32 KiB of the caller's stack. The stack of each
+ * thread that it starts is the process's default with 256 KiB more.
  */
 #ifndef ARGON2_H
 #define ARGON2_H

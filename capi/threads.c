@@ -8,7 +8,7 @@
 
 enum {
     FROM_HERE_IN_THREADS = 4 << 10, /* blocks: with less memory no thread pays */
-    STACK = 256 << 10, /* of each thread, as the default of a program may be too small */
+    STACK = 256 << 10, /* of each thread beside the default, which has room for the thread-local memory but may have no more */
     LOOKS = 200, /* of a thread that waits for the next slice, before it sleeps */
 };
 
@@ -150,9 +150,11 @@ static uint32_t start_threads(struct filling *f, pthread_t *threads) {
     static const int faults[] = {SIGSEGV, SIGBUS, SIGILL, SIGFPE, SIGTRAP, SIGSYS};
     uint32_t started = 0;
     pthread_attr_t attributes;
+    size_t size = 0;
     sigset_t blocked, before;
     if (pthread_attr_init(&attributes) != 0) return 0;
-    pthread_attr_setstacksize(&attributes, STACK);
+    pthread_attr_getstacksize(&attributes, &size);
+    pthread_attr_setstacksize(&attributes, size + STACK);
     sigfillset(&blocked);
     for (size_t i = 0; i < sizeof faults / sizeof *faults; i++) sigdelset(&blocked, faults[i]);
     pthread_sigmask(SIG_BLOCK, &blocked, &before);
