@@ -85,26 +85,32 @@ static __attribute__((noinline)) void wipe_stack(void) {
 
 enum { LINES = 128, HUGE_PAGE = 2 << 20, LARGE = 4 << 20, MAPPED = 32 << 20 };
 
+/* Large memory is in huge pages, which saves most page faults; without huge pages nothing is lost. Afterwards what the program
+ * puts there is in small pages, so that it does not take more memory than it uses. */
+static void advise(block *blocks, size_t n, int advice) {
+    const size_t whole = n * sizeof *blocks, before = -(uintptr_t)blocks % HUGE_PAGE; /* the bytes up to the first huge page */
+    if (whole >= LARGE) (void)madvise((uint8_t *)blocks + before, (whole - before) / HUGE_PAGE * HUGE_PAGE, advice);
+}
+
 /* The blocks of a hash, which begin on a line of the cache. In front of them is the address that malloc gave: a program may
- * have a malloc and a free of its own, and no memalign. Large memory is in huge pages, which saves most page faults; without
- * huge pages nothing is lost. Below 32 MiB malloc gives the same memory to the next hash, without a fault. From there on it
- * maps memory anew for each hash, so the blocks begin with a huge page. */
+ * have a malloc and a free of its own, and no memalign. Below 32 MiB malloc gives the same memory to the next hash, without a
+ * fault. From there on it maps memory anew for each hash, so the blocks begin with a huge page. */
 static block *new_blocks(size_t n) {
     const size_t whole = n * sizeof(block), multiple = whole < MAPPED ? LINES : HUGE_PAGE;
-    uint8_t *const given = malloc(whole + multiple + sizeof given);
-    uint8_t *at = given + sizeof given;
-    size_t before; /* the bytes up to the first huge page */
+    uint8_t *const given = malloc(whole + multiple + sizeof given), *at;
     if (!given) return NULL;
+    at = given + sizeof given;
     at += -(uintptr_t)at % multiple;
     memcpy(at - sizeof given, &given, sizeof given);
-    before = -(uintptr_t)at % HUGE_PAGE;
-    if (whole >= LARGE) (void)madvise(at + before, (whole - before) / HUGE_PAGE * HUGE_PAGE, MADV_HUGEPAGE);
+    advise((block *)at, n, MADV_HUGEPAGE);
     return (block *)at;
 }
 
-static void free_blocks(block *blocks) {
-    void *given;
-    memcpy(&given, (uint8_t *)blocks - sizeof given, sizeof given);
+static void free_blocks(block *blocks, size_t n) {
+    uint8_t *given, *const at = (uint8_t *)blocks - sizeof given;
+    advise(blocks, n, MADV_NOHUGEPAGE);
+    memcpy(&given, at, sizeof given);
+    wipe(at, sizeof given);
     free(given);
 }
 
@@ -158,11 +164,12 @@ static int hash_on(const argon2_context *c, argon2_type type, uint8_t *out, bloc
 
 /* Hashes so on memory of malloc's. */
 static int hash_into(const argon2_context *c, argon2_type type, uint8_t *out) {
-    block *const memory = new_blocks(block_count(c));
+    const size_t n = block_count(c);
+    block *const memory = new_blocks(n);
     int answer;
     if (!memory) return ARGON2_MEMORY_ALLOCATION_ERROR;
     answer = hash_on(c, type, out, memory, true);
-    free_blocks(memory);
+    free_blocks(memory, n);
     return answer;
 }
 
@@ -266,7 +273,7 @@ int argon2_verify(const char *encoded, const void *pwd, size_t pwdlen, argon2_ty
             answer = verify_on(type, encoded, n, pwd, pwdlen, &shown, room, memory, block_count(&c));
             wipe(memory, block_count(&c) * sizeof(block));
         }
-        if (memory) free_blocks(memory);
+        if (memory) free_blocks(memory, block_count(&c));
     }
     if (room) wipe_and_free(room, 2 * n);
     wipe_stack();
