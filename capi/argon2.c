@@ -6,6 +6,7 @@
 #define _GNU_SOURCE
 #include "argon2.h"
 
+#include <errno.h>
 #include <stdbool.h>
 #include <stdlib.h>
 #include <string.h>
@@ -86,10 +87,12 @@ static __attribute__((noinline)) void wipe_stack(void) {
 enum { LINES = 128, HUGE_PAGE = 2 << 20, LARGE = 4 << 20, MAPPED = 32 << 20 };
 
 /* Large memory is in huge pages, which saves most page faults; without huge pages nothing is lost. Afterwards what the program
- * puts there is in small pages, so that it does not take more memory than it uses. */
+ * puts there is in small pages, so that it does not take more memory than it uses. A refusal is no error. */
 static void advise(block *blocks, size_t n, int advice) {
+    const int error = errno;
     const size_t whole = n * sizeof *blocks, before = -(uintptr_t)blocks % HUGE_PAGE; /* the bytes up to the first huge page */
     if (whole >= LARGE) (void)madvise((uint8_t *)blocks + before, (whole - before) / HUGE_PAGE * HUGE_PAGE, advice);
+    errno = error;
 }
 
 /* The blocks of a hash, which begin on a line of the cache. In front of them is the address that malloc gave: a program may

@@ -40,10 +40,12 @@ static size_t block_count(const argon2_context *c) {
 /* How many threads make a hash, with the caller's. */
 static uint32_t worker_count(const argon2_context *c) {
     const uint32_t useful = c->threads < c->lanes ? c->threads : c->lanes;
+    const int error = errno;
     uint32_t usable = CPU_SETSIZE;
     cpu_set_t set;
     if (useful == 1 || block_count(c) < FROM_HERE_IN_THREADS) return 1;
     if (sched_getaffinity(0, sizeof set, &set) == 0) usable = CPU_COUNT(&set);
+    errno = error;
     if (usable == 0) return 1; /* a filter of system calls can answer that all went well and write nothing */
     return useful < usable ? useful : usable;
 }
@@ -148,6 +150,7 @@ static void *work(void *filling) {
  * own faults. */
 static uint32_t start_threads(struct filling *f, pthread_t *threads) {
     static const int faults[] = {SIGSEGV, SIGBUS, SIGILL, SIGFPE, SIGTRAP, SIGSYS};
+    const int error = errno;
     uint32_t started = 0;
     pthread_attr_t attributes;
     size_t size = 0;
@@ -161,6 +164,7 @@ static uint32_t start_threads(struct filling *f, pthread_t *threads) {
     while (started + 1 < f->workers && pthread_create(&threads[started], &attributes, work, f) == 0) started++;
     pthread_sigmask(SIG_SETMASK, &before, NULL);
     pthread_attr_destroy(&attributes);
+    errno = error;
     return started;
 }
 
