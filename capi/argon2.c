@@ -248,6 +248,15 @@ size_t argon2_encodedlen(uint32_t t_cost, uint32_t m_cost, uint32_t lanes, uint3
 
 /* ---- verifying */
 
+/* How much of its room a text took: its salt, its tag and the tag that was made. A text that can't be read took at most its
+ * length, and nothing if it has not the four marks in front of a salt and a tag. */
+static size_t used(const struct shown *shown, int answer, const char *text, size_t n) {
+    if (answer != ARGON2_DECODING_FAIL) return shown->salt + 2 * shown->tag;
+    for (int marks = 0; text && marks < 4; marks++)
+        if ((text = strchr(text, '$'))) text++;
+    return text ? n : 0;
+}
+
 /* `room` is for what the text says, and for the tag that is made: two bytes for each of the text. */
 static int verify_on(argon2_type type, const char *text, size_t n, const void *pwd, size_t pwdlen, struct shown *shown,
     uint8_t *room, block *memory, size_t blocks) {
@@ -262,7 +271,7 @@ int argon2_verify(const char *encoded, const void *pwd, size_t pwdlen, argon2_ty
     int answer = verify_on(type, encoded, n, pwd, pwdlen, &shown, room, (block *)nothing, 0);
     if (answer == ARGON2_INCORRECT_PARAMETER) { /* nothing is wrong but that there was no memory */
         const argon2_context c = {
-            .out = room + n, .outlen = shown.tag, .pwd = (uint8_t *)pwd, .pwdlen = pwdlen, .salt = room,
+            .out = room + shown.salt + shown.tag, .outlen = shown.tag, .pwd = (uint8_t *)pwd, .pwdlen = pwdlen, .salt = room,
             .saltlen = shown.salt, .t_cost = shown.t_cost, .m_cost = shown.m_cost, .lanes = shown.lanes,
             .threads = shown.lanes, .version = shown.version,
         };
@@ -278,7 +287,7 @@ int argon2_verify(const char *encoded, const void *pwd, size_t pwdlen, argon2_ty
         }
         if (memory) free_blocks(memory, block_count(&c));
     }
-    if (room) wipe_and_free(room, 2 * n);
+    if (room) wipe_and_free(room, used(&shown, answer, encoded, n));
     wipe_stack();
     return answer;
 }
