@@ -294,7 +294,10 @@ int argon2_verify(const char *encoded, const void *pwd, size_t pwdlen, argon2_ty
 
 int argon2_verify_ctx(argon2_context *c, const char *hash, argon2_type type) {
     const argon2_context before = c ? *c : (argon2_context){0}; /* a callback may change it */
-    const int answer = argon2_ctx(c, type);
+    int answer;
+    /* (the tag of any password would be compared with itself) */
+    if (c && meet(hash, c->outlen, c->out, c->outlen) && refusal(c, type) == ARGON2_OK) return ARGON2_OUT_PTR_MISMATCH;
+    answer = argon2_ctx(c, type);
     if (answer != ARGON2_OK) return answer;
     return argon2_c_compare(some(hash), length(hash, before.outlen), before.out, before.outlen);
 }

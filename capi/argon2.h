@@ -6,8 +6,9 @@
  * so that a program that was made for libargon2 runs on this library unchanged.
  *
  * Contracts of the crate argon2_c state what each function returns; docs/DIFFERENCES.md of the repository lists what
- * differs from the reference. A function that does not return ARGON2_OK writes nothing, except that argon2_verify_ctx writes the tag
- * of a password that does not match. Outputs may overlap inputs and each other.
+ * differs from the reference. A function that does not return ARGON2_OK writes nothing, except that argon2_verify_ctx, if the
+ * password does not match, writes its tag and clears the inputs that the flags name. Outputs may overlap inputs and each other,
+ * but the tag that argon2_verify_ctx is given may not.
  * All functions may be called by several threads at once. A call takes up to 32 KiB of the caller's stack. The stack of each
  * thread that it starts is the process's default with 256 KiB more.
  */
@@ -182,7 +183,8 @@ ARGON2_PUBLIC int argon2d_verify(const char *encoded, const void *pwd, size_t pw
 ARGON2_PUBLIC int argon2i_verify(const char *encoded, const void *pwd, size_t pwdlen);
 ARGON2_PUBLIC int argon2id_verify(const char *encoded, const void *pwd, size_t pwdlen);
 
-/* Verifies a tag: hashes as the context says, and compares the tag with as many bytes of `hash`. */
+/* Verifies a tag: hashes as the context says, and compares the tag with as many bytes of `hash`. These must not overlap the
+ * context's output, which is refused by ARGON2_OUT_PTR_MISMATCH, nor an input that a flag clears or a callback's memory. */
 ARGON2_PUBLIC int argon2_verify_ctx(argon2_context *context, const char *hash, argon2_type type);
 ARGON2_PUBLIC int argon2d_verify_ctx(argon2_context *context, const char *hash);
 ARGON2_PUBLIC int argon2i_verify_ctx(argon2_context *context, const char *hash);
