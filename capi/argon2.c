@@ -96,7 +96,7 @@ static void advise(block *blocks, size_t n, int advice) {
 }
 
 /* The blocks of a hash, which begin on a line of the cache. In front of them is the address that malloc gave: a program may
- * have a malloc and a free of its own, and no memalign. Below 32 MiB malloc gives the same memory to the next hash, without a
+ * define malloc and free itself, and no memalign. Below 32 MiB malloc gives the same memory to the next hash, without a
  * fault. From there on it maps memory anew for each hash, so the blocks begin with a huge page. */
 static block *new_blocks(size_t n) {
     const size_t whole = n * sizeof(block), multiple = whole < MAPPED ? LINES : HUGE_PAGE;
