@@ -1,28 +1,29 @@
--- What the program is asked for, and what it replies.
-use Rattle.std.specs.Prelude.{ℕ, ◌≡◌, ◌≤◌, ◌<◌, ◌^◌, ◌==◌, if◌then◌else◌, Option, Some, None, IfSome, Result, Ok, Err, MatchResult, ⊤, List, [], ◌∷◌, ◌++◌, length, String, codes, string_bytes}
-use Rattle.std.specs.Io.KnownBytes.{Appends}
+-- What the program is asked for, what it replies, and why it fails.
+use Rattle.std.specs.Prelude.{ℕ, ◌≡◌, ◌≤◌, ◌<◌, ◌^◌, ◌==◌, if◌then◌else◌, Option, Some, None, IfSome, Result, Ok, Err, MatchResult, ⊤, List, [], ◌∷◌, ◌++◌, ◌⊎◌, length, String, codes, string_bytes}
+use Rattle.std.specs.Io.KnownBytes.{Appends, Keeps}
 use Rattle.std.specs.Fmt.{decimal}
 use Rattle.hex.specs.Hex.{encode_lower}
 use Rattle.argon2_base.specs.Blake2b.{blake2b}
 use Rattle.argon2_base.specs.LongHash.{long_hash}
 use Rattle.argon2_base.specs.declared.error.Error.{Error}
 use Rattle.argon2_base.specs.declared.error.Error.TheVariants.{AlgorithmInvalid, OutputTooShort, VersionInvalid}
-use Rattle.argon2_base.specs.PhcText.{Phc, phc_text}
+use Rattle.argon2_base.specs.Error.{Fault, bad_encoding, fault_of}
+use Rattle.argon2_base.specs.PhcText.{Phc, PhcText, phc_text}
 use Rattle.argon2.specs.declared.algorithm.Algorithm.{Algorithm}
 use Rattle.argon2.specs.declared.context.Argon2.{Argon2}
 use Rattle.argon2.specs.declared.version.Version.{Version}
 use Rattle.argon2.specs.Argon2.{secret_of, settings_of}
-use Rattle.argon2.specs.Stored.{Accepts}
+use Rattle.argon2.specs.Stored.{Accepts, verified}
 use Rattle.argon2.specs.Rfc9106.{context_with, tag_of}
 use Rattle.argon2.specs.Made.{hashed}
 use Rattle.argon2.specs.Refusals.{answer_unless, length_refusal}
 use Rattle.argon2.specs.Settings.{Settings, algorithm_named, first_fault, plain, version_numbered}
-use Rattle.argon2_tool.specs.Failures.{HasNone, IsBefore}
+use Rattle.argon2_tool.specs.Failures.{AppendsFront, IsOfInput, IsOfMemory}
 use Rattle.argon2_tool.specs.declared.arguments.Command.{Command}
 use Rattle.argon2_tool.specs.declared.arguments.Command.TheVariants.{Digest, Long, Tag, Phc as PhcCommand, Verify, Help, Version as VersionCommand}
 use Rattle.argon2_tool.specs.declared.arguments.Request.{Request}
 use Rattle.argon2_tool.specs.declared.failure.Failure.{Failure}
-use Rattle.argon2_tool.specs.declared.failure.Failure.TheVariants.{Hashing}
+use Rattle.argon2_tool.specs.declared.failure.Failure.TheVariants.{Hashing, Output, Text}
 use Rattle.argon2_tool.specs.declared.run.TheConstants.{HELP, VERSION}
 
 -- ---- commands and their words
@@ -103,12 +104,31 @@ Replies (Verify text) password line = (line ≡ codes "ok") × Accepts [] passwo
 Replies Help input line = line ≡ HELP.now
 Replies VersionCommand input line = line ≡ VERSION.now
 
--- a command fails before its reply to an input is written; a call refuses only if there is none
+-- ---- failures
+
+-- the fault of hashing to a text under settings and no secret
+abbrev pub IsPhcFault : Result Settings Error → List ℕ → List ℕ → Fault → Type 0
+IsPhcFault (Err refusal) salt password fault = ⊥
+IsPhcFault (Ok settings) salt password fault =
+    hashed (record { settings = settings; secret = [] }) password salt ≡ Err fault
+
+-- the fault of a text that does not accept the password: that of its value, or one of the grammar
+abbrev pub IsVerifyFault : List ℕ → List ℕ → Fault → Type 0
+IsVerifyFault password text fault = ((v : Phc) × PhcText text v × (verified [] password v ≡ Err fault))
+    ⊎ (((v : Phc) → PhcText text v → ⊥) × (fault ≡ bad_encoding))
+
+-- why a command has no reply to an input: the refusal of a call, or a failure before there is one
 abbrev pub Fails : Command → List ℕ → Failure → Type 0
 Fails (Long len) message (Hashing refusal) = long_reply len message ≡ Err refusal
 Fails (Tag request len salt) password (Hashing refusal) =
     tag_reply (settings_asked request) len salt.now password ≡ Err refusal
-Fails command message failure = IsBefore (Replies command message) failure
+Fails (PhcCommand request salt) password (Hashing refusal) = settings_asked request ≡ Err refusal
+Fails (PhcCommand request salt) password (Text refusal) =
+    IsPhcFault (settings_asked request) salt.now password (fault_of refusal)
+Fails (Verify text) password (Text refusal) = IsVerifyFault password text.now (fault_of refusal)
+Fails Help input failure = IsOfMemory failure
+Fails VersionCommand input failure = IsOfMemory failure
+Fails command input failure = IsOfInput failure
 
 -- what a command comes to on an input
 abbrev pub IsReply : {Z : Type 0} → Command → List ℕ → Result (String Z) Failure → Type 0
@@ -120,7 +140,9 @@ abbrev pub IsAnswered : Command → Option (List ℕ) → Option (List ℕ) → 
 IsAnswered command input old new = IfSome input (λ message.
     (line : List ℕ) × Replies command message line × Appends old new (line ++ 10 ∷ []))
 
--- the input is known, and the command has no reply to it
-abbrev pub IsRefused : Command → Option (List ℕ) → Type 0
-IsRefused command None = ⊥
-IsRefused command (Some message) = HasNone (Replies command message)
+-- if the input is known, the command fails so: its line can't be written, and a known output has at most a front of
+-- it, or there is no line, and the output is as before
+abbrev pub FailsBy : Command → Failure → Option (List ℕ) → Option (List ℕ) → Option (List ℕ) → Type 0
+FailsBy command Output input old new = IfSome input (λ message.
+    (line : List ℕ) × Replies command message line × AppendsFront old new (line ++ 10 ∷ []))
+FailsBy command failure input old new = IfSome input (λ message. Fails command message failure) × Keeps old new

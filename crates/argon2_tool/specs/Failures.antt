@@ -1,14 +1,16 @@
--- Why a command fails.
-use Rattle.std.specs.Prelude.{◌≡◌, ◌≢◌, ⊤, ℕ, List}
+-- Why a command fails, and what is printed then.
+use Rattle.std.specs.Prelude.{◌≡◌, ◌≢◌, ⊤, ℕ, List, [], ◌∷◌, ◌++◌, Option, codes}
+use Rattle.std.specs.Io.KnownBytes.{Appends}
 use Rattle.std.specs.IoError.{error_kind}
 use Rattle.std.specs.declared.io.Error.{Error as IoError}
 use Rattle.std.specs.declared.io.ErrorKind.TheVariants.{OutOfMemory as IoOutOfMemory}
+use Rattle.argon2_base.specs.Error.{error_text, hash_error_text}
 use Rattle.argon2_base.specs.declared.error.Error.{Error}
 use Rattle.argon2_base.specs.declared.error.Error.TheVariants.{OutOfMemory}
 use Rattle.argon2_base.specs.declared.error.password_hash.Error.{Error as TextError}
 use Rattle.argon2_base.specs.declared.error.password_hash.Error.TheVariants.{OutOfMemory as TextOutOfMemory}
 use Rattle.argon2_tool.specs.declared.failure.Failure.{Failure}
-use Rattle.argon2_tool.specs.declared.failure.Failure.TheVariants.{Input, Memory, Hashing, Text}
+use Rattle.argon2_tool.specs.declared.failure.Failure.TheVariants.{Input, Output, Memory, Hashing, Text}
 
 -- the failure of a read: out of memory is reported as that
 abbrev pub IsOfReading : IoError → Failure → Type 0
@@ -28,18 +30,30 @@ IsOfText refusal (Memory refused) = refusal ≡ TextOutOfMemory
 IsOfText refusal (Text error) = (error ≡ refusal) × (refusal ≢ TextOutOfMemory)
 IsOfText refusal _ = ⊥
 
+-- a request for memory was refused
+abbrev pub IsOfMemory : Failure → Type 0
+IsOfMemory (Memory refused) = ⊤
+IsOfMemory _ = ⊥
+
 -- the input can't be read, or a request for memory was refused
 abbrev pub IsOfInput : Failure → Type 0
 IsOfInput Input = ⊤
-IsOfInput (Memory refused) = ⊤
-IsOfInput _ = ⊥
+IsOfInput failure = IsOfMemory failure
 
--- no line is such a reply
-abbrev pub HasNone : (List ℕ → Type 0) → Type 0
-HasNone IsReply = (line : List ℕ) → IsReply line → ⊥
+-- ---- what is printed
 
--- the failure comes before a reply is written, and a call refuses only if there is none
-abbrev pub IsBefore : (List ℕ → Type 0) → Failure → Type 0
-IsBefore IsReply (Hashing refusal) = HasNone IsReply
-IsBefore IsReply (Text refusal) = HasNone IsReply
-IsBefore IsReply failure = IsOfInput failure
+-- the text of a failure
+abbrev pub failure_text : Failure → List ℕ
+failure_text Input = codes "standard input can't be read"
+failure_text Output = codes "standard output can't be written"
+failure_text (Memory refused) = codes "out of memory"
+failure_text (Hashing refusal) = error_text refusal
+failure_text (Text refusal) = hash_error_text refusal
+
+-- known bytes grow by a front of the text, which may be all of it
+abbrev pub AppendsFront : Option (List ℕ) → Option (List ℕ) → List ℕ → Type 0
+AppendsFront old new text = (front : List ℕ) × (rest : List ℕ) × (text ≡ front ++ rest) × Appends old new front
+
+-- known bytes grow by the failure's line, or by a front of it if a write fails
+abbrev pub IsReported : Failure → Option (List ℕ) → Option (List ℕ) → Type 0
+IsReported failure old new = AppendsFront old new (codes "argon2: " ++ failure_text failure ++ 10 ∷ [])

@@ -1,33 +1,43 @@
-//! Why a command fails.
+//! Why a command fails, and what is printed then.
 
-ghost use Rattle.std.specs.Prelude.{◌≡◌};
-ghost use Rattle.argon2_tool.specs.Failures.{IsOfHashing, IsOfReading, IsOfText};
+ghost use Rattle.std.specs.Prelude.{◌≡◌, ◌++◌};
+ghost use Rattle.argon2_tool.specs.Failures.{IsOfHashing, IsOfReading, IsOfText, failure_text};
 ghost use Rattle.argon2_tool.specs.declared.failure.Failure.TheVariants.{Memory};
 
 use argon2::password_hash;
 use std::alloc::AllocError;
 use std::io;
 use std::io::ErrorKind;
-use thiserror::Error;
 
-/// Why a command fails, with the text that the program prints.
-#[derive(Debug, Drop, Error)]
+/// Why a command fails.
+#[derive(Debug, Drop)]
 pub enum Failure {
     /// Standard input can't be read to its end.
-    #[error("standard input can't be read")]
     Input,
     /// Standard output can't be written.
-    #[error("standard output can't be written")]
     Output,
     /// A request for memory was refused.
-    #[error("out of memory")]
     Memory(AllocError),
     /// The call that the command makes refuses.
-    #[error(transparent)]
     Hashing(argon2::Error),
     /// The call that makes or verifies a text refuses.
-    #[error(transparent)]
     Text(password_hash::Error),
+}
+
+impl Failure {
+    /// What is printed, in three parts, as [`password_hash::Error::text`] has them.
+    pub fn text(&self) -> (&'static str, &'static str, &'static str)
+        ensures { result.0.now ++ result.1.now ++ result.2.now ≡ failure_text self.now }
+    {
+        let sentence = match self {
+            Failure::Input => "standard input can't be read",
+            Failure::Output => "standard output can't be written",
+            Failure::Memory(_) => "out of memory",
+            Failure::Hashing(error) => error.text(),
+            Failure::Text(error) => return error.text(),
+        };
+        (sentence, "", "")
+    }
 }
 
 impl From<AllocError> for Failure {

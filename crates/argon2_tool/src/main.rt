@@ -9,6 +9,7 @@ use std::process::ExitCode;
 
 mod arguments;
 mod failure;
+mod line;
 mod run;
 
 pub use run::run;
@@ -30,9 +31,15 @@ fn main(rt: HostRuntime) -> ExitCode {
 
 // The arguments after the program's name; none if one is not UTF-8, since no command has such an argument.
 fn words(rt: &HostRuntime) -> Result<Vec<String>, AllocError> {
+    let mut args = Vec::new(rt.alloc());
     match env::args(rt) {
-        Ok(words) => words.skip(1).collect(rt.alloc()),
-        Err(e) if e.kind() == ErrorKind::OutOfMemory => Err(AllocError),
-        Err(_) => Ok(Vec::new(rt.alloc())),
+        Ok(words) => {
+            for word in words.skip(1) {
+                args.push(word)?;
+            }
+        }
+        Err(e) if e.kind() == ErrorKind::OutOfMemory => return Err(AllocError),
+        Err(_) => {}
     }
+    Ok(args)
 }

@@ -1,14 +1,15 @@
 //! The program over any streams.
 
-ghost use Rattle.std.specs.Prelude.{◌≡◌, ◌↔◌, ◌≤◌, ◌⊎◌, IfSome, IfOk, OnOk, IfErr, map, string_bytes};
-ghost use Rattle.std.specs.Io.KnownBytes.{Appends, Keeps};
+ghost use Rattle.std.specs.Prelude.{◌≡◌, ◌↔◌, ◌≤◌, ◌++◌, ◌∷◌, [], IfSome, IfOk, OnOk, IfErr, map, string_bytes};
+ghost use Rattle.std.specs.Io.KnownBytes.{Keeps};
 ghost use Rattle.hex.specs.Hex.{encode_lower};
 ghost use Rattle.argon2_base.specs.Blake2b.{blake2b};
-ghost use Rattle.argon2_tool.specs.Commands.{Fails, IsAnswered, IsCommand, IsRefused, IsReply, Spells};
-ghost use Rattle.argon2_tool.specs.Failures.{IsOfInput};
+ghost use Rattle.argon2_tool.specs.Commands.{FailsBy, IsAnswered, IsCommand, IsReply, Spells};
+ghost use Rattle.argon2_tool.specs.Failures.{AppendsFront, IsOfInput, IsReported};
 
 use crate::arguments::{Command, Request};
 use crate::failure::Failure;
+use crate::line::write_line;
 use argon2::blake2b::Blake2b;
 use argon2::blake2b_long::blake2b_long;
 use argon2::{Argon2, PasswordHasher, PasswordVerifier};
@@ -43,10 +44,10 @@ const VERSION: &str = "argon2-tool 0.6.0";
 
 /// Runs the command that `args` spell on `input`, and returns the exit status.
 ///
-/// Status 0: the answer is written to `output`, as a line, and nothing to `errors`. Status 1: the
-/// failure's text is written to `errors`, and if the answer to `input` is a refusal, nothing to
-/// `output`. Status 2: the arguments spell no command, `errors` has the usage line, and neither `input`
-/// nor `output` is touched. If `errors` can't be written, the status stays.
+/// Status 0: the command's line is written to `output`, and nothing to `errors`. Status 1: the line of
+/// why it failed is written to `errors`. If that is not a write of `output`, nothing is written there.
+/// Status 2: the arguments spell no command, `errors` has the usage line, and neither `input` nor
+/// `output` is touched. If `errors` can't be written, the status stays.
 pub fn run<R: Read, W: Write, E: Write>(
     alloc: Global,
     args: &[String],
@@ -61,12 +62,15 @@ pub fn run<R: Read, W: Write, E: Write>(
     ensures answered { result ≡ 0 → (c : Command) × Spells (map string_bytes args.now) c
         × IsAnswered c (R.remaining input.old) (W.contents output.old) (W.contents output.new) }
     ensures quiet { result ≡ 0 → Keeps (E.contents errors.old) (E.contents errors.new) }
-    ensures refused { result ≡ 1 → (c : Command) × Spells (map string_bytes args.now) c
-        × (IsRefused c (R.remaining input.old)
-        → Keeps (W.contents output.old) (W.contents output.new)) }
+    ensures failed { result ≡ 1 → (c : Command) × Spells (map string_bytes args.now) c
+        × (failure : Failure)
+        × FailsBy c failure (R.remaining input.old) (W.contents output.old) (W.contents output.new)
+        × IsReported failure (E.contents errors.old) (E.contents errors.new) }
+    ensures usage_line { result ≡ 2 → AppendsFront (E.contents errors.old) (E.contents errors.new)
+        (USAGE.now ++ 10 ∷ []) }
 {
     let Some(command) = Command::parsed(args) else {
-        let _ = writeln!(errors, "{USAGE}");
+        let _ = write_line(errors, &[USAGE]);
         return 2;
     };
     match answer(alloc, &command, input, output) {
@@ -77,9 +81,11 @@ pub fn run<R: Read, W: Write, E: Write>(
 
 /// Says on `errors` why the program fails, and returns the exit status, 1.
 pub fn fail<E: Write>(errors: &mut E, failure: Failure) -> u8
-    ensures { result ≡ 1 }
+    ensures status { result ≡ 1 }
+    ensures reported { IsReported failure (E.contents errors.old) (E.contents errors.new) }
 {
-    let _ = writeln!(errors, "argon2: {failure}");
+    let (start, name, end) = failure.text();
+    let _ = write_line(errors, &["argon2: ", start, name, end]);
     1
 }
 
@@ -93,16 +99,14 @@ fn answer<R: Read, W: Write>(
     requires { IsCommand command.now }
     ensures ok { OnOk result (IsAnswered command.now (R.remaining input.old)
         (W.contents output.old) (W.contents output.new)) }
-    ensures err { IfErr result (λ failure.
-        ((failure ≡ Failure.Output) × ¬ IsRefused command.now (R.remaining input.old))
-        ⊎ (IfSome (R.remaining input.old) (λ message. Fails command.now message failure)
-        × Keeps (W.contents output.old) (W.contents output.new))) }
+    ensures err { IfErr result (λ failure. FailsBy command.now failure (R.remaining input.old)
+        (W.contents output.old) (W.contents output.new)) }
 {
     let text = reply(alloc, command, input)?;
-    let Ok(()) = writeln!(output, "{text}") else {
-        return Err(Failure::Output);
-    };
-    output.flush().or(Err(Failure::Output))
+    match write_line(output, &[text.as_str()]) {
+        Ok(()) => Ok(()),
+        Err(_) => Err(Failure::Output),
+    }
 }
 
 // What a command replies to the input.

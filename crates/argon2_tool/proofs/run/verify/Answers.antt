@@ -1,18 +1,34 @@
-use Rattle.std.proofs.Common.{rules, ◌≡◌, ◌⊎◌, List, ℕ}
+use Rattle.std.proofs.Common.{arith, ◌≡◌, List, [], ℕ, Err, inl, inr, sym}
 use Rattle.std.proofs.lemmas.Result.{err_from_is_err_and}
+use Rattle.std.specs.Borrow.{Bor}
+use Rattle.argon2.specs.Stored.{IsVerifyTextAnswer}
+use Rattle.argon2_base.specs.Error.{fault_of}
 use Rattle.argon2_base.specs.declared.error.password_hash.Error.{Error}
-use Rattle.argon2_base.specs.declared.error.password_hash.Error.TheVariants.{OutOfMemory}
-use Rattle.argon2_tool.specs.Failures.{IsBefore, IsOfText}
+use Rattle.argon2_tool.specs.Commands.{Fails, IsVerifyFault}
+use Rattle.argon2_tool.specs.Failures.{IsOfText}
+use Rattle.argon2_tool.specs.declared.arguments.Command.TheVariants.{Verify}
 use Rattle.argon2_tool.specs.declared.failure.Failure.{Failure}
+use Rattle.argon2_tool.specs.declared.failure.Failure.TheVariants.{Input, Output, Memory, Hashing, Text}
 use Rattle.argon2_tool.proofs.run.verify.Goals as goal
 
-refused : (P : List ℕ → Type 0) (X : Type 0) (e : Error) (f : Failure) → (e ≡ OutOfMemory) ⊎ (X → ⊥) → IsOfText e f
-    → IsBefore (λ line. P line × X) f
-refused P X e f why of = search rules
+-- a refusal that is not out of memory is the text's
+refused : (password text : List ℕ) (e own : Error) → IsVerifyTextAnswer [] password text (Err e)
+    → IsOfText e (Text own) → IsVerifyFault password text (fault_of own)
+refused password text e own (inl (v, is, inl same)) of = rw of.0 (inl (v, is, sym same))
+refused password text e own (inl (v, is, inr (none, known))) of = absurd (of.1 (grind arith))
+refused password text e own (inr (none, same)) of = rw of.0 (inr (none, grind arith))
+
+fails : (text : Bor (List ℕ)) (password : List ℕ) (e : Error) (failure : Failure)
+    → IsVerifyTextAnswer [] password text.now (Err e) → IsOfText e failure → Fails (Verify text) password failure
+fails text password e (Memory none) answer of = tt
+fails text password e (Text own) answer of = refused password text.now e own answer of
+fails text password e (Hashing own) answer of = absurd of
+fails text password e Input answer of = absurd of
+fails text password e Output answer of = absurd of
 
 pub returns-in_err-verify_password : goal.returns-in_err-verify_password
 returns-in_err-verify_password c =
     let none = c.default.ensures.secret in
-    let why = rw none at c.in_err-verify_password.ensures.accepted in
+    let why = rw none at c.in_err-verify_password.ensures.answer in
     let failed = err_from_is_err_and c.from_residual.result c.from_residual.ensures.1 in
-    rw failed.1 (refused _ _ _ failed.0 why failed.2)
+    rw failed.1 (fails c.args.text c.args.password.now _ failed.0 why failed.2)
