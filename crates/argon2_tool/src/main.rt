@@ -11,6 +11,8 @@ mod arguments;
 mod failure;
 mod line;
 mod run;
+#[cfg(test)]
+mod tests;
 
 pub use run::run;
 
