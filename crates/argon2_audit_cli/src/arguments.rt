@@ -1,10 +1,12 @@
 //! The options of the command line, and the names of files.
 
+use argon2::Algorithm;
 use argon2_audit::run::PROGRAM;
 use argon2_audit::{Field, Form, Limits, Options};
 use argon2_commands::invalid;
-use clap::{ArgMatches, Command, Error, arg, value_parser};
+use clap::{ArgMatches, Command, Error, arg};
 use std::alloc::{AllocError, Global};
+use std::fmt::InlineText;
 
 const ABOUT: &str = "\
 Says which stored texts of passwords are below a policy.
@@ -43,11 +45,10 @@ pub fn parsed<'a>(alloc: Global, words: &'a [String]) -> Result<(Options, Vec<&'
         return Err(invalid(&mut command, alloc, "--separator <C>", separator, why)?);
     };
     let names = matches.get_strs("FILE").unwrap_or(&["-"]).to_vec(alloc)?;
-    let field = matches.get_one::<u32>("field");
     let options = Options {
-        limits: limits(&matches),
+        limits: limits(alloc, &mut command, &matches)?,
         field: Field {
-            before: field.and_then(|n| n.checked_sub(1)),
+            before: before(alloc, &mut command, &matches)?,
             separator: *byte,
         },
         form: form(&matches),
@@ -56,16 +57,91 @@ pub fn parsed<'a>(alloc: Global, words: &'a [String]) -> Result<(Options, Vec<&'
 }
 
 // The limits that options ask for.
-fn limits(matches: &ArgMatches<'_>) -> Limits {
-    Limits {
-        m_cost: number(matches, "min-m"),
-        t_cost: number(matches, "min-t"),
-        p_cost: number(matches, "min-p"),
-        salt_len: number(matches, "min-salt"),
-        hash_len: number(matches, "min-hash"),
-        version: number(matches, "min-version"),
-        algorithm: matches.get_one("require"),
+fn limits(
+    alloc: Global,
+    command: &mut Command<'_>,
+    matches: &ArgMatches<'_>,
+) -> Result<Limits, Error> {
+    Ok(Limits {
+        m_cost: number(alloc, command, matches, ("min-m", "--min-m <M>"))?,
+        t_cost: number(alloc, command, matches, ("min-t", "--min-t <T>"))?,
+        p_cost: number(alloc, command, matches, ("min-p", "--min-p <P>"))?,
+        salt_len: number(alloc, command, matches, ("min-salt", "--min-salt <N>"))?,
+        hash_len: number(alloc, command, matches, ("min-hash", "--min-hash <N>"))?,
+        version: version(alloc, command, matches)?,
+        algorithm: algorithm(alloc, command, matches)?,
         allows_other: matches.get_flag("allow-other"),
+    })
+}
+
+// The number of an option of this name and form, 0 if it is not given. It is read here, and not by clap, which would
+// refuse a wrong value also if the option is given again.
+fn number(
+    alloc: Global,
+    command: &mut Command<'_>,
+    matches: &ArgMatches<'_>,
+    (name, form): (&str, &str),
+) -> Result<u32, Error> {
+    let value = matches.get_str(name).unwrap_or("0");
+    match value.parse::<u32>() {
+        Ok(number) => Ok(number),
+        Err(why) => {
+            let why = InlineText::<64>::of(why);
+            Err(invalid(command, alloc, form, value, why.as_str())?)
+        }
+    }
+}
+
+// The least version, 0 if there is none.
+fn version(
+    alloc: Global,
+    command: &mut Command<'_>,
+    matches: &ArgMatches<'_>,
+) -> Result<u32, Error> {
+    match matches.get_str("min-version") {
+        None => Ok(0),
+        Some("16") => Ok(16),
+        Some("19") => Ok(19),
+        Some(value) => {
+            let why = "it is not 16 or 19";
+            Err(invalid(command, alloc, "--min-version <V>", value, why)?)
+        }
+    }
+}
+
+// The one sound algorithm, if there is one.
+fn algorithm(
+    alloc: Global,
+    command: &mut Command<'_>,
+    matches: &ArgMatches<'_>,
+) -> Result<Option<Algorithm>, Error> {
+    let Some(name) = matches.get_str("require") else {
+        return Ok(None);
+    };
+    match Algorithm::new(name) {
+        Ok(algorithm) => Ok(Some(algorithm)),
+        Err(_) => {
+            let why = "it is not argon2d, argon2i or argon2id";
+            Err(invalid(command, alloc, "--require <ALGORITHM>", name, why)?)
+        }
+    }
+}
+
+// How many fields are before the one that is asked for, if one is.
+fn before(
+    alloc: Global,
+    command: &mut Command<'_>,
+    matches: &ArgMatches<'_>,
+) -> Result<Option<u32>, Error> {
+    let Some(value) = matches.get_str("field") else {
+        return Ok(None);
+    };
+    match number(alloc, command, matches, ("field", "--field <N>"))?.checked_sub(1) {
+        Some(before) => Ok(Some(before)),
+        None => {
+            let why = "0 is not in 1..=4294967295";
+            Err(invalid(command, alloc, "--field <N>", value, why)?)
+        }
     }
 }
 
@@ -76,11 +152,6 @@ fn form(matches: &ArgMatches<'_>) -> Form {
         (_, true) => Form::Quiet,
         _ => Form::Lines,
     }
-}
-
-// The number of an option, 0 if it has none.
-fn number(matches: &ArgMatches<'_>, name: &str) -> u32 {
-    matches.get_one(name).unwrap_or(0)
 }
 
 // The program's arguments.
@@ -97,31 +168,29 @@ fn command<'a>(alloc: Global) -> Result<Command<'a>, AllocError> {
 
 // With the least numbers that a text may show.
 fn with_least<'a>(alloc: Global, command: Command<'a>) -> Result<Command<'a>, AllocError> {
-    let number = value_parser!(u32);
     let memory = arg!(in alloc; --"min-m" <M> "The least memory, in blocks of 1024 bytes");
-    let command = command.arg(memory.value_parser(number).default_value("19456"))?;
+    let command = command.arg(memory.default_value("19456"))?;
     let passes = arg!(in alloc; --"min-t" <T> "The least number of passes");
-    let command = command.arg(passes.value_parser(number).default_value("2"))?;
+    let command = command.arg(passes.default_value("2"))?;
     let lanes = arg!(in alloc; --"min-p" <P> "The least number of lanes");
-    let command = command.arg(lanes.value_parser(number).default_value("1"))?;
+    let command = command.arg(lanes.default_value("1"))?;
     let salt = arg!(in alloc; --"min-salt" <N> "The fewest bytes of a salt");
-    let command = command.arg(salt.value_parser(number).default_value("16"))?;
+    let command = command.arg(salt.default_value("16"))?;
     let hash = arg!(in alloc; --"min-hash" <N> "The fewest bytes of a hash");
-    command.arg(hash.value_parser(number).default_value("32"))
+    command.arg(hash.default_value("32"))
 }
 
 // With what else makes a line sound, and where its text is.
 fn with_lines<'a>(alloc: Global, command: Command<'a>) -> Result<Command<'a>, AllocError> {
-    let version = arg!(in alloc; --"min-version" <V> "The least version [default: any]");
-    let command = command.arg(version.value_parser(["16", "19"].as_slice()))?;
-    let require = arg!(in alloc; --require <ALGORITHM> "The one sound algorithm [default: any]");
-    let require = require.value_parser(["argon2d", "argon2i", "argon2id"].as_slice());
-    let command = command.arg(require)?;
+    let command = command.arg(arg!(in alloc; --"min-version" <V>
+        "The least version, 16 or 19 [default: any]"))?;
+    let command = command.arg(arg!(in alloc; --require <ALGORITHM>
+        "The one sound algorithm, argon2d, argon2i or argon2id [default: any]"))?;
     let command = command.arg(arg!(in alloc; --"allow-other"
         "Other schemes, locked and blank lines and comments count as sound"))?;
     let field = arg!(in alloc; --field <N>
         "The text is field N, and a line without it is not sound [default: the second, or the line]");
-    command.arg(field.value_parser(value_parser!(u32).range(1..)))
+    command.arg(field)
 }
 
 // With what divides a line, what is written, and what is read.
