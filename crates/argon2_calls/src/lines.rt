@@ -1,0 +1,165 @@
+//! The values of a line, and what is answered if there is no value to answer.
+//!
+//! - A number is a decimal.
+//! - Bytes are `0x` and hex digits, a text in double quotes, or `COUNT*BYTE`, a byte in hex so many times; or several of
+//!   these, joined by `+`: `"abc"+3*00`. No text in quotes has a `+`, and no value a space.
+//! - A text stands word for word. If it begins with `0x` or a double quote, it is the bytes that this says.
+//! - `none` is no value.
+
+use argon2::password_hash;
+use argon2::phc::read_decimal;
+use std::alloc::{AllocError, AllocFailed, Global};
+use std::fmt;
+
+/// Why a line has no value for its answer.
+#[derive(Debug, Drop)]
+pub(crate) enum Refusal {
+    /// The line is no call, or a value is written otherwise.
+    Unread,
+    /// Memory is refused to this program.
+    Memory,
+    /// The call answers this error.
+    Error(argon2::Error),
+    /// The call answers this error.
+    Password(password_hash::Error),
+}
+
+/// What is printed after a line.
+pub(crate) type Answer = Result<String, Refusal>;
+
+impl fmt::Display for Refusal {
+    fn fmt<W: fmt::Write>(&self, f: &mut fmt::Formatter<W>) -> fmt::Result {
+        match self {
+            Refusal::Unread => f.write_str("?"),
+            Refusal::Memory => f.write_str("no memory"),
+            Refusal::Error(e) => write!(f, "{e:?}"),
+            Refusal::Password(e) => write!(f, "{e:?}"),
+        }
+    }
+}
+
+impl From<AllocError> for Refusal {
+    fn from(_: AllocError) -> Refusal {
+        Refusal::Memory
+    }
+}
+
+impl<T: Drop> From<AllocFailed<T>> for Refusal {
+    fn from(_: AllocFailed<T>) -> Refusal {
+        Refusal::Memory
+    }
+}
+
+impl From<argon2::Error> for Refusal {
+    fn from(e: argon2::Error) -> Refusal {
+        Refusal::Error(e)
+    }
+}
+
+impl From<password_hash::Error> for Refusal {
+    fn from(e: password_hash::Error) -> Refusal {
+        Refusal::Password(e)
+    }
+}
+
+/// Whether the line is no call that was looked for.
+pub(crate) fn is_unread(answer: &Answer) -> bool {
+    matches!(answer, Err(Refusal::Unread))
+}
+
+/// A number below 2^32.
+pub(crate) fn number(word: &str) -> Result<u32, Refusal> {
+    read_decimal(word).ok_or(Refusal::Unread)
+}
+
+/// A length.
+pub(crate) fn length(word: &str) -> Result<usize, Refusal> {
+    word.parse::<usize>().or(Err(Refusal::Unread))
+}
+
+/// A length or `none`.
+pub(crate) fn length_or_none(word: &str) -> Result<Option<usize>, Refusal> {
+    if word == "none" {
+        return Ok(None);
+    }
+    Ok(Some(length(word)?))
+}
+
+/// Some bytes.
+pub(crate) fn bytes(alloc: Global, word: &str) -> Result<Vec<u8>, Refusal> {
+    let mut all = Vec::new(alloc);
+    for piece in word.split('+') {
+        push_piece(&mut all, piece)?;
+    }
+    Ok(all)
+}
+
+/// A text.
+pub(crate) fn text(alloc: Global, word: &str) -> Result<String, Refusal> {
+    if !word.starts_with('"') && !word.starts_with("0x") {
+        return Ok(String::from_str(alloc, word)?);
+    }
+    let bytes = bytes(alloc, word)?;
+    match str::from_utf8(bytes.as_slice()) {
+        Ok(text) => Ok(String::from_str(alloc, text)?),
+        Err(_) => Err(Refusal::Unread),
+    }
+}
+
+/// Bytes as hex digits.
+pub(crate) fn hex(alloc: Global, bytes: &[u8]) -> Answer {
+    Ok(hex::encode(alloc, bytes)?)
+}
+
+fn push_piece(all: &mut Vec<u8>, piece: &str) -> Result<(), Refusal> {
+    if let Some(digits) = piece.strip_prefix("0x") {
+        return push_hex(all, digits);
+    }
+    if let Some(text) = quoted(piece) {
+        return push_all(all, text.as_bytes());
+    }
+    match piece.split_once('*') {
+        Some((count, byte)) => push_same(all, count, byte),
+        None => Err(Refusal::Unread),
+    }
+}
+
+// What stands between double quotes.
+fn quoted(piece: &str) -> Option<&str> {
+    piece.strip_prefix('"')?.strip_suffix('"')
+}
+
+fn push_hex(all: &mut Vec<u8>, digits: &str) -> Result<(), Refusal> {
+    let (pairs, rest) = digits.as_bytes().as_chunks::<2>();
+    if !rest.is_empty() {
+        return Err(Refusal::Unread);
+    }
+    for pair in pairs {
+        all.push(byte(pair)?)?;
+    }
+    Ok(())
+}
+
+fn push_same(all: &mut Vec<u8>, count: &str, digits: &str) -> Result<(), Refusal> {
+    let byte = byte(digits.as_bytes())?;
+    for _ in 0..number(count)? {
+        all.push(byte)?;
+    }
+    Ok(())
+}
+
+fn push_all(all: &mut Vec<u8>, bytes: &[u8]) -> Result<(), Refusal> {
+    for byte in bytes {
+        all.push(*byte)?;
+    }
+    Ok(())
+}
+
+// The byte of two hex digits.
+fn byte(digits: &[u8]) -> Result<u8, Refusal> {
+    let mut byte = [0];
+    match hex::decode_to_slice(digits, &mut byte) {
+        Ok(()) => Ok(byte[0]),
+        Err(_) => Err(Refusal::Unread),
+    }
+}
