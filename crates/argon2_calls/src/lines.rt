@@ -12,7 +12,7 @@ use std::alloc::{AllocError, AllocFailed, Global};
 use std::fmt;
 
 /// Why a line has no value for its answer.
-#[derive(Debug, Drop)]
+#[derive(Drop)]
 pub(crate) enum Refusal {
     /// The line is no call, or a value is written otherwise.
     Unread,
@@ -109,6 +109,11 @@ pub(crate) fn text(alloc: Global, word: &str) -> Result<String, Refusal> {
 /// Bytes as hex digits.
 pub(crate) fn hex(alloc: Global, bytes: &[u8]) -> Answer {
     Ok(hex::encode(alloc, bytes)?)
+}
+
+/// The answer of a call that has nothing to show.
+pub(crate) fn ok(alloc: Global) -> Answer {
+    Ok(String::from_str(alloc, "Ok")?)
 }
 
 fn push_piece(all: &mut Vec<u8>, piece: &str) -> Result<(), Refusal> {

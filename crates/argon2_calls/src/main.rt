@@ -20,6 +20,7 @@ mod context;
 mod drawn;
 mod hashing;
 mod lines;
+mod plain;
 mod state;
 mod texts;
 

@@ -7,12 +7,6 @@ mod accounts;
 #[cfg(test)]
 mod algorithm;
 #[cfg(test)]
-mod blake2b;
-#[cfg(test)]
-mod blake2b_long;
-#[cfg(test)]
-mod block;
-#[cfg(test)]
 mod bound;
 #[cfg(test)]
 mod common;
@@ -30,5 +24,3 @@ mod password_hash;
 mod phc;
 #[cfg(test)]
 mod uses;
-#[cfg(test)]
-mod version;
