@@ -9,6 +9,7 @@ use std::alloc::Global;
 
 mod blocks;
 mod digests;
+mod errors;
 mod lent;
 mod params;
 mod steps;
@@ -39,27 +40,19 @@ fn on_values(alloc: Global, call: &str, values: &[&str]) -> Answer {
     params::answer(alloc, call, values)
 }
 
-/// What is hashed, and the output.
-#[derive(Drop)]
-struct Inputs<'a> {
-    argon2: Argon2<'a>,
-    password: Vec<u8>,
-    salt: Vec<u8>,
-    out: Vec<u8>,
-}
+// What hashes, a password, a salt, and the output.
+type Inputs<'a> = (Argon2<'a>, Vec<u8>, Vec<u8>, Vec<u8>);
 
 // What the first four values say.
 fn read_inputs<'a>(state: &State<'a>, values: &[&str]) -> Result<Inputs<'a>, Refusal> {
     let [name, password, salt, len, ..] = values else {
         return Err(Refusal::Unread);
     };
-    let alloc = state.alloc;
-    Ok(Inputs {
-        argon2: context::named(state.contexts, name)?,
-        password: lines::bytes(alloc, password)?,
-        salt: lines::bytes(alloc, salt)?,
-        out: Vec::from_elem(alloc, 0xff, lines::length(len)?)?,
-    })
+    let argon2 = context::named(state.contexts, name)?;
+    let password = lines::bytes(state.alloc, password)?;
+    let salt = lines::bytes(state.alloc, salt)?;
+    let out = Vec::from_elem(state.alloc, 0xff, lines::length(len)?)?;
+    Ok((argon2, password, salt, out))
 }
 
 // A call on memory that it allocates, or on none.
@@ -70,6 +63,7 @@ fn own(state: &State<'_>, call: &str, values: &[&str]) -> Answer {
         "hash_password_into_with_data" => with_data(state, values),
         "hash_password_into_with_words" => with_words(state, values),
         "derive_key" => derive_key(state, values),
+        "Error::from" => errors::error(state.alloc, values),
         "laws" => follow_laws(state.alloc),
         _ => Err(Refusal::Unread),
     }
@@ -83,12 +77,7 @@ fn defined(alloc: Global, values: &[&str]) -> Answer {
 
 // `hash_password_into CONTEXT PASSWORD SALT LENGTH`: the tag, or the error and whether the output is the same.
 fn hash_password_into(state: &State<'_>, values: &[&str]) -> Answer {
-    let Inputs {
-        argon2,
-        password,
-        salt,
-        mut out,
-    } = read_inputs(state, values)?;
+    let (argon2, password, salt, mut out) = read_inputs(state, values)?;
     let answer = argon2.hash_password_into(state.alloc, &password, &salt, out.as_mut_slice());
     tag(state.alloc, answer, &out)
 }
@@ -99,12 +88,7 @@ fn with_data(state: &State<'_>, values: &[&str]) -> Answer {
         return Err(Refusal::Unread);
     };
     let (alloc, data) = (state.alloc, lines::bytes(state.alloc, data)?);
-    let Inputs {
-        argon2,
-        password,
-        salt,
-        mut out,
-    } = read_inputs(state, values)?;
+    let (argon2, password, salt, mut out) = read_inputs(state, values)?;
     let tag_of = out.as_mut_slice();
     let answer = argon2.hash_password_into_with_data(alloc, &data, &password, &salt, tag_of);
     tag(alloc, answer, &out)
@@ -117,12 +101,7 @@ fn with_words(state: &State<'_>, values: &[&str]) -> Answer {
     };
     let (alloc, data) = (state.alloc, lines::bytes(state.alloc, data)?);
     let mut memory = Vec::from_elem(alloc, [u64::MAX; 128], lines::length(count)?)?;
-    let Inputs {
-        argon2,
-        password,
-        salt,
-        mut out,
-    } = read_inputs(state, values)?;
+    let (argon2, password, salt, mut out) = read_inputs(state, values)?;
     if data.len() > MAX_AD_LEN {
         return Err(Refusal::Unread);
     }
@@ -133,12 +112,7 @@ fn with_words(state: &State<'_>, values: &[&str]) -> Answer {
 
 // `derive_key CONTEXT PASSWORD SALT LENGTH`: the key, or the error and whether the output is the same.
 fn derive_key(state: &State<'_>, values: &[&str]) -> Answer {
-    let Inputs {
-        argon2,
-        password,
-        salt,
-        mut out,
-    } = read_inputs(state, values)?;
+    let (argon2, password, salt, mut out) = read_inputs(state, values)?;
     match argon2.derive_key(state.alloc, &password, &salt, out.as_mut_slice()) {
         Ok(()) => lines::hex(state.alloc, &out),
         Err(e) => Ok(format!(in state.alloc; "kdf::{e:?}, output {}", same(is_untouched(&out)))?),

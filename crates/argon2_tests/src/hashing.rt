@@ -28,8 +28,7 @@ pub(super) fn known_with(
 // Whether a context gives the tag of four bytes of Argon2id, 0x13, in one pass over 8 blocks, for `abc` and `somesalt`.
 fn is_argon2id(argon2: &Argon2<'_>) -> bool {
     let (mut tag, mut memory) = ([0; 4], [Block::new(); 8]);
-    let answer =
-        argon2.hash_password_into_with_memory(b"abc", b"somesalt", &mut tag, &mut memory);
+    let answer = argon2.hash_password_into_with_memory(b"abc", b"somesalt", &mut tag, &mut memory);
     answer == Ok(()) && tag == [0xc9, 0xcb, 0x46, 0x1b]
 }
 

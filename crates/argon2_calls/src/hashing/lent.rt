@@ -7,7 +7,7 @@ ghost use Rattle.argon2.specs.Argon2.{context_of};
 ghost use Rattle.argon2.specs.Rfc9106.{block_count};
 
 use super::blocks::alike_pairs;
-use super::{Inputs, is_untouched, read_inputs, same, steps};
+use super::{is_untouched, read_inputs, same, steps};
 use crate::lines::{self, Answer, Refusal, hex, number};
 use crate::state::State;
 use argon2::blake2b::Blake2b;
@@ -101,12 +101,7 @@ pub(super) fn shown(
 
 // `hash_password_into_with_memory CONTEXT PASSWORD SALT LENGTH`.
 fn with_memory(state: &mut State<'_>, values: &[&str]) -> Answer {
-    let Inputs {
-        argon2,
-        password,
-        salt,
-        mut out,
-    } = read_inputs(state, values)?;
+    let (argon2, password, salt, mut out) = read_inputs(state, values)?;
     let old = digests(&argon2, &state.memory);
     let (tag, memory) = (out.as_mut_slice(), state.memory.as_mut_slice());
     let answer = argon2.hash_password_into_with_memory(&password, &salt, tag, memory);
@@ -115,12 +110,7 @@ fn with_memory(state: &mut State<'_>, values: &[&str]) -> Answer {
 
 // `fill_memory CONTEXT PASSWORD SALT 0`.
 fn fill_memory(state: &mut State<'_>, values: &[&str]) -> Answer {
-    let Inputs {
-        argon2,
-        password,
-        salt,
-        ..
-    } = read_inputs(state, values)?;
+    let (argon2, password, salt, _) = read_inputs(state, values)?;
     let old = digests(&argon2, &state.memory);
     let answer = argon2.fill_memory(&password, &salt, state.memory.as_mut_slice());
     shown(state.alloc, answer, &argon2, &[], old, &state.memory)
@@ -128,12 +118,7 @@ fn fill_memory(state: &mut State<'_>, values: &[&str]) -> Answer {
 
 // `begin_fill CONTEXT PASSWORD SALT LENGTH`.
 fn begin_fill(state: &mut State<'_>, values: &[&str]) -> Answer {
-    let Inputs {
-        argon2,
-        password,
-        salt,
-        out,
-    } = read_inputs(state, values)?;
+    let (argon2, password, salt, out) = read_inputs(state, values)?;
     let old = digests(&argon2, &state.memory);
     let memory = state.memory.as_mut_slice();
     let answer = argon2.begin_fill(&password, &salt, out.len(), memory);
@@ -154,12 +139,7 @@ pub(super) fn place_count(argon2: &Argon2<'_>) -> Result<usize, Refusal>
 
 // `hash_password_into_watched CONTEXT PASSWORD SALT LENGTH PLACE..`, with the positions at these places.
 fn watched(state: &mut State<'_>, values: &[&str], places: &[&str]) -> Answer {
-    let Inputs {
-        argon2,
-        password,
-        salt,
-        mut out,
-    } = read_inputs(state, values)?;
+    let (argon2, password, salt, mut out) = read_inputs(state, values)?;
     let old = digests(&argon2, &state.memory);
     let mut positions = Vec::from_elem(state.alloc, u32::MAX, place_count(&argon2)?)?;
     let (tag, memory) = (out.as_mut_slice(), state.memory.as_mut_slice());

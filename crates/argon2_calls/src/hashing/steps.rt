@@ -1,7 +1,7 @@
 //! Filling by single steps.
 
 use super::lent::{digests, place_count, shown, shown_places};
-use super::{Inputs, read_inputs};
+use super::read_inputs;
 use crate::lines::{Answer, Refusal};
 use crate::state::State;
 use argon2::{Argon2, Block};
@@ -9,12 +9,7 @@ use argon2::{Argon2, Block};
 // `step_block CONTEXT PASSWORD SALT LENGTH TURNS TURNS TURNS TURNS`: a filling by single steps. The words have the lanes'
 // turns in slices 0 to 3 of each pass, a digit for a step. In slice 0 of pass 0 the first two of each lane are no steps.
 pub(super) fn stepped(state: &mut State<'_>, values: &[&str], turns: &[&str]) -> Answer {
-    let Inputs {
-        argon2,
-        password,
-        salt,
-        mut out,
-    } = read_inputs(state, values)?;
+    let (argon2, password, salt, mut out) = read_inputs(state, values)?;
     let old = digests(&argon2, &state.memory);
     let memory = state.memory.as_mut_slice();
     argon2.begin_fill(&password, &salt, out.len(), memory)?;
