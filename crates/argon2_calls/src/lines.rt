@@ -6,10 +6,15 @@
 //! - A text stands word for word. If it begins with `0x` or a double quote, it is the bytes that this says.
 //! - `none` is no value.
 
+use crate::drawn::Drawn;
+use argon2::bound::BoundError;
+use argon2::login::LoginError;
 use argon2::password_hash;
 use argon2::phc::read_decimal;
+use argon2_accounts::AccountError;
+use argon2_store::{FileError, OpenError};
 use std::alloc::{AllocError, AllocFailed, Global};
-use std::fmt;
+use std::fmt::{self, Display};
 
 /// Why a line has no value for its answer.
 #[derive(Drop)]
@@ -22,6 +27,16 @@ pub(crate) enum Refusal {
     Error(argon2::Error),
     /// The call answers this error.
     Password(password_hash::Error),
+    /// The call answers this error.
+    Bound(BoundError),
+    /// The call answers this error.
+    Login(LoginError),
+    /// The call answers this error.
+    Account(AccountError),
+    /// The call answers this error.
+    File(FileError),
+    /// The call answers this error.
+    Open(OpenError),
 }
 
 /// What is printed after a line.
@@ -33,7 +48,15 @@ impl fmt::Display for Refusal {
             Refusal::Unread => f.write_str("?"),
             Refusal::Memory => f.write_str("no memory"),
             Refusal::Error(e) => write!(f, "{e:?}"),
-            Refusal::Password(e) => write!(f, "{e:?}"),
+            Refusal::Password(e) => write!(f, "{}", Named(*e)),
+            Refusal::Bound(BoundError::Refused(e)) => write!(f, "Refused({})", Named(*e)),
+            Refusal::Bound(e) => write!(f, "{e:?}"),
+            Refusal::Login(LoginError::Refused(e)) => write!(f, "Refused({})", Named(*e)),
+            Refusal::Login(e) => write!(f, "{e:?}"),
+            Refusal::Account(AccountError::Refused(e)) => write!(f, "Refused({})", Named(*e)),
+            Refusal::Account(e) => write!(f, "{e:?}"),
+            Refusal::File(e) => write!(f, "{e:?}"),
+            Refusal::Open(e) => write!(f, "{e:?}"),
         }
     }
 }
@@ -60,6 +83,86 @@ impl From<password_hash::Error> for Refusal {
     fn from(e: password_hash::Error) -> Refusal {
         Refusal::Password(e)
     }
+}
+
+impl From<BoundError> for Refusal {
+    fn from(e: BoundError) -> Refusal {
+        Refusal::Bound(e)
+    }
+}
+
+impl From<LoginError> for Refusal {
+    fn from(e: LoginError) -> Refusal {
+        Refusal::Login(e)
+    }
+}
+
+impl From<AccountError> for Refusal {
+    fn from(e: AccountError) -> Refusal {
+        Refusal::Account(e)
+    }
+}
+
+impl From<FileError> for Refusal {
+    fn from(e: FileError) -> Refusal {
+        Refusal::File(e)
+    }
+}
+
+impl From<OpenError> for Refusal {
+    fn from(e: OpenError) -> Refusal {
+        Refusal::Open(e)
+    }
+}
+
+// An error by its name, with the name of its parameter.
+#[derive(Drop)]
+struct Named(password_hash::Error);
+
+impl fmt::Display for Named {
+    fn fmt<W: fmt::Write>(&self, f: &mut fmt::Formatter<W>) -> fmt::Result {
+        match self.0 {
+            password_hash::Error::ParamInvalid { name } => write!(f, "ParamInvalid {name}"),
+            e => write!(f, "{e:?}"),
+        }
+    }
+}
+
+/// The text of a value that may be none.
+pub(crate) fn or_none<T: Display>(alloc: Global, value: Option<&T>) -> Result<String, AllocError> {
+    match value {
+        Some(value) => value.to_string(alloc),
+        None => String::from_str(alloc, "none"),
+    }
+}
+
+/// `Ok`, or the error.
+pub(crate) fn outcome<E: Drop>(done: Result<(), E>) -> Result<&'static str, Refusal>
+where
+    Refusal: From<E>,
+{
+    match done {
+        Ok(()) => Ok("Ok"),
+        Err(e) => Err(e.into()),
+    }
+}
+
+/// What a call returns.
+pub(crate) fn said<T: Display + Drop>(alloc: Global, done: Result<T, Refusal>) -> Answer {
+    match done {
+        Ok(value) => Ok(value.to_string(alloc)?),
+        Err(refusal) => Ok(refusal.to_string(alloc)?),
+    }
+}
+
+/// What a call returns, and how many bytes it has drawn.
+pub(crate) fn with_draw<T: Display + Drop>(
+    alloc: Global,
+    done: Result<T, Refusal>,
+    rng: &Drawn,
+) -> Answer {
+    let (said, count) = (said(alloc, done)?, rng.count());
+    Ok(format!(in alloc; "{said} drawn {count}")?)
 }
 
 /// Whether the line is no call that was looked for.

@@ -18,18 +18,23 @@ use std::io::{BufWriter, Read, Write};
 mod accounts;
 mod context;
 mod drawn;
+mod files;
 mod hashing;
 mod lines;
+mod passwords;
 mod plain;
 mod state;
+mod stores;
 mod texts;
+mod uses;
+mod values;
 
 fn main(rt: HostRuntime) -> io::Result<()> {
     let alloc = rt.alloc();
     let mut text = String::new(alloc);
     rt.reader().read_to_string(&mut text)?;
     let contexts = context::defined(alloc, text.as_str())?;
-    let mut state = State::new(alloc, contexts.as_slice());
+    let mut state = State::new(&rt, contexts.as_slice());
     let mut output = BufWriter::new(alloc, rt.stdout())?;
     for line in text.as_str().lines() {
         write_line(&mut output, &mut state, line)?;
@@ -55,10 +60,6 @@ fn answer(state: &mut State<'_>, line: &str) -> Answer {
         return Err(Refusal::Unread);
     };
     let answer = hashing::answer(state, call, values);
-    if !lines::is_unread(&answer) {
-        return answer;
-    }
-    let answer = texts::answer(state, call, values);
     if !lines::is_unread(&answer) {
         return answer;
     }
