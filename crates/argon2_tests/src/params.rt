@@ -1,8 +1,6 @@
 use argon2::{AssociatedData, KeyId, Params, ParamsBuilder};
 use std::test::Fail;
 
-mod text;
-
 #[test]
 fn has_defaults(rt: HostRuntime) {
     let params = Params::default();

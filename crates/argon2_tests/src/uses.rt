@@ -1,9 +1,0 @@
-//! The examples of callers.
-
-mod arena;
-mod digest;
-mod login;
-mod passwords;
-mod scheduler;
-mod secret;
-mod vault;
