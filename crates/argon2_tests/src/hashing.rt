@@ -1,29 +1,9 @@
-use argon2::{Algorithm, Argon2, AssociatedData, Block, KeyId, Params, ParamsBuilder, Version};
+use argon2::{Algorithm, Argon2, Block, Params, ParamsBuilder, Version};
 use std::convert::AsSlice;
 use std::test::Fail;
 
 mod constants;
 mod debug_texts;
-
-pub(super) const PWD: [u8; 32] = [1; 32];
-
-const SECRET: [u8; 8] = [3; 8];
-
-// What the vectors of RFC 9106, section 5, are made under.
-pub(super) fn known_with(
-    keyid: KeyId,
-    algorithm: Algorithm,
-    version: Version,
-) -> argon2::Result<Argon2<'static>> {
-    let mut builder = ParamsBuilder::new();
-    builder
-        .m_cost(32)
-        .t_cost(3)
-        .p_cost(4)
-        .keyid(keyid)
-        .data(AssociatedData::new(&[4; 12])?);
-    Argon2::new_with_secret(&SECRET, algorithm, version, builder.build()?)
-}
 
 // Whether a context gives the tag of four bytes of Argon2id, 0x13, in one pass over 8 blocks, for `abc` and `somesalt`.
 fn is_argon2id(argon2: &Argon2<'_>) -> bool {
