@@ -100,7 +100,10 @@ fn of_accounts<'a>(stores: &mut Stores<'a>, values: Values<'a, '_>, call: &str) 
         ("Accounts::texts", 0) => texts_of(alloc, accounts),
         ("Accounts::len", 0) => {
             let (len, is_empty) = (accounts.len(), accounts.is_empty());
-            Ok(format!(in alloc; "{len} {is_empty}")?)
+            lines::joined(
+                alloc,
+                &[&len.to_string(alloc)?, &is_empty.to_string(alloc)?],
+            )
         }
         (
             "Accounts::register"
@@ -160,15 +163,15 @@ fn changed(
 
 fn with_text(alloc: Global, accounts: &Accounts<'_>, done: &str, name: &str) -> Answer {
     let text = or_none(alloc, accounts.text_of(name))?;
-    Ok(format!(in alloc; "{done} {text}")?)
+    lines::joined(alloc, &[done, &text])
 }
 
 // Each name and its text.
 fn texts_of(alloc: Global, accounts: &Accounts<'_>) -> Answer {
     let mut all = String::new(alloc);
     for (name, text) in accounts.texts() {
-        let separator = if all.is_empty() { "" } else { " " };
-        write!(all, "{separator}{name} {text}")?;
+        lines::push_word(&mut all, name)?;
+        lines::push_word(&mut all, text.text().as_str())?;
     }
     Ok(all)
 }

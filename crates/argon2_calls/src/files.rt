@@ -37,7 +37,7 @@ pub(crate) fn answer<'a>(state: &mut State<'a>, values: Values<'a, '_>, call: &s
         return answer;
     }
     let answer = lines::said(alloc, answer)?;
-    Ok(format!(in alloc; "{answer} closed")?)
+    lines::joined(alloc, &[&answer, "closed"])
 }
 
 fn called(file: &mut File<'_>, values: Values<'_, '_>, call: &str) -> Answer {
@@ -106,9 +106,9 @@ fn with_text(alloc: Global, file: &mut File<'_>, done: &str, name: &str) -> Answ
     match file.text_of(name) {
         Ok(text) => {
             let text = or_none(alloc, text.as_ref())?;
-            Ok(format!(in alloc; "{done} {text}")?)
+            lines::joined(alloc, &[done, &text])
         }
-        Err(e) => Ok(format!(in alloc; "{done} {e:?}")?),
+        Err(e) => lines::joined(alloc, &[done, &Refusal::from(e).to_string(alloc)?]),
     }
 }
 
@@ -133,8 +133,7 @@ fn written(alloc: Global, file: &mut File<'_>) -> Answer {
     };
     let mut all = String::new(alloc);
     for line in text.lines() {
-        let separator = if all.is_empty() { "" } else { " " };
-        write!(all, "{separator}{line}")?;
+        lines::push_word(&mut all, line)?;
     }
     Ok(all)
 }

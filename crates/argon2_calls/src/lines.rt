@@ -128,6 +128,23 @@ impl fmt::Display for Named {
     }
 }
 
+/// Words, joined by spaces.
+pub(crate) fn joined(alloc: Global, words: &[&str]) -> Answer {
+    let mut all = String::new(alloc);
+    for word in words {
+        push_word(&mut all, word)?;
+    }
+    Ok(all)
+}
+
+/// Puts a word behind others and a space.
+pub(crate) fn push_word(all: &mut String, word: &str) -> Result<(), AllocError> {
+    if !all.is_empty() {
+        all.push_str(" ")?;
+    }
+    all.push_str(word)
+}
+
 /// The text of a value that may be none.
 pub(crate) fn or_none<T: Display>(alloc: Global, value: Option<&T>) -> Result<String, AllocError> {
     match value {
@@ -161,8 +178,8 @@ pub(crate) fn with_draw<T: Display + Drop>(
     done: Result<T, Refusal>,
     rng: &Drawn,
 ) -> Answer {
-    let (said, count) = (said(alloc, done)?, rng.count());
-    Ok(format!(in alloc; "{said} drawn {count}")?)
+    let (said, count) = (said(alloc, done)?, rng.count().to_string(alloc)?);
+    joined(alloc, &[&said, "drawn", &count])
 }
 
 /// Whether the line is no call that was looked for.

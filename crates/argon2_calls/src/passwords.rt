@@ -1,6 +1,7 @@
 //! Calls on passwords: hashing to a text, verifying, bounds, and what a store makes of one text.
 
 use crate::accounts::did;
+use crate::drawn::Drawn;
 use crate::lines::{self, Answer, Refusal, or_none};
 use crate::values::Values;
 use argon2::login::{LoggedIn, Target};
@@ -138,7 +139,7 @@ fn log_in_target(values: Values<'_, '_>) -> Answer {
     let (target, mut rng) = (Target::new(values.context(0)?)?, values.generator(1)?);
     let (password, hash) = (values.bytes(2)?, values.hash(3)?);
     let done = target.log_in(values.alloc, &mut rng, &password, &Stored::try_from(&hash)?);
-    logged_in(values.alloc, done.map_err(Refusal::from), rng.count())
+    logged_in(values.alloc, done.map_err(Refusal::from), &rng)
 }
 
 // `Target::hash_password CONTEXT GENERATOR PASSWORD`.
@@ -149,14 +150,13 @@ fn hash_for_target(values: Values<'_, '_>) -> Answer {
 }
 
 // What a login did, how many bytes it drew, and the fresh text.
-fn logged_in(alloc: Global, done: Result<LoggedIn, Refusal>, count: u32) -> Answer {
-    match done {
-        Ok(LoggedIn { accepted, fresh }) => {
-            let (did, fresh) = (did(accepted), or_none(alloc, fresh.as_ref())?);
-            Ok(format!(in alloc; "{did} drawn {count} {fresh}")?)
-        }
-        Err(refusal) => Ok(format!(in alloc; "{refusal} drawn {count} none")?),
-    }
+fn logged_in(alloc: Global, done: Result<LoggedIn, Refusal>, rng: &Drawn) -> Answer {
+    let (done, fresh) = match done {
+        Ok(LoggedIn { accepted, fresh }) => (Ok(did(accepted)), fresh),
+        Err(refusal) => (Err(refusal), None),
+    };
+    let done = lines::with_draw(alloc, done, rng)?;
+    lines::joined(alloc, &[&done, &or_none(alloc, fresh.as_ref())?])
 }
 
 // A call on a policy: its context and its bound, and then the call's values.
@@ -182,7 +182,7 @@ fn of_policy(values: Values<'_, '_>, call: &str) -> Answer {
 fn log_in(policy: &Policy<'_>, values: Values<'_, '_>) -> Answer {
     let (mut rng, password, hash) = (values.generator(4)?, values.bytes(5)?, values.hash(6)?);
     let done = policy.log_in(&mut rng, &hash, &password);
-    logged_in(values.alloc, done.map_err(Refusal::from), rng.count())
+    logged_in(values.alloc, done.map_err(Refusal::from), &rng)
 }
 
 // `.. GENERATOR OLD NEW TEXT`.

@@ -48,15 +48,15 @@ fn log_in(store: &mut Login<'_>, values: Values<'_, '_>) -> Answer {
 
 fn with_text(alloc: Global, store: &Login<'_>, done: &str, name: &str) -> Answer {
     let text = or_none(alloc, store.text_of(name))?;
-    Ok(format!(in alloc; "{done} {text}")?)
+    lines::joined(alloc, &[done, &text])
 }
 
 // `Login::texts`: each name and its text.
 fn texts(alloc: Global, store: &Login<'_>) -> Answer {
     let mut all = String::new(alloc);
     for (name, text) in store.texts() {
-        let separator = if all.is_empty() { "" } else { " " };
-        write!(all, "{separator}{name} {text}")?;
+        lines::push_word(&mut all, name)?;
+        lines::push_word(&mut all, text.text().as_str())?;
     }
     Ok(all)
 }

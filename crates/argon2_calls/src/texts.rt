@@ -74,8 +74,8 @@ fn fields(alloc: Global, hash: &PasswordHash) -> Answer {
         or_none(alloc, hash.salt.as_ref())?,
         or_none(alloc, hash.hash.as_ref())?,
     );
-    let name = &hash.algorithm;
-    Ok(format!(in alloc; "{name} {version} {params} {salt} {output}")?)
+    let name = hash.algorithm.as_str();
+    lines::joined(alloc, &[name, &version, &params, &salt, &output])
 }
 
 // `PasswordHash::text IDENTIFIER VERSION LIST SALT HASH`: the text of these fields, `none` or `""` for those that it lacks.
@@ -140,8 +140,8 @@ fn get(values: Values<'_, '_>) -> Answer {
 fn items(alloc: Global, list: &ParamsString) -> Answer {
     let mut all = String::new(alloc);
     for (name, value) in list.iter() {
-        let separator = if all.is_empty() { "" } else { " " };
-        write!(all, "{separator}{} {}", name.as_str(), value.as_str())?;
+        lines::push_word(&mut all, name.as_str())?;
+        lines::push_word(&mut all, value.as_str())?;
     }
     Ok(all)
 }
@@ -173,7 +173,7 @@ fn with_bytes(values: Values<'_, '_>) -> Answer {
 
 fn with_list(alloc: Global, done: password_hash::Result<()>, all: &ParamsString) -> Answer {
     let (done, list) = (lines::said(alloc, lines::outcome(done))?, list(alloc, all)?);
-    Ok(format!(in alloc; "{done} {list}")?)
+    lines::joined(alloc, &[&done, &list])
 }
 
 // ---- parameters
@@ -191,28 +191,30 @@ fn converted(alloc: Global, params: Params) -> Answer {
 
 // The parameters of a text, and the output length.
 fn parameters(alloc: Global, hash: &PasswordHash) -> Answer {
-    let params = Params::try_from(hash)?;
+    with_len(alloc, &Params::try_from(hash)?)
+}
+
+fn with_len(alloc: Global, params: &Params) -> Answer {
     let len = or_none(alloc, params.output_len().as_ref())?;
-    Ok(format!(in alloc; "{params} {len}")?)
+    lines::joined(alloc, &[&params.to_string(alloc)?, &len])
 }
 
 // The algorithm, the version, the parameters and the output length.
 fn settings(alloc: Global, settings: &Settings) -> Answer {
-    let Settings {
-        algorithm,
-        version,
-        params,
-    } = settings;
-    let (version, len) = (
-        u32::from(*version),
-        or_none(alloc, params.output_len().as_ref())?,
+    let (version, params) = (
+        u32::from(settings.version),
+        with_len(alloc, &settings.params)?,
     );
-    Ok(format!(in alloc; "{algorithm} {version} {params} {len}")?)
+    let version = version.to_string(alloc)?;
+    lines::joined(alloc, &[settings.algorithm.as_str(), &version, &params])
 }
 
 // The same, the salt and the hash.
 fn stored(alloc: Global, hash: &PasswordHash) -> Answer {
     let stored = Stored::try_from(hash)?;
     let (settings, salt, hash) = (settings(alloc, &stored.settings)?, stored.salt, stored.hash);
-    Ok(format!(in alloc; "{settings} {salt} {hash}")?)
+    lines::joined(
+        alloc,
+        &[&settings, salt.text().as_str(), hash.text().as_str()],
+    )
 }

@@ -55,7 +55,7 @@ fn seal(values: Values<'_, '_>) -> Answer {
         lines::hex(alloc, &key)?,
         lines::hex(alloc, header.tag.as_bytes())?,
     );
-    Ok(format!(in alloc; "{key} {tag}")?)
+    lines::joined(alloc, &[&key, &tag])
 }
 
 // `vault::open CONTEXT PASSPHRASE SALT TAG`: the key, or `none`.
@@ -108,7 +108,7 @@ fn hash_both(values: Values<'_, '_>) -> Answer {
     let (mut memory, mut tags) = (blocks(alloc, argon2.params())?, [[0; 32]; 2]);
     hash_all(&argon2, memory.as_mut_slice(), &inputs, &mut tags)?;
     let (one, other) = (lines::hex(alloc, &tags[0])?, lines::hex(alloc, &tags[1])?);
-    Ok(format!(in alloc; "{one} {other}")?)
+    lines::joined(alloc, &[&one, &other])
 }
 
 // `secret::verify_under_both GENERATOR OLD NEW PASSWORD TEXT`: the fresh text, or `none`.
