@@ -2,7 +2,7 @@
 //! and `keyid=BYTES`, names it for the lines of the whole input. The length is that of the output, or `none`. The answer is
 //! `Ok`, or the error of the call that makes it. `default` is `Argon2::default()`.
 
-use crate::lines::{Refusal, bytes, length_or_none, number};
+use crate::lines::{self, Refusal, bytes, length_or_none, number};
 use argon2::{Algorithm, Argon2, AssociatedData, KeyId, Params, ParamsBuilder, Version};
 use std::alloc::{AllocError, Global};
 
@@ -33,7 +33,7 @@ pub(crate) fn defined(alloc: Global, text: &str) -> Result<Vec<Context>, AllocEr
     let mut all = Vec::new(alloc);
     for line in text.lines() {
         if let Some(line) = line.strip_prefix("context ") {
-            let words = line.split(' ').collect::<Vec<&str>>(alloc)?;
+            let words = lines::words(alloc, line)?;
             match read(alloc, &words) {
                 Ok(context) => all.push(context)?,
                 Err(Refusal::Memory) => return Err(AllocError),

@@ -187,6 +187,15 @@ pub(crate) fn is_unread(answer: &Answer) -> bool {
     matches!(answer, Err(Refusal::Unread))
 }
 
+/// The words of a line. (A `collect` can do without the memory that it asks for first.)
+pub(crate) fn words<'w>(alloc: Global, line: &'w str) -> Result<Vec<&'w str>, AllocError> {
+    let mut all = Vec::new(alloc);
+    for word in line.split(' ') {
+        all.push(word)?;
+    }
+    Ok(all)
+}
+
 /// A number below 2^32.
 pub(crate) fn number(word: &str) -> Result<u32, Refusal> {
     read_decimal(word).ok_or(Refusal::Unread)

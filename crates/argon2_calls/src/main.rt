@@ -55,7 +55,7 @@ fn write_line<W: Write>(output: &mut W, state: &mut State<'_>, line: &str) -> io
 
 // The answer of a call, by the module that has it.
 fn answer(state: &mut State<'_>, line: &str) -> Answer {
-    let words = line.split(' ').collect::<Vec<&str>>(state.alloc)?;
+    let words = lines::words(state.alloc, line)?;
     let [call, values @ ..] = words.as_slice() else {
         return Err(Refusal::Unread);
     };
