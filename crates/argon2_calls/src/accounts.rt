@@ -4,11 +4,10 @@
 use crate::lines::{self, Answer, Refusal, or_none};
 use crate::state::State;
 use crate::values::Values;
-use crate::{files, passwords, stores, texts, uses};
+use crate::{passwords, stores, texts, uses};
 use argon2::login::{Accepted, Login, login_runs};
 use argon2_accounts::{Accounts, account_runs};
-use argon2_store::{AccountsAt, account_file_runs};
-use sqlite_std_file::Wary;
+use argon2_store::account_file_runs;
 use std::alloc::Global;
 
 /// The stores that lines have made.
@@ -16,7 +15,6 @@ use std::alloc::Global;
 pub(crate) struct Stores<'a> {
     pub(crate) login: Option<Login<'a>>,
     pub(crate) accounts: Option<Accounts<'a>>,
-    pub(crate) file: Option<AccountsAt<'a, Wary>>,
 }
 
 impl<'a> Stores<'a> {
@@ -25,13 +23,12 @@ impl<'a> Stores<'a> {
         Stores {
             login: None,
             accounts: None,
-            file: None,
         }
     }
 }
 
 /// The answer of a call on texts, passwords or stores, or of an example.
-pub(crate) fn answer<'a>(state: &mut State<'a>, call: &str, words: &[&str]) -> Answer {
+pub(crate) fn answer(state: &mut State<'_>, call: &str, words: &[&str]) -> Answer {
     let values = Values {
         alloc: state.alloc,
         contexts: state.contexts,
@@ -46,9 +43,6 @@ pub(crate) fn answer<'a>(state: &mut State<'a>, call: &str, words: &[&str]) -> A
     }
     if call.starts_with("Accounts::") {
         return of_accounts(&mut state.stores, values, call);
-    }
-    if call.starts_with("AccountFile::") {
-        return files::answer(state, values, call);
     }
     stores::answer(&mut state.stores, values, call)
 }

@@ -1,43 +1,69 @@
 //! Calls on accounts in a file. An answer ends with `closed` if the file has to be opened again.
 
 use crate::accounts::did;
+use crate::context::Context;
 use crate::lines::{self, Answer, Refusal, or_none};
-use crate::state::State;
 use crate::values::Values;
 use argon2_rows::View;
 use argon2_store::{AccountFile, AccountsAt};
 use sqlite_std_file::Wary;
 use std::alloc::Global;
 
-type File<'a> = AccountsAt<'a, Wary>;
+/// The accounts of a file.
+pub(crate) type File<'a> = AccountsAt<'a, Wary>;
 
-/// The answer of a call on the accounts.
-pub(crate) fn answer<'a>(state: &mut State<'a>, values: Values<'a, '_>, call: &str) -> Answer {
-    let alloc = values.alloc;
-    if call == "AccountFile::open" {
-        let (path, target, bound) = (values.word(0)?, values.context(1)?, values.bound(2)?);
-        let file = AccountFile::open(state.rt, path, Wary, target, bound)?;
-        if let Some(before) = state.stores.file.replace(file) {
-            before.into_store();
-        }
-        return lines::ok(alloc);
+/// The answer of a line that is a call on the accounts.
+pub(crate) fn answer<'a>(
+    rt: &'a HostRuntime,
+    contexts: &'a [Context],
+    file: &mut Option<File<'a>>,
+    line: &str,
+) -> Answer {
+    let alloc = rt.alloc();
+    let words = lines::words(alloc, line)?;
+    let [call, words @ ..] = words.as_slice() else {
+        return Err(Refusal::Unread);
+    };
+    let values = Values {
+        alloc,
+        contexts,
+        words,
+    };
+    match *call {
+        "AccountFile::open" => open(rt, file, values),
+        "AccountFile::into_store" => close(file, alloc),
+        _ => on_open(file, values, call),
     }
-    if call == "AccountFile::into_store" {
-        let Some(file) = state.stores.file.take() else {
-            return Err(Refusal::Unread);
-        };
-        file.into_store();
-        return lines::ok(alloc);
+}
+
+// `AccountFile::open PATH CONTEXT M T P`.
+fn open<'a>(rt: &'a HostRuntime, file: &mut Option<File<'a>>, values: Values<'a, '_>) -> Answer {
+    let (path, target, bound) = (values.word(0)?, values.context(1)?, values.bound(2)?);
+    let opened = AccountFile::open(rt, path, Wary, target, bound)?;
+    if let Some(before) = file.replace(opened) {
+        before.into_store();
     }
-    let Some(file) = state.stores.file.as_mut() else {
+    lines::ok(values.alloc)
+}
+
+fn close(file: &mut Option<File<'_>>, alloc: Global) -> Answer {
+    let Some(file) = file.take() else {
+        return Err(Refusal::Unread);
+    };
+    file.into_store();
+    lines::ok(alloc)
+}
+
+fn on_open(file: &mut Option<File<'_>>, values: Values<'_, '_>, call: &str) -> Answer {
+    let Some(file) = file.as_mut() else {
         return Err(Refusal::Unread);
     };
     let answer = called(file, values, call);
     if !file.is_closed() {
         return answer;
     }
-    let answer = lines::said(alloc, answer)?;
-    lines::joined(alloc, &[&answer, "closed"])
+    let answer = lines::said(values.alloc, answer)?;
+    lines::joined(values.alloc, &[&answer, "closed"])
 }
 
 fn called(file: &mut File<'_>, values: Values<'_, '_>, call: &str) -> Answer {

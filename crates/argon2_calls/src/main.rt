@@ -10,6 +10,9 @@
 //! `lines` says how values are written, and `context` how a line names what is hashed under.
 #![tactic(auto)]
 
+ghost use Rattle.std.specs.Prelude.{IsNone};
+
+use files::File;
 use lines::{Answer, Refusal};
 use state::State;
 use std::io;
@@ -34,20 +37,53 @@ fn main(rt: HostRuntime) -> io::Result<()> {
     let mut text = String::new(alloc);
     rt.reader().read_to_string(&mut text)?;
     let contexts = context::defined(alloc, text.as_str())?;
-    let mut state = State::new(&rt, contexts.as_slice());
     let mut output = BufWriter::new(alloc, rt.stdout())?;
-    for line in text.as_str().lines() {
-        write_line(&mut output, &mut state, line)?;
+    let mut session = Session {
+        rt: &rt,
+        state: State::new(alloc, contexts.as_slice()),
+        file: None,
+    };
+    write_lines(&mut output, &mut session, text.as_str())
+}
+
+// What lines leave for those after them. The file is apart, as its type makes each function that knows it slow to prove.
+#[derive(Drop)]
+struct Session<'a> {
+    rt: &'a HostRuntime,
+    state: State<'a>,
+    file: Option<File<'a>>,
+}
+
+// Writes each line, and then closes the file.
+fn write_lines<W: Write>(output: &mut W, session: &mut Session<'_>, text: &str) -> io::Result<()>
+    ensures { IsNone session.new.file }
+{
+    let written = write_each(output, session, text);
+    if let Some(file) = session.file.take() {
+        file.into_store();
+    }
+    written
+}
+
+fn write_each<W: Write>(output: &mut W, session: &mut Session<'_>, text: &str) -> io::Result<()> {
+    for line in text.lines() {
+        write_line(output, session, line)?;
     }
     output.flush()
 }
 
 // Writes a line, with its answer if it is a call.
-fn write_line<W: Write>(output: &mut W, state: &mut State<'_>, line: &str) -> io::Result<()> {
+fn write_line<W: Write>(output: &mut W, session: &mut Session<'_>, line: &str) -> io::Result<()> {
     if line.is_empty() || line.starts_with('#') {
         return writeln!(output, "{line}");
     }
-    match answer(state, line) {
+    let answer = if line.starts_with("AccountFile::") {
+        let (rt, contexts) = (session.rt, session.state.contexts);
+        files::answer(rt, contexts, &mut session.file, line)
+    } else {
+        answer(&mut session.state, line)
+    };
+    match answer {
         Ok(answer) => writeln!(output, "{line} = {answer}"),
         Err(refusal) => writeln!(output, "{line} = {refusal}"),
     }

@@ -8,7 +8,6 @@ use std::alloc::Global;
 /// What lines leave for those after them.
 #[derive(Drop)]
 pub(crate) struct State<'a> {
-    pub(crate) rt: &'a HostRuntime,
     pub(crate) alloc: Global,
     /// The contexts of the whole input.
     pub(crate) contexts: &'a [Context],
@@ -19,10 +18,8 @@ pub(crate) struct State<'a> {
 
 impl<'a> State<'a> {
     /// No memory and no stores.
-    pub(crate) fn new(rt: &'a HostRuntime, contexts: &'a [Context]) -> State<'a> {
-        let alloc = rt.alloc();
+    pub(crate) fn new(alloc: Global, contexts: &'a [Context]) -> State<'a> {
         State {
-            rt,
             alloc,
             contexts,
             memory: Vec::new(alloc),
