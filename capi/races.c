@@ -11,8 +11,9 @@
 #undef argon2_c_segment
 #undef argon2_c_finish
 
+#include "counts.h"
+
 #include <stdatomic.h>
-#include <stdio.h>
 #include <unistd.h>
 
 __typeof__(watched_begin) argon2_c_begin;
@@ -25,20 +26,6 @@ __typeof__(watched_finish) argon2_c_finish;
 #endif
 void __tsan_read_range(void *, long);
 void __tsan_write_range(void *, long);
-
-static int passed, failed;
-
-static void expect(bool holds, const char *what, uint32_t lanes) {
-    if (holds) passed++;
-    else failed++, printf("failed: %s, of %u lanes\n", what, lanes);
-}
-
-/* Four threads, on any machine. */
-int sched_getaffinity(pid_t process, size_t n, cpu_set_t *usable) {
-    (void)process;
-    memset(usable, 0, n), memset(usable, 15, 1);
-    return 0;
-}
 
 enum { MOST_PASSES = 2, MOST_LANES = 9 };
 
@@ -91,7 +78,7 @@ static void hash(argon2_type type, uint32_t version, uint32_t passes, uint32_t t
         .t_cost = passes, .m_cost = 4096 + 4 * MOST_LANES, .lanes = lanes, .threads = threads, .version = version,
     };
     memset(made, 0, sizeof made), memset(filled, 0, sizeof filled);
-    expect(argon2_ctx(&c, type) == ARGON2_OK, "a hash", lanes);
+    check(argon2_ctx(&c, type) == ARGON2_OK, "a hash", lanes);
 }
 
 int main(void) {
@@ -107,9 +94,8 @@ int main(void) {
         lanes = all[i].lanes;
         hash(all[i].type, all[i].version, all[i].passes, 1, alone);
         hash(all[i].type, all[i].version, all[i].passes, 4, tag);
-        expect(!memcmp(tag, alone, 32), "the tag of one thread", lanes);
+        check(!memcmp(tag, alone, 32), "the tag of one thread", lanes);
     }
-    expect(wrong == 0, "blocks on a line of the cache, and each segment once and in order", lanes);
-    printf("%d passed, %d failed\n", passed, failed);
-    return failed != 0;
+    check(wrong == 0, "blocks on a line of the cache, and each segment once and in order", lanes);
+    return ended();
 }
