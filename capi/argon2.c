@@ -248,13 +248,13 @@ size_t argon2_encodedlen(uint32_t t_cost, uint32_t m_cost, uint32_t lanes, uint3
 
 /* ---- verifying */
 
-/* How much of its room a text took: its salt, its tag and the tag that was made. A text that can't be read took at most its
- * length, and nothing if it has not the four marks in front of a salt and a tag. */
+/* How much of its room a text took: its salt, its tag and the tag that was made. A text that can't be read may have taken all of
+ * it, and took nothing if it has not the four marks in front of a salt and a tag. */
 static size_t used(const struct shown *shown, int answer, const char *text, size_t n) {
     if (answer != ARGON2_DECODING_FAIL) return shown->salt + 2 * shown->tag;
     for (int marks = 0; text && marks < 4; marks++)
         if ((text = strchr(text, '$'))) text++;
-    return text ? n : 0;
+    return text ? 2 * n : 0;
 }
 
 /* `room` is for what the text says, and for the tag that is made: two bytes for each of the text. */
