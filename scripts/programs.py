@@ -8,6 +8,8 @@ import time
 
 ROOT = os.path.join(os.path.dirname(os.path.realpath(__file__)), "..")
 CRATES = os.path.join(ROOT, "crates")
+with open(os.path.join(ROOT, "VERSION"), encoding="utf-8") as version:
+    VERSION = version.read().strip()
 
 
 class Wrong(Exception):

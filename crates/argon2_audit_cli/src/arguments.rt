@@ -3,7 +3,7 @@
 use argon2::Algorithm;
 use argon2_audit::run::PROGRAM;
 use argon2_audit::{Field, Form, Limits, Options};
-use argon2_commands::invalid;
+use argon2_commands::{VERSION, invalid};
 use clap::{ArgMatches, Command, Error, arg};
 use std::alloc::{AllocError, Global};
 use std::fmt::InlineText;
@@ -157,7 +157,7 @@ fn form(matches: &ArgMatches<'_>) -> Form {
 // The program's arguments.
 fn command<'a>(alloc: Global) -> Result<Command<'a>, AllocError> {
     let command = Command::new(alloc, PROGRAM)
-        .version("0.6.0")
+        .version(VERSION)
         .about("Says which stored texts of passwords are below a policy")
         .long_about(ABOUT)
         .after_help(NOTES)

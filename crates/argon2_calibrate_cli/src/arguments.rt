@@ -5,7 +5,7 @@ ghost use Rattle.argon2_calibrate.specs.Choice.{ArePossible};
 
 use argon2_calibrate::Options;
 use argon2_calibrate::run::PROGRAM;
-use argon2_commands::invalid;
+use argon2_commands::{VERSION, invalid};
 use clap::{ArgMatches, Command, Error, arg, value_parser};
 use std::alloc::{AllocError, Global};
 use std::num::saturating_f64_to_u64;
@@ -74,7 +74,7 @@ fn options(
 // The program's arguments.
 fn command<'a>(alloc: Global) -> Result<Command<'a>, AllocError> {
     let command = Command::new(alloc, PROGRAM)
-        .version("0.6.0")
+        .version(VERSION)
         .about("Finds the costs under which a hash takes a given time on this machine")
         .long_about(ABOUT)
         .after_help(NOTES)

@@ -4,3 +4,6 @@
 mod arguments;
 
 pub use arguments::{answer, invalid, words};
+
+/// The version of the programs, which stands in the file VERSION.
+pub const VERSION: &str = "0.6.0+2";

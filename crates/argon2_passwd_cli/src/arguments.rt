@@ -3,7 +3,7 @@
 use argon2::Params;
 use argon2::bound::Bound;
 use argon2::phc::read_decimal;
-use argon2_commands::invalid;
+use argon2_commands::{VERSION, invalid};
 use argon2_passwd::run::PROGRAM;
 use argon2_passwd::{Command, Edit, Options};
 use argon2_store::View;
@@ -173,7 +173,7 @@ fn costs(text: &str) -> Option<Bound> {
 // The program's arguments.
 fn command<'a>(alloc: Global) -> Result<clap::Command<'a>, AllocError> {
     let command = clap::Command::new(alloc, PROGRAM)
-        .version("0.6.0")
+        .version(VERSION)
         .about("Makes texts of passwords, checks passwords by them, and keeps accounts in a file")
         .long_about(ABOUT)
         .after_help(NOTES)

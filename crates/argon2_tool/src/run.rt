@@ -40,7 +40,8 @@ of the input counts: printf '%s' writes none.
 The status is 0 if the line is written. It is 1 if the command is refused or fails, which standard error
 explains, and 2 if the arguments spell no command.";
 
-const VERSION: &str = "argon2-tool 0.6.0";
+// With the version in the file VERSION.
+const VERSION: &str = "argon2-tool 0.6.0+2";
 
 /// Runs the command that `args` spell on `input`, and returns the exit status.
 ///
