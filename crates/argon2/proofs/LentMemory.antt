@@ -7,7 +7,8 @@ use Rattle.std.proofs.lemmas.Slice.{drop-append-drop}
 use Rattle.std.proofs.Math.Seq.{take-append_seam}
 use Rattle.argon2.specs.declared.context.Argon2.{Argon2}
 use Rattle.argon2.specs.Argon2.{context_of}
-use Rattle.argon2.specs.Rfc9106.{Context, IsValid, Memory, block_count, first_block, lane_length, matrix, matrix_of}
+use Rattle.argon2.specs.Rfc9106.{Context, IsValid, block_count, first_block, lane_length}
+use Rattle.argon2.specs.Layout.{Memory, matrix, matrix_of}
 use Rattle.argon2.specs.Hashing.{blocks_of, KeepsOtherColumns, KeepsRest, IsBegun}
 use Rattle.argon2.specs.Laws.{Begins}
 

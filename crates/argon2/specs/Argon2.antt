@@ -1,4 +1,4 @@
--- What a contract sees of an `Argon2`.
+-- What a contract sees of parameters and of an `Argon2`.
 use Rattle.std.specs.Prelude.{◌≡◌, ℕ, ◌<◌, ◌≤◌, List, [], length, Option, Some, None, Result, Ok, Err}
 use Rattle.argon2.specs.declared.algorithm.Algorithm.{Algorithm}
 use Rattle.argon2.specs.declared.algorithm.Algorithm.TheVariants.{Argon2id}
@@ -7,12 +7,37 @@ use Rattle.argon2.specs.declared.version.Version.TheVariants.{V0x13}
 use Rattle.argon2.specs.declared.context.Secret.{Secret}
 use Rattle.argon2.specs.declared.context.Argon2.{Argon2}
 use Rattle.argon2.specs.declared.params.Params.{Params}
+use Rattle.argon2.specs.declared.params.associated_data.AssociatedData.{AssociatedData}
+use Rattle.argon2.specs.declared.params.key_id.KeyId.{KeyId}
 use Rattle.argon2.specs.Refusals.{max_len}
-use Rattle.argon2.specs.Rfc9106.{Context, context_with}
-use Rattle.argon2.specs.Settings.{AreValid, Parameters, Settings, first_fault}
+use Rattle.argon2.specs.Rfc9106.{Context}
+use Rattle.argon2.specs.Settings.{AreValid, Parameters, Settings, algorithm_number, first_fault, version_number}
+use Rattle.argon2_base.specs.ByteList.{list_bytes}
 use Rattle.argon2_base.specs.declared.error.Error.{Error}
 use Rattle.argon2_base.specs.declared.error.Error.TheVariants.{SecretTooLong}
-use Rattle.argon2.specs.Params.{parameters_of}
+
+-- ---- parameters
+
+-- the bytes of a key identifier
+abbrev pub keyid_bytes : KeyId → List ℕ
+keyid_bytes keyid = list_bytes keyid.bytes
+
+-- the bytes of associated data
+abbrev pub data_bytes : AssociatedData → List ℕ
+data_bytes associated = list_bytes associated.bytes
+
+-- costs, bytes and output length, in place of the fields
+abbrev pub parameters_of : Params → Parameters
+parameters_of params = record {
+  m_cost = params.m_cost;
+  t_cost = params.t_cost;
+  p_cost = params.p_cost;
+  keyid = keyid_bytes params.keyid;
+  associated = data_bytes params.associated;
+  output_len = params.output_len;
+}
+
+-- ---- an `Argon2`
 
 -- the bytes of a secret, none if there is no secret
 abbrev pub secret_bytes : Option Secret → List ℕ
@@ -35,6 +60,18 @@ settings_of argon2 = settings_with argon2.algorithm argon2.version argon2.params
 -- the parameters of an `Argon2`
 abbrev pub own_parameters : Argon2 → Parameters
 own_parameters argon2 = (settings_of argon2).parameters
+
+-- the inputs of the standard that settings and a secret make
+abbrev pub context_with : Settings → List ℕ → Context
+context_with settings secret = record {
+  algorithm = algorithm_number settings.algorithm;
+  version = version_number settings.version;
+  m_cost = settings.parameters.m_cost;
+  t_cost = settings.parameters.t_cost;
+  p_cost = settings.parameters.p_cost;
+  secret = secret;
+  associated = settings.parameters.associated;
+}
 
 -- what its hashes depend on beside the password, the salt and the output's length
 abbrev pub context_of : Argon2 → Context

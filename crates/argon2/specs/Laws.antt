@@ -1,6 +1,7 @@
 -- What the laws of Argon2 are about.
 use Rattle.std.specs.Prelude.{◌≡◌, ℕ, ◌+◌, ◌*◌, ◌<◌, List, [], length, slice_index_or}
-use Rattle.argon2.specs.Rfc9106.{Blocks, Context, FirstColumns, Memory, block_count, lane_length, rule}
+use Rattle.argon2.specs.Rfc9106.{Blocks, Context, FirstColumns, block_count, lane_length, rule}
+use Rattle.argon2.specs.Layout.{Memory}
 use Rattle.argon2.specs.Steps.{IsSchedule}
 
 -- ---- the recurrence

@@ -7,6 +7,7 @@ pub use Rattle.argon2_base.specs.Error
 pub use Rattle.argon2_base.specs.Hasher
 pub mod Hashing
 pub mod Laws
+pub mod Layout
 pub mod ListedParameters
 pub mod Login
 pub use Rattle.argon2_base.specs.LongHash

@@ -9,8 +9,8 @@ use Rattle.argon2_base.specs.PhcText.{Pair, ParamsText, Phc, value_of}
 use Rattle.argon2_base.specs.declared.error.password_hash.Error.{Error as HashError}
 use Rattle.argon2_base.specs.Error.{Fault, as_fault, bad_param, bad_params, outcome_of}
 use Rattle.argon2.specs.Settings.{Parameters, first_fault, plain}
+use Rattle.argon2.specs.Argon2.{data_bytes, keyid_bytes, parameters_of}
 use Rattle.argon2.specs.declared.params.text.Found.{Found}
-use Rattle.argon2.specs.Params.{data_bytes, keyid_bytes, parameters_of}
 use Rattle.argon2.specs.declared.params.Params.{Params}
 
 -- ---- the parameters of a list

@@ -10,8 +10,8 @@ use Rattle.argon2.specs.declared.algorithm.Algorithm.{Algorithm}
 use Rattle.argon2.specs.declared.context.Argon2.{Argon2}
 use Rattle.argon2.specs.declared.version.Version.{Version}
 use Rattle.argon2.specs.Settings.{AreValid, Parameters, Settings, algorithm_name, algorithm_named, version_number, version_numbered}
-use Rattle.argon2.specs.Argon2.{context_of, secret_of, settings_of}
-use Rattle.argon2.specs.Rfc9106.{context_with, tag_of}
+use Rattle.argon2.specs.Argon2.{context_of, context_with, secret_of, settings_of}
+use Rattle.argon2.specs.Rfc9106.{tag_of}
 use Rattle.argon2.specs.ListedParameters.{checked, list_of, read}
 use Rattle.argon2.specs.Refusals.{first_of, max_len}
 

@@ -2,25 +2,16 @@
 use Rattle.std.specs.Prelude.{◌≡◌, ℕ, ◌<◌, ◌≤◌, List, length, Result, Ok, Err, Some, [], Option, None, unwrap_or}
 use Rattle.std.specs.Borrow.{MutBor}
 use Rattle.std.specs.Option.{option_map}
-use Rattle.argon2.specs.declared.params.key_id.KeyId.{KeyId}
-use Rattle.argon2.specs.declared.params.associated_data.AssociatedData.{AssociatedData}
 use Rattle.argon2_base.specs.Texts.{IsBytes, strict_base64}
-use Rattle.argon2_base.specs.ByteList.{list_bytes, IsBase64Cause}
+use Rattle.argon2_base.specs.ByteList.{IsBase64Cause}
 use Rattle.argon2_base.specs.declared.error.Error.{Error}
 use Rattle.argon2_base.specs.declared.error.Error.TheVariants.{B64Encoding}
 use Rattle.argon2.specs.declared.params.Params.{Params}
 use Rattle.argon2.specs.Settings.{AreValid, Parameters, default_parameters, first_fault, plain}
+use Rattle.argon2.specs.Argon2.{data_bytes, keyid_bytes, parameters_of}
 use Rattle.argon2.specs.declared.params.builder.ParamsBuilder.{ParamsBuilder}
 
 -- ---- key identifiers and associated data
-
--- the bytes of a key identifier
-abbrev pub keyid_bytes : KeyId → List ℕ
-keyid_bytes keyid = list_bytes keyid.bytes
-
--- the bytes of associated data
-abbrev pub data_bytes : AssociatedData → List ℕ
-data_bytes associated = list_bytes associated.bytes
 
 -- the bytes that a value shows, at most so many
 pub record AreBytes (most : ℕ) (own bytes : List ℕ) : Type 0 where
@@ -43,17 +34,6 @@ IsOfText view longest text (Ok x) = IsBytes (view x) × (text ≡ strict_base64 
 IsOfText view longest text (Err e) = IsBase64Fault longest text e
 
 -- ---- parameters
-
--- costs, bytes and output length, in place of the fields
-abbrev pub parameters_of : Params → Parameters
-parameters_of params = record {
-  m_cost = params.m_cost;
-  t_cost = params.t_cost;
-  p_cost = params.p_cost;
-  keyid = keyid_bytes params.keyid;
-  associated = data_bytes params.associated;
-  output_len = params.output_len;
-}
 
 -- one of the settings of parameters, which are valid
 pub record IsSetting {X : Type 0} (of : Parameters → X) (params : Params) (x : X) : Type 0 where

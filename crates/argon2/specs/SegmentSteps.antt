@@ -1,7 +1,8 @@
 -- Steps by the index in their segment.
 use Rattle.std.specs.Prelude.{ℕ, ◌+◌, ◌*◌, ◌<◌}
 use Rattle.argon2.specs.declared.context.fill.Step.{Step}
-use Rattle.argon2.specs.Rfc9106.{Context, Sizes, segment_length}
+use Rattle.argon2.specs.Rfc9106.{Context, segment_length}
+use Rattle.argon2.specs.Layout.{Sizes}
 use Rattle.argon2.specs.Steps.{IsStep}
 
 -- the column of a slice and an index

@@ -1,6 +1,7 @@
 -- The memory slice after slice, in each slice lane after lane, and the parts of it on which a segment is filled.
 use Rattle.std.specs.Prelude.{◌≡◌, ◌≢◌, ◌⊎◌, ℕ, suc, ◌+◌, ◌-◌, ◌*◌, ◌/◌, ◌<◌, ◌≤◌, List, [], drop, length, slice_index_or, take}
-use Rattle.argon2.specs.Rfc9106.{Context, FirstColumns, Memory, Sizes, block_of, lane_length, segment_length, xor_lanes}
+use Rattle.argon2.specs.Rfc9106.{Context, FirstColumns, block_of, lane_length, segment_length, xor_lanes}
+use Rattle.argon2.specs.Layout.{Memory, Sizes}
 use Rattle.argon2.specs.Watching.{HasBlocksUpTo, begun}
 
 -- the blocks of a slice

@@ -1,6 +1,7 @@
 -- The blocks in one memory, lane after lane, where a block overwrites that of the pass before; and
 -- the orders of the steps that write them.
-use Rattle.argon2.specs.Rfc9106.{Context, Memory, lane_length, made_block, place_of, reference_of, segment_length, xor_lanes}
+use Rattle.argon2.specs.Rfc9106.{Context, lane_length, made_block, reference_of, segment_length, xor_lanes}
+use Rattle.argon2.specs.Layout.{Memory, place_of}
 use Rattle.std.specs.Prelude.{◌≡◌, ℕ, zero, suc, ◌+◌, ◌-◌, ◌*◌, ◌<◌, ◌≤◌, ◌&&◌, List, [], ◌∷◌, ◌==◌, count_by, slice_index_or, slice_set, if◌then◌else◌}
 use Rattle.std.specs.List.{AllByRecursion}
 

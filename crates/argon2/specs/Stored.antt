@@ -6,12 +6,12 @@ use Rattle.argon2_base.specs.PhcText.{Phc, PhcText}
 use Rattle.argon2.specs.declared.password_hash.stored.Settings.{Settings as StoredSettings}
 use Rattle.argon2.specs.declared.password_hash.stored.Stored.{Stored as StoredHash}
 use Rattle.argon2.specs.Settings.{Settings, algorithm_named, version_numbered}
-use Rattle.argon2.specs.Argon2.{settings_with}
+use Rattle.argon2.specs.Argon2.{context_with, settings_with}
 use Rattle.argon2.specs.ListedParameters.{asked_of, params_of}
 pub use Rattle.argon2.specs.ListedParameters.{read}
 use Rattle.argon2_base.specs.declared.error.password_hash.Error.{Error}
 use Rattle.argon2.specs.Refusals.{max_len}
-use Rattle.argon2.specs.Rfc9106.{context_with, tag_of}
+use Rattle.argon2.specs.Rfc9106.{tag_of}
 
 -- ---- what a stored value shows
 

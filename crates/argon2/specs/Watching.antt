@@ -1,6 +1,7 @@
 -- Which references a watched hash records, and how often it mixes.
 use Rattle.std.specs.Prelude.{◌≡◌, ℕ, suc, ◌+◌, ◌-◌, ◌*◌, ◌<◌, ◌≤◌, ◌⊎◌, ◌==◌, List, [], length, nat_lt, slice_index, slice_index_or, if◌then◌else◌, zero}
-use Rattle.argon2.specs.Rfc9106.{Context, FirstColumns, Memory, address_counter, block_count, block_of, is_independent, lane_length, matrix, reference_places, segment_length}
+use Rattle.argon2.specs.Rfc9106.{Context, FirstColumns, address_counter, block_count, block_of, is_independent, lane_length, segment_length}
+use Rattle.argon2.specs.Layout.{Memory, matrix, reference_places}
 use Rattle.argon2.specs.Steps.{IsStep, turn_count}
 
 -- ---- the references

@@ -5,9 +5,8 @@
 ghost use Rattle.std.specs.Prelude.{◌≡◌, ◌↔◌, Some, Err, IsTrue, IfOk, IfErr, MatchResult};
 ghost use Rattle.argon2_base.specs.PhcFields.{phc_of};
 ghost use Rattle.argon2_base.specs.PhcText.{Phc, PhcText};
-ghost use Rattle.argon2.specs.Argon2.{secret_of};
+ghost use Rattle.argon2.specs.Argon2.{parameters_of, secret_of};
 ghost use Rattle.argon2.specs.Bound.{AcceptsWithin, AsksBlocksWithin, BoundRefusal, HashRefusal, IsBoundAnswer, IsWithin, VerifyRefusal, bound_error_text};
-ghost use Rattle.argon2.specs.Params.{parameters_of};
 ghost use Rattle.argon2.specs.declared.bound.BoundError.TheVariants.{Refused, TooExpensive};
 
 use crate::context::Argon2;

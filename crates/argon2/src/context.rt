@@ -62,11 +62,11 @@ impl<'key> Argon2<'key> {
     ghost use Rattle.std.specs.Prelude.{◌≡◌, ◌^◌, ◌<◌, ◌≤◌, [], IfOk, IfErr, OnOk, OnErr, length, replicate};
     ghost use Rattle.argon2_base.specs.Block.{zero_block};
     ghost use Rattle.argon2_base.specs.declared.error.Error.TheVariants.{OutOfMemory};
-    ghost use Rattle.argon2.specs.Argon2.{context_of, context_under, own_parameters, secret_of, settings_of, settings_with, IsKeyed, IsWith};
-    ghost use Rattle.argon2.specs.Rfc9106.{IsValid, block_count, first_block, matrix_of, tag_of};
+    ghost use Rattle.argon2.specs.Argon2.{context_of, context_under, own_parameters, secret_of, settings_of, settings_with, IsKeyed, IsWith, parameters_of};
+    ghost use Rattle.argon2.specs.Rfc9106.{IsValid, block_count, first_block, tag_of};
+    ghost use Rattle.argon2.specs.Layout.{matrix_of};
     ghost use Rattle.argon2.specs.Watching.{AreReferencePlaces, mixing_calls, place_count};
     ghost use Rattle.argon2.specs.Hashing.{blocks_of, fill_refusal, refusal_of, AsksFirst, ChecksFirst, IsFilled, IsHashed, IsWatched, KeepsRest};
-    ghost use Rattle.argon2.specs.Params.{parameters_of};
     ghost use Rattle.argon2.specs.Refusals.{answer_unless, data_refusal, length_refusal};
 
     /// Hashing with these parameters and no secret. The key identifier of the parameters changes no
@@ -404,8 +404,7 @@ impl Default for Argon2<'_> {
 
 impl From<Params> for Argon2<'_> {
     ghost use Rattle.std.specs.Prelude.{[]};
-    ghost use Rattle.argon2.specs.Argon2.{IsWith, argon2id_with};
-    ghost use Rattle.argon2.specs.Params.{parameters_of};
+    ghost use Rattle.argon2.specs.Argon2.{IsWith, argon2id_with, parameters_of};
 
     ghost from_gives = { λ params. IsWith (argon2id_with (parameters_of params)) [] };
 
@@ -417,8 +416,7 @@ impl From<Params> for Argon2<'_> {
 
 impl From<&Params> for Argon2<'_> {
     ghost use Rattle.std.specs.Prelude.{[]};
-    ghost use Rattle.argon2.specs.Argon2.{IsWith, argon2id_with};
-    ghost use Rattle.argon2.specs.Params.{parameters_of};
+    ghost use Rattle.argon2.specs.Argon2.{IsWith, argon2id_with, parameters_of};
 
     ghost from_gives = { λ params. IsWith (argon2id_with (parameters_of params.now)) [] };
 

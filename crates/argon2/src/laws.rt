@@ -4,7 +4,9 @@ ghost use Rattle.std.specs.Prelude.{◌≡◌, ℕ, ◌-◌, ◌*◌, ◌<◌, L
 ghost use Rattle.argon2_base.specs.Block.{bytes_of, mixed, zero_block};
 ghost use Rattle.argon2_base.specs.LongHash.{long_hash};
 ghost use Rattle.argon2.specs.Laws.{AreAlike, AreSchedules, Begins, IsRecurrence};
-ghost use Rattle.argon2.specs.Rfc9106.{Blocks, Context, FirstColumns, IsValid, Memory, block_count, block_of, context_with, first_block, lane_length, matrix, reference_places, segment_length, tag_of};
+ghost use Rattle.argon2.specs.Rfc9106.{Blocks, Context, FirstColumns, IsValid, block_count, block_of, first_block, lane_length, segment_length, tag_of};
+ghost use Rattle.argon2.specs.Argon2.{context_with};
+ghost use Rattle.argon2.specs.Layout.{Memory, matrix, reference_places};
 ghost use Rattle.argon2.specs.Segments.{IsFilledBySegments, last_of_slice, slices_after};
 ghost use Rattle.argon2.specs.Settings.{Settings};
 ghost use Rattle.argon2.specs.Steps.{IsSchedule, last_column, run, run_passes};

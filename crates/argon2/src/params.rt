@@ -33,8 +33,9 @@ pub struct Params {
 
 impl Params {
     ghost use Rattle.std.specs.Prelude.{◌≤◌, ◌*◌};
-    ghost use Rattle.argon2.specs.Params.{AreBytes, IsParamsOf, IsSetting, parameters_of};
+    ghost use Rattle.argon2.specs.Params.{AreBytes, IsParamsOf, IsSetting};
     ghost use Rattle.argon2.specs.Settings.{plain};
+    ghost use Rattle.argon2.specs.Argon2.{parameters_of};
     ghost use Rattle.argon2.specs.Rfc9106.{block_count_for, lane_length_for, segment_length_for};
 
     /// The memory cost by default.
@@ -220,7 +221,7 @@ fn fault(m_cost: u32, t_cost: u32, p_cost: u32, output_len: Option<usize>) -> Op
 
 impl Default for Params {
     ghost use Rattle.argon2.specs.Settings.{default_parameters};
-    ghost use Rattle.argon2.specs.Params.{parameters_of};
+    ghost use Rattle.argon2.specs.Argon2.{parameters_of};
 
     ghost is_default = { λ params. parameters_of params ≡ default_parameters };
 

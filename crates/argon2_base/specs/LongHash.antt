@@ -7,28 +7,30 @@ use Rattle.argon2_base.specs.Blake2b.{blake2b}
 use Rattle.argon2_base.specs.declared.error.Error.{Error}
 use Rattle.argon2_base.specs.declared.error.Error.TheVariants.{OutputTooShort, OutputTooLong}
 
--- V(i) over V(0): each is the digest of 64 bytes of the one before it
+-- V_i for i above 0, over the input V_0: each is the digest of 64 bytes of the one before it
 unfoldable pub chain : List ℕ → ℕ → List ℕ
 chain first zero = first
 chain first (suc i) = blake2b 64 (chain first i)
 
--- how many halves stand before the last piece of n bytes: ceil (n / 32) - 2, or none up to 64 bytes
+-- r for n bytes
 abbrev pub half_count : ℕ → ℕ
 half_count n = (n + 31) / 32 - 2
 
--- W(i): the first half of V(i)
+-- W_i: the first 32 bytes of V_i
 abbrev pub half : List ℕ → ℕ → List ℕ
 half first i = take 32 (chain first i)
 
--- W(1) to W(r), and a last piece, of 33 to 64 bytes if n is above 64
+-- W_1 || .. || W_r || V_(r+1), of which the last has n - 32 r bytes
 abbrev pub pieces : ℕ → List ℕ → List ℕ
 pieces n first =
     let r : ℕ = half_count n in
     flat_map (half first) (range_with_len 1 r) ++ blake2b (n - 32 * r) (chain first r)
 
--- H'(n, m), where V(0) is the message with the output's length before it
+-- H'^(n)(m): one digest if n is at most 64, else the pieces, each over the message with n before it
 unfoldable pub long_hash : ℕ → List ℕ → List ℕ
-long_hash n m = pieces n (to_le_bytes w32 n ++ m)
+long_hash n m =
+    let first : List ℕ = to_le_bytes w32 n ++ m in
+    if nat_lt 64 n then pieces n first else blake2b n first
 
 -- the inputs joined
 abbrev pub joined : List (Bor (List ℕ)) → List ℕ

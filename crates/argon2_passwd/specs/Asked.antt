@@ -1,8 +1,8 @@
 -- What the program is asked for.
 use Rattle.std.specs.Prelude.{Bool, List, ℕ, Option, None, Some, max, unwrap_or}
 use Rattle.std.specs.Option.{option_copied}
-use Rattle.argon2.specs.Params.{parameters_of}
 use Rattle.argon2.specs.Settings.{Parameters}
+use Rattle.argon2.specs.Argon2.{parameters_of}
 use Rattle.argon2.specs.declared.bound.Bound.{Bound}
 use Rattle.argon2_rows.specs.declared.view.View.{View}
 use Rattle.argon2_passwd.specs.declared.command.Command.{Command}

@@ -3,7 +3,8 @@ use Rattle.std.proofs.Common.{◌≡◌, ℕ, zero, suc, ◌+◌, ◌-◌, ◌*�
 use Rattle.std.proofs.lemmas.Bool.{cases_eq}
 use Rattle.std.specs.List.{AllByRecursion, range_with_len}
 use Rattle.argon2.proofs.context_lemmas.Schedules.{turns-same, turns-other, turns-append}
-use Rattle.argon2.specs.Rfc9106.{Context, Memory, segment_length}
+use Rattle.argon2.specs.Rfc9106.{Context, segment_length}
+use Rattle.argon2.specs.Layout.{Memory}
 use Rattle.argon2.specs.Steps.{IsSchedule, run, step, turns, turn_count}
 use Rattle.argon2_uses.specs.Scheduler.{rounds, lanes_in_rounds}
 

@@ -1,6 +1,7 @@
 -- The tag of an input, and why it is refused.
 use Rattle.std.specs.Prelude.{◌≡◌, ℕ, List, Some, length}
-use Rattle.argon2.specs.Rfc9106.{Context, Memory, tag_of}
+use Rattle.argon2.specs.Rfc9106.{Context, tag_of}
+use Rattle.argon2.specs.Layout.{Memory}
 use Rattle.argon2.specs.Hashing.{refusal_of}
 use Rattle.argon2.specs.base_declared.error.Error.{Error}
 use Rattle.argon2.specs.declared.context.Argon2.{Argon2}

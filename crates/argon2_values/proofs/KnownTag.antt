@@ -1,6 +1,7 @@
 -- A whole tag: the definition computes to what another implementation gives.
 use Rattle.std.proofs.Common.{◌≡◌, ℕ, zero, suc, ◌+◌, ◌-◌, ◌*◌, List, [], ◌++◌, codes, take, arith, refl, ap, ◌∙◌}
 use mathlib.Core.Path.{fun_ext}
+use Rattle.std.specs.Prelude.{if◌then◌else◌, nat_lt}
 use Rattle.std.specs.Int.{w32, to_le_bytes, bytes_high_first}
 use Rattle.std.specs.List.{flat_map, range_with_len}
 use Rattle.argon2_base.specs.Block.{bytes_of, words_of}
@@ -29,14 +30,15 @@ long_hash_once : ℕ → List ℕ → List ℕ
 long_hash_once n m =
     let first = to_le_bytes w32 n ++ m in
     let r : ℕ = half_count n in
-    halves r first ++ blake2b (n - 32 * r) (chain first r)
+    if nat_lt 64 n then halves r first ++ blake2b (n - 32 * r) (chain first r) else blake2b n first
 
 made_once : (n : ℕ) (m : List ℕ) → long_hash n m ≡ long_hash_once n m
 unfolding long_hash chain long_hash_once
 made_once n m =
     let first = to_le_bytes w32 n ++ m in
     let r : ℕ = half_count n in
-    ap (λ t. t ++ blake2b (n - 32 * r) (chain first r)) (halves_of_chain first 0 r)
+    ap (λ t. if nat_lt 64 n then t ++ blake2b (n - 32 * r) (chain first r) else blake2b n first)
+    (halves_of_chain first 0 r)
 
 -- the tag over such first blocks
 tag_once : (ctx : Context) (password salt : List ℕ) (n : ℕ)

@@ -4,7 +4,8 @@ use Rattle.std.specs.Prelude.{◌==◌, if◌then◌else◌}
 use Rattle.std.proofs.Math.Nat.{mul-le-mul, mul-le-mul_left, mul-le-mul_right}
 use Rattle.std.proofs.lemmas.Bool.{cases_lt}
 use Rattle.std.proofs.lemmas.Bool.Decides.{nat_tests}
-use Rattle.argon2.specs.Rfc9106.{Context, Sizes, address_counter, block_count, is_independent, lane_length, segment_length}
+use Rattle.argon2.specs.Rfc9106.{Context, address_counter, block_count, is_independent, lane_length, segment_length}
+use Rattle.argon2.specs.Layout.{Sizes}
 use Rattle.argon2.specs.Watching.{address_mixings, independent_segments, mixing_calls, segment_calls, slices_calls}
 
 -- the mixings of the first passes

@@ -7,7 +7,8 @@ use Rattle.std.proofs.lemmas.List.FromFn.{fill_by_all}
 use Rattle.std.proofs.lemmas.Nat.{mul-add-lt, div_below}
 use Rattle.std.proofs.lemmas.Bool.{cases_eq}
 use Rattle.std.proofs.lemmas.Bool.Decides.{nat_tests}
-use Rattle.argon2.specs.Rfc9106.{Context, FirstColumns, Memory, Reference, Sizes, block_count, block_of, lane_length, made_block, matrix, reference_places, segment_length}
+use Rattle.argon2.specs.Rfc9106.{Context, FirstColumns, Reference, block_count, block_of, lane_length, made_block, segment_length}
+use Rattle.argon2.specs.Layout.{Memory, Sizes, matrix, reference_places}
 use Rattle.argon2.specs.Steps.{IsStep, in_memory, step, reference_place, turns, turn_count, IsSchedule, run, run_slices, run_passes}
 use Rattle.argon2.specs.Watching.{begun, HasBlocksUpTo}
 use Rattle.argon2.specs.Laws.{Begins, AreSchedules}

@@ -5,7 +5,8 @@ use Rattle.std.proofs.lemmas.Bool.{cases_eq}
 use Rattle.std.proofs.lemmas.List.{get_or-set_other, get_or-set_same, length-set}
 use Rattle.std.proofs.lemmas.Nat.{same_from_place}
 use Rattle.std.proofs.Math.Nat.{mul-le-mul_left, mul-le-mul_right}
-use Rattle.argon2.specs.Rfc9106.{Context, Sizes, lane_length}
+use Rattle.argon2.specs.Rfc9106.{Context, lane_length}
+use Rattle.argon2.specs.Layout.{Sizes}
 
 -- lanes that have no more blocks than they have columns end where a number of 32 bits does
 pub lane_fits : (ctx : Context) → Sizes ctx → (lane width : ℕ) → lane < ctx.p_cost → width ≤ lane_length ctx

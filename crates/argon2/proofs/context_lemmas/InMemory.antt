@@ -6,7 +6,8 @@ use Rattle.std.proofs.lemmas.Bool.Decides.{nat_tests}
 use Rattle.std.proofs.lemmas.List.{get_or-map}
 use Rattle.argon2_base.proofs.block_lemmas.MixingLaws.{xor_blocks-comm}
 use Rattle.argon2_base.specs.Block.{mixed, xor_blocks}
-use Rattle.argon2.specs.Rfc9106.{Context, Memory, block_count, lane_length, made_block, place_of, previous, reference, reference_of, reference_word}
+use Rattle.argon2.specs.Rfc9106.{Context, block_count, lane_length, made_block, previous, reference, reference_of, reference_word}
+use Rattle.argon2.specs.Layout.{Memory, place_of}
 use Rattle.argon2.specs.Steps.{in_memory, previous_place, reference_place}
 
 -- the place of a lane and a column is within the memory

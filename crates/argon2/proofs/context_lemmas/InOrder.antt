@@ -2,7 +2,8 @@
 use Rattle.std.proofs.Common.{◌≡◌, ℕ, suc, ◌+◌, ◌*◌, ◌<◌, ◌≤◌, ◌≢◌, inl, List, subst, sym, add-one, arith}
 use Rattle.std.specs.Prelude.{slice_set}
 use Rattle.std.proofs.lemmas.Bool.Decides.{nat_tests}
-use Rattle.argon2.specs.Rfc9106.{Context, FirstColumns, Memory, Sizes, segment_length}
+use Rattle.argon2.specs.Rfc9106.{Context, FirstColumns, segment_length}
+use Rattle.argon2.specs.Layout.{Memory, Sizes}
 use Rattle.argon2.specs.Laws.{Begins}
 use Rattle.argon2.specs.Watching.{begun, in_order, position_index, IsFilledFrom, IsFilledUpTo}
 use Rattle.argon2.specs.Steps.{IsStep, reference_place, step}

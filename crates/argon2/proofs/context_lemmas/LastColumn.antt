@@ -5,7 +5,8 @@ use Rattle.std.specs.List.{range_with_len}
 use Rattle.std.proofs.lemmas.List.FromFn.{get_or-map-range_with_len, length-map-range_with_len, fill_by_all}
 use Rattle.std.proofs.lemmas.Nat.{div-mul-add, mod-mul-add, mul-add-lt}
 use Rattle.argon2_base.specs.LongHash.{long_hash}
-use Rattle.argon2.specs.Rfc9106.{Context, FirstColumns, Memory, Sizes, block_count, block_of, first_block, lane_length, last_block, matrix, matrix_of, tag_of, xor_lanes}
+use Rattle.argon2.specs.Rfc9106.{Context, FirstColumns, block_count, block_of, first_block, lane_length, last_block, tag_of, xor_lanes}
+use Rattle.argon2.specs.Layout.{Memory, Sizes, matrix, matrix_of}
 use Rattle.argon2_base.specs.Block.{bytes_of, xor_blocks, zero_block}
 use Rattle.argon2.specs.Steps.{run_passes, last_column}
 use Rattle.argon2.specs.Laws.{Begins, AreSchedules}

@@ -4,7 +4,8 @@ use Rattle.std.specs.Prelude.{slice_set}
 use Rattle.std.proofs.lemmas.List.{length-set, get_or-set_same, get_or-set_other}
 use Rattle.std.proofs.lemmas.Nat.{mul-add-lt, same_from_place}
 use Rattle.std.proofs.lemmas.Bool.{cases_eq}
-use Rattle.argon2.specs.Rfc9106.{Context, FirstColumns, Sizes, block_count, lane_length, reference_places, segment_length}
+use Rattle.argon2.specs.Rfc9106.{Context, FirstColumns, block_count, lane_length, segment_length}
+use Rattle.argon2.specs.Layout.{Sizes, reference_places}
 use Rattle.argon2.specs.Steps.{IsStep, turn_count}
 use Rattle.argon2.specs.Watching.{begun, place_count, position_index, HasPositionsUpTo}
 use Rattle.argon2.proofs.context_lemmas.Filling.{turn_count-later_slice, turn_count-later_pass}

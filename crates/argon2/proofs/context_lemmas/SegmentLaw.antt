@@ -9,7 +9,8 @@ use Rattle.std.proofs.lemmas.List.{get_or-drop, get_or-take}
 use Rattle.std.proofs.lemmas.List.FromFn.{get_or-map-range_with_len, length-map-range_with_len}
 use Rattle.argon2_base.specs.Block.{bytes_of}
 use Rattle.argon2_base.specs.LongHash.{long_hash}
-use Rattle.argon2.specs.Rfc9106.{Context, FirstColumns, Memory, Sizes, block_count, block_of, first_block, lane_length, last_block, segment_length, tag_of}
+use Rattle.argon2.specs.Rfc9106.{Context, FirstColumns, block_count, block_of, first_block, lane_length, last_block, segment_length, tag_of}
+use Rattle.argon2.specs.Layout.{Memory, Sizes}
 use Rattle.argon2.specs.Segments.{AreParts, BeginsSlices, FillsSegment, IsFilledBySegments, last_of_slice, segment_in, slice_length, slices_after, slices_before}
 use Rattle.argon2.specs.Watching.{HasBlocksUpTo, begun}
 use Rattle.argon2.proofs.recurrence.PermittedPlaces.{in_slice}

@@ -5,7 +5,8 @@ use Rattle.std.proofs.lemmas.Nat.{mul-add-lt}
 use Rattle.std.proofs.lemmas.Bool.{cases_eq}
 use Rattle.std.proofs.lemmas.Bool.Decides.{nat_tests}
 use Rattle.std.proofs.lemmas.List.{get_or-set_other, get_or-set_same}
-use Rattle.argon2.specs.Rfc9106.{Context, FirstColumns, Memory, Sizes, block_count, lane_length, made_block, segment_length}
+use Rattle.argon2.specs.Rfc9106.{Context, FirstColumns, block_count, lane_length, made_block, segment_length}
+use Rattle.argon2.specs.Layout.{Memory, Sizes}
 use Rattle.argon2.specs.Segments.{AreParts}
 use Rattle.argon2.specs.SegmentSteps.{column_of, IsStepAt}
 use Rattle.argon2.specs.Steps.{IsStep, in_memory, step}

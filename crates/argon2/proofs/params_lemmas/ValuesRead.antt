@@ -8,7 +8,8 @@ use Rattle.argon2_base.specs.declared.error.Error.TheVariants.{B64Encoding}
 use Rattle.argon2_base.proofs.phc_lemmas.Base64Lemmas.{short_bytes_again, short_bytes_refused}
 use Rattle.argon2.specs.declared.params.key_id.KeyId.{KeyId}
 use Rattle.argon2.specs.declared.params.associated_data.AssociatedData.{AssociatedData}
-use Rattle.argon2.specs.Params.{keyid_bytes, data_bytes, IsBase64Fault, IsOfText}
+use Rattle.argon2.specs.Params.{IsBase64Fault, IsOfText}
+use Rattle.argon2.specs.Argon2.{keyid_bytes, data_bytes}
 
 -- a refused text is the Base64 of no bytes
 pub text_refused : (most : ℕ) (s : List ℕ) (e : Error) → IsBytes s → IsBase64Fault (base64_length most) s e

@@ -14,9 +14,9 @@ use Rattle.argon2.specs.declared.algorithm.Algorithm.TheVariants.{Argon2d, Argon
 use Rattle.argon2.specs.declared.version.Version.{Version}
 use Rattle.argon2.specs.Stored.{Accepts, AcceptsBy, shown_settings}
 use Rattle.argon2.specs.declared.context.Argon2.{Argon2}
-use Rattle.argon2.specs.Argon2.{settings_of}
+use Rattle.argon2.specs.Argon2.{context_with, settings_of}
 use Rattle.argon2.specs.Settings.{Parameters, algorithm_name, first_fault, version_number}
-use Rattle.argon2.specs.Rfc9106.{context_with, tag_of}
+use Rattle.argon2.specs.Rfc9106.{tag_of}
 use Rattle.argon2.specs.ListedParameters.{list_of, params_of}
 use Rattle.argon2.specs.Made.{Target, IsTarget, target_of, tag_length, sized, made}
 use Rattle.argon2.proofs.params_lemmas.ListedLemmas.{listed_good}

@@ -10,7 +10,8 @@ use Rattle.argon2_base.specs.declared.error.password_hash.Error.TheVariants.{Out
 use Rattle.argon2_base.specs.PhcText.{Phc}
 use Rattle.argon2.specs.Stored.{AcceptsBy, IsVerifyAnswer, Stored, is_tag, verified, shown_settings, stored_of}
 use Rattle.argon2.specs.Settings.{algorithm_named, version_numbered}
-use Rattle.argon2.specs.Rfc9106.{context_with, tag_of}
+use Rattle.argon2.specs.Rfc9106.{tag_of}
+use Rattle.argon2.specs.Argon2.{context_with}
 use Rattle.argon2.specs.ListedParameters.{params_of}
 use Rattle.argon2.proofs.password_hash_lemmas.Answered.{read_ok}
 

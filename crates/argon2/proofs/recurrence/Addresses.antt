@@ -1,7 +1,8 @@
 -- Which address block has the word of a block, and how many a segment has.
 use Rattle.std.proofs.Common.{◌≡◌, ℕ, ◌+◌, ◌*◌, ◌/◌, ◌≤◌, Some, None, refl, ap, arith}
 use Rattle.std.specs.Prelude.{if◌then◌else◌}
-use Rattle.argon2.specs.Rfc9106.{Context, address_block, addresses_at, is_independent}
+use Rattle.argon2.specs.Rfc9106.{Context, address_block, is_independent}
+use Rattle.argon2.specs.Layout.{addresses_at}
 use Rattle.argon2.specs.Watching.{address_mixings}
 
 -- one address block serves 128 indexes

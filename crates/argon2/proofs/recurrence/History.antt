@@ -7,7 +7,8 @@ use Rattle.std.proofs.lemmas.List.FromFn.{get_or-map-range_with_len}
 use Rattle.std.proofs.lemmas.Nat.{div-mul-add, mod-mul-add}
 use Rattle.std.proofs.lemmas.Bool.{cases_Bool, cases_lt}
 use Rattle.std.proofs.lemmas.Bool.Decides.{nat_tests}
-use Rattle.argon2.specs.Rfc9106.{Blocks, Context, FirstColumns, Sizes, block_of, history, in_history, lane_length, made_block, rule}
+use Rattle.argon2.specs.Rfc9106.{Blocks, Context, FirstColumns, block_of, history, in_history, lane_length, made_block, rule}
+use Rattle.argon2.specs.Layout.{Sizes}
 use Rattle.argon2.specs.Steps.{IsStep}
 use Rattle.argon2.specs.Laws.{IsRecurrence}
 use Rattle.argon2.proofs.recurrence.Sources.{Reads, made_cong}

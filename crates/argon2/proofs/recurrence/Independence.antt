@@ -3,7 +3,8 @@
 use Rattle.std.proofs.Common.{◌≡◌, ℕ, zero, suc, ◌+◌, ◌*◌, ◌/◌, ◌%◌, ◌<◌, true, refl, sym, ap, ◌∙◌, arith}
 use Rattle.std.proofs.lemmas.Bool.Decides.{nat_tests}
 use Rattle.std.proofs.lemmas.Nat.{div_below}
-use Rattle.argon2.specs.Rfc9106.{Context, FirstColumns, Sizes, address_block, address_word, finished_segments, is_independent, lane_length, permitted, reference, reference_lane, reference_of, reference_places, reference_word, segment_length}
+use Rattle.argon2.specs.Rfc9106.{Context, FirstColumns, address_block, address_word, finished_segments, is_independent, lane_length, permitted, reference, reference_lane, reference_of, reference_word, segment_length}
+use Rattle.argon2.specs.Layout.{Sizes, reference_places}
 use Rattle.argon2.specs.Laws.{AreAlike}
 
 -- the place of the block that the address word takes

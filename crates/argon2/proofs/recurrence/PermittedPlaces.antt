@@ -7,7 +7,8 @@ use Rattle.std.proofs.lemmas.List.{length-append, length-map, length-take, get_o
 use Rattle.std.proofs.lemmas.List.FromFn.{get_or-map-range_with_len, length-range_with_len}
 use Rattle.std.proofs.lemmas.Bool.Decides.{nat_tests}
 use Rattle.std.proofs.lemmas.Bool.{cond_both, cases_eq, cases_lt}
-use Rattle.argon2.specs.Rfc9106.{Context, Sizes, columns, finished_segments, lane_length, permitted, segment_length}
+use Rattle.argon2.specs.Rfc9106.{Context, columns, finished_segments, lane_length, permitted, segment_length}
+use Rattle.argon2.specs.Layout.{Sizes}
 
 -- a column c of a slice, for segments of s columns
 pub record InSlice (s c slice : ℕ) : Type 0 where

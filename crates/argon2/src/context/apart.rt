@@ -7,7 +7,8 @@
 ghost use Rattle.std.specs.Prelude.{◌≡◌, ℕ, ◌*◌, ◌+◌, ◌-◌, ◌/◌, ◌<◌, ◌≤◌, ◌^◌, ◌&&◌, ◌==◌, [], if◌then◌else◌, length, nat_lt, slice_index_or};
 ghost use Rattle.argon2_base.specs.Block.{bytes_of, xor_blocks};
 ghost use Rattle.argon2_base.specs.LongHash.{long_hash};
-ghost use Rattle.argon2.specs.Rfc9106.{AreShort, Memory, addresses_at, block_count, first_block, lane_length, segment_length};
+ghost use Rattle.argon2.specs.Rfc9106.{AreShort, block_count, first_block, lane_length, segment_length};
+ghost use Rattle.argon2.specs.Layout.{Memory, addresses_at};
 ghost use Rattle.argon2.specs.Segments.{AreLengths, AreParts, BeginsSlices, FillsSegment, IsPlaceFor, last_of_slice, slice_length};
 ghost use Rattle.argon2.specs.SegmentSteps.{column_of, IsStepAt};
 ghost use Rattle.argon2.specs.Steps.{step};

@@ -2,7 +2,8 @@
 
 ghost use Rattle.std.specs.Prelude.{◌≡◌, ◌+◌, ◌-◌, ◌*◌, ◌^◌, ◌<◌, ◌≤◌, ◌==◌, [], if◌then◌else◌, length, map, slice_index_or, slice_set};
 ghost use Rattle.argon2_base.specs.Block.{mixed};
-ghost use Rattle.argon2.specs.Rfc9106.{AreShort, FirstColumns, addresses_at, block_count, lane_length, segment_length, tag_of};
+ghost use Rattle.argon2.specs.Rfc9106.{AreShort, FirstColumns, block_count, lane_length, segment_length, tag_of};
+ghost use Rattle.argon2.specs.Layout.{addresses_at};
 ghost use Rattle.argon2.specs.Hashing.{FillsFront, IsOutputLength};
 ghost use Rattle.argon2.specs.Watching.{Fills, IsFilledFrom, begun, in_order, mixing_calls, position_index, segment_calls, slices_calls};
 ghost use Rattle.argon2.specs.Laws.{Begins};

@@ -2,8 +2,9 @@
 
 ghost use Rattle.std.specs.Prelude.{◌≡◌, ◌+◌, ◌*◌, ◌^◌, ◌<◌, ◌&&◌, ◌==◌, length, nat_lt};
 ghost use Rattle.argon2.specs.Settings.{algorithm_number};
-ghost use Rattle.argon2.specs.Rfc9106.{context_with, segment_length, lane_length, block_count, IsSize};
-ghost use Rattle.argon2.specs.Argon2.{settings_with};
+ghost use Rattle.argon2.specs.Rfc9106.{segment_length, lane_length, block_count};
+ghost use Rattle.argon2.specs.Argon2.{context_with, settings_with};
+ghost use Rattle.argon2.specs.Layout.{IsSize};
 
 use crate::params::SLICES;
 use crate::{Algorithm, Params, Version};

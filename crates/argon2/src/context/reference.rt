@@ -2,7 +2,8 @@
 //! which depend on no other block (RFC 9106, sections 3.4.1 and 3.4.2).
 
 ghost use Rattle.std.specs.Prelude.{◌≡◌, ℕ, ◌+◌, ◌-◌, ◌^◌, ◌<◌, ◌≤◌, ◌++◌, length, replicate, slice_index, slice_index_or, if◌then◌else◌};
-ghost use Rattle.argon2.specs.Rfc9106.{Blocks, MayReferTo, address_block, addresses_at, block_count, is_independent, lane_length, permitted, place_of, previous, reference, reference_index, reference_lane, reference_word, segment_length};
+ghost use Rattle.argon2.specs.Rfc9106.{Blocks, address_block, block_count, is_independent, lane_length, permitted, previous, reference, reference_index, reference_lane, reference_word, segment_length};
+ghost use Rattle.argon2.specs.Layout.{MayReferTo, addresses_at, place_of};
 ghost use Rattle.argon2.specs.SegmentSteps.{column_of, IsStepAt};
 ghost use Rattle.argon2.specs.Watching.{address_mixings};
 
@@ -41,7 +42,7 @@ fn reference_index(count: u32, word: u64) -> u32
 
 impl<'a> Instance<'a> {
     /// The word of a step: of its address block, or else `first`, the previous block's first.
-    #[tactic(auto, using(crate::proofs::context_lemmas::SegmentColumns::references), unfolding(crate::specs::Rfc9106::addresses_at, crate::specs::Rfc9106::address_word, crate::specs::Rfc9106::reference_word))]
+    #[tactic(auto, using(crate::proofs::context_lemmas::SegmentColumns::references), unfolding(crate::specs::Layout::addresses_at, crate::specs::Rfc9106::address_word, crate::specs::Rfc9106::reference_word))]
     pub(super) fn word(&self, first: u64, addresses: &Option<Block>, at: Step) -> u64
         requires in_segment { at.index < segment_length self.now }
         requires addresses { addresses.now
@@ -74,7 +75,7 @@ impl<'a> Instance<'a> {
 
     /// The address block that has the word of a step, in a slice that has address blocks.
     #[inline(always)]
-    #[tactic(auto, unfolding(crate::specs::Rfc9106::addresses_at))]
+    #[tactic(auto, unfolding(crate::specs::Layout::addresses_at))]
     pub(super) fn addresses(&self, at: Step, work: &mut Work) -> Option<Block>
         requires { work.old + 2 < 2 ^ 128 }
         ensures block { result ≡ addresses_at self.now at.pass at.lane at.slice at.index }

@@ -19,7 +19,8 @@ pub struct AssociatedData {
 }
 
 impl AssociatedData {
-    ghost use Rattle.argon2.specs.Params.{data_bytes, AreBytes, IsOfBytes, IsOfText};
+    ghost use Rattle.argon2.specs.Params.{AreBytes, IsOfBytes, IsOfText};
+    ghost use Rattle.argon2.specs.Argon2.{data_bytes};
 
     /// The most bytes of associated data.
     pub const MAX_LEN: usize = 32;
@@ -79,7 +80,7 @@ impl AssociatedData {
 
 impl Default for AssociatedData {
     ghost use Rattle.std.specs.Prelude.{◌≡◌, []};
-    ghost use Rattle.argon2.specs.Params.{data_bytes};
+    ghost use Rattle.argon2.specs.Argon2.{data_bytes};
 
     ghost is_default = { λ associated. data_bytes associated ≡ [] };
 
@@ -89,7 +90,7 @@ impl Default for AssociatedData {
 }
 
 impl AsSlice<u8> for AssociatedData {
-    ghost use Rattle.argon2.specs.Params.{data_bytes};
+    ghost use Rattle.argon2.specs.Argon2.{data_bytes};
 
     ghost items = { data_bytes };
 
@@ -99,7 +100,8 @@ impl AsSlice<u8> for AssociatedData {
 }
 
 impl FromStr for AssociatedData {
-    ghost use Rattle.argon2.specs.Params.{data_bytes, IsOfText};
+    ghost use Rattle.argon2.specs.Params.{IsOfText};
+    ghost use Rattle.argon2.specs.Argon2.{data_bytes};
 
     type Err = Error;
 
@@ -111,7 +113,8 @@ impl FromStr for AssociatedData {
 }
 
 impl TryFrom<&[u8]> for AssociatedData {
-    ghost use Rattle.argon2.specs.Params.{data_bytes, IsOfBytes};
+    ghost use Rattle.argon2.specs.Params.{IsOfBytes};
+    ghost use Rattle.argon2.specs.Argon2.{data_bytes};
 
     type Error = Error;
 

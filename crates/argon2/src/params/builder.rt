@@ -1,8 +1,8 @@
 //! A builder of parameters.
 
 ghost use Rattle.std.specs.Prelude.{◌≡◌, Some};
-ghost use Rattle.argon2.specs.Argon2.{IsContextOf};
-ghost use Rattle.argon2.specs.Params.{IsParamsOf, Sets, builder_settings, built, data_bytes, default_settings, keyid_bytes};
+ghost use Rattle.argon2.specs.Argon2.{IsContextOf, data_bytes, keyid_bytes};
+ghost use Rattle.argon2.specs.Params.{IsParamsOf, Sets, builder_settings, built, default_settings};
 
 use super::{AssociatedData, KeyId, Params};
 use crate::algorithm::Algorithm;

@@ -19,7 +19,8 @@ pub struct KeyId {
 }
 
 impl KeyId {
-    ghost use Rattle.argon2.specs.Params.{keyid_bytes, AreBytes, IsOfBytes, IsOfText};
+    ghost use Rattle.argon2.specs.Params.{AreBytes, IsOfBytes, IsOfText};
+    ghost use Rattle.argon2.specs.Argon2.{keyid_bytes};
 
     /// The most bytes of a key identifier.
     pub const MAX_LEN: usize = 8;
@@ -79,7 +80,7 @@ impl KeyId {
 
 impl Default for KeyId {
     ghost use Rattle.std.specs.Prelude.{◌≡◌, []};
-    ghost use Rattle.argon2.specs.Params.{keyid_bytes};
+    ghost use Rattle.argon2.specs.Argon2.{keyid_bytes};
 
     ghost is_default = { λ keyid. keyid_bytes keyid ≡ [] };
 
@@ -89,7 +90,7 @@ impl Default for KeyId {
 }
 
 impl AsSlice<u8> for KeyId {
-    ghost use Rattle.argon2.specs.Params.{keyid_bytes};
+    ghost use Rattle.argon2.specs.Argon2.{keyid_bytes};
 
     ghost items = { keyid_bytes };
 
@@ -99,7 +100,8 @@ impl AsSlice<u8> for KeyId {
 }
 
 impl FromStr for KeyId {
-    ghost use Rattle.argon2.specs.Params.{keyid_bytes, IsOfText};
+    ghost use Rattle.argon2.specs.Params.{IsOfText};
+    ghost use Rattle.argon2.specs.Argon2.{keyid_bytes};
 
     type Err = Error;
 
@@ -111,7 +113,8 @@ impl FromStr for KeyId {
 }
 
 impl TryFrom<&[u8]> for KeyId {
-    ghost use Rattle.argon2.specs.Params.{keyid_bytes, IsOfBytes};
+    ghost use Rattle.argon2.specs.Params.{IsOfBytes};
+    ghost use Rattle.argon2.specs.Argon2.{keyid_bytes};
 
     type Error = Error;
 

@@ -5,7 +5,7 @@ ghost use Rattle.std.specs.Option.{option_map};
 ghost use Rattle.argon2_base.specs.Texts.{number_of};
 ghost use Rattle.argon2_base.specs.PhcText.{are_params};
 ghost use Rattle.argon2_base.specs.Error.{bad_param, outcome_of};
-ghost use Rattle.argon2.specs.Params.{keyid_bytes, data_bytes};
+ghost use Rattle.argon2.specs.Argon2.{keyid_bytes, data_bytes};
 ghost use Rattle.argon2.specs.ListedParameters.{AreReadAgain, bytes_item, listed, short_bytes};
 
 use super::{AssociatedData, KeyId, Params, ParamsBuilder};
@@ -52,7 +52,7 @@ fn add_bytes(list: &mut ParamsString, name: &str, bytes: &[u8])
 /// The list of the parameters, always Ok. Read again, it is the same parameters with any length of
 /// output.
 impl TryFrom<&Params> for ParamsString {
-    ghost use Rattle.argon2.specs.Params.{parameters_of};
+    ghost use Rattle.argon2.specs.Argon2.{parameters_of};
     ghost use Rattle.argon2.specs.ListedParameters.{IsListOf};
 
     type Error = Error;
@@ -67,7 +67,7 @@ impl TryFrom<&Params> for ParamsString {
 
 /// Lists parameters that are given by value, as by reference.
 impl TryFrom<Params> for ParamsString {
-    ghost use Rattle.argon2.specs.Params.{parameters_of};
+    ghost use Rattle.argon2.specs.Argon2.{parameters_of};
     ghost use Rattle.argon2.specs.ListedParameters.{IsListOf};
 
     type Error = Error;
@@ -85,7 +85,7 @@ impl fmt::Display for Params {
     ghost use Rattle.std.specs.Prelude.{Some};
     ghost use Rattle.argon2_base.specs.PhcText.{params_text};
     ghost use Rattle.argon2.specs.ListedParameters.{list_of};
-    ghost use Rattle.argon2.specs.Params.{parameters_of};
+    ghost use Rattle.argon2.specs.Argon2.{parameters_of};
 
     ghost output = { λ params. Some (params_text (list_of (parameters_of params))) };
 
@@ -186,7 +186,7 @@ impl Params {
     ghost use Rattle.std.specs.Prelude.{◌≡◌};
     ghost use Rattle.argon2_base.specs.Error.{outcome_of};
     ghost use Rattle.argon2.specs.ListedParameters.{params_of};
-    ghost use Rattle.argon2.specs.Params.{parameters_of};
+    ghost use Rattle.argon2.specs.Argon2.{parameters_of};
 
     // The parameters of a list, with this output length.
     fn read(list: &ParamsString, output_len: Option<usize>) -> Result<Params>
@@ -217,7 +217,7 @@ impl TryFrom<&ParamsString> for Params {
     ghost use Rattle.std.specs.Prelude.{◌≡◌, None};
     ghost use Rattle.argon2_base.specs.Error.{outcome_of};
     ghost use Rattle.argon2.specs.ListedParameters.{params_of};
-    ghost use Rattle.argon2.specs.Params.{parameters_of};
+    ghost use Rattle.argon2.specs.Argon2.{parameters_of};
 
     type Error = Error;
 
@@ -235,7 +235,7 @@ impl TryFrom<&PasswordHash> for Params {
     ghost use Rattle.std.specs.Prelude.{◌≡◌};
     ghost use Rattle.argon2_base.specs.Error.{outcome_of};
     ghost use Rattle.argon2.specs.ListedParameters.{asked_of};
-    ghost use Rattle.argon2.specs.Params.{parameters_of};
+    ghost use Rattle.argon2.specs.Argon2.{parameters_of};
 
     type Error = Error;
 

@@ -16,9 +16,8 @@ use std::alloc::Global;
 impl<'key> Argon2<'key> {
     ghost use Rattle.std.specs.Prelude.{◌≡◌, ◌≤◌, IfOk, length};
     ghost use Rattle.argon2_base.specs.Error.{outcome_of};
-    ghost use Rattle.argon2.specs.Argon2.{settings_of, secret_of, IsWith};
+    ghost use Rattle.argon2.specs.Argon2.{settings_of, secret_of, IsWith, parameters_of};
     ghost use Rattle.argon2.specs.Made.{settings_asked, tag_length, IsTagAnswer};
-    ghost use Rattle.argon2.specs.Params.{parameters_of};
     ghost use Rattle.argon2.specs.Stored.{settings_value};
 
     // How many bytes a hash has.
@@ -148,9 +147,8 @@ impl CustomizedPasswordHasher<PasswordHash> for Argon2<'_> {
     ghost use Rattle.argon2_base.specs.PhcFields.{phc_of};
     ghost use Rattle.argon2_base.specs.PhcText.{phc_text};
     ghost use Rattle.argon2.specs.Stored.{Accepts};
-    ghost use Rattle.argon2.specs.Argon2.{secret_of};
+    ghost use Rattle.argon2.specs.Argon2.{parameters_of, secret_of};
     ghost use Rattle.argon2.specs.Made.{settings_asked, IsAskedAnswer};
-    ghost use Rattle.argon2.specs.Params.{parameters_of};
 
     type Params = Params;
 

@@ -1,7 +1,7 @@
 //! What a stored hash shows: how it was made, its salt and the hash itself.
 
 ghost use Rattle.std.specs.Prelude.{◌≡◌, ◌≤◌, Some, length};
-ghost use Rattle.argon2.specs.Params.{parameters_of};
+ghost use Rattle.argon2.specs.Argon2.{parameters_of};
 
 use super::{Error, Result};
 use crate::algorithm::Algorithm;

@@ -1,5 +1,6 @@
 -- How the output of the hash of any length grows piece by piece.
 use Rattle.std.proofs.Common.{◌≡◌, ℕ, zero, suc, ◌+◌, ◌-◌, ◌*◌, ◌<◌, ◌≤◌, List, [], ◌++◌, ◌^◌, length, take, drop, slice_index_or, refl, sym, arith, add-one, add-zero, length-drop}
+use Rattle.std.proofs.lemmas.Bool.{le-ltb, lt-ltb}
 use Rattle.std.proofs.lemmas.List.{append-nil, append_assoc, drop_all, take_at}
 use Rattle.std.proofs.lemmas.Slice.{take-put_mid}
 use Rattle.std.specs.List.{flat_map, range_with_len}
@@ -64,14 +65,11 @@ input_fits inputs i n d lt e fits =
 
 -- an output of at most 64 bytes is one digest
 pub long_hash_short : (n : ℕ) (m out : List ℕ) → n ≤ 64 → out ≡ blake2b n (to_le_bytes w32 n ++ m) → out ≡ long_hash n m
-unfolding chain long_hash
-long_hash_short n m out small eo =
-    let none : half_count n ≡ 0 = omega arith in
-    let all : n - 0 ≡ n = omega arith in
-    rw (none, all, eo) refl
+unfolding long_hash
+long_hash_short n m out small eo = rw (le-ltb 64 n small, eo) refl
 
--- an output of more than 64 bytes is the pieces from V(1) on
-pub long_hash_pieces : (n : ℕ) (m start out : List ℕ) → start ≡ blake2b 64 (to_le_bytes w32 n ++ m)
+-- an output of more than 64 bytes is the pieces from V_1 on
+pub long_hash_pieces : (n : ℕ) (m start out : List ℕ) → 64 < n → start ≡ blake2b 64 (to_le_bytes w32 n ++ m)
     → ((first : List ℕ) → start ≡ chain first 1 → out ≡ pieces n first) → out ≡ long_hash n m
 unfolding chain long_hash
-long_hash_pieces n m start out es written = written (to_le_bytes w32 n ++ m) es
+long_hash_pieces n m start out long es written = rw (lt-ltb 64 n long) (written (to_le_bytes w32 n ++ m) es)

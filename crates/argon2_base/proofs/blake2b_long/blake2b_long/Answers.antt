@@ -11,5 +11,5 @@ returns-then-out-le64-clause-written c =
 pub returns-else-out-le64-clause-written : goal.returns-else-out-le64-clause-written
 returns-else-out-le64-clause-written c =
     let same : c.in-Ok.len ≡ length c.args.out.now = omega arith in
-    long_hash_pieces (length c.args.out.now) _ _ _
+    long_hash_pieces (length c.args.out.now) _ _ _ (omega arith)
     (rw same at (c.finalize_into-else-out-le64.ensures _ c.hasher_of-hasher.ensures.holds)) c.write_pieces.ensures

@@ -1,6 +1,6 @@
 use Rattle.std.proofs.Common.{rules, arith, sym}
 use Rattle.argon2.specs.Bound.{IsWithin}
-use Rattle.argon2.specs.Params.{parameters_of}
+use Rattle.argon2.specs.Argon2.{parameters_of}
 use Rattle.argon2.proofs.bound.Bound.admit_hash.Goals as goal
 
 pub returns-clause-within : goal.returns-clause-within

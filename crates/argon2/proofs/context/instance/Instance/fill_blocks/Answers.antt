@@ -1,5 +1,6 @@
 use Rattle.std.proofs.Common.{drop, map, ap, ◌∙◌}
-use Rattle.argon2.specs.Rfc9106.{block_count, first_block, matrix_of}
+use Rattle.argon2.specs.Rfc9106.{block_count, first_block}
+use Rattle.argon2.specs.Layout.{matrix_of}
 use Rattle.argon2.specs.Hashing.{blocks_of}
 use Rattle.argon2.proofs.LentMemory.{has_matrix, words_behind}
 use Rattle.argon2.proofs.context.instance.Instance.fill_blocks.Goals as goal

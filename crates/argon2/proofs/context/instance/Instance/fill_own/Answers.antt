@@ -1,6 +1,7 @@
 use Rattle.std.proofs.Common.{◌≡◌, ◌+◌, ◌-◌, ◌*◌, ◌/◌, ◌<◌, refl, ap, ◌∙◌, arith}
 use Rattle.std.proofs.lemmas.Bool.Decides.{nat_tests}
-use Rattle.argon2.specs.Rfc9106.{addresses_at, segment_length}
+use Rattle.argon2.specs.Rfc9106.{segment_length}
+use Rattle.argon2.specs.Layout.{addresses_at}
 use Rattle.argon2.specs.Steps.{step}
 use Rattle.argon2.specs.Watching.{begun}
 use Rattle.argon2.proofs.recurrence.Addresses.{same_addresses}

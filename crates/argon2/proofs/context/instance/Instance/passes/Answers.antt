@@ -1,10 +1,10 @@
 use Rattle.std.proofs.Common.{subst, rules}
-use Rattle.argon2.specs.Rfc9106.{Sizes}
-use Rattle.argon2.proofs.recurrence.Validity.{sizes_of_valid}
+use Rattle.argon2.specs.Layout.{Sizes}
+use Rattle.argon2.proofs.recurrence.Validity.{sizes_of_none}
 use Rattle.argon2.proofs.context.instance.Instance.passes.Goals as goal
 
 pub returns : goal.returns
 returns c = record {
   value = search rules;
-  sizes = subst Sizes c.self.view_is (sizes_of_valid _ (search rules) (search rules) c.self.invariant.0);
+  sizes = subst Sizes c.self.view_is (sizes_of_none _ (search rules) (search rules) c.self.invariant.0);
 }

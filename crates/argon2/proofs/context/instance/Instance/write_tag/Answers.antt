@@ -2,7 +2,7 @@ use Rattle.std.proofs.Common.{length, map, take, sym, ap, ◌∙◌}
 use Rattle.std.proofs.lemmas.List.{take-map}
 use Rattle.argon2_base.specs.Block.{bytes_of}
 use Rattle.argon2_base.specs.LongHash.{long_hash}
-use Rattle.argon2.specs.Rfc9106.{Memory}
+use Rattle.argon2.specs.Layout.{Memory}
 use Rattle.argon2.specs.Steps.{last_column}
 use Rattle.argon2.proofs.context.instance.Instance.write_tag.Goals as goal
 
