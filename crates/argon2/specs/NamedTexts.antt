@@ -38,7 +38,7 @@ added (e ∷ es) store = added es (insert store e.0 e.1)
 abbrev pub KeepsOthers : List ℕ → Store → Store → Type 0
 KeepsOthers name before after = (other : List ℕ) → other ≢ name → get after other ≡ get before other
 
--- what the newest of the calls for which there is something has
+-- the first Some that a function gives, from the newest event on
 abbrev pub newest : {E X : Type 0} → (E → Option X) → List E → Option X
 newest of [] = None
 newest of (event ∷ older) = option_or (of event) (newest of older)

@@ -91,7 +91,7 @@ impl<'key> Login<'key> {
     /// password under the target, with a salt of 16 bytes that are drawn from `rng`, and written
     /// over the old one, which takes no memory. [`Accepted`] says what was done.
     ///
-    /// Nothing is drawn but for a fresh text; then 16 bytes are, even if there is no memory for it.
+    /// Draws 16 bytes if it makes a fresh text, even if that then runs out of memory; otherwise none.
     /// Verifying makes one request for memory and a fresh text another; both are freed before the call
     /// returns.
     ///

@@ -9,8 +9,8 @@ use Rattle.argon2_c.specs.Requests.{asked, request_faults}
 use Rattle.argon2_c.specs.Texts.{Said}
 use Rattle.argon2_c.specs.declared.request.Request.{Request}
 
--- Why a call is refused before the text is read. `absent` is how many bytes the password has behind a null pointer, `room` how
--- many are lent for what the text says.
+-- Why a call is refused before the text is read. `absent` is the length passed with a null password pointer, `room` how
+-- many bytes are lent for what the text says.
 abbrev pub call_refusal : ℕ → Bool → ℕ → ℕ → ℕ → ℕ → Option ℤ
 call_refusal algorithm has_text text password absent room = first_of (
     (nat_lt max_len password || nat_lt max_len absent, PWD_TOO_LONG)

@@ -46,8 +46,8 @@ pub fn least_passes(min_t: Option<u32>, m_cost: u32) -> u32
     }
 }
 
-/// How long a further pass takes, by the times of the least passes and of so many: no less than half of the
-/// average, as the first hash of all can be slower than the others.
+/// An estimate of one more pass from the measured times of the least passes and of `passes`. It is at least half of the
+/// average, since the first hash can be slow.
 pub fn further(first: Choice, passes: u32, time: u64) -> u64
     requires { first.t_cost < passes }
     ensures { result ≡ further_of first passes time }

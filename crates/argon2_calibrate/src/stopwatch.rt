@@ -20,12 +20,12 @@ const REFUSED: Failure = Failure::Other("hashing is refused");
 pub trait Stopwatch {
     ghost use Rattle.std.specs.Prelude.{ℕ, ⊤, List, Option, IfOk, option_map};
 
-    // Hashes with so many lanes, blocks and passes may be found to take so many microseconds; or none if their
-    // memory may be refused.
+    // The times, in microseconds, that three hashes with these lanes, blocks and passes may take; none if their memory may be
+    // refused.
     ghost may_take: { ℕ → ℕ → ℕ → Option (List ℕ) → Type 0 } = { λ _ _ _ _. ⊤ };
 
-    /// How many microseconds each of three hashes takes with so many lanes, blocks of 1024 bytes and passes, or none if
-    /// their memory is refused.
+    /// The times of three hashes with these lanes, blocks of 1024 bytes and passes, in microseconds; none if their memory is
+    /// refused.
     ///
     /// # Errors
     /// The clock can't be read.

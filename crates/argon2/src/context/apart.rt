@@ -72,8 +72,8 @@ impl Argon2<'_> {
         instance.fill_own(before, own, after, pass, slice, lane);
     }
 
-    /// Writes the hash of the last column's exclusive or, of as many bytes as `out` has, 1 to 4294967295.
-    /// `last` is the last slice (RFC 9106, section 3.2, steps 7 and 8).
+    /// Fills `out`, 1 to 4294967295 bytes, with H' of the exclusive or of the last column's blocks. `last` is the last
+    /// slice (RFC 9106, section 3.2, steps 7 and 8).
     pub fn finish_slices(&self, last: &[Words], out: &mut [u8])
         requires slice { length last.now ≡ slice_length (context_of self.now) }
         requires some { 1 ≤ length out.old }

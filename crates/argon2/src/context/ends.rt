@@ -115,7 +115,7 @@ impl Instance<'_> {
         }
     }
 
-    /// Writes the hash of the last column's exclusive or, of as many bytes as `out` has.
+    /// Fills `out` with H' of the exclusive or of the last column's blocks.
     pub(super) fn write_tag<B: MemoryBlock>(&self, memory: &[B], out: &mut [u8])
         requires room { block_count self.now ≤ length memory.now }
         requires some { 1 ≤ length out.old }

@@ -66,9 +66,9 @@ impl Argon2<'_> {
         instance.step(blocks, &addresses, at, &mut work)
     }
 
-    /// Writes the hash of the last column's exclusive or, of as many bytes as `out` has, whatever
-    /// the memory holds (RFC 9106, section 3.2, steps 7 and 8). That is the tag once all steps are
-    /// done, if `out` has the length that the filling began for.
+    /// Fills `out` with H' of the exclusive or of the last column's blocks, whatever the memory holds
+    /// (RFC 9106, section 3.2, steps 7 and 8). That is the tag once all steps are done, if `out` has
+    /// the length that the filling began for.
     ///
     /// `memory` has at least [`block_count`](crate::Params::block_count) blocks. If the parameters
     /// set an output length, `out` has exactly that many bytes; else it has 4 to 4294967295.

@@ -105,7 +105,7 @@ impl<'key> Target<'key> {
     /// as [`hash_password`](Target::hash_password), if the text has another algorithm, version,
     /// parameters or hash length than the target. The fresh text is to be stored over the old one.
     ///
-    /// Nothing is drawn but for a fresh text; then 16 bytes are, even if there is no memory for it.
+    /// Draws 16 bytes if it makes a fresh text, even if that then runs out of memory; otherwise none.
     ///
     /// # Errors
     /// Those of [`verify`](Target::verify).
