@@ -1,6 +1,6 @@
 //! The block of 1024 bytes that the memory of Argon2 is made of, and the mixing of two blocks.
 
-ghost use Rattle.std.specs.Prelude.{◌≡◌, ℕ, ◌+◌, ◌-◌, ◌<◌, ◌^◌, List, length, ⊤};
+ghost use Rattle.std.specs.Prelude.{◌≡◌, ℕ, ◌+◌, ◌-◌, ◌<◌, ◌^◌, List, length, ⊤, if◌then◌else◌};
 ghost use Rattle.std.specs.Borrow.{sem};
 ghost use Rattle.argon2_base.specs.Block.{bytes_of, mixed, words_of, xor_blocks, zero_block};
 
@@ -105,6 +105,18 @@ impl Block {
         work.mixes += 1;
         Block::from(kernel::mix(&x.words, &y.words))
     }
+
+    /// Mixes two blocks, of which `xor` is the exclusive or, as [`mix`](Block::mix) does, by another
+    /// body, which is faster on processors with AVX2. Memory is filled by it. This block is then the
+    /// result, or if `xors` the exclusive or of itself and the result.
+    pub fn put_mixed(&mut self, xor: &Block, xors: bool, work: &mut Work)
+        requires { work.old < 2 ^ 128 - 1 }
+        ensures block { (x y : List ℕ) → xor.now ≡ xor_blocks x y
+            → self.new ≡ (if xors then xor_blocks self.old (mixed x y) else mixed x y) }
+        ensures counted { work.new ≡ work.old + 1 }
+    {
+        put_mixed_words(&mut self.words, &xor.words, xors, work);
+    }
 }
 
 impl Default for Block {
@@ -198,15 +210,29 @@ impl Work {
     }
 }
 
-/// Mixes two blocks that are given by their words, as [`Block::mix`] does, by another body, which is
-/// faster on processors with AVX2. Memory is filled by it.
+/// Mixes two blocks that are given by their words, as [`Block::mix`] does, by the body of
+/// [`put_mixed_words`].
 pub fn mix_words(x: &Words, y: &Words, work: &mut Work) -> Words
     requires { work.old < 2 ^ 128 - 1 }
     ensures words { result ≡ mixed x.now y.now }
     ensures counted { work.new ≡ work.old + 1 }
 {
+    let mut r = *x;
+    kernel::xor_into(&mut r, y);
+    let mut out = [0; 128];
+    put_mixed_words(&mut out, &r, false, work);
+    out
+}
+
+/// The same as [`Block::put_mixed`], on words of blocks.
+pub fn put_mixed_words(out: &mut Words, xor: &Words, xors: bool, work: &mut Work)
+    requires { work.old < 2 ^ 128 - 1 }
+    ensures words { (x y : List ℕ) → xor.now ≡ xor_blocks x y
+        → out.new ≡ (if xors then xor_blocks out.old (mixed x y) else mixed x y) }
+    ensures counted { work.new ≡ work.old + 1 }
+{
     work.mixes += 1;
-    chains::mix(x, y)
+    chains::mix(out, xor, xors);
 }
 
 /// The exclusive or with the words of a block.

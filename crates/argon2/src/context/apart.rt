@@ -4,7 +4,7 @@
 //! there are p lanes, the block of a lane and a column is at ((column / S) * p + lane) * S + column % S.
 //! A segment is filled on three parts of it: the slices before, the segment, and the slices after it.
 
-ghost use Rattle.std.specs.Prelude.{◌≡◌, ℕ, ◌*◌, ◌+◌, ◌-◌, ◌/◌, ◌<◌, ◌≤◌, ◌^◌, ◌&&◌, ◌==◌, [], if◌then◌else◌, length, nat_lt, slice_index_or};
+ghost use Rattle.std.specs.Prelude.{◌≡◌, ℕ, ◌*◌, ◌+◌, ◌-◌, ◌/◌, ◌<◌, ◌≤◌, ◌^◌, [], length, slice_index_or};
 ghost use Rattle.argon2_base.specs.Block.{bytes_of, xor_blocks};
 ghost use Rattle.argon2_base.specs.LongHash.{long_hash};
 ghost use Rattle.argon2.specs.Rfc9106.{AreShort, block_count, first_block, lane_length, segment_length};
@@ -18,7 +18,7 @@ use super::fill::Step;
 use super::instance::Instance;
 use crate::params::SLICES;
 use crate::{Block, Work};
-use argon2_base::block::{Words, mix_words, xor_words};
+use argon2_base::block::{Words, put_mixed_words, xor_words};
 
 impl Argon2<'_> {
     ghost use Rattle.std.specs.Prelude.{◌≡◌, ◌<◌, ◌≤◌, ◌^◌, length};
@@ -145,20 +145,9 @@ impl<'a> Instance<'a> {
         let word = self.word(x[0], addresses, at);
         let (lane, column) = self.reference(at, word);
         let y = self.block(before, own, after, at, lane, column);
-        let mixed = mix_words(x, y, &mut Work::new());
-        self.write_mixed(&mut own[at.index as usize], &mixed, at.pass);
-    }
-
-    /// Writes `mixed` to a step's block, or xors it into that block if the pass xors.
-    fn write_mixed(&self, block: &mut Words, mixed: &Words, pass: u32)
-        ensures { block.new ≡ (if (self.now.version == 19) && nat_lt 0 pass
-            then xor_blocks block.old mixed.now else mixed.now) }
-    {
-        if self.xors(pass) {
-            xor_words(block, mixed);
-        } else {
-            *block = *mixed;
-        }
+        let xor = &xor_of(x, y);
+        let block = &mut own[at.index as usize];
+        put_mixed_words(block, xor, self.xors(at.pass), &mut Work::new());
     }
 
     /// A block that a step may read.
@@ -216,4 +205,14 @@ impl<'a> Instance<'a> {
     {
         (slice * self.lanes() + lane) * self.segment_length() + index
     }
+}
+
+/// The exclusive or of two blocks.
+#[inline(always)]
+fn xor_of(x: &Words, y: &Words) -> Words
+    ensures { result ≡ xor_blocks x.now y.now }
+{
+    let mut xor = *x;
+    xor_words(&mut xor, y);
+    xor
 }

@@ -1,7 +1,7 @@
 //! From the inputs of a hash to its matrix, step by step (RFC 9106, section 3.2, steps 1 to 6).
 
 ghost use Rattle.std.specs.Prelude.{◌≡◌, ◌+◌, ◌-◌, ◌*◌, ◌^◌, ◌<◌, ◌≤◌, ◌==◌, [], if◌then◌else◌, length, map, slice_index_or, slice_set};
-ghost use Rattle.argon2_base.specs.Block.{mixed};
+ghost use Rattle.argon2_base.specs.Block.{xor_blocks};
 ghost use Rattle.argon2.specs.Rfc9106.{AreShort, FirstColumns, block_count, lane_length, segment_length, tag_of};
 ghost use Rattle.argon2.specs.Layout.{addresses_at};
 ghost use Rattle.argon2.specs.Hashing.{FillsFront, IsOutputLength};
@@ -243,13 +243,8 @@ impl<'a> Instance<'a> {
         let word = self.word(memory[previous].first_word(), addresses, at);
         let reference = self.reference_place(at, word);
         let place = self.place(at.lane, self.column(at)) as usize;
-        // Each arm mixes for itself: a result that is used once is not copied.
-        if self.xors(at.pass) {
-            let block = &mixed_blocks(memory, previous, reference as usize, work);
-            memory[place].xor(block);
-        } else {
-            memory[place] = mixed_blocks(memory, previous, reference as usize, work);
-        }
+        let xor = &xor_of_blocks(memory, previous, reference as usize);
+        memory[place].put_mixed(xor, self.xors(at.pass), work);
         reference
     }
 
@@ -278,19 +273,15 @@ impl<'a> Instance<'a> {
     }
 }
 
-/// The blocks of two places, mixed.
-fn mixed_blocks<B: MemoryBlock>(
-    memory: &[B],
-    previous: usize,
-    reference: usize,
-    work: &mut Work,
-) -> B
+/// The exclusive or of the blocks of two places.
+#[inline(always)]
+fn xor_of_blocks<B: MemoryBlock>(memory: &[B], previous: usize, reference: usize) -> B
     requires previous { previous < length memory.now }
     requires reference { reference < length memory.now }
-    requires count { work.old < 2 ^ 128 - 1 }
-    ensures block { let blocks = map B.words memory.now in B.words result
-        ≡ mixed (slice_index_or blocks previous []) (slice_index_or blocks reference []) }
-    ensures work { work.new ≡ work.old + 1 }
+    ensures { let blocks = map B.words memory.now in B.words result
+        ≡ xor_blocks (slice_index_or blocks previous []) (slice_index_or blocks reference []) }
 {
-    B::mixed(&memory[previous], &memory[reference], work)
+    let mut xor = memory[previous];
+    xor.xor(&memory[reference]);
+    xor
 }

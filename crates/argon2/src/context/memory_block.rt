@@ -1,10 +1,10 @@
 //! What the memory of a hash is made of: blocks, or the words of blocks.
 
-ghost use Rattle.std.specs.Prelude.{◌≡◌, ℕ, ◌+◌, ◌-◌, ◌<◌, ◌^◌, List, slice_index};
+ghost use Rattle.std.specs.Prelude.{◌≡◌, ℕ, ◌+◌, ◌-◌, ◌<◌, ◌^◌, List, slice_index, if◌then◌else◌};
 ghost use Rattle.argon2_base.specs.Block.{mixed, xor_blocks};
 
 use crate::{Block, Work};
-use argon2_base::block::{Words, mix_words, xor_words};
+use argon2_base::block::{Words, put_mixed_words, xor_words};
 use std::convert::AsSlice;
 
 /// A block of the memory.
@@ -23,10 +23,12 @@ pub(super) trait MemoryBlock: Copy {
     fn first_word(&self) -> u64
         ensures { result ≡ slice_index (words self.now) 0 };
 
-    /// Mixes two, and counts one mixing.
-    fn mixed(x: &Self, y: &Self, work: &mut Work) -> Self
+    /// Writes two mixed over this block, or xors it with them if `xors`, and counts one mixing. `xor` is
+    /// the exclusive or of the two.
+    fn put_mixed(&mut self, xor: &Self, xors: bool, work: &mut Work)
         requires { work.old < 2 ^ 128 - 1 }
-        ensures block { words result ≡ mixed (words x.now) (words y.now) }
+        ensures block { (x y : List ℕ) → words xor.now ≡ xor_blocks x y
+            → words self.new ≡ (if xors then xor_blocks (words self.old) (mixed x y) else mixed x y) }
         ensures counted { work.new ≡ work.old + 1 };
 
     /// The exclusive or with another.
@@ -49,8 +51,8 @@ impl MemoryBlock for Block {
         self.as_slice()[0]
     }
 
-    fn mixed(x: &Block, y: &Block, work: &mut Work) -> Block {
-        Block::from(mix_words(x.as_words(), y.as_words(), work))
+    fn put_mixed(&mut self, xor: &Block, xors: bool, work: &mut Work) {
+        self.put_mixed(xor, xors, work);
     }
 
     fn xor(&mut self, other: &Block) {
@@ -73,8 +75,8 @@ impl MemoryBlock for Words {
         self[0]
     }
 
-    fn mixed(x: &Words, y: &Words, work: &mut Work) -> Words {
-        mix_words(x, y, work)
+    fn put_mixed(&mut self, xor: &Words, xors: bool, work: &mut Work) {
+        put_mixed_words(self, xor, xors, work);
     }
 
     fn xor(&mut self, other: &Words) {

@@ -5,7 +5,7 @@ use Rattle.std.proofs.lemmas.List.{get_or-map, get_or_append_left}
 use Rattle.std.specs.Simd.Lanes.{pick_l}
 use Rattle.argon2_base.specs.Block.{gb, mix_diagonals, perm}
 use Rattle.argon2_base.specs.Lanes.{column_lanes, exchanged_left, exchanged_right, fours, group, lane_word, pairs, vector_words}
-use Rattle.argon2_base.proofs.block_lemmas.LaneLemmas.{below_eight, columns_mixed, diagonals_mixed, row_at, Shuffled, two_vectors, word_at}
+use Rattle.argon2_base.proofs.block_lemmas.LaneLemmas.{columns_mixed, diagonals_mixed, row_at, Shuffled, two_vectors, word_at}
 
 -- what is true of 0 to 3 is true of each number below 4
 pub below_four : (P : ℕ → Type 0) → P 0 → P 1 → P 2 → P 3 → (k : ℕ) → k < 4 → P k
@@ -91,19 +91,9 @@ right_halves x =
     exchanged_right 16 8 (row_at x 0) (row_at x 1) ∷ exchanged_right 16 8 (row_at x 2) (row_at x 3)
     ∷ exchanged_right 16 8 (row_at x 4) (row_at x 5) ∷ exchanged_right 16 8 (row_at x 6) (row_at x 7) ∷ []
 
--- the eight vectors of such halves
-abbrev joined : List (List ℕ) → List (List ℕ) → List (List ℕ)
-joined y z =
-    exchanged_left 16 8 (row_at y 0) (row_at z 0) ∷ exchanged_right 16 8 (row_at y 0) (row_at z 0)
-    ∷ exchanged_left 16 8 (row_at y 1) (row_at z 1) ∷ exchanged_right 16 8 (row_at y 1) (row_at z 1)
-    ∷ exchanged_left 16 8 (row_at y 2) (row_at z 2) ∷ exchanged_right 16 8 (row_at y 2) (row_at z 2)
-    ∷ exchanged_left 16 8 (row_at y 3) (row_at z 3) ∷ exchanged_right 16 8 (row_at y 3) (row_at z 3) ∷ []
+-- whose pairs are the columns
+pub columns_of_left_halves : (x : List (List ℕ)) (j : ℕ) → j < 4 → pairs j (left_halves x) ≡ column_lanes (0 + j) x
+columns_of_left_halves x = below_four _ refl refl refl refl
 
--- P on the columns of the left and of the right halves
-pub columns_permuted : (x y z : List (List ℕ))
-    → ((j : ℕ) → j < 4 → pairs j y ≡ perm (pairs j (left_halves x)))
-    → ((j : ℕ) → j < 4 → pairs j z ≡ perm (pairs j (right_halves x)))
-    → (j : ℕ) → j < 8 → column_lanes j (joined y z) ≡ perm (column_lanes j x)
-columns_permuted x y z left right =
-    below_eight _ (left 0 (lit< tt)) (left 1 (lit< tt)) (left 2 (lit< tt)) (left 3 (lit< tt))
-    (right 0 (lit< tt)) (right 1 (lit< tt)) (right 2 (lit< tt)) (right 3 (lit< tt))
+pub columns_of_right_halves : (x : List (List ℕ)) (j : ℕ) → j < 4 → pairs j (right_halves x) ≡ column_lanes (4 + j) x
+columns_of_right_halves x = below_four _ refl refl refl refl

@@ -1,11 +1,11 @@
 -- From the vectors of the kernel to the mixing that the standard defines.
-use Rattle.std.proofs.Common.{◌≡◌, ℕ, ◌<◌, ◌≤◌, ◌+◌, ◌-◌, ◌*◌, ◌/◌, ◌%◌, List, [], inl, inr, length, slice_index, slice_index_or, ◌==◌, if◌then◌else◌, bit_xor, arith, refl, sym, ap, ap₂, ◌∙◌, zero-add}
+use Rattle.std.proofs.Common.{◌≡◌, ℕ, Bool, true, false, ◌<◌, ◌≤◌, ◌+◌, ◌-◌, ◌*◌, ◌/◌, ◌%◌, List, [], inl, inr, length, slice_index, slice_index_or, ◌==◌, if◌then◌else◌, bit_xor, arith, refl, sym, ap, ap₂, ◌∙◌, zero-add}
 use Rattle.std.proofs.lemmas.Bool.{cases_lt}
 use Rattle.std.proofs.lemmas.List.{ext_get_or}
 use Rattle.std.proofs.lemmas.List.FromFn.{get_or-map-range_with_len, length-map-range_with_len}
 use Rattle.std.proofs.lemmas.Simd.{get_or-zip2, length-zip2}
 use Rattle.argon2_base.specs.Block.{by_columns, by_rows, column, perm, row, xor_blocks}
-use Rattle.argon2_base.specs.Lanes.{column_lanes, lane, lane_word, vector_words}
+use Rattle.argon2_base.specs.Lanes.{column_lanes, half_word, lane, lane_word, pairs, vector_words, written}
 use Rattle.argon2_base.proofs.block_lemmas.LaneLemmas.{below_two, lane_is, slice_index-lane, word_at, words_are}
 
 -- lane q of the vector of an even or an odd number, of two neighbours
@@ -66,11 +66,23 @@ length-by_columns : (q : List ℕ) → length (by_columns q) ≡ 128
 unfolding by_columns
 length-by_columns q = length-map-range_with_len (λ w. slice_index (perm (column (w % 16 / 2) q)) (2 * (w / 16) + w % 2)) 0 128
 
+-- a word of the columns of the rows
+abbrev pub mixed_word : List ℕ → ℕ → ℕ
+mixed_word r w = slice_index (perm (column (w % 16 / 2) (by_rows r))) (2 * (w / 16) + w % 2)
+
+-- xored with the word of r it is a word of G
+word_of_mixed : (r : List ℕ) → length r ≡ 128 → (w : ℕ) → w < 128
+    → bit_xor (mixed_word r w) (slice_index r w) ≡ slice_index (xor_blocks (by_columns (by_rows r)) r) w
+unfolding xor_blocks
+word_of_mixed r long_r w h =
+    let q = by_rows r in
+    let long = length-by_columns q in
+    ap (λ a. bit_xor a (slice_index r w)) (sym (by_columns_word q w h))
+    ∙ sym (get_or-zip2 bit_xor (by_columns q) r w 0 0 0 (omega arith) (omega arith))
+
 -- the words of the columns of the rows, each xored with the word of r, are G
 stored_mixed : (r out : List ℕ) → length r ≡ 128 → length out ≡ 128
-    → ((w : ℕ) → w < 128
-    → slice_index out w
-    ≡ bit_xor (slice_index (perm (column (w % 16 / 2) (by_rows r))) (2 * (w / 16) + w % 2)) (slice_index r w))
+    → ((w : ℕ) → w < 128 → slice_index out w ≡ bit_xor (mixed_word r w) (slice_index r w))
     → out ≡ xor_blocks (by_columns (by_rows r)) r
 unfolding xor_blocks
 stored_mixed r out long_r long_out stored =
@@ -78,11 +90,24 @@ stored_mixed r out long_r long_out stored =
     let long = length-by_columns q in
     let long_xor = length-zip2 bit_xor (by_columns q) r (omega arith) in
     ext_get_or 0 out (xor_blocks (by_columns q) r) (omega arith) (λ w h.
-    let below : w < 128 = omega arith in
-    let below_r : w < length r = omega arith in
-    stored w below
-    ∙ ap (λ a. bit_xor a (slice_index r w)) (sym (by_columns_word q w below))
-    ∙ sym (get_or-zip2 bit_xor (by_columns q) r w 0 0 0 (omega arith) below_r))
+    stored w (omega arith) ∙ word_of_mixed r long_r w (omega arith))
+
+-- and if they are written over a block, so is G, or its exclusive or with the block
+pub mixed_written : (xors : Bool) (r old out : List ℕ) → length r ≡ 128 → length old ≡ 128 → length out ≡ 128
+    → ((w : ℕ) → w < 128
+    → slice_index out w ≡ written xors (slice_index old w) (bit_xor (mixed_word r w) (slice_index r w)))
+    → out ≡ (if xors then xor_blocks old (xor_blocks (by_columns (by_rows r)) r) else xor_blocks (by_columns (by_rows r)) r)
+unfolding xor_blocks
+mixed_written false r old out long_r long_old long_out stored = stored_mixed r out long_r long_out stored
+mixed_written true r old out long_r long_old long_out stored =
+    let q = by_rows r in
+    let m = xor_blocks (by_columns q) r in
+    let long = length-by_columns q in
+    let long_m = length-zip2 bit_xor (by_columns q) r (omega arith) in
+    let long_xor = length-zip2 bit_xor old m (omega arith) in
+    ext_get_or 0 out (xor_blocks old m) (omega arith) (λ w h.
+    stored w (omega arith) ∙ ap (bit_xor (slice_index old w)) (word_of_mixed r long_r w (omega arith))
+    ∙ sym (get_or-zip2 bit_xor old m w 0 0 0 (omega arith) (omega arith)))
 
 -- the vectors of the rows, mixed, turned, mixed and stored, are G
 pub kernel_mixes : (r out : List ℕ) (rows across cols down : List (List ℕ)) → length r ≡ 128 → length out ≡ 128
@@ -116,16 +141,17 @@ kernel_mixes r out rows across cols down long_r long_out rows_are across_are col
     stored_mixed r out long_r long_out (λ w h.
     stored w h ∙ ap (λ a. bit_xor a (slice_index r w)) (down_word (w % 16 / 2) (2 * (w / 16) + w % 2) (omega arith) (omega arith)))
 
--- the rows and then the columns of eight vectors, mixed and stored, are G
-pub chains_mix : (r out : List ℕ) (x across down : List (List ℕ)) → length r ≡ 128 → length out ≡ 128
+-- the rows and then the columns of a half of eight vectors, mixed
+pub half_mixed : (r : List ℕ) (x across v : List (List ℕ)) (h : ℕ)
     → ((i : ℕ) → i < 8 → (k : ℕ) → k < 16 → lane_word x i k ≡ slice_index r (16 * i + k))
     → ((i : ℕ) → i < 8 → vector_words i across ≡ perm (vector_words i x))
-    → ((j : ℕ) → j < 8 → column_lanes j down ≡ perm (column_lanes j across))
-    → ((w : ℕ) → w < 128 → slice_index out w ≡ bit_xor (lane_word down (w / 16) (w % 16)) (lane_word x (w / 16) (w % 16)))
-    → out ≡ xor_blocks (by_columns (by_rows r)) r
+    → ((j : ℕ) → j < 4 → pairs j v ≡ perm (column_lanes (4 * h + j) across))
+    → (w : ℕ) → w < 128 → w % 16 / 8 ≡ h → half_word v w ≡ mixed_word r w
 unfolding column row
-chains_mix r out x across down long_r long_out x_is across_are down_are stored =
+half_mixed r x across v h x_is across_are v_are w below half =
     let q = by_rows r in
+    let j = w % 8 / 2 in
+    let k = 2 * (w / 16) + w % 2 in
     let across_word : (i k : ℕ) → i < 8 → k < 16 → lane_word across i k ≡ slice_index q (16 * i + k) =
     λ i k hi hk.
     sym (word_at (lane_word across i) k hk)
@@ -136,14 +162,7 @@ chains_mix r out x across down long_r long_out x_is across_are down_are stored =
     λ j hj. words_are (λ k. lane_word across (k / 2) (2 * j + k % 2)) (λ k. slice_index q (16 * (k / 2) + 2 * j + k % 2)) (λ k hk.
     across_word (k / 2) (2 * j + k % 2) (omega arith) (omega arith) ∙ ap (slice_index q) (omega arith))
     in
-    let down_word : (j k : ℕ) → j < 8 → k < 16 → lane_word down (k / 2) (2 * j + k % 2) ≡ slice_index (perm (column j q)) k =
-    λ j k hj hk.
-    sym (word_at (λ k. lane_word down (k / 2) (2 * j + k % 2)) k hk)
-    ∙ ap (λ l. slice_index l k) (down_are j hj ∙ ap perm (column_is j hj))
-    in
-    stored_mixed r out long_r long_out (λ w h.
-    stored w h
-    ∙ ap₂ bit_xor
-    (ap₂ (lane_word down) (omega arith) (omega arith)
-    ∙ down_word (w % 16 / 2) (2 * (w / 16) + w % 2) (omega arith) (omega arith))
-    (x_is (w / 16) (omega arith) (w % 16) (omega arith) ∙ ap (slice_index r) (omega arith)))
+    ap₂ (lane_word v) (omega arith) (omega arith)
+    ∙ sym (word_at (λ k. lane_word v (k / 4) (8 * (k % 4 / 2) + 2 * j + k % 4 % 2)) k (omega arith))
+    ∙ ap (λ l. slice_index l k) (v_are j (omega arith) ∙ ap perm (column_is (4 * h + j) (omega arith)))
+    ∙ ap (λ j. slice_index (perm (column j q)) k) (omega arith)

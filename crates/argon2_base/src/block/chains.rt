@@ -1,11 +1,12 @@
 //! The mixing of two blocks over eight vectors of sixteen words, each a row. P goes on four rows or four
 //! columns at once, over four vectors: then GB is four chains, none of which waits for another.
 
-ghost use Rattle.std.specs.Prelude.{◌≡◌, ℕ, ◌+◌, ◌*◌, ◌/◌, ◌%◌, ◌<◌, ◌≤◌, length, slice_index, bit_xor};
+ghost use Rattle.std.specs.Prelude.{◌≡◌, ℕ, ◌+◌, ◌-◌, ◌*◌, ◌/◌, ◌%◌, ◌<◌, ◌≤◌, List, length, slice_index, bit_xor, if◌then◌else◌};
 ghost use Rattle.argon2_base.specs.Block.{add_mul, gb, mixed, perm, xor_blocks, xor_rotate};
-ghost use Rattle.argon2_base.specs.Lanes.{column_lanes, exchanged_left, exchanged_right, fours, lane_word, pairs, vector_words};
+ghost use Rattle.argon2_base.specs.Lanes.{column_lanes, exchanged_left, exchanged_right, fours, half_word, lane_word, pairs, vector_words, written};
 
-use std::simd::u64x16;
+use super::kernel;
+use std::simd::{u64x8, u64x16};
 
 // u + v + 2 * low32(u) * low32(v) in each lane.
 #[inline(always)]
@@ -194,23 +195,28 @@ fn rows(r: [u64x16; 8]) -> [u64x16; 8]
     [r0, r1, r2, r3, r4, r5, r6, r7]
 }
 
-// P on each column.
+// P on the columns of the left halves of the rows.
 #[inline(always)]
-fn columns(r: [u64x16; 8]) -> [u64x16; 8]
-    ensures { (j : ℕ) → j < 8 → column_lanes j result ≡ perm (column_lanes j r) }
+fn left_columns(r: &[u64x16; 8]) -> [u64x16; 4]
+    ensures { (j : ℕ) → j < 4 → pairs j result ≡ perm (column_lanes (0 + j) r.now) }
 {
-    let [r0, r1, r2, r3, r4, r5, r6, r7] = r;
-    let (a, e) = exchange_halves(r0, r1);
-    let (b, f) = exchange_halves(r2, r3);
-    let (c, g) = exchange_halves(r4, r5);
-    let (d, h) = exchange_halves(r6, r7);
-    let [a, b, c, d] = perm_pairs([a, b, c, d]);
-    let [e, f, g, h] = perm_pairs([e, f, g, h]);
-    let (r0, r1) = exchange_halves(a, e);
-    let (r2, r3) = exchange_halves(b, f);
-    let (r4, r5) = exchange_halves(c, g);
-    let (r6, r7) = exchange_halves(d, h);
-    [r0, r1, r2, r3, r4, r5, r6, r7]
+    let (a, _) = exchange_halves(r[0], r[1]);
+    let (b, _) = exchange_halves(r[2], r[3]);
+    let (c, _) = exchange_halves(r[4], r[5]);
+    let (d, _) = exchange_halves(r[6], r[7]);
+    perm_pairs([a, b, c, d])
+}
+
+// P on the columns of the right halves of the rows.
+#[inline(always)]
+fn right_columns(r: &[u64x16; 8]) -> [u64x16; 4]
+    ensures { (j : ℕ) → j < 4 → pairs j result ≡ perm (column_lanes (4 + j) r.now) }
+{
+    let (_, a) = exchange_halves(r[0], r[1]);
+    let (_, b) = exchange_halves(r[2], r[3]);
+    let (_, c) = exchange_halves(r[4], r[5]);
+    let (_, d) = exchange_halves(r[6], r[7]);
+    perm_pairs([a, b, c, d])
 }
 
 // The sixteen words from a place on.
@@ -222,63 +228,84 @@ fn load(words: &[u64], at: usize) -> u64x16
     u64x16::from_slice(&words[at..])
 }
 
-// Sixteen words of the exclusive or of two blocks, from a place on.
+// The rows of a block.
 #[inline(always)]
-fn load_xor(x: &[u64; 128], y: &[u64; 128], at: usize) -> u64x16
-    requires { at + 16 ≤ 128 }
-    ensures { (k : ℕ) → k < 16 → slice_index result k
-        ≡ slice_index (xor_blocks x.now y.now) (at + k) }
-{
-    load(x, at) ^ load(y, at)
-}
-
-// Writes the exclusive or of two vectors from a place on.
-#[inline(always)]
-fn store_xor(words: &mut [u64], at: usize, v: u64x16, r: u64x16)
-    requires { at + 16 ≤ length words.old }
-    ensures here { (k : ℕ) → k < 16 → slice_index words.new (at + k)
-        ≡ bit_xor (slice_index v k) (slice_index r k) }
-    ensures below { (k : ℕ) → k < at → slice_index words.new k ≡ slice_index words.old k }
-{
-    (v ^ r).copy_to_slice(&mut words[at..]);
-}
-
-// The exclusive or of two blocks, a row a vector.
-#[inline(always)]
-fn exclusive_or(x: &[u64; 128], y: &[u64; 128]) -> [u64x16; 8]
-    ensures { (i : ℕ) → i < 8 → (k : ℕ) → k < 16 → lane_word result i k
-        ≡ slice_index (xor_blocks x.now y.now) (16 * i + k) }
+fn rows_of(r: &[u64; 128]) -> [u64x16; 8]
+    ensures { (i : ℕ) → i < 8 → (k : ℕ) → k < 16
+        → lane_word result i k ≡ slice_index r.now (16 * i + k) }
 {
     [
-        load_xor(x, y, 0),
-        load_xor(x, y, 16),
-        load_xor(x, y, 32),
-        load_xor(x, y, 48),
-        load_xor(x, y, 64),
-        load_xor(x, y, 80),
-        load_xor(x, y, 96),
-        load_xor(x, y, 112),
+        load(r, 0),
+        load(r, 16),
+        load(r, 32),
+        load(r, 48),
+        load(r, 64),
+        load(r, 80),
+        load(r, 96),
+        load(r, 112),
     ]
 }
 
-// The words of the rows, each xored with the word of r in its place.
+// Eight lanes of a vector.
 #[inline(always)]
-fn words(v: &[u64x16; 8], r: &[u64x16; 8]) -> [u64; 128]
-    ensures { (w : ℕ) → w < 128 → slice_index result w
-        ≡ bit_xor (lane_word v.now (w / 16) (w % 16)) (lane_word r.now (w / 16) (w % 16)) }
+fn left_half(x: u64x16) -> u64x8
+    ensures { (k : ℕ) → k < 8 → slice_index result k ≡ slice_index x (0 + k) }
 {
-    let mut out = [0; 128];
-    'rows: for i in 0..8 {
-        store_xor(&mut out, 16 * i, v[i], r[i]);
-    }
-    out
+    x.extract::<0, 8>()
 }
 
-/// G of two blocks.
-pub fn mix(x: &[u64; 128], y: &[u64; 128]) -> [u64; 128]
-    ensures { result ≡ mixed x.now y.now }
+// The other eight.
+#[inline(always)]
+fn right_half(x: u64x16) -> u64x8
+    ensures { (k : ℕ) → k < 8 → slice_index result k ≡ slice_index x (8 + k) }
 {
-    let r = exclusive_or(x, y);
-    let v = columns(rows(r));
-    words(&v, &r)
+    x.extract::<8, 8>()
+}
+
+// Writes eight words from a place on, each xored with the word of r there, and if `xors` with the word
+// that it replaces.
+#[inline(always)]
+fn put(out: &mut [u64], at: usize, v: u64x8, r: &[u64; 128], xors: bool)
+    requires { (at + 8 ≤ 128) × (length out.old ≡ 128) }
+    ensures size { length out.new ≡ 128 }
+    ensures here { (k : ℕ) → k < 8 → slice_index out.new (at + k)
+        ≡ written xors (slice_index out.old (at + k))
+        (bit_xor (slice_index v k) (slice_index r.now (at + k))) }
+    ensures below { (k : ℕ) → k < at → slice_index out.new k ≡ slice_index out.old k }
+    ensures above { (k : ℕ) → at + 8 ≤ k → slice_index out.new k ≡ slice_index out.old k }
+{
+    let r = kernel::load(r, at);
+    if xors {
+        let old = kernel::load(out, at);
+        kernel::store_xor(out, at, old, v ^ r);
+    } else {
+        kernel::store_xor(out, at, v, r);
+    }
+}
+
+// Writes the words of the columns of half h of the rows, each xored with the word of r in its place, and
+// if `xors` with the word that it replaces.
+#[inline(always)]
+fn put_columns(out: &mut [u64], h: usize, v: [u64x16; 4], r: &[u64; 128], xors: bool)
+    requires { (h < 2) × (length out.old ≡ 128) }
+    ensures size { length out.new ≡ 128 }
+    ensures here { (w : ℕ) → w < 128 → w % 16 / 8 ≡ h → slice_index out.new w
+        ≡ written xors (slice_index out.old w) (bit_xor (half_word v w) (slice_index r.now w)) }
+    ensures others { (w : ℕ) → w % 16 / 8 ≡ 1 - h → slice_index out.new w ≡ slice_index out.old w }
+{
+    'vectors: for i in 0..4 {
+        put(out, 32 * i + 8 * h, left_half(v[i]), r, xors);
+        put(out, 32 * i + 8 * h + 16, right_half(v[i]), r, xors);
+    }
+}
+
+/// Writes G of two blocks over a block, of which it is the exclusive or with that block if `xors`; `r` is
+/// the exclusive or of the two.
+pub fn mix(out: &mut [u64; 128], r: &[u64; 128], xors: bool)
+    ensures { (x y : List ℕ) → r.now ≡ xor_blocks x y
+        → out.new ≡ (if xors then xor_blocks out.old (mixed x y) else mixed x y) }
+{
+    let across = rows(rows_of(r));
+    put_columns(out, 0, left_columns(&across), r, xors);
+    put_columns(out, 1, right_columns(&across), r, xors);
 }

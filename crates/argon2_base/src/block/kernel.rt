@@ -193,7 +193,7 @@ fn transpose(x: [u64x8; 8]) -> [u64x8; 8]
 
 // The eight words from a place on.
 #[inline(always)]
-fn load(words: &[u64], at: usize) -> u64x8
+pub(super) fn load(words: &[u64], at: usize) -> u64x8
     requires { at + 8 ≤ length words.now }
     ensures { (k : ℕ) → k < 8 → slice_index result k ≡ slice_index words.now (at + k) }
 {
@@ -212,11 +212,12 @@ fn load_xor(x: &[u64; 128], y: &[u64; 128], at: usize) -> u64x8
 
 // Writes the exclusive or of two vectors from a place on.
 #[inline(always)]
-fn store_xor(words: &mut [u64], at: usize, v: u64x8, r: u64x8)
+pub(super) fn store_xor(words: &mut [u64], at: usize, v: u64x8, r: u64x8)
     requires { at + 8 ≤ length words.old }
     ensures here { (k : ℕ) → k < 8 → slice_index words.new (at + k)
         ≡ bit_xor (slice_index v k) (slice_index r k) }
     ensures below { (k : ℕ) → k < at → slice_index words.new k ≡ slice_index words.old k }
+    ensures above { (k : ℕ) → at + 8 ≤ k → slice_index words.new k ≡ slice_index words.old k }
 {
     (v ^ r).copy_to_slice(&mut words[at..]);
 }

@@ -1,15 +1,13 @@
-use Rattle.std.proofs.Common.{map, ◌&&◌, sym, ◌∙◌, arith, rules}
-use Rattle.std.specs.Prelude.{nat_lt, ◌==◌}
-use Rattle.std.proofs.lemmas.Bool.{cond-true, cond-false}
+use Rattle.std.proofs.Common.{map, sym, ◌∙◌, arith, rules}
 use Rattle.std.proofs.lemmas.List.{map-set}
 use Rattle.argon2.specs.SegmentSteps.{column_of}
 use Rattle.argon2.specs.Steps.{step}
 use Rattle.argon2.proofs.context_lemmas.InMemory.{first_word_read, made_by_places, place_by_word, words_read}
 use Rattle.argon2.proofs.context.instance.Instance.step.Goals as goal
 
-pub returns-then-xors-clause-step : goal.returns-then-xors-clause-step
+pub returns-clause-step : goal.returns-clause-step
 unfolding step
-returns-then-xors-clause-step g c =
+returns-clause-step g c =
     let ctx = c.args.self.now in
     let f = g.B.MemoryBlock.words in
     let m = c.args.memory.now in
@@ -20,37 +18,15 @@ returns-then-xors-clause-step g c =
     let p = c.place-place.ensures.value in
     let n = c.column.ensures.value in
     let r = c.reference_place-reference.ensures.value in
-    let b = c.mixed_blocks.ensures.block in
+    let b = c.put_mixed.ensures.block _ _ c.xor_of_blocks.ensures in
     let old = words_read f m c.place-place.result c.index-memory-place.result (grind arith) c.index-memory-place.is in
-    let x = c.xor.ensures in
-    let set = map-set f m c.place-place.result c.xor.new.self in
-    let yes = sym c.xors.ensures ∙ c.if-xors.true in
-    let by = made_by_places ctx (map f m) at.pass at.lane (column_of ctx at) _ word
-    ∙ cond-true ((ctx.version == 19) && (nat_lt 0 at.pass)) _ _ yes in
+    let x = c.xors.ensures in
+    let set = map-set f m c.place-place.result c.put_mixed.new.self in
+    let by = made_by_places ctx (map f m) at.pass at.lane (column_of ctx at) _ word in
     cc
 
-pub returns-else-xors-clause-step : goal.returns-else-xors-clause-step
-unfolding step
-returns-else-xors-clause-step g c =
-    let ctx = c.args.self.now in
-    let f = g.B.MemoryBlock.words in
-    let m = c.args.memory.now in
-    let at = c.args.at in
-    let word = c.word-word.ensures _ (first_word_read f ctx m at.pass at.lane (column_of ctx at) _ _ _ (search rules)
-    c.previous_place-previous.ensures.value c.first_word.ensures) in
-    let q = c.previous_place-previous.ensures.value in
-    let p = c.place-place.ensures.value in
-    let n = c.column.ensures.value in
-    let r = c.reference_place-reference.ensures.value in
-    let b = c.mixed_blocks-else-xors.ensures.block in
-    let set = map-set f m c.place-place.result c.mixed_blocks-else-xors.result in
-    let no = sym c.xors.ensures ∙ c.if-xors.false in
-    let by = made_by_places ctx (map f m) at.pass at.lane (column_of ctx at) _ word
-    ∙ cond-false ((ctx.version == 19) && (nat_lt 0 at.pass)) _ _ no in
-    cc
-
-pub returns-then-xors-clause-place : goal.returns-then-xors-clause-place
-returns-then-xors-clause-place g c =
+pub returns-clause-place : goal.returns-clause-place
+returns-clause-place g c =
     let ctx = c.args.self.now in
     let at = c.args.at in
     let word = c.word-word.ensures _ (first_word_read g.B.MemoryBlock.words ctx c.args.memory.now at.pass at.lane (column_of ctx at) _ _ _

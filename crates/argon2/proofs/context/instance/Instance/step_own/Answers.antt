@@ -22,7 +22,7 @@ returns-clause-step c = λ memory all parts.
     let word = c.word-word.ensures (in_memory ctx memory) (ap (λ b. slice_index b 0) x') in
     let by = made_by_places ctx memory at.pass at.lane column c.word-word.result word in
     let own = parts.in_own at.index c.requires.step.in_segment in
-    let made = c.mix_words-mixed.ensures.words in
-    let written = c.write_mixed.ensures in
-    let is : c.write_mixed.new.block ≡ made_block ctx (in_memory ctx memory) at.pass at.lane column = cc in
+    let made = c.put_mixed_words.ensures.words _ _ c.xor_of.ensures in
+    let xors = c.xors.ensures in
+    let is : c.put_mixed_words.new.out ≡ made_block ctx (in_memory ctx memory) at.pass at.lane column = cc in
     step_parts ctx at memory c.args.before.now c.args.own.now c.args.after.now _ c.requires.step c.requires.parts.is_own all parts is
