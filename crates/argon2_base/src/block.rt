@@ -181,8 +181,7 @@ impl BitXorAssign<&Block> for Block {
     }
 }
 
-/// A count of mixings. Nothing but [`Block::mix`] and [`mix_words`] adds to it, and it cannot be
-/// copied.
+/// A count of mixings. Nothing but what mixes two blocks adds to it, and it cannot be copied.
 #[derive(Debug, Drop)]
 pub struct Work {
     mixes: u128,
