@@ -67,5 +67,5 @@ VerifyRefusal bound secret password text (Refused e) =
 
 -- what an error prints
 abbrev pub bound_error_text : BoundError → List ℕ
-bound_error_text TooExpensive = codes "text asks for more than the bound"
+bound_error_text TooExpensive = codes "costs are above the bound"
 bound_error_text (Refused e) = hash_error_text e

@@ -111,12 +111,12 @@ impl Bound {
     }
 }
 
-/// Why a text is not admitted, or does not accept the password.
+/// Why a text is not admitted or made, or does not accept the password.
 #[derive(Clone, Copy, Debug, PartialEq, Eq)]
 pub enum BoundError {
-    /// The text asks for more than the bound.
+    /// A text, or settings for new texts, ask for more than the bound.
     TooExpensive,
-    /// Reading or verifying the text fails with this error.
+    /// Reading, verifying or making a text fails with this error.
     Refused(Error),
 }
 
@@ -125,7 +125,7 @@ impl fmt::Display for BoundError {
 
     fn fmt<W: fmt::Write>(&self, f: &mut fmt::Formatter<W>) -> fmt::Result {
         match self {
-            BoundError::TooExpensive => f.write_str("text asks for more than the bound"),
+            BoundError::TooExpensive => f.write_str("costs are above the bound"),
             BoundError::Refused(e) => write!(f, "{e}"),
         }
     }

@@ -106,6 +106,20 @@ impl<'key> Argon2<'key> {
         })
     }
 
+    /// The algorithm.
+    pub fn algorithm(&self) -> Algorithm
+        ensures { result ≡ (settings_of self.now).algorithm }
+    {
+        self.algorithm
+    }
+
+    /// The version.
+    pub fn version(&self) -> Version
+        ensures { result ≡ (settings_of self.now).version }
+    {
+        self.version
+    }
+
     /// The parameters.
     pub fn params(&self) -> &Params
         ensures { parameters_of result.now ≡ own_parameters self.now }
@@ -337,20 +351,6 @@ impl<'key> Argon2<'key> {
         let mut blocks = Vec::new(alloc);
         blocks.resize(self.params.block_count(), Block::new())?;
         Ok(blocks)
-    }
-
-    // The algorithm.
-    pub(crate) fn algorithm(&self) -> Algorithm
-        ensures { result ≡ (settings_of self.now).algorithm }
-    {
-        self.algorithm
-    }
-
-    // The version.
-    pub(crate) fn version(&self) -> Version
-        ensures { result ≡ (settings_of self.now).version }
-    {
-        self.version
     }
 
     // The secret's bytes.
