@@ -106,9 +106,10 @@ impl Block {
         Block::from(kernel::mix(&x.words, &y.words))
     }
 
-    /// Mixes two blocks, of which `xor` is the exclusive or, as [`mix`](Block::mix) does, by another
-    /// body, which is faster on processors with AVX2. Memory is filled by it. This block is then the
-    /// result, or if `xors` the exclusive or of itself and the result.
+    /// Mixes the two blocks whose exclusive or is `xor`, as [`mix`](Block::mix) does, by another body,
+    /// which is faster on processors with AVX2. Memory is filled by it. The result replaces this block,
+    /// or is xored with it if `xors`. Counts one mixing in `work`, whose count must be below the
+    /// greatest `u128`.
     pub fn put_mixed(&mut self, xor: &Block, xors: bool, work: &mut Work)
         requires { work.old < 2 ^ 128 - 1 }
         ensures block { (x y : List ℕ) → xor.now ≡ xor_blocks x y
@@ -223,7 +224,7 @@ pub fn mix_words(x: &Words, y: &Words, work: &mut Work) -> Words
     out
 }
 
-/// The same as [`Block::put_mixed`], on words of blocks.
+/// The same as [`Block::put_mixed`], on the words of blocks.
 pub fn put_mixed_words(out: &mut Words, xor: &Words, xors: bool, work: &mut Work)
     requires { work.old < 2 ^ 128 - 1 }
     ensures words { (x y : List ℕ) → xor.now ≡ xor_blocks x y

@@ -246,7 +246,7 @@ fn rows_of(r: &[u64; 128]) -> [u64x16; 8]
     ]
 }
 
-// Eight lanes of a vector.
+// The first eight lanes of a vector.
 #[inline(always)]
 fn left_half(x: u64x16) -> u64x8
     ensures { (k : ℕ) → k < 8 → slice_index result k ≡ slice_index x (0 + k) }
@@ -254,7 +254,7 @@ fn left_half(x: u64x16) -> u64x8
     x.extract::<0, 8>()
 }
 
-// The other eight.
+// The last eight lanes of a vector.
 #[inline(always)]
 fn right_half(x: u64x16) -> u64x8
     ensures { (k : ℕ) → k < 8 → slice_index result k ≡ slice_index x (8 + k) }
@@ -299,8 +299,8 @@ fn put_columns(out: &mut [u64], h: usize, v: [u64x16; 4], r: &[u64; 128], xors: 
     }
 }
 
-/// Writes G of two blocks over a block, of which it is the exclusive or with that block if `xors`; `r` is
-/// the exclusive or of the two.
+/// G of the two blocks whose exclusive or is `r`. It replaces the words of `out`, or is xored with them if
+/// `xors`.
 pub fn mix(out: &mut [u64; 128], r: &[u64; 128], xors: bool)
     ensures { (x y : List ℕ) → r.now ≡ xor_blocks x y
         → out.new ≡ (if xors then xor_blocks out.old (mixed x y) else mixed x y) }
