@@ -1,17 +1,18 @@
 -- Names to which several are added.
 use Rattle.argon2_rows.proofs.Imports.{◌≡◌, ℕ, List, [], ◌∷◌, ◌++◌, false, Some, Result, Ok, Err, refl, sym, Io, subst, ap, ◌∙◌, arith, inl, map, Bor, get}
-use Rattle.argon2_rows.proofs.Imports.{Any, on_ok_weaker, StoreError, Ghosts, Texts, AccountError, AddsAll, AddsName, WritesAll, IsPermutation, entry_of, Changes}
+use Rattle.argon2_rows.proofs.Imports.{Any, on_ok_weaker, StoreError, Ghosts, Texts, AddsAll, IsAdded, WritesAll, IsPermutation, entry_of, Changes, bytes_eq-Decides, true, ◌≢◌}
 use Rattle.argon2_rows.proofs.Imports.{changed, HasNames, IsHonest, IsLong, IsOpen, StaysQuiet}
 use Rattle.std.proofs.lemmas.List.Sorted.{Contains-permutation, IsPermutation-map, IsPermutation-sym}
 use Rattle.sqlite_trees.proofs.ListLemmas.{along_permutation}
-use Rattle.argon2_rows.proofs.RowLemmas.{get-changed, one_or_other, others_kept}
+use Rattle.argon2_rows.specs.declared.text.StoredText.{StoredText}
+use Rattle.argon2_rows.proofs.RowLemmas.{changed_apart, get-at, get-changed}
 use Rattle.argon2_rows.proofs.TableLemmas.{Settled, leaves_quiet, quiet_itself, quiet_then}
 
 pub add_last : (es : List (List ℕ × List ℕ)) (before mid after : Texts) (e : List ℕ × List ℕ) → AddsAll before es mid
-    → AddsName mid e (Ok tt) after → AddsAll before (es ++ e ∷ []) after
+    → IsAdded mid e.0 e.1 true after → AddsAll before (es ++ e ∷ []) after
 add_last [] before mid after e same last =
-    (after, subst (λ (m : Texts). AddsName m e (Ok tt) after) same last, refl)
-add_last (x ∷ xs) before mid after e all last = (all.0, all.1, add_last xs all.0 mid after e all.2 last)
+    let last = subst (λ (m : Texts). IsAdded m e.0 e.1 true after) same last in (last.0, last.1)
+add_last (x ∷ xs) before mid after e all last = (all.0, add_last xs _ mid after e all.1 last)
 
 -- ---- the order of the names
 
@@ -20,28 +21,21 @@ Reorders es fs = (before after : Texts) → AddsAll before es after → AddsAll 
 
 -- the first two may change places
 turn : (x y : List ℕ × List ℕ) (es : List (List ℕ × List ℕ)) → Reorders (x ∷ y ∷ es) (y ∷ x ∷ es)
-turn x y es before after (one, ((none, fine, has), kept), (two, ((gone, good, put), held), rest)) =
-    let apart : x.0 ≡ y.0 → ⊥ = λ is. let never = sym has ∙ ap (get one) is ∙ gone in cc in
-    let other : y.0 ≡ x.0 → ⊥ = λ is. apart (sym is) in
-    let at = get-changed before y.0 (Some y.1) in
-    let stays = others_kept before y.0 (Some y.1) in (
-      changed before y.0 (Some y.1),
-      ((sym (kept y.0 other) ∙ gone, good, at), stays),
-      (
-        two,
-        (
-          (stays x.0 apart ∙ none, fine, held x.0 apart ∙ has),
-          λ q differs.
-              let two = one_or_other q y.0 in let last = held q in let first = kept q differs in let s = stays q in grind arith,
-        ),
-        rest,
-      ),
+turn x y es before after (none, (gone, rest)) =
+    let apart : x.0 ≢ y.0 = λ is.
+    let never = sym (get-changed before x.0 (Some x.1)) ∙ ap (get (changed before x.0 (Some x.1))) is ∙ gone in cc in
+    let first = get-at before x.0 y.0 (Some x.1) in
+    let second = get-at before y.0 x.0 (Some y.1) in
+    let test = bytes_eq-Decides y.0 x.0 in
+    let back = bytes_eq-Decides x.0 y.0 in (
+      (grind arith),
+      ((grind arith), subst (λ m. AddsAll m es after) (changed_apart before x.0 y.0 (Some x.1) (Some y.1) apart) rest),
     )
 
 -- names may be added in any order
 any_order : (es fs : List (List ℕ × List ℕ)) → IsPermutation es fs → Reorders es fs
 any_order = along_permutation Reorders (λ es before after all. all)
-    (λ x es fs moved before after all. (all.0, all.1, moved all.0 after all.2)) turn
+    (λ x es fs moved before after all. (all.0, moved _ after all.1)) turn
     (λ es fs gs first then before after all. then before after (first before after all))
 
 module _ {S : Type 0} (g : Ghosts S) where
@@ -51,7 +45,7 @@ module _ {S : Type 0} (g : Ghosts S) where
   changes_later quiet sound more change = search arith
 
   -- names that are written in another order
-  pub reordered : (old new : S) (xs ys : List (Bor (List ℕ) × Bor (List ℕ))) (done : Result (Unit {0}) StoreError)
+  pub reordered : (old new : S) (xs ys : List (Bor (List ℕ) × StoredText)) (done : Result (Unit {0}) StoreError)
       → (IsHonest g old → IsOpen g old) → IsPermutation xs ys
       → WritesAll g old new (map entry_of ys) (Ok done) → WritesAll g old new (map entry_of xs) (Ok done)
   reordered old new xs ys done was_open moved wrote before has =
@@ -65,7 +59,7 @@ module _ {S : Type 0} (g : Ghosts S) where
         changes_later (quiet_itself g old) (λ clean. has.1.sound clean (was_open clean)) (some_moved es fs back) change,
       )
     where
-      some_moved : (es fs : List (List ℕ × List ℕ)) → IsPermutation es fs → Any (λ e. IsLong e.0) es → Any (λ e. IsLong e.0) fs
+      some_moved : (es fs : List (List ℕ × List ℕ)) → IsPermutation es fs → Any IsLong es → Any IsLong fs
       some_moved es fs back (k, e, within, is, long) =
           let (j, there, at) = Contains-permutation es fs e back (k, within, is) in (j, e, there, at, long)
 
@@ -73,7 +67,7 @@ module _ {S : Type 0} (g : Ghosts S) where
   module _ (old mid : S) {Q : Texts → Type 0}
       (refused : (names : Texts) → HasNames g old names → HasNames g mid names × Q names × StaysQuiet g old mid) where
     -- names are written
-    pub written_later : (new : S) (es : List (List ℕ × List ℕ)) (r : Result (Result (Unit {0}) StoreError) (ℕ × AccountError))
+    pub written_later : (new : S) (es : List (List ℕ × List ℕ)) (r : Result (Result (Unit {0}) StoreError) ℕ)
         → (IsHonest g mid → IsOpen g mid) → WritesAll g mid new es r → WritesAll g old new es r
     written_later new es (Ok done) is_open wrote before has =
         let (had, first, quiet) = refused before has in

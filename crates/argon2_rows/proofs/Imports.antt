@@ -20,7 +20,7 @@ pub use Rattle.std.specs.FinMap.Entries.{below_all}
 pub use Rattle.std.specs.List.{AllByRecursion, list_all}
 pub use Rattle.std.specs.Option.{option_copied, option_map}
 pub use Rattle.std.specs.Ordering.{eq_by_cmp, is_lt, nat_cmp, ordering_reverse, ordering_then}
-pub use Rattle.std.specs.Prelude.{All, Any, IfErr, IfSome, MatchResult, OnOk, ⊤}
+pub use Rattle.std.specs.Prelude.{All, Any, IfErr, IfOk, IfSome, IsErrAnd, MatchResult, OnOk, ⊤}
 pub use Rattle.std.specs.Str.{bytes_eq}
 pub use Rattle.sqlite_disk.specs.Disk.{MoreFaults}
 pub use Rattle.sqlite_store.proofs.OrderLemmas.{less}
@@ -36,15 +36,7 @@ pub use Rattle.sqlite_value.proofs.OrderLemmas.{value_cmp-Text}
 pub use Rattle.sqlite_value.specs.Keys.{entry_cmp, plain, prefix_cmp}
 pub use Rattle.sqlite_value.specs.Order.{Row, column, number, row_cmp}
 pub use Rattle.sqlite_value.specs.declared.value.Value.TheVariants.{Text}
-pub use Rattle.argon2_accounts.proofs.AccountLemmas.{err_is}
-pub use Rattle.argon2_accounts.specs.Accounts.{KeepsOthers, Texts, text_of}
-pub use Rattle.argon2_accounts.specs.declared.error.AccountError.{AccountError}
-pub use Rattle.argon2_base.proofs.phc_lemmas.Base64Lemmas.{IsUtf8-strict_base64}
-pub use Rattle.argon2_base.specs.PhcFields.{phc_of}
-pub use Rattle.argon2_base.specs.PhcText.{IsPhc, Pair, Phc, PhcText, field, fields_text, is_param, item, list_field, params_text, phc_text, version_text}
-pub use Rattle.argon2_base.specs.Texts.{is_value, is_value_char, strict_base64}
-pub use Rattle.argon2_base.specs.declared.phc.hash.PasswordHash.{PasswordHash}
-pub use Rattle.argon2_rows.specs.Adding.{AddsAll, AddsName, WritesAll, entry_of}
+pub use Rattle.argon2_rows.specs.Names.{AddsAll, IsAdded, IsFirstTaken, Texts, changed, entry_of}
 pub use Rattle.argon2_rows.specs.Rows.{AreLines, AreTexts, FitLines, HasNoneAfter, IsAccount, IsAfterAll, IsFoundAs, IsLine, breaks_line, line, lines, lines_of, row_of, rows_of}
 pub use Rattle.argon2_rows.specs.Table.{Changes, EndsRead, Finishes, HasBegun, HasNames, HasSome, IsUnwritten, IsHonest, IsKept, IsLong, IsOpen, CrashLeaves, Sees, StaysQuiet}
-pub use Rattle.argon2_rows.specs.Table.{Writes, changed, done_of}
+pub use Rattle.argon2_rows.specs.Table.{Writes, WritesAll, done_of}

@@ -3,4 +3,3 @@ pub mod Imports
 pub mod LineLemmas
 pub mod RowLemmas
 pub mod TableLemmas
-pub mod TextLemmas

@@ -1,12 +1,12 @@
 -- Maps of names, and their rows in a tree: one more, one less, sought by a name, and read one by one.
 use Rattle.argon2_rows.proofs.Imports.{IfSome, IsUtf8, AreTexts, changed, subst, ◌≡◌, ◌≢◌, ◌⊎◌, ℕ, List, Option, Some, None, Bool, true, false, cond, inl, inr, refl, sym, ap, ◌∙◌}
 use Rattle.argon2_rows.proofs.Imports.{bytes_eq-Decides, nat_list_cmp_total, get, get-insert, get-remove, insert, remove, same_entries_map, same_map, slice_cmp-IsAntisymmetric}
-use Rattle.argon2_rows.proofs.Imports.{nat_cmp-IsAntisymmetric, bytes_eq, KeepsOthers, Texts, ◌+◌, ◌^◌, ◌≤◌, arith, length, [], ◌∷◌, map, T, not}
+use Rattle.argon2_rows.proofs.Imports.{nat_cmp-IsAntisymmetric, bytes_eq, Texts, ◌+◌, ◌^◌, arith, length, [], ◌∷◌, map, T, not}
 use Rattle.argon2_rows.proofs.Imports.{Ordering, Less, Equal, Greater, is_eq, and_parts, All, tied_itself, slice_cmp, get-entries, entries, entries-insert}
 use Rattle.argon2_rows.proofs.Imports.{entries_sorted, find, put, is_sorted, below_all, AllByRecursion, eq_by_cmp, is_lt, nat_cmp, ordering_reverse}
 use Rattle.argon2_rows.proofs.Imports.{ordering_then, Text, plain, entry_cmp, Row, column, number, row_cmp, value_cmp-Text, insert_entry, remove_entry, IsStorable, is_int}
 use Rattle.argon2_rows.proofs.Imports.{row_of, rows_of, IsLong, IsTrue, prefix_cmp, Index, Forward, from_key, order_of, sought, View, Advances, with_cursor}
-use Rattle.argon2_rows.proofs.Imports.{HasNoneAfter, IsAfterAll, IsFoundAs, ◌++◌, append_assoc, append-nil, empty, len-empty, len-entries, get-empty, ⊤, Ghosts, IsIndex, IsOrdered, IsAccount, AreLines, IsLine}
+use Rattle.argon2_rows.proofs.Imports.{HasNoneAfter, IsAfterAll, IsFoundAs, ◌++◌, append_assoc, append-nil, empty, len-empty, len-entries, get-empty, Ghosts, IsIndex, IsOrdered, IsAccount, AreLines, IsLine}
 use Rattle.argon2_rows.proofs.Imports.{IsUnwritten, IsHonest, IsKept, cases_lt, nil_from_length, less}
 use Rattle.std.proofs.lemmas.Map.Text.{is_eq-slice_cmp}
 use Rattle.std.proofs.lemmas.Option.{same_Some}
@@ -17,15 +17,19 @@ use Rattle.sqlite_trees.proofs.ListLemmas.{filter_all}
 use Rattle.sqlite_trees.proofs.TreeLemmas.{prefix_cmp-one}
 use Rattle.std.specs.Float.Ieee
 
+-- the texts of all other names stay
+abbrev KeepsOthers : List ℕ → Texts → Texts → Type 0
+KeepsOthers name before after = (other : List ℕ) → other ≢ name → get after other ≡ get before other
+
 -- names of which one is changed: it has what it was given, and the others keep what they have
-get-at : (m : Texts) (n q : List ℕ) (o : Option (List ℕ)) → get (changed m n o) q ≡ cond (bytes_eq q n) o (get m q)
+pub get-at : (m : Texts) (n q : List ℕ) (o : Option (List ℕ)) → get (changed m n o) q ≡ cond (bytes_eq q n) o (get m q)
 get-at m n q None = get-remove nat_list_cmp_total m n q ∙ ap (λ b. cond b None (get m q)) (is_eq-slice_cmp q n)
 get-at m n q (Some text) = search (arith, get-insert nat_list_cmp_total m n text q, is_eq-slice_cmp q n)
 
 pub get-changed : (m : Texts) (n : List ℕ) (o : Option (List ℕ)) → get (changed m n o) n ≡ o
 get-changed m n o = get-at m n n o ∙ ap (λ b. cond b o (get m n)) ((bytes_eq-Decides n n).1 refl)
 
-pub others_kept : (m : Texts) (n : List ℕ) (o : Option (List ℕ)) → KeepsOthers n m (changed m n o)
+others_kept : (m : Texts) (n : List ℕ) (o : Option (List ℕ)) → KeepsOthers n m (changed m n o)
 others_kept m n o q differs = let at = get-at m n q o in let test = bytes_eq-Decides q n in grind arith
 
 pub one_or_other : (q n : List ℕ) → (q ≡ n) ⊎ (q ≢ n)
@@ -42,6 +46,15 @@ changed_back m changed_m n o kept has =
 pub changed-remove : (m : Texts) (n : List ℕ) (o : Option (List ℕ)) → changed (remove m n) n o ≡ changed m n o
 changed-remove m n o = changed_back (changed m n o) (remove m n) n o
     (λ q far. others_kept m n None q far ∙ sym (others_kept m n o q far)) (get-changed m n o)
+
+-- two names may be changed in any order
+pub changed_apart : (m : Texts) (n p : List ℕ) (o q : Option (List ℕ)) → n ≢ p
+    → changed (changed m n o) p q ≡ changed (changed m p q) n o
+changed_apart m n p o q differ =
+    same_map nat_list_cmp_total (slice_cmp-IsAntisymmetric nat_cmp-IsAntisymmetric) _ _ (λ k.
+    let one = get-at (changed m n o) p k q in let two = get-at m n k o in
+    let three = get-at (changed m p q) n k o in let four = get-at m p k q in
+    let first = bytes_eq-Decides k n in let second = bytes_eq-Decides k p in grind arith)
 
 -- names that are changed still are texts
 pub texts_changed : (names : Texts) (name : List ℕ) (o : Option (List ℕ)) → AreTexts names → IsUtf8 name
@@ -155,11 +168,10 @@ unfolding Ieee.is_nan
 numbers e c d h = grind arith
 
 -- a row that may not be stored is long
-pub is_long : (reals : ℕ) (row : Row) (name v : List ℕ) → row ≡ row_of (name, v) → length v ≤ 326
-    → ¬ (IsStorable reals row) → IsLong name
-is_long reals row name v is short not = elim (cases_lt (10 ^ 9) (362 + length name)) [
+pub is_long : (reals : ℕ) (row : Row) (e : List ℕ × List ℕ) → row ≡ row_of e → ¬ (IsStorable reals row) → IsLong e
+is_long reals row e is not = elim (cases_lt (10 ^ 9) (36 + (length e.0 + length e.1))) [
   | inl long ↦ long
-  | inr few ↦ absurd (not (rw is (search (arith, no_int (name, v), numbers (name, v)))))
+  | inr few ↦ absurd (not (rw is (search (arith, no_int e, numbers e))))
 ]
 
 -- ---- a seek by a name finds its row, or the name has none

@@ -1,6 +1,6 @@
 -- What the rows of a table are after each step of a change.
 use Rattle.argon2_rows.proofs.Imports.{◌≡◌, ℕ, List, Result, Ok, Err, false, refl, ap, ◌∙◌, IsTrue, arith, inl, inr, ◌⊎◌}
-use Rattle.argon2_rows.proofs.Imports.{All, IfErr, MatchResult, OnOk, both_ways, true_from_ne_false, Coded-set, ∥∥₁_elim, ∥∥₁_map, MoreFaults, plain, Row, StoreError, Shape, Index, Ghosts}
+use Rattle.argon2_rows.proofs.Imports.{All, IfErr, IsErrAnd, MatchResult, OnOk, both_ways, true_from_ne_false, Coded-set, ∥∥₁_elim, ∥∥₁_map, MoreFaults, plain, Row, StoreError, Shape, Index, Ghosts}
 use Rattle.argon2_rows.proofs.Imports.{Trees, order_of, View, IsFailure, KeepsSchema, OnlyWrites, SetsTree, Texts, AreTexts, rows_of, Changes}
 use Rattle.argon2_rows.proofs.Imports.{EndsRead, Finishes, HasBegun, HasNames, HasSome, IsHonest, IsKept, IsOpen, CrashLeaves, Sees, StaysQuiet, Writes, done_of, on_ok_weaker}
 use Rattle.sqlite_trees.specs.contracts.store.Shape.{the_row}
@@ -8,6 +8,9 @@ use Rattle.sqlite_trees.specs.View.{HasCause}
 use Rattle.sqlite_value.specs.declared.keys.Order.{Order}
 
 -- ---- answers
+
+pub err_is : {X E : Type 0} (r : Result X E) (e : E) → IsErrAnd r (λ f. f ≡ e) → r ≡ Err e
+err_is r e is = grind arith
 
 pub on_all : {T E P : Type 0} (r : Result T E) → P → OnOk r P
 on_all r p = search arith

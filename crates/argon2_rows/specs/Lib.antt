@@ -1,3 +1,4 @@
-pub mod Adding
+pub mod Locks
+pub mod Names
 pub mod Rows
 pub mod Table

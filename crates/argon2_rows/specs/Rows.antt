@@ -7,7 +7,7 @@ use Rattle.std.specs.Ordering.{nat_cmp}
 use Rattle.std.specs.declared.cmp.Ordering.TheVariants.{Less}
 use Rattle.sqlite_value.specs.declared.value.Value.TheVariants.{Text}
 use Rattle.sqlite_value.specs.Order.{Row}
-use Rattle.argon2_accounts.specs.Accounts.{Texts as Named}
+use Rattle.argon2_rows.specs.Names.{Texts as Named}
 use Rattle.argon2_rows.specs.declared.view.View.{View}
 use Rattle.argon2_rows.specs.declared.view.View.TheVariants.{Names, Texts}
 

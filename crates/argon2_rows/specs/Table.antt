@@ -1,6 +1,5 @@
 -- What a table of names shows, and what a change of it leaves in the store.
-use Rattle.std.specs.Prelude.{◌≡◌, ◌⊎◌, ℕ, ◌^◌, ◌+◌, ◌<◌, List, [], ◌∷◌, length, codes, false, Option, Some, None, Result, Ok, Err, IsTrue, IfErr, IsOkAnd, OnErr, OnOk, MatchResult, ◌≤◌}
-use Rattle.std.specs.FinMap.{insert, remove}
+use Rattle.std.specs.Prelude.{◌≡◌, ◌⊎◌, ℕ, ◌^◌, ◌+◌, ◌<◌, List, [], ◌∷◌, length, codes, false, Result, Ok, Err, IsTrue, IfErr, IsOkAnd, OnErr, OnOk, MatchResult, ◌≤◌, Any}
 use Rattle.sqlite_disk.specs.Disk.{MoreFaults}
 use Rattle.sqlite_value.specs.Keys.{plain}
 use Rattle.sqlite_value.specs.Order.{Row}
@@ -13,13 +12,8 @@ use Rattle.sqlite_trees.specs.View.{View, IsClean, IsQuiet, HasCause, doubt}
 use Rattle.sqlite_store.specs.Listing.{listed_from}
 use Rattle.sqlite_store.specs.declared.catalog.Wanted.{Wanted}
 use Rattle.sqlite_value.specs.declared.value.Value.TheVariants.{Text}
-use Rattle.argon2_accounts.specs.Accounts.{Texts}
+use Rattle.argon2_rows.specs.Names.{AddsAll, IsFirstTaken, Texts}
 use Rattle.argon2_rows.specs.Rows.{AreTexts, rows_of}
-
--- the names with this one's text set, or with this one taken out
-abbrev pub changed : Texts → List ℕ → Option (List ℕ) → Texts
-changed names name None = remove names name
-changed names name (Some text) = insert names name text
 
 -- the table of the accounts, as `sqlite_schema` lists it
 abbrev pub account : Wanted
@@ -42,9 +36,9 @@ Holds db names = (db 0 ≡ rows_of names) × (db catalog_tree ≡ catalog)
 abbrev pub Sees : View → Texts → Type 0
 Sees v names = v.is_broken ≡ false → Holds v.trees names
 
--- a row of the name may be longer than a billion bytes, less 18 for each column; a text has at most 326
-abbrev pub IsLong : List ℕ → Type 0
-IsLong name = 10 ^ 9 < 362 + length name
+-- the row of a name with its text may be longer than a billion bytes, less 18 for each column
+abbrev pub IsLong : List ℕ × List ℕ → Type 0
+IsLong e = 10 ^ 9 < 36 + (length e.0 + length e.1)
 
 -- nothing is written yet
 pub record IsUnwritten (v : View) : Type 0 where
@@ -144,3 +138,10 @@ module _ {S : Type 0} (g : Ghosts S) where
     pub durable : OnOk result (IsHonest new → IsOpen new × CrashLeaves new (λ left. left ≡ after))
     pub cause : IsHonest new → IfErr result (HasCause (g.view old) (HasFailed old new) too_long)
     pub closes : IsHonest new → IsOpen new ⊎ HasFailed old new
+
+  -- A change that adds all of several names, or the index of the first that is there, which changes nothing.
+  abbrev pub WritesAll : S → S → List (List ℕ × List ℕ) → Result (Result (Unit {0}) StoreError) ℕ → Type 0
+  WritesAll old new es result = (before : Texts) → HasNames old before → MatchResult result
+      (λ done. (after : Texts) × (IsHonest new → (after ≡ before) ⊎ AddsAll before es after)
+      × OnOk done (IsHonest new → AddsAll before es after) × Changes old new before after (Any IsLong es) done)
+      (λ k. HasNames new before × (IsHonest new → IsFirstTaken before es k) × StaysQuiet old new)

@@ -7,6 +7,8 @@
 
 pub mod rows;
 pub mod table;
+pub mod text;
 mod view;
 
+pub use text::StoredText;
 pub use view::View;

@@ -9,7 +9,7 @@ ghost use Rattle.sqlite_value.specs.declared.value.Value.TheVariants.{Text};
 ghost use Rattle.sqlite_trees.specs.View.{HasCause, IsFailure, KeepsSchema};
 ghost use Rattle.sqlite_trees.specs.declared.error.StoreError.TheVariants.{OutOfMemory};
 ghost use Rattle.sqlite_trees.specs.declared.store.Shape.TheVariants.{Index};
-ghost use Rattle.argon2_accounts.specs.Accounts.{Texts as Named};
+ghost use Rattle.argon2_rows.specs.Names.{Texts as Named};
 ghost use Rattle.argon2_rows.specs.Rows.{AreLines, AreTexts, FitLines, IsAccount, IsFoundAs, breaks_line, line, lines_of, row_of, rows_of};
 ghost use Rattle.argon2_rows.specs.Table.{HasFailed, HasNames, IsUnwritten, IsHonest, IsOpen, Sees, StaysQuiet, Writes, done_of};
 

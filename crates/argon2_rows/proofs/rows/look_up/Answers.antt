@@ -1,5 +1,5 @@
-use Rattle.argon2_rows.proofs.Imports.{arith, ap, sym, ◌∙◌, Some, err_is}
-use Rattle.argon2_rows.proofs.TableLemmas.{reads_ok, writes_less}
+use Rattle.argon2_rows.proofs.Imports.{arith, ap, sym, ◌∙◌, Some}
+use Rattle.argon2_rows.proofs.TableLemmas.{err_is, reads_ok, writes_less}
 use Rattle.argon2_rows.proofs.rows.look_up.Goals as goal
 
 pub returns-in_ok-copy_text-in-Some-true-clause-found : goal.returns-in_ok-copy_text-in-Some-true-clause-found

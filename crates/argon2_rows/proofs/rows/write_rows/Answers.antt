@@ -1,7 +1,7 @@
-use Rattle.argon2_rows.proofs.Imports.{rules, arith, Result, Err, StoreError, IsHonest, err_is}
+use Rattle.argon2_rows.proofs.Imports.{rules, arith, Result, Err, StoreError, IsHonest}
 use Rattle.sqlite_trees.specs.declared.error.StoreError.TheVariants.{Corrupt, OutOfMemory}
 use Rattle.argon2_rows.proofs.LineLemmas.{all_lines, begin_lines, its_name, next_row}
-use Rattle.argon2_rows.proofs.TableLemmas.{on_all, reads_ok, writes_less, writes_row, writes_then}
+use Rattle.argon2_rows.proofs.TableLemmas.{err_is, on_all, reads_ok, writes_less, writes_row, writes_then}
 use Rattle.argon2_rows.proofs.rows.write_rows.Goals as goal
 
 pub loop-init : goal.loop-init

@@ -1,77 +1,86 @@
-use Rattle.argon2_rows.proofs.Imports.{arith, ap, sym, refl, HasNoneAfter, AreTexts, PasswordHash, Texts, List, Ghosts, StoreError, Writes, IsLong, OnOk, IsTrue, IsUtf8, Bool, both_ways, tied_itself, nat_list_cmp_total, AddsName, ◌∙◌, ◌≡◌, ℕ, None, Some, Ok, Result, get, insert, phc_of, text_of, IsHonest, err_is, PhcText}
-use Rattle.argon2_rows.proofs.RowLemmas.{get-changed, others_kept, texts_changed}
-use Rattle.argon2_rows.proofs.TableLemmas.{on_all, reads_ok, writes_more, writes_nothing, writes_row, writes_then}
-use Rattle.argon2_rows.proofs.TextLemmas.{text_is_utf8}
+use Rattle.argon2_rows.proofs.Imports.{arith, refl, ◌≡◌, ◌∙◌, sym, subst, IsTrue, HasNoneAfter, Texts, List, [], ℕ, Writes, IsFoundAs, Bool, Option, None, Some, Ok, get, IsHonest, Row, Sees, IsAfterAll, tied_itself, nat_list_cmp_total, bytes_eq-Decides, changed, true, false, not}
+use Rattle.argon2_rows.proofs.RowLemmas.{get-at, texts_changed}
+use Rattle.argon2_rows.proofs.TableLemmas.{err_is, reads_ok, writes_more, writes_nothing, writes_row, writes_then}
+use Rattle.std.specs.Option.{is_some, option_eq}
+use mathlib.Core.Bool.{beq}
 use Rattle.argon2_rows.proofs.table.add.Goals as goal
+use Rattle.argon2_rows.proofs.table.add.Goals.{After-eq, then-is_last, else-is_last+in_ok-found}
 
-pub returns-in_err-hash-clause-writes : goal.returns-in_err-hash-clause-writes
-returns-in_err-hash-clause-writes g c before texts sees last =
-    rw (err_is c.from_residual.result _ c.from_residual.ensures.1)
-    (before, texts, writes_nothing g.S.Store (λ clean. refl), search arith)
-
--- a row that is written for a name that has none, after reads
-module _ {S : Type 0} (g : Ghosts S) {old mid new : S} (before : Texts) (name text : List ℕ) (hash : PasswordHash)
-    (is_last : Bool) (r : Result (Unit {0}) StoreError) where
-  added : IsUtf8 name → PhcText text (phc_of hash) → AreTexts before → Writes g old mid before before ⊥ (Ok tt)
-      → (IsHonest g mid → (get before name ≡ None) × (IsTrue is_last → HasNoneAfter before name))
-      → ((IsHonest g mid → get before name ≡ None) → Writes g mid new before (insert before name (text_of hash)) (IsLong name) r)
-      → (after : Texts) × AreTexts after × Writes g old new before after (IsLong name) r
-      × OnOk r (IsHonest g new → AddsName before (name, text) (Ok tt) after × (IsTrue is_last → HasNoneAfter after name))
-  added named is texts read none writes =
-      let wrote = writes (λ clean. (none clean).0) in (
-        insert before name (text_of hash),
-        texts_changed before name (Some (text_of hash)) texts named (text_is_utf8 (phc_of hash) hash.grammatical),
-        writes_then read wrote (λ long. long),
-        on_all r (λ clean.
-            let first = none (omega (arith, clean, wrote.quiet.clean)) in
-            let has = get-changed before name (Some (text_of hash)) in
-            let others = others_kept before name (Some (text_of hash)) in
-            let tied = tied_itself nat_list_cmp_total name in
-            (((first.0, (phc_of hash, is), has ∙ ap Some (sym is.1)), others), λ last later less. grind arith)),
+-- the name is looked up, or comes after all others
+sought : (g : _) (c : After-eq g) (before : Texts) → (IsHonest g.S.Store c.args.store.now → Sees (g.S.Store.view c.args.store.now) before)
+    → (IsTrue c.args.is_last.now → IsHonest g.S.Store c.args.store.now → IsAfterAll before c.args.name.now)
+    → Writes g.S.Store c.args.store.now c.if-is_last.store before before ⊥ (Ok tt)
+    × (IsHonest g.S.Store c.if-is_last.store → (row : Row) × IsFoundAs before c.args.name.now c.if-is_last.found row)
+sought g c before sees last = elim c.if-is_last.branch [
+  | then-is_last w ↦
+      rw (w.store-is, w.found-is) (writes_nothing g.S.Store (λ clean. refl), λ clean. ([], last w.if-is_last.true clean))
+  | else-is_last+in_ok-found w ↦
+      rw (w.store-is, w.found-is) (
+        reads_ok g.S.Store w.in_ok-found.ensures.same w.find.ensures.schema w.find.ensures.quiet,
+        λ clean. (_, w.in_ok-found.ensures.found before clean (sees (search arith) (w.in_ok-found.ensures.sound clean)).0),
       )
+]
 
-pub returns-then-is_last-clause-writes : goal.returns-then-is_last-clause-writes
-returns-then-is_last-clause-writes g c before texts sees last =
-    added g.S.Store before c.args.name.now _ c.in_ok-hash.hash _ c.put.result c.utf8.name c.in_ok-hash.ensures.found texts
-    (writes_nothing g.S.Store (λ clean. refl)) (λ clean. let past = last c.if-is_last.true clean in (past.0, λ is. past.1))
-    (c.put.ensures.writes before)
+is_found : (o : Option Bool) → true ≡ option_eq beq o (Some true) → o ≡ Some true
+is_found None is = cc
+is_found (Some true) is = refl
+is_found (Some false) is = cc
 
-pub returns-in-Ok-Some-true-clause-writes : goal.returns-in-Ok-Some-true-clause-writes
-returns-in-Ok-Some-true-clause-writes g c before texts sees last = (
-  before,
-  texts,
-  writes_more (search (arith, reads_ok))
-      (λ never. absurd never),
-  λ clean.
-      let (text, has, row) = (rw (c.in-Ok-Some-true.field-0-is, c.in-Ok-Some-true.field-0-0-test) at
-      c.in-Ok-Some-true.ensures.found) before clean (sees (search arith)
-      (c.in-Ok-Some-true.ensures.sound clean)).0 in (
-        (((_, c.in_ok-hash.ensures.found), rw has refl), refl),
-        λ other differs. refl,
-      ),
-)
+not_found : (before : Texts) (name : List ℕ) (o : Option Bool) (row : Row) (b : Bool) → false ≡ option_eq beq o (Some true)
+    → is_some o ≡ not b → IsFoundAs before name o row → (get before name ≡ None) × (IsTrue b → HasNoneAfter before name)
+not_found before name None row b far test found = (found.0, λ is. found.1)
+not_found before name (Some true) row b far test found = absurd cc
+not_found before name (Some false) row b far test found = (found, λ is. absurd {0} (grind arith))
 
-pub returns-in-Ok-Some-false-clause-writes : goal.returns-in-Ok-Some-false-clause-writes
-returns-in-Ok-Some-false-clause-writes g c before texts sees last =
-    added g.S.Store before c.args.name.now _ c.in_ok-hash.hash _ c.put-in-Ok-Some-false.result c.utf8.name
-    c.in_ok-hash.ensures.found texts
-    (search (arith, reads_ok)) (λ clean. (
-      (rw (c.in-Ok-Some-false.field-0-is, c.in-Ok-Some-false.field-0-0-test) at c.in-Ok-Some-false.ensures.found) before clean
-          (sees (search arith) (c.in-Ok-Some-false.ensures.sound clean)).0,
-      λ is. absurd (both_ways _ c.if-is_last.false is),
-    ))
-    (c.put-in-Ok-Some-false.ensures.writes before)
-
-pub returns-in-Ok-None-clause-writes : goal.returns-in-Ok-None-clause-writes
-returns-in-Ok-None-clause-writes g c before texts sees last =
-    added g.S.Store before c.args.name.now _ c.in_ok-hash.hash _ c.put-in-Ok-None.result c.utf8.name
-    c.in_ok-hash.ensures.found texts
-    (search (arith, reads_ok)) (λ clean.
-    let past = (rw (c.in-Ok-None.field-0-is) at c.in-Ok-None.ensures.found) before clean
-    (sees (search arith) (c.in-Ok-None.ensures.sound clean)).0 in
-    (past.0, λ is. past.1))
-    (c.put-in-Ok-None.ensures.writes before)
-
-pub returns-in-Err-clause-writes : goal.returns-in-Err-clause-writes
-returns-in-Err-clause-writes g c before texts sees last =
+pub returns-in_err-found-clause-writes : goal.returns-in_err-found-clause-writes
+returns-in_err-found-clause-writes g c before texts sees last =
+    rw (err_is c.from_residual.result _ c.from_residual.ensures.1)
     (before, texts, writes_more (search (arith, writes_row)) (λ never. absurd never), tt)
+
+pub returns-then-eq-clause-writes : goal.returns-then-eq-clause-writes
+returns-then-eq-clause-writes g c before texts sees last =
+    let (read, found) = sought g (goal.at.returns-then-eq-clause-writes g c).After-eq before sees last in (
+      before,
+      texts,
+      writes_more read (λ never. absurd never),
+      λ clean. (
+        let (row, is) = found clean in
+            let (text, has, at) = subst (λ o. IsFoundAs before c.args.name.now o row)
+            (is_found _ (sym c.if-eq.true ∙ c.eq.ensures)) is in (rw has refl, refl),
+        λ is. (last is (omega (arith, clean, read.quiet.clean))).1,
+      ),
+    )
+
+pub returns-in_err-insert-clause-writes : goal.returns-in_err-insert-clause-writes
+returns-in_err-insert-clause-writes g c before texts sees last =
+    let (read, found) = sought g (goal.at.returns-in_err-insert-clause-writes g c).After-eq before sees last in
+    let wrote = c.in_err-insert.ensures.writes before (λ clean. let (row, is) = found clean in
+    (not_found before _ _ row c.is_none.result (sym c.if-eq.false ∙ c.eq.ensures) c.is_none.ensures is).0) in
+    rw (err_is c.from_residual-in_err-insert.result _ c.from_residual-in_err-insert.ensures.1) (
+      changed before c.args.name.now (Some c.args.text.now),
+      texts_changed before c.args.name.now (Some c.args.text.now) texts c.utf8.name c.utf8.text,
+      writes_then read wrote (λ long. long),
+      tt,
+    )
+
+pub returns-clause-writes : goal.returns-clause-writes
+returns-clause-writes g c before texts sees last =
+    let (read, found) = sought g (goal.at.returns-clause-writes g c).After-eq before sees last in
+    let name = c.args.name.now in
+    let none = λ (clean : IsHonest g.S.Store c.if-is_last.store). let (row, is) = found clean in
+    not_found before name c.if-is_last.found row c.is_none.result (sym c.if-eq.false ∙ c.eq.ensures) c.is_none.ensures is in
+    let wrote = c.in_ok-insert.ensures.writes before (λ clean. (none clean).0) in (
+      changed before name (Some c.args.text.now),
+      texts_changed before name (Some c.args.text.now) texts c.utf8.name c.utf8.text,
+      writes_then read wrote (λ long. long),
+      λ clean.
+          let first = none (omega (arith, clean, wrote.quiet.clean)) in (
+            (first.0, refl),
+            λ is later less.
+                let gone = first.1 is later less in
+                let at = get-at before name later (Some c.args.text.now) in
+                let test = bytes_eq-Decides later name in
+                let tied = tied_itself nat_list_cmp_total name in
+                grind arith,
+          ),
+    )

@@ -1,19 +1,17 @@
-use Rattle.argon2_rows.proofs.Imports.{◌<◌, ◌≡◌, arith, length, ℕ, List, [], Err, refl, subst, take, map, get_or, sym, Bor, get_or-map, length-map, map_more}
-use Rattle.argon2_rows.proofs.Imports.{take-map, take_all, Any, AddsAll, AddsName, entry_of, IsLong, Texts, HasNoneAfter, IsAfterAll, Less, slice_cmp, nat_cmp, nat_list_cmp_total}
+use Rattle.argon2_rows.proofs.Imports.{◌<◌, ◌≡◌, arith, length, ℕ, List, [], IsSome, refl, subst, take, map, get_or, sym, Bor, get, get_or-map, length-map, map_more}
+use Rattle.argon2_rows.specs.declared.text.StoredText.{StoredText}
+use Rattle.argon2_rows.proofs.Imports.{◌∙◌, ap, IsAdded, true, take-map, take_all, Any, AddsAll, entry_of, IsLong, Texts, HasNoneAfter, IsAfterAll, Less, slice_cmp, nat_cmp, nat_list_cmp_total}
 use Rattle.argon2_rows.proofs.AddLemmas.{add_last}
 use Rattle.argon2_rows.proofs.TableLemmas.{keeps_index, writes_nothing, writes_then}
 use Rattle.argon2_rows.proofs.table.add_each.Goals as goal
 
-abbrev nothing : Bor (List ℕ) × Bor (List ℕ)
-nothing = (record { ref_ptr = (0, 0); now = [] }, record { ref_ptr = (0, 0); now = [] })
-
-some_long : (new : List (Bor (List ℕ) × Bor (List ℕ))) (i : ℕ) → i < length new → IsLong (get_or new i nothing).0.now
-    → Any (λ e. IsLong e.0) (map entry_of new)
-some_long new i within long = (
+some_long : (new : List (Bor (List ℕ) × StoredText)) (i : ℕ) (e : Bor (List ℕ) × StoredText) → i < length new
+    → get_or new i e ≡ e → IsLong (entry_of e) → Any IsLong (map entry_of new)
+some_long new i e within is long = (
   i,
-  entry_of (get_or new i nothing),
+  entry_of e,
   rw length-map within,
-  get_or-map entry_of new i nothing (entry_of (get_or new i nothing)) within,
+  get_or-map entry_of new i e (entry_of e) within ∙ ap entry_of is,
   long,
 )
 
@@ -29,29 +27,30 @@ pub loop-k-init : goal.loop-k-init
 loop-k-init g c =
     (c.requires, λ before texts sees. (before, texts, λ clean. (refl, λ is. absurd cc), search (arith, writes_nothing)))
 
-pub returns-in-Ok-Err : goal.returns-in-Ok-Err
-returns-in-Ok-Err g c before texts sees =
-    let (mid, fine, all, wrote) = c.loop-k.invariant.1 before texts sees in
-    let (after, good, more, done) = (rw c.in-Ok-Err.field-0-is at (c.in-Ok-Err.ensures.writes mid fine (search arith)
-    (past mid _ _ c.comes_after-is_last.ensures (λ is clean. (all clean).1 is)))) in
-    (after, good, writes_then wrote more (some_long c.args.new.now c.loop-k.k c.loop-k-test.true), tt)
-
 pub returns-in-Err : goal.returns-in-Err
 returns-in-Err g c before texts sees =
     let (mid, fine, all, wrote) = c.loop-k.invariant.1 before texts sees in
-    let (after, good, more, why) = c.in-Err.ensures.writes mid fine (search arith)
-    (past mid _ _ c.comes_after-is_last.ensures (λ is clean. (all clean).1 is)) in
+    let (after, good, more, done) = (rw c.as_str.ensures at (c.in-Err.ensures.writes mid fine (search arith)
+    (past mid _ _ c.comes_after-is_last.ensures (λ is clean. (all clean).1 is)))) in
+    (after, good, writes_then wrote more (some_long c.args.new.now c.loop-k.k _ c.loop-k-test.true (sym c.index-new-k.is)), tt)
+
+pub returns-in-Ok-false : goal.returns-in-Ok-false
+returns-in-Ok-false g c before texts sees =
+    let (mid, fine, all, wrote) = c.loop-k.invariant.1 before texts sees in
+    let (after, good, more, taken) = (rw (c.as_str.ensures, c.in-Ok-false.field-0-test) at (c.in-Ok-false.ensures.writes mid fine
+    (search arith) (past mid _ _ c.comes_after-is_last.ensures (λ is clean. (all clean).1 is)))) in
     let new = c.args.new.now in
-    let es = map entry_of new in (
+    let item = c.index-new-k.result in
+    let within : c.loop-k.k < length new = c.loop-k-test.true in (
       after,
       good,
-      writes_then wrote more (some_long new c.loop-k.k c.loop-k-test.true),
+      writes_then wrote more (some_long new c.loop-k.k item within (sym c.index-new-k.is)),
       λ clean. (
         mid,
         rw take-map (all (omega (arith, clean, more.quiet.clean))).0,
-        rw length-map c.loop-k-test.true,
-        subst (λ x. AddsName mid x (Err c.in-Err.why) mid)
-            (sym (get_or-map entry_of new c.loop-k.k nothing ([], []) c.loop-k-test.true)) (why clean),
+        rw length-map within,
+        subst (λ (x : List ℕ × List ℕ). IsSome (get mid x.0))
+            (ap entry_of c.index-new-k.is ∙ sym (get_or-map entry_of new c.loop-k.k item ([], []) within)) (taken clean).0.0,
       ),
     )
 
@@ -60,20 +59,21 @@ loop-k-preserved g c = (
   keeps_index g.S.Store c.add.ensures.schema c.add.ensures.quiet c.loop-k.invariant.0,
   λ before texts sees.
       let (mid, fine, all, wrote) = c.loop-k.invariant.1 before texts sees in
-      let (after, good, more, done) = (rw c.in-Ok-Ok.field-0-is at (c.in-Ok-Ok.ensures.writes mid fine (search arith)
-      (past mid _ _ c.comes_after-is_last.ensures (λ is clean. (all clean).1 is)))) in
+      let (after, good, more, done) = (rw (c.as_str.ensures, c.in-Ok-true.field-0-test) at (c.in-Ok-true.ensures.writes mid fine
+      (search arith) (past mid _ _ c.comes_after-is_last.ensures (λ is clean. (all clean).1 is)))) in
       let new = c.args.new.now in
-      let within : c.loop-k.k < length new = c.loop-k-test.true in
-      let e = entry_of (get_or new c.loop-k.k nothing) in (
+      let item = c.index-new-k.result in
+      let within : c.loop-k.k < length new = c.loop-k-test.true in (
         after,
         good,
         λ clean. (
-          rw (map_more entry_of new c.loop-k.k nothing)
-              (add_last (map entry_of (take c.loop-k.k new)) before mid after e
-              (all (omega (arith, clean, more.quiet.clean))).0 (done clean).0),
+          rw (map_more entry_of new c.loop-k.k item)
+              (add_last (map entry_of (take c.loop-k.k new)) before mid after (entry_of (get_or new c.loop-k.k item))
+              (all (omega (arith, clean, more.quiet.clean))).0
+              (subst (λ x. IsAdded mid (entry_of x).0 (entry_of x).1 true after) c.index-new-k.is (done clean).0)),
           λ is. rw c.as_bytes-last.ensures.value ((done clean).1 is),
         ),
-        writes_then wrote more (some_long new c.loop-k.k within),
+        writes_then wrote more (some_long new c.loop-k.k item within (sym c.index-new-k.is)),
       ),
 )
 

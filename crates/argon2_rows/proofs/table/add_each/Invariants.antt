@@ -8,4 +8,4 @@ invariant-loop-k g l =
     → (mid : Texts) × AreTexts mid
     × (IsHonest g.S.Store l.store → AddsAll before (map entry_of (take l.k l.new)) mid
     × (IsTrue l.is_last → HasNoneAfter mid l.last))
-    × Writes g.S.Store l.fn.store l.store before mid (Any (λ e. IsLong e.0) (map entry_of l.new)) (Ok tt))
+    × Writes g.S.Store l.fn.store l.store before mid (Any IsLong (map entry_of l.new)) (Ok tt))

@@ -1,0 +1,37 @@
+-- Names with their texts, and several that are added, one after the other.
+use Rattle.std.specs.Prelude.{◌≡◌, ℕ, ◌<◌, List, [], ◌∷◌, length, slice_index_or, take, Bool, true, false, Option, Some, None, IsSome}
+use Rattle.std.specs.Borrow.{Bor}
+use Rattle.std.specs.Cmp.Lexicographic.{slice_cmp}
+use Rattle.std.specs.FinMap.{FinMap, get, insert, remove}
+use Rattle.std.specs.Ordering.{nat_cmp}
+use Rattle.argon2_rows.specs.declared.text.StoredText.{StoredText}
+
+-- texts by the bytes of their names
+abbrev pub Texts : Type 0
+Texts = FinMap (slice_cmp nat_cmp) (List ℕ)
+
+-- the names with this one's text set, or with this one taken out
+abbrev pub changed : Texts → List ℕ → Option (List ℕ) → Texts
+changed names name None = remove names name
+changed names name (Some text) = insert names name text
+
+-- ---- several names
+
+-- a name and its text
+abbrev pub entry_of : Bor (List ℕ) × StoredText → List ℕ × List ℕ
+entry_of e = (e.0.now, e.1.text.now)
+
+-- whether adding a name finds it new, and the names after it
+abbrev pub IsAdded : Texts → List ℕ → List ℕ → Bool → Texts → Type 0
+IsAdded before name text true after = (get before name ≡ None) × (after ≡ changed before name (Some text))
+IsAdded before name text false after = IsSome (get before name) × (after ≡ before)
+
+-- none of the names is there, and each is added
+abbrev pub AddsAll : Texts → List (List ℕ × List ℕ) → Texts → Type 0
+AddsAll before [] after = after ≡ before
+AddsAll before (e ∷ es) after = (get before e.0 ≡ None) × AddsAll (changed before e.0 (Some e.1)) es after
+
+-- those before this one can be added, and this one is there then
+abbrev pub IsFirstTaken : Texts → List (List ℕ × List ℕ) → ℕ → Type 0
+IsFirstTaken before es k = (mid : Texts) × AddsAll before (take k es) mid × (k < length es)
+    × IsSome (get mid (slice_index_or es k ([], [])).0)

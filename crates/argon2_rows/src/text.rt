@@ -1,0 +1,47 @@
+//! Texts as they are stored.
+
+ghost use Rattle.std.specs.Prelude.{◌≡◌, IfErr, IfOk};
+ghost use Rattle.std.specs.Option.{option_copied};
+ghost use Rattle.argon2_base.specs.PhcFields.{phc_of};
+ghost use Rattle.argon2_base.specs.PhcText.{PhcText};
+ghost use Rattle.argon2_base.specs.declared.error.password_hash.Error.TheVariants.{EncodingInvalid};
+ghost use Rattle.argon2_rows.specs.Locks.{IsStored, behind_lock, without_lock};
+
+use argon2_base::error::password_hash::Result;
+use argon2_base::phc::PasswordHash;
+
+/// A text as it is stored: a PHC text, or one behind `!`, which is locked and accepts no password.
+#[derive(Clone, Copy, Debug, PartialEq, Eq, PartialOrd, Ord)]
+pub struct StoredText<'a> {
+    text: &'a str,
+    ghost stored: { ∥ IsStored text.now ∥₁ } by { squash₁ },
+}
+
+impl<'a> StoredText<'a> {
+    /// A text with what it says, without a `!` before it.
+    ///
+    /// # Errors
+    /// `EncodingInvalid`: it is outside the grammar of PHC texts, also behind `!`.
+    pub fn new(text: &'a str) -> Result<(StoredText<'a>, PasswordHash)>
+        ensures found { IfOk result (λ it. (it.0.text.now ≡ text.now)
+            × PhcText (without_lock text.now) (phc_of it.1)) }
+        ensures invalid { IfErr result (λ e. (e ≡ EncodingInvalid) × ¬ IsStored text.now) }
+    {
+        let hash = PasswordHash::new(behind_lock(text).unwrap_or(text))?;
+        Ok((StoredText { text }, hash))
+    }
+
+    /// The text, with its `!` if it is locked.
+    pub fn as_str(self) -> &'a str
+        ensures { result.now ≡ self.entry.text.now }
+    {
+        self.text
+    }
+}
+
+/// What a locked text has behind its `!`.
+pub fn behind_lock(text: &str) -> Option<&str>
+    ensures { option_copied result ≡ behind_lock text.now }
+{
+    text.strip_prefix('!')
+}
