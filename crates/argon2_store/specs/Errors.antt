@@ -1,5 +1,5 @@
 -- The errors of account files.
-use Rattle.std.specs.Prelude.{ℕ, List, Option, None, Some, Result, Ok, Err, codes, ⊤}
+use Rattle.std.specs.Prelude.{ℕ, List, Bool, true, false, Option, None, Some, Result, Ok, Err, codes, ⊤}
 use Rattle.sqlite_std_file.specs.declared.pair.OpenError.{OpenError as PathError}
 use Rattle.sqlite_std_file.specs.declared.pair.OpenError.TheVariants as path
 use Rattle.sqlite_store.specs.declared.error.OpenError.{OpenError as FilesError}
@@ -8,9 +8,8 @@ use Rattle.sqlite_trees.specs.declared.error.StoreError.{StoreError}
 use Rattle.sqlite_trees.specs.declared.error.StoreError.TheVariants as below
 use Rattle.sqlite_wal.specs.declared.error.Error.{Error as LogError}
 use Rattle.sqlite_wal.specs.declared.error.Error.TheVariants as log
-use Rattle.argon2_accounts.specs.Accounts.{account_error_text}
 use Rattle.argon2_store.specs.declared.error.FileError.{FileError}
-use Rattle.argon2_store.specs.declared.error.FileError.TheVariants.{Account, OutOfMemory, Io, Damaged, Full, TooLong, Closed}
+use Rattle.argon2_store.specs.declared.error.FileError.TheVariants.{NameTaken, NameUnknown, Changed, Locked, OutOfMemory, Io, Damaged, Full, TooLong, Closed}
 use Rattle.argon2_store.specs.declared.error.OpenError.{OpenError}
 use Rattle.argon2_store.specs.declared.error.OpenError.TheVariants as no
 use Rattle.argon2_store.specs.declared.error.OpenError.TheVariants.{Path, Busy, HotJournal, NotAccounts}
@@ -29,15 +28,18 @@ abbrev pub unwritten : StoreError → FileError
 unwritten below.Broken = Damaged
 unwritten e = named e
 
--- what a call answers that read an open file
+-- what a call answers that read or changed an open file
 abbrev pub read_of : {X : Type 0} → Result X StoreError → Result X FileError
 read_of (Ok x) = Ok x
 read_of (Err e) = Err (unwritten e)
 
--- what a call answers that wrote to an open file
-abbrev pub answered : {X : Type 0} → Result (Unit {0}) StoreError → X → Result X FileError
-answered (Ok _) x = Ok x
-answered (Err e) x = Err (unwritten e)
+-- the names refuse the call, which then writes nothing
+abbrev pub is_refusal : FileError → Bool
+is_refusal NameTaken = true
+is_refusal NameUnknown = true
+is_refusal Changed = true
+is_refusal Locked = true
+is_refusal _ = false
 
 -- what an open calls the errors below it
 abbrev pub path_error : PathError → OpenError
@@ -82,7 +84,10 @@ IsOfDatabase _ = ⊥
 
 -- what an error prints
 abbrev pub file_error_text : FileError → List ℕ
-file_error_text (Account e) = account_error_text e
+file_error_text NameTaken = codes "name is taken"
+file_error_text NameUnknown = codes "name is unknown"
+file_error_text Changed = codes "text has changed"
+file_error_text Locked = codes "name is locked"
 file_error_text OutOfMemory = codes "out of memory"
 file_error_text Io = codes "the disk failed"
 file_error_text Damaged = codes "the file is damaged"
@@ -92,7 +97,6 @@ file_error_text Closed = codes "the file has to be opened again"
 
 -- what an error of an open prints; of the system's own nothing is known
 abbrev pub open_error_text : OpenError → Option (List ℕ)
-open_error_text (no.Terms e) = Some (account_error_text e)
 open_error_text (Path why) = None
 open_error_text Busy = Some (codes "the file is in use")
 open_error_text HotJournal = Some (codes "the file has a journal to play back: open it with sqlite3 first")

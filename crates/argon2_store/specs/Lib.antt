@@ -1,4 +1,5 @@
 pub mod AccountFile
+pub mod Edits
 pub mod Errors
 pub mod Opening
 pub mod Runs

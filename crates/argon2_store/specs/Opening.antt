@@ -16,7 +16,7 @@ use Rattle.sqlite_wal.specs.PageSize.{IsPageSize}
 use Rattle.sqlite_wal.specs.Reads.{AreClean}
 use Rattle.sqlite_wal.specs.Format.{IsSigned}
 use Rattle.sqlite_wal.specs.Recovery.{Image, header}
-use Rattle.argon2_accounts.specs.Accounts.{Texts}
+use Rattle.argon2_rows.specs.Names.{Texts}
 use Rattle.argon2_rows.specs.Rows.{AreTexts, rows_of}
 use Rattle.argon2_rows.specs.Table.{account}
 

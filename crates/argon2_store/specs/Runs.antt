@@ -1,5 +1,5 @@
 -- Runs on an account file, each of which opens what the last one left.
-use Rattle.std.specs.Prelude.{◌≡◌, ◌⊎◌, ℕ, List, [], ◌∷◌, ◌++◌, map, reverse, Option, Some, Result, Ok, Err}
+use Rattle.std.specs.Prelude.{◌≡◌, ◌⊎◌, ℕ, List, [], ◌∷◌, ◌++◌, false, if◌then◌else◌, Option, Some, None, Result, Ok, Err}
 use Rattle.std.specs.FinMap.{empty, get}
 use Rattle.std.specs.List.{flat_map}
 use Rattle.sqlite_disk.specs.declared.Disk as disk
@@ -7,77 +7,65 @@ use Rattle.sqlite_store.specs.FileStore.{IsStep, NamesFault, blamed, faults, is_
 use Rattle.sqlite_store.specs.declared.store.FileStore.{FileStore}
 use Rattle.sqlite_trees.specs.declared.store.Store.{Ghosts}
 use Rattle.sqlite_wal.specs.Recovery.{Image}
-use Rattle.argon2_accounts.specs.Accounts.{AccountEvent, AccountRun, AreTerms, HasGiven, Terms, Texts, adding, given}
-use Rattle.argon2.specs.NamedTexts.{newest}
-use Rattle.argon2.specs.declared.login.answers.Accepted.{Accepted}
-use Rattle.argon2_store.specs.AccountFile.{AddsOrNone, Call, HasNames, IsReady, Serves, Stays, database_of}
-use Rattle.argon2_store.specs.Opening.{HoldsNames, IsAfterOpens}
+use Rattle.argon2_rows.specs.Names.{Texts}
 use Rattle.argon2_rows.specs.Table.{IsHonest}
+use Rattle.argon2_store.specs.AccountFile.{Answers, HasNames, IsReady, Serves, Stays, database_of}
+use Rattle.argon2_store.specs.Edits.{Edit, left_by}
+use Rattle.argon2_store.specs.Errors.{is_refusal}
+use Rattle.argon2_store.specs.Opening.{HoldsNames, IsAfterOpens}
 use Rattle.argon2_store.specs.declared.account_file.AccountFile.{AccountFile}
 use Rattle.argon2_store.specs.declared.error.FileError.{FileError}
-use Rattle.argon2_store.specs.declared.error.FileError.TheVariants.{Account, Closed}
+use Rattle.argon2_store.specs.declared.error.FileError.TheVariants.{Closed}
 
 -- A call with its answer. A crash is a disk that does nothing more from then on, so a call that it cuts off is recorded
 -- with the error that it would have returned.
 pub data FileCall : Type 0 where
-  on_name : Call (Unit {0}) → Result (Unit {0}) FileError → FileCall
-  login : Call Accepted → Result Accepted FileError → FileCall
-  add_all : List (List ℕ × List ℕ) → Result (Unit {0}) FileError → FileCall
+  makes : List Edit → Result (Unit {0}) FileError → FileCall
   reads : Option FileError → FileCall  -- one that changes no name, with its error if it failed
 
--- ---- the events of calls, the newest first
+-- ---- what calls made, the newest first
 
--- names that are added one after the other
-abbrev pub added : List (List ℕ × List ℕ) → List AccountEvent
-added es = reverse (map (λ e. adding e.0 e.1 (Ok tt)) es)
+-- edits that the names answer, with the answer
+abbrev pub Event : Type 0
+Event = List Edit × Result (Unit {0}) FileError
 
--- a call that the accounts answered is an event
-abbrev pub event_of : {X : Type 0} → Call X → Result X FileError → List AccountEvent
-event_of call (Ok x) = call (Ok x) ∷ []
-event_of call (Err (Account e)) = call (Err e) ∷ []
-event_of call (Err e) = []
-
-abbrev pub events_of : FileCall → List AccountEvent
-events_of (on_name call result) = event_of call result
-events_of (login call result) = event_of call result
-events_of (add_all es (Ok _)) = added es
-events_of (add_all es (Err e)) = []
+abbrev pub events_of : FileCall → List Event
+events_of (makes edits (Ok _)) = (edits, Ok tt) ∷ []
+events_of (makes edits (Err e)) = if is_refusal e then (edits, Err e) ∷ [] else []
 events_of (reads error) = []
 
--- A call with an error of the file may come late: its change is in the file all the same, as if it was accepted.
-abbrev pub IsLateEvent : {X : Type 0} → Call X → Result X FileError → List AccountEvent → Type 0
-IsLateEvent call (Ok x) late = ⊥
-IsLateEvent call (Err (Account e)) late = ⊥
-IsLateEvent {X} call (Err e) late = (x : X) × (late ≡ call (Ok x) ∷ [])
+-- the names after events
+abbrev pub AreMade : Texts → List Event → Texts → Type 0
+AreMade first [] last = last ≡ first
+AreMade first (event ∷ older) last = (before : Texts) × AreMade first older before × Answers before event.0 event.1 last
 
-abbrev pub IsLateOf : FileCall → List AccountEvent → Type 0
-IsLateOf (on_name call result) late = IsLateEvent call result late
-IsLateOf (login call result) late = IsLateEvent call result late
-IsLateOf (add_all es (Ok _)) late = ⊥
-IsLateOf (add_all es (Err (Account e))) late = ⊥
-IsLateOf (add_all es (Err e)) late = late ≡ added es
-IsLateOf (reads error) late = ⊥
+-- A call with an error of the file may come late: its edits are in the file all the same, as if it had succeeded.
+abbrev pub IsLateOf : FileCall → List Event → Type 0
+IsLateOf (makes edits (Err e)) late = (is_refusal e ≡ false) × (late ≡ (edits, Ok tt) ∷ [])
+IsLateOf _ late = ⊥
 
 -- it was refused since the file was closed
 abbrev pub IsShutOut : FileCall → Type 0
-IsShutOut (on_name call result) = result ≡ Err Closed
-IsShutOut (login call result) = result ≡ Err Closed
-IsShutOut (add_all es result) = result ≡ Err Closed
+IsShutOut (makes edits result) = result ≡ Err Closed
 IsShutOut (reads error) = error ≡ Some Closed
 
 -- what comes late of calls, the newest first: nothing, or the last of them that was not shut out
-abbrev pub IsLate : List FileCall → List AccountEvent → Type 0
+abbrev pub IsLate : List FileCall → List Event → Type 0
 IsLate [] late = late ≡ []
 IsLate (call ∷ older) late = (late ≡ []) ⊎ (IsLateOf call late ⊎ (IsShutOut call × IsLate older late))
+
+-- the text that events leave a name that had none
+abbrev pub text_by : List ℕ → List Event → Option (List ℕ)
+text_by name [] = None
+text_by name ((edits, Ok _) ∷ older) = left_by name edits (text_by name older)
+text_by name ((edits, Err e) ∷ older) = text_by name older
 
 -- ---- one run
 
 module _ {S : Type 0} {g : Ghosts S} where
   -- what a call did to a file, by its contract
   abbrev pub Does : FileCall → AccountFile S g → AccountFile S g → Type 0
-  Does (on_name call result) old new = Serves call result old new
-  Does (login call result) old new = Serves call result old new
-  Does (add_all es result) old new = AddsOrNone es result old new
+  Does (makes edits result) old new = Serves edits result old new
   Does (reads error) old new = (names : Texts) → HasNames old names → Stays error names old new
 
   -- calls, the newest first, took the old file to the new one
@@ -92,11 +80,11 @@ pub record Run : Type 0 where
   pub left : Image
 
 -- An open finds what the run left: the names as its calls made them, and perhaps what came late. Before it, others may fail.
-abbrev pub IsFound : Terms → Run → Type 0
-IsFound terms run = (opens : List Image) (left : Image) → IsAfterOpens opens run.left left
+abbrev pub IsFound : Run → Type 0
+IsFound run = (opens : List Image) (left : Image) → IsAfterOpens opens run.left left
     → (names : Texts) → HoldsNames left names
-    → ∥ ((late : List AccountEvent) × IsLate run.calls late
-    × AccountRun terms run.found (late ++ flat_map events_of run.calls) names) ∥₁
+    → ∥ ((late : List Event) × IsLate run.calls late
+    × AreMade run.found (late ++ flat_map events_of run.calls) names) ∥₁
 
 abbrev pub over_file : {D : Type 0} {g : disk.Ghosts D} → Ghosts (FileStore D g)
 over_file = record {
@@ -111,33 +99,33 @@ over_file = record {
 
 -- Whatever calls led to the file, an open finds what a crash leaves of it now.
 abbrev pub EndsRun : {D : Type 0} {g : disk.Ghosts D} → AccountFile (FileStore D g) over_file → Type 0
-EndsRun last = (terms : Terms) (names : Texts) (first : AccountFile _ over_file) (calls : List FileCall) (left : Image) →
-    IsReady terms names first → Did calls first last → IsHonest over_file (database_of last)
-    → (state (database_of last)).may_leave left → IsFound terms (record { found = names; calls = calls; left = left })
+EndsRun last = (names : Texts) (first : AccountFile _ over_file) (calls : List FileCall) (left : Image) →
+    IsReady names first → Did calls first last → IsHonest over_file (database_of last)
+    → (state (database_of last)).may_leave left → IsFound (record { found = names; calls = calls; left = left })
 
 -- ---- runs
 
 -- An open finds the names after runs, the newest first. Each found what the one before it left, after opens that failed, if
 -- there were any, and the oldest found `first`.
-abbrev pub IsFoundAfter : Terms → Texts → List Run → Texts → Type 0
-IsFoundAfter terms first [] names = names ≡ first
-IsFoundAfter terms first (run ∷ older) names =
-    IsFoundAfter terms first older run.found × IsFound terms run
+abbrev pub IsFoundAfter : Texts → List Run → Texts → Type 0
+IsFoundAfter first [] names = names ≡ first
+IsFoundAfter first (run ∷ older) names =
+    IsFoundAfter first older run.found × IsFound run
     × ((opens : List Image) × (left : Image) × IsAfterOpens opens run.left left × HoldsNames left names)
 
 -- the events of runs, with what came late of each
-abbrev pub AreEventsOf : List Run → List AccountEvent → Type 0
+abbrev pub AreEventsOf : List Run → List Event → Type 0
 AreEventsOf [] events = events ≡ []
-AreEventsOf (run ∷ older) events = (late earlier : List AccountEvent) × IsLate run.calls late × AreEventsOf older earlier
+AreEventsOf (run ∷ older) events = (late earlier : List Event) × IsLate run.calls late × AreEventsOf older earlier
     × (events ≡ late ++ (flat_map events_of run.calls ++ earlier))
 
 -- The names that an open finds after runs are what their events made of the first ones.
 abbrev pub NamesAreRun : Type 0
-NamesAreRun = (terms : Terms) (first : Texts) (runs : List Run) (names : Texts) → IsFoundAfter terms first runs names
-    → ∥ ((events : List AccountEvent) × AreEventsOf runs events × AccountRun terms first events names) ∥₁
+NamesAreRun = (first : Texts) (runs : List Run) (names : Texts) → IsFoundAfter first runs names
+    → ∥ ((events : List Event) × AreEventsOf runs events × AreMade first events names) ∥₁
 
--- If these were none, each name has what the last of its accepted calls gave it, and no text if there was none.
+-- If these were none, each name has the text that its accepted edits left, one after the other, or none.
 abbrev pub TextsAreKept : Type 0
-TextsAreKept = (terms : Terms) → AreTerms terms → (runs : List Run) (names : Texts) → IsFoundAfter terms empty runs names
-    → ∥ ((events : List AccountEvent) × AreEventsOf runs events
-    × ((name : List ℕ) → HasGiven terms (newest (given name) events) (get names name))) ∥₁
+TextsAreKept = (runs : List Run) (names : Texts) → IsFoundAfter empty runs names
+    → ∥ ((events : List Event) × AreEventsOf runs events
+    × ((name : List ℕ) → get names name ≡ text_by name events)) ∥₁

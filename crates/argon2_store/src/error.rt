@@ -1,10 +1,8 @@
 //! Why calls on an account file are refused.
 
 ghost use Rattle.std.specs.Prelude.{◌≡◌, Some};
-ghost use Rattle.argon2_store.specs.Errors.{IsOfDatabase, IsOfPath, answered, file_error_text, files_error, log_error, named, open_error_text, path_error, read_of, store_error};
+ghost use Rattle.argon2_store.specs.Errors.{IsOfDatabase, IsOfPath, file_error_text, files_error, is_refusal, log_error, named, open_error_text, path_error, read_of, store_error};
 
-use argon2::password_hash::Error;
-use argon2_accounts::AccountError;
 use sqlite_std_file::OpenError as PathError;
 use sqlite_store::OpenError as UnopenedError;
 use sqlite_trees::error::StoreError;
@@ -16,8 +14,14 @@ use std::{fmt, io};
 /// during a commit.
 #[derive(Clone, Copy, Debug, PartialEq, Eq)]
 pub enum FileError {
-    /// The accounts refuse the call; nothing was written.
-    Account(AccountError),
+    /// The name has a text already.
+    NameTaken,
+    /// The name has no text.
+    NameUnknown,
+    /// The name has another text than the one that was to be replaced.
+    Changed,
+    /// The text of the name is locked.
+    Locked,
     /// A request for memory was refused.
     OutOfMemory,
     /// The disk failed.
@@ -32,12 +36,27 @@ pub enum FileError {
     Closed,
 }
 
+impl FileError {
+    /// Whether the names are why the call is refused. Then nothing was written.
+    pub fn is_refusal(self) -> bool
+        ensures { result ≡ is_refusal self }
+    {
+        matches!(
+            self,
+            FileError::NameTaken | FileError::NameUnknown | FileError::Changed | FileError::Locked
+        )
+    }
+}
+
 impl fmt::Display for FileError {
     ghost output = { λ e. Some (file_error_text e) };
 
     fn fmt<W: fmt::Write>(&self, f: &mut fmt::Formatter<W>) -> fmt::Result {
         match self {
-            FileError::Account(error) => write!(f, "{error}"),
+            FileError::NameTaken => f.write_str("name is taken"),
+            FileError::NameUnknown => f.write_str("name is unknown"),
+            FileError::Changed => f.write_str("text has changed"),
+            FileError::Locked => f.write_str("name is locked"),
             FileError::OutOfMemory => f.write_str("out of memory"),
             FileError::Io => f.write_str("the disk failed"),
             FileError::Damaged => f.write_str("the file is damaged"),
@@ -50,24 +69,13 @@ impl fmt::Display for FileError {
 
 impl std::error::Error for FileError {}
 
-impl From<AccountError> for FileError {
-    ghost use Rattle.argon2_store.specs.declared.error.FileError.TheVariants.{Account};
+impl From<AllocError> for FileError {
+    ghost use Rattle.argon2_store.specs.declared.error.FileError.TheVariants.{OutOfMemory};
 
-    ghost from_gives = { λ e error. error ≡ Account e };
+    ghost from_gives = { λ _ error. error ≡ OutOfMemory };
 
-    fn from(error: AccountError) -> FileError {
-        FileError::Account(error)
-    }
-}
-
-impl From<Error> for FileError {
-    ghost use Rattle.argon2_accounts.specs.declared.error.AccountError.TheVariants.{Refused};
-    ghost use Rattle.argon2_store.specs.declared.error.FileError.TheVariants.{Account};
-
-    ghost from_gives = { λ e error. error ≡ Account (Refused e) };
-
-    fn from(error: Error) -> FileError {
-        FileError::Account(AccountError::Refused(error))
+    fn from(_: AllocError) -> FileError {
+        FileError::OutOfMemory
     }
 }
 
@@ -86,7 +94,7 @@ impl From<StoreError> for FileError {
     }
 }
 
-// What a call returns that read an open file.
+// What a call returns that read or changed an open file.
 pub(crate) fn read<X>(done: Result<X, StoreError>) -> Result<X, FileError>
     ensures { result ≡ read_of done }
 {
@@ -98,19 +106,9 @@ pub(crate) fn read<X>(done: Result<X, StoreError>) -> Result<X, FileError>
     }
 }
 
-// What a call returns that wrote to an open file.
-pub(crate) fn written<X: Copy>(done: Result<(), StoreError>, answer: X) -> Result<X, FileError>
-    ensures { result ≡ answered done answer }
-{
-    read(done)?;
-    Ok(answer)
-}
-
 /// Why a file is not opened. The accounts in it are then as they were.
 #[derive(Clone, Copy, Debug)]
 pub enum OpenError {
-    /// The target and the bound make no policy. The file was not looked at.
-    Terms(AccountError),
     /// The system refuses to open or to make the file.
     Path(io::Error),
     /// Another process has the file open.
@@ -136,7 +134,6 @@ impl fmt::Display for OpenError {
 
     fn fmt<W: fmt::Write>(&self, f: &mut fmt::Formatter<W>) -> fmt::Result {
         match self {
-            OpenError::Terms(error) => write!(f, "{error}"),
             OpenError::Path(error) => write!(f, "{error}"),
             OpenError::Busy => f.write_str("the file is in use"),
             OpenError::HotJournal => f.write_str(

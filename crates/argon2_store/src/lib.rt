@@ -1,9 +1,9 @@
 //! Accounts in a file: names with PHC texts, in a SQLite database that survives a crash at any moment.
 //!
 //! ```text
-//! let mut accounts = AccountFile::open(rt, "accounts.db", Wary, Argon2::default(), bound)?;
-//! accounts.register(&mut rng, "ann", password)?;
-//! accounts.login(&mut rng, "ann", password)?;
+//! let mut accounts = AccountFile::open(rt, "accounts.db", Wary)?;
+//! accounts.add("ann", &policy.hash_password(&mut rng, password)?)?;
+//! let text = accounts.text_of("ann")?;
 //! ```
 //!
 //! Once a call has returned `Ok`, the file holds its change, whatever happens to the process or to the
@@ -30,6 +30,6 @@ mod opening;
 mod runs;
 
 pub use account_file::{AccountFile, AccountsAt};
-pub use argon2_rows::View;
+pub use argon2_rows::{StoredText, View};
 pub use error::{FileError, OpenError};
 pub use runs::{account_file_runs, failed_open, next_run};

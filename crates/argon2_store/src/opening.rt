@@ -30,8 +30,10 @@ use sqlite_trees::store::Shape;
 use sqlite_value::keys::Order;
 use sqlite_wal::checksum_of;
 use std::alloc::{AllocFailed, Global};
+use std::fs::OpenOptions;
 use std::hash::{BuildHasher, RandomState};
-use std::io;
+use std::io::{self, ErrorKind};
+use std::os::unix::fs::OpenOptionsExt;
 
 const SQL: &str =
     "CREATE TABLE account (name TEXT NOT NULL PRIMARY KEY, phc TEXT NOT NULL) WITHOUT ROWID";
@@ -198,6 +200,25 @@ pub(crate) fn is_damaged<D: Disk>(log: &mut D) -> io::Result<bool>
     Ok(head[0] == MAGIC && !is_signed(&head))
 }
 
+// Makes an empty file for its owner alone, unless something has its name. The kit's open would make one that all may read.
+fn make(rt: &HostRuntime, path: &str) -> Result<(), OpenError>
+    ensures { IfErr result IsOfPath }
+{
+    match OpenOptions::new()
+        .write(true)
+        .create_new(true)
+        .mode(0o600)
+        .open(rt, path)
+    {
+        Ok(_) => Ok(()),
+        Err(error) => match error.kind() {
+            ErrorKind::AlreadyExists => Ok(()),
+            ErrorKind::OutOfMemory => Err(OpenError::OutOfMemory),
+            _ => Err(OpenError::Path(error)),
+        },
+    }
+}
+
 // Opens the files at a path, or makes them, and draws a seed.
 pub(crate) fn open_path<T: Start>(
     rt: &HostRuntime,
@@ -210,6 +231,7 @@ pub(crate) fn open_path<T: Start>(
     ensures synced { IfOk result (λ it. AreSynced ⟦<FileFrom<T> as Disk>⟧ (it.0.log, it.0.db)) }
     ensures error { IfErr result IsOfPath }
 {
+    make(rt, path)?;
     let files = sqlite_std_file::open(rt, path, start)?;
     let state = RandomState::new(rt)?;
     Ok((files, state.hash_one(&0u8)))

@@ -4,7 +4,6 @@ ghost use Rattle.argon2_store.specs.Opening.{LeavesNames};
 ghost use Rattle.argon2_store.specs.Runs.{EndsRun, NamesAreRun, TextsAreKept};
 
 use crate::account_file::AccountFile;
-use argon2_accounts::account_runs;
 use sqlite_disk::{Disk, Files};
 use sqlite_store::FileStore;
 
@@ -12,7 +11,7 @@ use sqlite_store::FileStore;
 /// left them. One change may be there too: that of the last call that did not find the file closed, if it
 /// had an error of the file or the crash cut it off. It finds the same after any number of opens that
 /// fail, each as [`failed_open`] says. A crash during an open counts as one that fails there.
-pub fn next_run<D: Disk>(file: &AccountFile<'_, FileStore<D>>)
+pub fn next_run<D: Disk>(file: &AccountFile<FileStore<D>>)
     ensures { EndsRun file.now }
 {}
 
@@ -23,14 +22,13 @@ pub fn failed_open<D: Disk>(old: &Files<D>, new: &Files<D>)
     ensures { LeavesNames D.Disk (old.now.log, old.now.db) (new.now.log, new.now.db) }
 {}
 
-/// After any list of runs under one target and bound, each of which opens what the one before it left,
-/// perhaps after opens that failed: an open finds what the calls of all runs, in their order, made of the
-/// names that the first run found. If it found none, each name has what the last of its accepted calls
-/// gave it: the added text, a text that accepts the password, or none. In each run the last call that did
-/// not find the file closed may count as accepted, if it had an error of the file or a crash cut it off.
+/// After any list of runs, each of which opens what the one before it left, perhaps after opens that
+/// failed: an open finds what the calls of all runs, in their order, made of the names that the first run
+/// found. If it found none, each name has the text that the accepted calls on it left, one after the other:
+/// the added one, the one that was set or put in another's place, with or without a `!`, or none. In each
+/// run the last call that did not find the file closed may count as accepted, if it had an error of the
+/// file or a crash cut it off.
 pub fn account_file_runs()
     ensures events { NamesAreRun }
     ensures texts { TextsAreKept }
-{
-    account_runs();
-}
+{}

@@ -1,4 +1,4 @@
-use Rattle.argon2_store.proofs.Imports.{arith, inl, refl, subst, subst₂, sym, halves, no_doubt, settled_at, over_file, view, FoundIn}
+use Rattle.argon2_store.proofs.Imports.{arith, inl, subst, subst₂, sym, halves, no_doubt, settled_at, over_file, view, FoundIn}
 use Rattle.argon2_store.proofs.NextOpenLemmas.{found_once}
 use Rattle.argon2_store.proofs.OpenLemmas.{is_honest, seen_same, unharmed_by_reads, unharmed_then}
 use Rattle.argon2_rows.proofs.TableLemmas.{leaves_kept}
@@ -10,12 +10,10 @@ invariant_of-result g c =
     let found = c.in-Ok-true-load.ensures.found c.in-Ok-true-load.field-0-test in record { kept = ∣ (found.0, found.2) ∣₁ }
 
 pub returns-in-Ok-true-load-clause-ready : goal.returns-in-Ok-true-load-clause-ready
-returns-in-Ok-true-load-clause-ready g c sound =
+returns-in-Ok-true-load-clause-ready g c =
     let (names, lines, has, rows) = c.in-Ok-true-load.ensures.found c.in-Ok-true-load.field-0-test in (
       names,
       record {
-        sound = sound;
-        under = refl;
         has = has;
         is_open = c.in-Ok-true-load.ensures.«open»;
         left = λ clean. leaves_kept (over_file {g = g.D.Disk}) c.load.new.store names

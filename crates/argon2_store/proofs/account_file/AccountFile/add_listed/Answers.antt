@@ -16,16 +16,16 @@ written g c before has =
       changes_of g.met.S.Store.settled c.requires c.in-Ok.done c.finish.result has fine written c.finish.ensures,
     )
 
-pub returns-in-Ok-clause-all : goal.returns-in-Ok-clause-all
-returns-in-Ok-clause-all g c = written g (goal.at.returns-in-Ok-clause-all g c).After-finish
+pub returns-in-Ok : goal.returns-in-Ok
+returns-in-Ok g c = written g (goal.at.returns-in-Ok g c).After-finish
 
 pub invariant_of-self : goal.invariant_of-self
 invariant_of-self g c = record {
   kept = ∥∥₁_map c.args.self.now.kept (λ it. has_either c.finish.result (written g c it.0 it.1).3);
 }
 
-pub returns-in-Err-clause-all : goal.returns-in-Err-clause-all
-returns-in-Err-clause-all g c before has =
+pub returns-in-Err : goal.returns-in-Err
+returns-in-Err g c before has =
     let (after, good, wrote, why) = c.in-Err.ensures before has.0 (λ clean unbroken. has.1.seen clean (c.requires clean)) in (
       taken_back g.met.S.Store.settled c.requires has wrote (c.undo.ensures.kept before) c.undo.ensures.quiet,
       λ clean. why (omega (arith, clean, c.undo.ensures.quiet.clean)),

@@ -1,33 +1,35 @@
-use Rattle.argon2_store.proofs.Imports.{err_is, arith, ◌∙◌, Some, refl, sym, string_bytes, text_of, replacing, TextChanged, Refused, is_other_text, is_text}
-use Rattle.argon2_store.proofs.FileLemmas.{cannot_serve, refuses, writes}
+use Rattle.argon2_store.proofs.Imports.{arith, ◌≡◌, ◌∙◌, Some, refl, sym, string_bytes, text_of, replacing, Changed, Locked, NameUnknown, is_locked, false}
+use Rattle.argon2_rows.proofs.TableLemmas.{err_is}
+use Rattle.argon2_store.proofs.FileLemmas.{cannot_serve, is_changed, is_same, is_shut, locked_if, refuses, writes}
 use Rattle.argon2_store.proofs.account_file.AccountFile.replace.Goals as goal
 
 pub returns-in_err-text : goal.returns-in_err-text
 returns-in_err-text g c = search (arith, cannot_serve, err_is _ _ c.from_residual.ensures.1, c.in_err-text.ensures.reads)
 
 pub returns-in_default : goal.returns-in_default
-returns-in_default g c = search (arith, refuses, c.in_ok-text.ensures.reads, c.in_ok-text.ensures.shows)
+returns-in_default g c =
+    refuses (replacing c.args.name.now c.args.old.now (text_of c.args.new.now)) c.in_ok-text.ensures.reads c.in_default.is c.in_ok-text.ensures.shows NameUnknown _ refl refl refl
+
+pub returns-then-is_some : goal.returns-then-is_some
+returns-then-is_some g c =
+    refuses (replacing c.args.name.now c.args.old.now (text_of c.args.new.now)) c.in_ok-text.ensures.reads c.in-Some.is c.in_ok-text.ensures.shows Locked _ refl refl
+    (is_shut c.args.name.now c.args.old.now (text_of c.args.new.now) (string_bytes c.in-Some.text)
+    (rw c.as_str.ensures.value at (locked_if c.behind_lock.result c.as_str.result.now c.behind_lock.ensures
+    (sym c.is_some.ensures ∙ c.if-is_some.true))))
 
 pub returns-then-ne : goal.returns-then-ne
 returns-then-ne g c =
-    let differs = rw c.as_str.ensures.value at (sym c.if-ne.true ∙ c.ne.ensures) in
-    refuses (replacing c.args.name.now c.args.old.now c.args.new.now) c.in_ok-text.ensures.reads c.in-Some.is TextChanged
-    c.in_ok-text.ensures.shows _ c.into-then-ne.ensures
-    (is_other_text (string_bytes c.in-Some.text) c.args.old.now differs, refl)
-
-pub returns-in_err-fresh : goal.returns-in_err-fresh
-returns-in_err-fresh g c =
-    let same = rw c.as_str.ensures.value at (sym c.if-ne.false ∙ c.ne.ensures) in
-    let is = is_text (string_bytes c.in-Some.text) c.args.old.now same in
-    refuses (replacing c.args.name.now c.args.old.now c.args.new.now) c.in_ok-text.ensures.reads c.in-Some.is
-    (Refused c.in_err-fresh.field-0.0) c.in_ok-text.ensures.shows _ c.from_residual-in_err-fresh.ensures.1
-    ((is, c.in_err-fresh.ensures.invalid, λ spelt. c.in_err-fresh.ensures.only spelt.0 spelt.1), refl)
+    refuses (replacing c.args.name.now c.args.old.now (text_of c.args.new.now)) c.in_ok-text.ensures.reads c.in-Some.is c.in_ok-text.ensures.shows Changed _ refl refl
+    (is_changed c.args.name.now c.args.old.now (text_of c.args.new.now) (string_bytes c.in-Some.text)
+    (rw c.as_str.ensures.value at (locked_if c.behind_lock.result c.as_str.result.now c.behind_lock.ensures
+    (sym c.is_some.ensures ∙ c.if-is_some.false))) (rw c.as_str-2.ensures.value at (sym c.if-ne.true ∙ c.ne.ensures)))
 
 pub returns : goal.returns
 returns g c =
-    let same = rw c.as_str.ensures.value at (sym c.if-ne.false ∙ c.ne.ensures) in
-    let is = is_text (string_bytes c.in-Some.text) c.args.old.now same in
-    let says = c.in_ok-fresh.ensures.found in
-    writes (replacing c.args.name.now c.args.old.now c.args.new.now) c.in_ok-text.ensures.reads c.in-Some.is
-    _ (Some (text_of c.in_ok-fresh.fresh)) tt c.change-done.ensures.terms c.in_ok-text.ensures.shows
-    (is, (_, says), sym says.1) _ c.change-done.ensures.change _ c.written.ensures
+    let text = text_of c.args.new.now in
+    let row : c.as_str-4.result.now ≡ text = c.as_str-4.ensures.value ∙ c.text.ensures.1 in
+    let bare : is_locked (string_bytes c.in-Some.text) ≡ false = rw c.as_str.ensures.value at
+    (locked_if c.behind_lock.result c.as_str.result.now c.behind_lock.ensures (sym c.is_some.ensures ∙ c.if-is_some.false)) in
+    writes (replacing c.args.name.now c.args.old.now (text_of c.args.new.now)) c.in_ok-text.ensures.reads c.in-Some.is c.in_ok-text.ensures.shows _ (Some text)
+    (is_same c.args.name.now c.args.old.now text (string_bytes c.in-Some.text) bare (rw c.as_str-2.ensures.value at (sym c.if-ne.false ∙ c.ne.ensures))) refl _
+    (rw row at c.replace_row.ensures) (λ long. long) _ c.read.ensures

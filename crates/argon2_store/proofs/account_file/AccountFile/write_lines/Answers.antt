@@ -1,4 +1,4 @@
-use Rattle.argon2_store.proofs.Imports.{arith, refl}
+use Rattle.argon2_store.proofs.Imports.{arith}
 use Rattle.argon2_store.proofs.FileLemmas.{is_open, reads_of}
 use Rattle.argon2_rows.proofs.TableLemmas.{reads_keep, shape_of, some_kept}
 use Rattle.argon2_store.proofs.account_file.AccountFile.write_lines.Goals as goal
@@ -15,7 +15,7 @@ invariant_of-self g c = record {
 
 pub returns-clause-reads : goal.returns-clause-reads
 returns-clause-reads g c names has =
-    reads_of g.met.S.Store.settled c.args.self.now c.is_closed.ensures c.if-is_closed.false _ refl
+    reads_of g.met.S.Store.settled c.args.self.now c.is_closed.ensures c.if-is_closed.false _
     c.write_rows-done.result names has
     (reads_keep g.met.S.Store.settled (is_open g.met.S.Store.settled c.args.self.now c.is_closed.ensures c.if-is_closed.false) _
     g.met.S.Store.broken_if_shut has (c.write_rows-done.ensures.reads names) c.undo_failed.ensures) _ c.read.ensures

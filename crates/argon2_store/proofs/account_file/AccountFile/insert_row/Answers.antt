@@ -1,0 +1,22 @@
+use Rattle.argon2_store.proofs.Imports.{Some, ∥∥₁_map, Texts, HasNames, Changes, IsLong, changed}
+use Rattle.argon2_rows.proofs.RowLemmas.{texts_changed}
+use Rattle.argon2_rows.proofs.TableLemmas.{changes_of, has_either}
+use Rattle.argon2_store.proofs.account_file.AccountFile.insert_row.Goals as goal
+use Rattle.argon2_store.proofs.account_file.AccountFile.insert_row.Goals.{After-finish}
+
+-- the row is committed, or taken back
+written : (g : _) (c : After-finish g) (before : Texts) → HasNames g.S.Store c.args.self.now.store before
+    → Changes g.S.Store c.args.self.now.store c.finish.new.store before
+    (changed before c.args.name.now (Some c.args.text.now)) (IsLong (c.args.name.now, c.args.text.now)) c.finish.result
+written g c before has =
+    changes_of g.met.S.Store.settled c.requires.open c.insert-done.result c.finish.result has
+    (texts_changed before c.args.name.now (Some c.args.text.now) has.0 c.utf8.name c.utf8.text)
+    (c.insert-done.ensures.writes before (c.requires.known before has)) c.finish.ensures
+
+pub returns : goal.returns
+returns g c = written g (goal.at.returns g c).After-finish
+
+pub invariant_of-self : goal.invariant_of-self
+invariant_of-self g c = record {
+  kept = ∥∥₁_map c.args.self.now.kept (λ it. has_either c.finish.result (written g c it.0 it.1));
+}

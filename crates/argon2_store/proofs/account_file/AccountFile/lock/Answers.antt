@@ -1,0 +1,32 @@
+use Rattle.argon2_store.proofs.Imports.{arith, ◌≡◌, ◌∙◌, Some, OutOfMemory, refl, sym, string_bytes, locking, NameUnknown, is_locked, false, ◌∷◌, ap}
+use Rattle.argon2_rows.proofs.TableLemmas.{err_is}
+use Rattle.argon2_store.proofs.FileLemmas.{cannot_serve, fails_after, locked_if, refuses, accepts, with_lock-bare, with_lock-locked, writes}
+use Rattle.argon2_store.proofs.account_file.AccountFile.lock.Goals as goal
+
+pub returns-in_err-text : goal.returns-in_err-text
+returns-in_err-text g c = search (arith, cannot_serve, err_is _ _ c.from_residual.ensures.1, c.in_err-text.ensures.reads)
+
+pub returns-in_default : goal.returns-in_default
+returns-in_default g c =
+    refuses (locking c.args.name.now) c.in_ok-text.ensures.reads c.in_default.is c.in_ok-text.ensures.shows NameUnknown _ refl refl refl
+
+pub returns-then-is_some : goal.returns-then-is_some
+returns-then-is_some g c =
+    accepts (locking c.args.name.now) c.in_ok-text.ensures.reads c.in-Some.is c.in_ok-text.ensures.shows refl
+    (with_lock-locked (string_bytes c.in-Some.text) (rw c.as_str.ensures.value at (locked_if c.behind_lock.result c.as_str.result.now
+    c.behind_lock.ensures (sym c.is_some.ensures ∙ c.if-is_some.true))))
+
+pub returns-in_err-locked : goal.returns-in_err-locked
+returns-in_err-locked g c =
+    fails_after (locking c.args.name.now) c.in_ok-text.ensures.reads c.in-Some.is c.in_ok-text.ensures.shows _
+    (err_is _ OutOfMemory c.from_residual-in_err-locked.ensures.1)
+
+pub returns : goal.returns
+returns g c =
+    let text = string_bytes c.in-Some.text in
+    let row : c.as_str-4.result.now ≡ 33 ∷ text = c.as_str-4.ensures.value ∙ c.in_ok-locked.ensures
+    ∙ ap (λ l. 33 ∷ l) c.as_str-2.ensures.value in
+    let bare : is_locked text ≡ false = rw c.as_str.ensures.value at (locked_if c.behind_lock.result c.as_str.result.now c.behind_lock.ensures
+    (sym c.is_some.ensures ∙ c.if-is_some.false)) in
+    writes (locking c.args.name.now) c.in_ok-text.ensures.reads c.in-Some.is c.in_ok-text.ensures.shows _ (Some (33 ∷ text)) refl
+    (with_lock-bare text bare) _ (rw row at c.replace_row.ensures) (λ long. long) _ c.read.ensures

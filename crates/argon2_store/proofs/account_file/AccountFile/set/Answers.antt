@@ -1,0 +1,19 @@
+use Rattle.argon2_store.proofs.Imports.{arith, ◌≡◌, ◌∙◌, Some, refl, text_of, setting, NameUnknown}
+use Rattle.argon2_rows.proofs.TableLemmas.{err_is}
+use Rattle.argon2_store.proofs.FileLemmas.{cannot_serve, refuses, writes}
+use Rattle.argon2_store.proofs.account_file.AccountFile.set.Goals as goal
+
+pub returns-in_err-old : goal.returns-in_err-old
+returns-in_err-old g c = search (arith, cannot_serve, err_is _ _ c.from_residual.ensures.1, c.in_err-old.ensures.reads)
+
+pub returns-in_default : goal.returns-in_default
+returns-in_default g c =
+    refuses (setting c.args.name.now (text_of c.args.text.now)) c.in_ok-old.ensures.reads c.in_default.is
+    c.in_ok-old.ensures.shows NameUnknown _ refl refl refl
+
+pub returns : goal.returns
+returns g c =
+    let text = text_of c.args.text.now in
+    let row : c.as_str-2.result.now ≡ text = c.as_str-2.ensures.value ∙ c.text.ensures.1 in
+    writes (setting c.args.name.now text) c.in_ok-old.ensures.reads c.in-Some.is c.in_ok-old.ensures.shows _ (Some text) refl
+    refl _ (rw row at c.replace_row.ensures) (λ long. long) _ c.read.ensures

@@ -1,0 +1,91 @@
+-- What calls make of names with their texts.
+use Rattle.std.specs.Prelude.{◌∷◌, ℕ, if◌then◌else◌, List, [], Option, Some, None, IsSomeAnd, Result, Ok, Err, map}
+use Rattle.std.specs.FinMap.{get}
+use Rattle.std.specs.Option.{option_map}
+use Rattle.std.specs.Str.{bytes_eq}
+use Rattle.argon2_base.specs.PhcFields.{phc_of}
+use Rattle.argon2_base.specs.PhcText.{phc_text}
+use Rattle.argon2_base.specs.declared.phc.hash.PasswordHash.{PasswordHash}
+use Rattle.argon2_rows.specs.Locks.{is_locked, without_lock}
+use Rattle.argon2_rows.specs.Names.{Texts, changed}
+use Rattle.argon2_rows.specs.Table.{IsLong}
+use Rattle.argon2_store.specs.declared.error.FileError.{FileError}
+use Rattle.argon2_store.specs.declared.error.FileError.TheVariants.{NameTaken, NameUnknown, Changed, Locked}
+
+-- a change of the text of one name
+pub data Edit : Type 0 where
+  adding : List ℕ → List ℕ → Edit
+  setting : List ℕ → List ℕ → Edit
+  replacing : List ℕ → List ℕ → List ℕ → Edit
+  removing : List ℕ → Edit
+  locking : List ℕ → Edit
+  unlocking : List ℕ → Edit
+
+abbrev pub name_of : Edit → List ℕ
+name_of (adding name text) = name
+name_of (setting name text) = name
+name_of (replacing name old new) = name
+name_of (removing name) = name
+name_of (locking name) = name
+name_of (unlocking name) = name
+
+-- the text of a value
+abbrev pub text_of : PasswordHash → List ℕ
+text_of hash = phc_text (phc_of hash)
+
+-- the text behind `!`, where it stays if it is there already
+abbrev pub with_lock : List ℕ → List ℕ
+with_lock text = if is_locked text then text else 33 ∷ text
+
+-- why an edit is refused whose name has this text or none
+abbrev pub refusal : Edit → Option (List ℕ) → Option FileError
+refusal (adding name text) None = None
+refusal (adding name text) (Some old) = Some NameTaken
+refusal (replacing name old new) (Some text) =
+    if is_locked text then Some Locked else if bytes_eq text old then None else Some Changed
+refusal _ (Some text) = None
+refusal _ None = Some NameUnknown
+
+-- what the name has after it
+abbrev pub gives : Edit → Option (List ℕ) → Option (List ℕ)
+gives (adding name text) before = Some text
+gives (setting name text) before = Some text
+gives (replacing name old new) before = Some new
+gives (removing name) before = None
+gives (locking name) before = option_map with_lock before
+gives (unlocking name) before = option_map without_lock before
+
+-- ---- edits that are made together
+
+abbrev pub unless : Option FileError → Texts → Result Texts FileError
+unless None names = Ok names
+unless (Some why) names = Err why
+
+-- the names after an edit, or why it is refused
+abbrev pub edited : Edit → Texts → Result Texts FileError
+edited edit names = unless (refusal edit (get names (name_of edit)))
+    (changed names (name_of edit) (gives edit (get names (name_of edit))))
+
+abbrev pub and_then : Result Texts FileError → (Texts → Result Texts FileError) → Result Texts FileError
+and_then (Ok names) next = next names
+and_then (Err why) next = Err why
+
+-- the names after all of these edits, or why the first of them is refused that is
+abbrev pub made : List Edit → Texts → Result Texts FileError
+made [] names = Ok names
+made (edit ∷ edits) names = and_then (edited edit names) (made edits)
+
+-- the text that the edit was to leave is too long
+abbrev pub IsTooLong : Texts → Edit → Type 0
+IsTooLong before edit = IsSomeAnd (gives edit (get before (name_of edit))) (λ text. IsLong (name_of edit, text))
+
+-- the edits that add names with their texts
+abbrev pub additions : List (List ℕ × List ℕ) → List Edit
+additions es = map (λ e. adding e.0 e.1) es
+
+-- ---- the text of one name
+
+-- what edits leave of the text of this name, the first one first
+abbrev pub left_by : List ℕ → List Edit → Option (List ℕ) → Option (List ℕ)
+left_by name [] text = text
+left_by name (edit ∷ edits) text = left_by name edits (if bytes_eq name (name_of edit) then gives edit text else text)
