@@ -5,7 +5,6 @@
 //! - [`vault`]: a key from a passphrase.
 //! - [`arena`]: many hashes on the same memory.
 //! - [`scheduler`]: the steps of a hash in another order.
-//! - [`secret`]: a text under an old secret, made anew under the new one.
 //! - [`digest`]: BLAKE2b of a message in pieces.
 #![tactic(auto)]
 
@@ -14,5 +13,4 @@ pub mod digest;
 pub mod login;
 pub mod passwords;
 pub mod scheduler;
-pub mod secret;
 pub mod vault;

@@ -1,3 +1,0 @@
-pub mod AccountLemmas
-pub mod TextLemmas
-pub mod TreeLemmas

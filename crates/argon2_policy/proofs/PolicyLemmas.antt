@@ -1,0 +1,143 @@
+-- What passwords make of a value: within a bound, accepted, no weaker than a target.
+use Rattle.std.proofs.Common.{◌≡◌, ℕ, ◌*◌, ◌≤◌, Bool, if◌then◌else◌, length, List, Option, Some, None, Result, Ok, Err, ◌⊎◌, inl, inr, ap, arith, div-mul-le_self}
+use Rattle.std.proofs.lemmas.Bool.Decides.{nat_tests}
+use Rattle.std.specs.Prelude.{◌≢◌, IsSomeAnd, ok_or}
+use Rattle.argon2_base.specs.Error.{Fault, bad_algorithm, bad_password, bad_version, fault_of}
+use Rattle.argon2_base.specs.PhcFields.{phc_of}
+use Rattle.argon2_base.specs.PhcText.{Phc}
+use Rattle.argon2_base.specs.declared.phc.hash.PasswordHash.{PasswordHash}
+use Rattle.argon2_base.specs.declared.error.password_hash.Error.{Error}
+use Rattle.argon2_base.specs.declared.error.password_hash.Error.TheVariants.{OutOfMemory, PasswordInvalid}
+use Rattle.argon2.specs.declared.algorithm.Algorithm.{Algorithm}
+use Rattle.argon2.specs.declared.bound.Bound.{Bound}
+use Rattle.argon2.specs.declared.bound.BoundError.{BoundError}
+use Rattle.argon2.specs.declared.bound.BoundError.TheVariants.{Refused, TooExpensive}
+use Rattle.argon2.specs.declared.version.Version.{Version}
+use Rattle.argon2.specs.Bound.{AsksWithin, HashRefusal, IsWithin}
+use Rattle.argon2.specs.Made.{IsFresh, IsHashAnswer, Target, hashed}
+use Rattle.argon2.specs.Refusals.{max_len}
+use Rattle.argon2.specs.Rfc9106.{segment_length_for}
+use Rattle.argon2.specs.Settings.{Parameters, Settings}
+use Rattle.argon2.specs.Stored.{AcceptsBy, IsVerifyAnswer, Stored, is_tag, read, shown_settings, stored_of}
+use Rattle.argon2.proofs.login_lemmas.LoginLemmas.{hash_made}
+use Rattle.argon2.proofs.password_hash_lemmas.MadeValues.{made_accepts, made_shows}
+use Rattle.argon2.proofs.password_hash_lemmas.Verified.{exact}
+use Rattle.argon2_policy.specs.Policy.{Admits, Denial, IsPolicy, Policy, SecretsRefusal}
+
+-- ---- the bound
+
+filled_within : (m p most : ℕ) → m ≤ most → 1024 * (p * (4 * segment_length_for m p)) ≤ 1024 * most
+unfolding segment_length_for
+filled_within m p most within = let least = div-mul-le_self m (4 * p) in grind arith
+
+shown_parameters : (r : Result Parameters Fault) (algorithm : Option Algorithm) (version : Option Version)
+    (settings : Settings) → read r (λ parameters. read (ok_or algorithm bad_algorithm) (λ own.
+    read (ok_or version bad_version) (λ number.
+    Ok (record { algorithm = own; version = number; parameters = parameters })))) ≡ Ok settings
+    → r ≡ Ok settings.parameters
+shown_parameters r algorithm version settings is = grind arith
+
+-- a value that shows costs within the bound
+asks_within : (bound : Bound) (v : Phc) (settings : Settings) → shown_settings v ≡ Ok settings
+    → IsWithin bound settings.parameters → AsksWithin bound v
+asks_within bound v settings shows within = record {
+  parameters = settings.parameters;
+  asked = shown_parameters _ _ _ settings shows;
+  within = within;
+  memory = filled_within settings.parameters.m_cost settings.parameters.p_cost bound.m_cost within.0;
+}
+
+-- a value that is not admitted asks for more, or for nothing that can be read
+refused_asks : (bound : Bound) (v : Phc) (e : BoundError) → HashRefusal bound v e → ¬ (AsksWithin bound v)
+refused_asks bound v TooExpensive why asks = let a = asks.asked in let w = asks.within in grind arith
+refused_asks bound v (Refused e) why asks = let a = asks.asked in absurd cc
+
+-- ---- fresh values
+
+short : (target : Target) (password salt : List ℕ) (v : Phc) → Ok v ≡ hashed target password salt → length password ≤ max_len
+short target password salt v is = grind (arith, nat_tests)
+
+-- a hash that was answered is a fresh one
+pub is_fresh : (target : Target) (password drawn : List ℕ) (h : PasswordHash) → IsHashAnswer target password drawn (Ok h)
+    → IsFresh target password drawn (phc_of h)
+is_fresh target password drawn h (inl is) =
+    let same = hash_made target password drawn h (inl is) in
+    ((rw same at h.grammatical).salt, short target password drawn (phc_of h) is, same)
+is_fresh target password drawn h (inr memory) = let no_memory_of = memory.0 in absurd cc
+
+module _ (policy : Policy) (is : IsPolicy policy) (password drawn : List ℕ) where
+  pub fresh_admits : (w : Phc) → IsFresh policy.target password drawn w → Admits policy password w
+  fresh_admits w fresh = (
+    asks_within policy.bound w _ (made_shows policy.target is.is_target password drawn w fresh.2) is.within,
+    inl (rw fresh.2 (made_accepts policy.target is.is_target password drawn fresh.1)),
+  )
+
+-- ---- values that are accepted, and those that are not
+
+-- a password that verifying calls a wrong one is not accepted
+pub wrong : (secret password : List ℕ) (v : Phc) → IsVerifyAnswer secret password v (Err PasswordInvalid)
+    → ¬ (AcceptsBy secret password v)
+wrong secret password v answer = elim (exact secret password v (Err PasswordInvalid) answer) [
+  | inl memory ↦ absurd cc
+  | inr never ↦ never
+]
+
+-- what a value comes to by such a test of its hash
+abbrev judged : (Stored → Bool) → Result Stored Fault → Result (Unit {0}) Fault
+judged is_right r = read r (λ stored. if is_right stored then Ok tt else Err bad_password)
+
+-- what is wrong with the value itself is wrong under any secret
+same_fault : (one other : Stored → Bool) (r : Result Stored Fault) (e : Error) → e ≢ PasswordInvalid
+    → Err (fault_of e) ≡ judged one r → Err (fault_of e) ≡ judged other r
+same_fault one other r e differs is = grind arith
+
+under_any : (secret other password : List ℕ) (v : Phc) (e : Error) → e ≢ PasswordInvalid
+    → IsVerifyAnswer secret password v (Err e) → IsVerifyAnswer other password v (Err e)
+under_any secret other password v e differs (inl is) =
+    inl (same_fault (is_tag secret password) (is_tag other password) (stored_of v) e differs is)
+under_any secret other password v e differs (inr memory) = inr memory
+
+not_by : (secret password : List ℕ) (v : Phc) (e : Error) → IsVerifyAnswer secret password v (Err e)
+    → (e ≡ OutOfMemory) ⊎ ¬ (AcceptsBy secret password v)
+not_by secret password v e answer = exact secret password v (Err e) answer
+
+neither : {M A B C : Type 0} → M ⊎ ¬ A → M ⊎ ¬ C → M ⊎ ¬ (A ⊎ (B × C))
+neither a c = grind arith
+
+module _ (policy : Policy) (password : List ℕ) (v : Phc) where
+  any_old : (o : Option (List ℕ)) (e : Error) → ((secret : List ℕ) → IsVerifyAnswer secret password v (Err e))
+      → (e ≡ OutOfMemory) ⊎ ¬ (IsSomeAnd o (λ secret. AcceptsBy secret password v))
+  any_old None e answer = inr (λ absent. absent)
+  any_old (Some secret) e answer = not_by secret password v e (answer secret)
+
+  this_old : (o : Option (List ℕ)) (e : Error) → IsSomeAnd o (λ secret. IsVerifyAnswer secret password v (Err e))
+      → (e ≡ OutOfMemory) ⊎ ¬ (IsSomeAnd o (λ secret. AcceptsBy secret password v))
+  this_old None e answer = absurd answer
+  this_old (Some secret) e answer = not_by secret password v e answer
+
+  no_old : (o : Option (List ℕ)) → o ≡ None → ¬ (IsSomeAnd o (λ secret. AcceptsBy secret password v))
+  no_old None none absent = absent
+  no_old (Some secret) none accepts = absurd cc
+
+  not_by_target : (e : Error) → SecretsRefusal policy password v e
+      → (e ≡ OutOfMemory) ⊎ ¬ (AcceptsBy policy.target.secret password v)
+  not_by_target e (inl why) = not_by policy.target.secret password v e why.0
+  not_by_target e (inr why) = inr (wrong policy.target.secret password v why.0)
+
+  not_by_either : (e : Error) → SecretsRefusal policy password v e
+      → (e ≡ OutOfMemory) ⊎ ¬ (IsSomeAnd policy.old_secret (λ secret. AcceptsBy secret password v))
+  not_by_either e (inl why) = elim why.1 [
+    | inl differs ↦ any_old policy.old_secret e
+        (λ secret. under_any policy.target.secret secret password v e differs why.0)
+    | inr none ↦ inr (no_old policy.old_secret none)
+  ]
+  not_by_either e (inr why) = this_old policy.old_secret e why.1
+
+  -- a refusal other than of memory says that the password is not accepted within the bound
+  pub denied : (e : BoundError) → Denial policy password v e → (e ≡ Refused OutOfMemory) ⊎ ¬ (Admits policy password v)
+  denied TooExpensive why = inr (λ admits. refused_asks policy.bound v TooExpensive why admits.0)
+  denied (Refused e) (inl why) = inr (λ admits. refused_asks policy.bound v (Refused e) why admits.0)
+  denied (Refused e) (inr why) = elim (neither (not_by_target e why.1) (not_by_either e why.1)) [
+    | inl memory ↦ inl (ap Refused memory)
+    | inr never ↦ inr (λ admits. never admits.1)
+  ]

@@ -1,0 +1,123 @@
+-- What callers see of a policy, and what its calls make of what a text says.
+use Rattle.std.specs.Prelude.{◌≡◌, ◌≢◌, ◌⊎◌, ℕ, ◌≤◌, ◌<◌, List, Option, None, IsErrAnd, IsSomeAnd, Result, Ok, Err}
+use Rattle.std.specs.Option.{option_map}
+use Rattle.rand_core.specs.Stream.{Stream, fill_bytes}
+use Rattle.argon2_base.specs.PhcText.{Phc}
+use Rattle.argon2_base.specs.declared.error.password_hash.Error.{Error}
+use Rattle.argon2_base.specs.declared.error.password_hash.Error.TheVariants.{OutputSize, PasswordInvalid}
+use Rattle.argon2.specs.Argon2.{secret_of}
+use Rattle.argon2.specs.Bound.{AsksWithin, HashRefusal, IsWithin}
+use Rattle.argon2.specs.Made.{HashingRefusal, IsFresh, IsTarget, Target, tag_length, target_of}
+use Rattle.argon2.specs.Settings.{Settings}
+use Rattle.argon2.specs.Stored.{AcceptsBy, IsVerifyAnswer, shown_settings}
+use Rattle.argon2.specs.declared.bound.Bound.{Bound}
+use Rattle.argon2.specs.declared.bound.BoundError.{BoundError}
+use Rattle.argon2.specs.declared.bound.BoundError.TheVariants.{Refused, TooExpensive}
+use Rattle.argon2.specs.declared.login.answers.Accepted.{Accepted}
+use Rattle.argon2.specs.declared.login.answers.Accepted.TheVariants.{Current, Kept, Rehashed}
+use Rattle.argon2_policy.specs.declared.policy.Policy.{Policy as OwnPolicy}
+
+-- what passwords are hashed and verified under: a target, a secret that was in use before, if one is given, and a bound
+pub record Policy : Type 0 where
+  pub target : Target
+  pub old_secret : Option (List ℕ)
+  pub bound : Bound
+
+-- hashes fit into texts, and the target asks for no more than the bound
+pub record IsPolicy (policy : Policy) : Type 0 where
+  pub is_target : IsTarget policy.target
+  pub within : IsWithin policy.bound policy.target.settings.parameters
+
+-- what a contract sees of the code's policy
+abbrev pub policy_value : OwnPolicy → Policy
+policy_value own =
+    record { target = target_of own.target; old_secret = option_map secret_of own.old; bound = own.bound }
+
+-- why there is no policy of a target and a bound
+abbrev pub PolicyRefusal : Target → Bound → BoundError → Type 0
+PolicyRefusal target bound (Refused e) = (e ≡ OutputSize) × (64 < tag_length target.settings)
+PolicyRefusal target bound TooExpensive =
+    (tag_length target.settings ≤ 64) × ¬ (IsWithin bound target.settings.parameters)
+
+-- a policy of a target and a bound without an old secret, or the refusal
+abbrev pub IsNewPolicy : Target → Bound → Result OwnPolicy BoundError → Type 0
+IsNewPolicy target bound (Ok own) = IsPolicy (policy_value own)
+    × (policy_value own ≡ record { target = target; old_secret = None; bound = bound })
+IsNewPolicy target bound (Err e) = PolicyRefusal target bound e
+
+-- ---- whether a text may stay
+
+-- settings that differ from a target's at most by higher costs and a longer hash
+pub record AreNoWeaker (target shown : Settings) : Type 0 where
+  pub algorithm : shown.algorithm ≡ target.algorithm
+  pub version : shown.version ≡ target.version
+  pub m_cost : target.parameters.m_cost ≤ shown.parameters.m_cost
+  pub t_cost : target.parameters.t_cost ≤ shown.parameters.t_cost
+  pub p_cost : target.parameters.p_cost ≤ shown.parameters.p_cost
+  pub length : tag_length target ≤ tag_length shown
+  pub keyid : shown.parameters.keyid ≡ target.parameters.keyid
+  pub associated : shown.parameters.associated ≡ target.parameters.associated
+
+-- the value shows such settings
+abbrev pub IsNoWeaker : Target → Phc → Type 0
+IsNoWeaker target v = (shown : Settings) × (shown_settings v ≡ Ok shown) × AreNoWeaker target.settings shown
+
+-- ---- whether a password is accepted
+
+-- the old secret accepts, and the target's does not
+abbrev pub AcceptsByOld : Policy → List ℕ → Phc → Type 0
+AcceptsByOld policy password v = ¬ (AcceptsBy policy.target.secret password v)
+    × IsSomeAnd policy.old_secret (λ secret. AcceptsBy secret password v)
+
+-- the value asks for no more than the bound, and one of the secrets accepts the password
+abbrev pub Admits : Policy → List ℕ → Phc → Type 0
+Admits policy password v = AsksWithin policy.bound v
+    × (AcceptsBy policy.target.secret password v ⊎ AcceptsByOld policy password v)
+
+-- the value accepts the password, but is weaker than the target, or under the old secret
+abbrev pub IsOutdated : Policy → List ℕ → Phc → Type 0
+IsOutdated policy password v =
+    (AcceptsBy policy.target.secret password v × ¬ (IsNoWeaker policy.target v)) ⊎ AcceptsByOld policy password v
+
+-- why no secret accepts: the target's does not, for this reason; if that is a wrong password and there is an old
+-- secret, that does not, for this reason
+abbrev pub SecretsRefusal : Policy → List ℕ → Phc → Error → Type 0
+SecretsRefusal policy password v e = let first = IsVerifyAnswer policy.target.secret password v in
+    (first (Err e) × ((e ≢ PasswordInvalid) ⊎ (policy.old_secret ≡ None)))
+    ⊎ (first (Err PasswordInvalid)
+    × IsSomeAnd policy.old_secret (λ secret. IsVerifyAnswer secret password v (Err e)))
+
+-- why a password is refused: the value's costs can't be read or are above the bound, or no secret accepts
+abbrev pub Denial : Policy → List ℕ → Phc → BoundError → Type 0
+Denial policy password v TooExpensive = HashRefusal policy.bound v TooExpensive
+Denial policy password v (Refused e) = HashRefusal policy.bound v (Refused e)
+    ⊎ (AsksWithin policy.bound v × SecretsRefusal policy password v e)
+
+-- ---- what calls answer, and what they make of a value
+
+-- why no text is made of a password
+abbrev pub MakingRefusal : List ℕ → BoundError → Type 0
+MakingRefusal password TooExpensive = ⊥
+MakingRefusal password (Refused e) = HashingRefusal password e
+
+-- a login
+abbrev pub LogsIn : Policy → List ℕ → List ℕ → Phc → Result Accepted BoundError → Phc → Type 0
+LogsIn policy password drawn v (Ok Current) w = AsksWithin policy.bound v
+    × AcceptsBy policy.target.secret password v × IsNoWeaker policy.target v × (w ≡ v)
+LogsIn policy password drawn v (Ok Rehashed) w =
+    AsksWithin policy.bound v × IsOutdated policy password v × IsFresh policy.target password drawn w
+LogsIn policy password drawn v (Ok Kept) w =
+    AsksWithin policy.bound v × IsOutdated policy password v × (w ≡ v)
+LogsIn policy password drawn v (Err e) w = Denial policy password v e × (w ≡ v)
+
+-- why a password is not changed: the old one is verified first
+abbrev pub ChangeRefusal : Policy → List ℕ → List ℕ → Phc → BoundError → Type 0
+ChangeRefusal policy old password v e =
+    Denial policy old v e ⊎ (Admits policy old v × MakingRefusal password e)
+
+-- what the generator has left after a change: 16 bytes are drawn once the old password is accepted
+abbrev pub DrawsIfAdmitted : {X : Type 0}
+    → Policy → List ℕ → Phc → Result X BoundError → Stream → Stream → Type 0
+DrawsIfAdmitted policy old v answer before after =
+    (Admits policy old v × (after ≡ (fill_bytes 16 before).1))
+    ⊎ (IsErrAnd answer (Denial policy old v) × (after ≡ before))
