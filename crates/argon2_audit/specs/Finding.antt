@@ -4,7 +4,7 @@ use Rattle.std.specs.Char.{is_ascii_digit}
 use Rattle.std.specs.List.{after_first, before_first, list_all, position_or_len}
 use Rattle.std.specs.Io.BufRead.{strip_last}
 use Rattle.std.specs.Str.{IsUtf8}
-use Rattle.argon2_prefixes.specs.Prefixes.{after_any, bare, begins_any}
+use Rattle.argon2_programs.specs.Prefixes.{after_any, bare, begins_any}
 use Rattle.argon2_base.specs.Error.{Fault, bad_encoding, outcome_of}
 use Rattle.argon2_base.specs.PhcText.{Phc, PhcText}
 use Rattle.argon2_base.specs.declared.error.password_hash.Error.{Error}

@@ -4,7 +4,7 @@ ghost use Rattle.std.specs.Prelude.{◌≡◌};
 ghost use Rattle.std.specs.List.{list_all};
 ghost use Rattle.argon2_audit.specs.Finding.{claim_of_text, is_space, trimmed};
 
-use argon2_prefixes::{after_any, begins_any};
+use argon2_programs::{after_any, begins_any};
 
 /// A scheme other than Argon2.
 #[derive(Clone, Copy, PartialEq, Eq, PartialOrd, Ord)]

@@ -5,7 +5,7 @@ ghost use Rattle.std.specs.Option.{option_copied};
 ghost use Rattle.std.specs.List.{list_all, position_or_len};
 ghost use Rattle.argon2_audit.specs.Finding.{field_numbered, has_numbers, is_number, is_werkzeug};
 
-use argon2_prefixes::{after_any, begins_any};
+use argon2_programs::{after_any, begins_any};
 use memchr::memchr;
 
 /// Which of a line's fields is its text.

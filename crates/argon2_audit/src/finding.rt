@@ -7,7 +7,7 @@ use crate::claim::{Claim, claim_of_text, is_blank, trimmed};
 use crate::field::Field;
 use crate::limits::{Entry, Limits, shown};
 use argon2::password_hash::Error;
-use argon2_prefixes::{bare, begins_any};
+use argon2_programs::{bare, begins_any};
 
 /// What is found in a line.
 #[derive(Drop)]

@@ -6,7 +6,7 @@ use crate::limits::{Entry, Limits};
 use crate::session::Session;
 use argon2::Algorithm;
 use argon2::password_hash::Error;
-use argon2_failure::Failure;
+use argon2_programs::Failure;
 use std::fmt::Display;
 use std::io::Write;
 use std::{fmt, io};

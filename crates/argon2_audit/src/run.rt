@@ -1,7 +1,7 @@
 //! The program over any streams.
 
-ghost use Rattle.std.specs.Prelude.{◌≡◌, ◌==◌, ◌⊎◌, ◌∷◌, ◌++◌, [], ℕ, List, IfOk, IfSome, IsFalse, OnOk};
-ghost use Rattle.std.specs.Io.KnownBytes.{Appends, Keeps};
+ghost use Rattle.std.specs.Prelude.{◌≡◌, ◌==◌, ◌⊎◌, IfOk, IfSome, IsFalse};
+ghost use Rattle.std.specs.Io.KnownBytes.{Keeps};
 ghost use Rattle.argon2_audit.specs.Audit.{IsTallied};
 ghost use Rattle.argon2_audit.specs.Object.{IsAudit, IsReport};
 
@@ -10,7 +10,7 @@ use crate::limits::{Form, Options};
 use crate::report::{Lines, Remarks, write_table};
 use crate::session::Session;
 use crate::tally::Tally;
-use argon2_failure::Failure;
+use argon2_programs::{Failure, write_line};
 use std::alloc::Global;
 use std::io;
 use std::io::{ErrorKind, Read, Write};
@@ -101,17 +101,6 @@ fn write_report<R: Read, W: Write, E: Write>(
             Ok(session.tally)
         }
     }
-}
-
-// Writes a text as a line.
-fn write_line<W: Write>(output: &mut W, text: &[u8]) -> Result<(), Failure>
-    ensures { OnOk result (Appends (W.contents output.old) (W.contents output.new)
-        (text.now ++ 10 ∷ [])) }
-{
-    output.write_all(text)?;
-    output.write_all(b"\n")?;
-    output.flush()?;
-    Ok(())
 }
 
 // The session after all that is left in `input`.

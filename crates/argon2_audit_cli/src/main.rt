@@ -2,8 +2,8 @@
 #![tactic(auto)]
 
 use argon2_audit::run::{PROGRAM, run};
-use argon2_commands::{answer, words};
-use argon2_failure::Failure;
+use argon2_commands::answer;
+use argon2_programs::{Failure, words};
 use inputs::Inputs;
 use std::alloc::AllocError;
 use std::io::{BufWriter, IsTerminal};
@@ -17,9 +17,9 @@ fn main(rt: HostRuntime) -> ExitCode {
     let Ok(mut output) = BufWriter::new(rt.alloc(), rt.stdout()) else {
         return ExitCode::from(Failure::Memory(AllocError).report(PROGRAM, "", &mut errors));
     };
-    let words = match words(&rt, PROGRAM) {
+    let words = match words(&rt, PROGRAM, &mut errors) {
         Ok(words) => words,
-        Err(error) => return ExitCode::from(answer(PROGRAM, &error, &mut output, &mut errors)),
+        Err(status) => return ExitCode::from(status),
     };
     let status = match arguments::parsed(rt.alloc(), words.as_slice()) {
         Ok((options, names)) => {

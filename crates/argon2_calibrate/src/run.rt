@@ -10,7 +10,7 @@ use crate::choice::Found;
 use crate::options::Options;
 use crate::search::search;
 use crate::stopwatch::Stopwatch;
-use argon2_failure::Failure;
+use argon2_programs::{Failure, write_line};
 use json::Writer;
 use std::alloc::Global;
 use std::io::Write;
@@ -78,9 +78,7 @@ fn write_json<W: Write>(alloc: Global, output: &mut W, found: Found, p: u32) -> 
     json.boolean(found.busy)?;
     json.end_object()?;
     let text = json.into_inner();
-    output.write_all(text.as_slice())?;
-    output.write_all(b"\n")?;
-    output.flush()?;
+    write_line(output, text.as_slice())?;
     Ok(())
 }
 

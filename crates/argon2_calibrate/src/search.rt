@@ -7,7 +7,7 @@ use crate::choice::{Choice, Found, further, least_passes, passes, scatter};
 use crate::options::Options;
 use crate::run::PROGRAM;
 use crate::stopwatch::Stopwatch;
-use argon2_failure::Failure;
+use argon2_programs::Failure;
 use std::alloc::AllocError;
 use std::io::Write;
 

@@ -7,7 +7,7 @@ ghost use Rattle.argon2.specs.declared.algorithm.Algorithm.TheVariants.{Argon2id
 ghost use Rattle.argon2.specs.declared.version.Version.TheVariants.{V0x13};
 
 use argon2::{Algorithm, Argon2, Params, Version};
-use argon2_failure::Failure;
+use argon2_programs::Failure;
 use std::alloc::Global;
 use std::rt::Clock;
 use std::time::Instant;

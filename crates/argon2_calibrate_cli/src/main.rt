@@ -1,13 +1,10 @@
 //! `argon2-calibrate`: the costs under which a hash takes a given time on this machine.
 #![tactic(auto)]
 
-ghost use Rattle.std.specs.Prelude.{IfOk};
-ghost use Rattle.argon2_calibrate.specs.Choice.{ArePossible};
-
+use argon2_calibrate::Machine;
 use argon2_calibrate::run::{PROGRAM, run};
-use argon2_calibrate::{Machine, Options};
-use argon2_commands::{answer, words};
-use clap::Error;
+use argon2_commands::answer;
+use argon2_programs::words;
 use std::process::ExitCode;
 
 mod arguments;
@@ -15,7 +12,11 @@ mod arguments;
 fn main(rt: HostRuntime) -> ExitCode {
     let (mut output, mut errors) = (rt.stdout(), rt.stderr());
     let alloc = rt.alloc();
-    let status = match asked(&rt) {
+    let words = match words(&rt, PROGRAM, &mut errors) {
+        Ok(words) => words,
+        Err(status) => return ExitCode::from(status),
+    };
+    let status = match arguments::parsed(alloc, words.as_slice()) {
         Ok(options) => {
             let mut machine = Machine::new(alloc, &rt);
             run(alloc, options, &mut machine, &mut output, &mut errors)
@@ -23,12 +24,4 @@ fn main(rt: HostRuntime) -> ExitCode {
         Err(error) => answer(PROGRAM, &error, &mut output, &mut errors),
     };
     ExitCode::from(status)
-}
-
-// What the command line asks for.
-fn asked(rt: &HostRuntime) -> Result<Options, Error>
-    ensures { IfOk result ArePossible }
-{
-    let words = words(rt, PROGRAM)?;
-    arguments::parsed(rt.alloc(), words.as_slice())
 }

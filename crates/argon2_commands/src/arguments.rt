@@ -1,4 +1,4 @@
-//! The words of a command line, and what is answered to those that ask for a page or are wrong.
+//! What is answered to words of a command line that ask for a page or are wrong.
 
 ghost use Rattle.std.specs.Prelude.{◌≡◌, ◌⊎◌};
 ghost use Rattle.std.specs.Io.KnownBytes.{Keeps};
@@ -6,28 +6,12 @@ ghost use Rattle.clap.specs.Words.{kind_of};
 ghost use Rattle.clap.specs.declared.error.kind.ErrorKind.TheVariants.{OutOfMemory};
 ghost use Rattle.argon2_commands.specs.Pages.{IsPage};
 
-use argon2_failure::Failure;
+use argon2_programs::Failure;
 use clap::error::ErrorKind;
 use clap::{Command, Error};
 use std::alloc::{AllocError, Global};
+use std::io;
 use std::io::Write;
-use std::{env, io};
-
-/// The words of the command line after the name of the program.
-///
-/// # Errors
-/// A word that is not UTF-8, and out of memory.
-pub fn words(rt: &HostRuntime, program: &str) -> Result<Vec<String>, Error> {
-    let alloc = rt.alloc();
-    match env::args(rt) {
-        Ok(words) => Ok(words.skip(1).collect(alloc)?),
-        Err(error) if error.kind() == io::ErrorKind::OutOfMemory => Err(AllocError.into()),
-        Err(_) => Err(Command::new(alloc, program).error(
-            ErrorKind::InvalidValue,
-            "an argument is not UTF-8",
-        )?),
-    }
-}
 
 /// Writes a page that the words ask for to `output`, or what is wrong with the words to `errors`.
 ///

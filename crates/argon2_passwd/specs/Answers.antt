@@ -21,7 +21,7 @@ use Rattle.argon2.specs.declared.login.answers.Accepted.{Accepted}
 use Rattle.argon2.specs.declared.login.answers.Accepted.TheVariants.{Kept, Rehashed}
 use Rattle.argon2_accounts.specs.declared.error.AccountError.{AccountError}
 use Rattle.argon2_accounts.specs.declared.error.AccountError.TheVariants.{NameUnknown, Refused}
-use Rattle.argon2_prefixes.specs.Prefixes.{bare}
+use Rattle.argon2_programs.specs.Prefixes.{bare}
 use Rattle.argon2_store.specs.AccountFile.{AddsOrNone, Call, HasNames, IsReady, Serves, Stays, error_of, database_of, terms_of}
 use Rattle.argon2_rows.specs.Adding.{IsFirstRefused}
 use Rattle.argon2_rows.specs.Rows.{FitLines, breaks_line, lines_of}

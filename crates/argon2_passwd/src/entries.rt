@@ -9,7 +9,7 @@ use crate::failure::{Failure, of_reading};
 use crate::passwords::line_len;
 use argon2::PasswordHash;
 use argon2::password_hash::Settings;
-use argon2_prefixes::bare_str;
+use argon2_programs::bare_str;
 use std::alloc::{AllocError, Global};
 use std::io::BufRead;
 use std::str;

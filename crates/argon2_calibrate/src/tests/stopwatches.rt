@@ -1,7 +1,7 @@
 //! Stopwatches that need no clock.
 
 use crate::stopwatch::Stopwatch;
-use argon2_failure::Failure;
+use argon2_programs::Failure;
 
 /// A machine on which a hash takes `a_block` nanoseconds for each block and pass, and `once` microseconds more. In the
 /// first `busy` measurements the last of three hashes takes a microsecond more than a machine that is not busy may.

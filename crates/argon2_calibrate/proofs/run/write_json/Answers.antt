@@ -1,6 +1,5 @@
 use Rattle.std.proofs.Common.{◌≡◌, [], ◌++◌, Some, arith, refl}
 use Rattle.std.proofs.lemmas.Grind.{common_steps}
-use Rattle.std.proofs.KnownBytes.{Appends-kept, Appends-trans}
 use Rattle.json.specs.Json.{document}
 use Rattle.json.specs.Lex.{tokens}
 use Rattle.json.specs.Tree.{json_tokens}
@@ -14,6 +13,4 @@ returns g c =
     let items = c.into_inner-text.result.items in
     let read : tokens items ≡ json_tokens json ++ [] = grind (arith, common_steps) in
     let text : document items ≡ Some json = rw (read, value-json_tokens json 128 [] (omega arith)) refl in
-    let first = rw c.as_slice.ensures.value at c.in_ok-write_all.ensures.bytes in
-    let line = Appends-trans _ _ _ _ _ first c.in_ok-write_all-2.ensures.bytes in
-    (items, text, Appends-kept _ _ _ _ line c.in_ok-flush.ensures.bytes)
+    (items, text, rw c.as_slice.ensures.value at c.in_ok-write_line.ensures)

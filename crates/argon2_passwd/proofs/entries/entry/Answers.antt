@@ -1,5 +1,5 @@
 use Rattle.std.proofs.Common.{◌∙◌, ℕ, List, ap, inl, inr, subst}
-use Rattle.argon2_prefixes.specs.Prefixes.{bare}
+use Rattle.argon2_programs.specs.Prefixes.{bare}
 use Rattle.argon2_passwd.specs.Answers.{IsArgon2}
 use Rattle.argon2_passwd.proofs.entries.entry.Goals as goal
 

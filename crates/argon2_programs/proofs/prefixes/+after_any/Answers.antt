@@ -1,6 +1,6 @@
 use Rattle.std.proofs.Common.{◌≡◌, ◌∙◌, false, ap, sym}
-use Rattle.argon2_prefixes.specs.Prefixes.{begins}
-use Rattle.argon2_prefixes.proofs.+after_any.Goals as goal
+use Rattle.argon2_programs.specs.Prefixes.{begins}
+use Rattle.argon2_programs.proofs.prefixes.+after_any.Goals as goal
 
 pub returns-then-not-starts_with : goal.returns-then-not-starts_with
 returns-then-not-starts_with t c =

@@ -1,8 +1,7 @@
 //! How a stored text begins, and what other programs put before it.
-#![tactic(auto)]
 
 ghost use Rattle.std.specs.Prelude.{◌≡◌, map};
-ghost use Rattle.argon2_prefixes.specs.Prefixes.{after_any, bare, begins_any};
+ghost use Rattle.argon2_programs.specs.Prefixes.{after_any, bare, begins_any};
 
 // What Django, Dovecot and LDAP servers put before a text of Argon2.
 const BEFORE: [&str; 7] = [

@@ -1,7 +1,7 @@
 use Rattle.std.proofs.Common.{◌∙◌, true, false, drop, ap, subst, sym}
 use Rattle.std.proofs.lemmas.Str.Pattern.{starts_text}
 use Rattle.std.specs.Str.{IsCharBoundary}
-use Rattle.argon2_prefixes.proofs.+str_after_any.Goals as goal
+use Rattle.argon2_programs.proofs.prefixes.+str_after_any.Goals as goal
 
 pub returns-in-Some-strip_prefix : goal.returns-in-Some-strip_prefix
 returns-in-Some-strip_prefix t c =

@@ -1,8 +1,7 @@
 //! Why the programs fail, and what they print then.
-#![tactic(auto)]
 
 ghost use Rattle.std.specs.Prelude.{◌≡◌};
-ghost use Rattle.argon2_failure.specs.Failures.{IsOfReading};
+ghost use Rattle.argon2_programs.specs.Failures.{IsOfReading};
 
 use std::alloc::AllocError;
 use std::io;
@@ -49,7 +48,7 @@ impl Failure {
 }
 
 impl From<AllocError> for Failure {
-    ghost use Rattle.argon2_failure.specs.declared.Failure.TheVariants.{Memory};
+    ghost use Rattle.argon2_programs.specs.declared.failure.Failure.TheVariants.{Memory};
 
     ghost from_gives = { λ refused failure. failure ≡ Memory refused };
 
@@ -59,7 +58,7 @@ impl From<AllocError> for Failure {
 }
 
 impl From<io::Error> for Failure {
-    ghost use Rattle.argon2_failure.specs.declared.Failure.TheVariants.{Output};
+    ghost use Rattle.argon2_programs.specs.declared.failure.Failure.TheVariants.{Output};
 
     ghost from_gives = { λ error failure. failure ≡ Output error };
 

@@ -1,5 +1,5 @@
 use Rattle.std.proofs.Common.{length}
-use Rattle.argon2_prefixes.proofs.+after_any.Given as goal
+use Rattle.argon2_programs.proofs.prefixes.+after_any.Given as goal
 
 abbrev pub decreases-after_any : goal.decreases-after_any
 decreases-after_any l = length l.prefixes.now

@@ -3,8 +3,8 @@ use Rattle.std.specs.Prelude.{◌≡◌, ◌≢◌}
 use Rattle.std.specs.IoError.{error_kind}
 use Rattle.std.specs.declared.io.Error.{Error}
 use Rattle.std.specs.declared.io.ErrorKind.TheVariants.{OutOfMemory}
-use Rattle.argon2_failure.specs.declared.Failure.{Failure}
-use Rattle.argon2_failure.specs.declared.Failure.TheVariants.{Input, Memory}
+use Rattle.argon2_programs.specs.declared.failure.Failure.{Failure}
+use Rattle.argon2_programs.specs.declared.failure.Failure.TheVariants.{Input, Memory}
 
 -- the failure of a read: out of memory is reported as that
 abbrev pub IsOfReading : Error → Failure → Type 0

@@ -1,0 +1,13 @@
+//! What the programs share: the words of a command line, why a program fails, lines that are written, and how a stored text
+//! begins.
+#![tactic(auto)]
+
+mod arguments;
+mod failure;
+mod line;
+mod prefixes;
+
+pub use arguments::words;
+pub use failure::Failure;
+pub use line::write_line;
+pub use prefixes::{after_any, bare, bare_str, begins_any};
