@@ -4,7 +4,7 @@ use Rattle.std.specs.Char.{is_ascii_digit}
 use Rattle.std.specs.List.{after_first, before_first, list_all, position_or_len}
 use Rattle.std.specs.Io.BufRead.{strip_last}
 use Rattle.std.specs.Str.{IsUtf8}
-use Rattle.argon2_programs.specs.Prefixes.{after_any, bare, begins_any}
+use Rattle.argon2_programs.specs.Prefixes.{after_any, bare, begins_any, is_named}
 use Rattle.argon2_base.specs.Error.{Fault, bad_encoding, outcome_of}
 use Rattle.argon2_base.specs.PhcText.{Phc, PhcText}
 use Rattle.argon2_base.specs.declared.error.password_hash.Error.{Error}
@@ -75,14 +75,18 @@ claim_of_text text =
     else if begins_any (codes "!" ∷ codes "*" ∷ []) text then Locked
     else if begins_any (codes "$2$" ∷ codes "$2a$" ∷ codes "$2b$" ∷ codes "$2x$" ∷ codes "$2y$" ∷ []) text
     || begins_any (codes "bcrypt$" ∷ codes "bcrypt_sha256$" ∷ []) text then Other Bcrypt
-    else if begins_any (codes "$7$" ∷ codes "$scrypt$" ∷ codes "scrypt" ∷ []) text then Other Scrypt
-    else if begins_any (codes "$pbkdf2" ∷ codes "pbkdf2" ∷ codes "{PBKDF2" ∷ []) text then Other Pbkdf2
+    else if begins_any (codes "$7$" ∷ codes "$scrypt$" ∷ []) text
+    || is_named (codes "scrypt") (codes "$" ∷ codes ":" ∷ []) text then Other Scrypt
+    else if begins_any (codes "$pbkdf2$" ∷ codes "$pbkdf2-" ∷ codes "{PBKDF2}" ∷ codes "{PBKDF2-" ∷ []) text
+    || is_named (codes "pbkdf2") (codes "$" ∷ codes ":" ∷ codes "_" ∷ []) text then Other Pbkdf2
     else if begins_any (codes "$y$" ∷ codes "$gy$" ∷ []) text then Other Yescrypt
     else if begins_any (codes "$5$" ∷ []) text then Other Sha256Crypt
     else if begins_any (codes "$6$" ∷ []) text then Other Sha512Crypt
     else if begins_any (codes "$1$" ∷ codes "$apr1$" ∷ []) text then Other Md5Crypt
     else if begins_any (codes "md5$" ∷ codes "sha1$" ∷ []) text then Other Django
-    else if begins_any (codes "{MD5}" ∷ codes "{SMD5}" ∷ codes "{SHA" ∷ codes "{SSHA" ∷ []) text then Other Ldap
+    else if begins_any (codes "{MD5}" ∷ codes "{SMD5}" ∷ codes "{SHA}" ∷ codes "{SSHA}" ∷ []) text
+    || begins_any (codes "{SHA1" ∷ codes "{SHA2" ∷ codes "{SHA3" ∷ codes "{SHA5" ∷ []) text
+    || begins_any (codes "{SSHA2" ∷ codes "{SSHA3" ∷ codes "{SSHA5" ∷ []) text then Other Ldap
     else Unknown
 
 -- a line of spaces and tabs is blank, one that begins with `#` is a comment, and any other claims what its field does

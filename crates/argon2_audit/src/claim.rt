@@ -4,7 +4,7 @@ ghost use Rattle.std.specs.Prelude.{◌≡◌};
 ghost use Rattle.std.specs.List.{list_all};
 ghost use Rattle.argon2_audit.specs.Finding.{claim_of_text, is_space, trimmed};
 
-use argon2_programs::{after_any, begins_any};
+use argon2_programs::{after_any, begins_any, is_named};
 
 /// A scheme other than Argon2.
 #[derive(Clone, Copy, PartialEq, Eq, PartialOrd, Ord)]
@@ -74,9 +74,11 @@ pub fn claim_of_text(text: &[u8]) -> Claim
         || begins_any(text, &["bcrypt$", "bcrypt_sha256$"])
     {
         Claim::Other(Scheme::Bcrypt)
-    } else if begins_any(text, &["$7$", "$scrypt$", "scrypt"]) {
+    } else if begins_any(text, &["$7$", "$scrypt$"]) || is_named(text, "scrypt", &["$", ":"]) {
         Claim::Other(Scheme::Scrypt)
-    } else if begins_any(text, &["$pbkdf2", "pbkdf2", "{PBKDF2"]) {
+    } else if begins_any(text, &["$pbkdf2$", "$pbkdf2-", "{PBKDF2}", "{PBKDF2-"])
+        || is_named(text, "pbkdf2", &["$", ":", "_"])
+    {
         Claim::Other(Scheme::Pbkdf2)
     } else if begins_any(text, &["$y$", "$gy$"]) {
         Claim::Other(Scheme::Yescrypt)
@@ -88,7 +90,10 @@ pub fn claim_of_text(text: &[u8]) -> Claim
         Claim::Other(Scheme::Md5Crypt)
     } else if begins_any(text, &["md5$", "sha1$"]) {
         Claim::Other(Scheme::Django)
-    } else if begins_any(text, &["{MD5}", "{SMD5}", "{SHA", "{SSHA"]) {
+    } else if begins_any(text, &["{MD5}", "{SMD5}", "{SHA}", "{SSHA}"])
+        || begins_any(text, &["{SHA1", "{SHA2", "{SHA3", "{SHA5"])
+        || begins_any(text, &["{SSHA2", "{SSHA3", "{SSHA5"])
+    {
         Claim::Other(Scheme::Ldap)
     } else {
         Claim::Unknown

@@ -1,5 +1,5 @@
 -- How a text begins.
-use Rattle.std.specs.Prelude.{ℕ, ◌==◌, Bool, List, [], ◌∷◌, codes, drop, length, if◌then◌else◌}
+use Rattle.std.specs.Prelude.{ℕ, ◌==◌, ◌&&◌, ◌||◌, Bool, List, [], ◌∷◌, codes, drop, length, if◌then◌else◌}
 use Rattle.std.specs.List.{list_any, starts_with}
 
 abbrev pub begins : List ℕ → List ℕ → Bool
@@ -14,7 +14,17 @@ abbrev pub after_any : List (List ℕ) → List ℕ → List ℕ
 after_any [] text = text
 after_any (prefix ∷ prefixes) text = if begins text prefix then drop (length prefix) text else after_any prefixes text
 
--- a text without what Django, Dovecot and LDAP servers put before one
+-- the text is this name, or begins with it and then one of these separators
+abbrev pub is_named : List ℕ → List (List ℕ) → List ℕ → Bool
+is_named name separators text = begins_any (name ∷ []) text
+    && ((length (after_any (name ∷ []) text) == 0) || begins_any separators (after_any (name ∷ []) text))
+
+-- what follows Django's word, or the text
+abbrev pub after_django : List ℕ → List ℕ
+after_django text = after_any (codes "argon2" ∷ []) text
+
+-- a text without what Django puts before a `$`, or Dovecot and LDAP servers before a text
 abbrev pub bare : List ℕ → List ℕ
-bare text = after_any (codes "argon2" ∷ codes "{argon2}" ∷ codes "{ARGON2}" ∷ codes "{ARGON2I}" ∷ codes "{ARGON2ID}"
-    ∷ codes "{CRYPT}" ∷ codes "{crypt}" ∷ []) text
+bare text = if begins_any (codes "$" ∷ []) (after_django text) then after_django text
+    else after_any (codes "{argon2}" ∷ codes "{ARGON2}" ∷ codes "{ARGON2I}" ∷ codes "{ARGON2ID}" ∷ codes "{CRYPT}"
+    ∷ codes "{crypt}" ∷ []) text

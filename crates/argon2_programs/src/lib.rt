@@ -10,4 +10,4 @@ mod prefixes;
 pub use arguments::words;
 pub use failure::Failure;
 pub use line::write_line;
-pub use prefixes::{after_any, bare, bare_str, begins_any};
+pub use prefixes::{after_any, bare, bare_str, begins_any, is_named};

@@ -1,11 +1,13 @@
 //! How a stored text begins, and what other programs put before it.
 
 ghost use Rattle.std.specs.Prelude.{◌≡◌, map};
-ghost use Rattle.argon2_programs.specs.Prefixes.{after_any, bare, begins_any};
+ghost use Rattle.argon2_programs.specs.Prefixes.{after_any, bare, begins_any, is_named};
 
-// What Django, Dovecot and LDAP servers put before a text of Argon2.
-const BEFORE: [&str; 7] = [
-    "argon2",
+// What Django puts before a text of Argon2, which begins with `$`.
+const DJANGO: [&str; 1] = ["argon2"];
+
+// What Dovecot and LDAP servers put before one.
+const SCHEMES: [&str; 6] = [
     "{argon2}",
     "{ARGON2}",
     "{ARGON2I}",
@@ -14,18 +16,28 @@ const BEFORE: [&str; 7] = [
     "{crypt}",
 ];
 
-/// The text without what other programs put before it: the first of these that it begins with.
+/// The text without what other programs put before it: Django's word before a `$`, or the first scheme in braces.
 pub fn bare(text: &[u8]) -> &[u8]
     ensures { result.now ≡ bare text.now }
 {
-    after_any(text, &BEFORE)
+    let rest = after_any(text, &DJANGO);
+    if begins_any(rest, &["$"]) {
+        rest
+    } else {
+        after_any(text, &SCHEMES)
+    }
 }
 
 /// The same of a string.
 pub fn bare_str(text: &str) -> &str
     ensures { result.now ≡ bare text.now }
 {
-    str_after_any(text, &BEFORE)
+    let rest = str_after_any(text, &DJANGO);
+    if begins_any(rest.as_bytes(), &["$"]) {
+        rest
+    } else {
+        str_after_any(text, &SCHEMES)
+    }
 }
 
 /// Whether the text begins with one of these.
@@ -36,6 +48,17 @@ pub fn begins_any(text: &[u8], prefixes: &[&str]) -> bool
         return false;
     };
     text.starts_with(prefix.as_bytes()) || begins_any(text, rest)
+}
+
+/// Whether the text is this name, or begins with it and then one of these separators.
+pub fn is_named(text: &[u8], name: &str, separators: &[&str]) -> bool
+    ensures { result ≡ is_named name.now (map (λ it. it.now) separators.now) text.now }
+{
+    if !begins_any(text, &[name]) {
+        return false;
+    }
+    let rest = after_any(text, &[name]);
+    rest.is_empty() || begins_any(rest, separators)
 }
 
 /// What follows the first of these that the text begins with, or the text if it begins with none.
