@@ -321,6 +321,34 @@ impl<'key> Argon2<'key> {
         Ok(())
     }
 
+    /// Fills memory as [`fill_memory`](Argon2::fill_memory) does, on the words of blocks, as a C caller lends
+    /// them, and under this associated data in place of the parameters': 0 to 4294967295 bytes.
+    ///
+    /// # Errors
+    /// Those of [`fill_memory`](Argon2::fill_memory), in their order. The memory is then as before.
+    pub fn fill_memory_with_words(
+        &self,
+        associated: &[u8],
+        pwd: &[u8],
+        salt: &[u8],
+        memory: &mut [Words],
+    ) -> Result<()>
+        requires data { length associated.now < 2 ^ 32 }
+        ensures answer { result
+            ≡ answer_unless (fill_refusal self.now pwd.now salt.now (length memory.old)) tt }
+        ensures matrix { let ctx = context_under self.now associated.now in OnOk result
+            (blocks_of ctx memory.new ≡ matrix_of ctx pwd.now salt.now 0) }
+        ensures rest { let ctx = context_under self.now associated.now in OnOk result
+            (KeepsRest ctx memory.old memory.new) }
+        ensures same { OnErr result (memory.new ≡ memory.old) }
+    {
+        self.check_filling(pwd, salt, memory.len())?;
+        let instance = self.instance_under(associated);
+        let work = &mut Work::new();
+        instance.fill_blocks(pwd, salt, 0, memory, &mut [], work);
+        Ok(())
+    }
+
     // Writes the tag into `out`, and returns how often blocks were mixed. `positions` has an entry for
     // each block of each pass, which gets the place of the block's reference; or it is empty.
     fn hash(
