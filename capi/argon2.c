@@ -352,3 +352,7 @@ const char *argon2_error_message(int code) {
     };
     return code <= 0 && code >= ARGON2_VERIFY_MISMATCH ? texts[-code] : "Unknown error code";
 }
+
+/* ---- texts with a secret and within a bound */
+
+#include "argon2_phc.c"

@@ -1,3 +1,5 @@
 mod Appending
 mod Lengths
+mod PhcAccepted
+mod PhcUtf8
 mod Utf8

@@ -1,3 +1,5 @@
+pub mod PhcReading
+pub mod PhcRequests
 pub mod Requests
 pub mod Texts
 pub mod Verifying

@@ -54,3 +54,43 @@ pub const ENCODING_FAIL: i32 = -31;
 pub const DECODING_FAIL: i32 = -32;
 /// The password does not have this hash.
 pub const VERIFY_MISMATCH: i32 = -35;
+
+// Codes of `argon2_phc.h` alone.
+
+/// The key identifier is longer than 8 bytes.
+pub const KEYID_TOO_LONG: i32 = -69;
+/// There is no such variant.
+pub const NO_ALGORITHM: i32 = -70;
+/// There is no such version.
+pub const NO_VERSION: i32 = -71;
+/// A text and a zero byte don't fit into the room for them.
+pub const ROOM_TOO_SHORT: i32 = -72;
+/// A text is outside the grammar.
+pub const TEXT_INVALID: i32 = -80;
+/// The memory cost of a text can't be read, or is not valid.
+pub const TEXT_MEMORY: i32 = -81;
+/// The passes of a text can't be read, or are not valid.
+pub const TEXT_PASSES: i32 = -82;
+/// The lanes of a text can't be read, or are not valid.
+pub const TEXT_LANES: i32 = -83;
+/// The key identifier of a text can't be read.
+pub const TEXT_KEYID: i32 = -84;
+/// The associated data of a text can't be read.
+pub const TEXT_DATA: i32 = -85;
+/// A text lacks a cost, or has a parameter that Argon2 does not have.
+pub const TEXT_PARAMETERS: i32 = -86;
+/// A text lacks its salt or its hash.
+pub const TEXT_INCOMPLETE: i32 = -87;
+/// A text asks for more than the bound.
+pub const ABOVE_BOUND: i32 = -88;
+/// The hash of a text is shorter or longer than the bound says.
+pub const OUTPUT_OUT_OF_BOUND: i32 = -89;
+
+// What `argon2_c_phc_renewal` answers.
+
+/// A text is as wanted.
+pub const CURRENT: i32 = 0;
+/// A text is not as wanted, and not below.
+pub const OTHER: i32 = 1;
+/// Something of a text is below what is wanted.
+pub const BELOW: i32 = 2;

@@ -72,8 +72,8 @@ fn push_number(text: &mut ArrayString<64>, name: &str, n: u32)
     text.push_str(Buffer::new().format(n));
 }
 
-// Writes bytes from a place on, and returns the place behind them.
-fn put(bytes: &[u8], out: &mut [u8], at: usize) -> usize
+/// Writes bytes from a place on, and returns the place behind them.
+pub fn put(bytes: &[u8], out: &mut [u8], at: usize) -> usize
     requires { at + length bytes.now ≤ length out.old }
     ensures at { result ≡ at + length bytes.now }
     ensures appends { Appends at bytes.now out.old out.new result }

@@ -5,7 +5,8 @@ ghost use Rattle.std.specs.Str.{bytes_eq};
 ghost use Rattle.argon2.specs.Settings.{algorithm_number, max_lanes};
 ghost use Rattle.argon2.specs.Argon2.{context_of, own_parameters};
 ghost use Rattle.argon2.specs.Refusals.{first_of, max_len};
-ghost use Rattle.argon2.specs.Rfc9106.{tag_of};
+ghost use Rattle.argon2.specs.Hashing.{blocks_of};
+ghost use Rattle.argon2.specs.Rfc9106.{matrix_of, tag_of};
 ghost use Rattle.argon2.specs.Segments.{slice_length};
 ghost use Rattle.argon2_c.specs.Requests.{asked, request_faults};
 ghost use Rattle.argon2_c.specs.Texts.{name_numbered};
@@ -62,6 +63,47 @@ pub extern "C" fn argon2_c_hash(
     OK
 }
 
+/// Fills lent memory, whatever it held, as a hash for an output of no bytes does, lane after lane. Returns 0, or
+/// the code of the request's first fault, for which the output's length counts as valid, or -25 if `memory`
+/// has another length than the request's blocks; `memory` is then as before. It allocates nothing.
+#[unsafe(no_mangle)]
+pub extern "C" fn argon2_c_fill(
+    request: &Request,
+    pwd: &[u8],
+    salt: &[u8],
+    secret: &[u8],
+    associated: &[u8],
+    memory: &mut [Words],
+) -> i32
+    ensures answer { result ≡ unwrap_or (first_of (request_faults request.now 4 (length pwd.now)
+        (length salt.now) (length secret.now) (length associated.now)))
+        (if length memory.old == 4 * slice_length (asked request.now [] []) then OK
+        else INCORRECT_PARAMETER) }
+    ensures matrix { let ctx = asked request.now secret.now associated.now in
+        result ≡ OK → blocks_of ctx memory.new ≡ matrix_of ctx pwd.now salt.now 0 }
+    ensures same { result ≢ OK → memory.new ≡ memory.old }
+{
+    let refusal = refusal(
+        request,
+        4,
+        pwd.len(),
+        salt.len(),
+        secret.len(),
+        associated.len(),
+    );
+    if let Some(code) = refusal {
+        return code;
+    }
+    let blocks = 4 * slice_len(request);
+    if memory.len() != blocks as usize {
+        return INCORRECT_PARAMETER;
+    }
+    hashing(request, secret)
+        .fill_memory_with_words(associated, pwd, salt, memory)
+        .unwrap();
+    OK
+}
+
 /// Hashing as asked for, without associated data, if nothing is refused.
 pub fn hashing<'key>(request: &Request, secret: &'key [u8]) -> Argon2<'key>
     requires secret { length secret.now ≤ max_len }
@@ -85,8 +127,8 @@ pub fn hashing<'key>(request: &Request, secret: &'key [u8]) -> Argon2<'key>
     Argon2::new_with_secret(secret, variant(request.algorithm), version, params).unwrap()
 }
 
-// The variant of a number.
-fn variant(number: u32) -> Algorithm
+/// The variant of a number.
+pub fn variant(number: u32) -> Algorithm
     requires { number ≤ 2 }
     ensures { algorithm_number result ≡ number }
 {

@@ -1,14 +1,17 @@
-//! Argon2 for C: what `capi/argon2.c` calls, under the codes of `argon2.h`.
+//! Argon2 for C: what `capi/argon2.c` and `capi/argon2_phc.c` call, under the codes of `argon2.h` and
+//! `argon2_phc.h`.
 //!
 //! - [`request`]: what a caller asks for, and the first reason to refuse it.
 //! - [`hash`], [`segments`]: the tag, by one call or by calls that threads share.
 //! - [`encode`], [`verify`]: texts, written and verified.
+//! - [`phc`]: the calls of `argon2_phc.h`.
 #![tactic(auto)]
 
 mod code;
 mod decode;
 pub mod encode;
 pub mod hash;
+pub mod phc;
 pub mod request;
 pub mod segments;
 pub mod verify;

@@ -1,0 +1,395 @@
+/*
+ * argon2_phc.h over the module phc of the crate argon2_c; argon2.c includes this. The crate reads and writes texts, decides what
+ * is refused, and verifies. The C reads structures, finds null pointers and overlap, draws salts, and lends memory.
+ */
+#include "argon2_phc.h"
+#include <sys/random.h>
+
+/* ---- what the crate exports for this */
+
+struct phc_bound {
+    uint32_t m_cost, t_cost, p_cost, min_output, max_output;
+};
+
+/* As the members of argon2p_shown behind its size. */
+struct phc_shown {
+    uint32_t name_len, has_version, text_version, params_at, params_len, salt_len, output_len;
+    uint32_t algorithm, version, m_cost, t_cost, p_cost, keyid_len, data_len;
+    uint8_t salt[ARGON2P_MAX_SALT], output[ARGON2P_MAX_OUTPUT], keyid[ARGON2P_MAX_KEYID], data[ARGON2P_MAX_DATA];
+};
+
+_Static_assert(sizeof(argon2p_shown) == offsetof(argon2p_shown, name_len) + sizeof(struct phc_shown)
+    && offsetof(argon2p_shown, data) == offsetof(argon2p_shown, name_len) + offsetof(struct phc_shown, data), "the same layout");
+_Static_assert(sizeof(argon2p_block) == sizeof(block), "the same blocks");
+
+/* Lengths: of outputs, if it is set, of the key identifier, the data and the secret; and then of what is made. */
+int32_t argon2_c_params_refusal(const struct request *, bool, size_t output, size_t keyid, size_t data, size_t secret);
+int32_t argon2_c_text_refusal(const struct request *, bool, size_t output, size_t keyid, size_t data, size_t secret,
+    size_t salt, size_t hash, size_t pwd);
+int32_t argon2_c_tag_refusal(const struct request *, bool, size_t output, size_t data, size_t secret,
+    size_t out, size_t pwd, size_t salt);
+
+int32_t argon2_c_phc_encode(const struct request *, bytes keyid, size_t, bytes data, size_t, bytes salt, size_t,
+    bytes hash, size_t, uint8_t *out, size_t);
+int32_t argon2_c_phc_show(bytes text, size_t, struct phc_shown *);
+int32_t argon2_c_phc_renewal(const struct request *, size_t output, bytes keyid, size_t, bytes data, size_t,
+    bytes text, size_t);
+int32_t argon2_c_phc_verify(const struct phc_bound *, bytes text, size_t, bytes pwd, size_t, bytes secret, size_t,
+    block *memory, size_t);
+int32_t argon2_c_fill(const struct request *, bytes pwd, size_t, bytes salt, size_t, bytes secret, size_t,
+    bytes associated, size_t, block *memory, size_t);
+
+/* ---- structures of the caller */
+
+enum { LARGEST = 4096 }; /* of a structure: a size above it is none */
+
+/* Whether a structure is there, with `known` bytes and behind them zeros; then `own` is these bytes. */
+static bool is_read(void *own, size_t known, const void *given) {
+    size_t size = 0;
+    if (given) memcpy(&size, given, sizeof size);
+    if (size < known || size > LARGEST) return false;
+    for (size_t i = known; i < size; i++)
+        if (((const uint8_t *)given)[i] != 0) return false;
+    memcpy(own, given, known);
+    return true;
+}
+
+static int read_params(argon2p_params *own, const argon2p_params *given) {
+    return is_read(own, sizeof *own, given) && own->reserved == 0 ? ARGON2P_OK : ARGON2P_STRUCT;
+}
+
+static bool lacks(const void *at, size_t n) { return !at && n; }
+
+/* The first null pointer among those of parameters. */
+static int params_null(const argon2p_params *p) {
+    return lacks(p->secret, p->secret_len) ? ARGON2P_SECRET_NULL : lacks(p->data, p->data_len) ? ARGON2P_DATA_NULL
+        : lacks(p->keyid, p->keyid_len) ? ARGON2P_KEYID_NULL : ARGON2P_OK;
+}
+
+/* The bytes of the hash of a text under parameters. */
+static size_t hash_length(const argon2p_params *p) {
+    return p->has_output_len ? p->output_len : ARGON2P_DEFAULT_OUTPUT;
+}
+
+/* What parameters, a password and a salt are to the functions for argon2.h. Its lengths are right once nothing is refused. */
+static argon2_context context_of(const argon2p_params *p, const void *pwd, size_t pwd_len, const void *salt, size_t salt_len,
+    uint8_t *out, size_t out_len) {
+    return (argon2_context){
+        .out = out, .outlen = out_len, .pwd = (uint8_t *)pwd, .pwdlen = pwd_len, .salt = (uint8_t *)salt, .saltlen = salt_len,
+        .secret = (uint8_t *)p->secret, .secretlen = p->secret_len, .ad = (uint8_t *)p->data, .adlen = p->data_len,
+        .t_cost = p->t_cost, .m_cost = p->m_cost, .lanes = p->p_cost,
+        .threads = p->threads && p->threads < p->p_cost ? p->threads : p->p_cost, .version = p->version,
+    };
+}
+
+/* ---- texts */
+
+/* Writes the text of a hash under parameters into `made`, which has room for any. */
+static int encode(const argon2p_params *p, const struct request *request, bytes salt, size_t salt_len, bytes hash,
+    size_t hash_len, uint8_t *made) {
+    return argon2_c_phc_encode(request, some(p->keyid), p->keyid_len, some(p->data), p->data_len, salt, salt_len, hash, hash_len,
+        made, ARGON2P_TEXT_SIZE);
+}
+
+static bool is_drawn(uint8_t *at, size_t n) {
+    const int error = errno;
+    ssize_t got;
+    do got = getrandom(at, n, 0);
+    while (got < 0 && errno == EINTR);
+    errno = error;
+    return got == (ssize_t)n;
+}
+
+int argon2p_hash(const argon2p_params *params, const void *pwd, size_t pwd_len, const void *salt, size_t salt_len, char *text,
+    size_t room) {
+    uint8_t drawn[ARGON2P_DRAWN_SALT] = {0}, tag[ARGON2P_MAX_OUTPUT] = {0}, made[ARGON2P_TEXT_SIZE];
+    const bool draws = !salt && !salt_len;
+    argon2p_params p;
+    argon2_context c;
+    struct request request;
+    int answer = read_params(&p, params);
+    if (answer != ARGON2P_OK) return answer;
+    if (lacks(pwd, pwd_len)) return ARGON2P_PASSWORD_NULL;
+    if (lacks(salt, salt_len)) return ARGON2P_SALT_NULL;
+    answer = params_null(&p);
+    if (answer != ARGON2P_OK) return answer;
+    if (!text) return ARGON2P_TEXT_NULL;
+    if (draws) salt = drawn, salt_len = sizeof drawn;
+    c = context_of(&p, pwd, pwd_len, some(salt), salt_len, tag, hash_length(&p));
+    request = requested(&c, p.algorithm);
+    answer = argon2_c_text_refusal(&request, p.has_output_len != 0, p.output_len, p.keyid_len, p.data_len, p.secret_len, salt_len,
+        hash_length(&p), pwd_len);
+    if (answer != ARGON2P_OK) return answer;
+    answer = encode(&p, &request, salt, salt_len, tag, c.outlen, made); /* of a hash of zeros: it has the length */
+    if (answer == ARGON2P_OK && strlen((char *)made) >= room) answer = ARGON2P_ROOM_TOO_SHORT;
+    if (answer == ARGON2P_OK && draws && !is_drawn(drawn, sizeof drawn)) answer = ARGON2P_NO_RANDOM;
+    if (answer == ARGON2P_OK) answer = hash_into(&c, p.algorithm, tag);
+    if (answer == ARGON2P_OK) answer = encode(&p, &request, salt, salt_len, tag, c.outlen, made);
+    if (answer == ARGON2P_OK) memcpy(text, made, strlen((char *)made) + 1);
+    wipe(tag, sizeof tag), wipe(made, sizeof made);
+    wipe_stack();
+    return answer;
+}
+
+int argon2p_encode(const argon2p_params *params, const void *salt, size_t salt_len, const void *hash, size_t hash_len,
+    char *text, size_t room) {
+    uint8_t made[ARGON2P_TEXT_SIZE];
+    argon2p_params p;
+    argon2_context c;
+    struct request request;
+    int answer = read_params(&p, params);
+    if (answer != ARGON2P_OK) return answer;
+    if (lacks(salt, salt_len)) return ARGON2P_SALT_NULL;
+    if (lacks(hash, hash_len)) return ARGON2P_OUTPUT_NULL;
+    answer = params_null(&p);
+    if (answer != ARGON2P_OK) return answer;
+    if (!text) return ARGON2P_TEXT_NULL;
+    c = context_of(&p, NULL, 0, NULL, 0, nothing, 0);
+    request = requested(&c, p.algorithm);
+    answer = argon2_c_text_refusal(&request, p.has_output_len != 0, p.output_len, p.keyid_len, p.data_len, p.secret_len, salt_len,
+        hash_len, 0);
+    if (answer != ARGON2P_OK) return answer;
+    answer = encode(&p, &request, some(salt), salt_len, some(hash), hash_len, made);
+    if (answer == ARGON2P_OK && strlen((char *)made) >= room) answer = ARGON2P_ROOM_TOO_SHORT;
+    if (answer == ARGON2P_OK) memcpy(text, made, strlen((char *)made) + 1);
+    wipe(made, sizeof made);
+    wipe_stack();
+    return answer;
+}
+
+int argon2p_check(const argon2p_params *params) {
+    argon2p_params p;
+    argon2_context c;
+    struct request request;
+    int answer = read_params(&p, params);
+    if (answer == ARGON2P_OK) answer = params_null(&p);
+    if (answer != ARGON2P_OK) return answer;
+    c = context_of(&p, NULL, 0, NULL, 0, nothing, 0);
+    request = requested(&c, p.algorithm);
+    return argon2_c_params_refusal(&request, p.has_output_len != 0, p.output_len, p.keyid_len, p.data_len, p.secret_len);
+}
+
+int argon2p_parse(const char *text, size_t text_len, argon2p_shown *shown) {
+    struct phc_shown own = {0};
+    int answer;
+    if (!shown || shown->size < sizeof *shown || shown->size > LARGEST) return ARGON2P_STRUCT;
+    if (lacks(text, text_len)) return ARGON2P_TEXT_NULL;
+    answer = argon2_c_phc_show(some(text), text_len, &own);
+    if (answer == ARGON2P_TEXT_INVALID) return answer;
+    memset((uint8_t *)shown + sizeof shown->size, 0, shown->size - sizeof shown->size);
+    memcpy((uint8_t *)shown + offsetof(argon2p_shown, name_len), &own, sizeof own);
+    return answer;
+}
+
+int argon2p_needs_rehash(const argon2p_params *wanted, const char *text, size_t text_len, int *answer) {
+    argon2p_params p;
+    argon2_context c;
+    struct request request;
+    int code = read_params(&p, wanted);
+    if (code != ARGON2P_OK) return code;
+    p.secret = NULL, p.secret_len = 0;
+    code = params_null(&p);
+    if (code != ARGON2P_OK) return code;
+    if (lacks(text, text_len)) return ARGON2P_TEXT_NULL;
+    if (!answer) return ARGON2P_OUTPUT_NULL;
+    c = context_of(&p, NULL, 0, NULL, 0, nothing, 0);
+    request = requested(&c, p.algorithm);
+    code = argon2_c_params_refusal(&request, p.has_output_len != 0, p.output_len, p.keyid_len, p.data_len, 0);
+    if (code != ARGON2P_OK) return code;
+    code = argon2_c_phc_renewal(&request, hash_length(&p), some(p.keyid), p.keyid_len, some(p.data), p.data_len, some(text), text_len);
+    if (code < 0) return code;
+    *answer = code;
+    return ARGON2P_OK;
+}
+
+/* ---- verifying */
+
+/* A text, and what it is verified by. */
+struct verifying {
+    const struct phc_bound *bound;
+    const struct phc_shown *shown;
+    bytes text;
+    size_t text_len;
+    bytes pwd;
+    size_t pwd_len;
+};
+
+/* Why a text can't be verified under a secret, or ARGON2P_OK. */
+static int verify_refusal(const struct verifying *v, const void *secret, size_t n) {
+    const int answer = argon2_c_phc_verify(v->bound, v->text, v->text_len, v->pwd, v->pwd_len, some(secret), n, (block *)nothing, 0);
+    return answer == ARGON2_INCORRECT_PARAMETER ? ARGON2P_OK : answer; /* nothing is wrong but that there was no memory */
+}
+
+/* Verifies a text that nothing refuses, on memory of as many blocks as it asks for. */
+static int verify_under(const struct verifying *v, argon2_context *c, const void *secret, size_t n, block *memory) {
+    uint8_t tag[ARGON2P_MAX_OUTPUT];
+    int answer;
+    c->out = tag, c->secret = (uint8_t *)secret, c->secretlen = n;
+    if (worker_count(c) > 1) {
+        answer = hash_on(c, v->shown->algorithm, tag, memory, true);
+        if (answer == ARGON2_OK) answer = argon2_c_compare(v->shown->output, v->shown->output_len, tag, c->outlen);
+        wipe(tag, sizeof tag);
+    } else {
+        answer = argon2_c_phc_verify(v->bound, v->text, v->text_len, v->pwd, v->pwd_len, some(secret), n, memory, block_count(c));
+        wipe(memory, block_count(c) * sizeof(block));
+    }
+    wipe_stack();
+    return answer;
+}
+
+int argon2p_verify(const argon2p_verifier *verifier, const char *text, size_t text_len, const void *pwd, size_t pwd_len,
+    int *by_old_secret) {
+    argon2p_verifier own;
+    struct phc_bound bound;
+    struct phc_shown shown = {0};
+    struct verifying v;
+    argon2_context c;
+    block *memory;
+    bool is_old = false;
+    int answer;
+    if (!is_read(&own, sizeof own, verifier) || own.reserved != 0) return ARGON2P_STRUCT;
+    if (lacks(text, text_len)) return ARGON2P_TEXT_NULL;
+    if (lacks(pwd, pwd_len)) return ARGON2P_PASSWORD_NULL;
+    if (!own.has_old_secret) own.old_secret = NULL, own.old_secret_len = 0;
+    if (lacks(own.secret, own.secret_len) || lacks(own.old_secret, own.old_secret_len)) return ARGON2P_SECRET_NULL;
+    bound = (struct phc_bound){own.m_cost, own.t_cost, own.p_cost, own.min_output, own.max_output};
+    v = (struct verifying){&bound, &shown, some(text), text_len, some(pwd), pwd_len};
+    answer = verify_refusal(&v, own.secret, own.secret_len);
+    if (answer == ARGON2P_OK) answer = verify_refusal(&v, own.old_secret, own.old_secret_len);
+    if (answer == ARGON2P_OK) answer = argon2_c_phc_show(v.text, v.text_len, &shown);
+    if (answer != ARGON2P_OK) return answer;
+    c = (argon2_context){
+        .outlen = shown.output_len, .pwd = (uint8_t *)v.pwd, .pwdlen = pwd_len, .salt = shown.salt, .saltlen = shown.salt_len,
+        .ad = shown.data, .adlen = shown.data_len, .t_cost = shown.t_cost, .m_cost = shown.m_cost, .lanes = shown.p_cost,
+        .threads = own.threads && own.threads < shown.p_cost ? own.threads : shown.p_cost, .version = shown.version,
+    };
+    memory = new_blocks(block_count(&c));
+    if (!memory) return ARGON2P_OUT_OF_MEMORY;
+    answer = verify_under(&v, &c, own.secret, own.secret_len, memory);
+    if (answer == ARGON2P_MISMATCH && own.has_old_secret) {
+        answer = verify_under(&v, &c, own.old_secret, own.old_secret_len, memory);
+        is_old = true;
+    }
+    free_blocks(memory, block_count(&c));
+    wipe(&shown, sizeof shown);
+    if (answer == ARGON2P_OK && by_old_secret) *by_old_secret = is_old;
+    return answer;
+}
+
+/* ---- tags, and memory that is filled */
+
+size_t argon2p_block_count(uint32_t m_cost, uint32_t p_cost) {
+    const argon2_context c = {.m_cost = m_cost, .lanes = p_cost};
+    return p_cost >= ARGON2_MIN_LANES && p_cost <= ARGON2_MAX_LANES ? block_count(&c) : 0;
+}
+
+/* Why no tag of so many bytes is made, or the memory is not filled. `is_lent` says whether the memory is the caller's. */
+static int tag_refusal(const argon2p_params *p, const argon2_context *c, size_t out_len, size_t pwd_len, size_t salt_len, bool is_lent,
+    const void *memory, size_t blocks) {
+    const struct request request = requested(c, p->algorithm);
+    const int answer = argon2_c_tag_refusal(&request, p->has_output_len != 0, p->output_len, p->data_len, p->secret_len, out_len,
+        pwd_len, salt_len);
+    if (answer != ARGON2P_OK) return answer;
+    if (is_lent && blocks < block_count(c)) return ARGON2P_BLOCKS_TOO_FEW;
+    if (meets_input(c, c->out, c->outlen)) return ARGON2P_OVERLAP;
+    if (is_lent && (meets_input(c, memory, block_count(c) * sizeof(block))
+        || meet(c->out, c->outlen, memory, block_count(c) * sizeof(block)))) return ARGON2P_OVERLAP;
+    return ARGON2P_OK;
+}
+
+static bool is_block(const void *at) { return at && (uintptr_t)at % _Alignof(block) == 0; }
+
+/* The first null pointer among those of a tag's inputs. */
+static int inputs_null(const argon2p_params *p, const void *pwd, size_t pwd_len, const void *salt, size_t salt_len) {
+    return lacks(pwd, pwd_len) ? ARGON2P_PASSWORD_NULL : lacks(salt, salt_len) ? ARGON2P_SALT_NULL
+        : lacks(p->secret, p->secret_len) ? ARGON2P_SECRET_NULL : lacks(p->data, p->data_len) ? ARGON2P_DATA_NULL : ARGON2P_OK;
+}
+
+int argon2p_hash_into(const argon2p_params *params, const void *pwd, size_t pwd_len, const void *salt, size_t salt_len, void *out,
+    size_t out_len, argon2p_block *memory, size_t blocks) {
+    const bool is_lent = memory || blocks;
+    argon2p_params p;
+    argon2_context c;
+    int answer = read_params(&p, params);
+    if (answer == ARGON2P_OK) answer = inputs_null(&p, pwd, pwd_len, salt, salt_len);
+    if (answer != ARGON2P_OK) return answer;
+    if (!out) return ARGON2P_OUTPUT_NULL;
+    if (is_lent && !is_block(memory)) return ARGON2P_BLOCKS_NULL;
+    c = context_of(&p, pwd, pwd_len, salt, salt_len, out, out_len);
+    answer = tag_refusal(&p, &c, out_len, pwd_len, salt_len, is_lent, memory, blocks);
+    if (answer != ARGON2P_OK) return answer;
+    if (is_lent) {
+        const struct request request = requested(&c, p.algorithm);
+        answer = argon2_c_hash(&request, INPUTS(&c), (block *)memory, block_count(&c), out, out_len);
+        wipe_stack();
+    } else {
+        answer = hash_into(&c, p.algorithm, out);
+    }
+    return answer;
+}
+
+int argon2p_fill_memory(const argon2p_params *params, const void *pwd, size_t pwd_len, const void *salt, size_t salt_len,
+    argon2p_block *memory, size_t blocks) {
+    argon2p_params p;
+    argon2_context c;
+    struct request request;
+    int answer = read_params(&p, params);
+    if (answer == ARGON2P_OK) answer = inputs_null(&p, pwd, pwd_len, salt, salt_len);
+    if (answer != ARGON2P_OK) return answer;
+    if (!is_block(memory)) return ARGON2P_BLOCKS_NULL;
+    c = context_of(&p, pwd, pwd_len, salt, salt_len, nothing, 0);
+    answer = tag_refusal(&p, &c, p.has_output_len ? p.output_len : ARGON2P_MIN_OUTPUT, pwd_len, salt_len, true, memory, blocks);
+    if (answer != ARGON2P_OK) return answer;
+    request = requested(&c, p.algorithm);
+    answer = argon2_c_fill(&request, INPUTS(&c), (block *)memory, block_count(&c));
+    wipe_stack();
+    return answer;
+}
+
+/* ---- messages */
+
+const char *argon2p_error_message(int code) {
+    switch (code) {
+    case ARGON2P_OK: return "OK";
+    case ARGON2P_OUTPUT_NULL: return "The pointer to the output is NULL";
+    case ARGON2P_OUTPUT_TOO_SHORT: return "The output is too short";
+    case ARGON2P_OUTPUT_TOO_LONG: return "The output is too long";
+    case ARGON2P_PASSWORD_TOO_LONG: return "The password is too long";
+    case ARGON2P_SALT_TOO_SHORT: return "The salt is too short";
+    case ARGON2P_SALT_TOO_LONG: return "The salt is too long";
+    case ARGON2P_DATA_TOO_LONG: return "The associated data is too long";
+    case ARGON2P_SECRET_TOO_LONG: return "The secret is too long";
+    case ARGON2P_PASSES_TOO_FEW: return "There is no pass";
+    case ARGON2P_MEMORY_TOO_LITTLE: return "The memory cost is too small";
+    case ARGON2P_LANES_TOO_FEW: return "There is no lane";
+    case ARGON2P_LANES_TOO_MANY: return "There are too many lanes";
+    case ARGON2P_PASSWORD_NULL: return "The pointer to the password is NULL, but its length is not 0";
+    case ARGON2P_SALT_NULL: return "The pointer to the salt is NULL, but its length is not 0";
+    case ARGON2P_SECRET_NULL: return "The pointer to a secret is NULL, but its length is not 0";
+    case ARGON2P_DATA_NULL: return "The pointer to the associated data is NULL, but its length is not 0";
+    case ARGON2P_OUT_OF_MEMORY: return "Out of memory";
+    case ARGON2P_MISMATCH: return "The text does not accept the password";
+    case ARGON2P_STRUCT: return "A structure is missing, or of another size or version";
+    case ARGON2P_TEXT_NULL: return "The pointer to the text is NULL";
+    case ARGON2P_KEYID_NULL: return "The pointer to the key identifier is NULL, but its length is not 0";
+    case ARGON2P_BLOCKS_NULL: return "The pointer to the blocks is NULL, or not aligned";
+    case ARGON2P_OVERLAP: return "Outputs and inputs overlap";
+    case ARGON2P_KEYID_TOO_LONG: return "The key identifier is too long";
+    case ARGON2P_ALGORITHM: return "There is no such algorithm";
+    case ARGON2P_VERSION: return "There is no such version";
+    case ARGON2P_ROOM_TOO_SHORT: return "The text does not fit into its room";
+    case ARGON2P_BLOCKS_TOO_FEW: return "Too few blocks were lent";
+    case ARGON2P_NO_RANDOM: return "The system gives no random bytes";
+    case ARGON2P_TEXT_INVALID: return "The text is outside the grammar";
+    case ARGON2P_TEXT_MEMORY: return "The text's memory cost is not valid";
+    case ARGON2P_TEXT_PASSES: return "The text's number of passes is not valid";
+    case ARGON2P_TEXT_LANES: return "The text's number of lanes is not valid";
+    case ARGON2P_TEXT_KEYID: return "The text's key identifier is not valid";
+    case ARGON2P_TEXT_DATA: return "The text's associated data is not valid";
+    case ARGON2P_TEXT_PARAMETERS: return "The text's parameters are not those of Argon2";
+    case ARGON2P_TEXT_INCOMPLETE: return "The text has no salt or no hash";
+    case ARGON2P_ABOVE_BOUND: return "The text asks for more than the bound";
+    case ARGON2P_OUTPUT_OUT_OF_BOUND: return "The text's hash is shorter or longer than is allowed";
+    default: return "Unknown error code";
+    }
+}

@@ -1,0 +1,60 @@
+-- A text in the grammar is UTF-8.
+use Rattle.std.proofs.Common.{◌≡◌, ℕ, ◌<◌, ◌^◌, T, ltb, true, List, [], ◌∷◌, ◌++◌, append-nil, refl, arith, lit<, Option, Some, None}
+use Rattle.std.specs.List.{list_all}
+use Rattle.std.specs.Str.{IsUtf8}
+use Rattle.std.proofs.lemmas.Bool.{and_parts}
+use Rattle.std.proofs.lemmas.Bool.Decides.{nat_tests}
+use Rattle.std.proofs.lemmas.Fmt.{IsAscii-decimal}
+use Rattle.std.proofs.lemmas.List.Elements.{All-from_recursion}
+use Rattle.std.proofs.lemmas.Str.{IsUtf8-append, IsUtf8-from_ascii, IsUtf8-nil}
+use Rattle.std.proofs.lemmas.Str.Ascii.{IsAscii-cons, IsAscii-from_all, IsAscii-nil}
+use Rattle.argon2_base.specs.PhcText.{IsPhc, Pair, Phc, field, fields_text, is_param, item, list_field, params_text, phc_text, version_text}
+use Rattle.argon2_base.specs.Texts.{is_value, is_value_char, strict_base64}
+use Rattle.argon2_base.proofs.phc_lemmas.Base64Lemmas.{IsUtf8-strict_base64}
+use Rattle.argon2_base.proofs.phc_lemmas.Characters.{IsUtf8-name, tests_give}
+use Rattle.argon2_base.proofs.phc_lemmas.ParamsTextLemmas.{all_params, param_name, param_value}
+
+-- text behind an ASCII character is text
+behind : {c : ℕ} {s : List ℕ} → T (ltb c 128) → IsUtf8 s → IsUtf8 (c ∷ s)
+behind {c} {s} low =
+    IsUtf8-append (c ∷ []) s (IsUtf8-from_ascii _ (IsAscii-cons c [] (lit< low) IsAscii-nil))
+
+-- a value is text
+value_utf8 : (s : List ℕ) → is_value s ≡ true → IsUtf8 s
+value_utf8 s h = IsUtf8-from_ascii s (IsAscii-from_all s (All-from_recursion (λ c. c < 128) s
+    (tests_give is_value_char _ (λ c yes. grind (arith, nat_tests)) s (and_parts _ _ h).1)))
+
+-- an item is text
+item_utf8 : (p : Pair) → is_param p ≡ true → IsUtf8 (item p)
+item_utf8 p h = IsUtf8-append p.0 _ (IsUtf8-name p.0 (param_name p h))
+    (behind tt (value_utf8 p.1 (param_value p h)))
+
+-- items joined by `,` are text
+items_utf8 : (p : Pair) (ps : List Pair) → list_all is_param (p ∷ ps) ≡ true
+    → IsUtf8 (params_text (p ∷ ps))
+items_utf8 p [] h = item_utf8 p (and_parts _ true h).0
+items_utf8 p (q ∷ ps) h =
+    let k = and_parts (is_param p) _ h in
+    IsUtf8-append (item p) _ (item_utf8 p k.0) (behind tt (items_utf8 q ps k.1))
+
+-- a field, if there is one, in front of fields
+field_utf8 : {X : Type 0} (spell : X → List ℕ) (o : Option X) (fs : List (List ℕ))
+    → ((x : X) → o ≡ Some x → IsUtf8 (spell x)) → IsUtf8 (fields_text fs)
+    → IsUtf8 (fields_text (field spell o ++ fs))
+field_utf8 spell None fs h k = k
+field_utf8 spell (Some x) fs h k = behind tt (IsUtf8-append (spell x) _ (h x refl) k)
+
+-- parameters, if there are any, in front of fields
+list_utf8 : (ps : List Pair) (fs : List (List ℕ)) → list_all is_param ps ≡ true
+    → IsUtf8 (fields_text fs) → IsUtf8 (fields_text (list_field ps ++ fs))
+list_utf8 [] fs h k = k
+list_utf8 (p ∷ ps) fs h k = behind tt (IsUtf8-append (params_text (p ∷ ps)) _ (items_utf8 p ps h) k)
+
+-- a PHC text is UTF-8
+pub text_is_utf8 : (v : Phc) → IsPhc v → IsUtf8 (phc_text v)
+text_is_utf8 v h = behind tt (IsUtf8-append v.algorithm _ (IsUtf8-name v.algorithm h.algorithm)
+    (field_utf8 version_text v.version _ (λ n e. let small : n < 2 ^ 32 = rw e at h.version in
+    behind tt (behind tt (IsUtf8-from_ascii _ (IsAscii-decimal n (omega arith)))))
+    (list_utf8 v.params _ (all_params v.params h.params)
+    (field_utf8 strict_base64 v.salt _ (λ b _. IsUtf8-strict_base64 b)
+    (rw (append-nil _) at (field_utf8 strict_base64 v.hash [] (λ b _. IsUtf8-strict_base64 b) IsUtf8-nil))))))

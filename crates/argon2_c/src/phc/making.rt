@@ -1,0 +1,219 @@
+//! Parameters of a C caller: why they are refused, the text of a hash, and memory that is filled.
+
+ghost use Rattle.std.specs.Prelude.{◌≡◌, ◌≢◌, ◌++◌, ◌∷◌, None, unwrap_or, suc, length, drop};
+ghost use Rattle.std.specs.Option.{option_or};
+ghost use Rattle.argon2_base.specs.PhcFields.{phc_of};
+ghost use Rattle.argon2_base.specs.PhcText.{phc_text};
+ghost use Rattle.argon2.specs.Refusals.{first_of};
+ghost use Rattle.argon2_c.specs.PhcRequests.{length_set, params_refusal, phc_encode_code, tag_faults, text_faults, value_with};
+
+use super::fault::error_code;
+use crate::code::*;
+use crate::encode::put;
+use crate::hash::variant;
+use crate::request::Request;
+use argon2::phc::{Output, ParamsString, Salt};
+use argon2::{
+    AssociatedData, KeyId, MAX_AD_LEN, MAX_PWD_LEN, MAX_SALT_LEN, MAX_SECRET_LEN, MIN_SALT_LEN,
+    Params, ParamsBuilder, PasswordHash,
+};
+
+// Why parameters are refused, of which outputs have this length, if it is set.
+fn params_refusal(
+    request: &Request,
+    output: Option<usize>,
+    most_associated: usize,
+    keyid: usize,
+    associated: usize,
+    secret: usize,
+) -> Option<i32>
+    ensures { result ≡ params_refusal request.now output most_associated keyid associated secret }
+{
+    match Params::new(request.m_cost, request.t_cost, request.lanes, output) {
+        Ok(_) => match () {
+            _ if keyid > KeyId::MAX_LEN => Some(KEYID_TOO_LONG),
+            _ if associated > most_associated => Some(AD_TOO_LONG),
+            _ if request.algorithm > 2 => Some(NO_ALGORITHM),
+            _ if request.version != 16 && request.version != 19 => Some(NO_VERSION),
+            _ if secret > MAX_SECRET_LEN => Some(SECRET_TOO_LONG),
+            _ => None,
+        },
+        Err(error) => Some(error_code(&error)),
+    }
+}
+
+/// The code of the first fault of parameters, or 0. Outputs have the length `output`, if `is_set`.
+#[unsafe(no_mangle)]
+pub extern "C" fn argon2_c_params_refusal(
+    request: &Request,
+    is_set: bool,
+    output: usize,
+    keyid: usize,
+    associated: usize,
+    secret: usize,
+) -> i32
+    ensures { result ≡ unwrap_or
+        (params_refusal request.now (length_set is_set output) 32 keyid associated secret) OK }
+{
+    let output = if is_set { Some(output) } else { None };
+    params_refusal(
+        request,
+        output,
+        AssociatedData::MAX_LEN,
+        keyid,
+        associated,
+        secret,
+    )
+    .unwrap_or(OK)
+}
+
+/// The code of the first fault of parameters, and then of a text with a salt and a hash of so many bytes of a
+/// password of so many; or 0.
+#[unsafe(no_mangle)]
+pub extern "C" fn argon2_c_text_refusal(
+    request: &Request,
+    is_set: bool,
+    output: usize,
+    keyid: usize,
+    associated: usize,
+    secret: usize,
+    salt: usize,
+    hash: usize,
+    pwd: usize,
+) -> i32
+    ensures { result ≡ unwrap_or (option_or
+        (params_refusal request.now (length_set is_set output) 32 keyid associated secret)
+        (first_of (text_faults salt hash pwd))) OK }
+{
+    let output = if is_set { Some(output) } else { None };
+    let most = AssociatedData::MAX_LEN;
+    match params_refusal(request, output, most, keyid, associated, secret) {
+        Some(code) => code,
+        None => text_refusal(salt, hash, pwd).unwrap_or(OK),
+    }
+}
+
+// Why no text is made with a salt and a hash of so many bytes, of a password of so many.
+fn text_refusal(salt: usize, hash: usize, pwd: usize) -> Option<i32>
+    ensures { result ≡ first_of (text_faults salt hash pwd) }
+{
+    match () {
+        _ if salt < Salt::MIN_LENGTH => Some(SALT_TOO_SHORT),
+        _ if salt > Salt::MAX_LENGTH => Some(SALT_TOO_LONG),
+        _ if hash < Output::MIN_LENGTH => Some(OUTPUT_TOO_SHORT),
+        _ if hash > Output::MAX_LENGTH => Some(OUTPUT_TOO_LONG),
+        _ if pwd > MAX_PWD_LEN => Some(PWD_TOO_LONG),
+        _ => None,
+    }
+}
+
+/// The code of the first fault of parameters, whose data has up to 4294967295 bytes, and then of a tag of so many
+/// bytes of a password and a salt of so many; or 0.
+#[unsafe(no_mangle)]
+pub extern "C" fn argon2_c_tag_refusal(
+    request: &Request,
+    is_set: bool,
+    output: usize,
+    associated: usize,
+    secret: usize,
+    out: usize,
+    pwd: usize,
+    salt: usize,
+) -> i32
+    ensures { result ≡ unwrap_or (option_or
+        (params_refusal request.now (length_set is_set output) 4294967295 0 associated secret)
+        (first_of (tag_faults (length_set is_set output) out pwd salt))) OK }
+{
+    let output = if is_set { Some(output) } else { None };
+    match params_refusal(request, output, MAX_AD_LEN, 0, associated, secret) {
+        Some(code) => code,
+        None => tag_refusal(output, out, pwd, salt).unwrap_or(OK),
+    }
+}
+
+// Why no tag of so many bytes is made of a password and a salt of so many.
+fn tag_refusal(output: Option<usize>, out: usize, pwd: usize, salt: usize) -> Option<i32>
+    ensures { result ≡ first_of (tag_faults output out pwd salt) }
+{
+    match () {
+        _ if out < output.unwrap_or(Params::MIN_OUTPUT_LEN) => Some(OUTPUT_TOO_SHORT),
+        _ if out > output.unwrap_or(Params::MAX_OUTPUT_LEN) => Some(OUTPUT_TOO_LONG),
+        _ if pwd > MAX_PWD_LEN => Some(PWD_TOO_LONG),
+        _ if salt < MIN_SALT_LEN => Some(SALT_TOO_SHORT),
+        _ if salt > MAX_SALT_LEN => Some(SALT_TOO_LONG),
+        _ => None,
+    }
+}
+
+/// Writes the text of parameters with this salt and this hash, and a zero byte behind it, and returns 0.
+///
+/// # Errors
+/// The first of these that holds; `out` is then as before:
+/// - the code of the first fault of the parameters, and then of the lengths, as `argon2_c_text_refusal` has them.
+/// - -72: there is too little room.
+#[unsafe(no_mangle)]
+pub extern "C" fn argon2_c_phc_encode(
+    request: &Request,
+    keyid: &[u8],
+    associated: &[u8],
+    salt: &[u8],
+    hash: &[u8],
+    out: &mut [u8],
+) -> i32
+    ensures answer { result ≡ phc_encode_code request.now keyid.now associated.now salt.now hash.now
+        (length out.old) }
+    ensures written { let text = phc_text (value_with request.now keyid.now associated.now salt.now hash.now) in
+        result ≡ OK → out.new ≡ text ++ 0 ∷ drop (suc (length text)) out.old }
+    ensures same { result ≢ OK → out.new ≡ out.old }
+{
+    let most = AssociatedData::MAX_LEN;
+    if let Some(code) = params_refusal(request, None, most, keyid.len(), associated.len(), 0) {
+        return code;
+    }
+    if let Some(code) = text_refusal(salt.len(), hash.len(), 0) {
+        return code;
+    }
+    let text = value_of(request, keyid, associated, salt, hash).text();
+    let text = text.as_str().as_bytes();
+    if text.len() >= out.len() {
+        return ROOM_TOO_SHORT;
+    }
+    let at = put(text, out, 0);
+    put(b"\0", out, at);
+    OK
+}
+
+// The value of parameters, a salt and a hash, of which nothing is refused.
+fn value_of(
+    request: &Request,
+    keyid: &[u8],
+    associated: &[u8],
+    salt: &[u8],
+    hash: &[u8],
+) -> PasswordHash
+    requires params { params_refusal request.now None 32 (length keyid.now) (length associated.now) 0
+        ≡ None }
+    requires text { first_of (text_faults (length salt.now) (length hash.now) 0) ≡ None }
+    ensures { phc_of result ≡ value_with request.now keyid.now associated.now salt.now hash.now }
+{
+    let mut builder = ParamsBuilder::new();
+    builder.m_cost(request.m_cost);
+    builder.t_cost(request.t_cost);
+    builder.p_cost(request.lanes);
+    builder.keyid(KeyId::new(keyid).unwrap());
+    builder.data(AssociatedData::new(associated).unwrap());
+    let params = builder.build().unwrap();
+    let Ok(params) = ParamsString::try_from(&params) else {
+        unreachable!();
+    };
+    let (Ok(salt), Ok(hash)) = (Salt::new(salt), Output::new(hash)) else {
+        unreachable!();
+    };
+    PasswordHash {
+        algorithm: variant(request.algorithm).ident(),
+        version: Some(request.version),
+        params,
+        salt: Some(salt),
+        hash: Some(hash),
+    }
+}
