@@ -9,7 +9,8 @@ use Rattle.argon2_base.specs.PhcText.{Phc}
 use Rattle.argon2.specs.Bound.{AsksWithin, IsWithin}
 use Rattle.argon2.specs.ListedParameters.{asked_of}
 use Rattle.argon2.specs.Refusals.{first_of, max_len}
-use Rattle.argon2.specs.Rfc9106.{block_count_for, context_with, segment_length_for, tag_of}
+use Rattle.argon2.specs.Argon2.{context_with}
+use Rattle.argon2.specs.Rfc9106.{block_count_for, segment_length_for, tag_of}
 use Rattle.argon2.specs.Settings.{Parameters}
 use Rattle.argon2.specs.Stored.{AcceptsBy, Stored, is_tag, stored_of, verified}
 use Rattle.argon2.proofs.password_hash_lemmas.Verified.{exact}

@@ -5,7 +5,8 @@ use Rattle.argon2_base.specs.Error.{Fault, bad_algorithm, bad_param, bad_params,
 use Rattle.argon2_base.specs.PhcText.{Phc, fields_text, field, params_text, version_text}
 use Rattle.argon2.specs.ListedParameters.{asked_of}
 use Rattle.argon2.specs.Refusals.{first_of, max_len}
-use Rattle.argon2.specs.Rfc9106.{block_count_for, context_with, tag_of}
+use Rattle.argon2.specs.Argon2.{context_with}
+use Rattle.argon2.specs.Rfc9106.{block_count_for, tag_of}
 use Rattle.argon2.specs.Settings.{Parameters, Settings, algorithm_number, version_number}
 use Rattle.argon2.specs.Stored.{Stored, shown_settings, stored_of}
 use Rattle.argon2.specs.declared.bound.Bound.{Bound}

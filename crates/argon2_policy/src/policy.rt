@@ -2,8 +2,7 @@
 
 ghost use Rattle.std.proofs.Props.{props};
 ghost use Rattle.std.specs.Prelude.{◌≡◌, unwrap_or};
-ghost use Rattle.argon2.specs.Params.{parameters_of};
-ghost use Rattle.argon2.specs.Argon2.{settings_of};
+ghost use Rattle.argon2.specs.Argon2.{parameters_of, settings_of};
 ghost use Rattle.argon2.specs.Bound.{IsWithin};
 ghost use Rattle.argon2.specs.Made.{IsTarget, target_of};
 

@@ -5,7 +5,7 @@ ghost use Rattle.std.specs.Result.{result_map_both};
 ghost use Rattle.argon2_base.specs.PhcFields.{phc_of};
 ghost use Rattle.argon2_base.specs.PhcText.{Phc, PhcText};
 ghost use Rattle.argon2.specs.Bound.{AcceptsWithin};
-ghost use Rattle.argon2.specs.Params.{parameters_of};
+ghost use Rattle.argon2.specs.Argon2.{parameters_of};
 ghost use Rattle.argon2.specs.Refusals.{max_len};
 ghost use Rattle.argon2.specs.Rfc9106.{block_count_for};
 ghost use Rattle.argon2.specs.Stored.{stored_value};
