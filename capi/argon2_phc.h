@@ -179,7 +179,7 @@ typedef struct argon2p_shown {
     uint8_t data[ARGON2P_MAX_DATA];
 } argon2p_shown;
 
-#define ARGON2P_SHOWN_INIT {sizeof(argon2p_shown)}
+#define ARGON2P_SHOWN_INIT {sizeof(argon2p_shown), 0, 0, 0, 0, 0, 0, 0, 0, 0, 0, 0, 0, 0, 0, {0}, {0}, {0}, {0}}
 
 /* A block of memory. */
 typedef struct argon2p_block {
