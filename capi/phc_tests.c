@@ -8,6 +8,7 @@
 #include "counts.h"
 
 #include <malloc.h>
+#include <pthread.h>
 #include <stdlib.h>
 #include <sys/types.h>
 
@@ -447,7 +448,7 @@ static void lent_blocks(void) {
 
 /* ---- each request for memory refused in turn, and wiping */
 
-#ifdef REFUSES
+#ifndef __SANITIZE_ADDRESS__ /* which has larger frames */
 static int call(int which) {
     static char text[ARGON2P_TEXT_SIZE];
     static uint8_t out[32];
@@ -462,6 +463,35 @@ static int call(int which) {
     return answer && (text[0] != 7 || out[0] != 7 || by_old != 7) ? 1 : answer;
 }
 
+static uint8_t stack[1 << 18] __attribute__((aligned(4096)));
+static uint8_t *top;
+
+static void *call_here(void *which) {
+    top = __builtin_frame_address(0);
+    call(*(int *)which);
+    return NULL;
+}
+
+/* No eight bytes of the tag stay on the stack, of which a call takes up to 32 KiB. */
+static void stacks_of_calls(void) {
+    for (int which = 0; which < 3; which++) {
+        pthread_attr_t attributes;
+        pthread_t thread;
+        int found = 0;
+        size_t untouched = 0;
+        memset(stack, 0xA5, sizeof stack);
+        pthread_attr_init(&attributes), pthread_attr_setstack(&attributes, stack, sizeof stack);
+        check(!pthread_create(&thread, &attributes, call_here, &which) && !pthread_join(thread, NULL), "a thread", which);
+        for (size_t i = 0; i + 8 <= sizeof stack; i++)
+            for (int part = 0; part < 32; part += 8) found += !memcmp(stack + i, tag + part, 8);
+        check(found == 0, "no tag on the stack", which);
+        while (stack[untouched] == 0xA5) untouched++;
+        check(top - stack - untouched <= 32 << 10, "32 KiB of stack", top - stack - untouched);
+    }
+}
+#endif
+
+#ifdef REFUSES
 static void refused_memory(void) {
     for (int which = 0; which < 4; which++) {
         int answer;
@@ -479,6 +509,9 @@ static void refused_memory(void) {
 int main(void) {
     known_texts(), old_secrets(), drawn_salts(), codes(), messages(), refused_texts(), shown_texts(), renewals(), later_structures();
     lent_blocks();
+#ifndef __SANITIZE_ADDRESS__
+    stacks_of_calls();
+#endif
 #ifdef REFUSES
     refused_memory();
 #endif
