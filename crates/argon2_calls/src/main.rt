@@ -1,36 +1,28 @@
-//! Makes the calls that the lines of standard input name, and prints each line with its answer. So a test is a line:
-//! `stdin` has the calls, and `stdout` the same lines with the answers that they must have.
-//!
-//! - Empty lines and lines that begin with `#` are printed as they are.
-//! - Any other line is a call: its name and its values, each after one space. It is printed with ` = ` and the answer: a
-//!   value, `Ok`, or an error by its name. The module that makes a call says which values it takes.
-//! - A line that is no call, or has other values, is answered by `?`. If memory is refused to this program, and not to the
-//!   call, the answer is `no memory`.
-//!
-//! `lines` says how values are written, and `context` how a line names what is hashed under.
+//! Makes the calls on everything but files that the lines of standard input name, and prints each line with its answer.
+//! `argon2_lines` says how lines and values are written.
 #![tactic(auto)]
 
-ghost use Rattle.std.specs.Prelude.{IsNone};
-
-use files::File;
-use lines::{Answer, Refusal};
-use state::State;
-use std::io;
-use std::io::{BufWriter, Read, Write};
+use argon2::Block;
+use argon2::login::Login;
+use argon2_accounts::Accounts;
+use argon2_lines::{Context, Line, context};
+use std::alloc::Global;
+use std::io::{self, BufWriter, Read, Write};
 
 mod accounts;
-mod context;
-mod drawn;
-mod files;
+mod blocks;
+mod digests;
+mod errors;
 mod hashing;
-mod lines;
+mod lent;
+mod params;
 mod passwords;
 mod plain;
-mod state;
+mod policy;
+mod steps;
 mod stores;
 mod texts;
 mod uses;
-mod values;
 
 fn main(rt: HostRuntime) -> io::Result<()> {
     let alloc = rt.alloc();
@@ -38,66 +30,66 @@ fn main(rt: HostRuntime) -> io::Result<()> {
     rt.reader().read_to_string(&mut text)?;
     let contexts = context::defined(alloc, text.as_str())?;
     let mut output = BufWriter::new(alloc, rt.stdout())?;
-    let mut session = Session {
-        rt: &rt,
-        state: State::new(alloc, contexts.as_slice()),
-        file: None,
+    let mut state = State {
+        memory: Vec::new(alloc),
+        login: None,
+        accounts: None,
     };
-    write_lines(&mut output, &mut session, text.as_str())
+    write_each(alloc, &mut output, &mut state, &contexts, text.as_str())
 }
 
-// What lines leave for those after them. The file is apart, as its type makes each function that knows it slow to prove.
-#[derive(Drop)]
-struct Session<'a> {
-    rt: &'a HostRuntime,
-    state: State<'a>,
-    file: Option<File<'a>>,
-}
-
-// Writes each line, and then closes the file.
-fn write_lines<W: Write>(output: &mut W, session: &mut Session<'_>, text: &str) -> io::Result<()>
-    ensures { IsNone session.new.file }
-{
-    let written = write_each(output, session, text);
-    if let Some(file) = session.file.take() {
-        file.into_store();
-    }
-    written
-}
-
-fn write_each<W: Write>(output: &mut W, session: &mut Session<'_>, text: &str) -> io::Result<()> {
-    for line in text.lines() {
-        write_line(output, session, line)?;
+fn write_each<'a, W: Write>(
+    alloc: Global,
+    output: &mut W,
+    state: &mut State<'a>,
+    contexts: &'a [Context<'a>],
+    text: &str,
+) -> io::Result<()> {
+    for text in text.lines() {
+        let mut line = Line::new(alloc, contexts, text);
+        if line.is_call() {
+            answer(state, &mut line);
+        }
+        line.write(output)?;
     }
     output.flush()
 }
 
-// Writes a line, with its answer if it is a call.
-fn write_line<W: Write>(output: &mut W, session: &mut Session<'_>, line: &str) -> io::Result<()> {
-    if line.is_empty() || line.starts_with('#') {
-        return writeln!(output, "{line}");
-    }
-    let answer = if line.starts_with("AccountFile::") {
-        let (rt, contexts) = (session.rt, session.state.contexts);
-        files::answer(rt, contexts, &mut session.file, line)
-    } else {
-        answer(&mut session.state, line)
-    };
-    match answer {
-        Ok(answer) => writeln!(output, "{line} = {answer}"),
-        Err(refusal) => writeln!(output, "{line} = {refusal}"),
+// What lines leave for those after them: the memory that is lent, and the last store of each kind.
+#[derive(Drop)]
+struct State<'a> {
+    memory: Vec<Block>,
+    login: Option<Login<'a>>,
+    accounts: Option<Accounts<'a>>,
+}
+
+// Makes the call of a line.
+fn answer<'a>(state: &mut State<'a>, line: &mut Line<'a, '_>) {
+    let call = line.word();
+    let is_call = of_hashing(line, call)
+        || of_texts(line, call)
+        || lent::answer(line, call, &mut state.memory)
+        || stores::answer(line, call, &mut state.login)
+        || accounts::answer(line, call, &mut state.accounts);
+    if !is_call {
+        line.unread();
     }
 }
 
-// The answer of a call, by the module that has it.
-fn answer(state: &mut State<'_>, line: &str) -> Answer {
-    let words = lines::words(state.alloc, line)?;
-    let [call, values @ ..] = words.as_slice() else {
-        return Err(Refusal::Unread);
-    };
-    let answer = hashing::answer(state, call, values);
-    if !lines::is_unread(&answer) {
-        return answer;
-    }
-    accounts::answer(state, call, values)
+// A call on hashing that leaves nothing for later lines.
+fn of_hashing(line: &mut Line<'_, '_>, call: &str) -> bool {
+    digests::answer(line, call)
+        || blocks::answer(line, call)
+        || params::answer(line, call)
+        || errors::answer(line, call)
+        || hashing::answer(line, call)
+}
+
+// A call on texts or passwords, or an example, that leaves nothing for later lines.
+fn of_texts(line: &mut Line<'_, '_>, call: &str) -> bool {
+    texts::answer(line, call)
+        || texts::list_answer(line, call)
+        || passwords::answer(line, call)
+        || policy::answer(line, call)
+        || uses::answer(line, call)
 }

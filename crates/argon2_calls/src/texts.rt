@@ -1,220 +1,253 @@
 //! Calls on PHC texts, their parts and parameters. A value is answered by its text, a list that is empty by `""`, and
 //! what a text lacks by `none`.
 
-use crate::lines::{self, Answer, Refusal, or_none};
-use crate::values::Values;
-use argon2::password_hash::{self, Settings, Stored};
+use argon2::password_hash::{Result, Settings, Stored};
 use argon2::phc::{Ident, Output, ParamsString, Salt};
 use argon2::{Params, PasswordHash};
-use std::alloc::Global;
-use std::fmt::Display;
+use argon2_lines::Line;
 
-/// The answer of a call on texts.
-pub(crate) fn answer(values: Values<'_, '_>, call: &str) -> Answer {
-    let alloc = values.alloc;
-    match (call, values.words.len()) {
-        ("ParamsString::new", 0) => list(alloc, &ParamsString::new()),
-        ("Salt::new", 1) => printed(alloc, &Salt::new(&values.bytes(0)?)?),
-        ("Output::new", 1) => printed(alloc, &Output::new(&values.bytes(0)?)?),
-        ("PasswordHash::text", 5) => of_fields(values),
-        ("ParamsString::get", 2) => get(values),
-        ("ParamsString::add_decimal", 3) => with_decimal(values),
-        ("ParamsString::add_b64_bytes", 3) => with_bytes(values),
-        (_, 1) => of_text(alloc, call, &values.text(0)?),
-        _ => Err(Refusal::Unread),
-    }
-}
-
-// A call on one text.
-fn of_text(alloc: Global, call: &str, text: &str) -> Answer {
+pub(crate) fn answer(line: &mut Line<'_, '_>, call: &str) -> bool {
     match call {
-        "PasswordHash::new" => printed(alloc, &PasswordHash::new(text)?),
-        "PasswordHash.fields" => fields(alloc, &PasswordHash::new(text)?),
-        "Ident::new" => printed(alloc, &Ident::new(text)?),
-        "ParamsString::from_str" => list(alloc, &text.parse::<ParamsString>()?),
-        "ParamsString::iter" => items(alloc, &text.parse::<ParamsString>()?),
-        "Value::decimal" => decimal(alloc, text),
-        _ => of_parameters(alloc, call, text),
+        "Salt::new" => {
+            let made = Salt::new(&line.bytes());
+            line.said(made);
+        }
+        "Output::new" => {
+            let made = Output::new(&line.bytes());
+            line.said(made);
+        }
+        "Ident::new" => {
+            let made = Ident::new(&line.text());
+            line.said(made);
+        }
+        "PasswordHash::new" => {
+            let made = PasswordHash::new(&line.text());
+            line.said(made);
+        }
+        "PasswordHash::fmt" => {
+            let made = PasswordHash::new(&line.text());
+            line.shown(made);
+        }
+        "PasswordHash.fields" => fields(line),
+        "PasswordHash::text" => of_fields(line),
+        "Params::from_str" => {
+            let made = line.text().parse::<Params>();
+            line.said(made);
+        }
+        "Params::try_from" => parameters(line),
+        "Settings::try_from" => settings_of(line),
+        "Stored::try_from" => stored(line),
+        _ => return false,
     }
+    true
 }
 
-fn of_parameters(alloc: Global, call: &str, text: &str) -> Answer {
-    match call {
-        "Params::from_str" => printed(alloc, &text.parse::<Params>()?),
-        "ParamsString::try_from" => converted(alloc, text.parse::<Params>()?),
-        "Params::try_from" => parameters(alloc, &PasswordHash::new(text)?),
-        "Settings::try_from" => settings(alloc, &Settings::try_from(&PasswordHash::new(text)?)?),
-        "Stored::try_from" => stored(alloc, &PasswordHash::new(text)?),
-        _ => Err(Refusal::Unread),
+/// The value of a text. If the text has none, the line shows the error.
+pub(crate) fn value(line: &mut Line<'_, '_>) -> Option<PasswordHash> {
+    match PasswordHash::new(&line.text()) {
+        Ok(value) => Some(value),
+        Err(e) => {
+            line.show(e);
+            None
+        }
     }
-}
-
-// The text of a value.
-fn printed<T: Display>(alloc: Global, value: &T) -> Answer {
-    Ok(value.to_string(alloc)?)
-}
-
-// The text of a list.
-fn list(alloc: Global, list: &ParamsString) -> Answer {
-    let text = if list.is_empty() {
-        "\"\""
-    } else {
-        list.as_str()
-    };
-    Ok(String::from_str(alloc, text)?)
 }
 
 // The identifier, the version, the list, the salt and the hash of a text.
-fn fields(alloc: Global, hash: &PasswordHash) -> Answer {
-    let (version, params) = (
-        or_none(alloc, hash.version.as_ref())?,
-        list(alloc, &hash.params)?,
-    );
-    let (salt, output) = (
-        or_none(alloc, hash.salt.as_ref())?,
-        or_none(alloc, hash.hash.as_ref())?,
-    );
-    let name = hash.algorithm.as_str();
-    lines::joined(alloc, &[name, &version, &params, &salt, &output])
+fn fields(line: &mut Line<'_, '_>) {
+    if let Some(value) = value(line) {
+        line.say(value.algorithm.as_str());
+        line.say_or_none(value.version);
+        say_list(line, &value.params);
+        line.say_or_none(value.salt);
+        line.say_or_none(value.hash);
+    }
 }
 
 // `PasswordHash::text IDENTIFIER VERSION LIST SALT HASH`: the text of these fields, `none` or `""` for those that it lacks.
-fn of_fields(values: Values<'_, '_>) -> Answer {
-    let algorithm = Ident::new(values.word(0)?)?;
-    let version = if values.is_none(1) {
-        None
-    } else {
-        Some(values.number(1)?)
+fn of_fields(line: &mut Line<'_, '_>) {
+    let (name, version) = (line.word(), line.number_or_none());
+    let (list, salt, hash) = (line.text(), line.bytes_or_none(), line.bytes_or_none());
+    match made(name, version, &list, salt, hash) {
+        Ok(value) => line.say(value.text().as_str()),
+        Err(e) => line.show(e),
+    }
+}
+
+fn made(
+    name: &str,
+    version: Option<u32>,
+    list: &str,
+    salt: Option<Vec<u8>>,
+    hash: Option<Vec<u8>>,
+) -> Result<PasswordHash> {
+    let mut value = PasswordHash {
+        algorithm: Ident::new(name)?,
+        version,
+        params: list.parse::<ParamsString>()?,
+        salt: None,
+        hash: None,
     };
-    let params = list_of(values)?;
-    let hash = if values.is_none(3) {
-        PasswordHash {
-            algorithm,
-            version,
-            params,
-            salt: None,
-            hash: None,
+    if let Some(salt) = salt {
+        value.salt = Some(Salt::new(&salt)?);
+        if let Some(hash) = hash {
+            value.hash = Some(Output::new(&hash)?);
         }
-    } else {
-        let salt = Some(Salt::new(&values.bytes(3)?)?);
-        if values.is_none(4) {
-            PasswordHash {
-                algorithm,
-                version,
-                params,
-                salt,
-                hash: None,
-            }
-        } else {
-            let hash = Some(Output::new(&values.bytes(4)?)?);
-            PasswordHash {
-                algorithm,
-                version,
-                params,
-                salt,
-                hash,
-            }
+    }
+    Ok(value)
+}
+
+// The parameters of a text, and the output length.
+fn parameters(line: &mut Line<'_, '_>) {
+    if let Some(value) = value(line) {
+        match Params::try_from(&value) {
+            Ok(params) => say_params(line, &params),
+            Err(e) => line.show(e),
         }
-    };
-    Ok(String::from_str(values.alloc, hash.text().as_str())?)
+    }
+}
+
+fn say_params(line: &mut Line<'_, '_>, params: &Params) {
+    line.say(params);
+    line.say_or_none(params.output_len());
+}
+
+// The algorithm, the version, the parameters and the output length.
+fn settings_of(line: &mut Line<'_, '_>) {
+    if let Some(value) = value(line) {
+        match Settings::try_from(&value) {
+            Ok(settings) => say_settings(line, &settings),
+            Err(e) => line.show(e),
+        }
+    }
+}
+
+fn say_settings(line: &mut Line<'_, '_>, settings: &Settings) {
+    line.say(settings.algorithm.as_str());
+    line.say(u32::from(settings.version));
+    say_params(line, &settings.params);
+}
+
+// The same, the salt and the hash.
+fn stored(line: &mut Line<'_, '_>) {
+    if let Some(value) = value(line) {
+        match Stored::try_from(&value) {
+            Ok(stored) => {
+                say_settings(line, &stored.settings);
+                line.say(stored.salt.text().as_str());
+                line.say(stored.hash.text().as_str());
+            }
+            Err(e) => line.show(e),
+        }
+    }
 }
 
 // ---- parameter lists
 
-// The list of the text at the third place of five, or at the first.
-fn list_of(values: Values<'_, '_>) -> Result<ParamsString, Refusal> {
-    let at = if values.words.len() == 5 { 2 } else { 0 };
-    Ok(values.text(at)?.as_str().parse::<ParamsString>()?)
+pub(crate) fn list_answer(line: &mut Line<'_, '_>, call: &str) -> bool {
+    match call {
+        "ParamsString::new" => say_list(line, &ParamsString::new()),
+        "ParamsString::from_str" => {
+            if let Some(list) = list(line) {
+                say_list(line, &list);
+            }
+        }
+        "ParamsString::iter" => items(line),
+        "ParamsString::get" => get(line),
+        "ParamsString::add_decimal" => add_decimal(line),
+        "ParamsString::add_b64_bytes" => add_bytes(line),
+        "ParamsString::try_from" => converted(line),
+        "Value::decimal" => decimal(line),
+        _ => return false,
+    }
+    true
+}
+
+// A list. If the text is none, the line shows the error.
+fn list(line: &mut Line<'_, '_>) -> Option<ParamsString> {
+    match line.text().parse::<ParamsString>() {
+        Ok(list) => Some(list),
+        Err(e) => {
+            line.show(e);
+            None
+        }
+    }
+}
+
+// The text of a list.
+fn say_list(line: &mut Line<'_, '_>, list: &ParamsString) {
+    line.say(if list.is_empty() {
+        "\"\""
+    } else {
+        list.as_str()
+    });
 }
 
 // `ParamsString::get LIST NAME`: the value.
-fn get(values: Values<'_, '_>) -> Answer {
-    let list = list_of(values)?;
-    match list.get(values.word(1)?) {
-        Some(value) => Ok(String::from_str(values.alloc, value.as_str())?),
-        None => Ok(String::from_str(values.alloc, "none")?),
+fn get(line: &mut Line<'_, '_>) {
+    if let Some(list) = list(line) {
+        match list.get(line.word()) {
+            Some(value) => line.say(value.as_str()),
+            None => line.say("none"),
+        }
     }
 }
 
 // The names and values of a list, in order.
-fn items(alloc: Global, list: &ParamsString) -> Answer {
-    let mut all = String::new(alloc);
-    for (name, value) in list.iter() {
-        lines::push_word(&mut all, name.as_str())?;
-        lines::push_word(&mut all, value.as_str())?;
+fn items(line: &mut Line<'_, '_>) {
+    if let Some(list) = list(line) {
+        for (name, value) in list.iter() {
+            line.say(name.as_str());
+            line.say(value.as_str());
+        }
     }
-    Ok(all)
 }
 
 // The number of a value.
-fn decimal(alloc: Global, text: &str) -> Answer {
-    let list = format!(in alloc; "x={text}")?
-        .as_str()
-        .parse::<ParamsString>()?;
-    match list.get("x") {
-        Some(value) => printed(alloc, &value.decimal()?),
-        None => Err(Refusal::Unread),
+fn decimal(line: &mut Line<'_, '_>) {
+    let mut text = line.text();
+    if text.insert_str(0, "x=").is_err() {
+        return line.refused();
+    }
+    match text.parse::<ParamsString>() {
+        Ok(list) => match list.get("x") {
+            Some(value) => line.said(value.decimal()),
+            None => line.unread(),
+        },
+        Err(e) => line.show(e),
     }
 }
 
 // `ParamsString::add_decimal LIST NAME NUMBER`: `Ok` or the error, and the list then.
-fn with_decimal(values: Values<'_, '_>) -> Answer {
-    let (mut list, name) = (list_of(values)?, values.text(1)?);
-    let done = list.add_decimal(&name, values.number(2)?);
-    with_list(values.alloc, done, &list)
-}
-
-// `ParamsString::add_b64_bytes LIST NAME BYTES`: the same.
-fn with_bytes(values: Values<'_, '_>) -> Answer {
-    let (mut list, name) = (list_of(values)?, values.text(1)?);
-    let done = list.add_b64_bytes(&name, &values.bytes(2)?);
-    with_list(values.alloc, done, &list)
-}
-
-fn with_list(alloc: Global, done: password_hash::Result<()>, all: &ParamsString) -> Answer {
-    let (done, list) = (lines::said(alloc, lines::outcome(done))?, list(alloc, all)?);
-    lines::joined(alloc, &[&done, &list])
-}
-
-// ---- parameters
-
-// The list of parameters, which is read as them.
-fn converted(alloc: Global, params: Params) -> Answer {
-    let all = ParamsString::try_from(&params)?;
-    let is_same = ParamsString::try_from(params)? == all && Params::try_from(&all)? == params;
-    if is_same {
-        list(alloc, &all)
-    } else {
-        Err(Refusal::Unread)
+fn add_decimal(line: &mut Line<'_, '_>) {
+    if let Some(mut list) = list(line) {
+        let (name, number) = (line.text(), line.number());
+        line.done(list.add_decimal(&name, number));
+        say_list(line, &list);
     }
 }
 
-// The parameters of a text, and the output length.
-fn parameters(alloc: Global, hash: &PasswordHash) -> Answer {
-    with_len(alloc, &Params::try_from(hash)?)
+// `ParamsString::add_b64_bytes LIST NAME BYTES`: the same.
+fn add_bytes(line: &mut Line<'_, '_>) {
+    if let Some(mut list) = list(line) {
+        let (name, bytes) = (line.text(), line.bytes());
+        line.done(list.add_b64_bytes(&name, &bytes));
+        say_list(line, &list);
+    }
 }
 
-fn with_len(alloc: Global, params: &Params) -> Answer {
-    let len = or_none(alloc, params.output_len().as_ref())?;
-    lines::joined(alloc, &[&params.to_string(alloc)?, &len])
+// `ParamsString::try_from TEXT`: the list of the text's parameters, if it is read as them.
+fn converted(line: &mut Line<'_, '_>) {
+    match list_of(&line.text()) {
+        Ok(Some(list)) => say_list(line, &list),
+        Ok(None) => line.unread(),
+        Err(e) => line.show(e),
+    }
 }
 
-// The algorithm, the version, the parameters and the output length.
-fn settings(alloc: Global, settings: &Settings) -> Answer {
-    let (version, params) = (
-        u32::from(settings.version),
-        with_len(alloc, &settings.params)?,
-    );
-    let version = version.to_string(alloc)?;
-    lines::joined(alloc, &[settings.algorithm.as_str(), &version, &params])
-}
-
-// The same, the salt and the hash.
-fn stored(alloc: Global, hash: &PasswordHash) -> Answer {
-    let stored = Stored::try_from(hash)?;
-    let (settings, salt, hash) = (settings(alloc, &stored.settings)?, stored.salt, stored.hash);
-    lines::joined(
-        alloc,
-        &[&settings, salt.text().as_str(), hash.text().as_str()],
-    )
+fn list_of(text: &str) -> Result<Option<ParamsString>> {
+    let params = text.parse::<Params>()?;
+    let list = ParamsString::try_from(&params)?;
+    let is_same = ParamsString::try_from(params)? == list && Params::try_from(&list)? == params;
+    Ok(if is_same { Some(list) } else { None })
 }

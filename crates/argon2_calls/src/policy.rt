@@ -1,0 +1,51 @@
+//! Calls on a policy: `CONTEXT M T P`, which it is made of, and then the call's values.
+
+use crate::passwords::logged_in;
+use crate::texts::value;
+use argon2_accounts::Policy;
+use argon2_lines::Line;
+
+pub(crate) fn answer(line: &mut Line<'_, '_>, call: &str) -> bool {
+    if !call.starts_with("Policy::") {
+        return false;
+    }
+    let (argon2, bound) = (line.context(), line.bound());
+    match Policy::new(line.alloc, argon2, bound) {
+        Ok(policy) => called(line, call, &policy),
+        Err(e) => line.show(e),
+    }
+    true
+}
+
+fn called(line: &mut Line<'_, '_>, call: &str, policy: &Policy<'_>) {
+    match call {
+        "Policy::new" => line.say("Ok"),
+        // `.. GENERATOR PASSWORD`: the text.
+        "Policy::hash_password" => {
+            let (mut rng, password) = (line.generator(), line.bytes());
+            line.said(policy.hash_password(&mut rng, &password));
+            line.drawn(&rng);
+        }
+        // `.. GENERATOR PASSWORD TEXT`.
+        "Policy::log_in" => {
+            let (mut rng, password) = (line.generator(), line.bytes());
+            if let Some(value) = value(line) {
+                let done = policy.log_in(&mut rng, &value, &password);
+                logged_in(line, done, &rng);
+            }
+        }
+        // `.. GENERATOR OLD NEW TEXT`: the text.
+        "Policy::change_password" => {
+            let (mut rng, old, new) = (line.generator(), line.bytes(), line.bytes());
+            if let Some(value) = value(line) {
+                line.said(policy.change_password(&mut rng, &value, &old, &new));
+                line.drawn(&rng);
+            }
+        }
+        // `.. PASSWORD`.
+        _ => {
+            policy.hash_for_nobody(&line.bytes());
+            line.say("Ok");
+        }
+    }
+}
