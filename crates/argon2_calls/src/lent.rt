@@ -124,7 +124,10 @@ pub(crate) fn place_count(argon2: &Argon2<'_>) -> Option<usize>
         n ≡ (context_of argon2.now).t_cost * block_count (context_of argon2.now)) }
 {
     let params = argon2.params();
-    params.block_count().checked_mul(params.t_cost() as usize)
+    match params.block_count().checked_mul(params.t_cost() as usize) {
+        Some(count) => Some(count),
+        None => None,
+    }
 }
 
 // `hash_password_into_watched CONTEXT PASSWORD SALT LENGTH PLACE..`, with the positions at these places.
