@@ -16,6 +16,11 @@ pub(crate) fn read<'a>(line: &mut Line<'a, '_>) -> Inputs<'a> {
 pub(crate) fn answer(line: &mut Line<'_, '_>, call: &str) -> bool {
     match call {
         "context" => context::define(line),
+        "Argon2::algorithm" => {
+            let argon2 = line.context();
+            line.show(argon2.algorithm());
+            line.show(argon2.version());
+        }
         "Argon2::fmt" => {
             let argon2 = line.context();
             line.show(argon2);

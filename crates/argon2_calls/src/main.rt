@@ -4,12 +4,10 @@
 
 use argon2::Block;
 use argon2::login::Login;
-use argon2_accounts::Accounts;
 use argon2_lines::{Context, Line, context};
 use std::alloc::Global;
 use std::io::{self, BufWriter, Read, Write};
 
-mod accounts;
 mod blocks;
 mod digests;
 mod errors;
@@ -33,7 +31,6 @@ fn main(rt: HostRuntime) -> io::Result<()> {
     let mut state = State {
         memory: Vec::new(alloc),
         login: None,
-        accounts: None,
     };
     write_each(alloc, &mut output, &mut state, &contexts, text.as_str())
 }
@@ -55,12 +52,11 @@ fn write_each<'a, W: Write>(
     output.flush()
 }
 
-// What lines leave for those after them: the memory that is lent, and the last store of each kind.
+// What lines leave for those after them: the memory that is lent, and the last login store.
 #[derive(Drop)]
 struct State<'a> {
     memory: Vec<Block>,
     login: Option<Login<'a>>,
-    accounts: Option<Accounts<'a>>,
 }
 
 // Makes the call of a line.
@@ -69,8 +65,7 @@ fn answer<'a>(state: &mut State<'a>, line: &mut Line<'a, '_>) {
     let is_call = of_hashing(line, call)
         || of_texts(line, call)
         || lent::answer(line, call, &mut state.memory)
-        || stores::answer(line, call, &mut state.login)
-        || accounts::answer(line, call, &mut state.accounts);
+        || stores::answer(line, call, &mut state.login);
     if !is_call {
         line.unread();
     }

@@ -1,6 +1,5 @@
 //! Calls on passwords: hashing to a text, verifying, bounds, and what a store makes of one text.
 
-use crate::texts::value;
 use argon2::login::{LoggedIn, Target};
 use argon2::password_hash::Stored;
 use argon2::{CustomizedPasswordHasher, PasswordHasher, PasswordVerifier};
@@ -29,7 +28,7 @@ pub(crate) fn answer(line: &mut Line<'_, '_>, call: &str) -> bool {
         // The same of the text's value.
         "verify_password::<PasswordHash>" => {
             let (argon2, password) = (line.context(), line.bytes());
-            if let Some(value) = value(line) {
+            if let Some(value) = line.value() {
                 line.done(argon2.verify_password(line.alloc, &password, &value));
             }
         }
@@ -66,7 +65,7 @@ fn bound_answer(line: &mut Line<'_, '_>, call: &str) -> bool {
         },
         // The same of the text's value.
         "Bound::admit_hash" => {
-            if let Some(value) = value(line) {
+            if let Some(value) = line.value() {
                 line.said(bound.admit_hash(&value));
             }
         }
@@ -107,7 +106,7 @@ fn on_target(line: &mut Line<'_, '_>, call: &str, target: &Target<'_>) {
         }
         // `.. PASSWORD TEXT`.
         "Target::verify" => {
-            let (password, value) = (line.bytes(), value(line));
+            let (password, value) = (line.bytes(), line.value());
             if let Some(value) = value {
                 match Stored::try_from(&value) {
                     Ok(stored) => line.done(target.verify(line.alloc, &password, &stored)),
@@ -117,7 +116,7 @@ fn on_target(line: &mut Line<'_, '_>, call: &str, target: &Target<'_>) {
         }
         // `.. GENERATOR PASSWORD TEXT`.
         _ => {
-            let (mut rng, password, value) = (line.generator(), line.bytes(), value(line));
+            let (mut rng, password, value) = (line.generator(), line.bytes(), line.value());
             if let Some(value) = value {
                 match Stored::try_from(&value) {
                     Ok(stored) => {

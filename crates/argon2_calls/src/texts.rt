@@ -42,20 +42,9 @@ pub(crate) fn answer(line: &mut Line<'_, '_>, call: &str) -> bool {
     true
 }
 
-/// The value of a text. If the text has none, the line shows the error.
-pub(crate) fn value(line: &mut Line<'_, '_>) -> Option<PasswordHash> {
-    match PasswordHash::new(&line.text()) {
-        Ok(value) => Some(value),
-        Err(e) => {
-            line.show(e);
-            None
-        }
-    }
-}
-
 // The identifier, the version, the list, the salt and the hash of a text.
 fn fields(line: &mut Line<'_, '_>) {
-    if let Some(value) = value(line) {
+    if let Some(value) = line.value() {
         line.say(value.algorithm.as_str());
         line.say_or_none(value.version);
         say_list(line, &value.params);
@@ -99,7 +88,7 @@ fn made(
 
 // The parameters of a text, and the output length.
 fn parameters(line: &mut Line<'_, '_>) {
-    if let Some(value) = value(line) {
+    if let Some(value) = line.value() {
         match Params::try_from(&value) {
             Ok(params) => say_params(line, &params),
             Err(e) => line.show(e),
@@ -114,7 +103,7 @@ fn say_params(line: &mut Line<'_, '_>, params: &Params) {
 
 // The algorithm, the version, the parameters and the output length.
 fn settings_of(line: &mut Line<'_, '_>) {
-    if let Some(value) = value(line) {
+    if let Some(value) = line.value() {
         match Settings::try_from(&value) {
             Ok(settings) => say_settings(line, &settings),
             Err(e) => line.show(e),
@@ -130,7 +119,7 @@ fn say_settings(line: &mut Line<'_, '_>, settings: &Settings) {
 
 // The same, the salt and the hash.
 fn stored(line: &mut Line<'_, '_>) {
-    if let Some(value) = value(line) {
+    if let Some(value) = line.value() {
         match Stored::try_from(&value) {
             Ok(stored) => {
                 say_settings(line, &stored.settings);

@@ -6,7 +6,7 @@ use argon2::{Block, Params};
 use argon2_lines::Line;
 use argon2_uses::arena::{Input, hash_all};
 use argon2_uses::vault::Header;
-use argon2_uses::{digest, passwords, scheduler, secret, vault};
+use argon2_uses::{digest, passwords, scheduler, vault};
 
 pub(crate) fn answer(line: &mut Line<'_, '_>, call: &str) -> bool {
     match call {
@@ -44,15 +44,6 @@ pub(crate) fn answer(line: &mut Line<'_, '_>, call: &str) -> bool {
             line.written(done, &out);
         }
         "arena::hash_all" => hash_both(line),
-        // `GENERATOR OLD NEW PASSWORD TEXT`: the fresh text, or `none`.
-        "secret::verify_under_both" => {
-            let (mut rng, old, new) = (line.generator(), line.context(), line.context());
-            let (alloc, password, text) = (line.alloc, line.bytes(), line.word());
-            match secret::verify_under_both(alloc, &mut rng, &old, &new, &password, text) {
-                Ok(fresh) => line.say_or_none(fresh),
-                Err(e) => line.show(e),
-            }
-        }
         _ => return false,
     }
     true

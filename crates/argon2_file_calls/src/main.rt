@@ -3,14 +3,20 @@
 //! read, and with `closed` if the file has to be opened again.
 #![tactic(auto)]
 
+ghost use Rattle.std.specs.Prelude.{IsNone};
+
+use argon2::password_hash::Error;
+use argon2_accounts::Accounts;
 use argon2_lines::{Context, Line, context};
-use argon2_rows::View;
+use argon2_policy::Policy;
+use argon2_rows::{StoredText, View};
 use argon2_store::{AccountFile, AccountsAt, account_file_runs};
+use argon2_uses::service;
 use sqlite_std_file::Wary;
 use std::io::{self, BufWriter, Read, Write};
 
 // The accounts of a file.
-type File<'a> = AccountsAt<'a, Wary>;
+type File = AccountsAt<Wary>;
 
 fn main(rt: HostRuntime) -> io::Result<()> {
     let alloc = rt.alloc();
@@ -18,19 +24,22 @@ fn main(rt: HostRuntime) -> io::Result<()> {
     rt.reader().read_to_string(&mut text)?;
     let contexts = context::defined(alloc, text.as_str())?;
     let mut output = BufWriter::new(alloc, rt.stdout())?;
-    write_lines(&rt, &mut output, &contexts, text.as_str())
+    let mut file = None;
+    write_lines(&rt, &mut output, &mut file, &contexts, text.as_str())
 }
 
 // Writes each line, and then closes the file.
 fn write_lines<'a, W: Write>(
     rt: &'a HostRuntime,
     output: &mut W,
+    file: &mut Option<File>,
     contexts: &'a [Context<'a>],
     text: &str,
-) -> io::Result<()> {
-    let mut file = None;
-    let written = write_each(rt, output, contexts, &mut file, text);
-    if let Some(file) = file {
+) -> io::Result<()>
+    ensures { IsNone file.new }
+{
+    let written = write_each(rt, output, file, contexts, text);
+    if let Some(file) = file.take() {
         file.into_store();
     }
     written
@@ -39,8 +48,8 @@ fn write_lines<'a, W: Write>(
 fn write_each<'a, W: Write>(
     rt: &'a HostRuntime,
     output: &mut W,
+    file: &mut Option<File>,
     contexts: &'a [Context<'a>],
-    file: &mut Option<File<'a>>,
     text: &str,
 ) -> io::Result<()> {
     for text in text.lines() {
@@ -54,7 +63,7 @@ fn write_each<'a, W: Write>(
 }
 
 // Makes the call of a line.
-fn answer<'a>(rt: &'a HostRuntime, line: &mut Line<'a, '_>, file: &mut Option<File<'a>>) {
+fn answer(rt: &HostRuntime, line: &mut Line<'_, '_>, file: &mut Option<File>) {
     match line.word() {
         "context" => context::define(line),
         "account_file_runs" => {
@@ -62,111 +71,130 @@ fn answer<'a>(rt: &'a HostRuntime, line: &mut Line<'a, '_>, file: &mut Option<Fi
             line.say("Ok");
         }
         "AccountFile::open" => open(rt, line, file),
-        "AccountFile::into_store" => close(line, file),
-        call => match file {
-            Some(file) => on_file(line, call, file),
+        "AccountFile::into_store" => match file.take() {
+            Some(file) => {
+                file.into_store();
+                line.say("Ok");
+            }
+            None => line.unread(),
+        },
+        call => match file.take() {
+            Some(opened) => *file = Some(on_file(line, call, opened)),
             None => line.unread(),
         },
     }
 }
 
-// `AccountFile::open PATH CONTEXT M T P`.
-fn open<'a>(rt: &'a HostRuntime, line: &mut Line<'a, '_>, file: &mut Option<File<'a>>) {
-    let (path, target, bound) = (line.word(), line.context(), line.bound());
-    match AccountFile::open(rt, path, Wary, target, bound) {
+// `AccountFile::open PATH`.
+fn open(rt: &HostRuntime, line: &mut Line<'_, '_>, file: &mut Option<File>) {
+    match AccountFile::open(rt, line.word(), Wary) {
         Ok(opened) => {
-            if let Some(before) = file.replace(opened) {
-                before.into_store();
-            }
+            *file = Some(opened);
             line.say("Ok");
         }
         Err(e) => line.show(e),
     }
 }
 
-fn close(line: &mut Line<'_, '_>, file: &mut Option<File<'_>>) {
-    match file.take() {
-        Some(file) => {
-            file.into_store();
-            line.say("Ok");
-        }
-        None => line.unread(),
-    }
-}
-
-fn on_file(line: &mut Line<'_, '_>, call: &str, file: &mut File<'_>) {
+fn on_file(line: &mut Line<'_, '_>, call: &str, mut file: File) -> File {
     match call {
-        "AccountFile::register"
-        | "AccountFile::login"
-        | "AccountFile::change_password"
-        | "AccountFile::set_password" => drawing(line, call, file),
-        "AccountFile::add"
-        | "AccountFile::replace"
-        | "AccountFile::remove"
-        | "AccountFile::text_of" => changed(line, call, file),
-        "AccountFile::add_all" => add_all(line, file),
-        "AccountFile::write_lines" => write_file(line, file),
+        "AccountFile::write_lines" => write_file(line, &mut file),
         "AccountFile::checkpoint" => line.done(file.checkpoint()),
-        _ => line.unread(),
+        "AccountFile::add_all" => add_all(line, &mut file),
+        _ if call.starts_with("AccountFile::") => changed(line, call, &mut file),
+        _ => file = on_accounts(line, call, file),
     }
     if file.is_closed() {
         line.say("closed");
     }
+    file
 }
 
 // The name's text, or why it can't be read.
-fn say_text(line: &mut Line<'_, '_>, file: &mut File<'_>, name: &str) {
+fn say_text(line: &mut Line<'_, '_>, file: &mut File, name: &str) {
     match file.text_of(name) {
         Ok(text) => line.say_or_none(text),
         Err(e) => line.show(e),
     }
 }
 
-// A call that may draw: `GENERATOR NAME PASSWORD`, or `GENERATOR NAME OLD NEW`.
-fn drawing(line: &mut Line<'_, '_>, call: &str, file: &mut File<'_>) {
-    let (mut rng, name, password) = (line.generator(), line.word(), line.bytes());
-    match call {
-        "AccountFile::register" => line.done(file.register(&mut rng, name, &password)),
-        "AccountFile::login" => line.shown(file.login(&mut rng, name, &password)),
-        "AccountFile::set_password" => line.done(file.set_password(&mut rng, name, &password)),
-        _ => {
-            let new = line.bytes();
-            line.done(file.change_password(&mut rng, name, &password, &new));
-        }
-    }
-    line.drawn(&rng);
-    say_text(line, file, name);
-}
-
-// A call on a name and texts.
-fn changed(line: &mut Line<'_, '_>, call: &str, file: &mut File<'_>) {
+// A call on a name, and the texts that it needs.
+fn changed(line: &mut Line<'_, '_>, call: &str, file: &mut File) {
     let name = line.word();
     match call {
         "AccountFile::add" => {
-            let text = line.word();
-            line.done(file.add(name, text));
+            if let Some(text) = line.value() {
+                line.done(file.add(name, &text));
+            }
+        }
+        "AccountFile::set" => {
+            if let Some(text) = line.value() {
+                line.done(file.set(name, &text));
+            }
         }
         "AccountFile::replace" => {
-            let (old, new) = (line.word(), line.word());
-            line.done(file.replace(name, old, new));
+            let old = line.word();
+            if let Some(new) = line.value() {
+                line.done(file.replace(name, old, &new));
+            }
         }
         "AccountFile::remove" => line.done(file.remove(name)),
-        _ => {}
+        "AccountFile::lock" => line.done(file.lock(name)),
+        "AccountFile::unlock" => line.done(file.unlock(name)),
+        "AccountFile::text_of" => {}
+        _ => line.unread(),
     }
     say_text(line, file, name);
 }
 
 // `AccountFile::add_all NAME TEXT NAME TEXT`: an error comes with the place of the entry that is refused.
-fn add_all(line: &mut Line<'_, '_>, file: &mut File<'_>) {
-    let (one, other) = ((line.word(), line.word()), (line.word(), line.word()));
-    match file.add_all(&[one, other]) {
+fn add_all(line: &mut Line<'_, '_>, file: &mut File) {
+    let (one, text_of_one) = (line.word(), line.word());
+    let (other, text_of_other) = (line.word(), line.word());
+    let texts = (StoredText::new(text_of_one), StoredText::new(text_of_other));
+    let (Ok((first, _)), Ok((second, _))) = texts else {
+        return line.show(Error::EncodingInvalid);
+    };
+    match file.add_all(&[(one, first), (other, second)]) {
         Ok(()) => line.say("Ok"),
         Err((place, e)) => line.put(format!(in line.alloc; "{e:?} at {place}")),
     }
 }
 
+// A call on accounts: `CONTEXT M T P`, which their policy is made of, and then `GENERATOR NAME PASSWORD`, or
+// `GENERATOR NAME OLD NEW`.
+fn on_accounts(line: &mut Line<'_, '_>, call: &str, file: File) -> File {
+    let (argon2, bound) = (line.context(), line.bound());
+    let (mut rng, name, password) = (line.generator(), line.word(), line.bytes());
+    let Ok(policy) = Policy::new(line.alloc, argon2, bound) else {
+        line.unread();
+        return file;
+    };
+    let mut accounts = Accounts { policy, file };
+    match call {
+        "Accounts::register" => line.done(accounts.register(&mut rng, name, &password)),
+        "Accounts::log_in" => line.shown(accounts.log_in(&mut rng, name, &password)),
+        "Accounts::set_password" => line.done(accounts.set_password(&mut rng, name, &password)),
+        "Accounts::change_password" => {
+            let new = line.bytes();
+            line.done(accounts.change_password(&mut rng, name, &password, &new));
+        }
+        "service::sign_up" => {
+            line.done(service::sign_up(&mut accounts, &mut rng, name, &password));
+        }
+        "service::has_password" => {
+            line.said(service::has_password(&mut accounts, &mut rng, name, &password));
+        }
+        _ => line.unread(),
+    }
+    line.drawn(&rng);
+    let Accounts { mut file, .. } = accounts;
+    say_text(line, &mut file, name);
+    file
+}
+
 // `AccountFile::write_lines`: the lines, joined by spaces.
-fn write_file(line: &mut Line<'_, '_>, file: &mut File<'_>) {
+fn write_file(line: &mut Line<'_, '_>, file: &mut File) {
     let mut output = Vec::new(line.alloc);
     match file.write_lines(View::Texts, &mut output) {
         Ok(Ok(())) => {}

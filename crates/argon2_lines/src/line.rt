@@ -11,9 +11,9 @@
 
 use crate::context::{self, Context};
 use crate::drawn::Drawn;
-use argon2::Argon2;
 use argon2::bound::Bound;
 use argon2::phc::read_decimal;
+use argon2::{Argon2, PasswordHash};
 use hex::FromHexError;
 use std::alloc::{AllocError, Global};
 use std::fmt::{Debug, Display};
@@ -213,6 +213,17 @@ impl<'a, 'w> Line<'a, 'w> {
             Err(_) => self.unread(),
         }
         text
+    }
+
+    /// The value of a PHC text. If the text has none, the answer is the error.
+    pub fn value(&mut self) -> Option<PasswordHash> {
+        match PasswordHash::new(&self.text()) {
+            Ok(value) => Some(value),
+            Err(e) => {
+                self.show(e);
+                None
+            }
+        }
     }
 
     /// A context of this name.
