@@ -1,0 +1,164 @@
+-- What calls on a file and answers of a policy make of the names.
+use Rattle.std.proofs.Common.{◌≡◌, ◌⊎◌, ℕ, List, [], ◌∷◌, Option, Some, None, Result, Ok, Err, refl, sym, ap, ◌∙◌, inl, inr, false, true, arith}
+use Rattle.std.specs.FinMap.{get}
+use Rattle.std.proofs.lemmas.Slice.Eq.{bytes_eq-Decides}
+use Rattle.std.specs.Prelude.{◌≢◌, ◌<◌, IsErrAnd, IsTrue, length}
+use Rattle.std.specs.Result.{result_map_both}
+use Rattle.sqlite_trees.specs.declared.store.Store.{Ghosts}
+use Rattle.argon2_base.specs.PhcFields.{phc_of}
+use Rattle.argon2_base.specs.PhcText.{Phc}
+use Rattle.argon2_base.specs.declared.phc.hash.PasswordHash.{PasswordHash}
+use Rattle.argon2.specs.Made.{HashingRefusal, IsFresh, Target}
+use Rattle.argon2.specs.declared.bound.BoundError.{BoundError}
+use Rattle.argon2.specs.Refusals.{max_len}
+use Rattle.argon2_base.specs.declared.error.password_hash.Error.{Error}
+use Rattle.argon2_base.specs.declared.error.password_hash.Error.TheVariants.{OutOfMemory, PasswordInvalid}
+use Rattle.argon2.specs.declared.bound.BoundError.TheVariants.{Refused, TooExpensive}
+use Rattle.argon2.specs.declared.login.answers.Accepted.{Accepted}
+use Rattle.argon2.specs.declared.login.answers.Accepted.TheVariants.{Rehashed}
+use Rattle.argon2_policy.specs.Policy.{Admits, ChangeRefusal, Denial, LogsIn, Policy}
+use Rattle.argon2_rows.proofs.RowLemmas.{get-changed}
+use Rattle.argon2_rows.specs.Names.{Texts, changed}
+use Rattle.argon2_rows.specs.Table.{IsHonest}
+use Rattle.argon2_store.specs.AccountFile.{Answers, HasNames, Serves, database_of}
+use Rattle.argon2_store.specs.Edits.{Edit, and_then, gives, made, name_of, refusal, replacing, text_of, unless}
+use Rattle.argon2_store.specs.Errors.{is_refusal as refuses}
+use Rattle.argon2_store.specs.Runs.{Does, reads}
+use Rattle.argon2_store.specs.declared.account_file.AccountFile.{AccountFile}
+use Rattle.argon2_store.specs.declared.error.FileError.{FileError}
+use Rattle.argon2_accounts.specs.Accounts.{Accepts, GivesPassword, HasPassword, Leaves, LogsNameIn, TextRefusal}
+use Rattle.argon2_accounts.specs.Errors.{is_refusal, of_file, of_policy}
+use Rattle.argon2_accounts.specs.declared.error.AccountError.{AccountError}
+
+-- ---- names
+
+unless_ok : (r : Option FileError) (x y : Texts) → and_then (unless r x) (λ names. Ok names) ≡ Ok y → y ≡ x
+unless_ok None x y is = cc
+unless_ok (Some why) x y is = absurd cc
+
+-- an edit that is accepted leaves its name what it gives
+edit_leaves : (edit : Edit) (before after : Texts) → made (edit ∷ []) before ≡ Ok after
+    → after ≡ changed before (name_of edit) (gives edit (get before (name_of edit)))
+edit_leaves edit before after is = unless_ok (refusal edit (get before (name_of edit))) _ after is
+
+-- the text of a hash says the hash's value
+pub accepts : (policy : Policy) (password : List ℕ) (h : PasswordHash) → Admits policy password (phc_of h)
+    → Accepts policy password (text_of h)
+accepts policy password h admits = (phc_of h, (h.grammatical, refl), admits)
+
+pub has_password : (policy : Policy) (name password : List ℕ) (names : Texts) (h : PasswordHash)
+    → get names name ≡ Some (text_of h) → Admits policy password (phc_of h) → HasPassword policy names name password
+has_password policy name password names h has admits = rw has (accepts policy password h admits)
+
+pub gives_password : (policy : Policy) (edit : Edit) (password : List ℕ) (before after : Texts) (h : PasswordHash)
+    → made (edit ∷ []) before ≡ Ok after → gives edit (get before (name_of edit)) ≡ Some (text_of h)
+    → Admits policy password (phc_of h) → HasPassword policy after (name_of edit) password
+gives_password policy edit password before after h is gives_it admits =
+    let left = edit_leaves edit before after is in
+    has_password policy (name_of edit) password after h
+    (ap (λ (m : Texts). get m (name_of edit)) left ∙ get-changed before (name_of edit) _ ∙ gives_it) admits
+
+-- ---- calls
+
+pub err_is : {X E : Type 0} (r : Result X E) (e : E) → IsErrAnd r (λ f. f ≡ e) → r ≡ Err e
+err_is r e is = grind arith
+
+module _ {S : Type 0} {g : Ghosts S} where
+  -- an edit that gives the text of a hash, if it is accepted
+  pub stored : (policy : Policy) (edit : Edit) (password : List ℕ) (h : PasswordHash)
+      (done : Result (Unit {0}) FileError) (old new : AccountFile S g)
+      → ((o : Option (List ℕ)) → gives edit o ≡ Some (text_of h)) → Admits policy password (phc_of h)
+      → Serves (edit ∷ []) done old new
+      → Leaves (GivesPassword policy (name_of edit) password (result_map_both (λ x. x) of_file done)) old new
+  stored policy edit password h (Ok x) old new gives_it admits serves = λ before has.
+      let it = serves before has in
+      (it.0, it.1.has, λ honest. gives_password policy edit password before it.0 h (it.1.answers honest) (gives_it _) admits)
+  stored policy edit password h (Err e) old new gives_it admits serves = λ before has.
+      let it = serves before has in (it.0, it.1.has, λ honest. (it.1.answers honest).1)
+
+  -- names that a call has only read
+  pub reads_leave : (P : Texts → Texts → Type 0) (old new : AccountFile S g) (error : Option FileError)
+      → Does (reads error) old new
+      → ((names : Texts) → HasNames new names → IsHonest g (database_of new) → P names names) → Leaves P old new
+  reads_leave P old new error did holds = λ before has.
+      let stays = did before has in (before, stays.has, λ honest. holds before stays.has honest)
+
+  -- names that were read, and then edited
+  pub edit_after_read : (P : Texts → Texts → Type 0) (edit : Edit) (done : Result (Unit {0}) FileError)
+      (old mid new : AccountFile S g) (error : Option FileError) → Does (reads error) old mid
+      → Serves (edit ∷ []) done mid new
+      → ((before after : Texts) → HasNames mid before → IsHonest g (database_of mid) → Answers before (edit ∷ []) done after
+      → P before after) → Leaves P old new
+  edit_after_read P edit done old mid new error did serves holds = λ before has.
+      let stays = did before has in
+      let it = serves before stays.has in
+      (it.0, it.1.has, λ honest. holds before it.0 stays.has (it.1.honest honest) (it.1.answers honest))
+
+-- ---- a text that is replaced
+
+-- a refusal comes of the names
+of_names : (e : FileError) → IsTrue (is_refusal (of_file e)) → IsTrue (refuses e)
+of_names e is = grind arith
+
+not_refused : (name new : List ℕ) (h : PasswordHash) → refusal (replacing name (text_of h) new) (Some (text_of h)) ≡ None
+not_refused name new h = let same = (bytes_eq-Decides (text_of h) (text_of h)).1 refl in rw same refl
+
+-- the text that was read is replaced, unless the file fails
+pub never_refused : (name new : List ℕ) (h : PasswordHash) (before : Texts) (e : FileError)
+    → get before name ≡ Some (text_of h) → made (replacing name (text_of h) new ∷ []) before ≢ Err e
+never_refused name new h before e has is =
+    let no : refusal (replacing name (text_of h) new) (get before name) ≡ None = rw has (not_refused name new h) in
+    go (refusal (replacing name (text_of h) new) (get before name)) _ no is
+  where
+    go : (r : Option FileError) (x : Texts) → r ≡ None → and_then (unless r x) (λ names. Ok names) ≡ Err e → ⊥
+    go None x none is = absurd cc
+    go (Some why) x none is = absurd cc
+
+-- so an error of it is no refusal
+pub fails_to_edit : (name old new : List ℕ) (h : PasswordHash) (before after : Texts) (e : FileError) → old ≡ text_of h
+    → get before name ≡ Some (text_of h) → Answers before (replacing name old new ∷ []) (Err e) after
+    → ¬ (IsTrue (is_refusal (of_file e)))
+fails_to_edit name old new h before after e same has answers is =
+    never_refused name new h before e has (rw same at (answers.0 (of_names e is)))
+
+-- ---- answers of a policy
+
+long : (password : List ℕ) (e : Error) → IsTrue (is_refusal (of_policy (Refused e))) → HashingRefusal password e
+    → max_len < length password
+long password OutOfMemory is why = absurd cc
+long password PasswordInvalid is why = why
+long password _ is why = absurd why
+
+module _ (policy : Policy) (name password : List ℕ) (names : Texts) (h : PasswordHash) (has : get names name ≡ Some (text_of h)) where
+  pub denies : (why : BoundError) → Denial policy password (phc_of h) why
+      → TextRefusal policy password (get names name) (of_policy why)
+  denies why denial = rw has (inr (inr (phc_of h, why, (h.grammatical, refl), denial, refl)))
+
+  -- why a password is not changed
+  pub keeps : (fresh : List ℕ) (why : BoundError) → ChangeRefusal policy password fresh (phc_of h) why
+      → IsTrue (is_refusal (of_policy why)) → TextRefusal policy password (get names name) (of_policy why)
+      ⊎ (HasPassword policy names name password × (max_len < length fresh))
+  keeps fresh why (inl denial) is = inl (denies why denial)
+  keeps fresh TooExpensive (inr making) is = absurd making.1
+  keeps fresh (Refused e) (inr making) is =
+      inr (has_password policy name password names h has making.0, long fresh e is making.1)
+
+-- ---- a login that renews a text
+
+pub renewed : (policy : Policy) (password drawn : List ℕ) (v w : Phc) (did : Accepted)
+    → LogsIn policy password drawn v (Ok did) w → did ≡ Rehashed → IsFresh policy.target password drawn w
+renewed policy password drawn v w did step is = (rw is at step).2
+
+pub renews : (policy : Policy) (name password drawn old : List ℕ) (text fresh : PasswordHash) (did : Accepted)
+    (before after : Texts) (done : Result (Unit {0}) FileError) → get before name ≡ Some (text_of text)
+    → Admits policy password (phc_of text) → Admits policy password (phc_of fresh)
+    → IsFresh policy.target password drawn (phc_of fresh) → Answers before (replacing name old (text_of fresh) ∷ []) done after
+    → LogsNameIn {X = Accepted} policy name password drawn (Ok did) before after
+renews policy name password drawn old text fresh did before after (Ok x) has by next made_of answers = (
+  has_password policy name password before text has by,
+  gives_password policy (replacing name old (text_of fresh)) password before after fresh answers refl next,
+  inr (fresh, made_of, edit_leaves (replacing name old (text_of fresh)) before after answers),
+)
+renews policy name password drawn old text fresh did before after (Err e) has by next made_of answers =
+    let it = has_password policy name password before text has by in
+    (it, rw answers.1 it, inl answers.1)

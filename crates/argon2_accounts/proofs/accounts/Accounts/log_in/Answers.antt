@@ -1,0 +1,158 @@
+use Rattle.std.proofs.Common.{◌≡◌, inl, inr, refl, rules, sym, Some, Ok, Err}
+use Rattle.rand_core.specs.Stream.{fill_bytes}
+use Rattle.argon2.specs.declared.login.answers.Accepted.{Accepted}
+use Rattle.argon2.specs.declared.login.answers.Accepted.TheVariants.{Kept}
+use Rattle.argon2_policy.specs.Policy.{policy_value}
+use Rattle.argon2_store.specs.Edits.{replacing, text_of}
+use Rattle.argon2_accounts.specs.Accounts.{LogsNameIn}
+use Rattle.argon2_accounts.specs.Errors.{of_file, of_policy}
+use Rattle.argon2_accounts.proofs.AccountLemmas.{denies, edit_after_read, err_is, fails_to_edit, has_password, reads_leave, renewed, renews}
+use Rattle.argon2_accounts.proofs.accounts.Accounts.log_in.Goals as goal
+
+pub returns-in_err-text-clause-call : goal.returns-in_err-text-clause-call
+returns-in_err-text-clause-call g c =
+    (c.in_err-text.ensures.reads.0, c.stored.new.file, c.in_err-text.ensures.reads.1, inl refl)
+
+pub returns-in_err-text-clause-names : goal.returns-in_err-text-clause-names
+returns-in_err-text-clause-names g c =
+    let policy = policy_value c.args.self.now.policy in
+    let drawn = (fill_bytes 16 (g.R.Rng.stream c.args.rng.now)).0 in
+    rw (err_is c.from_residual.result _ c.from_residual.ensures.1)
+    (reads_leave (LogsNameIn {X = Accepted} policy c.args.name.now c.args.password.now drawn (Err c.in_err-text.field-0.0))
+    c.args.self.now.file c.stored.new.file c.in_err-text.ensures.reads.0 c.in_err-text.ensures.reads.1
+    (λ names has honest. (refl, c.in_err-text.ensures.refused names has honest)))
+
+pub returns-in_err-accepted-clause-call : goal.returns-in_err-accepted-clause-call
+returns-in_err-accepted-clause-call g c =
+    (c.in_ok-text.ensures.reads.0, c.stored.new.file, c.in_ok-text.ensures.reads.1, inl refl)
+
+pub returns-in_err-accepted-clause-names : goal.returns-in_err-accepted-clause-names
+returns-in_err-accepted-clause-names g c =
+    let policy = policy_value c.args.self.now.policy in
+    let drawn = (fill_bytes 16 (g.R.Rng.stream c.args.rng.now)).0 in
+    let why = c.in_err-accepted.field-0.0 in
+    rw (err_is c.from_residual-in_err-accepted.result _ c.from_residual-in_err-accepted.ensures.1)
+    (reads_leave (LogsNameIn {X = Accepted} policy c.args.name.now c.args.password.now drawn (Err (of_policy why)))
+    c.args.self.now.file c.stored.new.file c.in_ok-text.ensures.reads.0 c.in_ok-text.ensures.reads.1
+    (λ names has honest. (
+      refl,
+      λ is. denies policy c.args.name.now c.args.password.now names c.in_ok-text.text
+          (c.in_ok-text.ensures.found names has honest) why c.in_err-accepted.ensures.step,
+    )))
+
+pub returns-in_default-clause-call : goal.returns-in_default-clause-call
+returns-in_default-clause-call g c =
+    (c.in_ok-text.ensures.reads.0, c.stored.new.file, c.in_ok-text.ensures.reads.1, inl refl)
+
+pub returns-in_default-clause-names : goal.returns-in_default-clause-names
+returns-in_default-clause-names g c =
+    let policy = policy_value c.args.self.now.policy in
+    let drawn = (fill_bytes 16 (g.R.Rng.stream c.args.rng.now)).0 in
+    reads_leave (LogsNameIn {X = Accepted} policy c.args.name.now c.args.password.now drawn
+    (Ok c.in_ok-accepted.field-0.accepted))
+    c.args.self.now.file c.stored.new.file c.in_ok-text.ensures.reads.0 c.in_ok-text.ensures.reads.1
+    (λ names has honest.
+    let it = has_password policy c.args.name.now c.args.password.now names c.in_ok-text.text
+    (c.in_ok-text.ensures.found names has honest) c.in_ok-accepted.ensures.accepted.0 in (it, it, inl refl))
+
+pub returns-in-Ok-clause-call : goal.returns-in-Ok-clause-call
+returns-in-Ok-clause-call g c =
+    let policy = policy_value c.args.self.now.policy in
+    let drawn = (fill_bytes 16 (g.R.Rng.stream c.args.rng.now)).0 in
+    let step = rw c.in-Some.is at c.in_ok-accepted.ensures.step in
+    let is_new = (rw c.in-Some.is at c.in_ok-accepted.ensures.fresh).0 refl in (
+      c.in_ok-text.ensures.reads.0,
+      c.stored.new.file,
+      c.in_ok-text.ensures.reads.1,
+      inr (
+        c.as_str.result.now,
+        c.in-Some.fresh,
+        c.replace.result,
+        renewed policy c.args.password.now drawn _ _ c.in_ok-accepted.field-0.accepted step is_new,
+        c.replace.ensures,
+      ),
+    )
+
+pub returns-in-Err-clause-call : goal.returns-in-Err-clause-call
+returns-in-Err-clause-call g c =
+    let policy = policy_value c.args.self.now.policy in
+    let drawn = (fill_bytes 16 (g.R.Rng.stream c.args.rng.now)).0 in
+    let step = rw c.in-Some.is at c.in_ok-accepted.ensures.step in
+    let is_new = (rw c.in-Some.is at c.in_ok-accepted.ensures.fresh).0 refl in (
+      c.in_ok-text.ensures.reads.0,
+      c.stored.new.file,
+      c.in_ok-text.ensures.reads.1,
+      inr (
+        c.as_str.result.now,
+        c.in-Some.fresh,
+        c.replace.result,
+        renewed policy c.args.password.now drawn _ _ c.in_ok-accepted.field-0.accepted step is_new,
+        c.replace.ensures,
+      ),
+    )
+
+pub returns-in-Err-2-clause-call : goal.returns-in-Err-2-clause-call
+returns-in-Err-2-clause-call g c =
+    let policy = policy_value c.args.self.now.policy in
+    let drawn = (fill_bytes 16 (g.R.Rng.stream c.args.rng.now)).0 in
+    let step = rw c.in-Some.is at c.in_ok-accepted.ensures.step in
+    let is_new = (rw c.in-Some.is at c.in_ok-accepted.ensures.fresh).0 refl in (
+      c.in_ok-text.ensures.reads.0,
+      c.stored.new.file,
+      c.in_ok-text.ensures.reads.1,
+      inr (
+        c.as_str.result.now,
+        c.in-Some.fresh,
+        c.replace.result,
+        renewed policy c.args.password.now drawn _ _ c.in_ok-accepted.field-0.accepted step is_new,
+        c.replace.ensures,
+      ),
+    )
+
+pub returns-in-Ok-clause-names : goal.returns-in-Ok-clause-names
+returns-in-Ok-clause-names g c =
+    let policy = policy_value c.args.self.now.policy in
+    let drawn = (fill_bytes 16 (g.R.Rng.stream c.args.rng.now)).0 in
+    let step = rw c.in-Some.is at c.in_ok-accepted.ensures.step in
+    let is_new = (rw c.in-Some.is at c.in_ok-accepted.ensures.fresh).0 refl in
+    let admits = rw c.in-Some.is at c.in_ok-accepted.ensures.accepted in
+    let edit = replacing c.args.name.now c.as_str.result.now (text_of c.in-Some.fresh) in
+    edit_after_read (LogsNameIn {X = Accepted} policy c.args.name.now c.args.password.now drawn (Ok c.in_ok-accepted.field-0.accepted)) edit c.replace.result
+    c.args.self.now.file c.stored.new.file c.replace.new.self c.in_ok-text.ensures.reads.0 c.in_ok-text.ensures.reads.1
+    c.replace.ensures
+    (λ before after has honest answers. renews policy c.args.name.now c.args.password.now drawn c.as_str.result.now
+    c.in_ok-text.text c.in-Some.fresh c.in_ok-accepted.field-0.accepted before after c.replace.result (c.in_ok-text.ensures.found before has honest)
+    admits.0 admits.1 (renewed policy c.args.password.now drawn _ _ c.in_ok-accepted.field-0.accepted step is_new) answers)
+
+pub returns-in-Err-clause-names : goal.returns-in-Err-clause-names
+returns-in-Err-clause-names g c =
+    let policy = policy_value c.args.self.now.policy in
+    let drawn = (fill_bytes 16 (g.R.Rng.stream c.args.rng.now)).0 in
+    let step = rw c.in-Some.is at c.in_ok-accepted.ensures.step in
+    let is_new = (rw c.in-Some.is at c.in_ok-accepted.ensures.fresh).0 refl in
+    let admits = rw c.in-Some.is at c.in_ok-accepted.ensures.accepted in
+    let edit = replacing c.args.name.now c.as_str.result.now (text_of c.in-Some.fresh) in
+    edit_after_read (LogsNameIn {X = Accepted} policy c.args.name.now c.args.password.now drawn (Ok Kept)) edit c.replace.result
+    c.args.self.now.file c.stored.new.file c.replace.new.self c.in_ok-text.ensures.reads.0 c.in_ok-text.ensures.reads.1
+    c.replace.ensures
+    (λ before after has honest answers. renews policy c.args.name.now c.args.password.now drawn c.as_str.result.now
+    c.in_ok-text.text c.in-Some.fresh Kept before after c.replace.result (c.in_ok-text.ensures.found before has honest)
+    admits.0 admits.1 (renewed policy c.args.password.now drawn _ _ c.in_ok-accepted.field-0.accepted step is_new) answers)
+
+pub returns-in-Err-2-clause-names : goal.returns-in-Err-2-clause-names
+returns-in-Err-2-clause-names g c =
+    let policy = policy_value c.args.self.now.policy in
+    let drawn = (fill_bytes 16 (g.R.Rng.stream c.args.rng.now)).0 in
+    let e = c.in-Err-2.error in
+    let same : c.as_str.result.now ≡ text_of c.in_ok-text.text = search rules in
+    let named : c.into.result ≡ of_file e = search rules in
+    rw named
+    (edit_after_read (LogsNameIn {X = Accepted} policy c.args.name.now c.args.password.now drawn (Err (of_file e)))
+    (replacing c.args.name.now c.as_str.result.now (text_of c.in-Some.fresh)) (Err e)
+    c.args.self.now.file c.stored.new.file c.replace.new.self c.in_ok-text.ensures.reads.0 c.in_ok-text.ensures.reads.1
+    c.in-Err-2.ensures
+    (λ before after has honest answers. (
+      answers.1,
+      λ is. absurd (fails_to_edit c.args.name.now c.as_str.result.now (text_of c.in-Some.fresh) c.in_ok-text.text before after
+          e same (c.in_ok-text.ensures.found before has honest) answers is),
+    )))

@@ -1,0 +1,5 @@
+use Rattle.std.proofs.Common.{Some}
+use Rattle.argon2_accounts.proofs.accounts.stored.Goals as goal
+
+pub returns-in_err-text-clause-reads : goal.returns-in_err-text-clause-reads
+returns-in_err-text-clause-reads g c = (Some c.in_err-text.field-0.0, c.in_err-text.ensures.reads)

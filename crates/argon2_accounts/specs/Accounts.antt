@@ -1,0 +1,88 @@
+-- What calls on accounts do to the names of their file.
+use Rattle.std.specs.Prelude.{◌≡◌, ◌⊎◌, ℕ, ◌<◌, List, [], ◌∷◌, false, Option, Some, None, IsSomeAnd, Result, Ok, Err, IsErrAnd, IsTrue, OnOk, length}
+use Rattle.std.specs.FinMap.{get}
+use Rattle.std.specs.Result.{result_map_both}
+use Rattle.sqlite_trees.specs.declared.store.Store.{Ghosts}
+use Rattle.argon2_base.specs.PhcFields.{phc_of}
+use Rattle.argon2_base.specs.PhcText.{Phc, PhcText}
+use Rattle.argon2_base.specs.declared.error.password_hash.Error.TheVariants.{EncodingInvalid, PasswordInvalid}
+use Rattle.argon2_base.specs.declared.phc.hash.PasswordHash.{PasswordHash}
+use Rattle.argon2.specs.Made.{IsFresh, Target}
+use Rattle.argon2.specs.NamedTexts.{IsText}
+use Rattle.argon2.specs.Refusals.{max_len}
+use Rattle.argon2.specs.declared.bound.BoundError.{BoundError}
+use Rattle.argon2_policy.specs.Policy.{Admits, Denial, MakingRefusal, Policy}
+use Rattle.argon2_rows.specs.Locks.{is_locked}
+use Rattle.argon2_rows.specs.Names.{Texts, changed}
+use Rattle.argon2_rows.specs.Table.{IsHonest}
+use Rattle.argon2_store.specs.AccountFile.{HasNames, Serves, database_of}
+use Rattle.argon2_store.specs.Edits.{Edit, replacing, text_of}
+use Rattle.argon2_store.specs.Runs.{Does, reads}
+use Rattle.argon2_store.specs.declared.account_file.AccountFile.{AccountFile}
+use Rattle.argon2_store.specs.declared.error.FileError.{FileError}
+use Rattle.argon2_accounts.specs.Errors.{is_refusal, of_file, of_policy}
+use Rattle.argon2_accounts.specs.declared.error.AccountError.{AccountError}
+use Rattle.argon2_accounts.specs.declared.error.AccountError.TheVariants.{NameUnknown, Refused}
+
+-- the text accepts the password within the bound
+abbrev pub Accepts : Policy → List ℕ → List ℕ → Type 0
+Accepts policy password text = (v : Phc) × PhcText text v × Admits policy password v
+
+-- the name has such a text
+abbrev pub HasPassword : Policy → Texts → List ℕ → List ℕ → Type 0
+HasPassword policy names name password = IsSomeAnd (get names name) (Accepts policy password)
+
+-- why a password is refused for a name with this text or none
+abbrev pub TextRefusal : Policy → List ℕ → Option (List ℕ) → AccountError → Type 0
+TextRefusal policy password None e = e ≡ NameUnknown
+TextRefusal policy password (Some text) e = (IsTrue (is_locked text) × (e ≡ Refused PasswordInvalid))
+    ⊎ (((is_locked text ≡ false) × ¬ (IsText text) × (e ≡ Refused EncodingInvalid))
+    ⊎ ((v : Phc) × (why : BoundError) × PhcText text v × Denial policy password v why × (e ≡ of_policy why)))
+
+-- the names stay, or this one has a fresh text of the password
+abbrev pub StaysOrRenews : Target → List ℕ → List ℕ → List ℕ → Texts → Texts → Type 0
+StaysOrRenews target name password drawn before after = (after ≡ before)
+    ⊎ ((fresh : PasswordHash) × IsFresh target password drawn (phc_of fresh)
+    × (after ≡ changed before name (Some (text_of fresh))))
+
+module _ {S : Type 0} {g : Ghosts S} where
+  -- A fresh text of the password is made, and the file makes this edit with it; without a text nothing is asked of the file.
+  abbrev pub Stores : (List ℕ → Edit) → Target → List ℕ → List ℕ → Result (Unit {0}) AccountError
+      → AccountFile S g → AccountFile S g → Type 0
+  Stores edit target password drawn result old new =
+      ((why : BoundError) × MakingRefusal password why × (result ≡ Err (of_policy why)) × (new ≡ old))
+      ⊎ ((fresh : PasswordHash) × (done : Result (Unit {0}) FileError) × IsFresh target password drawn (phc_of fresh)
+      × (result ≡ result_map_both (λ x. x) of_file done) × Serves (edit (text_of fresh) ∷ []) done old new)
+
+  -- The text of the name is read, and perhaps a fresh text of the password written in the place of the one that was read.
+  abbrev pub Replaces : Target → List ℕ → List ℕ → List ℕ → AccountFile S g → AccountFile S g → Type 0
+  Replaces target name password drawn old new = (error : Option FileError) × (mid : AccountFile S g)
+      × Does (reads error) old mid × ((new ≡ mid)
+      ⊎ ((text : List ℕ) × (fresh : PasswordHash) × (done : Result (Unit {0}) FileError)
+      × IsFresh target password drawn (phc_of fresh)
+      × Serves (replacing name text (text_of fresh) ∷ []) done mid new))
+
+  -- the names after a call on a file with names, if the disk has given no wrong answer that was taken as true
+  abbrev pub Leaves : (Texts → Texts → Type 0) → AccountFile S g → AccountFile S g → Type 0
+  Leaves P old new = (before : Texts) → HasNames old before
+      → (after : Texts) × HasNames new after × (IsHonest g (database_of new) → P before after)
+
+-- what registering a name or setting its password answers, and the names after it
+abbrev pub GivesPassword : {X : Type 0} → Policy → List ℕ → List ℕ → Result X AccountError → Texts → Texts → Type 0
+GivesPassword policy name password (Ok _) before after = HasPassword policy after name password
+GivesPassword policy name password (Err e) before after = after ≡ before
+
+-- a login
+abbrev pub LogsNameIn : {X : Type 0} → Policy → List ℕ → List ℕ → List ℕ → Result X AccountError → Texts → Texts → Type 0
+LogsNameIn policy name password drawn (Ok _) before after = HasPassword policy before name password
+    × HasPassword policy after name password × StaysOrRenews policy.target name password drawn before after
+LogsNameIn policy name password drawn (Err e) before after = (after ≡ before)
+    × (IsTrue (is_refusal e) → TextRefusal policy password (get before name) e)
+
+-- a change of a password
+abbrev pub ChangesName : {X : Type 0} → Policy → List ℕ → List ℕ → List ℕ → Result X AccountError → Texts → Texts → Type 0
+ChangesName policy name old password (Ok _) before after =
+    HasPassword policy before name old × HasPassword policy after name password
+ChangesName policy name old password (Err e) before after = (after ≡ before)
+    × (IsTrue (is_refusal e) → TextRefusal policy old (get before name) e
+    ⊎ (HasPassword policy before name old × (max_len < length password)))

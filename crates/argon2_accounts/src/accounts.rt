@@ -1,0 +1,182 @@
+//! Names with passwords in a file.
+
+ghost use Rattle.std.specs.Prelude.{◌≡◌, ◌⊎◌, IfErr, IfOk, IsTrue, Option, Some};
+ghost use Rattle.std.specs.FinMap.{get};
+ghost use Rattle.rand_core.specs.Stream.{fill_bytes};
+ghost use Rattle.argon2_policy.specs.Policy.{policy_value};
+ghost use Rattle.argon2_rows.specs.Names.{Texts};
+ghost use Rattle.argon2_rows.specs.Table.{IsHonest};
+ghost use Rattle.argon2_store.specs.AccountFile.{HasNames, IsClosed, database_of};
+ghost use Rattle.argon2_store.specs.Edits.{adding, setting, text_of};
+ghost use Rattle.argon2_store.specs.Runs.{Does, reads};
+ghost use Rattle.argon2_store.specs.declared.error.FileError.{FileError};
+ghost use Rattle.argon2_accounts.specs.Accounts.{ChangesName, GivesPassword, Leaves, LogsNameIn, Replaces, Stores, TextRefusal};
+ghost use Rattle.argon2_accounts.specs.Errors.{is_refusal};
+
+use crate::error::AccountError;
+use argon2::PasswordHash;
+use argon2::login::{Accepted, LoggedIn};
+use argon2::password_hash::Error;
+use argon2_policy::Policy;
+use argon2_rows::text::behind_lock;
+use argon2_store::AccountFile;
+use rand_core::Rng;
+use sqlite_trees::store::Store;
+
+/// Names with passwords in a file: a policy that says what becomes of a text, and the file with the
+/// texts, which has the calls that need no password.
+#[derive(Drop)]
+pub struct Accounts<'key, S: Store> {
+    /// What passwords are hashed and verified under.
+    pub policy: Policy<'key>,
+    /// The names with their texts.
+    pub file: AccountFile<S>,
+}
+
+impl<'key, S: Store> Accounts<'key, S> {
+    /// Gives a new name a text of a password, as [`Policy::hash_password`] makes it. The password is hashed
+    /// first, so that a name which is taken takes as long as a new one. 16 bytes are drawn from `rng`,
+    /// whatever the call returns.
+    ///
+    /// # Errors
+    /// The first of these that holds:
+    /// - those of [`Policy::hash_password`].
+    /// - those of [`AccountFile::add`].
+    pub fn register<R: Rng>(
+        &mut self,
+        rng: &mut R,
+        name: &str,
+        password: &[u8],
+    ) -> Result<(), AccountError>
+        ensures call { Stores (adding name.now) (policy_value self.old.policy).target password.now
+            (fill_bytes 16 (R.stream rng.old)).0 result self.old.file self.new.file }
+        ensures names { Leaves (GivesPassword (policy_value self.old.policy) name.now password.now
+            result) self.old.file self.new.file }
+        ensures policy { self.new.policy ≡ self.old.policy }
+        ensures drawn { R.stream rng.new ≡ (fill_bytes 16 (R.stream rng.old)).1 }
+    {
+        let text = self.policy.hash_password(rng, password)?;
+        Ok(self.file.add(name, &text)?)
+    }
+
+    /// Verifies a password against the text of a name, and renews the text, as [`Policy::log_in`]. It
+    /// returns [`Accepted::Rehashed`] once the file holds the fresh text, and [`Accepted::Kept`] if there is
+    /// no memory for a fresh text or it can't be written.
+    ///
+    /// # Errors
+    /// The first of these that holds:
+    /// - those of [`AccountFile::text_of`]: the file has to be opened again, or can't be read.
+    /// - [`AccountError::NameUnknown`]: the name has no text. The password is hashed all the same, as
+    ///   [`Policy::hash_for_nobody`] does.
+    /// - [`AccountError::Refused`] with [`Error::PasswordInvalid`]: the name is locked. The password is
+    ///   hashed all the same.
+    /// - [`AccountError::Refused`] with [`Error::EncodingInvalid`]: the text is outside the grammar of PHC
+    ///   texts.
+    /// - those of [`Policy::log_in`].
+    /// - those of writing, as [`AccountFile::replace`]: the password is right, and writing the fresh text
+    ///   has closed the file.
+    pub fn log_in<R: Rng>(
+        &mut self,
+        rng: &mut R,
+        name: &str,
+        password: &[u8],
+    ) -> Result<Accepted, AccountError>
+        ensures call { Replaces (policy_value self.old.policy).target name.now password.now
+            (fill_bytes 16 (R.stream rng.old)).0 self.old.file self.new.file }
+        ensures names { Leaves (LogsNameIn (policy_value self.old.policy) name.now password.now
+            (fill_bytes 16 (R.stream rng.old)).0 result) self.old.file self.new.file }
+        ensures policy { self.new.policy ≡ self.old.policy }
+        ensures served { IsHonest S.Store (database_of self.new.file) → IfErr result (λ e.
+            IsTrue (is_refusal e) ⊎ (IsClosed self.new.file
+            ⊎ (R.stream rng.new ≡ R.stream rng.old))) }
+    {
+        let text = stored(&self.policy, &mut self.file, name, password)?;
+        let LoggedIn { accepted, fresh } = self.policy.log_in(rng, &text, password)?;
+        let Some(fresh) = fresh else {
+            return Ok(accepted);
+        };
+        match self.file.replace(name, text.text().as_str(), &fresh) {
+            Ok(()) => Ok(accepted),
+            Err(_) if !self.file.is_closed() => Ok(Accepted::Kept),
+            Err(error) => Err(error.into()),
+        }
+    }
+
+    /// Gives a name a text of a new password if its text accepts the old one, as
+    /// [`Policy::change_password`].
+    ///
+    /// # Errors
+    /// The first of these that holds:
+    /// - those of [`log_in`](Accounts::log_in) with the old password, but for those of writing.
+    /// - those of [`Policy::hash_password`] with the new one.
+    /// - those of writing, as [`AccountFile::replace`].
+    pub fn change_password<R: Rng>(
+        &mut self,
+        rng: &mut R,
+        name: &str,
+        old: &[u8],
+        new: &[u8],
+    ) -> Result<(), AccountError>
+        ensures call { Replaces (policy_value self.old.policy).target name.now new.now
+            (fill_bytes 16 (R.stream rng.old)).0 self.old.file self.new.file }
+        ensures names { Leaves (ChangesName (policy_value self.old.policy) name.now old.now new.now
+            result) self.old.file self.new.file }
+        ensures policy { self.new.policy ≡ self.old.policy }
+    {
+        let text = stored(&self.policy, &mut self.file, name, old)?;
+        let fresh = self.policy.change_password(rng, &text, old, new)?;
+        Ok(self.file.replace(name, text.text().as_str(), &fresh)?)
+    }
+
+    /// Gives a name that is there a text of a new password, whatever text it has. A name that is locked is
+    /// not locked any more. 16 bytes are drawn from `rng`, whatever the call returns.
+    ///
+    /// # Errors
+    /// The first of these that holds:
+    /// - those of [`Policy::hash_password`].
+    /// - those of [`AccountFile::set`].
+    pub fn set_password<R: Rng>(
+        &mut self,
+        rng: &mut R,
+        name: &str,
+        new: &[u8],
+    ) -> Result<(), AccountError>
+        ensures call { Stores (setting name.now) (policy_value self.old.policy).target new.now
+            (fill_bytes 16 (R.stream rng.old)).0 result self.old.file self.new.file }
+        ensures names { Leaves (GivesPassword (policy_value self.old.policy) name.now new.now
+            result) self.old.file self.new.file }
+        ensures policy { self.new.policy ≡ self.old.policy }
+        ensures drawn { R.stream rng.new ≡ (fill_bytes 16 (R.stream rng.old)).1 }
+    {
+        let text = self.policy.hash_password(rng, new)?;
+        Ok(self.file.set(name, &text)?)
+    }
+}
+
+// The text of a name that is not locked. A password is hashed for a name that is refused.
+fn stored<S: Store>(
+    policy: &Policy<'_>,
+    file: &mut AccountFile<S>,
+    name: &str,
+    password: &[u8],
+) -> Result<PasswordHash, AccountError>
+    ensures reads { (error : Option FileError) × Does (reads error) file.old file.new }
+    ensures found { (names : Texts) → HasNames file.new names → IfOk result (λ text.
+        IsHonest S.Store (database_of file.new) → get names name.now ≡ Some (text_of text)) }
+    ensures refused { (names : Texts) → HasNames file.new names → IfErr result (λ e.
+        IsHonest S.Store (database_of file.new) → IsTrue (is_refusal e) →
+        TextRefusal (policy_value policy.now) password.now (get names name.now) e) }
+{
+    let Some(text) = file.text_of(name)? else {
+        policy.hash_for_nobody(password);
+        return Err(AccountError::NameUnknown);
+    };
+    if behind_lock(text.as_str()).is_some() {
+        policy.hash_for_nobody(password);
+        return Err(AccountError::Refused(Error::PasswordInvalid));
+    }
+    match PasswordHash::new(text.as_str()) {
+        Ok(hash) => Ok(hash),
+        Err(error) => Err(AccountError::Refused(error)),
+    }
+}
