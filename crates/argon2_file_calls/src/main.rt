@@ -11,7 +11,6 @@ use argon2_lines::{Context, Line, context};
 use argon2_policy::Policy;
 use argon2_rows::{StoredText, View};
 use argon2_store::{AccountFile, AccountsAt, account_file_runs};
-use argon2_uses::service;
 use sqlite_std_file::Wary;
 use std::io::{self, BufWriter, Read, Write};
 
@@ -180,10 +179,10 @@ fn on_accounts(line: &mut Line<'_, '_>, call: &str, file: File) -> File {
             line.done(accounts.change_password(&mut rng, name, &password, &new));
         }
         "service::sign_up" => {
-            line.done(service::sign_up(&mut accounts, &mut rng, name, &password));
+            line.done(argon2_service::sign_up(&mut accounts, &mut rng, name, &password));
         }
         "service::has_password" => {
-            line.said(service::has_password(&mut accounts, &mut rng, name, &password));
+            line.said(argon2_service::has_password(&mut accounts, &mut rng, name, &password));
         }
         _ => line.unread(),
     }

@@ -1,0 +1,69 @@
+//! A service whose names and passwords are in a file, as a caller writes it. It is no part of `argon2_uses`, whose callers
+//! would load SQLite's crates.
+#![tactic(auto)]
+
+ghost use Rattle.std.specs.Prelude.{IfOk, IsTrue, OnOk};
+ghost use Rattle.sqlite_wal.specs.Files.{image_at};
+ghost use Rattle.argon2_policy.specs.Policy.{policy_value};
+ghost use Rattle.argon2_rows.specs.Names.{Texts};
+ghost use Rattle.argon2_rows.specs.Table.{IsHonest};
+ghost use Rattle.argon2_store.specs.AccountFile.{HasNames, IsFrom, database_of};
+ghost use Rattle.argon2_accounts.specs.Accounts.{HasPassword};
+
+use argon2_accounts::{AccountError, Accounts};
+use argon2_policy::Policy;
+use argon2_store::{AccountFile, OpenError};
+use rand_core::Rng;
+use sqlite_disk::Disk;
+use sqlite_std_file::{FileFrom, Start};
+use sqlite_store::FileStore;
+use sqlite_trees::store::Store;
+
+/// Opens the accounts of a service, or makes their file.
+pub fn open<'key, T: Start>(
+    rt: &HostRuntime,
+    path: &str,
+    start: T,
+    policy: Policy<'key>,
+) -> Result<Accounts<'key, FileStore<FileFrom<T>>>, OpenError>
+    ensures { IfOk result (λ accounts. IsFrom (image_at T.Start) accounts.file) }
+{
+    let file = AccountFile::open(rt, path, start)?;
+    Ok(Accounts { policy, file })
+}
+
+/// Whether a name has a password. One that is unknown or locked has none.
+///
+/// # Errors
+/// Those of [`Accounts::log_in`] that are no refusals: memory, the disk or the file fails.
+pub fn has_password<R: Rng, S: Store>(
+    accounts: &mut Accounts<'_, S>,
+    rng: &mut R,
+    name: &str,
+    password: &[u8],
+) -> Result<bool, AccountError>
+    ensures { (names : Texts) → HasNames accounts.old.file names →
+        IsHonest S.Store (database_of accounts.new.file) →
+        IfOk result (λ yes. IsTrue yes →
+        HasPassword (policy_value accounts.old.policy) names name.now password.now) }
+{
+    match accounts.log_in(rng, name, password) {
+        Ok(_) => Ok(true),
+        Err(error) if error.is_refusal() => Ok(false),
+        Err(error) => Err(error),
+    }
+}
+
+/// Gives a new name a password, and copies the log into the file, so that the file alone has it.
+///
+/// # Errors
+/// Those of [`Accounts::register`]. After those of [`AccountFile::checkpoint`] the name is registered.
+pub fn sign_up<R: Rng, D: Disk>(
+    accounts: &mut Accounts<'_, FileStore<D>>,
+    rng: &mut R,
+    name: &str,
+    password: &[u8],
+) -> Result<(), AccountError> {
+    accounts.register(rng, name, password)?;
+    Ok(accounts.file.checkpoint()?)
+}
