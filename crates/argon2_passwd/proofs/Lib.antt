@@ -1,2 +1,1 @@
-pub mod Calls
 pub mod Served

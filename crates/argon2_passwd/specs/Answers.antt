@@ -1,5 +1,6 @@
 -- What the program answers.
-use Rattle.std.specs.Prelude.{◌≡◌, ◌⊎◌, ⊤, ℕ, ◌==◌, false, Bool, ◌+◌, IsOk, IsTrue, List, [], ◌∷◌, ◌++◌, if◌then◌else◌, Option, Some, None, IfSome, Result, Ok, Err, IfErr, IfOk, OnOk}
+use Rattle.std.specs.Prelude.{◌≡◌, ◌⊎◌, ⊤, ℕ, zero, suc, ◌==◌, false, Bool, ◌+◌, IsOk, IsTrue, List, [], ◌∷◌, ◌++◌, if◌then◌else◌, Option, Some, None, IfSome, Result, Ok, Err, IfErr, IfOk, IsErrAnd, OnOk}
+use Rattle.std.specs.Borrow.{Bor}
 use Rattle.std.specs.Io.BufRead.{drop_through}
 use Rattle.std.specs.List.{AllZip, after_first, before_first}
 use Rattle.std.specs.Option.{option_map}
@@ -7,37 +8,35 @@ use Rattle.std.specs.Io.KnownBytes.{Appends, Keeps}
 use Rattle.std.specs.Str.{is_utf8}
 use Rattle.std.specs.Str.Lines.{lines}
 use Rattle.std.specs.FinMap.{get}
-use Rattle.argon2_base.specs.PhcFields.{phc_of}
 use Rattle.argon2_base.specs.PhcText.{Phc, PhcText, phc_text}
-use Rattle.argon2_base.specs.declared.error.password_hash.Error.TheVariants.{EncodingInvalid}
+use Rattle.argon2_base.specs.declared.error.password_hash.Error.TheVariants.{EncodingInvalid, PasswordInvalid}
 use Rattle.sqlite_trees.specs.declared.store.Store.{Ghosts}
-use Rattle.argon2_accounts.specs.Accounts.{AccountAnswer, Admits, AreTerms, LogsIn, Terms, Texts, changing, logging_in, registering, removing, replacing, setting}
-use Rattle.argon2.specs.Argon2.{argon2id_with}
 use Rattle.argon2.specs.Login.{accepted_text}
 use Rattle.argon2.specs.Made.{IsFresh}
-use Rattle.argon2.specs.NamedTexts.{IsText}
 use Rattle.argon2.specs.Stored.{shown_settings}
+use Rattle.argon2.specs.declared.bound.BoundError.{BoundError}
+use Rattle.argon2.specs.declared.bound.BoundError.TheVariants as bound
 use Rattle.argon2.specs.declared.login.answers.Accepted.{Accepted}
 use Rattle.argon2.specs.declared.login.answers.Accepted.TheVariants.{Kept, Rehashed}
-use Rattle.argon2_accounts.specs.declared.error.AccountError.{AccountError}
-use Rattle.argon2_accounts.specs.declared.error.AccountError.TheVariants.{NameUnknown, Refused}
+use Rattle.argon2_policy.specs.Policy.{Admits, ChangeRefusal, Denial, IsPolicy, LogsIn, Policy}
 use Rattle.argon2_programs.specs.Prefixes.{bare}
-use Rattle.argon2_store.specs.AccountFile.{AddsOrNone, Call, HasNames, IsReady, Serves, Stays, error_of, database_of, terms_of}
-use Rattle.argon2_rows.specs.Adding.{IsFirstRefused}
+use Rattle.argon2_rows.specs.Locks.{IsStored, is_locked, without_lock}
+use Rattle.argon2_rows.specs.Names.{IsFirstTaken, Texts}
 use Rattle.argon2_rows.specs.Rows.{FitLines, breaks_line, lines_of}
 use Rattle.argon2_rows.specs.Table.{IsHonest}
+use Rattle.argon2_rows.specs.declared.view.View.TheVariants as views
+use Rattle.argon2_store.specs.AccountFile.{HasNames, IsReady, Serves, Stays, error_of, database_of}
+use Rattle.argon2_store.specs.Edits.{Edit as FileEdit, adding, additions, locking, removing, replacing, setting, text_of, unlocking}
 use Rattle.argon2_store.specs.declared.account_file.AccountFile.{AccountFile}
 use Rattle.argon2_store.specs.declared.error.FileError.{FileError}
-use Rattle.argon2_store.specs.declared.error.FileError.TheVariants.{Account, Io}
-use Rattle.argon2_rows.specs.declared.view.View.TheVariants as views
-use Rattle.argon2_passwd.specs.Asked.{Asked, Choices, bound_of, check, choices_of, edit, hash, import, show, verify}
+use Rattle.argon2_store.specs.declared.error.FileError.TheVariants.{NameUnknown}
+use Rattle.argon2_passwd.specs.Asked.{Asked, Choices, check, edit, hash, import, policy_by, show, verify}
 use Rattle.argon2_passwd.specs.declared.command.Edit.{Edit}
-use Rattle.argon2_passwd.specs.declared.command.Edit.TheVariants.{Register, Change, Set, Remove}
-use Rattle.argon2_passwd.specs.Failures.{status_of}
+use Rattle.argon2_passwd.specs.declared.command.Edit.TheVariants.{Register, Change, Set, Remove, Lock, Unlock}
+use Rattle.argon2_passwd.specs.Failures.{IsOfBound, IsOfFile, status_of}
 use Rattle.argon2_passwd.specs.Passwords.{password_of}
 use Rattle.argon2_passwd.specs.declared.failure.Failure.{Failure}
-use Rattle.argon2_passwd.specs.declared.failure.Failure.TheVariants.{Line}
-use Rattle.argon2_passwd.specs.declared.run.accounts.Access.{Access}
+use Rattle.argon2_passwd.specs.declared.failure.Failure.TheVariants.{File, Refused, Taken, Text}
 use Rattle.argon2_passwd.specs.declared.run.edits.Step.{Step}
 use Rattle.argon2_passwd.specs.declared.run.edits.Step.TheVariants as step
 
@@ -47,96 +46,47 @@ OfPassword P input =
     (password : List ℕ) × IfSome input (λ bytes. password_of bytes ≡ Some password) × P password
 
 -- a fresh text of the password
-abbrev pub IsHashReply : Terms → List ℕ → Option (List ℕ) → List ℕ → Type 0
-IsHashReply terms drawn input reply =
-    OfPassword (λ password. (v : Phc) × IsFresh terms.target password drawn v × (reply ≡ phc_text v)) input
+abbrev pub IsHashReply : Policy → List ℕ → Option (List ℕ) → List ℕ → Type 0
+IsHashReply policy drawn input reply =
+    OfPassword (λ password. (v : Phc) × IsFresh policy.target password drawn v × (reply ≡ phc_text v)) input
 
 -- what a login did with a text, and a line with the fresh one if there is one
 abbrev pub login_text : Accepted → Phc → List ℕ
 login_text Rehashed fresh = accepted_text Rehashed ++ 10 ∷ phc_text fresh
-login_text accepted fresh = accepted_text accepted
+login_text did fresh = accepted_text did
 
 -- a login with the password and the text
-abbrev pub IsCheckReply : Terms → List ℕ → List ℕ → Option (List ℕ) → List ℕ → Type 0
-IsCheckReply terms drawn text input reply =
-    OfPassword (λ password. (v : Phc) × (accepted : Accepted) × (w : Phc) × PhcText text v
-    × LogsIn terms password drawn v (Ok accepted) w × (reply ≡ login_text accepted w)) input
+abbrev pub IsCheckReply : Policy → List ℕ → List ℕ → Option (List ℕ) → List ℕ → Type 0
+IsCheckReply policy drawn text input reply =
+    OfPassword (λ password. (v : Phc) × (did : Accepted) × (w : Phc) × PhcText text v
+    × LogsIn policy password drawn v (Ok did) w × (reply ≡ login_text did w)) input
 
 -- a known input has no password
 abbrev pub HasNone : Option (List ℕ) → Type 0
 HasNone input = IfSome input (λ bytes. password_of bytes ≡ None)
 
 -- the text does not accept a known password within the bound
-abbrev pub Denies : Terms → List ℕ → Option (List ℕ) → Type 0
-Denies terms text input = IfSome input (λ bytes. (password : List ℕ) (v : Phc)
-    → password_of bytes ≡ Some password → PhcText text v → ¬ (Admits terms password v))
+abbrev pub Denies : Policy → List ℕ → Option (List ℕ) → Type 0
+Denies policy text input = IfSome input (λ bytes. (password : List ℕ) (v : Phc)
+    → password_of bytes ≡ Some password → PhcText text v → ¬ (Admits policy password v))
 
 -- the secret of the file at a path, if there is one
 abbrev pub IsSecret : (List ℕ → List ℕ → Type 0) → Option (List ℕ) → List ℕ → Type 0
 IsSecret Holds None secret = secret ≡ []
 IsSecret Holds (Some path) secret = Holds path secret
 
--- Argon2id of version 0x13 under choices and a secret
-abbrev pub terms_by : Choices → List ℕ → Terms
-terms_by choices secret = record {
-  target = record { settings = argon2id_with choices.parameters; secret = secret };
-  bound = bound_of choices;
-}
+-- a fact of the policy that the choices and their secret make
+abbrev pub Under : (List ℕ → List ℕ → Type 0) → Choices → (Policy → Type 0) → Type 0
+Under Holds choices P = (secret : List ℕ) × IsSecret Holds choices.secret_file secret × P (policy_by choices secret)
 
--- the terms that a file is opened under
-abbrev pub terms_in : Access → Terms
-terms_in access = terms_by (choices_of access.options) access.secret.now
+-- a line that is appended is a reply
+abbrev pub IsReplied : (List ℕ → List ℕ → Type 0) → Option (List ℕ) → Option (List ℕ) → Type 0
+IsReplied IsReply old new = (drawn line : List ℕ) × IsReply drawn line × Appends old new (line ++ 10 ∷ [])
 
--- a line that is appended is a reply under the choices and their secret
-abbrev pub IsReplied : (List ℕ → List ℕ → Type 0) → Choices → (Terms → List ℕ → List ℕ → Type 0)
-    → Option (List ℕ) → Option (List ℕ) → Type 0
-IsReplied Holds choices IsReply old new = (secret drawn line : List ℕ) × IsSecret Holds choices.secret_file secret
-    × IsReply (terms_by choices secret) drawn line × Appends old new (line ++ 10 ∷ [])
+-- ---- lines of an import
 
--- a refusal under the choices and their secret: the parameters are above the bound, or this holds
-abbrev pub IsRefusedBy : (List ℕ → List ℕ → Type 0) → Choices → (Terms → Type 0) → Type 0
-IsRefusedBy Holds choices Why = (secret : List ℕ) × IsSecret Holds choices.secret_file secret
-    × (AreTerms (terms_by choices secret) → Why (terms_by choices secret))
-
--- ---- accounts in a file
-
--- what an input has behind its first line
-abbrev pub behind : Option (List ℕ) → Option (List ℕ)
-behind input = option_map (drop_through 10) input
-
--- the passwords that a change takes
-abbrev pub AreRead : Edit → Option (List ℕ) → List ℕ → List ℕ → Type 0
-AreRead Remove input first second = ⊤
-AreRead Change input first second = IfSome input (λ bytes. password_of bytes ≡ Some first)
-    × IfSome (behind input) (λ bytes. password_of bytes ≡ Some second)
-AreRead act input first second = IfSome input (λ bytes. password_of bytes ≡ Some first)
-
--- a known input does not have them
-abbrev pub AreUnread : Edit → Option (List ℕ) → Type 0
-AreUnread Remove input = ⊥
-AreUnread Change input = HasNone input ⊎ HasNone (behind input)
-AreUnread act input = HasNone input
-
--- the name of a new text would break its line in an export
-abbrev pub breaks_lines : Edit → List ℕ → Bool
-breaks_lines Register name = breaks_line views.Texts name
-breaks_lines act name = false
-
--- the call of a change, but for its answer
-abbrev pub call_of : Edit → List ℕ → List ℕ → List ℕ → List ℕ → Call (Unit {0})
-call_of Register name first second drawn = registering name first drawn
-call_of Change name first second drawn = changing name first second drawn
-call_of Set name first second drawn = setting name first drawn
-call_of Remove name first second drawn = removing name
-
--- the call was made, for any password of its text
-abbrev pub Applies : {S : Type 0} {g : Ghosts S} → Step → List ℕ → Result (Unit {0}) FileError → AccountFile S g
-    → AccountFile S g → Type 0
-Applies (step.Add text) name result before after = (password drawn : List ℕ)
-    → IsFresh (terms_of before).target password drawn (phc_of text) → Serves (registering name password drawn) result before after
-Applies (step.Set text) name result before after = (password drawn : List ℕ)
-    → IsFresh (terms_of before).target password drawn (phc_of text) → Serves (setting name password drawn) result before after
-Applies step.Remove name result before after = Serves (removing name) result before after
+abbrev pub pair_of : Bor (List ℕ) × Bor (List ℕ) → List ℕ × List ℕ
+pair_of pair = (pair.0.now, pair.1.now)
 
 -- the parts of a line at its first colon: no text if it has none, and neither if it is not UTF-8
 abbrev pub parts_of : List ℕ → List ℕ × List ℕ
@@ -146,205 +96,299 @@ parts_of line = if is_utf8 line then (before_first (λ b. b == 58) line, after_f
 abbrev pub IsArgon2 : List ℕ → Type 0
 IsArgon2 text = (v : Phc) × PhcText text v × IsOk (shown_settings v)
 
--- what is added for a text without what other programs put before it: the text, if it is Argon2's or any is taken, or
--- else the empty one
-abbrev pub IsTaken : Bool → List ℕ → List ℕ → Type 0
-IsTaken any_text text taken = ((taken ≡ text) × (IsTrue any_text ⊎ IsArgon2 text))
-    ⊎ ((taken ≡ []) × (any_text ≡ false) × ¬ (IsArgon2 text))
+-- a text in the grammar, locked or not, that is Argon2's unless any is taken
+abbrev pub IsTaken : Bool → List ℕ → Type 0
+IsTaken any_text text = IsStored text × (IsTrue any_text ⊎ IsArgon2 (without_lock text))
 
--- the name of a line, and the text that is added for its text
+-- the name of a line, and its text without what other programs put before it
 abbrev pub IsEntry : Bool → List ℕ → List ℕ × List ℕ → Type 0
-IsEntry any_text line e = (e.0 ≡ (parts_of line).0) × IsTaken any_text (bare (parts_of line).1) e.1
+IsEntry any_text line e = (e.0 ≡ (parts_of line).0) × (e.1 ≡ bare (parts_of line).1) × IsTaken any_text e.1
+
+-- a text that is in no grammar, or says a value that shows no settings of Argon2, unless any is taken
+abbrev pub IsNotTaken : Bool → List ℕ → Type 0
+IsNotTaken any_text text = ¬ (IsStored text)
+    ⊎ ((any_text ≡ false) × (v : Phc) × PhcText (without_lock text) v × ¬ (IsOk (shown_settings v)))
+
+abbrev pub HasNoEntry : Bool → List ℕ → Type 0
+HasNoEntry any_text line = IsNotTaken any_text (bare (parts_of line).1)
 
 -- the entries of all lines
 abbrev pub AreEntries : Bool → List ℕ → List (List ℕ × List ℕ) → Type 0
 AreEntries any_text input es = AllZip (IsEntry any_text) (lines input) es
 
--- one of the entries is the first that is refused, and none is added; the failure has its line and the reason
+-- the first of the lines without an entry has so many before it
+abbrev pub IsFirstWithout : Bool → List (List ℕ) → ℕ → Type 0
+IsFirstWithout any_text [] k = ⊥
+IsFirstWithout any_text (line ∷ lines) zero = HasNoEntry any_text line
+IsFirstWithout any_text (line ∷ lines) (suc k) =
+    IsTaken any_text (bare (parts_of line).1) × IsFirstWithout any_text lines k
+
+-- the failure has the number of that line
+abbrev pub RefusesText : Bool → List ℕ → Failure → Type 0
+RefusesText any_text input failure = (k : ℕ) × (failure ≡ Text (k + 1)) × IsFirstWithout any_text (lines input) k
+
+-- ---- accounts in a file
+
+-- what an input has behind its first line
+abbrev pub behind : Option (List ℕ) → Option (List ℕ)
+behind input = option_map (drop_through 10) input
+
+-- the passwords that a change takes
+abbrev pub AreRead : Edit → Option (List ℕ) → List ℕ → List ℕ → Type 0
+AreRead Register input first second = IfSome input (λ bytes. password_of bytes ≡ Some first)
+AreRead Change input first second = IfSome input (λ bytes. password_of bytes ≡ Some first)
+    × IfSome (behind input) (λ bytes. password_of bytes ≡ Some second)
+AreRead Set input first second = IfSome input (λ bytes. password_of bytes ≡ Some first)
+AreRead act input first second = ⊤
+
+-- a known input does not have them
+abbrev pub AreUnread : Edit → Option (List ℕ) → Type 0
+AreUnread Register input = HasNone input
+AreUnread Change input = HasNone input ⊎ HasNone (behind input)
+AreUnread Set input = HasNone input
+AreUnread act input = ⊥
+
+-- the name of a new text would break its line in an export
+abbrev pub breaks_lines : Edit → List ℕ → Bool
+breaks_lines Register name = breaks_line views.Texts name
+breaks_lines act name = false
+
+-- what a step does to the text of a name
+abbrev pub edit_of : Step → List ℕ → FileEdit
+edit_of (step.Add text) name = adding name (text_of text)
+edit_of (step.Set text) name = setting name (text_of text)
+edit_of step.Remove name = removing name
+edit_of step.Lock name = locking name
+edit_of step.Unlock name = unlocking name
+
+-- one of the entries has the first name that is taken, and none is added; the failure has its line
 abbrev pub RefusesLine : {S : Type 0} {g : Ghosts S} → Failure → List (List ℕ × List ℕ) → AccountFile S g → AccountFile S g
     → Type 0
-RefusesLine {g} failure es before after = (number : ℕ) × (why : AccountError) × (failure ≡ Line number why)
+RefusesLine {g} failure es before after = (e : FileError) × Serves (additions es) (Err e) before after
     × ((names : Texts) → HasNames before names → IsHonest g (database_of after)
-    → (k : ℕ) × (number ≡ k + 1) × IsFirstRefused names es k why) × AddsOrNone es (Err (Account why)) before after
+    → (k : ℕ) × (failure ≡ Taken (k + 1)) × IsFirstTaken names es k)
 
 -- the entries were to be added, and this is some answer to it
 abbrev pub IsAdded : {S : Type 0} {g : Ghosts S} → List (List ℕ × List ℕ) → AccountFile S g → AccountFile S g → Type 0
-IsAdded es before after = (answer : Result (Unit {0}) FileError) × AddsOrNone es answer before after
+IsAdded es before after = (answer : Result (Unit {0}) FileError) × Serves (additions es) answer before after
 
 -- how an addition of the entries ended
 abbrev pub AddsLines : {S : Type 0} {g : Ghosts S} → Result (Unit {0}) Failure → List (List ℕ × List ℕ) → AccountFile S g
     → AccountFile S g → Type 0
-AddsLines (Ok _) es before after = AddsOrNone es (Ok tt) before after
+AddsLines (Ok _) es before after = Serves (additions es) (Ok tt) before after
 AddsLines (Err failure) es before after = IsAdded es before after × (status_of failure ≡ 1 → RefusesLine failure es before after)
 
--- a file at a path that was opened under these terms, with its names
-abbrev pub IsOpened : {S : Type 0} {g : Ghosts S} → (List ℕ → Texts → Type 0) → List ℕ → Terms → AccountFile S g → Type 0
-IsOpened Has path terms file = (names : Texts) × Has path names × IsReady terms names file
+-- a file at a path that was opened, with its names
+abbrev pub IsOpened : {S : Type 0} {g : Ghosts S} → (List ℕ → Texts → Type 0) → List ℕ → AccountFile S g → Type 0
+IsOpened Has path file = (names : Texts) × Has path names × IsReady names file
 
--- why a call by a password is refused, whatever the password: the name has no text, or one outside the grammar
-abbrev pub HasNoValue : Option (List ℕ) → AccountError → Type 0
-HasNoValue None NameUnknown = ⊤
-HasNoValue (Some text) (Refused EncodingInvalid) = ¬ (IsText text)
-HasNoValue _ _ = ⊥
+-- Why a call by a password is refused by what the name has: no text; a locked one, which is refused as a wrong password is;
+-- one outside the grammar; or for this reason one that says a value.
+abbrev pub IsDenied : (Phc → BoundError → Type 0) → Option (List ℕ) → Failure → Type 0
+IsDenied Why None failure = failure ≡ File NameUnknown
+IsDenied Why (Some text) failure = (IsTrue (is_locked text) × (failure ≡ Refused (bound.Refused PasswordInvalid)))
+    ⊎ ((is_locked text ≡ false) × ((v : Phc) → ¬ (PhcText text v)) × (failure ≡ Refused (bound.Refused EncodingInvalid)))
+    ⊎ ((v : Phc) × (e : BoundError) × PhcText text v × Why v e × IsOfBound e failure)
 
--- How far a call on a name came: its text can't be read; or the accounts decide the call, and no text is replaced; or they
--- accept it, and this answers the replacement of the text.
+-- How far a call on a name came: its text can't be read; or what it has refuses the call, or accepts it, and no text is
+-- replaced; or this answers the replacement of the text.
 pub data Outcome (X : Type 0) : Type 0 where
   unread : FileError → Outcome X
-  decided : Result X AccountError → Outcome X
+  denied : Failure → Outcome X
+  accepted : X → Outcome X
   replaced : X → Result (Unit {0}) FileError → Outcome X
 
 -- what an accepted login did whose fresh text is not written
 abbrev pub unwritten : Accepted → Accepted
 unwritten Rehashed = Kept
-unwritten accepted = accepted
+unwritten did = did
 
--- what a login answers
-abbrev pub login_answer : Outcome Accepted → Result Accepted FileError
-login_answer (unread e) = Err e
-login_answer (decided (Ok accepted)) = Ok (unwritten accepted)
-login_answer (decided (Err e)) = Err (Account e)
-login_answer (replaced accepted (Ok _)) = Ok accepted
-login_answer (replaced accepted (Err e)) = Ok (unwritten accepted)
+-- a result of the program tells how a call on a file ended
+abbrev pub TellsOf : {X : Type 0} → Result X FileError → Result X Failure → Type 0
+TellsOf (Ok x) (Ok y) = y ≡ x
+TellsOf (Err e) (Err failure) = IsOfFile e failure
+TellsOf _ _ = ⊥
 
--- what a change answers: that the file can't be opened again is an error of the file
-abbrev pub change_answer : Outcome (Unit {0}) → Result (Unit {0}) FileError
-change_answer (unread e) = Err e
-change_answer (decided (Ok _)) = Err Io
-change_answer (decided (Err e)) = Err (Account e)
-change_answer (replaced _ done) = done
+-- a result of a login tells how far it came
+abbrev pub TellsOfLogin : Outcome Accepted → Result Accepted Failure → Type 0
+TellsOfLogin (unread e) (Err failure) = IsOfFile e failure
+TellsOfLogin (denied why) (Err failure) = failure ≡ why
+TellsOfLogin (accepted did) (Ok answer) = answer ≡ unwritten did
+TellsOfLogin (replaced did (Ok _)) (Ok answer) = answer ≡ did
+TellsOfLogin (replaced did (Err e)) (Ok answer) = answer ≡ unwritten did
+TellsOfLogin _ _ = ⊥
 
-module _ {S : Type 0} (g : Ghosts S) (Holds : List ℕ → List ℕ → Type 0) (Has : List ℕ → Texts → Type 0) where
-  -- the file at a path was opened under these terms, used so, and closed with this store
-  pub record IsOpenFor (terms : Terms) (path : List ℕ) (Does : AccountFile S g → AccountFile S g → Type 0)
-      (Next : S → Type 0) : Type 0 where
+-- a result of a change tells how far it came; that the file can't be opened again is no refusal
+abbrev pub TellsOfChange : Outcome (Unit {0}) → Result (Unit {0}) Failure → Type 0
+TellsOfChange (unread e) (Err failure) = IsOfFile e failure
+TellsOfChange (denied why) (Err failure) = failure ≡ why
+TellsOfChange (accepted _) (Err failure) = status_of failure ≡ 3
+TellsOfChange (replaced _ done) result = TellsOf done result
+TellsOfChange _ _ = ⊥
+
+-- a login by a text, with what it did and the text that is to stand then
+abbrev pub AcceptsLogin : Policy → List ℕ → List ℕ → Accepted → List ℕ → Type 0
+AcceptsLogin policy password old did new = (drawn : List ℕ) × (v w : Phc) × PhcText old v
+    × LogsIn policy password drawn v (Ok did) w × (new ≡ phc_text w)
+
+-- a change by a text, with the one of the new password
+abbrev pub AcceptsChange : Policy → List ℕ → List ℕ → List ℕ → Unit {0} → List ℕ → Type 0
+AcceptsChange policy first second old _ new = (drawn : List ℕ) × (v w : Phc) × PhcText old v
+    × Admits policy first v × IsFresh policy.target second drawn w × (new ≡ phc_text w)
+
+-- a call of which its result tells, or a file that was not opened, which is no refusal
+abbrev pub Ends : {X : Type 0} → (Result X Failure → Type 0) → Type 0 → Result X Failure → Type 0
+Ends Made untouched result = Made result ⊎ (untouched × IsErrAnd result (λ failure. status_of failure ≡ 3))
+
+-- the words or the input are refused before a file is opened
+abbrev pub IsUnfit : Policy → Asked → Option (List ℕ) → Type 0
+IsUnfit policy hash input = HasNone input
+IsUnfit policy (check text) input = Denies policy text input
+IsUnfit policy (verify path name) input = HasNone input
+IsUnfit policy (edit path act name) input = IsTrue (breaks_lines act name) ⊎ AreUnread act input
+IsUnfit policy (show path view) input = ⊥
+IsUnfit policy (import path any_text) input =
+    (k : ℕ) × IfSome input (λ bytes. IsFirstWithout any_text (lines bytes) k)
+
+module _ {S : Type 0} (g : Ghosts S) (Has : List ℕ → Texts → Type 0) where
+  -- the file at a path was opened, used so, and closed with this store
+  pub record IsOpenFor (path : List ℕ) (Does : AccountFile S g → AccountFile S g → Type 0) (Next : S → Type 0) : Type 0 where
     pub before : AccountFile S g
     pub after : AccountFile S g
-    pub opened : IsOpened Has path terms before
+    pub opened : IsOpened Has path before
     pub does : Does before after
     pub next : Next (database_of after)
 
-  -- all that was done with the file at a path: it was opened under the choices and their secret, and closed
-  abbrev pub IsDone : Choices → List ℕ → (List ℕ → AccountFile S g → AccountFile S g → Type 0) → (List S → Type 0) → Type 0
-  IsDone choices path Does Closed = (secret drawn : List ℕ) × IsSecret Holds choices.secret_file secret
-      × IsOpenFor (terms_by choices secret) path (Does drawn) (λ last. Closed (last ∷ []))
+  -- all that was done with the file at a path: it was opened, used so, and closed
+  abbrev pub IsDone : List ℕ → (AccountFile S g → AccountFile S g → Type 0) → (List S → Type 0) → Type 0
+  IsDone path Does Closed = IsOpenFor path Does (λ last. Closed (last ∷ []))
 
-  -- one call was all that was done with the file at a path
-  abbrev pub IsCalled : {X : Type 0} → Choices → List ℕ → (List ℕ → Call X) → Result X FileError → (List S → Type 0) → Type 0
-  IsCalled choices path call result = IsDone choices path (λ drawn. Serves (call drawn) result)
+  -- one call was done there, with this answer
+  abbrev pub IsCalled : List ℕ → FileEdit → (S → Type 0) → Result (Unit {0}) FileError → Type 0
+  IsCalled path change Next done = IsOpenFor path (Serves (change ∷ []) done) Next
 
-  -- the text of a name was read in the file at a path, which was opened under these terms and closed with this store
-  abbrev pub IsLooked : Terms → List ℕ → List ℕ → Result (Option (List ℕ)) FileError → (S → Type 0) → Type 0
-  IsLooked terms path name found = IsOpenFor terms path (λ before after. (names : Texts) → HasNames before names
+  -- the same, and this result tells of it
+  abbrev pub IsApplied : List ℕ → FileEdit → (S → Type 0) → Result (Unit {0}) Failure → Type 0
+  IsApplied path change Next result = (done : Result (Unit {0}) FileError) × TellsOf done result × IsCalled path change Next done
+
+  -- the text of a name was read in the file at a path, which was closed with this store
+  abbrev pub IsLooked : List ℕ → List ℕ → Result (Option (List ℕ)) FileError → (S → Type 0) → Type 0
+  IsLooked path name found = IsOpenFor path (λ before after. (names : Texts) → HasNames before names
       → Stays (error_of found) names before after
       × IfOk found (λ text. IsHonest g (database_of after) → get names name ≡ text))
 
-  -- no value of the text of a name was read there: why a call by a password is refused, or an error of the file
-  abbrev pub IsNotFound : Terms → List ℕ → List ℕ → (S → Type 0) → FileError → Type 0
-  IsNotFound terms path name Next (Account e) =
-      (o : Option (List ℕ)) × HasNoValue o e × IsLooked terms path name (Ok o) Next
-  IsNotFound terms path name Next e = IsLooked terms path name (Err e) Next
-
-  -- the text of a name was replaced there, if it was still the first
-  abbrev pub IsReplaced : Terms → List ℕ → List ℕ → List ℕ → List ℕ → Result (Unit {0}) FileError → (S → Type 0) → Type 0
-  IsReplaced terms path name old new done = IsOpenFor terms path (Serves (replacing name old new) done)
+  -- no value of the text of a name was read there: what it has refuses the call, or the file has an error
+  abbrev pub IsUnfound : List ℕ → List ℕ → Failure → (S → Type 0) → Type 0
+  IsUnfound path name failure Next =
+      ((o : Option (List ℕ)) × IsDenied (λ v e. ⊥) o failure × IsLooked path name (Ok o) Next)
+      ⊎ ((e : FileError) × IsOfFile e failure × IsLooked path name (Err e) Next)
 
   -- what was done with the file at a path for a call on a name, which was decided by the text that was read
-  abbrev pub IsOutcome : {X : Type 0} → Terms → List ℕ → List ℕ → Call X → Outcome X → (List S → Type 0) → Type 0
-  IsOutcome terms path name call (unread e) Closed = IsLooked terms path name (Err e) (λ read. Closed (read ∷ []))
-  IsOutcome terms path name call (decided answer) Closed = (o p : Option (List ℕ)) × AccountAnswer terms (call answer) o p
-      × IsLooked terms path name (Ok o) (λ read. Closed (read ∷ []))
-  IsOutcome terms path name call (replaced x done) Closed = (old new : List ℕ) × AccountAnswer terms (call (Ok x)) (Some old) (Some new)
-      × IsLooked terms path name (Ok (Some old)) (λ read. IsReplaced terms path name old new done (λ last. Closed (read ∷ last ∷ [])))
+  abbrev pub IsOutcome : {X : Type 0} → List ℕ → List ℕ → (Phc → BoundError → Type 0) → (List ℕ → X → List ℕ → Type 0)
+      → Outcome X → (List S → Type 0) → Type 0
+  IsOutcome path name Why Accepts (unread e) Closed = IsLooked path name (Err e) (λ read. Closed (read ∷ []))
+  IsOutcome path name Why Accepts (denied failure) Closed =
+      (o : Option (List ℕ)) × IsDenied Why o failure × IsLooked path name (Ok o) (λ read. Closed (read ∷ []))
+  IsOutcome path name Why Accepts (accepted x) Closed = (old new : List ℕ) × Accepts old x new
+      × IsLooked path name (Ok (Some old)) (λ read. Closed (read ∷ []))
+  IsOutcome path name Why Accepts (replaced x done) Closed = (old new : List ℕ) × Accepts old x new
+      × IsLooked path name (Ok (Some old))
+      (λ read. IsCalled path (replacing name old new) (λ last. Closed (read ∷ last ∷ [])) done)
 
-  -- all that was done with it, under the choices and their secret, for a call that is decided while the file is closed
-  pub record IsVisited {X : Type 0} (choices : Choices) (path name : List ℕ) (call : List ℕ → Call X)
-      (Answers : Outcome X → Type 0) (Closed : List S → Type 0) : Type 0 where
-    pub secret : List ℕ
-    pub drawn : List ℕ
-    pub outcome : Outcome X
-    pub held : IsSecret Holds choices.secret_file secret
-    pub answers : Answers outcome
-    pub done : IsOutcome (terms_by choices secret) path name (call drawn) outcome Closed
+  -- a login with the password was all that was done with the file at a path, with this result
+  abbrev pub IsLogin : Policy → List ℕ → List ℕ → List ℕ → Result Accepted Failure → (List S → Type 0) → Type 0
+  IsLogin policy path name password result Closed = (outcome : Outcome Accepted) × TellsOfLogin outcome result
+      × IsOutcome path name (Denial policy password) (AcceptsLogin policy password) outcome Closed
 
-  -- a change of this kind was all that was done with the file at a path
-  abbrev pub IsAct : Choices → List ℕ → Edit → List ℕ → List ℕ → List ℕ → Result (Unit {0}) FileError → (List S → Type 0) → Type 0
-  IsAct choices path Change name first second result Closed =
-      IsVisited choices path name (call_of Change name first second) (λ outcome. change_answer outcome ≡ result) Closed
-  IsAct choices path act name first second result Closed =
-      IsCalled choices path (call_of act name first second) result Closed
+  -- a change of this kind was all that was done with the file at a path, by these passwords and with this result
+  abbrev pub IsChange : Policy → List ℕ → Edit → List ℕ → List ℕ → List ℕ → (List S → Type 0) → Result (Unit {0}) Failure → Type 0
+  IsChange policy path Register name first second Closed result = (drawn : List ℕ) × (v : Phc)
+      × IsFresh policy.target first drawn v × IsApplied path (adding name (phc_text v)) (λ last. Closed (last ∷ [])) result
+  IsChange policy path Change name first second Closed result = (outcome : Outcome (Unit {0})) × TellsOfChange outcome result
+      × IsOutcome path name (ChangeRefusal policy first second) (AcceptsChange policy first second) outcome Closed
+  IsChange policy path Set name first second Closed result = (drawn : List ℕ) × (v : Phc)
+      × IsFresh policy.target first drawn v × IsApplied path (setting name (phc_text v)) (λ last. Closed (last ∷ [])) result
+  IsChange policy path Remove name first second Closed result = IsApplied path (removing name) (λ last. Closed (last ∷ [])) result
+  IsChange policy path Lock name first second Closed result = IsApplied path (locking name) (λ last. Closed (last ∷ [])) result
+  IsChange policy path Unlock name first second Closed result =
+      IsApplied path (unlocking name) (λ last. Closed (last ∷ [])) result
 
-  -- a login with the password was all that was done with the file at a path
-  abbrev pub IsLogin : Choices → List ℕ → List ℕ → List ℕ → Result Accepted FileError → (List S → Type 0) → Type 0
-  IsLogin choices path name password result Closed =
-      IsVisited choices path name (logging_in name password) (λ outcome. login_answer outcome ≡ result) Closed
+  -- what a change of a name's text comes to: it is made, or the file is not opened
+  abbrev pub IsAct : Policy → List ℕ → Edit → List ℕ → List ℕ → List ℕ → Result (Unit {0}) Failure → (List S → Type 0) → Type 0
+  IsAct policy path act name first second result Closed =
+      Ends (IsChange policy path act name first second Closed) (Closed []) result
 
   -- a login with the password that is read was all that was done with it
-  abbrev pub IsVerified : Choices → List ℕ → List ℕ → Result Accepted FileError → Option (List ℕ) → (List S → Type 0) → Type 0
-  IsVerified choices path name result input Closed =
-      OfPassword (λ password. IsLogin choices path name password result Closed) input
+  abbrev pub IsVerified : Policy → List ℕ → List ℕ → Result Accepted Failure → Option (List ℕ) → (List S → Type 0) → Type 0
+  IsVerified policy path name result input Closed =
+      OfPassword (λ password. IsLogin policy path name password result Closed) input
 
   -- a change of the text of a name by the passwords that are read was all that was done with it
-  abbrev pub IsEdited : Choices → List ℕ → Edit → List ℕ → Result (Unit {0}) FileError → Option (List ℕ) → (List S → Type 0) → Type 0
-  IsEdited choices path act name result input Closed = (breaks_lines act name ≡ false) × (first second : List ℕ)
-      × AreRead act input first second × IsAct choices path act name first second result Closed
+  abbrev pub IsEdited : Policy → List ℕ → Edit → List ℕ → Result (Unit {0}) Failure → Option (List ℕ) → (List S → Type 0) → Type 0
+  IsEdited policy path act name result input Closed = (breaks_lines act name ≡ false) × (first second : List ℕ)
+      × AreRead act input first second × IsChange policy path act name first second Closed result
 
   -- no name was changed, with this error of the file if there was one, and this is a fact of its names
-  abbrev pub IsRead : Choices → List ℕ → Option FileError → (Texts → Type 0) → (List S → Type 0) → Type 0
-  IsRead choices path error Shows = IsDone choices path (λ drawn before after. (names : Texts) → HasNames before names
+  abbrev pub IsRead : List ℕ → Option FileError → (Texts → Type 0) → (List S → Type 0) → Type 0
+  IsRead path error Shows = IsDone path (λ before after. (names : Texts) → HasNames before names
       → Stays error names before after × (IsHonest g (database_of after) → Shows names))
 
   -- adding the entries of a known input was all that was done with it, with this answer
-  abbrev pub IsImported : Choices → List ℕ → Bool → (List (List ℕ × List ℕ) → AccountFile S g → AccountFile S g → Type 0)
+  abbrev pub IsImported : List ℕ → Bool → (List (List ℕ × List ℕ) → AccountFile S g → AccountFile S g → Type 0)
       → Option (List ℕ) → (List S → Type 0) → Type 0
-  IsImported choices path any_text Adds input Closed = (es : List (List ℕ × List ℕ))
-      × IfSome input (λ bytes. AreEntries any_text bytes es) × IsDone choices path (λ drawn. Adds es) Closed
+  IsImported path any_text Adds input Closed = (es : List (List ℕ × List ℕ))
+      × IfSome input (λ bytes. AreEntries any_text bytes es) × IsDone path (Adds es) Closed
 
   -- what is asked for is answered
-  abbrev pub IsAnswered : Asked → Option (List ℕ) → Option (List ℕ) → Option (List ℕ) → (List S → Type 0) → Type 0
-  IsAnswered (hash choices) input old new Closed =
-      IsReplied Holds choices (λ terms drawn line. IsHashReply terms drawn input line) old new × Closed []
-  IsAnswered (check choices text) input old new Closed =
-      IsReplied Holds choices (λ terms drawn line. IsCheckReply terms drawn text input line) old new × Closed []
-  IsAnswered (verify choices path name) input old new Closed = (accepted : Accepted)
-      × IsVerified choices path name (Ok accepted) input Closed × Appends old new (accepted_text accepted ++ 10 ∷ [])
-  IsAnswered (edit choices path act name) input old new Closed =
-      IsEdited choices path act name (Ok tt) input Closed × Keeps old new
-  IsAnswered (show choices path view) input old new Closed =
-      IsRead choices path None (λ names. Appends old new (lines_of view names) × FitLines view names) Closed
-  IsAnswered (import choices path any_text) input old new Closed =
-      IsImported choices path any_text (λ es. AddsOrNone es (Ok tt)) input Closed × Keeps old new
+  abbrev pub IsAnswered : Policy → Asked → Option (List ℕ) → Option (List ℕ) → Option (List ℕ) → (List S → Type 0) → Type 0
+  IsAnswered policy hash input old new Closed =
+      IsReplied (λ drawn line. IsHashReply policy drawn input line) old new × Closed []
+  IsAnswered policy (check text) input old new Closed =
+      IsReplied (λ drawn line. IsCheckReply policy drawn text input line) old new × Closed []
+  IsAnswered policy (verify path name) input old new Closed = (did : Accepted)
+      × IsVerified policy path name (Ok did) input Closed × Appends old new (accepted_text did ++ 10 ∷ [])
+  IsAnswered policy (edit path act name) input old new Closed =
+      IsEdited policy path act name (Ok tt) input Closed × Keeps old new
+  IsAnswered policy (show path view) input old new Closed =
+      IsRead path None (λ names. Appends old new (lines_of view names) × FitLines view names) Closed
+  IsAnswered policy (import path any_text) input old new Closed =
+      IsImported path any_text (λ es. Serves (additions es) (Ok tt)) input Closed × Keeps old new
 
-  -- what is asked for is refused
-  abbrev pub IsRefused : Asked → Option (List ℕ) → (List S → Type 0) → Type 0
-  IsRefused (hash choices) input Closed = IsRefusedBy Holds choices (λ terms. HasNone input) × Closed []
-  IsRefused (check choices text) input Closed =
-      IsRefusedBy Holds choices (λ terms. Denies terms text input) × Closed []
-  IsRefused (verify choices path name) input Closed =
-      ((HasNone input ⊎ IsRefusedBy Holds choices (λ terms. ⊥)) × Closed [])
-      ⊎ ((e : AccountError) × IsVerified choices path name (Err (Account e)) input Closed)
-  IsRefused (edit choices path act name) input Closed =
-      ((IsTrue (breaks_lines act name) ⊎ AreUnread act input ⊎ IsRefusedBy Holds choices (λ terms. ⊥)) × Closed [])
-      ⊎ ((e : AccountError) × IsEdited choices path act name (Err (Account e)) input Closed)
-  IsRefused (show choices path view) input Closed = IsRefusedBy Holds choices (λ terms. ⊥) × Closed []
-  IsRefused (import choices path any_text) input Closed = (IsRefusedBy Holds choices (λ terms. ⊥) × Closed [])
-      ⊎ ((failure : Failure) × IsImported choices path any_text (RefusesLine failure) input Closed)
+  -- a call on the file is refused with this failure
+  abbrev pub IsRefusedBy : Policy → Asked → Option (List ℕ) → Failure → (List S → Type 0) → Type 0
+  IsRefusedBy policy (verify path name) input failure Closed = IsVerified policy path name (Err failure) input Closed
+  IsRefusedBy policy (edit path act name) input failure Closed = IsEdited policy path act name (Err failure) input Closed
+  IsRefusedBy policy (import path any_text) input failure Closed =
+      IsImported path any_text (RefusesLine failure) input Closed
+  IsRefusedBy policy _ input failure Closed = ⊥
 
-  -- all that was done with a file, whatever the status: it was not opened, or the command was served, with some answer
-  abbrev pub IsOnce : Asked → Option (List ℕ) → (List S → Type 0) → Type 0
-  IsOnce (verify choices path name) input Closed =
-      Closed [] ⊎ ((answer : Result Accepted FileError) × IsVerified choices path name answer input Closed)
-  IsOnce (edit choices path act name) input Closed =
-      Closed [] ⊎ ((answer : Result (Unit {0}) FileError) × IsEdited choices path act name answer input Closed)
-  IsOnce (show choices path view) input Closed =
-      Closed [] ⊎ ((error : Option FileError) × IsRead choices path error (λ names. ⊤) Closed)
-  IsOnce (import choices path any_text) input Closed = Closed [] ⊎ IsImported choices path any_text IsAdded input Closed
-  IsOnce _ input Closed = Closed []
+  -- what is asked for is refused: there is no such policy, or before a file is opened, or by a call on the file
+  abbrev pub IsRefused : Policy → Asked → Option (List ℕ) → (List S → Type 0) → Type 0
+  IsRefused policy what input Closed = ((¬ (IsPolicy policy) ⊎ IsUnfit policy what input) × Closed [])
+      ⊎ ((failure : Failure) × (status_of failure ≡ 1) × IsRefusedBy policy what input failure Closed)
+
+  -- all that was done with a file, whatever the status: it was not opened, or the command was served, with some result
+  abbrev pub IsOnce : Policy → Asked → Option (List ℕ) → (List S → Type 0) → Type 0
+  IsOnce policy (verify path name) input Closed =
+      Closed [] ⊎ ((result : Result Accepted Failure) × IsVerified policy path name result input Closed)
+  IsOnce policy (edit path act name) input Closed =
+      Closed [] ⊎ ((result : Result (Unit {0}) Failure) × IsEdited policy path act name result input Closed)
+  IsOnce policy (show path view) input Closed =
+      Closed [] ⊎ ((error : Option FileError) × IsRead path error (λ names. ⊤) Closed)
+  IsOnce policy (import path any_text) input Closed = Closed [] ⊎ IsImported path any_text IsAdded input Closed
+  IsOnce policy _ input Closed = Closed []
 
   -- how a command ended: it is answered, or refused with this failure, and no more was done with a file
-  pub record IsServed (what : Asked) (result : Result (Unit {0}) Failure)
+  pub record IsServed (policy : Policy) (what : Asked) (result : Result (Unit {0}) Failure)
       (input old new : Option (List ℕ)) (Closed : List S → Type 0) : Type 0 where
-    pub ok : OnOk result (IsAnswered what input old new Closed)
+    pub ok : OnOk result (IsAnswered policy what input old new Closed)
     pub err : IfErr result (λ failure. status_of failure ≡ 1
-        → IsRefused what input Closed × Keeps old new)
-    pub once : IsOnce what input Closed
+        → IsRefused policy what input Closed × Keeps old new)
+    pub once : IsOnce policy what input Closed
+
+-- how a command ended under the choices and their secret; or a failure that is no refusal came before
+abbrev pub IsEnded : {S : Type 0} (g : Ghosts S) → (List ℕ → List ℕ → Type 0) → (List ℕ → Texts → Type 0) → Choices → Asked
+    → Result (Unit {0}) Failure → Option (List ℕ) → Option (List ℕ) → Option (List ℕ) → (List S → Type 0) → Type 0
+IsEnded g Holds Has choices what result input old new Closed =
+    (Closed [] × IsErrAnd result (λ failure. status_of failure ≡ 3))
+    ⊎ Under Holds choices (λ policy. IsServed g Has policy what result input old new Closed)

@@ -1,13 +1,16 @@
 -- What the program is asked for.
-use Rattle.std.specs.Prelude.{Bool, List, ℕ, Option, None, Some, max, unwrap_or}
+use Rattle.std.specs.Prelude.{Bool, List, ℕ, Option, None, max, unwrap_or}
 use Rattle.std.specs.Option.{option_copied}
 use Rattle.argon2.specs.Settings.{Parameters}
-use Rattle.argon2.specs.Argon2.{parameters_of}
+use Rattle.argon2.specs.Argon2.{argon2id_with, parameters_of}
 use Rattle.argon2.specs.declared.bound.Bound.{Bound}
+use Rattle.argon2_policy.specs.Policy.{Policy}
 use Rattle.argon2_rows.specs.declared.view.View.{View}
-use Rattle.argon2_passwd.specs.declared.command.Command.{Command}
-use Rattle.argon2_passwd.specs.declared.command.Command.TheVariants.{Hash, Check, Verify, Edit as Edits, Show, Import}
+use Rattle.argon2_passwd.specs.declared.command.Action.{Action}
+use Rattle.argon2_passwd.specs.declared.command.Action.TheVariants.{Hash, Check, OnFile}
 use Rattle.argon2_passwd.specs.declared.command.Edit.{Edit}
+use Rattle.argon2_passwd.specs.declared.command.Task.{Task}
+use Rattle.argon2_passwd.specs.declared.command.Task.TheVariants.{Verify, Edit as Edits, Show, Import}
 use Rattle.argon2_passwd.specs.declared.options.Options.{Options}
 
 -- under what texts are made and verified
@@ -18,12 +21,12 @@ pub record Choices : Type 0 where
 
 -- what is asked for, on a file with its path
 pub data Asked : Type 0 where
-  hash : Choices → Asked
-  check : Choices → List ℕ → Asked
-  verify : Choices → List ℕ → List ℕ → Asked
-  edit : Choices → List ℕ → Edit → List ℕ → Asked
-  show : Choices → List ℕ → View → Asked
-  import : Choices → List ℕ → Bool → Asked
+  hash : Asked
+  check : List ℕ → Asked
+  verify : List ℕ → List ℕ → Asked
+  edit : List ℕ → Edit → List ℕ → Asked
+  show : List ℕ → View → Asked
+  import : List ℕ → Bool → Asked
 
 abbrev pub choices_of : Options → Choices
 choices_of options = record {
@@ -32,22 +35,17 @@ choices_of options = record {
   secret_file = option_copied options.secret_file;
 }
 
-abbrev pub asked : Command → Asked
-asked (Hash options) = hash (choices_of options)
-asked (Check options text) = check (choices_of options) text.now
-asked (Verify options file name) = verify (choices_of options) file.now name.now
-asked (Edits options file change name) = edit (choices_of options) file.now change name.now
-asked (Show options file view) = show (choices_of options) file.now view
-asked (Import options file any_text) = import (choices_of options) file.now any_text
+-- a task on the file at a path
+abbrev pub asked_on : List ℕ → Task → Asked
+asked_on path (Verify name) = verify path name.now
+asked_on path (Edits change name) = edit path change name.now
+asked_on path (Show view) = show path view
+asked_on path (Import any_text) = import path any_text
 
--- the path of the file with accounts that is asked about, if there is one
-abbrev pub file_of : Asked → Option (List ℕ)
-file_of (hash choices) = None
-file_of (check choices text) = None
-file_of (verify choices path name) = Some path
-file_of (edit choices path act name) = Some path
-file_of (show choices path view) = Some path
-file_of (import choices path any_text) = Some path
+abbrev pub asked : Action → Asked
+asked Hash = hash
+asked (Check text) = check text.now
+asked (OnFile path task) = asked_on path.now task
 
 -- the bound that is given; if none is, 2 GiB, 64 passes and 64 lanes, each no less than the parameter
 abbrev pub bound_of : Choices → Bound
@@ -56,3 +54,11 @@ bound_of choices = unwrap_or choices.bound (record {
   t_cost = max choices.parameters.t_cost 64;
   p_cost = max choices.parameters.p_cost 64;
 })
+
+-- Argon2id of version 0x13 under choices and a secret
+abbrev pub policy_by : Choices → List ℕ → Policy
+policy_by choices secret = record {
+  target = record { settings = argon2id_with choices.parameters; secret = secret };
+  old_secret = None;
+  bound = bound_of choices;
+}

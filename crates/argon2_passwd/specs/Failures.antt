@@ -1,10 +1,11 @@
 -- Why the program fails.
-use Rattle.std.specs.Prelude.{◌≡◌, ◌≢◌, ⊤, ℕ}
+use Rattle.std.specs.Prelude.{◌≡◌, ◌≢◌, ⊤, ℕ, if◌then◌else◌}
 use Rattle.argon2_base.specs.declared.error.password_hash.Error.TheVariants.{OutOfMemory}
-use Rattle.argon2_accounts.specs.declared.error.AccountError.{AccountError}
-use Rattle.argon2_accounts.specs.declared.error.AccountError.TheVariants.{Refused}
+use Rattle.argon2.specs.declared.bound.BoundError.{BoundError}
+use Rattle.argon2.specs.declared.bound.BoundError.TheVariants as bound
 use Rattle.argon2_passwd.specs.declared.failure.Failure.{Failure}
-use Rattle.argon2_passwd.specs.declared.failure.Failure.TheVariants.{NoPassword, LongPassword, Name, Account, Line, Unopened, File, Memory}
+use Rattle.argon2_passwd.specs.declared.failure.Failure.TheVariants.{NoPassword, LongPassword, Name, Refused, Text, Taken, Unopened, File, Memory}
+use Rattle.argon2_store.specs.Errors.{is_refusal}
 use Rattle.argon2_store.specs.declared.error.FileError.{FileError}
 use Rattle.argon2_store.specs.declared.error.FileError.TheVariants as file
 use Rattle.argon2_store.specs.declared.error.OpenError.{OpenError}
@@ -15,8 +16,10 @@ abbrev pub status_of : Failure → ℕ
 status_of NoPassword = 1
 status_of LongPassword = 1
 status_of Name = 1
-status_of (Account error) = 1
-status_of (Line number error) = 1
+status_of (Refused error) = 1
+status_of (Text number) = 1
+status_of (Taken number) = 1
+status_of (File error) = if is_refusal error then 1 else 3
 status_of _ = 3
 
 -- a request for memory was refused
@@ -24,20 +27,18 @@ abbrev pub IsMemory : Failure → Type 0
 IsMemory (Memory refused) = ⊤
 IsMemory _ = ⊥
 
--- the failure by a call that refuses: out of memory is reported as that
-abbrev pub IsOfAccount : AccountError → Failure → Type 0
-IsOfAccount refusal (Memory refused) = refusal ≡ Refused OutOfMemory
-IsOfAccount refusal (Account error) = (error ≡ refusal) × (refusal ≢ Refused OutOfMemory)
-IsOfAccount refusal _ = ⊥
+-- the failure by a refusal of the policy: out of memory is reported as that
+abbrev pub IsOfBound : BoundError → Failure → Type 0
+IsOfBound refusal (Memory refused) = refusal ≡ bound.Refused OutOfMemory
+IsOfBound refusal (Refused error) = (error ≡ refusal) × (refusal ≢ bound.Refused OutOfMemory)
+IsOfBound refusal _ = ⊥
 
 -- the failure by a call on a file
 abbrev pub IsOfFile : FileError → Failure → Type 0
-IsOfFile (file.Account refusal) failure = IsOfAccount refusal failure
 IsOfFile file.OutOfMemory failure = IsMemory failure
 IsOfFile error failure = failure ≡ File error
 
 -- the failure by an open
 abbrev pub IsOfOpen : OpenError → Failure → Type 0
-IsOfOpen (no.Terms refusal) failure = IsOfAccount refusal failure
 IsOfOpen no.OutOfMemory failure = IsMemory failure
 IsOfOpen error failure = failure ≡ Unopened error

@@ -2,12 +2,12 @@
 
 ghost use Rattle.std.specs.Prelude.{◌≡◌, ◌≢◌};
 ghost use Rattle.std.specs.IoError.{error_kind};
-ghost use Rattle.argon2_passwd.specs.Failures.{IsMemory, IsOfAccount, IsOfFile, IsOfOpen, status_of};
+ghost use Rattle.argon2_passwd.specs.Failures.{IsMemory, IsOfBound, IsOfFile, IsOfOpen, status_of};
 
+use argon2::bound::BoundError;
 use argon2::password_hash;
-use argon2_accounts::AccountError;
 use argon2_store::{FileError, OpenError};
-use std::alloc::AllocError;
+use std::alloc::{AllocError, AllocFailed};
 use std::io;
 use std::io::ErrorKind;
 use thiserror::Error;
@@ -25,19 +25,22 @@ pub enum Failure {
     #[error("a name has no line break and no colon")]
     Name,
     /// The parameters are above the bound; or a text is outside the grammar, is above the bound or does not
-    /// accept the password; or a name is taken or unknown.
+    /// accept the password.
     #[error(transparent)]
-    Account(AccountError),
-    /// The text of the line of this number is outside the grammar, or the line's name is taken.
-    #[error("line {0}: {1}")]
-    Line(usize, AccountError),
+    Refused(BoundError),
+    /// The line of this number has no text that may be added.
+    #[error("line {0}: encoding is invalid")]
+    Text(usize),
+    /// The name of the line of this number is taken.
+    #[error("line {0}: name is taken")]
+    Taken(usize),
     /// What is at the path of the file with the accounts is no such file.
     #[error("{0}")]
     Unfit(&'static str),
     /// The file with the accounts can't be opened.
     #[error(transparent)]
     Unopened(OpenError),
-    /// The file with the accounts can't be written.
+    /// The names in the file with the accounts refuse the call, or the file can't be read or written.
     #[error(transparent)]
     File(FileError),
     /// A name in the file has a line break, or a colon if its text follows.
@@ -76,8 +79,10 @@ impl Failure {
             Failure::NoPassword => 1,
             Failure::LongPassword => 1,
             Failure::Name => 1,
-            Failure::Account(_) => 1,
-            Failure::Line(..) => 1,
+            Failure::Refused(_) => 1,
+            Failure::Text(_) => 1,
+            Failure::Taken(_) => 1,
+            Failure::File(error) if error.is_refusal() => 1,
             _ => 3,
         }
     }
@@ -117,6 +122,14 @@ impl From<AllocError> for Failure {
     }
 }
 
+impl<T: Drop> From<AllocFailed<T>> for Failure {
+    ghost from_gives = { λ _. IsMemory };
+
+    fn from(_refused: AllocFailed<T>) -> Failure {
+        Failure::Memory(AllocError)
+    }
+}
+
 /// The failure of a write.
 impl From<io::Error> for Failure {
     ghost use Rattle.argon2_passwd.specs.declared.failure.Failure.TheVariants.{Output};
@@ -128,26 +141,26 @@ impl From<io::Error> for Failure {
     }
 }
 
-/// Out of memory is reported as that, wherever it was found.
-impl From<AccountError> for Failure {
-    ghost from_gives = { IsOfAccount };
+/// The failure of a call of the policy. Out of memory is reported as that.
+impl From<BoundError> for Failure {
+    ghost from_gives = { IsOfBound };
 
-    fn from(error: AccountError) -> Failure {
+    fn from(error: BoundError) -> Failure {
         match error {
-            AccountError::Refused(password_hash::Error::OutOfMemory) => Failure::Memory(AllocError),
-            error => Failure::Account(error),
+            BoundError::Refused(password_hash::Error::OutOfMemory) => Failure::Memory(AllocError),
+            error => Failure::Refused(error),
         }
     }
 }
 
 /// The same of a text that can't be read.
 impl From<password_hash::Error> for Failure {
-    ghost use Rattle.argon2_accounts.specs.declared.error.AccountError.TheVariants.{Refused};
+    ghost use Rattle.argon2.specs.declared.bound.BoundError.TheVariants.{Refused};
 
-    ghost from_gives = { λ error. IsOfAccount (Refused error) };
+    ghost from_gives = { λ error. IsOfBound (Refused error) };
 
     fn from(error: password_hash::Error) -> Failure {
-        Failure::from(AccountError::Refused(error))
+        Failure::from(BoundError::Refused(error))
     }
 }
 
@@ -157,7 +170,6 @@ impl From<FileError> for Failure {
 
     fn from(error: FileError) -> Failure {
         match error {
-            FileError::Account(error) => Failure::from(error),
             FileError::OutOfMemory => Failure::Memory(AllocError),
             error => Failure::File(error),
         }
@@ -170,7 +182,6 @@ impl From<OpenError> for Failure {
 
     fn from(error: OpenError) -> Failure {
         match error {
-            OpenError::Terms(error) => Failure::from(error),
             OpenError::OutOfMemory => Failure::Memory(AllocError),
             error => Failure::Unopened(error),
         }

@@ -9,7 +9,7 @@ mod outside;
 mod passwords;
 pub mod run;
 
-pub use command::{Command, Edit};
+pub use command::{Action, Command, Edit, Task};
 pub use failure::Failure;
 pub use options::Options;
 pub use outside::Outside;

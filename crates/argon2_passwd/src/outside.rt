@@ -1,16 +1,13 @@
 //! Where the program finds the secret, random bytes and accounts.
 
 use crate::failure::Failure;
-use argon2::Argon2;
-use argon2::bound::Bound;
 use argon2_store::AccountFile;
 use sqlite_trees::store::Store;
 
 /// Where the program finds the secret, random bytes and accounts. One file is open at a time.
 pub trait Outside {
     ghost use Rattle.std.specs.Prelude.{◌≡◌, ◌++◌, ◌∷◌, [], ℕ, List, IfErr, IfOk, OnErr, OnOk};
-    ghost use Rattle.argon2_accounts.specs.Accounts.{AreTerms, Texts};
-    ghost use Rattle.argon2.specs.Made.{target_of};
+    ghost use Rattle.argon2_rows.specs.Names.{Texts};
     ghost use Rattle.argon2_passwd.specs.Answers.{IsOpened};
     ghost use Rattle.argon2_passwd.specs.Failures.{status_of};
 
@@ -54,19 +51,11 @@ pub trait Outside {
     /// The accounts in the file at a path, which is made if there is none and the command makes it.
     ///
     /// # Errors
-    /// The target asks for more than the bound, and the file is left alone; or the file can't be opened.
-    fn open<'key>(
-        &mut self,
-        path: &str,
-        makes: bool,
-        target: Argon2<'key>,
-        bound: Bound,
-    ) -> Result<AccountFile<'key, Self::File>, Failure>
+    /// The file can't be opened.
+    fn open(&mut self, path: &str, makes: bool) -> Result<AccountFile<Self::File>, Failure>
         requires { (before : List Self.File) × closed self.old before }
-        ensures ready { IfOk result (IsOpened keeps path.now
-            (record { target = target_of target.entry; bound = bound })) }
-        ensures refused { IfErr result (λ failure. status_of failure ≡ 1
-            → ¬ (AreTerms (record { target = target_of target.entry; bound = bound }))) }
+        ensures ready { IfOk result (IsOpened keeps path.now) }
+        ensures failed { IfErr result (λ failure. status_of failure ≡ 3) }
         ensures opened { OnOk result
             ((before : List Self.File) → closed self.old before → opened self.new before) }
         ensures untouched { OnErr result

@@ -2,21 +2,23 @@
 
 ghost use Rattle.std.specs.Prelude.{◌≡◌, ◌⊎◌, ◌++◌, ◌∷◌, [], IfErr, IfOk, OnOk};
 ghost use Rattle.std.specs.Io.KnownBytes.{Appends, Keeps};
-ghost use Rattle.argon2_accounts.specs.Accounts.{AreTerms, terms_of};
+ghost use Rattle.argon2_policy.specs.Policy.{policy_value};
 ghost use Rattle.argon2.specs.Login.{accepted_text};
 ghost use Rattle.argon2.specs.Made.{target_of};
-ghost use Rattle.argon2_passwd.specs.Answers.{Denies, HasNone, IsAnswered, IsCheckReply, IsHashReply, IsOnce, IsRefused, IsRefusedBy, IsReplied, IsSecret, IsServed, terms_by};
-ghost use Rattle.argon2_passwd.specs.Asked.{asked, choices_of};
+ghost use Rattle.argon2_passwd.specs.Answers.{Denies, HasNone, IsAnswered, IsCheckReply, IsEnded, IsHashReply, IsOnce, IsRefused, IsReplied, IsSecret, Under};
+ghost use Rattle.argon2_passwd.specs.Asked.{asked, choices_of, policy_by};
 ghost use Rattle.argon2_passwd.specs.Failures.{status_of};
 
-use crate::command::Command;
+use crate::command::{Action, Command};
 use crate::failure::Failure;
 use crate::options::Options;
 use crate::outside::Outside;
 use crate::passwords::password;
+use accounts::Access;
 use argon2::login::Accepted;
 use argon2::{Algorithm, Argon2, Version};
-use argon2_accounts::Policy;
+use argon2_policy::Policy;
+use argon2_programs::write_line;
 use rand_chacha::ChaCha20Rng;
 use rand_core::SeedableRng;
 use std::alloc::Global;
@@ -46,17 +48,18 @@ pub fn run<P: Outside, R: BufRead, W: Write, E: Write>(
 ) -> u8
     requires { P.closed outside.old [] }
     ensures status { (result ≡ 0) ⊎ (result ≡ 1) ⊎ (result ≡ 3) }
-    ensures answered { result ≡ 0 → IsAnswered P.File.Store P.holds P.keeps (asked command.entry)
-        (R.remaining input.old) (W.contents output.old) (W.contents output.new)
-        (P.closed outside.new) }
+    ensures answered { result ≡ 0 → Under P.holds (choices_of command.entry.options) (λ policy.
+        IsAnswered P.File.Store P.keeps policy (asked command.entry.action) (R.remaining input.old)
+        (W.contents output.old) (W.contents output.new) (P.closed outside.new)) }
     ensures quiet { result ≡ 0 → Keeps (E.contents errors.old) (E.contents errors.new) }
-    ensures refused { result ≡ 1 → IsRefused P.File.Store P.holds P.keeps (asked command.entry)
-        (R.remaining input.old) (P.closed outside.new)
-        × Keeps (W.contents output.old) (W.contents output.new) }
-    ensures once { IsOnce P.File.Store P.holds P.keeps (asked command.entry)
-        (R.remaining input.old) (P.closed outside.new) }
+    ensures refused { result ≡ 1 → Under P.holds (choices_of command.entry.options) (λ policy.
+        IsRefused P.File.Store P.keeps policy (asked command.entry.action) (R.remaining input.old)
+        (P.closed outside.new)) × Keeps (W.contents output.old) (W.contents output.new) }
+    ensures once { P.closed outside.new [] ⊎ Under P.holds (choices_of command.entry.options) (λ policy.
+        IsOnce P.File.Store P.keeps policy (asked command.entry.action) (R.remaining input.old)
+        (P.closed outside.new)) }
 {
-    match answer(alloc, command, outside, input, output) {
+    match answer(alloc, &command, outside, input, output) {
         Ok(()) => 0,
         Err(failure) => fail(errors, &command, &failure),
     }
@@ -68,10 +71,14 @@ fn fail<E: Write>(errors: &mut E, command: &Command<'_>, failure: &Failure) -> u
     ensures one { (result ≡ 1) ⊎ (result ≡ 3) }
 {
     let file = match failure {
+        Failure::File(error) if error.is_refusal() => None,
         Failure::Unfit(_) | Failure::Unopened(_) | Failure::File(_) | Failure::BrokenLine => {
-            command.file()
+            match command.action {
+                Action::OnFile(path, _) => Some(path),
+                _ => None,
+            }
         }
-        Failure::Secret | Failure::SecretLength => command.options().secret_file,
+        Failure::Secret | Failure::SecretLength => command.options.secret_file,
         _ => None,
     };
     let _ = match file {
@@ -84,33 +91,30 @@ fn fail<E: Write>(errors: &mut E, command: &Command<'_>, failure: &Failure) -> u
 // Answers a command.
 fn answer<P: Outside, R: BufRead, W: Write>(
     alloc: Global,
-    command: Command<'_>,
+    command: &Command<'_>,
     outside: &mut P,
     input: &mut R,
     output: &mut W,
 ) -> Result<(), Failure>
     requires { P.closed outside.old [] }
-    ensures { IsServed P.File.Store P.holds P.keeps (asked command.entry) result
-        (R.remaining input.old) (W.contents output.old) (W.contents output.new)
-        (P.closed outside.new) }
+    ensures { IsEnded P.File.Store P.holds P.keeps (choices_of command.now.options)
+        (asked command.now.action) result (R.remaining input.old) (W.contents output.old)
+        (W.contents output.new) (P.closed outside.new) }
 {
-    if let Some(path) = command.file() {
-        outside.look(path, command.makes())?;
-    }
-    match command {
-        Command::Hash(options) => hash(alloc, &options, outside, input, output),
-        Command::Check(options, text) => check(alloc, &options, outside, text, input, output),
-        Command::Verify(options, path, name) => {
-            accounts::verify(alloc, &options, outside, path, name, input, output)
-        }
-        Command::Edit(options, path, change, name) => {
-            edits::edit(alloc, &options, outside, path, change, name, input)
-        }
-        Command::Show(options, path, view) => {
-            accounts::show(alloc, &options, outside, path, view, output)
-        }
-        Command::Import(options, path, any_text) => {
-            accounts::import(alloc, &options, outside, path, any_text, input)
+    let options = &command.options;
+    let secret = secret(alloc, outside, options)?;
+    let secret = secret.as_slice();
+    let policy = Policy::new(alloc, target(options, secret)?, options.bound())?;
+    match command.action {
+        Action::Hash => hash(alloc, outside, &policy, input, output),
+        Action::Check(text) => check(alloc, outside, &policy, text, input, output),
+        Action::OnFile(path, task) => {
+            let access = Access {
+                path,
+                makes: task.makes(),
+                policy: &policy,
+            };
+            accounts::serve(alloc, outside, &access, task, input, output)
         }
     }
 }
@@ -118,46 +122,44 @@ fn answer<P: Outside, R: BufRead, W: Write>(
 // Writes a text for the next password.
 fn hash<P: Outside, R: BufRead, W: Write>(
     alloc: Global,
-    options: &Options<'_>,
     outside: &P,
+    policy: &Policy<'_>,
     input: &mut R,
     output: &mut W,
 ) -> Result<(), Failure>
-    ensures ok { OnOk result (IsReplied P.holds (choices_of options.now)
-        (λ terms drawn line. IsHashReply terms drawn (R.remaining input.old) line)
+    ensures ok { OnOk result (IsReplied
+        (λ drawn line. IsHashReply (policy_value policy.now) drawn (R.remaining input.old) line)
         (W.contents output.old) (W.contents output.new)) }
     ensures err { IfErr result (λ failure. status_of failure ≡ 1
-        → IsRefusedBy P.holds (choices_of options.now) (λ terms. HasNone (R.remaining input.old))
-        × Keeps (W.contents output.old) (W.contents output.new)) }
+        → HasNone (R.remaining input.old) × Keeps (W.contents output.old) (W.contents output.new)) }
 {
-    let secret = secret(alloc, outside, options)?;
-    let (policy, mut rng) = policy(alloc, options, outside, secret.as_slice())?;
+    let mut rng = generator(outside)?;
     let password = password(alloc, input)?;
-    let hash = texts::fresh(&policy, &mut rng, password.as_slice())?;
-    write_line(output, hash.text().as_str())
+    let hash = texts::fresh(policy, &mut rng, password.as_slice())?;
+    write_line(output, hash.text().as_str().as_bytes())?;
+    Ok(())
 }
 
 // Writes what a text does with the next password.
 fn check<P: Outside, R: BufRead, W: Write>(
     alloc: Global,
-    options: &Options<'_>,
     outside: &P,
+    policy: &Policy<'_>,
     text: &str,
     input: &mut R,
     output: &mut W,
 ) -> Result<(), Failure>
-    ensures ok { OnOk result (IsReplied P.holds (choices_of options.now)
-        (λ terms drawn line. IsCheckReply terms drawn text.now (R.remaining input.old) line)
+    ensures ok { OnOk result (IsReplied
+        (λ drawn line. IsCheckReply (policy_value policy.now) drawn text.now (R.remaining input.old) line)
         (W.contents output.old) (W.contents output.new)) }
     ensures err { IfErr result (λ failure. status_of failure ≡ 1
-        → IsRefusedBy P.holds (choices_of options.now)
-        (λ terms. Denies terms text.now (R.remaining input.old))
+        → Denies (policy_value policy.now) text.now (R.remaining input.old)
         × Keeps (W.contents output.old) (W.contents output.new)) }
 {
-    let secret = secret(alloc, outside, options)?;
-    let (policy, mut rng) = policy(alloc, options, outside, secret.as_slice())?;
-    let reply = texts::check(alloc, &policy, &mut rng, text, input)?;
-    write_line(output, reply.as_str())
+    let mut rng = generator(outside)?;
+    let reply = texts::check(alloc, policy, &mut rng, text, input)?;
+    write_line(output, reply.as_str().as_bytes())?;
+    Ok(())
 }
 
 // The secret that the options name, none if they name no file.
@@ -175,7 +177,7 @@ fn secret<P: Outside>(alloc: Global, outside: &P, options: &Options<'_>) -> Resu
 // What new texts are made under.
 fn target<'key>(options: &Options<'_>, secret: &'key [u8]) -> Result<Argon2<'key>, Failure>
     ensures ok { IfOk result (λ argon2.
-        target_of argon2 ≡ (terms_by (choices_of options.now) secret.now).target) }
+        target_of argon2 ≡ (policy_by (choices_of options.now) secret.now).target) }
     ensures err { IfErr result (λ failure. status_of failure ≡ 3) }
 {
     let (algorithm, version) = (Algorithm::Argon2id, Version::V0x13);
@@ -185,31 +187,11 @@ fn target<'key>(options: &Options<'_>, secret: &'key [u8]) -> Result<Argon2<'key
     }
 }
 
-// What new texts are made under, and the bound, with a generator for the salts.
-fn policy<'key, P: Outside>(
-    alloc: Global,
-    options: &Options<'_>,
-    outside: &P,
-    secret: &'key [u8],
-) -> Result<(Policy<'key>, ChaCha20Rng), Failure>
-    ensures ok { IfOk result (λ made.
-        terms_of made.0 ≡ terms_by (choices_of options.now) secret.now) }
-    ensures err { IfErr result (λ failure. status_of failure ≡ 1
-        → ¬ (AreTerms (terms_by (choices_of options.now) secret.now))) }
+// A generator for the salts.
+fn generator<P: Outside>(outside: &P) -> Result<ChaCha20Rng, Failure>
+    ensures { IfErr result (λ failure. status_of failure ≡ 3) }
 {
-    let policy = Policy::new(alloc, target(options, secret)?, options.bound())?;
-    Ok((policy, ChaCha20Rng::from_seed(outside.seed()?)))
-}
-
-// Writes a line.
-fn write_line<W: Write>(output: &mut W, text: &str) -> Result<(), Failure>
-    ensures err { IfErr result (λ failure. failure ≡ Failure.Output) }
-    ensures ok { OnOk result (Appends (W.contents output.old) (W.contents output.new)
-        (text.now ++ 10 ∷ [])) }
-{
-    writeln!(output, "{text}")?;
-    output.flush()?;
-    Ok(())
+    Ok(ChaCha20Rng::from_seed(outside.seed()?))
 }
 
 // Writes what a login did.

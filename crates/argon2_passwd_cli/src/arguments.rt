@@ -5,7 +5,7 @@ use argon2::bound::Bound;
 use argon2::phc::read_decimal;
 use argon2_commands::{VERSION, invalid};
 use argon2_passwd::run::PROGRAM;
-use argon2_passwd::{Command, Edit, Options};
+use argon2_passwd::{Action, Command, Edit, Options, Task};
 use argon2_store::View;
 use clap::error::ErrorKind;
 use clap::{ArgAction, ArgMatches, Error, arg};
@@ -14,7 +14,7 @@ use std::alloc::{AllocError, Global};
 const USAGE: &str = "\
 argon2-passwd [OPTIONS] hash
        argon2-passwd [OPTIONS] check TEXT
-       argon2-passwd [OPTIONS] register|verify|change|set|remove FILE NAME
+       argon2-passwd [OPTIONS] register|verify|change|set|remove|lock|unlock FILE NAME
        argon2-passwd [OPTIONS] list|export|import FILE";
 
 const ABOUT: &str = "\
@@ -33,10 +33,12 @@ most 4096 bytes.
   change FILE NAME    give the name a text of the second line if the first line is accepted
   set FILE NAME       give a name that is there a text of the password
   remove FILE NAME    remove the name with its text
+  lock FILE NAME      keep the text of the name behind a !, so that it accepts no password
+  unlock FILE NAME    give the name the text back that it had when it was locked
   list FILE           write the names, one a line, in the order of their bytes
   export FILE         write the same lines with a colon and the text behind each name
   import FILE         add all names and texts of standard input, in the form that export writes, or none;
-                      texts are Argon2's, unless --any-text is given
+                      texts are Argon2's, unless --any-text is given, and may be locked
 
 FILE is a SQLite database that survives a crash at any moment. register and import make it if there is none.
 It may also stand before the command's word. A path that is such a word is written with ./ before it.";
@@ -85,8 +87,8 @@ fn asked<'a>(
         }
     }
     let words = matches.get_strs("COMMAND").unwrap_or(&[]);
-    match task(options, matches.get_flag("any-text"), words) {
-        Some(task) => Ok(task),
+    match action(matches.get_flag("any-text"), words) {
+        Some(action) => Ok(Command { options, action }),
         None => Err(unknown(command, alloc, words)?),
     }
 }
@@ -105,52 +107,45 @@ fn unknown(
     command.error(ErrorKind::InvalidValue, message.as_str())
 }
 
-// What words ask for under these options.
-fn task<'a>(options: Options<'a>, any_text: bool, words: &[&'a str]) -> Option<Command<'a>> {
-    match words {
-        [word] if *word == "hash" => Some(Command::Hash(options)),
-        [word, text] if *word == "check" => Some(Command::Check(options, text)),
-        [first, second] => on_file(options, any_text, first, second).or(on_file(
-            options, any_text, second, first,
-        )),
-        [first, second, name] => {
-            on_name(options, first, second, name).or(on_name(options, second, first, name))
-        }
+// What words ask for. The file may come before the command's word.
+fn action<'a>(any_text: bool, words: &[&'a str]) -> Option<Action<'a>> {
+    match *words {
+        [word] if word == "hash" => Some(Action::Hash),
+        [word, text] if word == "check" => Some(Action::Check(text)),
+        [first, second] => match on_file(any_text, first) {
+            Some(task) => Some(Action::OnFile(second, task)),
+            None => Some(Action::OnFile(first, on_file(any_text, second)?)),
+        },
+        [first, second, name] => match on_name(first, name) {
+            Some(task) => Some(Action::OnFile(second, task)),
+            None => Some(Action::OnFile(first, on_name(second, name)?)),
+        },
         _ => None,
     }
 }
 
 // What a word asks for of a file.
-fn on_file<'a>(
-    options: Options<'a>,
-    any_text: bool,
-    word: &str,
-    file: &'a str,
-) -> Option<Command<'a>> {
+fn on_file(any_text: bool, word: &str) -> Option<Task<'static>> {
     match word {
-        "list" => Some(Command::Show(options, file, View::Names)),
-        "export" => Some(Command::Show(options, file, View::Texts)),
-        "import" => Some(Command::Import(options, file, any_text)),
+        "list" => Some(Task::Show(View::Names)),
+        "export" => Some(Task::Show(View::Texts)),
+        "import" => Some(Task::Import(any_text)),
         _ => None,
     }
 }
 
 // What a word asks for of a name in a file.
-fn on_name<'a>(
-    options: Options<'a>,
-    word: &str,
-    file: &'a str,
-    name: &'a str,
-) -> Option<Command<'a>> {
-    let edit = match word {
-        "verify" => return Some(Command::Verify(options, file, name)),
-        "register" => Edit::Register,
-        "change" => Edit::Change,
-        "set" => Edit::Set,
-        "remove" => Edit::Remove,
-        _ => return None,
-    };
-    Some(Command::Edit(options, file, edit, name))
+fn on_name<'a>(word: &str, name: &'a str) -> Option<Task<'a>> {
+    match word {
+        "verify" => Some(Task::Verify(name)),
+        "register" => Some(Task::Edit(Edit::Register, name)),
+        "change" => Some(Task::Edit(Edit::Change, name)),
+        "set" => Some(Task::Edit(Edit::Set, name)),
+        "remove" => Some(Task::Edit(Edit::Remove, name)),
+        "lock" => Some(Task::Edit(Edit::Lock, name)),
+        "unlock" => Some(Task::Edit(Edit::Unlock, name)),
+        _ => None,
+    }
 }
 
 // The parameters that costs are, if they are valid.

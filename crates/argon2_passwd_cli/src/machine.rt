@@ -1,19 +1,16 @@
 //! The machine that the program runs on.
 
-use argon2::Argon2;
-use argon2::bound::Bound;
 use argon2_passwd::{Failure, Outside};
 use argon2_store::{AccountFile, AccountsAt, OpenError};
 use sqlite_std_file::{FileFrom, Wary};
 use sqlite_store::FileStore;
 use sqlite_trees::store::Store;
 use std::alloc::AllocError;
-use std::fs::{self, OpenOptions};
 use std::io::{ErrorKind, Read};
-use std::os::unix::fs::{MetadataExt, OpenOptionsExt};
+use std::os::unix::fs::MetadataExt;
 use std::random::RandomSource;
-use std::thread;
 use std::time::Duration;
+use std::{fs, thread};
 
 // The most bytes that a secret may have.
 const LONGEST_SECRET: usize = 4096;
@@ -108,26 +105,9 @@ impl Outside for Machine<'_> {
     }
 
     // Others may change what is at the path while a password is hashed, so each open looks again.
-    fn open<'key>(
-        &mut self,
-        path: &str,
-        makes: bool,
-        target: Argon2<'key>,
-        bound: Bound,
-    ) -> Result<AccountsAt<'key, Wary>, Failure> {
+    fn open(&mut self, path: &str, makes: bool) -> Result<AccountsAt<Wary>, Failure> {
         self.look(path, makes)?;
-        // A new file is for its owner alone. If it can't be made, the open says why.
-        if makes && bound.allows(target.params()) {
-            let _ = OpenOptions::new()
-                .write(true)
-                .create_new(true)
-                .mode(0o600)
-                .open(self.rt, path);
-        }
-        match AccountFile::open(self.rt, path, Wary, target, bound) {
-            Ok(accounts) => Ok(accounts),
-            Err(error) => Err(Failure::from(error)),
-        }
+        Ok(AccountFile::open(self.rt, path, Wary)?)
     }
 
     fn close(&mut self, mut store: FileStore<FileFrom<Wary>>) {

@@ -1,75 +1,57 @@
 //! Changes of the text of one name in a file.
 
-ghost use Rattle.std.specs.Prelude.{◌≡◌, ◌⊎◌, ◌∷◌, [], ℕ, List, Option, IsTrue, Err, IfErr, IfOk, OnErr};
-ghost use Rattle.argon2_base.specs.PhcFields.{phc_of};
-ghost use Rattle.argon2_accounts.specs.Accounts.{AreTerms, setting, terms_of as policy_terms};
-ghost use Rattle.argon2.specs.Made.{IsFresh};
-ghost use Rattle.argon2_store.specs.AccountFile.{Serves, terms_of};
-ghost use Rattle.argon2_passwd.specs.Answers.{Applies, AreRead, AreUnread, IsAct, IsOpenFor, IsSecret, IsServed, breaks_lines, terms_in};
-ghost use Rattle.argon2_passwd.specs.Asked.{Asked, choices_of};
+ghost use Rattle.std.specs.Prelude.{◌≡◌, ◌∷◌, [], ℕ, List, Option, IfErr, IfOk};
+ghost use Rattle.argon2_policy.specs.Policy.{policy_value};
+ghost use Rattle.argon2_store.specs.AccountFile.{Serves};
+ghost use Rattle.argon2_passwd.specs.Answers.{AreRead, AreUnread, Ends, IsAct, IsApplied, IsServed, breaks_lines, edit_of};
+ghost use Rattle.argon2_passwd.specs.Asked.{Asked};
 ghost use Rattle.argon2_passwd.specs.Failures.{status_of};
 
 use super::accounts::{Access, look, open, replace};
+use super::generator;
 use super::texts::fresh;
-use super::{policy, secret};
 use crate::command::Edit;
 use crate::failure::Failure;
-use crate::options::Options;
 use crate::outside::Outside;
 use crate::passwords::password;
 use argon2::PasswordHash;
-use argon2_accounts::{AccountError, Policy};
 use argon2_store::{AccountFile, FileError, View};
 use rand_core::Rng;
 use sqlite_trees::store::Store;
 use std::alloc::Global;
 use std::io::BufRead;
 
-// A change that is one call: a new name or one that is there gets the text, or a name is removed.
+// A change that is one call on a file.
 #[derive(Drop)]
 enum Step {
     Add(PasswordHash),
     Set(PasswordHash),
     Remove,
+    Lock,
+    Unlock,
 }
 
 /// Changes the text of a name in a file, by the next passwords.
-pub fn edit<P: Outside, R: BufRead>(
+pub(super) fn edit<P: Outside, R: BufRead>(
     alloc: Global,
-    options: &Options<'_>,
     outside: &mut P,
-    path: &str,
+    access: &Access<'_>,
     edit: Edit,
     name: &str,
     input: &mut R,
 ) -> Result<(), Failure>
     requires { P.closed outside.old [] }
-    ensures { (output : Option (List ℕ)) → IsServed P.File.Store P.holds P.keeps
-        (Asked.edit (choices_of options.now) path.now edit name.now) result (R.remaining input.old)
-        output output (P.closed outside.new) }
+    ensures { (output : Option (List ℕ)) → IsServed P.File.Store P.keeps
+        (policy_value access.now.policy.now) (Asked.edit access.now.path.now edit name.now) result
+        (R.remaining input.old) output output (P.closed outside.new) }
 {
     if breaks_lines(edit, name) {
         return Err(Failure::Name);
     }
+    let mut rng = generator(outside)?;
     let (first, second) = passwords(alloc, edit, input)?;
-    let secret = secret(alloc, outside, options)?;
-    let (policy, mut rng) = policy(alloc, options, outside, secret.as_slice())?;
-    let access = Access {
-        path,
-        makes: matches!(edit, Edit::Register),
-        options: *options,
-        secret: secret.as_slice(),
-    };
-    Ok(act(
-        outside,
-        &access,
-        edit,
-        name,
-        &policy,
-        &mut rng,
-        first.as_slice(),
-        second.as_slice(),
-    )??)
+    let (first, second) = (first.as_slice(), second.as_slice());
+    act(outside, access, edit, name, &mut rng, first, second)
 }
 
 // Whether the name of a new text would break its line in an export.
@@ -94,7 +76,7 @@ fn passwords<R: BufRead>(
         → AreUnread edit (R.remaining input.old)) }
 {
     match edit {
-        Edit::Remove => Ok((Vec::new(alloc), Vec::new(alloc))),
+        Edit::Remove | Edit::Lock | Edit::Unlock => Ok((Vec::new(alloc), Vec::new(alloc))),
         Edit::Change => {
             let old = password(alloc, input)?;
             Ok((old, password(alloc, input)?))
@@ -110,39 +92,27 @@ fn act<P: Outside, G: Rng>(
     access: &Access<'_>,
     edit: Edit,
     name: &str,
-    policy: &Policy<'_>,
     rng: &mut G,
     first: &[u8],
     second: &[u8],
-) -> Result<Result<(), FileError>, Failure>
-    requires unopened { P.closed outside.old [] }
-    requires held { IsSecret P.holds (choices_of access.now.options).secret_file
-        access.now.secret.now }
-    requires under { policy_terms policy.now ≡ terms_in access.now }
-    ensures ok { IfOk result (λ done. IsAct P.File.Store P.holds P.keeps
-        (choices_of access.now.options) access.now.path.now edit name.now first.now second.now done
-        (P.closed outside.new)) }
-    ensures err { IfErr result (λ failure. status_of failure ≡ 1
-        → ¬ (AreTerms (terms_in access.now)) × P.closed outside.new []) }
-    ensures once { OnErr result (P.closed outside.new []
-        ⊎ IsAct P.File.Store P.holds P.keeps (choices_of access.now.options) access.now.path.now
-        edit name.now first.now second.now (Err FileError.Io) (P.closed outside.new)) }
+) -> Result<(), Failure>
+    requires { P.closed outside.old [] }
+    ensures { IsAct P.File.Store P.keeps (policy_value access.now.policy.now) access.now.path.now
+        edit name.now first.now second.now result (P.closed outside.new) }
 {
     match edit {
-        Edit::Register => call(
-            outside,
-            access,
-            name,
-            &Step::Add(fresh(policy, rng, first)?),
-        ),
-        Edit::Change => change(outside, access, name, policy, rng, first, second),
-        Edit::Set => call(
-            outside,
-            access,
-            name,
-            &Step::Set(fresh(policy, rng, first)?),
-        ),
+        Edit::Register => {
+            let text = fresh(access.policy, rng, first)?;
+            call(outside, access, name, &Step::Add(text))
+        }
+        Edit::Change => change(outside, access, name, rng, first, second),
+        Edit::Set => {
+            let text = fresh(access.policy, rng, first)?;
+            call(outside, access, name, &Step::Set(text))
+        }
         Edit::Remove => call(outside, access, name, &Step::Remove),
+        Edit::Lock => call(outside, access, name, &Step::Lock),
+        Edit::Unlock => call(outside, access, name, &Step::Unlock),
     }
 }
 
@@ -152,32 +122,27 @@ fn call<P: Outside>(
     access: &Access<'_>,
     name: &str,
     step: &Step,
-) -> Result<Result<(), FileError>, Failure>
+) -> Result<(), Failure>
     requires { P.closed outside.old [] }
-    ensures ok { IfOk result (λ done. IsOpenFor P.File.Store P.holds P.keeps (terms_in access.now)
-        access.now.path.now (Applies step.now name.now done)
-        (λ last. P.closed outside.new (last ∷ []))) }
-    ensures err { IfErr result (λ f. status_of f ≡ 1 → ¬ (AreTerms (terms_in access.now))) }
-    ensures untouched { OnErr result (P.closed outside.new []) }
+    ensures { Ends (IsApplied P.File.Store P.keeps access.now.path.now (edit_of step.now name.now)
+        (λ last. P.closed outside.new (last ∷ []))) (P.closed outside.new []) result }
 {
     let mut accounts = open(outside, access)?;
     let done = apply(&mut accounts, name, step);
     outside.close(accounts.into_store());
-    Ok(done)
+    Ok(done?)
 }
 
 // Makes the call.
-fn apply<S: Store>(
-    accounts: &mut AccountFile<'_, S>,
-    name: &str,
-    step: &Step,
-) -> Result<(), FileError>
-    ensures { Applies step.now name.now result accounts.old accounts.new }
+fn apply<S: Store>(accounts: &mut AccountFile<S>, name: &str, step: &Step) -> Result<(), FileError>
+    ensures { Serves (edit_of step.now name.now ∷ []) result accounts.old accounts.new }
 {
     match step {
-        Step::Add(text) => accounts.add(name, text.text().as_str()),
-        Step::Set(text) => set_text(accounts, name, text),
+        Step::Add(text) => accounts.add(name, text),
+        Step::Set(text) => accounts.set(name, text),
         Step::Remove => accounts.remove(name),
+        Step::Lock => accounts.lock(name),
+        Step::Unlock => accounts.unlock(name),
     }
 }
 
@@ -186,48 +151,15 @@ fn change<P: Outside, G: Rng>(
     outside: &mut P,
     access: &Access<'_>,
     name: &str,
-    policy: &Policy<'_>,
     rng: &mut G,
     first: &[u8],
     second: &[u8],
-) -> Result<Result<(), FileError>, Failure>
-    requires unopened { P.closed outside.old [] }
-    requires held { IsSecret P.holds (choices_of access.now.options).secret_file
-        access.now.secret.now }
-    requires under { policy_terms policy.now ≡ terms_in access.now }
-    ensures ok { IfOk result (λ done. IsAct P.File.Store P.holds P.keeps
-        (choices_of access.now.options) access.now.path.now Edit.Change name.now first.now second.now
-        done (P.closed outside.new)) }
-    ensures err { IfErr result (λ failure. status_of failure ≡ 1
-        → ¬ (AreTerms (terms_in access.now))
-        × P.closed outside.new []) }
-    ensures once { OnErr result (P.closed outside.new []
-        ⊎ IsAct P.File.Store P.holds P.keeps (choices_of access.now.options) access.now.path.now
-        Edit.Change name.now first.now second.now (Err FileError.Io) (P.closed outside.new)) }
+) -> Result<(), Failure>
+    requires { P.closed outside.old [] }
+    ensures { IsAct P.File.Store P.keeps (policy_value access.now.policy.now) access.now.path.now
+        Edit.Change name.now first.now second.now result (P.closed outside.new) }
 {
-    let (text, hash) = match look(outside, access, name, policy, first)? {
-        Ok(found) => found,
-        Err(error) => return Ok(Err(error)),
-    };
-    let fresh = match policy.change_password(rng, &hash, first, second) {
-        Ok(fresh) => fresh,
-        Err(error) => return Ok(Err(error.into())),
-    };
+    let (text, hash) = look(outside, access, name, first)?;
+    let fresh = access.policy.change_password(rng, &hash, first, second)?;
     replace(outside, access, name, text.as_str(), &fresh)
-}
-
-// Gives a name that is there this text, whatever text it had.
-fn set_text<S: Store>(
-    accounts: &mut AccountFile<'_, S>,
-    name: &str,
-    fresh: &PasswordHash,
-) -> Result<(), FileError>
-    ensures { (password drawn : List ℕ) →
-        IsFresh (terms_of accounts.old).target password drawn (phc_of fresh.now) →
-        Serves (setting name.now password drawn) result accounts.old accounts.new }
-{
-    let Some(text) = accounts.text_of(name)? else {
-        return Err(AccountError::NameUnknown.into());
-    };
-    accounts.replace(name, text.as_str(), fresh.text().as_str())
 }

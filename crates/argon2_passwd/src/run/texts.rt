@@ -3,7 +3,7 @@
 ghost use Rattle.std.specs.Prelude.{◌≡◌, Ok, IfErr, IfOk, string_bytes};
 ghost use Rattle.argon2.specs.Made.{IsFresh};
 ghost use Rattle.rand_core.specs.Stream.{fill_bytes};
-ghost use Rattle.argon2_accounts.specs.Accounts.{Admits, LogsIn, terms_of};
+ghost use Rattle.argon2_policy.specs.Policy.{Admits, LogsIn, policy_value};
 ghost use Rattle.argon2_passwd.specs.Answers.{Denies, IsCheckReply, login_text};
 ghost use Rattle.argon2_passwd.specs.Failures.{status_of};
 ghost use Rattle.argon2_base.specs.PhcFields.{phc_of};
@@ -13,7 +13,7 @@ use crate::failure::Failure;
 use crate::passwords::password;
 use argon2::PasswordHash;
 use argon2::login::{Accepted, LoggedIn};
-use argon2_accounts::Policy;
+use argon2_policy::Policy;
 use rand_core::Rng;
 use std::alloc::{AllocError, Global};
 use std::io::BufRead;
@@ -24,7 +24,7 @@ pub fn fresh<G: Rng>(
     rng: &mut G,
     password: &[u8],
 ) -> Result<PasswordHash, Failure>
-    ensures ok { IfOk result (λ text. IsFresh (terms_of policy.now).target password.now
+    ensures ok { IfOk result (λ text. IsFresh (policy_value policy.now).target password.now
         (fill_bytes 16 (G.stream rng.old)).0 (phc_of text)) }
     ensures err { IfErr result (λ failure. status_of failure ≡ 3) }
 {
@@ -44,11 +44,11 @@ pub fn check<G: Rng, R: BufRead>(
     text: &str,
     input: &mut R,
 ) -> Result<String, Failure>
-    ensures ok { IfOk result (λ reply. IsCheckReply (terms_of policy.now)
+    ensures ok { IfOk result (λ reply. IsCheckReply (policy_value policy.now)
         (fill_bytes 16 (G.stream rng.old)).0 text.now (R.remaining input.old)
         (string_bytes reply)) }
     ensures err { IfErr result (λ failure. status_of failure ≡ 1
-        → Denies (terms_of policy.now) text.now (R.remaining input.old)) }
+        → Denies (policy_value policy.now) text.now (R.remaining input.old)) }
 {
     let password = password(alloc, input)?;
     let (accepted, hash) = login(policy, rng, text, password.as_slice())?;
@@ -63,10 +63,10 @@ fn login<G: Rng>(
     password: &[u8],
 ) -> Result<(Accepted, PasswordHash), Failure>
     ensures ok { IfOk result (λ done. (v : Phc) × PhcText text.now v
-        × LogsIn (terms_of policy.now) password.now (fill_bytes 16 (G.stream rng.old)).0 v
+        × LogsIn (policy_value policy.now) password.now (fill_bytes 16 (G.stream rng.old)).0 v
         (Ok done.0) (phc_of done.1)) }
     ensures err { IfErr result (λ failure. status_of failure ≡ 1 → (v : Phc) → PhcText text.now v
-        → ¬ (Admits (terms_of policy.now) password.now v)) }
+        → ¬ (Admits (policy_value policy.now) password.now v)) }
 {
     let hash = PasswordHash::new(text)?;
     let LoggedIn { accepted, fresh } = policy.log_in(rng, &hash, password)?;

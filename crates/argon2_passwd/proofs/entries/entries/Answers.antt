@@ -1,4 +1,4 @@
-use Rattle.std.proofs.Common.{rules, arith, ◌≡◌, ◌∙◌, ◌+◌, ◌<◌, ◌==◌, min, ℕ, length, Bool, Bor, List, [], ◌∷◌, ◌++◌, map, ap, append-nil, subst, sym, refl, ⊎_elim, false, take}
+use Rattle.std.proofs.Common.{rules, arith, ◌≡◌, ◌∙◌, ◌+◌, ◌<◌, ◌==◌, min, ℕ, length, length-append, Bool, Bor, suc, List, [], ◌∷◌, ◌++◌, map, ap, append-nil, subst, sym, refl, ⊎_elim, inr, false, take}
 use Rattle.std.specs.Prelude.{All}
 use Rattle.std.proofs.lemmas.Bool.{cases_lt}
 use Rattle.std.proofs.lemmas.Grind.{common_steps}
@@ -7,9 +7,11 @@ use Rattle.std.proofs.lemmas.List.Splits.{length-slice_split, slice_split_at, sl
 use Rattle.std.specs.Io.BufRead.{strip_last}
 use Rattle.std.specs.List.{AllZip, IsFirstMatchOrLen, slice_split}
 use Rattle.std.specs.Str.Lines.{lines, lines_of_parts, strip_carriage_return}
-use Rattle.argon2_rows.specs.Adding.{entry_of}
-use Rattle.argon2_passwd.specs.Answers.{AreEntries, IsEntry}
+use Rattle.argon2_rows.specs.Names.{entry_of}
+use Rattle.argon2_rows.specs.declared.text.StoredText.{StoredText}
+use Rattle.argon2_passwd.specs.Answers.{AreEntries, HasNoEntry, IsEntry, IsFirstWithout}
 use Rattle.argon2_passwd.specs.Passwords.{line_of}
+use Rattle.argon2_passwd.specs.declared.failure.Failure.TheVariants.{Text}
 use Rattle.argon2_passwd.proofs.entries.entries.Goals as goal
 
 parts-cons : (part : List ℕ) (parts : List (List ℕ)) → 0 < length parts
@@ -51,10 +53,13 @@ lines_first rest line after i some whole long first = ⊎_elim
     (cases_lt i (length rest))
 
 -- an entry more, and none
-pushed : (found : List (Bor (List ℕ) × Bor (List ℕ))) (x : Bor (List ℕ) × Bor (List ℕ)) (rest : List (List ℕ × List ℕ))
+pushed : (found : List (Bor (List ℕ) × StoredText)) (x : Bor (List ℕ) × StoredText) (rest : List (List ℕ × List ℕ))
     → map entry_of found ++ entry_of x ∷ rest ≡ map entry_of (found ++ x ∷ []) ++ rest
 pushed [] x rest = refl
 pushed (y ∷ found) x rest = ap (λ es. entry_of y ∷ es) (pushed found x rest)
+
+more_found : {A : Type 0} (found : List A) (x : A) (k : ℕ) → length found + suc k ≡ length (found ++ x ∷ []) + k
+more_found found x k = omega (arith, length-append found (x ∷ []))
 
 none_left : (any_text : Bool) (bytes : List ℕ) → length bytes ≡ 0 → AreEntries any_text bytes []
 none_left any_text [] none = tt
@@ -65,15 +70,30 @@ loop-line-preserved c =
     let steps = c.in-Some.ensures.steps in
     let (always, first) = steps.1.2 (λ b. b == 10) (answers_always _ _ _ (λ f a r g h. search rules)) in
     let line = lines_first _ _ _ _ steps.2 steps.0 steps.1.1 first in
-    let e = entry_of c.entry.result in
-    let one = subst (λ l. IsEntry c.args.any_text l e) c.line_len.ensures.value c.entry.ensures in
-    λ rest are.
-    let all = c.loop-line.invariant (e ∷ rest)
-    (subst (λ ls. AllZip (IsEntry c.args.any_text) ls (e ∷ rest)) (sym line) (one, are)) in
-    rw c.in_ok-push.ensures.items
-    (subst (AreEntries c.args.any_text c.args.input.now) (pushed c.loop-line.found.items c.entry.result rest) all)
+    let found = c.in-Some-entry.entry in
+    let e = entry_of found in
+    let one = subst (λ l. IsEntry c.args.any_text l e) c.line_len.ensures.value c.in-Some-entry.ensures in (
+      (λ rest are.
+          let all = c.loop-line.invariant.0 (e ∷ rest)
+          (subst (λ ls. AllZip (IsEntry c.args.any_text) ls (e ∷ rest)) (sym line) (one, are)) in
+          rw c.in_ok-push.ensures.items
+          (subst (AreEntries c.args.any_text c.args.input.now) (pushed c.loop-line.found.items found rest) all)),
+      (λ k without.
+          let all = c.loop-line.invariant.1 (suc k)
+          (subst (λ ls. IsFirstWithout c.args.any_text ls (suc k)) (sym line) (rw one.1 at one.2, without)) in
+          rw c.in_ok-push.ensures.items (subst (IsFirstWithout c.args.any_text (lines c.args.input.now)) (more_found c.loop-line.found.items found k) all)),
+    )
 
-pub returns : goal.returns
-returns c =
+pub returns-in_default-clause-err : goal.returns-in_default-clause-err
+returns-in_default-clause-err c =
+    let steps = c.in-Some.ensures.steps in
+    let (always, first) = steps.1.2 (λ b. b == 10) (answers_always _ _ _ (λ f a r g h. search rules)) in
+    let line = lines_first _ _ _ _ steps.2 steps.0 steps.1.1 first in
+    let none = subst (HasNoEntry c.args.any_text) c.line_len.ensures.value c.in_default.ensures in
+    let all = c.loop-line.invariant.1 0 (subst (λ ls. IsFirstWithout c.args.any_text ls 0) (sym line) none) in
+    inr (length c.loop-line.found.items, ap (λ (xs : List (Bor (List ℕ) × StoredText)). Text (length xs + 1)) c.as_slice.ensures.value, subst (IsFirstWithout c.args.any_text (lines c.args.input.now)) (omega arith) all)
+
+pub returns-clause-ok : goal.returns-clause-ok
+returns-clause-ok c =
     subst (AreEntries c.args.any_text c.args.input.now) (append-nil _)
-    (c.loop-line.invariant [] (none_left _ _ c.in-None.ensures.steps.0))
+    (c.loop-line.invariant.0 [] (none_left _ _ c.in-None.ensures.steps.0))

@@ -1,35 +1,50 @@
-use Rattle.std.proofs.Common.{◌∙◌, [], inl, map, subst}
+use Rattle.std.proofs.Common.{arith, ◌≡◌, ◌⊎◌, ◌∙◌, ℕ, Bool, List, [], Option, inl, inr, map, subst}
 use Rattle.std.proofs.lemmas.Option.{IfSome_then}
-use Rattle.argon2_rows.specs.Adding.{entry_of}
-use Rattle.argon2_passwd.specs.Answers.{AreEntries}
-use Rattle.argon2_passwd.proofs.Served.{failed, imported, keeps_same, no_memory, not_begun, opened_for}
+use Rattle.std.specs.Prelude.{IfSome}
+use Rattle.std.specs.Str.Lines.{lines}
+use Rattle.argon2_rows.specs.Names.{entry_of}
+use Rattle.argon2_passwd.specs.Answers.{AreEntries, IsFirstWithout, RefusesText}
+use Rattle.argon2_passwd.specs.Failures.{IsMemory, status_of}
+use Rattle.argon2_passwd.specs.declared.failure.Failure.{Failure}
+use Rattle.argon2_passwd.proofs.Served.{imported, keeps_same, not_begun, not_opened, opened_for}
 use Rattle.argon2_passwd.proofs.run.accounts.import.Goals as goal
+
+memory_is : (f : Failure) → IsMemory f → ¬ (status_of f ≡ 1)
+memory_is f memory one = grind arith
+
+-- a refusal for a text is one of a known input
+refused : (any_text : Bool) (read : List ℕ) (f : Failure) (input : Option (List ℕ)) → IfSome input (λ known. read ≡ known)
+    → status_of f ≡ 1 → IsMemory f ⊎ RefusesText any_text read f
+    → (k : ℕ) × IfSome input (λ bytes. IsFirstWithout any_text (lines bytes) k)
+refused any_text read f input same one (inl memory) = absurd (memory_is f memory one)
+refused any_text read f input same one (inr (k, is, first)) =
+    (k, IfSome_then input same (λ known all. subst (λ bytes. IsFirstWithout any_text (lines bytes) k) all first))
 
 pub returns-in_err-bytes : goal.returns-in_err-bytes
 returns-in_err-bytes g c output = not_begun _ _ c.from_residual.ensures.1 c.in_err-bytes.ensures.err c.requires
 
 pub returns-in_err-entries : goal.returns-in_err-entries
-returns-in_err-entries g c output = no_memory _ c.from_residual-in_err-entries.ensures.1 c.requires
-
-pub returns-in_err-secret : goal.returns-in_err-secret
-returns-in_err-secret g c output = not_begun _ _ c.from_residual-in_err-secret.ensures.1 c.in_err-secret.ensures.err c.requires
+returns-in_err-entries g c output =
+    not_opened c.in_err-entries.field-0.0 _ c.from_residual-in_err-entries.ensures.1
+    (λ one. (
+      inr (refused _ _ _ (g.R.Read.remaining c.args.input.now) c.in_ok-bytes.ensures.ok one
+          (rw c.as_slice.ensures.value at c.in_err-entries.ensures.err)),
+      keeps_same _,
+    )) c.requires
 
 pub returns-in_err-accounts : goal.returns-in_err-accounts
 returns-in_err-accounts g c output =
-    let shut = c.in_err-accounts.ensures.untouched [] c.requires in
-    let unsound = rw c.as_slice-2.ensures.value at c.in_err-accounts.ensures.err in
-    failed c.in_err-accounts.field-0.0 _ c.from_residual-in_err-accounts.ensures.1
-    (λ one. (inl ((c.in_ok-secret.secret.items, c.in_ok-secret.ensures.ok, unsound one), shut), keeps_same _)) (inl shut)
+    not_begun c.in_err-accounts.field-0.0 _ c.from_residual-in_err-accounts.ensures.1 c.in_err-accounts.ensures.err
+    (c.in_err-accounts.ensures.untouched [] c.requires)
 
 pub returns : goal.returns
 returns g c output =
     let es = map entry_of c.in_ok-entries.entries.items in
-    let opened = rw c.as_slice-2.ensures.value at c.in_ok-accounts.ensures.ok in
-    let adds = rw c.as_slice-3.ensures.value at c.add_all-added.ensures in
+    let adds = rw c.as_slice-2.ensures.value at c.add_all-added.ensures in
     let closed = rw c.into_store.ensures at c.close.ensures [] (c.in_ok-accounts.ensures.opened [] c.requires) in
     imported _ (
       es,
       IfSome_then (g.R.Read.remaining c.args.input.now) c.in_ok-bytes.ensures.ok (λ known all.
-          subst (λ bytes. AreEntries c.args.any_text bytes es) (c.as_slice.ensures.value ∙ all) c.in_ok-entries.ensures),
-      (c.in_ok-secret.secret.items, [], c.in_ok-secret.ensures.ok, opened_for _ _ opened adds closed),
+          subst (λ bytes. AreEntries c.args.any_text bytes es) (c.as_slice.ensures.value ∙ all) c.in_ok-entries.ensures.ok),
+      opened_for _ _ c.in_ok-accounts.ensures.ok adds closed,
     )

@@ -1,9 +1,29 @@
-use Rattle.std.proofs.Common.{[], ◌∷◌}
-use Rattle.argon2_passwd.proofs.Served.{opened_for}
+use Rattle.std.proofs.Common.{[], ◌∷◌, Ok, Err, inl, inr, refl}
+use Rattle.argon2_passwd.specs.Failures.{IsOfFile}
+use Rattle.argon2_passwd.proofs.Served.{err_is, opened_for, some_error}
 use Rattle.argon2_passwd.proofs.run.accounts.replace.Goals as goal
 
-pub returns-clause-ok : goal.returns-clause-ok
-returns-clause-ok g c = λ read was.
+pub returns-in_err-accounts : goal.returns-in_err-accounts
+returns-in_err-accounts g c = λ read was.
+    rw (err_is c.from_residual.result c.in_err-accounts.field-0.0 c.from_residual.ensures.1) (inr (c.in_err-accounts.ensures.untouched (read ∷ []) was, c.in_err-accounts.ensures.err))
+
+pub returns-in_err-done : goal.returns-in_err-done
+returns-in_err-done g c = λ read was.
     let closed = rw c.into_store.ensures at c.close.ensures (read ∷ []) (c.in_ok-accounts.ensures.opened (read ∷ []) was) in
-    opened_for c.in_ok-accounts.accounts c.replace-done.new.self c.in_ok-accounts.ensures.ok
-    (rw (c.as_str.ensures.value, c.text.ensures.1) at c.replace-done.ensures) closed
+    let (f, is, of) = some_error (IsOfFile c.in_err-done.field-0.0) c.from_residual-in_err-done.result c.from_residual-in_err-done.ensures.1 in
+    rw is (inl (
+      Err c.in_err-done.field-0.0,
+      of,
+      opened_for c.in_ok-accounts.accounts c.replace-done.new.self c.in_ok-accounts.ensures.ok
+          (rw c.in_err-done.was at c.replace-done.ensures) closed,
+    ))
+
+pub returns : goal.returns
+returns g c = λ read was.
+    let closed = rw c.into_store.ensures at c.close.ensures (read ∷ []) (c.in_ok-accounts.ensures.opened (read ∷ []) was) in
+    inl (
+      Ok tt,
+      refl,
+      opened_for c.in_ok-accounts.accounts c.replace-done.new.self c.in_ok-accounts.ensures.ok
+          (rw c.in_ok-done.was at c.replace-done.ensures) closed,
+    )
