@@ -32,7 +32,7 @@ fn xor_rotate(a: u64x16, b: u64x16, k: u64) -> u64x16
 
 // GB in each lane of four vectors.
 #[inline(always)]
-fn gb(v: [u64x16; 4]) -> [u64x16; 4]
+pub(super) fn gb(v: [u64x16; 4]) -> [u64x16; 4]
     ensures { (j : ℕ) → j < 16
         → (
           lane_word result 0 j,
@@ -248,7 +248,7 @@ fn rows_of(r: &[u64; 128]) -> [u64x16; 8]
 
 // The first eight lanes of a vector.
 #[inline(always)]
-fn left_half(x: u64x16) -> u64x8
+pub(super) fn left_half(x: u64x16) -> u64x8
     ensures { (k : ℕ) → k < 8 → slice_index result k ≡ slice_index x (0 + k) }
 {
     x.extract::<0, 8>()
@@ -256,7 +256,7 @@ fn left_half(x: u64x16) -> u64x8
 
 // The last eight lanes of a vector.
 #[inline(always)]
-fn right_half(x: u64x16) -> u64x8
+pub(super) fn right_half(x: u64x16) -> u64x8
     ensures { (k : ℕ) → k < 8 → slice_index result k ≡ slice_index x (8 + k) }
 {
     x.extract::<8, 8>()

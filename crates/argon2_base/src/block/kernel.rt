@@ -1,93 +1,59 @@
 //! The mixing of two blocks over sixteen vectors of eight words: lane i of vector k is word k of row i,
 //! and then word k of column i, so that P goes on eight rows and on eight columns at once.
 
-ghost use Rattle.std.specs.Prelude.{◌≡◌, ℕ, ◌+◌, ◌*◌, ◌/◌, ◌%◌, ◌^◌, ◌<◌, ◌≤◌, length, slice_index, bit_xor, ◌==◌, if◌then◌else◌};
-ghost use Rattle.argon2_base.specs.Block.{add_mul, column, gb, mixed, perm, row, xor_blocks, xor_rotate};
-ghost use Rattle.argon2_base.specs.Lanes.{exchanged_left, exchanged_right, lane, lane_word, word_from, words_in_eights};
+ghost use Rattle.std.specs.Prelude.{◌≡◌, ℕ, ◌+◌, ◌*◌, ◌/◌, ◌%◌, ◌<◌, ◌≤◌, length, slice_index, bit_xor, ◌==◌, if◌then◌else◌};
+ghost use Rattle.argon2_base.specs.Block.{gb, mixed, perm, row, xor_blocks};
+ghost use Rattle.argon2_base.specs.Lanes.{exchanged_left, exchanged_right, lane, lane_word, words_in_eights};
 
-use std::simd::{u8x64, u64x8};
+use super::chains::{self, left_half, right_half};
+use std::simd::{u64x8, u64x16};
 
-// u + v + 2 * low32(u) * low32(v) in each lane.
+// The words of a, and then those of b. Both stay in the registers where they are.
 #[inline(always)]
-fn add_mul(a: u64x8, b: u64x8) -> u64x8
-    ensures { (j : ℕ) → j < 8 → slice_index result j ≡ add_mul (slice_index a j) (slice_index b j) }
+fn side_by_side(a: u64x8, b: u64x8) -> u64x16
+    ensures left { (j : ℕ) → j < 8 → slice_index result (0 + j) ≡ slice_index a j }
+    ensures right { (j : ℕ) → j < 8 → slice_index result (8 + j) ≡ slice_index b j }
 {
-    let low = u64x8::splat(0xffff_ffff);
-    let product = (a & low) * (b & low);
-    a + b + (product + product)
+    a.shuffle(b, [0, 1, 2, 3, 4, 5, 6, 7, 8, 9, 10, 11, 12, 13, 14, 15])
 }
 
-// (a xor b) >>> k in each lane.
+// GB in each lane of the first four vectors, and in step with it of the other four.
 #[inline(always)]
-fn xor_rotate(a: u64x8, b: u64x8, k: u64) -> u64x8
-    requires { (0 < k) × (k < 64) }
-    ensures { (j : ℕ) → j < 8 → slice_index result j
-        ≡ xor_rotate (slice_index a j) (slice_index b j) k }
-{
-    let x = a ^ b;
-    (x >> u64x8::splat(k)) | (x << u64x8::splat(64 - k))
-}
-
-// The bytes of each word, the low byte first.
-#[inline(always)]
-fn bytes(x: u64x8) -> u8x64
-    ensures { (j k : ℕ) → j < 8 → k < 8
-        → slice_index result (8 * j + k) ≡ slice_index x j / 256 ^ k % 256 }
-{
-    x.to_le_bytes()
-}
-
-// Turns the eight bytes of each word by three places.
-#[inline(always)]
-fn turn_bytes(x: u8x64) -> u8x64
-    ensures { (j : ℕ) → j < 8 → (k : ℕ) → k < 8
-        → slice_index result (8 * j + k) ≡ slice_index x (8 * j + (k + 3) % 8) }
-{
-    x.swizzle([
-        3, 4, 5, 6, 7, 0, 1, 2, 11, 12, 13, 14, 15, 8, 9, 10, 19, 20, 21, 22, 23, 16, 17, 18, 27,
-        28, 29, 30, 31, 24, 25, 26, 35, 36, 37, 38, 39, 32, 33, 34, 43, 44, 45, 46, 47, 40, 41, 42,
-        51, 52, 53, 54, 55, 48, 49, 50, 59, 60, 61, 62, 63, 56, 57, 58,
-    ])
-}
-
-// The words of the bytes, the low byte first.
-#[inline(always)]
-fn from_bytes(x: u8x64) -> u64x8
-    ensures { (j : ℕ) → j < 8 → slice_index result j ≡ word_from x (8 * j) }
-{
-    u64x8::from_le_bytes(x)
-}
-
-// `xor_rotate` by 24 bits, which are whole bytes.
-#[inline(always)]
-fn xor_rotate_24(a: u64x8, b: u64x8) -> u64x8
-    ensures { (j : ℕ) → j < 8
-        → slice_index result j ≡ xor_rotate (slice_index a j) (slice_index b j) 24 }
-{
-    from_bytes(turn_bytes(bytes(a ^ b)))
-}
-
-// GB in each lane.
-#[inline(always)]
-fn gb(a: u64x8, b: u64x8, c: u64x8, d: u64x8) -> (u64x8, u64x8, u64x8, u64x8)
-    ensures { (j : ℕ) → j < 8
+fn gb_twice(v: [u64x8; 8]) -> [u64x8; 8]
+    ensures first { (j : ℕ) → j < 8
         → (
-          slice_index result.0 j,
-          slice_index result.1 j,
-          slice_index result.2 j,
-          slice_index result.3 j,
+          lane_word result 0 j,
+          lane_word result 1 j,
+          lane_word result 2 j,
+          lane_word result 3 j,
         )
-        ≡ gb (slice_index a j) (slice_index b j) (slice_index c j) (slice_index d j) }
+        ≡ gb (lane_word v 0 j) (lane_word v 1 j) (lane_word v 2 j) (lane_word v 3 j) }
+    ensures second { (j : ℕ) → j < 8
+        → (
+          lane_word result 4 j,
+          lane_word result 5 j,
+          lane_word result 6 j,
+          lane_word result 7 j,
+        )
+        ≡ gb (lane_word v 4 j) (lane_word v 5 j) (lane_word v 6 j) (lane_word v 7 j) }
 {
-    let a1 = add_mul(a, b);
-    let d1 = xor_rotate(d, a1, 32);
-    let c1 = add_mul(c, d1);
-    let b1 = xor_rotate_24(b, c1);
-    let a2 = add_mul(a1, b1);
-    let d2 = xor_rotate(d1, a2, 16);
-    let c2 = add_mul(c1, d2);
-    let b2 = xor_rotate(b1, c2, 63);
-    (a2, b2, c2, d2)
+    let [a0, b0, c0, d0, a1, b1, c1, d1] = v;
+    let [a, b, c, d] = chains::gb([
+        side_by_side(a0, a1),
+        side_by_side(b0, b1),
+        side_by_side(c0, c1),
+        side_by_side(d0, d1),
+    ]);
+    [
+        left_half(a),
+        left_half(b),
+        left_half(c),
+        left_half(d),
+        right_half(a),
+        right_half(b),
+        right_half(c),
+        right_half(d),
+    ]
 }
 
 // P in each lane.
@@ -113,14 +79,10 @@ fn perm(v: [u64x8; 16]) -> [u64x8; 16]
         d2,
         d3,
     ] = v;
-    let (a0, b0, c0, d0) = gb(a0, b0, c0, d0);
-    let (a1, b1, c1, d1) = gb(a1, b1, c1, d1);
-    let (a2, b2, c2, d2) = gb(a2, b2, c2, d2);
-    let (a3, b3, c3, d3) = gb(a3, b3, c3, d3);
-    let (a0, b1, c2, d3) = gb(a0, b1, c2, d3);
-    let (a1, b2, c3, d0) = gb(a1, b2, c3, d0);
-    let (a2, b3, c0, d1) = gb(a2, b3, c0, d1);
-    let (a3, b0, c1, d2) = gb(a3, b0, c1, d2);
+    let [a0, b0, c0, d0, a1, b1, c1, d1] = gb_twice([a0, b0, c0, d0, a1, b1, c1, d1]);
+    let [a2, b2, c2, d2, a3, b3, c3, d3] = gb_twice([a2, b2, c2, d2, a3, b3, c3, d3]);
+    let [a0, b1, c2, d3, a1, b2, c3, d0] = gb_twice([a0, b1, c2, d3, a1, b2, c3, d0]);
+    let [a2, b3, c0, d1, a3, b0, c1, d2] = gb_twice([a2, b3, c0, d1, a3, b0, c1, d2]);
     [
         a0, a1, a2, a3, b0, b1, b2, b3, c0, c1, c2, c3, d0, d1, d2, d3,
     ]

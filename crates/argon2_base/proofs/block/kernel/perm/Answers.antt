@@ -7,6 +7,8 @@ pub returns : goal.returns
 unfolding perm
 returns c n h =
     diagonals_mixed _ _ _ _ _ _ _ _ _ _ _ _ _ _ _ _ _ _ _ _
-    (c.gb-8.ensures n h) (c.gb-5.ensures n h) (c.gb-6.ensures n h) (c.gb-7.ensures n h)
+    (c.gb_twice-4.ensures.second n h) (c.gb_twice-3.ensures.first n h)
+    (c.gb_twice-3.ensures.second n h) (c.gb_twice-4.ensures.first n h)
     ∙ ap mix_diagonals (columns_mixed _ _ _ _ _ _ _ _ _ _ _ _ _ _ _ _ _ _ _ _
-    (c.gb.ensures n h) (c.gb-2.ensures n h) (c.gb-3.ensures n h) (c.gb-4.ensures n h))
+    (c.gb_twice.ensures.first n h) (c.gb_twice.ensures.second n h)
+    (c.gb_twice-2.ensures.first n h) (c.gb_twice-2.ensures.second n h))
