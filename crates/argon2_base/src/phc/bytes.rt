@@ -1,11 +1,11 @@
 //! Salts and outputs, and the strict Base64 of bytes.
 
-ghost use Rattle.std.specs.Prelude.{◌≡◌, ◌<◌, ◌≤◌, ◌*◌, Some, IfOk, MatchOption, MatchResult, length, nat_eq};
+ghost use Rattle.std.specs.Prelude.{◌≡◌, ◌<◌, ◌≤◌, ◌*◌, Some, IfOk, MatchResult, length, nat_eq};
 ghost use Rattle.std.specs.Cmp.{partial_equiv_from_equiv};
 ghost use Rattle.std.specs.Cmp.Lexicographic.{pointwise, nat_list_eq_equiv};
 ghost use Rattle.argon2_base.specs.ByteList.{list_bytes};
 ghost use Rattle.argon2_base.specs.PhcText.{HasBytes};
-ghost use Rattle.argon2_base.specs.Texts.{IsBytes, strict_base64};
+ghost use Rattle.argon2_base.specs.Texts.{strict_base64};
 ghost use Rattle.argon2_base.specs.declared.error.password_hash.Error.TheVariants.{SaltInvalid, OutputSize};
 
 use super::compare::are_equal;
@@ -17,13 +17,13 @@ use std::convert::AsSlice;
 use std::marker::Model;
 use std::{fmt, str};
 
-/// A salt of 8 to 48 bytes.
+/// From `LOW` to `HIGH` bytes of a PHC text.
 #[derive(Drop)]
-pub struct Salt {
-    bytes: ByteList<48>,
+pub struct TextBytes<const LOW: usize, const HIGH: usize> {
+    pub(super) bytes: ByteList<HIGH>,
 }
 
-impl Model for Salt {
+impl<const LOW: usize, const HIGH: usize> Model for TextBytes<LOW, HIGH> {
     ghost use Rattle.std.specs.Prelude.{ℕ, List};
     ghost use Rattle.argon2_base.specs.ByteList.{list_bytes};
     ghost use Rattle.argon2_base.specs.PhcText.{HasBytes};
@@ -32,8 +32,53 @@ impl Model for Salt {
 
     ghost view = { λ s. list_bytes s.bytes };
 
-    ghost invariant = { λ s. HasBytes 8 48 (list_bytes s.bytes) };
+    ghost invariant = { λ s. HasBytes LOW HIGH (list_bytes s.bytes) };
 }
+
+impl<const LOW: usize, const HIGH: usize> TextBytes<LOW, HIGH> {
+    /// The bytes.
+    pub fn as_bytes(&self) -> &[u8]
+        ensures value { result.now ≡ self.now }
+        ensures bytes { HasBytes LOW HIGH self.now }
+    {
+        self.bytes.as_bytes()
+    }
+
+    /// How many bytes there are: `LOW` to `HIGH`.
+    pub fn len(&self) -> usize
+        ensures value { result ≡ length self.now }
+        ensures min { LOW ≤ result }
+        ensures max { result ≤ HIGH }
+    {
+        self.as_bytes().len()
+    }
+}
+
+impl<const LOW: usize, const HIGH: usize> AsSlice<u8> for TextBytes<LOW, HIGH> {
+    ghost items = { λ s. s };
+
+    fn as_slice(&self) -> &[u8] {
+        self.as_bytes()
+    }
+}
+
+/// Two are compared by [`are_equal`].
+impl<const LOW: usize, const HIGH: usize> PartialEq for TextBytes<LOW, HIGH> {
+    ghost eq = { pointwise nat_eq };
+
+    ghost laws = { partial_equiv_from_equiv nat_list_eq_equiv };
+
+    fn eq(&self, other: &Self) -> bool {
+        are_equal(self.as_bytes(), other.as_bytes())
+    }
+}
+
+impl<const LOW: usize, const HIGH: usize> Eq for TextBytes<LOW, HIGH> {
+    ghost laws = { nat_list_eq_equiv };
+}
+
+/// A salt of 8 to 48 bytes.
+pub type Salt = TextBytes<8, 48>;
 
 impl Salt {
     /// The fewest bytes that a salt has.
@@ -52,37 +97,9 @@ impl Salt {
             (λ e. (e ≡ SaltInvalid) × (8 ≤ length bytes.now → length bytes.now ≤ 48 → ⊥)) }
     {
         match ByteList::new(bytes) {
-            Some(bytes) if bytes.len >= Self::MIN_LENGTH => Ok(Salt { bytes }),
+            Some(bytes) if bytes.len >= Self::MIN_LENGTH => Ok(TextBytes { bytes }),
             _ => Err(Error::SaltInvalid),
         }
-    }
-
-    // The salt of these bytes, if they are not too few.
-    pub(super) fn of_list(bytes: ByteList<48>) -> Option<Salt>
-        requires { IsBytes (list_bytes bytes) }
-        ensures { MatchOption result (length (list_bytes bytes) < 8) (λ s. s ≡ list_bytes bytes) }
-    {
-        if bytes.len < Self::MIN_LENGTH {
-            return None;
-        }
-        Some(Salt { bytes })
-    }
-
-    /// Its bytes.
-    pub fn as_bytes(&self) -> &[u8]
-        ensures value { result.now ≡ self.now }
-        ensures bytes { HasBytes 8 48 self.now }
-    {
-        self.bytes.as_bytes()
-    }
-
-    /// How many bytes it has: 8 to 48.
-    pub fn len(&self) -> usize
-        ensures value { result ≡ length self.now }
-        ensures min { 8 ≤ result }
-        ensures max { result ≤ 48 }
-    {
-        self.as_bytes().len()
     }
 
     /// Its strict Base64.
@@ -90,14 +107,6 @@ impl Salt {
         ensures { result.bytes ≡ strict_base64 self.now }
     {
         base64_text(self.as_bytes())
-    }
-}
-
-impl AsSlice<u8> for Salt {
-    ghost items = { λ s. s };
-
-    fn as_slice(&self) -> &[u8] {
-        self.as_bytes()
     }
 }
 
@@ -115,37 +124,8 @@ impl fmt::Debug for Salt {
     }
 }
 
-impl PartialEq for Salt {
-    ghost eq = { pointwise nat_eq };
-
-    ghost laws = { partial_equiv_from_equiv nat_list_eq_equiv };
-
-    fn eq(&self, other: &Self) -> bool {
-        self.as_bytes() == other.as_bytes()
-    }
-}
-
-impl Eq for Salt {
-    ghost laws = { nat_list_eq_equiv };
-}
-
 /// An output of 4 to 64 bytes: the hash of a password.
-#[derive(Drop)]
-pub struct Output {
-    bytes: ByteList<64>,
-}
-
-impl Model for Output {
-    ghost use Rattle.std.specs.Prelude.{ℕ, List};
-    ghost use Rattle.argon2_base.specs.ByteList.{list_bytes};
-    ghost use Rattle.argon2_base.specs.PhcText.{HasBytes};
-
-    ghost Value = { List ℕ };
-
-    ghost view = { λ s. list_bytes s.bytes };
-
-    ghost invariant = { λ s. HasBytes 4 64 (list_bytes s.bytes) };
-}
+pub type Output = TextBytes<4, 64>;
 
 impl Output {
     /// The fewest bytes that an output has.
@@ -161,37 +141,9 @@ impl Output {
             (λ e. (e ≡ OutputSize) × (4 ≤ length bytes.now → length bytes.now ≤ 64 → ⊥)) }
     {
         match ByteList::new(bytes) {
-            Some(bytes) if bytes.len >= Self::MIN_LENGTH => Ok(Output { bytes }),
+            Some(bytes) if bytes.len >= Self::MIN_LENGTH => Ok(TextBytes { bytes }),
             _ => Err(Error::OutputSize),
         }
-    }
-
-    // The output of these bytes, if they are not too few.
-    pub(super) fn of_list(bytes: ByteList<64>) -> Option<Output>
-        requires { IsBytes (list_bytes bytes) }
-        ensures { MatchOption result (length (list_bytes bytes) < 4) (λ s. s ≡ list_bytes bytes) }
-    {
-        if bytes.len < Self::MIN_LENGTH {
-            return None;
-        }
-        Some(Output { bytes })
-    }
-
-    /// Its bytes.
-    pub fn as_bytes(&self) -> &[u8]
-        ensures value { result.now ≡ self.now }
-        ensures bytes { HasBytes 4 64 self.now }
-    {
-        self.bytes.as_bytes()
-    }
-
-    /// How many bytes it has: 4 to 64.
-    pub fn len(&self) -> usize
-        ensures value { result ≡ length self.now }
-        ensures min { 4 ≤ result }
-        ensures max { result ≤ 64 }
-    {
-        self.as_bytes().len()
     }
 
     /// Its strict Base64.
@@ -199,14 +151,6 @@ impl Output {
         ensures { result.bytes ≡ strict_base64 self.now }
     {
         base64_text(self.as_bytes())
-    }
-}
-
-impl AsSlice<u8> for Output {
-    ghost items = { λ s. s };
-
-    fn as_slice(&self) -> &[u8] {
-        self.as_bytes()
     }
 }
 
@@ -222,20 +166,6 @@ impl fmt::Debug for Output {
     fn fmt<W: fmt::Write>(&self, f: &mut fmt::Formatter<W>) -> fmt::Result {
         write!(f, "Output({self})")
     }
-}
-
-impl PartialEq for Output {
-    ghost eq = { pointwise nat_eq };
-
-    ghost laws = { partial_equiv_from_equiv nat_list_eq_equiv };
-
-    fn eq(&self, other: &Self) -> bool {
-        are_equal(self.as_bytes(), other.as_bytes())
-    }
-}
-
-impl Eq for Output {
-    ghost laws = { nat_list_eq_equiv };
 }
 
 // The strict Base64 of bytes: at most 4 characters for 3 bytes.

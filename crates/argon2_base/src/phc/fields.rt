@@ -1,15 +1,12 @@
 //! The fields of a PHC text, read one by one.
 
 ghost use Rattle.std.specs.Prelude.{◌≡◌, ◌<◌, ◌+◌, ◌*◌, ◌^◌, ◌++◌, ◌∷◌, ℕ, List, Option, IfOk, IfErr, IfSome, IsSome, IsOkAnd, IsTrue};
-ghost use Rattle.std.specs.Option.{option_map};
-ghost use Rattle.std.specs.Result.{result_map_both};
-ghost use Rattle.argon2_base.specs.ByteList.{list_bytes};
 ghost use Rattle.argon2_base.specs.Texts.{strict_base64};
 ghost use Rattle.argon2_base.specs.PhcText.{HasBytes, Pair, are_params, field, list_field, version_text};
 ghost use Rattle.argon2_base.specs.PhcFields.{fields_of, fields_left, IsBytesField, NoVersionFirst, NoItemFirst};
 ghost use Rattle.argon2_base.specs.declared.error.password_hash.Error.TheVariants.{EncodingInvalid};
 
-use super::bytes::{Output, Salt};
+use super::bytes::{Output, Salt, TextBytes};
 use super::list::{ParamsString, cut};
 use super::value::read_decimal;
 use crate::byte_list::ByteList;
@@ -73,46 +70,24 @@ pub(super) fn params_field(left: Option<&str>) -> Result<(ParamsString, Option<&
     Ok((params, more))
 }
 
-// The bytes of strict Base64, at most `N`, if anything is left, and what is left.
-fn bytes_field<const N: usize>(left: Option<&str>) -> Result<(Option<ByteList<N>>, Option<&str>)>
-    requires { 4 * N + 2 < 2 ^ 64 }
-    ensures { IsBytesField 0 N (fields_left left.entry)
-        (result_map_both (λ x. (option_map list_bytes x.0, x.1)) (λ e. e) result) }
+// The bytes, given in strict Base64, if anything is left, and what is left.
+fn bytes_field<const LOW: usize, const HIGH: usize>(
+    left: Option<&str>,
+) -> Result<(Option<TextBytes<LOW, HIGH>>, Option<&str>)>
+    requires { 4 * HIGH + 2 < 2 ^ 64 }
+    ensures { IsBytesField LOW HIGH (fields_left left.entry) result }
 {
     let Some(text) = left else {
         return Ok((None, None));
     };
     let (field, more) = first_field(text);
-    match ByteList::from_b64(field) {
-        Ok(bytes) => Ok((Some(bytes), more)),
-        Err(_) => Err(Error::EncodingInvalid),
-    }
-}
-
-// The salt, if anything is left, and what is left.
-fn salt_field(left: Option<&str>) -> Result<(Option<Salt>, Option<&str>)>
-    ensures { IsBytesField 8 48 (fields_left left.entry) result }
-{
-    let (Some(bytes), more) = bytes_field(left)? else {
-        return Ok((None, None));
+    let Ok(bytes) = ByteList::from_b64(field) else {
+        return Err(Error::EncodingInvalid);
     };
-    match Salt::of_list(bytes) {
-        Some(salt) => Ok((Some(salt), more)),
-        None => Err(Error::EncodingInvalid),
+    if bytes.as_bytes().len() < LOW {
+        return Err(Error::EncodingInvalid);
     }
-}
-
-// The hash, if anything is left, and what is left.
-fn hash_field(left: Option<&str>) -> Result<(Option<Output>, Option<&str>)>
-    ensures { IsBytesField 4 64 (fields_left left.entry) result }
-{
-    let (Some(bytes), more) = bytes_field(left)? else {
-        return Ok((None, None));
-    };
-    match Output::of_list(bytes) {
-        Some(hash) => Ok((Some(hash), more)),
-        None => Err(Error::EncodingInvalid),
-    }
+    Ok((Some(TextBytes { bytes }), more))
 }
 
 // The salt and the hash, if they are next and nothing follows.
@@ -126,8 +101,8 @@ pub(super) fn salt_and_hash(left: Option<&str>) -> Result<(Option<Salt>, Option<
         → IsOkAnd result (λ x. (x.0 ≡ s) × (x.1 ≡ o)) }
     ensures invalid { IfErr result (λ e. e ≡ EncodingInvalid) }
 {
-    let (salt, left) = salt_field(left)?;
-    let (hash, left) = hash_field(left)?;
+    let (salt, left) = bytes_field(left)?;
+    let (hash, left) = bytes_field(left)?;
     if left.is_some() {
         return Err(Error::EncodingInvalid);
     }

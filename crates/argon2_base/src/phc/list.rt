@@ -1,6 +1,6 @@
 //! Parameter lists.
 
-ghost use Rattle.std.specs.Prelude.{◌≡◌, ◌≢◌, ◌↔◌, ◌<◌, ◌≤◌, ◌++◌, ◌∷◌, ◌&&◌, [], ℕ, List, false, Some, Ok, is_ok, IfOk, IfErr, IfSome, IfNone, OnOk, OnErr, MatchResult, IsTrue, length, nat_le};
+ghost use Rattle.std.specs.Prelude.{◌≡◌, ◌↔◌, ◌<◌, ◌≤◌, ◌++◌, ◌∷◌, ◌&&◌, [], ℕ, List, false, Some, Ok, is_ok, IfOk, IfErr, IfSome, OnOk, OnErr, MatchResult, IsTrue, length, nat_le};
 ghost use Rattle.std.specs.Fmt.{decimal};
 ghost use Rattle.std.specs.List.{list_all};
 ghost use Rattle.std.specs.Cmp.{partial_equiv_from_equiv};
