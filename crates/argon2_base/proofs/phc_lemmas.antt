@@ -1,5 +1,4 @@
 pub mod Base64Lemmas
-pub mod ByteLemmas
 pub mod ByteListLemmas
 pub mod Characters
 pub mod Compared
@@ -8,5 +7,6 @@ pub mod Equalities
 pub mod ParamsReading
 pub mod ParamsTextLemmas
 pub mod PhcTextLemmas
+pub mod PhcUtf8
 pub mod Separators
 pub mod ValueCharacters

@@ -3,7 +3,7 @@ use Rattle.std.specs.Prelude.{◌≡◌, ◌==◌, ℕ, List, [], ◌∷◌, ◌
 use Rattle.std.specs.List.{slice_split}
 use Rattle.std.specs.Borrow.{Bor}
 use Rattle.argon2_base.specs.Texts.{strict_base64}
-use Rattle.argon2_base.specs.PhcText.{HasBytes, Pair, Phc, field, item, phc_with}
+use Rattle.argon2_base.specs.PhcText.{HasBytes, Pair, Phc, field, item, phc_text, phc_with}
 use Rattle.argon2_base.specs.declared.error.password_hash.Error.{Error}
 use Rattle.argon2_base.specs.declared.error.password_hash.Error.TheVariants.{EncodingInvalid}
 use Rattle.argon2_base.specs.declared.phc.hash.PasswordHash.{PasswordHash}
@@ -42,3 +42,7 @@ pub record IsBytesField (low high : ℕ) (left : List (List ℕ))
 -- the fields of a `PasswordHash`, as its text has them
 abbrev pub phc_of : PasswordHash → Phc
 phc_of h = phc_with h.algorithm h.version h.params h.salt h.hash
+
+-- its text
+abbrev pub text_of : PasswordHash → List ℕ
+text_of h = phc_text (phc_of h)

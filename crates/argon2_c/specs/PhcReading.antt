@@ -8,7 +8,7 @@ use Rattle.argon2.specs.Refusals.{first_of, max_len}
 use Rattle.argon2.specs.Argon2.{context_with}
 use Rattle.argon2.specs.Rfc9106.{block_count_for, tag_of}
 use Rattle.argon2.specs.Settings.{Parameters, Settings, algorithm_number, version_number}
-use Rattle.argon2.specs.Stored.{Stored, shown_settings, stored_of}
+use Rattle.argon2.specs.StoredTexts.{Stored, shown_settings, stored_of}
 use Rattle.argon2.specs.declared.bound.Bound.{Bound}
 use Rattle.argon2_c.specs.declared.code.TheConstants.{OK, CURRENT, OTHER, BELOW, PWD_TOO_LONG, SECRET_TOO_LONG, INCORRECT_PARAMETER, VERIFY_MISMATCH, NO_ALGORITHM, NO_VERSION, TEXT_INVALID, TEXT_MEMORY, TEXT_PASSES, TEXT_LANES, TEXT_KEYID, TEXT_DATA, TEXT_PARAMETERS, TEXT_INCOMPLETE, ABOVE_BOUND, OUTPUT_OUT_OF_BOUND}
 use Rattle.argon2_c.specs.declared.request.Request.{Request}

@@ -1,6 +1,6 @@
 //! The compression function of BLAKE2b (RFC 7693, section 3.2).
 
-ghost use Rattle.std.specs.Prelude.{◌≡◌, ℕ, List, ◌+◌, ◌<◌, ◌≤◌, length};
+ghost use Rattle.std.specs.Prelude.{◌≡◌, ℕ, List, ◌+◌, ◌<◌, length};
 ghost use Rattle.argon2_base.specs.Blake2b.{mix, mix_at, round, rounds, words, working_vector, xor_halves, compress};
 
 pub(crate) const IV: [u64; 8] = [

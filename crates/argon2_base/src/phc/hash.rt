@@ -3,7 +3,6 @@
 ghost use Rattle.std.specs.Prelude.{◌≡◌, ◌<◌, ◌≤◌, ◌+◌, ◌++◌, ◌∷◌, length};
 ghost use Rattle.std.proofs.Props.{props};
 ghost use Rattle.arrayvec.specs.ArrayString.{array_string_len};
-ghost use Rattle.argon2_base.specs.Texts.{strict_base64};
 ghost use Rattle.argon2_base.specs.PhcText.{IsPhc, phc_with, field, fields_text, list_field, version_text};
 
 use super::bytes::{Output, Salt};
@@ -15,6 +14,9 @@ use crate::error::password_hash::{Error, Result};
 use arrayvec::ArrayString;
 use std::fmt;
 use std::str::FromStr;
+
+// The longest text.
+type Text = ArrayString<326>;
 
 /// What a PHC text says, which is in the grammar by this type: there is no hash without a salt.
 #[derive(Debug, Drop)]
@@ -63,7 +65,7 @@ impl PasswordHash {
     }
 
     /// The text that says it, which [`PasswordHash::new`] reads as the same.
-    pub fn text(&self) -> ArrayString<326>
+    pub fn text(&self) -> Text
         ensures { PhcText result.bytes (phc_of self.now) }
     {
         let mut text = ArrayString::new();
@@ -127,10 +129,9 @@ impl Eq for PasswordHash {
 
 impl fmt::Display for PasswordHash {
     ghost use Rattle.std.specs.Prelude.{Some};
-    ghost use Rattle.argon2_base.specs.PhcFields.{phc_of};
-    ghost use Rattle.argon2_base.specs.PhcText.{phc_text};
+    ghost use Rattle.argon2_base.specs.PhcFields.{text_of};
 
-    ghost output = { λ h. Some (phc_text (phc_of h)) };
+    ghost output = { λ h. Some (text_of h) };
 
     fn fmt<W: fmt::Write>(&self, f: &mut fmt::Formatter<W>) -> fmt::Result {
         f.pad(self.text().as_str())
@@ -138,7 +139,7 @@ impl fmt::Display for PasswordHash {
 }
 
 // Appends a field behind its `$`.
-fn push_field(text: &mut ArrayString<326>, field: &str)
+fn push_field(text: &mut Text, field: &str)
     requires { array_string_len text.old + length field.now < 326 }
     ensures bytes { text.new.bytes ≡ text.old.bytes ++ 36 ∷ field.now }
     ensures len { array_string_len text.new ≡ array_string_len text.old + length field.now + 1 }
@@ -148,7 +149,7 @@ fn push_field(text: &mut ArrayString<326>, field: &str)
 }
 
 // Appends the field of a version.
-fn push_version(text: &mut ArrayString<326>, version: Option<u32>)
+fn push_version(text: &mut Text, version: Option<u32>)
     requires { array_string_len text.old ≤ 313 }
     ensures bytes { text.new.bytes ≡ text.old.bytes ++ fields_text (field version_text version) }
     ensures max { array_string_len text.new ≤ array_string_len text.old + 13 }
@@ -160,7 +161,7 @@ fn push_version(text: &mut ArrayString<326>, version: Option<u32>)
 }
 
 // Appends the field of parameters.
-fn push_params(text: &mut ArrayString<326>, params: &ParamsString)
+fn push_params(text: &mut Text, params: &ParamsString)
     requires { array_string_len text.old ≤ 198 }
     ensures bytes { text.new.bytes ≡ text.old.bytes ++ fields_text (list_field params.now) }
     ensures max { array_string_len text.new ≤ array_string_len text.old + 128 }
@@ -171,7 +172,7 @@ fn push_params(text: &mut ArrayString<326>, params: &ParamsString)
 }
 
 // Appends the field of bytes, given their Base64.
-fn push_base64<const N: usize>(text: &mut ArrayString<326>, base64: Option<ArrayString<N>>)
+fn push_base64<const N: usize>(text: &mut Text, base64: Option<ArrayString<N>>)
     requires { array_string_len text.old + N < 326 }
     ensures bytes { text.new.bytes
         ≡ text.old.bytes ++ fields_text (field (λ t. t.bytes) base64.entry) }

@@ -5,7 +5,7 @@ ghost use Rattle.argon2_base.specs.ByteList.{list_bytes};
 ghost use Rattle.argon2_base.specs.PhcFields.{phc_of};
 ghost use Rattle.argon2_base.specs.PhcText.{Phc, PhcText, field, fields_text, version_text};
 ghost use Rattle.argon2.specs.Settings.{Settings as Shown};
-ghost use Rattle.argon2.specs.Stored.{settings_value, shown_settings};
+ghost use Rattle.argon2.specs.StoredTexts.{settings_value, shown_settings};
 ghost use Rattle.argon2_c.specs.PhcReading.{ShowsFields, ShowsSettings, is_below, is_wanted, renewal_code, show_code};
 
 use super::fault::text_code;

@@ -8,7 +8,7 @@ ghost use Rattle.argon2.specs.Bound.{AcceptsWithin};
 ghost use Rattle.argon2.specs.Argon2.{parameters_of};
 ghost use Rattle.argon2.specs.Refusals.{max_len};
 ghost use Rattle.argon2.specs.Rfc9106.{block_count_for};
-ghost use Rattle.argon2.specs.Stored.{stored_value};
+ghost use Rattle.argon2.specs.StoredTexts.{stored_value};
 ghost use Rattle.argon2_c.specs.declared.code.TheConstants.{VERIFY_MISMATCH};
 ghost use Rattle.argon2_c.specs.PhcReading.{admitted_of, bound_of, is_within, phc_verify_code, tag_code};
 

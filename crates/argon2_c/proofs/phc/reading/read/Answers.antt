@@ -1,6 +1,6 @@
 use Rattle.std.proofs.Common.{sym, subst}
 use Rattle.std.specs.Str.{IsUtf8}
-use Rattle.argon2_c.proofs.PhcUtf8.{text_is_utf8}
+use Rattle.argon2_base.proofs.phc_lemmas.PhcUtf8.{text_is_utf8}
 use Rattle.argon2_c.proofs.phc.reading.read.Goals as goal
 
 pub returns-in_default-clause-only : goal.returns-in_default-clause-only

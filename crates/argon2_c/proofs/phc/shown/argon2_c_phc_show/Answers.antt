@@ -1,6 +1,6 @@
 use Rattle.std.proofs.Common.{ap, ◌∙◌}
 use Rattle.argon2_base.specs.PhcFields.{phc_of}
-use Rattle.argon2.specs.Stored.{shown_settings}
+use Rattle.argon2.specs.StoredTexts.{shown_settings}
 use Rattle.argon2_c.proofs.phc.shown.argon2_c_phc_show.Goals as goal
 
 pub returns-in-Some-clause-settings : goal.returns-in-Some-clause-settings
