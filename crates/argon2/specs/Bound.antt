@@ -8,7 +8,7 @@ use Rattle.argon2_base.specs.declared.error.password_hash.Error.TheVariants.{Enc
 use Rattle.argon2.specs.declared.bound.Bound.{Bound}
 use Rattle.argon2.specs.declared.bound.BoundError.{BoundError}
 use Rattle.argon2.specs.declared.bound.BoundError.TheVariants.{TooExpensive, Refused}
-use Rattle.argon2.specs.Stored.{Accepts, AcceptsBy, IsVerifyAnswer}
+use Rattle.argon2.specs.StoredTexts.{Accepts, AcceptsBy, IsVerifyAnswer}
 use Rattle.argon2.specs.ListedParameters.{asked_of}
 use Rattle.argon2.specs.NamedTexts.{IsText}
 use Rattle.argon2.specs.Settings.{Parameters}

@@ -6,7 +6,7 @@ use Rattle.argon2.specs.declared.context.Argon2.{Argon2}
 use Rattle.argon2.specs.Argon2.{context_of, own_parameters}
 use Rattle.argon2.specs.Rfc9106.{Context, IsValid, block_count, first_block, lane_length, tag_of}
 use Rattle.argon2.specs.Layout.{Memory, Sizes, matrix_of}
-use Rattle.argon2.specs.Watching.{AreReferencePlaces, mixing_calls, place_count}
+use Rattle.argon2.specs.WatchedFilling.{AreReferencePlaces, mixing_calls, place_count}
 use Rattle.argon2.specs.Laws.{Begins}
 use Rattle.argon2.specs.Refusals.{answer_unless, first_of, output_faults, input_faults, memory_faults}
 use Rattle.argon2.specs.Steps.{reference_place, step}

@@ -11,7 +11,6 @@ pub mod Layout
 pub mod ListedParameters
 pub mod Login
 pub use Rattle.argon2_base.specs.LongHash
-pub mod Made
 pub mod NamedTexts
 pub mod Params
 pub use Rattle.argon2_base.specs.PhcFields
@@ -23,7 +22,8 @@ pub mod SegmentSteps
 pub mod Segments
 pub mod Settings
 pub mod Steps
-pub mod Stored
+pub mod StoredTexts
+pub mod TextHashing
 pub use Rattle.argon2_base.specs.Texts
-pub mod Watching
+pub mod WatchedFilling
 pub use Rattle.argon2_base.specs.declared as base_declared

@@ -11,9 +11,9 @@ use Rattle.argon2.specs.declared.login.answers.Accepted.TheVariants.{Current, Ke
 use Rattle.argon2.specs.declared.login.answers.LoginError.{LoginError}
 use Rattle.argon2.specs.declared.login.answers.LoginError.TheVariants.{NameTaken, NameUnknown, OutOfMemory, Refused, Text}
 use Rattle.argon2.specs.declared.login.target.Target.{Target as LoginTarget}
-use Rattle.argon2.specs.Made.{Target, IsTarget, made, tag_length, target_of}
+use Rattle.argon2.specs.TextHashing.{Target, IsTarget, made, tag_length, target_of}
 use Rattle.argon2.specs.NamedTexts.{IsCurrent, IsText, Store, values_of}
-use Rattle.argon2.specs.Stored.{AcceptsBy, IsVerifyAnswer}
+use Rattle.argon2.specs.StoredTexts.{AcceptsBy, IsVerifyAnswer}
 
 -- what a contract sees of the code's target
 abbrev pub target_value : LoginTarget → Target

@@ -12,8 +12,8 @@ use Rattle.argon2_base.specs.declared.phc.hash.PasswordHash.{PasswordHash}
 use Rattle.argon2.specs.declared.login.answers.Accepted.{Accepted}
 use Rattle.argon2.specs.declared.login.answers.Accepted.TheVariants.{Current, Kept, Rehashed}
 use Rattle.argon2.specs.declared.login.answers.LoggedIn.{LoggedIn}
-use Rattle.argon2.specs.Made.{IsFresh, Target, sized}
-use Rattle.argon2.specs.Stored.{shown_settings}
+use Rattle.argon2.specs.TextHashing.{IsFresh, Target, sized}
+use Rattle.argon2.specs.StoredTexts.{shown_settings}
 
 -- ---- names with texts
 

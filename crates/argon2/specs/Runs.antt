@@ -7,7 +7,7 @@ use Rattle.argon2.specs.declared.login.answers.Accepted.{Accepted}
 use Rattle.argon2.specs.declared.login.answers.Accepted.TheVariants.{Rehashed}
 use Rattle.argon2.specs.Login.{Event, adding, logging_in, LoginStep}
 use Rattle.argon2.specs.NamedTexts.{Store}
-use Rattle.argon2.specs.Made.{Target, made}
+use Rattle.argon2.specs.TextHashing.{Target, made}
 
 -- the store is what these calls, the newest first, made of the empty one
 abbrev pub Run : Target → List Event → Store → Type 0

@@ -2,7 +2,7 @@
 use Rattle.std.specs.Prelude.{◌≡◌, ◌≢◌, ◌⊎◌, ℕ, suc, ◌+◌, ◌-◌, ◌*◌, ◌/◌, ◌<◌, ◌≤◌, List, [], drop, length, slice_index_or, take}
 use Rattle.argon2.specs.Rfc9106.{Context, FirstColumns, block_of, lane_length, segment_length, xor_lanes}
 use Rattle.argon2.specs.Layout.{Memory, Sizes}
-use Rattle.argon2.specs.Watching.{HasBlocksUpTo, begun}
+use Rattle.argon2.specs.WatchedFilling.{HasBlocksUpTo, begun}
 
 -- the blocks of a slice
 abbrev pub slice_length : Context → ℕ

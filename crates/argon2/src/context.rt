@@ -11,14 +11,15 @@ use argon2_base::error::{Error, Result};
 use std::alloc::Allocator;
 use std::fmt;
 
-mod apart;
-mod ends;
+mod checks;
 mod fill;
+mod initial;
 mod instance;
-mod lengths;
 mod memory_block;
 mod reference;
-mod stepping;
+mod segments;
+mod steps;
+mod tag;
 
 use instance::Instance;
 
@@ -65,7 +66,7 @@ impl<'key> Argon2<'key> {
     ghost use Rattle.argon2.specs.Argon2.{context_of, context_under, own_parameters, secret_of, settings_of, settings_with, IsKeyed, IsWith, parameters_of};
     ghost use Rattle.argon2.specs.Rfc9106.{IsValid, block_count, first_block, tag_of};
     ghost use Rattle.argon2.specs.Layout.{matrix_of};
-    ghost use Rattle.argon2.specs.Watching.{AreReferencePlaces, mixing_calls, place_count};
+    ghost use Rattle.argon2.specs.WatchedFilling.{AreReferencePlaces, mixing_calls, place_count};
     ghost use Rattle.argon2.specs.Hashing.{blocks_of, fill_refusal, refusal_of, AsksFirst, ChecksFirst, IsFilled, IsHashed, IsWatched, KeepsRest};
     ghost use Rattle.argon2.specs.Refusals.{answer_unless, data_refusal, length_refusal};
 
@@ -382,13 +383,30 @@ impl<'key> Argon2<'key> {
     }
 
     // The secret's bytes.
-    pub(crate) fn secret(&self) -> &'key [u8]
+    fn secret(&self) -> &'key [u8]
         ensures value { result.now ≡ secret_of self.now }
         ensures short { length result.now ≤ MAX_SECRET_LEN }
     {
         match self.secret {
             Some(secret) => secret.bytes,
             None => &[],
+        }
+    }
+
+    // Hashing under other settings, with the same secret.
+    pub(crate) fn with_settings(
+        &self,
+        algorithm: Algorithm,
+        version: Version,
+        params: Params,
+    ) -> Argon2<'key>
+        ensures { IsWith (settings_with algorithm version params) (secret_of self.now) result }
+    {
+        Argon2 {
+            algorithm,
+            version,
+            params,
+            secret: self.secret,
         }
     }
 

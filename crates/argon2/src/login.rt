@@ -11,7 +11,7 @@ ghost use Rattle.argon2.specs.declared.login.answers.Accepted.TheVariants.{Kept}
 ghost use Rattle.argon2.specs.declared.login.answers.LoginError.TheVariants.{Refused};
 ghost use Rattle.argon2.specs.Login.{HasPassword, IsNew, Steps, adding, logging_in, store_of, login_target};
 ghost use Rattle.argon2.specs.NamedTexts.{IsCurrent, KeepsOthers, added, named_values, stream_after};
-ghost use Rattle.argon2.specs.Made.{target_of};
+ghost use Rattle.argon2.specs.TextHashing.{target_of};
 
 use crate::context::Argon2;
 use crate::password_hash::Result;

@@ -8,7 +8,7 @@ use Rattle.sqlite_trees.specs.declared.store.Store.{Ghosts}
 use Rattle.argon2_base.specs.PhcFields.{phc_of}
 use Rattle.argon2_base.specs.PhcText.{Phc}
 use Rattle.argon2_base.specs.declared.phc.hash.PasswordHash.{PasswordHash}
-use Rattle.argon2.specs.Made.{HashingRefusal, IsFresh, Target}
+use Rattle.argon2.specs.TextHashing.{HashingRefusal, IsFresh, Target}
 use Rattle.argon2.specs.declared.bound.BoundError.{BoundError}
 use Rattle.argon2.specs.Refusals.{max_len}
 use Rattle.argon2_base.specs.declared.error.password_hash.Error.{Error}

@@ -7,7 +7,7 @@ use Rattle.argon2_base.specs.PhcFields.{phc_of}
 use Rattle.argon2_base.specs.PhcText.{Phc, PhcText}
 use Rattle.argon2_base.specs.declared.error.password_hash.Error.TheVariants.{EncodingInvalid, PasswordInvalid}
 use Rattle.argon2_base.specs.declared.phc.hash.PasswordHash.{PasswordHash}
-use Rattle.argon2.specs.Made.{IsFresh, Target}
+use Rattle.argon2.specs.TextHashing.{IsFresh, Target}
 use Rattle.argon2.specs.NamedTexts.{IsText}
 use Rattle.argon2.specs.Refusals.{max_len}
 use Rattle.argon2.specs.declared.bound.BoundError.{BoundError}

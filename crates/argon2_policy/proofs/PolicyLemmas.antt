@@ -14,11 +14,11 @@ use Rattle.argon2.specs.declared.bound.BoundError.{BoundError}
 use Rattle.argon2.specs.declared.bound.BoundError.TheVariants.{Refused, TooExpensive}
 use Rattle.argon2.specs.declared.version.Version.{Version}
 use Rattle.argon2.specs.Bound.{AsksWithin, HashRefusal, IsWithin}
-use Rattle.argon2.specs.Made.{IsFresh, IsHashAnswer, Target, hashed}
+use Rattle.argon2.specs.TextHashing.{IsFresh, IsHashAnswer, Target, hashed}
 use Rattle.argon2.specs.Refusals.{max_len}
 use Rattle.argon2.specs.Rfc9106.{segment_length_for}
 use Rattle.argon2.specs.Settings.{Parameters, Settings}
-use Rattle.argon2.specs.Stored.{AcceptsBy, IsVerifyAnswer, Stored, is_tag, read, shown_settings, stored_of}
+use Rattle.argon2.specs.StoredTexts.{AcceptsBy, IsVerifyAnswer, Stored, is_tag, read, shown_settings, stored_of}
 use Rattle.argon2.proofs.login_lemmas.LoginLemmas.{hash_made}
 use Rattle.argon2.proofs.password_hash_lemmas.MadeValues.{made_accepts, made_shows}
 use Rattle.argon2.proofs.password_hash_lemmas.Verified.{exact}

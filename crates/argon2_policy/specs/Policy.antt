@@ -7,9 +7,9 @@ use Rattle.argon2_base.specs.declared.error.password_hash.Error.{Error}
 use Rattle.argon2_base.specs.declared.error.password_hash.Error.TheVariants.{OutputSize, PasswordInvalid}
 use Rattle.argon2.specs.Argon2.{secret_of}
 use Rattle.argon2.specs.Bound.{AsksWithin, HashRefusal, IsWithin}
-use Rattle.argon2.specs.Made.{HashingRefusal, IsFresh, IsTarget, Target, tag_length, target_of}
+use Rattle.argon2.specs.TextHashing.{HashingRefusal, IsFresh, IsTarget, Target, tag_length, target_of}
 use Rattle.argon2.specs.Settings.{Settings}
-use Rattle.argon2.specs.Stored.{AcceptsBy, IsVerifyAnswer, shown_settings}
+use Rattle.argon2.specs.StoredTexts.{AcceptsBy, IsVerifyAnswer, shown_settings}
 use Rattle.argon2.specs.declared.bound.Bound.{Bound}
 use Rattle.argon2.specs.declared.bound.BoundError.{BoundError}
 use Rattle.argon2.specs.declared.bound.BoundError.TheVariants.{Refused, TooExpensive}

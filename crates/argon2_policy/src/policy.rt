@@ -4,7 +4,7 @@ ghost use Rattle.std.proofs.Props.{props};
 ghost use Rattle.std.specs.Prelude.{◌≡◌, unwrap_or};
 ghost use Rattle.argon2.specs.Argon2.{parameters_of, settings_of};
 ghost use Rattle.argon2.specs.Bound.{IsWithin};
-ghost use Rattle.argon2.specs.Made.{IsTarget, target_of};
+ghost use Rattle.argon2.specs.TextHashing.{IsTarget, target_of};
 
 use argon2::bound::{Bound, BoundError};
 use argon2::login::{Accepted, LoggedIn};
@@ -33,10 +33,10 @@ impl<'key> Policy<'key> {
     ghost use Rattle.argon2_base.specs.PhcFields.{phc_of};
     ghost use Rattle.argon2_base.specs.declared.error.Error.TheVariants.{SecretTooLong};
     ghost use Rattle.argon2_base.specs.declared.error.password_hash.Error.TheVariants.{OutOfMemory};
-    ghost use Rattle.argon2.specs.Made.{IsFresh};
+    ghost use Rattle.argon2.specs.TextHashing.{IsFresh};
     ghost use Rattle.argon2.specs.NamedTexts.{accepted_by, stream_after, value_after};
     ghost use Rattle.argon2.specs.Refusals.{max_len};
-    ghost use Rattle.argon2.specs.Stored.{AcceptsBy, settings_value};
+    ghost use Rattle.argon2.specs.StoredTexts.{AcceptsBy, settings_value};
     ghost use Rattle.argon2.specs.declared.bound.BoundError.TheVariants.{Refused};
     ghost use Rattle.argon2.specs.declared.login.answers.Accepted.TheVariants.{Kept, Rehashed};
     ghost use Rattle.argon2_policy.specs.Policy.{AcceptsByOld, Admits, AreNoWeaker, ChangeRefusal, Denial, DrawsIfAdmitted, IsNewPolicy, IsNoWeaker, LogsIn, MakingRefusal, policy_value};

@@ -13,9 +13,9 @@ use Rattle.argon2.specs.declared.algorithm.Algorithm.{Algorithm}
 use Rattle.argon2.specs.declared.context.Argon2.{Argon2}
 use Rattle.argon2.specs.declared.version.Version.{Version}
 use Rattle.argon2.specs.Argon2.{context_with, secret_of, settings_of}
-use Rattle.argon2.specs.Stored.{Accepts, verified}
+use Rattle.argon2.specs.StoredTexts.{Accepts, verified}
 use Rattle.argon2.specs.Rfc9106.{tag_of}
-use Rattle.argon2.specs.Made.{hashed}
+use Rattle.argon2.specs.TextHashing.{hashed}
 use Rattle.argon2.specs.Refusals.{answer_unless, length_refusal}
 use Rattle.argon2.specs.Settings.{Settings, algorithm_named, first_fault, plain, version_numbered}
 use Rattle.argon2_tool.specs.Failures.{AppendsFront, IsOfInput, IsOfMemory}

@@ -10,7 +10,7 @@ use Rattle.std.specs.List.{AllByRecursion}
 use Rattle.std.specs.Ordering.{is_lt, nat_cmp}
 use Rattle.argon2.specs.Login.{AcceptedStep, AddStep, LoginAnswer, store_of, login_target}
 use Rattle.argon2.specs.NamedTexts.{Store, KeepsOthers}
-use Rattle.argon2.specs.Made.{Target, IsHashAnswer, hashed, tag_length}
+use Rattle.argon2.specs.TextHashing.{Target, IsHashAnswer, hashed, tag_length}
 use Rattle.argon2.specs.PhcText.{Phc, PhcText}
 use Rattle.argon2.specs.base_declared.phc.hash.PasswordHash.{PasswordHash}
 use Rattle.argon2.specs.declared.login.answers.Accepted.{Accepted}

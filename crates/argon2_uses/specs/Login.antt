@@ -1,10 +1,10 @@
 -- What a service asks of its login store.
 use Rattle.std.specs.Prelude.{◌≡◌, ◌≤◌, ◌⊎◌, ℕ, List, Option, Some, None, Result, Ok, Err, IsErrAnd, IsOk, IsSome, IsSomeAnd}
 use Rattle.std.specs.FinMap.{get}
-use Rattle.argon2.specs.Stored.{AcceptsBy}
+use Rattle.argon2.specs.StoredTexts.{AcceptsBy}
 use Rattle.argon2.specs.Login.{AcceptedStep, AddStep, IsNew, LoginAnswer, store_of, login_target}
 use Rattle.argon2.specs.NamedTexts.{Store}
-use Rattle.argon2.specs.Made.{Target, IsHashAnswer, hashed, tag_length}
+use Rattle.argon2.specs.TextHashing.{Target, IsHashAnswer, hashed, tag_length}
 use Rattle.argon2.specs.declared.login.Login.{Login}
 use Rattle.argon2.specs.declared.login.answers.Accepted.{Accepted}
 use Rattle.argon2.specs.declared.login.answers.LoginError.{LoginError}

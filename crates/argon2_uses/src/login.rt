@@ -6,7 +6,7 @@ ghost use Rattle.rand_core.specs.Stream.{fill_bytes};
 ghost use Rattle.argon2.specs.Argon2.{secret_of};
 ghost use Rattle.argon2.specs.Login.{HasPassword, store_of, login_target};
 ghost use Rattle.argon2.specs.NamedTexts.{IsCurrent, KeepsOthers};
-ghost use Rattle.argon2.specs.Made.{made, target_of};
+ghost use Rattle.argon2.specs.TextHashing.{made, target_of};
 ghost use Rattle.argon2.specs.base_declared.error.password_hash.Error.TheVariants.{OutOfMemory};
 ghost use Rattle.argon2.specs.declared.login.answers.Accepted.TheVariants.{Kept};
 ghost use Rattle.argon2.specs.declared.login.answers.LoginError.TheVariants.{Refused};

@@ -2,8 +2,8 @@
 
 ghost use Rattle.std.specs.Prelude.{◌≡◌, ◌↔◌, ◌⊎◌, [], Err, IsTrue, IfOk, IfErr, MatchResult};
 ghost use Rattle.rand_core.specs.Stream.{fill_bytes};
-ghost use Rattle.argon2.specs.Stored.{Accepts, IsVerifyTextAnswer};
-ghost use Rattle.argon2.specs.Made.{IsHashAnswer};
+ghost use Rattle.argon2.specs.StoredTexts.{Accepts, IsVerifyTextAnswer};
+ghost use Rattle.argon2.specs.TextHashing.{IsHashAnswer};
 ghost use Rattle.argon2.specs.PhcFields.{phc_of};
 ghost use Rattle.argon2.specs.PhcText.{phc_text};
 ghost use Rattle.argon2.specs.base_declared.error.password_hash.Error.TheVariants.{OutOfMemory};

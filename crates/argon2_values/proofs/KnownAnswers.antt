@@ -7,7 +7,7 @@ use Rattle.std.specs.List.{range_with_len}
 use Rattle.argon2_base.specs.Block.{zero_block, xor_blocks}
 use Rattle.argon2.specs.Rfc9106.{Context, FirstColumns, address_word, block_count, history, in_history, lane_length, reference_of, segment_length_for, xor_lanes}
 use Rattle.argon2.specs.Layout.{place_of}
-use Rattle.argon2.specs.Watching.{independent_segments, mixing_calls}
+use Rattle.argon2.specs.WatchedFilling.{independent_segments, mixing_calls}
 use Rattle.argon2_values.proofs.Computing.{addresses, recurrence, last_blocks}
 
 -- first columns of words that are multiples of one number

@@ -6,7 +6,7 @@ use Rattle.std.proofs.lemmas.Bool.{cases_lt}
 use Rattle.std.proofs.lemmas.Bool.Decides.{nat_tests}
 use Rattle.argon2.specs.Rfc9106.{Context, address_counter, block_count, is_independent, lane_length, segment_length}
 use Rattle.argon2.specs.Layout.{Sizes}
-use Rattle.argon2.specs.Watching.{address_mixings, independent_segments, mixing_calls, segment_calls, slices_calls}
+use Rattle.argon2.specs.WatchedFilling.{address_mixings, independent_segments, mixing_calls, segment_calls, slices_calls}
 
 -- the mixings of the first passes
 unfoldable pub passes_calls : Context → ℕ → ℕ

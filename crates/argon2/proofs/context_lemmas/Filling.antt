@@ -10,7 +10,7 @@ use Rattle.std.proofs.lemmas.Bool.Decides.{nat_tests}
 use Rattle.argon2.specs.Rfc9106.{Context, FirstColumns, Reference, block_count, block_of, lane_length, made_block, segment_length}
 use Rattle.argon2.specs.Layout.{Memory, Sizes, matrix, reference_places}
 use Rattle.argon2.specs.Steps.{IsStep, in_memory, step, reference_place, turns, turn_count, IsSchedule, run, run_slices, run_passes}
-use Rattle.argon2.specs.Watching.{begun, HasBlocksUpTo}
+use Rattle.argon2.specs.WatchedFilling.{begun, HasBlocksUpTo}
 use Rattle.argon2.specs.Laws.{Begins, AreSchedules}
 use Rattle.argon2.proofs.recurrence.PermittedPlaces.{InSlice}
 use Rattle.argon2.proofs.recurrence.Sources.{AgreeOn, made_cong, reference_of_cong}

@@ -5,7 +5,7 @@ use Rattle.std.proofs.lemmas.Bool.Decides.{nat_tests}
 use Rattle.argon2.specs.Rfc9106.{Context, FirstColumns, segment_length}
 use Rattle.argon2.specs.Layout.{Memory, Sizes}
 use Rattle.argon2.specs.Laws.{Begins}
-use Rattle.argon2.specs.Watching.{begun, in_order, position_index, IsFilledFrom, IsFilledUpTo}
+use Rattle.argon2.specs.WatchedFilling.{begun, in_order, position_index, IsFilledFrom, IsFilledUpTo}
 use Rattle.argon2.specs.Steps.{IsStep, reference_place, step}
 use Rattle.argon2.proofs.recurrence.PermittedPlaces.{InSlice}
 use Rattle.argon2.proofs.context_lemmas.Filling.{filled_at_first, filled_at_last, next_pass, step_answers, step_fills, turn_count-later_slice, HasBlocksUpTo-like}

@@ -7,7 +7,7 @@ use Rattle.std.proofs.lemmas.Bool.{cases_eq}
 use Rattle.argon2.specs.Rfc9106.{Context, FirstColumns, block_count, lane_length, segment_length}
 use Rattle.argon2.specs.Layout.{Sizes, reference_places}
 use Rattle.argon2.specs.Steps.{IsStep, turn_count}
-use Rattle.argon2.specs.Watching.{begun, place_count, position_index, HasPositionsUpTo}
+use Rattle.argon2.specs.WatchedFilling.{begun, place_count, position_index, HasPositionsUpTo}
 use Rattle.argon2.proofs.context_lemmas.Filling.{turn_count-later_slice, turn_count-later_pass}
 use Rattle.argon2.proofs.context_lemmas.InMemory.{place_below}
 

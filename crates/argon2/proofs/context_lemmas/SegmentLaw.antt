@@ -12,7 +12,7 @@ use Rattle.argon2_base.specs.LongHash.{long_hash}
 use Rattle.argon2.specs.Rfc9106.{Context, FirstColumns, block_count, block_of, first_block, lane_length, last_block, segment_length, tag_of}
 use Rattle.argon2.specs.Layout.{Memory, Sizes}
 use Rattle.argon2.specs.Segments.{AreParts, BeginsSlices, FillsSegment, IsFilledBySegments, last_of_slice, segment_in, slice_length, slices_after, slices_before}
-use Rattle.argon2.specs.Watching.{HasBlocksUpTo, begun}
+use Rattle.argon2.specs.WatchedFilling.{HasBlocksUpTo, begun}
 use Rattle.argon2.proofs.recurrence.PermittedPlaces.{in_slice}
 use Rattle.argon2.proofs.context_lemmas.Filling.{filled_at_first, next_pass, turn_count-later_pass, turn_count-later_slice}
 use Rattle.argon2.proofs.context_lemmas.InMemory.{place_below}

@@ -10,7 +10,7 @@ use Rattle.argon2.specs.Layout.{Memory, Sizes}
 use Rattle.argon2.specs.Segments.{AreParts}
 use Rattle.argon2.specs.SegmentSteps.{column_of, IsStepAt}
 use Rattle.argon2.specs.Steps.{IsStep, in_memory, step}
-use Rattle.argon2.specs.Watching.{HasBlocksUpTo, begun}
+use Rattle.argon2.specs.WatchedFilling.{HasBlocksUpTo, begun}
 use Rattle.argon2.specs.declared.context.fill.Step.{Step}
 use Rattle.argon2.proofs.recurrence.PermittedPlaces.{InSlice}
 use Rattle.argon2.proofs.recurrence.Sources.{Reads-place, reference_reads}

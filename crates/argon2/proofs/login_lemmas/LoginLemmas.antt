@@ -12,11 +12,11 @@ use Rattle.argon2.specs.declared.login.answers.Accepted.{Accepted}
 use Rattle.argon2.specs.declared.login.answers.Accepted.TheVariants.{Current, Kept, Rehashed}
 use Rattle.argon2.specs.declared.login.answers.LoginError.{LoginError}
 use Rattle.argon2.specs.declared.login.answers.LoginError.TheVariants.{Refused}
-use Rattle.argon2.specs.Stored.{AcceptsBy}
+use Rattle.argon2.specs.StoredTexts.{AcceptsBy}
 use Rattle.argon2.specs.ListedParameters.{checked}
 use Rattle.argon2.specs.Login.{AcceptedStep, HasPassword, LoginAnswer, LoginStep, logging_in}
 use Rattle.argon2.specs.NamedTexts.{Store, IsCurrent, Leaves}
-use Rattle.argon2.specs.Made.{Target, IsTarget, made, IsHashAnswer}
+use Rattle.argon2.specs.TextHashing.{Target, IsTarget, made, IsHashAnswer}
 use Rattle.argon2.proofs.login_lemmas.Stores.{insert-same}
 use Rattle.argon2.proofs.password_hash_lemmas.MadeValues.{made_accepts, made_shows}
 

@@ -11,10 +11,10 @@ use Rattle.argon2_base.specs.PhcText.{Phc, IsPhc, HasBytes, phc_text}
 use Rattle.argon2.specs.declared.login.answers.Accepted.{Accepted}
 use Rattle.argon2.specs.declared.login.answers.Accepted.TheVariants.{Current, Rehashed, Kept}
 use Rattle.argon2.specs.declared.login.answers.LoginError.{LoginError}
-use Rattle.argon2.specs.Stored.{AcceptsBy, Accepts}
+use Rattle.argon2.specs.StoredTexts.{AcceptsBy, Accepts}
 use Rattle.argon2.specs.Login.{Event, adding, logging_in, AddStep, LoginAnswer, LoginStep}
 use Rattle.argon2.specs.NamedTexts.{IsCurrent, Store, newest}
-use Rattle.argon2.specs.Made.{Target, made}
+use Rattle.argon2.specs.TextHashing.{Target, made}
 use Rattle.argon2.specs.Runs.{Run, source, accepted, IsFrom}
 use Rattle.argon2.proofs.login_lemmas.Stores.{get-set}
 

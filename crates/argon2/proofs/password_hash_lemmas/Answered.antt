@@ -8,7 +8,7 @@ use Rattle.argon2_base.specs.PhcText.{Pair, Phc}
 use Rattle.argon2_base.specs.declared.error.password_hash.Error.{Error}
 use Rattle.argon2.specs.Settings.{Parameters, Settings, algorithm_named, first_fault, version_numbered}
 use Rattle.argon2.specs.ListedParameters.{checked, items_fault, number_at, params_of}
-use Rattle.argon2.specs.Stored.{Stored, read, shown_settings, stored_of}
+use Rattle.argon2.specs.StoredTexts.{Stored, read, shown_settings, stored_of}
 
 -- a fault that was passed on
 pub passed_on : {A X : Type 0} (view : A → X) (e : Error) (r : Result A Error) → IsErrAnd r (λ f. f ≡ e)

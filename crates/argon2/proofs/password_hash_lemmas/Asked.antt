@@ -5,7 +5,7 @@ use Rattle.argon2_base.specs.declared.error.password_hash.Error.TheVariants.{Alg
 use Rattle.argon2_base.specs.Error.{outcome_of}
 use Rattle.argon2.specs.declared.algorithm.Algorithm.{Algorithm}
 use Rattle.argon2.specs.Settings.{IsReadBy, algorithm_name}
-use Rattle.argon2.specs.Made.{algorithm_asked}
+use Rattle.argon2.specs.TextHashing.{algorithm_asked}
 use Rattle.argon2.proofs.params_lemmas.Named.{algorithm_named-text}
 
 -- an algorithm that is asked for by its name

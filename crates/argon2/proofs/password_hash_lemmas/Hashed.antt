@@ -2,7 +2,7 @@
 use Rattle.std.proofs.Common.{◌≡◌, ℕ, ◌≤◌, List, length, Ok, arith}
 use Rattle.std.proofs.lemmas.Bool.Decides.{nat_tests}
 use Rattle.argon2_base.specs.PhcText.{Phc}
-use Rattle.argon2.specs.Made.{Target, tag_length, made, hashed}
+use Rattle.argon2.specs.TextHashing.{Target, tag_length, made, hashed}
 
 -- the answer if a value was made
 pub answer_made : (target : Target) (password salt : List ℕ) → 8 ≤ length salt → length salt ≤ 48

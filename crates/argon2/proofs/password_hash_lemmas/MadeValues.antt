@@ -12,13 +12,13 @@ use Rattle.argon2_base.specs.declared.error.password_hash.Error.{Error as HashEr
 use Rattle.argon2.specs.declared.algorithm.Algorithm.{Algorithm}
 use Rattle.argon2.specs.declared.algorithm.Algorithm.TheVariants.{Argon2d, Argon2i, Argon2id}
 use Rattle.argon2.specs.declared.version.Version.{Version}
-use Rattle.argon2.specs.Stored.{Accepts, AcceptsBy, shown_settings}
+use Rattle.argon2.specs.StoredTexts.{Accepts, AcceptsBy, shown_settings}
 use Rattle.argon2.specs.declared.context.Argon2.{Argon2}
 use Rattle.argon2.specs.Argon2.{context_with, settings_of}
 use Rattle.argon2.specs.Settings.{Parameters, algorithm_name, first_fault, version_number}
 use Rattle.argon2.specs.Rfc9106.{tag_of}
 use Rattle.argon2.specs.ListedParameters.{list_of, params_of}
-use Rattle.argon2.specs.Made.{Target, IsTarget, target_of, tag_length, sized, made}
+use Rattle.argon2.specs.TextHashing.{Target, IsTarget, target_of, tag_length, sized, made}
 use Rattle.argon2.proofs.params_lemmas.ListedLemmas.{listed_good}
 use Rattle.argon2.proofs.params_lemmas.Named.{algorithm_named-name, version_numbered-number}
 use Rattle.argon2.proofs.params_lemmas.ReadAgain.{read_again}

@@ -8,7 +8,7 @@ use Rattle.argon2_base.specs.Error.{bad_algorithm, bad_password, bad_version, fa
 use Rattle.argon2_base.specs.declared.error.password_hash.Error.{Error}
 use Rattle.argon2_base.specs.declared.error.password_hash.Error.TheVariants.{OutOfMemory}
 use Rattle.argon2_base.specs.PhcText.{Phc}
-use Rattle.argon2.specs.Stored.{AcceptsBy, IsVerifyAnswer, Stored, is_tag, verified, shown_settings, stored_of}
+use Rattle.argon2.specs.StoredTexts.{AcceptsBy, IsVerifyAnswer, Stored, is_tag, verified, shown_settings, stored_of}
 use Rattle.argon2.specs.Settings.{algorithm_named, version_numbered}
 use Rattle.argon2.specs.Rfc9106.{tag_of}
 use Rattle.argon2.specs.Argon2.{context_with}

@@ -3,7 +3,7 @@ use Rattle.std.proofs.Common.{◌≡◌, ℕ, ◌+◌, ◌*◌, ◌/◌, ◌≤�
 use Rattle.std.specs.Prelude.{if◌then◌else◌}
 use Rattle.argon2.specs.Rfc9106.{Context, address_block, is_independent}
 use Rattle.argon2.specs.Layout.{addresses_at}
-use Rattle.argon2.specs.Watching.{address_mixings}
+use Rattle.argon2.specs.WatchedFilling.{address_mixings}
 
 -- one address block serves 128 indexes
 pub same_addresses : (ctx : Context) (pass lane slice i j : ℕ) → i / 128 ≡ j / 128

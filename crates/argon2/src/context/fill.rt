@@ -5,7 +5,7 @@ ghost use Rattle.argon2_base.specs.Block.{xor_blocks};
 ghost use Rattle.argon2.specs.Rfc9106.{AreShort, FirstColumns, block_count, lane_length, segment_length, tag_of};
 ghost use Rattle.argon2.specs.Layout.{addresses_at};
 ghost use Rattle.argon2.specs.Hashing.{FillsFront, IsOutputLength};
-ghost use Rattle.argon2.specs.Watching.{Fills, IsFilledFrom, begun, in_order, mixing_calls, position_index, segment_calls, slices_calls};
+ghost use Rattle.argon2.specs.WatchedFilling.{Fills, IsFilledFrom, begun, in_order, mixing_calls, position_index, segment_calls, slices_calls};
 ghost use Rattle.argon2.specs.Laws.{Begins};
 ghost use Rattle.argon2.specs.SegmentSteps.{column_of, IsStepAt};
 ghost use Rattle.argon2.specs.Steps.{previous_place, reference_place, step, turn_count, IsStep};

@@ -5,7 +5,7 @@ ghost use Rattle.std.specs.Prelude.{◌≡◌, ℕ, ◌+◌, ◌-◌, ◌^◌, �
 ghost use Rattle.argon2.specs.Rfc9106.{Blocks, address_block, block_count, is_independent, lane_length, permitted, previous, reference, reference_index, reference_lane, reference_word, segment_length};
 ghost use Rattle.argon2.specs.Layout.{MayReferTo, addresses_at, place_of};
 ghost use Rattle.argon2.specs.SegmentSteps.{column_of, IsStepAt};
-ghost use Rattle.argon2.specs.Watching.{address_mixings};
+ghost use Rattle.argon2.specs.WatchedFilling.{address_mixings};
 
 use super::fill::Step;
 use super::instance::Instance;

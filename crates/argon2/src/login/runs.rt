@@ -6,10 +6,10 @@ ghost use Rattle.argon2_base.specs.PhcText.{phc_text};
 ghost use Rattle.argon2.specs.declared.login.answers.Accepted.{Accepted};
 ghost use Rattle.argon2.specs.declared.login.answers.Accepted.TheVariants.{Kept};
 ghost use Rattle.argon2.specs.Login.{Event};
-ghost use Rattle.argon2.specs.Made.{Target, IsTarget};
+ghost use Rattle.argon2.specs.TextHashing.{Target, IsTarget};
 ghost use Rattle.argon2.specs.NamedTexts.{Store, IsCurrent, newest};
 ghost use Rattle.argon2.specs.Runs.{IsFrom, Run, accepted, source};
-ghost use Rattle.argon2.specs.Stored.{Accepts};
+ghost use Rattle.argon2.specs.StoredTexts.{Accepts};
 
 /// After every list of calls on a new store: exactly the names that were added have a text, the one
 /// that was added, or the one that the last login that renewed it made; if a name has an

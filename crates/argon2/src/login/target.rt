@@ -1,7 +1,7 @@
 //! What a store verifies its texts under, and renews them by.
 
 ghost use Rattle.std.proofs.Props.{props};
-ghost use Rattle.argon2.specs.Made.{target_of, IsTarget};
+ghost use Rattle.argon2.specs.TextHashing.{target_of, IsTarget};
 
 use super::{Accepted, LoggedIn, LoginError};
 use crate::context::Argon2;
@@ -26,11 +26,11 @@ impl<'key> Target<'key> {
     ghost use Rattle.argon2_base.specs.PhcFields.{phc_of};
     ghost use Rattle.argon2_base.specs.PhcText.{Phc};
     ghost use Rattle.argon2_base.specs.declared.error.password_hash.Error.TheVariants.{OutOfMemory};
-    ghost use Rattle.argon2.specs.Stored.{AcceptsBy, IsVerifyAnswer, settings_value, stored_of, stored_value};
+    ghost use Rattle.argon2.specs.StoredTexts.{AcceptsBy, IsVerifyAnswer, settings_value, stored_of, stored_value};
     ghost use Rattle.argon2.specs.Argon2.{settings_of};
     ghost use Rattle.argon2.specs.NamedTexts.{IsCurrent, Leaves, Store, accepted_by, stream_after, value_after};
     ghost use Rattle.argon2.specs.Login.{IsNewTarget, LoginAnswer, target_value};
-    ghost use Rattle.argon2.specs.Made.{HashingRefusal, IsFresh, sized};
+    ghost use Rattle.argon2.specs.TextHashing.{HashingRefusal, IsFresh, sized};
     ghost use Rattle.argon2.specs.declared.login.answers.Accepted.TheVariants.{Kept, Rehashed};
     ghost use Rattle.argon2.specs.declared.login.answers.LoginError.TheVariants.{Refused};
 

@@ -2,9 +2,9 @@
 
 ghost use Rattle.std.specs.Prelude.{◌≡◌, option_copied};
 ghost use Rattle.argon2_base.specs.Error.{outcome_of};
-ghost use Rattle.argon2.specs.Made.{algorithm_asked, version_asked};
+ghost use Rattle.argon2.specs.TextHashing.{algorithm_asked, version_asked};
 
-use super::{CustomizedPasswordHasher, Error, PasswordHasher, Result, Settings};
+use super::{CustomizedPasswordHasher, Error, PasswordHasher, Result};
 use crate::algorithm::Algorithm;
 use crate::context::Argon2;
 use crate::params::Params;
@@ -13,12 +13,10 @@ use argon2_base::phc::{Output, ParamsString, PasswordHash, Salt};
 use rand_core::Rng;
 use std::alloc::Global;
 
-impl<'key> Argon2<'key> {
-    ghost use Rattle.std.specs.Prelude.{◌≡◌, ◌≤◌, IfOk, length};
-    ghost use Rattle.argon2_base.specs.Error.{outcome_of};
-    ghost use Rattle.argon2.specs.Argon2.{settings_of, secret_of, IsWith, parameters_of};
-    ghost use Rattle.argon2.specs.Made.{settings_asked, tag_length, IsTagAnswer};
-    ghost use Rattle.argon2.specs.Stored.{settings_value};
+impl Argon2<'_> {
+    ghost use Rattle.std.specs.Prelude.{◌≡◌, ◌≤◌, length};
+    ghost use Rattle.argon2.specs.Argon2.{settings_of};
+    ghost use Rattle.argon2.specs.TextHashing.{tag_length, IsTagAnswer};
 
     // How many bytes a hash has.
     fn tag_len(&self) -> usize
@@ -41,38 +39,6 @@ impl<'key> Argon2<'key> {
         self.hash_password_into(alloc, password, salt, tag)?;
         Output::new(tag)
     }
-
-    // Hashing with the same secret under other settings.
-    pub(super) fn with_settings(&self, settings: Settings) -> Argon2<'key>
-        ensures { IsWith (settings_value settings) (secret_of self.now) result }
-    {
-        let (algorithm, version) = (settings.algorithm, settings.version);
-        let argon2 = Argon2::new_with_secret(self.secret(), algorithm, version, settings.params);
-        let Ok(argon2) = argon2 else {
-            unreachable!();
-        };
-        argon2
-    }
-
-    // Hashing with the same secret under an algorithm of this name and a version of this number.
-    fn with_asked(
-        &self,
-        alg_id: Option<&str>,
-        version: Option<u32>,
-        params: Params,
-    ) -> Result<Argon2<'key>>
-        ensures settings { outcome_of settings_of result
-            ≡ settings_asked (option_copied alg_id.entry) version (parameters_of params) }
-        ensures secret { IfOk result (λ argon2. secret_of argon2 ≡ secret_of self.now) }
-    {
-        let algorithm = asked_algorithm(alg_id)?;
-        let version = asked_version(version)?;
-        Ok(self.with_settings(Settings {
-            algorithm,
-            version,
-            params,
-        }))
-    }
 }
 
 /// Hashes have the output length of the parameters, or 32 bytes if none is set.
@@ -80,9 +46,9 @@ impl PasswordHasher<PasswordHash> for Argon2<'_> {
     ghost use Rattle.std.specs.Prelude.{◌≡◌, Ok};
     ghost use Rattle.argon2_base.specs.PhcFields.{phc_of};
     ghost use Rattle.argon2_base.specs.PhcText.{phc_text};
-    ghost use Rattle.argon2.specs.Stored.{Accepts, shown_settings};
+    ghost use Rattle.argon2.specs.StoredTexts.{Accepts, shown_settings};
     ghost use Rattle.argon2.specs.Argon2.{secret_of, settings_of};
-    ghost use Rattle.argon2.specs.Made.{target_of, sized, IsHashAnswer};
+    ghost use Rattle.argon2.specs.TextHashing.{target_of, sized, IsHashAnswer};
 
     ghost hash_gives = { λ argon2. IsHashAnswer (target_of argon2) };
 
@@ -146,9 +112,9 @@ fn asked_version(number: Option<u32>) -> Result<Version>
 impl CustomizedPasswordHasher<PasswordHash> for Argon2<'_> {
     ghost use Rattle.argon2_base.specs.PhcFields.{phc_of};
     ghost use Rattle.argon2_base.specs.PhcText.{phc_text};
-    ghost use Rattle.argon2.specs.Stored.{Accepts};
+    ghost use Rattle.argon2.specs.StoredTexts.{Accepts};
     ghost use Rattle.argon2.specs.Argon2.{parameters_of, secret_of};
-    ghost use Rattle.argon2.specs.Made.{settings_asked, IsAskedAnswer};
+    ghost use Rattle.argon2.specs.TextHashing.{settings_asked, IsAskedAnswer};
 
     type Params = Params;
 
@@ -169,7 +135,9 @@ impl CustomizedPasswordHasher<PasswordHash> for Argon2<'_> {
         version: Option<u32>,
         params: Params,
     ) -> Result<PasswordHash> {
-        self.with_asked(alg_id, version, params)?
+        let algorithm = asked_algorithm(alg_id)?;
+        let version = asked_version(version)?;
+        self.with_settings(algorithm, version, params)
             .hash_password_with_salt(alloc, password, salt)
     }
 }

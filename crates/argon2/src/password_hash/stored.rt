@@ -30,7 +30,7 @@ pub struct Settings {
 impl TryFrom<&PasswordHash> for Settings {
     ghost use Rattle.argon2_base.specs.Error.{outcome_of};
     ghost use Rattle.argon2_base.specs.PhcFields.{phc_of};
-    ghost use Rattle.argon2.specs.Stored.{settings_value, shown_settings};
+    ghost use Rattle.argon2.specs.StoredTexts.{settings_value, shown_settings};
 
     type Error = Error;
 
@@ -73,7 +73,7 @@ pub struct Stored<'hash> {
 impl<'hash> TryFrom<&'hash PasswordHash> for Stored<'hash> {
     ghost use Rattle.argon2_base.specs.Error.{outcome_of};
     ghost use Rattle.argon2_base.specs.PhcFields.{phc_of};
-    ghost use Rattle.argon2.specs.Stored.{stored_of, stored_value};
+    ghost use Rattle.argon2.specs.StoredTexts.{stored_of, stored_value};
 
     type Error = Error;
 

@@ -1,6 +1,6 @@
 //! Verifying passwords against stored hashes.
 
-use super::{Error, PasswordVerifier, Result, Stored};
+use super::{Error, PasswordVerifier, Result, Settings, Stored};
 use crate::context::Argon2;
 use argon2_base::phc::PasswordHash;
 use std::alloc::Global;
@@ -8,7 +8,7 @@ use std::alloc::Global;
 impl Argon2<'_> {
     ghost use Rattle.std.specs.Prelude.{◌≡◌, Ok};
     ghost use Rattle.argon2_base.specs.PhcText.{Phc};
-    ghost use Rattle.argon2.specs.Stored.{IsVerifyAnswer, stored_of, stored_value};
+    ghost use Rattle.argon2.specs.StoredTexts.{IsVerifyAnswer, stored_of, stored_value};
     ghost use Rattle.argon2.specs.Argon2.{secret_of};
 
     // Whether what a hash shows is the tag of the password, with this secret.
@@ -21,7 +21,12 @@ impl Argon2<'_> {
         ensures { (v : Phc) → stored_of v ≡ Ok (stored_value stored.now)
             → IsVerifyAnswer (secret_of self.now) password.now v result }
     {
-        let argon2 = self.with_settings(stored.settings);
+        let Settings {
+            algorithm,
+            version,
+            params,
+        } = stored.settings;
+        let argon2 = self.with_settings(algorithm, version, params);
         let tag = argon2.tag(alloc, password, stored.salt.as_bytes())?;
         if tag == *stored.hash {
             return Ok(());
@@ -34,7 +39,7 @@ impl Argon2<'_> {
 /// means 0x10), and with this context's secret. Nothing else of this context is used.
 impl PasswordVerifier<&PasswordHash> for Argon2<'_> {
     ghost use Rattle.argon2_base.specs.PhcFields.{phc_of};
-    ghost use Rattle.argon2.specs.Stored.{AcceptsBy, IsVerifyAnswer};
+    ghost use Rattle.argon2.specs.StoredTexts.{AcceptsBy, IsVerifyAnswer};
     ghost use Rattle.argon2.specs.Argon2.{secret_of};
 
     ghost verify_gives = { λ argon2 password hash.
@@ -50,7 +55,7 @@ impl PasswordVerifier<&PasswordHash> for Argon2<'_> {
 
 /// Verifies against the value of a PHC text.
 impl PasswordVerifier<&str> for Argon2<'_> {
-    ghost use Rattle.argon2.specs.Stored.{Accepts, IsVerifyTextAnswer};
+    ghost use Rattle.argon2.specs.StoredTexts.{Accepts, IsVerifyTextAnswer};
     ghost use Rattle.argon2.specs.Argon2.{secret_of};
 
     ghost verify_gives = { λ argon2 password text.

@@ -1,7 +1,7 @@
 use Rattle.std.proofs.Common.{arith, ◌≡◌, List, [], ℕ, Err, inl, inr, sym}
 use Rattle.std.proofs.lemmas.Result.{err_from_is_err_and}
 use Rattle.std.specs.Borrow.{Bor}
-use Rattle.argon2.specs.Stored.{IsVerifyTextAnswer}
+use Rattle.argon2.specs.StoredTexts.{IsVerifyTextAnswer}
 use Rattle.argon2_base.specs.Error.{fault_of}
 use Rattle.argon2_base.specs.declared.error.password_hash.Error.{Error}
 use Rattle.argon2_tool.specs.Commands.{Fails, IsVerifyFault}

@@ -3,7 +3,7 @@ use Rattle.std.specs.FinMap.{get}
 use Rattle.argon2.specs.PhcFields.{phc_of}
 use Rattle.argon2.specs.Login.{store_of}
 use Rattle.argon2.specs.NamedTexts.{named_values}
-use Rattle.argon2.specs.Made.{target_of}
+use Rattle.argon2.specs.TextHashing.{target_of}
 use Rattle.argon2_uses.proofs.Stores.{add_refuses_new, entries_are_new_in, refused_as}
 use Rattle.argon2_uses.proofs.login.moved.Goals as goal
 

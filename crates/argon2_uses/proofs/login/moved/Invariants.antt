@@ -1,7 +1,7 @@
 use Rattle.std.proofs.Common.{◌≡◌, ◌≤◌}
 use Rattle.argon2.specs.Login.{store_of, login_target}
 use Rattle.argon2.specs.NamedTexts.{added, named_values}
-use Rattle.argon2.specs.Made.{tag_length, target_of}
+use Rattle.argon2.specs.TextHashing.{tag_length, target_of}
 use Rattle.argon2_uses.proofs.Stores.{AreNew}
 use Rattle.argon2_uses.proofs.login.moved.Given as goal
 

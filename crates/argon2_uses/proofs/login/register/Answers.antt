@@ -2,7 +2,7 @@ use Rattle.std.proofs.Common.{rules}
 use Rattle.rand_core.specs.Stream.{fill_bytes}
 use Rattle.argon2.specs.PhcFields.{phc_of}
 use Rattle.argon2.specs.Login.{store_of}
-use Rattle.argon2.specs.Made.{target_of}
+use Rattle.argon2.specs.TextHashing.{target_of}
 use Rattle.argon2.proofs.login_lemmas.LoginLemmas.{hash_made}
 use Rattle.argon2_uses.proofs.Stores.{add_gives, add_refuses, hashed_ok}
 use Rattle.argon2_uses.proofs.login.register.Goals as goal

@@ -1,5 +1,5 @@
 use Rattle.std.proofs.Common.{◌≡◌, ◌⊎◌, Err, subst}
-use Rattle.argon2.specs.Stored.{Accepts, IsVerifyTextAnswer}
+use Rattle.argon2.specs.StoredTexts.{Accepts, IsVerifyTextAnswer}
 use Rattle.argon2.specs.base_declared.error.password_hash.Error.TheVariants.{OutOfMemory}
 use Rattle.argon2_uses.proofs.passwords.is_accepted.Goals as goal
 

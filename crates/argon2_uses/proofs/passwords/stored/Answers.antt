@@ -1,8 +1,8 @@
 use Rattle.std.proofs.Common.{◌≡◌, ℕ, List, subst}
 use Rattle.std.specs.Prelude.{IfOk}
 use Rattle.rand_core.specs.Stream.{fill_bytes}
-use Rattle.argon2.specs.Stored.{Accepts}
-use Rattle.argon2.specs.Made.{IsHashAnswer, Target}
+use Rattle.argon2.specs.StoredTexts.{Accepts}
+use Rattle.argon2.specs.TextHashing.{IsHashAnswer, Target}
 use Rattle.argon2.specs.PhcFields.{phc_of}
 use Rattle.argon2.specs.PhcText.{phc_text}
 use Rattle.argon2.specs.Settings.{Settings}

@@ -1,5 +1,5 @@
 use Rattle.std.proofs.Common.{◌≡◌, ◌+◌, map}
-use Rattle.argon2.specs.Watching.{IsFilledUpTo, begun}
+use Rattle.argon2.specs.WatchedFilling.{IsFilledUpTo, begun}
 use Rattle.argon2.specs.Laws.{Begins}
 use Rattle.argon2.specs.Rfc9106.{FirstColumns}
 use Rattle.argon2.proofs.context_lemmas.Counts.{passes_calls}

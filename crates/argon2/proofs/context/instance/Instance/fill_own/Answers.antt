@@ -3,7 +3,7 @@ use Rattle.std.proofs.lemmas.Bool.Decides.{nat_tests}
 use Rattle.argon2.specs.Rfc9106.{segment_length}
 use Rattle.argon2.specs.Layout.{addresses_at}
 use Rattle.argon2.specs.Steps.{step}
-use Rattle.argon2.specs.Watching.{begun}
+use Rattle.argon2.specs.WatchedFilling.{begun}
 use Rattle.argon2.proofs.recurrence.Addresses.{same_addresses}
 use Rattle.argon2.proofs.context_lemmas.Filling.{HasBlocksUpTo-like}
 use Rattle.argon2.proofs.context_lemmas.SegmentColumns.{a_column, a_step, in_lane}

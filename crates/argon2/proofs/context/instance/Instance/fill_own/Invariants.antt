@@ -2,7 +2,7 @@ use Rattle.std.proofs.Common.{◌≡◌, ◌+◌, ◌-◌, ◌*◌, length}
 use Rattle.argon2.specs.Rfc9106.{FirstColumns, segment_length}
 use Rattle.argon2.specs.Layout.{Memory, addresses_at}
 use Rattle.argon2.specs.Segments.{AreParts}
-use Rattle.argon2.specs.Watching.{HasBlocksUpTo, begun}
+use Rattle.argon2.specs.WatchedFilling.{HasBlocksUpTo, begun}
 use Rattle.argon2.proofs.context_lemmas.SegmentParts.{ahead}
 use Rattle.argon2.proofs.context.instance.Instance.fill_own.Given as goal
 

@@ -1,5 +1,5 @@
 use Rattle.std.proofs.Common.{◌≡◌, suc, add-one, arith}
-use Rattle.argon2.specs.Watching.{slices_calls}
+use Rattle.argon2.specs.WatchedFilling.{slices_calls}
 use Rattle.argon2.proofs.context_lemmas.Counts.{slices_calls-le}
 use Rattle.argon2.proofs.context.instance.Instance.fill_pass.Goals as goal
 

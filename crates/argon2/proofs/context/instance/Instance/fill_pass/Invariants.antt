@@ -1,5 +1,5 @@
 use Rattle.std.proofs.Common.{◌≡◌, ◌+◌, map}
-use Rattle.argon2.specs.Watching.{Fills, begun, slices_calls}
+use Rattle.argon2.specs.WatchedFilling.{Fills, begun, slices_calls}
 use Rattle.argon2.proofs.context.instance.Instance.fill_pass.Given as goal
 
 abbrev pub invariant-loop-slice : goal.invariant-loop-slice

@@ -1,5 +1,5 @@
 use Rattle.std.proofs.Common.{◌≡◌, ◌+◌, ◌*◌, map}
-use Rattle.argon2.specs.Watching.{Fills, begun, in_order, segment_calls}
+use Rattle.argon2.specs.WatchedFilling.{Fills, begun, in_order, segment_calls}
 use Rattle.argon2.proofs.context.instance.Instance.fill_slice.Given as goal
 
 abbrev pub invariant-loop-lane : goal.invariant-loop-lane

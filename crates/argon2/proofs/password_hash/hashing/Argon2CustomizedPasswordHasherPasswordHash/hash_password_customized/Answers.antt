@@ -2,10 +2,10 @@ use Rattle.std.proofs.Common.{subst}
 use Rattle.std.specs.Prelude.{IfOk}
 use Rattle.argon2_base.specs.PhcFields.{phc_of}
 use Rattle.argon2_base.specs.PhcText.{phc_text}
-use Rattle.argon2.specs.Stored.{Accepts}
+use Rattle.argon2.specs.StoredTexts.{Accepts}
 use Rattle.argon2.proofs.password_hash.hashing.Argon2CustomizedPasswordHasherPasswordHash.hash_password_customized.Goals as goal
 
 pub returns-clause-accepted : goal.returns-clause-accepted
 returns-clause-accepted c =
     subst (λ secret. IfOk c.hash_password_with_salt.result (λ hash. Accepts secret c.args.password.now (phc_text (phc_of hash))))
-    c.in_ok-with_asked.ensures.secret c.hash_password_with_salt.ensures.accepted
+    c.with_settings.ensures.secret c.hash_password_with_salt.ensures.accepted

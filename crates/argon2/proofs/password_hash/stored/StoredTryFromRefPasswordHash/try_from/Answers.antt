@@ -3,7 +3,7 @@ use Rattle.std.specs.Option.{option_map}
 use Rattle.std.specs.Prelude.{IfSome}
 use Rattle.argon2_base.specs.PhcFields.{phc_of}
 use Rattle.argon2_base.specs.PhcText.{HasBytes}
-use Rattle.argon2.specs.Stored.{settings_value}
+use Rattle.argon2.specs.StoredTexts.{settings_value}
 use Rattle.argon2.proofs.password_hash_lemmas.Answered.{shown_length}
 use Rattle.argon2.proofs.password_hash.stored.StoredTryFromRefPasswordHash.try_from.Goals as goal
 

@@ -1,15 +1,11 @@
-//! The two ends of a hash: the first two columns, which are made of its inputs, and the tag, which
-//! is made of the last column (RFC 9106, section 3.2, steps 1 to 4, 7 and 8).
+//! The first two columns, which are made of the inputs (RFC 9106, section 3.2, steps 1 to 4).
 
-ghost use Rattle.std.specs.Prelude.{◌≡◌, ◌+◌, ◌-◌, ◌*◌, ◌<◌, ◌≤◌, ◌^◌, [], length, map, slice_index_or};
-ghost use Rattle.argon2_base.specs.Block.{bytes_of};
+ghost use Rattle.std.specs.Prelude.{◌≡◌, ◌+◌, ◌*◌, ◌<◌, ◌≤◌, ◌^◌, length, map};
 ghost use Rattle.argon2_base.specs.Hasher.{Appends};
-ghost use Rattle.argon2_base.specs.LongHash.{long_hash};
-ghost use Rattle.argon2.specs.Rfc9106.{AreShort, block_after, block_count, first_block, initial_hash, lane_length, number, with_length, xor_lanes};
-ghost use Rattle.argon2.specs.Hashing.{blocks_of, KeepsOtherColumns};
+ghost use Rattle.argon2.specs.Rfc9106.{AreShort, block_after, block_count, first_block, initial_hash, lane_length, number, with_length};
+ghost use Rattle.argon2.specs.Hashing.{KeepsOtherColumns};
 ghost use Rattle.argon2.specs.Laws.{Begins};
 ghost use Rattle.argon2.specs.Segments.{BeginsLanes};
-ghost use Rattle.argon2.specs.Steps.{last_column};
 
 use super::instance::Instance;
 use super::memory_block::MemoryBlock;
@@ -113,42 +109,5 @@ impl Instance<'_> {
             blocks[first] = B::of(block_after(&hash, lane, 0));
             blocks[first + 1] = B::of(block_after(&hash, lane, 1));
         }
-    }
-
-    /// Fills `out` with H' of the exclusive or of the last column's blocks.
-    pub(super) fn write_tag<B: MemoryBlock>(&self, memory: &[B], out: &mut [u8])
-        requires room { block_count self.now ≤ length memory.now }
-        requires some { 1 ≤ length out.old }
-        requires few { length out.old < 2 ^ 32 }
-        ensures { out.new ≡ long_hash (length out.old)
-            (bytes_of (last_column self.now (blocks_of self.now (map B.words memory.now)))) }
-    {
-        let blocks = &memory[..self.block_count()];
-        self.write_tag_of_lanes(self.lane_length(), blocks, out);
-    }
-
-    /// The same if each lane has `width` blocks, the last of its columns.
-    pub(super) fn write_tag_of_lanes<B: MemoryBlock>(
-        &self,
-        width: u32,
-        blocks: &[B],
-        out: &mut [u8],
-    )
-        requires one { 1 ≤ width }
-        requires most { width ≤ lane_length self.now }
-        requires size { length blocks.now ≡ self.now.p_cost * width }
-        requires some { 1 ≤ length out.old }
-        requires few { length out.old < 2 ^ 32 }
-        ensures { let blocks = map B.words blocks.now in
-            let last = xor_lanes self.now (λ lane.
-            slice_index_or blocks (lane * width + (width - 1)) []) in
-            out.new ≡ long_hash (length out.old) (bytes_of last) }
-    {
-        let mut all = B::of(Block::new());
-        for lane in 0..self.lanes() {
-            let place = lane * width + (width - 1);
-            all.xor(&blocks[place as usize]);
-        }
-        blake2b_long(&[&all.block().to_bytes()], out).unwrap();
     }
 }
