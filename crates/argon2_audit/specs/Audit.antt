@@ -7,7 +7,7 @@ use Rattle.std.specs.List.{All, AllZip, list_any}
 use Rattle.std.specs.Ordering.{nat_cmp}
 use Rattle.std.specs.Str.{bytes_eq}
 use Rattle.arrayvec.specs.ArrayVec.{ArrayVec}
-use Rattle.argon2_audit.specs.Finding.{IsFinding, class_of, has_short_salt, salt_of, some_passes}
+use Rattle.argon2_audit.specs.Finding.{IsFinding, class_of, has_short_salt, salt_of, shows_other_key, some_passes}
 use Rattle.argon2_audit.specs.declared.finding.Class.{Class}
 use Rattle.argon2_audit.specs.declared.finding.Class.TheVariants.{Outside, NoHash, Below, Sound, Other, Locked, Empty, Blank, Comment, Unknown}
 use Rattle.argon2_audit.specs.declared.finding.Finding.{Finding}
@@ -54,11 +54,12 @@ abbrev pub count_of : Class → Tally → ℕ
 count_of class tally = get_or tally.counts (class_number class) 0
 
 -- one line more, in its class and in no other
-pub record Counts (class : Class) (is_short is_equal : Bool) (old new : Tally) : Type 0 where
+pub record Counts (class : Class) (is_short is_equal is_other : Bool) (old new : Tally) : Type 0 where
   pub lines : new.lines ≡ old.lines + 1
   pub classes : (n : ℕ) → get_or new.counts n 0 ≡ get_or old.counts n 0 + one_if (class_number class == n)
   pub short_salts : new.short_salts ≡ old.short_salts + one_if is_short
   pub equal_salts : new.equal_salts ≡ old.equal_salts + one_if is_equal
+  pub other_keys : new.other_keys ≡ old.other_keys + one_if is_other
 
 -- how many lines do not count as sound; those of other schemes and with no password do if the limits allow them
 abbrev pub unsound : Limits → Tally → ℕ
@@ -113,6 +114,7 @@ pub record AreCounted (options : Options) (lines : List (List ℕ)) (findings : 
       → get_or tally.counts n 0 ≡ how_many (λ finding. class_number (class_of options.limits finding) == n) findings
   pub short_salts : tally.short_salts ≡ how_many (has_short_salt options.limits) findings
   pub equal_salts : tally.equal_salts ≡ repeated findings
+  pub other_keys : tally.other_keys ≡ how_many (shows_other_key options.limits) findings
 
 -- the counts are those of the lines of a text
 abbrev pub IsTallied : Options → List ℕ → Tally → Type 0

@@ -1,18 +1,19 @@
 -- What is found in a line.
-use Rattle.std.specs.Prelude.{ℕ, zero, suc, ◌≡◌, ◌≢◌, ◌⊎◌, ◌<◌, ◌≤◌, ◌==◌, nat_lt, Bool, false, not, ◌&&◌, ◌||◌, List, [], ◌∷◌, codes, get_or, length, if◌then◌else◌, Option, Some, None, is_none, option_map, unwrap_or, Result, Ok, Err}
+use Rattle.std.specs.Prelude.{ℕ, zero, suc, ◌≡◌, ◌≢◌, ◌⊎◌, ◌<◌, ◌≤◌, ◌==◌, nat_lt, Bool, false, not, ◌&&◌, ◌||◌, List, [], ◌∷◌, codes, drop, get_or, length, take, if◌then◌else◌, Option, Some, None, is_none, option_map, unwrap_or, Result, Ok, Err}
 use Rattle.std.specs.Char.{is_ascii_digit}
-use Rattle.std.specs.List.{after_first, before_first, list_all, position_or_len}
+use Rattle.std.specs.List.{before_first, list_all, position_or_len}
 use Rattle.std.specs.Io.BufRead.{strip_last}
-use Rattle.std.specs.Str.{IsUtf8}
-use Rattle.argon2_programs.specs.Prefixes.{after_any, bare, begins_any, is_named}
+use Rattle.std.specs.Str.{IsUtf8, bytes_eq}
+use Rattle.argon2_programs.specs.Prefixes.{after_any, bare, begins_any}
+use Rattle.argon2_programs.specs.Schemes.{scheme_of}
 use Rattle.argon2_base.specs.Error.{Fault, bad_encoding, outcome_of}
 use Rattle.argon2_base.specs.PhcText.{Phc, PhcText}
 use Rattle.argon2_base.specs.declared.error.password_hash.Error.{Error}
-use Rattle.argon2.specs.Settings.{algorithm_number, version_number}
-use Rattle.argon2.specs.Stored.{read, shown_settings}
+use Rattle.argon2.specs.Argon2.{keyid_bytes}
+use Rattle.argon2.specs.Settings.{Settings, algorithm_number, version_number}
+use Rattle.argon2.specs.StoredTexts.{read, settings_value, shown_settings}
 use Rattle.argon2_audit.specs.declared.claim.Claim.{Claim}
 use Rattle.argon2_audit.specs.declared.claim.Claim.TheVariants.{Argon2, Other, Locked, Empty, Blank, Comment, NoField, Unknown}
-use Rattle.argon2_audit.specs.declared.claim.Scheme.TheVariants.{Bcrypt, Scrypt, Pbkdf2, Yescrypt, Sha256Crypt, Sha512Crypt, Md5Crypt, Django, Ldap}
 use Rattle.argon2_audit.specs.declared.field.Field.{Field}
 use Rattle.argon2_audit.specs.declared.finding.Class.{Class}
 use Rattle.argon2_audit.specs.declared.finding.Class.TheVariants as class
@@ -44,15 +45,31 @@ werkzeug = codes "scrypt:" ∷ codes "pbkdf2:sha1:" ∷ codes "pbkdf2:sha256:" �
 abbrev pub is_werkzeug : List ℕ → Bool
 is_werkzeug line = begins_any werkzeug line && has_numbers (after_any werkzeug line)
 
+-- where a field ends that begins with a quote: at a separator behind an even number of quotes
+abbrev pub quoted_end : ℕ → Bool → List ℕ → ℕ
+quoted_end separator is_odd [] = 0
+quoted_end separator is_odd (byte ∷ rest) = if (byte == separator) && not is_odd then 0
+    else suc (quoted_end separator (if byte == 34 then not is_odd else is_odd) rest)
+
+-- where the first field ends
+abbrev pub field_end : ℕ → List ℕ → ℕ
+field_end separator line = if begins_any ((34 ∷ []) ∷ []) line then quoted_end separator false line
+    else position_or_len (λ byte. byte == separator) line
+
+-- a field without the quotes around it
+abbrev pub unquoted : List ℕ → List ℕ
+unquoted field = if begins_any ((34 ∷ []) ∷ []) field then strip_last 34 (after_any ((34 ∷ []) ∷ []) field) else field
+
 -- the field with so many before it
 abbrev pub field_numbered : ℕ → ℕ → List ℕ → Option (List ℕ)
-field_numbered zero separator line = Some (before_first (λ byte. byte == separator) line)
-field_numbered (suc before) separator line = if is_cut separator line
-    then field_numbered before separator (after_first (λ byte. byte == separator) line) else None
+field_numbered zero separator line = Some (unquoted (take (field_end separator line) line))
+field_numbered (suc before) separator line = if nat_lt (field_end separator line) (length line)
+    then field_numbered before separator (drop (suc (field_end separator line)) line) else None
 
 -- if no number is asked for, the second of the fields, or all if there is no separator
 abbrev pub field_by : Option ℕ → ℕ → List ℕ → Option (List ℕ)
-field_by None separator line = Some (if is_werkzeug line then line else unwrap_or (field_numbered 1 separator line) line)
+field_by None separator line =
+    Some (if is_werkzeug line then line else unwrap_or (field_numbered 1 separator line) (unquoted line))
 field_by (Some before) separator line = field_numbered before separator line
 
 abbrev pub field_in : Field → List ℕ → Option (List ℕ)
@@ -73,21 +90,7 @@ claim_of_text text =
     if begins_any (codes "$argon2" ∷ []) text then Argon2
     else if length text == 0 then Empty
     else if begins_any (codes "!" ∷ codes "*" ∷ []) text then Locked
-    else if begins_any (codes "$2$" ∷ codes "$2a$" ∷ codes "$2b$" ∷ codes "$2x$" ∷ codes "$2y$" ∷ []) text
-    || begins_any (codes "bcrypt$" ∷ codes "bcrypt_sha256$" ∷ []) text then Other Bcrypt
-    else if begins_any (codes "$7$" ∷ codes "$scrypt$" ∷ []) text
-    || is_named (codes "scrypt") (codes "$" ∷ codes ":" ∷ []) text then Other Scrypt
-    else if begins_any (codes "$pbkdf2$" ∷ codes "$pbkdf2-" ∷ codes "{PBKDF2}" ∷ codes "{PBKDF2-" ∷ []) text
-    || is_named (codes "pbkdf2") (codes "$" ∷ codes ":" ∷ codes "_" ∷ []) text then Other Pbkdf2
-    else if begins_any (codes "$y$" ∷ codes "$gy$" ∷ []) text then Other Yescrypt
-    else if begins_any (codes "$5$" ∷ []) text then Other Sha256Crypt
-    else if begins_any (codes "$6$" ∷ []) text then Other Sha512Crypt
-    else if begins_any (codes "$1$" ∷ codes "$apr1$" ∷ []) text then Other Md5Crypt
-    else if begins_any (codes "md5$" ∷ codes "sha1$" ∷ []) text then Other Django
-    else if begins_any (codes "{MD5}" ∷ codes "{SMD5}" ∷ codes "{SHA}" ∷ codes "{SSHA}" ∷ []) text
-    || begins_any (codes "{SHA1" ∷ codes "{SHA2" ∷ codes "{SHA3" ∷ codes "{SHA5" ∷ []) text
-    || begins_any (codes "{SSHA2" ∷ codes "{SSHA3" ∷ codes "{SSHA5" ∷ []) text then Other Ldap
-    else Unknown
+    else unwrap_or (option_map Other (scheme_of text)) Unknown
 
 -- a line of spaces and tabs is blank, one that begins with `#` is a comment, and any other claims what its field does
 abbrev pub claim_of : Field → List ℕ → Claim
@@ -102,26 +105,19 @@ stored_in field line = unwrap_or (option_map bare (field_in field (trimmed line)
 
 -- ---- what a stored text shows
 
--- the settings that a value shows, with the salt and the hash's length if they are there; or the
--- fault of the settings
-abbrev pub entry_of : Phc → Result Entry Fault
-entry_of v = read (shown_settings v) (λ settings. Ok (record {
-  kind = record {
-    algorithm = settings.algorithm;
-    version = settings.version;
-    m_cost = settings.parameters.m_cost;
-    t_cost = settings.parameters.t_cost;
-    p_cost = settings.parameters.p_cost;
-  };
-  salt = v.salt;
-  hash_len = option_map length v.hash;
-}))
+-- the settings of an entry, the salt and the hash's length if they are there
+abbrev pub entry_value : Entry → Settings × Option (List ℕ) × Option ℕ
+entry_value entry = (settings_value entry.settings, entry.salt, entry.hash_len)
+
+-- what a value shows of these, or the fault of its settings
+abbrev pub entry_of : Phc → Result (Settings × Option (List ℕ) × Option ℕ) Fault
+entry_of v = read (shown_settings v) (λ settings. Ok (settings, v.salt, option_map length v.hash))
 
 -- what a text shows by its value, or `EncodingInvalid` if it is no value's
 abbrev pub IsEntryAnswer : List ℕ → Result Entry Error → Type 0
 IsEntryAnswer text r =
-    ((v : Phc) × PhcText text v × (outcome_of (λ entry. entry) r ≡ entry_of v))
-    ⊎ (((v : Phc) → PhcText text v → ⊥) × (outcome_of (λ entry. entry) r ≡ Err bad_encoding))
+    ((v : Phc) × PhcText text v × (outcome_of entry_value r ≡ entry_of v))
+    ⊎ (((v : Phc) → PhcText text v → ⊥) × (outcome_of entry_value r ≡ Err bad_encoding))
 
 -- ---- what is below limits
 
@@ -133,12 +129,21 @@ some_passes test (Some x) = test x
 abbrev pub is_short : Limits → Entry → Bool
 is_short limits entry = nat_lt (length (unwrap_or entry.salt [])) limits.salt_len
 
--- limits ask for more of something than there is, or for another algorithm; what is missing has no bytes
+-- limits ask for another key identifier
+abbrev pub has_other_key : Limits → Entry → Bool
+has_other_key limits entry = some_passes (λ required. not (bytes_eq (keyid_bytes required)
+    (settings_value entry.settings).parameters.keyid)) limits.key_id
+
+-- limits ask for more of something than there is, or for another algorithm or key identifier; what is missing has no
+-- bytes
 abbrev pub is_below : Limits → Entry → Bool
-is_below limits entry = nat_lt entry.kind.m_cost limits.m_cost || nat_lt entry.kind.t_cost limits.t_cost
-    || nat_lt entry.kind.p_cost limits.p_cost || is_short limits entry
-    || nat_lt (unwrap_or entry.hash_len 0) limits.hash_len || nat_lt (version_number entry.kind.version) limits.version
-    || some_passes (λ required. not (algorithm_number required == algorithm_number entry.kind.algorithm)) limits.algorithm
+is_below limits entry = nat_lt (settings_value entry.settings).parameters.m_cost limits.m_cost
+    || nat_lt (settings_value entry.settings).parameters.t_cost limits.t_cost
+    || nat_lt (settings_value entry.settings).parameters.p_cost limits.p_cost || is_short limits entry
+    || nat_lt (unwrap_or entry.hash_len 0) limits.hash_len
+    || nat_lt (version_number entry.settings.version) limits.version
+    || some_passes (λ required. not (algorithm_number required == algorithm_number entry.settings.algorithm))
+    limits.algorithm || has_other_key limits entry
 
 -- ---- what a line comes to
 
@@ -172,6 +177,11 @@ class_of limits finding = class.Outside
 abbrev pub has_short_salt : Limits → Finding → Bool
 has_short_salt limits (Shown entry) = is_short limits entry
 has_short_salt limits finding = false
+
+-- the line has a text with another key identifier than the limits ask for
+abbrev pub shows_other_key : Limits → Finding → Bool
+shows_other_key limits (Shown entry) = has_other_key limits entry
+shows_other_key limits finding = false
 
 -- the salt of the line's text, if there is one
 abbrev pub salt_of : Finding → Option (List ℕ)

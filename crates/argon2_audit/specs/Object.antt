@@ -30,7 +30,8 @@ counts_of t = object (members_of (map (λ (count : List ℕ × ℕ). (count.0, N
     ∷ (codes "sound", count_of Sound t) ∷ (codes "below", count_of Below t) ∷ (codes "no_hash", count_of NoHash t)
     ∷ (codes "outside", count_of Outside t) ∷ (codes "locked", count_of Locked t) ∷ (codes "empty", count_of Empty t)
     ∷ (codes "blank", count_of Blank t) ∷ (codes "comments", count_of Comment t) ∷ (codes "unknown", count_of Unknown t)
-    ∷ (codes "other", count_of Other t) ∷ (codes "short_salts", t.short_salts) ∷ (codes "equal_salts", t.equal_salts) ∷ [])))
+    ∷ (codes "other", count_of Other t) ∷ (codes "short_salts", t.short_salts) ∷ (codes "equal_salts", t.equal_salts)
+    ∷ (codes "other_keys", t.other_keys) ∷ [])))
 
 -- findings, the counts, how many texts there are of each other scheme, and of each kind
 abbrev pub object_of : Tally → Items → Members → Items → Json

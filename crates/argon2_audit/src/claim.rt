@@ -2,42 +2,10 @@
 
 ghost use Rattle.std.specs.Prelude.{◌≡◌};
 ghost use Rattle.std.specs.List.{list_all};
+ghost use Rattle.std.specs.Io.BufRead.{strip_last};
 ghost use Rattle.argon2_audit.specs.Finding.{claim_of_text, is_space, trimmed};
 
-use argon2_programs::{after_any, begins_any, is_named};
-
-/// A scheme other than Argon2.
-#[derive(Clone, Copy, PartialEq, Eq, PartialOrd, Ord)]
-pub enum Scheme {
-    Bcrypt,
-    Scrypt,
-    Pbkdf2,
-    Yescrypt,
-    Sha256Crypt,
-    Sha512Crypt,
-    Md5Crypt,
-    /// A digest with Django's prefix.
-    Django,
-    /// A digest with an LDAP prefix.
-    Ldap,
-}
-
-impl Scheme {
-    /// The scheme's name, as remarks and counts have it.
-    pub fn name(&self) -> &str {
-        match self {
-            Scheme::Bcrypt => "bcrypt",
-            Scheme::Scrypt => "scrypt",
-            Scheme::Pbkdf2 => "PBKDF2",
-            Scheme::Yescrypt => "yescrypt",
-            Scheme::Sha256Crypt => "sha256crypt",
-            Scheme::Sha512Crypt => "sha512crypt",
-            Scheme::Md5Crypt => "md5crypt",
-            Scheme::Django => "Django digest",
-            Scheme::Ldap => "LDAP digest",
-        }
-    }
-}
+use argon2_programs::{Scheme, after_any, begins_any, scheme_of};
 
 /// What a line claims to store.
 #[derive(Clone, Copy)]
@@ -70,31 +38,8 @@ pub fn claim_of_text(text: &[u8]) -> Claim
         Claim::Empty
     } else if begins_any(text, &["!", "*"]) {
         Claim::Locked
-    } else if begins_any(text, &["$2$", "$2a$", "$2b$", "$2x$", "$2y$"])
-        || begins_any(text, &["bcrypt$", "bcrypt_sha256$"])
-    {
-        Claim::Other(Scheme::Bcrypt)
-    } else if begins_any(text, &["$7$", "$scrypt$"]) || is_named(text, "scrypt", &["$", ":"]) {
-        Claim::Other(Scheme::Scrypt)
-    } else if begins_any(text, &["$pbkdf2$", "$pbkdf2-", "{PBKDF2}", "{PBKDF2-"])
-        || is_named(text, "pbkdf2", &["$", ":", "_"])
-    {
-        Claim::Other(Scheme::Pbkdf2)
-    } else if begins_any(text, &["$y$", "$gy$"]) {
-        Claim::Other(Scheme::Yescrypt)
-    } else if begins_any(text, &["$5$"]) {
-        Claim::Other(Scheme::Sha256Crypt)
-    } else if begins_any(text, &["$6$"]) {
-        Claim::Other(Scheme::Sha512Crypt)
-    } else if begins_any(text, &["$1$", "$apr1$"]) {
-        Claim::Other(Scheme::Md5Crypt)
-    } else if begins_any(text, &["md5$", "sha1$"]) {
-        Claim::Other(Scheme::Django)
-    } else if begins_any(text, &["{MD5}", "{SMD5}", "{SHA}", "{SSHA}"])
-        || begins_any(text, &["{SHA1", "{SHA2", "{SHA3", "{SHA5"])
-        || begins_any(text, &["{SSHA2", "{SSHA3", "{SSHA5"])
-    {
-        Claim::Other(Scheme::Ldap)
+    } else if let Some(scheme) = scheme_of(text) {
+        Claim::Other(scheme)
     } else {
         Claim::Unknown
     }
@@ -111,10 +56,16 @@ pub fn is_blank(line: &[u8]) -> bool
 pub fn trimmed(line: &[u8]) -> &[u8]
     ensures { result.now ≡ trimmed line.now }
 {
-    let line = after_any(line, &["\u{feff}"]);
-    if !line.is_empty() && line[line.len() - 1] == b'\r' {
-        &line[..line.len() - 1]
+    without_last(after_any(line, &["\u{feff}"]), b'\r')
+}
+
+/// The bytes without the last one, if it is this.
+pub fn without_last(bytes: &[u8], last: u8) -> &[u8]
+    ensures { result.now ≡ strip_last last bytes.now }
+{
+    if !bytes.is_empty() && bytes[bytes.len() - 1] == last {
+        &bytes[..bytes.len() - 1]
     } else {
-        line
+        bytes
     }
 }

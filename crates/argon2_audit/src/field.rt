@@ -3,8 +3,9 @@
 ghost use Rattle.std.specs.Prelude.{◌≡◌, ◌==◌, ◌≤◌, length};
 ghost use Rattle.std.specs.Option.{option_copied};
 ghost use Rattle.std.specs.List.{list_all, position_or_len};
-ghost use Rattle.argon2_audit.specs.Finding.{field_numbered, has_numbers, is_number, is_werkzeug};
+ghost use Rattle.argon2_audit.specs.Finding.{field_end, field_numbered, has_numbers, is_number, is_werkzeug, quoted_end, unquoted};
 
+use crate::claim::without_last;
 use argon2_programs::{after_any, begins_any};
 use memchr::memchr;
 
@@ -26,7 +27,7 @@ impl Field {
     {
         match self.before {
             None if is_werkzeug(line) => Some(line),
-            None => Some(field_numbered(line, 1, self.separator).unwrap_or(line)),
+            None => Some(field_numbered(line, 1, self.separator).unwrap_or(unquoted(line))),
             Some(before) => field_numbered(line, before, self.separator),
         }
     }
@@ -65,15 +66,53 @@ fn are_numbers(text: &[u8]) -> bool
 fn field_numbered(line: &[u8], before: u32, separator: u8) -> Option<&[u8]>
     ensures { option_copied result ≡ field_numbered before separator line.now }
 {
-    let end = first(line, separator);
+    let end = field_end(line, separator);
     if before == 0 {
-        return Some(&line[..end]);
+        return Some(unquoted(&line[..end]));
     }
     if end == line.len() {
         return None;
     }
     let (_, rest) = line.split_at(end + 1);
     field_numbered(rest, before - 1, separator)
+}
+
+// Where the first field ends. If it begins with a quote, a separator between two quotes is part of it.
+fn field_end(line: &[u8], separator: u8) -> usize
+    ensures value { result ≡ field_end separator line.now }
+    ensures max { result ≤ length line.now }
+{
+    if begins_any(line, &["\""]) {
+        quoted_end(line, separator, false)
+    } else {
+        first(line, separator)
+    }
+}
+
+// Where a field with quotes ends.
+fn quoted_end(line: &[u8], separator: u8, is_quoted: bool) -> usize
+    ensures value { result ≡ quoted_end separator is_quoted line.now }
+    ensures max { result ≤ length line.now }
+{
+    let Some((byte, rest)) = line.split_first() else {
+        return 0;
+    };
+    if *byte == separator && !is_quoted {
+        return 0;
+    }
+    let is_quoted = if *byte == b'"' { !is_quoted } else { is_quoted };
+    1 + quoted_end(rest, separator, is_quoted)
+}
+
+// A field without the quotes around it.
+fn unquoted(field: &[u8]) -> &[u8]
+    ensures { result.now ≡ unquoted field.now }
+{
+    if begins_any(field, &["\""]) {
+        without_last(after_any(field, &["\""]), b'"')
+    } else {
+        field
+    }
 }
 
 // The index of the first separator, or the length if there is none.

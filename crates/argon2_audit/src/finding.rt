@@ -86,7 +86,7 @@ fn found_text(text: &[u8]) -> Finding
 
 impl Finding {
     ghost use Rattle.std.specs.Prelude.{◌≡◌};
-    ghost use Rattle.argon2_audit.specs.Finding.{class_of, has_short_salt};
+    ghost use Rattle.argon2_audit.specs.Finding.{class_of, has_short_salt, shows_other_key};
 
     /// What a line of this finding counts as.
     pub fn class(&self, limits: &Limits) -> Class
@@ -111,5 +111,12 @@ impl Finding {
         ensures { result ≡ has_short_salt limits.now self.now }
     {
         matches!(self, Finding::Shown(entry) if entry.salt_len() < limits.salt_len)
+    }
+
+    /// Whether the line has a text with another key identifier than the limits ask for.
+    pub fn shows_other_key(&self, limits: &Limits) -> bool
+        ensures { result ≡ shows_other_key limits.now self.now }
+    {
+        matches!(self, Finding::Shown(entry) if entry.has_other_key(limits))
     }
 }

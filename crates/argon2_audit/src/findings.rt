@@ -1,13 +1,13 @@
 //! The report as a JSON object.
 
 ghost use Rattle.std.specs.Prelude.{IfOk, OnOk, IsTrue};
-ghost use Rattle.json.specs.Json.{Items, array, object};
+ghost use Rattle.json.specs.Json.{Items, Json, array, object};
 ghost use Rattle.json.specs.Tree.{members_tokens};
 ghost use Rattle.argon2_audit.specs.Object.{Adds, AddsValue, HasFindings, IsFlat, counts_of, given, value_of};
 
 use crate::finding::Class;
 use crate::limits::Kind;
-use crate::report::{Remark, Remarks};
+use crate::report::{Place, Remark, Remarks};
 use crate::session::Session;
 use crate::tally::Tally;
 use argon2_programs::Failure;
@@ -80,19 +80,30 @@ impl Findings {
 
 impl Remarks for Findings {
     // If a write fails, the object is never whole.
-    fn add(&mut self, line: u64, remark: Remark<'_>) -> Result<(), Failure> {
+    fn add(&mut self, place: Place<'_>, remark: Remark<'_>) -> Result<(), Failure> {
         let text = format!(in self.alloc; "{remark}")?;
         let was_whole = self.is_whole;
         self.is_whole = false;
-        write_object(
-            &mut self.json,
-            &[
-                ("line", Value::Number(line)),
-                ("remark", Value::Text(text.as_str())),
-            ],
-        )?;
+        write_finding(&mut self.json, place, remark.code(), text.as_str())?;
         self.is_whole = was_whole;
         Ok(())
+    }
+}
+
+// Writes a finding.
+fn write_finding<'a>(
+    json: &mut Writer,
+    place: Place<'a>,
+    code: &'a str,
+    remark: &'a str,
+) -> Result<(), AllocError>
+    ensures { OnOk result ((finding : Json) × AddsValue json.old json.new 1 finding) }
+{
+    let line = ("line", Value::Number(place.line));
+    let (code, remark) = (("code", Value::Text(code)), ("remark", Value::Text(remark)));
+    match place.file {
+        Some(file) => write_object(json, &[("file", Value::Text(file)), line, code, remark]),
+        None => write_object(json, &[line, code, remark]),
     }
 }
 
@@ -114,6 +125,7 @@ fn write_counts(json: &mut Writer, tally: &Tally) -> Result<(), AllocError>
         ("other", Value::Number(tally.count(Class::Other))),
         ("short_salts", Value::Number(tally.short_salts)),
         ("equal_salts", Value::Number(tally.equal_salts)),
+        ("other_keys", Value::Number(tally.other_keys)),
     ];
     write_object(json, &counts)
 }

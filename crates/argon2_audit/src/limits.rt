@@ -5,7 +5,7 @@ ghost use Rattle.argon2_audit.specs.Finding.{IsEntryAnswer};
 use crate::field::Field;
 use argon2::password_hash::{Result, Settings};
 use argon2::phc::Salt;
-use argon2::{Algorithm, PasswordHash, Version};
+use argon2::{Algorithm, KeyId, PasswordHash, Version};
 
 /// What texts are counted by.
 #[derive(Clone, Copy, PartialEq, Eq, PartialOrd, Ord)]
@@ -21,10 +21,23 @@ pub struct Kind {
     pub p_cost: u32,
 }
 
-/// What an audit takes from a stored text: its algorithm, version and costs, its salt, and the length of its hash.
+impl Kind {
+    /// The kind of a text with these settings.
+    pub fn of(settings: &Settings) -> Kind {
+        Kind {
+            algorithm: settings.algorithm,
+            version: settings.version,
+            m_cost: settings.params.m_cost(),
+            t_cost: settings.params.t_cost(),
+            p_cost: settings.params.p_cost(),
+        }
+    }
+}
+
+/// What an audit takes from a stored text: its settings, its salt, and the length of its hash.
 #[derive(Drop)]
 pub struct Entry {
-    pub kind: Kind,
+    pub settings: Settings,
     pub salt: Option<Salt>,
     /// How many bytes the hash has, if there is one.
     pub hash_len: Option<u32>,
@@ -32,7 +45,7 @@ pub struct Entry {
 
 impl Entry {
     ghost use Rattle.std.specs.Prelude.{◌≡◌, [], length, unwrap_or};
-    ghost use Rattle.argon2_audit.specs.Finding.{is_below};
+    ghost use Rattle.argon2_audit.specs.Finding.{has_other_key, is_below};
 
     /// How many bytes the salt has, 0 if there is none.
     pub fn salt_len(&self) -> u32
@@ -45,16 +58,27 @@ impl Entry {
     pub fn is_below(&self, limits: &Limits) -> bool
         ensures { result ≡ is_below limits.now self.now }
     {
-        let kind = &self.kind;
-        kind.m_cost < limits.m_cost
-            || kind.t_cost < limits.t_cost
-            || kind.p_cost < limits.p_cost
+        let settings = &self.settings;
+        settings.params.m_cost() < limits.m_cost
+            || settings.params.t_cost() < limits.t_cost
+            || settings.params.p_cost() < limits.p_cost
             || self.salt_len() < limits.salt_len
             || self.hash_len.unwrap_or(0) < limits.hash_len
-            || u32::from(kind.version) < limits.version
+            || u32::from(settings.version) < limits.version
             || limits
                 .algorithm
-                .is_some_and(|required| required != kind.algorithm)
+                .is_some_and(|required| required != settings.algorithm)
+            || self.has_other_key(limits)
+    }
+
+    /// Whether limits ask for another key identifier. A text without one has the one of no bytes.
+    pub fn has_other_key(&self, limits: &Limits) -> bool
+        ensures { result ≡ has_other_key limits.now self.now }
+    {
+        match &limits.key_id {
+            Some(required) => required.as_bytes() != self.settings.params.keyid(),
+            None => false,
+        }
     }
 }
 
@@ -67,25 +91,19 @@ pub fn shown(text: &str) -> Result<Entry>
     ensures { IsEntryAnswer text.now result }
 {
     let hash = PasswordHash::new(text)?;
-    let shown = Settings::try_from(&hash)?;
+    let settings = Settings::try_from(&hash)?;
     let hash_len = match &hash.hash {
         Some(output) => Some(output.len() as u32),
         None => None,
     };
     Ok(Entry {
-        kind: Kind {
-            algorithm: shown.algorithm,
-            version: shown.version,
-            m_cost: shown.params.m_cost(),
-            t_cost: shown.params.t_cost(),
-            p_cost: shown.params.p_cost(),
-        },
+        settings,
         salt: hash.salt,
         hash_len,
     })
 }
 
-/// The least costs, lengths and version, the algorithm, and whether other schemes count as sound.
+/// The least costs, lengths and version, the algorithm, the key identifier, and whether other schemes count as sound.
 #[derive(Clone, Copy)]
 pub struct Limits {
     /// Memory in blocks of 1024 bytes.
@@ -102,6 +120,8 @@ pub struct Limits {
     pub version: u32,
     /// The one algorithm that is sound, if only one is.
     pub algorithm: Option<Algorithm>,
+    /// The one key identifier that is sound, if only one is.
+    pub key_id: Option<KeyId>,
     /// Texts of other schemes count as sound, and so do locked and blank lines and comments.
     pub allows_other: bool,
 }
@@ -126,4 +146,6 @@ pub struct Options {
     pub field: Field,
     /// What is written.
     pub form: Form,
+    /// Whether remarks on lines are written.
+    pub has_remarks: bool,
 }

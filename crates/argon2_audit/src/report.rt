@@ -1,12 +1,12 @@
 //! What is written: remarks on lines, and the table.
 
-use crate::claim::{Claim, Scheme};
+use crate::claim::Claim;
 use crate::finding::{Class, Finding};
-use crate::limits::{Entry, Limits};
+use crate::limits::{Entry, Kind, Limits, Options};
 use crate::session::Session;
 use argon2::Algorithm;
 use argon2::password_hash::Error;
-use argon2_programs::Failure;
+use argon2_programs::{Failure, Scheme};
 use std::fmt::Display;
 use std::io::Write;
 use std::{fmt, io};
@@ -14,29 +14,75 @@ use std::{fmt, io};
 // The head of the table of kinds.
 const KINDS: &str = "\nalgorithm  version           m           t         p       lines";
 
+/// Where a line stands.
+#[derive(Clone, Copy)]
+pub struct Place<'a> {
+    /// The file's name, if there are several.
+    pub file: Option<&'a str>,
+    /// The line's number in its file.
+    pub line: u64,
+}
+
+impl Place<'_> {
+    /// The place of the line with this number of all. This place is behind the lines of the files before.
+    pub fn on(self, line: u64) -> Self {
+        Place {
+            file: self.file,
+            line: line.saturating_sub(self.line),
+        }
+    }
+}
+
+impl Display for Place<'_> {
+    fn fmt<W: fmt::Write>(&self, f: &mut fmt::Formatter<W>) -> fmt::Result {
+        match self.file {
+            Some(file) => write!(f, "{file}:{}", self.line),
+            None => write!(f, "line {}", self.line),
+        }
+    }
+}
+
 /// What keeps a line from being sound. Nothing of its name, salt and hash is said.
 #[derive(Drop)]
 pub enum Remark<'a> {
-    Text(&'static str),
+    /// A code, and what it means.
+    Text(&'static str, &'static str),
     Refused(&'a Error),
     Other(Scheme),
     /// An algorithm, and the one that is required.
     Algorithm(Algorithm, Algorithm),
-    /// A cost or the version by its letter, and the least one.
-    Number(char, u32, u32),
-    /// How many bytes the salt or the hash has, and the fewest.
-    Length(&'static str, u32, u32),
+    /// A code, a cost or the version by its letter, and the least one.
+    Number(&'static str, char, u32, u32),
+    /// A code, how many bytes the salt or the hash has, and the fewest.
+    Length(&'static str, &'static str, u32, u32),
+}
+
+impl Remark<'_> {
+    /// The code of the remark, which stays if its words change.
+    pub fn code(&self) -> &'static str {
+        match self {
+            Remark::Text(code, _) => code,
+            Remark::Refused(_) => "outside",
+            Remark::Other(_) => "other",
+            Remark::Algorithm(..) => "algorithm",
+            Remark::Number(code, ..) => code,
+            Remark::Length(code, ..) => code,
+        }
+    }
 }
 
 impl Display for Remark<'_> {
     fn fmt<W: fmt::Write>(&self, f: &mut fmt::Formatter<W>) -> fmt::Result {
         match self {
-            Remark::Text(text) => f.write_str(text),
+            Remark::Text(_, text) => f.write_str(text),
             Remark::Refused(error) => write!(f, "{error}"),
             Remark::Other(scheme) => write!(f, "{}, not Argon2", scheme.name()),
             Remark::Algorithm(has, required) => write!(f, "{has} is not {required}"),
-            Remark::Number(name, has, least) => write!(f, "{name}={has} is below {least}"),
-            Remark::Length(of, has, least) => write!(f, "a {of} of {has} bytes is below {least}"),
+            Remark::Number(_, name, has, least) => write!(f, "{name}={has} is below {least}"),
+            Remark::Length(_, of, has, least) => write!(
+                f,
+                "a {of} of {has} bytes is below {least}"
+            ),
         }
     }
 }
@@ -44,7 +90,7 @@ impl Display for Remark<'_> {
 /// What takes remarks on lines.
 pub trait Remarks {
     /// Takes a remark on a line.
-    fn add(&mut self, line: u64, remark: Remark<'_>) -> Result<(), Failure>;
+    fn add(&mut self, place: Place<'_>, remark: Remark<'_>) -> Result<(), Failure>;
 }
 
 /// Each remark is written as a line.
@@ -54,32 +100,36 @@ pub struct Lines<'a, W: Write> {
 }
 
 impl<W: Write> Remarks for Lines<'_, W> {
-    fn add(&mut self, line: u64, remark: Remark<'_>) -> Result<(), Failure> {
-        writeln!(self.output, "line {line}: {remark}")?;
+    fn add(&mut self, place: Place<'_>, remark: Remark<'_>) -> Result<(), Failure> {
+        writeln!(self.output, "{place}: {remark}")?;
         Ok(())
     }
 }
 
-/// Says of a line what keeps it from counting as sound.
+/// Says of a line what keeps it from counting as sound, if remarks are asked for.
 pub fn remark_on<S: Remarks>(
     remarks: &mut S,
-    line: u64,
+    place: Place<'_>,
     finding: &Finding,
-    limits: &Limits,
+    options: &Options,
     has_equal_salt: bool,
 ) -> Result<(), Failure> {
+    if !options.has_remarks {
+        return Ok(());
+    }
+    let limits = &options.limits;
     let remark = match finding {
-        Finding::TooLong => Some(Remark::Text("longer than 4096 bytes")),
-        Finding::NotUtf8 => Some(Remark::Text("not UTF-8")),
+        Finding::TooLong => Some(Remark::Text("too-long", "longer than 4096 bytes")),
+        Finding::NotUtf8 => Some(Remark::Text("not-utf8", "not UTF-8")),
         Finding::Refused(error) => Some(Remark::Refused(error)),
         Finding::Claimed(claim) => claimed(*claim, limits),
-        Finding::Shown(entry) => shown(remarks, line, entry, limits)?,
+        Finding::Shown(entry) => shown(remarks, place, entry, limits)?,
     };
     if let Some(remark) = remark {
-        remarks.add(line, remark)?;
+        remarks.add(place, remark)?;
     }
     if has_equal_salt {
-        remarks.add(line, Remark::Text("salt of an earlier line"))?;
+        remarks.add(place, Remark::Text("equal-salt", "salt of an earlier line"))?;
     }
     Ok(())
 }
@@ -91,49 +141,57 @@ fn claimed(claim: Claim, limits: &Limits) -> Option<Remark<'static>> {
             None,
         Claim::Argon2 => None,
         Claim::Other(scheme) => Some(Remark::Other(scheme)),
-        Claim::Locked => Some(Remark::Text("locked")),
-        Claim::Empty => Some(Remark::Text("empty text")),
-        Claim::Blank => Some(Remark::Text("blank line")),
-        Claim::Comment => Some(Remark::Text("comment")),
-        Claim::NoField => Some(Remark::Text("no such field")),
-        Claim::Unknown => Some(Remark::Text("no known scheme")),
+        Claim::Locked => Some(Remark::Text("locked", "locked")),
+        Claim::Empty => Some(Remark::Text("empty", "empty text")),
+        Claim::Blank => Some(Remark::Text("blank", "blank line")),
+        Claim::Comment => Some(Remark::Text("comment", "comment")),
+        Claim::NoField => Some(Remark::Text("no-field", "no such field")),
+        Claim::Unknown => Some(Remark::Text("unknown", "no known scheme")),
     }
 }
 
 // Says what of a text is below the limits, and returns what is left to say.
 fn shown<S: Remarks>(
     remarks: &mut S,
-    line: u64,
+    place: Place<'_>,
     entry: &Entry,
     limits: &Limits,
 ) -> Result<Option<Remark<'static>>, Failure> {
-    let kind = &entry.kind;
-    for (name, has, least) in [
-        ('m', kind.m_cost, limits.m_cost),
-        ('t', kind.t_cost, limits.t_cost),
-        ('p', kind.p_cost, limits.p_cost),
-        ('v', u32::from(kind.version), limits.version),
+    let kind = Kind::of(&entry.settings);
+    for (code, name, has, least) in [
+        ("m-below", 'm', kind.m_cost, limits.m_cost),
+        ("t-below", 't', kind.t_cost, limits.t_cost),
+        ("p-below", 'p', kind.p_cost, limits.p_cost),
+        ("v-below", 'v', u32::from(kind.version), limits.version),
     ] {
         if has < least {
-            remarks.add(line, Remark::Number(name, has, least))?;
+            remarks.add(place, Remark::Number(code, name, has, least))?;
         }
     }
     if let Some(required) = limits.algorithm
         && required != kind.algorithm
     {
-        remarks.add(line, Remark::Algorithm(kind.algorithm, required))?;
+        remarks.add(place, Remark::Algorithm(kind.algorithm, required))?;
+    }
+    if entry.has_other_key(limits) {
+        remarks.add(place, Remark::Text("key", "another key identifier"))?;
     }
     let (salt_len, least) = (entry.salt_len(), limits.salt_len);
     if salt_len < least {
         let remark = match entry.salt {
-            Some(_) => Remark::Length("salt", salt_len, least),
-            None => Remark::Text("no salt"),
+            Some(_) => Remark::Length("salt-below", "salt", salt_len, least),
+            None => Remark::Text("no-salt", "no salt"),
         };
-        remarks.add(line, remark)?;
+        remarks.add(place, remark)?;
     }
     Ok(match entry.hash_len {
-        None => Some(Remark::Text("no hash")),
-        Some(has) if has < limits.hash_len => Some(Remark::Length("hash", has, limits.hash_len)),
+        None => Some(Remark::Text("no-hash", "no hash")),
+        Some(has) if has < limits.hash_len => Some(Remark::Length(
+            "hash-below",
+            "hash",
+            has,
+            limits.hash_len,
+        )),
         Some(_) => None,
     })
 }
@@ -165,6 +223,9 @@ pub fn write_table<W: Write>(output: &mut W, session: &Session) -> io::Result<()
     }
     row(output, "short salts", tally.short_salts)?;
     row(output, "equal salts", tally.equal_salts)?;
+    if tally.other_keys > 0 {
+        row(output, "other keys", tally.other_keys)?;
+    }
     if !session.seen.kinds.is_empty() {
         writeln!(output, "{KINDS}")?;
     }

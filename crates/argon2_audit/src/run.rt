@@ -7,7 +7,7 @@ ghost use Rattle.argon2_audit.specs.Object.{IsAudit, IsReport};
 
 use crate::findings::Findings;
 use crate::limits::{Form, Options};
-use crate::report::{Lines, Remarks, write_table};
+use crate::report::{Lines, Place, Remarks, write_table};
 use crate::session::Session;
 use crate::tally::Tally;
 use argon2_programs::{Failure, write_line};
@@ -15,10 +15,13 @@ use std::alloc::Global;
 use std::io;
 use std::io::{ErrorKind, Read, Write};
 
-/// Something that is read and has a name for errors.
+/// Something that is read, of which no read crosses from one file into the next.
 pub trait Named {
     /// The path of the file that is read or can't be opened, or `standard input`.
     fn name(&self) -> &str;
+
+    /// The number of that file, or 0 if it is the only one.
+    fn number(&self) -> usize;
 }
 
 /// The program's name.
@@ -30,8 +33,11 @@ const PIECE: usize = 65536;
 // How many pieces are read at the most, so that lines can be counted.
 const PIECES: u64 = 1 << 47;
 
-// How many pieces are read between two lines of progress.
+// How many pieces are read between two numbers of lines.
 const STRIDE: u64 = 256;
+
+// What removes a line from a terminal.
+const REMOVE: &[u8] = b"\r\x1b[K";
 
 /// Audits the lines of `input`, and returns the exit status.
 ///
@@ -41,7 +47,8 @@ const STRIDE: u64 = 256;
 /// `output` any more.
 ///
 /// The JSON report is a line with one object, which is written once it is whole. If progress is to be shown, `errors`
-/// gets the number of lines read so far from time to time. If `errors` can't be written, the status stays.
+/// gets a line with the number of lines read so far, which is replaced from time to time, and removed in the end. If
+/// `errors` can't be written, the status stays.
 pub fn run<R: Read + Named, W: Write, E: Write>(
     alloc: Global,
     options: Options,
@@ -57,7 +64,11 @@ pub fn run<R: Read + Named, W: Write, E: Write>(
     ensures quiet { IsFalse shows_progress → result ≡ 0
         → Keeps (E.contents errors.old) (E.contents errors.new) }
 {
-    match write_report(alloc, options, input, output, errors, shows_progress) {
+    let report = write_report(alloc, options, input, output, errors, shows_progress);
+    if shows_progress {
+        let _ = errors.write_all(REMOVE);
+    }
+    match report {
         Ok(tally) if tally.is_clean(&options.limits) => 0,
         Ok(_) => 1,
         Err(failure) => failure.report(PROGRAM, input.name(), errors),
@@ -65,7 +76,7 @@ pub fn run<R: Read + Named, W: Write, E: Write>(
 }
 
 // Writes the report on all lines, and returns the counts.
-fn write_report<R: Read, W: Write, E: Write>(
+fn write_report<R: Read + Named, W: Write, E: Write>(
     alloc: Global,
     options: Options,
     input: &mut R,
@@ -104,7 +115,7 @@ fn write_report<R: Read, W: Write, E: Write>(
 }
 
 // The session after all that is left in `input`.
-fn session_of<R: Read, S: Remarks, E: Write>(
+fn session_of<R: Read + Named, S: Remarks, E: Write>(
     alloc: Global,
     options: Options,
     input: &mut R,
@@ -118,19 +129,42 @@ fn session_of<R: Read, S: Remarks, E: Write>(
 {
     let mut session = Session::new(alloc, options);
     let mut piece = [0u8; PIECE];
+    let mut before = (0, 0);
     'pieces: for turn in 0..PIECES {
         match input.read(&mut piece) {
             Ok(0) => {
-                session.finish(remarks)?;
+                session.finish(file_of(input, before.1), remarks)?;
                 return Ok(session);
             }
-            Ok(count) => session.add(&piece[..count], remarks)?,
+            Ok(count) => {
+                before = before_file(before, input.number(), session.tally.lines);
+                session.add(&piece[..count], file_of(input, before.1), remarks)?
+            }
             Err(e) if e.kind() == ErrorKind::Interrupted => {}
             Err(e) => return Err(Failure::of_reading(e)),
         }
         if shows_progress && turn % STRIDE == STRIDE - 1 {
-            let _ = writeln!(errors, "{PROGRAM}: {} lines", session.tally.lines);
+            let _ = write!(errors, "\r{PROGRAM}: {} lines", session.tally.lines);
         }
     }
     Err(Failure::Other("the input has too many pieces"))
+}
+
+// The number of a file, and how many lines are before it: with this number, once so many lines were read.
+fn before_file(before: (usize, u64), number: usize, lines: u64) -> (usize, u64) {
+    if before.0 == number {
+        before
+    } else {
+        (number, lines)
+    }
+}
+
+// The place behind so many lines, before the first of the file that is read.
+fn file_of<R: Named>(input: &R, line: u64) -> Place<'_> {
+    let file = if input.number() > 0 {
+        Some(input.name())
+    } else {
+        None
+    };
+    Place { file, line }
 }

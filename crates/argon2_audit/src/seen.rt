@@ -4,10 +4,11 @@ ghost use Rattle.std.specs.Prelude.{◌≡◌, ◌≤◌, ◌||◌, ℕ, List, I
 ghost use Rattle.std.specs.Str.{bytes_eq};
 ghost use Rattle.argon2_audit.specs.Audit.{has_key};
 
-use crate::claim::{Claim, Scheme};
+use crate::claim::Claim;
 use crate::finding::Finding;
 use crate::limits::Kind;
 use argon2::phc::Salt;
+use argon2_programs::Scheme;
 use arrayvec::ArrayVec;
 use std::alloc::{AllocError, Global};
 use std::collections::{BTreeMap, BTreeSet};
@@ -58,7 +59,7 @@ impl Seen {
                     Some(salt) => !self.keep(salt)?,
                     None => false,
                 };
-                let count = self.kinds.entry(entry.kind)?.or_insert(0);
+                let count = self.kinds.entry(Kind::of(&entry.settings))?.or_insert(0);
                 *count = count.saturating_add(1);
                 Ok(is_equal)
             }

@@ -6,7 +6,7 @@ ghost use Rattle.argon2_audit.specs.declared.session.TheConstants.{LONGEST};
 use crate::field::Field;
 use crate::finding::{Finding, found};
 use crate::limits::Options;
-use crate::report::{Remarks, remark_on};
+use crate::report::{Place, Remarks, remark_on};
 use crate::seen::Seen;
 use crate::tally::Tally;
 use argon2_programs::Failure;
@@ -82,6 +82,7 @@ impl Session {
                 counts: [0; 10],
                 short_salts: 0,
                 equal_salts: 0,
+                other_keys: 0,
             },
             seen: Seen::new(alloc),
             line: Line {
@@ -91,8 +92,13 @@ impl Session {
         }
     }
 
-    /// Takes more bytes, with remarks on the lines that end in them.
-    pub fn add<S: Remarks>(&mut self, bytes: &[u8], remarks: &mut S) -> Result<(), Failure>
+    /// Takes more bytes of the file that begins behind a place, with remarks on the lines that end in them.
+    pub fn add<S: Remarks>(
+        &mut self,
+        bytes: &[u8],
+        file: Place<'_>,
+        remarks: &mut S,
+    ) -> Result<(), Failure>
         requires { self.old.tally.lines + length bytes.now < 2 ^ 64 }
         ensures lines { OnOk result
             (self.new.tally.lines ≤ self.old.tally.lines + length bytes.now) }
@@ -102,7 +108,7 @@ impl Session {
         let mut rest = bytes;
         'lines: while let Some(end) = memchr(b'\n', rest) {
             self.line.extend(&rest[..end])?;
-            self.end_line(remarks)?;
+            self.end_line(file, remarks)?;
             rest = &rest[end + 1..];
         }
         self.line.extend(rest)?;
@@ -110,7 +116,7 @@ impl Session {
     }
 
     /// Ends the last line if it has no line feed.
-    pub fn finish<S: Remarks>(&mut self, remarks: &mut S) -> Result<(), Failure>
+    pub fn finish<S: Remarks>(&mut self, file: Place<'_>, remarks: &mut S) -> Result<(), Failure>
         requires { self.old.tally.lines < 2 ^ 64 - 1 }
         ensures { OnOk result ((options : Options) (bytes : List ℕ)
             → IsBefore options self.old bytes [] → IsTallied options bytes self.new.tally) }
@@ -118,25 +124,33 @@ impl Session {
         if self.line.bytes.is_empty() {
             return Ok(());
         }
-        self.end_line(remarks)
+        self.end_line(file, remarks)
     }
 
     // Ends a line, and counts it unless memory is refused.
-    fn end_line<S: Remarks>(&mut self, remarks: &mut S) -> Result<(), Failure>
+    fn end_line<S: Remarks>(&mut self, file: Place<'_>, remarks: &mut S) -> Result<(), Failure>
         requires { self.old.tally.lines < 2 ^ 64 - 1 }
         ensures lines { OnOk result (self.new.tally.lines ≡ self.old.tally.lines + 1) }
         ensures ended { OnOk result ((options : Options) (lines : List (List ℕ)) (rest : List ℕ)
             → IsAt options self.old lines rest → IsAt options self.new (rest ∷ lines) []) }
     {
-        let Options { limits, field, .. } = self.options;
-        let finding = self.line.end(field);
+        let options = self.options;
+        let limits = options.limits;
+        let finding = self.line.end(options.field);
         let is_equal = self.seen.add(&finding)?;
         self.tally.add(
             finding.class(&limits),
             finding.has_short_salt(&limits),
             is_equal,
+            finding.shows_other_key(&limits),
         );
-        remark_on(remarks, self.tally.lines, &finding, &limits, is_equal)?;
+        remark_on(
+            remarks,
+            file.on(self.tally.lines),
+            &finding,
+            &options,
+            is_equal,
+        )?;
         Ok(())
     }
 }

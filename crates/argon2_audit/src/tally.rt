@@ -5,7 +5,7 @@ ghost use Rattle.std.specs.Prelude.{◌≤◌, ℕ, get_or};
 use crate::finding::Class;
 use crate::limits::Limits;
 
-/// How many lines were read, of each class, and how many of them have a short or an equal salt.
+/// How many lines were read, of each class, and how many of them have a short or an equal salt or another key identifier.
 #[derive(Clone, Copy)]
 pub struct Tally {
     pub lines: u64,
@@ -13,24 +13,27 @@ pub struct Tally {
     pub counts: [u64; 10],
     pub short_salts: u64,
     pub equal_salts: u64,
+    pub other_keys: u64,
     ghost within: { (class : ℕ) → get_or counts class 0 ≤ lines },
     ghost short: { short_salts ≤ lines },
     ghost equal: { equal_salts ≤ lines },
+    ghost other: { other_keys ≤ lines },
 }
 
 impl Tally {
     ghost use Rattle.std.specs.Prelude.{◌≡◌, ◌<◌, ◌^◌, ◌-◌, ◌↔◌, IsTrue};
     ghost use Rattle.argon2_audit.specs.Audit.{Counts, IsClean, count_of};
 
-    /// Counts a line of a class, and its salt if it is short or that of an earlier line.
-    pub fn add(&mut self, class: Class, is_short: bool, is_equal: bool)
+    /// Counts a line of a class, its salt if it is short or that of an earlier line, and its key identifier if that is another.
+    pub fn add(&mut self, class: Class, is_short: bool, is_equal: bool, is_other: bool)
         requires { self.old.lines < 2 ^ 64 - 1 }
-        ensures { Counts class is_short is_equal self.old self.new }
+        ensures { Counts class is_short is_equal is_other self.old self.new }
     {
         self.lines += 1;
         self.counts[class as usize] += 1;
         self.short_salts += u64::from(is_short);
         self.equal_salts += u64::from(is_equal);
+        self.other_keys += u64::from(is_other);
     }
 
     /// How many lines of a class were counted.

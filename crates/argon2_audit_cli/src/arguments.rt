@@ -1,6 +1,6 @@
 //! The options of the command line, and the names of files.
 
-use argon2::Algorithm;
+use argon2::{Algorithm, KeyId};
 use argon2_audit::run::PROGRAM;
 use argon2_audit::{Field, Form, Limits, Options};
 use argon2_commands::{VERSION, invalid};
@@ -14,8 +14,8 @@ Says which stored texts of passwords are below a policy.
 It reads the files one after another, or standard input if none is named or one is `-`. Each line has one
 stored text; in a line with colons, such as one of a password file, it is the second field. It writes a remark
 for each thing that keeps a line from being sound, then how many lines there are of each class, and how many
-of each algorithm, version and costs. Lines are named by their numbers, counted through all files, and nothing
-of their names, salts and hashes is written.";
+of each algorithm, version and costs. Lines are named by their numbers, as FILE:LINE if there are several files,
+and nothing of their names, salts and hashes is written.";
 
 const NOTES: &str = "\
 Example: argon2-audit --min-m 65536 --allow-other /etc/shadow
@@ -25,8 +25,9 @@ parameters, a salt and a hash, and has nothing below the policy. A line may have
 mark at the start of a line and a carriage return at its end are skipped, and so is what Django, Dovecot and
 LDAP servers put before a text: argon2 before a $, {argon2}, {ARGON2}, {ARGON2I}, {ARGON2ID}, {CRYPT} and
 {crypt}. Texts of other schemes are named by how they begin, with the separator behind the name: bcrypt,
-scrypt, PBKDF2, yescrypt, sha256crypt, sha512crypt, md5crypt, and digests of Django and LDAP. A line `scrypt:N:R:P$..` or `pbkdf2:sha256:N$..` (also sha1, sha512)
-is a text of Werkzeug without a name. A text that begins with ! or * is locked. An empty text is never sound: some
+scrypt, PBKDF2, yescrypt, sha256crypt, sha512crypt, md5crypt, and digests of Django and LDAP; argon2-audit(1)
+has the list. A line `scrypt:N:R:P$..` or `pbkdf2:sha256:N$..` (also sha1, sha512) is a text of Werkzeug without a
+name. A field that begins with a double quote ends behind the next one, as in CSV: two of them stand for one. A text that begins with ! or * is locked. An empty text is never sound: some
 systems take any password for it. All salts are kept, to find equal ones.
 
 The status is 0 if each line is sound and no two salts are equal, 1 if that is not so, 2 if the arguments are
@@ -52,6 +53,7 @@ pub fn parsed<'a>(alloc: Global, words: &'a [String]) -> Result<(Options, Vec<&'
             separator: *byte,
         },
         form: form(&matches),
+        has_remarks: !matches.get_flag("summary"),
     };
     Ok((options, names))
 }
@@ -70,6 +72,7 @@ fn limits(
         hash_len: number(alloc, command, matches, ("min-hash", "--min-hash <N>"))?,
         version: version(alloc, command, matches)?,
         algorithm: algorithm(alloc, command, matches)?,
+        key_id: key_id(alloc, command, matches)?,
         allows_other: matches.get_flag("allow-other"),
     })
 }
@@ -123,6 +126,24 @@ fn algorithm(
         Err(_) => {
             let why = "it is not argon2d, argon2i or argon2id";
             Err(invalid(command, alloc, "--require <ALGORITHM>", name, why)?)
+        }
+    }
+}
+
+// The one sound key identifier, if there is one.
+fn key_id(
+    alloc: Global,
+    command: &mut Command<'_>,
+    matches: &ArgMatches<'_>,
+) -> Result<Option<KeyId>, Error> {
+    let Some(text) = matches.get_str("keyid") else {
+        return Ok(None);
+    };
+    match KeyId::from_b64(text) {
+        Ok(key_id) => Ok(Some(key_id)),
+        Err(_) => {
+            let why = "it is not Base64 of at most 8 bytes";
+            Err(invalid(command, alloc, "--keyid <ID>", text, why)?)
         }
     }
 }
@@ -186,6 +207,8 @@ fn with_lines<'a>(alloc: Global, command: Command<'a>) -> Result<Command<'a>, Al
         "The least version, 16 or 19 [default: any]"))?;
     let command = command.arg(arg!(in alloc; --require <ALGORITHM>
         "The one sound algorithm, argon2d, argon2i or argon2id [default: any]"))?;
+    let command = command.arg(arg!(in alloc; --keyid <ID>
+        "The one sound key identifier, in Base64 as texts have it [default: any]"))?;
     let command = command.arg(arg!(in alloc; --"allow-other"
         "Other schemes, locked and blank lines and comments count as sound"))?;
     let field = arg!(in alloc; --field <N>
@@ -200,6 +223,8 @@ fn with_output<'a>(alloc: Global, command: Command<'a>) -> Result<Command<'a>, A
     let json =
         arg!(in alloc; --json "Write one JSON object: findings by line, counts, schemes, table");
     let command = command.arg(json.conflicts_with("quiet")?)?;
+    let summary = arg!(in alloc; --summary "Write no remarks, only counts");
+    let command = command.arg(summary.conflicts_with("quiet")?)?;
     let command = command.arg(arg!(in alloc; --quiet "Write nothing; the status says all"))?;
     let files = arg!(in alloc; [FILE] ... "Files with a text a line, `-` for standard input");
     command.arg(files.num_args(0..))

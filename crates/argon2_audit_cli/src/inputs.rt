@@ -58,6 +58,10 @@ impl Named for Inputs<'_> {
             _ => "standard input",
         }
     }
+
+    fn number(&self) -> usize {
+        if self.names.len() > 1 { self.opened } else { 0 }
+    }
 }
 
 impl Read for Inputs<'_> {
@@ -75,13 +79,14 @@ impl Read for Inputs<'_> {
                 self.ends_line = buf[count - 1] == b'\n';
                 return Ok(count);
             }
-            if !self.open_next()? {
-                break;
-            }
+            self.input = None;
             if !self.ends_line {
                 buf[0] = b'\n';
                 self.ends_line = true;
                 return Ok(1);
+            }
+            if !self.open_next()? {
+                break;
             }
         }
         Ok(0)

@@ -4,8 +4,12 @@ ghost use Rattle.std.specs.Prelude.{◌≡◌, ◌⊎◌, IfErr};
 
 use crate::failure::Failure;
 use std::alloc::AllocError;
-use std::env;
+use std::env::{self, Env};
 use std::io::{ErrorKind, Write};
+use std::str;
+
+// The most bytes of a word that is named.
+const LONGEST: usize = 4096;
 
 /// The words of the command line after the name of the program.
 ///
@@ -22,12 +26,31 @@ pub fn words<E: Write>(rt: &HostRuntime, program: &str, errors: &mut E) -> Resul
         },
         Err(error) if error.kind() == ErrorKind::OutOfMemory => AllocError,
         Err(_) => {
-            let _ = writeln!(
-                errors,
-                "error: an argument is not UTF-8\n\nFor more information, try '--help'."
-            );
+            name_wrong(rt, errors);
             return Err(2);
         }
     };
     Err(Failure::Memory(refused).report(program, "", errors))
+}
+
+// Says which word is the first that is not UTF-8, and what it is up to there.
+fn name_wrong<E: Write>(rt: &HostRuntime, errors: &mut E) {
+    let mut word = [0; LONGEST];
+    for number in 1..u32::MAX {
+        let Ok(len) = rt.arg(number as usize, &mut word) else {
+            break;
+        };
+        if let Err(error) = str::from_utf8(&word[..len]) {
+            let begins = str::from_utf8(&word[..error.valid_up_to()]).unwrap_or("");
+            let _ = writeln!(
+                errors,
+                "error: argument {number} is not UTF-8 behind '{begins}'\n\nFor more information, try '--help'."
+            );
+            return;
+        }
+    }
+    let _ = writeln!(
+        errors,
+        "error: an argument is not UTF-8\n\nFor more information, try '--help'."
+    );
 }

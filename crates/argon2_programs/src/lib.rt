@@ -1,13 +1,15 @@
 //! What the programs share: the words of a command line, why a program fails, lines that are written, and how a stored text
-//! begins.
+//! of Argon2 or of another scheme begins.
 #![tactic(auto)]
 
 mod arguments;
 mod failure;
 mod line;
 mod prefixes;
+mod schemes;
 
 pub use arguments::words;
 pub use failure::Failure;
 pub use line::write_line;
 pub use prefixes::{after_any, bare, bare_str, begins_any, is_named};
+pub use schemes::{Scheme, scheme_of};

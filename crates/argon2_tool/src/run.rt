@@ -21,7 +21,7 @@ const USAGE: &str =
 
 // The last line has its line feed from `write_line`.
 const HELP: &str = "\
-argon2-tool reads all of standard input and writes one line.
+argon2-tool reads all of standard input, also a line break at its end, and writes one line.
 
     argon2-tool digest N                         BLAKE2b digest of N bytes, 1 to 64
     argon2-tool long N                           hash of any length (RFC 9106, 3.3) of N bytes, 1 to 1024
@@ -31,11 +31,19 @@ argon2-tool reads all of standard input and writes one line.
     argon2-tool --help                           this help
     argon2-tool --version                        the version
 
-ALG is argon2d, argon2i or argon2id. VER is 16 or 19. M is the memory in blocks of 1024 bytes, T the
-number of passes and P the number of lanes. Digests and tags are hexadecimal. A line break at the end
-of the input counts: printf '%s' writes none.
+What the words mean, and where they go wrong:
 
-    printf 'correct horse' | argon2-tool phc argon2id 19 19456 2 1 \"$(openssl rand -hex 8)\"
+    N, LEN    how many bytes, written in hexadecimal: a number above the range is no command
+    ALG       argon2d, argon2i or argon2id
+    VER       19, or 16 for the version before: 13 is refused
+    M         memory in blocks of 1024 bytes, not MiB: 8 or more for each lane
+    T, P      passes and lanes: 1 or more
+    SALT      8 bytes or more, as they are: for a text to store take new ones each time
+    TEXT      in single quotes: in others the shell reads its dollar signs
+
+Numbers are decimals without leading zeros. echo adds a line break to a password, and printf does not.
+
+    printf 'correct horse' | argon2-tool phc argon2id 19 19456 2 1 \"$(openssl rand -hex 16)\"
 
 The status is 0 if the line is written. It is 1 if the command is refused or fails, which standard error
 explains, and 2 if the arguments spell no command.";

@@ -17,6 +17,7 @@ returns-clause-ended g c = λ options lines rest at.
         classes = λ n. rw (counts.classes n, known.classes n, c.class.ensures, at.same) refl;
         short_salts = rw (counts.short_salts, known.short_salts, c.has_short_salt.ensures, at.same) refl;
         equal_salts = rw (counts.equal_salts, known.equal_salts, texts.equal, fun_ext at.salts) refl;
+        other_keys = rw (counts.other_keys, known.other_keys, c.shows_other_key.ensures, at.same) refl;
       };
       salts = λ salt. rw (texts.kept salt, at.salts salt) refl;
       feed = All-nil _;
