@@ -1,12 +1,14 @@
 -- Names to which several are added.
-use Rattle.argon2_rows.proofs.Imports.{◌≡◌, ℕ, List, [], ◌∷◌, ◌++◌, false, Some, Result, Ok, Err, refl, sym, Io, subst, ap, ◌∙◌, arith, inl, map, Bor, get}
-use Rattle.argon2_rows.proofs.Imports.{Any, on_ok_weaker, StoreError, Ghosts, Texts, AddsAll, IsAdded, WritesAll, IsPermutation, entry_of, Changes, bytes_eq-Decides, true, ◌≢◌}
+use Rattle.argon2_rows.proofs.Imports.{◌≡◌, ℕ, List, [], ◌∷◌, ◌++◌, ◌≤◌, false, Some, Result, Ok, Err, refl, sym, Io, subst, ap, ◌∙◌, arith, inl, inr, map, Bor, get}
+use Rattle.argon2_rows.proofs.Imports.{Any, IfErr, MoreFaults, both_ways, on_ok_weaker, StoreError, Ghosts, Texts, AddsAll, IsAdded, WritesAll, IsPermutation, entry_of, Changes, bytes_eq-Decides, true, ◌≢◌}
 use Rattle.argon2_rows.proofs.Imports.{changed, HasNames, IsHonest, IsLong, IsOpen, StaysQuiet}
 use Rattle.std.proofs.lemmas.List.Sorted.{Contains-permutation, IsPermutation-map, IsPermutation-sym}
 use Rattle.sqlite_trees.proofs.ListLemmas.{along_permutation}
+use Rattle.argon2_rows.specs.Table.{IsTold}
+use Rattle.sqlite_trees.specs.View.{HasCause}
 use Rattle.argon2_rows.specs.declared.text.StoredText.{StoredText}
 use Rattle.argon2_rows.proofs.RowLemmas.{changed_apart, get-at, get-changed}
-use Rattle.argon2_rows.proofs.TableLemmas.{Settled, leaves_quiet, quiet_itself, quiet_then}
+use Rattle.argon2_rows.proofs.TableLemmas.{Settled, cause_map, leaves_quiet, quiet_itself, quiet_then}
 
 pub add_last : (es : List (List ℕ × List ℕ)) (before mid after : Texts) (e : List ℕ × List ℕ) → AddsAll before es mid
     → IsAdded mid e.0 e.1 true after → AddsAll before (es ++ e ∷ []) after
@@ -42,7 +44,19 @@ module _ {S : Type 0} (g : Ghosts S) where
   -- a change is the same after a call that changed nothing, and may have more causes
   changes_later : {a b c : S} {x y : Texts} {P Q : Type 0} {r : Result (Unit {0}) StoreError} → StaysQuiet g a b
       → (IsHonest g b → (g.view b).is_broken ≡ false) → (P → Q) → Changes g b c x y P r → Changes g a c x y Q r
-  changes_later quiet sound more change = search arith
+  changes_later {a} {b} {c} {P = P} {Q = Q} {r = r} quiet sound more change =
+      let cause = λ (clean : IsHonest g c). caused r (sound (change.honest clean)) more quiet.counts (change.cause clean) in
+      search arith
+    where
+      caused : (r : Result (Unit {0}) StoreError) → (g.view b).is_broken ≡ false → (P → Q) → g.faults a ≤ g.faults b
+          → IfErr r (λ e. HasCause (g.view b) (MoreFaults (g.faults b) (g.faults c)) P e × IsTold g c e)
+          → IfErr r (λ e. HasCause (g.view a) (MoreFaults (g.faults a) (g.faults c)) Q e × IsTold g c e)
+      caused (Ok x) sound more counts why = tt
+      caused (Err e) sound more counts why = (
+        cause_map (g.view b) (g.view a) (λ broken. absurd (both_ways (g.view b).is_broken sound broken))
+            (λ f. omega (arith, f, counts)) more e why.0,
+        why.1,
+      )
 
   -- names that are written in another order
   pub reordered : (old new : S) (xs ys : List (Bor (List ℕ) × StoredText)) (done : Result (Unit {0}) StoreError)
@@ -94,7 +108,8 @@ module _ {S : Type 0} (g : Ghosts S) where
                 (left.0, left.1, inl left.2);
             durable = tt;
             cause = λ clean.
-                let end = quiet.closes clean (was_open (earlier clean)) in let closed = shut clean in grind arith;
+                let end = quiet.closes clean (was_open (earlier clean)) in let closed = shut clean in
+                (grind arith, inr (refl, closed));
             closes = λ clean. quiet.closes clean (was_open (earlier clean));
           },
         )

@@ -20,7 +20,7 @@ pub use Rattle.std.specs.FinMap.Entries.{below_all}
 pub use Rattle.std.specs.List.{AllByRecursion, list_all}
 pub use Rattle.std.specs.Option.{option_copied, option_map}
 pub use Rattle.std.specs.Ordering.{eq_by_cmp, is_lt, nat_cmp, ordering_reverse, ordering_then}
-pub use Rattle.std.specs.Prelude.{All, Any, IfErr, IfOk, IfSome, IsErrAnd, MatchResult, OnOk, ⊤}
+pub use Rattle.std.specs.Prelude.{All, Any, IfErr, IfOk, IfSome, IsErrAnd, MatchResult, OnErr, OnOk, ⊤}
 pub use Rattle.std.specs.Str.{bytes_eq}
 pub use Rattle.sqlite_disk.specs.Disk.{MoreFaults}
 pub use Rattle.sqlite_store.proofs.OrderLemmas.{less}
@@ -37,6 +37,7 @@ pub use Rattle.sqlite_value.specs.Keys.{entry_cmp, plain, prefix_cmp}
 pub use Rattle.sqlite_value.specs.Order.{Row, column, number, row_cmp}
 pub use Rattle.sqlite_value.specs.declared.value.Value.TheVariants.{Text}
 pub use Rattle.argon2_rows.specs.Names.{AddsAll, IsAdded, IsFirstTaken, Texts, changed, entry_of}
-pub use Rattle.argon2_rows.specs.Rows.{AreLines, AreTexts, FitLines, HasNoneAfter, IsAccount, IsAfterAll, IsFoundAs, IsLine, breaks_line, line, lines, lines_of, row_of, rows_of}
+pub use Rattle.argon2_rows.specs.Rows.{AreLines, AreTexts, AreWritten, FitLines, IsLineOf, StopsAtBreak, HasNoneAfter, IsAccount, IsAfterAll, IsFoundAs, breaks_line, line, lines, lines_of, row_of, rows_of}
+pub use Rattle.argon2_rows.specs.Locks.{IsLine}
 pub use Rattle.argon2_rows.specs.Table.{Changes, EndsRead, Finishes, HasBegun, HasNames, HasSome, IsUnwritten, IsHonest, IsKept, IsLong, IsOpen, CrashLeaves, Sees, StaysQuiet}
 pub use Rattle.argon2_rows.specs.Table.{Writes, WritesAll, done_of}

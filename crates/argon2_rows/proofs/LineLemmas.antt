@@ -1,13 +1,17 @@
 -- Rows of names, one by one, and their lines.
-use Rattle.argon2_rows.proofs.Imports.{arith, ◌≡◌, ℕ, List, [], ◌∷◌, ◌++◌, map, append_assoc, append-nil, All, Option, Some, true, false, refl, sym, ap, ◌∙◌, entries}
-use Rattle.argon2_rows.proofs.Imports.{Row, Texts, plain, Index, Forward, order_of, sought, Advances, with_cursor, FitLines, breaks_line, line}
+use Rattle.argon2_rows.proofs.Imports.{arith, ◌≡◌, ℕ, List, [], ◌∷◌, ◌++◌, map, append_assoc, append-nil, Option, Some, true, false, refl, sym, ap, ◌∙◌, entries}
+use Rattle.argon2_rows.proofs.Imports.{Row, Texts, plain, Index, Forward, order_of, sought, Advances, with_cursor, FitLines, IsLineOf, StopsAtBreak, breaks_line, line, AreWritten, Result, Ok, Err, MatchResult}
 use Rattle.argon2_rows.proofs.Imports.{lines, lines_of, row_of, rows_of}
 use Rattle.std.proofs.lemmas.List.Elements.{All-nil, All-push}
-use Rattle.std.proofs.KnownBytes.{Appends-nil, Appends-trans}
+use Rattle.std.proofs.KnownBytes.{Appends-kept, Appends-nil, Appends-trans}
 use Rattle.std.specs.Io.KnownBytes.{Appends, Keeps}
+use Rattle.std.specs.declared.io.Error.{Error}
 use Rattle.sqlite_trees.specs.View.{View as Shown}
 use Rattle.sqlite_store.proofs.RowLemmas.{from_key-none}
 use Rattle.argon2_rows.specs.declared.view.View.{View}
+use Rattle.argon2_rows.specs.declared.view.Written.TheVariants as written
+use Rattle.argon2_rows.specs.declared.view.Written.{Written}
+use Rattle.argon2_rows.specs.declared.view.Written.TheVariants.{Breaks, Failed}
 
 -- the next row is that of the next name
 pub next_name : (es : List (List ℕ × List ℕ)) (row : Row) (left : List Row) → Some (map row_of es) ≡ Some (row ∷ left)
@@ -23,10 +27,6 @@ pub lines-append : (view : View) (es fs : List (List ℕ × List ℕ)) → lines
 lines-append view [] fs = refl
 lines-append view (e ∷ es) fs = ap (λ l. line view e ++ l) (lines-append view es fs) ∙ sym (append_assoc (line view e) _ _)
 
--- the name fits its line
-abbrev pub Fits : View → List ℕ × List ℕ → Type 0
-Fits view e = breaks_line view e.0 ≡ false
-
 -- the names of some rows are written, and the cursor has the rest
 pub record IsWriting (view : View) (first now : Shown) (names : Texts) (old new : Option (List ℕ)) : Type 0 where
   pub done : List (List ℕ × List ℕ)
@@ -34,7 +34,7 @@ pub record IsWriting (view : View) (first now : Shown) (names : Texts) (old new 
   pub all : entries names ≡ done ++ left
   pub rows : now.cursors 0 ≡ Some (map row_of left)
   pub written : Appends old new (lines view done)
-  pub fit : All (Fits view) done
+  pub fit : FitLines view done
 
 pub begin_lines : (view : View) (first now : Shown) (names : Texts) (out : Option (List ℕ)) → first.shape 0 ≡ Index plain
     → now ≡ with_cursor first 0 (sought (order_of (first.shape 0)) Forward [] (first.trees 0)) → first.trees 0 ≡ rows_of names
@@ -45,13 +45,13 @@ begin_lines view first now names out shape is rows = record {
   all = refl;
   rows = rw (is, shape) (ap Some (from_key-none plain (first.trees 0) ∙ rows));
   written = Appends-nil out;
-  fit = All-nil (Fits view);
+  fit = All-nil (λ (e : List ℕ × List ℕ). breaks_line view e.0 ≡ false);
 }
 
 -- one row more
 pub next_row : (view : View) (first now next : Shown) (names : Texts) (old mid new : Option (List ℕ)) (row : Row)
     → IsWriting view first now names old mid → Advances now next 0 row true
-    → ((e : List ℕ × List ℕ) → row ≡ row_of e → Appends mid new (line view e) × Fits view e)
+    → ((e : List ℕ × List ℕ) → row ≡ row_of e → IsLineOf view e mid new written.All)
     → IsWriting view first next names old new
 next_row view first now next names old mid new row writing moves wrote =
     let (e, fs, cut, at, rest) = next_name writing.left row moves.0 (sym writing.rows ∙ moves.1) in
@@ -62,8 +62,23 @@ next_row view first now next names old mid new row writing moves wrote =
       rows = ap (λ (w : Shown). w.cursors 0) moves.2 ∙ ap Some rest;
       written = rw (lines-append view writing.done (e ∷ []), append-nil (line view e))
           (Appends-trans old mid new _ _ writing.written (wrote e at).0);
-      fit = All-push (Fits view) writing.done e writing.fit (wrote e at).1;
+      fit = All-push (λ (e : List ℕ × List ℕ). breaks_line view e.0 ≡ false) writing.done e writing.fit (wrote e at).1;
     }
+
+-- the next row's name breaks its line
+pub stops : (view : View) (first now next : Shown) (names : Texts) (old mid new : Option (List ℕ)) (row : Row)
+    → IsWriting view first now names old mid → Advances now next 0 row true
+    → ((e : List ℕ × List ℕ) → row ≡ row_of e → IsLineOf view e mid new Breaks) → StopsAtBreak view names old new
+stops view first now next names old mid new row writing moves broke =
+    let (e, fs, cut, at, rest) = next_name writing.left row moves.0 (sym writing.rows ∙ moves.1) in (
+      writing.done,
+      fs,
+      e,
+      writing.all ∙ ap (λ l. writing.done ++ l) cut,
+      writing.fit,
+      (broke e at).1,
+      Appends-kept old mid new _ writing.written (broke e at).0,
+    )
 
 pub its_name : (view : View) (first now next : Shown) (names : Texts) (old mid : Option (List ℕ)) (row : Row)
     → IsWriting view first now names old mid → Advances now next 0 row true → (e : List ℕ × List ℕ) × (row ≡ row_of e)
@@ -73,5 +88,12 @@ its_name view first now next names old mid row writing moves =
 -- the last row was written, and the output is flushed
 pub all_lines : (view : View) (first now next : Shown) (names : Texts) (old mid new : Option (List ℕ)) (row : Row)
     → IsWriting view first now names old mid → Advances now next 0 row false → Keeps mid new
-    → Appends old new (lines_of view names) × FitLines view names
+    → Appends old new (lines_of view names) × FitLines view (entries names)
 all_lines view first now next names old mid new row writing ended kept = search (arith, no_more, append-nil)
+
+-- and what flushing answers
+pub all_written : (view : View) (names : Texts) (old new : Option (List ℕ)) (done : Result (Unit {0}) Error)
+    (how : Written) → MatchResult done (λ _. how ≡ written.All) (λ why. how ≡ Failed why)
+    → Appends old new (lines_of view names) × FitLines view (entries names) → AreWritten view names old new how
+all_written view names old new (Ok x) how is all = rw is all
+all_written view names old new (Err why) how is all = rw is tt

@@ -1,10 +1,11 @@
 -- What the rows of a table are after each step of a change.
-use Rattle.argon2_rows.proofs.Imports.{◌≡◌, ℕ, List, Result, Ok, Err, false, refl, ap, ◌∙◌, IsTrue, arith, inl, inr, ◌⊎◌}
-use Rattle.argon2_rows.proofs.Imports.{All, IfErr, IsErrAnd, MatchResult, OnOk, both_ways, true_from_ne_false, Coded-set, ∥∥₁_elim, ∥∥₁_map, MoreFaults, plain, Row, StoreError, Shape, Index, Ghosts}
+use Rattle.argon2_rows.proofs.Imports.{◌≡◌, ℕ, List, Result, Ok, Err, false, refl, sym, subst, ap, ◌∙◌, ◌≤◌, IsTrue, arith, inl, inr, ◌⊎◌}
+use Rattle.argon2_rows.proofs.Imports.{All, IfErr, IsErrAnd, MatchResult, OnErr, OnOk, both_ways, true_from_ne_false, Coded-set, ∥∥₁_elim, ∥∥₁_map, MoreFaults, plain, Row, StoreError, Shape, Index, Ghosts}
 use Rattle.argon2_rows.proofs.Imports.{Trees, order_of, View, IsFailure, KeepsSchema, OnlyWrites, SetsTree, Texts, AreTexts, rows_of, Changes}
 use Rattle.argon2_rows.proofs.Imports.{EndsRead, Finishes, HasBegun, HasNames, HasSome, IsHonest, IsKept, IsOpen, CrashLeaves, Sees, StaysQuiet, Writes, done_of, on_ok_weaker}
+use Rattle.argon2_rows.specs.Table.{IsDue, IsTold}
 use Rattle.sqlite_trees.specs.contracts.store.Shape.{the_row}
-use Rattle.sqlite_trees.specs.View.{HasCause}
+use Rattle.sqlite_trees.specs.View.{HasCause, Tells}
 use Rattle.sqlite_value.specs.declared.keys.Order.{Order}
 
 -- ---- answers
@@ -53,6 +54,22 @@ pub cause_map : (old new : View) {P Q R U : Type 0} → (IsTrue old.is_broken �
     → (e : StoreError) → HasCause old P R e → HasCause new Q U e
 cause_map old new b f h e cause = grind arith
 
+-- what finishing answers has the cause of what failed in writing, or in the commit
+cause_of : {S : Type 0} (g : Ghosts S) (old mid new : S) (long : Type 0) (done result : Result (Unit {0}) StoreError)
+    → IfErr done (IsDue g old mid long) → MatchResult done (λ _. IfErr result (IsDue g mid new ⊥)) (λ e. result ≡ Err e)
+    → OnErr done (g.blamed new ≡ g.blamed mid) → OnOk done ((g.view mid).is_broken ≡ (g.view old).is_broken)
+    → g.faults old ≤ g.faults mid → g.faults mid ≤ g.faults new
+    → IfErr result (λ e. HasCause (g.view old) (MoreFaults (g.faults old) (g.faults new)) long e × IsTold g new e)
+cause_of g old mid new long (Ok x) (Ok y) first later blame same begun ended = tt
+cause_of g old mid new long (Ok x) (Err e) first later blame same begun ended = (
+  cause_map (g.view mid) (g.view old) (search arith) (λ more. omega (arith, more, begun)) (λ never. absurd never) e later.0,
+  inl later.1,
+)
+cause_of g old mid new long (Err e) result first later blame same begun ended = rw later (
+  cause_map (g.view old) (g.view old) (λ b. b) (λ more. omega (arith, more, ended)) (λ long. long) e first.0,
+  inl (subst (λ b. Tells b e) (sym blame) first.1),
+)
+
 -- ---- writing
 
 module _ {S : Type 0} (g : Ghosts S) where
@@ -73,8 +90,9 @@ module _ {S : Type 0} (g : Ghosts S) where
       → (IsHonest g new → IfErr r (IsFailure (g.view old) (g.view new)))
       → OnOk r (IsHonest g new → Sees (g.view old) before → Sees (g.view new) after)
       → (IsHonest g new → IfErr r (HasCause (g.view old) (MoreFaults (g.faults old) (g.faults new)) long))
+      → (IsHonest g new → IfErr r (Tells (g.blamed new)))
       → KeepsSchema (g.view old) (g.view new) → StaysQuiet g old new → Writes g old new before after long r
-  writes_row r frame failed sees cause schema quiet = search arith
+  writes_row r frame failed sees cause told schema quiet = search arith
 
   -- a call that puts the row of a name in, or takes it out
   pub edits_row : {old new : S} {names after : Texts} {long : Type 0} {row its : Row} (edit : Order → Row → List Row → List Row)
@@ -83,8 +101,9 @@ module _ {S : Type 0} (g : Ghosts S) where
       → OnOk r (IsHonest g new → SetsTree (g.view old) (g.view new) 0 (edit (order_of ((g.view old).shape 0)) row))
       → OnOk r (IsHonest g new → OnlyWrites (g.view old) (g.view new)) → IfErr r (IsFailure (g.view old) (g.view new))
       → (IsHonest g new → IfErr r (HasCause (g.view old) (MoreFaults (g.faults old) (g.faults new)) long))
+      → IfErr r (Tells (g.blamed new))
       → KeepsSchema (g.view old) (g.view new) → StaysQuiet g old new → Writes g old new names after long r
-  edits_row edit r shape is gives set frame failed cause schema quiet = search arith
+  edits_row edit r shape is gives set frame failed cause told schema quiet = search arith
 
   -- a call that reads
   pub reads_ok : {old new : S} {names : Texts}
@@ -110,7 +129,7 @@ module _ {S : Type 0} (g : Ghosts S) where
   -- a call that reads: the names stay
   abbrev pub Keeps : {X : Type 0} → S → S → Texts → Result X StoreError → Type 0
   Keeps old new names done = HasNames g new names × OnOk done (IsHonest g new → IsOpen g new)
-      × (IsHonest g new → IfErr done (HasCause (g.view old) (MoreFaults (g.faults old) (g.faults new)) ⊥)) × StaysQuiet g old new
+      × (IsHonest g new → IfErr done (IsDue g old new ⊥)) × StaysQuiet g old new
 
 module _ {S : Type 0} {g : Ghosts S} where
   -- rows written after others
@@ -124,7 +143,7 @@ module _ {S : Type 0} {g : Ghosts S} where
 
   -- if rows are not all written, nothing is said of the names
   pub writes_less : {a b : S} {x y z : Texts} {P Q : Type 0} {r : Result (Unit {0}) StoreError} (e : StoreError)
-      → Writes g a b x y P r → (IsHonest g b → HasCause (g.view a) (MoreFaults (g.faults a) (g.faults b)) Q e)
+      → Writes g a b x y P r → (IsHonest g b → IsDue g a b Q e)
       → Writes g a b x z Q (Err e)
   writes_less e wrote cause = search arith
 
@@ -169,7 +188,7 @@ module _ {S : Type 0} {g : Ghosts S} where
     reads_keep (Err e) shut has writes ends =
         let wrote = writes has.0 (λ clean unbroken. has.1.seen clean (was_open clean)) in
         let quiet = quiet_then g _ _ _ wrote.quiet ends.quiet in
-        (taken_back has wrote (ends.kept _) ends.quiet, tt, (let later = ends.quiet in search (arith, cause_map)), quiet)
+        (taken_back has wrote (ends.kept _) ends.quiet, tt, (let later = ends.quiet in let same = ends.blame in search (arith, cause_map)), quiet)
 
     -- rows that are written, and then committed or taken back
     pub changes_of : {mid new : S} {before after : Texts} {long : Type 0} (done result : Result (Unit {0}) StoreError)
@@ -192,12 +211,8 @@ module _ {S : Type 0} {g : Ghosts S} where
             | inr earlier ↦ (before, (begun now).left db earlier, inl refl)
           ];
           durable = on_both _ result is ends.is_open (λ ended opens clean. (opens clean, leaves ended clean (opens clean)));
-          cause = λ now.
-              let first = wrote.cause (to_mid now) in
-              let later = ends.cause now in
-              let same = wrote.broken in
-              let counts = ends.counts in
-              grind arith;
+          cause = λ now. cause_of g old mid new long done result (wrote.cause (to_mid now)) (ends.cause now) ends.blame
+              (on_ok_weaker done (λ same. same (to_mid now)) wrote.broken) wrote.quiet.counts ends.counts;
           closes = λ now.
               let first = wrote.quiet.closes (to_mid now) (was_open (to_old now)) in
               let later = ends.closes now in

@@ -1,5 +1,6 @@
--- Locked texts, which accept no password.
-use Rattle.std.specs.Prelude.{◌==◌, ℕ, List, [], ◌∷◌, if◌then◌else◌, Bool, Option, Some, None}
+-- Texts as they are stored. A locked text accepts no password.
+use Rattle.std.specs.Prelude.{◌≡◌, ◌==◌, ℕ, List, [], ◌∷◌, if◌then◌else◌, Bool, false, Option, Some, None}
+use Rattle.std.specs.List.{list_any}
 use Rattle.std.specs.Option.{is_some}
 use Rattle.argon2_base.specs.PhcText.{Phc, PhcText}
 
@@ -19,3 +20,7 @@ without_lock (c ∷ text) = if c == 33 then text else c ∷ text
 -- the text is in the grammar of PHC texts, or is one behind `!`
 abbrev pub IsStored : List ℕ → Type 0
 IsStored text = (v : Phc) × PhcText (without_lock text) v
+
+-- the text is one line
+abbrev pub IsLine : List ℕ → Type 0
+IsLine text = list_any (λ b. b == 10) text ≡ false

@@ -1,15 +1,20 @@
 -- How a tree of rows holds names with their texts.
-use Rattle.std.specs.Prelude.{◌≡◌, ◌==◌, ◌||◌, ℕ, Bool, true, false, List, [], ◌∷◌, ◌++◌, map, All, Option, Some, None, IsUtf8}
+use Rattle.std.specs.Prelude.{◌≡◌, ◌==◌, ◌||◌, ℕ, Bool, true, false, List, [], ◌∷◌, ◌++◌, map, All, Option, Some, None, IsUtf8, ⊤}
 use Rattle.std.specs.Cmp.Lexicographic.{slice_cmp}
 use Rattle.std.specs.FinMap.{entries, get}
+use Rattle.std.specs.Io.KnownBytes.{Appends, Keeps}
 use Rattle.std.specs.List.{list_any}
 use Rattle.std.specs.Ordering.{nat_cmp}
 use Rattle.std.specs.declared.cmp.Ordering.TheVariants.{Less}
 use Rattle.sqlite_value.specs.declared.value.Value.TheVariants.{Text}
 use Rattle.sqlite_value.specs.Order.{Row}
+use Rattle.argon2_rows.specs.Locks.{IsLine}
 use Rattle.argon2_rows.specs.Names.{Texts as Named}
 use Rattle.argon2_rows.specs.declared.view.View.{View}
 use Rattle.argon2_rows.specs.declared.view.View.TheVariants.{Names, Texts}
+use Rattle.argon2_rows.specs.declared.view.Written.{Written}
+use Rattle.argon2_rows.specs.declared.view.Written.TheVariants as written
+use Rattle.argon2_rows.specs.declared.view.Written.TheVariants.{Breaks, Failed}
 
 -- the row of a name with its text
 abbrev pub row_of : List ℕ × List ℕ → Row
@@ -36,10 +41,6 @@ abbrev pub IsFoundAs : Named → List ℕ → Option Bool → Row → Type 0
 IsFoundAs names name (Some true) row = (text : List ℕ) × (get names name ≡ Some text) × (row ≡ row_of (name, text))
 IsFoundAs names name (Some false) row = get names name ≡ None
 IsFoundAs names name None row = IsAfterAll names name
-
--- the text is one line
-abbrev pub IsLine : List ℕ → Type 0
-IsLine text = list_any (λ b. b == 10) text ≡ false
 
 -- each text is one line
 abbrev pub AreLines : Named → Type 0
@@ -70,5 +71,23 @@ breaks_line Names name = list_any (λ b. b == 10) name
 breaks_line Texts name = list_any (λ b. b == 10) name || list_any (λ b. b == 58) name
 
 -- none of the names breaks its line
-abbrev pub FitLines : View → Named → Type 0
-FitLines view names = All (λ e. breaks_line view e.0 ≡ false) (entries names)
+abbrev pub FitLines : View → List (List ℕ × List ℕ) → Type 0
+FitLines view es = All (λ e. breaks_line view e.0 ≡ false) es
+
+-- what writing the line of a name did: a name that breaks it has written nothing
+abbrev pub IsLineOf : View → List ℕ × List ℕ → Option (List ℕ) → Option (List ℕ) → Written → Type 0
+IsLineOf view e old new written.All = Appends old new (line view e) × (breaks_line view e.0 ≡ false)
+IsLineOf view e old new Breaks = Keeps old new × (breaks_line view e.0 ≡ true)
+IsLineOf view e old new (Failed why) = ⊤
+
+-- the lines before that of the first name that breaks it are written, and no more
+abbrev pub StopsAtBreak : View → Named → Option (List ℕ) → Option (List ℕ) → Type 0
+StopsAtBreak view names old new = (before after : List (List ℕ × List ℕ)) × (e : List ℕ × List ℕ)
+    × (entries names ≡ before ++ e ∷ after) × FitLines view before × (breaks_line view e.0 ≡ true)
+    × Appends old new (lines view before)
+
+-- all lines are written, or those before the first name that breaks it
+abbrev pub AreWritten : View → Named → Option (List ℕ) → Option (List ℕ) → Written → Type 0
+AreWritten view names old new written.All = Appends old new (lines_of view names) × FitLines view (entries names)
+AreWritten view names old new Breaks = StopsAtBreak view names old new
+AreWritten view names old new (Failed why) = ⊤

@@ -4,11 +4,12 @@ use Rattle.sqlite_disk.specs.Disk.{MoreFaults}
 use Rattle.sqlite_value.specs.Keys.{plain}
 use Rattle.sqlite_value.specs.Order.{Row}
 use Rattle.sqlite_trees.specs.declared.error.StoreError.{StoreError}
+use Rattle.sqlite_trees.specs.declared.error.StoreError.TheVariants.{Io}
 use Rattle.sqlite_trees.specs.declared.store.Shape.TheVariants.{Index}
 use Rattle.sqlite_trees.specs.declared.store.Store.{Ghosts}
 use Rattle.sqlite_trees.specs.Objects.{catalog_tree}
 use Rattle.sqlite_trees.specs.Tree.{Trees}
-use Rattle.sqlite_trees.specs.View.{View, IsClean, IsQuiet, HasCause, doubt}
+use Rattle.sqlite_trees.specs.View.{View, IsClean, IsQuiet, HasCause, Tells, doubt}
 use Rattle.sqlite_store.specs.Listing.{listed_from}
 use Rattle.sqlite_store.specs.declared.catalog.Wanted.{Wanted}
 use Rattle.sqlite_value.specs.declared.value.Value.TheVariants.{Text}
@@ -97,6 +98,14 @@ module _ {S : Type 0} (g : Ghosts S) where
   abbrev pub HasFailed : S → S → Type 0
   HasFailed old new = MoreFaults (g.faults old) (g.faults new)
 
+  -- An error has its cause, and a fault is the one that the store answered last.
+  abbrev pub IsDue : S → S → Type 0 → StoreError → Type 0
+  IsDue old new too_long e = HasCause (g.view old) (HasFailed old new) too_long e × Tells (g.blamed new) e
+
+  -- The fault is the one that the store answered last. `Io` may also say that it is closed.
+  abbrev pub IsTold : S → StoreError → Type 0
+  IsTold s e = Tells (g.blamed s) e ⊎ ((e ≡ Io) × ((g.view s).is_open ≡ false))
+
   -- no fault is forgotten, and a crash has no new outcome
   abbrev pub StaysQuiet : S → S → Type 0
   StaysQuiet old new = IsQuiet g.view g.faults g.recovers g.is_shielded old new
@@ -107,13 +116,14 @@ module _ {S : Type 0} (g : Ghosts S) where
     pub begun : (names : Texts) → IsHonest new → HasBegun old names → HasBegun new names
     pub sees : OnOk result (IsHonest new → Sees (g.view old) before → Sees (g.view new) after)
     pub broken : OnOk result (IsHonest new → (g.view new).is_broken ≡ (g.view old).is_broken)
-    pub cause : IsHonest new → IfErr result (HasCause (g.view old) (HasFailed old new) too_long)
+    pub cause : IsHonest new → IfErr result (IsDue old new too_long)
     pub quiet : StaysQuiet old new
 
   -- Rows were read, and what a failure leaves is taken back.
   pub record EndsRead {X : Type 0} (old new : S) (done : Result X StoreError) : Type 0 where
     pub same : OnOk done (new ≡ old)
     pub kept : (names : Texts) → (IsHonest new → HasBegun old names) → OnErr done (IsKept new names)
+    pub blame : g.blamed new ≡ g.blamed old
     pub quiet : StaysQuiet old new
 
   -- What was written is committed, or taken back if that has failed.
@@ -124,7 +134,8 @@ module _ {S : Type 0} (g : Ghosts S) where
         → IsOkAnd done (λ _. ((g.view old).is_broken ≡ false) × (db ≡ (g.view old).trees)) ⊎ g.recovers old db
     pub is_open : OnOk result (IsHonest new → IsOpen new)
     pub cause : IsHonest new
-        → MatchResult done (λ _. IfErr result (HasCause (g.view old) (HasFailed old new) ⊥)) (λ e. result ≡ Err e)
+        → MatchResult done (λ _. IfErr result (IsDue old new ⊥)) (λ e. result ≡ Err e)
+    pub blame : OnErr done (g.blamed new ≡ g.blamed old)
     pub closes : IsHonest new → IsOpen old → IsOpen new ⊎ HasFailed old new
     pub clean : doubt (g.view old).is_clean ≤ doubt (g.view new).is_clean
     pub counts : g.faults old ≤ g.faults new
@@ -136,7 +147,8 @@ module _ {S : Type 0} (g : Ghosts S) where
     pub kept : MatchResult result (λ _. HasNames new after) (λ _. HasNames new before)
     pub crash : IsHonest new → CrashLeaves new (λ left. (left ≡ before) ⊎ (left ≡ after))
     pub durable : OnOk result (IsHonest new → IsOpen new × CrashLeaves new (λ left. left ≡ after))
-    pub cause : IsHonest new → IfErr result (HasCause (g.view old) (HasFailed old new) too_long)
+    pub cause : IsHonest new
+        → IfErr result (λ e. HasCause (g.view old) (HasFailed old new) too_long e × IsTold new e)
     pub closes : IsHonest new → IsOpen new ⊎ HasFailed old new
 
   -- A change that adds all of several names, or the index of the first that is there, which changes nothing.

@@ -11,4 +11,4 @@ pub mod text;
 mod view;
 
 pub use text::StoredText;
-pub use view::View;
+pub use view::{View, Written};

@@ -6,21 +6,22 @@ ghost use Rattle.std.specs.Option.{option_map};
 ghost use Rattle.std.specs.FinMap.{get};
 ghost use Rattle.sqlite_value.specs.Keys.{plain};
 ghost use Rattle.sqlite_value.specs.declared.value.Value.TheVariants.{Text};
-ghost use Rattle.sqlite_trees.specs.View.{HasCause, IsFailure, KeepsSchema};
+ghost use Rattle.sqlite_trees.specs.View.{IsFailure, KeepsSchema};
 ghost use Rattle.sqlite_trees.specs.declared.error.StoreError.TheVariants.{OutOfMemory};
 ghost use Rattle.sqlite_trees.specs.declared.store.Shape.TheVariants.{Index};
 ghost use Rattle.argon2_rows.specs.Names.{Texts as Named};
-ghost use Rattle.argon2_rows.specs.Rows.{AreLines, AreTexts, FitLines, IsAccount, IsFoundAs, breaks_line, line, lines_of, row_of, rows_of};
-ghost use Rattle.argon2_rows.specs.Table.{HasFailed, HasNames, IsUnwritten, IsHonest, IsOpen, Sees, StaysQuiet, Writes, done_of};
+ghost use Rattle.argon2_rows.specs.Rows.{AreLines, AreTexts, AreWritten, IsAccount, IsFoundAs, IsLineOf, line, row_of, rows_of};
+ghost use Rattle.argon2_rows.specs.declared.view.Written.TheVariants.{All, Failed};
+ghost use Rattle.argon2_rows.specs.Table.{HasNames, IsDue, IsUnwritten, IsHonest, IsOpen, Sees, StaysQuiet, Writes, done_of};
 
-use crate::view::View;
+use crate::view::{View, Written};
 use sqlite_trees::error::StoreError;
 use sqlite_trees::store::{Direction, Store};
 use sqlite_value::order::is_same;
 use sqlite_value::row::Row;
 use sqlite_value::value::ValueRef;
 use std::alloc::{AllocError, Global};
-use std::io::{self, ErrorKind, Write};
+use std::io::{self, Write};
 use std::mem;
 
 // The tree of the accounts.
@@ -86,8 +87,8 @@ pub(crate) fn find<S: Store>(
         (S.Store.view store.old).is_broken ≡ false) }
     ensures err { IsHonest S.Store store.new → IfErr result
         (IsFailure (S.Store.view store.old) (S.Store.view store.new)) }
-    ensures cause { IsHonest S.Store store.new → IfErr result
-        (HasCause (S.Store.view store.old) (HasFailed S.Store store.old store.new) ⊥) }
+    ensures cause { IsHonest S.Store store.new →
+        IfErr result (IsDue S.Store store.old store.new ⊥) }
     ensures schema { KeepsSchema (S.Store.view store.old) (S.Store.view store.new) }
     ensures quiet { StaysQuiet S.Store store.old store.new }
 {
@@ -157,8 +158,8 @@ pub fn load<S: Store>(store: &mut S, row: &mut Row, last: &mut Row) -> Result<bo
         (names : Named) → AreTexts names → AreLines names →
         ¬ ((S.Store.view store.old).committed 0 ≡ rows_of names)) }
     ensures open { OnOk result (IsHonest S.Store store.new → IsOpen S.Store store.new) }
-    ensures cause { IsHonest S.Store store.new → IfErr result
-        (HasCause (S.Store.view store.old) (HasFailed S.Store store.old store.new) ⊥) }
+    ensures cause { IsHonest S.Store store.new →
+        IfErr result (IsDue S.Store store.old store.new ⊥) }
     ensures quiet { StaysQuiet S.Store store.old store.new }
 {
     row.clear();
@@ -177,24 +178,33 @@ pub fn load<S: Store>(store: &mut S, row: &mut Row, last: &mut Row) -> Result<bo
     Err(StoreError::OutOfMemory)
 }
 
-// Writes the line of a row, if it has two texts and nothing else.
-fn write_line<W: Write>(row: &Row, view: View, output: &mut W) -> Option<io::Result<()>>
-    ensures { (e : List ℕ × List ℕ) → row.now ≡ row_of e → IsSomeAnd result (λ done. OnOk done
-        (Appends (W.contents output.old) (W.contents output.new) (line view e)
-        × (breaks_line view e.0 ≡ false))) }
+// What became of lines whose writing ended so.
+fn outcome(done: io::Result<()>) -> Written
+    ensures { MatchResult done (λ _. result ≡ All) (λ why. result ≡ Failed why) }
 {
-    let (name, text) = texts_in(row)?;
-    Some(write_texts(name, text, view, output))
+    match done {
+        Ok(()) => Written::All,
+        Err(error) => Written::Failed(error),
+    }
 }
 
-// Writes the line of a name with its text, unless the name breaks it.
-fn write_texts<W: Write>(name: &[u8], text: &[u8], view: View, output: &mut W) -> io::Result<()>
-    ensures { OnOk result (Appends (W.contents output.old) (W.contents output.new)
-        (line view (name.now, text.now)) × (breaks_line view name.now ≡ false)) }
+// Writes the line of a row, unless its name breaks it, if the row has two texts and nothing else.
+fn write_line<W: Write>(row: &Row, view: View, output: &mut W) -> Option<Written>
+    ensures { (e : List ℕ × List ℕ) → row.now ≡ row_of e →
+        IsSomeAnd result (IsLineOf view e (W.contents output.old) (W.contents output.new)) }
 {
+    let (name, text) = texts_in(row)?;
     if view.breaks_line(name) {
-        return Err(io::Error::new(ErrorKind::InvalidData, "a name breaks its line"));
+        return Some(Written::Breaks);
     }
+    Some(outcome(write_texts(name, text, view, output)))
+}
+
+// Writes the line of a name with its text.
+fn write_texts<W: Write>(name: &[u8], text: &[u8], view: View, output: &mut W) -> io::Result<()>
+    ensures { OnOk result
+        (Appends (W.contents output.old) (W.contents output.new) (line view (name.now, text.now))) }
+{
     output.write_all(name)?;
     if let View::Texts = view {
         output.write_all(b":")?;
@@ -203,8 +213,8 @@ fn write_texts<W: Write>(name: &[u8], text: &[u8], view: View, output: &mut W) -
     output.write_all(b"\n")
 }
 
-/// Writes a line for each row, up to the first whose name [breaks it](View::breaks_line), and flushes `output`. The
-/// inner result is that of writing. `row` is memory for a row.
+/// Writes a line for each row, up to the first whose name [breaks it](View::breaks_line), and flushes `output` after
+/// the last. `row` is memory for a row.
 ///
 /// # Errors
 /// Those of the store.
@@ -213,12 +223,11 @@ pub fn write_rows<S: Store, W: Write>(
     row: &mut Row,
     view: View,
     output: &mut W,
-) -> Result<io::Result<()>, StoreError>
+) -> Result<Written, StoreError>
     requires { IsHonest S.Store store.old → (S.Store.view store.old).shape 0 ≡ Index plain }
     ensures shows { (names : Named) → AreTexts names → Sees (S.Store.view store.old) names →
-        IfOk result (λ done. IsHonest S.Store store.new → OnOk done
-        (Appends (W.contents output.old) (W.contents output.new) (lines_of view names)
-        × FitLines view names)) }
+        IfOk result (λ done. IsHonest S.Store store.new →
+        AreWritten view names (W.contents output.old) (W.contents output.new) done) }
     ensures reads { (names : Named) → AreTexts names →
         (IsHonest S.Store store.old → Sees (S.Store.view store.old) names) →
         Writes S.Store store.old store.new names names ⊥ (done_of result) }
@@ -227,11 +236,12 @@ pub fn write_rows<S: Store, W: Write>(
     store.seek(0, ACCOUNTS, row, Direction::Forward)?;
     for _ in 0..u64::MAX {
         if !store.next(0, row)? {
-            return Ok(output.flush());
+            return Ok(outcome(output.flush()));
         }
         match write_line(row, view, output) {
-            Some(Ok(())) => {}
-            Some(Err(error)) => return Ok(Err(error)),
+            Some(Written::All) => {}
+            Some(Written::Breaks) => return Ok(Written::Breaks),
+            Some(Written::Failed(error)) => return Ok(Written::Failed(error)),
             None => return Err(StoreError::Corrupt),
         }
     }

@@ -159,6 +159,7 @@ pub fn add_each<S: Store>(
 pub fn undo<S: Store>(store: &mut S)
     ensures kept { (before : Texts) → (IsHonest S.Store store.new →
         HasBegun S.Store store.old before) → IsKept S.Store store.new before }
+    ensures blame { S.Store.blamed store.new ≡ S.Store.blamed store.old }
     ensures quiet { StaysQuiet S.Store store.old store.new }
 {
     store.rollback();

@@ -1,20 +1,20 @@
 //! Texts as they are stored.
 
-ghost use Rattle.std.specs.Prelude.{◌≡◌, IfErr, IfOk};
+ghost use Rattle.std.specs.Prelude.{◌≡◌, ◌⊎◌, IfErr, IfOk, MatchOption};
 ghost use Rattle.std.specs.Option.{option_copied};
 ghost use Rattle.argon2_base.specs.PhcFields.{phc_of};
 ghost use Rattle.argon2_base.specs.PhcText.{PhcText};
 ghost use Rattle.argon2_base.specs.declared.error.password_hash.Error.TheVariants.{EncodingInvalid};
-ghost use Rattle.argon2_rows.specs.Locks.{IsStored, behind_lock, without_lock};
+ghost use Rattle.argon2_rows.specs.Locks.{IsLine, IsStored, behind_lock, without_lock};
 
 use argon2_base::error::password_hash::Result;
 use argon2_base::phc::PasswordHash;
 
-/// A text as it is stored: a PHC text, or one behind `!`, which is locked and accepts no password.
+/// A text as it is stored: a PHC text, or one line of another scheme. Behind `!` it is locked, and accepts no password.
 #[derive(Clone, Copy, Debug, PartialEq, Eq, PartialOrd, Ord)]
 pub struct StoredText<'a> {
     text: &'a str,
-    ghost stored: { ∥ IsStored text.now ∥₁ } by { squash₁ },
+    ghost stored: { ∥ IsStored text.now ⊎ IsLine text.now ∥₁ } by { squash₁ },
 }
 
 impl<'a> StoredText<'a> {
@@ -29,6 +29,16 @@ impl<'a> StoredText<'a> {
     {
         let hash = PasswordHash::new(behind_lock(text).unwrap_or(text))?;
         Ok((StoredText { text }, hash))
+    }
+
+    /// A text of any scheme, if it is one line.
+    pub fn of_line(text: &'a str) -> Option<StoredText<'a>>
+        ensures { MatchOption result (¬ IsLine text.now) (λ it. it.text.now ≡ text.now) }
+    {
+        if text.as_bytes().contains(&b'\n') {
+            return None;
+        }
+        Some(StoredText { text })
     }
 
     /// The text, with its `!` if it is locked.

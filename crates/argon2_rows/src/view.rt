@@ -3,6 +3,8 @@
 ghost use Rattle.std.specs.Prelude.{◌≡◌};
 ghost use Rattle.argon2_rows.specs.Rows.{breaks_line};
 
+use std::io;
+
 /// What is written of accounts, a line for each name.
 #[derive(Clone, Copy)]
 pub enum View {
@@ -10,6 +12,17 @@ pub enum View {
     Names,
     /// The names with their texts: a name, a colon and a text.
     Texts,
+}
+
+/// How far lines were written.
+#[derive(Clone, Copy, Debug)]
+pub enum Written {
+    /// All of them.
+    All,
+    /// Those before the first whose name [breaks it](View::breaks_line).
+    Breaks,
+    /// Some of them, perhaps not to the end of a line: then writing failed.
+    Failed(io::Error),
 }
 
 impl View {

@@ -1,10 +1,20 @@
 -- What a call on an account file does if it is refused, writes nothing, or makes its edits.
 use Rattle.argon2_store.proofs.Imports.{arith, zero, suc, ◌≡◌, ◌⊎◌, ◌<◌, ◌∷◌, [], inl, inr, ℕ, List, Option, Some, None, Result, Ok, Err, Bool, true, false, refl, sym, subst, ◌∙◌, ap, IsTrue, get, Any}
 use Rattle.argon2_store.proofs.Imports.{is_some, option_map, string_bytes, ◌↔◌, IfErr, IsSomeAnd, OnOk, length, length-map, get_or-map, iff_false, true_from_ne_false}
-use Rattle.argon2_store.proofs.Imports.{StoreError, Ghosts, Texts, IfOk, Answers, error_of, HasFailed, IsClosed, IsErrorAt, Makes, Serves, AddsAll, IsFirstTaken}
+use Rattle.argon2_store.proofs.Imports.{StoreError, Ghosts, Texts, IfOk, IfSome, Answers, error_of, HasFailed, IsClosed, IsErrorAt, Makes, Serves, AddsAll, IsFirstTaken}
 use Rattle.argon2_store.proofs.Imports.{Stays, database_of, read_of, unwritten, Changes, IsHonest, IsLong, IsOpen, CrashLeaves, StaysQuiet, changed}
 use Rattle.argon2_store.proofs.Imports.{AccountFile, FileError, Closed, NameTaken, OutOfMemory, String, IsSome, Edit, adding, replacing, Bor, option_copied, behind_lock, is_locked, with_lock, without_lock, bytes_eq, not, Locked, Changed, IsTooLong, additions, gives, is_refusal, made, name_of, refusal}
-use Rattle.argon2_store.specs.AccountFile.{HasCause, HasNames}
+use Rattle.argon2_store.specs.AccountFile.{HasCause, HasFailedBy, HasNames, WritesLines}
+use Rattle.argon2_store.specs.Errors.{lines_by, read_by}
+use Rattle.argon2_rows.specs.Rows.{AreWritten}
+use Rattle.argon2_rows.specs.declared.view.View.{View as Lines}
+use Rattle.argon2_rows.specs.declared.view.Written.{Written}
+use Rattle.argon2_rows.specs.declared.view.Written.TheVariants.{All, Breaks, Failed}
+use Rattle.argon2_rows.specs.Table.{IsDue, IsTold}
+use Rattle.sqlite_trees.specs.View.{HasCause as Cause, Tells, View}
+use Rattle.sqlite_trees.specs.declared.error.StoreError.TheVariants as store
+use Rattle.std.proofs.lemmas.Bool.{both_ways}
+use Rattle.sqlite_disk.specs.Disk.{MoreFaults}
 use Rattle.argon2_rows.proofs.RowLemmas.{changed_back}
 use Rattle.argon2_rows.proofs.TableLemmas.{Keeps, Settled, leaves_kept, leaves_quiet, on_all, quiet_itself}
 
@@ -34,13 +44,51 @@ pub on_read : {X : Type 0} (P : X → Type 0) (done : Result X StoreError) (r : 
     → IfOk done P → IfOk r P
 on_read P done r is p = grind arith
 
-needs_no_cause : (closed fault long : Type 0) (e : FileError) → is_refusal e ≡ true → HasCause closed fault long e
-needs_no_cause closed fault long e is = grind arith
+needs_no_cause : (closed long : Type 0) (fault : StoreError → Type 0) (e : FileError) → is_refusal e ≡ true → HasCause closed fault long e
+needs_no_cause closed long fault e is = grind arith
+
+-- a store that is not broken has failed by the fault that it told
+module _ {S : Type 0} {g : Ghosts S} (old new : AccountFile S g) (v : View) (closed P long more : Type 0)
+    (sound : v.is_broken ≡ false) (failed : P → HasFailed old new) (longer : long → more) where
+  due : (e : StoreError) → Cause v P long e × IsTold g (database_of new) e
+      → HasCause closed (HasFailedBy old new) more (unwritten e)
+  due store.OutOfMemory why = tt
+  due store.Io why = (failed why.0, why.1)
+  due store.Corrupt why = (failed why.0, why.1)
+  due store.Full why = (failed why.0, why.1)
+  due store.Broken why = absurd (both_ways v.is_broken sound why.0)
+  due store.Unstorable why = longer why.0
+
+pub due_both : {S : Type 0} (g : Ghosts S) (old new : S) (long : Type 0) {X : Type 0} (r : Result X StoreError)
+    → IfErr r (Cause (g.view old) (MoreFaults (g.faults old) (g.faults new)) long) → IfErr r (Tells (g.blamed new))
+    → IfErr r (IsDue g old new long)
+due_both g old new long (Ok x) cause told = tt
+due_both g old new long (Err e) cause told = (cause, told)
 
 -- an error of writing comes with the number of entries
 pub writes_at : (before : Texts) (es : List (List ℕ × List ℕ)) (k : ℕ) → k ≡ length es → (done : Result (Unit {0}) StoreError)
     (error : FileError) → ◌≡◌ {A = Result (Unit {0}) FileError} (Err error) (read_of done) → IsErrorAt before es (k, error)
 writes_at before es k is done error same = grind arith
+
+-- ---- lines
+
+read_by-lines : (r : Result Written FileError) → error_of (read_by (lines_by r)) ≡ error_of r
+read_by-lines (Ok All) = refl
+read_by-lines (Ok Breaks) = refl
+read_by-lines (Ok (Failed e)) = refl
+read_by-lines (Err e) = refl
+
+pub lines_stay : {S : Type 0} {g : Ghosts S} {names : Texts} {old new : AccountFile S g} (r : Result Written FileError)
+    → Stays (error_of r) names old new → Stays (error_of (read_by (lines_by r))) names old new
+lines_stay {names = names} {old} {new} r = subst (λ e. Stays e names old new) (sym (read_by-lines r))
+
+pub lines_written : (view : Lines) (names : Texts) (old new : Option (List ℕ)) {H : Type 0} (done : Result Written StoreError)
+    → IfOk done (λ how. H → AreWritten view names old new how) → H
+    → WritesLines view names old new (lines_by (read_of done))
+lines_written view names old new (Ok All) is clean = is clean
+lines_written view names old new (Ok Breaks) is clean = is clean
+lines_written view names old new (Ok (Failed e)) is clean = tt
+lines_written view names old new (Err e) is clean = tt
 
 -- ---- edits
 
@@ -126,7 +174,17 @@ module _ {S : Type 0} {g : Ghosts S} (settled : Settled g) (old : AccountFile S 
     reads_of new done names has (had, opens, why, quiet) r is =
         let left = leaves_quiet g settled (database_of old) (database_of new) names has.1 quiet in
         let never = λ (clean : IsTrusted old). iff_false (tests clean) shut in
-        let was_open = is_open in grind (arith, is_of_file)
+        let was_open = is_open in
+        let cause = λ (clean : IsTrusted new). let was : IsTrusted old = omega (arith, clean, quiet.clean) in
+        due_of (has.1.sound was (is_open was)) done r is (why clean) in
+        grind (arith, is_of_file)
+      where
+        due_of : {X : Type 0} → (g.view (database_of old)).is_broken ≡ false → (done : Result X StoreError)
+            → (r : Result X FileError) → r ≡ read_of done → IfErr done (IsDue g (database_of old) (database_of new) ⊥)
+            → IfSome (error_of r) (HasCause (IsClosed old) (HasFailedBy old new) ⊥)
+        due_of sound (Ok x) r is why = rw is tt
+        due_of sound (Err e) r is why =
+            rw is (due old new (g.view (database_of old)) (IsClosed old) (HasFailed old new) ⊥ ⊥ sound (λ f. f) (λ never. never) e (why.0, inl why.1))
 
     -- the store does nothing
     pub unread : NamesStay None old old
@@ -140,7 +198,7 @@ pub ends_with : {S : Type 0} {g : Ghosts S} {edits : List Edit} {old new : Accou
     → (IsTrusted new → Answers before edits r before)
     → OnOk r (IsTrusted new → CrashLeaves g (database_of new) (λ left. left ≡ before))
     → (IsTrusted old → IsClosed old → (r ≡ Err Closed) × (database_of new ≡ database_of old))
-    → (IsTrusted new → IfErr r (HasCause (IsClosed old) (HasFailed old new) (Any (IsTooLong before) edits)))
+    → (IsTrusted new → IfErr r (HasCause (IsClosed old) (HasFailedBy old new) (Any (IsTooLong before) edits)))
     → Makes edits r old new before before
 ends_with r has quiet left answers durable closed cause = record {
   has = has;
@@ -169,7 +227,7 @@ module _ {S : Type 0} {g : Ghosts S} {old mid : AccountFile S g} {before : Texts
       → (r : Result (Unit {0}) FileError) (after : Texts) → HasNames new after → (IsTrusted new → Answers before edits r after)
       → IfErr r (λ e. IsTrue (is_refusal e) → StaysQuiet g (database_of old) (database_of new))
       → OnOk r (IsTrusted new → CrashLeaves g (database_of new) (λ left. left ≡ after))
-      → (IsTrusted new → IfErr r (HasCause (IsClosed old) (HasFailed old new) (Any (IsTooLong before) edits)))
+      → (IsTrusted new → IfErr r (HasCause (IsClosed old) (HasFailedBy old new) (Any (IsTooLong before) edits)))
       → Makes edits r old new before after
   ends {edits} then change r after has answers refused durable cause = record {
     has = has;
@@ -200,12 +258,13 @@ module _ {S : Type 0} {g : Ghosts S} {old mid : AccountFile S g} {before : Texts
       → (r : Result (Unit {0}) FileError) → r ≡ read_of done → (after : Texts) × Makes edits r old new before after
   writes_all {to = to} too then (Ok _) all change r e =
       (to, rw e (ends then change (Ok tt) to change.kept all tt (λ clean. (change.durable clean).1) (λ clean. tt)))
-  writes_all too then (Err f) all change r e =
+  writes_all {edits = edits} {long = long} {new = new} too then (Err f) all change r e =
       let never = is_of_file f in (
         before,
         rw e (ends then change (Err (unwritten f)) before change.kept (λ clean. ((λ is. absurd cc), refl))
-            (λ is. absurd cc) tt (λ clean. let was = change.honest clean in let long = too clean in
-            let sound = reads.has.1.sound was (reads.is_open refl was) in let why = change.cause clean in grind arith)),
+            (λ is. absurd cc) tt (λ clean. let was = change.honest clean in
+            due old new (g.view (database_of mid)) (IsClosed old) (HasFailed mid new) long (Any (IsTooLong before) edits) (reads.has.1.sound was (reads.is_open refl was))
+            (λ failed. omega (arith, failed, reads.quiet.counts)) (too clean) f (change.cause clean))),
       )
 
 -- An edit of a name that has this text or none, in a file that was read and is not closed.
@@ -228,7 +287,7 @@ module _ {S : Type 0} {g : Ghosts S} (edit : Edit) {old mid : AccountFile S g} (
           (λ refused. one_refused edit before e
               (rw (has_text before has clean) why)),
           refl,
-        )) tt (search (arith, live read)) (λ clean. needs_no_cause _ _ _ e named),
+        )) tt (search (arith, live read)) (λ clean. needs_no_cause (IsClosed old) (Any (IsTooLong before) (edit ∷ [])) (HasFailedBy old mid) e named),
       )
 
   -- one that there is no memory for

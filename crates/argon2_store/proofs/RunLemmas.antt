@@ -7,6 +7,8 @@ use Rattle.argon2_store.proofs.Imports.{over_file, reads, IsHonest, IsOpen, Cras
 use Rattle.argon2_store.specs.AccountFile.{HasNames, IsReady}
 use Rattle.argon2_rows.proofs.TableLemmas.{Settled, leaves_quiet}
 use Rattle.argon2_store.proofs.NextOpenLemmas.{next_open}
+use Rattle.argon2_store.proofs.OpenLemmas.{left_table}
+use Rattle.argon2_store.specs.Opening.{IsTableOf}
 use Rattle.argon2_rows.proofs.RowLemmas.{get-at, rows_of-once}
 use Rattle.sqlite_disk.specs.declared.Disk as disk
 use Rattle.std.specs.Cmp.Lexicographic.{slice_cmp}
@@ -174,14 +176,18 @@ module _ {S : Type 0} {g : Ghosts S} (settled : Settled g) (first : Texts) where
 -- ---- runs
 
 pub ends_run : {D : Type 0} (g : disk.Ghosts D) → SeenMayStay g → (last : AccountFile (FileStore D g) over_file) → EndsRun last
-ends_run {D} g stay last names first calls before ready did clean may opens left after next holds =
+ends_run {D} g stay last names first calls before ready did clean may =
     let settled = λ (it : FileStore D g) (db : Trees). settled_at it stay db in
     let leaves = (reached {S = FileStore D g} {g = over_file} settled names first ready calls last did).left clean in
-    let listed = λ (db : Trees) (found : over_file.recovers (database_of last) db). (leaves db found).1.1 in
-    ∥∥₁_map (next_open {g = g} (database_of last) listed before may opens left after next holds) (λ found.
-    let (left_names, held, late) = leaves found.0 found.1 in
-    let same = rows_of-once left_names next (sym held.0 ∙ found.2.0) in
-    (late.0, late.1, subst (AreMade names (late.0 ++ flat_map events_of calls)) same late.2))
+    let listed = λ (db : Trees) (found : over_file.recovers (database_of last) db). (leaves db found).1.1 in (
+      λ opens left after next holds.
+          ∥∥₁_map (next_open {g = g} (database_of last) listed before may opens left after next holds) (λ found.
+          let (left_names, held, late) = leaves found.0 found.1 in
+          let same = rows_of-once left_names next (sym held.0 ∙ found.2.0) in
+          (late.0, late.1, subst (AreMade names (late.0 ++ flat_map events_of calls)) same late.2)),
+      ∥∥₁_map (left_table {g = g} (database_of last) listed before may) (λ (db, can, table).
+          let (left_names, held, late) = leaves db can in (left_names, subst (IsTableOf before) held.0 table, late)),
+    )
 
 pub runs_join : (first : Texts) (runs : List Run) (names : Texts) → IsFoundAfter first runs names
     → ∥ ((events : List Event) × AreEventsOf runs events × AreMade first events names) ∥₁

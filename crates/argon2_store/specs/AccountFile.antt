@@ -1,16 +1,23 @@
 -- What callers see of accounts in a file, and what each call does.
 use Rattle.std.specs.Prelude.{◌≡◌, ◌⊎◌, ℕ, List, false, Any, Option, Some, None, IfSome, Result, Ok, Err, IfErr, IsTrue, OnOk, ⊤, length}
+use Rattle.sqlite_trees.specs.declared.error.StoreError.{StoreError}
+use Rattle.sqlite_trees.specs.declared.error.StoreError.TheVariants as below
 use Rattle.sqlite_trees.specs.declared.store.Store.{Ghosts}
 use Rattle.sqlite_wal.specs.Recovery.{Image}
 use Rattle.argon2_rows.specs.Names.{IsFirstTaken, Texts}
-use Rattle.argon2_rows.specs.Rows.{AreLines}
+use Rattle.argon2_rows.specs.Rows.{AreLines, AreWritten}
 use Rattle.argon2_rows.specs.Table as rows
-use Rattle.argon2_rows.specs.Table.{IsHonest, IsOpen, CrashLeaves, StaysQuiet}
+use Rattle.argon2_rows.specs.Table.{IsHonest, IsOpen, IsTold, CrashLeaves, StaysQuiet}
+use Rattle.argon2_rows.specs.declared.view.View.{View}
+use Rattle.argon2_rows.specs.declared.view.Written.TheVariants as written
+use Rattle.argon2_rows.specs.declared.view.Written.TheVariants.{All}
 use Rattle.argon2_store.specs.Edits.{Edit, IsTooLong, made}
 use Rattle.argon2_store.specs.Errors.{is_refusal}
 use Rattle.argon2_store.specs.Opening.{HoldsNames, IsDamaged}
 use Rattle.argon2_store.specs.declared.account_file.AccountFile.{AccountFile}
 use Rattle.argon2_store.specs.declared.error.FileError.{FileError}
+use Rattle.argon2_store.specs.declared.error.LineError.{LineError}
+use Rattle.argon2_store.specs.declared.error.LineError.TheVariants.{Breaks}
 use Rattle.argon2_store.specs.declared.error.FileError.TheVariants.{NameTaken, Io, Damaged, Full, TooLong, Closed}
 
 -- What a call answers that is to make these edits, and the names after it. An error leaves all names as they were, and a
@@ -24,6 +31,12 @@ abbrev pub unindexed : {X : Type 0} → Result X (ℕ × FileError) → Result X
 unindexed (Ok x) = Ok x
 unindexed (Err e) = Err e.1
 
+-- what was written of the lines of names
+abbrev pub WritesLines : View → Texts → Option (List ℕ) → Option (List ℕ) → Result (Unit {0}) LineError → Type 0
+WritesLines view names old new (Ok x) = AreWritten view names old new All
+WritesLines view names old new (Err Breaks) = AreWritten view names old new written.Breaks
+WritesLines view names old new (Err _) = ⊤
+
 -- the error of an answer
 abbrev pub error_of : {X : Type 0} → Result X FileError → Option FileError
 error_of (Ok x) = None
@@ -35,11 +48,11 @@ IsErrorAt before es (k, NameTaken) = IsFirstTaken before es k
 IsErrorAt before es (k, Closed) = k ≡ 0
 IsErrorAt before es (k, e) = (k ≡ length es) × (is_refusal e ≡ false)
 
--- why a call has this error; `fault` says that the disk failed or refused during it
-abbrev pub HasCause : Type 0 → Type 0 → Type 0 → FileError → Type 0
-HasCause closed fault too_long Io = fault
-HasCause closed fault too_long Damaged = fault
-HasCause closed fault too_long Full = fault
+-- why a call has this error; `fault` says that the disk failed or refused during it, and how
+abbrev pub HasCause : Type 0 → (StoreError → Type 0) → Type 0 → FileError → Type 0
+HasCause closed fault too_long Io = fault below.Io
+HasCause closed fault too_long Damaged = fault below.Corrupt
+HasCause closed fault too_long Full = fault below.Full
 HasCause closed fault too_long TooLong = too_long
 HasCause closed fault too_long Closed = closed
 HasCause closed fault too_long _ = ⊤
@@ -61,6 +74,10 @@ module _ {S : Type 0} {g : Ghosts S} where
   -- the disk failed or refused from the one to the other
   abbrev pub HasFailed : AccountFile S g → AccountFile S g → Type 0
   HasFailed old new = rows.HasFailed g (database_of old) (database_of new)
+
+  -- the same, and it is the fault that the store answered last; `Io` may also say that the file has to be opened again
+  abbrev pub HasFailedBy : AccountFile S g → AccountFile S g → StoreError → Type 0
+  HasFailedBy old new fault = HasFailed old new × IsTold g (database_of new) fault
 
   -- A file that was opened and has these names: it is not closed, and a crash leaves its names.
   pub record IsReady (names : Texts) (file : AccountFile S g) : Type 0 where
@@ -89,7 +106,7 @@ module _ {S : Type 0} {g : Ghosts S} where
     pub is_open : error ≡ None → IsHonest g (database_of new) → IsOpen g (database_of new)
     -- an error is one of the file, and has its cause
     pub of_file : IfSome error (λ e. is_refusal e ≡ false)
-    pub cause : IsHonest g (database_of new) → IfSome error (HasCause (IsClosed old) (HasFailed old new) ⊥)
+    pub cause : IsHonest g (database_of new) → IfSome error (HasCause (IsClosed old) (HasFailedBy old new) ⊥)
 
   -- a call that changes no name
   abbrev pub Reads : {X : Type 0} → Result X FileError → AccountFile S g → AccountFile S g → Type 0
@@ -115,7 +132,7 @@ module _ {S : Type 0} {g : Ghosts S} where
     pub closes : IsHonest g (database_of new) → IsOpen g (database_of old) → IsOpen g (database_of new) ⊎ HasFailed old new
     -- each error has its cause
     pub cause : IsHonest g (database_of new)
-        → IfErr result (HasCause (IsClosed old) (HasFailed old new) (Any (IsTooLong before) edits))
+        → IfErr result (HasCause (IsClosed old) (HasFailedBy old new) (Any (IsTooLong before) edits))
 
   -- a call that makes these edits, all or none
   abbrev pub Serves : List Edit → Result (Unit {0}) FileError → AccountFile S g → AccountFile S g → Type 0

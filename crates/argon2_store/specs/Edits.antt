@@ -3,9 +3,7 @@ use Rattle.std.specs.Prelude.{◌∷◌, ℕ, if◌then◌else◌, List, [], Opt
 use Rattle.std.specs.FinMap.{get}
 use Rattle.std.specs.Option.{option_map}
 use Rattle.std.specs.Str.{bytes_eq}
-use Rattle.argon2_base.specs.PhcFields.{phc_of}
-use Rattle.argon2_base.specs.PhcText.{phc_text}
-use Rattle.argon2_base.specs.declared.phc.hash.PasswordHash.{PasswordHash}
+pub use Rattle.argon2_base.specs.PhcFields.{text_of}
 use Rattle.argon2_rows.specs.Locks.{is_locked, without_lock}
 use Rattle.argon2_rows.specs.Names.{Texts, changed}
 use Rattle.argon2_rows.specs.Table.{IsLong}
@@ -28,10 +26,6 @@ name_of (replacing name old new) = name
 name_of (removing name) = name
 name_of (locking name) = name
 name_of (unlocking name) = name
-
--- the text of a value
-abbrev pub text_of : PasswordHash → List ℕ
-text_of hash = phc_text (phc_of hash)
 
 -- the text behind `!`, where it stays if it is there already
 abbrev pub with_lock : List ℕ → List ℕ

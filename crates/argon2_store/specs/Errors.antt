@@ -8,8 +8,13 @@ use Rattle.sqlite_trees.specs.declared.error.StoreError.{StoreError}
 use Rattle.sqlite_trees.specs.declared.error.StoreError.TheVariants as below
 use Rattle.sqlite_wal.specs.declared.error.Error.{Error as LogError}
 use Rattle.sqlite_wal.specs.declared.error.Error.TheVariants as log
+use Rattle.argon2_rows.specs.declared.view.Written.{Written}
+use Rattle.argon2_rows.specs.declared.view.Written.TheVariants as written
+use Rattle.argon2_rows.specs.declared.view.Written.TheVariants.{All, Failed}
 use Rattle.argon2_store.specs.declared.error.FileError.{FileError}
 use Rattle.argon2_store.specs.declared.error.FileError.TheVariants.{NameTaken, NameUnknown, Changed, Locked, OutOfMemory, Io, Damaged, Full, TooLong, Closed}
+use Rattle.argon2_store.specs.declared.error.LineError.{LineError}
+use Rattle.argon2_store.specs.declared.error.LineError.TheVariants.{Breaks, File, Write}
 use Rattle.argon2_store.specs.declared.error.OpenError.{OpenError}
 use Rattle.argon2_store.specs.declared.error.OpenError.TheVariants as no
 use Rattle.argon2_store.specs.declared.error.OpenError.TheVariants.{Path, Busy, HotJournal, NotAccounts}
@@ -32,6 +37,18 @@ unwritten e = named e
 abbrev pub read_of : {X : Type 0} → Result X StoreError → Result X FileError
 read_of (Ok x) = Ok x
 read_of (Err e) = Err (unwritten e)
+
+-- what reading the file answered
+abbrev pub read_by : Result (Unit {0}) LineError → Result (Unit {0}) FileError
+read_by (Err (File e)) = Err e
+read_by _ = Ok tt
+
+-- what became of the lines of a file
+abbrev pub lines_by : Result Written FileError → Result (Unit {0}) LineError
+lines_by (Ok All) = Ok tt
+lines_by (Ok written.Breaks) = Err Breaks
+lines_by (Ok (Failed e)) = Err (Write e)
+lines_by (Err e) = Err (File e)
 
 -- the names refuse the call, which then writes nothing
 abbrev pub is_refusal : FileError → Bool
@@ -70,6 +87,7 @@ store_error _ = NotAccounts
 abbrev pub IsOfPath : OpenError → Type 0
 IsOfPath (Path why) = ⊤
 IsOfPath no.OutOfMemory = ⊤
+IsOfPath no.Full = ⊤
 IsOfPath Busy = ⊤
 IsOfPath HotJournal = ⊤
 IsOfPath _ = ⊥

@@ -1,5 +1,5 @@
 -- What opening a file finds.
-use Rattle.std.specs.Prelude.{◌≡◌, ◌⊎◌, ◌≤◌, ℕ, List, [], ◌∷◌, length, slice_index}
+use Rattle.std.specs.Prelude.{◌≡◌, ◌⊎◌, ◌≤◌, ℕ, List, [], ◌∷◌, length, slice_index, IsTrue}
 use Rattle.sqlite_value.specs.Order.{Row}
 use Rattle.sqlite_disk.specs.declared.Disk.{Ghosts}
 use Rattle.sqlite_disk.specs.Disk.{Only}
@@ -13,12 +13,15 @@ use Rattle.sqlite_pool.specs.File.{IsSoundFile, in_use}
 use Rattle.sqlite_trees.specs.declared.store.Shape.TheVariants.{Table}
 use Rattle.sqlite_wal.specs.Files.{outcomes, seen_image}
 use Rattle.sqlite_wal.specs.PageSize.{IsPageSize}
-use Rattle.sqlite_wal.specs.Reads.{AreClean}
+use Rattle.sqlite_wal.specs.Reads.{AreClean, OnlyReads}
 use Rattle.sqlite_wal.specs.Format.{IsSigned}
 use Rattle.sqlite_wal.specs.Recovery.{Image, header}
 use Rattle.argon2_rows.specs.Names.{Texts}
-use Rattle.argon2_rows.specs.Rows.{AreTexts, rows_of}
+use Rattle.argon2_rows.specs.Rows.{AreLines, AreTexts, rows_of}
 use Rattle.argon2_rows.specs.Table.{account}
+use Rattle.argon2_store.specs.Errors.{IsOfDatabase}
+use Rattle.argon2_store.specs.declared.error.OpenError.{OpenError}
+use Rattle.argon2_store.specs.declared.error.OpenError.TheVariants as no
 
 -- there is no database yet, or one that lists no table
 abbrev pub IsUnstarted : ℕ → Image → Type 0
@@ -70,6 +73,21 @@ AreUnharmed g old new = AreClean g new.0 new.1 → (left : Image) → outcomes g
 -- a crash leaves just what the two files hold
 abbrev pub AreSynced : {D : Type 0} → Ghosts D → D × D → Type 0
 AreSynced g files = Only (g.seen files.0) (g.may_leave files.0) × Only (g.seen files.1) (g.may_leave files.1)
+
+-- An open of two files that hold this image has failed so: their log is damaged, they hold no names with texts of one line, or
+-- it is an error of the database. They are unharmed.
+pub record IsOfPair {D : Type 0} (g : Ghosts D) (image : Image) (e : OpenError) (old new : D × D) : Type 0 where
+  pub synced : AreSynced g old
+  pub holds : seen_image g old.0 old.1 ≡ image
+  pub kind : (e ≡ no.Row) ⊎ ((e ≡ no.DamagedLog) ⊎ IsOfDatabase e)
+  pub row : e ≡ no.Row → AreClean g new.0 new.1 → (names : Texts) → AreLines names
+      → ¬ HoldsNames (seen_image g old.0 old.1) names
+  pub damaged : e ≡ no.DamagedLog
+      → (IsTrue (g.is_clean new.0) → IsDamaged (g.seen old.0)) × OnlyReads g old.0 new.0 × (new.1 ≡ old.1)
+  pub unharmed : AreUnharmed g old new
+
+abbrev pub IsOfFiles : {D : Type 0} → Ghosts D → Image → OpenError → Type 0
+IsOfFiles {D} g image e = (old new : D × D) × IsOfPair g image e old new
 
 -- Opens that failed, the newest first, with the files that each found: the first found `before`, and each left files that stand
 -- for those that it found. Files that have just been opened are synced, so a crash leaves just these. One during an open counts

@@ -12,7 +12,8 @@ use Rattle.argon2_rows.specs.Table.{IsHonest}
 use Rattle.argon2_store.specs.AccountFile.{Answers, HasNames, IsReady, Serves, Stays, database_of}
 use Rattle.argon2_store.specs.Edits.{Edit, left_by}
 use Rattle.argon2_store.specs.Errors.{is_refusal}
-use Rattle.argon2_store.specs.Opening.{HoldsNames, IsAfterOpens}
+use Rattle.argon2_store.specs.Opening.{HoldsNames, IsAfterOpens, IsTableOf}
+use Rattle.argon2_rows.specs.Rows.{rows_of}
 use Rattle.argon2_store.specs.declared.account_file.AccountFile.{AccountFile}
 use Rattle.argon2_store.specs.declared.error.FileError.{FileError}
 use Rattle.argon2_store.specs.declared.error.FileError.TheVariants.{Closed}
@@ -79,12 +80,18 @@ pub record Run : Type 0 where
   pub calls : List FileCall
   pub left : Image
 
+-- these are the names as the calls of a run made them, with what came late
+abbrev pub AreLeft : Run → Texts → Type 0
+AreLeft run names = (late : List Event) × IsLate run.calls late × AreMade run.found (late ++ flat_map events_of run.calls) names
+
 -- An open finds what the run left: the names as its calls made them, and perhaps what came late. Before it, others may fail.
 abbrev pub IsFound : Run → Type 0
 IsFound run = (opens : List Image) (left : Image) → IsAfterOpens opens run.left left
-    → (names : Texts) → HoldsNames left names
-    → ∥ ((late : List Event) × IsLate run.calls late
-    × AreMade run.found (late ++ flat_map events_of run.calls) names) ∥₁
+    → (names : Texts) → HoldsNames left names → ∥ AreLeft run names ∥₁
+
+-- there is something to find: the files have the table of such names
+abbrev pub HasLeft : Run → Type 0
+HasLeft run = ∥ ((names : Texts) × IsTableOf run.left (rows_of names) × AreLeft run names) ∥₁
 
 abbrev pub over_file : {D : Type 0} {g : disk.Ghosts D} → Ghosts (FileStore D g)
 over_file = record {
@@ -97,11 +104,12 @@ over_file = record {
   names = NamesFault;
 }
 
--- Whatever calls led to the file, an open finds what a crash leaves of it now.
+-- Whatever calls led to the file, a crash leaves a table of names now, and an open finds these.
 abbrev pub EndsRun : {D : Type 0} {g : disk.Ghosts D} → AccountFile (FileStore D g) over_file → Type 0
 EndsRun last = (names : Texts) (first : AccountFile _ over_file) (calls : List FileCall) (left : Image) →
     IsReady names first → Did calls first last → IsHonest over_file (database_of last)
-    → (state (database_of last)).may_leave left → IsFound (record { found = names; calls = calls; left = left })
+    → (state (database_of last)).may_leave left → let run : Run = record { found = names; calls = calls; left = left } in
+    IsFound run × HasLeft run
 
 -- ---- runs
 

@@ -3,15 +3,14 @@
 
 ghost use Rattle.std.specs.Prelude.{◌≡◌, ◌⊎◌, ◌↔◌, [], ◌∷◌, false, Err, IsTrue, IfErr, IfOk, OnOk, map, string_bytes};
 ghost use Rattle.std.specs.FinMap.{get};
-ghost use Rattle.std.specs.Io.KnownBytes.{Appends};
 ghost use Rattle.std.specs.Option.{option_map};
 ghost use Rattle.argon2_rows.specs.Names.{Texts as Named, entry_of};
-ghost use Rattle.argon2_rows.specs.Rows.{AreLines, FitLines, lines_of};
+ghost use Rattle.argon2_rows.specs.Rows.{AreLines};
 ghost use Rattle.argon2_rows.specs.Table.{HasSome, IsHonest, IsOpen};
-ghost use Rattle.argon2_store.specs.Errors.{IsOfDatabase, is_refusal};
+ghost use Rattle.argon2_store.specs.Errors.{IsOfDatabase, IsOfPath, is_refusal, read_by};
 ghost use Rattle.argon2_store.specs.declared.error.OpenError.TheVariants.{DamagedLog, Row as NoAccount};
 
-use crate::error::{FileError, OpenError, read};
+use crate::error::{FileError, LineError, OpenError, line_result, read};
 use crate::opening::{is_damaged, open_files, open_path};
 use argon2_base::phc::PasswordHash;
 use argon2_rows::rows::{load, look_up, write_rows};
@@ -24,7 +23,7 @@ use sqlite_store::FileStore;
 use sqlite_trees::store::Store;
 use sqlite_value::row::Row;
 use std::alloc::{AllocError, Global};
-use std::io::{self, Write};
+use std::io::Write;
 
 /// Names with PHC texts in a file. Once a call that changes a text returns `Ok`, the file holds the change, past any
 /// crash. No name is kept in memory: each call looks its name up in the file.
@@ -48,7 +47,7 @@ pub struct AccountFile<S: Store> {
 pub type AccountsAt<T> = AccountFile<FileStore<FileFrom<T>>>;
 
 impl<S: Store> AccountFile<S> {
-    ghost use Rattle.argon2_store.specs.AccountFile.{HasNames, IsClosed, IsErrorAt, Reads, Serves, database_of, unindexed};
+    ghost use Rattle.argon2_store.specs.AccountFile.{HasNames, IsClosed, IsErrorAt, Reads, Serves, WritesLines, database_of, unindexed};
     ghost use Rattle.argon2_store.specs.Edits.{adding, additions, locking, removing, replacing, setting, text_of, unlocking};
 
     /// Gives a new name a text.
@@ -230,34 +229,28 @@ impl<S: Store> AccountFile<S> {
         read(text)
     }
 
-    /// Writes a line for each name, in the order of the names' bytes, and flushes `output`. The inner result is
-    /// that of writing; after its error some lines may be written. A name that
-    /// [breaks its line](View::breaks_line) ends the writing with an error of the kind
-    /// [`InvalidData`](io::ErrorKind::InvalidData).
-    ///
-    /// No clause says that `output` is flushed.
+    /// Writes a line for each name, in the order of the names' bytes, and flushes `output`. No clause says that it is
+    /// flushed, nor which part of the lines is written if writing fails.
     ///
     /// # Errors
-    /// As [`text_of`](AccountFile::text_of).
-    pub fn write_lines<W: Write>(
-        &mut self,
-        view: View,
-        output: &mut W,
-    ) -> Result<io::Result<()>, FileError>
-        ensures reads { Reads result self.old self.new }
-        ensures shows { (names : Named) → HasNames self.old names → IfOk result (λ done.
-            IsHonest S.Store (database_of self.new) → OnOk done
-            (Appends (W.contents output.old) (W.contents output.new) (lines_of view names)
-            × FitLines view names)) }
+    /// - [`LineError::Breaks`]: a name [breaks its line](View::breaks_line). The lines before that of the first such
+    ///   name are written, and no more.
+    /// - [`LineError::Write`]: `output` can't be written.
+    /// - [`LineError::File`]: those of [`text_of`](AccountFile::text_of).
+    pub fn write_lines<W: Write>(&mut self, view: View, output: &mut W) -> Result<(), LineError>
+        ensures reads { Reads (read_by result) self.old self.new }
+        ensures shows { (names : Named) → HasNames self.old names →
+            IsHonest S.Store (database_of self.new) →
+            WritesLines view names (W.contents output.old) (W.contents output.new) result }
         ensures closed { IsHonest S.Store (database_of self.old) → IsClosed self.old →
             output.new ≡ output.old }
     {
         if self.is_closed() {
-            return Err(FileError::Closed);
+            return Err(LineError::File(FileError::Closed));
         }
         let done = write_rows(&mut self.store, &mut self.row, view, output);
         undo_failed(&mut self.store, &done);
-        read(done)
+        line_result(read(done))
     }
 
     /// The store that holds the names.
@@ -271,16 +264,19 @@ impl<S: Store> AccountFile<S> {
 impl<T: Start> AccountsAt<T> {
     ghost use Rattle.sqlite_wal.specs.Files.{image_at};
     ghost use Rattle.argon2_store.specs.AccountFile.{IsFrom};
+    ghost use Rattle.argon2_store.specs.Opening.{IsOfFiles};
 
     /// Opens the accounts in the SQLite file at a path, or makes the file. Its log lies beside it, under
     /// the same name with `-wal` at its end. `start` stands for what the two files hold: one value of each
     /// type opens one file, and only `main` names the type, such as `sqlite_std_file::Wary`.
     ///
     /// The file stays open, and locked against other processes, until the value is dropped. A new file and its log are
-    /// for their owner alone: their mode is 0600. No clause says so. If the file is removed while it is opened, the one
-    /// that is made in its place has the rights that the umask leaves.
+    /// for their owner alone: their mode is 0600. If the file is removed while it is opened, that is an error. A new file,
+    /// and one that was empty, is a database with no table before its log is begun, so that `sqlite3` opens it after a
+    /// kill. No clause says so.
     ///
-    /// An open that fails leaves the accounts in the file as they were: see [`failed_open`](crate::failed_open).
+    /// An open that fails leaves the accounts in the file as they were: see [`failed_open`](crate::failed_open). Its error is
+    /// one of the path's, or that of [`open_from`](AccountFile::open_from) on the two files.
     ///
     /// # Errors
     /// - [`OpenError::Path`]: the system refuses to open or to make the file.
@@ -290,7 +286,9 @@ impl<T: Start> AccountsAt<T> {
     /// - [`OpenError::NotAccounts`], [`OpenError::Row`]: it holds something else than accounts.
     /// - [`OpenError::Io`], [`OpenError::Full`], [`OpenError::OutOfMemory`].
     pub fn open(rt: &HostRuntime, path: &str, start: T) -> Result<AccountsAt<T>, OpenError>
-        ensures { IfOk result (IsFrom (image_at T.Start)) }
+        ensures ok { IfOk result (IsFrom (image_at T.Start)) }
+        ensures err { IfErr result (λ e. IsOfPath e ⊎
+            IsOfFiles ⟦<FileFrom<T> as Disk>⟧ (image_at T.Start) e) }
     {
         let (files, seed) = open_path(rt, path, start)?;
         match AccountFile::open_from(rt.alloc(), files, seed) {

@@ -1,8 +1,9 @@
 //! Why calls on an account file are refused.
 
 ghost use Rattle.std.specs.Prelude.{◌≡◌, Some};
-ghost use Rattle.argon2_store.specs.Errors.{IsOfDatabase, IsOfPath, file_error_text, files_error, is_refusal, log_error, named, open_error_text, path_error, read_of, store_error};
+ghost use Rattle.argon2_store.specs.Errors.{IsOfDatabase, IsOfPath, file_error_text, files_error, is_refusal, lines_by, log_error, named, open_error_text, path_error, read_of, store_error};
 
+use argon2_rows::Written;
 use sqlite_std_file::OpenError as PathError;
 use sqlite_store::OpenError as UnopenedError;
 use sqlite_trees::error::StoreError;
@@ -104,6 +105,29 @@ pub(crate) fn read<X>(done: Result<X, StoreError>) -> Result<X, FileError>
         Err(StoreError::Broken) => Err(FileError::Damaged),
         Err(error) => Err(error.into()),
     }
+}
+
+// What became of the lines of a file.
+pub(crate) fn line_result(done: Result<Written, FileError>) -> Result<(), LineError>
+    ensures { result ≡ lines_by done }
+{
+    match done {
+        Ok(Written::All) => Ok(()),
+        Ok(Written::Breaks) => Err(LineError::Breaks),
+        Ok(Written::Failed(error)) => Err(LineError::Write(error)),
+        Err(error) => Err(LineError::File(error)),
+    }
+}
+
+/// Why the lines of accounts are not all written.
+#[derive(Clone, Copy, Debug)]
+pub enum LineError {
+    /// The file can't be read.
+    File(FileError),
+    /// The line of a name would read as that of another.
+    Breaks,
+    /// The output can't be written.
+    Write(io::Error),
 }
 
 /// Why a file is not opened. The accounts in it are then as they were.

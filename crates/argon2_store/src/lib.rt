@@ -31,5 +31,5 @@ mod runs;
 
 pub use account_file::{AccountFile, AccountsAt};
 pub use argon2_rows::{StoredText, View};
-pub use error::{FileError, OpenError};
+pub use error::{FileError, LineError, OpenError};
 pub use runs::{account_file_runs, failed_open, next_run};

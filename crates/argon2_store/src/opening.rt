@@ -30,10 +30,10 @@ use sqlite_trees::store::Shape;
 use sqlite_value::keys::Order;
 use sqlite_wal::checksum_of;
 use std::alloc::{AllocFailed, Global};
-use std::fs::OpenOptions;
+use std::fs::{self, File, OpenOptions};
 use std::hash::{BuildHasher, RandomState};
-use std::io::{self, ErrorKind};
-use std::os::unix::fs::OpenOptionsExt;
+use std::io::{self, ErrorKind, Write};
+use std::os::unix::fs::{MetadataExt, OpenOptionsExt};
 
 const SQL: &str =
     "CREATE TABLE account (name TEXT NOT NULL PRIMARY KEY, phc TEXT NOT NULL) WITHOUT ROWID";
@@ -56,6 +56,15 @@ const CACHED: usize = 500;
 
 // The bytes of a log's header and of the one of its first frame.
 const HEADERS: usize = 56;
+
+// The only page of a database with a log that lists no table, up to its last byte that is not zero: the header, and a leaf
+// without cells.
+const FIRST: [u8; 106] = [
+    83, 81, 76, 105, 116, 101, 32, 102, 111, 114, 109, 97, 116, 32, 51, 0, 16, 0, 2, 2, 0, 64, 32,
+    32, 0, 0, 0, 0, 0, 0, 0, 1, 0, 0, 0, 0, 0, 0, 0, 0, 0, 0, 0, 1, 0, 0, 0, 4, 0, 0, 0, 0, 0, 0,
+    0, 0, 0, 0, 0, 1, 0, 0, 0, 0, 0, 0, 0, 0, 0, 0, 0, 0, 0, 0, 0, 0, 0, 0, 0, 0, 0, 0, 0, 0, 0, 0,
+    0, 0, 0, 0, 0, 0, 0, 0, 0, 0, 0, 46, 118, 136, 13, 0, 0, 0, 0, 16,
+];
 
 // The first byte of a log's magic number.
 const MAGIC: u8 = 0x37;
@@ -200,23 +209,93 @@ pub(crate) fn is_damaged<D: Disk>(log: &mut D) -> io::Result<bool>
     Ok(head[0] == MAGIC && !is_signed(&head))
 }
 
-// Makes an empty file for its owner alone, unless something has its name. The kit's open would make one that all may read.
-fn make(rt: &HostRuntime, path: &str) -> Result<(), OpenError>
-    ensures { IfErr result IsOfPath }
+// The error of the system on a new file.
+fn refused(error: io::Error) -> OpenError
+    ensures { IsOfPath result }
 {
-    match OpenOptions::new()
+    match error.kind() {
+        ErrorKind::OutOfMemory => OpenError::OutOfMemory,
+        ErrorKind::StorageFull => OpenError::Full,
+        _ => OpenError::Path(error),
+    }
+}
+
+// Makes a file for its owner alone, or opens one that is empty, and says which. `None` is anything else that has the name.
+fn empty_file(rt: &HostRuntime, path: &str) -> io::Result<Option<(File, bool)>> {
+    let made = OpenOptions::new()
         .write(true)
         .create_new(true)
         .mode(0o600)
-        .open(rt, path)
-    {
-        Ok(_) => Ok(()),
-        Err(error) => match error.kind() {
-            ErrorKind::AlreadyExists => Ok(()),
-            ErrorKind::OutOfMemory => Err(OpenError::OutOfMemory),
-            _ => Err(OpenError::Path(error)),
-        },
+        .open(rt, path);
+    match made {
+        Ok(file) => return Ok(Some((file, true))),
+        Err(error) if error.kind() == ErrorKind::AlreadyExists => {}
+        Err(error) => return Err(error),
     }
+    match fs::metadata(rt, path) {
+        Ok(found) if found.is_file() && found.len() == 0 && found.nlink() == 1 => {}
+        _ => return Ok(None),
+    }
+    let Ok(file) = OpenOptions::new().write(true).open(rt, path) else {
+        return Ok(None);
+    };
+    Ok(Some((file, false)))
+}
+
+// Whether the path names this file.
+fn is_at(rt: &HostRuntime, file: &File, path: &str) -> io::Result<bool> {
+    let (found, named) = (file.metadata()?, fs::metadata(rt, path)?);
+    Ok(found.dev() == named.dev() && found.ino() == named.ino())
+}
+
+// Writes a database with no table into an empty file. It has one page, which is written whole before there is a log, so that
+// sqlite3 opens what a kill leaves. A failure leaves the file empty.
+fn begin(file: &mut File) -> io::Result<()> {
+    let mut page = [0; PAGE];
+    page[..FIRST.len()].copy_from_slice(&FIRST);
+    let done = file.write_all(&page);
+    if done.is_err() {
+        file.set_len(0)?;
+    }
+    done?;
+    file.sync_all()
+}
+
+// Makes a database for its owner alone, or in a file that is empty, unless something else has its name. The kit's open would
+// make a file that all may read.
+fn make(rt: &HostRuntime, path: &str) -> Result<(), OpenError>
+    ensures { IfErr result IsOfPath }
+{
+    let (mut file, is_new) = match empty_file(rt, path) {
+        Ok(Some(found)) => found,
+        Ok(None) => return Ok(()),
+        Err(error) => return Err(refused(error)),
+    };
+    // Of the processes that open the file by this call one writes the page. SQLite takes another lock, for which std has no call.
+    if file.try_lock().is_err() {
+        return Err(OpenError::Busy);
+    }
+    // Before the lock another process may have written or replaced the file.
+    if file.metadata()?.len() != 0 || !is_at(rt, &file, path)? {
+        return Ok(());
+    }
+    match begin(&mut file) {
+        Ok(()) => Ok(()),
+        Err(error) => {
+            if is_new {
+                fs::remove_file(rt, path)?;
+            }
+            Err(refused(error))
+        }
+    }
+}
+
+// The regular file at a path.
+fn held(rt: &HostRuntime, path: &str) -> io::Result<File> {
+    if !fs::metadata(rt, path)?.is_file() {
+        return Err(ErrorKind::Unsupported.into());
+    }
+    File::open(rt, path)
 }
 
 // Opens the files at a path, or makes them, and draws a seed.
@@ -232,7 +311,12 @@ pub(crate) fn open_path<T: Start>(
     ensures error { IfErr result IsOfPath }
 {
     make(rt, path)?;
+    let held = held(rt, path)?;
     let files = sqlite_std_file::open(rt, path, start)?;
+    // If the file was removed meanwhile, the kit's open has made one that all may read.
+    if !is_at(rt, &held, path)? {
+        return Err(OpenError::Path(ErrorKind::NotFound.into()));
+    }
     let state = RandomState::new(rt)?;
     Ok((files, state.hash_one(&0u8)))
 }

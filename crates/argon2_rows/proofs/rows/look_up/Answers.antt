@@ -14,4 +14,4 @@ returns-in_err-copy_text-in-Some-true-clause-reads g c names texts sees =
     (writes_less _ (reads_ok g.S.Store c.in_ok-find.ensures.same c.find.ensures.schema c.find.ensures.quiet) (λ clean.
     let (text, has, at) = (rw (c.in-Some-true.is, c.in-Some-true.field-0-test) at c.in_ok-find.ensures.found) names clean
     (sees (omega (arith, clean, c.find.ensures.quiet.clean)) (c.in_ok-find.ensures.sound clean)).0 in
-    rw (c.in_err-copy_text-in-Some-true.ensures (c.args.name.now, text) (texts c.args.name.now text has).1 at) tt))
+    rw (c.in_err-copy_text-in-Some-true.ensures (c.args.name.now, text) (texts c.args.name.now text has).1 at) (search arith)))

@@ -1,7 +1,7 @@
 use Rattle.argon2_rows.proofs.Imports.{rules, arith, Result, Err, StoreError, IsHonest}
 use Rattle.sqlite_trees.specs.declared.error.StoreError.TheVariants.{Corrupt, OutOfMemory}
-use Rattle.argon2_rows.proofs.LineLemmas.{all_lines, begin_lines, its_name, next_row}
-use Rattle.argon2_rows.proofs.TableLemmas.{err_is, on_all, reads_ok, writes_less, writes_row, writes_then}
+use Rattle.argon2_rows.proofs.LineLemmas.{all_lines, all_written, begin_lines, its_name, next_row, stops}
+use Rattle.argon2_rows.proofs.TableLemmas.{err_is, reads_ok, writes_less, writes_row, writes_then}
 use Rattle.argon2_rows.proofs.rows.write_rows.Goals as goal
 
 pub loop-init : goal.loop-init
@@ -16,7 +16,7 @@ loop-preserved g c = (
   λ names. writes_then (c.loop.invariant.1 names) (search (arith, reads_ok)) (λ never. never),
   λ clean names sees. next_row c.args.view _ _ _ names _ _ _ _ (c.loop.invariant.2 (search arith) names sees)
       (rw c.if-not-branch.false at (c.in_ok-next.ensures.ok clean))
-      (λ e is. rw c.in-Some-Ok.field-0-is at (c.in-Some-Ok.ensures e is)),
+      (λ e is. rw c.in-Some-All.field-0-is at (c.in-Some-All.ensures e is)),
 )
 
 pub returns-in_err-next-clause-reads : goal.returns-in_err-next-clause-reads
@@ -26,7 +26,8 @@ returns-in_err-next-clause-reads g c names texts sees =
 
 pub returns-then-not-branch-clause-shows : goal.returns-then-not-branch-clause-shows
 returns-then-not-branch-clause-shows g c names texts sees clean =
-    on_all c.flush.result (all_lines c.args.view _ _ (g.S.Store.view c.next.new.self) names _ _ _ c.next.new.row
+    all_written c.args.view names _ _ c.flush.result _ c.outcome.ensures
+    (all_lines c.args.view _ _ (g.S.Store.view c.next.new.self) names _ _ _ c.next.new.row
     (c.loop.invariant.2 (search arith) names sees) (rw c.if-not-branch.true at (c.in_ok-next.ensures.ok clean))
     c.flush.ensures.bytes)
 
@@ -34,8 +35,18 @@ pub returns-then-not-branch-clause-reads : goal.returns-then-not-branch-clause-r
 returns-then-not-branch-clause-reads g c names texts sees =
     writes_then (c.loop.invariant.1 names) (search (arith, reads_ok)) (λ never. never)
 
-pub returns-in-Some-Err-clause-reads : goal.returns-in-Some-Err-clause-reads
-returns-in-Some-Err-clause-reads g c names texts sees =
+pub returns-in-Some-Breaks-clause-reads : goal.returns-in-Some-Breaks-clause-reads
+returns-in-Some-Breaks-clause-reads g c names texts sees =
+    writes_then (c.loop.invariant.1 names) (search (arith, reads_ok)) (λ never. never)
+
+pub returns-in-Some-Breaks-clause-shows : goal.returns-in-Some-Breaks-clause-shows
+returns-in-Some-Breaks-clause-shows g c names texts sees clean =
+    stops c.args.view _ _ (g.S.Store.view c.next.new.self) names _ _ _ c.next.new.row
+    (c.loop.invariant.2 (search arith) names sees) (rw c.if-not-branch.false at (c.in_ok-next.ensures.ok clean))
+    (λ e is. rw c.in-Some-Breaks.field-0-is at (c.in-Some-Breaks.ensures e is))
+
+pub returns-in-Some-Failed-clause-reads : goal.returns-in-Some-Failed-clause-reads
+returns-in-Some-Failed-clause-reads g c names texts sees =
     writes_then (c.loop.invariant.1 names) (search (arith, reads_ok)) (λ never. never)
 
 -- each row has two texts
@@ -49,7 +60,7 @@ returns-in-None-clause-reads g c names texts sees =
     (rw c.if-not-branch.false at (c.in_ok-next.ensures.ok clean)) in
     c.in-None.ensures e is in
     writes_then (c.loop.invariant.1 names) (writes_row g.S.Store failed tt (λ clean. absurd {0} (never clean)) tt
-    (λ clean. absurd {0} (never clean)) c.next.ensures.schema c.next.ensures.quiet) (λ never. never)
+    (λ clean. absurd {0} (never clean)) (λ clean. absurd {0} (never clean)) c.next.ensures.schema c.next.ensures.quiet) (λ never. never)
 
 pub returns-clause-reads : goal.returns-clause-reads
-returns-clause-reads g c names texts sees = writes_less OutOfMemory (c.loop.invariant.1 names) (λ clean. tt)
+returns-clause-reads g c names texts sees = writes_less OutOfMemory (c.loop.invariant.1 names) (λ clean. search arith)

@@ -10,4 +10,4 @@ returns-clause-writes g c names none =
     (λ clean. insert_entry-rows_of names c.args.name.now c.args.text.now (none clean)) c.insert.ensures.ok
     c.insert.ensures.frame c.insert.ensures.err (λ clean. IfErr-weaker c.insert.result _ _ (cause_map old old (λ b. b) (λ f. f)
     (is_long (old.reals 0) _ (c.args.name.now, c.args.text.now) c.in_ok-lay.ensures))
-    (c.insert.ensures.cause clean)) c.insert.ensures.schema c.insert.ensures.quiet
+    (c.insert.ensures.cause clean)) c.insert.ensures.told c.insert.ensures.schema c.insert.ensures.quiet

@@ -7,4 +7,4 @@ pub returns-clause-writes : goal.returns-clause-writes
 returns-clause-writes g c names has =
     edits_row g.S.Store remove_entry c.remove.result c.requires c.in_ok-lay.ensures
     (λ clean. remove_entry-rows_of names c.args.name.now c.args.text.now (has clean)) c.remove.ensures.ok
-    c.remove.ensures.frame c.remove.ensures.err c.remove.ensures.cause c.remove.ensures.schema c.remove.ensures.quiet
+    c.remove.ensures.frame c.remove.ensures.err c.remove.ensures.cause c.remove.ensures.told c.remove.ensures.schema c.remove.ensures.quiet

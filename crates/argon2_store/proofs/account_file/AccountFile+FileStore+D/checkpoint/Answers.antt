@@ -1,5 +1,5 @@
 use Rattle.argon2_store.proofs.Imports.{arith, settled_at, over_file}
-use Rattle.argon2_store.proofs.FileLemmas.{reads_of, shut_out}
+use Rattle.argon2_store.proofs.FileLemmas.{due_both, reads_of, shut_out}
 use Rattle.argon2_rows.proofs.TableLemmas.{has_same, some_kept}
 use Rattle.argon2_store.proofs.account_file.AccountFile+FileStore+D.checkpoint.Goals as goal
 
@@ -17,6 +17,7 @@ returns-clause-call g c names has =
     c.is_closed.ensures c.if-is_closed.false _ c.checkpoint.result names has (
       has_same over_file c.args.self.now.store c.checkpoint.new.self names (search arith) done.same has,
       done.«open»,
-      done.cause,
+      (λ clean. due_both (over_file {g = g.D.Disk}) c.args.self.now.store c.checkpoint.new.self ⊥ c.checkpoint.result
+          (done.cause clean) done.told),
       done.quiet,
     ) _ c.read.ensures
