@@ -1,39 +1,32 @@
 -- How what is asked for ended, by how a call for it ended.
-use Rattle.std.proofs.Common.{arith, ◌≡◌, ◌⊎◌, ℕ, false, Bool, List, [], Option, Result, Ok, Err, inl, inr, refl, ap, subst, sym, ◌∙◌}
+use Rattle.std.proofs.Common.{arith, ◌≡◌, ◌⊎◌, ℕ, false, Bool, List, [], Option, None, Some, Result, Ok, Err, inl, inr, refl, ap, subst, sym, ◌∙◌}
 use Rattle.std.specs.Io.KnownBytes.{Keeps}
-use Rattle.std.specs.Prelude.{IfErr, IsErrAnd, OnOk}
+use Rattle.std.specs.Prelude.{◌≢◌, IfErr, IfSome, IsErrAnd, OnOk}
 use Rattle.sqlite_trees.specs.declared.store.Store.{Ghosts}
 use Rattle.argon2_base.specs.PhcText.{Phc}
 use Rattle.argon2.specs.declared.bound.BoundError.{BoundError}
 use Rattle.argon2_policy.specs.Policy.{IsPolicy, Policy}
 use Rattle.argon2_rows.specs.Names.{Texts}
-use Rattle.argon2_store.specs.AccountFile.{database_of}
-use Rattle.argon2_store.specs.Errors.{is_refusal}
+use Rattle.argon2_store.specs.AccountFile.{database_of, error_of}
+use Rattle.argon2_store.specs.Errors.{is_refusal, read_by}
 use Rattle.argon2_store.specs.declared.account_file.AccountFile.{AccountFile}
 use Rattle.argon2_store.specs.declared.error.FileError.{FileError}
-use Rattle.argon2_passwd.specs.Answers.{AddsLines, AreRead, HasNone, IsAct, IsAnswered, IsDenied, IsEnded, IsImported, IsOnce, IsOpenFor, IsOpened, IsRefused, IsServed, IsUnfit, Under, breaks_lines}
+use Rattle.argon2_store.specs.declared.error.LineError.{LineError}
+use Rattle.argon2_store.specs.declared.error.LineError.TheVariants as lines
+use Rattle.argon2_passwd.specs.Answers.{AddsLines, AreRead, IsAct, IsAnswered, IsDenied, IsEnded, IsImported, IsOnce, IsOpenFor, IsOpened, IsRefused, IsServed, IsUnfit, Under, breaks_lines}
 use Rattle.argon2_passwd.specs.Asked.{Asked, Choices, edit, import}
-use Rattle.argon2_passwd.specs.Failures.{IsOfFile, status_of}
-use Rattle.argon2_passwd.specs.Passwords.{IsUnread}
+use Rattle.argon2_passwd.specs.Failures.{IsOfFile, IsOfLines, status_of}
 use Rattle.argon2_passwd.specs.declared.command.Edit.{Edit}
 use Rattle.argon2_passwd.specs.declared.failure.Failure.{Failure}
+use Rattle.argon2_passwd.specs.declared.failure.Failure.TheVariants.{Params}
 
-pub passed : {X : Type 0} {P : Type 0} → (f : Failure) (r : Result X Failure) → IsErrAnd r (λ e. e ≡ f)
-    → (status_of f ≡ 1 → P) → IfErr r (λ e. status_of e ≡ 1 → P)
-passed f r is why = grind arith
+pub passed : {X : Type 0} (P : Failure → Type 0) (f : Failure) (r : Result X Failure) → IsErrAnd r (λ e. e ≡ f)
+    → (status_of f ≢ 3 → P f) → IfErr r (λ e. status_of e ≢ 3 → P e)
+passed P f (Ok x) is why = tt
+passed P f (Err e) is why = subst (λ (x : Failure). status_of x ≢ 3 → P x) (sym is) why
 
 pub keeps_same : (known : Option (List ℕ)) → Keeps known known
 keeps_same known = grind arith
-
--- an input that is refused for its password has none
-pub none_read : (input : Option (List ℕ)) (f : Failure) → IsUnread input f → status_of f ≡ 1
-    → HasNone input
-none_read input f is one = grind arith
-
--- what holds in any case holds if a call is refused
-pub in_any_case : {X : Type 0} (P : Type 0) (r : Result X Failure) → P
-    → IfErr r (λ f. status_of f ≡ 1 → P)
-in_any_case P r p = grind arith
 
 -- a result that is an error
 pub some_error : {X : Type 0} (Q : Failure → Type 0) (r : Result X Failure) → IsErrAnd r Q
@@ -51,53 +44,71 @@ error_is (Err e) f is = let same : e ≡ f = cc in same
 
 -- what has no value refuses a call for whatever reason one that has may be refused
 pub denied_then : (Why : Phc → BoundError → Type 0) (o : Option (List ℕ)) (f : Failure) → IsDenied (λ v e. ⊥) o f → IsDenied Why o f
-denied_then Why o f is = grind arith
+denied_then Why None f is = is
+denied_then Why (Some text) f (inl shut) = inl shut
+denied_then Why (Some text) f (inr (v, e, says, never, of)) = absurd never
 
 -- what is asked for was done at most once if no file was opened
-unopened : {S : Type 0} (g : Ghosts S) (Has : List ℕ → Texts → Type 0) (Closed : List S → Type 0) (policy : Policy) (what : Asked)
-    (input : Option (List ℕ)) → Closed [] → IsOnce g Has policy what input Closed
-unopened g Has Closed policy what input shut = grind arith
+unopened : {S : Type 0} (g : Ghosts S) (Has : List ℕ → Texts → Type 0) (Gives : List ℕ → Type 0) (Closed : List S → Type 0) (policy : Policy) (what : Asked)
+    (input : Option (List ℕ)) → Closed [] → IsOnce g Has Gives policy what input Closed
+unopened g Has Gives Closed policy what input shut = grind arith
 
 -- an error of the file is no refusal
 no_refusal : (e : FileError) (f : Failure) → IsOfFile e f → is_refusal e ≡ false → status_of f ≡ 3
 no_refusal e f is file = grind arith
 
-module _ {S : Type 0} {g : Ghosts S} {Has : List ℕ → Texts → Type 0} {Closed : List S → Type 0} {policy : Policy} {what : Asked}
+-- nor is one of lines
+no_line : (e : LineError) (f : Failure) → IsOfLines e f → IfSome (error_of (read_by (Err e))) (λ error. is_refusal error ≡ false)
+    → status_of f ≡ 3
+no_line (lines.File e) f is file = no_refusal e f is file
+no_line lines.Breaks f is file = ap status_of is
+no_line (lines.Write e) f is file = grind arith
+
+module _ {S : Type 0} {g : Ghosts S} {Has : List ℕ → Texts → Type 0} {Gives : List ℕ → Type 0} {Closed : List S → Type 0} {policy : Policy} {what : Asked}
     {input old new : Option (List ℕ)} where
   -- it ended with this failure
   pub failed : (f : Failure) (r : Result (Unit {0}) Failure) → IsErrAnd r (λ e. e ≡ f)
-      → (status_of f ≡ 1 → IsRefused g Has policy what input Closed × Keeps old new)
-      → IsOnce g Has policy what input Closed → IsServed g Has policy what r input old new Closed
+      → (status_of f ≢ 3 → IsRefused g Has Gives policy what input f Closed × Keeps old new)
+      → IsOnce g Has Gives policy what input Closed → IsServed g Has Gives policy what r input old new Closed
   failed f (Ok x) is why once = absurd is
-  failed f (Err e) is why once =
-      record { ok = tt; err = λ one. why (subst (λ (same : Failure). status_of same ≡ 1) is one); once = once }
+  failed f (Err e) is why once = record {
+    ok = tt;
+    err = subst (λ (x : Failure). status_of x ≢ 3 → IsRefused g Has Gives policy what input x Closed × Keeps old new) (sym is) why;
+    once = once;
+  }
 
   -- it ended with this failure before a file was opened
   pub not_opened : (f : Failure) (r : Result (Unit {0}) Failure) → IsErrAnd r (λ e. e ≡ f)
-      → (status_of f ≡ 1 → (¬ (IsPolicy policy) ⊎ IsUnfit policy what input) × Keeps old new)
-      → Closed [] → IsServed g Has policy what r input old new Closed
+      → (status_of f ≢ 3 → ((¬ (IsPolicy policy) × (f ≡ Params)) ⊎ IsUnfit policy what input f) × Keeps old new)
+      → Closed [] → IsServed g Has Gives policy what r input old new Closed
   not_opened f r is why shut =
-      failed f r is (λ one. (inl ((why one).0, shut), (why one).1)) (unopened g Has Closed policy what input shut)
+      failed f r is (λ isnt. (inl ((why isnt).0, shut), (why isnt).1)) (unopened g Has Gives Closed policy what input shut)
 
   -- the same with a failure that is no refusal
   pub not_begun : (f : Failure) (r : Result (Unit {0}) Failure) → IsErrAnd r (λ e. e ≡ f)
-      → status_of f ≡ 3 → Closed [] → IsServed g Has policy what r input old new Closed
-  not_begun f r is three shut = not_opened f r is (λ one. absurd (let never = one in cc)) shut
+      → status_of f ≡ 3 → Closed [] → IsServed g Has Gives policy what r input old new Closed
+  not_begun f r is three shut = not_opened f r is (λ isnt. absurd (isnt three)) shut
 
   -- it ended with an error of a call on the file that is no refusal
   pub failed_by : (e : FileError) (r : Result (Unit {0}) Failure) → IsErrAnd r (IsOfFile e) → is_refusal e ≡ false
-      → IsOnce g Has policy what input Closed → IsServed g Has policy what r input old new Closed
+      → IsOnce g Has Gives policy what input Closed → IsServed g Has Gives policy what r input old new Closed
   failed_by e (Ok x) is file once = absurd is
-  failed_by e (Err f) is file once =
-      record { ok = tt; err = λ one. absurd (let never : 3 ≡ 1 = sym (no_refusal e f is file) ∙ one in cc); once = once }
+  failed_by e (Err f) is file once = record { ok = tt; err = λ isnt. absurd (isnt (no_refusal e f is file)); once = once }
+
+  -- it ended with an error of lines that were to be written
+  pub failed_lines : (e : LineError) (r : Result (Unit {0}) Failure) → IsErrAnd r (IsOfLines e)
+      → IfSome (error_of (read_by (Err e))) (λ error. is_refusal error ≡ false)
+      → IsOnce g Has Gives policy what input Closed → IsServed g Has Gives policy what r input old new Closed
+  failed_lines e (Ok x) is file once = absurd is
+  failed_lines e (Err f) is file once = record { ok = tt; err = λ isnt. absurd (isnt (no_line e f is file)); once = once }
 
   -- it ended as a call of which all is known
-  pub ended : {P Q : Type 0} (r : Result (Unit {0}) Failure) → OnOk r P
-      → IfErr r (λ f. status_of f ≡ 1 → Q) → (P → IsAnswered g Has policy what input old new Closed)
-      → (Q → IsRefused g Has policy what input Closed × Keeps old new)
-      → IsOnce g Has policy what input Closed → IsServed g Has policy what r input old new Closed
-  ended (Ok x) is refuses next why once = record { ok = next is; err = tt; once = once }
-  ended (Err f) is refuses next why once = record { ok = tt; err = λ one. why (refuses one); once = once }
+  pub ended : {P : Type 0} (Q : Failure → Type 0) (r : Result (Unit {0}) Failure) → OnOk r P
+      → IfErr r (λ f. status_of f ≢ 3 → Q f) → (P → IsAnswered g Has Gives policy what input old new Closed)
+      → ((f : Failure) → Q f → IsRefused g Has Gives policy what input f Closed × Keeps old new)
+      → IsOnce g Has Gives policy what input Closed → IsServed g Has Gives policy what r input old new Closed
+  ended Q (Ok x) is refuses next why once = record { ok = next is; err = tt; once = once }
+  ended Q (Err f) is refuses next why once = record { ok = tt; err = λ isnt. why f (refuses isnt); once = once }
 
 module _ {S : Type 0} {g : Ghosts S} {Has : List ℕ → Texts → Type 0} where
   -- a file was opened, used so and closed
@@ -113,11 +124,12 @@ module _ {S : Type 0} {g : Ghosts S} {Has : List ℕ → Texts → Type 0} where
       → IsOpenFor g Has path Does Next → IsOpenFor g Has path Did Next
   does_then did is = opened_for is.before is.after is.opened (did is.before is.after is.does) is.next
 
+module _ {S : Type 0} {g : Ghosts S} {Has : List ℕ → Texts → Type 0} {Gives : List ℕ → Type 0} where
   -- a change of a name's text is served as it ended
   pub acted : {policy : Policy} {path name : List ℕ} {act : Edit} {input output : Option (List ℕ)} {Closed : List S → Type 0}
       (first second : List ℕ) (r : Result (Unit {0}) Failure) → breaks_lines act name ≡ false → AreRead act input first second
-      → IsAct g Has policy path act name first second r Closed
-      → IsServed g Has policy (edit path act name) r input output output Closed
+      → IsAct g Has Gives policy path act name first second r Closed
+      → IsServed g Has Gives policy (edit path act name) r input output output Closed
   acted first second (Ok x) named read (inl change) = record {
     ok = ((named, first, second, read, change), keeps_same _);
     err = tt;
@@ -126,7 +138,7 @@ module _ {S : Type 0} {g : Ghosts S} {Has : List ℕ → Texts → Type 0} where
   acted first second (Ok x) named read (inr (shut, never)) = absurd never
   acted first second (Err f) named read (inl change) = record {
     ok = tt;
-    err = λ one. (inr (f, one, (named, first, second, read, change)), keeps_same _);
+    err = λ isnt. (inr (named, first, second, read, change), keeps_same _);
     once = inr (Err f, (named, first, second, read, change));
   }
   acted first second (Err f) named read (inr (shut, three)) = not_begun f (Err f) refl three shut
@@ -135,7 +147,7 @@ module _ {S : Type 0} {g : Ghosts S} {Has : List ℕ → Texts → Type 0} where
   pub imported : {policy : Policy} {path : List ℕ} {any_text : Bool} {input output : Option (List ℕ)}
       {Closed : List S → Type 0} (r : Result (Unit {0}) Failure)
       → IsImported g Has path any_text (AddsLines r) input Closed
-      → IsServed g Has policy (import path any_text) r input output output Closed
+      → IsServed g Has Gives policy (import path any_text) r input output output Closed
   imported (Ok x) (es, known, did) = record {
     ok = ((es, known, did), keeps_same _);
     err = tt;
@@ -143,27 +155,31 @@ module _ {S : Type 0} {g : Ghosts S} {Has : List ℕ → Texts → Type 0} where
   }
   imported (Err f) (es, known, did) = record {
     ok = tt;
-    err = λ one. (inr (f, one, (es, known, does_then (λ before after adds. adds.1 one) did)), keeps_same _);
+    err = λ isnt. (inr (es, known, does_then (λ before after adds. adds.1 isnt) did), keeps_same _);
     once = inr (es, known, does_then (λ before after adds. adds.0) did);
   }
 
-module _ {S : Type 0} {g : Ghosts S} (Holds : List ℕ → List ℕ → Type 0) {Has : List ℕ → Texts → Type 0} (choices : Choices)
+module _ {S : Type 0} {g : Ghosts S} (Holds : List ℕ → List ℕ → Type 0) {Has : List ℕ → Texts → Type 0}
+    {Gives : List ℕ → Type 0} (choices : Choices)
     {what : Asked} {input old new : Option (List ℕ)} {Closed : List S → Type 0} where
   -- what is known of a command that ended well, was refused, or ended at all
-  pub answered : (x : Unit {0}) → IsEnded g Holds Has choices what (Ok x) input old new Closed
-      → Under Holds choices (λ policy. IsAnswered g Has policy what input old new Closed)
-  answered x ends = elim ends [ inl (shut, never) ↦ absurd never | inr (secret, held, served) ↦ (secret, held, served.ok) ]
+  pub answered : (x : Unit {0}) → IsEnded g Holds Has Gives choices what (Ok x) input old new Closed
+      → Under Holds choices (λ policy. IsAnswered g Has Gives policy what input old new Closed)
+  answered x ends = elim ends [ inl (shut, never) ↦ absurd never | inr (secret, held, old, had, served) ↦ (secret, held, old, had, served.ok) ]
 
-  pub denied : (f : Failure) → status_of f ≡ 1 → IsEnded g Holds Has choices what (Err f) input old new Closed
-      → Under Holds choices (λ policy. IsRefused g Has policy what input Closed) × Keeps old new
-  denied f one ends = elim ends [
-    | inl (shut, three) ↦ absurd (let never = one in cc)
-    | inr (secret, held, served) ↦ ((secret, held, (served.err one).0), (served.err one).1)
+  pub denied : (f : Failure) (status : ℕ) → status ≡ status_of f → status ≢ 3
+      → IsEnded g Holds Has Gives choices what (Err f) input old new Closed
+      → Under Holds choices (λ policy. (why : Failure) × (status_of why ≡ status) × IsRefused g Has Gives policy what input why Closed)
+      × Keeps old new
+  denied f status is isnt ends = elim ends [
+    | inl (shut, three) ↦ absurd (isnt (is ∙ three))
+    | inr (secret, held, old, had, served) ↦
+        let refused = served.err (λ three. isnt (is ∙ three)) in ((secret, held, old, had, (f, sym is, refused.0)), refused.1)
   ]
 
-  pub done_once : (r : Result (Unit {0}) Failure) → IsEnded g Holds Has choices what r input old new Closed
-      → Closed [] ⊎ Under Holds choices (λ policy. IsOnce g Has policy what input Closed)
+  pub done_once : (r : Result (Unit {0}) Failure) → IsEnded g Holds Has Gives choices what r input old new Closed
+      → Closed [] ⊎ Under Holds choices (λ policy. IsOnce g Has Gives policy what input Closed)
   done_once r ends = elim ends [
     | inl (shut, three) ↦ inl shut
-    | inr (secret, held, served) ↦ inr (secret, held, served.once)
+    | inr (secret, held, old, had, served) ↦ inr (secret, held, old, had, served.once)
   ]

@@ -1,28 +1,31 @@
 -- What the program answers.
-use Rattle.std.specs.Prelude.{◌≡◌, ◌⊎◌, ⊤, ℕ, zero, suc, ◌==◌, false, Bool, ◌+◌, IsOk, IsTrue, List, [], ◌∷◌, ◌++◌, if◌then◌else◌, Option, Some, None, IfSome, Result, Ok, Err, IfErr, IfOk, IsErrAnd, OnOk}
+use Rattle.std.specs.Prelude.{◌≡◌, ◌≢◌, ◌⊎◌, ⊤, ℕ, zero, suc, ◌==◌, ◌||◌, true, false, Bool, ◌+◌, IsOk, IsTrue, List, [], ◌∷◌, ◌++◌, if◌then◌else◌, Option, Some, None, IfSome, Result, Ok, Err, IfErr, IfOk, IsErrAnd, IsSomeAnd, OnOk}
 use Rattle.std.specs.Borrow.{Bor}
 use Rattle.std.specs.Io.BufRead.{drop_through}
-use Rattle.std.specs.List.{AllZip, after_first, before_first}
+use Rattle.std.specs.List.{AllZip, after_first, before_first, list_any}
 use Rattle.std.specs.Option.{option_map}
 use Rattle.std.specs.Io.KnownBytes.{Appends, Keeps}
-use Rattle.std.specs.Str.{is_utf8}
+use Rattle.std.specs.Char.{is_control}
+use Rattle.std.specs.Str.{chars, is_utf8}
 use Rattle.std.specs.Str.Lines.{lines}
 use Rattle.std.specs.FinMap.{get}
 use Rattle.argon2_base.specs.PhcText.{Phc, PhcText, phc_text}
 use Rattle.argon2_base.specs.declared.error.password_hash.Error.TheVariants.{EncodingInvalid, PasswordInvalid}
 use Rattle.sqlite_trees.specs.declared.store.Store.{Ghosts}
 use Rattle.argon2.specs.Login.{accepted_text}
-use Rattle.argon2.specs.Made.{IsFresh}
-use Rattle.argon2.specs.Stored.{shown_settings}
+use Rattle.argon2.specs.TextHashing.{IsFresh}
+use Rattle.argon2.specs.StoredTexts.{shown_settings}
 use Rattle.argon2.specs.declared.bound.BoundError.{BoundError}
 use Rattle.argon2.specs.declared.bound.BoundError.TheVariants as bound
 use Rattle.argon2.specs.declared.login.answers.Accepted.{Accepted}
 use Rattle.argon2.specs.declared.login.answers.Accepted.TheVariants.{Kept, Rehashed}
 use Rattle.argon2_policy.specs.Policy.{Admits, ChangeRefusal, Denial, IsPolicy, LogsIn, Policy}
-use Rattle.argon2_programs.specs.Prefixes.{bare}
+use Rattle.argon2_programs.specs.Prefixes.{after_any, bare}
+use Rattle.argon2_programs.specs.Schemes.{scheme_of}
 use Rattle.argon2_rows.specs.Locks.{IsStored, is_locked, without_lock}
 use Rattle.argon2_rows.specs.Names.{IsFirstTaken, Texts}
-use Rattle.argon2_rows.specs.Rows.{FitLines, breaks_line, lines_of}
+use Rattle.argon2_rows.specs.Rows.{AreWritten, breaks_line}
+use Rattle.argon2_rows.specs.declared.view.Written.TheVariants.{All}
 use Rattle.argon2_rows.specs.Table.{IsHonest}
 use Rattle.argon2_rows.specs.declared.view.View.TheVariants as views
 use Rattle.argon2_store.specs.AccountFile.{HasNames, IsReady, Serves, Stays, error_of, database_of}
@@ -34,9 +37,10 @@ use Rattle.argon2_passwd.specs.Asked.{Asked, Choices, check, edit, hash, import,
 use Rattle.argon2_passwd.specs.declared.command.Edit.{Edit}
 use Rattle.argon2_passwd.specs.declared.command.Edit.TheVariants.{Register, Change, Set, Remove, Lock, Unlock}
 use Rattle.argon2_passwd.specs.Failures.{IsOfBound, IsOfFile, status_of}
-use Rattle.argon2_passwd.specs.Passwords.{password_of}
+use Rattle.argon2_passwd.specs.Passwords.{IsUnread, password_of}
+use Rattle.argon2_passwd.specs.Salts.{IsSalt}
 use Rattle.argon2_passwd.specs.declared.failure.Failure.{Failure}
-use Rattle.argon2_passwd.specs.declared.failure.Failure.TheVariants.{File, Refused, Taken, Text}
+use Rattle.argon2_passwd.specs.declared.failure.Failure.TheVariants.{File, Name, NameAt, Params, Refused, Scheme, Taken, Text}
 use Rattle.argon2_passwd.specs.declared.run.edits.Step.{Step}
 use Rattle.argon2_passwd.specs.declared.run.edits.Step.TheVariants as step
 
@@ -55,33 +59,55 @@ abbrev pub login_text : Accepted → Phc → List ℕ
 login_text Rehashed fresh = accepted_text Rehashed ++ 10 ∷ phc_text fresh
 login_text did fresh = accepted_text did
 
+-- what a text says that is not locked, and not of another scheme
+abbrev pub Says : List ℕ → Phc → Type 0
+Says text v = (is_locked text ≡ false) × (scheme_of text ≡ None) × PhcText text v
+
 -- a login with the password and the text
 abbrev pub IsCheckReply : Policy → List ℕ → List ℕ → Option (List ℕ) → List ℕ → Type 0
 IsCheckReply policy drawn text input reply =
-    OfPassword (λ password. (v : Phc) × (did : Accepted) × (w : Phc) × PhcText text v
+    OfPassword (λ password. (v : Phc) × (did : Accepted) × (w : Phc) × Says text v
     × LogsIn policy password drawn v (Ok did) w × (reply ≡ login_text did w)) input
 
--- a known input has no password
-abbrev pub HasNone : Option (List ℕ) → Type 0
-HasNone input = IfSome input (λ bytes. password_of bytes ≡ None)
+-- Why no password opens a text: it is locked, and is refused as a wrong password is; or it is of another scheme; or it is
+-- outside the grammar.
+abbrev pub IsShut : List ℕ → Failure → Type 0
+IsShut text failure = (IsTrue (is_locked text) × (failure ≡ Refused (bound.Refused PasswordInvalid)))
+    ⊎ ((is_locked text ≡ false) × IsSomeAnd (scheme_of text) (λ scheme. failure ≡ Scheme scheme))
+    ⊎ ((is_locked text ≡ false) × (scheme_of text ≡ None) × ((v : Phc) → ¬ (PhcText text v))
+    × (failure ≡ Refused (bound.Refused EncodingInvalid)))
 
--- the text does not accept a known password within the bound
-abbrev pub Denies : Policy → List ℕ → Option (List ℕ) → Type 0
-Denies policy text input = IfSome input (λ bytes. (password : List ℕ) (v : Phc)
-    → password_of bytes ≡ Some password → PhcText text v → ¬ (Admits policy password v))
+-- Why a call by a password is refused by what a name has: no text; one that no password opens; or for this reason one that
+-- says a value.
+abbrev pub IsDenied : (Phc → BoundError → Type 0) → Option (List ℕ) → Failure → Type 0
+IsDenied Why None failure = failure ≡ File NameUnknown
+IsDenied Why (Some text) failure = IsShut text failure
+    ⊎ ((v : Phc) × (e : BoundError) × Says text v × Why v e × IsOfBound e failure)
+
+-- why a check by a text is refused, or fails: there is no password, or the text does not accept it
+abbrev pub IsUnchecked : Policy → List ℕ → Option (List ℕ) → Failure → Type 0
+IsUnchecked policy text input failure = IsUnread input failure
+    ⊎ OfPassword (λ password. IsDenied (Denial policy password) (Some text) failure) input
 
 -- the secret of the file at a path, if there is one
 abbrev pub IsSecret : (List ℕ → List ℕ → Type 0) → Option (List ℕ) → List ℕ → Type 0
 IsSecret Holds None secret = secret ≡ []
 IsSecret Holds (Some path) secret = Holds path secret
 
--- a fact of the policy that the choices and their secret make
-abbrev pub Under : (List ℕ → List ℕ → Type 0) → Choices → (Policy → Type 0) → Type 0
-Under Holds choices P = (secret : List ℕ) × IsSecret Holds choices.secret_file secret × P (policy_by choices secret)
+-- the same of an old one
+abbrev pub IsOldSecret : (List ℕ → List ℕ → Type 0) → Option (List ℕ) → Option (List ℕ) → Type 0
+IsOldSecret Holds None secret = secret ≡ None
+IsOldSecret Holds (Some path) secret = IsSomeAnd secret (Holds path)
 
--- a line that is appended is a reply
-abbrev pub IsReplied : (List ℕ → List ℕ → Type 0) → Option (List ℕ) → Option (List ℕ) → Type 0
-IsReplied IsReply old new = (drawn line : List ℕ) × IsReply drawn line × Appends old new (line ++ 10 ∷ [])
+-- a fact of the policy that the choices and their secrets make
+abbrev pub Under : (List ℕ → List ℕ → Type 0) → Choices → (Policy → Type 0) → Type 0
+Under Holds choices P = (secret : List ℕ) × IsSecret Holds choices.secret_file secret
+    × (old : Option (List ℕ)) × IsOldSecret Holds choices.old_secret_file old × P (policy_by choices secret old)
+
+-- a line that is appended is a reply with a salt that the system gives
+abbrev pub IsReplied : (List ℕ → Type 0) → (List ℕ → List ℕ → Type 0) → Option (List ℕ) → Option (List ℕ) → Type 0
+IsReplied Gives IsReply old new =
+    (drawn line : List ℕ) × IsSalt Gives drawn × IsReply drawn line × Appends old new (line ++ 10 ∷ [])
 
 -- ---- lines of an import
 
@@ -100,32 +126,51 @@ IsArgon2 text = (v : Phc) × PhcText text v × IsOk (shown_settings v)
 abbrev pub IsTaken : Bool → List ℕ → Type 0
 IsTaken any_text text = IsStored text × (IsTrue any_text ⊎ IsArgon2 (without_lock text))
 
+-- the name has a control character
+abbrev pub has_control : List ℕ → Bool
+has_control name = list_any is_control (chars name)
+
 -- the name of a line, and its text without what other programs put before it
+abbrev pub IsPair : Bool → List ℕ → List ℕ × List ℕ → Type 0
+IsPair any_text line e = (e.0 ≡ (parts_of line).0) × (e.1 ≡ bare (parts_of line).1) × IsTaken any_text e.1
+
+-- the same, and the name may be added
 abbrev pub IsEntry : Bool → List ℕ → List ℕ × List ℕ → Type 0
-IsEntry any_text line e = (e.0 ≡ (parts_of line).0) × (e.1 ≡ bare (parts_of line).1) × IsTaken any_text e.1
+IsEntry any_text line e = IsPair any_text line e × (has_control e.0 ≡ false)
 
 -- a text that is in no grammar, or says a value that shows no settings of Argon2, unless any is taken
 abbrev pub IsNotTaken : Bool → List ℕ → Type 0
 IsNotTaken any_text text = ¬ (IsStored text)
     ⊎ ((any_text ≡ false) × (v : Phc) × PhcText (without_lock text) v × ¬ (IsOk (shown_settings v)))
 
-abbrev pub HasNoEntry : Bool → List ℕ → Type 0
-HasNoEntry any_text line = IsNotTaken any_text (bare (parts_of line).1)
+abbrev pub HasNoText : Bool → List ℕ → Type 0
+HasNoText any_text line = IsNotTaken any_text (bare (parts_of line).1)
+
+-- the line has no text that is taken, or it has one, but its name may not be added
+abbrev pub LacksEntry : Bool → Bool → List ℕ → Type 0
+LacksEntry any_text false line = HasNoText any_text line
+LacksEntry any_text true line = IsTaken any_text (bare (parts_of line).1) × IsTrue (has_control (parts_of line).0)
+
+-- what lines say behind a byte order mark
+abbrev pub unmarked : List ℕ → List ℕ
+unmarked input = after_any ((239 ∷ 187 ∷ 191 ∷ []) ∷ []) input
 
 -- the entries of all lines
 abbrev pub AreEntries : Bool → List ℕ → List (List ℕ × List ℕ) → Type 0
 AreEntries any_text input es = AllZip (IsEntry any_text) (lines input) es
 
--- the first of the lines without an entry has so many before it
-abbrev pub IsFirstWithout : Bool → List (List ℕ) → ℕ → Type 0
-IsFirstWithout any_text [] k = ⊥
-IsFirstWithout any_text (line ∷ lines) zero = HasNoEntry any_text line
-IsFirstWithout any_text (line ∷ lines) (suc k) =
-    IsTaken any_text (bare (parts_of line).1) × IsFirstWithout any_text lines k
+-- the first of the lines without an entry has so many before it, and lacks its text or, if this is true, its name
+abbrev pub IsFirstWithout : Bool → Bool → List (List ℕ) → ℕ → Type 0
+IsFirstWithout any_text of_name [] k = ⊥
+IsFirstWithout any_text of_name (line ∷ lines) zero = LacksEntry any_text of_name line
+IsFirstWithout any_text of_name (line ∷ lines) (suc k) = IsTaken any_text (bare (parts_of line).1)
+    × (has_control (parts_of line).0 ≡ false) × IsFirstWithout any_text of_name lines k
 
 -- the failure has the number of that line
 abbrev pub RefusesText : Bool → List ℕ → Failure → Type 0
-RefusesText any_text input failure = (k : ℕ) × (failure ≡ Text (k + 1)) × IsFirstWithout any_text (lines input) k
+RefusesText any_text input failure = (k : ℕ)
+    × (((failure ≡ Text (k + 1)) × IsFirstWithout any_text false (lines input) k)
+    ⊎ ((failure ≡ NameAt (k + 1)) × IsFirstWithout any_text true (lines input) k))
 
 -- ---- accounts in a file
 
@@ -141,16 +186,16 @@ AreRead Change input first second = IfSome input (λ bytes. password_of bytes �
 AreRead Set input first second = IfSome input (λ bytes. password_of bytes ≡ Some first)
 AreRead act input first second = ⊤
 
--- a known input does not have them
-abbrev pub AreUnread : Edit → Option (List ℕ) → Type 0
-AreUnread Register input = HasNone input
-AreUnread Change input = HasNone input ⊎ HasNone (behind input)
-AreUnread Set input = HasNone input
-AreUnread act input = ⊥
+-- an input does not have them, or reading fails
+abbrev pub AreUnread : Edit → Option (List ℕ) → Failure → Type 0
+AreUnread Register input failure = IsUnread input failure
+AreUnread Change input failure = IsUnread input failure ⊎ IsUnread (behind input) failure
+AreUnread Set input failure = IsUnread input failure
+AreUnread act input failure = ⊥
 
--- the name of a new text would break its line in an export
+-- the name of a new text would break its line in an export, or has a control character
 abbrev pub breaks_lines : Edit → List ℕ → Bool
-breaks_lines Register name = breaks_line views.Texts name
+breaks_lines Register name = breaks_line views.Texts name || has_control name
 breaks_lines act name = false
 
 -- what a step does to the text of a name
@@ -176,19 +221,11 @@ IsAdded es before after = (answer : Result (Unit {0}) FileError) × Serves (addi
 abbrev pub AddsLines : {S : Type 0} {g : Ghosts S} → Result (Unit {0}) Failure → List (List ℕ × List ℕ) → AccountFile S g
     → AccountFile S g → Type 0
 AddsLines (Ok _) es before after = Serves (additions es) (Ok tt) before after
-AddsLines (Err failure) es before after = IsAdded es before after × (status_of failure ≡ 1 → RefusesLine failure es before after)
+AddsLines (Err failure) es before after = IsAdded es before after × (status_of failure ≢ 3 → RefusesLine failure es before after)
 
 -- a file at a path that was opened, with its names
 abbrev pub IsOpened : {S : Type 0} {g : Ghosts S} → (List ℕ → Texts → Type 0) → List ℕ → AccountFile S g → Type 0
 IsOpened Has path file = (names : Texts) × Has path names × IsReady names file
-
--- Why a call by a password is refused by what the name has: no text; a locked one, which is refused as a wrong password is;
--- one outside the grammar; or for this reason one that says a value.
-abbrev pub IsDenied : (Phc → BoundError → Type 0) → Option (List ℕ) → Failure → Type 0
-IsDenied Why None failure = failure ≡ File NameUnknown
-IsDenied Why (Some text) failure = (IsTrue (is_locked text) × (failure ≡ Refused (bound.Refused PasswordInvalid)))
-    ⊎ ((is_locked text ≡ false) × ((v : Phc) → ¬ (PhcText text v)) × (failure ≡ Refused (bound.Refused EncodingInvalid)))
-    ⊎ ((v : Phc) × (e : BoundError) × PhcText text v × Why v e × IsOfBound e failure)
 
 -- How far a call on a name came: its text can't be read; or what it has refuses the call, or accepts it, and no text is
 -- replaced; or this answers the replacement of the text.
@@ -227,28 +264,28 @@ TellsOfChange (replaced _ done) result = TellsOf done result
 TellsOfChange _ _ = ⊥
 
 -- a login by a text, with what it did and the text that is to stand then
-abbrev pub AcceptsLogin : Policy → List ℕ → List ℕ → Accepted → List ℕ → Type 0
-AcceptsLogin policy password old did new = (drawn : List ℕ) × (v w : Phc) × PhcText old v
+abbrev pub AcceptsLogin : (List ℕ → Type 0) → Policy → List ℕ → List ℕ → Accepted → List ℕ → Type 0
+AcceptsLogin Gives policy password old did new = (drawn : List ℕ) × (v w : Phc) × IsSalt Gives drawn × Says old v
     × LogsIn policy password drawn v (Ok did) w × (new ≡ phc_text w)
 
 -- a change by a text, with the one of the new password
-abbrev pub AcceptsChange : Policy → List ℕ → List ℕ → List ℕ → Unit {0} → List ℕ → Type 0
-AcceptsChange policy first second old _ new = (drawn : List ℕ) × (v w : Phc) × PhcText old v
+abbrev pub AcceptsChange : (List ℕ → Type 0) → Policy → List ℕ → List ℕ → List ℕ → Unit {0} → List ℕ → Type 0
+AcceptsChange Gives policy first second old _ new = (drawn : List ℕ) × (v w : Phc) × IsSalt Gives drawn × Says old v
     × Admits policy first v × IsFresh policy.target second drawn w × (new ≡ phc_text w)
 
 -- a call of which its result tells, or a file that was not opened, which is no refusal
 abbrev pub Ends : {X : Type 0} → (Result X Failure → Type 0) → Type 0 → Result X Failure → Type 0
 Ends Made untouched result = Made result ⊎ (untouched × IsErrAnd result (λ failure. status_of failure ≡ 3))
 
--- the words or the input are refused before a file is opened
-abbrev pub IsUnfit : Policy → Asked → Option (List ℕ) → Type 0
-IsUnfit policy hash input = HasNone input
-IsUnfit policy (check text) input = Denies policy text input
-IsUnfit policy (verify path name) input = HasNone input
-IsUnfit policy (edit path act name) input = IsTrue (breaks_lines act name) ⊎ AreUnread act input
-IsUnfit policy (show path view) input = ⊥
-IsUnfit policy (import path any_text) input =
-    (k : ℕ) × IfSome input (λ bytes. IsFirstWithout any_text (lines bytes) k)
+-- the words or the input are refused with this failure before a file is opened
+abbrev pub IsUnfit : Policy → Asked → Option (List ℕ) → Failure → Type 0
+IsUnfit policy hash input failure = IsUnread input failure
+IsUnfit policy (check text) input failure = IsUnchecked policy text input failure
+IsUnfit policy (verify path name) input failure = IsUnread input failure
+IsUnfit policy (edit path act name) input failure =
+    (IsTrue (breaks_lines act name) × (failure ≡ Name)) ⊎ AreUnread act input failure
+IsUnfit policy (show path view) input failure = ⊥
+IsUnfit policy (import path any_text) input failure = IfSome input (λ bytes. RefusesText any_text (unmarked bytes) failure)
 
 module _ {S : Type 0} (g : Ghosts S) (Has : List ℕ → Texts → Type 0) where
   -- the file at a path was opened, used so, and closed with this store
@@ -295,23 +332,35 @@ module _ {S : Type 0} (g : Ghosts S) (Has : List ℕ → Texts → Type 0) where
       × IsLooked path name (Ok (Some old))
       (λ read. IsCalled path (replacing name old new) (λ last. Closed (read ∷ last ∷ [])) done)
 
+  -- no name was changed, with this error of the file if there was one, and this is a fact of its names
+  abbrev pub IsRead : List ℕ → Option FileError → (Texts → Type 0) → (List S → Type 0) → Type 0
+  IsRead path error Shows = IsDone path (λ before after. (names : Texts) → HasNames before names
+      → Stays error names before after × (IsHonest g (database_of after) → Shows names))
+
+  -- adding the entries of a known input was all that was done with it, with this answer
+  abbrev pub IsImported : List ℕ → Bool → (List (List ℕ × List ℕ) → AccountFile S g → AccountFile S g → Type 0)
+      → Option (List ℕ) → (List S → Type 0) → Type 0
+  IsImported path any_text Adds input Closed = (es : List (List ℕ × List ℕ))
+      × IfSome input (λ bytes. AreEntries any_text (unmarked bytes) es) × IsDone path (Adds es) Closed
+
+module _ {S : Type 0} (g : Ghosts S) (Has : List ℕ → Texts → Type 0) (Gives : List ℕ → Type 0) where
   -- a login with the password was all that was done with the file at a path, with this result
   abbrev pub IsLogin : Policy → List ℕ → List ℕ → List ℕ → Result Accepted Failure → (List S → Type 0) → Type 0
   IsLogin policy path name password result Closed = (outcome : Outcome Accepted) × TellsOfLogin outcome result
-      × IsOutcome path name (Denial policy password) (AcceptsLogin policy password) outcome Closed
+      × IsOutcome g Has path name (Denial policy password) (AcceptsLogin Gives policy password) outcome Closed
 
   -- a change of this kind was all that was done with the file at a path, by these passwords and with this result
   abbrev pub IsChange : Policy → List ℕ → Edit → List ℕ → List ℕ → List ℕ → (List S → Type 0) → Result (Unit {0}) Failure → Type 0
   IsChange policy path Register name first second Closed result = (drawn : List ℕ) × (v : Phc)
-      × IsFresh policy.target first drawn v × IsApplied path (adding name (phc_text v)) (λ last. Closed (last ∷ [])) result
+      × IsSalt Gives drawn × IsFresh policy.target first drawn v × IsApplied g Has path (adding name (phc_text v)) (λ last. Closed (last ∷ [])) result
   IsChange policy path Change name first second Closed result = (outcome : Outcome (Unit {0})) × TellsOfChange outcome result
-      × IsOutcome path name (ChangeRefusal policy first second) (AcceptsChange policy first second) outcome Closed
+      × IsOutcome g Has path name (ChangeRefusal policy first second) (AcceptsChange Gives policy first second) outcome Closed
   IsChange policy path Set name first second Closed result = (drawn : List ℕ) × (v : Phc)
-      × IsFresh policy.target first drawn v × IsApplied path (setting name (phc_text v)) (λ last. Closed (last ∷ [])) result
-  IsChange policy path Remove name first second Closed result = IsApplied path (removing name) (λ last. Closed (last ∷ [])) result
-  IsChange policy path Lock name first second Closed result = IsApplied path (locking name) (λ last. Closed (last ∷ [])) result
+      × IsSalt Gives drawn × IsFresh policy.target first drawn v × IsApplied g Has path (setting name (phc_text v)) (λ last. Closed (last ∷ [])) result
+  IsChange policy path Remove name first second Closed result = IsApplied g Has path (removing name) (λ last. Closed (last ∷ [])) result
+  IsChange policy path Lock name first second Closed result = IsApplied g Has path (locking name) (λ last. Closed (last ∷ [])) result
   IsChange policy path Unlock name first second Closed result =
-      IsApplied path (unlocking name) (λ last. Closed (last ∷ [])) result
+      IsApplied g Has path (unlocking name) (λ last. Closed (last ∷ [])) result
 
   -- what a change of a name's text comes to: it is made, or the file is not opened
   abbrev pub IsAct : Policy → List ℕ → Edit → List ℕ → List ℕ → List ℕ → Result (Unit {0}) Failure → (List S → Type 0) → Type 0
@@ -328,44 +377,35 @@ module _ {S : Type 0} (g : Ghosts S) (Has : List ℕ → Texts → Type 0) where
   IsEdited policy path act name result input Closed = (breaks_lines act name ≡ false) × (first second : List ℕ)
       × AreRead act input first second × IsChange policy path act name first second Closed result
 
-  -- no name was changed, with this error of the file if there was one, and this is a fact of its names
-  abbrev pub IsRead : List ℕ → Option FileError → (Texts → Type 0) → (List S → Type 0) → Type 0
-  IsRead path error Shows = IsDone path (λ before after. (names : Texts) → HasNames before names
-      → Stays error names before after × (IsHonest g (database_of after) → Shows names))
-
-  -- adding the entries of a known input was all that was done with it, with this answer
-  abbrev pub IsImported : List ℕ → Bool → (List (List ℕ × List ℕ) → AccountFile S g → AccountFile S g → Type 0)
-      → Option (List ℕ) → (List S → Type 0) → Type 0
-  IsImported path any_text Adds input Closed = (es : List (List ℕ × List ℕ))
-      × IfSome input (λ bytes. AreEntries any_text bytes es) × IsDone path (Adds es) Closed
-
   -- what is asked for is answered
   abbrev pub IsAnswered : Policy → Asked → Option (List ℕ) → Option (List ℕ) → Option (List ℕ) → (List S → Type 0) → Type 0
   IsAnswered policy hash input old new Closed =
-      IsReplied (λ drawn line. IsHashReply policy drawn input line) old new × Closed []
+      IsReplied Gives (λ drawn line. IsHashReply policy drawn input line) old new × Closed []
   IsAnswered policy (check text) input old new Closed =
-      IsReplied (λ drawn line. IsCheckReply policy drawn text input line) old new × Closed []
+      IsReplied Gives (λ drawn line. IsCheckReply policy drawn text input line) old new × Closed []
   IsAnswered policy (verify path name) input old new Closed = (did : Accepted)
       × IsVerified policy path name (Ok did) input Closed × Appends old new (accepted_text did ++ 10 ∷ [])
   IsAnswered policy (edit path act name) input old new Closed =
       IsEdited policy path act name (Ok tt) input Closed × Keeps old new
   IsAnswered policy (show path view) input old new Closed =
-      IsRead path None (λ names. Appends old new (lines_of view names) × FitLines view names) Closed
+      IsRead g Has path None (λ names. AreWritten view names old new All) Closed
   IsAnswered policy (import path any_text) input old new Closed =
-      IsImported path any_text (λ es. Serves (additions es) (Ok tt)) input Closed × Keeps old new
+      IsImported g Has path any_text (λ es. Serves (additions es) (Ok tt)) input Closed × Keeps old new
 
   -- a call on the file is refused with this failure
   abbrev pub IsRefusedBy : Policy → Asked → Option (List ℕ) → Failure → (List S → Type 0) → Type 0
   IsRefusedBy policy (verify path name) input failure Closed = IsVerified policy path name (Err failure) input Closed
   IsRefusedBy policy (edit path act name) input failure Closed = IsEdited policy path act name (Err failure) input Closed
   IsRefusedBy policy (import path any_text) input failure Closed =
-      IsImported path any_text (RefusesLine failure) input Closed
+      IsImported g Has path any_text (RefusesLine failure) input Closed
   IsRefusedBy policy _ input failure Closed = ⊥
 
-  -- what is asked for is refused: there is no such policy, or before a file is opened, or by a call on the file
-  abbrev pub IsRefused : Policy → Asked → Option (List ℕ) → (List S → Type 0) → Type 0
-  IsRefused policy what input Closed = ((¬ (IsPolicy policy) ⊎ IsUnfit policy what input) × Closed [])
-      ⊎ ((failure : Failure) × (status_of failure ≡ 1) × IsRefusedBy policy what input failure Closed)
+  -- what is asked for is refused with this failure: there is no such policy, or before a file is opened, or by a call on the
+  -- file
+  abbrev pub IsRefused : Policy → Asked → Option (List ℕ) → Failure → (List S → Type 0) → Type 0
+  IsRefused policy what input failure Closed =
+      (((¬ (IsPolicy policy) × (failure ≡ Params)) ⊎ IsUnfit policy what input failure) × Closed [])
+      ⊎ IsRefusedBy policy what input failure Closed
 
   -- all that was done with a file, whatever the status: it was not opened, or the command was served, with some result
   abbrev pub IsOnce : Policy → Asked → Option (List ℕ) → (List S → Type 0) → Type 0
@@ -374,21 +414,22 @@ module _ {S : Type 0} (g : Ghosts S) (Has : List ℕ → Texts → Type 0) where
   IsOnce policy (edit path act name) input Closed =
       Closed [] ⊎ ((result : Result (Unit {0}) Failure) × IsEdited policy path act name result input Closed)
   IsOnce policy (show path view) input Closed =
-      Closed [] ⊎ ((error : Option FileError) × IsRead path error (λ names. ⊤) Closed)
-  IsOnce policy (import path any_text) input Closed = Closed [] ⊎ IsImported path any_text IsAdded input Closed
+      Closed [] ⊎ ((error : Option FileError) × IsRead g Has path error (λ names. ⊤) Closed)
+  IsOnce policy (import path any_text) input Closed = Closed [] ⊎ IsImported g Has path any_text IsAdded input Closed
   IsOnce policy _ input Closed = Closed []
 
   -- how a command ended: it is answered, or refused with this failure, and no more was done with a file
   pub record IsServed (policy : Policy) (what : Asked) (result : Result (Unit {0}) Failure)
       (input old new : Option (List ℕ)) (Closed : List S → Type 0) : Type 0 where
     pub ok : OnOk result (IsAnswered policy what input old new Closed)
-    pub err : IfErr result (λ failure. status_of failure ≡ 1
-        → IsRefused policy what input Closed × Keeps old new)
+    pub err : IfErr result (λ failure. status_of failure ≢ 3
+        → IsRefused policy what input failure Closed × Keeps old new)
     pub once : IsOnce policy what input Closed
 
 -- how a command ended under the choices and their secret; or a failure that is no refusal came before
-abbrev pub IsEnded : {S : Type 0} (g : Ghosts S) → (List ℕ → List ℕ → Type 0) → (List ℕ → Texts → Type 0) → Choices → Asked
+abbrev pub IsEnded : {S : Type 0} (g : Ghosts S) → (List ℕ → List ℕ → Type 0) → (List ℕ → Texts → Type 0)
+    → (List ℕ → Type 0) → Choices → Asked
     → Result (Unit {0}) Failure → Option (List ℕ) → Option (List ℕ) → Option (List ℕ) → (List S → Type 0) → Type 0
-IsEnded g Holds Has choices what result input old new Closed =
+IsEnded g Holds Has Gives choices what result input old new Closed =
     (Closed [] × IsErrAnd result (λ failure. status_of failure ≡ 3))
-    ⊎ Under Holds choices (λ policy. IsServed g Has policy what result input old new Closed)
+    ⊎ Under Holds choices (λ policy. IsServed g Has Gives policy what result input old new Closed)

@@ -1,8 +1,9 @@
 -- What the program is asked for.
-use Rattle.std.specs.Prelude.{Bool, List, ℕ, Option, None, max, unwrap_or}
+use Rattle.std.specs.Prelude.{Bool, List, ℕ, Option, max, unwrap_or}
 use Rattle.std.specs.Option.{option_copied}
 use Rattle.argon2.specs.Settings.{Parameters}
 use Rattle.argon2.specs.Argon2.{argon2id_with, parameters_of}
+use Rattle.argon2.specs.TextHashing.{Target}
 use Rattle.argon2.specs.declared.bound.Bound.{Bound}
 use Rattle.argon2_policy.specs.Policy.{Policy}
 use Rattle.argon2_rows.specs.declared.view.View.{View}
@@ -18,6 +19,7 @@ pub record Choices : Type 0 where
   pub parameters : Parameters
   pub bound : Option Bound
   pub secret_file : Option (List ℕ)
+  pub old_secret_file : Option (List ℕ)
 
 -- what is asked for, on a file with its path
 pub data Asked : Type 0 where
@@ -33,6 +35,7 @@ choices_of options = record {
   parameters = parameters_of options.params;
   bound = options.bound;
   secret_file = option_copied options.secret_file;
+  old_secret_file = option_copied options.old_secret_file;
 }
 
 -- a task on the file at a path
@@ -56,9 +59,13 @@ bound_of choices = unwrap_or choices.bound (record {
 })
 
 -- Argon2id of version 0x13 under choices and a secret
-abbrev pub policy_by : Choices → List ℕ → Policy
-policy_by choices secret = record {
-  target = record { settings = argon2id_with choices.parameters; secret = secret };
-  old_secret = None;
+abbrev pub target_by : Choices → List ℕ → Target
+target_by choices secret = record { settings = argon2id_with choices.parameters; secret = secret }
+
+-- the same with an old secret, if there is one, and a bound
+abbrev pub policy_by : Choices → List ℕ → Option (List ℕ) → Policy
+policy_by choices secret old = record {
+  target = target_by choices secret;
+  old_secret = old;
   bound = bound_of choices;
 }

@@ -1,23 +1,30 @@
 -- Why the program fails.
 use Rattle.std.specs.Prelude.{◌≡◌, ◌≢◌, ⊤, ℕ, if◌then◌else◌}
-use Rattle.argon2_base.specs.declared.error.password_hash.Error.TheVariants.{OutOfMemory}
+use Rattle.argon2_base.specs.declared.error.password_hash.Error.TheVariants.{OutOfMemory, PasswordInvalid}
 use Rattle.argon2.specs.declared.bound.BoundError.{BoundError}
 use Rattle.argon2.specs.declared.bound.BoundError.TheVariants as bound
 use Rattle.argon2_passwd.specs.declared.failure.Failure.{Failure}
-use Rattle.argon2_passwd.specs.declared.failure.Failure.TheVariants.{NoPassword, LongPassword, Name, Refused, Text, Taken, Unopened, File, Memory}
+use Rattle.argon2_passwd.specs.declared.failure.Failure.TheVariants.{NoPassword, LongPassword, Name, Params, Refused, Scheme, Text, NameAt, Taken, Unopened, File, BrokenLine, Output, Unread, Memory}
 use Rattle.argon2_store.specs.Errors.{is_refusal}
 use Rattle.argon2_store.specs.declared.error.FileError.{FileError}
 use Rattle.argon2_store.specs.declared.error.FileError.TheVariants as file
+use Rattle.argon2_store.specs.declared.error.LineError.{LineError}
+use Rattle.argon2_store.specs.declared.error.LineError.TheVariants as lines
 use Rattle.argon2_store.specs.declared.error.OpenError.{OpenError}
 use Rattle.argon2_store.specs.declared.error.OpenError.TheVariants as no
 
--- 1 if the answer is no, 3 if a file, a stream or a request for memory fails
+-- 1 if a password, a name or a line is refused, 2 if the parameters are, 4 if no password opens a text, and 3 if a file, a
+-- stream or a request for memory fails
 abbrev pub status_of : Failure → ℕ
 status_of NoPassword = 1
 status_of LongPassword = 1
 status_of Name = 1
-status_of (Refused error) = 1
+status_of Params = 2
+status_of (Refused (bound.Refused PasswordInvalid)) = 1
+status_of (Refused error) = 4
+status_of (Scheme scheme) = 4
 status_of (Text number) = 1
+status_of (NameAt number) = 1
 status_of (Taken number) = 1
 status_of (File error) = if is_refusal error then 1 else 3
 status_of _ = 3
@@ -26,6 +33,12 @@ status_of _ = 3
 abbrev pub IsMemory : Failure → Type 0
 IsMemory (Memory refused) = ⊤
 IsMemory _ = ⊥
+
+-- output can't be written, or has no reader
+abbrev pub IsOfWrite : Failure → Type 0
+IsOfWrite Output = ⊤
+IsOfWrite Unread = ⊤
+IsOfWrite _ = ⊥
 
 -- the failure by a refusal of the policy: out of memory is reported as that
 abbrev pub IsOfBound : BoundError → Failure → Type 0
@@ -37,6 +50,12 @@ IsOfBound refusal _ = ⊥
 abbrev pub IsOfFile : FileError → Failure → Type 0
 IsOfFile file.OutOfMemory failure = IsMemory failure
 IsOfFile error failure = failure ≡ File error
+
+-- the failure by lines that are not all written
+abbrev pub IsOfLines : LineError → Failure → Type 0
+IsOfLines (lines.File error) failure = IsOfFile error failure
+IsOfLines lines.Breaks failure = failure ≡ BrokenLine
+IsOfLines (lines.Write error) failure = IsOfWrite failure
 
 -- the failure by an open
 abbrev pub IsOfOpen : OpenError → Failure → Type 0

@@ -2,7 +2,7 @@
 
 ghost use Rattle.std.specs.Prelude.{◌≡◌, ◌⊎◌, IfErr, IfOk, IfSome, map, MatchOption};
 ghost use Rattle.argon2_rows.specs.Names.{entry_of};
-ghost use Rattle.argon2_passwd.specs.Answers.{AreEntries, HasNoEntry, IsEntry, RefusesText, pair_of, parts_of};
+ghost use Rattle.argon2_passwd.specs.Answers.{AreEntries, HasNoText, IsPair, RefusesText, has_control, pair_of, parts_of};
 ghost use Rattle.argon2_passwd.specs.Failures.{IsMemory, status_of};
 
 use crate::failure::{Failure, of_reading};
@@ -42,9 +42,13 @@ pub fn entries<'a>(
 {
     let mut found = Vec::new(alloc);
     for line in input.split_inclusive(|byte| *byte == b'\n') {
+        let number = found.as_slice().len() + 1;
         let Some(entry) = entry(&line[..line_len(line)], any_text) else {
-            return Err(Failure::Text(found.as_slice().len() + 1));
+            return Err(Failure::Text(number));
         };
+        if has_control(entry.0) {
+            return Err(Failure::NameAt(number));
+        }
         found.push(entry)?;
     }
     Ok(found)
@@ -53,8 +57,8 @@ pub fn entries<'a>(
 // The name and the text of a line, without what other programs put before a text, if that is a text of Argon2 or any text is
 // taken.
 fn entry(line: &[u8], any_text: bool) -> Option<(&str, StoredText<'_>)>
-    ensures { MatchOption result (HasNoEntry any_text line.now)
-        (λ found. IsEntry any_text line.now (entry_of found)) }
+    ensures { MatchOption result (HasNoText any_text line.now)
+        (λ found. IsPair any_text line.now (entry_of found)) }
 {
     let (name, text) = parts(line);
     let Ok((text, hash)) = StoredText::new(bare_str(text)) else {
@@ -68,6 +72,13 @@ fn entry(line: &[u8], any_text: bool) -> Option<(&str, StoredText<'_>)>
     } else {
         None
     }
+}
+
+/// Whether a name has a control character, which a terminal would act on.
+pub fn has_control(name: &str) -> bool
+    ensures { result ≡ has_control name.now }
+{
+    name.chars().any(|c| c.is_control())
 }
 
 // The parts of a line at its first colon. Without a colon there is no text; if it is not UTF-8, there is neither.

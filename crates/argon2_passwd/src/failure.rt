@@ -2,11 +2,12 @@
 
 ghost use Rattle.std.specs.Prelude.{◌≡◌, ◌≢◌};
 ghost use Rattle.std.specs.IoError.{error_kind};
-ghost use Rattle.argon2_passwd.specs.Failures.{IsMemory, IsOfBound, IsOfFile, IsOfOpen, status_of};
+ghost use Rattle.argon2_passwd.specs.Failures.{IsMemory, IsOfBound, IsOfFile, IsOfLines, IsOfOpen, IsOfWrite, status_of};
 
 use argon2::bound::BoundError;
 use argon2::password_hash;
-use argon2_store::{FileError, OpenError};
+use argon2_programs::Scheme;
+use argon2_store::{FileError, LineError, OpenError};
 use std::alloc::{AllocError, AllocFailed};
 use std::io;
 use std::io::ErrorKind;
@@ -21,16 +22,25 @@ pub enum Failure {
     /// A line for a password is longer than it may be.
     #[error("a password has at most 4096 bytes")]
     LongPassword,
-    /// A new name has a line break or a colon.
-    #[error("a name has no line break and no colon")]
+    /// A new name has a colon or a control character.
+    #[error("a name has no colon and no control character")]
     Name,
-    /// The parameters are above the bound; or a text is outside the grammar, is above the bound or does not
-    /// accept the password.
+    /// The parameters are above the bound.
+    #[error("parameters are above the bound")]
+    Params,
+    /// A text is outside the grammar, has no valid parameters or is above the bound, or it does not accept the
+    /// password.
     #[error(transparent)]
     Refused(BoundError),
+    /// A text is of another scheme.
+    #[error("{}, not Argon2", .0.name())]
+    Scheme(Scheme),
     /// The line of this number has no text that may be added.
     #[error("line {0}: encoding is invalid")]
     Text(usize),
+    /// The name of the line of this number has a control character.
+    #[error("line {0}: a name has no control character")]
+    NameAt(usize),
     /// The name of the line of this number is taken.
     #[error("line {0}: name is taken")]
     Taken(usize),
@@ -46,12 +56,12 @@ pub enum Failure {
     /// A name in the file has a line break, or a colon if its text follows.
     #[error("a name has a line break or a colon")]
     BrokenLine,
-    /// The file with the secret can't be read.
+    /// The file with the secret, or with the old one if this is true, can't be read.
     #[error("the secret's file can't be read")]
-    Secret,
-    /// The file with the secret is empty or too long.
+    Secret(bool),
+    /// The file with the secret is empty or too long, or the one with the old one is too long.
     #[error("a secret has 1 to 4096 bytes")]
-    SecretLength,
+    SecretLength(bool),
     /// The system gives no random bytes.
     #[error("the system gives no random bytes")]
     Random,
@@ -61,26 +71,34 @@ pub enum Failure {
     /// Standard output can't be written.
     #[error("standard output can't be written")]
     Output,
+    /// The reader of standard output has gone.
+    #[error("standard output has no reader")]
+    Unread,
     /// A request for memory was refused.
     #[error("out of memory")]
     Memory(AllocError),
 }
 
 impl Failure {
-    ghost use Rattle.std.specs.Prelude.{◌≡◌, ◌⊎◌};
+    ghost use Rattle.std.specs.Prelude.{◌≡◌, ◌≤◌};
     ghost use Rattle.argon2_passwd.specs.Failures.{status_of};
 
-    /// The exit status: 1 if the answer is no, 3 if a file, a stream or a request for memory fails.
+    /// The exit status: 1 if a password, a name or a line is refused, 2 if the parameters are, 4 if a text can't be
+    /// verified by any password, and 3 if a file, a stream or a request for memory fails.
     pub fn status(&self) -> u8
         ensures value { result ≡ status_of self.now }
-        ensures one { (result ≡ 1) ⊎ (result ≡ 3) }
+        ensures some { (1 ≤ result) × (result ≤ 4) }
     {
         match self {
             Failure::NoPassword => 1,
             Failure::LongPassword => 1,
             Failure::Name => 1,
-            Failure::Refused(_) => 1,
+            Failure::Params => 2,
+            Failure::Refused(BoundError::Refused(password_hash::Error::PasswordInvalid)) => 1,
+            Failure::Refused(_) => 4,
+            Failure::Scheme(_) => 4,
             Failure::Text(_) => 1,
+            Failure::NameAt(_) => 1,
             Failure::Taken(_) => 1,
             Failure::File(error) if error.is_refusal() => 1,
             _ => 3,
@@ -98,19 +116,6 @@ pub fn of_reading(error: &io::Error) -> Failure
         Failure::Memory(AllocError)
     } else {
         Failure::Input
-    }
-}
-
-/// The failure of writing the lines of a file; a name that breaks its line is reported as that.
-pub fn of_lines(error: &io::Error) -> Failure
-    ensures name { error_kind error.now ≡ ErrorKind.InvalidData → result ≡ Failure.BrokenLine }
-    ensures output { error_kind error.now ≢ ErrorKind.InvalidData → result ≡ Failure.Output }
-    ensures trouble { status_of result ≡ 3 }
-{
-    if error.kind() == ErrorKind::InvalidData {
-        Failure::BrokenLine
-    } else {
-        Failure::Output
     }
 }
 
@@ -132,12 +137,13 @@ impl<T: Drop> From<AllocFailed<T>> for Failure {
 
 /// The failure of a write.
 impl From<io::Error> for Failure {
-    ghost use Rattle.argon2_passwd.specs.declared.failure.Failure.TheVariants.{Output};
+    ghost from_gives = { λ _. IsOfWrite };
 
-    ghost from_gives = { λ _ failure. failure ≡ Output };
-
-    fn from(_error: io::Error) -> Failure {
-        Failure::Output
+    fn from(error: io::Error) -> Failure {
+        match error.kind() {
+            ErrorKind::BrokenPipe => Failure::Unread,
+            _ => Failure::Output,
+        }
     }
 }
 
@@ -172,6 +178,19 @@ impl From<FileError> for Failure {
         match error {
             FileError::OutOfMemory => Failure::Memory(AllocError),
             error => Failure::File(error),
+        }
+    }
+}
+
+/// The failure of writing the lines of a file.
+impl From<LineError> for Failure {
+    ghost from_gives = { IsOfLines };
+
+    fn from(error: LineError) -> Failure {
+        match error {
+            LineError::File(error) => error.into(),
+            LineError::Breaks => Failure::BrokenLine,
+            LineError::Write(error) => error.into(),
         }
     }
 }

@@ -12,4 +12,4 @@ pub mod run;
 pub use command::{Action, Command, Edit, Task};
 pub use failure::Failure;
 pub use options::Options;
-pub use outside::Outside;
+pub use outside::{News, Outside};

@@ -12,6 +12,11 @@ pub struct Options<'a> {
     pub bound: Option<Bound>,
     /// The file with the secret, if it is given.
     pub secret_file: Option<&'a str>,
+    /// The file with the secret that was in use before, if it is given: a text that the other refuses is tried
+    /// under it.
+    pub old_secret_file: Option<&'a str>,
+    /// Whether the message of a refused login says if the name or the password is why.
+    pub explain: bool,
 }
 
 impl Options<'_> {
@@ -23,6 +28,8 @@ impl Options<'_> {
         params: Params::DEFAULT,
         bound: None,
         secret_file: None,
+        old_secret_file: None,
+        explain: false,
     };
 
     /// The most that a stored text may ask for: what was given, or 2 GiB, 64 passes and 64 lanes,

@@ -4,18 +4,31 @@ use crate::failure::Failure;
 use argon2_store::AccountFile;
 use sqlite_trees::store::Store;
 
+/// What is said of a file although nothing fails.
+#[derive(Clone, Copy)]
+pub struct News {
+    /// The command made the file.
+    pub is_made: bool,
+    /// The log of the file has changes that could not be copied into it.
+    pub is_behind: bool,
+}
+
 /// Where the program finds the secret, random bytes and accounts. One file is open at a time.
 pub trait Outside {
     ghost use Rattle.std.specs.Prelude.{◌≡◌, ◌++◌, ◌∷◌, [], ℕ, List, IfErr, IfOk, OnErr, OnOk};
     ghost use Rattle.argon2_rows.specs.Names.{Texts};
     ghost use Rattle.argon2_passwd.specs.Answers.{IsOpened};
     ghost use Rattle.argon2_passwd.specs.Failures.{status_of};
+    ghost use Rattle.argon2_passwd.specs.declared.outside.News.{News};
 
     /// The store of a file with accounts.
     type File: Store + Drop;
 
     // The file at a path has these bytes.
     ghost holds: { List ℕ → List ℕ → Type 0 };
+
+    // The system gives these random bytes.
+    ghost gives: { List ℕ → Type 0 };
 
     // The file at a path has these names with their texts.
     ghost keeps: { List ℕ → Texts → Type 0 };
@@ -26,11 +39,14 @@ pub trait Outside {
     // The same while one is open.
     ghost opened: { Self → List Self.File → Type 0 };
 
+    // What is said of the file that was opened.
+    ghost news: { Self → News };
+
     /// The secret in the file at a path.
     ///
     /// # Errors
-    /// The file can't be read, or has not 1 to 4096 bytes.
-    fn secret(&self, path: &str) -> Result<Vec<u8>, Failure>
+    /// The file can't be read, or has not 1 to 4096 bytes; an old one may be empty.
+    fn secret(&self, path: &str, is_old: bool) -> Result<Vec<u8>, Failure>
         ensures held { IfOk result (λ secret. holds path.now secret.items) }
         ensures failed { IfErr result (λ failure. status_of failure ≡ 3) };
 
@@ -39,7 +55,8 @@ pub trait Outside {
     /// # Errors
     /// The system gives none.
     fn seed(&self) -> Result<[u8; 32], Failure>
-        ensures { IfErr result (λ failure. status_of failure ≡ 3) };
+        ensures given { IfOk result gives }
+        ensures failed { IfErr result (λ failure. status_of failure ≡ 3) };
 
     /// Checks that accounts can be in the file at a path: there is a file, or none if the command makes it.
     ///
@@ -67,6 +84,11 @@ pub trait Outside {
         ensures { (before : List Self.File) → opened self.old before
             → closed self.new (before ++ store ∷ []) };
 
-    /// Waits for so many milliseconds.
-    fn pause(&self, milliseconds: u64);
+    /// Waits a moment for another process that has the file open, unless the command has waited for 5 seconds.
+    fn pause(&mut self) -> bool
+        ensures { (before : List Self.File) → closed self.old before → closed self.new before };
+
+    /// What is said of the file that was opened.
+    fn news(&self) -> News
+        ensures { result ≡ news self.now };
 }

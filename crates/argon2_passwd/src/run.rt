@@ -1,27 +1,34 @@
 //! The program over any world outside it and any streams.
 
-ghost use Rattle.std.specs.Prelude.{◌≡◌, ◌⊎◌, ◌++◌, ◌∷◌, [], IfErr, IfOk, OnOk};
+ghost use Rattle.std.specs.Prelude.{◌≡◌, ◌≢◌, ◌≤◌, ◌⊎◌, ◌++◌, ◌∷◌, [], ℕ, vec_items, IfErr, IfOk, OnOk, string_bytes, take};
 ghost use Rattle.std.specs.Io.KnownBytes.{Appends, Keeps};
-ghost use Rattle.argon2_policy.specs.Policy.{policy_value};
+ghost use Rattle.std.specs.Option.{option_map};
+ghost use Rattle.argon2_policy.specs.Policy.{IsPolicy, policy_value};
 ghost use Rattle.argon2.specs.Login.{accepted_text};
-ghost use Rattle.argon2.specs.Made.{target_of};
-ghost use Rattle.argon2_passwd.specs.Answers.{Denies, HasNone, IsAnswered, IsCheckReply, IsEnded, IsHashReply, IsOnce, IsRefused, IsReplied, IsSecret, Under};
-ghost use Rattle.argon2_passwd.specs.Asked.{asked, choices_of, policy_by};
+ghost use Rattle.argon2.specs.TextHashing.{target_of};
+ghost use Rattle.argon2_passwd.specs.Answers.{IsAnswered, IsCheckReply, IsEnded, IsHashReply, IsOnce, IsRefused, IsOldSecret, IsReplied, IsSecret, IsUnchecked, Under};
+ghost use Rattle.argon2_passwd.specs.Asked.{asked, choices_of, policy_by, target_by};
+ghost use Rattle.argon2_passwd.specs.News.{behind_text, made_text, news_of, news_text};
 ghost use Rattle.argon2_passwd.specs.Failures.{status_of};
+ghost use Rattle.argon2_passwd.specs.Passwords.{IsUnread};
+ghost use Rattle.argon2_passwd.specs.Salts.{IsSalt, next_salt};
+ghost use Rattle.argon2_passwd.specs.declared.failure.Failure.TheVariants.{Params};
+ghost use Rattle.argon2_passwd.specs.declared.failure.Failure.{Failure as Why};
 
-use crate::command::{Action, Command};
+use crate::command::{Action, Command, Edit, Task};
 use crate::failure::Failure;
 use crate::options::Options;
-use crate::outside::Outside;
+use crate::outside::{News, Outside};
 use crate::passwords::password;
 use accounts::Access;
 use argon2::login::Accepted;
 use argon2::{Algorithm, Argon2, Version};
 use argon2_policy::Policy;
 use argon2_programs::write_line;
+use argon2_store::FileError;
 use rand_chacha::ChaCha20Rng;
 use rand_core::SeedableRng;
-use std::alloc::Global;
+use std::alloc::{AllocError, Global};
 use std::io::{BufRead, Write};
 
 mod accounts;
@@ -33,10 +40,11 @@ pub const PROGRAM: &str = "argon2-passwd";
 
 /// Answers a command, and returns the exit status.
 ///
-/// Status 0: the answer is written to `output`, and nothing to `errors`. Status 1: the password, the name
-/// or a line is refused, or the parameters are above the bound. Status 3: a file, a stream, random bytes or a
-/// request for memory failed.
-/// With 1 and 3 the failure's text is written to `errors`, and with 1 nothing to `output`. If `errors`
+/// Status 0: the answer is written to `output`, and to `errors` the news of the file, if there is some. Status 1: the
+/// password, the name or a line is refused. Status 2: the parameters are above the bound. Status 3: a file, a stream,
+/// random bytes or a request for memory failed. Status 4: the text that was to accept the password is outside the
+/// grammar, has no valid parameters, is above the bound or of another scheme.
+/// Unless it is 0, the failure's text is written to `errors`, and nothing to `output` if it isn't 3. If `errors`
 /// can't be written, the status stays. Whatever the status, the command is all that was done with a file.
 pub fn run<P: Outside, R: BufRead, W: Write, E: Write>(
     alloc: Global,
@@ -47,30 +55,108 @@ pub fn run<P: Outside, R: BufRead, W: Write, E: Write>(
     errors: &mut E,
 ) -> u8
     requires { P.closed outside.old [] }
-    ensures status { (result ≡ 0) ⊎ (result ≡ 1) ⊎ (result ≡ 3) }
+    ensures status { result ≤ 4 }
     ensures answered { result ≡ 0 → Under P.holds (choices_of command.entry.options) (λ policy.
-        IsAnswered P.File.Store P.keeps policy (asked command.entry.action) (R.remaining input.old)
+        IsAnswered P.File.Store P.keeps P.gives policy (asked command.entry.action) (R.remaining input.old)
         (W.contents output.old) (W.contents output.new) (P.closed outside.new)) }
-    ensures quiet { result ≡ 0 → Keeps (E.contents errors.old) (E.contents errors.new) }
-    ensures refused { result ≡ 1 → Under P.holds (choices_of command.entry.options) (λ policy.
-        IsRefused P.File.Store P.keeps policy (asked command.entry.action) (R.remaining input.old)
+    ensures told { result ≡ 0 → (n : ℕ) × Appends (E.contents errors.old) (E.contents errors.new)
+        (take n (news_of command.entry.action (P.news outside.new))) }
+    ensures refused { result ≢ 0 → result ≢ 3
+        → Under P.holds (choices_of command.entry.options) (λ policy. (why : Why) × (status_of why ≡ result)
+        × IsRefused P.File.Store P.keeps P.gives policy (asked command.entry.action) (R.remaining input.old) why
         (P.closed outside.new)) × Keeps (W.contents output.old) (W.contents output.new) }
     ensures once { P.closed outside.new [] ⊎ Under P.holds (choices_of command.entry.options) (λ policy.
-        IsOnce P.File.Store P.keeps policy (asked command.entry.action) (R.remaining input.old)
+        IsOnce P.File.Store P.keeps P.gives policy (asked command.entry.action) (R.remaining input.old)
         (P.closed outside.new)) }
 {
-    match answer(alloc, &command, outside, input, output) {
+    let answered = answer(alloc, &command, outside, input, output);
+    tell(alloc, errors, command.action, outside.news());
+    match answered {
         Ok(()) => 0,
         Err(failure) => fail(errors, &command, &failure),
     }
 }
 
-// Says why the program fails, with the path of the file that fails, and returns the exit status.
+// Says what there is to say of the file, as far as `errors` takes it.
+fn tell<E: Write>(alloc: Global, errors: &mut E, action: Action<'_>, news: News)
+    ensures { (n : ℕ) × Appends (E.contents errors.old) (E.contents errors.new)
+        (take n (news_of action.entry news)) }
+{
+    if let Action::OnFile(path, _) = action
+        && let Ok(text) = news_text(alloc, path, news)
+    {
+        let _ = errors.write(text.as_str().as_bytes());
+    }
+}
+
+// The lines of the news.
+fn news_text(alloc: Global, path: &str, news: News) -> Result<String, AllocError>
+    ensures { IfOk result (λ text. string_bytes text ≡ news_text path.now news) }
+{
+    let made = made_text(alloc, path, news.is_made)?;
+    let behind = behind_text(alloc, path, news.is_behind)?;
+    format!(in alloc; "{made}{behind}")
+}
+
+// The line that a file was made, if it was.
+fn made_text(alloc: Global, path: &str, is_made: bool) -> Result<String, AllocError>
+    ensures { IfOk result (λ text. string_bytes text ≡ made_text path.now is_made) }
+{
+    if is_made {
+        format!(in alloc; "{PROGRAM}: made {path}\n")
+    } else {
+        Ok(String::new(alloc))
+    }
+}
+
+// The line that a log has changes which its file lacks, if it has.
+fn behind_text(alloc: Global, path: &str, is_behind: bool) -> Result<String, AllocError>
+    ensures { IfOk result (λ text. string_bytes text ≡ behind_text path.now is_behind) }
+{
+    if is_behind {
+        format!(in alloc; "{PROGRAM}: {path}-wal has changes that {path} lacks: keep both\n")
+    } else {
+        Ok(String::new(alloc))
+    }
+}
+
+// Says why the program fails, and returns the exit status. If the reader of standard output has gone, nothing is said.
 fn fail<E: Write>(errors: &mut E, command: &Command<'_>, failure: &Failure) -> u8
     ensures value { result ≡ status_of failure.now }
-    ensures one { (result ≡ 1) ⊎ (result ≡ 3) }
+    ensures some { (1 ≤ result) × (result ≤ 4) }
 {
-    let file = match failure {
+    let _ = if matches!(failure, Failure::Unread) {
+        Ok(())
+    } else if is_hidden(command, failure) {
+        writeln!(errors, "{PROGRAM}: name or password is invalid")
+    } else {
+        match subject(command, failure) {
+            Some(subject) => writeln!(errors, "{PROGRAM}: {subject}: {failure}"),
+            None => writeln!(errors, "{PROGRAM}: {failure}"),
+        }
+    };
+    failure.status()
+}
+
+// Whether the failure is one of a login, which does not say if the name or the password is why.
+fn is_hidden(command: &Command<'_>, failure: &Failure) -> bool {
+    let logs_in = match command.action {
+        Action::OnFile(_, Task::Verify(_) | Task::Edit(Edit::Change, _)) => true,
+        _ => false,
+    };
+    let refuses = match failure {
+        Failure::Refused(_) => failure.status() == 1,
+        Failure::File(error) => *error == FileError::NameUnknown,
+        _ => false,
+    };
+    logs_in && refuses && !command.options.explain
+}
+
+// What a failure is of: the path of a file that fails, or the name or the word of a text that no password opens.
+fn subject<'a>(command: &Command<'a>, failure: &Failure) -> Option<&'a str> {
+    match failure {
+        Failure::Secret(false) | Failure::SecretLength(false) => command.options.secret_file,
+        Failure::Secret(true) | Failure::SecretLength(true) => command.options.old_secret_file,
         Failure::File(error) if error.is_refusal() => None,
         Failure::Unfit(_) | Failure::Unopened(_) | Failure::File(_) | Failure::BrokenLine => {
             match command.action {
@@ -78,14 +164,13 @@ fn fail<E: Write>(errors: &mut E, command: &Command<'_>, failure: &Failure) -> u
                 _ => None,
             }
         }
-        Failure::Secret | Failure::SecretLength => command.options.secret_file,
+        failure if failure.status() == 4 => match command.action {
+            Action::Check(_) => Some("TEXT"),
+            Action::OnFile(_, Task::Verify(name) | Task::Edit(_, name)) => Some(name),
+            _ => None,
+        },
         _ => None,
-    };
-    let _ = match file {
-        Some(path) => writeln!(errors, "{PROGRAM}: {path}: {failure}"),
-        None => writeln!(errors, "{PROGRAM}: {failure}"),
-    };
-    failure.status()
+    }
 }
 
 // Answers a command.
@@ -97,14 +182,14 @@ fn answer<P: Outside, R: BufRead, W: Write>(
     output: &mut W,
 ) -> Result<(), Failure>
     requires { P.closed outside.old [] }
-    ensures { IsEnded P.File.Store P.holds P.keeps (choices_of command.now.options)
+    ensures { IsEnded P.File.Store P.holds P.keeps P.gives (choices_of command.now.options)
         (asked command.now.action) result (R.remaining input.old) (W.contents output.old)
         (W.contents output.new) (P.closed outside.new) }
 {
     let options = &command.options;
     let secret = secret(alloc, outside, options)?;
-    let secret = secret.as_slice();
-    let policy = Policy::new(alloc, target(options, secret)?, options.bound())?;
+    let old = old_secret(outside, options)?;
+    let policy = policy(alloc, options, secret.as_slice(), &old)?;
     match command.action {
         Action::Hash => hash(alloc, outside, &policy, input, output),
         Action::Check(text) => check(alloc, outside, &policy, text, input, output),
@@ -127,11 +212,11 @@ fn hash<P: Outside, R: BufRead, W: Write>(
     input: &mut R,
     output: &mut W,
 ) -> Result<(), Failure>
-    ensures ok { OnOk result (IsReplied
+    ensures ok { OnOk result (IsReplied P.gives
         (λ drawn line. IsHashReply (policy_value policy.now) drawn (R.remaining input.old) line)
         (W.contents output.old) (W.contents output.new)) }
-    ensures err { IfErr result (λ failure. status_of failure ≡ 1
-        → HasNone (R.remaining input.old) × Keeps (W.contents output.old) (W.contents output.new)) }
+    ensures err { IfErr result (λ failure. status_of failure ≢ 3 → IsUnread (R.remaining input.old) failure
+        × Keeps (W.contents output.old) (W.contents output.new)) }
 {
     let mut rng = generator(outside)?;
     let password = password(alloc, input)?;
@@ -149,11 +234,11 @@ fn check<P: Outside, R: BufRead, W: Write>(
     input: &mut R,
     output: &mut W,
 ) -> Result<(), Failure>
-    ensures ok { OnOk result (IsReplied
+    ensures ok { OnOk result (IsReplied P.gives
         (λ drawn line. IsCheckReply (policy_value policy.now) drawn text.now (R.remaining input.old) line)
         (W.contents output.old) (W.contents output.new)) }
-    ensures err { IfErr result (λ failure. status_of failure ≡ 1
-        → Denies (policy_value policy.now) text.now (R.remaining input.old)
+    ensures err { IfErr result (λ failure. status_of failure ≢ 3
+        → IsUnchecked (policy_value policy.now) text.now (R.remaining input.old) failure
         × Keeps (W.contents output.old) (W.contents output.new)) }
 {
     let mut rng = generator(outside)?;
@@ -170,33 +255,70 @@ fn secret<P: Outside>(alloc: Global, outside: &P, options: &Options<'_>) -> Resu
 {
     match options.secret_file {
         None => Ok(Vec::new(alloc)),
-        Some(path) => outside.secret(path),
+        Some(path) => outside.secret(path, false),
+    }
+}
+
+// The old secret, if the options name its file.
+fn old_secret<P: Outside>(outside: &P, options: &Options<'_>) -> Result<Option<Vec<u8>>, Failure>
+    ensures ok { IfOk result (λ old. IsOldSecret P.holds (choices_of options.now).old_secret_file
+        (option_map vec_items old)) }
+    ensures err { IfErr result (λ failure. status_of failure ≡ 3) }
+{
+    match options.old_secret_file {
+        None => Ok(None),
+        Some(path) => Ok(Some(outside.secret(path, true)?)),
+    }
+}
+
+// What passwords are hashed and verified under.
+fn policy<'key>(
+    alloc: Global,
+    options: &Options<'_>,
+    secret: &'key [u8],
+    old: &'key Option<Vec<u8>>,
+) -> Result<Policy<'key>, Failure>
+    ensures ok { IfOk result (λ policy. policy_value policy
+        ≡ policy_by (choices_of options.now) secret.now (option_map vec_items old.now)) }
+    ensures err { IfErr result (λ failure. (status_of failure ≡ 3) ⊎ ((failure ≡ Params)
+        × ¬ (IsPolicy (policy_by (choices_of options.now) secret.now (option_map vec_items old.now))))) }
+{
+    let Ok(policy) = Policy::new(alloc, target(options, secret)?, options.bound()) else {
+        return Err(Failure::Params);
+    };
+    match old {
+        None => Ok(policy),
+        Some(old) => match policy.with_old_secret(old.as_slice()) {
+            Ok(policy) => Ok(policy),
+            Err(_) => Err(Failure::SecretLength(true)),
+        },
     }
 }
 
 // What new texts are made under.
 fn target<'key>(options: &Options<'_>, secret: &'key [u8]) -> Result<Argon2<'key>, Failure>
     ensures ok { IfOk result (λ argon2.
-        target_of argon2 ≡ (policy_by (choices_of options.now) secret.now).target) }
+        target_of argon2 ≡ target_by (choices_of options.now) secret.now) }
     ensures err { IfErr result (λ failure. status_of failure ≡ 3) }
 {
     let (algorithm, version) = (Algorithm::Argon2id, Version::V0x13);
     match Argon2::new_with_secret(secret, algorithm, version, options.params) {
         Ok(argon2) => Ok(argon2),
-        Err(_) => Err(Failure::SecretLength),
+        Err(_) => Err(Failure::SecretLength(false)),
     }
 }
 
 // A generator for the salts.
 fn generator<P: Outside>(outside: &P) -> Result<ChaCha20Rng, Failure>
-    ensures { IfErr result (λ failure. status_of failure ≡ 3) }
+    ensures salt { IfOk result (λ rng. IsSalt P.gives (next_salt rng)) }
+    ensures failed { IfErr result (λ failure. status_of failure ≡ 3) }
 {
     Ok(ChaCha20Rng::from_seed(outside.seed()?))
 }
 
 // Writes what a login did.
 fn write_accepted<W: Write>(output: &mut W, accepted: Accepted) -> Result<(), Failure>
-    ensures err { IfErr result (λ failure. ¬ (status_of failure ≡ 1)) }
+    ensures err { IfErr result (λ failure. status_of failure ≡ 3) }
     ensures ok { OnOk result (Appends (W.contents output.old) (W.contents output.new)
         (accepted_text accepted ++ 10 ∷ [])) }
 {

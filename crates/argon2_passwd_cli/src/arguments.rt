@@ -26,8 +26,9 @@ most 4096 bytes.
 
   hash                write a text of the password, with a salt of 16 bytes from the system
   check TEXT          accept or refuse the password; if it is accepted, write \"text is current\" if TEXT was
-                      made under the parameters, and else \"text is renewed\" and a new text
-  register FILE NAME  give a new name, which has no line break and no colon, a text of the password
+                      made under the parameters, and else \"text is renewed\" and a new text; with - for TEXT,
+                      read it from the line before the password, so that other users can't see it
+  register FILE NAME  give a new name, without a colon or a control character, a text of the password
   verify FILE NAME    accept or refuse the password; write \"text is current\" if it is accepted, or
                       \"text is renewed\" once FILE has a new text in place of one under other parameters
   change FILE NAME    give the name a text of the second line if the first line is accepted
@@ -46,11 +47,11 @@ It may also stand before the command's word. A path that is such a word is writt
 const NOTES: &str = "\
 Example: argon2-passwd register accounts.db ann
 
-The status is 0 if a text is written, the password is accepted or the command on FILE is done. It is 1 if it
-is refused: the password is wrong, too long or missing, a text is outside the grammar or above the bound, the
-parameters are above the bound, or the name is taken, unknown or not allowed. It is 2 if the arguments are
-wrong, and 3 if a file, a stream, random bytes or a request for memory fails. If it is not 0, standard error
-says why.";
+The status is 0 if a text is written, the password is accepted or the command on FILE is done. It is 1 if the
+password is wrong, too long or missing, the name is taken, unknown or not allowed, or a line is refused; 2 if
+the arguments are wrong or the parameters are above the bound; 3 if a file, a stream, random bytes or a request
+for memory fails; and 4 if no password opens a text: it is outside the grammar, of another scheme or above the
+bound. If it is not 0, standard error says why.";
 
 /// Reads the command with its options, of which the last counts if one is given twice.
 ///
@@ -70,6 +71,8 @@ fn asked<'a>(
 ) -> Result<Command<'a>, Error> {
     let mut options = Options {
         secret_file: matches.get_str("secret-file"),
+        old_secret_file: matches.get_str("old-secret-file"),
+        explain: matches.get_flag("explain"),
         ..Options::DEFAULT
     };
     if let Some(value) = matches.get_str("params") {
@@ -187,17 +190,21 @@ fn with_options<'a>(
         "What new texts are made under [default: m=19456,t=2,p=1]"))?;
     let command = command.arg(arg!(in alloc; --bound <COSTS>
         "The most that a text may ask for [default: m=2097152,t=64,p=64, or the parameters]"))?;
-    command.arg(arg!(in alloc; --"secret-file" <PATH>
-        "The file's bytes, 1 to 4096 of them, are the secret of all texts"))
+    let command = command.arg(arg!(in alloc; --"secret-file" <PATH>
+        "The file's bytes, 1 to 4096 of them, are the secret of all texts"))?;
+    command.arg(arg!(in alloc; --"old-secret-file" <PATH>
+        "A text that the secret refuses is tried under these bytes, 0 to 4096, and renewed under the secret"))
 }
 
-// With the command's words, and the option that belongs to one of them.
+// With the command's words, and the options that belong to some of them.
 fn with_words<'a>(
     alloc: Global,
     command: clap::Command<'a>,
 ) -> Result<clap::Command<'a>, AllocError> {
     let command = command.arg(arg!(in alloc; --"any-text"
         "`import` takes texts of other schemes too"))?;
+    let command = command.arg(arg!(in alloc; --explain
+        "`verify` and `change` say whether the name or the password is wrong"))?;
     let words = arg!(in alloc; <COMMAND> "A command with its text, or its file and name");
     command.arg(words.num_args(1..).action(ArgAction::Append))
 }

@@ -1,24 +1,35 @@
 //! The machine that the program runs on.
 
-use argon2_passwd::{Failure, Outside};
+use argon2_passwd::{Failure, News, Outside};
 use argon2_store::{AccountFile, AccountsAt, OpenError};
 use sqlite_std_file::{FileFrom, Wary};
 use sqlite_store::FileStore;
+use sqlite_trees::error::StoreError;
 use sqlite_trees::store::Store;
 use std::alloc::AllocError;
 use std::io::{ErrorKind, Read};
 use std::os::unix::fs::MetadataExt;
 use std::random::RandomSource;
-use std::time::Duration;
+use std::time::{Duration, Instant};
 use std::{fs, thread};
 
 // The most bytes that a secret may have.
 const LONGEST_SECRET: usize = 4096;
 
+// How many seconds a command waits in all for other processes that have the file open.
+const LONGEST_WAIT: u64 = 5;
+
+// After how many its pauses become short, so that it comes before a process that has just begun.
+const LONG_PAUSES: u64 = 2;
+
 /// The machine that the program runs on.
 #[derive(Drop)]
 pub struct Machine<'a> {
     rt: &'a HostRuntime,
+    news: News,
+    waited: Duration,
+    // When the last pause began, if the file is still in use.
+    paused: Option<Instant>,
 }
 
 impl<'a> Machine<'a> {
@@ -27,7 +38,39 @@ impl<'a> Machine<'a> {
 
     /// The machine of this runtime.
     pub fn new(rt: &'a HostRuntime) -> Machine<'a> {
-        Machine { rt }
+        Machine {
+            rt,
+            news: News {
+                is_made: false,
+                is_behind: false,
+            },
+            waited: Duration::ZERO,
+            paused: None,
+        }
+    }
+
+    // Whether there is a file for accounts at a path, or none and the command makes it.
+    fn is_there(&self, path: &str, makes: bool) -> Result<bool, Failure>
+        ensures { IfErr result (λ failure. status_of failure ≡ 3) }
+    {
+        let why = match fs::metadata(self.rt, path) {
+            Ok(found) if found.is_dir() => "is a directory",
+            Ok(found) if !found.is_file() => "is no regular file",
+            Ok(found) if found.nlink() > 1 => "has a second name (a hard link)",
+            Ok(_) => return Ok(true),
+            Err(error) if error.kind() == ErrorKind::NotFound && makes => {
+                if fs::symlink_metadata(self.rt, path).is_err() {
+                    self.look_for_log(path)?;
+                    return Ok(false);
+                }
+                "is a link to a file that is not there"
+            }
+            Err(error) if error.kind() == ErrorKind::OutOfMemory => return Err(Failure::from(
+                AllocError,
+            )),
+            Err(error) => return Err(Failure::from(OpenError::Path(error))),
+        };
+        Err(Failure::Unfit(why))
     }
 
     // Checks that a file at this path can have a log beside it, whose name is longer.
@@ -50,7 +93,10 @@ impl Outside for Machine<'_> {
     type File = FileStore<FileFrom<Wary>>;
 
     // Of a secret only the length is known.
-    ghost holds = { λ path secret. (1 ≤ length secret) × (length secret ≤ 4096) };
+    ghost holds = { λ path secret. length secret ≤ 4096 };
+
+    // Of random bytes nothing is known.
+    ghost gives = { λ seed. ⊤ };
 
     // Of names nothing is known.
     ghost keeps = { λ path names. ⊤ };
@@ -59,19 +105,22 @@ impl Outside for Machine<'_> {
 
     ghost opened = { λ machine files. ⊤ };
 
-    fn secret(&self, path: &str) -> Result<Vec<u8>, Failure> {
+    ghost news = { λ machine. machine.news };
+
+    fn secret(&self, path: &str, is_old: bool) -> Result<Vec<u8>, Failure> {
         let mut secret = Vec::new(self.rt.alloc());
-        let file = fs::open(self.rt, path).or(Err(Failure::Secret))?;
+        let file = fs::open(self.rt, path).or(Err(Failure::Secret(is_old)))?;
         match file
             .take(LONGEST_SECRET as u64 + 1)
             .read_to_end(&mut secret)
         {
             Ok(_) => {}
             Err(e) if e.kind() == ErrorKind::OutOfMemory => return Err(Failure::from(AllocError)),
-            Err(_) => return Err(Failure::Secret),
+            Err(_) => return Err(Failure::Secret(is_old)),
         }
-        if secret.is_empty() || secret.len() > LONGEST_SECRET {
-            return Err(Failure::SecretLength);
+        let is_missing = secret.is_empty() && !is_old;
+        if is_missing || secret.len() > LONGEST_SECRET {
+            return Err(Failure::SecretLength(is_old));
         }
         Ok(secret)
     }
@@ -85,37 +134,49 @@ impl Outside for Machine<'_> {
     }
 
     fn look(&self, path: &str, makes: bool) -> Result<(), Failure> {
-        let why = match fs::metadata(self.rt, path) {
-            Ok(found) if found.is_dir() => "is a directory",
-            Ok(found) if !found.is_file() => "is no regular file",
-            Ok(found) if found.nlink() > 1 => "has a second name (a hard link)",
-            Ok(_) => return Ok(()),
-            Err(error) if error.kind() == ErrorKind::NotFound && makes => {
-                if fs::symlink_metadata(self.rt, path).is_err() {
-                    return self.look_for_log(path);
-                }
-                "is a link to a file that is not there"
-            }
-            Err(error) if error.kind() == ErrorKind::OutOfMemory => return Err(Failure::from(
-                AllocError,
-            )),
-            Err(error) => return Err(Failure::from(OpenError::Path(error))),
-        };
-        Err(Failure::Unfit(why))
+        self.is_there(path, makes)?;
+        Ok(())
     }
 
     // Others may change what is at the path while a password is hashed, so each open looks again.
     fn open(&mut self, path: &str, makes: bool) -> Result<AccountsAt<Wary>, Failure> {
-        self.look(path, makes)?;
-        Ok(AccountFile::open(self.rt, path, Wary)?)
+        let is_there = self.is_there(path, makes)?;
+        let accounts = AccountFile::open(self.rt, path, Wary)?;
+        self.news.is_made |= !is_there;
+        self.paused = None;
+        Ok(accounts)
     }
 
     fn close(&mut self, mut store: FileStore<FileFrom<Wary>>) {
-        // The log has all accounts too, so a copy that fails loses none.
-        let _ = store.checkpoint();
+        match store.checkpoint() {
+            Ok(()) => self.news.is_behind = false,
+            // Of a store that has failed, no change was acknowledged.
+            Err(StoreError::Broken) => {}
+            Err(_) => self.news.is_behind = true,
+        }
     }
 
-    fn pause(&self, milliseconds: u64) {
-        thread::sleep(self.rt, Duration::from_millis(milliseconds))
+    fn pause(&mut self) -> bool {
+        let Ok(now) = Instant::now(self.rt) else {
+            return false;
+        };
+        if let Some(paused) = self.paused {
+            self.waited = self.waited.saturating_add(now.duration_since(paused));
+        }
+        if self.waited.as_secs() >= LONGEST_WAIT {
+            return false;
+        }
+        self.paused = Some(now);
+        let pause = if self.waited.as_secs() < LONG_PAUSES {
+            10
+        } else {
+            1
+        };
+        thread::sleep(self.rt, Duration::from_millis(pause));
+        true
+    }
+
+    fn news(&self) -> News {
+        self.news
     }
 }

@@ -2,39 +2,36 @@
 
 ghost use Rattle.std.specs.Prelude.{◌≡◌, ◌∷◌, ◌⊎◌, [], ℕ, List, Option, Some, Ok, IfErr, IfOk, MatchResult, OnErr, OnOk, map, string_bytes};
 ghost use Rattle.argon2_base.specs.PhcFields.{phc_of};
-ghost use Rattle.argon2_base.specs.PhcText.{PhcText};
 ghost use Rattle.argon2_policy.specs.Policy.{policy_value};
 ghost use Rattle.argon2_rows.specs.Names.{entry_of};
 ghost use Rattle.argon2_store.specs.Edits.{replacing, text_of};
-ghost use Rattle.argon2_passwd.specs.Answers.{AddsLines, Ends, IsApplied, IsLogin, IsLooked, IsOpened, IsServed, IsUnfound};
+ghost use Rattle.argon2_passwd.specs.Answers.{AddsLines, Ends, IsApplied, IsLogin, IsLooked, IsOpened, IsServed, IsUnfound, Says};
 ghost use Rattle.argon2_passwd.specs.Asked.{Asked, asked_on};
 ghost use Rattle.argon2_passwd.specs.Failures.{status_of};
+ghost use Rattle.argon2_passwd.specs.Salts.{IsSalt};
+ghost use Rattle.rand_core.specs.Stream.{fill_bytes};
 
 use super::edits::edit;
+use super::texts::read;
 use super::{generator, write_accepted};
 use crate::command::Task;
 use crate::entries::{entries, read_all};
-use crate::failure::{Failure, of_lines};
+use crate::failure::Failure;
 use crate::outside::Outside;
 use crate::passwords::password;
 use argon2::PasswordHash;
-use argon2::bound::BoundError;
 use argon2::login::{Accepted, LoggedIn};
-use argon2::password_hash::Error;
 use argon2_policy::Policy;
+use argon2_programs::after_any;
 use argon2_rows::StoredText;
-use argon2_rows::text::behind_lock;
 use argon2_store::{AccountFile, FileError, OpenError, View};
 use rand_core::Rng;
 use sqlite_trees::store::Store;
 use std::alloc::Global;
 use std::io::{BufRead, Write};
 
-// How often a file is tried again that another process has open: 10 milliseconds apart for the first
-// 2 seconds, then 1 millisecond apart, so that a process that has waited long comes before a new one.
-const LONG_PAUSES: u32 = 200;
-
-const SHORT_PAUSES: u32 = 3000;
+// What some programs put before the first line.
+const BYTE_ORDER_MARK: &str = "\u{feff}";
 
 /// Where the accounts are, and under what they are served.
 #[derive(Clone, Copy)]
@@ -55,7 +52,7 @@ pub(super) fn serve<P: Outside, R: BufRead, W: Write>(
     output: &mut W,
 ) -> Result<(), Failure>
     requires { P.closed outside.old [] }
-    ensures { IsServed P.File.Store P.keeps (policy_value access.now.policy.now)
+    ensures { IsServed P.File.Store P.keeps P.gives (policy_value access.now.policy.now)
         (asked_on access.now.path.now task.entry) result (R.remaining input.old)
         (W.contents output.old) (W.contents output.new) (P.closed outside.new) }
 {
@@ -78,7 +75,7 @@ fn verify<P: Outside, R: BufRead, W: Write>(
     output: &mut W,
 ) -> Result<(), Failure>
     requires { P.closed outside.old [] }
-    ensures { IsServed P.File.Store P.keeps (policy_value access.now.policy.now)
+    ensures { IsServed P.File.Store P.keeps P.gives (policy_value access.now.policy.now)
         (Asked.verify access.now.path.now name.now) result (R.remaining input.old)
         (W.contents output.old) (W.contents output.new) (P.closed outside.new) }
 {
@@ -96,17 +93,14 @@ fn show<P: Outside, W: Write>(
     output: &mut W,
 ) -> Result<(), Failure>
     requires { P.closed outside.old [] }
-    ensures { (input : Option (List ℕ)) → IsServed P.File.Store P.keeps
+    ensures { (input : Option (List ℕ)) → IsServed P.File.Store P.keeps P.gives
         (policy_value access.now.policy.now) (Asked.show access.now.path.now view) result input
         (W.contents output.old) (W.contents output.new) (P.closed outside.new) }
 {
     let mut accounts = open(outside, access)?;
     let written = accounts.write_lines(view, output);
     outside.close(accounts.into_store());
-    match written? {
-        Ok(()) => Ok(()),
-        Err(error) => Err(of_lines(&error)),
-    }
+    Ok(written?)
 }
 
 // Adds all names and texts of the input, each a line, to a file, or none.
@@ -118,19 +112,20 @@ fn import<P: Outside, R: BufRead>(
     input: &mut R,
 ) -> Result<(), Failure>
     requires { P.closed outside.old [] }
-    ensures { (output : Option (List ℕ)) → IsServed P.File.Store P.keeps
+    ensures { (output : Option (List ℕ)) → IsServed P.File.Store P.keeps P.gives
         (policy_value access.now.policy.now) (Asked.import access.now.path.now any_text) result
         (R.remaining input.old) output output (P.closed outside.new) }
 {
     let bytes = read_all(alloc, input)?;
-    let entries = entries(alloc, bytes.as_slice(), any_text)?;
+    let lines = after_any(bytes.as_slice(), &[BYTE_ORDER_MARK]);
+    let entries = entries(alloc, lines, any_text)?;
     let mut accounts = open(outside, access)?;
     let added = add_all(&mut accounts, entries.as_slice());
     outside.close(accounts.into_store());
     added
 }
 
-// The accounts in a file. While another process has it open, the open is tried again for 5 seconds.
+// The accounts in a file. While another process has it open, the open is tried again.
 pub(super) fn open<P: Outside>(
     outside: &mut P,
     access: &Access<'_>,
@@ -143,15 +138,16 @@ pub(super) fn open<P: Outside>(
     ensures untouched { OnErr result ((before : List P.File) →
         P.closed outside.old before → P.closed outside.new before) }
 {
-    for waits in 0..LONG_PAUSES + SHORT_PAUSES {
+    for _ in 0..u64::MAX {
         match outside.open(access.path, access.makes) {
-            Err(Failure::Unopened(OpenError::Busy)) => {
-                outside.pause(if waits < LONG_PAUSES { 10 } else { 1 })
-            }
+            Err(Failure::Unopened(OpenError::Busy)) => {}
             done => return done,
         }
+        if !outside.pause() {
+            break;
+        }
     }
-    outside.open(access.path, access.makes)
+    Err(Failure::Unopened(OpenError::Busy))
 }
 
 // What the text of a name does with a password. No file is open while passwords are hashed.
@@ -162,8 +158,9 @@ fn log_in<P: Outside, G: Rng>(
     rng: &mut G,
     password: &[u8],
 ) -> Result<Accepted, Failure>
-    requires { P.closed outside.old [] }
-    ensures { Ends (λ done. IsLogin P.File.Store P.keeps (policy_value access.now.policy.now)
+    requires shut { P.closed outside.old [] }
+    requires salt { IsSalt P.gives (fill_bytes 16 (G.stream rng.old)).0 }
+    ensures { Ends (λ done. IsLogin P.File.Store P.keeps P.gives (policy_value access.now.policy.now)
         access.now.path.now name.now password.now done (P.closed outside.new))
         (P.closed outside.new []) result }
 {
@@ -179,8 +176,7 @@ fn log_in<P: Outside, G: Rng>(
     }
 }
 
-// The text of a name in a file, and what it says. If the name is unknown or locked, the password is hashed all the same, and
-// a locked name is refused as a wrong password is.
+// The text of a name in a file, and what it says. If it says nothing, the password is hashed all the same.
 pub(super) fn look<P: Outside>(
     outside: &mut P,
     access: &Access<'_>,
@@ -189,7 +185,7 @@ pub(super) fn look<P: Outside>(
 ) -> Result<(String, PasswordHash), Failure>
     requires { P.closed outside.old [] }
     ensures { MatchResult result
-        (λ found. PhcText (string_bytes found.0) (phc_of found.1)
+        (λ found. Says (string_bytes found.0) (phc_of found.1)
         × IsLooked P.File.Store P.keeps access.now.path.now name.now
         (Ok (Some (string_bytes found.0))) (λ read. P.closed outside.new (read ∷ [])))
         (λ failure. IsUnfound P.File.Store P.keeps access.now.path.now name.now failure
@@ -203,12 +199,13 @@ pub(super) fn look<P: Outside>(
         access.policy.hash_for_nobody(password);
         return Err(FileError::NameUnknown.into());
     };
-    if behind_lock(text.as_str()).is_some() {
-        access.policy.hash_for_nobody(password);
-        return Err(Failure::Refused(BoundError::Refused(Error::PasswordInvalid)));
+    match read(text.as_str()) {
+        Ok(hash) => Ok((text, hash)),
+        Err(failure) => {
+            access.policy.hash_for_nobody(password);
+            Err(failure)
+        }
     }
-    let hash = PasswordHash::new(text.as_str())?;
-    Ok((text, hash))
 }
 
 // Replaces the text of a name in a file that was closed, if it is still the one that was read.

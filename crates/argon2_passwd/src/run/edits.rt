@@ -5,12 +5,14 @@ ghost use Rattle.argon2_policy.specs.Policy.{policy_value};
 ghost use Rattle.argon2_store.specs.AccountFile.{Serves};
 ghost use Rattle.argon2_passwd.specs.Answers.{AreRead, AreUnread, Ends, IsAct, IsApplied, IsServed, breaks_lines, edit_of};
 ghost use Rattle.argon2_passwd.specs.Asked.{Asked};
-ghost use Rattle.argon2_passwd.specs.Failures.{status_of};
+ghost use Rattle.argon2_passwd.specs.Salts.{IsSalt};
+ghost use Rattle.rand_core.specs.Stream.{fill_bytes};
 
 use super::accounts::{Access, look, open, replace};
 use super::generator;
 use super::texts::fresh;
 use crate::command::Edit;
+use crate::entries::has_control;
 use crate::failure::Failure;
 use crate::outside::Outside;
 use crate::passwords::password;
@@ -41,7 +43,7 @@ pub(super) fn edit<P: Outside, R: BufRead>(
     input: &mut R,
 ) -> Result<(), Failure>
     requires { P.closed outside.old [] }
-    ensures { (output : Option (List ℕ)) → IsServed P.File.Store P.keeps
+    ensures { (output : Option (List ℕ)) → IsServed P.File.Store P.keeps P.gives
         (policy_value access.now.policy.now) (Asked.edit access.now.path.now edit name.now) result
         (R.remaining input.old) output output (P.closed outside.new) }
 {
@@ -54,12 +56,12 @@ pub(super) fn edit<P: Outside, R: BufRead>(
     act(outside, access, edit, name, &mut rng, first, second)
 }
 
-// Whether the name of a new text would break its line in an export.
+// Whether the name of a new text would break its line in an export, or has a control character.
 fn breaks_lines(edit: Edit, name: &str) -> bool
     ensures { result ≡ breaks_lines edit name.now }
 {
     match edit {
-        Edit::Register => View::Texts.breaks_line(name.as_bytes()),
+        Edit::Register => View::Texts.breaks_line(name.as_bytes()) || has_control(name),
         _ => false,
     }
 }
@@ -72,8 +74,7 @@ fn passwords<R: BufRead>(
 ) -> Result<(Vec<u8>, Vec<u8>), Failure>
     ensures ok { IfOk result (λ read.
         AreRead edit (R.remaining input.old) read.0.items read.1.items) }
-    ensures err { IfErr result (λ failure. status_of failure ≡ 1
-        → AreUnread edit (R.remaining input.old)) }
+    ensures err { IfErr result (AreUnread edit (R.remaining input.old)) }
 {
     match edit {
         Edit::Remove | Edit::Lock | Edit::Unlock => Ok((Vec::new(alloc), Vec::new(alloc))),
@@ -96,8 +97,9 @@ fn act<P: Outside, G: Rng>(
     first: &[u8],
     second: &[u8],
 ) -> Result<(), Failure>
-    requires { P.closed outside.old [] }
-    ensures { IsAct P.File.Store P.keeps (policy_value access.now.policy.now) access.now.path.now
+    requires shut { P.closed outside.old [] }
+    requires salt { IsSalt P.gives (fill_bytes 16 (G.stream rng.old)).0 }
+    ensures { IsAct P.File.Store P.keeps P.gives (policy_value access.now.policy.now) access.now.path.now
         edit name.now first.now second.now result (P.closed outside.new) }
 {
     match edit {
@@ -155,8 +157,9 @@ fn change<P: Outside, G: Rng>(
     first: &[u8],
     second: &[u8],
 ) -> Result<(), Failure>
-    requires { P.closed outside.old [] }
-    ensures { IsAct P.File.Store P.keeps (policy_value access.now.policy.now) access.now.path.now
+    requires shut { P.closed outside.old [] }
+    requires salt { IsSalt P.gives (fill_bytes 16 (G.stream rng.old)).0 }
+    ensures { IsAct P.File.Store P.keeps P.gives (policy_value access.now.policy.now) access.now.path.now
         Edit.Change name.now first.now second.now result (P.closed outside.new) }
 {
     let (text, hash) = look(outside, access, name, first)?;

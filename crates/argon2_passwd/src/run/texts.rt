@@ -1,19 +1,23 @@
 //! Makes texts of passwords, and checks passwords by texts. No file is opened.
 
-ghost use Rattle.std.specs.Prelude.{◌≡◌, Ok, IfErr, IfOk, string_bytes};
-ghost use Rattle.argon2.specs.Made.{IsFresh};
+ghost use Rattle.std.specs.Prelude.{◌≡◌, Ok, Some, IfErr, IfOk, string_bytes};
+ghost use Rattle.argon2.specs.TextHashing.{IsFresh};
 ghost use Rattle.rand_core.specs.Stream.{fill_bytes};
-ghost use Rattle.argon2_policy.specs.Policy.{Admits, LogsIn, policy_value};
-ghost use Rattle.argon2_passwd.specs.Answers.{Denies, IsCheckReply, login_text};
+ghost use Rattle.argon2_policy.specs.Policy.{Denial, LogsIn, policy_value};
+ghost use Rattle.argon2_passwd.specs.Answers.{IsCheckReply, IsDenied, IsShut, IsUnchecked, Says, login_text};
 ghost use Rattle.argon2_passwd.specs.Failures.{status_of};
 ghost use Rattle.argon2_base.specs.PhcFields.{phc_of};
-ghost use Rattle.argon2_base.specs.PhcText.{Phc, PhcText};
+ghost use Rattle.argon2_base.specs.PhcText.{Phc};
 
 use crate::failure::Failure;
 use crate::passwords::password;
 use argon2::PasswordHash;
+use argon2::bound::BoundError;
 use argon2::login::{Accepted, LoggedIn};
+use argon2::password_hash::Error;
 use argon2_policy::Policy;
+use argon2_programs::scheme_of;
+use argon2_rows::text::behind_lock;
 use rand_core::Rng;
 use std::alloc::{AllocError, Global};
 use std::io::BufRead;
@@ -47,8 +51,8 @@ pub fn check<G: Rng, R: BufRead>(
     ensures ok { IfOk result (λ reply. IsCheckReply (policy_value policy.now)
         (fill_bytes 16 (G.stream rng.old)).0 text.now (R.remaining input.old)
         (string_bytes reply)) }
-    ensures err { IfErr result (λ failure. status_of failure ≡ 1
-        → Denies (policy_value policy.now) text.now (R.remaining input.old)) }
+    ensures err { IfErr result (IsUnchecked (policy_value policy.now) text.now
+        (R.remaining input.old)) }
 {
     let password = password(alloc, input)?;
     let (accepted, hash) = login(policy, rng, text, password.as_slice())?;
@@ -62,17 +66,31 @@ fn login<G: Rng>(
     text: &str,
     password: &[u8],
 ) -> Result<(Accepted, PasswordHash), Failure>
-    ensures ok { IfOk result (λ done. (v : Phc) × PhcText text.now v
+    ensures ok { IfOk result (λ done. (v : Phc) × Says text.now v
         × LogsIn (policy_value policy.now) password.now (fill_bytes 16 (G.stream rng.old)).0 v
         (Ok done.0) (phc_of done.1)) }
-    ensures err { IfErr result (λ failure. status_of failure ≡ 1 → (v : Phc) → PhcText text.now v
-        → ¬ (Admits (policy_value policy.now) password.now v)) }
+    ensures err { IfErr result (IsDenied (Denial (policy_value policy.now) password.now)
+        (Some text.now)) }
 {
-    let hash = PasswordHash::new(text)?;
+    let hash = read(text)?;
     let LoggedIn { accepted, fresh } = policy.log_in(rng, &hash, password)?;
     match fresh {
         Some(fresh) => Ok((accepted, fresh)),
         None => Ok((accepted, hash)),
+    }
+}
+
+/// What a stored text says, if it is one of Argon2 and not locked. A locked text is refused as a wrong password is.
+pub fn read(text: &str) -> Result<PasswordHash, Failure>
+    ensures ok { IfOk result (λ hash. Says text.now (phc_of hash)) }
+    ensures err { IfErr result (IsShut text.now) }
+{
+    if behind_lock(text).is_some() {
+        return Err(Failure::Refused(BoundError::Refused(Error::PasswordInvalid)));
+    }
+    match scheme_of(text.as_bytes()) {
+        Some(scheme) => Err(Failure::Scheme(scheme)),
+        None => Ok(PasswordHash::new(text)?),
     }
 }
 

@@ -1,4 +1,4 @@
-use Rattle.std.proofs.Common.{rules, arith, ◌≡◌, ◌∙◌, ◌+◌, ◌<◌, ◌==◌, min, ℕ, length, length-append, Bool, Bor, suc, List, [], ◌∷◌, ◌++◌, map, ap, append-nil, subst, sym, refl, ⊎_elim, inr, false, take}
+use Rattle.std.proofs.Common.{rules, arith, ◌≡◌, ◌∙◌, ◌+◌, ◌<◌, ◌==◌, min, ℕ, length, length-append, Bool, Bor, suc, List, [], ◌∷◌, ◌++◌, map, ap, append-nil, subst, sym, refl, ⊎_elim, inl, inr, true, false, take}
 use Rattle.std.specs.Prelude.{All}
 use Rattle.std.proofs.lemmas.Bool.{cases_lt}
 use Rattle.std.proofs.lemmas.Grind.{common_steps}
@@ -9,9 +9,9 @@ use Rattle.std.specs.List.{AllZip, IsFirstMatchOrLen, slice_split}
 use Rattle.std.specs.Str.Lines.{lines, lines_of_parts, strip_carriage_return}
 use Rattle.argon2_rows.specs.Names.{entry_of}
 use Rattle.argon2_rows.specs.declared.text.StoredText.{StoredText}
-use Rattle.argon2_passwd.specs.Answers.{AreEntries, HasNoEntry, IsEntry, IsFirstWithout}
+use Rattle.argon2_passwd.specs.Answers.{AreEntries, HasNoText, IsEntry, IsFirstWithout, IsPair}
 use Rattle.argon2_passwd.specs.Passwords.{line_of}
-use Rattle.argon2_passwd.specs.declared.failure.Failure.TheVariants.{Text}
+use Rattle.argon2_passwd.specs.declared.failure.Failure.TheVariants.{NameAt, Text}
 use Rattle.argon2_passwd.proofs.entries.entries.Goals as goal
 
 parts-cons : (part : List ℕ) (parts : List (List ℕ)) → 0 < length parts
@@ -72,16 +72,18 @@ loop-line-preserved c =
     let line = lines_first _ _ _ _ steps.2 steps.0 steps.1.1 first in
     let found = c.in-Some-entry.entry in
     let e = entry_of found in
-    let one = subst (λ l. IsEntry c.args.any_text l e) c.line_len.ensures.value c.in-Some-entry.ensures in (
+    let plain = sym c.has_control.ensures ∙ c.if-has_control.false in
+    let read = subst (λ l. IsPair c.args.any_text l e) c.line_len.ensures.value c.in-Some-entry.ensures in (
       (λ rest are.
           let all = c.loop-line.invariant.0 (e ∷ rest)
-          (subst (λ ls. AllZip (IsEntry c.args.any_text) ls (e ∷ rest)) (sym line) (one, are)) in
+          (subst (λ ls. AllZip (IsEntry c.args.any_text) ls (e ∷ rest)) (sym line) ((read, plain), are)) in
           rw c.in_ok-push.ensures.items
           (subst (AreEntries c.args.any_text c.args.input.now) (pushed c.loop-line.found.items found rest) all)),
-      (λ k without.
-          let all = c.loop-line.invariant.1 (suc k)
-          (subst (λ ls. IsFirstWithout c.args.any_text ls (suc k)) (sym line) (rw one.1 at one.2, without)) in
-          rw c.in_ok-push.ensures.items (subst (IsFirstWithout c.args.any_text (lines c.args.input.now)) (more_found c.loop-line.found.items found k) all)),
+      (λ of_name k without.
+          let all = c.loop-line.invariant.1 of_name (suc k)
+          (subst (λ ls. IsFirstWithout c.args.any_text of_name ls (suc k)) (sym line)
+          (rw read.1 at read.2, rw read.0 at plain, without)) in
+          rw c.in_ok-push.ensures.items (subst (IsFirstWithout c.args.any_text of_name (lines c.args.input.now)) (more_found c.loop-line.found.items found k) all)),
     )
 
 pub returns-in_default-clause-err : goal.returns-in_default-clause-err
@@ -89,9 +91,32 @@ returns-in_default-clause-err c =
     let steps = c.in-Some.ensures.steps in
     let (always, first) = steps.1.2 (λ b. b == 10) (answers_always _ _ _ (λ f a r g h. search rules)) in
     let line = lines_first _ _ _ _ steps.2 steps.0 steps.1.1 first in
-    let none = subst (HasNoEntry c.args.any_text) c.line_len.ensures.value c.in_default.ensures in
-    let all = c.loop-line.invariant.1 0 (subst (λ ls. IsFirstWithout c.args.any_text ls 0) (sym line) none) in
-    inr (length c.loop-line.found.items, ap (λ (xs : List (Bor (List ℕ) × StoredText)). Text (length xs + 1)) c.as_slice.ensures.value, subst (IsFirstWithout c.args.any_text (lines c.args.input.now)) (omega arith) all)
+    let none = subst (HasNoText c.args.any_text) c.line_len.ensures.value c.in_default.ensures in
+    let all = c.loop-line.invariant.1 false 0 (subst (λ ls. IsFirstWithout c.args.any_text false ls 0) (sym line) none) in
+    inr (
+      length c.loop-line.found.items,
+      inl (
+        ap (λ (xs : List (Bor (List ℕ) × StoredText)). Text (length xs + 1)) c.as_slice.ensures.value,
+        subst (IsFirstWithout c.args.any_text false (lines c.args.input.now)) (omega arith) all,
+      ),
+    )
+
+pub returns-then-has_control-clause-err : goal.returns-then-has_control-clause-err
+returns-then-has_control-clause-err c =
+    let steps = c.in-Some.ensures.steps in
+    let (always, first) = steps.1.2 (λ b. b == 10) (answers_always _ _ _ (λ f a r g h. search rules)) in
+    let line = lines_first _ _ _ _ steps.2 steps.0 steps.1.1 first in
+    let read = subst (λ l. IsPair c.args.any_text l (entry_of c.in-Some-entry.entry)) c.line_len.ensures.value c.in-Some-entry.ensures in
+    let has = sym c.has_control.ensures ∙ c.if-has_control.true in
+    let all = c.loop-line.invariant.1 true 0 (subst (λ ls. IsFirstWithout c.args.any_text true ls 0) (sym line)
+    (rw read.1 at read.2, rw read.0 at has)) in
+    inr (
+      length c.loop-line.found.items,
+      inr (
+        ap (λ (xs : List (Bor (List ℕ) × StoredText)). NameAt (length xs + 1)) c.as_slice.ensures.value,
+        subst (IsFirstWithout c.args.any_text true (lines c.args.input.now)) (omega arith) all,
+      ),
+    )
 
 pub returns-clause-ok : goal.returns-clause-ok
 returns-clause-ok c =

@@ -1,4 +1,4 @@
-use Rattle.std.proofs.Common.{map, ℕ, List, ◌++◌, ◌+◌, length}
+use Rattle.std.proofs.Common.{map, ℕ, Bool, List, ◌++◌, ◌+◌, length}
 use Rattle.std.specs.Slice.Iter.{split_inclusive_rest}
 use Rattle.std.specs.Str.Lines.{lines}
 use Rattle.argon2_rows.specs.Names.{entry_of}
@@ -9,5 +9,5 @@ use Rattle.argon2_passwd.proofs.entries.entries.Given as goal
 abbrev pub invariant-loop-line : goal.invariant-loop-line
 invariant-loop-line l = ((rest : List (List ℕ × List ℕ)) → AreEntries l.any_text (split_inclusive_rest l.line-iterator) rest
     → AreEntries l.any_text l.fn.input (map entry_of l.found.items ++ rest))
-    × ((k : ℕ) → IsFirstWithout l.any_text (lines (split_inclusive_rest l.line-iterator)) k
-    → IsFirstWithout l.any_text (lines l.fn.input) (length l.found.items + k))
+    × ((of_name : Bool) (k : ℕ) → IsFirstWithout l.any_text of_name (lines (split_inclusive_rest l.line-iterator)) k
+    → IsFirstWithout l.any_text of_name (lines l.fn.input) (length l.found.items + k))

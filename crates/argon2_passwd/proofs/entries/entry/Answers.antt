@@ -5,7 +5,7 @@ use Rattle.argon2_base.specs.PhcFields.{phc_of}
 use Rattle.argon2_base.specs.PhcText.{PhcText}
 use Rattle.argon2_base.specs.declared.error.password_hash.Error.{Error}
 use Rattle.argon2.specs.Settings.{Settings}
-use Rattle.argon2.specs.Stored.{settings_value}
+use Rattle.argon2.specs.StoredTexts.{settings_value}
 use Rattle.argon2.specs.declared.password_hash.stored.Settings.{Settings as OwnSettings}
 use Rattle.argon2_programs.specs.Prefixes.{bare}
 use Rattle.argon2_rows.specs.Locks.{without_lock}

@@ -11,13 +11,13 @@ use Rattle.argon2_passwd.proofs.run.accounts.add_all.Goals as goal
 
 -- no other error of an addition is a refusal
 other : (before : Texts) (es : List (List ℕ × List ℕ)) (k : ℕ) (e : FileError) (f : Failure) → IsErrorAt before es (k, e)
-    → ¬ (e ≡ NameTaken) → IsOfFile e f → status_of f ≡ 1 → ⊥
-other before es k e f at isnt of one = grind arith
+    → ¬ (e ≡ NameTaken) → IsOfFile e f → status_of f ≡ 3
+other before es k e f at isnt of = grind arith
 
 pub returns-in-NameTaken : goal.returns-in-NameTaken
 returns-in-NameTaken g c = (
   (_, c.in-Err.ensures.call),
-  λ one. (
+  λ isnt. (
     _,
     c.in-Err.ensures.call,
     λ names has honest.
@@ -30,11 +30,11 @@ returns-in-NameTaken g c = (
 pub returns-in_default : goal.returns-in_default
 returns-in_default g c = (
   (_, c.in-Err.ensures.call),
-  λ one. (
+  λ isnt. (
     _,
     c.in-Err.ensures.call,
     λ names has honest.
-        absurd (other names _ c.in-Err.index c.in-Err.error _ (c.in-Err.ensures.index names has honest) c.in_default.not-NameTaken
-        c.into.ensures one),
+        absurd (isnt (other names _ c.in-Err.index c.in-Err.error _ (c.in-Err.ensures.index names has honest) c.in_default.not-NameTaken
+        c.into.ensures)),
   ),
 )

@@ -1,34 +1,35 @@
-use Rattle.std.proofs.Common.{arith, ◌≡◌, ◌⊎◌, ◌∙◌, ℕ, Bool, List, [], Option, inl, inr, map, subst}
+use Rattle.std.proofs.Common.{arith, ◌≡◌, ◌⊎◌, ◌∙◌, ℕ, Bool, true, false, List, [], Option, ap, inl, inr, map, subst}
 use Rattle.std.proofs.lemmas.Option.{IfSome_then}
-use Rattle.std.specs.Prelude.{IfSome}
-use Rattle.std.specs.Str.Lines.{lines}
+use Rattle.std.specs.Prelude.{◌≢◌, IfSome}
 use Rattle.argon2_rows.specs.Names.{entry_of}
-use Rattle.argon2_passwd.specs.Answers.{AreEntries, IsFirstWithout, RefusesText}
+use Rattle.argon2_passwd.specs.Answers.{AreEntries, RefusesText, unmarked}
 use Rattle.argon2_passwd.specs.Failures.{IsMemory, status_of}
 use Rattle.argon2_passwd.specs.declared.failure.Failure.{Failure}
 use Rattle.argon2_passwd.proofs.Served.{imported, keeps_same, not_begun, not_opened, opened_for}
 use Rattle.argon2_passwd.proofs.run.accounts.import.Goals as goal
 
-memory_is : (f : Failure) → IsMemory f → ¬ (status_of f ≡ 1)
-memory_is f memory one = grind arith
+memory_is : (f : Failure) → IsMemory f → status_of f ≡ 3
+memory_is f memory = grind arith
 
 -- a refusal for a text is one of a known input
 refused : (any_text : Bool) (read : List ℕ) (f : Failure) (input : Option (List ℕ)) → IfSome input (λ known. read ≡ known)
-    → status_of f ≡ 1 → IsMemory f ⊎ RefusesText any_text read f
-    → (k : ℕ) × IfSome input (λ bytes. IsFirstWithout any_text (lines bytes) k)
-refused any_text read f input same one (inl memory) = absurd (memory_is f memory one)
-refused any_text read f input same one (inr (k, is, first)) =
-    (k, IfSome_then input same (λ known all. subst (λ bytes. IsFirstWithout any_text (lines bytes) k) all first))
+    → status_of f ≢ 3 → IsMemory f ⊎ RefusesText any_text (unmarked read) f
+    → IfSome input (λ bytes. RefusesText any_text (unmarked bytes) f)
+refused any_text read f input same isnt (inl memory) = absurd (isnt (memory_is f memory))
+refused any_text read f input same isnt (inr refuses) =
+    IfSome_then input same (λ known all. subst (λ bytes. RefusesText any_text (unmarked bytes) f) all refuses)
 
 pub returns-in_err-bytes : goal.returns-in_err-bytes
 returns-in_err-bytes g c output = not_begun _ _ c.from_residual.ensures.1 c.in_err-bytes.ensures.err c.requires
 
 pub returns-in_err-entries : goal.returns-in_err-entries
 returns-in_err-entries g c output =
-    not_opened c.in_err-entries.field-0.0 _ c.from_residual-in_err-entries.ensures.1
-    (λ one. (
-      inr (refused _ _ _ (g.R.Read.remaining c.args.input.now) c.in_ok-bytes.ensures.ok one
-          (rw c.as_slice.ensures.value at c.in_err-entries.ensures.err)),
+    let f = c.in_err-entries.field-0.0 in
+    let all = c.after_any-lines.ensures ∙ ap unmarked c.as_slice.ensures.value in
+    not_opened f _ c.from_residual-in_err-entries.ensures.1
+    (λ isnt. (
+      inr (refused _ _ _ (g.R.Read.remaining c.args.input.now) c.in_ok-bytes.ensures.ok isnt
+          (subst (λ text. IsMemory f ⊎ RefusesText c.args.any_text text f) all c.in_err-entries.ensures.err)),
       keeps_same _,
     )) c.requires
 
@@ -45,6 +46,7 @@ returns g c output =
     imported _ (
       es,
       IfSome_then (g.R.Read.remaining c.args.input.now) c.in_ok-bytes.ensures.ok (λ known all.
-          subst (λ bytes. AreEntries c.args.any_text bytes es) (c.as_slice.ensures.value ∙ all) c.in_ok-entries.ensures.ok),
+          subst (λ text. AreEntries c.args.any_text text es)
+          (c.after_any-lines.ensures ∙ ap unmarked (c.as_slice.ensures.value ∙ all)) c.in_ok-entries.ensures.ok),
       opened_for _ _ c.in_ok-accounts.ensures.ok adds closed,
     )

@@ -1,16 +1,17 @@
 use Rattle.std.proofs.Common.{arith, ◌≡◌, ℕ, List, Option, Some, None, Result, Ok, Err, inl, inr, refl}
 use Rattle.std.specs.Prelude.{◌↔◌, IsSome, string_bytes}
 use Rattle.argon2_base.specs.PhcFields.{phc_of}
-use Rattle.argon2_base.specs.PhcText.{Phc, PhcText, phc_text}
+use Rattle.argon2_base.specs.PhcText.{Phc, phc_text}
 use Rattle.argon2_base.specs.declared.phc.hash.PasswordHash.{PasswordHash}
 use Rattle.argon2.specs.NamedTexts.{value_after}
 use Rattle.argon2.specs.declared.login.answers.Accepted.{Accepted}
 use Rattle.argon2.specs.declared.login.answers.Accepted.TheVariants.{Kept, Rehashed}
 use Rattle.argon2_policy.specs.Policy.{LogsIn, Policy, policy_value}
 use Rattle.argon2_store.specs.declared.error.FileError.{FileError}
-use Rattle.argon2_passwd.specs.Answers.{AcceptsLogin, TellsOf, TellsOfLogin, accepted, denied, replaced, unread, unwritten}
+use Rattle.argon2_passwd.specs.Answers.{AcceptsLogin, Says, TellsOf, TellsOfLogin, accepted, denied, replaced, unread, unwritten}
 use Rattle.argon2_passwd.specs.declared.failure.Failure.{Failure}
 use Rattle.argon2_passwd.specs.Failures.{IsOfBound}
+use Rattle.argon2_passwd.specs.Salts.{IsSalt}
 use Rattle.argon2_passwd.proofs.Served.{denied_then, err_is, opened_for, some_error}
 use Rattle.argon2_passwd.proofs.run.accounts.log_in.Goals as goal
 
@@ -33,11 +34,12 @@ not_written : (did : Accepted) (done : Result (Unit {0}) FileError) (f : Failure
 not_written did done f tells kept = grind arith
 
 -- a login by what a text says, with the fresh text that was found
-logged_in : (policy : Policy) (password drawn was : List ℕ) (v : Phc) (did : Accepted) (fresh found : Option PasswordHash)
-    → fresh ≡ found → PhcText was v → LogsIn policy password drawn v (Ok did) (value_after v fresh)
-    → AcceptsLogin policy password was did (phc_text (value_after v found))
-logged_in policy password drawn was v did fresh found here says is =
-    (drawn, v, value_after v found, says, (rw here at is), refl)
+logged_in : (Gives : List ℕ → Type 0) (policy : Policy) (password drawn was : List ℕ) (v : Phc) (did : Accepted)
+    (fresh found : Option PasswordHash) → fresh ≡ found → IsSalt Gives drawn → Says was v
+    → LogsIn policy password drawn v (Ok did) (value_after v fresh)
+    → AcceptsLogin Gives policy password was did (phc_text (value_after v found))
+logged_in Gives policy password drawn was v did fresh found here salt says is =
+    (drawn, v, value_after v found, salt, says, (rw here at is), refl)
 
 pub returns-in_err-text : goal.returns-in_err-text
 returns-in_err-text g c =
@@ -57,23 +59,23 @@ returns-in_err-accepted g c =
     rw is (inl (
       denied f,
       refl,
-      (Some _, inr (inr (phc_of c.in_ok-text.hash, e, says, c.in_err-accepted.ensures.step, of)), looked),
+      (Some _, inr (phc_of c.in_ok-text.hash, e, says, c.in_err-accepted.ensures.step, of), looked),
     ))
 
 pub returns-in_default : goal.returns-in_default
 returns-in_default g c =
     let (says, looked) = c.in_ok-text.ensures in
     let did = c.in_ok-accepted.field-0.accepted in
-    let login = logged_in (policy_value c.args.access.now.policy.now) c.args.password.now _ (string_bytes c.in_ok-text.text)
-    (phc_of c.in_ok-text.hash) did c.in_ok-accepted.field-0.fresh None c.in_default.is says c.in_ok-accepted.ensures.step in
+    let login = logged_in g.P.Outside.gives (policy_value c.args.access.now.policy.now) c.args.password.now _ (string_bytes c.in_ok-text.text)
+    (phc_of c.in_ok-text.hash) did c.in_ok-accepted.field-0.fresh None c.in_default.is c.requires.salt says c.in_ok-accepted.ensures.step in
     inl (accepted did, not_renewed did _ c.in_default.is c.in_ok-accepted.ensures.fresh, (_, _, login, looked))
 
 pub returns-in-Ok : goal.returns-in-Ok
 returns-in-Ok g c =
     let (says, looked) = c.in_ok-text.ensures in
     let did = c.in_ok-accepted.field-0.accepted in
-    let login = logged_in (policy_value c.args.access.now.policy.now) c.args.password.now _ (string_bytes c.in_ok-text.text)
-    (phc_of c.in_ok-text.hash) did c.in_ok-accepted.field-0.fresh (Some c.in-Some.fresh) c.in-Some.is says c.in_ok-accepted.ensures.step in
+    let login = logged_in g.P.Outside.gives (policy_value c.args.access.now.policy.now) c.args.password.now _ (string_bytes c.in_ok-text.text)
+    (phc_of c.in_ok-text.hash) did c.in_ok-accepted.field-0.fresh (Some c.in-Some.fresh) c.in-Some.is c.requires.salt says c.in_ok-accepted.ensures.step in
     elim (rw (c.in-Ok.is, c.as_str.ensures.value) at c.replace.ensures _ looked.next) [
       | inl (done, tells, last) ↦ inl (
         replaced did done,
@@ -87,8 +89,8 @@ pub returns : goal.returns
 returns g c =
     let (says, looked) = c.in_ok-text.ensures in
     let did = c.in_ok-accepted.field-0.accepted in
-    let login = logged_in (policy_value c.args.access.now.policy.now) c.args.password.now _ (string_bytes c.in_ok-text.text)
-    (phc_of c.in_ok-text.hash) did c.in_ok-accepted.field-0.fresh (Some c.in-Some.fresh) c.in-Some.is says c.in_ok-accepted.ensures.step in
+    let login = logged_in g.P.Outside.gives (policy_value c.args.access.now.policy.now) c.args.password.now _ (string_bytes c.in_ok-text.text)
+    (phc_of c.in_ok-text.hash) did c.in_ok-accepted.field-0.fresh (Some c.in-Some.fresh) c.in-Some.is c.requires.salt says c.in_ok-accepted.ensures.step in
     let kept = renewed did _ _ c.in-Some.is c.in_ok-accepted.ensures.fresh in
     elim (rw (c.in-Err.is, c.as_str.ensures.value) at c.replace.ensures _ looked.next) [
       | inl (done, tells, last) ↦ inl (

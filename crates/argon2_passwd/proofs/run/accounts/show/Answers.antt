@@ -1,5 +1,5 @@
-use Rattle.std.proofs.Common.{[], inr, refl, sym, ◌∙◌}
-use Rattle.argon2_passwd.proofs.Served.{failed, failed_by, not_begun, opened_for}
+use Rattle.std.proofs.Common.{[], inr}
+use Rattle.argon2_passwd.proofs.Served.{failed_lines, not_begun, opened_for}
 use Rattle.argon2_passwd.proofs.run.accounts.show.Goals as goal
 
 pub returns-in_err-accounts : goal.returns-in_err-accounts
@@ -12,22 +12,14 @@ returns-in_err-written g c input =
     let opened = c.in_ok-accounts.ensures.ok in
     let reads = rw c.in_err-written.was at c.write_lines-written.ensures.reads in
     let closed = rw c.into_store.ensures at c.close.ensures [] (c.in_ok-accounts.ensures.opened [] c.requires) in
-    failed_by c.in_err-written.field-0.0 _ c.from_residual-in_err-written.ensures.1
-    (reads opened.0 opened.2.has).of_file
+    failed_lines c.in_err-written.field-0.0 _ c.from_residual-in_err-written.ensures.1 (reads opened.0 opened.2.has).of_file
     (inr (_, opened_for _ _ opened (λ names has. (reads names has, λ _. tt)) closed))
 
-pub returns-in-Err : goal.returns-in-Err
-returns-in-Err g c input =
-    let reads = c.write_lines-written.ensures.reads in
-    let closed = rw c.into_store.ensures at c.close.ensures [] (c.in_ok-accounts.ensures.opened [] c.requires) in
-    failed _ _ refl (λ one. absurd (let never = sym c.of_lines.ensures.trouble ∙ one in cc))
-    (inr (_, opened_for _ _ c.in_ok-accounts.ensures.ok (λ names has. (reads names has, λ _. tt)) closed))
-
-pub returns-in-Ok : goal.returns-in-Ok
-returns-in-Ok g c input =
+pub returns : goal.returns
+returns g c input =
     let opened = c.in_ok-accounts.ensures.ok in
     let reads = rw c.in_ok-written.was at c.write_lines-written.ensures.reads in
-    let shows = rw (c.in_ok-written.was, c.in-Ok.is) at c.write_lines-written.ensures.shows in
+    let shows = rw c.in_ok-written.was at c.write_lines-written.ensures.shows in
     let closed = rw c.into_store.ensures at c.close.ensures [] (c.in_ok-accounts.ensures.opened [] c.requires) in
     record {
       ok = opened_for _ _ opened (λ names has. (reads names has, shows names has)) closed;

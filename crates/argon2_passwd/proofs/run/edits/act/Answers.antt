@@ -7,12 +7,12 @@ use Rattle.argon2_passwd.proofs.run.edits.act.Goals as goal
 pub returns-in_err-text-in-Register : goal.returns-in_err-text-in-Register
 returns-in_err-text-in-Register g c =
     rw (err_is c.from_residual.result c.in_err-text-in-Register.field-0.0 c.from_residual.ensures.1)
-    (inr (c.requires, c.in_err-text-in-Register.ensures.err))
+    (inr (c.requires.shut, c.in_err-text-in-Register.ensures.err))
 
 pub returns-in_err-text-in-Set : goal.returns-in_err-text-in-Set
 returns-in_err-text-in-Set g c =
     rw (err_is c.from_residual-in_err-text-in-Set.result c.in_err-text-in-Set.field-0.0
-    c.from_residual-in_err-text-in-Set.ensures.1) (inr (c.requires, c.in_err-text-in-Set.ensures.err))
+    c.from_residual-in_err-text-in-Set.ensures.1) (inr (c.requires.shut, c.in_err-text-in-Set.ensures.err))
 
 pub returns-in_ok-text-in-Register : goal.returns-in_ok-text-in-Register
 returns-in_ok-text-in-Register g c =
@@ -20,6 +20,7 @@ returns-in_ok-text-in-Register g c =
       | inl applied ↦ inl (
         (fill_bytes 16 (g.G.Rng.stream c.args.rng.now)).0,
         phc_of c.in_ok-text-in-Register.text,
+        c.requires.salt,
         c.in_ok-text-in-Register.ensures.ok,
         applied,
       )
@@ -32,6 +33,7 @@ returns-in_ok-text-in-Set g c =
       | inl applied ↦ inl (
         (fill_bytes 16 (g.G.Rng.stream c.args.rng.now)).0,
         phc_of c.in_ok-text-in-Set.text,
+        c.requires.salt,
         c.in_ok-text-in-Set.ensures.ok,
         applied,
       )

@@ -27,7 +27,7 @@ returns-in_err-fresh g c =
     rw is (inl (
       denied f,
       refl,
-      (Some _, inr (inr (phc_of c.in_ok-text.hash, e, says, c.in_err-fresh.ensures.made, of)), looked),
+      (Some _, inr (phc_of c.in_ok-text.hash, e, says, c.in_err-fresh.ensures.made, of), looked),
     ))
 
 pub returns : goal.returns
@@ -35,9 +35,9 @@ returns g c =
     let (says, looked) = c.in_ok-text.ensures in
     let drawn = (fill_bytes 16 (g.G.Rng.stream c.args.rng.now)).0 in
     let made = c.in_ok-fresh.ensures.made in
-    let change : AcceptsChange (policy_value c.args.access.now.policy.now) c.args.first.now c.args.second.now
+    let change : AcceptsChange g.P.Outside.gives (policy_value c.args.access.now.policy.now) c.args.first.now c.args.second.now
     (string_bytes c.in_ok-text.text) tt (text_of c.in_ok-fresh.fresh) =
-    (drawn, phc_of c.in_ok-text.hash, phc_of c.in_ok-fresh.fresh, says, made.0, made.1, refl) in
+    (drawn, phc_of c.in_ok-text.hash, phc_of c.in_ok-fresh.fresh, c.requires.salt, says, made.0, made.1, refl) in
     elim (rw c.as_str.ensures.value at c.replace.ensures _ looked.next) [
       | inl (done, tells, last) ↦ inl (
         replaced tt done,

@@ -6,15 +6,15 @@ use Rattle.argon2_passwd.proofs.run.edits.edit.Goals as goal
 pub returns-then-breaks_lines : goal.returns-then-breaks_lines
 returns-then-breaks_lines g c output =
     let breaks = sym c.breaks_lines.ensures ∙ c.if-breaks_lines.true in
-    not_opened Name _ refl (λ one. (inr (inl breaks), keeps_same _)) c.requires
+    not_opened Name _ refl (λ isnt. (inr (inl (breaks, refl)), keeps_same _)) c.requires
 
 pub returns-in_err-rng : goal.returns-in_err-rng
-returns-in_err-rng g c output = not_begun _ _ c.from_residual.ensures.1 c.in_err-rng.ensures c.requires
+returns-in_err-rng g c output = not_begun _ _ c.from_residual.ensures.1 c.in_err-rng.ensures.failed c.requires
 
 pub returns-in_err-first : goal.returns-in_err-first
 returns-in_err-first g c output =
     not_opened c.in_err-first.field-0.0 _ c.from_residual-in_err-first.ensures.1
-    (λ one. (inr (inr (c.in_err-first.ensures.err one)), keeps_same _)) c.requires
+    (λ isnt. (inr (inr c.in_err-first.ensures.err), keeps_same _)) c.requires
 
 pub returns : goal.returns
 returns g c output =
