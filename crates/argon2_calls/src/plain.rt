@@ -3,64 +3,44 @@
 
 ghost use Rattle.std.specs.Prelude.{◌<◌};
 
+// The four words of each step of a permutation of 16.
+static STEPS: [[usize; 4]; 8] = [
+    [0, 4, 8, 12],
+    [1, 5, 9, 13],
+    [2, 6, 10, 14],
+    [3, 7, 11, 15],
+    [0, 5, 10, 15],
+    [1, 6, 11, 12],
+    [2, 7, 8, 13],
+    [3, 4, 9, 14],
+];
+
 fn add_mul(u: u64, v: u64) -> u64 {
     let product = (u & 0xffff_ffff).wrapping_mul(v & 0xffff_ffff);
     u.wrapping_add(v).wrapping_add(product.wrapping_mul(2))
 }
 
-fn gb(a: u64, b: u64, c: u64, d: u64) -> (u64, u64, u64, u64) {
-    let a1 = add_mul(a, b);
-    let d1 = (d ^ a1).rotate_right(32);
-    let c1 = add_mul(c, d1);
-    let b1 = (b ^ c1).rotate_right(24);
-    let a2 = add_mul(a1, b1);
-    let d2 = (d1 ^ a2).rotate_right(16);
-    let c2 = add_mul(c1, d2);
-    let b2 = (b1 ^ c2).rotate_right(63);
-    (a2, b2, c2, d2)
-}
-
-fn gb_at(v: &mut [u64; 16], i: usize, j: usize, k: usize, l: usize)
-    requires { (i < 16) × (j < 16) × (k < 16) × (l < 16) }
+// The place of a word of the 16 that a permutation takes: two together, and the next two a stride further.
+fn place(first: usize, stride: usize, k: usize) -> usize
+    ensures { result < 128 }
 {
-    (v[i], v[j], v[k], v[l]) = gb(v[i], v[j], v[k], v[l]);
+    first
+        .wrapping_add(stride.wrapping_mul(k / 2))
+        .wrapping_add(k % 2)
+        % 128
 }
 
-fn perm(mut v: [u64; 16]) -> [u64; 16] {
-    gb_at(&mut v, 0, 4, 8, 12);
-    gb_at(&mut v, 1, 5, 9, 13);
-    gb_at(&mut v, 2, 6, 10, 14);
-    gb_at(&mut v, 3, 7, 11, 15);
-    gb_at(&mut v, 0, 5, 10, 15);
-    gb_at(&mut v, 1, 6, 11, 12);
-    gb_at(&mut v, 2, 7, 8, 13);
-    gb_at(&mut v, 3, 4, 9, 14);
-    v
-}
-
-fn mix_row(z: &mut [u64; 128], i: usize)
-    requires { i < 8 }
-{
-    let mut v = [0; 16];
-    for k in 0..16 {
-        v[k] = z[16 * i + k];
-    }
-    v = perm(v);
-    for k in 0..16 {
-        z[16 * i + k] = v[k];
-    }
-}
-
-fn mix_column(z: &mut [u64; 128], j: usize)
-    requires { j < 8 }
-{
-    let mut v = [0; 16];
-    for k in 0..16 {
-        v[k] = z[16 * (k / 2) + 2 * j + k % 2];
-    }
-    v = perm(v);
-    for k in 0..16 {
-        z[16 * (k / 2) + 2 * j + k % 2] = v[k];
+fn permute(z: &mut [u64; 128], first: usize, stride: usize) {
+    for step in &STEPS {
+        let [a, b, c, d] = *step;
+        let (a, b) = (place(first, stride, a), place(first, stride, b));
+        let (c, d) = (place(first, stride, c), place(first, stride, d));
+        for (one, other) in [(32, 24), (16, 63)] {
+            z[a] = add_mul(z[a], z[b]);
+            z[d] = (z[d] ^ z[a]).rotate_right(one);
+            z[c] = add_mul(z[c], z[d]);
+            z[b] = (z[b] ^ z[c]).rotate_right(other);
+        }
     }
 }
 
@@ -71,11 +51,11 @@ pub fn mix(x: &[u64; 128], y: &[u64; 128]) -> [u64; 128] {
         *word ^= other;
     }
     let mut z = r;
-    for i in 0..8 {
-        mix_row(&mut z, i);
+    for i in 0..8usize {
+        permute(&mut z, i.wrapping_mul(16), 2);
     }
-    for j in 0..8 {
-        mix_column(&mut z, j);
+    for j in 0..8usize {
+        permute(&mut z, j.wrapping_mul(2), 16);
     }
     for (word, other) in z.iter_mut().zip(&r) {
         *word ^= other;

@@ -17,18 +17,6 @@ pub struct Context<'w> {
     secret: Option<Vec<u8>>,
 }
 
-impl Context<'_> {
-    /// What hashes under this context.
-    fn argon2(&self) -> Result<Argon2<'_>> {
-        match &self.secret {
-            Some(secret) => {
-                Argon2::new_with_secret(secret, self.algorithm, self.version, self.params)
-            }
-            None => Ok(Argon2::new(self.algorithm, self.version, self.params)),
-        }
-    }
-}
-
 /// All contexts that a text's lines define.
 ///
 /// # Errors
@@ -41,7 +29,7 @@ pub fn defined(alloc: Global, text: &str) -> Outcome<Vec<Context<'_>>, AllocErro
             if let Ok(context) = read(&mut line) {
                 all.push(context)?;
             }
-            if line.is_refused() {
+            if line.is_refused {
                 return Err(AllocError);
             }
         }
@@ -51,15 +39,21 @@ pub fn defined(alloc: Global, text: &str) -> Outcome<Vec<Context<'_>>, AllocErro
 
 /// The context of this name.
 pub(crate) fn named<'a>(contexts: &'a [Context<'a>], name: &str) -> Option<Argon2<'a>> {
-    if name == "default" {
-        return Some(Argon2::default());
-    }
-    for context in contexts {
-        if context.name == name {
-            return context.argon2().ok();
+    for it in contexts {
+        if it.name == name {
+            return match &it.secret {
+                Some(secret) => {
+                    Argon2::new_with_secret(secret, it.algorithm, it.version, it.params).ok()
+                }
+                None => Some(Argon2::new(it.algorithm, it.version, it.params)),
+            };
         }
     }
-    None
+    if name == "default" {
+        Some(Argon2::default())
+    } else {
+        None
+    }
 }
 
 /// Answers a line `context ..`.
@@ -70,54 +64,44 @@ pub fn define(line: &mut Line<'_, '_>) {
     }
 }
 
-// The context that the next values say, or the error of the algorithm, the version, the parameters or the secret.
+// The context that the next values say, or the error of the algorithm, the version or the parameters.
 fn read<'w>(line: &mut Line<'_, 'w>) -> Result<Context<'w>> {
-    let (name, algorithm, version) = (line.word(), line.word(), line.number());
-    let (params, secret) = settings(line);
-    let context = Context {
+    let (name, algorithm, version) = (line.word(), line.word(), line.count());
+    let both = settings(line);
+    let (algorithm, version) = (Algorithm::new(algorithm)?, Version::try_from(version)?);
+    let (params, secret) = both?;
+    Ok(Context {
         name,
-        algorithm: Algorithm::new(algorithm)?,
-        version: Version::try_from(version)?,
-        params: params?,
+        algorithm,
+        version,
+        params,
         secret,
-    };
-    context.argon2()?;
-    Ok(context)
+    })
 }
 
 /// The parameters that the next values say, by a builder, and the secret.
-pub fn settings(line: &mut Line<'_, '_>) -> (Result<Params>, Option<Vec<u8>>) {
-    let (m, t, p, len) = (
-        line.number(),
-        line.number(),
-        line.number(),
-        line.length_or_none(),
-    );
-    let (mut keyid, mut data, mut secret) = (Ok(KeyId::EMPTY), Ok(AssociatedData::EMPTY), None);
-    for _ in 0..line.len() {
-        let word = line.word();
-        match word.split_once('=') {
-            Some(("keyid", value)) => keyid = KeyId::new(&line.bytes_of(value)),
-            Some(("data", value)) => data = AssociatedData::new(&line.bytes_of(value)),
-            Some(("secret", value)) => secret = Some(line.bytes_of(value)),
-            _ => line.unread(),
-        }
-    }
-    (built([m, t, p], len, keyid, data), secret)
-}
-
-fn built(
-    costs: [u32; 3],
-    len: Option<usize>,
-    keyid: Result<KeyId>,
-    data: Result<AssociatedData>,
-) -> Result<Params> {
-    let [m, t, p] = costs;
-    let mut builder = ParamsBuilder::new();
-    builder.m_cost(m).t_cost(t).p_cost(p);
-    builder.keyid(keyid?).data(data?);
-    if let Some(len) = len {
+pub fn settings(line: &mut Line<'_, '_>) -> Result<(Params, Option<Vec<u8>>)> {
+    let (mut builder, mut secret) = (ParamsBuilder::new(), None);
+    builder
+        .m_cost(line.count())
+        .t_cost(line.count())
+        .p_cost(line.count());
+    if let Some(len) = line.number::<usize>() {
         builder.output_len(len);
     }
-    builder.build()
+    if let Some(rest) = line.rest.take() {
+        for word in rest.split(' ') {
+            match word.split_once('=') {
+                Some(("keyid", value)) => {
+                    builder.keyid(KeyId::new(&line.bytes_of(value))?);
+                }
+                Some(("data", value)) => {
+                    builder.data(AssociatedData::new(&line.bytes_of(value))?);
+                }
+                Some(("secret", value)) => secret = Some(line.bytes_of(value)),
+                _ => line.is_unread = true,
+            }
+        }
+    }
+    Ok((builder.build()?, secret))
 }

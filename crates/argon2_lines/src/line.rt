@@ -1,10 +1,9 @@
 //! The values of a line, which are read one after another, and its answer.
 //!
 //! - A number is a decimal.
-//! - Bytes are `0x` and hex digits, a text in double quotes, or `COUNT*BYTE`, a byte in hex so many times; or several of
-//!   these, joined by `+`: `"abc"+3*00`. No text in quotes has a `+`, and no value a space.
-//! - A text stands word for word. If it begins with `0x` or a double quote, it is the bytes that this says.
-//! - `none` is no value.
+//! - Bytes are a text without `*`, or `COUNT*HEX`, bytes in hex so many times, or several of the last, joined by `+`.
+//! - A text is what its bytes spell.
+//! - `none` is no number. No value has a space.
 //!
 //! A value that is written otherwise is read as some value all the same, and the line remembers that. So the calls have no
 //! ways out for it.
@@ -18,6 +17,7 @@ use hex::FromHexError;
 use std::alloc::{AllocError, Global};
 use std::fmt::{Debug, Display};
 use std::io::{self, Write};
+use std::str::FromStr;
 
 /// A line: what it says, and what is answered.
 #[derive(Drop)]
@@ -26,11 +26,13 @@ pub struct Line<'a, 'w> {
     pub alloc: Global,
     contexts: &'a [Context<'a>],
     text: &'w str,
-    // The words that are not read yet.
-    rest: Option<&'w str>,
+    /// The words that are not read yet.
+    pub rest: Option<&'w str>,
     answer: String,
-    is_unread: bool,
-    is_refused: bool,
+    /// Whether the line is no call, or has other values.
+    pub is_unread: bool,
+    /// Whether memory was refused for a value or for the answer.
+    pub is_refused: bool,
 }
 
 impl<'a, 'w> Line<'a, 'w> {
@@ -47,122 +49,52 @@ impl<'a, 'w> Line<'a, 'w> {
         }
     }
 
-    /// Whether the line is a call.
-    pub fn is_call(&self) -> bool {
-        !self.text.is_empty() && !self.text.starts_with('#')
-    }
-
-    /// Whether memory was refused for a value or for the answer.
-    pub fn is_refused(&self) -> bool {
-        self.is_refused
-    }
-
     /// Writes the line, with its answer if it is a call.
     ///
     /// # Errors
     /// The first failure of the writer.
     pub fn write<W: Write>(&self, output: &mut W) -> io::Result<()> {
         let text = self.text;
-        if !self.is_call() {
-            return writeln!(output, "{text}");
-        }
-        let answer = if self.is_refused {
-            "no memory"
+        let (sign, answer) = if text.is_empty() || text.starts_with('#') {
+            ("", "")
+        } else if self.is_refused {
+            (" = ", "no memory")
         } else if self.is_unread || self.rest.is_some() {
-            "?"
+            (" = ", "?")
         } else {
-            self.answer.as_str()
+            (" = ", self.answer.as_str())
         };
-        writeln!(output, "{text} = {answer}")
+        writeln!(output, "{text}{sign}{answer}")
     }
 
     // ---- values
 
-    /// Remembers that the line is no call, or has other values.
-    pub fn unread(&mut self) {
-        self.is_unread = true;
-    }
-
-    /// Remembers that memory was refused.
-    pub fn refused(&mut self) {
-        self.is_refused = true;
-    }
-
     /// The next word.
     pub fn word(&mut self) -> &'w str {
-        let Some(rest) = self.rest else {
-            self.unread();
-            return "";
+        let rest = self.rest.unwrap_or("");
+        self.is_unread |= self.rest.is_none();
+        let (word, others) = match rest.split_once(' ') {
+            Some((word, others)) => (word, Some(others)),
+            None => (rest, None),
         };
-        match rest.split_once(' ') {
-            Some((word, rest)) => {
-                self.rest = Some(rest);
-                word
-            }
-            None => {
-                self.rest = None;
-                rest
-            }
-        }
+        self.rest = others;
+        word
     }
 
-    /// How many words are left.
-    pub fn len(&self) -> usize {
-        match self.rest {
-            Some(rest) => rest.split(' ').count(),
-            None => 0,
-        }
-    }
-
-    /// Whether the next word is `none`, which is read then.
-    pub fn is_none(&mut self) -> bool {
-        let rest = self.rest;
-        let is_none = self.word() == "none";
-        if !is_none {
-            self.rest = rest;
-        }
-        is_none
+    /// A number, or none.
+    pub fn number<T: FromStr + Drop>(&mut self) -> Option<T>
+    where
+        T::Err: Drop,
+    {
+        let word = self.word();
+        let number = word.parse::<T>().ok();
+        self.is_unread |= number.is_none() && word != "none";
+        number
     }
 
     /// A number below 2^32.
-    pub fn number(&mut self) -> u32 {
-        let number = read_decimal(self.word());
-        self.is_unread |= number.is_none();
-        number.unwrap_or(0)
-    }
-
-    /// A length.
-    pub fn length(&mut self) -> usize {
-        let length = self.word().parse::<usize>();
-        self.is_unread |= length.is_err();
-        length.unwrap_or(0)
-    }
-
-    /// A length or `none`.
-    pub fn length_or_none(&mut self) -> Option<usize> {
-        if self.is_none() {
-            None
-        } else {
-            Some(self.length())
-        }
-    }
-
-    /// A number below 2^32 or `none`.
-    pub fn number_or_none(&mut self) -> Option<u32> {
-        if self.is_none() {
-            None
-        } else {
-            Some(self.number())
-        }
-    }
-
-    /// Some bytes or `none`.
-    pub fn bytes_or_none(&mut self) -> Option<Vec<u8>> {
-        if self.is_none() {
-            None
-        } else {
-            Some(self.bytes())
-        }
+    pub fn count(&mut self) -> u32 {
+        self.number().unwrap_or(0)
     }
 
     /// Some bytes.
@@ -174,10 +106,22 @@ impl<'a, 'w> Line<'a, 'w> {
     /// The bytes that a word says.
     pub fn bytes_of(&mut self, word: &str) -> Vec<u8> {
         let mut all = Vec::new(self.alloc);
+        if !word.contains('*') {
+            self.is_refused |= all.extend_from_slice(word.as_bytes()).is_err();
+            return all;
+        }
         for piece in word.split('+') {
-            match push_piece(&mut all, piece) {
-                Ok(is_read) => self.is_unread |= !is_read,
-                Err(_) => self.is_refused = true,
+            let (count, digits) = piece.split_once('*').unwrap_or(("", piece));
+            let count = read_decimal(count);
+            self.is_unread |= count.is_none();
+            match hex::decode(self.alloc, digits) {
+                Ok(bytes) => {
+                    for _ in 0..count.unwrap_or(0) {
+                        self.is_refused |= all.extend_from_slice(&bytes).is_err();
+                    }
+                }
+                Err(FromHexError::OutOfMemory) => self.is_refused = true,
+                Err(_) => self.is_unread = true,
             }
         }
         all
@@ -185,32 +129,22 @@ impl<'a, 'w> Line<'a, 'w> {
 
     /// As many bytes ff as a length says.
     pub fn ones(&mut self) -> Vec<u8> {
-        let len = self.length();
+        let len = self.count() as usize;
         self.granted(Vec::from_elem(self.alloc, 0xff, len))
     }
 
     /// A list, which is empty if memory was refused for it.
     pub fn granted<T: Drop>(&mut self, list: Result<Vec<T>, AllocError>) -> Vec<T> {
-        match list {
-            Ok(list) => list,
-            Err(_) => {
-                self.is_refused = true;
-                Vec::new(self.alloc)
-            }
-        }
+        self.is_refused |= list.is_err();
+        list.unwrap_or(Vec::new(self.alloc))
     }
 
     /// A text.
     pub fn text(&mut self) -> String {
-        let (word, mut text) = (self.word(), String::new(self.alloc));
-        if !word.starts_with('"') && !word.starts_with("0x") {
-            self.is_refused |= text.push_str(word).is_err();
-            return text;
-        }
-        let bytes = self.bytes_of(word);
+        let (bytes, mut text) = (self.bytes(), String::new(self.alloc));
         match str::from_utf8(&bytes) {
             Ok(word) => self.is_refused |= text.push_str(word).is_err(),
-            Err(_) => self.unread(),
+            Err(_) => self.is_unread = true,
         }
         text
     }
@@ -235,21 +169,23 @@ impl<'a, 'w> Line<'a, 'w> {
 
     /// A generator: the first four bytes and what is added to each for the next four, as eight bytes.
     pub fn generator(&mut self) -> Drawn {
-        match self.bytes().as_slice() {
-            [a, b, c, d, e, f, g, h] => Drawn::new([*a, *b, *c, *d], [*e, *f, *g, *h]),
+        let bytes = self.bytes();
+        let (first, step) = match bytes.as_slice().as_chunks::<4>() {
+            ([first, step], []) => (*first, *step),
             _ => {
-                self.unread();
-                Drawn::new([0; 4], [0; 4])
+                self.is_unread = true;
+                ([0; 4], [0; 4])
             }
-        }
+        };
+        Drawn::new(first, step)
     }
 
     /// The bound of three numbers.
     pub fn bound(&mut self) -> Bound {
         Bound {
-            m_cost: self.number(),
-            t_cost: self.number(),
-            p_cost: self.number(),
+            m_cost: self.count(),
+            t_cost: self.count(),
+            p_cost: self.count(),
         }
     }
 
@@ -275,24 +211,11 @@ impl<'a, 'w> Line<'a, 'w> {
         }
     }
 
-    /// A text that was made for the answer.
-    pub fn put(&mut self, text: Result<String, AllocError>) {
-        match text {
-            Ok(text) => self.say(text.as_str()),
-            Err(_) => self.is_refused = true,
-        }
-    }
-
     /// Bytes as hex digits.
     pub fn hex(&mut self, bytes: &[u8]) {
-        self.put(hex::encode(self.alloc, bytes));
-    }
-
-    /// The hex digits of bytes.
-    pub fn digits(&mut self, bytes: &[u8]) -> String {
         let digits = hex::encode(self.alloc, bytes);
         self.is_refused |= digits.is_err();
-        digits.unwrap_or(String::new(self.alloc))
+        self.say(digits.unwrap_or(String::new(self.alloc)));
     }
 
     /// The value that a call returned, or its error.
@@ -313,18 +236,21 @@ impl<'a, 'w> Line<'a, 'w> {
 
     /// `Ok`, or the error of a call.
     pub fn done<E: Debug + Drop>(&mut self, done: Result<(), E>) {
-        match done {
-            Ok(()) => self.say("Ok"),
-            Err(e) => self.show(e),
-        }
+        self.said(done.and(Ok("Ok")));
     }
 
-    /// The bytes that a call has written, or its error and whether they are ff as before.
+    /// The bytes that a call has written, or `Ok` if they are ff as before; or its error, and whether they are.
     pub fn written<E: Debug + Drop>(&mut self, done: Result<(), E>, out: &[u8]) {
+        let mut is_same = true;
+        for byte in out {
+            is_same &= *byte == 0xff;
+        }
         match done {
+            Ok(()) if is_same => self.say("Ok"),
             Ok(()) => self.hex(out),
             Err(e) => {
-                self.put(format!(in self.alloc; "{e:?}, output {}", same(are_ones(out))));
+                self.show(e);
+                self.say(if is_same { "same" } else { "changed" });
             }
         }
     }
@@ -333,63 +259,5 @@ impl<'a, 'w> Line<'a, 'w> {
     pub fn drawn(&mut self, rng: &Drawn) {
         self.say("drawn");
         self.say(rng.count());
-    }
-}
-
-/// Whether something is as it was.
-pub fn same(is_same: bool) -> &'static str {
-    if is_same { "same" } else { "changed" }
-}
-
-/// Whether all bytes are ff.
-pub fn are_ones(bytes: &[u8]) -> bool {
-    for byte in bytes {
-        if *byte != 0xff {
-            return false;
-        }
-    }
-    true
-}
-
-// Puts the bytes of a piece behind others, if it is one.
-fn push_piece(all: &mut Vec<u8>, piece: &str) -> Result<bool, AllocError> {
-    if let Some(digits) = piece.strip_prefix("0x") {
-        return push_hex(all, digits);
-    }
-    if let Some(text) = quoted(piece) {
-        all.extend_from_slice(text.as_bytes())?;
-        return Ok(true);
-    }
-    match piece.split_once('*') {
-        Some((count, byte)) => push_same(all, count, byte),
-        None => Ok(false),
-    }
-}
-
-// What stands between double quotes.
-fn quoted(piece: &str) -> Option<&str> {
-    piece.strip_prefix('"')?.strip_suffix('"')
-}
-
-fn push_hex(all: &mut Vec<u8>, digits: &str) -> Result<bool, AllocError> {
-    match hex::decode(*all.allocator(), digits) {
-        Ok(bytes) => all.extend_from_slice(&bytes)?,
-        Err(FromHexError::OutOfMemory) => return Err(AllocError),
-        Err(_) => return Ok(false),
-    }
-    Ok(true)
-}
-
-fn push_same(all: &mut Vec<u8>, count: &str, digits: &str) -> Result<bool, AllocError> {
-    let mut byte = [0];
-    let is_byte = hex::decode_to_slice(digits, &mut byte).is_ok();
-    match read_decimal(count) {
-        Some(count) if is_byte => {
-            for _ in 0..count {
-                all.push(byte[0])?;
-            }
-            Ok(true)
-        }
-        _ => Ok(false),
     }
 }

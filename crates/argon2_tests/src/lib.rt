@@ -2,12 +2,4 @@
 #![tactic(auto)]
 
 #[cfg(test)]
-mod algorithm;
-#[cfg(test)]
-mod common;
-#[cfg(test)]
-mod hashing;
-#[cfg(test)]
-mod params;
-#[cfg(test)]
-mod phc;
+mod tests;
