@@ -4,11 +4,16 @@ A text is replaced only if it is still the one that was read. So no lock is held
 calls at once none undoes what another one did. A connection is one of psycopg2.
 """
 
+import base64
+import hashlib
+import hmac
+import logging
 import os
 
 import argon2
 import bcrypt
 
+LOG = logging.getLogger(__name__)
 HASHER = argon2.PasswordHasher(time_cost=2, memory_cost=19456, parallelism=1)
 # Verified if a name is unknown or locked, so that this takes as long as a wrong password.
 NOBODY = HASHER.hash(os.urandom(16))
@@ -29,15 +34,51 @@ def replace(db, name, old, new):
         return cursor.rowcount == 1
 
 
+def require(holds, why):
+    """Raises why a stored text is refused, if this does not hold."""
+    if not holds:
+        raise ValueError(why)
+
+
+def accepts_other(text, password):
+    """Whether a text of bcrypt, or Django's of PBKDF2 or scrypt, accepts the bytes of a password. Costs have a bound too."""
+    if text.startswith("$2"):
+        require(int(text[4:6]) <= 14, "costs are above the bound")
+        # (bcrypt ends a password at a NUL, and the module refuses one)
+        return b"\0" not in password and bcrypt.checkpw(password, text.encode())
+    scheme, *fields = text.split("$")
+    if scheme == "pbkdf2_sha256":
+        rounds, salt, stored = fields
+        require(int(rounds) <= 2000000, "costs are above the bound")
+        found = hashlib.pbkdf2_hmac("sha256", password, salt.encode(), int(rounds))
+    else:
+        require(scheme == "scrypt", "no known scheme")
+        n, salt, r, p, stored = fields
+        require(int(p) <= 16, "costs are above the bound")
+        found = hashlib.scrypt(password, salt=salt.encode(), n=int(n), r=int(r), p=int(p), maxmem=1 << 26)
+    return hmac.compare_digest(base64.b64encode(found), stored.encode())
+
+
 def accepts(text, password):
-    """Whether a text of Argon2 or of bcrypt accepts a password. One behind `!` is locked and accepts none."""
+    """Whether a text accepts a password. One behind `!` is locked, and accepts none.
+
+    Neither does one that is broken, of an unknown scheme or above the bound, which is logged.
+    """
     if text.startswith("!"):
         text = NOBODY
-    if text.startswith("$2"):
-        return bcrypt.checkpw(password.encode(), text.encode())
+    # (Django writes the name of the scheme first)
+    text = text.removeprefix("argon2").removeprefix("bcrypt$")
     try:
+        if not text.startswith("$argon2"):
+            return accepts_other(text, password.encode())
+        costs = argon2.extract_parameters(text)
+        is_cheap = costs.memory_cost <= 262144 and costs.time_cost <= 16 and costs.parallelism <= 16
+        require(is_cheap, "costs are above the bound")
         return HASHER.verify(text, password)
     except argon2.exceptions.VerifyMismatchError:
+        return False
+    except (ValueError, argon2.exceptions.VerificationError) as error:
+        LOG.error("a stored text is refused: %r", error)
         return False
 
 
@@ -54,7 +95,7 @@ def log_in(db, name, password):
     text = text_of(db, name)
     if not accepts(text or NOBODY, password) or text is None:
         return False
-    if text.startswith("$2") or HASHER.check_needs_rehash(text):
+    if not text.startswith("$argon2") or HASHER.check_needs_rehash(text):
         replace(db, name, text, HASHER.hash(password))
     return True
 
