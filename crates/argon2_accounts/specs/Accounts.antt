@@ -2,15 +2,17 @@
 use Rattle.std.specs.Prelude.{◌≡◌, ◌⊎◌, ℕ, ◌<◌, List, [], ◌∷◌, false, Option, Some, None, IsSomeAnd, Result, Ok, Err, IsErrAnd, IsTrue, OnOk, length}
 use Rattle.std.specs.FinMap.{get}
 use Rattle.std.specs.Result.{result_map_both}
+use Rattle.rand_core.specs.Stream.{Stream, fill_bytes}
 use Rattle.sqlite_trees.specs.declared.store.Store.{Ghosts}
 use Rattle.argon2_base.specs.PhcFields.{phc_of}
 use Rattle.argon2_base.specs.PhcText.{Phc, PhcText}
 use Rattle.argon2_base.specs.declared.error.password_hash.Error.TheVariants.{EncodingInvalid, PasswordInvalid}
 use Rattle.argon2_base.specs.declared.phc.hash.PasswordHash.{PasswordHash}
 use Rattle.argon2.specs.TextHashing.{IsFresh, Target}
-use Rattle.argon2.specs.NamedTexts.{IsText}
+use Rattle.argon2.specs.NamedTexts.{IsText, stream_after}
 use Rattle.argon2.specs.Refusals.{max_len}
 use Rattle.argon2.specs.declared.bound.BoundError.{BoundError}
+use Rattle.argon2.specs.declared.login.answers.Accepted.{Accepted}
 use Rattle.argon2_policy.specs.Policy.{Admits, Denial, MakingRefusal, Policy}
 use Rattle.argon2_rows.specs.Locks.{is_locked}
 use Rattle.argon2_rows.specs.Names.{Texts, changed}
@@ -86,3 +88,14 @@ ChangesName policy name old password (Ok _) before after =
 ChangesName policy name old password (Err e) before after = (after ≡ before)
     × (IsTrue (is_refusal e) → TextRefusal policy old (get before name) e
     ⊎ (HasPassword policy before name old × (max_len < length password)))
+
+-- What the generator has left after a login: 16 bytes are drawn for a fresh text, and else nothing is. An error comes before
+-- the text is made, or after it.
+abbrev pub DrawsForLogin : Result Accepted AccountError → Stream → Stream → Type 0
+DrawsForLogin (Ok did) before after = after ≡ stream_after {E = AccountError} (Ok did) before
+DrawsForLogin (Err e) before after = (after ≡ before) ⊎ (after ≡ (fill_bytes 16 before).1)
+
+-- the same after a change of a password, which makes a fresh text
+abbrev pub DrawsForChange : Result (Unit {0}) AccountError → Stream → Stream → Type 0
+DrawsForChange (Ok _) before after = after ≡ (fill_bytes 16 before).1
+DrawsForChange (Err e) before after = (after ≡ before) ⊎ (after ≡ (fill_bytes 16 before).1)

@@ -10,7 +10,7 @@ ghost use Rattle.argon2_store.specs.AccountFile.{HasNames, IsClosed, database_of
 ghost use Rattle.argon2_store.specs.Edits.{adding, setting, text_of};
 ghost use Rattle.argon2_store.specs.Runs.{Does, reads};
 ghost use Rattle.argon2_store.specs.declared.error.FileError.{FileError};
-ghost use Rattle.argon2_accounts.specs.Accounts.{ChangesName, GivesPassword, Leaves, LogsNameIn, Replaces, Stores, TextRefusal};
+ghost use Rattle.argon2_accounts.specs.Accounts.{ChangesName, DrawsForChange, DrawsForLogin, GivesPassword, Leaves, LogsNameIn, Replaces, Stores, TextRefusal};
 ghost use Rattle.argon2_accounts.specs.Errors.{is_refusal};
 
 use crate::error::AccountError;
@@ -61,7 +61,8 @@ impl<'key, S: Store> Accounts<'key, S> {
 
     /// Verifies a password against the text of a name, and renews the text, as [`Policy::log_in`]. It
     /// returns [`Accepted::Rehashed`] once the file holds the fresh text, and [`Accepted::Kept`] if there is
-    /// no memory for a fresh text or it can't be written.
+    /// no memory for a fresh text or it can't be written. Nothing is drawn but for a fresh text; then 16 bytes
+    /// are.
     ///
     /// # Errors
     /// The first of these that holds:
@@ -86,6 +87,7 @@ impl<'key, S: Store> Accounts<'key, S> {
         ensures names { Leaves (LogsNameIn (policy_value self.old.policy) name.now password.now
             (fill_bytes 16 (R.stream rng.old)).0 result) self.old.file self.new.file }
         ensures policy { self.new.policy ≡ self.old.policy }
+        ensures drawn { DrawsForLogin result (R.stream rng.old) (R.stream rng.new) }
         ensures served { IsHonest S.Store (database_of self.new.file) → IfErr result (λ e.
             IsTrue (is_refusal e) ⊎ (IsClosed self.new.file
             ⊎ (R.stream rng.new ≡ R.stream rng.old))) }
@@ -103,7 +105,7 @@ impl<'key, S: Store> Accounts<'key, S> {
     }
 
     /// Gives a name a text of a new password if its text accepts the old one, as
-    /// [`Policy::change_password`].
+    /// [`Policy::change_password`]. 16 bytes are drawn once the old one is accepted, and else nothing is.
     ///
     /// # Errors
     /// The first of these that holds:
@@ -122,6 +124,7 @@ impl<'key, S: Store> Accounts<'key, S> {
         ensures names { Leaves (ChangesName (policy_value self.old.policy) name.now old.now new.now
             result) self.old.file self.new.file }
         ensures policy { self.new.policy ≡ self.old.policy }
+        ensures drawn { DrawsForChange result (R.stream rng.old) (R.stream rng.new) }
     {
         let text = stored(&self.policy, &mut self.file, name, old)?;
         let fresh = self.policy.change_password(rng, &text, old, new)?;

@@ -8,7 +8,7 @@ ghost use Rattle.argon2_policy.specs.Policy.{policy_value};
 ghost use Rattle.argon2_rows.specs.Names.{Texts};
 ghost use Rattle.argon2_rows.specs.Table.{IsHonest};
 ghost use Rattle.argon2_store.specs.AccountFile.{HasNames, IsFrom, database_of};
-ghost use Rattle.argon2_accounts.specs.Accounts.{HasPassword};
+ghost use Rattle.argon2_accounts.specs.Accounts.{HasPassword, Leaves};
 
 use argon2_accounts::{AccountError, Accounts};
 use argon2_policy::Policy;
@@ -63,7 +63,11 @@ pub fn sign_up<R: Rng, D: Disk>(
     rng: &mut R,
     name: &str,
     password: &[u8],
-) -> Result<(), AccountError> {
+) -> Result<(), AccountError>
+    ensures { Leaves (λ before after. OnOk result
+        (HasPassword (policy_value accounts.old.policy) after name.now password.now))
+        accounts.old.file accounts.new.file }
+{
     accounts.register(rng, name, password)?;
     Ok(accounts.file.checkpoint()?)
 }
