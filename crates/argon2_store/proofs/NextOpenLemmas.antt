@@ -198,7 +198,7 @@ module _ (first : List Row) (old new : Image) (near : Near first old) where
     near_carried : Near first new
     near_carried = (
       λ rows found never. elim found [
-        | inl there ↦ back there.0 there.1 (λ was. near.0 rows (inl (there.0, was, there.2, there.3)) never)
+        | inl there ↦ back there.0 there.1 (λ was. near.0 rows (inl (there.0, was, there.2, there.3, there.4)) never)
         | inr none ↦ ∥∥₁_elim none.0 ⊥_prop (λ unbegun. elim unbegun [
           | inl blank ↦
               let some : ¬ (first ≡ []) = λ is. never (none.1 ∙ sym is) in
@@ -261,7 +261,7 @@ next_open it listed before may opens left after found holds = ∥∥₁_map (lef
 
 -- what an open finds is the names of the table, or none if there is no table yet
 found_rows : (img : Image) (rows : List Row) → FoundIn 4096 img rows → ∥ MayHave img rows ∥₁
-found_rows img rows (inl (pages, recs, file, is)) = ∥∥₁_map file (λ file.
+found_rows img rows (inl (pages, recs, file, is, one)) = ∥∥₁_map file (λ file.
     inl (4096, account ∷ [], pages, (omega arith, omega arith, refl, refl), recs, file, refl, is))
 found_rows img rows (inr (none, is)) = ∥∥₁_map none (λ unbegun. inr (unbegun, is))
 

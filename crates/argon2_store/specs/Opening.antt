@@ -28,11 +28,15 @@ abbrev pub IsUnstarted : ℕ → Image → Type 0
 IsUnstarted size image = IsBlankFile size image
     ⊎ ((pages : PageMap) × Recovers size image pages × IsSoundFile size pages × (rows_at size (in_use size pages) Table 1 ≡ []))
 
--- the files recover to a database of that table, which has these rows, or there was no table and these are none
+-- The database lists one thing: no second table, no view, no index and no trigger.
+abbrev pub ListsOne : ℕ → PageMap → Type 0
+ListsOne size pages = length (rows_at size (in_use size pages) Table 1) ≡ 1
+
+-- the files recover to a database of that table alone, which has these rows, or there was no table and these are none
 abbrev pub FoundIn : ℕ → Image → List Row → Type 0
 FoundIn size image rows =
     ((pages : PageMap) × Recovers size image pages × ∥ IsFile size (account ∷ []) pages ∥₁
-    × (file_trees size (account ∷ []) pages 0 ≡ rows))
+    × (file_trees size (account ∷ []) pages 0 ≡ rows) × ListsOne size pages)
     ⊎ (∥ IsUnstarted size image ∥₁ × (rows ≡ []))
 
 -- the two files hold exactly these names with their texts

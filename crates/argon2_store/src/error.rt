@@ -147,7 +147,7 @@ pub enum OpenError {
     Full,
     /// The log beside the file is damaged: its header is not what was written, and no crash leaves it so.
     DamagedLog,
-    /// The file is no SQLite database, is damaged, or has other tables than that of the accounts.
+    /// The file is no SQLite database, is damaged, or does not list just the table of the accounts.
     NotAccounts,
     /// A row is not a name with a text of one line, or a name has two rows.
     Row,

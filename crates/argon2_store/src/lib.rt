@@ -18,9 +18,9 @@
 //! open, no other process can read or write it: a second one gets [`OpenError::Busy`], and `sqlite3` says
 //! that the database is locked. While it is not, `sqlite3` may read and change it.
 //!
-//! The table has to be spelled so and to be the only one, with pages of 4096 bytes, UTF-8 and no
-//! auto_vacuum. An open refuses any other file as [`OpenError::NotAccounts`], also one after `ANALYZE`, which
-//! adds a table.
+//! The table has to be spelled so, with pages of 4096 bytes, UTF-8 and no auto_vacuum, and nothing may stand
+//! beside it: no other table, view, index or trigger. An open refuses any other file as
+//! [`OpenError::NotAccounts`], also one after `ANALYZE`, which adds a table.
 #![tactic(auto)]
 
 mod account_file;

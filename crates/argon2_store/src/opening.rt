@@ -15,7 +15,7 @@ ghost use Rattle.sqlite_wal.specs.Format.{IsSigned, be32};
 ghost use Rattle.sqlite_wal.specs.Reads.{AreClean, OnlyReads};
 ghost use Rattle.sqlite_wal.specs.Recovery.{Image};
 ghost use Rattle.argon2_store.specs.Errors.{IsOfDatabase, IsOfPath};
-ghost use Rattle.argon2_store.specs.Opening.{AreSynced, AreUnharmed, FoundIn, IsDamaged, IsUnstarted, StandsFor};
+ghost use Rattle.argon2_store.specs.Opening.{AreSynced, AreUnharmed, FoundIn, IsDamaged, IsUnstarted, ListsOne, StandsFor};
 ghost use Rattle.argon2_rows.specs.Table as table;
 ghost use Rattle.argon2_rows.specs.Table.{account};
 
@@ -69,7 +69,7 @@ const FIRST: [u8; 106] = [
 // The first byte of a log's magic number.
 const MAGIC: u8 = 0x37;
 
-// Whether the database in the files lists no table, or there is none.
+// Whether the database in the files lists nothing, or there is none. One that lists more than one thing is refused.
 fn is_bare<D: Disk + Drop>(files: &mut Unopened<D>, is_new: bool) -> Result<bool, OpenError>
     requires usable { AreUsable files.old }
     requires blank { IsTrue is_new → IsTrue (state_of files.old).is_clean →
@@ -77,6 +77,9 @@ fn is_bare<D: Disk + Drop>(files: &mut Unopened<D>, is_new: bool) -> Result<bool
     ensures usable { OnOk result (AreUsable files.new) }
     ensures bare { IsTrue (state_of files.new).is_clean → IfOk result (λ is. IsTrue is →
         ∥ IsUnstarted (state_of files.old).page_size (image files.old) ∥₁) }
+    ensures one { IsTrue (state_of files.new).is_clean → IfOk result (λ is. is ≡ false →
+        (pages : PageMap) → Recovers (state_of files.old).page_size (image files.new) pages →
+        ListsOne (state_of files.old).page_size pages) }
     ensures same { IsTrue (state_of files.new).is_clean → OnOk result ((pages : PageMap) →
         Recovers (state_of files.old).page_size (image files.new) pages →
         Recovers (state_of files.old).page_size (image files.old) pages) }
@@ -94,7 +97,10 @@ fn is_bare<D: Disk + Drop>(files: &mut Unopened<D>, is_new: bool) -> Result<bool
         return Ok(true);
     }
     let rows = files.read_catalog()?;
-    Ok(rows.as_slice().is_empty())
+    if rows.len() > 1 {
+        return Err(OpenError::NotAccounts);
+    }
+    Ok(rows.is_empty())
 }
 
 // Opens the table, or makes it in a database without tables, such as a first open that was cut off leaves.

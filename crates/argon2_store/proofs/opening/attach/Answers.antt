@@ -39,13 +39,15 @@ returns-in-Ok-open-clause-found g c clean =
     let size = c.is_bare.ensures.size was in
     let sized = (c.in-Ok-open.ensures.kept now).size ∙ size in
     let schema : kept_schema store.saved (schema_of store) ≡ account ∷ [] = search arith in
+    let recs =
+    subst (λ n. Recovers n (image c.is_bare.new.files) (state store).committed) size (c.in-Ok-open.ensures.found now) in
     inl (
       (state store).committed,
-      c.in-Ok-false.ensures.same was (state store).committed
-          (subst (λ n. Recovers n (image c.is_bare.new.files) (state store).committed) size (c.in-Ok-open.ensures.found now)),
+      c.in-Ok-false.ensures.same was (state store).committed recs,
       ∥∥₁_map (store.stored (ready.is_open clean))
           (λ stored. subst₂ (λ n s. IsFile n s (state store).committed) sized schema stored.ours.file),
       committed_as store (state_of c.args.files).page_size now sized schema,
+      c.in-Ok-false.ensures.one was (search rules) (state store).committed recs,
     )
 
 pub returns-in-Ok-clause-fresh : goal.returns-in-Ok-clause-fresh
