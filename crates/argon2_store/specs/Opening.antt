@@ -2,7 +2,7 @@
 use Rattle.std.specs.Prelude.{◌≡◌, ◌⊎◌, ◌≤◌, ℕ, List, [], ◌∷◌, length, slice_index, IsTrue}
 use Rattle.sqlite_value.specs.Order.{Row}
 use Rattle.sqlite_disk.specs.declared.Disk.{Ghosts}
-use Rattle.sqlite_disk.specs.Disk.{Only}
+use Rattle.sqlite_disk.specs.Disk.{MoreFaults, Only}
 use Rattle.sqlite_pages.specs.PageMap.{PageMap}
 use Rattle.sqlite_pool.specs.Opening.{IsBlankFile}
 use Rattle.sqlite_pool.specs.Stored.{IsUnreadable, Recovers, RecoversAs, stored_size}
@@ -74,6 +74,10 @@ abbrev pub AreUnharmed : {D : Type 0} → Ghosts D → D × D → D × D → Typ
 AreUnharmed g old new = AreClean g new.0 new.1 → (left : Image) → outcomes g new.0 new.1 left
     → StandsFor (outcomes g old.0 old.1) (seen_image g old.0 old.1) left
 
+-- An open of files with a damaged log fails so: for that, or since the log can't be read.
+abbrev pub IsOfDamage : {D : Type 0} → Ghosts D → D → D → OpenError → Type 0
+IsOfDamage g old new e = (e ≡ no.DamagedLog) ⊎ ((e ≡ no.Io) × MoreFaults (g.faults old) (g.faults new))
+
 -- a crash leaves just what the two files hold
 abbrev pub AreSynced : {D : Type 0} → Ghosts D → D × D → Type 0
 AreSynced g files = Only (g.seen files.0) (g.may_leave files.0) × Only (g.seen files.1) (g.may_leave files.1)
@@ -88,6 +92,7 @@ pub record IsOfPair {D : Type 0} (g : Ghosts D) (image : Image) (e : OpenError) 
       → ¬ HoldsNames (seen_image g old.0 old.1) names
   pub damaged : e ≡ no.DamagedLog
       → (IsTrue (g.is_clean new.0) → IsDamaged (g.seen old.0)) × OnlyReads g old.0 new.0 × (new.1 ≡ old.1)
+  pub damage : AreClean g new.0 new.1 → IsDamaged (g.seen old.0) → IsOfDamage g old.0 new.0 e
   pub unharmed : AreUnharmed g old new
 
 abbrev pub IsOfFiles : {D : Type 0} → Ghosts D → Image → OpenError → Type 0

@@ -300,7 +300,7 @@ impl<T: Start> AccountsAt<T> {
 
 impl<D: Disk + Drop> AccountFile<FileStore<D>> {
     ghost use Rattle.argon2_store.specs.AccountFile.{IsFrom};
-    ghost use Rattle.argon2_store.specs.Opening.{AreUnharmed, HoldsNames, IsDamaged};
+    ghost use Rattle.argon2_store.specs.Opening.{AreUnharmed, HoldsNames, IsDamaged, IsOfDamage};
     ghost use Rattle.sqlite_wal.specs.Files.{seen_image};
     ghost use Rattle.sqlite_wal.specs.Reads.{AreClean, OnlyReads};
 
@@ -327,6 +327,8 @@ impl<D: Disk + Drop> AccountFile<FileStore<D>> {
         ensures damaged { IfErr result (λ e. e.0 ≡ DamagedLog →
             (IsTrue (D.Disk.is_clean e.1.log) → IsDamaged (D.Disk.seen files.log))
             × OnlyReads D.Disk files.log e.1.log × (e.1.db ≡ files.db)) }
+        ensures damage { IfErr result (λ e. AreClean D.Disk e.1.log e.1.db →
+            IsDamaged (D.Disk.seen files.log) → IsOfDamage D.Disk files.log e.1.log e.0) }
         ensures unharmed { IfErr result (λ e.
             AreUnharmed D.Disk (files.log, files.db) (e.1.log, e.1.db)) }
     {

@@ -5,6 +5,7 @@ ghost use Rattle.std.specs.Prelude.{◌≡◌, ◌+◌, ◌≤◌, ◌↔◌, []
 ghost use Rattle.sqlite_store.specs.FileStore.{view};
 ghost use Rattle.sqlite_store.specs.Unopened.{AreUsable, Opens, image, state_of, wanted_by};
 ghost use Rattle.sqlite_store.specs.Unopened as below;
+ghost use Rattle.sqlite_disk.specs.Disk.{CountsFault};
 ghost use Rattle.sqlite_pages.specs.PageMap.{PageMap};
 ghost use Rattle.sqlite_pool.specs.Opening.{IsBlankFile};
 ghost use Rattle.sqlite_pool.specs.Stored.{Recovers};
@@ -117,6 +118,8 @@ fn attach<D: Disk + Drop>(
     ensures found { IfOk result (λ it. IsClean (view it) →
         FoundIn (state_of files).page_size (image files) ((view it).committed 0)) }
     ensures error { IfErr result (λ e. IsOfDatabase e.0) }
+    ensures falls { IfErr result (λ e.
+        IsTrue (state_of e.1).is_clean → IsTrue (state_of files).is_clean) }
     ensures left { IfErr result (λ e. (state_of files).page_size ≡ 4096 →
         IsTrue (state_of e.1).is_clean → (left : Image) → (state_of e.1).may_leave left →
         StandsFor (state_of files).may_leave (image files) left) }
@@ -146,6 +149,8 @@ pub(crate) fn open_files<D: Disk + Drop>(
     ensures found { IfOk result (λ it. IsClean (view it) →
         FoundIn 4096 (seen_image D.Disk files.log files.db) ((view it).committed 0)) }
     ensures error { IfErr result (λ e. IsOfDatabase e.0) }
+    ensures falls { IfErr result (λ e.
+        AreClean D.Disk e.1.log e.1.db → AreClean D.Disk files.log files.db) }
     ensures left { IfErr result (λ e.
         AreUnharmed D.Disk (files.log, files.db) (e.1.log, e.1.db)) }
 {
@@ -205,6 +210,7 @@ pub(crate) fn is_damaged<D: Disk>(log: &mut D) -> io::Result<bool>
     requires { IsTrue (D.Disk.is_usable log.old) }
     ensures found { IfOk result (λ is. IsTrue (D.Disk.is_clean log.new) →
         IsTrue is ↔ IsDamaged (D.Disk.seen log.old)) }
+    ensures faults { CountsFault result (D.Disk.faults log.old) (D.Disk.faults log.new) }
     ensures same { OnlyReads D.Disk log.old log.new }
 {
     if log.len()? < HEADERS {

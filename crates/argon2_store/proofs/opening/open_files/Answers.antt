@@ -1,5 +1,5 @@
-use Rattle.argon2_store.proofs.Imports.{arith, rules, ◌∙◌, subst₂, view, FoundIn}
-use Rattle.argon2_store.proofs.OpenLemmas.{image_is, probed, unharmed, was_clean}
+use Rattle.argon2_store.proofs.Imports.{arith, rules, ◌∙◌, subst₂, sym, view, FoundIn}
+use Rattle.argon2_store.proofs.OpenLemmas.{image_is, is_honest, probed, unharmed, was_clean}
 use Rattle.argon2_store.proofs.opening.open_files.Goals as goal
 
 pub attach-requires-clause-blank : goal.attach-requires-clause-blank
@@ -22,3 +22,9 @@ returns-in-Err-attach-clause-left g c =
 
 pub returns-in-Ok-attach-clause-honest : goal.returns-in-Ok-attach-clause-honest
 returns-in-Ok-attach-clause-honest g c clean = search (arith, was_clean)
+
+pub returns-in-Err-attach-clause-falls : goal.returns-in-Err-attach-clause-falls
+returns-in-Err-attach-clause-falls g c clean =
+    was_clean c.probe_blank.ensures.log c.probe_blank.ensures.db c.in-Ok-new-2.unopened
+    (c.in-Ok-new-2.ensures.files ∙ c.in-Ok-new.ensures.files)
+    (c.in-Err-attach.ensures.falls (is_honest c.in-Err-attach.left.pool _ (sym c.close-in-Err-attach.ensures) clean))

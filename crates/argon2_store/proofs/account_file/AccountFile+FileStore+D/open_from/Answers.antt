@@ -1,4 +1,4 @@
-use Rattle.argon2_store.proofs.Imports.{arith, inl, subst, subst₂, sym, halves, no_doubt, settled_at, over_file, view, FoundIn}
+use Rattle.argon2_store.proofs.Imports.{arith, inl, subst, subst₂, sym, halves, no_doubt, settled_at, over_file, view, FoundIn, IsClean}
 use Rattle.argon2_store.proofs.NextOpenLemmas.{found_once}
 use Rattle.argon2_store.proofs.OpenLemmas.{is_honest, seen_same, unharmed_by_reads, unharmed_then}
 use Rattle.argon2_rows.proofs.TableLemmas.{leaves_kept}
@@ -57,3 +57,14 @@ returns-clause-row g c is clean names lines holds = elim c.match-load.branch [
       (sym (found_once _ _ _ found holds.1))
   | in-Err-load w ↦ let same = w.error-is in let of = w.into-error.ensures in grind arith
 ]
+
+-- behind a log that is not damaged
+pub returns-in-Err-open_files-clause-damage : goal.returns-in-Err-open_files-clause-damage
+returns-in-Err-open_files-clause-damage g c clean damaged =
+    let was = c.in-Err-open_files.ensures.falls clean in search (arith, halves)
+
+pub returns-clause-damage : goal.returns-clause-damage
+returns-clause-damage g c clean damaged =
+    let honest = no_doubt _ (is_honest c.load.new.store.pool _ (sym c.close.ensures) clean) in
+    let was : IsClean (view c.in-Ok.store) = omega (arith, c.load.ensures.quiet.clean, honest) in
+    let held = c.in-Ok.ensures.honest was in search (arith, halves)

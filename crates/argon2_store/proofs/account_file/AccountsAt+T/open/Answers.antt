@@ -27,6 +27,7 @@ returns-clause-err g c =
         kind = c.in-Err.ensures.error;
         row = c.in-Err.ensures.row;
         damaged = c.in-Err.ensures.damaged;
+        damage = c.in-Err.ensures.damage;
         unharmed = c.in-Err.ensures.unharmed;
       },
     )
