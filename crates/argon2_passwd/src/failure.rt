@@ -53,7 +53,7 @@ pub enum Failure {
     /// The names in the file with the accounts refuse the call, or the file can't be read or written.
     #[error(transparent)]
     File(FileError),
-    /// A name in the file has a line break, or a colon if its text follows.
+    /// A name in the file has a line break or a colon, and its text was to follow.
     #[error("a name has a line break or a colon")]
     BrokenLine,
     /// The file with the secret, or with the old one if this is true, can't be read.

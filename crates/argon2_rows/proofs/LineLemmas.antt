@@ -1,7 +1,9 @@
 -- Rows of names, one by one, and their lines.
 use Rattle.argon2_rows.proofs.Imports.{arith, ◌≡◌, ℕ, List, [], ◌∷◌, ◌++◌, map, append_assoc, append-nil, Option, Some, true, false, refl, sym, ap, ◌∙◌, entries}
 use Rattle.argon2_rows.proofs.Imports.{Row, Texts, plain, Index, Forward, order_of, sought, Advances, with_cursor, FitLines, IsLineOf, StopsAtBreak, breaks_line, line, AreWritten, Result, Ok, Err, MatchResult}
-use Rattle.argon2_rows.proofs.Imports.{lines, lines_of, row_of, rows_of}
+use Rattle.argon2_rows.proofs.Imports.{lines, lines_of, row_of, rows_of, AreTexts, IsUtf8, subst, get-entries, entries_sorted, is_sorted}
+use Rattle.argon2_rows.proofs.RowLemmas.{is_true, its_entry, order}
+use Rattle.std.proofs.lemmas.List.{map-append}
 use Rattle.std.proofs.lemmas.List.Elements.{All-nil, All-push}
 use Rattle.std.proofs.KnownBytes.{Appends-kept, Appends-nil, Appends-trans}
 use Rattle.std.specs.Io.KnownBytes.{Appends, Keeps}
@@ -22,6 +24,16 @@ next_name (e ∷ fs) row left is = (e, fs, refl, cc, cc)
 pub no_more : (es : List (List ℕ × List ℕ)) → Some (map row_of es) ≡ Some [] → es ≡ []
 no_more [] is = refl
 no_more (e ∷ es) is = absurd cc
+
+-- a name among others is UTF-8
+is_text : (names : Texts) (done : List (List ℕ × List ℕ)) (e : List ℕ × List ℕ) (fs : List (List ℕ × List ℕ)) → AreTexts names
+    → entries names ≡ done ++ e ∷ fs → IsUtf8 e.0
+is_text names done e fs texts all =
+    let rows = ap (λ l. map row_of l) all ∙ map-append row_of done (e ∷ fs) in
+    let sorted = is_true (is_sorted order (entries names)) (entries_sorted names) in
+    let (f, found, at) = its_entry (entries names) (map row_of done) (row_of e) (map row_of fs) rows sorted in
+    let same : f.0 ≡ e.0 = cc in
+    subst IsUtf8 same (texts f.0 f.1 (get-entries names f.0 ∙ found)).0
 
 pub lines-append : (view : View) (es fs : List (List ℕ × List ℕ)) → lines view (es ++ fs) ≡ lines view es ++ lines view fs
 lines-append view [] fs = refl
@@ -51,39 +63,45 @@ begin_lines view first now names out shape is rows = record {
 -- one row more
 pub next_row : (view : View) (first now next : Shown) (names : Texts) (old mid new : Option (List ℕ)) (row : Row)
     → IsWriting view first now names old mid → Advances now next 0 row true
-    → ((e : List ℕ × List ℕ) → row ≡ row_of e → IsLineOf view e mid new written.All)
+    → AreTexts names → ((e : List ℕ × List ℕ) → IsUtf8 e.0 → row ≡ row_of e → IsLineOf view e mid new written.All)
     → IsWriting view first next names old new
-next_row view first now next names old mid new row writing moves wrote =
+next_row view first now next names old mid new row writing moves texts wrote =
     let (e, fs, cut, at, rest) = next_name writing.left row moves.0 (sym writing.rows ∙ moves.1) in
+    let wrote = wrote e (is_text names writing.done e fs texts (writing.all ∙ ap (λ l. writing.done ++ l) cut)) at in
     record {
       done = writing.done ++ e ∷ [];
       left = fs;
       all = writing.all ∙ ap (λ l. writing.done ++ l) cut ∙ sym (append_assoc writing.done (e ∷ []) fs);
       rows = ap (λ (w : Shown). w.cursors 0) moves.2 ∙ ap Some rest;
       written = rw (lines-append view writing.done (e ∷ []), append-nil (line view e))
-          (Appends-trans old mid new _ _ writing.written (wrote e at).0);
-      fit = All-push (λ (e : List ℕ × List ℕ). breaks_line view e.0 ≡ false) writing.done e writing.fit (wrote e at).1;
+          (Appends-trans old mid new _ _ writing.written wrote.0);
+      fit = All-push (λ (e : List ℕ × List ℕ). breaks_line view e.0 ≡ false) writing.done e writing.fit wrote.1;
     }
 
 -- the next row's name breaks its line
 pub stops : (view : View) (first now next : Shown) (names : Texts) (old mid new : Option (List ℕ)) (row : Row)
     → IsWriting view first now names old mid → Advances now next 0 row true
-    → ((e : List ℕ × List ℕ) → row ≡ row_of e → IsLineOf view e mid new Breaks) → StopsAtBreak view names old new
-stops view first now next names old mid new row writing moves broke =
-    let (e, fs, cut, at, rest) = next_name writing.left row moves.0 (sym writing.rows ∙ moves.1) in (
+    → AreTexts names → ((e : List ℕ × List ℕ) → IsUtf8 e.0 → row ≡ row_of e → IsLineOf view e mid new Breaks)
+    → StopsAtBreak view names old new
+stops view first now next names old mid new row writing moves texts broke =
+    let (e, fs, cut, at, rest) = next_name writing.left row moves.0 (sym writing.rows ∙ moves.1) in
+    let all = writing.all ∙ ap (λ l. writing.done ++ l) cut in
+    let broke = broke e (is_text names writing.done e fs texts all) at in (
       writing.done,
       fs,
       e,
-      writing.all ∙ ap (λ l. writing.done ++ l) cut,
+      all,
       writing.fit,
-      (broke e at).1,
-      Appends-kept old mid new _ writing.written (broke e at).0,
+      broke.1,
+      Appends-kept old mid new _ writing.written broke.0,
     )
 
 pub its_name : (view : View) (first now next : Shown) (names : Texts) (old mid : Option (List ℕ)) (row : Row)
-    → IsWriting view first now names old mid → Advances now next 0 row true → (e : List ℕ × List ℕ) × (row ≡ row_of e)
-its_name view first now next names old mid row writing moves =
-    let (e, fs, cut, at, rest) = next_name writing.left row moves.0 (sym writing.rows ∙ moves.1) in (e, at)
+    → IsWriting view first now names old mid → Advances now next 0 row true → AreTexts names
+    → (e : List ℕ × List ℕ) × IsUtf8 e.0 × (row ≡ row_of e)
+its_name view first now next names old mid row writing moves texts =
+    let (e, fs, cut, at, rest) = next_name writing.left row moves.0 (sym writing.rows ∙ moves.1) in
+    (e, is_text names writing.done e fs texts (writing.all ∙ ap (λ l. writing.done ++ l) cut), at)
 
 -- the last row was written, and the output is flushed
 pub all_lines : (view : View) (first now next : Shown) (names : Texts) (old mid new : Option (List ℕ)) (row : Row)

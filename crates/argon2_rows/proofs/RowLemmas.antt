@@ -144,7 +144,7 @@ taken k u (e ∷ es) none =
       | inr high ↦ rw (high.0, differs k u e differ) (ap (λ l. row_of e ∷ l) (taken k u es later))
     ]
 
-is_true : (b : Bool) → T b → b ≡ true
+pub is_true : (b : Bool) → T b → b ≡ true
 is_true true h = refl
 is_true false h = absurd h
 
@@ -343,7 +343,7 @@ not_above k (e ∷ es) h =
     rw here (not_above k es parts.1)
 
 -- a row of names is that of a name with its text
-its_entry : (es : List (List ℕ × List ℕ)) (xs : List Row) (met : Row) (ys : List Row) → map row_of es ≡ xs ++ met ∷ ys
+pub its_entry : (es : List (List ℕ × List ℕ)) (xs : List Row) (met : Row) (ys : List Row) → map row_of es ≡ xs ++ met ∷ ys
     → is_sorted order es ≡ true → (e : List ℕ × List ℕ) × (find order e.0 es ≡ Some e.1) × (met ≡ row_of e)
 its_entry [] [] met ys is sorted = absurd cc
 its_entry [] (x ∷ xs) met ys is sorted = absurd cc

@@ -1,9 +1,11 @@
 -- How a tree of rows holds names with their texts.
-use Rattle.std.specs.Prelude.{◌≡◌, ◌==◌, ◌||◌, ℕ, Bool, true, false, List, [], ◌∷◌, ◌++◌, map, All, Option, Some, None, IsUtf8, ⊤}
+use Rattle.std.specs.Prelude.{◌≡◌, ◌==◌, ◌||◌, ℕ, ◌+◌, ◌/◌, ◌%◌, nat_lt, if◌then◌else◌, Bool, true, false, List, [], ◌∷◌, ◌++◌, map, All, Option, Some, None, IsUtf8, ⊤}
 use Rattle.std.specs.Cmp.Lexicographic.{slice_cmp}
 use Rattle.std.specs.FinMap.{entries, get}
 use Rattle.std.specs.Io.KnownBytes.{Appends, Keeps}
-use Rattle.std.specs.List.{list_any}
+use Rattle.std.specs.Char.{encode_utf8, is_control}
+use Rattle.std.specs.List.{flat_map, list_any}
+use Rattle.std.specs.Str.{chars}
 use Rattle.std.specs.Ordering.{nat_cmp}
 use Rattle.std.specs.declared.cmp.Ordering.TheVariants.{Less}
 use Rattle.sqlite_value.specs.declared.value.Value.TheVariants.{Text}
@@ -52,9 +54,23 @@ IsAccount row = (e : List ℕ × List ℕ) × IsUtf8 e.0 × IsUtf8 e.1 × IsLine
 
 -- ---- lines
 
+-- a digit of a hexadecimal number
+abbrev pub digit : ℕ → ℕ
+digit n = if nat_lt n 10 then 48 + n else 87 + n
+
+-- how a list shows a character: one that controls a terminal as `\x` and the two digits of its code, and `\` twice
+abbrev pub shown_char : ℕ → List ℕ
+shown_char c =
+    if is_control c then 92 ∷ 120 ∷ digit (c / 16) ∷ digit (c % 16) ∷ []
+    else if c == 92 then 92 ∷ 92 ∷ [] else encode_utf8 c
+
+-- how a list shows a name
+abbrev pub shown : List ℕ → List ℕ
+shown name = flat_map shown_char (chars name)
+
 -- the line of a name with its text
 abbrev pub line : View → List ℕ × List ℕ → List ℕ
-line Names e = e.0 ++ 10 ∷ []
+line Names e = shown e.0 ++ 10 ∷ []
 line Texts e = e.0 ++ 58 ∷ e.1 ++ 10 ∷ []
 
 -- the lines of all names
@@ -65,9 +81,9 @@ lines view (e ∷ es) = line view e ++ lines view es
 abbrev pub lines_of : View → Named → List ℕ
 lines_of view names = lines view (entries names)
 
--- the line of the name would read as that of another: the name has a line break, or a colon if its text follows
+-- the line of the name with its text would read as that of another: the name has a line break or a colon
 abbrev pub breaks_line : View → List ℕ → Bool
-breaks_line Names name = list_any (λ b. b == 10) name
+breaks_line Names name = false
 breaks_line Texts name = list_any (λ b. b == 10) name || list_any (λ b. b == 58) name
 
 -- none of the names breaks its line

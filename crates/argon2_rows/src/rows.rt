@@ -1,6 +1,6 @@
 //! Reading the rows.
 
-ghost use Rattle.std.specs.Prelude.{◌≡◌, ◌↔◌, [], ◌∷◌, ℕ, List, false, string_bytes, IsSomeAnd, IsTrue, IsUtf8, IfErr, IfOk, IfSome, MatchResult, OnOk};
+ghost use Rattle.std.specs.Prelude.{◌≡◌, ◌<◌, ◌↔◌, [], ◌∷◌, ℕ, List, false, string_bytes, IsSomeAnd, IsTrue, IsUtf8, IfErr, IfOk, IfSome, MatchResult, OnOk};
 ghost use Rattle.std.specs.Io.KnownBytes.{Appends};
 ghost use Rattle.std.specs.Option.{option_map};
 ghost use Rattle.std.specs.FinMap.{get};
@@ -10,7 +10,7 @@ ghost use Rattle.sqlite_trees.specs.View.{IsFailure, KeepsSchema};
 ghost use Rattle.sqlite_trees.specs.declared.error.StoreError.TheVariants.{OutOfMemory};
 ghost use Rattle.sqlite_trees.specs.declared.store.Shape.TheVariants.{Index};
 ghost use Rattle.argon2_rows.specs.Names.{Texts as Named};
-ghost use Rattle.argon2_rows.specs.Rows.{AreLines, AreTexts, AreWritten, IsAccount, IsFoundAs, IsLineOf, line, row_of, rows_of};
+ghost use Rattle.argon2_rows.specs.Rows.{AreLines, AreTexts, AreWritten, IsAccount, IsFoundAs, IsLineOf, digit, line, row_of, rows_of, shown, shown_char};
 ghost use Rattle.argon2_rows.specs.declared.view.Written.TheVariants.{All, Failed};
 ghost use Rattle.argon2_rows.specs.Table.{HasNames, IsDue, IsUnwritten, IsHonest, IsOpen, Sees, StaysQuiet, Writes, done_of};
 
@@ -190,27 +190,62 @@ fn outcome(done: io::Result<()>) -> Written
 
 // Writes the line of a row, unless its name breaks it, if the row has two texts and nothing else.
 fn write_line<W: Write>(row: &Row, view: View, output: &mut W) -> Option<Written>
-    ensures { (e : List ℕ × List ℕ) → row.now ≡ row_of e →
+    ensures { (e : List ℕ × List ℕ) → IsUtf8 e.0 → row.now ≡ row_of e →
         IsSomeAnd result (IsLineOf view e (W.contents output.old) (W.contents output.new)) }
 {
     let (name, text) = texts_in(row)?;
     if view.breaks_line(name) {
         return Some(Written::Breaks);
     }
+    let name = str::from_utf8(name).ok()?;
     Some(outcome(write_texts(name, text, view, output)))
 }
 
 // Writes the line of a name with its text.
-fn write_texts<W: Write>(name: &[u8], text: &[u8], view: View, output: &mut W) -> io::Result<()>
+fn write_texts<W: Write>(name: &str, text: &[u8], view: View, output: &mut W) -> io::Result<()>
     ensures { OnOk result
         (Appends (W.contents output.old) (W.contents output.new) (line view (name.now, text.now))) }
 {
-    output.write_all(name)?;
-    if let View::Texts = view {
+    if let View::Names = view {
+        write_name(name, output)?;
+    } else {
+        output.write_all(name.as_bytes())?;
         output.write_all(b":")?;
         output.write_all(text)?;
     }
     output.write_all(b"\n")
+}
+
+// Writes a name as a list shows it.
+fn write_name<W: Write>(name: &str, output: &mut W) -> io::Result<()>
+    ensures { OnOk result (Appends (W.contents output.old) (W.contents output.new) (shown name.now)) }
+{
+    for c in name.chars() {
+        write_char(c, output)?;
+    }
+    Ok(())
+}
+
+// Writes a character of a name as a list shows it.
+fn write_char<W: Write>(c: char, output: &mut W) -> io::Result<()>
+    ensures { OnOk result (Appends (W.contents output.old) (W.contents output.new) (shown_char c)) }
+{
+    if c.is_control() {
+        let code = c as u32 as u8;
+        return output.write_all(&[b'\\', b'x', digit(code / 16), digit(code % 16)]);
+    }
+    if c == '\\' {
+        return output.write_all(b"\\\\");
+    }
+    output.write_all(c.encode_utf8(&mut [0; 4]).as_bytes())
+}
+
+// A digit of a hexadecimal number.
+fn digit(n: u8) -> u8
+    requires { n < 16 }
+    ensures { result ≡ digit n }
+{
+    if n < 10 { b'0' + n } else { b'a' - 10 + n }
 }
 
 /// Writes a line for each row, up to the first whose name [breaks it](View::breaks_line), and flushes `output` after

@@ -8,7 +8,8 @@ use std::io;
 /// What is written of accounts, a line for each name.
 #[derive(Clone, Copy)]
 pub enum View {
-    /// The names.
+    /// The names, so that a terminal acts on none of their characters: a control character is shown as `\x` and
+    /// the two digits of its code, as `\x1b`, and `\` twice.
     Names,
     /// The names with their texts: a name, a colon and a text.
     Texts,
@@ -26,13 +27,12 @@ pub enum Written {
 }
 
 impl View {
-    /// Whether the line of a name would read as that of another: the name has a line break, or a colon if its
-    /// text follows.
+    /// Whether the line of a name with its text would read as that of another: the name has a line break or a colon.
     pub fn breaks_line(self, name: &[u8]) -> bool
         ensures { result ≡ breaks_line self name.now }
     {
         match self {
-            View::Names => name.contains(&b'\n'),
+            View::Names => false,
             View::Texts => name.contains(&b'\n') || name.contains(&b':'),
         }
     }

@@ -1,4 +1,4 @@
-use Rattle.argon2_rows.proofs.Imports.{IsSome, Ok, Texts, IsHonest, Sees, Writes}
+use Rattle.argon2_rows.proofs.Imports.{AreTexts, IsSome, Ok, Texts, IsHonest, Sees, Writes}
 use Rattle.argon2_rows.proofs.LineLemmas.{IsWriting}
 use Rattle.argon2_rows.proofs.rows.write_rows.Given as goal
 
@@ -7,5 +7,5 @@ invariant-loop g l =
     let first = g.S.Store.view l.fn.store in
     let now = g.S.Store.view l.store in
     IsSome (now.cursors 0) × ((names : Texts) → Writes g.S.Store l.fn.store l.store names names ⊥ (Ok tt))
-    × (IsHonest g.S.Store l.store → (names : Texts) → Sees first names
+    × (IsHonest g.S.Store l.store → (names : Texts) → AreTexts names → Sees first names
     → IsWriting l.view first now names (g.W.Write.contents l.fn.output) (g.W.Write.contents l.output))
