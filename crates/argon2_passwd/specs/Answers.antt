@@ -3,7 +3,7 @@ use Rattle.std.specs.Prelude.{◌≡◌, ◌≢◌, ◌⊎◌, ⊤, ℕ, zero, s
 use Rattle.std.specs.Borrow.{Bor}
 use Rattle.std.specs.Io.BufRead.{drop_through}
 use Rattle.std.specs.List.{AllZip, after_first, before_first, list_any}
-use Rattle.std.specs.Option.{option_map}
+use Rattle.std.specs.Option.{is_some, option_map}
 use Rattle.std.specs.Io.KnownBytes.{Appends, Keeps}
 use Rattle.std.specs.Char.{is_control}
 use Rattle.std.specs.Str.{chars, is_utf8}
@@ -22,7 +22,7 @@ use Rattle.argon2.specs.declared.login.answers.Accepted.TheVariants.{Kept, Rehas
 use Rattle.argon2_policy.specs.Policy.{Admits, ChangeRefusal, Denial, IsPolicy, LogsIn, Policy}
 use Rattle.argon2_programs.specs.Prefixes.{after_any, bare}
 use Rattle.argon2_programs.specs.Schemes.{scheme_of}
-use Rattle.argon2_rows.specs.Locks.{IsStored, is_locked, without_lock}
+use Rattle.argon2_rows.specs.Locks.{IsLine, IsStored, is_locked, without_lock}
 use Rattle.argon2_rows.specs.Names.{IsFirstTaken, Texts}
 use Rattle.argon2_rows.specs.Rows.{AreWritten, breaks_line}
 use Rattle.argon2_rows.specs.declared.view.Written.TheVariants.{All}
@@ -122,9 +122,14 @@ parts_of line = if is_utf8 line then (before_first (λ b. b == 58) line, after_f
 abbrev pub IsArgon2 : List ℕ → Type 0
 IsArgon2 text = (v : Phc) × PhcText text v × IsOk (shown_settings v)
 
--- a text in the grammar, locked or not, that is Argon2's unless any is taken
+-- the text begins as one of another scheme, locked or not
+abbrev pub has_scheme : List ℕ → Bool
+has_scheme text = is_some (scheme_of (without_lock text))
+
+-- a text of Argon2, locked or not; if any is taken, one in the grammar, or of another scheme
 abbrev pub IsTaken : Bool → List ℕ → Type 0
-IsTaken any_text text = IsStored text × (IsTrue any_text ⊎ IsArgon2 (without_lock text))
+IsTaken false text = IsArgon2 (without_lock text)
+IsTaken true text = IsStored text ⊎ IsTrue (has_scheme text)
 
 -- the name has a control character
 abbrev pub has_control : List ℕ → Bool
@@ -138,10 +143,15 @@ IsPair any_text line e = (e.0 ≡ (parts_of line).0) × (e.1 ≡ bare (parts_of 
 abbrev pub IsEntry : Bool → List ℕ → List ℕ × List ℕ → Type 0
 IsEntry any_text line e = IsPair any_text line e × (has_control e.0 ≡ false)
 
--- a text that is in no grammar, or says a value that shows no settings of Argon2, unless any is taken
+-- one line with the text of another scheme
+abbrev pub IsForeign : List ℕ → Type 0
+IsForeign text = IsLine text × IsTrue (has_scheme text)
+
+-- a text outside the grammar, or one that says a value without settings of Argon2; if any is taken, one that is outside the
+-- grammar and of no other scheme
 abbrev pub IsNotTaken : Bool → List ℕ → Type 0
-IsNotTaken any_text text = ¬ (IsStored text)
-    ⊎ ((any_text ≡ false) × (v : Phc) × PhcText (without_lock text) v × ¬ (IsOk (shown_settings v)))
+IsNotTaken false text = ¬ (IsStored text) ⊎ ((v : Phc) × PhcText (without_lock text) v × ¬ (IsOk (shown_settings v)))
+IsNotTaken true text = ¬ (IsStored text) × ¬ (IsForeign text)
 
 abbrev pub HasNoText : Bool → List ℕ → Type 0
 HasNoText any_text line = IsNotTaken any_text (bare (parts_of line).1)

@@ -1,15 +1,16 @@
 //! Names with their texts, each a line of standard input.
 
-ghost use Rattle.std.specs.Prelude.{◌≡◌, ◌⊎◌, IfErr, IfOk, IfSome, map, MatchOption};
+ghost use Rattle.std.specs.Prelude.{◌≡◌, ◌⊎◌, false, true, IsTrue, IfErr, IfOk, IfSome, map, MatchOption};
 ghost use Rattle.argon2_rows.specs.Names.{entry_of};
-ghost use Rattle.argon2_passwd.specs.Answers.{AreEntries, HasNoText, IsPair, RefusesText, has_control, pair_of, parts_of};
+ghost use Rattle.argon2_passwd.specs.Answers.{AreEntries, HasNoText, IsForeign, IsNotTaken, IsPair, IsTaken, RefusesText, has_control, has_scheme, pair_of, parts_of};
 ghost use Rattle.argon2_passwd.specs.Failures.{IsMemory, status_of};
 
 use crate::failure::{Failure, of_reading};
 use crate::passwords::line_len;
 use argon2::password_hash::Settings;
-use argon2_programs::bare_str;
+use argon2_programs::{bare_str, scheme_of};
 use argon2_rows::StoredText;
+use argon2_rows::text::behind_lock;
 use std::alloc::Global;
 use std::io::BufRead;
 use std::str;
@@ -54,24 +55,73 @@ pub fn entries<'a>(
     Ok(found)
 }
 
-// The name and the text of a line, without what other programs put before a text, if that is a text of Argon2 or any text is
-// taken.
+// The name and the text of a line, without what other programs put before a text, if that may be added.
 fn entry(line: &[u8], any_text: bool) -> Option<(&str, StoredText<'_>)>
     ensures { MatchOption result (HasNoText any_text line.now)
         (λ found. IsPair any_text line.now (entry_of found)) }
 {
     let (name, text) = parts(line);
-    let Ok((text, hash)) = StoredText::new(bare_str(text)) else {
+    match stored(bare_str(text), any_text) {
+        Some(text) => Some((name, text)),
+        None => None,
+    }
+}
+
+// A text that may be added.
+fn stored(text: &str, any_text: bool) -> Option<StoredText<'_>>
+    ensures { MatchOption result (IsNotTaken any_text text.now)
+        (λ it. (it.text.now ≡ text.now) × IsTaken any_text text.now) }
+{
+    if any_text {
+        of_any_scheme(text)
+    } else {
+        of_argon2(text)
+    }
+}
+
+// A text of Argon2 with valid settings.
+fn of_argon2(text: &str) -> Option<StoredText<'_>>
+    ensures { MatchOption result (IsNotTaken false text.now)
+        (λ it. (it.text.now ≡ text.now) × IsTaken false text.now) }
+{
+    let Ok((text, hash)) = StoredText::new(text) else {
         return None;
     };
-    if any_text {
-        return Some((name, text));
-    }
     if Settings::try_from(&hash).is_ok() {
-        Some((name, text))
+        Some(text)
     } else {
         None
     }
+}
+
+// A text in the grammar, or of another scheme.
+fn of_any_scheme(text: &str) -> Option<StoredText<'_>>
+    ensures { MatchOption result (IsNotTaken true text.now)
+        (λ it. (it.text.now ≡ text.now) × IsTaken true text.now) }
+{
+    match StoredText::new(text) {
+        Ok((text, _)) => Some(text),
+        Err(_) => foreign(text),
+    }
+}
+
+// A text of another scheme.
+fn foreign(text: &str) -> Option<StoredText<'_>>
+    ensures { MatchOption result (¬ IsForeign text.now)
+        (λ it. (it.text.now ≡ text.now) × IsTrue (has_scheme text.now)) }
+{
+    if has_scheme(text) {
+        StoredText::of_line(text)
+    } else {
+        None
+    }
+}
+
+// Whether a text begins as one of another scheme, locked or not.
+fn has_scheme(text: &str) -> bool
+    ensures { result ≡ has_scheme text.now }
+{
+    scheme_of(behind_lock(text).unwrap_or(text).as_bytes()).is_some()
 }
 
 /// Whether a name has a control character, which a terminal would act on.

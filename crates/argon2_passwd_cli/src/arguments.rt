@@ -202,7 +202,7 @@ fn with_words<'a>(
     command: clap::Command<'a>,
 ) -> Result<clap::Command<'a>, AllocError> {
     let command = command.arg(arg!(in alloc; --"any-text"
-        "`import` takes texts of other schemes too"))?;
+        "`import` takes texts of bcrypt, scrypt, PBKDF2, yescrypt, SHA-crypt, LDAP and Django too"))?;
     let command = command.arg(arg!(in alloc; --explain
         "`verify` and `change` say whether the name or the password is wrong"))?;
     let words = arg!(in alloc; <COMMAND> "A command with its text, or its file and name");
