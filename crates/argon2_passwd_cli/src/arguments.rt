@@ -1,8 +1,8 @@
 //! The options of the command line, and the command.
 
-use argon2::Params;
 use argon2::bound::Bound;
 use argon2::phc::read_decimal;
+use argon2::{KeyId, Params, ParamsBuilder};
 use argon2_commands::{VERSION, invalid};
 use argon2_passwd::run::PROGRAM;
 use argon2_passwd::{Action, Command, Edit, Options, Task};
@@ -73,15 +73,9 @@ fn asked<'a>(
         secret_file: matches.get_str("secret-file"),
         old_secret_file: matches.get_str("old-secret-file"),
         explain: matches.get_flag("explain"),
-        ..Options::DEFAULT
+        params: params_asked(alloc, command, matches)?,
+        bound: None,
     };
-    if let Some(value) = matches.get_str("params") {
-        let Some(params) = params(value) else {
-            let why = "it is not m=M,t=T,p=P with valid parameters";
-            return Err(invalid(command, alloc, "--params <COSTS>", value, why)?);
-        };
-        options.params = params;
-    }
     if let Some(value) = matches.get_str("bound") {
         options.bound = costs(value);
         if options.bound.is_none() {
@@ -93,6 +87,34 @@ fn asked<'a>(
     match action(matches.get_flag("any-text"), words) {
         Some(action) => Ok(Command { options, action }),
         None => Err(unknown(command, alloc, words)?),
+    }
+}
+
+// What new texts are made under.
+fn params_asked(
+    alloc: Global,
+    command: &mut clap::Command<'_>,
+    matches: &ArgMatches<'_>,
+) -> Result<Params, Error> {
+    let params = match matches.get_str("params") {
+        None => Params::DEFAULT,
+        Some(value) => match params(value) {
+            Some(params) => params,
+            None => {
+                let why = "it is not m=M,t=T,p=P with valid parameters";
+                return Err(invalid(command, alloc, "--params <COSTS>", value, why)?);
+            }
+        },
+    };
+    let Some(text) = matches.get_str("keyid") else {
+        return Ok(params);
+    };
+    match with_key_id(&params, text) {
+        Some(params) => Ok(params),
+        None => {
+            let why = "it is not Base64 of at most 8 bytes";
+            Err(invalid(command, alloc, "--keyid <ID>", text, why)?)
+        }
     }
 }
 
@@ -157,6 +179,17 @@ fn params(text: &str) -> Option<Params> {
     Params::new(costs.m_cost, costs.t_cost, costs.p_cost, None).ok()
 }
 
+// The parameters with the key identifier that a text is.
+fn with_key_id(params: &Params, text: &str) -> Option<Params> {
+    let key_id = KeyId::from_b64(text).ok()?;
+    let mut builder = ParamsBuilder::new();
+    builder.m_cost(params.m_cost());
+    builder.t_cost(params.t_cost());
+    builder.p_cost(params.p_cost());
+    builder.keyid(key_id);
+    builder.build().ok()
+}
+
 // The costs that `m=..,t=..,p=..` says.
 fn costs(text: &str) -> Option<Bound> {
     let (m, rest) = text.split_once(',')?;
@@ -192,8 +225,10 @@ fn with_options<'a>(
         "The most that a text may ask for [default: m=2097152,t=64,p=64, or the parameters]"))?;
     let command = command.arg(arg!(in alloc; --"secret-file" <PATH>
         "The file's bytes, 1 to 4096 of them, are the secret of all texts"))?;
-    command.arg(arg!(in alloc; --"old-secret-file" <PATH>
-        "A text that the secret refuses is tried under these bytes, 0 to 4096, and renewed under the secret"))
+    let command = command.arg(arg!(in alloc; --"old-secret-file" <PATH>
+        "A text that the secret refuses is tried under these bytes, 0 to 4096, and renewed under the secret"))?;
+    command.arg(arg!(in alloc; --keyid <ID>
+        "New texts have `keyid=ID`, which names the secret: Base64 of at most 8 bytes"))
 }
 
 // With the command's words, and the options that belong to some of them.
