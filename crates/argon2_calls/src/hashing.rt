@@ -1,6 +1,6 @@
-//! Calls on BLAKE2b, blocks and hashing. Those on hashing take `CONTEXT PASSWORD SALT LENGTH`: the name of a context, two lists of
-//! bytes, and the length of the output, whose bytes are ff before the call. They answer the tag, or `Ok` if they write none, or
-//! the error and whether the output is the same.
+//! Calls on BLAKE2b, blocks and hashing. Those on hashing take `CONTEXT PASSWORD SALT LENGTH`: the name of a context, two
+//! lists of bytes, and the length of the output, whose bytes are ff before the call. They answer the tag, or `Ok` if they
+//! write none, or the error and whether the output is the same.
 //!
 //! A block is 1024 bytes; a digest is that of BLAKE2b of 8 bytes. A call on lent memory answers also with the digest of the
 //! blocks that are filled; for steps and watched calls, that of the places of references as 32-bit numbers; and whether the
@@ -16,37 +16,55 @@ use argon2::blake2b::Blake2b;
 use argon2::blake2b_long::blake2b_long;
 use argon2::block::{Words, mix_words};
 use argon2::{Argon2, Block, Error, Kdf, MAX_AD_LEN, MAX_PWD_LEN, MAX_SALT_LEN, Work, laws};
-use argon2_lines::Line;
+use argon2_lines::{Answer, Call};
 use std::convert::AsSlice;
 use std::slice;
 
-pub(crate) fn answer(line: &mut Line<'_, '_>, call: &str, memory: &mut Vec<Block>) -> bool {
-    digest_answer(line, call)
-        || block_answer(line, call)
-        || hash_answer(line, call)
-        || lent_answer(line, call, memory)
+pub(crate) fn is_made(call: &Call<'_, '_>, answer: &mut Answer, memory: &mut Vec<Block>) -> bool {
+    match call.name {
+        "Blake2b" => digest(call, answer),
+        "blake2b_long" => long_digest(call, answer),
+        "derive_key" => derived(call, answer),
+        "hash_password_into" | "hash_password_into_with_data" | "hash_password_into_with_words" => {
+            hashed(call, answer);
+        }
+        "fill_segment" => filled_apart(call, answer),
+        "memory" => *memory = lent(call, answer),
+        // `COUNT`: how many pairs, each block with each of the last ones, are mixed alike.
+        "mix_memory" => {
+            let count = memory.len().saturating_sub(call.count(1) as usize);
+            answer.say(alike_pairs(memory, memory.split_at(count).1));
+        }
+        "hash_password_into_with_memory" | "fill_memory" | "begin_fill" => {
+            filled(call, answer, memory.as_mut_slice());
+        }
+        "hash_password_into_watched" => watched(call, answer, memory.as_mut_slice()),
+        "step_block" => stepped(call, answer, memory.as_mut_slice()),
+        _ => return is_of_block(call, answer),
+    }
+    true
 }
 
 // ---- BLAKE2b
 
-fn digest_answer(line: &mut Line<'_, '_>, call: &str) -> bool {
-    if call != "Blake2b" && call != "blake2b_long" {
-        return false;
+// `LENGTH MESSAGE CUT`: the hash of a message in three pieces: so many bytes, none, and the others.
+fn long_digest(call: &Call<'_, '_>, answer: &mut Answer) {
+    let (message, cut) = (call.bytes(2), call.count(3) as usize);
+    let mut out = answer.ones(call.count(1));
+    let (first, second) = message.split_at(cut.min(message.len()));
+    let done = blake2b_long(&[first, b"", second], out.as_mut_slice());
+    answer.written(done, &out);
+}
+
+// `LENGTH MESSAGE PIECE`: the digest of a message whose pieces have so many bytes, but for the last.
+fn digest(call: &Call<'_, '_>, answer: &mut Answer) {
+    let (mut buffer, len) = ([0; 64], call.count(1) as usize);
+    if len == 0 || len > 64 {
+        return call.refuse();
     }
-    let (mut out, message, count) = (line.ones(), line.bytes(), line.count() as usize);
-    if call == "blake2b_long" {
-        // `LENGTH MESSAGE CUT`: the hash of a message in three pieces: so many bytes, none, and the others.
-        let (first, second) = message.split_at(count.min(message.len()));
-        let done = blake2b_long(&[first, b"", second], out.as_mut_slice());
-        line.written(done, &out);
-    } else if out.is_empty() || out.len() > 64 {
-        line.is_unread = true;
-    } else {
-        // `LENGTH MESSAGE PIECE`: the digest of a message whose pieces have so many bytes, but for the last.
-        write_digest(&message, count, out.as_mut_slice());
-        line.hex(&out);
-    }
-    true
+    let out = &mut buffer[..len];
+    write_digest(call.bytes(2), call.count(3) as usize, out);
+    answer.hex(out);
 }
 
 fn write_digest(message: &[u8], piece: usize, out: &mut [u8])
@@ -87,53 +105,63 @@ fn digest_of_places(places: &[u32]) -> [u8; 8] {
 
 // ---- blocks
 
-fn block_answer(line: &mut Line<'_, '_>, call: &str) -> bool {
-    if !call.starts_with("Block::") {
-        return false;
-    }
-    let mut x = block(line);
-    match call {
+fn is_of_block(call: &Call<'_, '_>, answer: &mut Answer) -> bool {
+    match call.name {
         // `BLOCK BLOCK`: the digest of their mixing, and the count of mixings.
         "Block::mix" => {
-            let (y, mut work) = (block(line), Work::new());
-            say(line, &Block::mix(&x, &y, &mut work));
-            line.say("mixes");
-            line.say(work.mixes());
+            let mut work = Work::new();
+            say(
+                answer,
+                &Block::mix(&block(call, 1), &block(call, 2), &mut work),
+            );
+            answer.say("mixes");
+            answer.say(work.mixes());
         }
         // `BLOCK BLOCK`: the digests of their exclusive or, made in a new block and in the first.
         "Block::bitxor" => {
-            let y = block(line);
-            say(line, &(x ^ &y));
+            let (mut x, y) = (block(call, 1), block(call, 2));
+            say(answer, &(x ^ &y));
             x ^= &y;
-            say(line, &x);
+            say(answer, &x);
         }
         // `BLOCK`: the digest of the block then.
         "Block::zeroize" => {
+            let mut x = block(call, 1);
             x.zeroize();
-            say(line, &x);
+            say(answer, &x);
         }
         // `BLOCK PLACE`: the word at the place.
         "Block::as_slice" => {
-            let place = line.count() as usize;
-            line.say_or_none(x.as_slice().get(place));
+            answer.say_or_none(block(call, 1).as_slice().get(call.count(2) as usize));
         }
-        _ => line.show(x),
+        "Block::fmt" => answer.show(block(call, 1)),
+        "laws" => {
+            laws::mixing_symmetric();
+            laws::mixing_with_itself();
+            laws::key_identifier();
+            laws::recurrence();
+            laws::slice_interleaving();
+            laws::segments_apart();
+            laws::independent_positions();
+            answer.say("Ok");
+        }
+        _ => return false,
     }
     true
 }
 
 // The block of 1024 bytes.
-fn block(line: &mut Line<'_, '_>) -> Block {
-    let (mut block, bytes) = (Block::default(), line.bytes());
-    match bytes.as_slice().as_chunks::<1024>() {
+fn block(call: &Call<'_, '_>, place: usize) -> Block {
+    let mut block = Block::default();
+    match call.bytes(place).as_chunks::<1024>() {
         ([bytes], []) => block.load(bytes),
-        _ => line.is_unread = true,
+        _ => call.refuse(),
     }
     block
 }
 
-fn say(line: &mut Line<'_, '_>, block: &Block) {
-    line.hex(&digest_of(slice::from_ref(block)));
+fn say(answer: &mut Answer, block: &Block) {
+    answer.hex(&digest_of(slice::from_ref(block)));
 }
 
 fn words(block: &Block) -> Words {
@@ -159,85 +187,45 @@ fn alike_pairs(blocks: &[Block], others: &[Block]) -> u32 {
 
 // ---- hashing
 
-// What hashes, a password, a salt, and the output.
-type Inputs<'a> = (Argon2<'a>, Vec<u8>, Vec<u8>, Vec<u8>);
-
-/// What the next four values say.
-pub(crate) fn read<'a>(line: &mut Line<'a, '_>) -> Inputs<'a> {
-    (line.context(), line.bytes(), line.bytes(), line.ones())
-}
-
-fn hash_answer(line: &mut Line<'_, '_>, call: &str) -> bool {
-    match call {
-        "derive_key" => {
-            let (argon2, password, salt, mut out) = read(line);
-            let done = argon2.derive_key(line.alloc, &password, &salt, out.as_mut_slice());
-            line.written(done, &out);
-        }
-        "hash_password_into" | "hash_password_into_with_data" | "hash_password_into_with_words" => {
-            hashed(line, call);
-        }
-        "laws" => {
-            laws::mixing_symmetric();
-            laws::mixing_with_itself();
-            laws::key_identifier();
-            laws::recurrence();
-            laws::slice_interleaving();
-            laws::segments_apart();
-            laws::independent_positions();
-            line.say("Ok");
-        }
-        _ => return false,
-    }
-    true
+fn derived(call: &Call<'_, '_>, answer: &mut Answer) {
+    let (argon2, password, salt) = (call.context(1), call.bytes(2), call.bytes(3));
+    let mut out = answer.ones(call.count(4));
+    let done = argon2.derive_key(answer.alloc, password, salt, out.as_mut_slice());
+    answer.written(done, &out);
 }
 
 // `.. DATA`: under other associated data; `.. DATA COUNT`: the same on so many blocks of ones, as their words.
-fn hashed(line: &mut Line<'_, '_>, call: &str) {
-    let ((argon2, password, salt, mut out), alloc) = (read(line), line.alloc);
+fn hashed(call: &Call<'_, '_>, answer: &mut Answer) {
+    let (argon2, password, salt) = (call.context(1), call.bytes(2), call.bytes(3));
+    let (alloc, mut out) = (answer.alloc, answer.ones(call.count(4)));
     let tag = out.as_mut_slice();
-    let done = if call == "hash_password_into" {
-        argon2.hash_password_into(alloc, &password, &salt, tag)
-    } else {
-        let data = line.bytes();
-        if call == "hash_password_into_with_data" || data.len() > MAX_AD_LEN {
-            argon2.hash_password_into_with_data(alloc, &data, &password, &salt, tag)
-        } else {
-            let count = line.count() as usize;
-            let mut words = line.granted(Vec::from_elem(alloc, [u64::MAX; 128], count));
-            let memory = words.as_mut_slice();
-            argon2.hash_password_into_with_words(&data, &password, &salt, tag, memory)
+    let done = match call.name {
+        "hash_password_into" => argon2.hash_password_into(alloc, password, salt, tag),
+        "hash_password_into_with_data" => {
+            argon2.hash_password_into_with_data(alloc, call.bytes(5), password, salt, tag)
         }
+        _ => on_words(call, answer, tag),
     };
-    line.written(done, &out);
+    answer.written(done, &out);
+}
+
+fn on_words(call: &Call<'_, '_>, answer: &mut Answer, tag: &mut [u8]) -> Result<(), Error> {
+    let (argon2, password, salt) = (call.context(1), call.bytes(2), call.bytes(3));
+    let (data, count) = (call.bytes(5), call.count(6) as usize);
+    if data.len() > MAX_AD_LEN {
+        return Err(Error::AdTooLong);
+    }
+    let mut words = answer.granted(Vec::from_elem(answer.alloc, [u64::MAX; 128], count));
+    argon2.hash_password_into_with_words(data, password, salt, tag, words.as_mut_slice())
 }
 
 // ---- lent memory
 
-fn lent_answer(line: &mut Line<'_, '_>, call: &str, memory: &mut Vec<Block>) -> bool {
-    match call {
-        "memory" => *memory = lent(line),
-        // `COUNT`: how many pairs, each block with each of the last ones, are mixed alike.
-        "mix_memory" => {
-            let count = memory.len().saturating_sub(line.count() as usize);
-            line.say(alike_pairs(memory, memory.split_at(count).1));
-        }
-        "hash_password_into_with_memory" | "fill_memory" | "begin_fill" => {
-            filled(line, call, memory.as_mut_slice());
-        }
-        "hash_password_into_watched" => watched(line, memory.as_mut_slice()),
-        "step_block" => stepped(line, memory.as_mut_slice()),
-        "fill_segment" => filled_apart(line),
-        _ => return false,
-    }
-    true
-}
-
 // `memory COUNT CONTENT`: the memory that the next calls get, of zeros, of ones, or of blocks with a bit set: each has its next
 // place, and those behind have none.
-fn lent(line: &mut Line<'_, '_>) -> Vec<Block> {
-    let (count, content) = (line.count() as usize, line.word());
-    let mut memory = line.granted(Vec::from_elem(line.alloc, Block::new(), count));
+fn lent(call: &Call<'_, '_>, answer: &mut Answer) -> Vec<Block> {
+    let (count, content) = (call.count(1) as usize, call.word(2));
+    let mut memory = answer.granted(Vec::from_elem(answer.alloc, Block::new(), count));
     let mut bit: usize = 0;
     for block in memory.as_mut_slice() {
         match content {
@@ -247,11 +235,12 @@ fn lent(line: &mut Line<'_, '_>) -> Vec<Block> {
                     *word = 1u64 << (bit % 64);
                 }
             }
-            _ => line.is_unread |= content != "zeros",
+            "zeros" => {}
+            _ => call.refuse(),
         }
         bit = bit.wrapping_add(1);
     }
-    line.say("Ok");
+    answer.say("Ok");
     memory
 }
 
@@ -263,7 +252,7 @@ fn digests(argon2: &Argon2<'_>, memory: &[Block]) -> ([u8; 8], [u8; 8]) {
 
 // Shows whether a call was done, its output, and what it made of the memory, if that had these digests before.
 fn show(
-    line: &mut Line<'_, '_>,
+    answer: &mut Answer,
     done: Result<(), Error>,
     argon2: &Argon2<'_>,
     out: &[u8],
@@ -271,30 +260,28 @@ fn show(
     memory: &[Block],
 ) {
     let (new, is_done) = (digests(argon2, memory), done.is_ok());
-    line.written(done, out);
-    line.say("blocks");
+    answer.written(done, out);
+    answer.say("blocks");
     if is_done {
-        line.hex(&new.0);
+        answer.hex(&new.0);
     } else {
-        line.say(if new.0 == old.0 { "same" } else { "changed" });
+        answer.same(new.0 == old.0);
     }
-    line.say(if new.1 == old.1 {
-        "rest same"
-    } else {
-        "rest changed"
-    });
+    answer.say("rest");
+    answer.same(new.1 == old.1);
 }
 
 // A call that leaves nothing but the output and the memory.
-fn filled(line: &mut Line<'_, '_>, call: &str, memory: &mut [Block]) {
-    let (argon2, password, salt, mut out) = read(line);
-    let (old, tag) = (digests(&argon2, memory), out.as_mut_slice());
-    let done = match call {
-        "fill_memory" => argon2.fill_memory(&password, &salt, memory),
-        "begin_fill" => argon2.begin_fill(&password, &salt, tag.len(), memory),
-        _ => argon2.hash_password_into_with_memory(&password, &salt, tag, memory),
+fn filled(call: &Call<'_, '_>, answer: &mut Answer, memory: &mut [Block]) {
+    let (argon2, password, salt) = (call.context(1), call.bytes(2), call.bytes(3));
+    let (old, mut out) = (digests(argon2, memory), answer.ones(call.count(4)));
+    let tag = out.as_mut_slice();
+    let done = match call.name {
+        "fill_memory" => argon2.fill_memory(password, salt, memory),
+        "begin_fill" => argon2.begin_fill(password, salt, tag.len(), memory),
+        _ => argon2.hash_password_into_with_memory(password, salt, tag, memory),
     };
-    show(line, done, &argon2, &out, old, memory);
+    show(answer, done, argon2, &out, old, memory);
 }
 
 // How many places there are for the references of all steps.
@@ -310,37 +297,36 @@ fn place_count(argon2: &Argon2<'_>) -> Option<usize>
 }
 
 // `hash_password_into_watched .. PLACE..`, with the positions at these places.
-fn watched(line: &mut Line<'_, '_>, memory: &mut [Block]) {
-    let (argon2, password, salt, mut out) = read(line);
-    let old = digests(&argon2, memory);
-    let Some(count) = place_count(&argon2) else {
+fn watched(call: &Call<'_, '_>, answer: &mut Answer, memory: &mut [Block]) {
+    let (argon2, password, salt) = (call.context(1), call.bytes(2), call.bytes(3));
+    let Some(count) = place_count(argon2) else {
+        return call.refuse();
+    };
+    let Ok(mut positions) = Vec::from_elem(answer.alloc, u32::MAX, count) else {
+        answer.is_refused = true;
         return;
     };
-    let Ok(mut positions) = Vec::from_elem(line.alloc, u32::MAX, count) else {
-        line.is_refused = true;
-        return;
-    };
+    let (old, mut out) = (digests(argon2, memory), answer.ones(call.count(4)));
     let (tag, places) = (out.as_mut_slice(), positions.as_mut_slice());
-    let done = argon2.hash_password_into_watched(&password, &salt, tag, memory, places);
-    let (done, mixes) = match done {
+    let (done, mixes) = match argon2.hash_password_into_watched(
+        password, salt, tag, memory, places,
+    ) {
         Ok(work) => (Ok(()), work.mixes()),
         Err(e) => (Err(e), 0),
     };
-    show(line, done, &argon2, &out, old, memory);
-    line.say("mixes");
-    line.say(mixes);
-    show_places(line, &positions);
+    show(answer, done, argon2, &out, old, memory);
+    answer.say("mixes");
+    answer.say(mixes);
+    show_places(call, 5, answer, &positions);
 }
 
-// The digest of all positions, and those at the places that the values say.
-fn show_places(line: &mut Line<'_, '_>, positions: &[u32]) {
-    line.say("positions");
-    line.hex(&digest_of_places(positions));
-    if let Some(rest) = line.rest.take() {
-        for place in rest.split(' ') {
-            let place = place.parse::<usize>().unwrap_or(usize::MAX);
-            line.say_or_none(positions.get(place));
-        }
+// The digest of all positions, and those at the places that the values from a place on say.
+fn show_places(call: &Call<'_, '_>, place: usize, answer: &mut Answer, positions: &[u32]) {
+    answer.say("positions");
+    answer.hex(&digest_of_places(positions));
+    for place in place..call.len() {
+        let place = call.word(place).parse::<usize>().unwrap_or(usize::MAX);
+        answer.say_or_none(positions.get(place));
     }
 }
 
@@ -348,26 +334,27 @@ fn show_places(line: &mut Line<'_, '_>, positions: &[u32]) {
 
 // `step_block CONTEXT PASSWORD SALT LENGTH TURNS TURNS TURNS TURNS`: a filling by single steps. The words have the lanes'
 // turns in slices 0 to 3 of each pass, a digit for a step. In slice 0 of pass 0 the first two of each lane are no steps.
-fn stepped(line: &mut Line<'_, '_>, memory: &mut [Block]) {
-    let (argon2, password, salt, mut out) = read(line);
-    let (zero, one, two, three) = (line.word(), line.word(), line.word(), line.word());
-    let old = digests(&argon2, memory);
-    let Some(count) = place_count(&argon2) else {
-        return;
-    };
-    let mut positions = line.granted(Vec::from_elem(line.alloc, u32::MAX, count));
-    let done = argon2.begin_fill(&password, &salt, out.len(), memory);
-    if done.is_err() {
-        return show(line, done, &argon2, &out, old, memory);
+fn stepped(call: &Call<'_, '_>, answer: &mut Answer, memory: &mut [Block]) {
+    let (argon2, password, salt) = (call.context(1), call.bytes(2), call.bytes(3));
+    let turns = [call.word(5), call.word(6), call.word(7), call.word(8)];
+    let count = place_count(argon2).unwrap_or(0);
+    let mut positions = answer.granted(Vec::from_elem(answer.alloc, u32::MAX, count));
+    let (old, mut out) = (digests(argon2, memory), answer.ones(call.count(4)));
+    let done = argon2.begin_fill(password, salt, out.len(), memory);
+    let is_begun = done.is_ok();
+    if is_begun {
+        let mut is_done = true;
+        for pass in 0..argon2.params().t_cost() {
+            is_done &= step_pass(argon2, memory, pass, turns, positions.as_mut_slice());
+        }
+        if !is_done || !finish(argon2, memory, out.as_mut_slice()) {
+            call.refuse();
+        }
     }
-    let mut is_done = true;
-    for pass in 0..argon2.params().t_cost() {
-        let turns = [zero, one, two, three];
-        is_done &= step_pass(&argon2, memory, pass, turns, positions.as_mut_slice());
+    show(answer, done, argon2, &out, old, memory);
+    if is_begun {
+        show_places(call, 9, answer, &positions);
     }
-    line.is_unread |= !is_done || !finish(&argon2, memory, out.as_mut_slice());
-    show(line, done, &argon2, &out, old, memory);
-    show_places(line, &positions);
 }
 
 // Makes the steps of a pass, and keeps the places of their references. Returns whether there are such steps.
@@ -436,22 +423,24 @@ fn finish(argon2: &Argon2<'_>, memory: &[Block], out: &mut [u8]) -> bool {
 
 // `fill_segment CONTEXT PASSWORD SALT LENGTH LANES LANES LANES LANES`: a filling by segments, on blocks of ones. The words have
 // the lanes of slices 0 to 3 in the order in which each pass fills them, a digit for a lane. The answer is the tag.
-fn filled_apart(line: &mut Line<'_, '_>) {
-    let (argon2, password, salt, mut out) = read(line);
-    let lanes = [line.word(), line.word(), line.word(), line.word()];
-    let count = argon2.params().block_count();
-    let mut memory = line.granted(Vec::from_elem(line.alloc, [u64::MAX; 128], count));
-    let mut is_done = begin(&argon2, &password, &salt, out.len(), memory.as_mut_slice());
+fn filled_apart(call: &Call<'_, '_>, answer: &mut Answer) {
+    let (argon2, password, salt) = (call.context(1), call.bytes(2), call.bytes(3));
+    let lanes = [call.word(5), call.word(6), call.word(7), call.word(8)];
+    let (count, mut out) = (argon2.params().block_count(), answer.ones(call.count(4)));
+    let mut memory = answer.granted(Vec::from_elem(answer.alloc, [u64::MAX; 128], count));
+    let mut is_done = begin(argon2, password, salt, out.len(), memory.as_mut_slice());
     for pass in 0..argon2.params().t_cost() {
         for (slice, lanes) in (0..4u32).zip(lanes) {
             for lane in lanes.as_bytes() {
                 let lane = lane.wrapping_sub(b'0') as u32;
-                is_done &= fill(&argon2, memory.as_mut_slice(), [pass, slice, lane]);
+                is_done &= fill(argon2, memory.as_mut_slice(), [pass, slice, lane]);
             }
         }
     }
-    line.is_unread |= !is_done || !finish_apart(&argon2, &memory, out.as_mut_slice());
-    line.hex(&out);
+    if !is_done || !finish_apart(argon2, &memory, out.as_mut_slice()) {
+        call.refuse();
+    }
+    answer.hex(&out);
 }
 
 // The lengths of a segment and of a slice.

@@ -2,9 +2,10 @@
 //! `argon2_lines` says how lines and values are written.
 #![tactic(auto)]
 
-use argon2::Block;
 use argon2::login::Login;
-use argon2_lines::{Context, Line, context};
+use argon2::{Argon2, Block};
+use argon2_lines::{Answer, Call, Contexts, Line, line};
+use std::alloc::Global;
 use std::io::{self, BufWriter, Read, Write};
 
 mod hashing;
@@ -16,38 +17,49 @@ fn main(rt: HostRuntime) -> io::Result<()> {
     let alloc = rt.alloc();
     let mut text = String::new(alloc);
     rt.reader().read_to_string(&mut text)?;
-    let contexts = context::defined(alloc, text.as_str())?;
+    let lines = line::lines_of(alloc, text.as_str())?;
     let mut output = BufWriter::new(alloc, rt.stdout())?;
+    write_all(alloc, &mut output, &lines)
+}
+
+fn write_all<'a, W: Write>(alloc: Global, output: &mut W, lines: &'a [Line<'a>]) -> io::Result<()> {
+    let mut contexts = Contexts::new(alloc);
+    contexts.add(lines)?;
     let (mut memory, mut login) = (Vec::new(alloc), None);
-    write_each(
-        &mut output,
-        &mut memory,
-        &mut login,
-        &contexts,
-        text.as_str(),
-    )
+    write_each(output, &mut memory, &mut login, &contexts, lines)
 }
 
 fn write_each<'a, W: Write>(
     output: &mut W,
     memory: &mut Vec<Block>,
     login: &mut Option<Login<'a>>,
-    contexts: &'a [Context<'a>],
-    text: &str,
+    contexts: &Contexts<'a>,
+    lines: &'a [Line<'a>],
 ) -> io::Result<()> {
-    for text in text.lines() {
-        let mut line = Line::new(*memory.allocator(), contexts, text);
-        answer(&mut line, memory, login);
-        line.write(output)?;
+    let mut answer = Answer::new(*memory.allocator());
+    for line in lines {
+        let call = Call::new(line, contexts);
+        if !is_made(&call, &mut answer, memory, login) {
+            call.refuse();
+        }
+        answer.write(&call, output)?;
     }
     output.flush()
 }
 
-// Makes the call of a line. Lines leave the memory that is lent, and the last login store, for those after them.
-fn answer<'a>(line: &mut Line<'a, '_>, memory: &mut Vec<Block>, login: &mut Option<Login<'a>>) {
-    let call = line.word();
-    let is_call = hashing::answer(line, call, memory)
-        || texts::answer(line, call)
-        || uses::answer(line, call, login);
-    line.is_unread |= !is_call;
+// Makes a call. Calls leave the memory that is lent, and the last login store, for those after them.
+fn is_made<'a>(
+    call: &Call<'_, 'a>,
+    answer: &mut Answer,
+    memory: &mut Vec<Block>,
+    login: &mut Option<Login<'a>>,
+) -> bool {
+    hashing::is_made(call, answer, memory)
+        || texts::is_made(call, answer)
+        || uses::is_made(call, answer, login)
+}
+
+// The context of a value, for a call that takes it.
+fn own_context<'a>(call: &Call<'_, 'a>, place: usize) -> Argon2<'a> {
+    call.context(place).clone().unwrap_or_default()
 }

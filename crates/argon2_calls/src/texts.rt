@@ -1,6 +1,7 @@
 //! Calls on parameters, texts and passwords. A value is answered by its text, a list by its text in quotes, and what a text
 //! lacks by `none`.
 
+use crate::own_context;
 use argon2::error::{kdf, password_hash};
 use argon2::login::{LoggedIn, Target};
 use argon2::password_hash::{Result, Settings, Stored};
@@ -9,13 +10,16 @@ use argon2::{
     Algorithm, AssociatedData, B64Error, CustomizedPasswordHasher, Error, KeyId, Params,
     ParamsBuilder, PasswordHash, PasswordHasher, PasswordVerifier, Version,
 };
-use argon2_lines::{Drawn, Line, context};
+use argon2_lines::{Answer, Call, Drawn, context};
 use argon2_policy::Policy;
 use std::fmt::Debug;
 use std::result::Result as Outcome;
 
-pub(crate) fn answer(line: &mut Line<'_, '_>, call: &str) -> bool {
-    params_answer(line, call) || text_answer(line, call) || password_answer(line, call)
+pub(crate) fn is_made(call: &Call<'_, '_>, answer: &mut Answer) -> bool {
+    is_of_params(call, answer)
+        || is_of_texts(call, answer)
+        || is_of_passwords(call, answer)
+        || is_of_bounds(call, answer)
 }
 
 // ---- parameters, and what they are made of
@@ -41,106 +45,62 @@ static ERRORS: [Error; 18] = [
     Error::OutOfMemory,
 ];
 
-fn params_answer(line: &mut Line<'_, '_>, call: &str) -> bool {
-    match call {
-        "context" => context::define(line),
+fn is_of_params(call: &Call<'_, '_>, answer: &mut Answer) -> bool {
+    match call.name {
+        "context" => context::define(call, answer),
         "Argon2::algorithm" => {
-            let argon2 = line.context();
-            line.show(argon2.algorithm());
-            line.show(argon2.version());
+            answer.show(call.context(1).algorithm());
+            answer.show(call.context(1).version());
         }
-        "Argon2::fmt" => {
-            let argon2 = line.context();
-            line.show(argon2);
-        }
+        "Argon2::fmt" => answer.show(call.context(1)),
         // `M T P LENGTH`.
         "Params::new" => {
-            let (m, t, p) = (line.count(), line.count(), line.count());
-            let made = Params::new(m, t, p, line.number());
-            shown(line, made);
+            let (m, t, p) = (call.count(1), call.count(2), call.count(3));
+            shown(answer, Params::new(m, t, p, call.number(4)));
         }
-        "Params::default" => shown(line, Ok(Params::default())),
-        "ParamsBuilder::new" => shown(line, ParamsBuilder::new().build()),
-        "ParamsBuilder::build" => match context::settings(line) {
-            Ok((params, _)) => shown(line, Ok(params)),
-            Err(e) => line.show(e),
+        "Params::default" => shown(answer, Ok(Params::default())),
+        "ParamsBuilder::new" => shown(answer, ParamsBuilder::new().build()),
+        "ParamsBuilder::build" => match context::settings(call, 1) {
+            Ok((params, _)) => shown(answer, Ok(params)),
+            Err(e) => answer.show(e),
         },
-        _ => return of_parts(line, call),
-    }
-    true
-}
-
-// All that parameters say: costs, key identifier, data, output length, and how many blocks all lanes and one have.
-fn shown(line: &mut Line<'_, '_>, made: Outcome<Params, Error>) {
-    match made {
-        Ok(it) => {
-            line.say(it.m_cost());
-            line.say(it.t_cost());
-            line.say(it.p_cost());
-            line.show(it.keyid());
-            line.show(it.data());
-            line.say_or_none(it.output_len());
-            line.say(it.block_count());
-            line.say(it.lane_length());
-        }
-        Err(e) => line.show(e),
-    }
-}
-
-fn of_parts(line: &mut Line<'_, '_>, call: &str) -> bool {
-    match call {
         // An algorithm, and its name in three forms.
-        "Algorithm::new" => match Algorithm::new(line.word()) {
+        "Algorithm::new" => match Algorithm::new(call.word(1)) {
             Ok(it) => {
-                line.show(it);
-                line.say(it);
-                line.say(it.as_str());
-                line.say(it.ident());
+                answer.show(it);
+                answer.say(it);
+                answer.say(it.as_str());
+                answer.say(it.ident());
             }
-            Err(e) => line.show(e),
+            Err(e) => answer.show(e),
         },
-        "Algorithm::try_from" => {
-            let made = Algorithm::try_from(line.word());
-            line.shown(made);
-        }
+        "Algorithm::try_from" => answer.shown(Algorithm::try_from(call.word(1))),
         // `NUMBER`: a version and its number.
-        "Version::try_from" => match Version::try_from(line.count()) {
+        "Version::try_from" => match Version::try_from(call.count(1)) {
             Ok(it) => {
-                line.show(it);
-                line.say(u32::from(it));
+                answer.show(it);
+                answer.say(u32::from(it));
             }
-            Err(e) => line.show(e),
+            Err(e) => answer.show(e),
         },
-        "KeyId::new" => {
-            let made = KeyId::new(&line.bytes());
-            line.shown(made);
-        }
-        "KeyId::from_b64" => {
-            let made = KeyId::from_b64(line.word());
-            line.shown(made);
-        }
+        "KeyId::new" => answer.shown(KeyId::new(call.bytes(1))),
+        "KeyId::from_b64" => answer.shown(KeyId::from_b64(call.word(1))),
         // `BYTES BYTES`.
-        "KeyId::cmp" => match (KeyId::new(&line.bytes()), KeyId::new(&line.bytes())) {
-            (Ok(one), Ok(other)) => line.show(one.cmp(&other)),
-            _ => line.is_unread = true,
+        "KeyId::cmp" => match (KeyId::new(call.bytes(1)), KeyId::new(call.bytes(2))) {
+            (Ok(one), Ok(other)) => answer.show(one.cmp(&other)),
+            _ => call.refuse(),
         },
-        "AssociatedData::new" => {
-            let made = AssociatedData::new(&line.bytes());
-            line.shown(made);
-        }
-        "AssociatedData::from_b64" => {
-            let made = AssociatedData::from_b64(line.word());
-            line.shown(made);
-        }
+        "AssociatedData::new" => answer.shown(AssociatedData::new(call.bytes(1))),
+        "AssociatedData::from_b64" => answer.shown(AssociatedData::from_b64(call.word(1))),
         // `PLACE`: the error, its text, and those that it gives, with their texts.
         "Error::from" => {
-            if let Some(error) = ERRORS.get(line.count() as usize) {
+            if let Some(error) = ERRORS.get(call.count(1) as usize) {
                 let of_texts = password_hash::Error::from(*error);
-                line.show(error);
-                line.say(error);
-                line.show(&of_texts);
-                line.say(of_texts);
-                line.say(kdf::Error::from(*error));
+                answer.show(error);
+                answer.say(error);
+                answer.show(&of_texts);
+                answer.say(of_texts);
+                answer.say(kdf::Error::from(*error));
             }
         }
         _ => return false,
@@ -148,32 +108,55 @@ fn of_parts(line: &mut Line<'_, '_>, call: &str) -> bool {
     true
 }
 
+// All that parameters say: costs, key identifier, data, output length, and how many blocks all lanes and one have.
+fn shown(answer: &mut Answer, made: Outcome<Params, Error>) {
+    match made {
+        Ok(it) => {
+            answer.say(it.m_cost());
+            answer.say(it.t_cost());
+            answer.say(it.p_cost());
+            answer.show(it.keyid());
+            answer.show(it.data());
+            answer.say_or_none(it.output_len());
+            answer.say(it.block_count());
+            answer.say(it.lane_length());
+        }
+        Err(e) => answer.show(e),
+    }
+}
+
 // ---- texts
 
-fn text_answer(line: &mut Line<'_, '_>, call: &str) -> bool {
-    match call {
-        "Salt::new" => {
-            let made = Salt::new(&line.bytes());
-            line.said(made);
+fn is_of_texts(call: &Call<'_, '_>, answer: &mut Answer) -> bool {
+    match call.name {
+        "Salt::new" => answer.said(Salt::new(call.bytes(1))),
+        "Output::new" => answer.said(Output::new(call.bytes(1))),
+        "Ident::new" => answer.said(Ident::new(call.str(1))),
+        "Params::from_str" => answer.said(call.str(1).parse::<Params>()),
+        "ParamsString::try_from" => answer.shown(list_of(call.str(1))),
+        "ParamsString::new" => answer.show(ParamsString::new()),
+        // `TEXT VERSION SALT HASH`: the text with these for what it has; no bytes if it has no salt or no hash.
+        "PasswordHash::text" => match with_fields(call) {
+            Ok(value) => answer.say(value.text().as_str()),
+            Err(e) => answer.show(e),
+        },
+        "PasswordHash::new"
+        | "PasswordHash::fmt"
+        | "PasswordHash.fields"
+        | "Params::try_from"
+        | "Settings::try_from"
+        | "Stored::try_from" => {
+            if let Some(value) = answer.value(call.str(1)) {
+                on_value(call, answer, &value);
+            }
         }
-        "Output::new" => {
-            let made = Output::new(&line.bytes());
-            line.said(made);
+        name if name.starts_with("ParamsString::") || name == "Value::decimal" => {
+            match call.str(1).parse::<ParamsString>() {
+                Ok(mut list) => on_list(call, answer, &mut list),
+                Err(e) => answer.show(e),
+            }
         }
-        "Ident::new" => {
-            let made = Ident::new(&line.text());
-            line.said(made);
-        }
-        "Params::from_str" => {
-            let made = line.text().parse::<Params>();
-            line.said(made);
-        }
-        "ParamsString::try_from" => {
-            let made = list_of(&line.text());
-            line.shown(made);
-        }
-        "ParamsString::new" => line.show(ParamsString::new()),
-        _ => return of_value(line, call) || of_list(line, call),
+        _ => return false,
     }
     true
 }
@@ -187,67 +170,44 @@ fn list_of(text: &str) -> Result<Option<ParamsString>> {
 }
 
 // A call on the value of a text.
-fn of_value(line: &mut Line<'_, '_>, call: &str) -> bool {
-    let is_list = call.starts_with("ParamsString::") || call == "Value::decimal";
-    if !call.starts_with("PasswordHash") && !call.ends_with("::try_from") || is_list {
-        return false;
-    }
-    let Some(value) = line.value() else {
-        return true;
-    };
-    match call {
-        "PasswordHash::new" => line.say(value),
-        "PasswordHash::fmt" => line.show(value),
-        // `.. VERSION SALT HASH`: the text with these for what it has; no bytes if it has no salt or no hash.
-        "PasswordHash::text" => {
-            let (version, salt, hash) = (line.number(), line.bytes(), line.bytes());
-            match with_fields(value, version, &salt, &hash) {
-                Ok(value) => line.say(value.text().as_str()),
-                Err(e) => line.show(e),
-            }
-        }
+fn on_value(call: &Call<'_, '_>, answer: &mut Answer, value: &PasswordHash) {
+    match call.name {
+        "PasswordHash::new" => answer.say(value),
+        "PasswordHash::fmt" => answer.show(value),
         // The identifier, the version, the list, the salt and the hash.
         "PasswordHash.fields" => {
-            line.say(value.algorithm.as_str());
-            line.say_or_none(value.version);
-            line.show(&value.params);
-            line.say_or_none(value.salt);
-            line.say_or_none(value.hash);
+            answer.say(value.algorithm.as_str());
+            answer.say_or_none(value.version);
+            answer.show(&value.params);
+            answer.say_or_none(value.salt.as_ref());
+            answer.say_or_none(value.hash.as_ref());
         }
         // The parameters, and the output length.
-        "Params::try_from" => match Params::try_from(&value) {
-            Ok(params) => {
-                line.say(&params);
-                line.say_or_none(params.output_len());
-            }
-            Err(e) => line.show(e),
+        "Params::try_from" => match Params::try_from(value) {
+            Ok(params) => shown_text(answer, &params),
+            Err(e) => answer.show(e),
         },
         // The same behind the algorithm and the version.
-        "Settings::try_from" => match Settings::try_from(&value) {
-            Ok(it) => settings(line, &it),
-            Err(e) => line.show(e),
+        "Settings::try_from" => match Settings::try_from(value) {
+            Ok(it) => settings(answer, &it),
+            Err(e) => answer.show(e),
         },
         // The same, the salt and the hash.
-        "Stored::try_from" => match Stored::try_from(&value) {
+        _ => match Stored::try_from(value) {
             Ok(it) => {
-                settings(line, &it.settings);
-                line.say(it.salt.text().as_str());
-                line.say(it.hash.text().as_str());
+                settings(answer, &it.settings);
+                answer.say(it.salt.text().as_str());
+                answer.say(it.hash.text().as_str());
             }
-            Err(e) => line.show(e),
+            Err(e) => answer.show(e),
         },
-        _ => return false,
     }
-    true
 }
 
-// A value with another version, salt and hash. There is no hash without a salt.
-fn with_fields(
-    value: PasswordHash,
-    version: Option<u32>,
-    salt: &[u8],
-    hash: &[u8],
-) -> Result<PasswordHash> {
+// The value of a text with another version, salt and hash. There is no hash without a salt.
+fn with_fields(call: &Call<'_, '_>) -> Result<PasswordHash> {
+    let (version, salt, hash) = (version(call, 2), call.bytes(3), call.bytes(4));
+    let value = PasswordHash::new(call.str(1))?;
     let mut made = PasswordHash {
         algorithm: value.algorithm,
         version,
@@ -264,230 +224,219 @@ fn with_fields(
     Ok(made)
 }
 
-fn settings(line: &mut Line<'_, '_>, it: &Settings) {
-    line.say(it.algorithm.as_str());
-    line.say(u32::from(it.version));
-    line.say(&it.params);
-    line.say_or_none(it.params.output_len());
+// A version, or `none`.
+fn version(call: &Call<'_, '_>, place: usize) -> Option<u32> {
+    if call.word(place) == "none" {
+        None
+    } else {
+        Some(call.count(place))
+    }
+}
+
+fn settings(answer: &mut Answer, it: &Settings) {
+    answer.say(it.algorithm.as_str());
+    answer.say(u32::from(it.version));
+    shown_text(answer, &it.params);
+}
+
+fn shown_text(answer: &mut Answer, params: &Params) {
+    answer.say(params);
+    answer.say_or_none(params.output_len());
 }
 
 // A call on a parameter list.
-fn of_list(line: &mut Line<'_, '_>, call: &str) -> bool {
-    if !call.starts_with("ParamsString::") && call != "Value::decimal" {
-        return false;
-    }
-    let mut list = match line.text().parse::<ParamsString>() {
-        Ok(list) => list,
-        Err(e) => {
-            line.show(e);
-            return true;
-        }
-    };
-    match call {
-        "ParamsString::from_str" => line.show(list),
+fn on_list(call: &Call<'_, '_>, answer: &mut Answer, list: &mut ParamsString) {
+    match call.name {
+        "ParamsString::from_str" => answer.show(list),
         // The names and values, in order.
         "ParamsString::iter" => {
             for (name, value) in list.iter() {
-                line.say(name.as_str());
-                line.say(value.as_str());
+                answer.say(name.as_str());
+                answer.say(value.as_str());
             }
         }
         // `LIST NAME`: the value.
-        "ParamsString::get" => match list.get(line.word()) {
-            Some(value) => line.say(value.as_str()),
-            None => line.say("none"),
+        "ParamsString::get" => match list.get(call.word(2)) {
+            Some(value) => answer.say(value.as_str()),
+            None => answer.say("none"),
         },
         // `LIST NAME`: the number of the value.
-        "Value::decimal" => match list.get(line.word()) {
-            Some(value) => line.said(value.decimal()),
-            None => line.say("none"),
+        "Value::decimal" => match list.get(call.word(2)) {
+            Some(value) => answer.said(value.decimal()),
+            None => answer.say("none"),
         },
         // `LIST NAME NUMBER`: `Ok` or the error, and the list then.
         "ParamsString::add_decimal" => {
-            let (name, number) = (line.text(), line.count());
-            line.done(list.add_decimal(&name, number));
-            line.show(list);
+            answer.done(list.add_decimal(call.str(2), call.count(3)));
+            answer.show(list);
         }
         // `LIST NAME BYTES`: the same.
         "ParamsString::add_b64_bytes" => {
-            let (name, bytes) = (line.text(), line.bytes());
-            line.done(list.add_b64_bytes(&name, &bytes));
-            line.show(list);
+            answer.done(list.add_b64_bytes(call.str(2), call.bytes(3)));
+            answer.show(list);
+        }
+        _ => call.refuse(),
+    }
+}
+
+// ---- passwords
+
+fn is_of_passwords(call: &Call<'_, '_>, answer: &mut Answer) -> bool {
+    let alloc = answer.alloc;
+    match call.name {
+        // `CONTEXT GENERATOR PASSWORD`: the text.
+        "hash_password" => {
+            let (argon2, mut rng) = (call.context(1), call.generator(2));
+            answer.said(argon2.hash_password(alloc, &mut rng, call.bytes(3)));
+            answer.drawn(&rng);
+        }
+        // `CONTEXT PASSWORD SALT`: the text.
+        "hash_password_with_salt" => {
+            let (argon2, password, salt) = (call.context(1), call.bytes(2), call.bytes(3));
+            answer.said(argon2.hash_password_with_salt(alloc, password, salt));
+        }
+        // `CONTEXT PASSWORD SALT ALGORITHM VERSION CONTEXT`: the text under the second context's parameters, and an algorithm
+        // and a version or `none`.
+        "hash_password_customized" => {
+            let (argon2, password, salt) = (call.context(1), call.bytes(2), call.bytes(3));
+            let name = if call.word(4) == "none" {
+                None
+            } else {
+                Some(call.word(4))
+            };
+            let (version, params) = (version(call, 5), *call.context(6).params());
+            answer.said(argon2.hash_password_customized(
+                alloc, password, salt, name, version, params,
+            ));
+        }
+        // `CONTEXT PASSWORD TEXT`.
+        "verify_password" => {
+            let (argon2, password) = (call.context(1), call.bytes(2));
+            answer.done(argon2.verify_password(alloc, password, call.str(3)));
+        }
+        // The same of the text's value.
+        "verify_password::<PasswordHash>" => {
+            let (argon2, password) = (call.context(1), call.bytes(2));
+            if let Some(value) = answer.value(call.str(3)) {
+                answer.done(argon2.verify_password(alloc, password, &value));
+            }
         }
         _ => return false,
     }
     true
 }
 
-// ---- passwords
-
-fn password_answer(line: &mut Line<'_, '_>, call: &str) -> bool {
-    match call {
-        // `CONTEXT GENERATOR PASSWORD`: the text.
-        "hash_password" => {
-            let (argon2, mut rng, password) = (line.context(), line.generator(), line.bytes());
-            line.said(argon2.hash_password(line.alloc, &mut rng, &password));
-            line.drawn(&rng);
-        }
-        // `CONTEXT PASSWORD SALT`: the text.
-        "hash_password_with_salt" => {
-            let (argon2, password, salt) = (line.context(), line.bytes(), line.bytes());
-            line.said(argon2.hash_password_with_salt(line.alloc, &password, &salt));
-        }
-        // `CONTEXT PASSWORD SALT ALGORITHM VERSION CONTEXT`: the text under the second context's parameters, and an algorithm
-        // and a version or `none`.
-        "hash_password_customized" => {
-            let (argon2, password, salt) = (line.context(), line.bytes(), line.bytes());
-            let (name, version, other) = (line.word(), line.number(), line.context());
-            let (alloc, params) = (line.alloc, *other.params());
-            let name = if name == "none" { None } else { Some(name) };
-            line.said(argon2.hash_password_customized(
-                alloc, &password, &salt, name, version, params,
-            ));
-        }
-        // `CONTEXT PASSWORD TEXT`.
-        "verify_password" => {
-            let (argon2, password, text) = (line.context(), line.bytes(), line.text());
-            line.done(argon2.verify_password(line.alloc, &password, text.as_str()));
-        }
-        // The same of the text's value.
-        "verify_password::<PasswordHash>" => {
-            let (argon2, password) = (line.context(), line.bytes());
-            if let Some(value) = line.value() {
-                line.done(argon2.verify_password(line.alloc, &password, &value));
-            }
-        }
-        _ => return of_bound(line, call) || of_target(line, call) || of_policy(line, call),
-    }
-    true
-}
-
-// A call on a bound: `M T P`, and then the call's values.
-fn of_bound(line: &mut Line<'_, '_>, call: &str) -> bool {
-    if !call.starts_with("Bound::") {
-        return false;
-    }
-    let bound = line.bound();
-    match call {
+// A call on a bound, `M T P`, on a store's target, `CONTEXT`, or on a policy, which `CONTEXT M T P` make; and then the
+// call's values.
+fn is_of_bounds(call: &Call<'_, '_>, answer: &mut Answer) -> bool {
+    match call.name {
         // `.. TEXT`: the blocks.
-        "Bound::admit" => match bound.admit(line.word()) {
-            Ok(admitted) => line.say(admitted.blocks),
-            Err(e) => line.show(e),
+        "Bound::admit" => match call.bound(1).admit(call.word(4)) {
+            Ok(admitted) => answer.say(admitted.blocks),
+            Err(e) => answer.show(e),
         },
         // The same of the text's value.
         "Bound::admit_hash" => {
-            if let Some(value) = line.value() {
-                line.said(bound.admit_hash(&value));
+            if let Some(value) = answer.value(call.str(4)) {
+                answer.said(call.bound(1).admit_hash(&value));
             }
         }
         // `.. CONTEXT`: whether it allows the context's parameters.
-        "Bound::allows" => {
-            let argon2 = line.context();
-            line.say(bound.allows(argon2.params()));
-        }
+        "Bound::allows" => answer.say(call.bound(1).allows(call.context(4).params())),
         // `.. CONTEXT PASSWORD TEXT`.
-        _ => {
-            let (argon2, password, text) = (line.context(), line.bytes(), line.word());
-            line.done(bound.verify(line.alloc, &argon2, &password, text));
+        "Bound::verify" => {
+            let (argon2, password, text) = (call.context(4), call.bytes(5), call.word(6));
+            answer.done(call.bound(1).verify(answer.alloc, argon2, password, text));
         }
-    }
-    true
-}
-
-// A call on a store's target: `CONTEXT`, and then the call's values.
-fn of_target(line: &mut Line<'_, '_>, call: &str) -> bool {
-    if !call.starts_with("Target::") {
-        return false;
-    }
-    match Target::new(line.context()) {
-        Ok(_) if call == "Target::new" => line.say("Ok"),
-        Ok(target) => on_target(line, call, &target),
-        Err(e) => line.show(e),
+        "Target::new" => answer.done(Target::new(own_context(call, 1)).and(Ok(()))),
+        "Target::hash_password" | "Target::verify" | "Target::log_in" => {
+            match Target::new(own_context(call, 1)) {
+                Ok(target) => on_target(call, answer, &target),
+                Err(e) => answer.show(e),
+            }
+        }
+        "Policy::new" => {
+            let made = Policy::new(answer.alloc, own_context(call, 1), call.bound(2));
+            answer.done(made.and(Ok(())));
+        }
+        name if name.starts_with("Policy::") => of_policy(call, answer),
+        _ => return false,
     }
     true
 }
 
 // `.. GENERATOR PASSWORD`, and a text unless one is made.
-fn on_target(line: &mut Line<'_, '_>, call: &str, target: &Target<'_>) {
-    let (mut rng, password) = (line.generator(), line.bytes());
-    if call == "Target::hash_password" {
-        line.said(target.hash_password(line.alloc, &mut rng, &password));
-        line.drawn(&rng);
-    } else if let Some(value) = line.value() {
+fn on_target(call: &Call<'_, '_>, answer: &mut Answer, target: &Target<'_>) {
+    let (mut rng, password, alloc) = (call.generator(2), call.bytes(3), answer.alloc);
+    if call.name == "Target::hash_password" {
+        answer.said(target.hash_password(alloc, &mut rng, password));
+        answer.drawn(&rng);
+    } else if let Some(value) = answer.value(call.str(4)) {
         match Stored::try_from(&value) {
-            Ok(it) if call == "Target::verify" => {
-                line.done(target.verify(line.alloc, &password, &it));
+            Ok(it) if call.name == "Target::verify" => {
+                answer.done(target.verify(alloc, password, &it));
             }
             Ok(it) => {
-                let done = target.log_in(line.alloc, &mut rng, &password, &it);
-                logged_in(line, done, &rng);
+                let done = target.log_in(alloc, &mut rng, password, &it);
+                logged_in(answer, done, &rng);
             }
-            Err(e) => line.show(e),
+            Err(e) => answer.show(e),
         }
     }
 }
 
-// A call on a policy: `CONTEXT M T P`, which it is made of, and then the call's values.
-fn of_policy(line: &mut Line<'_, '_>, call: &str) -> bool {
-    if !call.starts_with("Policy::") {
-        return false;
-    }
-    let (argon2, bound) = (line.context(), line.bound());
-    match Policy::new(line.alloc, argon2, bound) {
+fn of_policy(call: &Call<'_, '_>, answer: &mut Answer) {
+    match Policy::new(answer.alloc, own_context(call, 1), call.bound(2)) {
         // `.. SECRET GENERATOR PASSWORD TEXT`: a login, for which a text may also be one under the old secret.
-        Ok(policy) if call == "Policy::with_old_secret" => {
-            let secret = line.bytes();
-            match policy.with_old_secret(&secret) {
-                Ok(policy) => called(line, call, &policy),
-                Err(e) => line.show(e),
+        Ok(policy) if call.name == "Policy::with_old_secret" => {
+            match policy.with_old_secret(call.bytes(5)) {
+                Ok(policy) => on_policy(call, 6, answer, &policy),
+                Err(e) => answer.show(e),
             }
         }
-        Ok(_) if call == "Policy::new" => line.say("Ok"),
-        Ok(policy) => called(line, call, &policy),
-        Err(e) => line.show(e),
+        Ok(policy) => on_policy(call, 5, answer, &policy),
+        Err(e) => answer.show(e),
     }
-    true
 }
 
 // `.. GENERATOR PASSWORD`, then the new password if it is changed, and a text unless one is made.
-fn called(line: &mut Line<'_, '_>, call: &str, policy: &Policy<'_>) {
-    let (mut rng, password) = (line.generator(), line.bytes());
-    match call {
+fn on_policy(call: &Call<'_, '_>, place: usize, answer: &mut Answer, policy: &Policy<'_>) {
+    let (mut rng, password) = (call.generator(place), call.bytes(place.saturating_add(1)));
+    match call.name {
         "Policy::hash_password" => {
-            line.said(policy.hash_password(&mut rng, &password));
-            line.drawn(&rng);
+            answer.said(policy.hash_password(&mut rng, password));
+            answer.drawn(&rng);
         }
         "Policy::hash_for_nobody" => {
-            policy.hash_for_nobody(&password);
-            line.drawn(&rng);
+            policy.hash_for_nobody(password);
+            answer.drawn(&rng);
         }
         "Policy::change_password" => {
-            let new = line.bytes();
-            if let Some(value) = line.value() {
-                line.said(policy.change_password(&mut rng, &value, &password, &new));
-                line.drawn(&rng);
+            if let Some(value) = answer.value(call.str(8)) {
+                answer.said(policy.change_password(&mut rng, &value, password, call.bytes(7)));
+                answer.drawn(&rng);
             }
         }
         _ => {
-            if let Some(value) = line.value() {
-                let done = policy.log_in(&mut rng, &value, &password);
-                logged_in(line, done, &rng);
+            if let Some(value) = answer.value(call.str(place.saturating_add(2))) {
+                let done = policy.log_in(&mut rng, &value, password);
+                logged_in(answer, done, &rng);
             }
         }
     }
 }
 
 // What a login did, how many bytes it drew, and the fresh text.
-fn logged_in<E: Debug + Drop>(line: &mut Line<'_, '_>, done: Outcome<LoggedIn, E>, rng: &Drawn) {
+fn logged_in<E: Debug + Drop>(answer: &mut Answer, done: Outcome<LoggedIn, E>, rng: &Drawn) {
     match done {
         Ok(LoggedIn { accepted, fresh }) => {
-            line.show(accepted);
-            line.drawn(rng);
-            line.say_or_none(fresh);
+            answer.show(accepted);
+            answer.drawn(rng);
+            answer.say_or_none(fresh);
         }
         Err(e) => {
-            line.show(e);
-            line.drawn(rng);
+            answer.show(e);
+            answer.drawn(rng);
         }
     }
 }

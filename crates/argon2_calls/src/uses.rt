@@ -2,101 +2,99 @@
 //! An answer says what the call returns and how many bytes it drew, if it may draw. Those of a login store end with the text of
 //! the name then, or `none`.
 
-use crate::hashing::read;
+use crate::own_context;
 use argon2::login::{Login, login_runs};
 use argon2::phc::{Output, Salt};
 use argon2::{Argon2, Block};
-use argon2_lines::Line;
+use argon2_lines::{Answer, Call};
 use argon2_uses::arena::{Input, hash_all};
 use argon2_uses::vault::Header;
 use argon2_uses::{digest, login, passwords, scheduler, vault};
 
-pub(crate) fn answer<'a>(
-    line: &mut Line<'a, '_>,
-    call: &str,
+pub(crate) fn is_made<'a>(
+    call: &Call<'_, 'a>,
+    answer: &mut Answer,
     store: &mut Option<Login<'a>>,
 ) -> bool {
-    use_answer(line, call) || store_answer(line, call, store)
+    is_of_example(call, answer) || is_of_store(call, answer, store)
 }
 
 // ---- a login store
 
-fn store_answer<'a>(line: &mut Line<'a, '_>, call: &str, store: &mut Option<Login<'a>>) -> bool {
-    if call == "login_runs" {
-        login_runs();
-        line.say("Ok");
-        return true;
-    }
-    if call == "Login::new" {
-        match Login::new(line.alloc, line.context()) {
+fn is_of_store<'a>(
+    call: &Call<'_, 'a>,
+    answer: &mut Answer,
+    store: &mut Option<Login<'a>>,
+) -> bool {
+    match call.name {
+        "login_runs" => {
+            login_runs();
+            answer.say("Ok");
+        }
+        "Login::new" => match Login::new(answer.alloc, own_context(call, 1)) {
             Ok(new) => {
                 *store = Some(new);
-                line.say("Ok");
+                answer.say("Ok");
             }
-            Err(e) => line.show(e),
+            Err(e) => answer.show(e),
+        },
+        _ => {
+            return match store {
+                Some(store) => is_on_store(call, answer, store),
+                None => false,
+            };
         }
-        return true;
-    }
-    let Some(store) = store else {
-        return false;
-    };
-    match call {
-        // `NAME TEXT`.
-        "Login::add" => {
-            let (name, text) = (line.word(), line.word());
-            line.done(store.add(name, text));
-            line.say_or_none(store.text_of(name));
-        }
-        // `GENERATOR NAME PASSWORD`.
-        "Login::login" => {
-            let (mut rng, name, password) = (line.generator(), line.word(), line.bytes());
-            line.shown(store.login(&mut rng, name, &password));
-            line.drawn(&rng);
-            line.say_or_none(store.text_of(name));
-        }
-        "Login::text_of" => {
-            let name = line.word();
-            line.say_or_none(store.text_of(name));
-        }
-        // Each name and its text.
-        "Login::texts" => {
-            for (name, text) in store.texts() {
-                line.say(name.as_str());
-                line.say(text);
-            }
-        }
-        _ => return of_example(line, call, store),
     }
     true
 }
 
-// A call of the example.
-fn of_example<'a>(line: &mut Line<'a, '_>, call: &str, store: &mut Login<'a>) -> bool {
-    match call {
+// A call on a store, or one of the example on a store.
+fn is_on_store<'a>(call: &Call<'_, 'a>, answer: &mut Answer, store: &mut Login<'a>) -> bool {
+    match call.name {
+        // `NAME TEXT`.
+        "Login::add" => {
+            let name = call.word(1);
+            answer.done(store.add(name, call.word(2)));
+            answer.say_or_none(store.text_of(name));
+        }
+        // `GENERATOR NAME PASSWORD`.
+        "Login::login" => {
+            let (mut rng, name) = (call.generator(1), call.word(2));
+            answer.shown(store.login(&mut rng, name, call.bytes(3)));
+            answer.drawn(&rng);
+            answer.say_or_none(store.text_of(name));
+        }
+        "Login::text_of" => answer.say_or_none(store.text_of(call.word(1))),
+        // Each name and its text.
+        "Login::texts" => {
+            for (name, text) in store.texts() {
+                answer.say(name.as_str());
+                answer.say(text);
+            }
+        }
         // `CONTEXT GENERATOR NAME PASSWORD`.
         "login::register" => {
-            let (argon2, mut rng) = (line.context(), line.generator());
-            let (name, password) = (line.word(), line.bytes());
-            line.done(login::register(store, &argon2, line.alloc, &mut rng, name, &password));
+            let (argon2, mut rng, alloc) = (call.context(1), call.generator(2), answer.alloc);
+            let (name, password) = (call.word(3), call.bytes(4));
+            answer.done(login::register(store, argon2, alloc, &mut rng, name, password));
         }
         // `GENERATOR NAME PASSWORD`.
         "login::log_in" => {
-            let (mut rng, name, password) = (line.generator(), line.word(), line.bytes());
-            line.shown(login::log_in(store, &mut rng, name, &password));
+            let (mut rng, name, password) = (call.generator(1), call.word(2), call.bytes(3));
+            answer.shown(login::log_in(store, &mut rng, name, password));
         }
         // `GENERATOR NAME TEXT PASSWORD`.
         "login::take_over" => {
-            let (mut rng, name, text) = (line.generator(), line.word(), line.word());
-            let password = line.bytes();
-            line.shown(login::take_over(store, &mut rng, name, text, &password));
+            let (mut rng, name, text) = (call.generator(1), call.word(2), call.word(3));
+            answer.shown(login::take_over(store, &mut rng, name, text, call.bytes(4)));
         }
         // `CONTEXT`.
-        "login::moved" => match login::moved(store, line.alloc, line.context()) {
+        "login::moved" => match login::moved(store, answer.alloc, own_context(call, 1)) {
             Ok(new) => {
                 *store = new;
-                line.say("Ok");
+                answer.say("Ok");
             }
-            Err(e) => line.show(e),
+            Err(e) => answer.show(e),
         },
         _ => return false,
     }
@@ -105,95 +103,96 @@ fn of_example<'a>(line: &mut Line<'a, '_>, call: &str, store: &mut Login<'a>) ->
 
 // ---- the other examples
 
-fn use_answer(line: &mut Line<'_, '_>, call: &str) -> bool {
-    match call {
-        "digest::digest" => {
-            let (header, body) = (line.bytes(), line.bytes());
-            line.hex(&digest::digest(&header, &body));
-        }
+fn is_of_example(call: &Call<'_, '_>, answer: &mut Answer) -> bool {
+    match call.name {
+        "digest::digest" => answer.hex(&digest::digest(call.bytes(1), call.bytes(2))),
         // `GENERATOR PASSWORD`.
         "passwords::stored" => {
-            let (mut rng, password) = (line.generator(), line.bytes());
-            line.said(passwords::stored(line.alloc, &mut rng, &password));
-            line.drawn(&rng);
+            let mut rng = call.generator(1);
+            answer.said(passwords::stored(answer.alloc, &mut rng, call.bytes(2)));
+            answer.drawn(&rng);
         }
         // `PASSWORD TEXT`.
         "passwords::is_accepted" => {
-            let (password, text) = (line.bytes(), line.word());
-            line.said(passwords::is_accepted(line.alloc, &password, text));
+            answer.said(passwords::is_accepted(answer.alloc, call.bytes(1), call.word(2)));
         }
         // `SECRET`: the parameters.
-        "vault::lock" => {
-            let secret = line.bytes();
-            match vault::lock(&secret) {
-                Ok(argon2) => line.say(argon2.params()),
-                Err(e) => line.show(e),
-            }
-        }
-        "vault::seal" | "vault::open" => of_vault(line, call),
-        // `CONTEXT PASSWORD SALT LENGTH`: the tag.
-        "scheduler::hash_in_rounds" => {
-            let (argon2, password, salt, mut out) = read(line);
-            let mut memory = blocks(line, &argon2);
-            let (tag, memory) = (out.as_mut_slice(), memory.as_mut_slice());
-            let done = scheduler::hash_in_rounds(&argon2, &password, &salt, tag, memory);
-            line.written(done, &out);
-        }
-        "arena::hash_all" => hash_both(line),
+        "vault::lock" => match vault::lock(call.bytes(1)) {
+            Ok(argon2) => answer.say(argon2.params()),
+            Err(e) => answer.show(e),
+        },
+        "vault::seal" => sealed(call, answer),
+        "vault::open" => opened(call, answer),
+        "scheduler::hash_in_rounds" => hashed_in_rounds(call, answer),
+        "arena::hash_all" => hash_both(call, answer),
         _ => return false,
     }
     true
 }
 
-// `vault::seal CONTEXT PASSPHRASE SALT`: the key and the header's tag. `vault::open CONTEXT PASSPHRASE SALT TAG`: the key, or
-// `none`.
-fn of_vault(line: &mut Line<'_, '_>, call: &str) {
-    let (argon2, passphrase, salt) = (line.context(), line.bytes(), line.bytes());
-    let Ok(salt) = Salt::new(&salt) else {
-        return;
+// `CONTEXT PASSPHRASE SALT`: the key and the header's tag.
+fn sealed(call: &Call<'_, '_>, answer: &mut Answer) {
+    let (argon2, passphrase) = (call.context(1), call.bytes(2));
+    let Ok(salt) = Salt::new(call.bytes(3)) else {
+        return call.refuse();
     };
-    if call == "vault::seal" {
-        let (header, key) = match vault::seal(&argon2, line.alloc, &passphrase, salt) {
-            Ok(both) => both,
-            Err(e) => return line.show(e),
-        };
-        line.hex(&key);
-        line.hex(header.tag.as_bytes());
-    } else if let Ok(tag) = Output::new(&line.bytes()) {
-        match vault::open(&argon2, line.alloc, &passphrase, &Header { salt, tag }) {
-            Ok(Some(key)) => line.hex(&key),
-            Ok(None) => line.say("none"),
-            Err(e) => line.show(e),
+    let (header, key) = match vault::seal(argon2, answer.alloc, passphrase, salt) {
+        Ok(both) => both,
+        Err(e) => return answer.show(e),
+    };
+    answer.hex(&key);
+    answer.hex(header.tag.as_bytes());
+}
+
+// `CONTEXT PASSPHRASE SALT TAG`: the key, or `none`.
+fn opened(call: &Call<'_, '_>, answer: &mut Answer) {
+    let (argon2, passphrase) = (call.context(1), call.bytes(2));
+    match (Salt::new(call.bytes(3)), Output::new(call.bytes(4))) {
+        (Ok(salt), Ok(tag)) => {
+            match vault::open(argon2, answer.alloc, passphrase, &Header { salt, tag }) {
+                Ok(Some(key)) => answer.hex(&key),
+                Ok(None) => answer.say("none"),
+                Err(e) => answer.show(e),
+            }
         }
+        _ => call.refuse(),
     }
 }
 
 // As many blocks as a context fills.
-fn blocks(line: &mut Line<'_, '_>, argon2: &Argon2<'_>) -> Vec<Block> {
+fn blocks(answer: &mut Answer, argon2: &Argon2<'_>) -> Vec<Block> {
     let count = argon2.params().block_count();
-    line.granted(Vec::from_elem(line.alloc, Block::new(), count))
+    answer.granted(Vec::from_elem(answer.alloc, Block::new(), count))
 }
 
-// `arena::hash_all CONTEXT PASSWORD SALT PASSWORD SALT`: the two tags.
-fn hash_both(line: &mut Line<'_, '_>) {
-    let (argon2, one, salt) = (line.context(), line.bytes(), line.bytes());
-    let (other, salt_of_other) = (line.bytes(), line.bytes());
+// `CONTEXT PASSWORD SALT LENGTH`: the tag.
+fn hashed_in_rounds(call: &Call<'_, '_>, answer: &mut Answer) {
+    let (argon2, password, salt) = (call.context(1), call.bytes(2), call.bytes(3));
+    let (mut memory, mut out) = (blocks(answer, argon2), answer.ones(call.count(4)));
+    let (tag, memory) = (out.as_mut_slice(), memory.as_mut_slice());
+    let done = scheduler::hash_in_rounds(argon2, password, salt, tag, memory);
+    answer.written(done, &out);
+}
+
+// `CONTEXT PASSWORD SALT PASSWORD SALT`: the two tags.
+fn hash_both(call: &Call<'_, '_>, answer: &mut Answer) {
     let inputs = [
         Input {
-            password: &one,
-            salt: &salt,
+            password: call.bytes(2),
+            salt: call.bytes(3),
         },
         Input {
-            password: &other,
-            salt: &salt_of_other,
+            password: call.bytes(4),
+            salt: call.bytes(5),
         },
     ];
-    let (mut memory, mut tags) = (blocks(line, &argon2), [[0xff; 32]; 2]);
-    match hash_all(&argon2, memory.as_mut_slice(), &inputs, &mut tags) {
+    let argon2 = call.context(1);
+    let (mut memory, mut tags) = (blocks(answer, argon2), [[0xff; 32]; 2]);
+    match hash_all(argon2, memory.as_mut_slice(), &inputs, &mut tags) {
         Ok(()) => {
-            line.hex(&tags[0]);
-            line.hex(&tags[1]);
+            answer.hex(&tags[0]);
+            answer.hex(&tags[1]);
         }
-        Err(e) => line.show(e),
+        Err(e) => answer.show(e),
     }
 }

@@ -1,42 +1,56 @@
 //! Makes the calls on accounts in a file that the lines of standard input name, and prints each line with its answer.
-//! `argon2_lines` says how lines and values are written. The answer of a call on a name ends with its text then, or why it can't
-//! be read, and with `closed` if the file has to be opened again.
+//! `argon2_lines` says how lines and values are written. The answer of a call on a name ends with its text then, or why it
+//! can't be read, and with `closed` if the file has to be opened again.
 #![tactic(auto)]
 
 use argon2_accounts::Accounts;
-use argon2_lines::{Context, Line, context};
+use argon2_lines::{Answer, Call, Contexts, Line, context, line};
 use argon2_policy::Policy;
 use argon2_rows::{StoredText, View};
 use argon2_store::{AccountFile, LineError, account_file_runs};
 use sqlite_disk::Disk;
 use sqlite_std_file::{FileFrom, Wary};
 use sqlite_store::FileStore;
+use sqlite_trees::store::Store;
 use std::io::{self, BufWriter, Read, Write};
+
+type Held<'a, D> = Accounts<'a, FileStore<D>>;
 
 fn main(rt: HostRuntime) -> io::Result<()> {
     let alloc = rt.alloc();
     let mut text = String::new(alloc);
     rt.reader().read_to_string(&mut text)?;
-    let contexts = context::defined(alloc, text.as_str())?;
+    let lines = line::lines_of(alloc, text.as_str())?;
     let mut output = BufWriter::new(alloc, rt.stdout())?;
+    write_all(&rt, &mut output, &lines)
+}
+
+fn write_all<'a, W: Write>(
+    rt: &HostRuntime,
+    output: &mut W,
+    lines: &'a [Line<'a>],
+) -> io::Result<()> {
+    let mut contexts = Contexts::new(rt.alloc());
+    contexts.add(lines)?;
     let mut accounts = None;
-    write_each(&rt, &mut output, &mut accounts, &contexts, text.as_str())
+    write_each(rt, output, &mut accounts, &contexts, lines)
 }
 
 fn write_each<'a, W: Write>(
     rt: &HostRuntime,
     output: &mut W,
-    accounts: &mut Option<Accounts<'a, FileStore<FileFrom<Wary>>>>,
-    contexts: &'a [Context<'a>],
-    text: &str,
+    accounts: &mut Option<Held<'a, FileFrom<Wary>>>,
+    contexts: &Contexts<'a>,
+    lines: &'a [Line<'a>],
 ) -> io::Result<()> {
-    for text in text.lines() {
-        let mut line = Line::new(rt.alloc(), contexts, text);
-        match line.word() {
-            "AccountFile::open" => open(rt, &mut line, accounts),
-            call => answer(&mut line, call, accounts),
+    let mut answer = Answer::new(rt.alloc());
+    for line in lines {
+        let call = Call::new(line, contexts);
+        match call.name {
+            "AccountFile::open" => open(rt, &call, &mut answer, accounts),
+            _ => make(&call, &mut answer, accounts),
         }
-        line.write(output)?;
+        answer.write(&call, output)?;
     }
     output.flush()
 }
@@ -44,157 +58,148 @@ fn write_each<'a, W: Write>(
 // `AccountFile::open PATH CONTEXT M T P`: a file, and the policy for its accounts that the last four make.
 fn open<'a>(
     rt: &HostRuntime,
-    line: &mut Line<'a, '_>,
-    accounts: &mut Option<Accounts<'a, FileStore<FileFrom<Wary>>>>,
+    call: &Call<'_, 'a>,
+    answer: &mut Answer,
+    accounts: &mut Option<Held<'a, FileFrom<Wary>>>,
 ) {
-    let (path, argon2, bound) = (line.word(), line.context(), line.bound());
-    let Ok(policy) = Policy::new(line.alloc, argon2, bound) else {
-        line.is_refused = true;
+    let argon2 = call.context(2).clone().unwrap_or_default();
+    let Ok(policy) = Policy::new(answer.alloc, argon2, call.bound(3)) else {
+        answer.is_refused = true;
         return;
     };
-    match AccountFile::open(rt, path, Wary) {
+    match AccountFile::open(rt, call.word(1), Wary) {
         Ok(file) => {
             *accounts = Some(Accounts { policy, file });
-            line.say("Ok");
+            answer.say("Ok");
         }
-        Err(e) => line.show(e),
+        Err(e) => answer.show(e),
     }
 }
 
-fn answer<D: Disk + Drop>(
-    line: &mut Line<'_, '_>,
-    call: &str,
-    accounts: &mut Option<Accounts<'_, FileStore<D>>>,
+fn make<D: Disk + Drop>(
+    call: &Call<'_, '_>,
+    answer: &mut Answer,
+    accounts: &mut Option<Held<'_, D>>,
 ) {
-    match call {
-        "context" => context::define(line),
+    match call.name {
+        "context" => context::define(call, answer),
         "account_file_runs" => {
             account_file_runs();
-            line.say("Ok");
+            answer.say("Ok");
         }
         "AccountFile::into_store" => {
             if let Some(Accounts { file, .. }) = accounts.take() {
                 file.into_store();
-                line.say("Ok");
+                answer.say("Ok");
             }
         }
-        _ => on_open(line, call, accounts),
+        _ => on_open(call, answer, accounts),
     }
 }
 
-fn on_open<D: Disk + Drop>(
-    line: &mut Line<'_, '_>,
-    call: &str,
-    accounts: &mut Option<Accounts<'_, FileStore<D>>>,
-) {
+fn on_open<D: Disk>(call: &Call<'_, '_>, answer: &mut Answer, accounts: &mut Option<Held<'_, D>>) {
     match accounts {
-        Some(accounts) => {
-            on_accounts(line, call, accounts);
-            if accounts.file.is_closed() {
-                line.say("closed");
+        Some(held) => {
+            on_accounts(call, answer, held);
+            if held.file.is_closed() {
+                answer.say("closed");
             }
         }
-        None => line.is_unread = true,
+        None => call.refuse(),
     }
 }
 
-fn on_accounts<D: Disk + Drop>(
-    line: &mut Line<'_, '_>,
-    call: &str,
-    accounts: &mut Accounts<'_, FileStore<D>>,
-) {
-    match call {
-        // The lines, joined by spaces.
-        "AccountFile::write_lines" => {
-            let mut output = Vec::new(line.alloc);
-            match accounts.file.write_lines(View::Texts, &mut output) {
-                Err(LineError::File(e)) => line.show(e),
-                done => line.done(done),
-            }
-            for entry in str::from_utf8(&output).unwrap_or("").lines() {
-                line.say(entry);
+fn on_accounts<D: Disk>(call: &Call<'_, '_>, answer: &mut Answer, held: &mut Held<'_, D>) {
+    match call.name {
+        "AccountFile::write_lines" => write_lines(answer, &mut held.file),
+        "AccountFile::checkpoint" => answer.done(held.file.checkpoint()),
+        "AccountFile::add_all" => add_all(call, answer, &mut held.file),
+        name if name.starts_with("AccountFile::") => on_name(call, answer, &mut held.file),
+        _ => with_password(call, answer, held),
+    }
+}
+
+// The lines, joined by spaces.
+fn write_lines<S: Store>(answer: &mut Answer, file: &mut AccountFile<S>) {
+    let mut output = Vec::new(answer.alloc);
+    match file.write_lines(View::Texts, &mut output) {
+        Err(LineError::File(e)) => answer.show(e),
+        done => answer.done(done),
+    }
+    for entry in str::from_utf8(&output).unwrap_or("").lines() {
+        answer.say(entry);
+    }
+}
+
+// `NAME TEXT NAME TEXT`: an error comes with the place of the entry that is refused.
+fn add_all<S: Store>(call: &Call<'_, '_>, answer: &mut Answer, file: &mut AccountFile<S>) {
+    match (StoredText::new(call.word(2)), StoredText::new(call.word(4))) {
+        (Ok((one, _)), Ok((other, _))) => {
+            match file.add_all(&[(call.word(1), one), (call.word(3), other)]) {
+                Ok(()) => answer.say("Ok"),
+                Err((place, e)) => answer.say(format_args!("{e:?} at {place}")),
             }
         }
-        "AccountFile::checkpoint" => line.done(accounts.file.checkpoint()),
-        // `NAME TEXT NAME TEXT`: an error comes with the place of the entry that is refused.
-        "AccountFile::add_all" => {
-            let (one, first) = (line.word(), StoredText::new(line.word()));
-            let (other, second) = (line.word(), StoredText::new(line.word()));
-            match (first, second) {
-                (Ok((first, _)), Ok((second, _))) => {
-                    match accounts.file.add_all(&[(one, first), (other, second)]) {
-                        Ok(()) => line.say("Ok"),
-                        Err((place, e)) => line.say(format_args!("{e:?} at {place}")),
-                    }
-                }
-                _ => line.is_unread = true,
-            }
-        }
-        _ => on_name(line, call, accounts),
+        _ => call.refuse(),
     }
 }
 
 // A call on `NAME`.
-fn on_name<D: Disk + Drop>(
-    line: &mut Line<'_, '_>,
-    call: &str,
-    accounts: &mut Accounts<'_, FileStore<D>>,
-) {
-    let name = line.word();
-    match call {
+fn on_name<S: Store>(call: &Call<'_, '_>, answer: &mut Answer, file: &mut AccountFile<S>) {
+    let name = call.word(1);
+    match call.name {
         "AccountFile::text_of" => {}
-        "AccountFile::remove" => line.done(accounts.file.remove(name)),
-        "AccountFile::lock" => line.done(accounts.file.lock(name)),
-        "AccountFile::unlock" => line.done(accounts.file.unlock(name)),
+        "AccountFile::remove" => answer.done(file.remove(name)),
+        "AccountFile::lock" => answer.done(file.lock(name)),
+        "AccountFile::unlock" => answer.done(file.unlock(name)),
         // `.. TEXT`.
         "AccountFile::add" => {
-            if let Some(text) = line.value() {
-                line.done(accounts.file.add(name, &text));
+            if let Some(text) = answer.value(call.str(2)) {
+                answer.done(file.add(name, &text));
             }
         }
         "AccountFile::set" => {
-            if let Some(text) = line.value() {
-                line.done(accounts.file.set(name, &text));
+            if let Some(text) = answer.value(call.str(2)) {
+                answer.done(file.set(name, &text));
             }
         }
         // `.. OLD NEW`.
         "AccountFile::replace" => {
-            let old = line.word();
-            if let Some(new) = line.value() {
-                line.done(accounts.file.replace(name, old, &new));
+            if let Some(new) = answer.value(call.str(3)) {
+                answer.done(file.replace(name, call.word(2), &new));
             }
         }
-        _ => with_password(line, call, accounts, name),
+        _ => call.refuse(),
     }
-    match accounts.file.text_of(name) {
-        Ok(text) => line.say_or_none(text),
-        Err(e) => line.show(e),
+    show_text(call, answer, file);
+}
+
+// The text of `NAME`, or why it can't be read.
+fn show_text<S: Store>(call: &Call<'_, '_>, answer: &mut Answer, file: &mut AccountFile<S>) {
+    match file.text_of(call.word(1)) {
+        Ok(text) => answer.say_or_none(text),
+        Err(e) => answer.show(e),
     }
 }
 
 // `NAME GENERATOR PASSWORD`, or `NAME GENERATOR OLD NEW`.
-fn with_password<D: Disk + Drop>(
-    line: &mut Line<'_, '_>,
-    call: &str,
-    accounts: &mut Accounts<'_, FileStore<D>>,
-    name: &str,
-) {
-    let (mut rng, password) = (line.generator(), line.bytes());
-    match call {
-        "Accounts::register" => line.done(accounts.register(&mut rng, name, &password)),
-        "Accounts::log_in" => line.shown(accounts.log_in(&mut rng, name, &password)),
-        "Accounts::set_password" => line.done(accounts.set_password(&mut rng, name, &password)),
+fn with_password<D: Disk>(call: &Call<'_, '_>, answer: &mut Answer, held: &mut Held<'_, D>) {
+    let (name, mut rng, password) = (call.word(1), call.generator(2), call.bytes(3));
+    match call.name {
+        "Accounts::register" => answer.done(held.register(&mut rng, name, password)),
+        "Accounts::log_in" => answer.shown(held.log_in(&mut rng, name, password)),
+        "Accounts::set_password" => answer.done(held.set_password(&mut rng, name, password)),
         "Accounts::change_password" => {
-            let new = line.bytes();
-            line.done(accounts.change_password(&mut rng, name, &password, &new));
+            answer.done(held.change_password(&mut rng, name, password, call.bytes(4)));
         }
         "service::sign_up" => {
-            line.done(argon2_service::sign_up(accounts, &mut rng, name, &password));
+            answer.done(argon2_service::sign_up(held, &mut rng, name, password));
         }
         "service::has_password" => {
-            line.said(argon2_service::has_password(accounts, &mut rng, name, &password));
+            answer.said(argon2_service::has_password(held, &mut rng, name, password));
         }
-        _ => line.is_unread = true,
+        _ => call.refuse(),
     }
-    line.drawn(&rng);
+    answer.drawn(&rng);
+    show_text(call, answer, &mut held.file);
 }

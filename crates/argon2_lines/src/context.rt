@@ -2,106 +2,112 @@
 //! and `keyid=BYTES`, names it for the lines of the whole input. The length is that of the output, or `none`. The answer is
 //! `Ok`, or the error of the call that makes it. `default` is `Argon2::default()`.
 
+use crate::answer::Answer;
+use crate::call::Call;
 use crate::line::Line;
 use argon2::{Algorithm, Argon2, AssociatedData, KeyId, Params, ParamsBuilder, Result, Version};
 use std::alloc::{AllocError, Global};
 use std::result::Result as Outcome;
 
-/// A context by its name, with the bytes of its secret.
+/// All contexts, each with its name.
 #[derive(Drop)]
-pub struct Context<'w> {
-    name: &'w str,
-    algorithm: Algorithm,
-    version: Version,
-    params: Params,
-    secret: Option<Vec<u8>>,
+pub struct Contexts<'a> {
+    pub(crate) default: Argon2<'a>,
+    all: Vec<(&'a str, Argon2<'a>)>,
 }
 
-/// All contexts that a text's lines define.
-///
-/// # Errors
-/// `AllocError`, if memory is refused.
-pub fn defined(alloc: Global, text: &str) -> Outcome<Vec<Context<'_>>, AllocError> {
-    let mut all = Vec::new(alloc);
-    for text in text.lines() {
-        let mut line = Line::new(alloc, &[], text);
-        if line.word() == "context" {
-            if let Ok(context) = read(&mut line) {
-                all.push(context)?;
-            }
-            if line.is_refused {
-                return Err(AllocError);
-            }
+impl<'a> Contexts<'a> {
+    /// No context but `default`.
+    pub fn new(alloc: Global) -> Contexts<'a> {
+        Contexts {
+            default: Argon2::default(),
+            all: Vec::new(alloc),
         }
     }
-    Ok(all)
-}
 
-/// The context of this name.
-pub(crate) fn named<'a>(contexts: &'a [Context<'a>], name: &str) -> Option<Argon2<'a>> {
-    for it in contexts {
-        if it.name == name {
-            return match &it.secret {
-                Some(secret) => {
-                    Argon2::new_with_secret(secret, it.algorithm, it.version, it.params).ok()
-                }
-                None => Some(Argon2::new(it.algorithm, it.version, it.params)),
-            };
+    /// Adds the contexts that lines define.
+    ///
+    /// # Errors
+    /// `AllocError`, if memory is refused.
+    pub fn add(&mut self, lines: &'a [Line<'a>]) -> Outcome<(), AllocError> {
+        for line in lines {
+            if let Some(context) = self.defined(line) {
+                self.all.push(context)?;
+            }
         }
+        Ok(())
     }
-    if name == "default" {
-        Some(Argon2::default())
-    } else {
-        None
+
+    // The name and the context that a line defines, if it does.
+    fn defined(&self, line: &'a Line<'a>) -> Option<(&'a str, Argon2<'a>)> {
+        let call = Call::new(line, self);
+        if call.name != "context" {
+            return None;
+        }
+        let context = read(&call).ok()?;
+        Some((call.word(1), context))
+    }
+
+    /// The context of this name.
+    pub(crate) fn named(&self, name: &str) -> Option<&Argon2<'a>> {
+        for (other, context) in &self.all {
+            if *other == name {
+                return Some(context);
+            }
+        }
+        if name == "default" {
+            Some(&self.default)
+        } else {
+            None
+        }
     }
 }
 
 /// Answers a line `context ..`.
-pub fn define(line: &mut Line<'_, '_>) {
-    match read(line) {
-        Ok(_) => line.say("Ok"),
-        Err(e) => line.show(e),
+pub fn define(call: &Call<'_, '_>, answer: &mut Answer) {
+    answer.done(read(call).and(Ok(())));
+}
+
+// The context that the values say, or the error of the algorithm, the version or the parameters.
+fn read<'a>(call: &Call<'_, 'a>) -> Result<Argon2<'a>> {
+    let (algorithm, version) = (
+        Algorithm::new(call.word(2)),
+        Version::try_from(call.count(3)),
+    );
+    let settings = settings(call, 4);
+    let (algorithm, version) = (algorithm?, version?);
+    let (params, secret) = settings?;
+    match secret {
+        Some(secret) => Argon2::new_with_secret(secret, algorithm, version, params),
+        None => Ok(Argon2::new(algorithm, version, params)),
     }
 }
 
-// The context that the next values say, or the error of the algorithm, the version or the parameters.
-fn read<'w>(line: &mut Line<'_, 'w>) -> Result<Context<'w>> {
-    let (name, algorithm, version) = (line.word(), line.word(), line.count());
-    let both = settings(line);
-    let (algorithm, version) = (Algorithm::new(algorithm)?, Version::try_from(version)?);
-    let (params, secret) = both?;
-    Ok(Context {
-        name,
-        algorithm,
-        version,
-        params,
-        secret,
-    })
-}
-
-/// The parameters that the next values say, by a builder, and the secret.
-pub fn settings(line: &mut Line<'_, '_>) -> Result<(Params, Option<Vec<u8>>)> {
-    let (mut builder, mut secret) = (ParamsBuilder::new(), None);
-    builder
-        .m_cost(line.count())
-        .t_cost(line.count())
-        .p_cost(line.count());
-    if let Some(len) = line.number::<usize>() {
+/// The parameters that the values from a place on say, by a builder, and the secret.
+pub fn settings<'a>(call: &Call<'_, 'a>, place: usize) -> Result<(Params, Option<&'a [u8]>)> {
+    let (bound, mut builder) = (call.bound(place), ParamsBuilder::new());
+    builder.m_cost(bound.m_cost);
+    builder.t_cost(bound.t_cost);
+    builder.p_cost(bound.p_cost);
+    if let Some(len) = call.number(place.saturating_add(3)) {
         builder.output_len(len);
     }
-    if let Some(rest) = line.rest.take() {
-        for word in rest.split(' ') {
-            match word.split_once('=') {
-                Some(("keyid", value)) => {
-                    builder.keyid(KeyId::new(&line.bytes_of(value))?);
-                }
-                Some(("data", value)) => {
-                    builder.data(AssociatedData::new(&line.bytes_of(value))?);
-                }
-                Some(("secret", value)) => secret = Some(line.bytes_of(value)),
-                _ => line.is_unread = true,
-            }
+    if let Some(bytes) = option(call, "keyid", place) {
+        builder.keyid(KeyId::new(bytes)?);
+    }
+    if let Some(bytes) = option(call, "data", place) {
+        builder.data(AssociatedData::new(bytes)?);
+    }
+    Ok((builder.build()?, option(call, "secret", place)))
+}
+
+// The bytes of the option of this name, behind four values from a place on.
+fn option<'a>(call: &Call<'_, 'a>, name: &str, place: usize) -> Option<&'a [u8]> {
+    for place in place.saturating_add(4)..call.len() {
+        let (other, bytes) = call.option(place);
+        if other == name {
+            return Some(bytes);
         }
     }
-    Ok((builder.build()?, secret))
+    None
 }

@@ -6,13 +6,17 @@
 //! - Any other line is a call: its name and its values, each after one space. It is printed with ` = ` and the answer: a
 //!   value, `Ok`, or an error by its name. The module that makes a call says which values it takes.
 //! - A line that is no call, or has other values, is answered by `?`. If memory is refused to the program, and not to the
-//!   call, the answer is `no memory`.
+//!   call, the answer is `no memory`, or the program ends.
 #![tactic(auto)]
 
+pub mod answer;
+pub mod call;
 pub mod context;
 pub mod drawn;
 pub mod line;
 
-pub use context::Context;
+pub use answer::Answer;
+pub use call::Call;
+pub use context::Contexts;
 pub use drawn::Drawn;
 pub use line::Line;
