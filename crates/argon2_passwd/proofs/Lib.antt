@@ -1,1 +1,3 @@
+mod LineLemmas
+mod Looks
 pub mod Served

@@ -13,9 +13,9 @@ use Rattle.argon2_store.specs.declared.account_file.AccountFile.{AccountFile}
 use Rattle.argon2_store.specs.declared.error.FileError.{FileError}
 use Rattle.argon2_store.specs.declared.error.LineError.{LineError}
 use Rattle.argon2_store.specs.declared.error.LineError.TheVariants as lines
-use Rattle.argon2_passwd.specs.Answers.{AddsLines, AreRead, IsAct, IsAnswered, IsDenied, IsEnded, IsImported, IsOnce, IsOpenFor, IsOpened, IsRefused, IsServed, IsUnfit, Under, breaks_lines}
-use Rattle.argon2_passwd.specs.Asked.{Asked, Choices, edit, import}
-use Rattle.argon2_passwd.specs.Failures.{IsOfFile, IsOfLines, status_of}
+use Rattle.argon2_passwd.specs.Answers.{AddsLines, AddsOthers, AreRead, IsAct, IsAnswered, IsDenied, IsEnded, IsImported, IsOnce, IsOpenFor, IsOpened, IsRefused, IsServed, IsSifted, IsUnfit, Under, breaks_lines}
+use Rattle.argon2_passwd.specs.Asked.{Asked, Choices, edit, import, import_others}
+use Rattle.argon2_passwd.specs.Failures.{IsMemory, IsOfFile, IsOfLines, status_of}
 use Rattle.argon2_passwd.specs.declared.command.Edit.{Edit}
 use Rattle.argon2_passwd.specs.declared.failure.Failure.{Failure}
 use Rattle.argon2_passwd.specs.declared.failure.Failure.TheVariants.{Params}
@@ -53,8 +53,12 @@ unopened : {S : Type 0} (g : Ghosts S) (Has : List ℕ → Texts → Type 0) (Gi
     (input : Option (List ℕ)) → Closed [] → IsOnce g Has Gives policy what input Closed
 unopened g Has Gives Closed policy what input shut = grind arith
 
--- an error of the file is no refusal
-no_refusal : (e : FileError) (f : Failure) → IsOfFile e f → is_refusal e ≡ false → status_of f ≡ 3
+-- out of memory is no refusal
+pub memory_is : (f : Failure) → IsMemory f → status_of f ≡ 3
+memory_is f memory = grind arith
+
+-- nor is an error of the file
+pub no_refusal : (e : FileError) (f : Failure) → IsOfFile e f → is_refusal e ≡ false → status_of f ≡ 3
 no_refusal e f is file = grind arith
 
 -- nor is one of lines
@@ -157,6 +161,22 @@ module _ {S : Type 0} {g : Ghosts S} {Has : List ℕ → Texts → Type 0} {Give
     ok = tt;
     err = λ isnt. (inr (es, known, does_then (λ before after adds. adds.1 isnt) did), keeps_same _);
     once = inr (es, known, does_then (λ before after adds. adds.0) did);
+  }
+
+  -- an import that passes over lines is served as it ended
+  pub sifted : {policy : Policy} {path : List ℕ} {any_text : Bool} {input output : Option (List ℕ)}
+      {Closed : List S → Type 0} (r : Result (Unit {0}) Failure)
+      → IsSifted g Has path any_text (AddsOthers r) input Closed
+      → IsServed g Has Gives policy (import_others path any_text) r input output output Closed
+  sifted (Ok x) (said, known, did) = record {
+    ok = ((said, known, did), keeps_same _);
+    err = tt;
+    once = inr (said, known, does_then (λ before after adds. inr (Ok tt, [], adds)) did);
+  }
+  sifted (Err f) (said, known, did) = record {
+    ok = tt;
+    err = λ isnt. (inr (said, known, does_then (λ before after adds. adds.1 isnt) did), keeps_same _);
+    once = inr (said, known, does_then (λ before after adds. adds.0) did);
   }
 
 module _ {S : Type 0} {g : Ghosts S} (Holds : List ℕ → List ℕ → Type 0) {Has : List ℕ → Texts → Type 0}

@@ -1,12 +1,15 @@
 -- What the program answers.
-use Rattle.std.specs.Prelude.{◌≡◌, ◌≢◌, ◌⊎◌, ⊤, ℕ, zero, suc, ◌==◌, ◌||◌, true, false, Bool, ◌+◌, IsOk, IsTrue, List, [], ◌∷◌, ◌++◌, if◌then◌else◌, Option, Some, None, IfSome, Result, Ok, Err, IfErr, IfOk, IsErrAnd, IsSomeAnd, OnOk}
+use Rattle.std.specs.Prelude.{◌≡◌, ◌≢◌, ◌⊎◌, ⊤, ℕ, zero, suc, ◌==◌, ◌||◌, true, false, Bool, ◌+◌, IsOk, IsTrue, List, [], ◌∷◌, ◌++◌, if◌then◌else◌, Option, Some, None, IfSome, Result, Ok, Err, IfErr, IfOk, IsErrAnd, IsSomeAnd, OnOk, map}
 use Rattle.std.specs.Borrow.{Bor}
 use Rattle.std.specs.Io.BufRead.{drop_through}
 use Rattle.std.specs.List.{AllZip, after_first, before_first, list_any}
 use Rattle.std.specs.Option.{is_some, option_map}
 use Rattle.std.specs.Io.KnownBytes.{Appends, Keeps}
 use Rattle.std.specs.Char.{is_control}
-use Rattle.std.specs.Str.{chars, is_utf8}
+use Rattle.std.specs.BTreeSet.{BTreeSet, contains_by}
+use Rattle.std.specs.Cmp.Lexicographic.{slice_cmp}
+use Rattle.std.specs.Ordering.{nat_cmp}
+use Rattle.std.specs.Str.{bytes_eq, chars, is_utf8}
 use Rattle.std.specs.Str.Lines.{lines}
 use Rattle.std.specs.FinMap.{get}
 use Rattle.argon2_base.specs.PhcText.{Phc, PhcText, phc_text}
@@ -23,7 +26,8 @@ use Rattle.argon2_policy.specs.Policy.{Admits, ChangeRefusal, Denial, IsPolicy, 
 use Rattle.argon2_programs.specs.Prefixes.{after_any, bare}
 use Rattle.argon2_programs.specs.Schemes.{scheme_of}
 use Rattle.argon2_rows.specs.Locks.{IsLine, IsStored, is_locked, without_lock}
-use Rattle.argon2_rows.specs.Names.{IsFirstTaken, Texts}
+use Rattle.argon2_rows.specs.Names.{IsFirstTaken, Texts, entry_of}
+use Rattle.argon2_rows.specs.declared.text.StoredText.{StoredText}
 use Rattle.argon2_rows.specs.Rows.{AreWritten, breaks_line}
 use Rattle.argon2_rows.specs.declared.view.Written.TheVariants.{All}
 use Rattle.argon2_rows.specs.Table.{IsHonest}
@@ -33,14 +37,16 @@ use Rattle.argon2_store.specs.Edits.{Edit as FileEdit, adding, additions, lockin
 use Rattle.argon2_store.specs.declared.account_file.AccountFile.{AccountFile}
 use Rattle.argon2_store.specs.declared.error.FileError.{FileError}
 use Rattle.argon2_store.specs.declared.error.FileError.TheVariants.{NameUnknown}
-use Rattle.argon2_passwd.specs.Asked.{Asked, Choices, check, edit, hash, import, policy_by, show, verify}
+use Rattle.argon2_passwd.specs.Asked.{Asked, Choices, check, edit, hash, import, import_others, policy_by, show, verify}
 use Rattle.argon2_passwd.specs.declared.command.Edit.{Edit}
 use Rattle.argon2_passwd.specs.declared.command.Edit.TheVariants.{Register, Change, Set, Remove, Lock, Unlock}
 use Rattle.argon2_passwd.specs.Failures.{IsOfBound, IsOfFile, status_of}
 use Rattle.argon2_passwd.specs.Passwords.{IsUnread, password_of}
 use Rattle.argon2_passwd.specs.Salts.{IsSalt}
 use Rattle.argon2_passwd.specs.declared.failure.Failure.{Failure}
-use Rattle.argon2_passwd.specs.declared.failure.Failure.TheVariants.{File, Name, NameAt, Params, Refused, Scheme, Taken, Text}
+use Rattle.argon2_passwd.specs.declared.failure.Flaw.{Flaw}
+use Rattle.argon2_passwd.specs.declared.failure.Flaw.TheVariants.{Control, NoText, Taken}
+use Rattle.argon2_passwd.specs.declared.failure.Failure.TheVariants.{File, Line as AtLine, Name, Params, Passed, Refused, Scheme}
 use Rattle.argon2_passwd.specs.declared.run.edits.Step.{Step}
 use Rattle.argon2_passwd.specs.declared.run.edits.Step.TheVariants as step
 
@@ -179,8 +185,8 @@ IsFirstWithout any_text of_name (line ∷ lines) (suc k) = IsTaken any_text (bar
 -- the failure has the number of that line
 abbrev pub RefusesText : Bool → List ℕ → Failure → Type 0
 RefusesText any_text input failure = (k : ℕ)
-    × (((failure ≡ Text (k + 1)) × IsFirstWithout any_text false (lines input) k)
-    ⊎ ((failure ≡ NameAt (k + 1)) × IsFirstWithout any_text true (lines input) k))
+    × (((failure ≡ AtLine (k + 1) NoText) × IsFirstWithout any_text false (lines input) k)
+    ⊎ ((failure ≡ AtLine (k + 1) Control) × IsFirstWithout any_text true (lines input) k))
 
 -- ---- accounts in a file
 
@@ -221,7 +227,7 @@ abbrev pub RefusesLine : {S : Type 0} {g : Ghosts S} → Failure → List (List 
     → Type 0
 RefusesLine {g} failure es before after = (e : FileError) × Serves (additions es) (Err e) before after
     × ((names : Texts) → HasNames before names → IsHonest g (database_of after)
-    → (k : ℕ) × (failure ≡ Taken (k + 1)) × IsFirstTaken names es k)
+    → (k : ℕ) × (failure ≡ AtLine (k + 1) Taken) × IsFirstTaken names es k)
 
 -- the entries were to be added, and this is some answer to it
 abbrev pub IsAdded : {S : Type 0} {g : Ghosts S} → List (List ℕ × List ℕ) → AccountFile S g → AccountFile S g → Type 0
@@ -232,6 +238,97 @@ abbrev pub AddsLines : {S : Type 0} {g : Ghosts S} → Result (Unit {0}) Failure
     → AccountFile S g → Type 0
 AddsLines (Ok _) es before after = Serves (additions es) (Ok tt) before after
 AddsLines (Err failure) es before after = IsAdded es before after × (status_of failure ≢ 3 → RefusesLine failure es before after)
+
+-- ---- an import that passes over lines
+
+-- what a line says: a name and a text that may be added, or why it has none
+abbrev pub Line : Type 0
+Line = Result (List ℕ × List ℕ) Flaw
+
+abbrev pub said_of : Result (Bor (List ℕ) × StoredText) Flaw → Line
+said_of (Ok e) = Ok (entry_of e)
+said_of (Err why) = Err why
+
+abbrev pub IsSaid : Bool → List ℕ → Line → Type 0
+IsSaid any_text line (Ok e) = IsEntry any_text line e
+IsSaid any_text line (Err NoText) = LacksEntry any_text false line
+IsSaid any_text line (Err Control) = LacksEntry any_text true line
+IsSaid any_text line (Err Taken) = ⊥
+
+-- the entry, unless its name is taken
+abbrev pub unless_taken : Bool → List ℕ × List ℕ → Line
+unless_taken is_taken e = if is_taken then Err Taken else Ok e
+
+-- the line, unless its name is taken
+abbrev pub new_line : (List ℕ → Bool) → Line → Line
+new_line is_taken (Ok e) = unless_taken (is_taken e.0) e
+new_line is_taken (Err why) = Err why
+
+-- these names with that of a line
+abbrev pub with_name : Line → List (List ℕ) → List (List ℕ)
+with_name (Ok e) names = e.0 ∷ names
+with_name (Err why) names = names
+
+-- the line has this name
+abbrev pub is_named : Line → List ℕ → Bool
+is_named (Ok e) name = bytes_eq e.0 name
+is_named (Err why) name = false
+
+-- the lines, of which only the first with a name has it, and none has one of these
+abbrev pub first_of_each : List (List ℕ) → List Line → List Line
+first_of_each names [] = []
+first_of_each names (line ∷ ls) =
+    new_line (λ name. list_any (λ other. bytes_eq other name) names) line ∷ first_of_each (with_name line names) ls
+
+-- the set has this name
+abbrev pub has_name : BTreeSet (Bor (List ℕ)) → List ℕ → Bool
+has_name names name = contains_by (λ k. slice_cmp nat_cmp name k.now) names
+
+-- the line, unless the file with these names has its name
+abbrev pub unless_known : Texts → Line → Line
+unless_known names line = new_line (λ name. is_some (get names name)) line
+
+-- the entries of lines
+abbrev pub entries_in : List Line → List (List ℕ × List ℕ)
+entries_in [] = []
+entries_in (Ok e ∷ ls) = e ∷ entries_in ls
+entries_in (Err why ∷ ls) = entries_in ls
+
+-- the lines without one, by their numbers from this one on
+abbrev pub flaws_from : ℕ → List Line → List (ℕ × Flaw)
+flaws_from k [] = []
+flaws_from k (Ok e ∷ ls) = flaws_from (suc k) ls
+flaws_from k (Err why ∷ ls) = (k, why) ∷ flaws_from (suc k) ls
+
+-- names were looked up in a file, which changes none, up to this error if there was one
+abbrev pub Looks : {S : Type 0} {g : Ghosts S} → Option FileError → AccountFile S g → AccountFile S g → Type 0
+Looks error before after = ((error ≡ None) × (after ≡ before))
+    ⊎ ((names : Texts) → HasNames before names → Stays error names before after)
+
+-- names were looked up, and entries of lines were to be added together, with this answer: those whose names the file did not have
+abbrev pub AddsEntries : {S : Type 0} {g : Ghosts S} → Result (Unit {0}) FileError → List Line → List (ℕ × Flaw)
+    → AccountFile S g → AccountFile S g → Type 0
+AddsEntries {S} {g} answer ls passed before after = (mid : AccountFile S g) × (es : List (List ℕ × List ℕ))
+    × Looks None before mid × Serves (additions es) answer mid after
+    × ((names : Texts) → HasNames before names → IsHonest g (database_of after)
+    → let marked = map (unless_known names) ls in (es ≡ entries_in marked) × (passed ≡ flaws_from 1 marked))
+
+-- how far an addition of entries came: names were looked up, or their entries were to be added
+abbrev pub TriesOthers : {S : Type 0} {g : Ghosts S} → List Line → AccountFile S g → AccountFile S g → Type 0
+TriesOthers ls before after = ((error : Option FileError) × Looks error before after)
+    ⊎ ((answer : Result (Unit {0}) FileError) × (passed : List (ℕ × Flaw)) × AddsEntries answer ls passed before after)
+
+-- the entries were added, and the failure has the numbers of the other lines
+abbrev pub PassesOver : {S : Type 0} {g : Ghosts S} → Failure → List Line → AccountFile S g → AccountFile S g → Type 0
+PassesOver (Passed passed) ls before after = AddsEntries (Ok tt) ls passed.items before after
+PassesOver _ ls before after = ⊥
+
+-- how an addition of the entries ended
+abbrev pub AddsOthers : {S : Type 0} {g : Ghosts S} → Result (Unit {0}) Failure → List Line → AccountFile S g → AccountFile S g
+    → Type 0
+AddsOthers (Ok _) ls before after = AddsEntries (Ok tt) ls [] before after
+AddsOthers (Err failure) ls before after = TriesOthers ls before after
+    × (status_of failure ≢ 3 → PassesOver failure ls before after)
 
 -- a file at a path that was opened, with its names
 abbrev pub IsOpened : {S : Type 0} {g : Ghosts S} → (List ℕ → Texts → Type 0) → List ℕ → AccountFile S g → Type 0
@@ -295,6 +392,7 @@ IsUnfit policy (verify path name) input failure = IsUnread input failure
 IsUnfit policy (edit path act name) input failure =
     (IsTrue (breaks_lines act name) × (failure ≡ Name)) ⊎ AreUnread act input failure
 IsUnfit policy (show path view) input failure = ⊥
+IsUnfit policy (import_others path any_text) input failure = ⊥
 IsUnfit policy (import path any_text) input failure = IfSome input (λ bytes. RefusesText any_text (unmarked bytes) failure)
 
 module _ {S : Type 0} (g : Ghosts S) (Has : List ℕ → Texts → Type 0) where
@@ -353,6 +451,13 @@ module _ {S : Type 0} (g : Ghosts S) (Has : List ℕ → Texts → Type 0) where
   IsImported path any_text Adds input Closed = (es : List (List ℕ × List ℕ))
       × IfSome input (λ bytes. AreEntries any_text (unmarked bytes) es) × IsDone path (Adds es) Closed
 
+  -- adding entries of the lines of a known input was all that was done with it; of lines with one name the first alone has it
+  abbrev pub IsSifted : List ℕ → Bool → (List Line → AccountFile S g → AccountFile S g → Type 0)
+      → Option (List ℕ) → (List S → Type 0) → Type 0
+  IsSifted path any_text Adds input Closed = (said : List Line)
+      × IfSome input (λ bytes. AllZip (IsSaid any_text) (lines (unmarked bytes)) said)
+      × IsDone path (Adds (first_of_each [] said)) Closed
+
 module _ {S : Type 0} (g : Ghosts S) (Has : List ℕ → Texts → Type 0) (Gives : List ℕ → Type 0) where
   -- a login with the password was all that was done with the file at a path, with this result
   abbrev pub IsLogin : Policy → List ℕ → List ℕ → List ℕ → Result Accepted Failure → (List S → Type 0) → Type 0
@@ -401,6 +506,8 @@ module _ {S : Type 0} (g : Ghosts S) (Has : List ℕ → Texts → Type 0) (Give
       IsRead g Has path None (λ names. AreWritten view names old new All) Closed
   IsAnswered policy (import path any_text) input old new Closed =
       IsImported g Has path any_text (λ es. Serves (additions es) (Ok tt)) input Closed × Keeps old new
+  IsAnswered policy (import_others path any_text) input old new Closed =
+      IsSifted g Has path any_text (AddsOthers (Ok tt)) input Closed × Keeps old new
 
   -- a call on the file is refused with this failure
   abbrev pub IsRefusedBy : Policy → Asked → Option (List ℕ) → Failure → (List S → Type 0) → Type 0
@@ -408,6 +515,8 @@ module _ {S : Type 0} (g : Ghosts S) (Has : List ℕ → Texts → Type 0) (Give
   IsRefusedBy policy (edit path act name) input failure Closed = IsEdited policy path act name (Err failure) input Closed
   IsRefusedBy policy (import path any_text) input failure Closed =
       IsImported g Has path any_text (RefusesLine failure) input Closed
+  IsRefusedBy policy (import_others path any_text) input failure Closed =
+      IsSifted g Has path any_text (PassesOver failure) input Closed
   IsRefusedBy policy _ input failure Closed = ⊥
 
   -- what is asked for is refused with this failure: there is no such policy, or before a file is opened, or by a call on the
@@ -426,6 +535,7 @@ module _ {S : Type 0} (g : Ghosts S) (Has : List ℕ → Texts → Type 0) (Give
   IsOnce policy (show path view) input Closed =
       Closed [] ⊎ ((error : Option FileError) × IsRead g Has path error (λ names. ⊤) Closed)
   IsOnce policy (import path any_text) input Closed = Closed [] ⊎ IsImported g Has path any_text IsAdded input Closed
+  IsOnce policy (import_others path any_text) input Closed = Closed [] ⊎ IsSifted g Has path any_text TriesOthers input Closed
   IsOnce policy _ input Closed = Closed []
 
   -- how a command ended: it is answered, or refused with this failure, and no more was done with a file

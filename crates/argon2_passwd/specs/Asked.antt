@@ -11,7 +11,7 @@ use Rattle.argon2_passwd.specs.declared.command.Action.{Action}
 use Rattle.argon2_passwd.specs.declared.command.Action.TheVariants.{Hash, Check, OnFile}
 use Rattle.argon2_passwd.specs.declared.command.Edit.{Edit}
 use Rattle.argon2_passwd.specs.declared.command.Task.{Task}
-use Rattle.argon2_passwd.specs.declared.command.Task.TheVariants.{Verify, Edit as Edits, Show, Import}
+use Rattle.argon2_passwd.specs.declared.command.Task.TheVariants.{Verify, Edit as Edits, Show, Import, ImportOthers}
 use Rattle.argon2_passwd.specs.declared.options.Options.{Options}
 
 -- under what texts are made and verified
@@ -29,6 +29,7 @@ pub data Asked : Type 0 where
   edit : List ℕ → Edit → List ℕ → Asked
   show : List ℕ → View → Asked
   import : List ℕ → Bool → Asked
+  import_others : List ℕ → Bool → Asked
 
 abbrev pub choices_of : Options → Choices
 choices_of options = record {
@@ -44,6 +45,7 @@ asked_on path (Verify name) = verify path name.now
 asked_on path (Edits change name) = edit path change name.now
 asked_on path (Show view) = show path view
 asked_on path (Import any_text) = import path any_text
+asked_on path (ImportOthers any_text) = import_others path any_text
 
 abbrev pub asked : Action → Asked
 asked Hash = hash

@@ -4,7 +4,7 @@ use Rattle.argon2_base.specs.declared.error.password_hash.Error.TheVariants.{Out
 use Rattle.argon2.specs.declared.bound.BoundError.{BoundError}
 use Rattle.argon2.specs.declared.bound.BoundError.TheVariants as bound
 use Rattle.argon2_passwd.specs.declared.failure.Failure.{Failure}
-use Rattle.argon2_passwd.specs.declared.failure.Failure.TheVariants.{NoPassword, LongPassword, Name, Params, Refused, Scheme, Text, NameAt, Taken, Unopened, File, BrokenLine, Output, Unread, Memory}
+use Rattle.argon2_passwd.specs.declared.failure.Failure.TheVariants.{NoPassword, LongPassword, Name, Params, Refused, Scheme, Line, Passed, Unopened, File, BrokenLine, Output, Unread, Memory}
 use Rattle.argon2_store.specs.Errors.{is_refusal}
 use Rattle.argon2_store.specs.declared.error.FileError.{FileError}
 use Rattle.argon2_store.specs.declared.error.FileError.TheVariants as file
@@ -13,8 +13,8 @@ use Rattle.argon2_store.specs.declared.error.LineError.TheVariants as lines
 use Rattle.argon2_store.specs.declared.error.OpenError.{OpenError}
 use Rattle.argon2_store.specs.declared.error.OpenError.TheVariants as no
 
--- 1 if a password, a name or a line is refused, 2 if the parameters are, 4 if no password opens a text, and 3 if a file, a
--- stream or a request for memory fails
+-- 1 if a password, a name or a line is refused, 2 if the parameters are, 4 if no password opens a text or lines were passed
+-- over, and 3 if a file, a stream or a request for memory fails
 abbrev pub status_of : Failure → ℕ
 status_of NoPassword = 1
 status_of LongPassword = 1
@@ -23,9 +23,8 @@ status_of Params = 2
 status_of (Refused (bound.Refused PasswordInvalid)) = 1
 status_of (Refused error) = 4
 status_of (Scheme scheme) = 4
-status_of (Text number) = 1
-status_of (NameAt number) = 1
-status_of (Taken number) = 1
+status_of (Line number why) = 1
+status_of (Passed lines) = 4
 status_of (File error) = if is_refusal error then 1 else 3
 status_of _ = 3
 

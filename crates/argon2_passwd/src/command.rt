@@ -34,12 +34,17 @@ pub enum Task<'a> {
     Show(View),
     /// `import FILE`: names with their texts are added, also texts of other schemes if this is true.
     Import(bool),
+    /// `import --skip FILE`: the same, but lines that may not be added are passed over.
+    ImportOthers(bool),
 }
 
 impl Task<'_> {
     // Whether the file is made if there is none.
     pub(crate) fn makes(&self) -> bool {
-        matches!(self, Task::Edit(Edit::Register, _) | Task::Import(_))
+        matches!(
+            self,
+            Task::Edit(Edit::Register, _) | Task::Import(_) | Task::ImportOthers(_)
+        )
     }
 }
 

@@ -5,7 +5,7 @@ ghost use Rattle.argon2_rows.specs.Names.{entry_of};
 ghost use Rattle.argon2_passwd.specs.Answers.{AreEntries, HasNoText, IsForeign, IsNotTaken, IsPair, IsTaken, RefusesText, has_control, has_scheme, pair_of, parts_of};
 ghost use Rattle.argon2_passwd.specs.Failures.{IsMemory, status_of};
 
-use crate::failure::{Failure, of_reading};
+use crate::failure::{Failure, Flaw, of_reading};
 use crate::passwords::line_len;
 use argon2::password_hash::Settings;
 use argon2_programs::{bare_str, scheme_of};
@@ -45,10 +45,10 @@ pub fn entries<'a>(
     for line in input.split_inclusive(|byte| *byte == b'\n') {
         let number = found.as_slice().len() + 1;
         let Some(entry) = entry(&line[..line_len(line)], any_text) else {
-            return Err(Failure::Text(number));
+            return Err(Failure::Line(number, Flaw::NoText));
         };
         if has_control(entry.0) {
-            return Err(Failure::NameAt(number));
+            return Err(Failure::Line(number, Flaw::Control));
         }
         found.push(entry)?;
     }
@@ -56,7 +56,7 @@ pub fn entries<'a>(
 }
 
 // The name and the text of a line, without what other programs put before a text, if that may be added.
-fn entry(line: &[u8], any_text: bool) -> Option<(&str, StoredText<'_>)>
+pub fn entry(line: &[u8], any_text: bool) -> Option<(&str, StoredText<'_>)>
     ensures { MatchOption result (HasNoText any_text line.now)
         (λ found. IsPair any_text line.now (entry_of found)) }
 {

@@ -13,6 +13,20 @@ use std::io;
 use std::io::ErrorKind;
 use thiserror::Error;
 
+/// Why a line of an import may not be added.
+#[derive(Clone, Copy, Debug, Error)]
+pub enum Flaw {
+    /// It has no text that may be added.
+    #[error("encoding is invalid")]
+    NoText,
+    /// Its name has a control character.
+    #[error("a name has no control character")]
+    Control,
+    /// Its name is taken.
+    #[error("name is taken")]
+    Taken,
+}
+
 /// Why the program fails, with the text that it prints.
 #[derive(Debug, Drop, Error)]
 pub enum Failure {
@@ -35,15 +49,12 @@ pub enum Failure {
     /// A text is of another scheme.
     #[error("{}, not Argon2", .0.name())]
     Scheme(Scheme),
-    /// The line of this number has no text that may be added.
-    #[error("line {0}: encoding is invalid")]
-    Text(usize),
-    /// The name of the line of this number has a control character.
-    #[error("line {0}: a name has no control character")]
-    NameAt(usize),
-    /// The name of the line of this number is taken.
-    #[error("line {0}: name is taken")]
-    Taken(usize),
+    /// The line of this number may not be added.
+    #[error("line {0}: {1}")]
+    Line(usize, Flaw),
+    /// The lines of these numbers were passed over, and all others were added.
+    #[error("lines were passed over")]
+    Passed(Vec<(usize, Flaw)>),
     /// What is at the path of the file with the accounts is no such file.
     #[error("{0}")]
     Unfit(&'static str),
@@ -84,7 +95,7 @@ impl Failure {
     ghost use Rattle.argon2_passwd.specs.Failures.{status_of};
 
     /// The exit status: 1 if a password, a name or a line is refused, 2 if the parameters are, 4 if a text can't be
-    /// verified by any password, and 3 if a file, a stream or a request for memory fails.
+    /// verified by any password or lines were passed over, and 3 if a file, a stream or a request for memory fails.
     pub fn status(&self) -> u8
         ensures value { result ≡ status_of self.now }
         ensures some { (1 ≤ result) × (result ≤ 4) }
@@ -97,9 +108,8 @@ impl Failure {
             Failure::Refused(BoundError::Refused(password_hash::Error::PasswordInvalid)) => 1,
             Failure::Refused(_) => 4,
             Failure::Scheme(_) => 4,
-            Failure::Text(_) => 1,
-            Failure::NameAt(_) => 1,
-            Failure::Taken(_) => 1,
+            Failure::Line(_, _) => 1,
+            Failure::Passed(_) => 4,
             Failure::File(error) if error.is_refusal() => 1,
             _ => 3,
         }

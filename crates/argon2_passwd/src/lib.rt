@@ -4,12 +4,13 @@
 mod command;
 mod entries;
 mod failure;
+mod lines;
 mod options;
 mod outside;
 mod passwords;
 pub mod run;
 
 pub use command::{Action, Command, Edit, Task};
-pub use failure::Failure;
+pub use failure::{Failure, Flaw};
 pub use options::Options;
 pub use outside::{News, Outside};

@@ -16,7 +16,7 @@ ghost use Rattle.argon2_passwd.specs.declared.failure.Failure.TheVariants.{Param
 ghost use Rattle.argon2_passwd.specs.declared.failure.Failure.{Failure as Why};
 
 use crate::command::{Action, Command, Edit, Task};
-use crate::failure::Failure;
+use crate::failure::{Failure, Flaw};
 use crate::options::Options;
 use crate::outside::{News, Outside};
 use crate::passwords::password;
@@ -29,10 +29,11 @@ use argon2_store::FileError;
 use rand_chacha::ChaCha20Rng;
 use rand_core::SeedableRng;
 use std::alloc::{AllocError, Global};
-use std::io::{BufRead, Write};
+use std::io::{self, BufRead, Write};
 
 mod accounts;
 mod edits;
+mod others;
 mod texts;
 
 /// The name of the program.
@@ -43,7 +44,7 @@ pub const PROGRAM: &str = "argon2-passwd";
 /// Status 0: the answer is written to `output`, and to `errors` the news of the file, if there is some. Status 1: the
 /// password, the name or a line is refused. Status 2: the parameters are above the bound. Status 3: a file, a stream,
 /// random bytes or a request for memory failed. Status 4: the text that was to accept the password is outside the
-/// grammar, has no valid parameters, is above the bound or of another scheme.
+/// grammar, has no valid parameters, is above the bound or of another scheme; or an import has passed over lines.
 /// Unless it is 0, the failure's text is written to `errors`, and nothing to `output` if it isn't 3. If `errors`
 /// can't be written, the status stays. Whatever the status, the command is all that was done with a file.
 pub fn run<P: Outside, R: BufRead, W: Write, E: Write>(
@@ -127,6 +128,8 @@ fn fail<E: Write>(errors: &mut E, command: &Command<'_>, failure: &Failure) -> u
 {
     let _ = if matches!(failure, Failure::Unread) {
         Ok(())
+    } else if let Failure::Passed(lines) = failure {
+        write_passed(errors, lines.as_slice())
     } else if is_hidden(command, failure) {
         writeln!(errors, "{PROGRAM}: name or password is invalid")
     } else {
@@ -136,6 +139,14 @@ fn fail<E: Write>(errors: &mut E, command: &Command<'_>, failure: &Failure) -> u
         }
     };
     failure.status()
+}
+
+// Says which lines were passed over, and why.
+fn write_passed<E: Write>(errors: &mut E, lines: &[(usize, Flaw)]) -> io::Result<()> {
+    for (number, why) in lines {
+        writeln!(errors, "{PROGRAM}: line {number}: {why}")?;
+    }
+    Ok(())
 }
 
 // Whether the failure is one of a login, which does not say if the name or the password is why.

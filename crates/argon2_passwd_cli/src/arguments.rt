@@ -39,7 +39,8 @@ most 4096 bytes.
   list FILE           write the names, one a line, in the order of their bytes
   export FILE         write the same lines with a colon and the text behind each name
   import FILE         add all names and texts of standard input, in the form that export writes, or none;
-                      texts are Argon2's, unless --any-text is given, and may be locked
+                      texts are Argon2's, unless --any-text is given, and may be locked; with --skip, pass over
+                      the lines that may not be added
 
 FILE is a SQLite database that survives a crash at any moment. register and import make it if there is none.
 It may also stand before the command's word. A path that is such a word is written with ./ before it.";
@@ -50,8 +51,8 @@ Example: argon2-passwd register accounts.db ann
 The status is 0 if a text is written, the password is accepted or the command on FILE is done. It is 1 if the
 password is wrong, too long or missing, the name is taken, unknown or not allowed, or a line is refused; 2 if
 the arguments are wrong or the parameters are above the bound; 3 if a file, a stream, random bytes or a request
-for memory fails; and 4 if no password opens a text: it is outside the grammar, of another scheme or above the
-bound. If it is not 0, standard error says why.";
+for memory fails; and 4 if no password opens a text, since it is outside the grammar, of another scheme or above
+the bound, or if --skip passed over a line. If it is not 0, standard error says why.";
 
 /// Reads the command with its options, of which the last counts if one is given twice.
 ///
@@ -84,7 +85,13 @@ fn asked<'a>(
         }
     }
     let words = matches.get_strs("COMMAND").unwrap_or(&[]);
-    match action(matches.get_flag("any-text"), words) {
+    let any_text = matches.get_flag("any-text");
+    let import = if matches.get_flag("skip") {
+        Task::ImportOthers(any_text)
+    } else {
+        Task::Import(any_text)
+    };
+    match action(import, words) {
         Some(action) => Ok(Command { options, action }),
         None => Err(unknown(command, alloc, words)?),
     }
@@ -133,13 +140,13 @@ fn unknown(
 }
 
 // What words ask for. The file may come before the command's word.
-fn action<'a>(any_text: bool, words: &[&'a str]) -> Option<Action<'a>> {
+fn action<'a>(import: Task<'a>, words: &[&'a str]) -> Option<Action<'a>> {
     match *words {
         [word] if word == "hash" => Some(Action::Hash),
         [word, text] if word == "check" => Some(Action::Check(text)),
-        [first, second] => match on_file(any_text, first) {
+        [first, second] => match on_file(import, first) {
             Some(task) => Some(Action::OnFile(second, task)),
-            None => Some(Action::OnFile(first, on_file(any_text, second)?)),
+            None => Some(Action::OnFile(first, on_file(import, second)?)),
         },
         [first, second, name] => match on_name(first, name) {
             Some(task) => Some(Action::OnFile(second, task)),
@@ -150,11 +157,11 @@ fn action<'a>(any_text: bool, words: &[&'a str]) -> Option<Action<'a>> {
 }
 
 // What a word asks for of a file.
-fn on_file(any_text: bool, word: &str) -> Option<Task<'static>> {
+fn on_file<'a>(import: Task<'a>, word: &str) -> Option<Task<'a>> {
     match word {
         "list" => Some(Task::Show(View::Names)),
         "export" => Some(Task::Show(View::Texts)),
-        "import" => Some(Task::Import(any_text)),
+        "import" => Some(import),
         _ => None,
     }
 }
@@ -238,6 +245,8 @@ fn with_words<'a>(
 ) -> Result<clap::Command<'a>, AllocError> {
     let command = command.arg(arg!(in alloc; --"any-text"
         "`import` takes texts of bcrypt, scrypt, PBKDF2, yescrypt, SHA-crypt, LDAP and Django too"))?;
+    let command = command.arg(arg!(in alloc; --skip
+        "`import` passes over lines that may not be added, and says which and why"))?;
     let command = command.arg(arg!(in alloc; --explain
         "`verify` and `change` say whether the name or the password is wrong"))?;
     let words = arg!(in alloc; <COMMAND> "A command with its text, or its file and name");

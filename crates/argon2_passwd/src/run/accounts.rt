@@ -12,11 +12,12 @@ ghost use Rattle.argon2_passwd.specs.Salts.{IsSalt};
 ghost use Rattle.rand_core.specs.Stream.{fill_bytes};
 
 use super::edits::edit;
+use super::others::import_others;
 use super::texts::read;
 use super::{generator, write_accepted};
 use crate::command::Task;
 use crate::entries::{entries, read_all};
-use crate::failure::Failure;
+use crate::failure::{Failure, Flaw};
 use crate::outside::Outside;
 use crate::passwords::password;
 use argon2::PasswordHash;
@@ -31,7 +32,7 @@ use std::alloc::Global;
 use std::io::{BufRead, Write};
 
 // What some programs put before the first line.
-const BYTE_ORDER_MARK: &str = "\u{feff}";
+pub(super) const BYTE_ORDER_MARK: &str = "\u{feff}";
 
 /// Where the accounts are, and under what they are served.
 #[derive(Clone, Copy)]
@@ -62,6 +63,7 @@ pub(super) fn serve<P: Outside, R: BufRead, W: Write>(
         Task::Edit(change, name) => edit(alloc, outside, access, change, name, input),
         Task::Show(view) => show(outside, access, view, output),
         Task::Import(any_text) => import(alloc, outside, access, any_text, input),
+        Task::ImportOthers(any_text) => import_others(alloc, outside, access, any_text, input),
     }
 }
 
@@ -238,7 +240,7 @@ fn add_all<S: Store>(
     match accounts.add_all(entries) {
         Ok(()) => Ok(()),
         Err((index, error)) => match error {
-            FileError::NameTaken => Err(Failure::Taken(index.saturating_add(1))),
+            FileError::NameTaken => Err(Failure::Line(index.saturating_add(1), Flaw::Taken)),
             error => Err(error.into()),
         },
     }

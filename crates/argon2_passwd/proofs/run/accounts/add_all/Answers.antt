@@ -6,7 +6,8 @@ use Rattle.argon2_store.specs.declared.error.FileError.{FileError}
 use Rattle.argon2_store.specs.declared.error.FileError.TheVariants.{NameTaken}
 use Rattle.argon2_passwd.specs.Failures.{IsOfFile, status_of}
 use Rattle.argon2_passwd.specs.declared.failure.Failure.{Failure}
-use Rattle.argon2_passwd.specs.declared.failure.Failure.TheVariants.{Taken}
+use Rattle.argon2_passwd.specs.declared.failure.Failure.TheVariants.{Line}
+use Rattle.argon2_passwd.specs.declared.failure.Flaw.TheVariants.{Taken}
 use Rattle.argon2_passwd.proofs.run.accounts.add_all.Goals as goal
 
 -- no other error of an addition is a refusal
@@ -23,7 +24,7 @@ returns-in-NameTaken g c = (
     λ names has honest.
         let first = rw c.in-NameTaken.is at c.in-Err.ensures.index names has honest in
         let next : c.saturating_add.result ≡ c.in-Err.index + 1 = grind (arith, rules, common_steps) in
-        (c.in-Err.index, ap Taken next, first),
+        (c.in-Err.index, ap (λ n. Line n Taken) next, first),
   ),
 )
 

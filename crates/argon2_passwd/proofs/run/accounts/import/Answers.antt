@@ -1,15 +1,12 @@
-use Rattle.std.proofs.Common.{arith, ◌≡◌, ◌⊎◌, ◌∙◌, ℕ, Bool, true, false, List, [], Option, ap, inl, inr, map, subst}
+use Rattle.std.proofs.Common.{◌≡◌, ◌⊎◌, ◌∙◌, ℕ, Bool, List, [], Option, ap, inl, inr, map, subst}
 use Rattle.std.proofs.lemmas.Option.{IfSome_then}
 use Rattle.std.specs.Prelude.{◌≢◌, IfSome}
 use Rattle.argon2_rows.specs.Names.{entry_of}
 use Rattle.argon2_passwd.specs.Answers.{AreEntries, RefusesText, unmarked}
 use Rattle.argon2_passwd.specs.Failures.{IsMemory, status_of}
 use Rattle.argon2_passwd.specs.declared.failure.Failure.{Failure}
-use Rattle.argon2_passwd.proofs.Served.{imported, keeps_same, not_begun, not_opened, opened_for}
+use Rattle.argon2_passwd.proofs.Served.{imported, keeps_same, memory_is, not_begun, not_opened, opened_for}
 use Rattle.argon2_passwd.proofs.run.accounts.import.Goals as goal
-
-memory_is : (f : Failure) → IsMemory f → status_of f ≡ 3
-memory_is f memory = grind arith
 
 -- a refusal for a text is one of a known input
 refused : (any_text : Bool) (read : List ℕ) (f : Failure) (input : Option (List ℕ)) → IfSome input (λ known. read ≡ known)

@@ -15,3 +15,6 @@ returns-in-Show g c = rw c.in-Show.is (c.show.ensures _)
 
 pub returns-in-Import : goal.returns-in-Import
 returns-in-Import g c = rw c.in-Import.is (c.import.ensures _)
+
+pub returns-in-ImportOthers : goal.returns-in-ImportOthers
+returns-in-ImportOthers g c = rw c.in-ImportOthers.is (c.import_others.ensures _)

@@ -1,0 +1,80 @@
+-- Look-ups in a file, one after the other.
+use Rattle.std.proofs.Common.{arith, ◌≡◌, ℕ, List, Option, None, Result, inl, inr, map, refl, subst, sym}
+use Rattle.std.proofs.lemmas.Option.{IfSome_then}
+use Rattle.sqlite_trees.specs.declared.error.StoreError.{StoreError}
+use Rattle.sqlite_trees.specs.declared.error.StoreError.TheVariants as below
+use Rattle.sqlite_trees.specs.declared.store.Store.{Ghosts}
+use Rattle.argon2_rows.proofs.TableLemmas.{quiet_then}
+use Rattle.argon2_rows.specs.Names.{Texts}
+use Rattle.argon2_rows.specs.Table.{IsHonest}
+use Rattle.argon2_store.specs.AccountFile.{HasCause, HasFailedBy, HasNames, IsClosed, Serves, Stays, database_of}
+use Rattle.argon2_store.specs.Edits.{additions}
+use Rattle.argon2_store.specs.declared.account_file.AccountFile.{AccountFile}
+use Rattle.argon2_store.specs.declared.error.FileError.{FileError}
+use Rattle.argon2_store.specs.declared.error.FileError.TheVariants as file
+use Rattle.argon2_passwd.specs.Answers.{AddsEntries, Line, Looks, entries_in, flaws_from, unless_known}
+use Rattle.argon2_passwd.specs.declared.failure.Flaw.{Flaw}
+
+-- the same cause, of other facts
+caused : {closed shut : Type 0} {fault failed : StoreError → Type 0} (e : FileError) → (closed → shut)
+    → ((f : StoreError) → fault f → failed f) → HasCause closed fault ⊥ e → HasCause shut failed ⊥ e
+caused file.Io closes fails why = fails below.Io why
+caused file.Damaged closes fails why = fails below.Corrupt why
+caused file.Full closes fails why = fails below.Full why
+caused file.TooLong closes fails why = why
+caused file.Closed closes fails why = closes why
+caused file.NameTaken closes fails why = tt
+caused file.NameUnknown closes fails why = tt
+caused file.Changed closes fails why = tt
+caused file.Locked closes fails why = tt
+caused file.OutOfMemory closes fails why = tt
+
+module _ {S : Type 0} {g : Ghosts S} where
+  stays_then : {error : Option FileError} {names : Texts} {a b c : AccountFile S g} → Stays None names a b → Stays error names b c
+      → Stays error names a c
+  stays_then {error} {a = a} {b} {c} first then = record {
+    has = then.has;
+    quiet = quiet_then g (database_of a) (database_of b) (database_of c) first.quiet then.quiet;
+    left = λ clean is_open. then.left clean (first.is_open refl (omega (arith, clean, then.quiet.clean)));
+    closed = λ clean shut. let never = (first.closed clean shut).0 in absurd cc;
+    is_open = then.is_open;
+    of_file = then.of_file;
+    cause = λ clean.
+        let mid : IsHonest g (database_of b) = omega (arith, clean, then.quiet.clean) in
+        let yet = first.is_open refl mid in
+        IfSome_then error (then.cause clean) (λ e why. caused {fault = HasFailedBy b c} {failed = HasFailedBy a c} e (λ shut. absurd (let is : IsClosed b = shut in cc))
+        (λ f failed. (omega (arith, failed.0, first.quiet.counts), failed.1)) why);
+  }
+
+  pub looks_then : (error : Option FileError) (a b c : AccountFile S g) → Looks None a b → Looks error b c → Looks error a c
+  looks_then error a b c (inl (none, same)) then = subst (λ x. Looks error x c) same then
+  looks_then error a b c (inr first) (inl (none, same)) =
+      inr (λ names has. subst (λ x. Stays error names a x) (sym same) (subst (λ e. Stays e names a b) (sym none) (first names has)))
+  looks_then error a b c (inr first) (inr then) =
+      inr (λ names has. let read = first names has in stays_then read (then names read.has))
+
+  -- the names after look-ups
+  pub names_stay : (error : Option FileError) (a b : AccountFile S g) → Looks error a b → (names : Texts) → HasNames a names → HasNames b names
+  names_stay error a b (inl (none, same)) names has = subst (λ x. HasNames x names) (sym same) has
+  names_stay error a b (inr looks) names has = (looks names has).has
+
+  -- an honest disk was honest before look-ups
+  pub was_honest : (error : Option FileError) (a b : AccountFile S g) → Looks error a b → (names : Texts) → HasNames a names
+      → IsHonest g (database_of b) → IsHonest g (database_of a)
+  was_honest error a b (inl (none, same)) names has clean = subst (λ x. IsHonest g (database_of x)) same clean
+  was_honest error a b (inr looks) names has clean = let quiet = (looks names has).quiet in omega (arith, clean, quiet.clean)
+
+  -- entries of lines were to be added, after look-ups
+  pub added : {a b c : AccountFile S g} (ls : List Line) (answer : Result (Unit {0}) FileError) (es : List (List ℕ × List ℕ))
+      (passed : List (ℕ × Flaw)) → Looks None a b → Serves (additions es) answer b c
+      → ((names : Texts) → HasNames a names → IsHonest g (database_of b)
+      → let marked = map (unless_known names) ls in (es ≡ entries_in marked) × (passed ≡ flaws_from 1 marked))
+      → AddsEntries answer ls passed a c
+  added {a} {b} ls answer es passed looks serves sorts = (
+    b,
+    es,
+    looks,
+    serves,
+    λ names has clean.
+        let made = (serves names (names_stay None a b looks names has)).1 in sorts names has (made.honest clean),
+  )

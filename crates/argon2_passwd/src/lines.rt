@@ -1,0 +1,80 @@
+//! What each line of an import says.
+
+ghost use Rattle.std.specs.Prelude.{◌≡◌, ◌||◌, [], ℕ, List, IfOk, OnOk, map};
+ghost use Rattle.std.specs.List.{AllZip};
+ghost use Rattle.std.specs.Str.Lines.{lines};
+ghost use Rattle.argon2_passwd.specs.Answers.{IsSaid, first_of_each, has_name, is_named, new_line, said_of};
+
+use crate::entries::{entry, has_control};
+use crate::failure::Flaw;
+use crate::passwords::line_len;
+use argon2_rows::StoredText;
+use std::alloc::{AllocError, Global};
+use std::collections::BTreeSet;
+
+/// What a line says: a name and a text that may be added, or why it has none.
+pub type Line<'a> = Result<(&'a str, StoredText<'a>), Flaw>;
+
+/// What each line says.
+///
+/// # Errors
+/// Memory may be refused.
+pub fn read_lines<'a>(
+    alloc: Global,
+    input: &'a [u8],
+    any_text: bool,
+) -> Result<Vec<Line<'a>>, AllocError>
+    ensures { IfOk result (λ found. AllZip (IsSaid any_text) (lines input.now) (map said_of found.items)) }
+{
+    let mut found = Vec::new(alloc);
+    for line in input.split_inclusive(|byte| *byte == b'\n') {
+        found.push(read_line(&line[..line_len(line)], any_text))?;
+    }
+    Ok(found)
+}
+
+// What a line says.
+fn read_line(line: &[u8], any_text: bool) -> Line<'_>
+    ensures { IsSaid any_text line.now (said_of result) }
+{
+    match entry(line, any_text) {
+        None => Err(Flaw::NoText),
+        Some((name, _)) if has_control(name) => Err(Flaw::Control),
+        Some(entry) => Ok(entry),
+    }
+}
+
+/// The lines, of which only the first with a name has it.
+///
+/// # Errors
+/// Memory may be refused.
+pub fn first_of_each<'a>(alloc: Global, lines: &[Line<'a>]) -> Result<Vec<Line<'a>>, AllocError>
+    ensures { IfOk result (λ found.
+        map said_of found.items ≡ first_of_each [] (map said_of lines.now)) }
+{
+    let mut names = BTreeSet::new(alloc);
+    let mut found = Vec::new(alloc);
+    for line in lines {
+        found.push(unless_repeated(&mut names, *line)?)?;
+    }
+    Ok(found)
+}
+
+// The line if its name is none of these, which it joins.
+fn unless_repeated<'a>(
+    names: &mut BTreeSet<&'a str>,
+    line: Line<'a>,
+) -> Result<Line<'a>, AllocError>
+    ensures said { IfOk result (λ new. said_of new ≡ new_line (has_name names.old) (said_of line.entry)) }
+    ensures names { OnOk result ((name : List ℕ)
+        → has_name names.new name ≡ (is_named (said_of line.entry) name || has_name names.old name)) }
+{
+    let Ok((name, text)) = line else {
+        return Ok(line);
+    };
+    if names.insert(name)? {
+        Ok(Ok((name, text)))
+    } else {
+        Ok(Err(Flaw::Taken))
+    }
+}

@@ -1,0 +1,147 @@
+//! An import that passes over lines.
+
+ghost use Rattle.std.specs.Prelude.{◌≡◌, ◌∷◌, ◌++◌, [], ℕ, List, None, Ok, Option, Some, Result, false, IfErr, IfOk, MatchResult, OnOk, map};
+ghost use Rattle.argon2_policy.specs.Policy.{policy_value};
+ghost use Rattle.argon2_rows.specs.Names.{Texts, entry_of};
+ghost use Rattle.argon2_rows.specs.Table.{IsHonest};
+ghost use Rattle.argon2_store.specs.AccountFile.{HasNames, Serves, database_of};
+ghost use Rattle.argon2_store.specs.Edits.{additions};
+ghost use Rattle.argon2_store.specs.Errors.{is_refusal};
+ghost use Rattle.argon2_passwd.specs.Answers.{AddsOthers, IsServed, Looks, entries_in, flaws_from, said_of, unless_known};
+ghost use Rattle.argon2_passwd.specs.Asked.{Asked};
+ghost use Rattle.argon2_passwd.specs.Failures.{status_of};
+
+use super::accounts::{Access, BYTE_ORDER_MARK, open};
+use crate::entries::read_all;
+use crate::failure::{Failure, Flaw};
+use crate::lines::{Line, first_of_each, read_lines};
+use crate::outside::Outside;
+use argon2_programs::after_any;
+use argon2_rows::StoredText;
+use argon2_store::{AccountFile, FileError};
+use sqlite_trees::store::Store;
+use std::alloc::{AllocError, Global};
+use std::io::BufRead;
+
+/// Adds names and texts of the input, each a line, to a file, together, and fails with the lines that it passes over.
+pub(super) fn import_others<P: Outside, R: BufRead>(
+    alloc: Global,
+    outside: &mut P,
+    access: &Access<'_>,
+    any_text: bool,
+    input: &mut R,
+) -> Result<(), Failure>
+    requires { P.closed outside.old [] }
+    ensures { (output : Option (List ℕ)) → IsServed P.File.Store P.keeps P.gives
+        (policy_value access.now.policy.now) (Asked.import_others access.now.path.now any_text)
+        result (R.remaining input.old) output output (P.closed outside.new) }
+{
+    let bytes = read_all(alloc, input)?;
+    let text = after_any(bytes.as_slice(), &[BYTE_ORDER_MARK]);
+    let said = read_lines(alloc, text, any_text)?;
+    let lines = first_of_each(alloc, said.as_slice())?;
+    let mut accounts = open(outside, access)?;
+    let added = add_others(alloc, &mut accounts, lines.as_slice());
+    outside.close(accounts.into_store());
+    added
+}
+
+// Adds the entries of lines whose names the file does not have.
+fn add_others<S: Store>(
+    alloc: Global,
+    accounts: &mut AccountFile<S>,
+    lines: &[Line<'_>],
+) -> Result<(), Failure>
+    ensures { AddsOthers result (map said_of lines.now) accounts.old accounts.new }
+{
+    let (entries, passed) = sorted(alloc, accounts, lines)?;
+    add_new(accounts, entries.as_slice())?;
+    if passed.is_empty() {
+        Ok(())
+    } else {
+        Err(Failure::Passed(passed))
+    }
+}
+
+// The entries of lines whose names a file does not have, and the numbers of the other lines.
+fn sorted<'a, S: Store>(
+    alloc: Global,
+    accounts: &mut AccountFile<S>,
+    lines: &[Line<'a>],
+) -> Result<(Vec<(&'a str, StoredText<'a>)>, Vec<(usize, Flaw)>), Failure>
+    ensures looks { OnOk result (Looks None accounts.old accounts.new) }
+    ensures fails { IfErr result (λ failure. (status_of failure ≡ 3)
+        × (error : Option FileError) × Looks error accounts.old accounts.new) }
+    ensures sorts { (names : Texts) → HasNames accounts.old names → IfOk result (λ found.
+        IsHonest S.Store (database_of accounts.new)
+        → let marked = map (unless_known names) (map said_of lines.now) in
+        (map entry_of found.0.items ≡ entries_in marked) × (found.1.items ≡ flaws_from 1 marked)) }
+{
+    let mut entries = Vec::new(alloc);
+    let mut passed = Vec::new(alloc);
+    for (k, line) in lines.iter().enumerate() {
+        let line = unless_known(accounts, *line)?;
+        sort(line, k + 1, &mut entries, &mut passed)?;
+    }
+    Ok((entries, passed))
+}
+
+// Puts a line to the entries, or its number to the other lines.
+fn sort<'a>(
+    line: Line<'a>,
+    number: usize,
+    entries: &mut Vec<(&'a str, StoredText<'a>)>,
+    passed: &mut Vec<(usize, Flaw)>,
+) -> Result<(), AllocError>
+    ensures { OnOk result
+        ((map entry_of entries.new.items
+        ≡ map entry_of entries.old.items ++ entries_in (said_of line.entry ∷ []))
+        × (passed.new.items ≡ passed.old.items ++ flaws_from number (said_of line.entry ∷ []))) }
+{
+    match line {
+        Ok(entry) => entries.push(entry)?,
+        Err(why) => passed.push((number, why))?,
+    }
+    Ok(())
+}
+
+// A line, unless a file has its name.
+fn unless_known<'a, S: Store>(
+    accounts: &mut AccountFile<S>,
+    line: Line<'a>,
+) -> Result<Line<'a>, FileError>
+    ensures looks { MatchResult result (λ new. Looks None accounts.old accounts.new)
+        (λ e. Looks (Some e) accounts.old accounts.new) }
+    ensures new { (names : Texts) → HasNames accounts.old names → IfOk result (λ new.
+        IsHonest S.Store (database_of accounts.new)
+        → said_of new ≡ unless_known names (said_of line.entry)) }
+    ensures error { IfErr result (λ e. is_refusal e ≡ false) }
+{
+    let Ok((name, _)) = line else {
+        return Ok(line);
+    };
+    if accounts.text_of(name)?.is_some() {
+        Ok(Err(Flaw::Taken))
+    } else {
+        Ok(line)
+    }
+}
+
+// Adds entries whose names were looked up. If a name is taken all the same, the disk has given a wrong answer.
+fn add_new<S: Store>(
+    accounts: &mut AccountFile<S>,
+    entries: &[(&str, StoredText<'_>)],
+) -> Result<(), Failure>
+    ensures ok { OnOk result
+        (Serves (additions (map entry_of entries.now)) (Ok tt) accounts.old accounts.new) }
+    ensures err { IfErr result (λ failure. (status_of failure ≡ 3) × (answer : Result _ FileError)
+        × Serves (additions (map entry_of entries.now)) answer accounts.old accounts.new) }
+{
+    let Err((_, error)) = accounts.add_all(entries) else {
+        return Ok(());
+    };
+    if error.is_refusal() {
+        return Err(FileError::Damaged.into());
+    }
+    Err(error.into())
+}
