@@ -10,12 +10,19 @@ use argon2_store::View;
 use clap::error::ErrorKind;
 use clap::{ArgAction, ArgMatches, Error, arg};
 use std::alloc::{AllocError, Global};
+use strsim::osa_distance;
 
 const USAGE: &str = "\
 argon2-passwd [OPTIONS] hash
        argon2-passwd [OPTIONS] check TEXT
        argon2-passwd [OPTIONS] register|verify|change|set|remove|lock|unlock FILE NAME
        argon2-passwd [OPTIONS] list|export|import FILE";
+
+// The words of the usage.
+const COMMANDS: [&str; 12] = [
+    "hash", "check", "register", "verify", "change", "set", "remove", "lock", "unlock", "list",
+    "export", "import",
+];
 
 const ABOUT: &str = "\
 Makes a PHC text of a password by Argon2id, checks a password by such a text, and keeps names with such
@@ -136,7 +143,31 @@ fn unknown(
         message.push(' ')?;
         message.push_str(word)?;
     }
+    if let Some(similar) = similar(alloc, words)? {
+        message.push_str("\n\n  tip: a similar command exists: '")?;
+        message.push_str(similar)?;
+        message.push('\'')?;
+    }
     command.error(ErrorKind::InvalidValue, message.as_str())
+}
+
+// A command that one of the first two words may stand for, by at most one edit for three bytes, unless one is a command.
+fn similar(alloc: Global, words: &[&str]) -> Result<Option<&'static str>, AllocError> {
+    let mut found = None;
+    for word in words.iter().take(2) {
+        for name in COMMANDS {
+            if *word == name {
+                return Ok(None);
+            }
+            if found.is_none()
+                && word.len() < 16
+                && osa_distance(alloc, word, name)? <= name.len() / 3
+            {
+                found = Some(name);
+            }
+        }
+    }
+    Ok(found)
 }
 
 // What words ask for. The file may come before the command's word.
