@@ -7,8 +7,7 @@ use Rattle.argon2.specs.declared.version.Version.TheVariants.{V0x13}
 use Rattle.argon2.specs.declared.context.Secret.{Secret}
 use Rattle.argon2.specs.declared.context.Argon2.{Argon2}
 use Rattle.argon2.specs.declared.params.Params.{Params}
-use Rattle.argon2.specs.declared.params.associated_data.AssociatedData.{AssociatedData}
-use Rattle.argon2.specs.declared.params.key_id.KeyId.{KeyId}
+use Rattle.argon2.specs.declared.params.short_bytes.ShortBytes.{ShortBytes}
 use Rattle.argon2.specs.Refusals.{max_len}
 use Rattle.argon2.specs.Rfc9106.{Context}
 use Rattle.argon2.specs.Settings.{AreValid, Parameters, Settings, algorithm_number, first_fault, version_number}
@@ -18,13 +17,17 @@ use Rattle.argon2_base.specs.declared.error.Error.TheVariants.{SecretTooLong}
 
 -- ---- parameters
 
+-- the bytes of a key identifier or of associated data
+abbrev pub own_bytes : {most : ℕ} → ShortBytes most → List ℕ
+own_bytes short = list_bytes short.bytes
+
 -- the bytes of a key identifier
-abbrev pub keyid_bytes : KeyId → List ℕ
-keyid_bytes keyid = list_bytes keyid.bytes
+abbrev pub keyid_bytes : ShortBytes 8 → List ℕ
+keyid_bytes = own_bytes
 
 -- the bytes of associated data
-abbrev pub data_bytes : AssociatedData → List ℕ
-data_bytes associated = list_bytes associated.bytes
+abbrev pub data_bytes : ShortBytes 32 → List ℕ
+data_bytes = own_bytes
 
 -- costs, bytes and output length, in place of the fields
 abbrev pub parameters_of : Params → Parameters

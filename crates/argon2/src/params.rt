@@ -5,14 +5,12 @@ ghost use Rattle.argon2.specs.Settings.{first_fault};
 
 use argon2_base::error::{Error, Result};
 
-mod associated_data;
 mod builder;
-mod key_id;
+mod short_bytes;
 mod text;
 
-pub use associated_data::AssociatedData;
 pub use builder::ParamsBuilder;
-pub use key_id::KeyId;
+pub use short_bytes::{AssociatedData, KeyId};
 
 // The slices of a pass (RFC 9106, section 3.4).
 pub(crate) const SLICES: u32 = 4;

@@ -20,7 +20,7 @@ pub struct ByteList<const N: usize> {
 }
 
 impl<const N: usize> ByteList<N> {
-    ghost use Rattle.std.specs.Prelude.{◌≡◌, ◌≤◌, ◌<◌, ◌+◌, ◌*◌, ◌^◌, length, MatchOption};
+    ghost use Rattle.std.specs.Prelude.{◌≡◌, ◌≤◌, ◌<◌, length, MatchOption};
     ghost use Rattle.argon2_base.specs.ByteList.{IsListOfText, list_bytes};
 
     /// The list of these bytes, if they fit.
@@ -42,10 +42,9 @@ impl<const N: usize> ByteList<N> {
     /// The list whose strict Base64 the text is. `InvalidLength` if the text is longer than that
     /// of `N` bytes, else `InvalidEncoding` if it is the strict Base64 of no bytes.
     pub fn from_b64(text: &str) -> Result<Self, B64Error>
-        requires { 4 * N + 2 < 2 ^ 64 }
         ensures { IsListOfText text.now result }
     {
-        if text.len() > (4 * N + 2) / 3 {
+        if 3 * text.len() as u128 > 4 * N as u128 + 2 {
             return Err(B64Error::InvalidLength);
         }
         let mut bytes = [0; N];

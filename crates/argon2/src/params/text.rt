@@ -1,13 +1,14 @@
 //! Parameters as texts: printed as a parameter list, and read from one.
 
-ghost use Rattle.std.specs.Prelude.{◌≡◌, ◌≤◌, ◌++◌, IsTrue, Some, codes, length, ok_or};
+ghost use Rattle.std.specs.Prelude.{◌≡◌, ◌≤◌, ◌++◌, IsTrue, Some, length, ok_or};
 ghost use Rattle.std.specs.Option.{option_map};
 ghost use Rattle.argon2_base.specs.Texts.{number_of};
 ghost use Rattle.argon2_base.specs.PhcText.{are_params};
 ghost use Rattle.argon2_base.specs.Error.{bad_param, outcome_of};
-ghost use Rattle.argon2.specs.Argon2.{keyid_bytes, data_bytes};
+ghost use Rattle.argon2.specs.Argon2.{own_bytes};
 ghost use Rattle.argon2.specs.ListedParameters.{AreReadAgain, bytes_item, listed, short_bytes};
 
+use super::short_bytes::ShortBytes;
 use super::{AssociatedData, KeyId, Params, ParamsBuilder};
 use argon2_base::error::password_hash::{Error, Result};
 use argon2_base::phc::{ParamsString, PasswordHash, Value};
@@ -110,27 +111,19 @@ fn take_number(found: &mut Option<u32>, name: &'static str, value: &Value<'_>) -
     Ok(())
 }
 
-// Takes the key identifier that the text is the Base64 of.
-fn take_key_id(found: &mut Option<KeyId>, text: &str) -> Result<()>
-    ensures { outcome_of (λ _. option_map keyid_bytes found.new) result
-        ≡ ok_or (option_map Some (short_bytes 8 text.now)) (bad_param (codes "keyid")) }
+// Takes the bytes that the text of this name is the Base64 of.
+fn take_bytes<const MOST: usize>(
+    found: &mut Option<ShortBytes<MOST>>,
+    name: &'static str,
+    text: &str,
+) -> Result<()>
+    ensures { outcome_of (λ _. option_map own_bytes found.new) result
+        ≡ ok_or (option_map Some (short_bytes MOST text.now)) (bad_param name.now) }
 {
-    let Ok(keyid) = KeyId::from_b64(text) else {
-        return Err(Error::ParamInvalid { name: "keyid" });
+    let Ok(bytes) = ShortBytes::from_b64(text) else {
+        return Err(Error::ParamInvalid { name });
     };
-    *found = Some(keyid);
-    Ok(())
-}
-
-// Takes the associated data that the text is the Base64 of.
-fn take_data(found: &mut Option<AssociatedData>, text: &str) -> Result<()>
-    ensures { outcome_of (λ _. option_map data_bytes found.new) result
-        ≡ ok_or (option_map Some (short_bytes 32 text.now)) (bad_param (codes "data")) }
-{
-    let Ok(associated) = AssociatedData::from_b64(text) else {
-        return Err(Error::ParamInvalid { name: "data" });
-    };
-    *found = Some(associated);
+    *found = Some(bytes);
     Ok(())
 }
 
@@ -175,8 +168,8 @@ impl Found {
             "m" => take_number(&mut self.m, "m", value),
             "t" => take_number(&mut self.t, "t", value),
             "p" => take_number(&mut self.p, "p", value),
-            "keyid" => take_key_id(&mut self.keyid, value.as_str()),
-            "data" => take_data(&mut self.associated, value.as_str()),
+            "keyid" => take_bytes(&mut self.keyid, "keyid", value.as_str()),
+            "data" => take_bytes(&mut self.associated, "data", value.as_str()),
             _ => Err(Error::ParamsInvalid),
         }
     }

@@ -1,6 +1,6 @@
 //! The fields of a PHC text, read one by one.
 
-ghost use Rattle.std.specs.Prelude.{◌≡◌, ◌<◌, ◌+◌, ◌*◌, ◌^◌, ◌++◌, ◌∷◌, ℕ, List, Option, IfOk, IfErr, IfSome, IsSome, IsOkAnd, IsTrue};
+ghost use Rattle.std.specs.Prelude.{◌≡◌, ◌<◌, ◌^◌, ◌++◌, ◌∷◌, ℕ, List, Option, IfOk, IfErr, IfSome, IsSome, IsOkAnd, IsTrue};
 ghost use Rattle.argon2_base.specs.Texts.{strict_base64};
 ghost use Rattle.argon2_base.specs.PhcText.{HasBytes, Pair, are_params, field, list_field, version_text};
 ghost use Rattle.argon2_base.specs.PhcFields.{fields_of, fields_left, IsBytesField, NoVersionFirst, NoItemFirst};
@@ -74,7 +74,6 @@ pub(super) fn params_field(left: Option<&str>) -> Result<(ParamsString, Option<&
 fn bytes_field<const LOW: usize, const HIGH: usize>(
     left: Option<&str>,
 ) -> Result<(Option<TextBytes<LOW, HIGH>>, Option<&str>)>
-    requires { 4 * HIGH + 2 < 2 ^ 64 }
     ensures { IsBytesField LOW HIGH (fields_left left.entry) result }
 {
     let Some(text) = left else {
