@@ -6,12 +6,12 @@ ghost use Rattle.std.specs.Prelude.{◌≡◌, ◌↔◌, Some, Err, IsTrue, IfO
 ghost use Rattle.argon2_base.specs.PhcFields.{phc_of};
 ghost use Rattle.argon2_base.specs.PhcText.{Phc, PhcText};
 ghost use Rattle.argon2.specs.Argon2.{parameters_of, secret_of};
-ghost use Rattle.argon2.specs.Bound.{AcceptsWithin, AsksBlocksWithin, BoundRefusal, HashRefusal, IsBoundAnswer, IsWithin, VerifyRefusal, bound_error_text};
+ghost use Rattle.argon2.specs.Bound.{AcceptsWithin, AsksBlocksWithin, AsksWithin, BoundRefusal, HashRefusal, IsBoundAnswer, IsWithin, VerifyRefusal, bound_error_text};
 ghost use Rattle.argon2.specs.declared.bound.BoundError.TheVariants.{Refused, TooExpensive};
 
 use crate::context::Argon2;
 use crate::params::Params;
-use crate::password_hash::{Error, PasswordVerifier};
+use crate::password_hash::Error;
 use argon2_base::phc::PasswordHash;
 use std::alloc::Global;
 use std::fmt;
@@ -67,20 +67,19 @@ impl Bound {
         ensures within { IfOk result (AsksBlocksWithin self.now (phc_of hash.now)) }
         ensures refused { IfErr result (HashRefusal self.now (phc_of hash.now)) }
     {
-        let params = Params::try_from(hash)?;
-        if !self.allows(&params) {
-            return Err(BoundError::TooExpensive);
-        }
+        let params = self.admitted_params(hash)?;
         Ok(params.block_count())
     }
 
     /// Ok if the text asks for no more than this bound, and accepts the password under the
-    /// secret of `argon2`. Memory is requested as by [`PasswordVerifier::verify_password`].
+    /// secret of `argon2`. Memory is requested as by
+    /// [`verify_password`](crate::password_hash::PasswordVerifier::verify_password).
     ///
     /// # Errors
     /// The first of these that holds:
     /// - those of [`Bound::admit`], whatever memory there is.
-    /// - [`BoundError::Refused`] with the error of [`PasswordVerifier::verify_password`].
+    /// - [`BoundError::Refused`] with the error of
+    ///   [`verify_password`](crate::password_hash::PasswordVerifier::verify_password).
     pub fn verify(
         &self,
         alloc: Global,
@@ -96,8 +95,9 @@ impl Bound {
         ensures expensive { (v : Phc) → PhcText text.now v → HashRefusal self.now v TooExpensive
             → result ≡ Err TooExpensive }
     {
-        let admitted = self.admit(text)?;
-        argon2.verify_password(alloc, password, &admitted.hash)?;
+        let hash = PasswordHash::new(text)?;
+        let params = self.admitted_params(&hash)?;
+        argon2.verify_with_params(alloc, password, &hash, params)?;
         Ok(())
     }
 
@@ -108,6 +108,19 @@ impl Bound {
         params.m_cost() <= self.m_cost
             && params.t_cost() <= self.t_cost
             && params.p_cost() <= self.p_cost
+    }
+
+    // The parameters of a stored hash that asks for no more than this bound.
+    fn admitted_params(&self, hash: &PasswordHash) -> Result<Params, BoundError>
+        ensures asked { IfOk result (λ params. (asks : AsksWithin self.now (phc_of hash.now))
+            × (asks.parameters ≡ parameters_of params)) }
+        ensures refused { IfErr result (HashRefusal self.now (phc_of hash.now)) }
+    {
+        let params = Params::try_from(hash)?;
+        if !self.allows(&params) {
+            return Err(BoundError::TooExpensive);
+        }
+        Ok(params)
     }
 }
 

@@ -1,7 +1,10 @@
 //! What a stored hash shows: how it was made, its salt and the hash itself.
 
-ghost use Rattle.std.specs.Prelude.{◌≡◌, ◌≤◌, Some, length};
+ghost use Rattle.std.specs.Prelude.{◌≡◌, ◌≤◌, Some, Ok, length};
+ghost use Rattle.argon2_base.specs.Error.{outcome_of};
+ghost use Rattle.argon2_base.specs.PhcFields.{phc_of};
 ghost use Rattle.argon2.specs.Argon2.{parameters_of};
+ghost use Rattle.argon2.specs.ListedParameters.{asked_of};
 
 use super::{Error, Result};
 use crate::algorithm::Algorithm;
@@ -20,25 +23,14 @@ pub struct Settings {
     pub params: Params,
 }
 
-/// Reads the settings of a PHC text, which may have no salt and no hash. Allocates nothing.
-///
-/// # Errors
-/// The first of these that holds:
-/// - [`Error::ParamInvalid`] and [`Error::ParamsInvalid`], as of reading the parameters.
-/// - [`Error::Algorithm`]: no algorithm has the identifier.
-/// - [`Error::Version`]: no version has the number.
-impl TryFrom<&PasswordHash> for Settings {
-    ghost use Rattle.argon2_base.specs.Error.{outcome_of};
-    ghost use Rattle.argon2_base.specs.PhcFields.{phc_of};
+impl Settings {
     ghost use Rattle.argon2.specs.StoredTexts.{settings_value, shown_settings};
 
-    type Error = Error;
-
-    ghost try_from_gives = { λ hash r.
-        outcome_of settings_value r ≡ shown_settings (phc_of hash.now) };
-
-    fn try_from(hash: &PasswordHash) -> Result<Settings> {
-        let params = Params::try_from(hash)?;
+    // The settings of a PHC text, given its parameters.
+    pub(crate) fn with_params(hash: &PasswordHash, params: Params) -> Result<Settings>
+        requires { asked_of (phc_of hash.now) ≡ Ok (parameters_of params) }
+        ensures { outcome_of settings_value result ≡ shown_settings (phc_of hash.now) }
+    {
         let algorithm = Algorithm::try_from(hash.algorithm.as_str())?;
         let version = match hash.version {
             Some(number) => Version::try_from(number)?,
@@ -49,6 +41,27 @@ impl TryFrom<&PasswordHash> for Settings {
             version,
             params,
         })
+    }
+}
+
+/// Reads the settings of a PHC text, which may have no salt and no hash. Allocates nothing.
+///
+/// # Errors
+/// The first of these that holds:
+/// - [`Error::ParamInvalid`] and [`Error::ParamsInvalid`], as of reading the parameters.
+/// - [`Error::Algorithm`]: no algorithm has the identifier.
+/// - [`Error::Version`]: no version has the number.
+impl TryFrom<&PasswordHash> for Settings {
+    ghost use Rattle.argon2.specs.StoredTexts.{settings_value, shown_settings};
+
+    type Error = Error;
+
+    ghost try_from_gives = { λ hash r.
+        outcome_of settings_value r ≡ shown_settings (phc_of hash.now) };
+
+    fn try_from(hash: &PasswordHash) -> Result<Settings> {
+        let params = Params::try_from(hash)?;
+        Settings::with_params(hash, params)
     }
 }
 
@@ -65,14 +78,34 @@ pub struct Stored<'hash> {
     ghost fits: { length hash.now ≤ 64 },
 }
 
+impl<'hash> Stored<'hash> {
+    ghost use Rattle.argon2.specs.StoredTexts.{settings_value, shown_settings, stored_of, stored_value};
+
+    // What a PHC text is verified by, given the settings that it shows.
+    pub(crate) fn with_settings(
+        hash: &'hash PasswordHash,
+        settings: Result<Settings>,
+    ) -> Result<Stored<'hash>>
+        requires { outcome_of settings_value settings ≡ shown_settings (phc_of hash.now) }
+        ensures { outcome_of stored_value result ≡ stored_of (phc_of hash.now) }
+    {
+        let (Some(salt), Some(expected)) = (&hash.salt, &hash.hash) else {
+            return Err(Error::PasswordInvalid);
+        };
+        Ok(Stored {
+            settings: settings?,
+            salt,
+            hash: expected,
+        })
+    }
+}
+
 /// Reads what a PHC text is verified by. Allocates nothing.
 ///
 /// # Errors
 /// [`Error::PasswordInvalid`] if there is no salt or no hash, else those of reading its
 /// [`Settings`].
 impl<'hash> TryFrom<&'hash PasswordHash> for Stored<'hash> {
-    ghost use Rattle.argon2_base.specs.Error.{outcome_of};
-    ghost use Rattle.argon2_base.specs.PhcFields.{phc_of};
     ghost use Rattle.argon2.specs.StoredTexts.{stored_of, stored_value};
 
     type Error = Error;
@@ -80,13 +113,6 @@ impl<'hash> TryFrom<&'hash PasswordHash> for Stored<'hash> {
     ghost try_from_gives = { λ hash r. outcome_of stored_value r ≡ stored_of (phc_of hash.now) };
 
     fn try_from(hash: &'hash PasswordHash) -> Result<Stored<'hash>> {
-        let (Some(salt), Some(expected)) = (&hash.salt, &hash.hash) else {
-            return Err(Error::PasswordInvalid);
-        };
-        Ok(Stored {
-            settings: Settings::try_from(hash)?,
-            salt,
-            hash: expected,
-        })
+        Stored::with_settings(hash, Settings::try_from(hash))
     }
 }

@@ -1,6 +1,6 @@
 use Rattle.std.proofs.Common.{rules}
 use Rattle.argon2.proofs.params_lemmas.Named.{algorithm_named-no, version_numbered-no}
-use Rattle.argon2.proofs.password_hash.stored.SettingsTryFromRefPasswordHash.try_from.Goals as goal
+use Rattle.argon2.proofs.password_hash.stored.Settings.with_params.Goals as goal
 
 pub returns-in_err-algorithm : goal.returns-in_err-algorithm
 returns-in_err-algorithm c =
