@@ -1,16 +1,17 @@
 -- Lent memory after its first blocks were written.
 use Rattle.std.proofs.Common.{◌≡◌, ℕ, ◌+◌, ◌*◌, ◌++◌, ◌≤◌, List, [], length, map, take, drop, sym, ap, subst, ◌∙◌, arith}
-use Rattle.std.proofs.lemmas.List.{drop-map, get_or_append_left, get_or-take, map-append}
+use Rattle.std.proofs.lemmas.List.{drop-map, get_or_append_left, get_or-take, length-take-le, map-append}
 use Rattle.std.proofs.lemmas.List.FromFn.{length-map-range_with_len}
 use Rattle.std.proofs.lemmas.Nat.{mul-add-lt}
 use Rattle.std.proofs.lemmas.Slice.{drop-append-drop}
 use Rattle.std.proofs.Math.Seq.{take-append_seam}
 use Rattle.argon2.specs.declared.context.Argon2.{Argon2}
 use Rattle.argon2.specs.Argon2.{context_of}
-use Rattle.argon2.specs.Rfc9106.{Context, IsValid, block_count, first_block, lane_length}
+use Rattle.argon2.specs.Rfc9106.{Context, FirstColumns, IsValid, block_count, first_block, lane_length}
 use Rattle.argon2.specs.Layout.{Memory, matrix, matrix_of}
 use Rattle.argon2.specs.Hashing.{blocks_of, KeepsOtherColumns, KeepsRest, IsBegun}
 use Rattle.argon2.specs.Laws.{Begins}
+use Rattle.argon2.specs.Segments.{BeginsLanes}
 
 -- the matrix has as many blocks as are filled
 length-matrix_of : (ctx : Context) (password salt : List ℕ) (n : ℕ)
@@ -50,14 +51,25 @@ pub words_behind : {B : Type 0} (words : B → List ℕ) (front old : List B) (c
 words_behind words front old count =
     map-append words front (drop count old) ∙ ap (λ (rest : Memory). map words front ++ rest) (sym (drop-map words count old))
 
+-- lanes with all their columns are a memory that begins
+pub lanes_begin : (ctx : Context) (width : ℕ) → width ≡ lane_length ctx → (first : FirstColumns) (old new : Memory)
+    → length old ≡ block_count ctx → BeginsLanes ctx width first old new → Begins ctx first new
+lanes_begin ctx width wide first old new size begun = record {
+  size = begun.size ∙ size;
+  columns = rw wide at begun.columns;
+}
+
 -- a fill that begins in the first blocks begins in the memory
-pub is_begun : (argon2 : Argon2) (count : ℕ) → count ≡ block_count (context_of argon2) → (old blocks : Memory)
+pub is_begun : (argon2 : Argon2) (count width : ℕ) → count ≡ block_count (context_of argon2)
+    → width ≡ lane_length (context_of argon2) → (old blocks : Memory) → count ≤ length old
     → IsValid (context_of argon2) → length (context_of argon2).associated ≤ 32 → (password salt : List ℕ) (n : ℕ)
-    → Begins (context_of argon2) (first_block (context_of argon2) password salt n) blocks
-    → KeepsOtherColumns (context_of argon2) (take count old) blocks
+    → BeginsLanes (context_of argon2) width (first_block (context_of argon2) password salt n) (take count old) blocks
     → IsBegun argon2 password salt n old (blocks ++ drop count old)
-is_begun argon2 count all old blocks valid short password salt n begins same =
+is_begun argon2 count width all wide old blocks room valid short password salt n begun =
     let ctx = context_of argon2 in
+    let first = first_block ctx password salt n in
+    let begins = lanes_begin ctx width wide first (take count old) blocks (length-take-le count old room ∙ all) begun in
+    let same : KeepsOtherColumns ctx (take count old) blocks = rw wide at begun.others in
     record {
       valid = valid;
       associated = short;

@@ -192,7 +192,7 @@ impl<'key> Argon2<'key> {
         ensures same { OnErr result ((out.new ≡ out.old) × (memory.new ≡ memory.old)) }
     {
         self.check(out.len(), pwd, salt, memory.len())?;
-        let instance = self.instance_under(associated);
+        let instance = Instance::new(self, associated);
         instance.hash(pwd, salt, out, memory, &mut [], &mut Work::new());
         Ok(())
     }
@@ -260,7 +260,7 @@ impl<'key> Argon2<'key> {
         self.check(out.len(), pwd, salt, self.params.block_count())?;
         let mut memory = self.zeroed_blocks(alloc)?;
         let blocks = memory.as_mut_slice();
-        let instance = self.instance_under(associated);
+        let instance = Instance::new(self, associated);
         instance.hash(pwd, salt, out, blocks, &mut [], &mut Work::new());
         Ok(())
     }
@@ -344,7 +344,7 @@ impl<'key> Argon2<'key> {
         ensures same { OnErr result (memory.new ≡ memory.old) }
     {
         self.check_filling(pwd, salt, memory.len())?;
-        let instance = self.instance_under(associated);
+        let instance = Instance::new(self, associated);
         let work = &mut Work::new();
         instance.fill_blocks(pwd, salt, 0, memory, &mut [], work);
         Ok(())
@@ -416,22 +416,7 @@ impl<'key> Argon2<'key> {
         ensures valid { IsValid (context_of self.now) }
         ensures associated { length (context_of self.now).associated ≤ 32 }
     {
-        self.instance_under(self.params.data())
-    }
-
-    // What the hash's blocks are filled by under other associated data.
-    fn instance_under<'a>(&'a self, associated: &'a [u8]) -> Instance<'a>
-        requires { length associated.now ≤ MAX_AD_LEN }
-        ensures value { result ≡ context_under self.now associated.now }
-        ensures valid { IsValid (context_of self.now) }
-    {
-        Instance::new(
-            self.algorithm,
-            self.version,
-            &self.params,
-            self.secret(),
-            associated,
-        )
+        Instance::new(self, self.params.data())
     }
 }
 

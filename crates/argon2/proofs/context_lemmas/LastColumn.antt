@@ -1,13 +1,15 @@
 -- The last column of a memory that is the matrix, and the tag.
-use Rattle.std.proofs.Common.{refl, ◌≡◌, ℕ, ◌+◌, ◌-◌, ◌*◌, ◌/◌, ◌%◌, ◌<◌, List, [], map, fold, ap, ◌∙◌, arith}
+use Rattle.std.proofs.Common.{refl, ◌≡◌, ℕ, ◌+◌, ◌-◌, ◌*◌, ◌/◌, ◌%◌, ◌<◌, List, [], map, take, fold, sym, ap, ◌∙◌, arith}
 use Rattle.std.specs.Prelude.{slice_index_or}
 use Rattle.std.specs.List.{range_with_len}
+use Rattle.std.proofs.lemmas.List.{take-map}
 use Rattle.std.proofs.lemmas.List.FromFn.{get_or-map-range_with_len, length-map-range_with_len, fill_by_all}
 use Rattle.std.proofs.lemmas.Nat.{div-mul-add, mod-mul-add, mul-add-lt}
 use Rattle.argon2_base.specs.LongHash.{long_hash}
 use Rattle.argon2.specs.Rfc9106.{Context, FirstColumns, block_count, block_of, first_block, lane_length, last_block, tag_of, xor_lanes}
 use Rattle.argon2.specs.Layout.{Memory, Sizes, matrix, matrix_of}
 use Rattle.argon2_base.specs.Block.{bytes_of, xor_blocks, zero_block}
+use Rattle.argon2.specs.Hashing.{blocks_of}
 use Rattle.argon2.specs.Steps.{run_passes, last_column}
 use Rattle.argon2.specs.Laws.{Begins, AreSchedules}
 use Rattle.argon2.proofs.context_lemmas.Filling.{schedules_fill}
@@ -44,6 +46,14 @@ last_of_matrix ctx sizes first memory e =
     xor_lanes_cong ctx _ _
     (λ lane h. ap (λ (m : List (List ℕ)). slice_index_or m (lane * lane_length ctx + (lane_length ctx - 1)) []) e
     ∙ matrix_at ctx sizes first lane (lane_length ctx - 1) h (omega arith))
+
+-- the last column of the first blocks, by their lanes
+pub last_of_front : {B : Type 0} (words : B → List ℕ) (ctx : Context) (memory : List B) (count width : ℕ)
+    → count ≡ block_count ctx → width ≡ lane_length ctx
+    → xor_lanes ctx (λ lane. slice_index_or (map words (take count memory)) (lane * width + (width - 1)) [])
+    ≡ last_column ctx (blocks_of ctx (map words memory))
+last_of_front words ctx memory count width all wide =
+    rw (wide, all) (ap (last_column ctx) (sym (take-map words (block_count ctx) memory)))
 
 -- however the lanes take turns, the exclusive or of the last column is the recurrence's
 pub steps_give_last : (ctx : Context) → Sizes ctx → 0 < ctx.t_cost

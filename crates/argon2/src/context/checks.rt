@@ -4,28 +4,11 @@ ghost use Rattle.std.specs.Prelude.{◌≡◌, ◌≤◌, OnOk, length};
 ghost use Rattle.argon2.specs.Argon2.{context_of};
 ghost use Rattle.argon2.specs.Rfc9106.{AreShort, block_count};
 ghost use Rattle.argon2.specs.Hashing.{fill_refusal, output_refusal, refusal_of, IsOutputLength};
-ghost use Rattle.argon2.specs.Refusals.{answer_unless, first_of, input_faults, memory_faults};
+ghost use Rattle.argon2.specs.Refusals.{answer_unless};
 
 use super::{Argon2, MAX_PWD_LEN, MAX_SALT_LEN, MIN_SALT_LEN};
 use crate::params::Params;
 use argon2_base::error::{Error, Result};
-
-/// Refuses a password or a salt.
-fn check_inputs(pwd: &[u8], salt: &[u8]) -> Result<()>
-    ensures answer { result
-        ≡ answer_unless (first_of (input_faults (length pwd.now) (length salt.now))) tt }
-    ensures short { OnOk result (AreShort pwd.now salt.now) }
-{
-    if pwd.len() > MAX_PWD_LEN {
-        Err(Error::PwdTooLong)
-    } else if salt.len() < MIN_SALT_LEN {
-        Err(Error::SaltTooShort)
-    } else if salt.len() > MAX_SALT_LEN {
-        Err(Error::SaltTooLong)
-    } else {
-        Ok(())
-    }
-}
 
 impl Argon2<'_> {
     /// Refuses an output of `out_len` bytes, a password, a salt or memory of `blocks` blocks, by the
@@ -48,8 +31,17 @@ impl Argon2<'_> {
         ensures short { OnOk result (AreShort pwd.now salt.now) }
         ensures room { OnOk result (block_count (context_of self.now) ≤ blocks) }
     {
-        check_inputs(pwd, salt)?;
-        self.check_memory(blocks)
+        if pwd.len() > MAX_PWD_LEN {
+            Err(Error::PwdTooLong)
+        } else if salt.len() < MIN_SALT_LEN {
+            Err(Error::SaltTooShort)
+        } else if salt.len() > MAX_SALT_LEN {
+            Err(Error::SaltTooLong)
+        } else if blocks < self.params.block_count() {
+            Err(Error::MemoryTooLittle)
+        } else {
+            Ok(())
+        }
     }
 
     /// Refuses an output of `len` bytes.
@@ -65,17 +57,5 @@ impl Argon2<'_> {
         } else {
             Ok(())
         }
-    }
-
-    /// Refuses memory of `blocks` blocks.
-    fn check_memory(&self, blocks: usize) -> Result<()>
-        ensures answer { result ≡ answer_unless (first_of (memory_faults
-            (block_count (context_of self.now)) blocks)) tt }
-        ensures room { OnOk result (block_count (context_of self.now) ≤ blocks) }
-    {
-        if blocks < self.params.block_count() {
-            return Err(Error::MemoryTooLittle);
-        }
-        Ok(())
     }
 }

@@ -1,17 +1,16 @@
 //! From the inputs of a hash to its matrix, step by step (RFC 9106, section 3.2, steps 1 to 6).
 
-ghost use Rattle.std.specs.Prelude.{◌≡◌, ◌+◌, ◌-◌, ◌*◌, ◌^◌, ◌<◌, ◌≤◌, ◌==◌, [], if◌then◌else◌, length, map, slice_index_or, slice_set};
-ghost use Rattle.argon2_base.specs.Block.{xor_blocks};
+ghost use Rattle.std.specs.Prelude.{◌≡◌, ◌+◌, ◌-◌, ◌*◌, ◌^◌, ◌<◌, ◌≤◌, ◌==◌, if◌then◌else◌, length, map, slice_set};
 ghost use Rattle.argon2.specs.Rfc9106.{AreShort, FirstColumns, block_count, lane_length, segment_length, tag_of};
 ghost use Rattle.argon2.specs.Layout.{addresses_at};
 ghost use Rattle.argon2.specs.Hashing.{FillsFront, IsOutputLength};
 ghost use Rattle.argon2.specs.WatchedFilling.{Fills, IsFilledFrom, begun, in_order, mixing_calls, position_index, segment_calls, slices_calls};
 ghost use Rattle.argon2.specs.Laws.{Begins};
 ghost use Rattle.argon2.specs.SegmentSteps.{column_of, IsStepAt};
-ghost use Rattle.argon2.specs.Steps.{previous_place, reference_place, step, turn_count, IsStep};
+ghost use Rattle.argon2.specs.Steps.{reference_place, step, turn_count, IsStep};
 
 use super::instance::Instance;
-use super::memory_block::MemoryBlock;
+use super::memory_block::{MemoryBlock, xor_of};
 use crate::params::SLICES;
 use crate::{Block, Work};
 
@@ -45,7 +44,7 @@ impl<'a> Instance<'a> {
         ensures work { work.new ≡ work.old + mixing_calls self.now }
     {
         self.fill_blocks(pwd, salt, out.len() as u32, memory, positions, work);
-        self.write_tag(memory, out);
+        self.write_tag(self.lane_length(), &memory[..self.block_count()], out);
     }
 
     /// Makes the matrix for an output of `out_len` bytes in the first blocks of the memory, and
@@ -68,7 +67,7 @@ impl<'a> Instance<'a> {
         ensures work { work.new ≡ work.old + mixing_calls self.now }
     {
         let blocks = &mut memory[..self.block_count()];
-        self.begin(pwd, salt, out_len, blocks);
+        self.begin(pwd, salt, out_len, self.lane_length(), blocks);
         self.fill(blocks, positions, work);
     }
 
@@ -239,22 +238,14 @@ impl<'a> Instance<'a> {
             result ≡ reference_place self.now (map B.words memory.old) at.pass at.lane column }
         ensures work { work.new ≡ work.old + 1 }
     {
-        let previous = self.previous_place(at) as usize;
+        let previous = self.place(at.lane, self.previous_column(at)) as usize;
         let word = self.word(memory[previous].first_word(), addresses, at);
-        let reference = self.reference_place(at, word);
+        let (lane, column) = self.reference(at, word);
+        let reference = self.place(lane, column);
         let place = self.place(at.lane, self.column(at)) as usize;
-        let xor = &xor_of_blocks(memory, previous, reference as usize);
+        let xor = &xor_of(&memory[previous], &memory[reference as usize]);
         memory[place].put_mixed(xor, self.xors(at.pass), work);
         reference
-    }
-
-    /// The place of the previous block.
-    fn previous_place(&self, at: Step) -> u32
-        requires { IsStepAt self.now at }
-        ensures value { result ≡ previous_place self.now at.lane (column_of self.now at) }
-        ensures within { result < block_count self.now }
-    {
-        self.place(at.lane, self.previous_column(at))
     }
 
     /// The column of the previous block, which before column 0 is the last.
@@ -271,17 +262,4 @@ impl<'a> Instance<'a> {
             column - 1
         }
     }
-}
-
-/// The exclusive or of the blocks of two places.
-#[inline(always)]
-fn xor_of_blocks<B: MemoryBlock>(memory: &[B], previous: usize, reference: usize) -> B
-    requires previous { previous < length memory.now }
-    requires reference { reference < length memory.now }
-    ensures { let blocks = map B.words memory.now in B.words result
-        ≡ xor_blocks (slice_index_or blocks previous []) (slice_index_or blocks reference []) }
-{
-    let mut xor = memory[previous];
-    xor.xor(&memory[reference]);
-    xor
 }

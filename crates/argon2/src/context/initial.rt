@@ -2,9 +2,7 @@
 
 ghost use Rattle.std.specs.Prelude.{◌≡◌, ◌+◌, ◌*◌, ◌<◌, ◌≤◌, ◌^◌, length, map};
 ghost use Rattle.argon2_base.specs.Hasher.{Appends};
-ghost use Rattle.argon2.specs.Rfc9106.{AreShort, block_after, block_count, first_block, initial_hash, lane_length, number, with_length};
-ghost use Rattle.argon2.specs.Hashing.{KeepsOtherColumns};
-ghost use Rattle.argon2.specs.Laws.{Begins};
+ghost use Rattle.argon2.specs.Rfc9106.{AreShort, block_after, first_block, initial_hash, lane_length, number, with_length};
 ghost use Rattle.argon2.specs.Segments.{BeginsLanes};
 
 use super::instance::Instance;
@@ -69,26 +67,9 @@ impl Instance<'_> {
         hash
     }
 
-    /// Writes columns 0 and 1 of each lane for an output of `out_len` bytes, and no other block.
+    /// Writes columns 0 and 1 of each lane for an output of `out_len` bytes, and no other block. Each lane
+    /// has `width` blocks, the first of its columns.
     pub(super) fn begin<B: MemoryBlock>(
-        &self,
-        pwd: &[u8],
-        salt: &[u8],
-        out_len: u32,
-        blocks: &mut [B],
-    )
-        requires inputs { AreShort pwd.now salt.now }
-        requires size { length blocks.old ≡ block_count self.now }
-        ensures begins { Begins self.now (first_block self.now pwd.now salt.now out_len)
-            (map B.words blocks.new) }
-        ensures others { KeepsOtherColumns self.now (map B.words blocks.old)
-            (map B.words blocks.new) }
-    {
-        self.begin_lanes(pwd, salt, out_len, self.lane_length(), blocks);
-    }
-
-    /// The same if each lane has `width` blocks, the first of its columns.
-    pub(super) fn begin_lanes<B: MemoryBlock>(
         &self,
         pwd: &[u8],
         salt: &[u8],

@@ -2,17 +2,18 @@
 
 ghost use Rattle.std.specs.Prelude.{◌≡◌, ◌+◌, ◌*◌, ◌^◌, ◌<◌, ◌&&◌, ◌==◌, length, nat_lt};
 ghost use Rattle.argon2.specs.Settings.{algorithm_number};
-ghost use Rattle.argon2.specs.Rfc9106.{segment_length, lane_length, block_count};
-ghost use Rattle.argon2.specs.Argon2.{context_with, settings_with};
+ghost use Rattle.argon2.specs.Rfc9106.{IsValid, segment_length, lane_length, block_count};
+ghost use Rattle.argon2.specs.Argon2.{context_of, context_under};
 ghost use Rattle.argon2.specs.Layout.{IsSize};
 
+use super::Argon2;
 use crate::params::SLICES;
-use crate::{Algorithm, Params, Version};
+use crate::{Algorithm, Version};
 use std::marker::Model;
 
 /// A variant with its costs and its keys, and the shape of the memory that follows from them.
 #[derive(Drop)]
-pub(crate) struct Instance<'a> {
+pub(super) struct Instance<'a> {
     algorithm: Algorithm,
     pub(super) version: Version,
     pub(super) m_cost: u32,
@@ -46,27 +47,21 @@ impl<'a> Model for Instance<'a> {
 }
 
 impl<'a> Instance<'a> {
-    /// The instance of valid parameters, with this data in place of theirs.
-    pub(crate) fn new(
-        algorithm: Algorithm,
-        version: Version,
-        params: &'a Params,
-        secret: &'a [u8],
-        associated: &'a [u8],
-    ) -> Instance<'a>
-        requires secret { length secret.now < 2 ^ 32 }
-        requires associated { length associated.now < 2 ^ 32 }
-        ensures { let own = settings_with algorithm version params.now in
-            result ≡ record (context_with own secret.now) { associated = associated.now } }
+    /// What an `Argon2` hashes under, with this data in place of its parameters'.
+    pub(super) fn new(argon2: &'a Argon2<'_>, associated: &'a [u8]) -> Instance<'a>
+        requires { length associated.now < 2 ^ 32 }
+        ensures value { result ≡ context_under argon2.now associated.now }
+        ensures valid { IsValid (context_of argon2.now) }
     {
+        let params = &argon2.params;
         Instance {
-            algorithm,
-            version,
+            algorithm: argon2.algorithm,
+            version: argon2.version,
             m_cost: params.m_cost(),
             t_cost: params.t_cost(),
             p_cost: params.p_cost(),
             segment_length: params.segment_length(),
-            secret,
+            secret: argon2.secret(),
             associated,
         }
     }

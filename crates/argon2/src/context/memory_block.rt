@@ -83,3 +83,13 @@ impl MemoryBlock for Words {
         xor_words(self, other);
     }
 }
+
+/// The exclusive or of two blocks.
+#[inline(always)]
+pub(super) fn xor_of<B: MemoryBlock>(x: &B, y: &B) -> B
+    ensures { B.words result ≡ xor_blocks (B.words x.now) (B.words y.now) }
+{
+    let mut xor = *x;
+    xor.xor(y);
+    xor
+}

@@ -2,8 +2,8 @@
 //! which depend on no other block (RFC 9106, sections 3.4.1 and 3.4.2).
 
 ghost use Rattle.std.specs.Prelude.{◌≡◌, ℕ, ◌+◌, ◌-◌, ◌^◌, ◌<◌, ◌≤◌, ◌++◌, length, replicate, slice_index, slice_index_or, if◌then◌else◌};
-ghost use Rattle.argon2.specs.Rfc9106.{Blocks, address_block, block_count, is_independent, lane_length, permitted, previous, reference, reference_index, reference_lane, reference_word, segment_length};
-ghost use Rattle.argon2.specs.Layout.{MayReferTo, addresses_at, place_of};
+ghost use Rattle.argon2.specs.Rfc9106.{Blocks, address_block, is_independent, lane_length, permitted, previous, reference, reference_index, reference_lane, reference_word, segment_length};
+ghost use Rattle.argon2.specs.Layout.{MayReferTo, addresses_at};
 ghost use Rattle.argon2.specs.SegmentSteps.{column_of, IsStepAt};
 ghost use Rattle.argon2.specs.WatchedFilling.{address_mixings};
 
@@ -129,18 +129,7 @@ impl<'a> Instance<'a> {
         }
     }
 
-    /// The place of the block that a word takes for a step.
-    pub(super) fn reference_place(&self, at: Step, word: u64) -> u32
-        requires { IsStepAt self.now at }
-        ensures value { result
-            ≡ place_of self.now (reference self.now at.pass at.lane (column_of self.now at) word) }
-        ensures within { result < block_count self.now }
-    {
-        let (lane, column) = self.reference(at, word);
-        self.place(lane, column)
-    }
-
-    /// The lane and the column of that block.
+    /// The lane and the column of the block that a word takes for a step.
     #[tactic(auto, unfolding(crate::specs::Rfc9106::reference))]
     pub(super) fn reference(&self, at: Step, word: u64) -> (u32, u32)
         requires { IsStepAt self.now at }

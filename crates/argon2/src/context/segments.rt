@@ -5,7 +5,7 @@
 //! A segment is filled on three parts of it: the slices before, the segment, and the slices after it.
 
 ghost use Rattle.std.specs.Prelude.{◌≡◌, ℕ, ◌*◌, ◌+◌, ◌-◌, ◌/◌, ◌<◌, ◌≤◌, ◌^◌, [], length, slice_index_or};
-ghost use Rattle.argon2_base.specs.Block.{bytes_of, xor_blocks};
+ghost use Rattle.argon2_base.specs.Block.{bytes_of};
 ghost use Rattle.argon2_base.specs.LongHash.{long_hash};
 ghost use Rattle.argon2.specs.Rfc9106.{AreShort, block_count, first_block, lane_length, segment_length};
 ghost use Rattle.argon2.specs.Layout.{Memory, addresses_at};
@@ -16,9 +16,10 @@ ghost use Rattle.argon2.specs.Steps.{step};
 use super::Argon2;
 use super::fill::Step;
 use super::instance::Instance;
+use super::memory_block::xor_of;
 use crate::params::SLICES;
 use crate::{Block, Work};
-use argon2_base::block::{Words, put_mixed_words, xor_words};
+use argon2_base::block::{Words, put_mixed_words};
 
 impl Argon2<'_> {
     ghost use Rattle.std.specs.Prelude.{◌≡◌, ◌<◌, ◌≤◌, ◌^◌, length};
@@ -45,8 +46,8 @@ impl Argon2<'_> {
         ensures { let ctx = context_under self.now associated.now in
             BeginsSlices ctx (first_block ctx pwd.now salt.now out_len) first.old first.new }
     {
-        let instance = self.instance_under(associated);
-        instance.begin_lanes(pwd, salt, out_len, instance.segment_length(), first);
+        let instance = Instance::new(self, associated);
+        instance.begin(pwd, salt, out_len, instance.segment_length(), first);
     }
 
     /// Writes the blocks of a lane in a slice of a pass into `own`, its segment, under this associated
@@ -68,7 +69,7 @@ impl Argon2<'_> {
         ensures { FillsSegment (context_under self.now associated.now) pass slice lane before.now
             own.old own.new after.now }
     {
-        let instance = self.instance_under(associated);
+        let instance = Instance::new(self, associated);
         instance.fill_own(before, own, after, pass, slice, lane);
     }
 
@@ -82,7 +83,7 @@ impl Argon2<'_> {
             ≡ long_hash (length out.old) (bytes_of (last_of_slice (context_of self.now) last.now)) }
     {
         let instance = self.instance();
-        instance.write_tag_of_lanes(instance.segment_length(), last, out);
+        instance.write_tag(instance.segment_length(), last, out);
     }
 }
 
@@ -205,14 +206,4 @@ impl<'a> Instance<'a> {
     {
         (slice * self.lanes() + lane) * self.segment_length() + index
     }
-}
-
-/// The exclusive or of two blocks.
-#[inline(always)]
-fn xor_of(x: &Words, y: &Words) -> Words
-    ensures { result ≡ xor_blocks x.now y.now }
-{
-    let mut xor = *x;
-    xor_words(&mut xor, y);
-    xor
 }

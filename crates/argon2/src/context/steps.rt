@@ -37,7 +37,7 @@ impl Argon2<'_> {
         self.check(out_len, pwd, salt, memory.len())?;
         let instance = self.instance();
         let blocks = &mut memory[..instance.block_count()];
-        instance.begin(pwd, salt, out_len as u32, blocks);
+        instance.begin(pwd, salt, out_len as u32, instance.lane_length(), blocks);
         Ok(())
     }
 
@@ -78,6 +78,8 @@ impl Argon2<'_> {
         ensures { let ctx = context_of self.now in out.new
             ≡ long_hash (length out.old) (bytes_of (last_column ctx (blocks_of ctx memory.now))) }
     {
-        self.instance().write_tag(memory, out);
+        let instance = self.instance();
+        let blocks = &memory[..instance.block_count()];
+        instance.write_tag(instance.lane_length(), blocks, out);
     }
 }

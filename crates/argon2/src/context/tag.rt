@@ -3,9 +3,7 @@
 ghost use Rattle.std.specs.Prelude.{◌≡◌, ◌+◌, ◌-◌, ◌*◌, ◌<◌, ◌≤◌, ◌^◌, [], length, map, slice_index_or};
 ghost use Rattle.argon2_base.specs.Block.{bytes_of};
 ghost use Rattle.argon2_base.specs.LongHash.{long_hash};
-ghost use Rattle.argon2.specs.Rfc9106.{block_count, lane_length, xor_lanes};
-ghost use Rattle.argon2.specs.Hashing.{blocks_of};
-ghost use Rattle.argon2.specs.Steps.{last_column};
+ghost use Rattle.argon2.specs.Rfc9106.{lane_length, xor_lanes};
 
 use super::instance::Instance;
 use super::memory_block::MemoryBlock;
@@ -13,25 +11,9 @@ use argon2_base::blake2b_long::blake2b_long;
 use argon2_base::block::Block;
 
 impl Instance<'_> {
-    /// Fills `out` with H' of the exclusive or of the last column's blocks.
-    pub(super) fn write_tag<B: MemoryBlock>(&self, memory: &[B], out: &mut [u8])
-        requires room { block_count self.now ≤ length memory.now }
-        requires some { 1 ≤ length out.old }
-        requires few { length out.old < 2 ^ 32 }
-        ensures { out.new ≡ long_hash (length out.old)
-            (bytes_of (last_column self.now (blocks_of self.now (map B.words memory.now)))) }
-    {
-        let blocks = &memory[..self.block_count()];
-        self.write_tag_of_lanes(self.lane_length(), blocks, out);
-    }
-
-    /// The same if each lane has `width` blocks, the last of its columns.
-    pub(super) fn write_tag_of_lanes<B: MemoryBlock>(
-        &self,
-        width: u32,
-        blocks: &[B],
-        out: &mut [u8],
-    )
+    /// Fills `out` with H' of the exclusive or of the last column's blocks. Each lane has `width` blocks,
+    /// the last of its columns.
+    pub(super) fn write_tag<B: MemoryBlock>(&self, width: u32, blocks: &[B], out: &mut [u8])
         requires one { 1 ≤ width }
         requires most { width ≤ lane_length self.now }
         requires size { length blocks.now ≡ self.now.p_cost * width }

@@ -1,14 +1,15 @@
-use Rattle.std.proofs.Common.{ap, take, ◌∙◌}
+use Rattle.std.proofs.Common.{arith, ap, take, ◌∙◌}
 use Rattle.std.proofs.lemmas.List.{map-id}
-use Rattle.argon2.specs.Rfc9106.{block_count}
+use Rattle.argon2.specs.Rfc9106.{block_count, lane_length}
 use Rattle.argon2.proofs.LentMemory.{is_begun}
 use Rattle.argon2.proofs.context.Argon2.begin_fill.Goals as goal
 
 pub returns-clause-begun : goal.returns-clause-begun
 returns-clause-begun c =
     let same = c.instance-instance.ensures.value in
+    let memory = c.args.memory.now in
     let count = c.block_count.ensures.value ∙ ap block_count same in
-    is_begun c.args.self.now c.block_count.result count c.args.memory.now c.begin.new.blocks
+    let width = c.lane_length.ensures.value ∙ ap lane_length same in
+    is_begun c.args.self.now c.block_count.result c.lane_length.result count width memory c.begin.new.blocks (grind arith)
     c.instance-instance.ensures.valid c.instance-instance.ensures.associated c.args.pwd.now c.args.salt.now c.args.out_len
-    (rw (map-id c.begin.new.blocks, same) at c.begin.ensures.begins)
-    (rw (map-id c.begin.new.blocks, map-id (take c.block_count.result c.args.memory.now), same) at c.begin.ensures.others)
+    (rw (map-id c.begin.new.blocks, map-id (take c.block_count.result memory), same) at c.begin.ensures)

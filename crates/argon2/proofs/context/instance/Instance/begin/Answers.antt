@@ -1,12 +1,63 @@
-use Rattle.std.proofs.lemmas.Grind.{common_steps}
-use Rattle.std.proofs.Common.{arith}
+use Rattle.std.proofs.Common.{◌≡◌, ◌+◌, ◌*◌, ◌<◌, length, map, ap, refl, sym, ◌∙◌, arith, rules}
+use Rattle.std.specs.Prelude.{slice_set}
+use Rattle.std.proofs.lemmas.List.{length-map, map-set}
+use Rattle.argon2.specs.Rfc9106.{block_after, first_block}
+use Rattle.argon2.proofs.context_lemmas.FirstColumns.{lane_fits, with_pair, with_pair-lanes, with_pair-other}
 use Rattle.argon2.proofs.context.instance.Instance.begin.Goals as goal
 
-pub begin_lanes-requires-clause-two : goal.begin_lanes-requires-clause-two
-begin_lanes-requires-clause-two g c = grind (arith, common_steps)
+pub loop-lane-init : goal.loop-lane-init
+loop-lane-init g c = record { begun = λ k d low two. absurd (omega arith); others = λ k d l low high. refl }
 
-pub begin_lanes-requires-clause-size : goal.begin_lanes-requires-clause-size
-begin_lanes-requires-clause-size g c = grind (arith, common_steps)
+pub overflow_mul-first : goal.overflow_mul-first
+overflow_mul-first g c =
+    let fits = lane_fits _ c.lanes-lane-end.ensures.sizes c.loop-lane.lane c.args.width (omega arith) c.requires.most in
+    omega (arith, fits.0, fits.1)
+
+pub offset_bounds-blocks-first-in-loop-lane : goal.offset_bounds-blocks-first-in-loop-lane
+offset_bounds-blocks-first-in-loop-lane g c =
+    let n = c.loop-lane.lane in
+    let fits = lane_fits _ c.lanes-lane-end.ensures.sizes n c.args.width (omega arith) c.requires.most in
+    let end = fits.0 in
+    let two = c.requires.two in
+    let size = c.loop-lane.auto.blocks ∙ c.requires.size in
+    let room : n * c.args.width + 1 < length c.loop-lane.blocks = omega arith in
+    search rules
+
+pub loop-lane-preserved : goal.loop-lane-preserved
+loop-lane-preserved g c =
+    let f = g.B.MemoryBlock.words in
+    let width = c.args.width in
+    let n = c.loop-lane.lane in
+    let m = c.loop-lane.blocks in
+    let blocks = block_after c.initial_hash-hash.result in
+    let fits = lane_fits _ c.lanes-lane-end.ensures.sizes n width (omega arith) c.requires.most in
+    let end = fits.0 in
+    let two = c.requires.two in
+    let size = c.loop-lane.auto.blocks ∙ c.requires.size in
+    let room : n * width + 1 < length (map f m) = omega (arith, length-map m f) in
+    let front = slice_set m (n * width) c.of.result in
+    let written : map f (slice_set front (n * width + 1) c.of-in-loop-lane.result) ≡ with_pair width n (map f m) (blocks n) =
+    (let one = map-set f m (n * width) c.of.result in
+    let both = map-set f front (n * width + 1) c.of-in-loop-lane.result in
+    let place : n * width ≡ n * width + 0 = omega arith in
+    let block = c.of.ensures ∙ c.block_after.ensures in
+    let block' = c.of-in-loop-lane.ensures ∙ c.block_after-in-loop-lane.ensures in
+    cc) in
+    rw written (record {
+      begun = with_pair-lanes width n two (map f m) blocks room c.loop-lane.invariant.begun;
+      others = λ k d h low high.
+          with_pair-other width n two (map f m) (blocks n) k d high (λ _. low) ∙ c.loop-lane.invariant.others k d h low high;
+    })
 
 pub returns : goal.returns
-returns g c = grind (arith, common_steps)
+unfolding first_block
+returns g c =
+    let f = g.B.MemoryBlock.words in
+    let done : c.loop-lane.lane ≡ c.args.self.now.p_cost = omega arith in
+    record {
+      sizes = c.lanes-lane-end.ensures.sizes;
+      size = length-map c.loop-lane.blocks f ∙ c.loop-lane.auto.blocks ∙ sym (length-map c.args.blocks.now f);
+      columns = λ lane column l low. c.loop-lane.invariant.begun lane column (omega arith) low
+          ∙ ap (λ hash. block_after hash lane column) c.initial_hash-hash.ensures;
+      others = c.loop-lane.invariant.others;
+    }

@@ -1,8 +1,14 @@
-use Rattle.std.proofs.Common.{◌∙◌}
-use Rattle.argon2.proofs.context_lemmas.LastColumn.{tag_of_matrix}
+use Rattle.std.proofs.Common.{length, ap, ◌∙◌}
+use Rattle.argon2_base.specs.Block.{bytes_of}
+use Rattle.argon2_base.specs.LongHash.{long_hash}
+use Rattle.argon2.proofs.context_lemmas.LastColumn.{last_of_front, tag_of_matrix}
 use Rattle.argon2.proofs.context.instance.Instance.hash.Goals as goal
 
 pub returns-clause-tag : goal.returns-clause-tag
 returns-clause-tag g c =
+    let ctx = c.args.self.now in
     let filled = c.fill_blocks.ensures.filled in
-    c.write_tag.ensures ∙ tag_of_matrix c.args.self.now filled.sizes c.args.pwd.now c.args.salt.now _ _ filled.matrix
+    c.write_tag.ensures
+    ∙ ap (λ block. long_hash (length c.args.out.now) (bytes_of block))
+    (last_of_front g.B.MemoryBlock.words ctx _ _ _ c.block_count.ensures.value c.lane_length.ensures.value)
+    ∙ tag_of_matrix ctx filled.sizes c.args.pwd.now c.args.salt.now _ _ filled.matrix

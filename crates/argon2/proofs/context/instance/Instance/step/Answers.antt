@@ -1,5 +1,8 @@
-use Rattle.std.proofs.Common.{map, sym, ◌∙◌, arith, rules}
+use Rattle.std.proofs.Common.{◌≡◌, ◌+◌, ◌*◌, map, sym, ap, ◌∙◌, arith, rules}
 use Rattle.std.proofs.lemmas.List.{map-set}
+use Rattle.argon2_base.specs.Block.{xor_blocks}
+use Rattle.argon2.specs.Layout.{place_of}
+use Rattle.argon2.specs.Rfc9106.{lane_length, reference}
 use Rattle.argon2.specs.SegmentSteps.{column_of}
 use Rattle.argon2.specs.Steps.{step}
 use Rattle.argon2.proofs.context_lemmas.InMemory.{first_word_read, made_by_places, place_by_word, words_read}
@@ -12,15 +15,17 @@ returns-clause-step g c =
     let f = g.B.MemoryBlock.words in
     let m = c.args.memory.now in
     let at = c.args.at in
-    let word = c.word-word.ensures _ (first_word_read f ctx m at.pass at.lane (column_of ctx at) _ _ _ (search rules)
-    c.previous_place-previous.ensures.value c.first_word.ensures) in
-    let q = c.previous_place-previous.ensures.value in
+    let q = c.place-previous.ensures.value ∙ ap (λ column. at.lane * lane_length ctx + column) c.previous_column.ensures.value in
+    let word = c.word-word.ensures _ (first_word_read f ctx m at.pass at.lane (column_of ctx at) _ _ _ (search rules) q c.first_word.ensures) in
+    let r : c.place-reference.result ≡ place_of ctx (reference ctx at.pass at.lane (column_of ctx at) c.word-word.result) =
+    c.place-reference.ensures.value ∙ (λ i. c.reference-lane.ensures.lane i * lane_length ctx + c.reference-lane.ensures.column i) in
     let p = c.place-place.ensures.value in
     let n = c.column.ensures.value in
-    let r = c.reference_place-reference.ensures.value in
-    let b = c.put_mixed.ensures.block _ _ c.xor_of_blocks.ensures in
+    let x = words_read f m c.place-previous.result c.index-memory-previous-2.result (grind arith) c.index-memory-previous-2.is in
+    let y = words_read f m c.place-reference.result c.index-memory-reference.result (grind arith) c.index-memory-reference.is in
+    let b = c.put_mixed.ensures.block _ _ (c.xor_of.ensures ∙ (λ i. xor_blocks (x i) (y i))) in
     let old = words_read f m c.place-place.result c.index-memory-place.result (grind arith) c.index-memory-place.is in
-    let x = c.xors.ensures in
+    let xors = c.xors.ensures in
     let set = map-set f m c.place-place.result c.put_mixed.new.self in
     let by = made_by_places ctx (map f m) at.pass at.lane (column_of ctx at) _ word in
     cc
@@ -29,6 +34,8 @@ pub returns-clause-place : goal.returns-clause-place
 returns-clause-place g c =
     let ctx = c.args.self.now in
     let at = c.args.at in
+    let q = c.place-previous.ensures.value ∙ ap (λ column. at.lane * lane_length ctx + column) c.previous_column.ensures.value in
     let word = c.word-word.ensures _ (first_word_read g.B.MemoryBlock.words ctx c.args.memory.now at.pass at.lane (column_of ctx at) _ _ _
-    (search rules) c.previous_place-previous.ensures.value c.first_word.ensures) in
-    c.reference_place-reference.ensures.value ∙ sym (place_by_word ctx _ at.pass at.lane (column_of ctx at) _ word)
+    (search rules) q c.first_word.ensures) in
+    c.place-reference.ensures.value ∙ (λ i. c.reference-lane.ensures.lane i * lane_length ctx + c.reference-lane.ensures.column i)
+    ∙ sym (place_by_word ctx _ at.pass at.lane (column_of ctx at) _ word)

@@ -1,15 +1,44 @@
-use Rattle.std.proofs.Common.{length, map, take, sym, ap, ◌∙◌}
-use Rattle.std.proofs.lemmas.List.{take-map}
-use Rattle.argon2_base.specs.Block.{bytes_of}
-use Rattle.argon2_base.specs.LongHash.{long_hash}
-use Rattle.argon2.specs.Layout.{Memory}
-use Rattle.argon2.specs.Steps.{last_column}
+use Rattle.std.proofs.Common.{◌≡◌, ℕ, ◌+◌, ◌-◌, ◌*◌, List, [], map, arith, rules}
+use Rattle.std.specs.Prelude.{slice_index_or}
+use Rattle.std.specs.List.{range_with_len}
+use Rattle.std.proofs.lemmas.List.FromFn.{map-range_with_len_more}
+use Rattle.std.proofs.lemmas.List.Sums.{fold_push}
+use Rattle.argon2_base.specs.Block.{xor_blocks, zero_block}
+use Rattle.argon2.specs.Rfc9106.{xor_lanes}
+use Rattle.argon2.proofs.context_lemmas.FirstColumns.{lane_fits}
+use Rattle.argon2.proofs.context_lemmas.InMemory.{words_read}
 use Rattle.argon2.proofs.context.instance.Instance.write_tag.Goals as goal
 
+pub overflow_mul-place : goal.overflow_mul-place
+overflow_mul-place g c =
+    let fits = lane_fits _ c.lanes-lane-end.ensures.sizes c.loop-lane.lane c.args.width (omega arith) c.requires.most in
+    omega (arith, fits.0, fits.1)
+
+pub overflow_add-place : goal.overflow_add-place
+overflow_add-place g c =
+    let fits = lane_fits _ c.lanes-lane-end.ensures.sizes c.loop-lane.lane c.args.width (omega arith) c.requires.most in
+    omega (arith, fits.0, fits.1, c.requires.one)
+
+pub loop-lane-preserved : goal.loop-lane-preserved
+loop-lane-preserved g c =
+    let f = g.B.MemoryBlock.words in
+    let n = c.loop-lane.lane in
+    let width = c.args.width in
+    let blocks = c.args.blocks.now in
+    let at : ℕ → List ℕ = λ lane. slice_index_or (map f blocks) (lane * width + (width - 1)) [] in
+    let more = map-range_with_len_more at 0 n n (omega arith) in
+    let push = fold_push xor_blocks zero_block (map at (range_with_len 0 n)) (at n) in
+    let before = c.loop-lane.invariant in
+    let xored = c.xor.ensures in
+    let read = words_read f blocks (n * width + (width - 1)) c.index-blocks-place.result (search rules) c.index-blocks-place.is in
+    cc
+
 pub returns : goal.returns
+unfolding xor_lanes
 returns g c =
-    let words = g.B.MemoryBlock.words in
-    let memory = c.args.memory.now in
-    let tag = λ (blocks : Memory). long_hash (length c.args.out.now) (bytes_of (last_column c.args.self.now blocks)) in
-    rw c.lane_length.ensures.value at c.write_tag_of_lanes.ensures
-    ∙ ap tag (sym (take-map words c.block_count.result memory) ∙ ap (λ n. take n (map words memory)) c.block_count.ensures.value)
+    let words = map g.B.MemoryBlock.words c.args.blocks.now in
+    let width = c.args.width in
+    let done : c.loop-lane.lane ≡ c.args.self.now.p_cost = omega arith in
+    let last : c.block.result ≡ xor_lanes c.args.self.now (λ lane. slice_index_or words (lane * width + (width - 1)) []) =
+    (let all = c.loop-lane.invariant in let block = c.block.ensures in cc) in
+    rw (← last) (search rules)

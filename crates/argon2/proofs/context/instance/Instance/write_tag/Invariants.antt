@@ -2,7 +2,7 @@ use Rattle.std.proofs.Common.{◌≡◌, ℕ, ◌+◌, ◌-◌, ◌*◌, [], map
 use Rattle.std.specs.Prelude.{slice_index_or}
 use Rattle.std.specs.List.{range_with_len}
 use Rattle.argon2_base.specs.Block.{xor_blocks, zero_block}
-use Rattle.argon2.proofs.context.instance.Instance.write_tag_of_lanes.Given as goal
+use Rattle.argon2.proofs.context.instance.Instance.write_tag.Given as goal
 
 -- the lanes so far
 abbrev pub invariant-loop-lane : goal.invariant-loop-lane
