@@ -1,6 +1,5 @@
 pub mod InitialHashing
 mod LentMemory
-mod RefusalLemmas
 pub mod params_lemmas
 pub mod login_lemmas
 pub mod recurrence

@@ -1,12 +1,12 @@
 -- Hashing by an `Argon2`: when a call is refused, and what it leaves.
-use Rattle.std.specs.Prelude.{◌≡◌, ℕ, ◌+◌, ◌*◌, ◌^◌, ◌<◌, ◌≤◌, ◌⊎◌, List, [], ◌++◌, Option, Some, None, Result, Err, IfErr, OnOk, OnErr, length, take, drop, slice_index_or}
+use Rattle.std.specs.Prelude.{◌≡◌, ℕ, ◌+◌, ◌*◌, ◌^◌, ◌<◌, ◌≤◌, ◌⊎◌, List, [], ◌++◌, Option, Some, None, Result, Err, IfErr, length, take, drop, slice_index_or}
 use Rattle.argon2_base.specs.declared.error.Error.{Error}
 use Rattle.argon2_base.specs.declared.error.Error.TheVariants.{OutOfMemory}
 use Rattle.argon2.specs.declared.context.Argon2.{Argon2}
 use Rattle.argon2.specs.Argon2.{context_of, own_parameters}
 use Rattle.argon2.specs.Rfc9106.{Context, IsValid, block_count, first_block, lane_length, tag_of}
 use Rattle.argon2.specs.Layout.{Memory, Sizes, matrix_of}
-use Rattle.argon2.specs.WatchedFilling.{AreReferencePlaces, mixing_calls, place_count}
+use Rattle.argon2.specs.WatchedFilling.{AreReferencePlaces, place_count}
 use Rattle.argon2.specs.Laws.{Begins}
 use Rattle.argon2.specs.Refusals.{answer_unless, first_of, output_faults, input_faults, memory_faults}
 use Rattle.argon2.specs.Steps.{reference_place, step}
@@ -105,15 +105,3 @@ pub record IsHashed (argon2 : Argon2) (password salt output : List ℕ) (old new
     pub matrix : let ctx = context_of argon2 in
         blocks_of ctx new ≡ matrix_of ctx password salt (length output)
     pub rest : KeepsRest (context_of argon2) old new
-
--- ---- watching
-
--- what a watched hash on lent memory answers, and leaves of an output, a memory and places for references
-pub record IsWatched (argon2 : Argon2) (password salt output output' : List ℕ) (memory memory' : Memory)
-    (places places' : List ℕ) (result : Result ℕ Error) : Type 0 where
-  pub answer : result ≡ answer_unless (refusal_of argon2 (length output) password salt (length memory))
-      (mixing_calls (context_of argon2))
-  pub hashed : OnOk result (IsHashed argon2 password salt output' memory memory')
-  pub positions : let ctx = context_of argon2 in OnOk result (length places ≡ place_count ctx →
-      AreReferencePlaces ctx (first_block ctx password salt (length output)) places places')
-  pub same : OnErr result ((output' ≡ output) × (memory' ≡ memory) × (places' ≡ places))

@@ -1,5 +1,6 @@
 -- Which references a watched hash records, and how often it mixes.
 use Rattle.std.specs.Prelude.{◌≡◌, ℕ, suc, ◌+◌, ◌-◌, ◌*◌, ◌<◌, ◌≤◌, ◌⊎◌, ◌==◌, List, [], length, nat_lt, slice_index, slice_index_or, if◌then◌else◌, zero}
+use Rattle.argon2.specs.declared.context.watch.Watch.{Watch}
 use Rattle.argon2.specs.Rfc9106.{Context, FirstColumns, address_counter, block_count, block_of, is_independent, lane_length, segment_length}
 use Rattle.argon2.specs.Layout.{Memory, matrix, reference_places}
 use Rattle.argon2.specs.Steps.{IsStep, turn_count}
@@ -76,6 +77,11 @@ in_order ctx pass slice lane column other =
     else if other == lane then column else begun ctx pass slice
 
 -- ---- the mixings
+
+-- One list of places, and so many more mixings
+pub record Watches (n : ℕ) (old new : Watch) : Type 0 where
+  pub list : new.positions.ghost_name ≡ old.positions.ghost_name
+  pub count : new.work ≡ old.work + n
 
 -- how many segments have address blocks: all of Argon2i's, Argon2id's in slices 0 and 1 of pass 0
 unfoldable pub independent_segments : Context → ℕ

@@ -9,7 +9,7 @@ use crate::version::Version;
 use argon2_base::block::{Block, Words, Work};
 use argon2_base::error::{Error, Result};
 use std::alloc::Allocator;
-use std::fmt;
+use std::{fmt, mem};
 
 mod checks;
 mod fill;
@@ -20,8 +20,11 @@ mod reference;
 mod segments;
 mod steps;
 mod tag;
+mod watch;
 
 use instance::Instance;
+use memory_block::MemoryBlock;
+use watch::Watch;
 
 /// The most bytes of a password.
 pub const MAX_PWD_LEN: usize = 4294967295;
@@ -60,14 +63,14 @@ pub struct Argon2<'key> {
 }
 
 impl<'key> Argon2<'key> {
-    ghost use Rattle.std.specs.Prelude.{◌≡◌, ◌^◌, ◌<◌, ◌≤◌, [], IfOk, IfErr, OnOk, OnErr, length, replicate};
+    ghost use Rattle.std.specs.Prelude.{◌≡◌, ◌+◌, ◌^◌, ◌<◌, ◌≤◌, [], IfOk, IfErr, OnOk, OnErr, length, map, replicate};
     ghost use Rattle.argon2_base.specs.Block.{zero_block};
     ghost use Rattle.argon2_base.specs.declared.error.Error.TheVariants.{OutOfMemory};
     ghost use Rattle.argon2.specs.Argon2.{context_of, context_under, own_parameters, secret_of, settings_of, settings_with, IsKeyed, IsWith, parameters_of};
     ghost use Rattle.argon2.specs.Rfc9106.{IsValid, block_count, first_block, tag_of};
     ghost use Rattle.argon2.specs.Layout.{matrix_of};
     ghost use Rattle.argon2.specs.WatchedFilling.{AreReferencePlaces, mixing_calls, place_count};
-    ghost use Rattle.argon2.specs.Hashing.{blocks_of, fill_refusal, refusal_of, AsksFirst, ChecksFirst, IsFilled, IsHashed, IsWatched, KeepsRest};
+    ghost use Rattle.argon2.specs.Hashing.{blocks_of, fill_refusal, refusal_of, AsksFirst, ChecksFirst, FillsFront, IsFilled, IsHashed, KeepsRest};
     ghost use Rattle.argon2.specs.Refusals.{answer_unless, data_refusal, length_refusal};
 
     /// Hashing with these parameters and no secret. The key identifier of the parameters changes no
@@ -159,8 +162,8 @@ impl<'key> Argon2<'key> {
 
         ensures same { OnErr result ((out.new ≡ out.old) × (memory.new ≡ memory.old)) }
     {
-        self.hash(pwd, salt, out, memory, &mut [])?;
-        Ok(())
+        let data = self.params.data();
+        self.hash(data, pwd, salt, out, memory, &mut Watch::nobody())
     }
 
     /// Writes the tag as [`hash_password_into_with_memory`](Argon2::hash_password_into_with_memory)
@@ -191,10 +194,7 @@ impl<'key> Argon2<'key> {
 
         ensures same { OnErr result ((out.new ≡ out.old) × (memory.new ≡ memory.old)) }
     {
-        self.check(out.len(), pwd, salt, memory.len())?;
-        let instance = Instance::new(self, associated);
-        instance.hash(pwd, salt, out, memory, &mut [], &mut Work::new());
-        Ok(())
+        self.hash(associated, pwd, salt, out, memory, &mut Watch::nobody())
     }
 
     /// Writes the tag of a password and a salt into `out`, on memory that it allocates: one request to
@@ -260,9 +260,7 @@ impl<'key> Argon2<'key> {
         self.check(out.len(), pwd, salt, self.params.block_count())?;
         let mut memory = self.zeroed_blocks(alloc)?;
         let blocks = memory.as_mut_slice();
-        let instance = Instance::new(self, associated);
-        instance.hash(pwd, salt, out, blocks, &mut [], &mut Work::new());
-        Ok(())
+        self.hash(associated, pwd, salt, out, blocks, &mut Watch::nobody())
     }
 
     /// Writes the tag as [`hash_password_into_with_memory`](Argon2::hash_password_into_with_memory)
@@ -298,7 +296,9 @@ impl<'key> Argon2<'key> {
         ensures same { OnErr result ((out.new ≡ out.old) × (memory.new ≡ memory.old)
             × (positions.new ≡ positions.old)) }
     {
-        self.hash(pwd, salt, out, memory, positions)
+        let mut watch = Watch::new(positions);
+        self.hash(self.params.data(), pwd, salt, out, memory, &mut watch)?;
+        Ok(mem::replace(&mut watch.work, Work::new()))
     }
 
     /// Fills the first [`block_count`](Params::block_count) blocks of `memory` as a hash of a
@@ -318,7 +318,7 @@ impl<'key> Argon2<'key> {
     {
         self.check_filling(pwd, salt, memory.len())?;
         self.instance()
-            .fill_blocks(pwd, salt, 0, memory, &mut [], &mut Work::new());
+            .fill_blocks(pwd, salt, 0, memory, &mut Watch::nobody());
         Ok(())
     }
 
@@ -345,29 +345,42 @@ impl<'key> Argon2<'key> {
     {
         self.check_filling(pwd, salt, memory.len())?;
         let instance = Instance::new(self, associated);
-        let work = &mut Work::new();
-        instance.fill_blocks(pwd, salt, 0, memory, &mut [], work);
+        instance.fill_blocks(pwd, salt, 0, memory, &mut Watch::nobody());
         Ok(())
     }
 
-    // Writes the tag into `out`, and returns how often blocks were mixed. `positions` has an entry for
-    // each block of each pass, which gets the place of the block's reference; or it is empty.
-    fn hash(
+    // The hash of all calls on lent memory, under this associated data.
+    fn hash<B: MemoryBlock>(
         &self,
+        associated: &[u8],
         pwd: &[u8],
         salt: &[u8],
         out: &mut [u8],
-        memory: &mut [Block],
-        positions: &mut [u32],
-    ) -> Result<Work>
-        ensures { IsWatched self.now pwd.now salt.now out.old out.new memory.old memory.new
-            positions.old positions.new result }
+        memory: &mut [B],
+        watch: &mut Watch,
+    ) -> Result<()>
+        requires data { length associated.now < 2 ^ 32 }
+        requires count { watch.old.work < 2 ^ 126 }
+        ensures answer { result ≡ answer_unless (refusal_of self.now (length out.old) pwd.now
+            salt.now (length memory.old)) tt }
+        ensures valid { OnOk result (IsValid (context_of self.now)) }
+        ensures tag { let ctx = context_under self.now associated.now in OnOk result
+            (out.new ≡ tag_of ctx pwd.now salt.now (length out.old)) }
+        ensures filled { let ctx = context_under self.now associated.now in OnOk result
+            (FillsFront ctx pwd.now salt.now (length out.old) (map B.words memory.old)
+            (map B.words memory.new) watch.old.positions.now watch.new.positions.now) }
+        ensures list { watch.new.positions.ghost_name ≡ watch.old.positions.ghost_name }
+        ensures count { let ctx = context_under self.now associated.now in OnOk result
+            (watch.new.work ≡ watch.old.work + mixing_calls ctx) }
+        ensures same { OnErr result ((out.new ≡ out.old) × (memory.new ≡ memory.old)
+            × (watch.new ≡ watch.old)) }
     {
         self.check(out.len(), pwd, salt, memory.len())?;
-        let mut work = Work::new();
-        self.instance()
-            .hash(pwd, salt, out, memory, positions, &mut work);
-        Ok(work)
+        let instance = Instance::new(self, associated);
+        instance.fill_blocks(pwd, salt, out.len() as u32, memory, watch);
+        let blocks = &memory[..instance.block_count()];
+        instance.write_tag(instance.lane_length(), blocks, out);
+        Ok(())
     }
 
     // As many blocks as a hash fills, each of zeros, by one request. `resize` makes each at its place, while `vec!`

@@ -91,17 +91,17 @@ grows f more k (suc n) le = elim (cases_lt k (suc n)) [
 ]
 
 -- a pass's first slices are not more than more of them
-pub slices_calls-le : (ctx : Context) (pass slice n : ℕ) → slice ≤ n → slices_calls ctx pass slice ≤ slices_calls ctx pass n
+slices_calls-le : (ctx : Context) (pass slice n : ℕ) → slice ≤ n → slices_calls ctx pass slice ≤ slices_calls ctx pass n
 unfolding slices_calls
 slices_calls-le ctx pass = grows (slices_calls ctx pass) (λ n. omega arith)
 
 -- the first passes are not more than more of them
-pub passes_calls-le : (ctx : Context) (r n : ℕ) → r ≤ n → passes_calls ctx r ≤ passes_calls ctx n
+passes_calls-le : (ctx : Context) (r n : ℕ) → r ≤ n → passes_calls ctx r ≤ passes_calls ctx n
 unfolding passes_calls
 passes_calls-le ctx = grows (passes_calls ctx) (λ n. omega arith)
 
 -- the count of all mixings is small
-pub mixing_calls-few : (ctx : Context) → Sizes ctx → mixing_calls ctx < 2 ^ 126
+mixing_calls-few : (ctx : Context) → Sizes ctx → mixing_calls ctx < 2 ^ 126
 unfolding mixing_calls independent_segments
 mixing_calls-few ctx sizes =
     let s = segment_length ctx in
@@ -119,3 +119,14 @@ mixing_calls-few ctx sizes =
 pub passes_calls-all : (ctx : Context) → Sizes ctx → passes_calls ctx ctx.t_cost ≡ mixing_calls ctx
 passes_calls-all ctx sizes =
     passes_calls-suc ctx sizes (ctx.t_cost - 1) (let some = sizes.some_pass in omega arith)
+
+-- the mixings before a segment are few
+pub calls_before-few : (ctx : Context) → Sizes ctx → (pass slice lane : ℕ) → pass < ctx.t_cost → slice < 4 → lane < ctx.p_cost
+    → passes_calls ctx pass + slices_calls ctx pass slice + lane * segment_calls ctx pass slice < 2 ^ 126
+unfolding passes_calls slices_calls
+calls_before-few ctx sizes pass slice lane t four l =
+    let lanes : lane * segment_calls ctx pass slice ≤ ctx.p_cost * segment_calls ctx pass slice =
+    mul-le-mul_right (segment_calls ctx pass slice) (omega arith) in
+    let slices = slices_calls-le ctx pass (suc slice) 4 (omega arith) in
+    let passes = passes_calls-le ctx (suc pass) ctx.t_cost (omega arith) in
+    omega (arith, passes_calls-all ctx sizes, mixing_calls-few ctx sizes)

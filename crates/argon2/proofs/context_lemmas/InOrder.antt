@@ -21,6 +21,10 @@ IsFilledUpTo-like ctx first pass done done' memory old new same is = record {
   positions = λ size. HasPositionsUpTo-like ctx first pass done done' old new same (is.positions size);
 }
 
+-- before the first lane no lane has begun the slice
+pub in_order-first : (ctx : Context) (pass slice l : ℕ) → begun ctx pass slice ≡ in_order ctx pass slice 0 (begun ctx pass slice) l
+in_order-first ctx pass slice l = grind (arith, nat_tests)
+
 -- a lane that is done is followed by the next
 pub in_order-next : (ctx : Context) (pass slice lane l : ℕ)
     → in_order ctx pass slice lane ((slice + 1) * segment_length ctx) l

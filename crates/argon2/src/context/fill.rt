@@ -1,16 +1,16 @@
 //! From the inputs of a hash to its matrix, step by step (RFC 9106, section 3.2, steps 1 to 6).
 
-ghost use Rattle.std.specs.Prelude.{◌≡◌, ◌+◌, ◌-◌, ◌*◌, ◌^◌, ◌<◌, ◌≤◌, ◌==◌, if◌then◌else◌, length, map, slice_set};
-ghost use Rattle.argon2.specs.Rfc9106.{AreShort, FirstColumns, block_count, lane_length, segment_length, tag_of};
+ghost use Rattle.std.specs.Prelude.{◌≡◌, ◌+◌, ◌-◌, ◌*◌, ◌^◌, ◌<◌, ◌≤◌, ◌==◌, if◌then◌else◌, length, map};
+ghost use Rattle.argon2.specs.Rfc9106.{AreShort, block_count, lane_length, segment_length};
 ghost use Rattle.argon2.specs.Layout.{addresses_at};
-ghost use Rattle.argon2.specs.Hashing.{FillsFront, IsOutputLength};
-ghost use Rattle.argon2.specs.WatchedFilling.{Fills, IsFilledFrom, begun, in_order, mixing_calls, position_index, segment_calls, slices_calls};
-ghost use Rattle.argon2.specs.Laws.{Begins};
+ghost use Rattle.argon2.specs.Hashing.{FillsFront};
+ghost use Rattle.argon2.specs.WatchedFilling.{Fills, Watches, begun, in_order, mixing_calls, position_index, segment_calls};
 ghost use Rattle.argon2.specs.SegmentSteps.{column_of, IsStepAt};
 ghost use Rattle.argon2.specs.Steps.{reference_place, step, turn_count, IsStep};
 
 use super::instance::Instance;
 use super::memory_block::{MemoryBlock, xor_of};
+use super::watch::Watch;
 use crate::params::SLICES;
 use crate::{Block, Work};
 
@@ -24,133 +24,54 @@ pub(super) struct Step {
 }
 
 impl<'a> Instance<'a> {
-    /// Fills the memory for an output of the length of `out`, and writes the tag into it.
-    pub(super) fn hash<B: MemoryBlock>(
-        &self,
-        pwd: &[u8],
-        salt: &[u8],
-        out: &mut [u8],
-        memory: &mut [B],
-        positions: &mut [u32],
-        work: &mut Work,
-    )
-        requires inputs { AreShort pwd.now salt.now }
-        requires output { IsOutputLength (length out.old) }
-        requires room { block_count self.now ≤ length memory.old }
-        requires count { work.old < 2 ^ 126 }
-        ensures tag { out.new ≡ tag_of self.now pwd.now salt.now (length out.old) }
-        ensures filled { FillsFront self.now pwd.now salt.now (length out.old)
-            (map B.words memory.old) (map B.words memory.new) positions.old positions.new }
-        ensures work { work.new ≡ work.old + mixing_calls self.now }
-    {
-        self.fill_blocks(pwd, salt, out.len() as u32, memory, positions, work);
-        self.write_tag(self.lane_length(), &memory[..self.block_count()], out);
-    }
-
-    /// Makes the matrix for an output of `out_len` bytes in the first blocks of the memory, and
-    /// counts each mixing. `positions` has an entry for each block of each pass, which gets the place
-    /// of the block's reference; or it is empty.
+    /// Makes the matrix for an output of `out_len` bytes in the first blocks of the memory.
     pub(super) fn fill_blocks<B: MemoryBlock>(
         &self,
         pwd: &[u8],
         salt: &[u8],
         out_len: u32,
         memory: &mut [B],
-        positions: &mut [u32],
-        work: &mut Work,
+        watch: &mut Watch,
     )
         requires inputs { AreShort pwd.now salt.now }
         requires room { block_count self.now ≤ length memory.old }
-        requires count { work.old < 2 ^ 126 }
-        ensures filled { FillsFront self.now pwd.now salt.now out_len
-            (map B.words memory.old) (map B.words memory.new) positions.old positions.new }
-        ensures work { work.new ≡ work.old + mixing_calls self.now }
+        requires count { watch.old.work < 2 ^ 126 }
+        ensures filled { FillsFront self.now pwd.now salt.now out_len (map B.words memory.old)
+            (map B.words memory.new) watch.old.positions.now watch.new.positions.now }
+        ensures watched { Watches (mixing_calls self.now) watch.old watch.new }
     {
         let blocks = &mut memory[..self.block_count()];
         self.begin(pwd, salt, out_len, self.lane_length(), blocks);
-        self.fill(blocks, positions, work);
-    }
-
-    /// All passes. `positions` has an entry for each block of each pass, which gets the place of the
-    /// block's reference; or it is empty.
-    fn fill<B: MemoryBlock>(&self, memory: &mut [B], positions: &mut [u32], work: &mut Work)
-        requires room { length memory.old ≡ block_count self.now }
-        requires count { work.old < 2 ^ 126 }
-        ensures filled { (first : FirstColumns) → Begins self.now first (map B.words memory.old)
-            → IsFilledFrom self.now first (map B.words memory.new) positions.old positions.new }
-        ensures work { work.new ≡ work.old + mixing_calls self.now }
-    {
         for pass in 0..self.passes() {
-            self.fill_pass(memory, positions, pass, work);
+            for slice in 0..SLICES {
+                for lane in 0..self.lanes() {
+                    self.fill_columns(blocks, pass, slice, lane, watch);
+                }
+            }
         }
     }
 
-    /// The four slices of a pass.
-    fn fill_pass<B: MemoryBlock>(
-        &self,
-        memory: &mut [B],
-        positions: &mut [u32],
-        pass: u32,
-        work: &mut Work,
-    )
-        requires in_passes { pass < self.now.t_cost }
-        requires room { block_count self.now ≤ length memory.old }
-        requires count { work.old + slices_calls self.now pass SLICES < 2 ^ 127 }
-        ensures filled { Fills self.now pass
-            (λ _. begun self.now pass 0) (λ _. begun self.now pass SLICES)
-            (map B.words memory.old) (map B.words memory.new) positions.old positions.new }
-        ensures work { work.new ≡ work.old + slices_calls self.now pass SLICES }
-    {
-        for slice in 0..SLICES {
-            self.fill_slice(memory, positions, pass, slice, work);
-        }
-    }
-
-    /// The segments of a slice, one lane after the other.
-    fn fill_slice<B: MemoryBlock>(
-        &self,
-        memory: &mut [B],
-        positions: &mut [u32],
-        pass: u32,
-        slice: u32,
-        work: &mut Work,
-    )
-        requires in_passes { pass < self.now.t_cost }
-        requires in_slices { slice < SLICES }
-        requires room { block_count self.now ≤ length memory.old }
-        requires count { work.old + self.now.p_cost * segment_calls self.now pass slice < 2 ^ 127 }
-        ensures filled { Fills self.now pass
-            (λ _. begun self.now pass slice) (λ _. begun self.now pass (slice + 1))
-            (map B.words memory.old) (map B.words memory.new) positions.old positions.new }
-        ensures work { work.new ≡ work.old + self.now.p_cost * segment_calls self.now pass slice }
-    {
-        for lane in 0..self.lanes() {
-            self.fill_columns(memory, positions, pass, slice, lane, work);
-        }
-    }
-
-    /// The steps of a lane in a slice. `positions` has an entry for each block of each pass, which
-    /// gets the place of the block's reference; or it is empty.
+    /// The steps of a lane in a slice.
     #[tactic(auto, using(crate::proofs::context_lemmas::SegmentColumns::steps))]
     fn fill_columns<B: MemoryBlock>(
         &self,
         memory: &mut [B],
-        positions: &mut [u32],
         pass: u32,
         slice: u32,
         lane: u32,
-        work: &mut Work,
+        watch: &mut Watch,
     )
         requires in_passes { pass < self.now.t_cost }
         requires in_slices { slice < SLICES }
         requires in_lanes { lane < self.now.p_cost }
         requires room { block_count self.now ≤ length memory.old }
-        requires count { work.old < 2 ^ 127 }
+        requires count { watch.old.work < 2 ^ 127 }
         ensures filled { Fills self.now pass
             (in_order self.now pass slice lane (begun self.now pass slice))
             (in_order self.now pass slice lane ((slice + 1) * segment_length self.now))
-            (map B.words memory.old) (map B.words memory.new) positions.old positions.new }
-        ensures work { work.new ≡ work.old + segment_calls self.now pass slice }
+            (map B.words memory.old) (map B.words memory.new)
+            watch.old.positions.now watch.new.positions.now }
+        ensures watched { Watches (segment_calls self.now pass slice) watch.old watch.new }
     {
         let segment = self.segment_length();
         let start = self.first_index(pass, slice);
@@ -160,12 +81,12 @@ impl<'a> Instance<'a> {
             slice,
             index: 0,
         };
-        let mut addresses = self.addresses(first, work);
+        let mut addresses = self.addresses(first, &mut watch.work);
         for index in start..segment {
             let at = Step { index, ..first };
-            self.renew(&mut addresses, at, work);
-            let reference = self.step(memory, &addresses, at, work);
-            self.put_position(positions, at, reference);
+            self.renew(&mut addresses, at, &mut watch.work);
+            let reference = self.step(memory, &addresses, at, &mut watch.work);
+            watch.put(self.position(at), reference);
         }
     }
 
@@ -205,17 +126,13 @@ impl<'a> Instance<'a> {
         at.slice * self.segment_length() + at.index
     }
 
-    /// Writes the place of a step's reference, if there is room for it.
-    fn put_position(&self, positions: &mut [u32], at: Step, reference: u32)
+    /// Where a watch has the place of a step's reference.
+    fn position(&self, at: Step) -> usize
         requires { IsStepAt self.now at }
-        ensures { let index = position_index self.now at.pass at.lane (column_of self.now at) in
-            positions.new ≡ slice_set positions.old index reference }
+        ensures { result ≡ position_index self.now at.pass at.lane (column_of self.now at) }
     {
         let place = self.place(at.lane, self.column(at)) as usize;
-        let index = at.pass as usize * self.block_count() + place;
-        if index < positions.len() {
-            positions[index] = reference;
-        }
+        at.pass as usize * self.block_count() + place
     }
 
     /// Writes the block of a step, and returns the place of its reference.

@@ -1,10 +1,88 @@
-use Rattle.std.proofs.Common.{drop, map, take, ap, ◌∙◌, rules}
+use Rattle.std.proofs.Common.{◌≡◌, ◌*◌, drop, map, take, refl, ap, ◌∙◌, add-one, arith, rules}
 use Rattle.std.proofs.lemmas.List.{length-map, length-take-le}
 use Rattle.argon2.specs.Rfc9106.{block_count, first_block}
 use Rattle.argon2.specs.Layout.{matrix_of}
 use Rattle.argon2.specs.Hashing.{blocks_of}
+use Rattle.argon2.specs.WatchedFilling.{segment_calls, slices_calls}
 use Rattle.argon2.proofs.LentMemory.{has_matrix, lanes_begin, words_behind}
+use Rattle.argon2.proofs.context_lemmas.Counts.{calls_before-few, passes_calls, passes_calls-all}
+use Rattle.argon2.proofs.context_lemmas.InOrder.{filled_first, filled_last, filled_next, in_order-first, in_order-last, in_order-next, IsFilledUpTo-like}
 use Rattle.argon2.proofs.context.instance.Instance.fill_blocks.Goals as goal
+
+pub loop-pass-init : goal.loop-pass-init
+unfolding passes_calls
+loop-pass-init g c =
+    let ctx = c.args.self.now in
+    let words = g.B.MemoryBlock.words in
+    let old = c.args.memory.now in
+    let count = c.block_count.result in
+    let first = first_block ctx c.args.pwd.now c.args.salt.now c.args.out_len in
+    let size = length-map (take count old) words ∙ length-take-le count old (search rules) ∙ c.block_count.ensures.value in
+    let begins = lanes_begin ctx c.lane_length.result c.lane_length.ensures.value first _ _ size c.begin.ensures in
+    record {
+      filled = filled_first ctx c.passes-pass-end.ensures.sizes first _ _ begins;
+      watched = record { list = refl; count = omega arith };
+    }
+
+pub loop-slice-init : goal.loop-slice-init
+unfolding slices_calls
+loop-slice-init g c =
+    let before = c.loop-pass.invariant in
+    record {
+      filled = before.filled;
+      watched = record { list = before.watched.list; count = omega (arith, before.watched.count) };
+    }
+
+pub loop-lane-init : goal.loop-lane-init
+loop-lane-init g c =
+    let before = c.loop-slice.invariant in
+    record {
+      filled = IsFilledUpTo-like _ _ _ _ _ _ _ _ (λ l _. in_order-first c.args.self.now c.loop-pass.pass c.loop-slice.slice l) before.filled;
+      watched = record { list = before.watched.list; count = omega (arith, before.watched.count) };
+    }
+
+pub fill_columns-requires-clause-count : goal.fill_columns-requires-clause-count
+fill_columns-requires-clause-count g c =
+    let few = calls_before-few c.args.self.now c.passes-pass-end.ensures.sizes c.loop-pass.pass c.loop-slice.slice c.loop-lane.lane
+    (omega arith) (omega arith) (omega arith) in
+    omega (arith, few, c.loop-lane.invariant.watched.count)
+
+pub loop-lane-preserved : goal.loop-lane-preserved
+loop-lane-preserved g c =
+    let before = c.loop-lane.invariant in
+    let filled = c.fill_columns.ensures in
+    record {
+      filled = IsFilledUpTo-like _ _ _ _ _ _ _ _ (λ l _. in_order-next c.args.self.now c.loop-pass.pass c.loop-slice.slice c.loop-lane.lane l)
+          (filled.filled _ _ before.filled);
+      watched = record {
+        list = filled.watched.list ∙ before.watched.list;
+        count = omega (arith, filled.watched.count, before.watched.count);
+      };
+    }
+
+pub loop-slice-preserved : goal.loop-slice-preserved
+unfolding slices_calls
+loop-slice-preserved g c =
+    let ctx = c.args.self.now in
+    let last = c.loop-lane.invariant in
+    let all : c.loop-lane.lane ≡ ctx.p_cost = omega arith in
+    let lanes = ap (λ n. n * segment_calls ctx c.loop-pass.pass c.loop-slice.slice) all in
+    record {
+      filled = IsFilledUpTo-like _ _ _ _ _ _ _ _
+          (λ l below. in_order-last ctx c.loop-pass.pass c.loop-slice.slice c.loop-lane.lane l (omega arith)) last.filled;
+      watched = record { list = last.watched.list; count = rw add-one (omega (arith, last.watched.count, lanes)) };
+    }
+
+pub loop-pass-preserved : goal.loop-pass-preserved
+unfolding passes_calls
+loop-pass-preserved g c =
+    let last = c.loop-slice.invariant in
+    let all : c.loop-slice.slice ≡ 4 = omega arith in
+    let count = rw all at last.watched.count in
+    record {
+      filled = filled_next _ _ _ _ _ _ (rw all at last.filled);
+      watched = record { list = last.watched.list; count = rw add-one count };
+    }
 
 pub returns-clause-filled : goal.returns-clause-filled
 unfolding matrix_of
@@ -12,18 +90,26 @@ returns-clause-filled g c =
     let ctx = c.args.self.now in
     let words = g.B.MemoryBlock.words in
     let old = c.args.memory.now in
-    let new = c.fill.new.memory in
+    let new = c.loop-pass.blocks in
     let count = c.block_count.result in
-    let first = first_block ctx c.args.pwd.now c.args.salt.now c.args.out_len in
-    let size = length-map (take count old) words ∙ length-take-le count old (search rules) ∙ c.block_count.ensures.value in
-    let begins = lanes_begin ctx c.lane_length.result c.lane_length.ensures.value first _ _ size c.begin.ensures in
-    let filled = c.fill.ensures.filled first begins in
+    let sizes = c.block_count.ensures.sizes in
+    let filled = filled_last ctx sizes _ _ _ _ _ (omega arith) c.loop-pass.invariant.filled in
     let left = has_matrix ctx count c.block_count.ensures.value (map words old) (map words new)
     c.args.pwd.now c.args.salt.now c.args.out_len filled.matrix in
     let behind = words_behind words new old count in
     record {
-      sizes = c.block_count.ensures.sizes;
+      sizes = sizes;
       matrix = ap (blocks_of ctx) behind ∙ left.0;
       positions = filled.positions;
       rest = ap (drop (block_count ctx)) behind ∙ left.1;
+    }
+
+pub returns-clause-watched : goal.returns-clause-watched
+returns-clause-watched g c =
+    let ctx = c.args.self.now in
+    let last = c.loop-pass.invariant.watched in
+    let all : c.loop-pass.pass ≡ ctx.t_cost = omega arith in
+    record {
+      list = last.list;
+      count = omega (arith, last.count, ap (passes_calls ctx) all ∙ passes_calls-all ctx c.passes-pass-end.ensures.sizes);
     }

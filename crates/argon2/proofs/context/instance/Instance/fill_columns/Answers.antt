@@ -1,4 +1,4 @@
-use Rattle.std.proofs.Common.{◌≡◌, ◌+◌, ◌-◌, ◌*◌, ◌/◌, ap, ◌∙◌, arith}
+use Rattle.std.proofs.Common.{◌≡◌, ◌+◌, ◌-◌, ◌*◌, ◌/◌, refl, ap, ◌∙◌, arith}
 use Rattle.argon2.specs.Rfc9106.{segment_length}
 use Rattle.argon2.specs.Layout.{addresses_at}
 use Rattle.argon2.specs.WatchedFilling.{address_mixings, begun, segment_calls}
@@ -17,11 +17,14 @@ loop-index-init g c =
     record {
       filled = λ first old is. rw (← begins) is;
       addresses = c.addresses-addresses.ensures.block ∙ same_addresses ctx c.args.pass c.args.lane c.args.slice _ _ serves;
-      work =
-          let two = c.addresses-addresses.ensures.work in
-          let first = first_mixings ctx c.args.pass c.args.slice in
-          let mixings = same_mixings ctx c.args.pass c.args.slice 0 (c.first_index-start.result - 1) serves in
-          omega arith;
+      watched = record {
+        list = refl;
+        count =
+            let two = c.addresses-addresses.ensures.work in
+            let first = first_mixings ctx c.args.pass c.args.slice in
+            let mixings = same_mixings ctx c.args.pass c.args.slice 0 (c.first_index-start.result - 1) serves in
+            omega arith;
+      };
     }
 
 pub loop-index-preserved : goal.loop-index-preserved
@@ -39,17 +42,21 @@ loop-index-preserved g c =
     (λ first. let two = c.first_index-start.ensures.later first in omega arith) in
     record {
       filled = λ first old is.
-          let position = c.put_position.ensures in
+          let put = c.put.ensures.place in
+          let position = c.position.ensures in
           let place = c.step-reference.ensures.place in
           let made = c.step-reference.ensures.step in
-          rw (position, place, made, ← end)
+          rw (put, position, place, made, ← end)
           (filled_step ctx st.sizes first c.args.pass c.args.slice c.args.lane column _ old _
           c.requires.in_passes st.step (a_column ctx _ st) (before.filled first old is));
       addresses = c.renew.ensures.block ∙ ap (addresses_at ctx c.args.pass c.args.lane c.args.slice) same;
-      work =
-          let renewed = c.renew.ensures.work in
-          let next = ap (address_mixings ctx c.args.pass c.args.slice) same in
-          omega (arith, before.work, c.step-reference.ensures.work);
+      watched = record {
+        list = c.put.ensures.watched.list ∙ before.watched.list;
+        count =
+            let renewed = c.renew.ensures.work in
+            let next = ap (address_mixings ctx c.args.pass c.args.slice) same in
+            omega (arith, before.watched.count, c.step-reference.ensures.work, c.put.ensures.watched.count);
+      };
     }
 
 pub returns-clause-filled : goal.returns-clause-filled
@@ -60,12 +67,12 @@ returns-clause-filled g c =
     ≡ (c.args.slice + 1) * segment_length c.args.self.now = omega arith in
     rw end at c.loop-index.invariant.filled
 
-pub returns-clause-work : goal.returns-clause-work
+pub returns-clause-watched : goal.returns-clause-watched
 unfolding segment_calls
-returns-clause-work g c =
+returns-clause-watched g c =
     let turns = c.first_index-start.ensures.turns in
     let s = c.segment_length-segment.ensures.value in
     let end : c.loop-index.index ≡ segment_length c.args.self.now = omega arith in
     let mixings = ap (λ n. address_mixings c.args.self.now c.args.pass c.args.slice (n - 1)) end in
-    let work = c.loop-index.invariant.work in
-    omega arith
+    let watched = c.loop-index.invariant.watched in
+    record { list = watched.list; count = omega (arith, watched.count) }

@@ -1,0 +1,45 @@
+//! What is recorded of a fill.
+
+ghost use Rattle.std.specs.Prelude.{◌≡◌, ◌+◌, slice_set};
+ghost use Rattle.argon2.specs.WatchedFilling.{Watches};
+
+use crate::Work;
+
+/// The places of references, and a count of mixings.
+#[derive(Drop)]
+pub(super) struct Watch<'a> {
+    // An entry for each block of each pass, which gets the place of the block's reference; or none.
+    positions: &'a mut [u32],
+    pub(super) work: Work,
+}
+
+impl<'a> Watch<'a> {
+    /// Nobody watches: no place is kept.
+    pub(super) fn nobody() -> Watch<'a>
+        ensures { result.work ≡ 0 }
+    {
+        Watch::new(&mut [])
+    }
+
+    /// `positions` has an entry for each block of each pass, which gets the place of the block's reference.
+    pub(super) fn new(positions: &'a mut [u32]) -> Watch<'a>
+        ensures list { result.positions.ghost_name ≡ positions.entry.ghost_name }
+        ensures before { result.positions.now ≡ positions.old }
+        ensures work { result.work ≡ 0 }
+    {
+        Watch {
+            positions,
+            work: Work::new(),
+        }
+    }
+
+    /// Keeps the place of a reference, if there is an entry for it.
+    pub(super) fn put(&mut self, index: usize, place: u32)
+        ensures watched { Watches 0 self.old self.new }
+        ensures place { self.new.positions.now ≡ slice_set self.old.positions.now index place }
+    {
+        if index < self.positions.len() {
+            self.positions[index] = place;
+        }
+    }
+}
