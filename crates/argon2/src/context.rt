@@ -24,6 +24,7 @@ mod watch;
 
 use instance::Instance;
 use memory_block::MemoryBlock;
+pub use segments::Segment;
 use watch::Watch;
 
 /// The most bytes of a password.

@@ -36,7 +36,7 @@ pub use argon2_base::phc::{ARGON2D_IDENT, ARGON2I_IDENT, ARGON2ID_IDENT, Passwor
 pub use argon2_base::{blake2b, blake2b_long, block, byte_list, error, phc};
 pub use context::{
     Argon2, MAX_AD_LEN, MAX_PWD_LEN, MAX_SALT_LEN, MAX_SECRET_LEN, MIN_SALT_LEN,
-    RECOMMENDED_SALT_LEN,
+    RECOMMENDED_SALT_LEN, Segment,
 };
 pub use kdf::{Kdf, Pbkdf};
 pub use params::{AssociatedData, KeyId, Params, ParamsBuilder};

@@ -16,6 +16,7 @@ ghost use Rattle.argon2_c.specs.Requests.{asked, are_lengths, request_faults};
 use crate::code::{INCORRECT_PARAMETER, OK};
 use crate::hash::hashing;
 use crate::request::{Request, refusal};
+use argon2::Segment;
 use argon2_base::block::Words;
 
 /// Writes columns 0 and 1 of each lane into the first slice, and returns 0. Returns the code of the
@@ -89,7 +90,8 @@ pub extern "C" fn argon2_c_segment(
         return INCORRECT_PARAMETER;
     }
     let argon2 = hashing(request, secret);
-    argon2.fill_segment(associated, before, own, after, pass, slice, lane);
+    let at = Segment { pass, slice, lane };
+    argon2.fill_segment(associated, before, own, after, at);
     OK
 }
 

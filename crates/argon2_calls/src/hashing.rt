@@ -15,7 +15,9 @@ use crate::plain;
 use argon2::blake2b::Blake2b;
 use argon2::blake2b_long::blake2b_long;
 use argon2::block::{Words, mix_words};
-use argon2::{Argon2, Block, Error, Kdf, MAX_AD_LEN, MAX_PWD_LEN, MAX_SALT_LEN, Work, laws};
+use argon2::{
+    Argon2, Block, Error, Kdf, MAX_AD_LEN, MAX_PWD_LEN, MAX_SALT_LEN, Segment, Work, laws,
+};
 use argon2_lines::{Answer, Call};
 use std::convert::AsSlice;
 use std::slice;
@@ -487,15 +489,8 @@ fn fill(argon2: &Argon2<'_>, memory: &mut [Words], at: [u32; 3]) -> bool {
     let (own, _) = split(split(lanes, segment.wrapping_mul(lane as usize)).1, segment);
     let fits = before.len() == start && own.len() == segment && after.len() == behind;
     if fits {
-        argon2.fill_segment(
-            argon2.params().data(),
-            before,
-            own,
-            after,
-            pass,
-            slice,
-            lane,
-        );
+        let at = Segment { pass, slice, lane };
+        argon2.fill_segment(argon2.params().data(), before, own, after, at);
     }
     fits
 }

@@ -21,6 +21,17 @@ use crate::params::SLICES;
 use crate::{Block, Work};
 use argon2_base::block::{Words, put_mixed_words};
 
+/// A segment: the columns of a lane in a slice, as they are filled in a pass (RFC 9106, section 3.4).
+#[derive(Clone, Copy, Debug)]
+pub struct Segment {
+    /// The pass.
+    pub pass: u32,
+    /// The slice, 0 to 3.
+    pub slice: u32,
+    /// The lane.
+    pub lane: u32,
+}
+
 impl Argon2<'_> {
     ghost use Rattle.std.specs.Prelude.{◌≡◌, ◌<◌, ◌≤◌, ◌^◌, length};
     ghost use Rattle.argon2_base.specs.Block.{bytes_of};
@@ -50,27 +61,25 @@ impl Argon2<'_> {
         instance.begin(pwd, salt, out_len, instance.segment_length(), first);
     }
 
-    /// Writes the blocks of a lane in a slice of a pass into `own`, its segment, under this associated
-    /// data in place of the parameters' (RFC 9106, section 3.2, steps 5 and 6). `before` has the slices
-    /// before it, and `after` those after it. The data has at most 4294967295 bytes.
+    /// Writes the blocks of a segment into `own`, under this associated data in place of the
+    /// parameters' (RFC 9106, section 3.2, steps 5 and 6). `before` has the slices before it, and
+    /// `after` those after it. The data has at most 4294967295 bytes.
     pub fn fill_segment(
         &self,
         associated: &[u8],
         before: &[Words],
         own: &mut [Words],
         after: &[Words],
-        pass: u32,
-        slice: u32,
-        lane: u32,
+        at: Segment,
     )
         requires data { length associated.now < 2 ^ 32 }
-        requires parts { AreLengths (context_of self.now) slice lane (length before.now)
+        requires parts { AreLengths (context_of self.now) at.slice at.lane (length before.now)
             (length own.old) (length after.now) }
-        ensures { FillsSegment (context_under self.now associated.now) pass slice lane before.now
-            own.old own.new after.now }
+        ensures { FillsSegment (context_under self.now associated.now) at.pass at.slice at.lane
+            before.now own.old own.new after.now }
     {
         let instance = Instance::new(self, associated);
-        instance.fill_own(before, own, after, pass, slice, lane);
+        instance.fill_own(before, own, after, at.pass, at.slice, at.lane);
     }
 
     /// Fills `out`, 1 to 4294967295 bytes, with H' of the exclusive or of the last column's blocks. `last` is the last
