@@ -28,23 +28,23 @@ pub use segments::Segment;
 use watch::Watch;
 
 /// The most bytes of a password.
-pub const MAX_PWD_LEN: usize = 4294967295;
+pub const MAX_PWD_LEN: usize = u32::MAX as usize;
 
 /// The fewest bytes of a salt.
 pub const MIN_SALT_LEN: usize = 8;
 
 /// The most bytes of a salt.
-pub const MAX_SALT_LEN: usize = 4294967295;
+pub const MAX_SALT_LEN: usize = u32::MAX as usize;
 
 /// The bytes of a salt that are recommended for hashing passwords (RFC 9106, section 3.1).
 pub const RECOMMENDED_SALT_LEN: usize = 16;
 
 /// The most bytes of a secret.
-pub const MAX_SECRET_LEN: usize = 4294967295;
+pub const MAX_SECRET_LEN: usize = u32::MAX as usize;
 
 /// The most bytes of the associated data of
 /// [`hash_password_into_with_data`](Argon2::hash_password_into_with_data).
-pub const MAX_AD_LEN: usize = 4294967295;
+pub const MAX_AD_LEN: usize = u32::MAX as usize;
 
 // A secret of at most 4294967295 bytes.
 #[derive(Clone, Copy)]

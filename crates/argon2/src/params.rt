@@ -43,7 +43,7 @@ impl Params {
     pub const MIN_M_COST: u32 = 8;
 
     /// The greatest memory cost.
-    pub const MAX_M_COST: u32 = 4294967295;
+    pub const MAX_M_COST: u32 = u32::MAX;
 
     /// The number of passes by default.
     pub const DEFAULT_T_COST: u32 = 2;
@@ -52,7 +52,7 @@ impl Params {
     pub const MIN_T_COST: u32 = 1;
 
     /// The greatest number of passes.
-    pub const MAX_T_COST: u32 = 4294967295;
+    pub const MAX_T_COST: u32 = u32::MAX;
 
     /// The number of lanes by default.
     pub const DEFAULT_P_COST: u32 = 1;
@@ -76,7 +76,7 @@ impl Params {
     pub const MIN_OUTPUT_LEN: usize = 4;
 
     /// The greatest length of an output in bytes.
-    pub const MAX_OUTPUT_LEN: usize = 4294967295;
+    pub const MAX_OUTPUT_LEN: usize = u32::MAX as usize;
 
     /// The parameters by default: 19456 blocks, 2 passes, 1 lane, no key identifier, no associated
     /// data, and any length of output.

@@ -35,9 +35,9 @@ fn reference_index(count: u32, word: u64) -> u32
     ensures within { result < count }
 {
     let count = count as u64;
-    let low = word % 4294967296;
-    let x = low * low / 4294967296;
-    (count - 1 - count * x / 4294967296) as u32
+    let low = word & u64::from(u32::MAX);
+    let x = (low * low) >> 32;
+    (count - 1 - ((count * x) >> 32)) as u32
 }
 
 impl<'a> Instance<'a> {
