@@ -22,12 +22,14 @@ _Static_assert(sizeof(argon2p_shown) == offsetof(argon2p_shown, name_len) + size
     && offsetof(argon2p_shown, data) == offsetof(argon2p_shown, name_len) + offsetof(struct phc_shown, data), "the same layout");
 _Static_assert(sizeof(argon2p_block) == sizeof(block), "the same blocks");
 
-/* Lengths: of outputs, if it is set, of the key identifier, the data and the secret; and then of what is made. */
-int32_t argon2_c_params_refusal(const struct request *, bool, size_t output, size_t keyid, size_t data, size_t secret);
-int32_t argon2_c_text_refusal(const struct request *, bool, size_t output, size_t keyid, size_t data, size_t secret,
-    size_t salt, size_t hash, size_t pwd);
-int32_t argon2_c_tag_refusal(const struct request *, bool, size_t output, size_t data, size_t secret,
-    size_t out, size_t pwd, size_t salt);
+struct phc_lengths {
+    size_t keyid, associated, secret, output;
+    bool has_output;
+};
+
+int32_t argon2_c_params_refusal(const struct request *, const struct phc_lengths *);
+int32_t argon2_c_text_refusal(const struct request *, const struct phc_lengths *, size_t salt, size_t hash, size_t pwd);
+int32_t argon2_c_tag_refusal(const struct request *, const struct phc_lengths *, size_t out, size_t pwd, size_t salt);
 
 int32_t argon2_c_phc_encode(const struct request *, bytes keyid, size_t, bytes data, size_t, bytes salt, size_t,
     bytes hash, size_t, uint8_t *out, size_t);
@@ -64,6 +66,10 @@ static bool lacks(const void *at, size_t n) { return !at && n; }
 static int params_null(const argon2p_params *p) {
     return lacks(p->secret, p->secret_len) ? ARGON2P_SECRET_NULL : lacks(p->data, p->data_len) ? ARGON2P_DATA_NULL
         : lacks(p->keyid, p->keyid_len) ? ARGON2P_KEYID_NULL : ARGON2P_OK;
+}
+
+static struct phc_lengths lengths_of(const argon2p_params *p) {
+    return (struct phc_lengths){p->keyid_len, p->data_len, p->secret_len, p->output_len, p->has_output_len != 0};
 }
 
 /* The bytes of the hash of a text under parameters. */
@@ -107,6 +113,7 @@ int argon2p_hash(const argon2p_params *params, const void *pwd, size_t pwd_len, 
     argon2p_params p;
     argon2_context c;
     struct request request;
+    struct phc_lengths lengths;
     int answer = read_params(&p, params);
     if (answer != ARGON2P_OK) return answer;
     if (lacks(pwd, pwd_len)) return ARGON2P_PASSWORD_NULL;
@@ -117,8 +124,8 @@ int argon2p_hash(const argon2p_params *params, const void *pwd, size_t pwd_len, 
     if (draws) salt = drawn, salt_len = sizeof drawn;
     c = context_of(&p, pwd, pwd_len, some(salt), salt_len, tag, hash_length(&p));
     request = requested(&c, p.algorithm);
-    answer = argon2_c_text_refusal(&request, p.has_output_len != 0, p.output_len, p.keyid_len, p.data_len, p.secret_len, salt_len,
-        hash_length(&p), pwd_len);
+    lengths = lengths_of(&p);
+    answer = argon2_c_text_refusal(&request, &lengths, salt_len, hash_length(&p), pwd_len);
     if (answer != ARGON2P_OK) return answer;
     answer = encode(&p, &request, salt, salt_len, tag, c.outlen, made); /* of a hash of zeros: it has the length */
     if (answer == ARGON2P_OK && strlen((char *)made) >= room) answer = ARGON2P_ROOM_TOO_SHORT;
@@ -137,6 +144,7 @@ int argon2p_encode(const argon2p_params *params, const void *salt, size_t salt_l
     argon2p_params p;
     argon2_context c;
     struct request request;
+    struct phc_lengths lengths;
     int answer = read_params(&p, params);
     if (answer != ARGON2P_OK) return answer;
     if (lacks(salt, salt_len)) return ARGON2P_SALT_NULL;
@@ -146,8 +154,8 @@ int argon2p_encode(const argon2p_params *params, const void *salt, size_t salt_l
     if (!text) return ARGON2P_TEXT_NULL;
     c = context_of(&p, NULL, 0, NULL, 0, nothing, 0);
     request = requested(&c, p.algorithm);
-    answer = argon2_c_text_refusal(&request, p.has_output_len != 0, p.output_len, p.keyid_len, p.data_len, p.secret_len, salt_len,
-        hash_len, 0);
+    lengths = lengths_of(&p);
+    answer = argon2_c_text_refusal(&request, &lengths, salt_len, hash_len, 0);
     if (answer != ARGON2P_OK) return answer;
     answer = encode(&p, &request, some(salt), salt_len, some(hash), hash_len, made);
     if (answer == ARGON2P_OK && strlen((char *)made) >= room) answer = ARGON2P_ROOM_TOO_SHORT;
@@ -161,12 +169,14 @@ int argon2p_check(const argon2p_params *params) {
     argon2p_params p;
     argon2_context c;
     struct request request;
+    struct phc_lengths lengths;
     int answer = read_params(&p, params);
     if (answer == ARGON2P_OK) answer = params_null(&p);
     if (answer != ARGON2P_OK) return answer;
     c = context_of(&p, NULL, 0, NULL, 0, nothing, 0);
     request = requested(&c, p.algorithm);
-    return argon2_c_params_refusal(&request, p.has_output_len != 0, p.output_len, p.keyid_len, p.data_len, p.secret_len);
+    lengths = lengths_of(&p);
+    return argon2_c_params_refusal(&request, &lengths);
 }
 
 int argon2p_parse(const char *text, size_t text_len, argon2p_shown *shown) {
@@ -185,6 +195,7 @@ int argon2p_needs_rehash(const argon2p_params *wanted, const char *text, size_t 
     argon2p_params p;
     argon2_context c;
     struct request request;
+    struct phc_lengths lengths;
     int code = read_params(&p, wanted);
     if (code != ARGON2P_OK) return code;
     p.secret = NULL, p.secret_len = 0;
@@ -194,7 +205,8 @@ int argon2p_needs_rehash(const argon2p_params *wanted, const char *text, size_t 
     if (!answer) return ARGON2P_OUTPUT_NULL;
     c = context_of(&p, NULL, 0, NULL, 0, nothing, 0);
     request = requested(&c, p.algorithm);
-    code = argon2_c_params_refusal(&request, p.has_output_len != 0, p.output_len, p.keyid_len, p.data_len, 0);
+    lengths = lengths_of(&p);
+    code = argon2_c_params_refusal(&request, &lengths);
     if (code != ARGON2P_OK) return code;
     code = argon2_c_phc_renewal(&request, hash_length(&p), some(p.keyid), p.keyid_len, some(p.data), p.data_len, some(text), text_len);
     if (code < 0) return code;
@@ -287,8 +299,8 @@ size_t argon2p_block_count(uint32_t m_cost, uint32_t p_cost) {
 static int tag_refusal(const argon2p_params *p, const argon2_context *c, size_t out_len, size_t pwd_len, size_t salt_len, bool is_lent,
     const void *memory, size_t blocks) {
     const struct request request = requested(c, p->algorithm);
-    const int answer = argon2_c_tag_refusal(&request, p->has_output_len != 0, p->output_len, p->data_len, p->secret_len, out_len,
-        pwd_len, salt_len);
+    const struct phc_lengths lengths = lengths_of(p);
+    const int answer = argon2_c_tag_refusal(&request, &lengths, out_len, pwd_len, salt_len);
     if (answer != ARGON2P_OK) return answer;
     if (is_lent && blocks < block_count(c)) return ARGON2P_BLOCKS_TOO_FEW;
     if (meets_input(c, c->out, c->outlen)) return ARGON2P_OVERLAP;

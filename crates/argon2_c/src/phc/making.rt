@@ -18,6 +18,33 @@ use argon2::{
     Params, ParamsBuilder, PasswordHash,
 };
 
+/// The lengths of a C caller's parameters.
+#[repr(C)]
+#[derive(Clone, Copy)]
+pub struct PhcLengths {
+    /// The bytes of the key identifier.
+    pub keyid: usize,
+    /// The bytes of the associated data.
+    pub associated: usize,
+    /// The bytes of the secret.
+    pub secret: usize,
+    /// The bytes of outputs, if that is set.
+    pub output: usize,
+    /// Whether the length of outputs is set.
+    pub has_output: bool,
+}
+
+// The length of outputs, if it is set.
+fn output_of(lengths: &PhcLengths) -> Option<usize>
+    ensures { result ≡ length_set lengths.now.has_output lengths.now.output }
+{
+    if lengths.has_output {
+        Some(lengths.output)
+    } else {
+        None
+    }
+}
+
 // Why parameters are refused, of which outputs have this length, if it is set.
 fn params_refusal(
     request: &Request,
@@ -29,40 +56,36 @@ fn params_refusal(
 ) -> Option<i32>
     ensures { result ≡ params_refusal request.now output most_associated keyid associated secret }
 {
-    match Params::new(request.m_cost, request.t_cost, request.lanes, output) {
-        Ok(_) => match () {
-            _ if keyid > KeyId::MAX_LEN => Some(KEYID_TOO_LONG),
-            _ if associated > most_associated => Some(AD_TOO_LONG),
-            _ if request.algorithm > 2 => Some(NO_ALGORITHM),
-            _ if request.version != 16 && request.version != 19 => Some(NO_VERSION),
-            _ if secret > MAX_SECRET_LEN => Some(SECRET_TOO_LONG),
-            _ => None,
-        },
-        Err(error) => Some(error_code(&error)),
+    if let Err(error) = Params::new(request.m_cost, request.t_cost, request.lanes, output) {
+        Some(error_code(&error))
+    } else if keyid > KeyId::MAX_LEN {
+        Some(KEYID_TOO_LONG)
+    } else if associated > most_associated {
+        Some(AD_TOO_LONG)
+    } else if request.algorithm > 2 {
+        Some(NO_ALGORITHM)
+    } else if request.version != 16 && request.version != 19 {
+        Some(NO_VERSION)
+    } else if secret > MAX_SECRET_LEN {
+        Some(SECRET_TOO_LONG)
+    } else {
+        None
     }
 }
 
-/// The code of the first fault of parameters, or 0. Outputs have the length `output`, if `is_set`.
+/// The code of the first fault of parameters, or 0.
 #[unsafe(no_mangle)]
-pub extern "C" fn argon2_c_params_refusal(
-    request: &Request,
-    is_set: bool,
-    output: usize,
-    keyid: usize,
-    associated: usize,
-    secret: usize,
-) -> i32
-    ensures { result ≡ unwrap_or
-        (params_refusal request.now (length_set is_set output) 32 keyid associated secret) OK }
+pub extern "C" fn argon2_c_params_refusal(request: &Request, lengths: &PhcLengths) -> i32
+    ensures { let n = lengths.now in result ≡ unwrap_or (params_refusal request.now
+        (length_set n.has_output n.output) 32 n.keyid n.associated n.secret) OK }
 {
-    let output = if is_set { Some(output) } else { None };
     params_refusal(
         request,
-        output,
+        output_of(lengths),
         AssociatedData::MAX_LEN,
-        keyid,
-        associated,
-        secret,
+        lengths.keyid,
+        lengths.associated,
+        lengths.secret,
     )
     .unwrap_or(OK)
 }
@@ -72,22 +95,18 @@ pub extern "C" fn argon2_c_params_refusal(
 #[unsafe(no_mangle)]
 pub extern "C" fn argon2_c_text_refusal(
     request: &Request,
-    is_set: bool,
-    output: usize,
-    keyid: usize,
-    associated: usize,
-    secret: usize,
+    lengths: &PhcLengths,
     salt: usize,
     hash: usize,
     pwd: usize,
 ) -> i32
-    ensures { result ≡ unwrap_or (option_or
-        (params_refusal request.now (length_set is_set output) 32 keyid associated secret)
-        (first_of (text_faults salt hash pwd))) OK }
+    ensures { let n = lengths.now in result ≡ unwrap_or (option_or
+        (params_refusal request.now (length_set n.has_output n.output) 32 n.keyid n.associated
+        n.secret) (first_of (text_faults salt hash pwd))) OK }
 {
-    let output = if is_set { Some(output) } else { None };
     let most = AssociatedData::MAX_LEN;
-    match params_refusal(request, output, most, keyid, associated, secret) {
+    let (keyid, associated, secret) = (lengths.keyid, lengths.associated, lengths.secret);
+    match params_refusal(request, output_of(lengths), most, keyid, associated, secret) {
         Some(code) => code,
         None => text_refusal(salt, hash, pwd).unwrap_or(OK),
     }
@@ -97,35 +116,39 @@ pub extern "C" fn argon2_c_text_refusal(
 fn text_refusal(salt: usize, hash: usize, pwd: usize) -> Option<i32>
     ensures { result ≡ first_of (text_faults salt hash pwd) }
 {
-    match () {
-        _ if salt < Salt::MIN_LENGTH => Some(SALT_TOO_SHORT),
-        _ if salt > Salt::MAX_LENGTH => Some(SALT_TOO_LONG),
-        _ if hash < Output::MIN_LENGTH => Some(OUTPUT_TOO_SHORT),
-        _ if hash > Output::MAX_LENGTH => Some(OUTPUT_TOO_LONG),
-        _ if pwd > MAX_PWD_LEN => Some(PWD_TOO_LONG),
-        _ => None,
+    if salt < Salt::MIN_LENGTH {
+        Some(SALT_TOO_SHORT)
+    } else if salt > Salt::MAX_LENGTH {
+        Some(SALT_TOO_LONG)
+    } else if hash < Output::MIN_LENGTH {
+        Some(OUTPUT_TOO_SHORT)
+    } else if hash > Output::MAX_LENGTH {
+        Some(OUTPUT_TOO_LONG)
+    } else if pwd > MAX_PWD_LEN {
+        Some(PWD_TOO_LONG)
+    } else {
+        None
     }
 }
 
-/// The code of the first fault of parameters, whose data has up to 4294967295 bytes, and then of a tag of so many
-/// bytes of a password and a salt of so many; or 0.
+/// The code of the first fault of parameters, whose data has up to 4294967295 bytes and whose key identifier has
+/// none, and then of a tag of so many bytes of a password and a salt of so many; or 0.
 #[unsafe(no_mangle)]
 pub extern "C" fn argon2_c_tag_refusal(
     request: &Request,
-    is_set: bool,
-    output: usize,
-    associated: usize,
-    secret: usize,
+    lengths: &PhcLengths,
     out: usize,
     pwd: usize,
     salt: usize,
 ) -> i32
-    ensures { result ≡ unwrap_or (option_or
-        (params_refusal request.now (length_set is_set output) 4294967295 0 associated secret)
-        (first_of (tag_faults (length_set is_set output) out pwd salt))) OK }
+    ensures { let n = lengths.now in let output = length_set n.has_output n.output in
+        result ≡ unwrap_or (option_or
+        (params_refusal request.now output 4294967295 0 n.associated n.secret)
+        (first_of (tag_faults output out pwd salt))) OK }
 {
-    let output = if is_set { Some(output) } else { None };
-    match params_refusal(request, output, MAX_AD_LEN, 0, associated, secret) {
+    let output = output_of(lengths);
+    let secret = lengths.secret;
+    match params_refusal(request, output, MAX_AD_LEN, 0, lengths.associated, secret) {
         Some(code) => code,
         None => tag_refusal(output, out, pwd, salt).unwrap_or(OK),
     }
@@ -135,13 +158,18 @@ pub extern "C" fn argon2_c_tag_refusal(
 fn tag_refusal(output: Option<usize>, out: usize, pwd: usize, salt: usize) -> Option<i32>
     ensures { result ≡ first_of (tag_faults output out pwd salt) }
 {
-    match () {
-        _ if out < output.unwrap_or(Params::MIN_OUTPUT_LEN) => Some(OUTPUT_TOO_SHORT),
-        _ if out > output.unwrap_or(Params::MAX_OUTPUT_LEN) => Some(OUTPUT_TOO_LONG),
-        _ if pwd > MAX_PWD_LEN => Some(PWD_TOO_LONG),
-        _ if salt < MIN_SALT_LEN => Some(SALT_TOO_SHORT),
-        _ if salt > MAX_SALT_LEN => Some(SALT_TOO_LONG),
-        _ => None,
+    if out < output.unwrap_or(Params::MIN_OUTPUT_LEN) {
+        Some(OUTPUT_TOO_SHORT)
+    } else if out > output.unwrap_or(Params::MAX_OUTPUT_LEN) {
+        Some(OUTPUT_TOO_LONG)
+    } else if pwd > MAX_PWD_LEN {
+        Some(PWD_TOO_LONG)
+    } else if salt < MIN_SALT_LEN {
+        Some(SALT_TOO_SHORT)
+    } else if salt > MAX_SALT_LEN {
+        Some(SALT_TOO_LONG)
+    } else {
+        None
     }
 }
 
