@@ -33,8 +33,7 @@ int32_t argon2_c_hash(const struct request *, bytes pwd, size_t, bytes salt, siz
     bytes associated, size_t, block *memory, size_t, uint8_t *out, size_t);
 int32_t argon2_c_length_refusal(size_t output, size_t pwd, size_t salt);
 int32_t argon2_c_compare(bytes, size_t, bytes, size_t);
-int32_t argon2_c_encode(uint32_t algorithm, uint32_t version, uint32_t m_cost, uint32_t t_cost, uint32_t lanes,
-    bytes salt, size_t, bytes tag, size_t, uint8_t *out, size_t);
+int32_t argon2_c_encode(const struct request *, bytes salt, size_t, bytes tag, size_t, uint8_t *out, size_t);
 size_t argon2_c_encoded_length(uint32_t algorithm, uint32_t m_cost, uint32_t t_cost, uint32_t lanes,
     uint32_t salt, uint32_t tag);
 /* What a text says; its salt and its tag are at the front of the room that was lent for it. */
@@ -232,8 +231,10 @@ int argon2_hash(uint32_t t_cost, uint32_t m_cost, uint32_t lanes, const void *pw
     c.out = malloc(hashlen + room);
     if (!c.out) return ARGON2_MEMORY_ALLOCATION_ERROR;
     answer = hash_into(&c, type, c.out);
-    if (answer == ARGON2_OK && room)
-        answer = argon2_c_encode(type, version, m_cost, t_cost, lanes, salt, saltlen, c.out, hashlen, c.out + hashlen, room);
+    if (answer == ARGON2_OK && room) {
+        const struct request request = requested(&c, type);
+        answer = argon2_c_encode(&request, salt, saltlen, c.out, hashlen, c.out + hashlen, room);
+    }
     if (answer == ARGON2_OK && hash) memcpy(hash, c.out, hashlen);
     if (answer == ARGON2_OK && room) memcpy(encoded, c.out + hashlen, room);
     wipe_and_free(c.out, hashlen + room);

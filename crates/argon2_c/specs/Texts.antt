@@ -5,6 +5,7 @@ use Rattle.base64.specs.Decode.{IsWrittenOver}
 use Rattle.argon2_base.specs.Texts.{IsBytes, strict_base64}
 use Rattle.argon2_c.specs.declared.code.TheConstants.{ENCODING_FAIL, OK}
 use Rattle.argon2_c.specs.declared.decode.Shown.{Shown}
+use Rattle.argon2_c.specs.declared.request.Request.{Request}
 
 -- what a text says beside the name
 pub record Said : Type 0 where
@@ -66,6 +67,10 @@ spelling name v = joined name (written v)
 -- the text of these numbers, salt and hash
 abbrev pub text_of : ℕ → ℕ → ℕ → ℕ → ℕ → List ℕ → List ℕ → List ℕ
 text_of algorithm version m t p salt tag = spelling (name_numbered algorithm) (said_of (Some version) m t p salt tag)
+
+-- the text of a request's numbers, a salt and a hash
+abbrev pub text_asked : Request → List ℕ → List ℕ → List ℕ
+text_asked r salt tag = text_of r.algorithm r.version r.m_cost r.t_cost r.lanes salt tag
 
 -- the code of writing a text into so much room: a zero byte has to fit too
 abbrev pub encode_code : ℕ → List ℕ → ℕ → ℤ

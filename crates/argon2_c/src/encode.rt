@@ -3,10 +3,11 @@
 ghost use Rattle.std.specs.Prelude.{◌≡◌, ◌≢◌, ◌++◌, ◌∷◌, ◌+◌, ◌*◌, ◌/◌, ◌<◌, ◌≤◌, ℕ, List, Some, suc, length, drop};
 ghost use Rattle.std.specs.Fmt.{decimal};
 ghost use Rattle.argon2_base.specs.Texts.{strict_base64};
-ghost use Rattle.argon2_c.specs.Texts.{Appends, costs_part, encode_code, name_numbered, text_of, version_part};
+ghost use Rattle.argon2_c.specs.Texts.{Appends, costs_part, encode_code, name_numbered, text_asked, text_of, version_part};
 
 use crate::code::{ENCODING_FAIL, OK};
 use crate::hash::name;
+use crate::request::Request;
 use arrayvec::ArrayString;
 use base64::engine::general_purpose::STANDARD_NO_PAD;
 use itoa::Buffer;
@@ -14,22 +15,21 @@ use itoa::Buffer;
 /// Writes a hash as a text with a zero byte behind it, and returns 0. Returns -31 if there is no such
 /// variant or too little room; `out` is then as before.
 #[unsafe(no_mangle)]
-pub extern "C" fn argon2_c_encode(
-    algorithm: u32,
-    version: u32,
-    m_cost: u32,
-    t_cost: u32,
-    lanes: u32,
-    salt: &[u8],
-    tag: &[u8],
-    out: &mut [u8],
-) -> i32
-    ensures answer { let text = text_of algorithm version m_cost t_cost lanes salt.now tag.now in
-        result ≡ encode_code algorithm text (length out.old) }
-    ensures written { let text = text_of algorithm version m_cost t_cost lanes salt.now tag.now in
+pub extern "C" fn argon2_c_encode(request: &Request, salt: &[u8], tag: &[u8], out: &mut [u8]) -> i32
+    ensures answer { let text = text_asked request.now salt.now tag.now in
+        result ≡ encode_code request.now.algorithm text (length out.old) }
+    ensures written { let text = text_asked request.now salt.now tag.now in
         result ≡ OK → out.new ≡ text ++ 0 ∷ drop (suc (length text)) out.old }
     ensures same { result ≢ OK → out.new ≡ out.old }
 {
+    let Request {
+        algorithm,
+        version,
+        m_cost,
+        t_cost,
+        lanes,
+        ..
+    } = *request;
     if algorithm > 2 {
         return ENCODING_FAIL;
     }
