@@ -42,14 +42,18 @@ struct shown {
     size_t salt, tag; /* lengths */
 };
 
-int32_t argon2_c_verify(uint32_t algorithm, bool has_text, bytes text, size_t, bytes pwd, size_t, size_t absent,
-    struct shown *, uint8_t *room, size_t, block *memory, size_t);
+int32_t argon2_c_decode(uint32_t algorithm, bool has_text, bytes text, size_t, size_t pwd, bool lacks_pwd, struct shown *,
+    uint8_t *room, size_t);
 
 /* A hash by parts, which threads.c puts together. */
+struct place {
+    uint32_t pass, slice, lane;
+};
+
 int32_t argon2_c_begin(const struct request *, bytes pwd, size_t, bytes salt, size_t, bytes secret, size_t,
     bytes associated, size_t, size_t output, block *slice, size_t);
 int32_t argon2_c_segment(const struct request *, bytes secret, size_t, bytes associated, size_t, const block *before,
-    size_t, block *own, size_t, const block *after, size_t, uint32_t pass, uint32_t slice, uint32_t lane);
+    size_t, block *own, size_t, const block *after, size_t, const struct place *);
 int32_t argon2_c_finish(const struct request *, const block *last, size_t, uint8_t *out, size_t);
 
 /* Stands for a null pointer, with length 0. */
@@ -258,35 +262,20 @@ static size_t used(const struct shown *shown, int answer, const char *text, size
     return text ? 2 * n : 0;
 }
 
-/* `room` is for what the text says, and for the tag that is made: two bytes for each of the text. */
-static int verify_on(argon2_type type, const char *text, size_t n, const void *pwd, size_t pwdlen, struct shown *shown,
-    uint8_t *room, block *memory, size_t blocks) {
-    return argon2_c_verify(type, text != NULL, some(text), n, some(pwd), length(pwd, pwdlen), pwd ? 0 : pwdlen, shown,
-        some(room), length(room, 2 * n), memory, blocks);
-}
-
 int argon2_verify(const char *encoded, const void *pwd, size_t pwdlen, argon2_type type) {
     const size_t n = encoded ? strlen(encoded) : 0;
-    uint8_t *const room = malloc(2 * n);
+    uint8_t *const room = malloc(2 * n); /* for what the text says, and for the tag that is made: two bytes for each of the text */
     struct shown shown = {0};
-    int answer = verify_on(type, encoded, n, pwd, pwdlen, &shown, room, (block *)nothing, 0);
-    if (answer == ARGON2_INCORRECT_PARAMETER) { /* nothing is wrong but that there was no memory */
+    int answer = argon2_c_decode(type, encoded != NULL, some(encoded), n, pwdlen, !pwd && pwdlen, &shown, some(room),
+        length(room, 2 * n));
+    if (answer == ARGON2_OK) {
         const argon2_context c = {
             .out = room + shown.salt + shown.tag, .outlen = shown.tag, .pwd = (uint8_t *)pwd, .pwdlen = pwdlen, .salt = room,
             .saltlen = shown.salt, .t_cost = shown.t_cost, .m_cost = shown.m_cost, .lanes = shown.lanes,
             .threads = shown.lanes, .version = shown.version,
         };
-        block *const memory = new_blocks(block_count(&c));
-        if (!memory) {
-            answer = ARGON2_MEMORY_ALLOCATION_ERROR;
-        } else if (worker_count(&c) > 1) {
-            answer = hash_on(&c, type, c.out, memory, true);
-            if (answer == ARGON2_OK) answer = argon2_c_compare(room + c.saltlen, c.outlen, c.out, c.outlen);
-        } else {
-            answer = verify_on(type, encoded, n, pwd, pwdlen, &shown, room, memory, block_count(&c));
-            wipe(memory, block_count(&c) * sizeof(block));
-        }
-        if (memory) free_blocks(memory, block_count(&c));
+        answer = hash_into(&c, type, c.out);
+        if (answer == ARGON2_OK) answer = argon2_c_compare(room + c.saltlen, c.outlen, c.out, c.outlen);
     }
     if (room) wipe_and_free(room, used(&shown, answer, encoded, n));
     wipe_stack();
@@ -296,8 +285,10 @@ int argon2_verify(const char *encoded, const void *pwd, size_t pwdlen, argon2_ty
 int argon2_verify_ctx(argon2_context *c, const char *hash, argon2_type type) {
     const argon2_context before = c ? *c : (argon2_context){0}; /* a callback may change it */
     int answer;
-    /* (the tag of any password would be compared with itself) */
-    if (c && meet(hash, c->outlen, c->out, c->outlen) && refusal(c, type) == ARGON2_OK) return ARGON2_OUT_PTR_MISMATCH;
+    if (c && meet(hash, c->outlen, c->out, c->outlen)) { /* the tag of any password would be compared with itself */
+        answer = refusal(c, type);
+        return answer == ARGON2_OK ? ARGON2_OUT_PTR_MISMATCH : answer;
+    }
     answer = argon2_ctx(c, type);
     if (answer != ARGON2_OK) return answer;
     return argon2_c_compare(some(hash), length(hash, before.outlen), before.out, before.outlen);

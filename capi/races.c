@@ -51,10 +51,10 @@ int32_t watched_finish(const struct request *request, const block *last, size_t 
 
 /* The first segment waits, so that other threads are there to fill the others. */
 int32_t watched_segment(const struct request *request, bytes secret, size_t secretlen, bytes ad, size_t adlen,
-    const block *before, size_t before_n, block *own, size_t n, const block *after, size_t after_n, uint32_t pass,
-    uint32_t slice, uint32_t lane) {
+    const block *before, size_t before_n, block *own, size_t n, const block *after, size_t after_n,
+    const struct place *at) {
     const size_t width = n * lanes;
-    const uint32_t step = 4 * pass + slice;
+    const uint32_t slice = at->slice, lane = at->lane, step = 4 * at->pass + slice;
     int32_t answer;
     if (step == 0 && lane == 0) usleep(20000);
     if (ANNOTATES) {
@@ -66,8 +66,7 @@ int32_t watched_segment(const struct request *request, bytes secret, size_t secr
         __tsan_write_range(own, n * sizeof *own);
         __tsan_read_range((block *)after, after_n * sizeof *after);
     }
-    answer = argon2_c_segment(request, secret, secretlen, ad, adlen, before, before_n, own, n, after, after_n, pass, slice,
-        lane);
+    answer = argon2_c_segment(request, secret, secretlen, ad, adlen, before, before_n, own, n, after, after_n, at);
     if (ANNOTATES) atomic_fetch_add_explicit(&filled[step], 1, memory_order_relaxed);
     return answer;
 }

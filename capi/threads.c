@@ -56,9 +56,9 @@ static int fill_segments(const struct filling *f, uint32_t pass, uint32_t slice,
     const size_t width = f->segment * c->lanes;
     block *here = f->blocks + slice * width;
     int answer = ARGON2_OK;
-    for (uint32_t end = lane + n; lane < end && answer == ARGON2_OK; lane++)
-        answer = argon2_c_segment(f->request, SECRET_AND_DATA(c), f->blocks, slice * width, here + lane * f->segment,
-            f->segment, here + width, (3 - slice) * width, pass, slice, lane);
+    for (struct place at = {pass, slice, lane}; at.lane < lane + n && answer == ARGON2_OK; at.lane++)
+        answer = argon2_c_segment(f->request, SECRET_AND_DATA(c), f->blocks, slice * width, here + at.lane * f->segment,
+            f->segment, here + width, (3 - slice) * width, &at);
     return answer;
 }
 

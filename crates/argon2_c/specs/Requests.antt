@@ -1,8 +1,7 @@
 -- What a C caller asks for: what its hash depends on, and why it is refused.
-use Rattle.std.specs.Prelude.{◌≡◌, ◌⊎◌, ℕ, ◌*◌, ◌-◌, ◌≤◌, ◌&&◌, not, nat_lt, ◌==◌, Bool, ℤ, List, [], ◌∷◌}
-use Rattle.argon2.specs.Rfc9106.{Context, segment_length}
+use Rattle.std.specs.Prelude.{◌≡◌, ◌⊎◌, ℕ, ◌*◌, ◌≤◌, ◌&&◌, not, nat_lt, ◌==◌, Bool, ℤ, List, [], ◌∷◌}
+use Rattle.argon2.specs.Rfc9106.{Context}
 use Rattle.argon2.specs.Refusals.{max_len}
-use Rattle.argon2.specs.Segments.{slice_length}
 use Rattle.argon2.specs.Settings.{max_lanes}
 use Rattle.argon2_c.specs.declared.code.TheConstants.{OUTPUT_PTR_NULL, OUTPUT_TOO_SHORT, OUTPUT_TOO_LONG, PWD_TOO_LONG, SALT_TOO_SHORT, SALT_TOO_LONG, AD_TOO_LONG, SECRET_TOO_LONG, TIME_TOO_SMALL, MEMORY_TOO_LITTLE, LANES_TOO_FEW, LANES_TOO_MANY, PWD_PTR_MISMATCH, SALT_PTR_MISMATCH, SECRET_PTR_MISMATCH, AD_PTR_MISMATCH, FREE_MEMORY_CBK_NULL, ALLOCATE_MEMORY_CBK_NULL, INCORRECT_TYPE, THREADS_TOO_FEW, THREADS_TOO_MANY}
 use Rattle.argon2_c.specs.declared.request.Request.{Request}
@@ -57,7 +56,7 @@ length_faults output password salt =
     ∷ (nat_lt output 4, OUTPUT_TOO_SHORT)
     ∷ []
 
--- what is known of a request that is not refused
+-- what a hash needs of a request, which a request has that is not refused: null pointers, threads and callbacks aside
 pub record IsFaultless (r : Request) (output password salt secret associated : ℕ) : Type 0 where
   pub out_least : 4 ≤ output
   pub out_most : output ≤ max_len
@@ -72,12 +71,3 @@ pub record IsFaultless (r : Request) (output password salt secret associated : �
   pub lanes_most : r.lanes ≤ max_lanes
   pub is_variant : r.algorithm ≤ 2
   pub is_version : (r.version ≡ 16) ⊎ (r.version ≡ 19)
-
--- whether there is such a segment, and the parts of the memory have the lengths that it asks for
-abbrev pub are_lengths : Context → ℕ → ℕ → ℕ → ℕ → ℕ → Bool
-are_lengths ctx slice lane before own after =
-    nat_lt slice 4
-    && (nat_lt lane ctx.p_cost
-    && ((before == slice * slice_length ctx)
-    && ((own == segment_length ctx)
-    && (after == (3 - slice) * slice_length ctx))))

@@ -1,6 +1,6 @@
 //! What a C caller asks for, and why it is refused.
 
-ghost use Rattle.std.specs.Prelude.{◌≡◌, ◌≢◌, IfSome, IsNone, unwrap_or};
+ghost use Rattle.std.specs.Prelude.{◌≡◌, unwrap_or};
 ghost use Rattle.argon2.specs.Refusals.{first_of};
 ghost use Rattle.argon2_c.specs.Requests.{IsFaultless, length_faults, request_faults};
 
@@ -39,48 +39,6 @@ pub struct Request {
     pub has_free: bool,
 }
 
-/// Why a request for so many bytes is refused.
-pub fn refusal(
-    request: &Request,
-    output: usize,
-    pwd: usize,
-    salt: usize,
-    secret: usize,
-    associated: usize,
-) -> Option<i32>
-    ensures first { result ≡ first_of (request_faults request.now output pwd salt secret
-        associated) }
-    ensures none { IsNone result → IsFaultless request.now output pwd salt secret associated }
-    ensures fault { IfSome result (λ code. code ≢ OK) }
-{
-    match () {
-        _ if request.lacks_output => Some(OUTPUT_PTR_NULL),
-        _ if output < Params::MIN_OUTPUT_LEN => Some(OUTPUT_TOO_SHORT),
-        _ if output > Params::MAX_OUTPUT_LEN => Some(OUTPUT_TOO_LONG),
-        _ if request.lacks_pwd => Some(PWD_PTR_MISMATCH),
-        _ if pwd > MAX_PWD_LEN => Some(PWD_TOO_LONG),
-        _ if request.lacks_salt => Some(SALT_PTR_MISMATCH),
-        _ if salt < MIN_SALT_LEN => Some(SALT_TOO_SHORT),
-        _ if salt > MAX_SALT_LEN => Some(SALT_TOO_LONG),
-        _ if request.lacks_secret => Some(SECRET_PTR_MISMATCH),
-        _ if secret > MAX_SECRET_LEN => Some(SECRET_TOO_LONG),
-        _ if request.lacks_associated => Some(AD_PTR_MISMATCH),
-        _ if associated > MAX_AD_LEN => Some(AD_TOO_LONG),
-        _ if request.m_cost < 8 => Some(MEMORY_TOO_LITTLE),
-        _ if (request.m_cost as u64) < 8 * request.lanes as u64 => Some(MEMORY_TOO_LITTLE),
-        _ if request.t_cost < 1 => Some(TIME_TOO_SMALL),
-        _ if request.lanes < 1 => Some(LANES_TOO_FEW),
-        _ if request.lanes > Params::MAX_P_COST => Some(LANES_TOO_MANY),
-        _ if request.threads < 1 => Some(THREADS_TOO_FEW),
-        _ if request.threads > Params::MAX_P_COST => Some(THREADS_TOO_MANY),
-        _ if request.has_allocate && !request.has_free => Some(FREE_MEMORY_CBK_NULL),
-        _ if !request.has_allocate && request.has_free => Some(ALLOCATE_MEMORY_CBK_NULL),
-        _ if request.algorithm > 2 => Some(INCORRECT_TYPE),
-        _ if request.version != 16 && request.version != 19 => Some(INCORRECT_TYPE),
-        _ => None,
-    }
-}
-
 /// The code of the first fault of a request for so many bytes, or 0.
 #[unsafe(no_mangle)]
 pub extern "C" fn argon2_c_refusal(
@@ -91,10 +49,59 @@ pub extern "C" fn argon2_c_refusal(
     secret: usize,
     associated: usize,
 ) -> i32
-    ensures { result ≡ unwrap_or (first_of (request_faults request.now output pwd salt secret
+    ensures first { result ≡ unwrap_or (first_of (request_faults request.now output pwd salt secret
         associated)) OK }
+    ensures none { result ≡ OK → IsFaultless request.now output pwd salt secret associated }
 {
-    refusal(request, output, pwd, salt, secret, associated).unwrap_or(OK)
+    if request.lacks_output {
+        OUTPUT_PTR_NULL
+    } else if output < Params::MIN_OUTPUT_LEN {
+        OUTPUT_TOO_SHORT
+    } else if output > Params::MAX_OUTPUT_LEN {
+        OUTPUT_TOO_LONG
+    } else if request.lacks_pwd {
+        PWD_PTR_MISMATCH
+    } else if pwd > MAX_PWD_LEN {
+        PWD_TOO_LONG
+    } else if request.lacks_salt {
+        SALT_PTR_MISMATCH
+    } else if salt < MIN_SALT_LEN {
+        SALT_TOO_SHORT
+    } else if salt > MAX_SALT_LEN {
+        SALT_TOO_LONG
+    } else if request.lacks_secret {
+        SECRET_PTR_MISMATCH
+    } else if secret > MAX_SECRET_LEN {
+        SECRET_TOO_LONG
+    } else if request.lacks_associated {
+        AD_PTR_MISMATCH
+    } else if associated > MAX_AD_LEN {
+        AD_TOO_LONG
+    } else if request.m_cost < Params::MIN_M_COST {
+        MEMORY_TOO_LITTLE
+    } else if (request.m_cost as u64) < 8 * request.lanes as u64 {
+        MEMORY_TOO_LITTLE
+    } else if request.t_cost < Params::MIN_T_COST {
+        TIME_TOO_SMALL
+    } else if request.lanes < Params::MIN_P_COST {
+        LANES_TOO_FEW
+    } else if request.lanes > Params::MAX_P_COST {
+        LANES_TOO_MANY
+    } else if request.threads < Params::MIN_P_COST {
+        THREADS_TOO_FEW
+    } else if request.threads > Params::MAX_P_COST {
+        THREADS_TOO_MANY
+    } else if request.has_allocate && !request.has_free {
+        FREE_MEMORY_CBK_NULL
+    } else if !request.has_allocate && request.has_free {
+        ALLOCATE_MEMORY_CBK_NULL
+    } else if request.algorithm > 2 {
+        INCORRECT_TYPE
+    } else if request.version != 16 && request.version != 19 {
+        INCORRECT_TYPE
+    } else {
+        OK
+    }
 }
 
 /// The code by which `argon2_hash` refuses these lengths before all else, or 0.
@@ -102,11 +109,15 @@ pub extern "C" fn argon2_c_refusal(
 pub extern "C" fn argon2_c_length_refusal(output: usize, pwd: usize, salt: usize) -> i32
     ensures { result ≡ unwrap_or (first_of (length_faults output pwd salt)) OK }
 {
-    match () {
-        _ if pwd > MAX_PWD_LEN => PWD_TOO_LONG,
-        _ if salt > MAX_SALT_LEN => SALT_TOO_LONG,
-        _ if output > Params::MAX_OUTPUT_LEN => OUTPUT_TOO_LONG,
-        _ if output < Params::MIN_OUTPUT_LEN => OUTPUT_TOO_SHORT,
-        _ => OK,
+    if pwd > MAX_PWD_LEN {
+        PWD_TOO_LONG
+    } else if salt > MAX_SALT_LEN {
+        SALT_TOO_LONG
+    } else if output > Params::MAX_OUTPUT_LEN {
+        OUTPUT_TOO_LONG
+    } else if output < Params::MIN_OUTPUT_LEN {
+        OUTPUT_TOO_SHORT
+    } else {
+        OK
     }
 }

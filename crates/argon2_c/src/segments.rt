@@ -4,24 +4,36 @@
 //! The memory is laid out slice by slice, in each slice lane by lane: with segments of S = m / (4 p)
 //! blocks, the block of a lane and a column is at ((column / S) * p + lane) * S + column % S.
 
-ghost use Rattle.std.specs.Prelude.{◌≡◌, ◌≢◌, ◌*◌, ◌/◌, ◌<◌, ◌≤◌, ◌==◌, ℕ, List, [], length, IsTrue, unwrap_or, if◌then◌else◌};
+ghost use Rattle.std.specs.Prelude.{◌≡◌, ◌≢◌, ◌↔◌, ◌*◌, ◌≤◌, ℕ, List, [], length, IsTrue};
 ghost use Rattle.argon2_base.specs.Block.{bytes_of};
 ghost use Rattle.argon2_base.specs.LongHash.{long_hash};
 ghost use Rattle.argon2.specs.Rfc9106.{first_block, segment_length};
-ghost use Rattle.argon2.specs.Refusals.{first_of};
+ghost use Rattle.argon2.specs.Refusals.{max_len};
 ghost use Rattle.argon2.specs.Settings.{max_lanes};
 ghost use Rattle.argon2.specs.Segments.{AreLengths, BeginsSlices, FillsSegment, last_of_slice, slice_length};
-ghost use Rattle.argon2_c.specs.Requests.{asked, are_lengths, request_faults};
+ghost use Rattle.argon2_c.specs.Requests.{asked, IsFaultless};
 
 use crate::code::{INCORRECT_PARAMETER, OK};
 use crate::hash::hashing;
-use crate::request::{Request, refusal};
-use argon2::Segment;
+use crate::request::Request;
+use argon2::{MAX_PWD_LEN, MAX_SALT_LEN, MIN_SALT_LEN, Params, Segment};
 use argon2_base::block::Words;
 
-/// Writes columns 0 and 1 of each lane into the first slice, and returns 0. Returns the code of the
-/// request's first fault, or -25 if `slice` has another length than a slice; nothing is then written.
-/// It allocates nothing.
+/// A segment, and the pass in which it is filled.
+#[repr(C)]
+#[derive(Clone, Copy)]
+pub struct Place {
+    /// The pass, from 0 on.
+    pub pass: u32,
+    /// The slice, from 0 to 3.
+    pub slice: u32,
+    /// The lane, from 0 on.
+    pub lane: u32,
+}
+
+/// Writes columns 0 and 1 of each lane into the first slice, and returns 0. Returns -25 if the request has a
+/// fault, null pointers, threads and callbacks aside, or if `slice` has another length than a slice; nothing is
+/// then written. It allocates nothing.
 #[unsafe(no_mangle)]
 pub extern "C" fn argon2_c_begin(
     request: &Request,
@@ -32,37 +44,30 @@ pub extern "C" fn argon2_c_begin(
     output: usize,
     slice: &mut [Words],
 ) -> i32
-    ensures answer { result ≡ unwrap_or (first_of (request_faults request.now output
-        (length pwd.now) (length salt.now) (length secret.now) (length associated.now)))
-        (if length slice.old == slice_length (asked request.now [] []) then OK
-        else INCORRECT_PARAMETER) }
+    ensures takes { IsFaultless request.now output (length pwd.now) (length salt.now)
+        (length secret.now) (length associated.now)
+        → length slice.old ≡ slice_length (asked request.now [] []) → result ≡ OK }
+    ensures only { result ≡ OK → IsFaultless request.now output (length pwd.now) (length salt.now)
+        (length secret.now) (length associated.now)
+        × (length slice.old ≡ slice_length (asked request.now [] [])) }
     ensures begins { result ≡ OK → let ctx = asked request.now secret.now associated.now in
         BeginsSlices ctx (first_block ctx pwd.now salt.now output) slice.old slice.new }
-    ensures same { result ≢ OK → slice.new ≡ slice.old }
+    ensures refused { result ≢ OK → (result ≡ INCORRECT_PARAMETER) × (slice.new ≡ slice.old) }
 {
-    let refusal = refusal(
-        request,
-        output,
-        pwd.len(),
-        salt.len(),
-        secret.len(),
-        associated.len(),
-    );
-    if let Some(code) = refusal {
-        return code;
-    }
-    if slice.len() != slice_len(request) as usize {
+    let Some(argon2) = hashing(request, secret, associated.len()) else {
+        return INCORRECT_PARAMETER;
+    };
+    if !are_lengths(output, pwd.len(), salt.len()) || slice.len() != slice_len(request) as usize {
         return INCORRECT_PARAMETER;
     }
-    let argon2 = hashing(request, secret);
     argon2.begin_slices(associated, pwd, salt, output as u32, slice);
     OK
 }
 
-/// Fills segment `slice` of a lane in a pass, and returns 0. `before` has the slices before it, `own` is the
-/// segment, and `after` has the slices after it. Returns the code of the request's first fault, for which the
-/// lengths of output, password and salt count as valid, or -25 if there is no such segment or one of the
-/// three has another length; nothing is then written. It allocates nothing.
+/// Fills the segment `own` of a lane in a pass, and returns 0. `before` has the slices before it, and `after` the
+/// slices after it. Returns -25 if the request has a fault, null pointers, threads, callbacks and the lengths of
+/// output, password and salt aside, or if there is no such segment or one of the three has another length;
+/// nothing is then written. It allocates nothing.
 #[unsafe(no_mangle)]
 pub extern "C" fn argon2_c_segment(
     request: &Request,
@@ -71,52 +76,69 @@ pub extern "C" fn argon2_c_segment(
     before: &[Words],
     own: &mut [Words],
     after: &[Words],
-    pass: u32,
-    slice: u32,
-    lane: u32,
+    at: &Place,
 ) -> i32
-    ensures answer { result ≡ unwrap_or (first_of (request_faults request.now 4 0 8
-        (length secret.now) (length associated.now)))
-        (if are_lengths (asked request.now [] []) slice lane (length before.now) (length own.old)
-        (length after.now) then OK else INCORRECT_PARAMETER) }
-    ensures fills { result ≡ OK → FillsSegment (asked request.now secret.now associated.now) pass
-        slice lane before.now own.old own.new after.now }
-    ensures same { result ≢ OK → own.new ≡ own.old }
+    ensures takes { IsFaultless request.now 4 0 8 (length secret.now) (length associated.now)
+        → AreLengths (asked request.now [] []) at.now.slice at.now.lane (length before.now)
+        (length own.old) (length after.now) → result ≡ OK }
+    ensures only { result ≡ OK → IsFaultless request.now 4 0 8 (length secret.now)
+        (length associated.now)
+        × AreLengths (asked request.now [] []) at.now.slice at.now.lane (length before.now)
+        (length own.old) (length after.now) }
+    ensures fills { result ≡ OK → FillsSegment (asked request.now secret.now associated.now)
+        at.now.pass at.now.slice at.now.lane before.now own.old own.new after.now }
+    ensures refused { result ≢ OK → (result ≡ INCORRECT_PARAMETER) × (own.new ≡ own.old) }
 {
-    if let Some(code) = refusal(request, 4, 0, 8, secret.len(), associated.len()) {
-        return code;
-    }
-    if !fits(request, before.len(), own.len(), after.len(), slice, lane) {
+    let Some(argon2) = hashing(request, secret, associated.len()) else {
+        return INCORRECT_PARAMETER;
+    };
+    if !fits(request, before.len(), own.len(), after.len(), at) {
         return INCORRECT_PARAMETER;
     }
-    let argon2 = hashing(request, secret);
-    let at = Segment { pass, slice, lane };
-    argon2.fill_segment(associated, before, own, after, at);
+    let segment = Segment {
+        pass: at.pass,
+        slice: at.slice,
+        lane: at.lane,
+    };
+    argon2.fill_segment(associated, before, own, after, segment);
     OK
 }
 
-/// Writes the tag into `out`, and returns 0. `last` is the last slice. Returns the code of the request's
-/// first fault, for which the lengths of the inputs count as valid, or -25 if `last` has another length than
-/// a slice; nothing is then written. It allocates nothing.
+/// Writes the tag into `out`, and returns 0. `last` is the last slice. Returns -25 if the request has a fault, null
+/// pointers, threads, callbacks and the lengths of the inputs aside, or if `last` has another length than a slice;
+/// nothing is then written. It allocates nothing.
 #[unsafe(no_mangle)]
 #[tactic(auto, unfolding(argon2::specs::Rfc9106::xor_lanes))]
 pub extern "C" fn argon2_c_finish(request: &Request, last: &[Words], out: &mut [u8]) -> i32
-    ensures answer { result ≡ unwrap_or (first_of (request_faults request.now (length out.old) 0 8 0
-        0)) (if length last.now == slice_length (asked request.now [] []) then OK
-        else INCORRECT_PARAMETER) }
+    ensures takes { IsFaultless request.now (length out.old) 0 8 0 0
+        → length last.now ≡ slice_length (asked request.now [] []) → result ≡ OK }
+    ensures only { result ≡ OK → IsFaultless request.now (length out.old) 0 8 0 0
+        × (length last.now ≡ slice_length (asked request.now [] [])) }
     ensures tag { (secret associated : List ℕ) → result ≡ OK → out.new ≡ long_hash
         (length out.old)
         (bytes_of (last_of_slice (asked request.now secret associated) last.now)) }
-    ensures same { result ≢ OK → out.new ≡ out.old }
+    ensures refused { result ≢ OK → (result ≡ INCORRECT_PARAMETER) × (out.new ≡ out.old) }
 {
-    if let Some(code) = refusal(request, out.len(), 0, 8, 0, 0) {
-        return code;
-    }
-    if last.len() != slice_len(request) as usize {
+    let Some(argon2) = hashing(request, &[], 0) else {
+        return INCORRECT_PARAMETER;
+    };
+    if !are_lengths(out.len(), 0, MIN_SALT_LEN) || last.len() != slice_len(request) as usize {
         return INCORRECT_PARAMETER;
     }
-    hashing(request, &[]).finish_slices(last, out);
+    argon2.finish_slices(last, out);
     OK
+}
+
+// Whether an output, a password and a salt may have so many bytes.
+fn are_lengths(output: usize, pwd: usize, salt: usize) -> bool
+    ensures { IsTrue result ↔ (4 ≤ output) × (output ≤ max_len) × (pwd ≤ max_len) × (8 ≤ salt)
+        × (salt ≤ max_len) }
+{
+    Params::MIN_OUTPUT_LEN <= output
+        && output <= Params::MAX_OUTPUT_LEN
+        && pwd <= MAX_PWD_LEN
+        && MIN_SALT_LEN <= salt
+        && salt <= MAX_SALT_LEN
 }
 
 /// How many blocks a segment has.
@@ -139,16 +161,15 @@ pub fn slice_len(request: &Request) -> u32
 
 // Whether there is such a segment, and these are the lengths of the slices before it, of the segment, and of
 // the slices after it.
-fn fits(request: &Request, before: usize, own: usize, after: usize, slice: u32, lane: u32) -> bool
+fn fits(request: &Request, before: usize, own: usize, after: usize, at: &Place) -> bool
     requires { (1 ≤ request.now.lanes) × (request.now.lanes ≤ max_lanes) }
-    ensures value { result ≡ are_lengths (asked request.now [] []) slice lane before own after }
-    ensures lengths { IsTrue result → AreLengths (asked request.now [] []) slice lane before own
-        after }
+    ensures { IsTrue result ↔ AreLengths (asked request.now [] []) at.now.slice at.now.lane before
+        own after }
 {
     let blocks = slice_len(request);
-    slice < 4
-        && lane < request.lanes
-        && before == (slice * blocks) as usize
+    at.slice < 4
+        && at.lane < request.lanes
+        && before == (at.slice * blocks) as usize
         && own == segment_len(request) as usize
-        && after == ((3 - slice) * blocks) as usize
+        && after == ((3 - at.slice) * blocks) as usize
 }
