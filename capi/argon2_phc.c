@@ -14,12 +14,12 @@ struct phc_bound {
 /* As the members of argon2p_shown behind its size. */
 struct phc_shown {
     uint32_t name_len, has_version, text_version, params_at, params_len, salt_len, output_len;
-    uint32_t algorithm, version, m_cost, t_cost, p_cost, keyid_len, data_len;
-    uint8_t salt[ARGON2P_MAX_SALT], output[ARGON2P_MAX_OUTPUT], keyid[ARGON2P_MAX_KEYID], data[ARGON2P_MAX_DATA];
+    uint32_t algorithm, version, m_cost, t_cost, p_cost, keyid_len, associated_len;
+    uint8_t salt[ARGON2P_MAX_SALT], output[ARGON2P_MAX_OUTPUT], keyid[ARGON2P_MAX_KEYID], associated[ARGON2P_MAX_DATA];
 };
 
 _Static_assert(sizeof(argon2p_shown) == offsetof(argon2p_shown, name_len) + sizeof(struct phc_shown)
-    && offsetof(argon2p_shown, data) == offsetof(argon2p_shown, name_len) + offsetof(struct phc_shown, data), "the same layout");
+    && offsetof(argon2p_shown, data) == offsetof(argon2p_shown, name_len) + offsetof(struct phc_shown, associated), "the same layout");
 _Static_assert(sizeof(argon2p_block) == sizeof(block), "the same blocks");
 
 struct phc_lengths {
@@ -272,7 +272,7 @@ int argon2p_verify(const argon2p_verifier *verifier, const char *text, size_t te
     if (answer != ARGON2P_OK) return answer;
     c = (argon2_context){
         .outlen = shown.output_len, .pwd = (uint8_t *)v.pwd, .pwdlen = pwd_len, .salt = shown.salt, .saltlen = shown.salt_len,
-        .ad = shown.data, .adlen = shown.data_len, .t_cost = shown.t_cost, .m_cost = shown.m_cost, .lanes = shown.p_cost,
+        .ad = shown.associated, .adlen = shown.associated_len, .t_cost = shown.t_cost, .m_cost = shown.m_cost, .lanes = shown.p_cost,
         .threads = own.threads && own.threads < shown.p_cost ? own.threads : shown.p_cost, .version = shown.version,
     };
     memory = new_blocks(block_count(&c));
