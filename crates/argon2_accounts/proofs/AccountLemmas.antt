@@ -21,13 +21,13 @@ use Rattle.argon2_rows.proofs.RowLemmas.{get-changed}
 use Rattle.argon2_rows.specs.Names.{Texts, changed}
 use Rattle.argon2_rows.specs.Table.{IsHonest}
 use Rattle.argon2_store.specs.AccountFile.{Answers, HasNames, Serves, database_of}
-use Rattle.argon2_store.specs.Edits.{Edit, and_then, gives, made, name_of, refusal, replacing, text_of, unless}
-use Rattle.argon2_store.specs.Errors.{is_refusal as refuses}
+use Rattle.argon2_store.specs.Edits.{Edit, and_then, gives, name_of, names_after, refusal, replacing, text_of, unless}
+use Rattle.argon2_store.specs.Errors.{is_refusal}
 use Rattle.argon2_store.specs.Runs.{Does, reads}
 use Rattle.argon2_store.specs.declared.account_file.AccountFile.{AccountFile}
 use Rattle.argon2_store.specs.declared.error.FileError.{FileError}
-use Rattle.argon2_accounts.specs.Accounts.{Accepts, GivesPassword, HasPassword, Leaves, LogsNameIn, TextRefusal}
-use Rattle.argon2_accounts.specs.Errors.{is_refusal, of_file, of_policy}
+use Rattle.argon2_accounts.specs.Accounts.{AdmitsName, AdmitsText, GivesPassword, LogsNameIn, RelatesNames, TextRefusal}
+use Rattle.argon2_accounts.specs.Errors.{is_account_refusal, of_file, of_policy}
 use Rattle.argon2_accounts.specs.declared.error.AccountError.{AccountError}
 
 -- ---- names
@@ -37,22 +37,22 @@ unless_ok None x y is = cc
 unless_ok (Some why) x y is = absurd cc
 
 -- an edit that is accepted leaves its name what it gives
-edit_leaves : (edit : Edit) (before after : Texts) → made (edit ∷ []) before ≡ Ok after
+edit_leaves : (edit : Edit) (before after : Texts) → names_after (edit ∷ []) before ≡ Ok after
     → after ≡ changed before (name_of edit) (gives edit (get before (name_of edit)))
 edit_leaves edit before after is = unless_ok (refusal edit (get before (name_of edit))) _ after is
 
 -- the text of a hash says the hash's value
 pub accepts : (policy : Policy) (password : List ℕ) (h : PasswordHash) → Admits policy password (phc_of h)
-    → Accepts policy password (text_of h)
+    → AdmitsText policy password (text_of h)
 accepts policy password h admits = (phc_of h, (h.grammatical, refl), admits)
 
 pub has_password : (policy : Policy) (name password : List ℕ) (names : Texts) (h : PasswordHash)
-    → get names name ≡ Some (text_of h) → Admits policy password (phc_of h) → HasPassword policy names name password
+    → get names name ≡ Some (text_of h) → Admits policy password (phc_of h) → AdmitsName policy names name password
 has_password policy name password names h has admits = rw has (accepts policy password h admits)
 
 pub gives_password : (policy : Policy) (edit : Edit) (password : List ℕ) (before after : Texts) (h : PasswordHash)
-    → made (edit ∷ []) before ≡ Ok after → gives edit (get before (name_of edit)) ≡ Some (text_of h)
-    → Admits policy password (phc_of h) → HasPassword policy after (name_of edit) password
+    → names_after (edit ∷ []) before ≡ Ok after → gives edit (get before (name_of edit)) ≡ Some (text_of h)
+    → Admits policy password (phc_of h) → AdmitsName policy after (name_of edit) password
 gives_password policy edit password before after h is gives_it admits =
     let left = edit_leaves edit before after is in
     has_password policy (name_of edit) password after h
@@ -69,7 +69,7 @@ module _ {S : Type 0} {g : Ghosts S} where
       (done : Result (Unit {0}) FileError) (old new : AccountFile S g)
       → ((o : Option (List ℕ)) → gives edit o ≡ Some (text_of h)) → Admits policy password (phc_of h)
       → Serves (edit ∷ []) done old new
-      → Leaves (GivesPassword policy (name_of edit) password (result_map_both (λ x. x) of_file done)) old new
+      → RelatesNames (GivesPassword policy (name_of edit) password (result_map_both (λ x. x) of_file done)) old new
   stored policy edit password h (Ok x) old new gives_it admits serves = λ before has.
       let it = serves before has in
       (it.0, it.1.has, λ honest. gives_password policy edit password before it.0 h (it.1.answers honest) (gives_it _) admits)
@@ -79,7 +79,7 @@ module _ {S : Type 0} {g : Ghosts S} where
   -- names that a call has only read
   pub reads_leave : (P : Texts → Texts → Type 0) (old new : AccountFile S g) (error : Option FileError)
       → Does (reads error) old new
-      → ((names : Texts) → HasNames new names → IsHonest g (database_of new) → P names names) → Leaves P old new
+      → ((names : Texts) → HasNames new names → IsHonest g (database_of new) → P names names) → RelatesNames P old new
   reads_leave P old new error did holds = λ before has.
       let stays = did before has in (before, stays.has, λ honest. holds before stays.has honest)
 
@@ -88,7 +88,7 @@ module _ {S : Type 0} {g : Ghosts S} where
       (old mid new : AccountFile S g) (error : Option FileError) → Does (reads error) old mid
       → Serves (edit ∷ []) done mid new
       → ((before after : Texts) → HasNames mid before → IsHonest g (database_of mid) → Answers before (edit ∷ []) done after
-      → P before after) → Leaves P old new
+      → P before after) → RelatesNames P old new
   edit_after_read P edit done old mid new error did serves holds = λ before has.
       let stays = did before has in
       let it = serves before stays.has in
@@ -97,7 +97,7 @@ module _ {S : Type 0} {g : Ghosts S} where
 -- ---- a text that is replaced
 
 -- a refusal comes of the names
-of_names : (e : FileError) → IsTrue (is_refusal (of_file e)) → IsTrue (refuses e)
+of_names : (e : FileError) → IsTrue (is_account_refusal (of_file e)) → IsTrue (is_refusal e)
 of_names e is = grind arith
 
 not_refused : (name new : List ℕ) (h : PasswordHash) → refusal (replacing name (text_of h) new) (Some (text_of h)) ≡ None
@@ -105,7 +105,7 @@ not_refused name new h = let same = (bytes_eq-Decides (text_of h) (text_of h)).1
 
 -- the text that was read is replaced, unless the file fails
 pub never_refused : (name new : List ℕ) (h : PasswordHash) (before : Texts) (e : FileError)
-    → get before name ≡ Some (text_of h) → made (replacing name (text_of h) new ∷ []) before ≢ Err e
+    → get before name ≡ Some (text_of h) → names_after (replacing name (text_of h) new ∷ []) before ≢ Err e
 never_refused name new h before e has is =
     let no : refusal (replacing name (text_of h) new) (get before name) ≡ None = rw has (not_refused name new h) in
     go (refusal (replacing name (text_of h) new) (get before name)) _ no is
@@ -117,13 +117,13 @@ never_refused name new h before e has is =
 -- so an error of it is no refusal
 pub fails_to_edit : (name old new : List ℕ) (h : PasswordHash) (before after : Texts) (e : FileError) → old ≡ text_of h
     → get before name ≡ Some (text_of h) → Answers before (replacing name old new ∷ []) (Err e) after
-    → ¬ (IsTrue (is_refusal (of_file e)))
+    → ¬ (IsTrue (is_account_refusal (of_file e)))
 fails_to_edit name old new h before after e same has answers is =
     never_refused name new h before e has (rw same at (answers.0 (of_names e is)))
 
 -- ---- answers of a policy
 
-long : (password : List ℕ) (e : Error) → IsTrue (is_refusal (of_policy (Refused e))) → HashingRefusal password e
+long : (password : List ℕ) (e : Error) → IsTrue (is_account_refusal (of_policy (Refused e))) → HashingRefusal password e
     → max_len < length password
 long password OutOfMemory is why = absurd cc
 long password PasswordInvalid is why = why
@@ -136,8 +136,8 @@ module _ (policy : Policy) (name password : List ℕ) (names : Texts) (h : Passw
 
   -- why a password is not changed
   pub keeps : (fresh : List ℕ) (why : BoundError) → ChangeRefusal policy password fresh (phc_of h) why
-      → IsTrue (is_refusal (of_policy why)) → TextRefusal policy password (get names name) (of_policy why)
-      ⊎ (HasPassword policy names name password × (max_len < length fresh))
+      → IsTrue (is_account_refusal (of_policy why)) → TextRefusal policy password (get names name) (of_policy why)
+      ⊎ (AdmitsName policy names name password × (max_len < length fresh))
   keeps fresh why (inl denial) is = inl (denies why denial)
   keeps fresh TooExpensive (inr making) is = absurd making.1
   keeps fresh (Refused e) (inr making) is =

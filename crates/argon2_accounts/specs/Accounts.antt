@@ -22,17 +22,17 @@ use Rattle.argon2_store.specs.Edits.{Edit, replacing, text_of}
 use Rattle.argon2_store.specs.Runs.{Does, reads}
 use Rattle.argon2_store.specs.declared.account_file.AccountFile.{AccountFile}
 use Rattle.argon2_store.specs.declared.error.FileError.{FileError}
-use Rattle.argon2_accounts.specs.Errors.{is_refusal, of_file, of_policy}
+use Rattle.argon2_accounts.specs.Errors.{is_account_refusal, of_file, of_policy}
 use Rattle.argon2_accounts.specs.declared.error.AccountError.{AccountError}
 use Rattle.argon2_accounts.specs.declared.error.AccountError.TheVariants.{NameUnknown, Refused}
 
 -- the text accepts the password within the bound
-abbrev pub Accepts : Policy → List ℕ → List ℕ → Type 0
-Accepts policy password text = (v : Phc) × PhcText text v × Admits policy password v
+abbrev pub AdmitsText : Policy → List ℕ → List ℕ → Type 0
+AdmitsText policy password text = (v : Phc) × PhcText text v × Admits policy password v
 
 -- the name has such a text
-abbrev pub HasPassword : Policy → Texts → List ℕ → List ℕ → Type 0
-HasPassword policy names name password = IsSomeAnd (get names name) (Accepts policy password)
+abbrev pub AdmitsName : Policy → Texts → List ℕ → List ℕ → Type 0
+AdmitsName policy names name password = IsSomeAnd (get names name) (AdmitsText policy password)
 
 -- why a password is refused for a name with this text or none
 abbrev pub TextRefusal : Policy → List ℕ → Option (List ℕ) → AccountError → Type 0
@@ -65,29 +65,29 @@ module _ {S : Type 0} {g : Ghosts S} where
       × Serves (replacing name text (text_of fresh) ∷ []) done mid new))
 
   -- the names after a call on a file with names, if the disk has given no wrong answer that was taken as true
-  abbrev pub Leaves : (Texts → Texts → Type 0) → AccountFile S g → AccountFile S g → Type 0
-  Leaves P old new = (before : Texts) → HasNames old before
+  abbrev pub RelatesNames : (Texts → Texts → Type 0) → AccountFile S g → AccountFile S g → Type 0
+  RelatesNames P old new = (before : Texts) → HasNames old before
       → (after : Texts) × HasNames new after × (IsHonest g (database_of new) → P before after)
 
 -- what registering a name or setting its password answers, and the names after it
 abbrev pub GivesPassword : {X : Type 0} → Policy → List ℕ → List ℕ → Result X AccountError → Texts → Texts → Type 0
-GivesPassword policy name password (Ok _) before after = HasPassword policy after name password
+GivesPassword policy name password (Ok _) before after = AdmitsName policy after name password
 GivesPassword policy name password (Err e) before after = after ≡ before
 
 -- a login
 abbrev pub LogsNameIn : {X : Type 0} → Policy → List ℕ → List ℕ → List ℕ → Result X AccountError → Texts → Texts → Type 0
-LogsNameIn policy name password drawn (Ok _) before after = HasPassword policy before name password
-    × HasPassword policy after name password × StaysOrRenews policy.target name password drawn before after
+LogsNameIn policy name password drawn (Ok _) before after = AdmitsName policy before name password
+    × AdmitsName policy after name password × StaysOrRenews policy.target name password drawn before after
 LogsNameIn policy name password drawn (Err e) before after = (after ≡ before)
-    × (IsTrue (is_refusal e) → TextRefusal policy password (get before name) e)
+    × (IsTrue (is_account_refusal e) → TextRefusal policy password (get before name) e)
 
 -- a change of a password
 abbrev pub ChangesName : {X : Type 0} → Policy → List ℕ → List ℕ → List ℕ → Result X AccountError → Texts → Texts → Type 0
 ChangesName policy name old password (Ok _) before after =
-    HasPassword policy before name old × HasPassword policy after name password
+    AdmitsName policy before name old × AdmitsName policy after name password
 ChangesName policy name old password (Err e) before after = (after ≡ before)
-    × (IsTrue (is_refusal e) → TextRefusal policy old (get before name) e
-    ⊎ (HasPassword policy before name old × (max_len < length password)))
+    × (IsTrue (is_account_refusal e) → TextRefusal policy old (get before name) e
+    ⊎ (AdmitsName policy before name old × (max_len < length password)))
 
 -- What the generator has left after a login: 16 bytes are drawn for a fresh text, and else nothing is. An error comes before
 -- the text is made, or after it.

@@ -28,9 +28,9 @@ of_policy (bound.Refused NoMemory) = OutOfMemory
 of_policy (bound.Refused e) = Refused e
 
 -- the name, its text or the password is why the call is refused
-abbrev pub is_refusal : AccountError → Bool
-is_refusal NameTaken = true
-is_refusal NameUnknown = true
-is_refusal TooExpensive = true
-is_refusal (Refused e) = true
-is_refusal _ = false
+abbrev pub is_account_refusal : AccountError → Bool
+is_account_refusal NameTaken = true
+is_account_refusal NameUnknown = true
+is_account_refusal TooExpensive = true
+is_account_refusal (Refused e) = true
+is_account_refusal _ = false

@@ -10,8 +10,8 @@ ghost use Rattle.argon2_store.specs.AccountFile.{HasNames, IsClosed, database_of
 ghost use Rattle.argon2_store.specs.Edits.{adding, setting, text_of};
 ghost use Rattle.argon2_store.specs.Runs.{Does, reads};
 ghost use Rattle.argon2_store.specs.declared.error.FileError.{FileError};
-ghost use Rattle.argon2_accounts.specs.Accounts.{ChangesName, DrawsForChange, DrawsForLogin, GivesPassword, Leaves, LogsNameIn, Replaces, Stores, TextRefusal};
-ghost use Rattle.argon2_accounts.specs.Errors.{is_refusal};
+ghost use Rattle.argon2_accounts.specs.Accounts.{ChangesName, DrawsForChange, DrawsForLogin, GivesPassword, LogsNameIn, RelatesNames, Replaces, Stores, TextRefusal};
+ghost use Rattle.argon2_accounts.specs.Errors.{is_account_refusal};
 
 use crate::error::AccountError;
 use argon2::PasswordHash;
@@ -50,7 +50,7 @@ impl<'key, S: Store> Accounts<'key, S> {
     ) -> Result<(), AccountError>
         ensures call { Stores (adding name.now) (policy_value self.old.policy).target password.now
             (fill_bytes 16 (R.stream rng.old)).0 result self.old.file self.new.file }
-        ensures names { Leaves (GivesPassword (policy_value self.old.policy) name.now password.now
+        ensures names { RelatesNames (GivesPassword (policy_value self.old.policy) name.now password.now
             result) self.old.file self.new.file }
         ensures policy { self.new.policy ≡ self.old.policy }
         ensures drawn { R.stream rng.new ≡ (fill_bytes 16 (R.stream rng.old)).1 }
@@ -84,12 +84,12 @@ impl<'key, S: Store> Accounts<'key, S> {
     ) -> Result<Accepted, AccountError>
         ensures call { Replaces (policy_value self.old.policy).target name.now password.now
             (fill_bytes 16 (R.stream rng.old)).0 self.old.file self.new.file }
-        ensures names { Leaves (LogsNameIn (policy_value self.old.policy) name.now password.now
+        ensures names { RelatesNames (LogsNameIn (policy_value self.old.policy) name.now password.now
             (fill_bytes 16 (R.stream rng.old)).0 result) self.old.file self.new.file }
         ensures policy { self.new.policy ≡ self.old.policy }
         ensures drawn { DrawsForLogin result (R.stream rng.old) (R.stream rng.new) }
         ensures served { IsHonest S.Store (database_of self.new.file) → IfErr result (λ e.
-            IsTrue (is_refusal e) ⊎ (IsClosed self.new.file
+            IsTrue (is_account_refusal e) ⊎ (IsClosed self.new.file
             ⊎ (R.stream rng.new ≡ R.stream rng.old))) }
     {
         let text = stored(&self.policy, &mut self.file, name, password)?;
@@ -121,7 +121,7 @@ impl<'key, S: Store> Accounts<'key, S> {
     ) -> Result<(), AccountError>
         ensures call { Replaces (policy_value self.old.policy).target name.now new.now
             (fill_bytes 16 (R.stream rng.old)).0 self.old.file self.new.file }
-        ensures names { Leaves (ChangesName (policy_value self.old.policy) name.now old.now new.now
+        ensures names { RelatesNames (ChangesName (policy_value self.old.policy) name.now old.now new.now
             result) self.old.file self.new.file }
         ensures policy { self.new.policy ≡ self.old.policy }
         ensures drawn { DrawsForChange result (R.stream rng.old) (R.stream rng.new) }
@@ -146,7 +146,7 @@ impl<'key, S: Store> Accounts<'key, S> {
     ) -> Result<(), AccountError>
         ensures call { Stores (setting name.now) (policy_value self.old.policy).target new.now
             (fill_bytes 16 (R.stream rng.old)).0 result self.old.file self.new.file }
-        ensures names { Leaves (GivesPassword (policy_value self.old.policy) name.now new.now
+        ensures names { RelatesNames (GivesPassword (policy_value self.old.policy) name.now new.now
             result) self.old.file self.new.file }
         ensures policy { self.new.policy ≡ self.old.policy }
         ensures drawn { R.stream rng.new ≡ (fill_bytes 16 (R.stream rng.old)).1 }
@@ -167,7 +167,7 @@ fn stored<S: Store>(
     ensures found { (names : Texts) → HasNames file.new names → IfOk result (λ text.
         IsHonest S.Store (database_of file.new) → get names name.now ≡ Some (text_of text)) }
     ensures refused { (names : Texts) → HasNames file.new names → IfErr result (λ e.
-        IsHonest S.Store (database_of file.new) → IsTrue (is_refusal e) →
+        IsHonest S.Store (database_of file.new) → IsTrue (is_account_refusal e) →
         TextRefusal (policy_value policy.now) password.now (get names name.now) e) }
 {
     let Some(text) = file.text_of(name)? else {

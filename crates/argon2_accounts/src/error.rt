@@ -1,7 +1,7 @@
 //! Why calls on accounts are refused or fail.
 
 ghost use Rattle.std.specs.Prelude.{◌≡◌};
-ghost use Rattle.argon2_accounts.specs.Errors.{is_refusal, of_file, of_policy};
+ghost use Rattle.argon2_accounts.specs.Errors.{is_account_refusal, of_file, of_policy};
 
 use argon2::bound::BoundError;
 use argon2::password_hash;
@@ -49,7 +49,7 @@ impl AccountError {
     /// Whether the answer is no: because of the name, its text or the password. If not, memory, the
     /// disk or the file fails.
     pub fn is_refusal(self) -> bool
-        ensures { result ≡ is_refusal self }
+        ensures { result ≡ is_account_refusal self }
     {
         matches!(
             self,

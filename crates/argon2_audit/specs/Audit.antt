@@ -97,14 +97,14 @@ abbrev pub HasNoFeed : List ℕ → Type 0
 HasNoFeed line = All (λ byte. byte ≢ 10) line
 
 -- lines one after another, each with a line feed
-abbrev pub joined : List (List ℕ) → List ℕ
-joined [] = []
-joined (line ∷ earlier) = joined earlier ++ (line ++ 10 ∷ [])
+abbrev pub text_of_lines : List (List ℕ) → List ℕ
+text_of_lines [] = []
+text_of_lines (line ∷ earlier) = text_of_lines earlier ++ (line ++ 10 ∷ [])
 
 -- each line ends with a line feed, but that the last may have none if it is not empty
 abbrev pub IsJoined : List ℕ → List (List ℕ) → Type 0
-IsJoined bytes lines = (bytes ≡ joined lines) ⊎ ((last : List ℕ) × (earlier : List (List ℕ))
-    × (lines ≡ last ∷ earlier) × (bytes ≡ joined earlier ++ last) × (last ≢ []))
+IsJoined bytes lines = (bytes ≡ text_of_lines lines) ⊎ ((last : List ℕ) × (earlier : List (List ℕ))
+    × (lines ≡ last ∷ earlier) × (bytes ≡ text_of_lines earlier ++ last) × (last ≢ []))
 
 -- these are found in lines with no line feed, and the counts are those of what is found
 pub record AreCounted (options : Options) (lines : List (List ℕ)) (findings : List Finding) (tally : Tally) : Type 0 where
@@ -134,5 +134,5 @@ pub record IsAt (options : Options) (session : Session) (lines : List (List ℕ)
 pub record IsBefore (options : Options) (session : Session) (bytes more : List ℕ) : Type 0 where
   pub lines : List (List ℕ)
   pub rest : List ℕ
-  pub split : bytes ≡ joined lines ++ (rest ++ more)
+  pub split : bytes ≡ text_of_lines lines ++ (rest ++ more)
   pub at : IsAt options session lines rest

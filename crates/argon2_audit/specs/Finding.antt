@@ -110,13 +110,13 @@ abbrev pub entry_value : Entry → Settings × Option (List ℕ) × Option ℕ
 entry_value entry = (settings_value entry.settings, entry.salt, entry.hash_len)
 
 -- what a value shows of these, or the fault of its settings
-abbrev pub entry_of : Phc → Result (Settings × Option (List ℕ) × Option ℕ) Fault
-entry_of v = read (shown_settings v) (λ settings. Ok (settings, v.salt, option_map length v.hash))
+abbrev pub shown_entry : Phc → Result (Settings × Option (List ℕ) × Option ℕ) Fault
+shown_entry v = read (shown_settings v) (λ settings. Ok (settings, v.salt, option_map length v.hash))
 
 -- what a text shows by its value, or `EncodingInvalid` if it is no value's
 abbrev pub IsEntryAnswer : List ℕ → Result Entry Error → Type 0
 IsEntryAnswer text r =
-    ((v : Phc) × PhcText text v × (outcome_of entry_value r ≡ entry_of v))
+    ((v : Phc) × PhcText text v × (outcome_of entry_value r ≡ shown_entry v))
     ⊎ (((v : Phc) → PhcText text v → ⊥) × (outcome_of entry_value r ≡ Err bad_encoding))
 
 -- ---- what is below limits
@@ -136,8 +136,8 @@ has_other_key limits entry = some_passes (λ required. not (bytes_eq (keyid_byte
 
 -- limits ask for more of something than there is, or for another algorithm or key identifier; what is missing has no
 -- bytes
-abbrev pub is_below : Limits → Entry → Bool
-is_below limits entry = nat_lt (settings_value entry.settings).parameters.m_cost limits.m_cost
+abbrev pub is_below_limits : Limits → Entry → Bool
+is_below_limits limits entry = nat_lt (settings_value entry.settings).parameters.m_cost limits.m_cost
     || nat_lt (settings_value entry.settings).parameters.t_cost limits.t_cost
     || nat_lt (settings_value entry.settings).parameters.p_cost limits.p_cost || is_short limits entry
     || nat_lt (unwrap_or entry.hash_len 0) limits.hash_len
@@ -170,7 +170,7 @@ class_of limits (Claimed Comment) = class.Comment
 class_of limits (Claimed NoField) = class.Unknown
 class_of limits (Claimed Unknown) = class.Unknown
 class_of limits (Shown entry) =
-    if is_none entry.hash_len then class.NoHash else if is_below limits entry then class.Below else class.Sound
+    if is_none entry.hash_len then class.NoHash else if is_below_limits limits entry then class.Below else class.Sound
 class_of limits finding = class.Outside
 
 -- the line has a text whose salt is shorter than the limits ask for, or missing

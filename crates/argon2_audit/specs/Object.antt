@@ -17,13 +17,13 @@ use Rattle.argon2_audit.specs.declared.tally.Tally.{Tally}
 -- ---- the object
 
 -- a number or a text
-abbrev pub value_of : Value → Json
-value_of (Number n) = number (decimal n)
-value_of (Text text) = string text.now
+abbrev pub json_value : Value → Json
+json_value (Number n) = number (decimal n)
+json_value (Text text) = string text.now
 
 abbrev pub members_of : List (List ℕ × Value) → Members
 members_of [] = no_members
-members_of (m ∷ more) = member m.0 (value_of m.1) (members_of more)
+members_of (m ∷ more) = member m.0 (json_value m.1) (members_of more)
 
 abbrev pub counts_of : Tally → Json
 counts_of t = object (members_of (map (λ (count : List ℕ × ℕ). (count.0, Number count.1)) ((codes "lines", t.lines)

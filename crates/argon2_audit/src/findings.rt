@@ -3,7 +3,7 @@
 ghost use Rattle.std.specs.Prelude.{IfOk, OnOk, IsTrue};
 ghost use Rattle.json.specs.Json.{Items, Json, array, object};
 ghost use Rattle.json.specs.Tree.{members_tokens};
-ghost use Rattle.argon2_audit.specs.Object.{Adds, AddsValue, HasFindings, IsFlat, counts_of, given, value_of};
+ghost use Rattle.argon2_audit.specs.Object.{Adds, AddsValue, HasFindings, IsFlat, counts_of, given, json_value};
 
 use crate::finding::Class;
 use crate::limits::Kind;
@@ -172,7 +172,7 @@ fn write_members(json: &mut Writer, members: &[(&str, Value<'_>)]) -> Result<(),
 
 // Writes a value.
 fn write_value(json: &mut Writer, value: Value<'_>) -> Result<(), AllocError>
-    ensures { OnOk result (AddsValue json.old json.new 0 (value_of value.entry)) }
+    ensures { OnOk result (AddsValue json.old json.new 0 (json_value value.entry)) }
 {
     match value {
         Value::Number(number) => json.u64(number),

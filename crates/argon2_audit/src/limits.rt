@@ -45,7 +45,7 @@ pub struct Entry {
 
 impl Entry {
     ghost use Rattle.std.specs.Prelude.{◌≡◌, [], length, unwrap_or};
-    ghost use Rattle.argon2_audit.specs.Finding.{has_other_key, is_below};
+    ghost use Rattle.argon2_audit.specs.Finding.{has_other_key, is_below_limits};
 
     /// How many bytes the salt has, 0 if there is none.
     pub fn salt_len(&self) -> u32
@@ -56,7 +56,7 @@ impl Entry {
 
     /// Whether something of the text is below limits. A salt or a hash that is missing has no bytes.
     pub fn is_below(&self, limits: &Limits) -> bool
-        ensures { result ≡ is_below limits.now self.now }
+        ensures { result ≡ is_below_limits limits.now self.now }
     {
         let settings = &self.settings;
         settings.params.m_cost() < limits.m_cost

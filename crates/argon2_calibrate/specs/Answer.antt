@@ -44,8 +44,8 @@ json_of found p = object (member (codes "m") (number (decimal found.choice.m_cos
     (member (codes "busy") (boolean found.busy) no_members)))))
 
 -- costs that are chosen by measured times, and how long they take: a line with a JSON object, or lines
-abbrev pub IsAnswered : (ℕ → ℕ → ℕ → Option (List ℕ) → Type 0) → Options → Option (List ℕ) → Option (List ℕ) → Type 0
-IsAnswered Takes options old new = (found : Found) × IsChoice (Takes options.lanes) options found
+abbrev pub PrintsCosts : (ℕ → ℕ → ℕ → Option (List ℕ) → Type 0) → Options → Option (List ℕ) → Option (List ℕ) → Type 0
+PrintsCosts Takes options old new = (found : Found) × IsChoice (Takes options.lanes) options found
     × MatchBool options.json
     ((text : List ℕ) × (document text ≡ Some (json_of found options.lanes)) × Appends old new (text ++ 10 ∷ []))
     (Appends old new (lines_text found options.lanes))

@@ -3,7 +3,7 @@
 ghost use Rattle.std.specs.Prelude.{◌≡◌, ◌⊎◌, ◌++◌, ◌∷◌, [], ℕ, List, OnOk, Some};
 ghost use Rattle.std.specs.Io.KnownBytes.{Appends};
 ghost use Rattle.json.specs.Json.{document};
-ghost use Rattle.argon2_calibrate.specs.Answer.{IsAnswered, end_text, json_of, lines_text};
+ghost use Rattle.argon2_calibrate.specs.Answer.{PrintsCosts, end_text, json_of, lines_text};
 ghost use Rattle.argon2_calibrate.specs.Choice.{ArePossible};
 
 use crate::choice::Found;
@@ -30,7 +30,7 @@ pub fn run<S: Stopwatch, W: Write, E: Write>(
     requires { ArePossible options }
     ensures status { (result ≡ 0) ⊎ (result ≡ 3) }
     ensures answered { result ≡ 0
-        → IsAnswered S.may_take options (W.contents output.old) (W.contents output.new) }
+        → PrintsCosts S.may_take options (W.contents output.old) (W.contents output.new) }
 {
     match calibrate(alloc, options, stopwatch, output, errors) {
         Ok(()) => 0,
@@ -48,7 +48,7 @@ fn calibrate<S: Stopwatch, W: Write, E: Write>(
 ) -> Result<(), Failure>
     requires { ArePossible options }
     ensures { OnOk result
-        (IsAnswered S.may_take options (W.contents output.old) (W.contents output.new)) }
+        (PrintsCosts S.may_take options (W.contents output.old) (W.contents output.new)) }
 {
     let found = search(stopwatch, errors, options)?;
     if options.json {

@@ -14,7 +14,7 @@ use Rattle.argon2_store.specs.declared.error.FileError.{FileError}
 use Rattle.argon2_store.specs.declared.error.LineError.{LineError}
 use Rattle.argon2_store.specs.declared.error.LineError.TheVariants as lines
 use Rattle.argon2_passwd.specs.Answers.{AddsLines, AddsOthers, AreRead, IsAct, IsAnswered, IsDenied, IsEnded, IsImported, IsOnce, IsOpenFor, IsOpened, IsRefused, IsServed, IsSifted, IsUnfit, Under, breaks_lines}
-use Rattle.argon2_passwd.specs.Asked.{Asked, Choices, edit, import, import_others}
+use Rattle.argon2_passwd.specs.Jobs.{Choices, Job, edit, import, import_others}
 use Rattle.argon2_passwd.specs.Failures.{IsMemory, IsOfFile, IsOfLines, status_of}
 use Rattle.argon2_passwd.specs.declared.command.Edit.{Edit}
 use Rattle.argon2_passwd.specs.declared.failure.Failure.{Failure}
@@ -49,7 +49,7 @@ denied_then Why (Some text) f (inl shut) = inl shut
 denied_then Why (Some text) f (inr (v, e, says, never, of)) = absurd never
 
 -- what is asked for was done at most once if no file was opened
-unopened : {S : Type 0} (g : Ghosts S) (Has : List ℕ → Texts → Type 0) (Gives : List ℕ → Type 0) (Closed : List S → Type 0) (policy : Policy) (what : Asked)
+unopened : {S : Type 0} (g : Ghosts S) (Has : List ℕ → Texts → Type 0) (Gives : List ℕ → Type 0) (Closed : List S → Type 0) (policy : Policy) (what : Job)
     (input : Option (List ℕ)) → Closed [] → IsOnce g Has Gives policy what input Closed
 unopened g Has Gives Closed policy what input shut = grind arith
 
@@ -68,7 +68,7 @@ no_line (lines.File e) f is file = no_refusal e f is file
 no_line lines.Breaks f is file = ap status_of is
 no_line (lines.Write e) f is file = grind arith
 
-module _ {S : Type 0} {g : Ghosts S} {Has : List ℕ → Texts → Type 0} {Gives : List ℕ → Type 0} {Closed : List S → Type 0} {policy : Policy} {what : Asked}
+module _ {S : Type 0} {g : Ghosts S} {Has : List ℕ → Texts → Type 0} {Gives : List ℕ → Type 0} {Closed : List S → Type 0} {policy : Policy} {what : Job}
     {input old new : Option (List ℕ)} where
   -- it ended with this failure
   pub failed : (f : Failure) (r : Result (Unit {0}) Failure) → IsErrAnd r (λ e. e ≡ f)
@@ -181,7 +181,7 @@ module _ {S : Type 0} {g : Ghosts S} {Has : List ℕ → Texts → Type 0} {Give
 
 module _ {S : Type 0} {g : Ghosts S} (Holds : List ℕ → List ℕ → Type 0) {Has : List ℕ → Texts → Type 0}
     {Gives : List ℕ → Type 0} (choices : Choices)
-    {what : Asked} {input old new : Option (List ℕ)} {Closed : List S → Type 0} where
+    {what : Job} {input old new : Option (List ℕ)} {Closed : List S → Type 0} where
   -- what is known of a command that ended well, was refused, or ended at all
   pub answered : (x : Unit {0}) → IsEnded g Holds Has Gives choices what (Ok x) input old new Closed
       → Under Holds choices (λ policy. IsAnswered g Has Gives policy what input old new Closed)

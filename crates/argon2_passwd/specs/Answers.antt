@@ -37,7 +37,7 @@ use Rattle.argon2_store.specs.Edits.{Edit as FileEdit, adding, additions, lockin
 use Rattle.argon2_store.specs.declared.account_file.AccountFile.{AccountFile}
 use Rattle.argon2_store.specs.declared.error.FileError.{FileError}
 use Rattle.argon2_store.specs.declared.error.FileError.TheVariants.{NameUnknown}
-use Rattle.argon2_passwd.specs.Asked.{Asked, Choices, check, edit, hash, import, import_others, policy_by, show, verify}
+use Rattle.argon2_passwd.specs.Jobs.{Choices, Job, check, edit, hash, import, import_others, policy_by, show, verify}
 use Rattle.argon2_passwd.specs.declared.command.Edit.{Edit}
 use Rattle.argon2_passwd.specs.declared.command.Edit.TheVariants.{Register, Change, Set, Remove, Lock, Unlock}
 use Rattle.argon2_passwd.specs.Failures.{IsOfBound, IsOfFile, status_of}
@@ -66,13 +66,13 @@ login_text Rehashed fresh = accepted_text Rehashed ++ 10 ∷ phc_text fresh
 login_text did fresh = accepted_text did
 
 -- what a text says that is not locked, and not of another scheme
-abbrev pub Says : List ℕ → Phc → Type 0
-Says text v = (is_locked text ≡ false) × (scheme_of text ≡ None) × PhcText text v
+abbrev pub SaysHash : List ℕ → Phc → Type 0
+SaysHash text v = (is_locked text ≡ false) × (scheme_of text ≡ None) × PhcText text v
 
 -- a login with the password and the text
 abbrev pub IsCheckReply : Policy → List ℕ → List ℕ → Option (List ℕ) → List ℕ → Type 0
 IsCheckReply policy drawn text input reply =
-    OfPassword (λ password. (v : Phc) × (did : Accepted) × (w : Phc) × Says text v
+    OfPassword (λ password. (v : Phc) × (did : Accepted) × (w : Phc) × SaysHash text v
     × LogsIn policy password drawn v (Ok did) w × (reply ≡ login_text did w)) input
 
 -- Why no password opens a text: it is locked, and is refused as a wrong password is; or it is of another scheme; or it is
@@ -88,7 +88,7 @@ IsShut text failure = (IsTrue (is_locked text) × (failure ≡ Refused (bound.Re
 abbrev pub IsDenied : (Phc → BoundError → Type 0) → Option (List ℕ) → Failure → Type 0
 IsDenied Why None failure = failure ≡ File NameUnknown
 IsDenied Why (Some text) failure = IsShut text failure
-    ⊎ ((v : Phc) × (e : BoundError) × Says text v × Why v e × IsOfBound e failure)
+    ⊎ ((v : Phc) × (e : BoundError) × SaysHash text v × Why v e × IsOfBound e failure)
 
 -- why a check by a text is refused, or fails: there is no password, or the text does not accept it
 abbrev pub IsUnchecked : Policy → List ℕ → Option (List ℕ) → Failure → Type 0
@@ -117,8 +117,8 @@ IsReplied Gives IsReply old new =
 
 -- ---- lines of an import
 
-abbrev pub pair_of : Bor (List ℕ) × Bor (List ℕ) → List ℕ × List ℕ
-pair_of pair = (pair.0.now, pair.1.now)
+abbrev pub parts_now : Bor (List ℕ) × Bor (List ℕ) → List ℕ × List ℕ
+parts_now pair = (pair.0.now, pair.1.now)
 
 -- the parts of a line at its first colon: no text if it has none, and neither if it is not UTF-8
 abbrev pub parts_of : List ℕ → List ℕ × List ℕ
@@ -230,14 +230,14 @@ RefusesLine {g} failure es before after = (e : FileError) × Serves (additions e
     → (k : ℕ) × (failure ≡ AtLine (k + 1) Taken) × IsFirstTaken names es k)
 
 -- the entries were to be added, and this is some answer to it
-abbrev pub IsAdded : {S : Type 0} {g : Ghosts S} → List (List ℕ × List ℕ) → AccountFile S g → AccountFile S g → Type 0
-IsAdded es before after = (answer : Result (Unit {0}) FileError) × Serves (additions es) answer before after
+abbrev pub ServesAdditions : {S : Type 0} {g : Ghosts S} → List (List ℕ × List ℕ) → AccountFile S g → AccountFile S g → Type 0
+ServesAdditions es before after = (answer : Result (Unit {0}) FileError) × Serves (additions es) answer before after
 
 -- how an addition of the entries ended
 abbrev pub AddsLines : {S : Type 0} {g : Ghosts S} → Result (Unit {0}) Failure → List (List ℕ × List ℕ) → AccountFile S g
     → AccountFile S g → Type 0
 AddsLines (Ok _) es before after = Serves (additions es) (Ok tt) before after
-AddsLines (Err failure) es before after = IsAdded es before after × (status_of failure ≢ 3 → RefusesLine failure es before after)
+AddsLines (Err failure) es before after = ServesAdditions es before after × (status_of failure ≢ 3 → RefusesLine failure es before after)
 
 -- ---- an import that passes over lines
 
@@ -245,15 +245,15 @@ AddsLines (Err failure) es before after = IsAdded es before after × (status_of 
 abbrev pub Line : Type 0
 Line = Result (List ℕ × List ℕ) Flaw
 
-abbrev pub said_of : Result (Bor (List ℕ) × StoredText) Flaw → Line
-said_of (Ok e) = Ok (entry_of e)
-said_of (Err why) = Err why
+abbrev pub entry_or_flaw : Result (Bor (List ℕ) × StoredText) Flaw → Line
+entry_or_flaw (Ok e) = Ok (entry_of e)
+entry_or_flaw (Err why) = Err why
 
-abbrev pub IsSaid : Bool → List ℕ → Line → Type 0
-IsSaid any_text line (Ok e) = IsEntry any_text line e
-IsSaid any_text line (Err NoText) = LacksEntry any_text false line
-IsSaid any_text line (Err Control) = LacksEntry any_text true line
-IsSaid any_text line (Err Taken) = ⊥
+abbrev pub IsEntryOrFlaw : Bool → List ℕ → Line → Type 0
+IsEntryOrFlaw any_text line (Ok e) = IsEntry any_text line e
+IsEntryOrFlaw any_text line (Err NoText) = LacksEntry any_text false line
+IsEntryOrFlaw any_text line (Err Control) = LacksEntry any_text true line
+IsEntryOrFlaw any_text line (Err Taken) = ⊥
 
 -- the entry, unless its name is taken
 abbrev pub unless_taken : Bool → List ℕ × List ℕ → Line
@@ -270,9 +270,9 @@ with_name (Ok e) names = e.0 ∷ names
 with_name (Err why) names = names
 
 -- the line has this name
-abbrev pub is_named : Line → List ℕ → Bool
-is_named (Ok e) name = bytes_eq e.0 name
-is_named (Err why) name = false
+abbrev pub line_has_name : Line → List ℕ → Bool
+line_has_name (Ok e) name = bytes_eq e.0 name
+line_has_name (Err why) name = false
 
 -- the lines, of which only the first with a name has it, and none has one of these
 abbrev pub first_of_each : List (List ℕ) → List Line → List Line
@@ -343,9 +343,9 @@ pub data Outcome (X : Type 0) : Type 0 where
   replaced : X → Result (Unit {0}) FileError → Outcome X
 
 -- what an accepted login did whose fresh text is not written
-abbrev pub unwritten : Accepted → Accepted
-unwritten Rehashed = Kept
-unwritten did = did
+abbrev pub answer_without_text : Accepted → Accepted
+answer_without_text Rehashed = Kept
+answer_without_text did = did
 
 -- a result of the program tells how a call on a file ended
 abbrev pub TellsOf : {X : Type 0} → Result X FileError → Result X Failure → Type 0
@@ -357,9 +357,9 @@ TellsOf _ _ = ⊥
 abbrev pub TellsOfLogin : Outcome Accepted → Result Accepted Failure → Type 0
 TellsOfLogin (unread e) (Err failure) = IsOfFile e failure
 TellsOfLogin (denied why) (Err failure) = failure ≡ why
-TellsOfLogin (accepted did) (Ok answer) = answer ≡ unwritten did
+TellsOfLogin (accepted did) (Ok answer) = answer ≡ answer_without_text did
 TellsOfLogin (replaced did (Ok _)) (Ok answer) = answer ≡ did
-TellsOfLogin (replaced did (Err e)) (Ok answer) = answer ≡ unwritten did
+TellsOfLogin (replaced did (Err e)) (Ok answer) = answer ≡ answer_without_text did
 TellsOfLogin _ _ = ⊥
 
 -- a result of a change tells how far it came; that the file can't be opened again is no refusal
@@ -372,12 +372,12 @@ TellsOfChange _ _ = ⊥
 
 -- a login by a text, with what it did and the text that is to stand then
 abbrev pub AcceptsLogin : (List ℕ → Type 0) → Policy → List ℕ → List ℕ → Accepted → List ℕ → Type 0
-AcceptsLogin Gives policy password old did new = (drawn : List ℕ) × (v w : Phc) × IsSalt Gives drawn × Says old v
+AcceptsLogin Gives policy password old did new = (drawn : List ℕ) × (v w : Phc) × IsSalt Gives drawn × SaysHash old v
     × LogsIn policy password drawn v (Ok did) w × (new ≡ phc_text w)
 
 -- a change by a text, with the one of the new password
 abbrev pub AcceptsChange : (List ℕ → Type 0) → Policy → List ℕ → List ℕ → List ℕ → Unit {0} → List ℕ → Type 0
-AcceptsChange Gives policy first second old _ new = (drawn : List ℕ) × (v w : Phc) × IsSalt Gives drawn × Says old v
+AcceptsChange Gives policy first second old _ new = (drawn : List ℕ) × (v w : Phc) × IsSalt Gives drawn × SaysHash old v
     × Admits policy first v × IsFresh policy.target second drawn w × (new ≡ phc_text w)
 
 -- a call of which its result tells, or a file that was not opened, which is no refusal
@@ -385,7 +385,7 @@ abbrev pub Ends : {X : Type 0} → (Result X Failure → Type 0) → Type 0 → 
 Ends Made untouched result = Made result ⊎ (untouched × IsErrAnd result (λ failure. status_of failure ≡ 3))
 
 -- the words or the input are refused with this failure before a file is opened
-abbrev pub IsUnfit : Policy → Asked → Option (List ℕ) → Failure → Type 0
+abbrev pub IsUnfit : Policy → Job → Option (List ℕ) → Failure → Type 0
 IsUnfit policy hash input failure = IsUnread input failure
 IsUnfit policy (check text) input failure = IsUnchecked policy text input failure
 IsUnfit policy (verify path name) input failure = IsUnread input failure
@@ -441,8 +441,8 @@ module _ {S : Type 0} (g : Ghosts S) (Has : List ℕ → Texts → Type 0) where
       (λ read. IsCalled path (replacing name old new) (λ last. Closed (read ∷ last ∷ [])) done)
 
   -- no name was changed, with this error of the file if there was one, and this is a fact of its names
-  abbrev pub IsRead : List ℕ → Option FileError → (Texts → Type 0) → (List S → Type 0) → Type 0
-  IsRead path error Shows = IsDone path (λ before after. (names : Texts) → HasNames before names
+  abbrev pub IsOnlyRead : List ℕ → Option FileError → (Texts → Type 0) → (List S → Type 0) → Type 0
+  IsOnlyRead path error Shows = IsDone path (λ before after. (names : Texts) → HasNames before names
       → Stays error names before after × (IsHonest g (database_of after) → Shows names))
 
   -- adding the entries of a known input was all that was done with it, with this answer
@@ -455,7 +455,7 @@ module _ {S : Type 0} (g : Ghosts S) (Has : List ℕ → Texts → Type 0) where
   abbrev pub IsSifted : List ℕ → Bool → (List Line → AccountFile S g → AccountFile S g → Type 0)
       → Option (List ℕ) → (List S → Type 0) → Type 0
   IsSifted path any_text Adds input Closed = (said : List Line)
-      × IfSome input (λ bytes. AllZip (IsSaid any_text) (lines (unmarked bytes)) said)
+      × IfSome input (λ bytes. AllZip (IsEntryOrFlaw any_text) (lines (unmarked bytes)) said)
       × IsDone path (Adds (first_of_each [] said)) Closed
 
 module _ {S : Type 0} (g : Ghosts S) (Has : List ℕ → Texts → Type 0) (Gives : List ℕ → Type 0) where
@@ -493,7 +493,7 @@ module _ {S : Type 0} (g : Ghosts S) (Has : List ℕ → Texts → Type 0) (Give
       × AreRead act input first second × IsChange policy path act name first second Closed result
 
   -- what is asked for is answered
-  abbrev pub IsAnswered : Policy → Asked → Option (List ℕ) → Option (List ℕ) → Option (List ℕ) → (List S → Type 0) → Type 0
+  abbrev pub IsAnswered : Policy → Job → Option (List ℕ) → Option (List ℕ) → Option (List ℕ) → (List S → Type 0) → Type 0
   IsAnswered policy hash input old new Closed =
       IsReplied Gives (λ drawn line. IsHashReply policy drawn input line) old new × Closed []
   IsAnswered policy (check text) input old new Closed =
@@ -503,14 +503,14 @@ module _ {S : Type 0} (g : Ghosts S) (Has : List ℕ → Texts → Type 0) (Give
   IsAnswered policy (edit path act name) input old new Closed =
       IsEdited policy path act name (Ok tt) input Closed × Keeps old new
   IsAnswered policy (show path view) input old new Closed =
-      IsRead g Has path None (λ names. AreWritten view names old new All) Closed
+      IsOnlyRead g Has path None (λ names. AreWritten view names old new All) Closed
   IsAnswered policy (import path any_text) input old new Closed =
       IsImported g Has path any_text (λ es. Serves (additions es) (Ok tt)) input Closed × Keeps old new
   IsAnswered policy (import_others path any_text) input old new Closed =
       IsSifted g Has path any_text (AddsOthers (Ok tt)) input Closed × Keeps old new
 
   -- a call on the file is refused with this failure
-  abbrev pub IsRefusedBy : Policy → Asked → Option (List ℕ) → Failure → (List S → Type 0) → Type 0
+  abbrev pub IsRefusedBy : Policy → Job → Option (List ℕ) → Failure → (List S → Type 0) → Type 0
   IsRefusedBy policy (verify path name) input failure Closed = IsVerified policy path name (Err failure) input Closed
   IsRefusedBy policy (edit path act name) input failure Closed = IsEdited policy path act name (Err failure) input Closed
   IsRefusedBy policy (import path any_text) input failure Closed =
@@ -521,25 +521,25 @@ module _ {S : Type 0} (g : Ghosts S) (Has : List ℕ → Texts → Type 0) (Give
 
   -- what is asked for is refused with this failure: there is no such policy, or before a file is opened, or by a call on the
   -- file
-  abbrev pub IsRefused : Policy → Asked → Option (List ℕ) → Failure → (List S → Type 0) → Type 0
+  abbrev pub IsRefused : Policy → Job → Option (List ℕ) → Failure → (List S → Type 0) → Type 0
   IsRefused policy what input failure Closed =
       (((¬ (IsPolicy policy) × (failure ≡ Params)) ⊎ IsUnfit policy what input failure) × Closed [])
       ⊎ IsRefusedBy policy what input failure Closed
 
   -- all that was done with a file, whatever the status: it was not opened, or the command was served, with some result
-  abbrev pub IsOnce : Policy → Asked → Option (List ℕ) → (List S → Type 0) → Type 0
+  abbrev pub IsOnce : Policy → Job → Option (List ℕ) → (List S → Type 0) → Type 0
   IsOnce policy (verify path name) input Closed =
       Closed [] ⊎ ((result : Result Accepted Failure) × IsVerified policy path name result input Closed)
   IsOnce policy (edit path act name) input Closed =
       Closed [] ⊎ ((result : Result (Unit {0}) Failure) × IsEdited policy path act name result input Closed)
   IsOnce policy (show path view) input Closed =
-      Closed [] ⊎ ((error : Option FileError) × IsRead g Has path error (λ names. ⊤) Closed)
-  IsOnce policy (import path any_text) input Closed = Closed [] ⊎ IsImported g Has path any_text IsAdded input Closed
+      Closed [] ⊎ ((error : Option FileError) × IsOnlyRead g Has path error (λ names. ⊤) Closed)
+  IsOnce policy (import path any_text) input Closed = Closed [] ⊎ IsImported g Has path any_text ServesAdditions input Closed
   IsOnce policy (import_others path any_text) input Closed = Closed [] ⊎ IsSifted g Has path any_text TriesOthers input Closed
   IsOnce policy _ input Closed = Closed []
 
   -- how a command ended: it is answered, or refused with this failure, and no more was done with a file
-  pub record IsServed (policy : Policy) (what : Asked) (result : Result (Unit {0}) Failure)
+  pub record IsServed (policy : Policy) (what : Job) (result : Result (Unit {0}) Failure)
       (input old new : Option (List ℕ)) (Closed : List S → Type 0) : Type 0 where
     pub ok : OnOk result (IsAnswered policy what input old new Closed)
     pub err : IfErr result (λ failure. status_of failure ≢ 3
@@ -548,7 +548,7 @@ module _ {S : Type 0} (g : Ghosts S) (Has : List ℕ → Texts → Type 0) (Give
 
 -- how a command ended under the choices and their secret; or a failure that is no refusal came before
 abbrev pub IsEnded : {S : Type 0} (g : Ghosts S) → (List ℕ → List ℕ → Type 0) → (List ℕ → Texts → Type 0)
-    → (List ℕ → Type 0) → Choices → Asked
+    → (List ℕ → Type 0) → Choices → Job
     → Result (Unit {0}) Failure → Option (List ℕ) → Option (List ℕ) → Option (List ℕ) → (List S → Type 0) → Type 0
 IsEnded g Holds Has Gives choices what result input old new Closed =
     (Closed [] × IsErrAnd result (λ failure. status_of failure ≡ 3))

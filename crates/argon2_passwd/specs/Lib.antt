@@ -1,6 +1,6 @@
 pub mod Answers
-pub mod Asked
 pub mod Failures
+pub mod Jobs
 pub mod News
 pub mod Passwords
 pub mod Salts

@@ -2,7 +2,7 @@
 
 ghost use Rattle.std.specs.Prelude.{◌≡◌, ◌⊎◌, false, true, IsTrue, IfErr, IfOk, IfSome, map, MatchOption};
 ghost use Rattle.argon2_rows.specs.Names.{entry_of};
-ghost use Rattle.argon2_passwd.specs.Answers.{AreEntries, HasNoText, IsForeign, IsNotTaken, IsPair, IsTaken, RefusesText, has_control, has_scheme, pair_of, parts_of};
+ghost use Rattle.argon2_passwd.specs.Answers.{AreEntries, HasNoText, IsForeign, IsNotTaken, IsPair, IsTaken, RefusesText, has_control, has_scheme, parts_now, parts_of};
 ghost use Rattle.argon2_passwd.specs.Failures.{IsMemory, status_of};
 
 use crate::failure::{Failure, Flaw, of_reading};
@@ -133,7 +133,7 @@ pub fn has_control(name: &str) -> bool
 
 // The parts of a line at its first colon. Without a colon there is no text; if it is not UTF-8, there is neither.
 fn parts(line: &[u8]) -> (&str, &str)
-    ensures { pair_of result ≡ parts_of line.now }
+    ensures { parts_now result ≡ parts_of line.now }
 {
     match str::from_utf8(line) {
         Ok(line) => line.split_once(':').unwrap_or((line, "")),

@@ -3,7 +3,7 @@
 ghost use Rattle.std.specs.Prelude.{◌≡◌, ◌||◌, [], ℕ, List, IfOk, OnOk, map};
 ghost use Rattle.std.specs.List.{AllZip};
 ghost use Rattle.std.specs.Str.Lines.{lines};
-ghost use Rattle.argon2_passwd.specs.Answers.{IsSaid, first_of_each, has_name, is_named, new_line, said_of};
+ghost use Rattle.argon2_passwd.specs.Answers.{IsEntryOrFlaw, entry_or_flaw, first_of_each, has_name, line_has_name, new_line};
 
 use crate::entries::{entry, has_control};
 use crate::failure::Flaw;
@@ -24,7 +24,7 @@ pub fn read_lines<'a>(
     input: &'a [u8],
     any_text: bool,
 ) -> Result<Vec<Line<'a>>, AllocError>
-    ensures { IfOk result (λ found. AllZip (IsSaid any_text) (lines input.now) (map said_of found.items)) }
+    ensures { IfOk result (λ found. AllZip (IsEntryOrFlaw any_text) (lines input.now) (map entry_or_flaw found.items)) }
 {
     let mut found = Vec::new(alloc);
     for line in input.split_inclusive(|byte| *byte == b'\n') {
@@ -35,7 +35,7 @@ pub fn read_lines<'a>(
 
 // What a line says.
 fn read_line(line: &[u8], any_text: bool) -> Line<'_>
-    ensures { IsSaid any_text line.now (said_of result) }
+    ensures { IsEntryOrFlaw any_text line.now (entry_or_flaw result) }
 {
     match entry(line, any_text) {
         None => Err(Flaw::NoText),
@@ -50,7 +50,7 @@ fn read_line(line: &[u8], any_text: bool) -> Line<'_>
 /// Memory may be refused.
 pub fn first_of_each<'a>(alloc: Global, lines: &[Line<'a>]) -> Result<Vec<Line<'a>>, AllocError>
     ensures { IfOk result (λ found.
-        map said_of found.items ≡ first_of_each [] (map said_of lines.now)) }
+        map entry_or_flaw found.items ≡ first_of_each [] (map entry_or_flaw lines.now)) }
 {
     let mut names = BTreeSet::new(alloc);
     let mut found = Vec::new(alloc);
@@ -65,9 +65,9 @@ fn unless_repeated<'a>(
     names: &mut BTreeSet<&'a str>,
     line: Line<'a>,
 ) -> Result<Line<'a>, AllocError>
-    ensures said { IfOk result (λ new. said_of new ≡ new_line (has_name names.old) (said_of line.entry)) }
+    ensures said { IfOk result (λ new. entry_or_flaw new ≡ new_line (has_name names.old) (entry_or_flaw line.entry)) }
     ensures names { OnOk result ((name : List ℕ)
-        → has_name names.new name ≡ (is_named (said_of line.entry) name || has_name names.old name)) }
+        → has_name names.new name ≡ (line_has_name (entry_or_flaw line.entry) name || has_name names.old name)) }
 {
     let Ok((name, text)) = line else {
         return Ok(line);

@@ -7,7 +7,7 @@ ghost use Rattle.argon2_policy.specs.Policy.{IsPolicy, policy_value};
 ghost use Rattle.argon2.specs.Login.{accepted_text};
 ghost use Rattle.argon2.specs.TextHashing.{target_of};
 ghost use Rattle.argon2_passwd.specs.Answers.{IsAnswered, IsCheckReply, IsEnded, IsHashReply, IsOnce, IsRefused, IsOldSecret, IsReplied, IsSecret, IsUnchecked, Under};
-ghost use Rattle.argon2_passwd.specs.Asked.{asked, choices_of, policy_by, target_by};
+ghost use Rattle.argon2_passwd.specs.Jobs.{choices_of, job_of, policy_by, target_by};
 ghost use Rattle.argon2_passwd.specs.News.{behind_text, made_text, news_of, news_text};
 ghost use Rattle.argon2_passwd.specs.Failures.{status_of};
 ghost use Rattle.argon2_passwd.specs.Passwords.{IsUnread};
@@ -58,16 +58,16 @@ pub fn run<P: Outside, R: BufRead, W: Write, E: Write>(
     requires { P.closed outside.old [] }
     ensures status { result ≤ 4 }
     ensures answered { result ≡ 0 → Under P.holds (choices_of command.entry.options) (λ policy.
-        IsAnswered P.File.Store P.keeps P.gives policy (asked command.entry.action) (R.remaining input.old)
+        IsAnswered P.File.Store P.keeps P.gives policy (job_of command.entry.action) (R.remaining input.old)
         (W.contents output.old) (W.contents output.new) (P.closed outside.new)) }
     ensures told { result ≡ 0 → (n : ℕ) × Appends (E.contents errors.old) (E.contents errors.new)
         (take n (news_of command.entry.action (P.news outside.new))) }
     ensures refused { result ≢ 0 → result ≢ 3
         → Under P.holds (choices_of command.entry.options) (λ policy. (why : Why) × (status_of why ≡ result)
-        × IsRefused P.File.Store P.keeps P.gives policy (asked command.entry.action) (R.remaining input.old) why
+        × IsRefused P.File.Store P.keeps P.gives policy (job_of command.entry.action) (R.remaining input.old) why
         (P.closed outside.new)) × Keeps (W.contents output.old) (W.contents output.new) }
     ensures once { P.closed outside.new [] ⊎ Under P.holds (choices_of command.entry.options) (λ policy.
-        IsOnce P.File.Store P.keeps P.gives policy (asked command.entry.action) (R.remaining input.old)
+        IsOnce P.File.Store P.keeps P.gives policy (job_of command.entry.action) (R.remaining input.old)
         (P.closed outside.new)) }
 {
     let answered = answer(alloc, &command, outside, input, output);
@@ -194,7 +194,7 @@ fn answer<P: Outside, R: BufRead, W: Write>(
 ) -> Result<(), Failure>
     requires { P.closed outside.old [] }
     ensures { IsEnded P.File.Store P.holds P.keeps P.gives (choices_of command.now.options)
-        (asked command.now.action) result (R.remaining input.old) (W.contents output.old)
+        (job_of command.now.action) result (R.remaining input.old) (W.contents output.old)
         (W.contents output.new) (P.closed outside.new) }
 {
     let options = &command.options;

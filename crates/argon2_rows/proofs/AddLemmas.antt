@@ -1,7 +1,7 @@
 -- Names to which several are added.
 use Rattle.argon2_rows.proofs.Imports.{◌≡◌, ℕ, List, [], ◌∷◌, ◌++◌, ◌≤◌, false, Some, Result, Ok, Err, refl, sym, Io, subst, ap, ◌∙◌, arith, inl, inr, map, Bor, get}
 use Rattle.argon2_rows.proofs.Imports.{Any, IfErr, MoreFaults, both_ways, on_ok_weaker, StoreError, Ghosts, Texts, AddsAll, IsAdded, WritesAll, IsPermutation, entry_of, Changes, bytes_eq-Decides, true, ◌≢◌}
-use Rattle.argon2_rows.proofs.Imports.{changed, HasNames, IsHonest, IsLong, IsOpen, StaysQuiet}
+use Rattle.argon2_rows.proofs.Imports.{changed, HasRows, IsHonest, IsLong, IsOpen, StaysQuiet}
 use Rattle.std.proofs.lemmas.List.Sorted.{Contains-permutation, IsPermutation-map, IsPermutation-sym}
 use Rattle.sqlite_trees.proofs.ListLemmas.{along_permutation}
 use Rattle.argon2_rows.specs.Table.{IsTold}
@@ -79,7 +79,7 @@ module _ {S : Type 0} (g : Ghosts S) where
 
   -- after others were written and taken back
   module _ (old mid : S) {Q : Texts → Type 0}
-      (refused : (names : Texts) → HasNames g old names → HasNames g mid names × Q names × StaysQuiet g old mid) where
+      (refused : (names : Texts) → HasRows g old names → HasRows g mid names × Q names × StaysQuiet g old mid) where
     -- names are written
     pub written_later : (new : S) (es : List (List ℕ × List ℕ)) (r : Result (Result (Unit {0}) StoreError) ℕ)
         → (IsHonest g mid → IsOpen g mid) → WritesAll g mid new es r → WritesAll g old new es r

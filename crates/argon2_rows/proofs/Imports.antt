@@ -39,5 +39,5 @@ pub use Rattle.sqlite_value.specs.declared.value.Value.TheVariants.{Text}
 pub use Rattle.argon2_rows.specs.Names.{AddsAll, IsAdded, IsFirstTaken, Texts, changed, entry_of}
 pub use Rattle.argon2_rows.specs.Rows.{AreLines, AreTexts, AreWritten, FitLines, IsLineOf, StopsAtBreak, HasNoneAfter, IsAccount, IsAfterAll, IsFoundAs, breaks_line, line, lines, lines_of, row_of, rows_of}
 pub use Rattle.argon2_rows.specs.Locks.{IsLine}
-pub use Rattle.argon2_rows.specs.Table.{Changes, EndsRead, Finishes, HasBegun, HasNames, HasSome, IsUnwritten, IsHonest, IsKept, IsLong, IsOpen, CrashLeaves, Sees, StaysQuiet}
+pub use Rattle.argon2_rows.specs.Table.{Changes, EndsRead, Finishes, HasBegun, HasRows, HasSome, IsUnwritten, IsHonest, IsKept, IsLong, IsOpen, CrashLeaves, Sees, StaysQuiet}
 pub use Rattle.argon2_rows.specs.Table.{Writes, WritesAll, done_of}

@@ -2,7 +2,7 @@
 use Rattle.argon2_rows.proofs.Imports.{◌≡◌, ℕ, List, Result, Ok, Err, false, refl, sym, subst, ap, ◌∙◌, ◌≤◌, IsTrue, arith, inl, inr, ◌⊎◌}
 use Rattle.argon2_rows.proofs.Imports.{All, IfErr, IsErrAnd, MatchResult, OnErr, OnOk, both_ways, true_from_ne_false, Coded-set, ∥∥₁_elim, ∥∥₁_map, MoreFaults, plain, Row, StoreError, Shape, Index, Ghosts}
 use Rattle.argon2_rows.proofs.Imports.{Trees, order_of, View, IsFailure, KeepsSchema, OnlyWrites, SetsTree, Texts, AreTexts, rows_of, Changes}
-use Rattle.argon2_rows.proofs.Imports.{EndsRead, Finishes, HasBegun, HasNames, HasSome, IsHonest, IsKept, IsOpen, CrashLeaves, Sees, StaysQuiet, Writes, done_of, on_ok_weaker}
+use Rattle.argon2_rows.proofs.Imports.{EndsRead, Finishes, HasBegun, HasRows, HasSome, IsHonest, IsKept, IsOpen, CrashLeaves, Sees, StaysQuiet, Writes, done_of, on_ok_weaker}
 use Rattle.argon2_rows.specs.Table.{IsDue, IsTold}
 use Rattle.sqlite_trees.specs.contracts.store.Shape.{the_row}
 use Rattle.sqlite_trees.specs.View.{HasCause, Tells}
@@ -123,12 +123,12 @@ module _ {S : Type 0} (g : Ghosts S) where
 
   -- a store that shows the same has the same names
   pub has_same : (old new : S) (names : Texts) → (IsHonest g new → IsHonest g old) → (IsOpen g new → g.view new ≡ g.view old)
-      → HasNames g old names → HasNames g new names
+      → HasRows g old names → HasRows g new names
   has_same old new names honest same has = search arith
 
   -- a call that reads: the names stay
   abbrev pub Keeps : {X : Type 0} → S → S → Texts → Result X StoreError → Type 0
-  Keeps old new names done = HasNames g new names × OnOk done (IsHonest g new → IsOpen g new)
+  Keeps old new names done = HasRows g new names × OnOk done (IsHonest g new → IsOpen g new)
       × (IsHonest g new → IfErr done (IsDue g old new ⊥)) × StaysQuiet g old new
 
 module _ {S : Type 0} {g : Ghosts S} where
@@ -149,7 +149,7 @@ module _ {S : Type 0} {g : Ghosts S} where
 
   -- ---- a store with names
 
-  pub some_kept : {old new : S} → HasSome g old → ((names : Texts) → HasNames g old names → HasNames g new names) → HasSome g new
+  pub some_kept : {old new : S} → HasSome g old → ((names : Texts) → HasRows g old names → HasRows g new names) → HasSome g new
   some_kept some keeps = ∥∥₁_map some (λ it. (it.0, keeps it.0 it.1))
 
   -- several rows are written, or none counts
@@ -164,7 +164,7 @@ module _ {S : Type 0} {g : Ghosts S} where
 
   -- after a change it has either names
   pub has_either : {old new : S} {before after : Texts} {long : Type 0} (result : Result (Unit {0}) StoreError)
-      → Changes g old new before after long result → (names : Texts) × HasNames g new names
+      → Changes g old new before after long result → (names : Texts) × HasRows g new names
   has_either {after = after} (Ok x) change = (after, change.kept)
   has_either {before = before} (Err e) change = (before, change.kept)
 
@@ -175,13 +175,13 @@ module _ {S : Type 0} {g : Ghosts S} where
 
     -- what was written is taken back
     pub taken_back : {mid new : S} {before after : Texts} {long : Type 0} {r : Result (Unit {0}) StoreError}
-        → HasNames g old before → Writes g old mid before after long r
-        → ((IsHonest g new → HasBegun g mid before) → IsKept g new before) → StaysQuiet g mid new → HasNames g new before
+        → HasRows g old before → Writes g old mid before after long r
+        → ((IsHonest g new → HasBegun g mid before) → IsKept g new before) → StaysQuiet g mid new → HasRows g new before
     taken_back has wrote undone quiet = search arith
 
     -- rows are read, and what a failure leaves is taken back
     pub reads_keep : {X : Type 0} {mid new : S} {names : Texts} (done : Result X StoreError)
-        → ((s : S) → (g.view s).is_open ≡ false → IsTrue (g.view s).is_broken) → HasNames g old names
+        → ((s : S) → (g.view s).is_open ≡ false → IsTrue (g.view s).is_broken) → HasRows g old names
         → (AreTexts names → (IsHonest g old → Sees (g.view old) names) → Writes g old mid names names ⊥ (done_of done))
         → EndsRead g mid new done → Keeps g old new names done
     reads_keep (Ok x) shut has writes ends = search arith
@@ -192,7 +192,7 @@ module _ {S : Type 0} {g : Ghosts S} where
 
     -- rows that are written, and then committed or taken back
     pub changes_of : {mid new : S} {before after : Texts} {long : Type 0} (done result : Result (Unit {0}) StoreError)
-        → HasNames g old before → AreTexts after → Writes g old mid before after long done
+        → HasRows g old before → AreTexts after → Writes g old mid before after long done
         → Finishes g mid new done result → Changes g old new before after long result
     changes_of {mid} {new} {before} {after} {long} done result (texts, kept) fine wrote ends =
         let to_mid : IsHonest g new → IsHonest g mid = λ now. omega (arith, now, ends.clean) in

@@ -30,12 +30,12 @@ unfoldable pub catalog : List Row
 catalog = listed_from 0 (account ∷ [])
 
 -- the database has that table alone, with the rows of these names
-abbrev pub Holds : Trees → Texts → Type 0
-Holds db names = (db 0 ≡ rows_of names) × (db catalog_tree ≡ catalog)
+abbrev pub HoldsTable : Trees → Texts → Type 0
+HoldsTable db names = (db 0 ≡ rows_of names) × (db catalog_tree ≡ catalog)
 
 -- the transaction sees these names, unless it is broken
 abbrev pub Sees : View → Texts → Type 0
-Sees v names = v.is_broken ≡ false → Holds v.trees names
+Sees v names = v.is_broken ≡ false → HoldsTable v.trees names
 
 -- the row of a name with its text may be longer than a billion bytes, less 18 for each column
 abbrev pub IsLong : List ℕ × List ℕ → Type 0
@@ -69,30 +69,30 @@ module _ {S : Type 0} (g : Ghosts S) where
 
   -- whatever a crash at this moment leaves holds such names
   abbrev pub CrashLeaves : S → (Texts → Type 0) → Type 0
-  CrashLeaves s P = (db : Trees) → g.recovers s db → (names : Texts) × Holds db names × P names
+  CrashLeaves s P = (db : Trees) → g.recovers s db → (names : Texts) × HoldsTable db names × P names
 
   -- While the store is open, its rows are those of these names, and nothing waits to be committed.
   pub record IsKept (s : S) (names : Texts) : Type 0 where
     pub indexed : IsHonest s → IsOpen s → (g.view s).shape 0 ≡ Index plain
     pub shapes : IsHonest s → IsOpen s → (g.view s).shape ≡ (g.view s).committed_shape
     pub sound : IsHonest s → IsOpen s → (g.view s).is_broken ≡ false
-    pub seen : IsHonest s → IsOpen s → Holds (g.view s).trees names
-    pub committed : IsHonest s → IsOpen s → Holds (g.view s).committed names
+    pub seen : IsHonest s → IsOpen s → HoldsTable (g.view s).trees names
+    pub committed : IsHonest s → IsOpen s → HoldsTable (g.view s).committed names
 
   -- they are the names of its rows
-  abbrev pub HasNames : S → Texts → Type 0
-  HasNames s names = AreTexts names × IsKept s names
+  abbrev pub HasRows : S → Texts → Type 0
+  HasRows s names = AreTexts names × IsKept s names
 
   -- it has names
   abbrev pub HasSome : S → Type 0
-  HasSome s = ∥ ((names : Texts) × HasNames s names) ∥₁
+  HasSome s = ∥ ((names : Texts) × HasRows s names) ∥₁
 
   -- A transaction has begun over these names: they are committed, and a crash leaves them.
   pub record HasBegun (s : S) (names : Texts) : Type 0 where
     pub indexed : (g.view s).shape 0 ≡ Index plain
     pub shapes : (g.view s).shape ≡ (g.view s).committed_shape
-    pub committed : IsOpen s → Holds (g.view s).committed names
-    pub left : (db : Trees) → g.recovers s db → Holds db names
+    pub committed : IsOpen s → HoldsTable (g.view s).committed names
+    pub left : (db : Trees) → g.recovers s db → HoldsTable db names
 
   -- the disk failed or refused from the one to the other
   abbrev pub HasFailed : S → S → Type 0
@@ -144,7 +144,7 @@ module _ {S : Type 0} (g : Ghosts S) where
   pub record Changes (old new : S) (before after : Texts) (too_long : Type 0) (result : Result (Unit {0}) StoreError)
       : Type 0 where
     pub honest : IsHonest new → IsHonest old
-    pub kept : MatchResult result (λ _. HasNames new after) (λ _. HasNames new before)
+    pub kept : MatchResult result (λ _. HasRows new after) (λ _. HasRows new before)
     pub crash : IsHonest new → CrashLeaves new (λ left. (left ≡ before) ⊎ (left ≡ after))
     pub durable : OnOk result (IsHonest new → IsOpen new × CrashLeaves new (λ left. left ≡ after))
     pub cause : IsHonest new
@@ -153,7 +153,7 @@ module _ {S : Type 0} (g : Ghosts S) where
 
   -- A change that adds all of several names, or the index of the first that is there, which changes nothing.
   abbrev pub WritesAll : S → S → List (List ℕ × List ℕ) → Result (Result (Unit {0}) StoreError) ℕ → Type 0
-  WritesAll old new es result = (before : Texts) → HasNames old before → MatchResult result
+  WritesAll old new es result = (before : Texts) → HasRows old before → MatchResult result
       (λ done. (after : Texts) × (IsHonest new → (after ≡ before) ⊎ AddsAll before es after)
       × OnOk done (IsHonest new → AddsAll before es after) × Changes old new before after (Any IsLong es) done)
-      (λ k. HasNames new before × (IsHonest new → IsFirstTaken before es k) × StaysQuiet old new)
+      (λ k. HasRows new before × (IsHonest new → IsFirstTaken before es k) × StaysQuiet old new)

@@ -12,7 +12,7 @@ ghost use Rattle.sqlite_trees.specs.declared.store.Shape.TheVariants.{Index};
 ghost use Rattle.argon2_rows.specs.Names.{Texts as Named};
 ghost use Rattle.argon2_rows.specs.Rows.{AreLines, AreTexts, AreWritten, IsAccount, IsFoundAs, IsLineOf, digit, line, row_of, rows_of, shown, shown_char};
 ghost use Rattle.argon2_rows.specs.declared.view.Written.TheVariants.{All, Failed};
-ghost use Rattle.argon2_rows.specs.Table.{HasNames, IsDue, IsUnwritten, IsHonest, IsOpen, Sees, StaysQuiet, Writes, done_of};
+ghost use Rattle.argon2_rows.specs.Table.{HasRows, IsDue, IsUnwritten, IsHonest, IsOpen, Sees, StaysQuiet, Writes, done_of};
 
 use crate::view::{View, Written};
 use sqlite_trees::error::StoreError;
@@ -152,7 +152,7 @@ pub fn look_up<S: Store>(
 pub fn load<S: Store>(store: &mut S, row: &mut Row, last: &mut Row) -> Result<bool, StoreError>
     requires { IsHonest S.Store store.old → IsUnwritten (S.Store.view store.old) }
     ensures found { IfOk result (λ all. IsTrue all → (names : Named) × AreLines names
-        × HasNames S.Store store.new names × (IsHonest S.Store store.new →
+        × HasRows S.Store store.new names × (IsHonest S.Store store.new →
         (S.Store.view store.old).committed 0 ≡ rows_of names)) }
     ensures refused { IfOk result (λ all. all ≡ false → IsHonest S.Store store.new →
         (names : Named) → AreTexts names → AreLines names →

@@ -7,8 +7,8 @@ ghost use Rattle.sqlite_wal.specs.Files.{image_at};
 ghost use Rattle.argon2_policy.specs.Policy.{policy_value};
 ghost use Rattle.argon2_rows.specs.Names.{Texts};
 ghost use Rattle.argon2_rows.specs.Table.{IsHonest};
-ghost use Rattle.argon2_store.specs.AccountFile.{HasNames, IsFrom, database_of};
-ghost use Rattle.argon2_accounts.specs.Accounts.{HasPassword, Leaves};
+ghost use Rattle.argon2_store.specs.AccountFile.{HasNames, IsFileFrom, database_of};
+ghost use Rattle.argon2_accounts.specs.Accounts.{AdmitsName, RelatesNames};
 
 use argon2_accounts::{AccountError, Accounts};
 use argon2_policy::Policy;
@@ -26,7 +26,7 @@ pub fn open<'key, T: Start>(
     start: T,
     policy: Policy<'key>,
 ) -> Result<Accounts<'key, FileStore<FileFrom<T>>>, OpenError>
-    ensures { IfOk result (λ accounts. IsFrom (image_at T.Start) accounts.file) }
+    ensures { IfOk result (λ accounts. IsFileFrom (image_at T.Start) accounts.file) }
 {
     let file = AccountFile::open(rt, path, start)?;
     Ok(Accounts { policy, file })
@@ -45,7 +45,7 @@ pub fn has_password<R: Rng, S: Store>(
     ensures { (names : Texts) → HasNames accounts.old.file names →
         IsHonest S.Store (database_of accounts.new.file) →
         IfOk result (λ yes. IsTrue yes →
-        HasPassword (policy_value accounts.old.policy) names name.now password.now) }
+        AdmitsName (policy_value accounts.old.policy) names name.now password.now) }
 {
     match accounts.log_in(rng, name, password) {
         Ok(_) => Ok(true),
@@ -64,8 +64,8 @@ pub fn sign_up<R: Rng, D: Disk>(
     name: &str,
     password: &[u8],
 ) -> Result<(), AccountError>
-    ensures { Leaves (λ before after. OnOk result
-        (HasPassword (policy_value accounts.old.policy) after name.now password.now))
+    ensures { RelatesNames (λ before after. OnOk result
+        (AdmitsName (policy_value accounts.old.policy) after name.now password.now))
         accounts.old.file accounts.new.file }
 {
     accounts.register(rng, name, password)?;

@@ -2,8 +2,8 @@
 use Rattle.argon2_store.proofs.Imports.{arith, zero, suc, ◌≡◌, ◌⊎◌, ◌<◌, ◌∷◌, [], inl, inr, ℕ, List, Option, Some, None, Result, Ok, Err, Bool, true, false, refl, sym, subst, ◌∙◌, ap, IsTrue, get, Any}
 use Rattle.argon2_store.proofs.Imports.{is_some, option_map, string_bytes, ◌↔◌, IfErr, IsSomeAnd, OnOk, length, length-map, get_or-map, iff_false, true_from_ne_false}
 use Rattle.argon2_store.proofs.Imports.{StoreError, Ghosts, Texts, IfOk, IfSome, Answers, error_of, HasFailed, IsClosed, IsErrorAt, Makes, Serves, AddsAll, IsFirstTaken}
-use Rattle.argon2_store.proofs.Imports.{Stays, database_of, read_of, unwritten, Changes, IsHonest, IsLong, IsOpen, CrashLeaves, StaysQuiet, changed}
-use Rattle.argon2_store.proofs.Imports.{AccountFile, FileError, Closed, NameTaken, OutOfMemory, String, IsSome, Edit, adding, replacing, Bor, option_copied, behind_lock, is_locked, with_lock, without_lock, bytes_eq, not, Locked, Changed, IsTooLong, additions, gives, is_refusal, made, name_of, refusal}
+use Rattle.argon2_store.proofs.Imports.{Stays, database_of, read_of, call_error, Changes, IsHonest, IsLong, IsOpen, CrashLeaves, StaysQuiet, changed}
+use Rattle.argon2_store.proofs.Imports.{AccountFile, FileError, Closed, NameTaken, OutOfMemory, String, IsSome, Edit, adding, replacing, Bor, option_copied, behind_lock, is_locked, with_lock, without_lock, bytes_eq, not, Locked, Changed, IsTooLong, additions, gives, is_refusal, names_after, name_of, refusal}
 use Rattle.argon2_store.specs.AccountFile.{HasCause, HasFailedBy, HasNames, WritesLines}
 use Rattle.argon2_store.specs.Errors.{lines_by, read_by}
 use Rattle.argon2_rows.specs.Rows.{AreWritten}
@@ -33,7 +33,7 @@ is_some-map f o is = grind arith
 
 -- ---- errors of the file
 
-is_of_file : (f : StoreError) → is_refusal (unwritten f) ≡ false
+is_of_file : (f : StoreError) → is_refusal (call_error f) ≡ false
 is_of_file f = grind arith
 
 pub of_file : {X : Type 0} (done : Result X StoreError) (r : Result X FileError) → r ≡ read_of done
@@ -49,9 +49,9 @@ needs_no_cause closed long fault e is = grind arith
 
 -- a store that is not broken has failed by the fault that it told
 module _ {S : Type 0} {g : Ghosts S} (old new : AccountFile S g) (v : View) (closed P long more : Type 0)
-    (sound : v.is_broken ≡ false) (failed : P → HasFailed old new) (longer : long → more) where
+    (sound : v.is_broken ≡ false) (failed : P → HasFailed g (database_of old) (database_of new)) (longer : long → more) where
   due : (e : StoreError) → Cause v P long e × IsTold g (database_of new) e
-      → HasCause closed (HasFailedBy old new) more (unwritten e)
+      → HasCause closed (HasFailedBy old new) more (call_error e)
   due store.OutOfMemory why = tt
   due store.Io why = (failed why.0, why.1)
   due store.Corrupt why = (failed why.0, why.1)
@@ -97,21 +97,21 @@ within_one edit = omega arith
 
 -- what one edit makes of the names
 pub one_made : (edit : Edit) (names : Texts) → refusal edit (get names (name_of edit)) ≡ None
-    → made (edit ∷ []) names ≡ Ok (changed names (name_of edit) (gives edit (get names (name_of edit))))
+    → names_after (edit ∷ []) names ≡ Ok (changed names (name_of edit) (gives edit (get names (name_of edit))))
 one_made edit names none = rw none refl
 
 pub one_refused : (edit : Edit) (names : Texts) (e : FileError) → refusal edit (get names (name_of edit)) ≡ Some e
-    → made (edit ∷ []) names ≡ Err e
+    → names_after (edit ∷ []) names ≡ Err e
 one_refused edit names e some = rw some refl
 
 -- names that are added
 pub adds_made : (es : List (List ℕ × List ℕ)) (before after : Texts) → AddsAll before es after
-    → made (additions es) before ≡ Ok after
+    → names_after (additions es) before ≡ Ok after
 adds_made [] before after is = ap Ok (sym is)
 adds_made (e ∷ es) before after (none, rest) = rw none (adds_made es _ after rest)
 
 pub taken_made : (es : List (List ℕ × List ℕ)) (before : Texts) (k : ℕ) → IsFirstTaken before es k
-    → made (additions es) before ≡ Err NameTaken
+    → names_after (additions es) before ≡ Err NameTaken
 taken_made [] before k (mid, adds, within, has) = absurd (omega (arith, within))
 taken_made (e ∷ es) before zero (mid, is, within, has) = let there = subst (λ (m : Texts). IsSome (get m e.0)) is has in grind arith
 taken_made (e ∷ es) before (suc k) (mid, (none, adds), within, has) =
@@ -184,7 +184,7 @@ module _ {S : Type 0} {g : Ghosts S} (settled : Settled g) (old : AccountFile S 
             → IfSome (error_of r) (HasCause (IsClosed old) (HasFailedBy old new) ⊥)
         due_of sound (Ok x) r is why = rw is tt
         due_of sound (Err e) r is why =
-            rw is (due old new (g.view (database_of old)) (IsClosed old) (HasFailed old new) ⊥ ⊥ sound (λ f. f) (λ never. never) e (why.0, inl why.1))
+            rw is (due old new (g.view (database_of old)) (IsClosed old) (HasFailed g (database_of old) (database_of new)) ⊥ ⊥ sound (λ f. f) (λ never. never) e (why.0, inl why.1))
 
     -- the store does nothing
     pub unread : NamesStay None old old
@@ -222,7 +222,7 @@ module _ {S : Type 0} {g : Ghosts S} {old mid : AccountFile S g} {before : Texts
 
   -- the end of a call that changes the names, or leaves them
   ends : {edits : List Edit} {other : Type 0} {new : AccountFile S g} {to : Texts} {done : Result (Unit {0}) StoreError}
-      → (IsTrusted new → (to ≡ before) ⊎ (made edits before ≡ Ok to))
+      → (IsTrusted new → (to ≡ before) ⊎ (names_after edits before ≡ Ok to))
       → Changes g (database_of mid) (database_of new) before to other done
       → (r : Result (Unit {0}) FileError) (after : Texts) → HasNames new after → (IsTrusted new → Answers before edits r after)
       → IfErr r (λ e. IsTrue (is_refusal e) → StaysQuiet g (database_of old) (database_of new))
@@ -240,7 +240,7 @@ module _ {S : Type 0} {g : Ghosts S} {old mid : AccountFile S g} {before : Texts
           left.1,
           elim left.2 [
             | inl b ↦ inl b
-            | inr a ↦ subst (λ t. (t ≡ before) ⊎ (made edits before ≡ Ok t)) (sym a) (then clean)
+            | inr a ↦ subst (λ t. (t ≡ before) ⊎ (names_after edits before ≡ Ok t)) (sym a) (then clean)
           ],
         );
     durable = durable;
@@ -252,8 +252,8 @@ module _ {S : Type 0} {g : Ghosts S} {old mid : AccountFile S g} {before : Texts
 
   -- edits are made, or the names stay as they were
   pub writes_all : {edits : List Edit} {long : Type 0} {new : AccountFile S g} {to : Texts}
-      → (IsTrusted new → long → Any (IsTooLong before) edits) → (IsTrusted new → (to ≡ before) ⊎ (made edits before ≡ Ok to))
-      → (done : Result (Unit {0}) StoreError) → OnOk done (IsTrusted new → made edits before ≡ Ok to)
+      → (IsTrusted new → long → Any (IsTooLong before) edits) → (IsTrusted new → (to ≡ before) ⊎ (names_after edits before ≡ Ok to))
+      → (done : Result (Unit {0}) StoreError) → OnOk done (IsTrusted new → names_after edits before ≡ Ok to)
       → Changes g (database_of mid) (database_of new) before to long done
       → (r : Result (Unit {0}) FileError) → r ≡ read_of done → (after : Texts) × Makes edits r old new before after
   writes_all {to = to} too then (Ok _) all change r e =
@@ -261,9 +261,9 @@ module _ {S : Type 0} {g : Ghosts S} {old mid : AccountFile S g} {before : Texts
   writes_all {edits = edits} {long = long} {new = new} too then (Err f) all change r e =
       let never = is_of_file f in (
         before,
-        rw e (ends then change (Err (unwritten f)) before change.kept (λ clean. ((λ is. absurd cc), refl))
+        rw e (ends then change (Err (call_error f)) before change.kept (λ clean. ((λ is. absurd cc), refl))
             (λ is. absurd cc) tt (λ clean. let was = change.honest clean in
-            due old new (g.view (database_of mid)) (IsClosed old) (HasFailed mid new) long (Any (IsTooLong before) edits) (reads.has.1.sound was (reads.is_open refl was))
+            due old new (g.view (database_of mid)) (IsClosed old) (HasFailed g (database_of mid) (database_of new)) long (Any (IsTooLong before) edits) (reads.has.1.sound was (reads.is_open refl was))
             (λ failed. omega (arith, failed, reads.quiet.counts)) (too clean) f (change.cause clean))),
       )
 
@@ -326,7 +326,7 @@ module _ {S : Type 0} {g : Ghosts S} (edit : Edit) {old mid : AccountFile S g} (
       let wrote = change before read.has in
       let left : IsTrusted new → gives edit (get before (name_of edit)) ≡ p = λ clean.
       rw (has_text before has (wrote.honest clean)) given in
-      let all : IsTrusted new → made (edit ∷ []) before ≡ Ok (changed before (name_of edit) p) = λ clean.
+      let all : IsTrusted new → names_after (edit ∷ []) before ≡ Ok (changed before (name_of edit) p) = λ clean.
       one_made edit before (rw (has_text before has (wrote.honest clean)) none)
       ∙ ap (λ x. Ok (changed before (name_of edit) x)) (left clean) in
       writes_all read (λ clean long. (

@@ -46,14 +46,14 @@ pub use Rattle.sqlite_wal.specs.Format.{be32, checksum, is_big, part}
 pub use Rattle.sqlite_wal.specs.Recovery.{AreWhole, Image, IsIgnored, Replays, header, pages_after}
 pub use Rattle.argon2_store.specs.Opening.{AreUnharmed, FoundIn, HoldsNames, IsAfterOpens, IsTableOf, IsUnstarted, LeavesNames, MayHave, StandsFor}
 pub use Rattle.argon2_rows.specs.Rows.{rows_of}
-pub use Rattle.argon2_rows.specs.Table.{Changes, HasNames, Holds, IsUnwritten, IsHonest, IsLong, IsOpen, CrashLeaves, StaysQuiet, account}
+pub use Rattle.argon2_rows.specs.Table.{Changes, HasFailed, HasRows, HoldsTable, IsUnwritten, IsHonest, IsLong, IsOpen, CrashLeaves, StaysQuiet, account}
 pub use Rattle.argon2_store.specs.declared.account_file.AccountFile.{AccountFile}
 pub use Rattle.argon2_store.specs.declared.error.FileError.{FileError}
 pub use Rattle.argon2_rows.specs.Locks.{behind_lock, is_locked, without_lock}
 pub use Rattle.argon2_rows.specs.Names.{AddsAll, IsFirstTaken, Texts, changed, entry_of}
 pub use Rattle.argon2_rows.specs.Table.{WritesAll}
-pub use Rattle.argon2_store.specs.AccountFile.{Answers, HasFailed, IsClosed, IsErrorAt, IsFrom, Makes, Serves, Stays, error_of, database_of}
-pub use Rattle.argon2_store.specs.Edits.{Edit, IsTooLong, adding, additions, edited, gives, left_by, locking, made, name_of, refusal, removing, replacing, setting, text_of, unlocking, with_lock}
-pub use Rattle.argon2_store.specs.Errors.{is_refusal, read_of, unwritten}
-pub use Rattle.argon2_store.specs.Runs.{AreEventsOf, AreMade, Did, Does, EndsRun, Event, FileCall, IsFoundAfter, IsLate, IsLateOf, IsShutOut, Run, events_of, makes, over_file, reads, text_by}
+pub use Rattle.argon2_store.specs.AccountFile.{Answers, IsClosed, IsErrorAt, IsFileFrom, Makes, Serves, Stays, error_of, database_of}
+pub use Rattle.argon2_store.specs.Edits.{Edit, IsTooLong, adding, additions, edited, gives, left_by, locking, name_of, names_after, refusal, removing, replacing, setting, text_of, unlocking, with_lock}
+pub use Rattle.argon2_store.specs.Errors.{call_error, is_refusal, read_of}
+pub use Rattle.argon2_store.specs.Runs.{AreEventsOf, AreMade, Did, Does, EndsRun, FileCall, FileEvent, FileRun, IsFoundAfter, IsLate, IsLateOf, IsShutOut, events_of, makes, over_file, reads, text_by}
 pub use Rattle.argon2_store.specs.declared.error.FileError.TheVariants.{Changed, Closed, Locked, NameTaken, NameUnknown, OutOfMemory}

@@ -5,7 +5,7 @@ use Rattle.argon2_store.proofs.Imports.{catalog_tree, Trees, rows_at, state, all
 use Rattle.argon2_store.proofs.Imports.{IsUnstarted, MayHave, StandsFor, account, ◌≤◌, Option, None, length, slice_index, unwrap_or}
 use Rattle.argon2_store.proofs.Imports.{Some, cases_eq, plain, be32, part, IsIgnored, Replays, pages_after, part_within, slice_index-part, coded_list}
 use Rattle.argon2_store.proofs.Imports.{range_with_len, length-map, reserved, sealed, stored_size, length-sealed, recovers_once, Index, IsFile, recovers}
-use Rattle.argon2_store.proofs.Imports.{same_listing, file_trees, Texts, HoldsNames, IsAfterOpens, LeavesNames, rows_of, Holds}
+use Rattle.argon2_store.proofs.Imports.{same_listing, file_trees, Texts, HoldsNames, IsAfterOpens, LeavesNames, rows_of, HoldsTable}
 use Rattle.sqlite_disk.specs.declared.Disk.{Ghosts}
 use Rattle.sqlite_trees.specs.declared.store.Shape.TheVariants.{Table}
 use Rattle.sqlite_store.specs.Listing.{all_trees, all_reals, all_shapes}
@@ -252,7 +252,7 @@ rows_stable a b h =
 -- What an open finds in what a crash may leave, or what opens that failed have made of it, is what a crash may leave.
 pub next_open : {D : Type 0} {g : Ghosts D} (it : FileStore D g) → ((db : Trees) → recovers it db → db catalog_tree ≡ catalog)
     → (before : Image) → (state it).may_leave before → (opens : List Image) (left : Image) → IsAfterOpens opens before left
-    → (found : Texts) → HoldsNames left found → ∥ ((db : Trees) × recovers it db × Holds db found) ∥₁
+    → (found : Texts) → HoldsNames left found → ∥ ((db : Trees) × recovers it db × HoldsTable db found) ∥₁
 next_open it listed before may opens left after found holds = ∥∥₁_map (left_table it listed before may) (λ (db, can, table).
     let near = near_opens _ opens before left after (near_rows before (db 0) (inl table)) in
     (db, can, (sym (rows_stable _ _ (near.0 _ holds.1)), listed db can)))

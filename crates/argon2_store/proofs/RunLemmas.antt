@@ -1,8 +1,8 @@
 -- What calls make of a file, and what an open finds after them.
 use Rattle.argon2_store.proofs.Imports.{arith, ◌≡◌, ◌⊎◌, ℕ, Bool, cond, List, [], ◌∷◌, ◌++◌, false, true, Result, Ok, Err, inl, inr, refl, sym, subst, ◌∙◌, ap, append_assoc, cases_Bool, empty, get}
 use Rattle.argon2_store.proofs.Imports.{∥∥₁_elim, ∥∥₁_map, flat_map, Option, Some, None, SeenMayStay, settled_at, FileStore, Trees, Ghosts, bytes_eq, bytes_eq-Decides}
-use Rattle.argon2_store.proofs.Imports.{Texts, IsClosed, Makes, Serves, Stays, database_of, Edit, changed, gives, left_by, made, name_of, refusal, is_refusal}
-use Rattle.argon2_store.proofs.Imports.{AreEventsOf, AreMade, Did, Does, EndsRun, Event, FileCall, IsFoundAfter, IsLate, IsLateOf, IsShutOut, Run, events_of, makes, text_by}
+use Rattle.argon2_store.proofs.Imports.{Texts, IsClosed, Makes, Serves, Stays, database_of, Edit, changed, gives, left_by, names_after, name_of, refusal, is_refusal}
+use Rattle.argon2_store.proofs.Imports.{AreEventsOf, AreMade, Did, Does, EndsRun, FileEvent, FileCall, IsFoundAfter, IsLate, IsLateOf, IsShutOut, FileRun, events_of, makes, text_by}
 use Rattle.argon2_store.proofs.Imports.{over_file, reads, IsHonest, IsOpen, CrashLeaves, AccountFile, FileError, Closed}
 use Rattle.argon2_store.specs.AccountFile.{HasNames, IsReady}
 use Rattle.argon2_rows.proofs.TableLemmas.{Settled, leaves_quiet}
@@ -17,7 +17,7 @@ use Rattle.std.specs.Ordering.{nat_cmp}
 
 -- ---- events
 
-run_then : (first mid last : Texts) (newer older : List Event) → AreMade first older mid → AreMade mid newer last
+run_then : (first mid last : Texts) (newer older : List FileEvent) → AreMade first older mid → AreMade mid newer last
     → AreMade first (newer ++ older) last
 run_then first mid last [] older earlier later = subst (AreMade first older) (sym later) earlier
 run_then first mid last (event ∷ newer) older earlier later =
@@ -31,20 +31,20 @@ text_after names edit name =
     let at = get-at names (name_of edit) name (gives edit (get names (name_of edit))) in
     let test = bytes_eq-Decides name (name_of edit) in grind arith
 
-texts_after : (edits : List Edit) (names after : Texts) → made edits names ≡ Ok after → (name : List ℕ)
+texts_after : (edits : List Edit) (names after : Texts) → names_after edits names ≡ Ok after → (name : List ℕ)
     → get after name ≡ left_by name edits (get names name)
 texts_after [] names after is name = cc
 texts_after (edit ∷ edits) names after is name =
     go (refusal edit (get names (name_of edit))) refl (λ mid all. texts_after edits mid after all name)
   where
     go : (o : Option FileError) → refusal edit (get names (name_of edit)) ≡ o
-        → ((mid : Texts) → made edits mid ≡ Ok after → get after name ≡ left_by name edits (get mid name))
+        → ((mid : Texts) → names_after edits mid ≡ Ok after → get after name ≡ left_by name edits (get mid name))
         → get after name ≡ left_by name (edit ∷ edits) (get names name)
     go None none later = later _ (rw none at is) ∙ ap (left_by name edits) (text_after names edit name)
     go (Some e) some later = let never = rw some at is in absurd cc
 
 -- the text of each name is what its edits left
-pub texts_of_events : (events : List Event) (names : Texts) → AreMade empty events names → (name : List ℕ)
+pub texts_of_events : (events : List FileEvent) (names : Texts) → AreMade empty events names → (name : List ℕ)
     → get names name ≡ text_by name events
 texts_of_events [] names is name = rw (is, get-empty (slice_cmp nat_cmp) name) refl
 texts_of_events ((edits, Ok x) ∷ older) names (before, earlier, step) name =
@@ -56,28 +56,28 @@ texts_of_events ((edits, Err e) ∷ older) names (before, earlier, step) name =
 
 module _ {S : Type 0} {g : Ghosts S} (settled : Settled g) (first : Texts) where
   -- what these events made of the first names, and what a crash leaves: that, or some that come late too
-  pub record Reached (events : List Event) (Late : List Event → Type 0) (file : AccountFile S g) : Type 0 where
+  pub record Reached (events : List FileEvent) (Late : List FileEvent → Type 0) (file : AccountFile S g) : Type 0 where
     pub names : Texts
     pub has : HasNames file names
     pub run : IsHonest g (database_of file) → AreMade first events names
     pub left : IsHonest g (database_of file) → CrashLeaves g (database_of file)
-        (λ left. (late : List Event) × Late late × AreMade first (late ++ events) left)
+        (λ left. (late : List FileEvent) × Late late × AreMade first (late ++ events) left)
 
   module _ (calls : List FileCall) (old new : AccountFile S g)
       (before : Reached (flat_map events_of calls) (IsLate calls) old) where
-    abbrev events : List Event
+    abbrev events : List FileEvent
     events = flat_map events_of calls
 
     -- nothing comes late, or this call, or what came late of those before it, since it is shut out
-    abbrev Now : (List Event → Type 0) → Type 0 → List Event → Type 0
+    abbrev Now : (List FileEvent → Type 0) → Type 0 → List FileEvent → Type 0
     Now Late Shut late = (late ≡ []) ⊎ (Late late ⊎ (Shut × IsLate calls late))
 
     -- the names after the call, made by newer events, and a crash leaves them, or with some events that come late
-    reaches : (Late : List Event → Type 0) (Shut : Type 0) (newer : List Event) (after : Texts)
+    reaches : (Late : List FileEvent → Type 0) (Shut : Type 0) (newer : List FileEvent) (after : Texts)
         → HasNames new after → (IsHonest g (database_of new) → IsHonest g (database_of old))
         → (IsHonest g (database_of new) → AreMade before.names newer after)
         → (IsHonest g (database_of new) → IsOpen g (database_of old) → CrashLeaves g (database_of new)
-        (λ left. (left ≡ after) ⊎ ((late : List Event) × Late late × AreMade after late left)))
+        (λ left. (left ≡ after) ⊎ ((late : List FileEvent) × Late late × AreMade after late left)))
         → (IsHonest g (database_of new) → IsClosed old → Shut × (newer ≡ [])
         × ((db : Trees) → g.recovers (database_of new) db → g.recovers (database_of old) db))
         → Reached (newer ++ events) (Now Late Shut) new
@@ -110,11 +110,11 @@ module _ {S : Type 0} {g : Ghosts S} (settled : Settled g) (first : Texts) where
         }
 
     -- a call that answers so
-    runs : {edits : List Edit} {result : Result (Unit {0}) FileError} {after : Texts} (Late : List Event → Type 0)
-        (newer : List Event) → Makes edits result old new before.names after
+    runs : {edits : List Edit} {result : Result (Unit {0}) FileError} {after : Texts} (Late : List FileEvent → Type 0)
+        (newer : List FileEvent) → Makes edits result old new before.names after
         → (IsHonest g (database_of new) → AreMade before.names newer after)
         → (IsHonest g (database_of new) → IsOpen g (database_of old) → CrashLeaves g (database_of new)
-        (λ left. (left ≡ after) ⊎ ((late : List Event) × Late late × AreMade after late left)))
+        (λ left. (left ≡ after) ⊎ ((late : List FileEvent) × Late late × AreMade after late left)))
         → (result ≡ Err Closed → newer ≡ []) → Reached (newer ++ events) (Now Late (result ≡ Err Closed)) new
     runs Late newer does step crash none = reaches Late _ newer _ does.has does.honest step crash
         (λ clean is_closed. let (shut, same) = does.closed (does.honest clean) is_closed in
@@ -145,7 +145,7 @@ module _ {S : Type 0} {g : Ghosts S} (settled : Settled g) (first : Texts) where
               has,
               elim left [
                 | inl is ↦ inl (is ∙ sym same)
-                | inr is ↦ inr ((edits, Ok tt) ∷ [], (of_file, refl), (after, refl, ap (made edits) same ∙ is))
+                | inr is ↦ inr ((edits, Ok tt) ∷ [], (of_file, refl), (after, refl, ap (names_after edits) same ∙ is))
               ],
             )) (λ is. refl))
 
@@ -189,8 +189,8 @@ ends_run {D} g stay last names first calls before ready did clean may =
           let (left_names, held, late) = leaves db can in (left_names, subst (IsTableOf before) held.0 table, late)),
     )
 
-pub runs_join : (first : Texts) (runs : List Run) (names : Texts) → IsFoundAfter first runs names
-    → ∥ ((events : List Event) × AreEventsOf runs events × AreMade first events names) ∥₁
+pub runs_join : (first : Texts) (runs : List FileRun) (names : Texts) → IsFoundAfter first runs names
+    → ∥ ((events : List FileEvent) × AreEventsOf runs events × AreMade first events names) ∥₁
 runs_join first [] names is = ∣ ([], refl, is) ∣₁
 runs_join first (run ∷ older) names (earlier, leaves, (opens, left, after, holds)) =
     ∥∥₁_elim (runs_join first older run.found earlier) squash₁ (λ before.

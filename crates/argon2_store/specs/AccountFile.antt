@@ -6,12 +6,11 @@ use Rattle.sqlite_trees.specs.declared.store.Store.{Ghosts}
 use Rattle.sqlite_wal.specs.Recovery.{Image}
 use Rattle.argon2_rows.specs.Names.{IsFirstTaken, Texts}
 use Rattle.argon2_rows.specs.Rows.{AreLines, AreWritten}
-use Rattle.argon2_rows.specs.Table as rows
-use Rattle.argon2_rows.specs.Table.{IsHonest, IsOpen, IsTold, CrashLeaves, StaysQuiet}
+use Rattle.argon2_rows.specs.Table.{HasFailed, HasRows, IsHonest, IsOpen, IsTold, CrashLeaves, StaysQuiet}
 use Rattle.argon2_rows.specs.declared.view.View.{View}
 use Rattle.argon2_rows.specs.declared.view.Written.TheVariants as written
 use Rattle.argon2_rows.specs.declared.view.Written.TheVariants.{All}
-use Rattle.argon2_store.specs.Edits.{Edit, IsTooLong, made}
+use Rattle.argon2_store.specs.Edits.{Edit, IsTooLong, names_after}
 use Rattle.argon2_store.specs.Errors.{is_refusal}
 use Rattle.argon2_store.specs.Opening.{HoldsNames, IsDamaged}
 use Rattle.argon2_store.specs.declared.account_file.AccountFile.{AccountFile}
@@ -23,8 +22,8 @@ use Rattle.argon2_store.specs.declared.error.FileError.TheVariants.{NameTaken, I
 -- What a call answers that is to make these edits, and the names after it. An error leaves all names as they were, and a
 -- refusal is that of the first edit that is refused.
 abbrev pub Answers : Texts → List Edit → Result (Unit {0}) FileError → Texts → Type 0
-Answers before edits (Ok _) after = made edits before ≡ Ok after
-Answers before edits (Err e) after = (IsTrue (is_refusal e) → made edits before ≡ Err e) × (after ≡ before)
+Answers before edits (Ok _) after = names_after edits before ≡ Ok after
+Answers before edits (Err e) after = (IsTrue (is_refusal e) → names_after edits before ≡ Err e) × (after ≡ before)
 
 -- an answer without the index of its error
 abbrev pub unindexed : {X : Type 0} → Result X (ℕ × FileError) → Result X FileError
@@ -65,19 +64,16 @@ module _ {S : Type 0} {g : Ghosts S} where
   -- The names that a file has, each with its text. While the file is open and the disk has given no wrong answer that was
   -- taken as true, they are those of its rows, and nothing else.
   abbrev pub HasNames : AccountFile S g → Texts → Type 0
-  HasNames file names = rows.HasNames g (database_of file) names
+  HasNames file names = HasRows g (database_of file) names
 
   -- the file has to be opened again
   abbrev pub IsClosed : AccountFile S g → Type 0
   IsClosed file = (g.view (database_of file)).is_open ≡ false
 
-  -- the disk failed or refused from the one to the other
-  abbrev pub HasFailed : AccountFile S g → AccountFile S g → Type 0
-  HasFailed old new = rows.HasFailed g (database_of old) (database_of new)
-
-  -- the same, and it is the fault that the store answered last; `Io` may also say that the file has to be opened again
+  -- the disk failed or refused from the one to the other, by the fault that the store answered last; `Io` may also say that the
+  -- file has to be opened again
   abbrev pub HasFailedBy : AccountFile S g → AccountFile S g → StoreError → Type 0
-  HasFailedBy old new fault = HasFailed old new × IsTold g (database_of new) fault
+  HasFailedBy old new fault = HasFailed g (database_of old) (database_of new) × IsTold g (database_of new) fault
 
   -- A file that was opened and has these names: it is not closed, and a crash leaves its names.
   pub record IsReady (names : Texts) (file : AccountFile S g) : Type 0 where
@@ -86,8 +82,8 @@ module _ {S : Type 0} {g : Ghosts S} where
     pub left : IsHonest g (database_of file) → CrashLeaves g (database_of file) (λ left. left ≡ names)
 
   -- a file that was opened, with the names that the two files held, each with a text of one line, and not behind a damaged log
-  abbrev pub IsFrom : Image → AccountFile S g → Type 0
-  IsFrom image file =
+  abbrev pub IsFileFrom : Image → AccountFile S g → Type 0
+  IsFileFrom image file =
       (names : Texts) × IsReady names file × AreLines names
       × (IsHonest g (database_of file) → HoldsNames image names)
       × (IsHonest g (database_of file) → ¬ IsDamaged image.log)
@@ -123,13 +119,14 @@ module _ {S : Type 0} {g : Ghosts S} where
     pub refused : IfErr result (λ e. IsTrue (is_refusal e) → StaysQuiet g (database_of old) (database_of new))
     -- a crash at any moment of the call leaves the names from before it, or those that it was to leave
     pub crash : IsHonest g (database_of new) → IsOpen g (database_of old) → CrashLeaves g (database_of new)
-        (λ left. (left ≡ before) ⊎ (made edits before ≡ Ok left))
+        (λ left. (left ≡ before) ⊎ (names_after edits before ≡ Ok left))
     -- once it has returned `Ok`, every crash leaves the names that there are now
     pub durable : OnOk result (IsHonest g (database_of new) → CrashLeaves g (database_of new) (λ left. left ≡ after))
     -- a file that is closed stays so, and is as it was
     pub closed : IsHonest g (database_of old) → IsClosed old → (result ≡ Err Closed) × (database_of new ≡ database_of old)
     -- nothing but a failure of the disk closes it
-    pub closes : IsHonest g (database_of new) → IsOpen g (database_of old) → IsOpen g (database_of new) ⊎ HasFailed old new
+    pub closes : IsHonest g (database_of new) → IsOpen g (database_of old) → IsOpen g (database_of new)
+        ⊎ HasFailed g (database_of old) (database_of new)
     -- each error has its cause
     pub cause : IsHonest g (database_of new)
         → IfErr result (HasCause (IsClosed old) (HasFailedBy old new) (Any (IsTooLong before) edits))

@@ -65,9 +65,9 @@ and_then (Ok names) next = next names
 and_then (Err why) next = Err why
 
 -- the names after all of these edits, or why the first of them is refused that is
-abbrev pub made : List Edit → Texts → Result Texts FileError
-made [] names = Ok names
-made (edit ∷ edits) names = and_then (edited edit names) (made edits)
+abbrev pub names_after : List Edit → Texts → Result Texts FileError
+names_after [] names = Ok names
+names_after (edit ∷ edits) names = and_then (edited edit names) (names_after edits)
 
 -- the text that the edit was to leave is too long
 abbrev pub IsTooLong : Texts → Edit → Type 0

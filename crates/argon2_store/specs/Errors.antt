@@ -29,14 +29,14 @@ named below.Broken = Closed
 named below.Unstorable = TooLong
 
 -- why a read or a change of an open file fails: only a disk that lies breaks it without an error
-abbrev pub unwritten : StoreError → FileError
-unwritten below.Broken = Damaged
-unwritten e = named e
+abbrev pub call_error : StoreError → FileError
+call_error below.Broken = Damaged
+call_error e = named e
 
 -- what a call answers that read or changed an open file
 abbrev pub read_of : {X : Type 0} → Result X StoreError → Result X FileError
 read_of (Ok x) = Ok x
-read_of (Err e) = Err (unwritten e)
+read_of (Err e) = Err (call_error e)
 
 -- what reading the file answered
 abbrev pub read_by : Result (Unit {0}) LineError → Result (Unit {0}) FileError

@@ -27,21 +27,21 @@ pub data FileCall : Type 0 where
 -- ---- what calls made, the newest first
 
 -- edits that the names answer, with the answer
-abbrev pub Event : Type 0
-Event = List Edit × Result (Unit {0}) FileError
+abbrev pub FileEvent : Type 0
+FileEvent = List Edit × Result (Unit {0}) FileError
 
-abbrev pub events_of : FileCall → List Event
+abbrev pub events_of : FileCall → List FileEvent
 events_of (makes edits (Ok _)) = (edits, Ok tt) ∷ []
 events_of (makes edits (Err e)) = if is_refusal e then (edits, Err e) ∷ [] else []
 events_of (reads error) = []
 
 -- the names after events
-abbrev pub AreMade : Texts → List Event → Texts → Type 0
+abbrev pub AreMade : Texts → List FileEvent → Texts → Type 0
 AreMade first [] last = last ≡ first
 AreMade first (event ∷ older) last = (before : Texts) × AreMade first older before × Answers before event.0 event.1 last
 
 -- A call with an error of the file may come late: its edits are in the file all the same, as if it had succeeded.
-abbrev pub IsLateOf : FileCall → List Event → Type 0
+abbrev pub IsLateOf : FileCall → List FileEvent → Type 0
 IsLateOf (makes edits (Err e)) late = (is_refusal e ≡ false) × (late ≡ (edits, Ok tt) ∷ [])
 IsLateOf _ late = ⊥
 
@@ -51,12 +51,12 @@ IsShutOut (makes edits result) = result ≡ Err Closed
 IsShutOut (reads error) = error ≡ Some Closed
 
 -- what comes late of calls, the newest first: nothing, or the last of them that was not shut out
-abbrev pub IsLate : List FileCall → List Event → Type 0
+abbrev pub IsLate : List FileCall → List FileEvent → Type 0
 IsLate [] late = late ≡ []
 IsLate (call ∷ older) late = (late ≡ []) ⊎ (IsLateOf call late ⊎ (IsShutOut call × IsLate older late))
 
 -- the text that events leave a name that had none
-abbrev pub text_by : List ℕ → List Event → Option (List ℕ)
+abbrev pub text_by : List ℕ → List FileEvent → Option (List ℕ)
 text_by name [] = None
 text_by name ((edits, Ok _) ∷ older) = left_by name edits (text_by name older)
 text_by name ((edits, Err e) ∷ older) = text_by name older
@@ -75,22 +75,22 @@ module _ {S : Type 0} {g : Ghosts S} where
   Did (call ∷ older) old new = (mid : AccountFile S g) × Did older old mid × Does call mid new
 
 -- a run: the names that its open found, its calls, the newest first, and what it left of the two files
-pub record Run : Type 0 where
+pub record FileRun : Type 0 where
   pub found : Texts
   pub calls : List FileCall
   pub left : Image
 
 -- these are the names as the calls of a run made them, with what came late
-abbrev pub AreLeft : Run → Texts → Type 0
-AreLeft run names = (late : List Event) × IsLate run.calls late × AreMade run.found (late ++ flat_map events_of run.calls) names
+abbrev pub AreLeft : FileRun → Texts → Type 0
+AreLeft run names = (late : List FileEvent) × IsLate run.calls late × AreMade run.found (late ++ flat_map events_of run.calls) names
 
 -- An open finds what the run left: the names as its calls made them, and perhaps what came late. Before it, others may fail.
-abbrev pub IsFound : Run → Type 0
+abbrev pub IsFound : FileRun → Type 0
 IsFound run = (opens : List Image) (left : Image) → IsAfterOpens opens run.left left
     → (names : Texts) → HoldsNames left names → ∥ AreLeft run names ∥₁
 
 -- there is something to find: the files have the table of such names
-abbrev pub HasLeft : Run → Type 0
+abbrev pub HasLeft : FileRun → Type 0
 HasLeft run = ∥ ((names : Texts) × IsTableOf run.left (rows_of names) × AreLeft run names) ∥₁
 
 abbrev pub over_file : {D : Type 0} {g : disk.Ghosts D} → Ghosts (FileStore D g)
@@ -108,32 +108,32 @@ over_file = record {
 abbrev pub EndsRun : {D : Type 0} {g : disk.Ghosts D} → AccountFile (FileStore D g) over_file → Type 0
 EndsRun last = (names : Texts) (first : AccountFile _ over_file) (calls : List FileCall) (left : Image) →
     IsReady names first → Did calls first last → IsHonest over_file (database_of last)
-    → (state (database_of last)).may_leave left → let run : Run = record { found = names; calls = calls; left = left } in
+    → (state (database_of last)).may_leave left → let run : FileRun = record { found = names; calls = calls; left = left } in
     IsFound run × HasLeft run
 
 -- ---- runs
 
 -- An open finds the names after runs, the newest first. Each found what the one before it left, after opens that failed, if
 -- there were any, and the oldest found `first`.
-abbrev pub IsFoundAfter : Texts → List Run → Texts → Type 0
+abbrev pub IsFoundAfter : Texts → List FileRun → Texts → Type 0
 IsFoundAfter first [] names = names ≡ first
 IsFoundAfter first (run ∷ older) names =
     IsFoundAfter first older run.found × IsFound run
     × ((opens : List Image) × (left : Image) × IsAfterOpens opens run.left left × HoldsNames left names)
 
 -- the events of runs, with what came late of each
-abbrev pub AreEventsOf : List Run → List Event → Type 0
+abbrev pub AreEventsOf : List FileRun → List FileEvent → Type 0
 AreEventsOf [] events = events ≡ []
-AreEventsOf (run ∷ older) events = (late earlier : List Event) × IsLate run.calls late × AreEventsOf older earlier
+AreEventsOf (run ∷ older) events = (late earlier : List FileEvent) × IsLate run.calls late × AreEventsOf older earlier
     × (events ≡ late ++ (flat_map events_of run.calls ++ earlier))
 
 -- The names that an open finds after runs are what their events made of the first ones.
 abbrev pub NamesAreRun : Type 0
-NamesAreRun = (first : Texts) (runs : List Run) (names : Texts) → IsFoundAfter first runs names
-    → ∥ ((events : List Event) × AreEventsOf runs events × AreMade first events names) ∥₁
+NamesAreRun = (first : Texts) (runs : List FileRun) (names : Texts) → IsFoundAfter first runs names
+    → ∥ ((events : List FileEvent) × AreEventsOf runs events × AreMade first events names) ∥₁
 
 -- If these were none, each name has the text that its accepted edits left, one after the other, or none.
 abbrev pub TextsAreKept : Type 0
-TextsAreKept = (runs : List Run) (names : Texts) → IsFoundAfter empty runs names
-    → ∥ ((events : List Event) × AreEventsOf runs events
+TextsAreKept = (runs : List FileRun) (names : Texts) → IsFoundAfter empty runs names
+    → ∥ ((events : List FileEvent) × AreEventsOf runs events
     × ((name : List ℕ) → get names name ≡ text_by name events)) ∥₁

@@ -263,7 +263,7 @@ impl<S: Store> AccountFile<S> {
 
 impl<T: Start> AccountsAt<T> {
     ghost use Rattle.sqlite_wal.specs.Files.{image_at};
-    ghost use Rattle.argon2_store.specs.AccountFile.{IsFrom};
+    ghost use Rattle.argon2_store.specs.AccountFile.{IsFileFrom};
     ghost use Rattle.argon2_store.specs.Opening.{IsOfFiles};
 
     /// Opens the accounts in the SQLite file at a path, or makes the file. Its log lies beside it, under
@@ -286,7 +286,7 @@ impl<T: Start> AccountsAt<T> {
     /// - [`OpenError::NotAccounts`], [`OpenError::Row`]: it holds something else than accounts.
     /// - [`OpenError::Io`], [`OpenError::Full`], [`OpenError::OutOfMemory`].
     pub fn open(rt: &HostRuntime, path: &str, start: T) -> Result<AccountsAt<T>, OpenError>
-        ensures ok { IfOk result (IsFrom (image_at T.Start)) }
+        ensures ok { IfOk result (IsFileFrom (image_at T.Start)) }
         ensures err { IfErr result (λ e. IsOfPath e ⊎
             IsOfFiles ⟦<FileFrom<T> as Disk>⟧ (image_at T.Start) e) }
     {
@@ -299,7 +299,7 @@ impl<T: Start> AccountsAt<T> {
 }
 
 impl<D: Disk + Drop> AccountFile<FileStore<D>> {
-    ghost use Rattle.argon2_store.specs.AccountFile.{IsFrom};
+    ghost use Rattle.argon2_store.specs.AccountFile.{IsFileFrom};
     ghost use Rattle.argon2_store.specs.Opening.{AreUnharmed, HoldsNames, IsDamaged, IsOfDamage};
     ghost use Rattle.sqlite_wal.specs.Files.{seen_image};
     ghost use Rattle.sqlite_wal.specs.Reads.{AreClean, OnlyReads};
@@ -318,7 +318,7 @@ impl<D: Disk + Drop> AccountFile<FileStore<D>> {
         seed: u64,
     ) -> Result<AccountFile<FileStore<D>>, (OpenError, Files<D>)>
         requires { IsTrue (D.Disk.is_usable files.log) × IsTrue (D.Disk.is_usable files.db) }
-        ensures ready { IfOk result (IsFrom (seen_image D.Disk files.log files.db)) }
+        ensures ready { IfOk result (IsFileFrom (seen_image D.Disk files.log files.db)) }
         ensures error { IfErr result (λ e.
             (e.0 ≡ NoAccount) ⊎ ((e.0 ≡ DamagedLog) ⊎ IsOfDatabase e.0)) }
         ensures row { IfErr result (λ e. e.0 ≡ NoAccount → AreClean D.Disk e.1.log e.1.db →

@@ -4,7 +4,7 @@
 ghost use Rattle.std.specs.Prelude.{◌≡◌, None, Some, map};
 ghost use Rattle.std.specs.FinMap.{get};
 ghost use Rattle.argon2_rows.specs.Names.{Texts, changed, entry_of};
-ghost use Rattle.argon2_rows.specs.Table.{Changes, HasNames, IsHonest, IsLong, IsOpen, WritesAll};
+ghost use Rattle.argon2_rows.specs.Table.{Changes, HasRows, IsHonest, IsLong, IsOpen, WritesAll};
 
 use crate::account_file::AccountFile;
 use argon2_rows::StoredText;
@@ -18,9 +18,9 @@ impl<S: Store> AccountFile<S> {
     // Gives a name its first text, and commits.
     pub(crate) fn insert_row(&mut self, name: &str, text: &str) -> Result<(), StoreError>
         requires open { IsHonest S.Store (database_of self.old) → IsOpen S.Store (database_of self.old) }
-        requires known { (names : Texts) → HasNames S.Store (database_of self.old) names →
+        requires known { (names : Texts) → HasRows S.Store (database_of self.old) names →
             IsHonest S.Store (database_of self.old) → get names name.now ≡ None }
-        ensures { (before : Texts) → HasNames S.Store (database_of self.old) before →
+        ensures { (before : Texts) → HasRows S.Store (database_of self.old) before →
             Changes S.Store (database_of self.old) (database_of self.new) before
             (changed before name.now (Some text.now)) (IsLong (name.now, text.now)) result }
     {
@@ -31,9 +31,9 @@ impl<S: Store> AccountFile<S> {
     // Gives a name another text than `old`, which it has, and commits.
     pub(crate) fn replace_row(&mut self, name: &str, old: &str, new: &str) -> Result<(), StoreError>
         requires open { IsHonest S.Store (database_of self.old) → IsOpen S.Store (database_of self.old) }
-        requires known { (names : Texts) → HasNames S.Store (database_of self.old) names →
+        requires known { (names : Texts) → HasRows S.Store (database_of self.old) names →
             IsHonest S.Store (database_of self.old) → get names name.now ≡ Some old.now }
-        ensures { (before : Texts) → HasNames S.Store (database_of self.old) before →
+        ensures { (before : Texts) → HasRows S.Store (database_of self.old) before →
             Changes S.Store (database_of self.old) (database_of self.new) before
             (changed before name.now (Some new.now)) (IsLong (name.now, new.now)) result }
     {
@@ -44,9 +44,9 @@ impl<S: Store> AccountFile<S> {
     // Removes a name with the text that it has, and commits.
     pub(crate) fn remove_row(&mut self, name: &str, text: &str) -> Result<(), StoreError>
         requires open { IsHonest S.Store (database_of self.old) → IsOpen S.Store (database_of self.old) }
-        requires known { (names : Texts) → HasNames S.Store (database_of self.old) names →
+        requires known { (names : Texts) → HasRows S.Store (database_of self.old) names →
             IsHonest S.Store (database_of self.old) → get names name.now ≡ Some text.now }
-        ensures { (before : Texts) → HasNames S.Store (database_of self.old) before →
+        ensures { (before : Texts) → HasRows S.Store (database_of self.old) before →
             Changes S.Store (database_of self.old) (database_of self.new) before
             (changed before name.now None) ⊥ result }
     {

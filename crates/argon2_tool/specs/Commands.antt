@@ -46,18 +46,18 @@ request_words r =
     r.algorithm.now ∷ decimal r.version ∷ decimal r.m_cost ∷ decimal r.t_cost ∷ decimal r.p_cost ∷ []
 
 -- the words of a command
-abbrev pub words_of : Command → List (List ℕ)
-words_of (Digest len) = codes "digest" ∷ decimal len ∷ []
-words_of (Long len) = codes "long" ∷ decimal len ∷ []
-words_of (Tag request len salt) = codes "tag" ∷ request_words request ++ decimal len ∷ salt.now ∷ []
-words_of (PhcCommand request salt) = codes "phc" ∷ request_words request ++ salt.now ∷ []
-words_of (Verify text) = codes "verify" ∷ text.now ∷ []
-words_of Help = codes "--help" ∷ []
-words_of VersionCommand = codes "--version" ∷ []
+abbrev pub command_words : Command → List (List ℕ)
+command_words (Digest len) = codes "digest" ∷ decimal len ∷ []
+command_words (Long len) = codes "long" ∷ decimal len ∷ []
+command_words (Tag request len salt) = codes "tag" ∷ request_words request ++ decimal len ∷ salt.now ∷ []
+command_words (PhcCommand request salt) = codes "phc" ∷ request_words request ++ salt.now ∷ []
+command_words (Verify text) = codes "verify" ∷ text.now ∷ []
+command_words Help = codes "--help" ∷ []
+command_words VersionCommand = codes "--version" ∷ []
 
 -- the words spell the command
 abbrev pub Spells : List (List ℕ) → Command → Type 0
-Spells words command = IsCommand command × (words ≡ words_of command)
+Spells words command = IsCommand command × (words ≡ command_words command)
 
 -- ---- replies
 
@@ -69,13 +69,13 @@ settings_under (Some algorithm) (Some version) r = answer_unless (first_fault r.
     (record { algorithm = algorithm; version = version; parameters = plain r.m_cost r.t_cost r.p_cost None })
 
 -- the settings that are asked for, under any length of output, or why they are refused
-abbrev pub settings_asked : Request → Result Settings Error
-settings_asked r = settings_under (algorithm_named r.algorithm.now) (version_numbered r.version) r
+abbrev pub request_settings : Request → Result Settings Error
+request_settings r = settings_under (algorithm_named r.algorithm.now) (version_numbered r.version) r
 
 -- the settings are those that are asked for, with no secret, or the refusal is theirs
 abbrev pub IsAsked : Request → Result Argon2 Error → Type 0
-IsAsked r (Ok argon2) = (settings_asked r ≡ Ok (settings_of argon2)) × (secret_of argon2 ≡ [])
-IsAsked r (Err refusal) = settings_asked r ≡ Err refusal
+IsAsked r (Ok argon2) = (request_settings r ≡ Ok (settings_of argon2)) × (secret_of argon2 ≡ [])
+IsAsked r (Err refusal) = request_settings r ≡ Err refusal
 
 -- the variable-length hash of len bytes, in hex; none of no bytes
 abbrev pub long_reply : ℕ → List ℕ → Result (List ℕ) Error
@@ -98,8 +98,8 @@ IsPhcReply (Ok settings) salt password line = (v : Phc)
 abbrev pub Replies : Command → List ℕ → List ℕ → Type 0
 Replies (Digest len) message line = line ≡ encode_lower (blake2b len message)
 Replies (Long len) message line = long_reply len message ≡ Ok line
-Replies (Tag request len salt) password line = tag_reply (settings_asked request) len salt.now password ≡ Ok line
-Replies (PhcCommand request salt) password line = IsPhcReply (settings_asked request) salt.now password line
+Replies (Tag request len salt) password line = tag_reply (request_settings request) len salt.now password ≡ Ok line
+Replies (PhcCommand request salt) password line = IsPhcReply (request_settings request) salt.now password line
 Replies (Verify text) password line = (line ≡ codes "ok") × Accepts [] password text.now
 Replies Help input line = line ≡ HELP.now
 Replies VersionCommand input line = line ≡ VERSION.now
@@ -121,10 +121,10 @@ IsVerifyFault password text fault = ((v : Phc) × PhcText text v × (verified []
 abbrev pub Fails : Command → List ℕ → Failure → Type 0
 Fails (Long len) message (Hashing refusal) = long_reply len message ≡ Err refusal
 Fails (Tag request len salt) password (Hashing refusal) =
-    tag_reply (settings_asked request) len salt.now password ≡ Err refusal
-Fails (PhcCommand request salt) password (Hashing refusal) = settings_asked request ≡ Err refusal
+    tag_reply (request_settings request) len salt.now password ≡ Err refusal
+Fails (PhcCommand request salt) password (Hashing refusal) = request_settings request ≡ Err refusal
 Fails (PhcCommand request salt) password (Text refusal) =
-    IsPhcFault (settings_asked request) salt.now password (fault_of refusal)
+    IsPhcFault (request_settings request) salt.now password (fault_of refusal)
 Fails (Verify text) password (Text refusal) = IsVerifyFault password text.now (fault_of refusal)
 Fails Help input failure = IsOfMemory failure
 Fails VersionCommand input failure = IsOfMemory failure
@@ -136,8 +136,8 @@ IsReply command message r =
     MatchResult r (λ text. Replies command message (string_bytes text)) (Fails command message)
 
 -- if the input is known, the command's reply to it is appended to a known output, as a line
-abbrev pub IsAnswered : Command → Option (List ℕ) → Option (List ℕ) → Option (List ℕ) → Type 0
-IsAnswered command input old new = IfSome input (λ message.
+abbrev pub AnswersCommand : Command → Option (List ℕ) → Option (List ℕ) → Option (List ℕ) → Type 0
+AnswersCommand command input old new = IfSome input (λ message.
     (line : List ℕ) × Replies command message line × Appends old new (line ++ 10 ∷ []))
 
 -- if the input is known, the command fails so: its line can't be written, and a known output has at most a front of

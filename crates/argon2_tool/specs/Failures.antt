@@ -13,22 +13,22 @@ use Rattle.argon2_tool.specs.declared.failure.Failure.{Failure}
 use Rattle.argon2_tool.specs.declared.failure.Failure.TheVariants.{Input, Output, Memory, Hashing, Text}
 
 -- the failure of a read: out of memory is reported as that
-abbrev pub IsOfReading : IoError → Failure → Type 0
-IsOfReading error Input = error_kind error ≢ IoOutOfMemory
-IsOfReading error (Memory refused) = error_kind error ≡ IoOutOfMemory
-IsOfReading error _ = ⊥
+abbrev pub IsReadFailure : IoError → Failure → Type 0
+IsReadFailure error Input = error_kind error ≢ IoOutOfMemory
+IsReadFailure error (Memory refused) = error_kind error ≡ IoOutOfMemory
+IsReadFailure error _ = ⊥
 
 -- the failure by a call that refuses: out of memory is reported as that
-abbrev pub IsOfHashing : Error → Failure → Type 0
-IsOfHashing refusal (Memory refused) = refusal ≡ OutOfMemory
-IsOfHashing refusal (Hashing error) = (error ≡ refusal) × (refusal ≢ OutOfMemory)
-IsOfHashing refusal _ = ⊥
+abbrev pub IsHashingFailure : Error → Failure → Type 0
+IsHashingFailure refusal (Memory refused) = refusal ≡ OutOfMemory
+IsHashingFailure refusal (Hashing error) = (error ≡ refusal) × (refusal ≢ OutOfMemory)
+IsHashingFailure refusal _ = ⊥
 
 -- the failure by a call on a text that refuses: out of memory is reported as that
-abbrev pub IsOfText : TextError → Failure → Type 0
-IsOfText refusal (Memory refused) = refusal ≡ TextOutOfMemory
-IsOfText refusal (Text error) = (error ≡ refusal) × (refusal ≢ TextOutOfMemory)
-IsOfText refusal _ = ⊥
+abbrev pub IsTextFailure : TextError → Failure → Type 0
+IsTextFailure refusal (Memory refused) = refusal ≡ TextOutOfMemory
+IsTextFailure refusal (Text error) = (error ≡ refusal) × (refusal ≢ TextOutOfMemory)
+IsTextFailure refusal _ = ⊥
 
 -- a request for memory was refused
 abbrev pub IsOfMemory : Failure → Type 0

@@ -1,7 +1,7 @@
 //! Why a command fails, and what is printed then.
 
 ghost use Rattle.std.specs.Prelude.{◌≡◌, ◌++◌};
-ghost use Rattle.argon2_tool.specs.Failures.{IsOfHashing, IsOfReading, IsOfText, failure_text};
+ghost use Rattle.argon2_tool.specs.Failures.{IsHashingFailure, IsReadFailure, IsTextFailure, failure_text};
 ghost use Rattle.argon2_tool.specs.declared.failure.Failure.TheVariants.{Memory};
 
 use argon2::password_hash;
@@ -50,7 +50,7 @@ impl From<AllocError> for Failure {
 
 /// The failure of a read; out of memory is reported as that.
 impl From<io::Error> for Failure {
-    ghost from_gives = { IsOfReading };
+    ghost from_gives = { IsReadFailure };
 
     fn from(error: io::Error) -> Failure {
         match error.kind() {
@@ -62,7 +62,7 @@ impl From<io::Error> for Failure {
 
 /// Out of memory is reported as that, wherever it was found.
 impl From<argon2::Error> for Failure {
-    ghost from_gives = { IsOfHashing };
+    ghost from_gives = { IsHashingFailure };
 
     fn from(error: argon2::Error) -> Failure {
         match error {
@@ -74,7 +74,7 @@ impl From<argon2::Error> for Failure {
 
 /// Out of memory is reported as that, wherever it was found.
 impl From<password_hash::Error> for Failure {
-    ghost from_gives = { IsOfText };
+    ghost from_gives = { IsTextFailure };
 
     fn from(error: password_hash::Error) -> Failure {
         match error {

@@ -4,7 +4,7 @@ ghost use Rattle.std.specs.Prelude.{◌≡◌, ◌↔◌, ◌≤◌, ◌++◌, �
 ghost use Rattle.std.specs.Io.KnownBytes.{Keeps};
 ghost use Rattle.hex.specs.Hex.{encode_lower};
 ghost use Rattle.argon2_base.specs.Blake2b.{blake2b};
-ghost use Rattle.argon2_tool.specs.Commands.{FailsBy, IsAnswered, IsCommand, IsReply, Spells};
+ghost use Rattle.argon2_tool.specs.Commands.{AnswersCommand, FailsBy, IsCommand, IsReply, Spells};
 ghost use Rattle.argon2_tool.specs.Failures.{AppendsFront, IsOfInput, IsReported};
 
 use crate::arguments::{Command, Request};
@@ -69,7 +69,7 @@ pub fn run<R: Read, W: Write, E: Write>(
     ensures unread { result ≡ 2 → input.new ≡ input.old }
     ensures unwritten { result ≡ 2 → output.new ≡ output.old }
     ensures answered { result ≡ 0 → (c : Command) × Spells (map string_bytes args.now) c
-        × IsAnswered c (R.remaining input.old) (W.contents output.old) (W.contents output.new) }
+        × AnswersCommand c (R.remaining input.old) (W.contents output.old) (W.contents output.new) }
     ensures quiet { result ≡ 0 → Keeps (E.contents errors.old) (E.contents errors.new) }
     ensures failed { result ≡ 1 → (c : Command) × Spells (map string_bytes args.now) c
         × (failure : Failure)
@@ -106,7 +106,7 @@ fn answer<R: Read, W: Write>(
     output: &mut W,
 ) -> Result<(), Failure>
     requires { IsCommand command.now }
-    ensures ok { OnOk result (IsAnswered command.now (R.remaining input.old)
+    ensures ok { OnOk result (AnswersCommand command.now (R.remaining input.old)
         (W.contents output.old) (W.contents output.new)) }
     ensures err { IfErr result (λ failure. FailsBy command.now failure (R.remaining input.old)
         (W.contents output.old) (W.contents output.new)) }

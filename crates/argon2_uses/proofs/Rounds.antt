@@ -6,7 +6,7 @@ use Rattle.argon2.proofs.context_lemmas.Schedules.{turns-same, turns-other, turn
 use Rattle.argon2.specs.Rfc9106.{Context, segment_length}
 use Rattle.argon2.specs.Layout.{Memory}
 use Rattle.argon2.specs.Steps.{IsSchedule, run, step, turns, turn_count}
-use Rattle.argon2_uses.specs.Scheduler.{rounds, lanes_in_rounds}
+use Rattle.argon2_uses.specs.Scheduler.{lanes_by_round, lanes_in_rounds}
 
 -- the lanes from one on have no turn of an earlier lane
 turns_below : (lane a n : ℕ) → lane < a → turns lane (range_with_len a n) ≡ 0
@@ -24,12 +24,12 @@ turns_within lane a (suc n) h below = elim (cases_eq a lane) [
       ∙ turns_within lane (a + 1) n (omega arith) (omega arith)
 ]
 
-turns_rounds : (lane p n : ℕ) → lane < p → turns lane (rounds p n) ≡ n
-unfolding rounds
+turns_rounds : (lane p n : ℕ) → lane < p → turns lane (lanes_by_round p n) ≡ n
+unfolding lanes_by_round
 turns_rounds lane p zero h = refl
 turns_rounds lane p (suc n) h = omega (
   arith,
-  turns-append lane (range_with_len 0 p) (rounds p n),
+  turns-append lane (range_with_len 0 p) (lanes_by_round p n),
   turns_within lane 0 p (omega arith) (omega arith),
   turns_rounds lane p n h,
 )
@@ -39,10 +39,10 @@ lanes_range : (p a n : ℕ) → a + n ≤ p → (ys : List ℕ) → AllByRecursi
 lanes_range p a zero h ys all = all
 lanes_range p a (suc n) h ys all = (omega arith, lanes_range p (a + 1) n (omega arith) ys all)
 
-lanes_rounds : (p n : ℕ) → AllByRecursion (λ l. l < p) (rounds p n)
-unfolding rounds
+lanes_rounds : (p n : ℕ) → AllByRecursion (λ l. l < p) (lanes_by_round p n)
+unfolding lanes_by_round
 lanes_rounds p zero = tt
-lanes_rounds p (suc n) = lanes_range p 0 p (omega arith) (rounds p n) (lanes_rounds p n)
+lanes_rounds p (suc n) = lanes_range p 0 p (omega arith) (lanes_by_round p n) (lanes_rounds p n)
 
 pub rounds_schedule : (ctx : Context) (pass slice : ℕ) →
     IsSchedule ctx pass slice (lanes_in_rounds ctx pass slice)
@@ -55,7 +55,7 @@ rounds_schedule ctx pass slice = record {
 
 -- the lanes from one on, and so many rounds more
 unfoldable pub left : Context → ℕ → ℕ → List ℕ
-left ctx lane n = range_with_len lane (ctx.p_cost - lane) ++ rounds ctx.p_cost n
+left ctx lane n = range_with_len lane (ctx.p_cost - lane) ++ lanes_by_round ctx.p_cost n
 
 -- a lane's turn is a step
 pub run_turn : (ctx : Context) (pass slice lane index : ℕ) (memory : Memory) →
@@ -69,44 +69,44 @@ run_turn ctx pass slice lane index memory h below =
     let n = s - (index + 1) in
     let p = ctx.p_cost in
     let e : p - lane ≡ suc (p - (lane + 1)) = omega arith in
-    let rest = range_with_len (lane + 1) (p - (lane + 1)) ++ rounds p n in
+    let rest = range_with_len (lane + 1) (p - (lane + 1)) ++ lanes_by_round p n in
     let t : turns lane rest ≡ n = omega (
       arith,
-      turns-append lane (range_with_len (lane + 1) (p - (lane + 1))) (rounds p n),
+      turns-append lane (range_with_len (lane + 1) (p - (lane + 1))) (lanes_by_round p n),
       turns_below lane (lane + 1) (p - (lane + 1)) (omega arith),
       turns_rounds lane p n h,
     ) in
     let c : (slice + 1) * s - suc (turns lane rest) ≡ slice * s + index = omega arith in
-    ap (λ k. run ctx pass slice (range_with_len lane k ++ rounds p n) memory) e
+    ap (λ k. run ctx pass slice (range_with_len lane k ++ lanes_by_round p n) memory) e
     ∙ ap (λ x. run ctx pass slice rest (step ctx memory pass lane x)) c
 
 -- if a round begins, every lane is left in it
 pub run_begin : (ctx : Context) (pass slice index : ℕ) (memory : Memory) → index < segment_length ctx →
-    run ctx pass slice (rounds ctx.p_cost (segment_length ctx - index)) memory
+    run ctx pass slice (lanes_by_round ctx.p_cost (segment_length ctx - index)) memory
     ≡ run ctx pass slice (left ctx 0 (segment_length ctx - (index + 1))) memory
-unfolding rounds left
+unfolding lanes_by_round left
 run_begin ctx pass slice index memory below =
     let n = segment_length ctx - (index + 1) in
     let e : segment_length ctx - index ≡ suc n = omega arith in
     let all : ctx.p_cost ≡ ctx.p_cost - 0 = omega arith in
-    ap (λ k. run ctx pass slice (rounds ctx.p_cost k) memory) e
-    ∙ ap (λ k. run ctx pass slice (range_with_len 0 k ++ rounds ctx.p_cost n) memory) all
+    ap (λ k. run ctx pass slice (lanes_by_round ctx.p_cost k) memory) e
+    ∙ ap (λ k. run ctx pass slice (range_with_len 0 k ++ lanes_by_round ctx.p_cost n) memory) all
 
 -- if a round ends, no lane is left in it
 pub run_end : (ctx : Context) (pass slice n : ℕ) (memory : Memory) →
-    run ctx pass slice (left ctx ctx.p_cost n) memory ≡ run ctx pass slice (rounds ctx.p_cost n) memory
+    run ctx pass slice (left ctx ctx.p_cost n) memory ≡ run ctx pass slice (lanes_by_round ctx.p_cost n) memory
 unfolding left
 run_end ctx pass slice n memory =
     let e : ctx.p_cost - ctx.p_cost ≡ 0 = omega arith in
-    ap (λ k. run ctx pass slice (range_with_len ctx.p_cost k ++ rounds ctx.p_cost n) memory) e
+    ap (λ k. run ctx pass slice (range_with_len ctx.p_cost k ++ lanes_by_round ctx.p_cost n) memory) e
 
 -- if no round is left the memory stays
 pub run_no_round : (ctx : Context) (pass slice index : ℕ) (memory : Memory) → segment_length ctx ≤ index →
-    run ctx pass slice (rounds ctx.p_cost (segment_length ctx - index)) memory ≡ memory
-unfolding rounds run
+    run ctx pass slice (lanes_by_round ctx.p_cost (segment_length ctx - index)) memory ≡ memory
+unfolding lanes_by_round run
 run_no_round ctx pass slice index memory all =
     let e : segment_length ctx - index ≡ 0 = omega arith in
-    ap (λ n. run ctx pass slice (rounds ctx.p_cost n) memory) e
+    ap (λ n. run ctx pass slice (lanes_by_round ctx.p_cost n) memory) e
 
 -- ---- columns
 

@@ -12,6 +12,6 @@ abbrev pub input_tag : Context → Input → List ℕ
 input_tag ctx input = tag_of ctx input.password.now input.salt.now 32
 
 -- the input is refused on the arena for this reason
-abbrev pub IsRefused : Argon2 → Memory → Input → Error → Type 0
-IsRefused argon2 arena input e =
+abbrev pub ArenaRefuses : Argon2 → Memory → Input → Error → Type 0
+ArenaRefuses argon2 arena input e =
     refusal_of argon2 32 input.password.now input.salt.now (length arena) ≡ Some e

@@ -5,10 +5,10 @@ use Rattle.argon2.specs.Rfc9106.{Context}
 use Rattle.argon2.specs.Steps.{turn_count}
 
 -- all lanes in order, in each of so many rounds
-unfoldable pub rounds : ℕ → ℕ → List ℕ
-rounds lanes zero = []
-rounds lanes (suc n) = range_with_len 0 lanes ++ rounds lanes n
+unfoldable pub lanes_by_round : ℕ → ℕ → List ℕ
+lanes_by_round lanes zero = []
+lanes_by_round lanes (suc n) = range_with_len 0 lanes ++ lanes_by_round lanes n
 
 -- as many rounds as a slice has columns to fill
 abbrev pub lanes_in_rounds : Context → ℕ → ℕ → List ℕ
-lanes_in_rounds ctx pass slice = rounds ctx.p_cost (turn_count ctx pass slice)
+lanes_in_rounds ctx pass slice = lanes_by_round ctx.p_cost (turn_count ctx pass slice)

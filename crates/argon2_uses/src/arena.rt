@@ -4,7 +4,7 @@ ghost use Rattle.std.specs.Prelude.{◌≡◌, ℕ, Some, IfOk, IfErr, OnOk, OnE
 ghost use Rattle.argon2.specs.Argon2.{context_of};
 ghost use Rattle.argon2.specs.Hashing.{IsHashed, KeepsRest};
 ghost use Rattle.argon2_uses.specs.declared.arena.Input.{Input};
-ghost use Rattle.argon2_uses.specs.Arena.{input_tag, IsRefused};
+ghost use Rattle.argon2_uses.specs.Arena.{input_tag, ArenaRefuses};
 
 use argon2::{Argon2, Block, Result};
 
@@ -26,7 +26,7 @@ pub fn hash_in(argon2: &Argon2<'_>, arena: &mut [Block], input: Input<'_>) -> Re
     ensures hashed { IfOk result (λ tag.
         IsHashed argon2.now input.entry.password.now input.entry.salt.now tag arena.old arena.new) }
     ensures rest { KeepsRest (context_of argon2.now) arena.old arena.new }
-    ensures refused { IfErr result (λ e. IsRefused argon2.now arena.old input.entry e) }
+    ensures refused { IfErr result (λ e. ArenaRefuses argon2.now arena.old input.entry e) }
     ensures same { OnErr result (arena.new ≡ arena.old) }
 {
     let mut tag = [0; 32];
@@ -48,7 +48,7 @@ pub fn hash_all(
     ensures tags { OnOk result (tags.new ≡ map (input_tag (context_of argon2.now)) inputs.now) }
     ensures rest { KeepsRest (context_of argon2.now) arena.old arena.new }
     ensures refused { IfErr result (λ e. (k : ℕ) × (input : Input)
-        × (slice_get inputs.now k ≡ Some input) × IsRefused argon2.now arena.old input e) }
+        × (slice_get inputs.now k ≡ Some input) × ArenaRefuses argon2.now arena.old input e) }
 {
     for i in 0..inputs.len() {
         tags[i] = hash_in(argon2, arena, inputs[i])?;

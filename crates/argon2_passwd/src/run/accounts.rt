@@ -5,8 +5,8 @@ ghost use Rattle.argon2_base.specs.PhcFields.{phc_of};
 ghost use Rattle.argon2_policy.specs.Policy.{policy_value};
 ghost use Rattle.argon2_rows.specs.Names.{entry_of};
 ghost use Rattle.argon2_store.specs.Edits.{replacing, text_of};
-ghost use Rattle.argon2_passwd.specs.Answers.{AddsLines, Ends, IsApplied, IsLogin, IsLooked, IsOpened, IsServed, IsUnfound, Says};
-ghost use Rattle.argon2_passwd.specs.Asked.{Asked, asked_on};
+ghost use Rattle.argon2_passwd.specs.Answers.{AddsLines, Ends, IsApplied, IsLogin, IsLooked, IsOpened, IsServed, IsUnfound, SaysHash};
+ghost use Rattle.argon2_passwd.specs.Jobs.{Job, job_on};
 ghost use Rattle.argon2_passwd.specs.Failures.{status_of};
 ghost use Rattle.argon2_passwd.specs.Salts.{IsSalt};
 ghost use Rattle.rand_core.specs.Stream.{fill_bytes};
@@ -54,7 +54,7 @@ pub(super) fn serve<P: Outside, R: BufRead, W: Write>(
 ) -> Result<(), Failure>
     requires { P.closed outside.old [] }
     ensures { IsServed P.File.Store P.keeps P.gives (policy_value access.now.policy.now)
-        (asked_on access.now.path.now task.entry) result (R.remaining input.old)
+        (job_on access.now.path.now task.entry) result (R.remaining input.old)
         (W.contents output.old) (W.contents output.new) (P.closed outside.new) }
 {
     outside.look(access.path, access.makes)?;
@@ -78,7 +78,7 @@ fn verify<P: Outside, R: BufRead, W: Write>(
 ) -> Result<(), Failure>
     requires { P.closed outside.old [] }
     ensures { IsServed P.File.Store P.keeps P.gives (policy_value access.now.policy.now)
-        (Asked.verify access.now.path.now name.now) result (R.remaining input.old)
+        (Job.verify access.now.path.now name.now) result (R.remaining input.old)
         (W.contents output.old) (W.contents output.new) (P.closed outside.new) }
 {
     let mut rng = generator(outside)?;
@@ -96,7 +96,7 @@ fn show<P: Outside, W: Write>(
 ) -> Result<(), Failure>
     requires { P.closed outside.old [] }
     ensures { (input : Option (List ℕ)) → IsServed P.File.Store P.keeps P.gives
-        (policy_value access.now.policy.now) (Asked.show access.now.path.now view) result input
+        (policy_value access.now.policy.now) (Job.show access.now.path.now view) result input
         (W.contents output.old) (W.contents output.new) (P.closed outside.new) }
 {
     let mut accounts = open(outside, access)?;
@@ -115,7 +115,7 @@ fn import<P: Outside, R: BufRead>(
 ) -> Result<(), Failure>
     requires { P.closed outside.old [] }
     ensures { (output : Option (List ℕ)) → IsServed P.File.Store P.keeps P.gives
-        (policy_value access.now.policy.now) (Asked.import access.now.path.now any_text) result
+        (policy_value access.now.policy.now) (Job.import access.now.path.now any_text) result
         (R.remaining input.old) output output (P.closed outside.new) }
 {
     let bytes = read_all(alloc, input)?;
@@ -187,7 +187,7 @@ pub(super) fn look<P: Outside>(
 ) -> Result<(String, PasswordHash), Failure>
     requires { P.closed outside.old [] }
     ensures { MatchResult result
-        (λ found. Says (string_bytes found.0) (phc_of found.1)
+        (λ found. SaysHash (string_bytes found.0) (phc_of found.1)
         × IsLooked P.File.Store P.keeps access.now.path.now name.now
         (Ok (Some (string_bytes found.0))) (λ read. P.closed outside.new (read ∷ [])))
         (λ failure. IsUnfound P.File.Store P.keeps access.now.path.now name.now failure

@@ -7,8 +7,8 @@ ghost use Rattle.argon2_rows.specs.Table.{IsHonest};
 ghost use Rattle.argon2_store.specs.AccountFile.{HasNames, Serves, database_of};
 ghost use Rattle.argon2_store.specs.Edits.{additions};
 ghost use Rattle.argon2_store.specs.Errors.{is_refusal};
-ghost use Rattle.argon2_passwd.specs.Answers.{AddsOthers, IsServed, Looks, entries_in, flaws_from, said_of, unless_known};
-ghost use Rattle.argon2_passwd.specs.Asked.{Asked};
+ghost use Rattle.argon2_passwd.specs.Answers.{AddsOthers, IsServed, Looks, entries_in, entry_or_flaw, flaws_from, unless_known};
+ghost use Rattle.argon2_passwd.specs.Jobs.{Job};
 ghost use Rattle.argon2_passwd.specs.Failures.{status_of};
 
 use super::accounts::{Access, BYTE_ORDER_MARK, open};
@@ -33,7 +33,7 @@ pub(super) fn import_others<P: Outside, R: BufRead>(
 ) -> Result<(), Failure>
     requires { P.closed outside.old [] }
     ensures { (output : Option (List ℕ)) → IsServed P.File.Store P.keeps P.gives
-        (policy_value access.now.policy.now) (Asked.import_others access.now.path.now any_text)
+        (policy_value access.now.policy.now) (Job.import_others access.now.path.now any_text)
         result (R.remaining input.old) output output (P.closed outside.new) }
 {
     let bytes = read_all(alloc, input)?;
@@ -52,7 +52,7 @@ fn add_others<S: Store>(
     accounts: &mut AccountFile<S>,
     lines: &[Line<'_>],
 ) -> Result<(), Failure>
-    ensures { AddsOthers result (map said_of lines.now) accounts.old accounts.new }
+    ensures { AddsOthers result (map entry_or_flaw lines.now) accounts.old accounts.new }
 {
     let (entries, passed) = sorted(alloc, accounts, lines)?;
     add_new(accounts, entries.as_slice())?;
@@ -74,7 +74,7 @@ fn sorted<'a, S: Store>(
         × (error : Option FileError) × Looks error accounts.old accounts.new) }
     ensures sorts { (names : Texts) → HasNames accounts.old names → IfOk result (λ found.
         IsHonest S.Store (database_of accounts.new)
-        → let marked = map (unless_known names) (map said_of lines.now) in
+        → let marked = map (unless_known names) (map entry_or_flaw lines.now) in
         (map entry_of found.0.items ≡ entries_in marked) × (found.1.items ≡ flaws_from 1 marked)) }
 {
     let mut entries = Vec::new(alloc);
@@ -95,8 +95,8 @@ fn sort<'a>(
 ) -> Result<(), AllocError>
     ensures { OnOk result
         ((map entry_of entries.new.items
-        ≡ map entry_of entries.old.items ++ entries_in (said_of line.entry ∷ []))
-        × (passed.new.items ≡ passed.old.items ++ flaws_from number (said_of line.entry ∷ []))) }
+        ≡ map entry_of entries.old.items ++ entries_in (entry_or_flaw line.entry ∷ []))
+        × (passed.new.items ≡ passed.old.items ++ flaws_from number (entry_or_flaw line.entry ∷ []))) }
 {
     match line {
         Ok(entry) => entries.push(entry)?,
@@ -114,7 +114,7 @@ fn unless_known<'a, S: Store>(
         (λ e. Looks (Some e) accounts.old accounts.new) }
     ensures new { (names : Texts) → HasNames accounts.old names → IfOk result (λ new.
         IsHonest S.Store (database_of accounts.new)
-        → said_of new ≡ unless_known names (said_of line.entry)) }
+        → entry_or_flaw new ≡ unless_known names (entry_or_flaw line.entry)) }
     ensures error { IfErr result (λ e. is_refusal e ≡ false) }
 {
     let Ok((name, _)) = line else {

@@ -4,7 +4,7 @@ ghost use Rattle.std.specs.Prelude.{◌≡◌, Ok, Some, IfErr, IfOk, string_byt
 ghost use Rattle.argon2.specs.TextHashing.{IsFresh};
 ghost use Rattle.rand_core.specs.Stream.{fill_bytes};
 ghost use Rattle.argon2_policy.specs.Policy.{Denial, LogsIn, policy_value};
-ghost use Rattle.argon2_passwd.specs.Answers.{IsCheckReply, IsDenied, IsShut, IsUnchecked, Says, login_text};
+ghost use Rattle.argon2_passwd.specs.Answers.{IsCheckReply, IsDenied, IsShut, IsUnchecked, SaysHash, login_text};
 ghost use Rattle.argon2_passwd.specs.Failures.{status_of};
 ghost use Rattle.argon2_base.specs.PhcFields.{phc_of};
 ghost use Rattle.argon2_base.specs.PhcText.{Phc};
@@ -66,7 +66,7 @@ fn login<G: Rng>(
     text: &str,
     password: &[u8],
 ) -> Result<(Accepted, PasswordHash), Failure>
-    ensures ok { IfOk result (λ done. (v : Phc) × Says text.now v
+    ensures ok { IfOk result (λ done. (v : Phc) × SaysHash text.now v
         × LogsIn (policy_value policy.now) password.now (fill_bytes 16 (G.stream rng.old)).0 v
         (Ok done.0) (phc_of done.1)) }
     ensures err { IfErr result (IsDenied (Denial (policy_value policy.now) password.now)
@@ -82,7 +82,7 @@ fn login<G: Rng>(
 
 /// What a stored text says, if it is one of Argon2 and not locked. A locked text is refused as a wrong password is.
 pub fn read(text: &str) -> Result<PasswordHash, Failure>
-    ensures ok { IfOk result (λ hash. Says text.now (phc_of hash)) }
+    ensures ok { IfOk result (λ hash. SaysHash text.now (phc_of hash)) }
     ensures err { IfErr result (IsShut text.now) }
 {
     if behind_lock(text).is_some() {

@@ -2,16 +2,16 @@ use Rattle.std.proofs.Common.{add-one, ◌≡◌, ◌∙◌, ◌||◌, ◌<◌, 
 use Rattle.std.specs.List.{list_any}
 use Rattle.std.specs.Str.{bytes_eq}
 use Rattle.argon2_rows.specs.declared.text.StoredText.{StoredText}
-use Rattle.argon2_passwd.specs.Answers.{Line, first_of_each, is_named, new_line, said_of, with_name}
+use Rattle.argon2_passwd.specs.Answers.{Line, entry_or_flaw, first_of_each, line_has_name, new_line, with_name}
 use Rattle.argon2_passwd.specs.declared.failure.Flaw.{Flaw}
 use Rattle.argon2_passwd.proofs.lines.first_of_each.Goals as goal
 
 abbrev Own : Type 0
 Own = Result (Bor (List ℕ) × StoredText) Flaw
 
-pushed : (found : List Own) (x : Own) (rest : List Line) → map said_of found ++ said_of x ∷ rest ≡ map said_of (found ++ x ∷ []) ++ rest
+pushed : (found : List Own) (x : Own) (rest : List Line) → map entry_or_flaw found ++ entry_or_flaw x ∷ rest ≡ map entry_or_flaw (found ++ x ∷ []) ++ rest
 pushed [] x rest = refl
-pushed (y ∷ found) x rest = ap (λ ls. said_of y ∷ ls) (pushed found x rest)
+pushed (y ∷ found) x rest = ap (λ ls. entry_or_flaw y ∷ ls) (pushed found x rest)
 
 same_line : (line : Line) (p q : List ℕ → Bool) → ((name : List ℕ) → p name ≡ q name) → new_line p line ≡ new_line q line
 same_line (Ok e) p q same = rw (same e.0) refl
@@ -21,7 +21,7 @@ abbrev has_any : List (List ℕ) → List ℕ → Bool
 has_any names name = list_any (λ other. bytes_eq other name) names
 
 joined : (line : Line) (names : List (List ℕ)) (old new : List ℕ → Bool) → ((name : List ℕ) → old name ≡ has_any names name)
-    → ((name : List ℕ) → new name ≡ (is_named line name || old name)) → (name : List ℕ) → new name ≡ has_any (with_name line names) name
+    → ((name : List ℕ) → new name ≡ (line_has_name line name || old name)) → (name : List ℕ) → new name ≡ has_any (with_name line names) name
 joined (Ok e) names old new has is name = is name ∙ ap (λ b. bytes_eq e.0 name || b) (has name)
 joined (Err why) names old new has is name = is name ∙ has name
 
@@ -30,20 +30,20 @@ next : (ls : List Own) (k : ℕ) (x : Own) → k < length ls → x ≡ get_or ls
 next ls k x within is = drop-cons ls k x within ∙ ap (λ y. y ∷ drop (suc k) ls) (sym is)
 
 step : (names : List (List ℕ)) (ls found : List Own) (k : ℕ) (x y : Own) (old : List ℕ → Bool) (all : List Line) → k < length ls
-    → x ≡ get_or ls k x → ((name : List ℕ) → old name ≡ has_any names name) → said_of y ≡ new_line old (said_of x)
-    → map said_of found ++ first_of_each names (map said_of (drop k ls)) ≡ all
-    → map said_of (found ++ y ∷ []) ++ first_of_each (with_name (said_of x) names) (map said_of (drop (suc k) ls)) ≡ all
+    → x ≡ get_or ls k x → ((name : List ℕ) → old name ≡ has_any names name) → entry_or_flaw y ≡ new_line old (entry_or_flaw x)
+    → map entry_or_flaw found ++ first_of_each names (map entry_or_flaw (drop k ls)) ≡ all
+    → map entry_or_flaw (found ++ y ∷ []) ++ first_of_each (with_name (entry_or_flaw x) names) (map entry_or_flaw (drop (suc k) ls)) ≡ all
 step names ls found k x y old all within is has said sofar =
-    let rest = first_of_each (with_name (said_of x) names) (map said_of (drop (suc k) ls)) in
-    sym (pushed found y rest) ∙ ap (λ l. map said_of found ++ l ∷ rest) (said ∙ same_line (said_of x) old (has_any names) has)
-    ∙ ap (λ (own : List Own). map said_of found ++ first_of_each names (map said_of own)) (sym (next ls k x within is)) ∙ sofar
+    let rest = first_of_each (with_name (entry_or_flaw x) names) (map entry_or_flaw (drop (suc k) ls)) in
+    sym (pushed found y rest) ∙ ap (λ l. map entry_or_flaw found ++ l ∷ rest) (said ∙ same_line (entry_or_flaw x) old (has_any names) has)
+    ∙ ap (λ (own : List Own). map entry_or_flaw found ++ first_of_each names (map entry_or_flaw own)) (sym (next ls k x within is)) ∙ sofar
 
 pub loop-line-preserved : goal.loop-line-preserved
 loop-line-preserved c =
     let (names, has, sofar) = c.loop-line.invariant in
     let x = c.line-item.result in (
-      with_name (said_of x) names,
-      joined (said_of x) names _ _ has c.in_ok-unless_repeated.ensures.names,
+      with_name (entry_or_flaw x) names,
+      joined (entry_or_flaw x) names _ _ has c.in_ok-unless_repeated.ensures.names,
       rw (c.in_ok-push.ensures.items, add-one)
           (step names c.args.lines.now c.loop-line.found.items c.loop-line.line-index x c.in_ok-unless_repeated.field-0 _ _
           c.loop-line-test.true c.line-item.is has c.in_ok-unless_repeated.ensures.said sofar),

@@ -3,18 +3,18 @@ use Rattle.std.proofs.lemmas.List.Sorted.{answers_always}
 use Rattle.std.specs.List.{AllZip}
 use Rattle.std.specs.Str.Lines.{lines}
 use Rattle.argon2_rows.specs.declared.text.StoredText.{StoredText}
-use Rattle.argon2_passwd.specs.Answers.{IsSaid, Line, said_of}
+use Rattle.argon2_passwd.specs.Answers.{IsEntryOrFlaw, Line, entry_or_flaw}
 use Rattle.argon2_passwd.specs.declared.failure.Flaw.{Flaw}
 use Rattle.argon2_passwd.proofs.LineLemmas.{lines_first}
 use Rattle.argon2_passwd.proofs.lines.read_lines.Goals as goal
 
 -- a line more, and none
 pushed : (found : List (Result (Bor (List ℕ) × StoredText) Flaw)) (x : Result (Bor (List ℕ) × StoredText) Flaw) (rest : List Line)
-    → map said_of found ++ said_of x ∷ rest ≡ map said_of (found ++ x ∷ []) ++ rest
+    → map entry_or_flaw found ++ entry_or_flaw x ∷ rest ≡ map entry_or_flaw (found ++ x ∷ []) ++ rest
 pushed [] x rest = refl
-pushed (y ∷ found) x rest = ap (λ ls. said_of y ∷ ls) (pushed found x rest)
+pushed (y ∷ found) x rest = ap (λ ls. entry_or_flaw y ∷ ls) (pushed found x rest)
 
-none_left : (any_text : Bool) (bytes : List ℕ) → length bytes ≡ 0 → AllZip (IsSaid any_text) (lines bytes) []
+none_left : (any_text : Bool) (bytes : List ℕ) → length bytes ≡ 0 → AllZip (IsEntryOrFlaw any_text) (lines bytes) []
 none_left any_text [] none = tt
 none_left any_text (b ∷ bytes) none = absurd (omega arith)
 
@@ -24,14 +24,14 @@ loop-line-preserved c =
     let (always, first) = steps.1.2 (λ b. b == 10) (answers_always _ _ _ (λ f a r g h. search rules)) in
     let line = lines_first _ _ _ _ steps.2 steps.0 steps.1.1 first in
     let x = c.read_line.result in
-    let said = subst (λ l. IsSaid c.args.any_text l (said_of x)) c.line_len.ensures.value c.read_line.ensures in
+    let said = subst (λ l. IsEntryOrFlaw c.args.any_text l (entry_or_flaw x)) c.line_len.ensures.value c.read_line.ensures in
     λ rest are.
-    let all = c.loop-line.invariant (said_of x ∷ rest)
-    (subst (λ ls. AllZip (IsSaid c.args.any_text) ls (said_of x ∷ rest)) (sym line) (said, are)) in
+    let all = c.loop-line.invariant (entry_or_flaw x ∷ rest)
+    (subst (λ ls. AllZip (IsEntryOrFlaw c.args.any_text) ls (entry_or_flaw x ∷ rest)) (sym line) (said, are)) in
     rw c.in_ok-push.ensures.items
-    (subst (AllZip (IsSaid c.args.any_text) (lines c.args.input.now)) (pushed c.loop-line.found.items x rest) all)
+    (subst (AllZip (IsEntryOrFlaw c.args.any_text) (lines c.args.input.now)) (pushed c.loop-line.found.items x rest) all)
 
 pub returns : goal.returns
 returns c =
-    subst (AllZip (IsSaid c.args.any_text) (lines c.args.input.now)) (append-nil _)
+    subst (AllZip (IsEntryOrFlaw c.args.any_text) (lines c.args.input.now)) (append-nil _)
     (c.loop-line.invariant [] (none_left _ _ c.in-None.ensures.steps.0))

@@ -1,4 +1,4 @@
-use Rattle.argon2_passwd.specs.Asked.{choices_of}
+use Rattle.argon2_passwd.specs.Jobs.{choices_of}
 use Rattle.argon2_passwd.proofs.Served.{answered, denied, done_once}
 use Rattle.argon2_passwd.proofs.run.run.Goals as goal
 

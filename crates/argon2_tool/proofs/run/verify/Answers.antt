@@ -5,7 +5,7 @@ use Rattle.argon2.specs.StoredTexts.{IsVerifyTextAnswer}
 use Rattle.argon2_base.specs.Error.{fault_of}
 use Rattle.argon2_base.specs.declared.error.password_hash.Error.{Error}
 use Rattle.argon2_tool.specs.Commands.{Fails, IsVerifyFault}
-use Rattle.argon2_tool.specs.Failures.{IsOfText}
+use Rattle.argon2_tool.specs.Failures.{IsTextFailure}
 use Rattle.argon2_tool.specs.declared.arguments.Command.TheVariants.{Verify}
 use Rattle.argon2_tool.specs.declared.failure.Failure.{Failure}
 use Rattle.argon2_tool.specs.declared.failure.Failure.TheVariants.{Input, Output, Memory, Hashing, Text}
@@ -13,13 +13,13 @@ use Rattle.argon2_tool.proofs.run.verify.Goals as goal
 
 -- a refusal that is not out of memory is the text's
 refused : (password text : List ℕ) (e own : Error) → IsVerifyTextAnswer [] password text (Err e)
-    → IsOfText e (Text own) → IsVerifyFault password text (fault_of own)
+    → IsTextFailure e (Text own) → IsVerifyFault password text (fault_of own)
 refused password text e own (inl (v, is, inl same)) of = rw of.0 (inl (v, is, sym same))
 refused password text e own (inl (v, is, inr (none, known))) of = absurd (of.1 (grind arith))
 refused password text e own (inr (none, same)) of = rw of.0 (inr (none, grind arith))
 
 fails : (text : Bor (List ℕ)) (password : List ℕ) (e : Error) (failure : Failure)
-    → IsVerifyTextAnswer [] password text.now (Err e) → IsOfText e failure → Fails (Verify text) password failure
+    → IsVerifyTextAnswer [] password text.now (Err e) → IsTextFailure e failure → Fails (Verify text) password failure
 fails text password e (Memory none) answer of = tt
 fails text password e (Text own) answer of = refused password text.now e own answer of
 fails text password e (Hashing own) answer of = absurd of

@@ -3,7 +3,7 @@ use Rattle.argon2.specs.Argon2.{context_of}
 use Rattle.argon2.specs.Rfc9106.{segment_length}
 use Rattle.argon2.specs.Hashing.{blocks_of}
 use Rattle.argon2.specs.Steps.{run}
-use Rattle.argon2_uses.specs.Scheduler.{rounds, lanes_in_rounds}
+use Rattle.argon2_uses.specs.Scheduler.{lanes_by_round, lanes_in_rounds}
 use Rattle.argon2_uses.proofs.Rounds.{left}
 use Rattle.argon2_uses.proofs.scheduler.fill_slice.Given as goal
 
@@ -11,7 +11,7 @@ use Rattle.argon2_uses.proofs.scheduler.fill_slice.Given as goal
 abbrev pub invariant-loop-index : goal.invariant-loop-index
 invariant-loop-index l =
     let ctx = context_of l.argon2 in
-    run ctx l.pass l.slice (rounds ctx.p_cost (segment_length ctx - l.index)) (blocks_of ctx l.memory)
+    run ctx l.pass l.slice (lanes_by_round ctx.p_cost (segment_length ctx - l.index)) (blocks_of ctx l.memory)
     ≡ run ctx l.pass l.slice (lanes_in_rounds ctx l.pass l.slice) (blocks_of ctx l.fn.memory)
 
 -- the turns that are left come to the same

@@ -3,7 +3,7 @@ use Rattle.std.proofs.lemmas.Grind.{common_steps}
 use Rattle.std.proofs.lemmas.List.{length-drop, take_all}
 use Rattle.std.proofs.lemmas.List.Elements.{All-append}
 use Rattle.memchr.specs.Find.{Nowhere, Passes, is_byte}
-use Rattle.argon2_audit.specs.Audit.{HasNoFeed, IsAt, IsRead, joined}
+use Rattle.argon2_audit.specs.Audit.{HasNoFeed, IsAt, IsRead, text_of_lines}
 use Rattle.argon2_audit.specs.declared.limits.Options.{Options}
 use Rattle.argon2_audit.specs.declared.session.Line.{Line}
 use Rattle.argon2_audit.specs.declared.session.Session.{Session}
@@ -55,7 +55,7 @@ lines-preserved g c =
           let b = c.lines.invariant.1 options all before in record {
             lines = (b.rest ++ part) ∷ b.lines;
             rest = [];
-            split = b.split ∙ ap (λ l. joined b.lines ++ (b.rest ++ l)) cut ∙ rw whole (sym (simp append_assoc));
+            split = b.split ∙ ap (λ l. text_of_lines b.lines ++ (b.rest ++ l)) cut ∙ rw whole (sym (simp append_assoc));
             at = c.in_ok-end_line.ensures.ended options b.lines (b.rest ++ part)
                 (part_more part c.in_ok-extend.ensures (none_before rest end first.0.before) b.at);
           },

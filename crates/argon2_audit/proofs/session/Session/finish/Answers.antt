@@ -1,6 +1,6 @@
 use Rattle.std.proofs.Common.{arith, rules, ◌≡◌, ◌∙◌, ◌<◌, ◌++◌, Bool, true, false, List, [], ◌∷◌, ℕ, length, MatchBool, vec_len, ◌==◌, refl, sym, ap, append-nil, inl, inr}
 use Rattle.std.proofs.lemmas.Result.{on_ok_weaker}
-use Rattle.argon2_audit.specs.Audit.{joined}
+use Rattle.argon2_audit.specs.Audit.{text_of_lines}
 use Rattle.argon2_audit.proofs.session.Session.finish.Goals as goal
 
 no_byte : (is_long : Bool) (items line : List ℕ) → length items ≡ 0
@@ -17,7 +17,7 @@ of_none false items line is none = ap length (is ∙ none)
 pub returns-then-is_empty : goal.returns-then-is_empty
 returns-then-is_empty g c = λ options bytes b.
     let none = no_byte _ _ b.rest (search rules) b.at.read in
-    (b.lines, b.at.findings, inl (b.split ∙ rw none (append-nil (joined b.lines))), b.at.counted)
+    (b.lines, b.at.findings, inl (b.split ∙ rw none (append-nil (text_of_lines b.lines))), b.at.counted)
 
 pub returns : goal.returns
 returns g c = on_ok_weaker c.end_line.result (λ ended options bytes b.
@@ -28,7 +28,7 @@ returns g c = on_ok_weaker c.end_line.result (λ ended options bytes b.
         b.rest,
         b.lines,
         refl,
-        b.split ∙ ap (λ l. joined b.lines ++ l) (append-nil b.rest),
+        b.split ∙ ap (λ l. text_of_lines b.lines ++ l) (append-nil b.rest),
         λ none. absurd (
             let items = of_none _ _ b.rest b.at.read none in
             let empty : vec_len c.args.self.now.line.bytes ≡ 0 = search rules in

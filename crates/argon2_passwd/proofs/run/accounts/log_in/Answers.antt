@@ -8,7 +8,7 @@ use Rattle.argon2.specs.declared.login.answers.Accepted.{Accepted}
 use Rattle.argon2.specs.declared.login.answers.Accepted.TheVariants.{Kept, Rehashed}
 use Rattle.argon2_policy.specs.Policy.{LogsIn, Policy, policy_value}
 use Rattle.argon2_store.specs.declared.error.FileError.{FileError}
-use Rattle.argon2_passwd.specs.Answers.{AcceptsLogin, Says, TellsOf, TellsOfLogin, accepted, denied, replaced, unread, unwritten}
+use Rattle.argon2_passwd.specs.Answers.{AcceptsLogin, SaysHash, TellsOf, TellsOfLogin, accepted, answer_without_text, denied, replaced, unread}
 use Rattle.argon2_passwd.specs.declared.failure.Failure.{Failure}
 use Rattle.argon2_passwd.specs.Failures.{IsOfBound}
 use Rattle.argon2_passwd.specs.Salts.{IsSalt}
@@ -17,11 +17,11 @@ use Rattle.argon2_passwd.proofs.run.accounts.log_in.Goals as goal
 
 -- a login without a fresh text has nothing to write
 not_renewed : (did : Accepted) (fresh : Option PasswordHash) → fresh ≡ None
-    → IsSome fresh ↔ (did ≡ Rehashed) → did ≡ unwritten did
+    → IsSome fresh ↔ (did ≡ Rehashed) → did ≡ answer_without_text did
 not_renewed did fresh none is = grind arith
 
 renewed : (did : Accepted) (fresh : Option PasswordHash) (text : PasswordHash) → fresh ≡ Some text
-    → IsSome fresh ↔ (did ≡ Rehashed) → Kept ≡ unwritten did
+    → IsSome fresh ↔ (did ≡ Rehashed) → Kept ≡ answer_without_text did
 renewed did fresh text some is = grind arith
 
 -- the fresh text was written, or not
@@ -29,13 +29,13 @@ written : (did : Accepted) (done : Result (Unit {0}) FileError) (x : Unit {0}) �
     → TellsOfLogin (replaced did done) (Ok did)
 written did done x tells = grind arith
 
-not_written : (did : Accepted) (done : Result (Unit {0}) FileError) (f : Failure) → TellsOf done (Err f) → Kept ≡ unwritten did
+not_written : (did : Accepted) (done : Result (Unit {0}) FileError) (f : Failure) → TellsOf done (Err f) → Kept ≡ answer_without_text did
     → TellsOfLogin (replaced did done) (Ok Kept)
 not_written did done f tells kept = grind arith
 
 -- a login by what a text says, with the fresh text that was found
 logged_in : (Gives : List ℕ → Type 0) (policy : Policy) (password drawn was : List ℕ) (v : Phc) (did : Accepted)
-    (fresh found : Option PasswordHash) → fresh ≡ found → IsSalt Gives drawn → Says was v
+    (fresh found : Option PasswordHash) → fresh ≡ found → IsSalt Gives drawn → SaysHash was v
     → LogsIn policy password drawn v (Ok did) (value_after v fresh)
     → AcceptsLogin Gives policy password was did (phc_text (value_after v found))
 logged_in Gives policy password drawn was v did fresh found here salt says is =

@@ -1,7 +1,7 @@
 use Rattle.std.proofs.Common.{add-one, ◌≡◌, ◌∙◌, ◌<◌, suc, ℕ, Bor, List, [], ◌∷◌, ◌++◌, Result, Ok, Err, ap, append_assoc, drop, drop-cons, get_or, length, map, refl, sym}
 use Rattle.std.specs.Prelude.{None, Some}
 use Rattle.argon2_rows.specs.declared.text.StoredText.{StoredText}
-use Rattle.argon2_passwd.specs.Answers.{Line, entries_in, flaws_from, said_of, unless_known}
+use Rattle.argon2_passwd.specs.Answers.{Line, entries_in, entry_or_flaw, flaws_from, unless_known}
 use Rattle.argon2_passwd.specs.Failures.{IsMemory, IsOfFile}
 use Rattle.argon2_passwd.specs.declared.failure.Flaw.{Flaw}
 use Rattle.argon2_passwd.proofs.Looks.{looks_then, names_stay, was_honest}
@@ -19,17 +19,17 @@ flaws-cons k (Err why) ls = refl
 -- the next of the lines
 step : (f : Line → Line) (ls : List (Result (Bor (List ℕ) × StoredText) Flaw)) (k : ℕ) (x y : Result (Bor (List ℕ) × StoredText) Flaw)
     (es es' : List (List ℕ × List ℕ)) (ps ps' : List (ℕ × Flaw)) (all : List Line)
-    → k < length ls → x ≡ get_or ls k x → said_of y ≡ f (said_of x)
-    → (es' ≡ es ++ entries_in (said_of y ∷ [])) × (ps' ≡ ps ++ flaws_from (suc k) (said_of y ∷ []))
-    → let rest = map f (map said_of (drop k ls)) in (es ++ entries_in rest ≡ entries_in all) × (ps ++ flaws_from (suc k) rest ≡ flaws_from 1 all)
-    → let rest = map f (map said_of (drop (suc k) ls)) in
+    → k < length ls → x ≡ get_or ls k x → entry_or_flaw y ≡ f (entry_or_flaw x)
+    → (es' ≡ es ++ entries_in (entry_or_flaw y ∷ [])) × (ps' ≡ ps ++ flaws_from (suc k) (entry_or_flaw y ∷ []))
+    → let rest = map f (map entry_or_flaw (drop k ls)) in (es ++ entries_in rest ≡ entries_in all) × (ps ++ flaws_from (suc k) rest ≡ flaws_from 1 all)
+    → let rest = map f (map entry_or_flaw (drop (suc k) ls)) in
     (es' ++ entries_in rest ≡ entries_in all) × (ps' ++ flaws_from (suc (suc k)) rest ≡ flaws_from 1 all)
 step f ls k x y es es' ps ps' all within is said (grown, told) (made, flawed) =
-    let rest = map f (map said_of (drop (suc k) ls)) in
-    let next : map f (map said_of (drop k ls)) ≡ said_of y ∷ rest =
+    let rest = map f (map entry_or_flaw (drop (suc k) ls)) in
+    let next : map f (map entry_or_flaw (drop k ls)) ≡ entry_or_flaw y ∷ rest =
     rw (drop-cons ls k x within, sym is) (ap (λ l. l ∷ rest) (sym said)) in (
-      rw grown (append_assoc es _ _ ∙ ap (λ l. es ++ l) (sym (entries-cons (said_of y) rest)) ∙ ap (λ l. es ++ entries_in l) (sym next) ∙ made),
-      rw told (append_assoc ps _ _ ∙ ap (λ l. ps ++ l) (sym (flaws-cons (suc k) (said_of y) rest)) ∙ ap (λ l. ps ++ flaws_from (suc k) l) (sym next) ∙ flawed),
+      rw grown (append_assoc es _ _ ∙ ap (λ l. es ++ l) (sym (entries-cons (entry_or_flaw y) rest)) ∙ ap (λ l. es ++ entries_in l) (sym next) ∙ made),
+      rw told (append_assoc ps _ _ ∙ ap (λ l. ps ++ l) (sym (flaws-cons (suc k) (entry_or_flaw y) rest)) ∙ ap (λ l. ps ++ flaws_from (suc k) l) (sym next) ∙ flawed),
     )
 
 pub returns-in_err-line-clause-fails : goal.returns-in_err-line-clause-fails
@@ -51,7 +51,7 @@ loop-k-preserved g c =
       λ names has honest.
           let had = names_stay None _ _ looks names has in
           rw add-one (step (unless_known names) c.args.lines.now c.loop-k.k c.index-lines-k.result c.in_ok-line.line _ _ _ _
-          (map (unless_known names) (map said_of c.args.lines.now))
+          (map (unless_known names) (map entry_or_flaw c.args.lines.now))
           c.loop-k-test.true c.index-lines-k.is (c.in_ok-line.ensures.new names had honest) (rw add-one at c.in_ok-sort.ensures)
           (made names has (was_honest None _ _ looked names had honest))),
     )

@@ -1,11 +1,11 @@
-use Rattle.argon2_store.proofs.Imports.{Some, ∥∥₁_map, Texts, HasNames, Changes, IsLong, changed}
+use Rattle.argon2_store.proofs.Imports.{Some, ∥∥₁_map, Texts, HasRows, Changes, IsLong, changed}
 use Rattle.argon2_rows.proofs.RowLemmas.{texts_changed}
 use Rattle.argon2_rows.proofs.TableLemmas.{changes_of, has_either}
 use Rattle.argon2_store.proofs.account_file.AccountFile.replace_row.Goals as goal
 use Rattle.argon2_store.proofs.account_file.AccountFile.replace_row.Goals.{After-finish}
 
 -- the row is committed, or taken back
-written : (g : _) (c : After-finish g) (before : Texts) → HasNames g.S.Store c.args.self.now.store before
+written : (g : _) (c : After-finish g) (before : Texts) → HasRows g.S.Store c.args.self.now.store before
     → Changes g.S.Store c.args.self.now.store c.finish.new.store before
     (changed before c.args.name.now (Some c.args.new.now)) (IsLong (c.args.name.now, c.args.new.now)) c.finish.result
 written g c before has =

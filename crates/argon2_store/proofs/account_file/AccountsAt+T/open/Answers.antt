@@ -1,4 +1,4 @@
-use Rattle.argon2_store.proofs.Imports.{ℕ, Bool, cond, List, ap₂, inr, subst, Image, IsFrom}
+use Rattle.argon2_store.proofs.Imports.{ℕ, Bool, cond, List, ap₂, inr, subst, Image, IsFileFrom}
 use Rattle.sqlite_disk.specs.Events.{Event, replay}
 use Rattle.argon2_store.proofs.account_file.AccountsAt+T.open.Goals as goal
 
@@ -11,7 +11,7 @@ seen log db is_log history = (replay (cond is_log log db) history).seen
 pub returns-in-Ok-clause-ok : goal.returns-in-Ok-clause-ok
 returns-in-Ok-clause-ok g c =
     let (log, db) = c.in_ok-files.ensures.fresh in
-    subst (λ i. IsFrom i c.in-Ok.file)
+    subst (λ i. IsFileFrom i c.in-Ok.file)
     (ap₂ image (ap₂ (seen g.T.Start.log g.T.Start.db) log.0 log.1) (ap₂ (seen g.T.Start.log g.T.Start.db) db.0 db.1))
     c.in-Ok.ensures.ready
 

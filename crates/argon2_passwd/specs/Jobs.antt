@@ -22,14 +22,14 @@ pub record Choices : Type 0 where
   pub old_secret_file : Option (List ℕ)
 
 -- what is asked for, on a file with its path
-pub data Asked : Type 0 where
-  hash : Asked
-  check : List ℕ → Asked
-  verify : List ℕ → List ℕ → Asked
-  edit : List ℕ → Edit → List ℕ → Asked
-  show : List ℕ → View → Asked
-  import : List ℕ → Bool → Asked
-  import_others : List ℕ → Bool → Asked
+pub data Job : Type 0 where
+  hash : Job
+  check : List ℕ → Job
+  verify : List ℕ → List ℕ → Job
+  edit : List ℕ → Edit → List ℕ → Job
+  show : List ℕ → View → Job
+  import : List ℕ → Bool → Job
+  import_others : List ℕ → Bool → Job
 
 abbrev pub choices_of : Options → Choices
 choices_of options = record {
@@ -40,21 +40,21 @@ choices_of options = record {
 }
 
 -- a task on the file at a path
-abbrev pub asked_on : List ℕ → Task → Asked
-asked_on path (Verify name) = verify path name.now
-asked_on path (Edits change name) = edit path change name.now
-asked_on path (Show view) = show path view
-asked_on path (Import any_text) = import path any_text
-asked_on path (ImportOthers any_text) = import_others path any_text
+abbrev pub job_on : List ℕ → Task → Job
+job_on path (Verify name) = verify path name.now
+job_on path (Edits change name) = edit path change name.now
+job_on path (Show view) = show path view
+job_on path (Import any_text) = import path any_text
+job_on path (ImportOthers any_text) = import_others path any_text
 
-abbrev pub asked : Action → Asked
-asked Hash = hash
-asked (Check text) = check text.now
-asked (OnFile path task) = asked_on path.now task
+abbrev pub job_of : Action → Job
+job_of Hash = hash
+job_of (Check text) = check text.now
+job_of (OnFile path task) = job_on path.now task
 
 -- the bound that is given; if none is, 2 GiB, 64 passes and 64 lanes, each no less than the parameter
-abbrev pub bound_of : Choices → Bound
-bound_of choices = unwrap_or choices.bound (record {
+abbrev pub bound_or_default : Choices → Bound
+bound_or_default choices = unwrap_or choices.bound (record {
   m_cost = max choices.parameters.m_cost 2097152;
   t_cost = max choices.parameters.t_cost 64;
   p_cost = max choices.parameters.p_cost 64;
@@ -69,5 +69,5 @@ abbrev pub policy_by : Choices → List ℕ → Option (List ℕ) → Policy
 policy_by choices secret old = record {
   target = target_by choices secret;
   old_secret = old;
-  bound = bound_of choices;
+  bound = bound_or_default choices;
 }
