@@ -1,18 +1,17 @@
 -- What calls on a file and answers of a policy make of the names.
-use Rattle.std.proofs.Common.{◌≡◌, ◌⊎◌, ℕ, List, [], ◌∷◌, Option, Some, None, Result, Ok, Err, refl, sym, ap, ◌∙◌, inl, inr, false, true, arith}
+use Rattle.std.proofs.Common.{◌≡◌, ◌⊎◌, ℕ, List, [], ◌∷◌, Option, Some, None, Result, Ok, Err, refl, ap, ◌∙◌, inl, inr, arith}
 use Rattle.std.specs.FinMap.{get}
 use Rattle.std.proofs.lemmas.Slice.Eq.{bytes_eq-Decides}
-use Rattle.std.specs.Prelude.{◌≢◌, ◌<◌, IsErrAnd, IsTrue, length}
+use Rattle.std.specs.Prelude.{◌≢◌, ◌<◌, IsTrue, length}
 use Rattle.std.specs.Result.{result_map_both}
 use Rattle.sqlite_trees.specs.declared.store.Store.{Ghosts}
 use Rattle.argon2_base.specs.PhcFields.{phc_of}
 use Rattle.argon2_base.specs.PhcText.{Phc}
 use Rattle.argon2_base.specs.declared.phc.hash.PasswordHash.{PasswordHash}
-use Rattle.argon2.specs.TextHashing.{HashingRefusal, IsFresh, Target}
+use Rattle.argon2.specs.TextHashing.{HashingRefusal, IsFresh}
 use Rattle.argon2.specs.declared.bound.BoundError.{BoundError}
 use Rattle.argon2.specs.Refusals.{max_len}
 use Rattle.argon2_base.specs.declared.error.password_hash.Error.{Error}
-use Rattle.argon2_base.specs.declared.error.password_hash.Error.TheVariants.{OutOfMemory, PasswordInvalid}
 use Rattle.argon2.specs.declared.bound.BoundError.TheVariants.{Refused, TooExpensive}
 use Rattle.argon2.specs.declared.login.answers.Accepted.{Accepted}
 use Rattle.argon2.specs.declared.login.answers.Accepted.TheVariants.{Rehashed}
@@ -28,13 +27,11 @@ use Rattle.argon2_store.specs.declared.account_file.AccountFile.{AccountFile}
 use Rattle.argon2_store.specs.declared.error.FileError.{FileError}
 use Rattle.argon2_accounts.specs.Accounts.{AdmitsName, AdmitsText, GivesPassword, LogsNameIn, RelatesNames, TextRefusal}
 use Rattle.argon2_accounts.specs.Errors.{is_account_refusal, of_file, of_policy}
-use Rattle.argon2_accounts.specs.declared.error.AccountError.{AccountError}
 
 -- ---- names
 
 unless_ok : (r : Option FileError) (x y : Texts) → and_then (unless r x) (λ names. Ok names) ≡ Ok y → y ≡ x
-unless_ok None x y is = cc
-unless_ok (Some why) x y is = absurd cc
+unless_ok r x y is = grind arith
 
 -- an edit that is accepted leaves its name what it gives
 edit_leaves : (edit : Edit) (before after : Texts) → names_after (edit ∷ []) before ≡ Ok after
@@ -59,9 +56,6 @@ gives_password policy edit password before after h is gives_it admits =
     (ap (λ (m : Texts). get m (name_of edit)) left ∙ get-changed before (name_of edit) _ ∙ gives_it) admits
 
 -- ---- calls
-
-pub err_is : {X E : Type 0} (r : Result X E) (e : E) → IsErrAnd r (λ f. f ≡ e) → r ≡ Err e
-err_is r e is = grind arith
 
 module _ {S : Type 0} {g : Ghosts S} where
   -- an edit that gives the text of a hash, if it is accepted
@@ -125,9 +119,7 @@ fails_to_edit name old new h before after e same has answers is =
 
 long : (password : List ℕ) (e : Error) → IsTrue (is_account_refusal (of_policy (Refused e))) → HashingRefusal password e
     → max_len < length password
-long password OutOfMemory is why = absurd cc
-long password PasswordInvalid is why = why
-long password _ is why = absurd why
+long password e is why = grind arith
 
 module _ (policy : Policy) (name password : List ℕ) (names : Texts) (h : PasswordHash) (has : get names name ≡ Some (text_of h)) where
   pub denies : (why : BoundError) → Denial policy password (phc_of h) why

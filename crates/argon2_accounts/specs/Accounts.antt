@@ -1,5 +1,5 @@
 -- What calls on accounts do to the names of their file.
-use Rattle.std.specs.Prelude.{◌≡◌, ◌⊎◌, ℕ, ◌<◌, List, [], ◌∷◌, false, Option, Some, None, IsSomeAnd, Result, Ok, Err, IsErrAnd, IsTrue, OnOk, length}
+use Rattle.std.specs.Prelude.{◌≡◌, ◌⊎◌, ℕ, ◌<◌, List, [], ◌∷◌, false, Option, Some, None, IsSomeAnd, Result, Ok, Err, IsTrue, length}
 use Rattle.std.specs.FinMap.{get}
 use Rattle.std.specs.Result.{result_map_both}
 use Rattle.rand_core.specs.Stream.{Stream, fill_bytes}

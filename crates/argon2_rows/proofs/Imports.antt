@@ -1,14 +1,11 @@
 -- The words that the proofs of this crate use.
 pub use Rattle.std.proofs.Common.{Bool, Equal, Err, Greater, IsPermutation, IsSome, IsTrue, IsUtf8, Less, List, None, Ok, Option, Ordering, Result, Some, T, [], ap, append-nil}
-pub use Rattle.std.proofs.Common.{append_assoc, arith, cond, false, get_or, inl, inr, is_eq, length, lit<, ltb, map, not, refl, rules, subst}
+pub use Rattle.std.proofs.Common.{append_assoc, arith, cond, false, get_or, inl, inr, is_eq, length, lit<, map, not, refl, rules, subst}
 pub use Rattle.std.proofs.Common.{sym, take, true, ℕ, ◌++◌, ◌+◌, ◌<◌, ◌^◌, ◌∙◌, ◌∷◌, ◌≡◌, ◌≢◌, ◌≤◌, ◌⊎◌}
 pub use Rattle.std.proofs.Math.Logic.{∥∥₁_elim, ∥∥₁_map}
 pub use Rattle.std.proofs.lemmas.Bool.{and_parts, both_ways, cases_lt, true_from_ne_false}
-pub use Rattle.std.proofs.lemmas.Bool.Decides.{nat_tests}
 pub use Rattle.std.proofs.lemmas.Cmp.{tied_itself}
-pub use Rattle.std.proofs.lemmas.Fmt.{IsAscii-decimal}
 pub use Rattle.std.proofs.lemmas.List.{get_or-map, length-map, map_more, nil_from_length, take-map, take_all}
-pub use Rattle.std.proofs.lemmas.List.Elements.{All-from_recursion}
 pub use Rattle.std.proofs.lemmas.Result.{IfErr-weaker, on_ok_weaker}
 pub use Rattle.std.proofs.lemmas.Slice.Eq.{bytes_eq-Decides}
 pub use Rattle.std.specs.Borrow.{Bor}
@@ -17,10 +14,10 @@ pub use Rattle.std.specs.Coded.{Coded-set}
 pub use Rattle.std.specs.FinMap.{empty, entries, entries-insert, entries_sorted, find, get, get-empty, get-entries, get-insert, get-remove, insert, is_sorted, len-empty, len-entries}
 pub use Rattle.std.specs.FinMap.{nat_cmp-IsAntisymmetric, put, remove, same_entries_map, same_map, slice_cmp-IsAntisymmetric}
 pub use Rattle.std.specs.FinMap.Entries.{below_all}
-pub use Rattle.std.specs.List.{AllByRecursion, list_all}
-pub use Rattle.std.specs.Option.{option_copied, option_map}
+pub use Rattle.std.specs.List.{AllByRecursion}
+pub use Rattle.std.specs.Option.{option_copied}
 pub use Rattle.std.specs.Ordering.{eq_by_cmp, is_lt, nat_cmp, ordering_reverse, ordering_then}
-pub use Rattle.std.specs.Prelude.{All, Any, IfErr, IfOk, IfSome, IsErrAnd, MatchResult, OnErr, OnOk, ⊤}
+pub use Rattle.std.specs.Prelude.{All, Any, IfErr, IfSome, IsErrAnd, MatchResult, OnErr, OnOk}
 pub use Rattle.std.specs.Str.{bytes_eq}
 pub use Rattle.sqlite_disk.specs.Disk.{MoreFaults}
 pub use Rattle.sqlite_store.proofs.OrderLemmas.{less}
@@ -36,7 +33,7 @@ pub use Rattle.sqlite_value.proofs.OrderLemmas.{value_cmp-Text}
 pub use Rattle.sqlite_value.specs.Keys.{entry_cmp, plain, prefix_cmp}
 pub use Rattle.sqlite_value.specs.Order.{Row, column, number, row_cmp}
 pub use Rattle.sqlite_value.specs.declared.value.Value.TheVariants.{Text}
-pub use Rattle.argon2_rows.specs.Names.{AddsAll, IsAdded, IsFirstTaken, Texts, changed, entry_of}
+pub use Rattle.argon2_rows.specs.Names.{AddsAll, IsAdded, Texts, changed, entry_of}
 pub use Rattle.argon2_rows.specs.Rows.{AreLines, AreTexts, AreWritten, FitLines, IsLineOf, StopsAtBreak, HasNoneAfter, IsAccount, IsAfterAll, IsFoundAs, breaks_line, line, lines, lines_of, row_of, rows_of}
 pub use Rattle.argon2_rows.specs.Locks.{IsLine}
 pub use Rattle.argon2_rows.specs.Table.{Changes, EndsRead, Finishes, HasBegun, HasRows, HasSome, IsUnwritten, IsHonest, IsKept, IsLong, IsOpen, CrashLeaves, Sees, StaysQuiet}

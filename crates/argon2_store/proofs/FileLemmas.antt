@@ -1,6 +1,6 @@
 -- What a call on an account file does if it is refused, writes nothing, or makes its edits.
 use Rattle.argon2_store.proofs.Imports.{arith, zero, suc, ◌≡◌, ◌⊎◌, ◌<◌, ◌∷◌, [], inl, inr, ℕ, List, Option, Some, None, Result, Ok, Err, Bool, true, false, refl, sym, subst, ◌∙◌, ap, IsTrue, get, Any}
-use Rattle.argon2_store.proofs.Imports.{is_some, option_map, string_bytes, ◌↔◌, IfErr, IsSomeAnd, OnOk, length, length-map, get_or-map, iff_false, true_from_ne_false}
+use Rattle.argon2_store.proofs.Imports.{is_some, option_map, string_bytes, ◌↔◌, IfErr, IsErrAnd, IsSomeAnd, OnOk, length, length-map, get_or-map, iff_false, true_from_ne_false}
 use Rattle.argon2_store.proofs.Imports.{StoreError, Ghosts, Texts, IfOk, IfSome, Answers, error_of, HasFailed, IsClosed, IsErrorAt, Makes, Serves, AddsAll, IsFirstTaken}
 use Rattle.argon2_store.proofs.Imports.{Stays, database_of, read_of, call_error, Changes, IsHonest, IsLong, IsOpen, CrashLeaves, StaysQuiet, changed}
 use Rattle.argon2_store.proofs.Imports.{AccountFile, FileError, Closed, NameTaken, OutOfMemory, String, IsSome, Edit, adding, replacing, Bor, option_copied, behind_lock, is_locked, with_lock, without_lock, bytes_eq, not, Locked, Changed, IsTooLong, additions, gives, is_refusal, names_after, name_of, refusal}
@@ -9,14 +9,13 @@ use Rattle.argon2_store.specs.Errors.{lines_by, read_by}
 use Rattle.argon2_rows.specs.Rows.{AreWritten}
 use Rattle.argon2_rows.specs.declared.view.View.{View as Lines}
 use Rattle.argon2_rows.specs.declared.view.Written.{Written}
-use Rattle.argon2_rows.specs.declared.view.Written.TheVariants.{All, Breaks, Failed}
 use Rattle.argon2_rows.specs.Table.{IsDue, IsTold}
 use Rattle.sqlite_trees.specs.View.{HasCause as Cause, Tells, View}
 use Rattle.sqlite_trees.specs.declared.error.StoreError.TheVariants as store
 use Rattle.std.proofs.lemmas.Bool.{both_ways}
 use Rattle.sqlite_disk.specs.Disk.{MoreFaults}
 use Rattle.argon2_rows.proofs.RowLemmas.{changed_back}
-use Rattle.argon2_rows.proofs.TableLemmas.{Keeps, Settled, leaves_kept, leaves_quiet, on_all, quiet_itself}
+use Rattle.argon2_rows.proofs.TableLemmas.{Keeps, Settled, err_is, leaves_kept, leaves_quiet, on_all, quiet_itself}
 
 module _ {S : Type 0} {g : Ghosts S} where
   -- the disk has given no wrong answer that was taken as true
@@ -62,8 +61,7 @@ module _ {S : Type 0} {g : Ghosts S} (old new : AccountFile S g) (v : View) (clo
 pub due_both : {S : Type 0} (g : Ghosts S) (old new : S) (long : Type 0) {X : Type 0} (r : Result X StoreError)
     → IfErr r (Cause (g.view old) (MoreFaults (g.faults old) (g.faults new)) long) → IfErr r (Tells (g.blamed new))
     → IfErr r (IsDue g old new long)
-due_both g old new long (Ok x) cause told = tt
-due_both g old new long (Err e) cause told = (cause, told)
+due_both g old new long r cause told = grind arith
 
 -- an error of writing comes with the number of entries
 pub writes_at : (before : Texts) (es : List (List ℕ × List ℕ)) (k : ℕ) → k ≡ length es → (done : Result (Unit {0}) StoreError)
@@ -73,10 +71,7 @@ writes_at before es k is done error same = grind arith
 -- ---- lines
 
 read_by-lines : (r : Result Written FileError) → error_of (read_by (lines_by r)) ≡ error_of r
-read_by-lines (Ok All) = refl
-read_by-lines (Ok Breaks) = refl
-read_by-lines (Ok (Failed e)) = refl
-read_by-lines (Err e) = refl
+read_by-lines r = grind arith
 
 pub lines_stay : {S : Type 0} {g : Ghosts S} {names : Texts} {old new : AccountFile S g} (r : Result Written FileError)
     → Stays (error_of r) names old new → Stays (error_of (read_by (lines_by r))) names old new
@@ -85,10 +80,7 @@ lines_stay {names = names} {old} {new} r = subst (λ e. Stays e names old new) (
 pub lines_written : (view : Lines) (names : Texts) (old new : Option (List ℕ)) {H : Type 0} (done : Result Written StoreError)
     → IfOk done (λ how. H → AreWritten view names old new how) → H
     → WritesLines view names old new (lines_by (read_of done))
-lines_written view names old new (Ok All) is clean = is clean
-lines_written view names old new (Ok Breaks) is clean = is clean
-lines_written view names old new (Ok (Failed e)) is clean = tt
-lines_written view names old new (Err e) is clean = tt
+lines_written view names old new done is clean = grind arith
 
 -- ---- edits
 
@@ -291,10 +283,10 @@ module _ {S : Type 0} {g : Ghosts S} (edit : Edit) {old mid : AccountFile S g} (
       )
 
   -- one that there is no memory for
-  pub fails_after : (r : Result (Unit {0}) FileError) → r ≡ Err OutOfMemory → Serves (edit ∷ []) r old mid
-  fails_after r failed before has =
+  pub fails_after : {r : Result (Unit {0}) FileError} → IsErrAnd r (λ e. e ≡ OutOfMemory) → Serves (edit ∷ []) r old mid
+  fails_after failed before has =
       let read = reads before has in
-      rw failed (
+      rw (err_is _ _ failed) (
         before,
         ends_with (Err OutOfMemory) read.has read.quiet read.left (λ clean. ((λ is. absurd cc), refl)) tt
             (search (arith, live read)) (λ clean. tt),
@@ -347,8 +339,8 @@ fails {e = e} reads =
     (λ clean is. let shut = reads.closed clean is in (cc, shut.1)) (λ clean. let why = reads.cause clean in grind arith)
 
 pub cannot_serve : {S : Type 0} {g : Ghosts S} {edits : List Edit} {old mid : AccountFile S g} {e : FileError}
-    (r : Result (Unit {0}) FileError) → NamesStay (Some e) old mid → r ≡ Err e → Serves edits r old mid
-cannot_serve r reads is before has = rw is (before, fails (reads before has))
+    {r : Result (Unit {0}) FileError} → NamesStay (Some e) old mid → IsErrAnd r (λ f. f ≡ e) → Serves edits r old mid
+cannot_serve reads is before has = rw (err_is _ _ is) (before, fails (reads before has))
 
 -- what an answer says
 -- a name that has a text is taken

@@ -1,7 +1,7 @@
 -- The words that the proofs of this crate use.
-pub use Rattle.std.proofs.Common.{Bool, Err, IsPermutation, IsTrue, IsUtf8, List, None, Ok, Option, Result, Some, [], ap}
+pub use Rattle.std.proofs.Common.{Bool, Err, IsPermutation, IsTrue, List, None, Ok, Option, Result, Some, [], ap}
 pub use Rattle.std.proofs.Common.{append_assoc, ap₂, arith, cond, false, inl, inr, length, map, refl, rules, slice_index, string_bytes, subst}
-pub use Rattle.std.proofs.Common.{not, suc, zero, subst₂, sym, true, unwrap_or, ℕ, ◌++◌, ◌<◌, ◌↔◌, ◌∙◌, ◌∷◌, ◌≡◌, ◌≢◌, ◌≤◌, ◌⊎◌}
+pub use Rattle.std.proofs.Common.{not, suc, zero, subst₂, sym, true, unwrap_or, ℕ, ◌++◌, ◌<◌, ◌↔◌, ◌∙◌, ◌∷◌, ◌≡◌, ◌≤◌, ◌⊎◌}
 pub use Rattle.std.proofs.Math.Logic.{∥∥₁_elim, ∥∥₁_map}
 pub use Rattle.std.proofs.lemmas.Bool.{cases_Bool, cases_eq, iff_false, true_from_ne_false}
 pub use Rattle.std.proofs.lemmas.List.{get_or-map, length-map, nil_from_length}
@@ -11,10 +11,10 @@ pub use Rattle.std.specs.Str.{bytes_eq}
 pub use Rattle.std.proofs.option.Match.{None-if_not_some}
 pub use Rattle.std.specs.Borrow.{Bor}
 pub use Rattle.std.specs.Coded.{coded_list}
-pub use Rattle.std.specs.FinMap.{empty, get, insert}
+pub use Rattle.std.specs.FinMap.{empty, get}
 pub use Rattle.std.specs.List.{flat_map, range_with_len}
 pub use Rattle.std.specs.Option.{is_some, option_copied, option_map}
-pub use Rattle.std.specs.Prelude.{Any, IfErr, IfOk, IfSome, IsSome, IsSomeAnd, MatchResult, OnOk, String, slice_index_or, take}
+pub use Rattle.std.specs.Prelude.{Any, IfErr, IfOk, IfSome, IsSome, IsErrAnd, IsSomeAnd, OnOk, String}
 pub use Rattle.sqlite_pages.specs.PageMap.{PageMap}
 pub use Rattle.sqlite_pool.proofs.StateLemmas.{clean_if_left, clean_is, size_is_allowed}
 pub use Rattle.sqlite_pool.specs.File.{IsSoundFile, in_use}
@@ -53,7 +53,7 @@ pub use Rattle.argon2_rows.specs.Locks.{behind_lock, is_locked, without_lock}
 pub use Rattle.argon2_rows.specs.Names.{AddsAll, IsFirstTaken, Texts, changed, entry_of}
 pub use Rattle.argon2_rows.specs.Table.{WritesAll}
 pub use Rattle.argon2_store.specs.AccountFile.{Answers, IsClosed, IsErrorAt, IsFileFrom, Makes, Serves, Stays, error_of, database_of}
-pub use Rattle.argon2_store.specs.Edits.{Edit, IsTooLong, adding, additions, edited, gives, left_by, locking, name_of, names_after, refusal, removing, replacing, setting, text_of, unlocking, with_lock}
+pub use Rattle.argon2_store.specs.Edits.{Edit, IsTooLong, adding, additions, gives, left_by, locking, name_of, names_after, refusal, removing, replacing, setting, text_of, unlocking, with_lock}
 pub use Rattle.argon2_store.specs.Errors.{call_error, is_refusal, read_of}
 pub use Rattle.argon2_store.specs.Runs.{AreEventsOf, AreMade, Did, Does, EndsRun, FileCall, FileEvent, FileRun, IsFoundAfter, IsLate, IsLateOf, IsShutOut, events_of, makes, over_file, reads, text_by}
 pub use Rattle.argon2_store.specs.declared.error.FileError.TheVariants.{Changed, Closed, Locked, NameTaken, NameUnknown, OutOfMemory}

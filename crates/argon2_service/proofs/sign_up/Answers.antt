@@ -1,5 +1,5 @@
 use Rattle.std.proofs.Common.{arith}
-use Rattle.argon2_accounts.proofs.AccountLemmas.{err_is}
+use Rattle.argon2_rows.proofs.TableLemmas.{err_is}
 use Rattle.argon2_service.proofs.sign_up.Goals as goal
 
 pub returns-in_err-register : goal.returns-in_err-register

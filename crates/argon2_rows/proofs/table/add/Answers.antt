@@ -22,9 +22,7 @@ sought g c before sees last = elim c.if-is_last.branch [
 ]
 
 is_found : (o : Option Bool) → true ≡ option_eq beq o (Some true) → o ≡ Some true
-is_found None is = cc
-is_found (Some true) is = refl
-is_found (Some false) is = cc
+is_found o is = grind arith
 
 not_found : (before : Texts) (name : List ℕ) (o : Option Bool) (row : Row) (b : Bool) → false ≡ option_eq beq o (Some true)
     → is_some o ≡ not b → IsFoundAs before name o row → (get before name ≡ None) × (IsTrue b → HasNoneAfter before name)

@@ -1,11 +1,13 @@
 use Rattle.std.proofs.Common.{◌≡◌, inl, inr, refl, rules, Ok, Err}
-use Rattle.argon2_base.specs.PhcFields.{phc_of}
+use Rattle.rand_core.specs.Stream.{fill_bytes}
 use Rattle.argon2_policy.specs.Policy.{policy_value}
 use Rattle.argon2_store.specs.Edits.{replacing, text_of}
-use Rattle.argon2_accounts.specs.Accounts.{ChangesName}
+use Rattle.argon2_accounts.specs.Accounts.{ChangesName, Replaces}
 use Rattle.argon2_accounts.specs.Errors.{of_file, of_policy}
-use Rattle.argon2_accounts.proofs.AccountLemmas.{err_is, fails_to_edit, edit_after_read, gives_password, has_password, keeps, reads_leave}
+use Rattle.argon2_rows.proofs.TableLemmas.{err_is}
+use Rattle.argon2_accounts.proofs.AccountLemmas.{fails_to_edit, edit_after_read, gives_password, has_password, keeps, reads_leave}
 use Rattle.argon2_accounts.proofs.accounts.Accounts.change_password.Goals as goal
+use Rattle.argon2_accounts.proofs.accounts.Accounts.change_password.Goals.{After-replace}
 
 pub returns-in_err-text-clause-call : goal.returns-in_err-text-clause-call
 returns-in_err-text-clause-call g c =
@@ -36,19 +38,18 @@ returns-in_err-fresh-clause-names g c =
           c.args.new.now why c.in_err-fresh.ensures.made is,
     )))
 
-pub returns-in_err-replace-clause-call : goal.returns-in_err-replace-clause-call
-returns-in_err-replace-clause-call g c = (
+-- the file is to write the fresh text
+called : (g : _) (c : After-replace g) → Replaces (policy_value c.args.self.now.policy).target c.args.name.now
+    c.args.new.now (fill_bytes 16 (g.R.Rng.stream c.args.rng.now)).0 c.args.self.now.file c.replace.new.self
+called g c = (
   c.in_ok-text.ensures.reads.0,
   c.stored.new.file,
   c.in_ok-text.ensures.reads.1,
-  inr (
-    c.as_str.result.now,
-    c.in_ok-fresh.fresh,
-    Err c.in_err-replace.field-0.0,
-    c.in_ok-fresh.ensures.made.1,
-    c.in_err-replace.ensures,
-  ),
+  inr (c.as_str.result.now, c.in_ok-fresh.fresh, c.replace.result, c.in_ok-fresh.ensures.made.1, c.replace.ensures),
 )
+
+pub returns-in_err-replace-clause-call : goal.returns-in_err-replace-clause-call
+returns-in_err-replace-clause-call g c = called g (goal.at.returns-in_err-replace-clause-call g c).After-replace
 
 pub returns-in_err-replace-clause-names : goal.returns-in_err-replace-clause-names
 returns-in_err-replace-clause-names g c =
@@ -66,12 +67,7 @@ returns-in_err-replace-clause-names g c =
     )))
 
 pub returns-clause-call : goal.returns-clause-call
-returns-clause-call g c = (
-  c.in_ok-text.ensures.reads.0,
-  c.stored.new.file,
-  c.in_ok-text.ensures.reads.1,
-  inr (c.as_str.result.now, c.in_ok-fresh.fresh, Ok tt, c.in_ok-fresh.ensures.made.1, c.in_ok-replace.ensures),
-)
+returns-clause-call g c = called g (goal.at.returns-clause-call g c).After-replace
 
 pub returns-clause-names : goal.returns-clause-names
 returns-clause-names g c =

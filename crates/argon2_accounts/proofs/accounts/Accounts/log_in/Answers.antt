@@ -1,13 +1,17 @@
-use Rattle.std.proofs.Common.{◌≡◌, inl, inr, refl, rules, sym, Some, Ok, Err}
+use Rattle.std.proofs.Common.{◌≡◌, inl, inr, refl, rules, Ok, Err}
 use Rattle.rand_core.specs.Stream.{fill_bytes}
+use Rattle.argon2_base.specs.PhcFields.{phc_of}
+use Rattle.argon2.specs.TextHashing.{IsFresh}
 use Rattle.argon2.specs.declared.login.answers.Accepted.{Accepted}
 use Rattle.argon2.specs.declared.login.answers.Accepted.TheVariants.{Kept}
 use Rattle.argon2_policy.specs.Policy.{policy_value}
 use Rattle.argon2_store.specs.Edits.{replacing, text_of}
-use Rattle.argon2_accounts.specs.Accounts.{LogsNameIn}
+use Rattle.argon2_accounts.specs.Accounts.{LogsNameIn, RelatesNames, Replaces}
 use Rattle.argon2_accounts.specs.Errors.{of_file, of_policy}
-use Rattle.argon2_accounts.proofs.AccountLemmas.{denies, edit_after_read, err_is, fails_to_edit, has_password, reads_leave, renewed, renews}
+use Rattle.argon2_rows.proofs.TableLemmas.{err_is}
+use Rattle.argon2_accounts.proofs.AccountLemmas.{denies, edit_after_read, fails_to_edit, has_password, reads_leave, renewed, renews}
 use Rattle.argon2_accounts.proofs.accounts.Accounts.log_in.Goals as goal
+use Rattle.argon2_accounts.proofs.accounts.Accounts.log_in.Goals.{After-replace}
 
 pub returns-in_err-text-clause-call : goal.returns-in_err-text-clause-call
 returns-in_err-text-clause-call g c =
@@ -55,89 +59,52 @@ returns-in_default-clause-names g c =
     let it = has_password policy c.args.name.now c.args.password.now names c.in_ok-text.text
     (c.in_ok-text.ensures.found names has honest) c.in_ok-accepted.ensures.accepted.0 in (it, it, inl refl))
 
-pub returns-in-Ok-clause-call : goal.returns-in-Ok-clause-call
-returns-in-Ok-clause-call g c =
-    let policy = policy_value c.args.self.now.policy in
-    let drawn = (fill_bytes 16 (g.R.Rng.stream c.args.rng.now)).0 in
-    let step = rw c.in-Some.is at c.in_ok-accepted.ensures.step in
-    let is_new = (rw c.in-Some.is at c.in_ok-accepted.ensures.fresh).0 refl in (
-      c.in_ok-text.ensures.reads.0,
-      c.stored.new.file,
-      c.in_ok-text.ensures.reads.1,
-      inr (
-        c.as_str.result.now,
-        c.in-Some.fresh,
-        c.replace.result,
-        renewed policy c.args.password.now drawn _ _ c.in_ok-accepted.field-0.accepted step is_new,
-        c.replace.ensures,
-      ),
-    )
+-- the fresh text of a login
+is_fresh : (g : _) (c : After-replace g) → IsFresh (policy_value c.args.self.now.policy).target c.args.password.now
+    (fill_bytes 16 (g.R.Rng.stream c.args.rng.now)).0 (phc_of c.in-Some.fresh)
+is_fresh g c =
+    renewed (policy_value c.args.self.now.policy) c.args.password.now _ _ _ c.in_ok-accepted.field-0.accepted
+    (rw c.in-Some.is at c.in_ok-accepted.ensures.step) ((rw c.in-Some.is at c.in_ok-accepted.ensures.fresh).0 refl)
 
-pub returns-in-Err-clause-call : goal.returns-in-Err-clause-call
-returns-in-Err-clause-call g c =
-    let policy = policy_value c.args.self.now.policy in
-    let drawn = (fill_bytes 16 (g.R.Rng.stream c.args.rng.now)).0 in
-    let step = rw c.in-Some.is at c.in_ok-accepted.ensures.step in
-    let is_new = (rw c.in-Some.is at c.in_ok-accepted.ensures.fresh).0 refl in (
-      c.in_ok-text.ensures.reads.0,
-      c.stored.new.file,
-      c.in_ok-text.ensures.reads.1,
-      inr (
-        c.as_str.result.now,
-        c.in-Some.fresh,
-        c.replace.result,
-        renewed policy c.args.password.now drawn _ _ c.in_ok-accepted.field-0.accepted step is_new,
-        c.replace.ensures,
-      ),
-    )
+-- the file is to write it
+called : (g : _) (c : After-replace g) → Replaces (policy_value c.args.self.now.policy).target c.args.name.now
+    c.args.password.now (fill_bytes 16 (g.R.Rng.stream c.args.rng.now)).0 c.args.self.now.file c.replace.new.self
+called g c = (
+  c.in_ok-text.ensures.reads.0,
+  c.stored.new.file,
+  c.in_ok-text.ensures.reads.1,
+  inr (c.as_str.result.now, c.in-Some.fresh, c.replace.result, is_fresh g c, c.replace.ensures),
+)
 
-pub returns-in-Err-2-clause-call : goal.returns-in-Err-2-clause-call
-returns-in-Err-2-clause-call g c =
+-- the password is accepted, whether the text is written or not
+logged_in : (g : _) (c : After-replace g) → RelatesNames (LogsNameIn (policy_value c.args.self.now.policy)
+    c.args.name.now c.args.password.now (fill_bytes 16 (g.R.Rng.stream c.args.rng.now)).0 (Ok Kept))
+    c.args.self.now.file c.replace.new.self
+logged_in g c =
     let policy = policy_value c.args.self.now.policy in
     let drawn = (fill_bytes 16 (g.R.Rng.stream c.args.rng.now)).0 in
-    let step = rw c.in-Some.is at c.in_ok-accepted.ensures.step in
-    let is_new = (rw c.in-Some.is at c.in_ok-accepted.ensures.fresh).0 refl in (
-      c.in_ok-text.ensures.reads.0,
-      c.stored.new.file,
-      c.in_ok-text.ensures.reads.1,
-      inr (
-        c.as_str.result.now,
-        c.in-Some.fresh,
-        c.replace.result,
-        renewed policy c.args.password.now drawn _ _ c.in_ok-accepted.field-0.accepted step is_new,
-        c.replace.ensures,
-      ),
-    )
-
-pub returns-in-Ok-clause-names : goal.returns-in-Ok-clause-names
-returns-in-Ok-clause-names g c =
-    let policy = policy_value c.args.self.now.policy in
-    let drawn = (fill_bytes 16 (g.R.Rng.stream c.args.rng.now)).0 in
-    let step = rw c.in-Some.is at c.in_ok-accepted.ensures.step in
-    let is_new = (rw c.in-Some.is at c.in_ok-accepted.ensures.fresh).0 refl in
     let admits = rw c.in-Some.is at c.in_ok-accepted.ensures.accepted in
-    let edit = replacing c.args.name.now c.as_str.result.now (text_of c.in-Some.fresh) in
-    edit_after_read (LogsNameIn {X = Accepted} policy c.args.name.now c.args.password.now drawn (Ok c.in_ok-accepted.field-0.accepted)) edit c.replace.result
-    c.args.self.now.file c.stored.new.file c.replace.new.self c.in_ok-text.ensures.reads.0 c.in_ok-text.ensures.reads.1
-    c.replace.ensures
-    (λ before after has honest answers. renews policy c.args.name.now c.args.password.now drawn c.as_str.result.now
-    c.in_ok-text.text c.in-Some.fresh c.in_ok-accepted.field-0.accepted before after c.replace.result (c.in_ok-text.ensures.found before has honest)
-    admits.0 admits.1 (renewed policy c.args.password.now drawn _ _ c.in_ok-accepted.field-0.accepted step is_new) answers)
-
-pub returns-in-Err-clause-names : goal.returns-in-Err-clause-names
-returns-in-Err-clause-names g c =
-    let policy = policy_value c.args.self.now.policy in
-    let drawn = (fill_bytes 16 (g.R.Rng.stream c.args.rng.now)).0 in
-    let step = rw c.in-Some.is at c.in_ok-accepted.ensures.step in
-    let is_new = (rw c.in-Some.is at c.in_ok-accepted.ensures.fresh).0 refl in
-    let admits = rw c.in-Some.is at c.in_ok-accepted.ensures.accepted in
-    let edit = replacing c.args.name.now c.as_str.result.now (text_of c.in-Some.fresh) in
-    edit_after_read (LogsNameIn {X = Accepted} policy c.args.name.now c.args.password.now drawn (Ok Kept)) edit c.replace.result
-    c.args.self.now.file c.stored.new.file c.replace.new.self c.in_ok-text.ensures.reads.0 c.in_ok-text.ensures.reads.1
-    c.replace.ensures
+    edit_after_read (LogsNameIn policy c.args.name.now c.args.password.now drawn (Ok Kept))
+    (replacing c.args.name.now c.as_str.result.now (text_of c.in-Some.fresh)) c.replace.result c.args.self.now.file
+    c.stored.new.file c.replace.new.self c.in_ok-text.ensures.reads.0 c.in_ok-text.ensures.reads.1 c.replace.ensures
     (λ before after has honest answers. renews policy c.args.name.now c.args.password.now drawn c.as_str.result.now
     c.in_ok-text.text c.in-Some.fresh Kept before after c.replace.result (c.in_ok-text.ensures.found before has honest)
-    admits.0 admits.1 (renewed policy c.args.password.now drawn _ _ c.in_ok-accepted.field-0.accepted step is_new) answers)
+    admits.0 admits.1 (is_fresh g c) answers)
+
+pub returns-in-Ok-clause-call : goal.returns-in-Ok-clause-call
+returns-in-Ok-clause-call g c = called g (goal.at.returns-in-Ok-clause-call g c).After-replace
+
+pub returns-in-Err-clause-call : goal.returns-in-Err-clause-call
+returns-in-Err-clause-call g c = called g (goal.at.returns-in-Err-clause-call g c).After-replace
+
+pub returns-in-Err-2-clause-call : goal.returns-in-Err-2-clause-call
+returns-in-Err-2-clause-call g c = called g (goal.at.returns-in-Err-2-clause-call g c).After-replace
+
+pub returns-in-Ok-clause-names : goal.returns-in-Ok-clause-names
+returns-in-Ok-clause-names g c = logged_in g (goal.at.returns-in-Ok-clause-names g c).After-replace
+
+pub returns-in-Err-clause-names : goal.returns-in-Err-clause-names
+returns-in-Err-clause-names g c = logged_in g (goal.at.returns-in-Err-clause-names g c).After-replace
 
 pub returns-in-Err-2-clause-names : goal.returns-in-Err-2-clause-names
 returns-in-Err-2-clause-names g c =

@@ -1,7 +1,8 @@
 use Rattle.std.proofs.Common.{inr, refl, Ok, Err}
 use Rattle.argon2_policy.specs.Policy.{policy_value}
 use Rattle.argon2_store.specs.Edits.{adding, text_of}
-use Rattle.argon2_accounts.proofs.AccountLemmas.{err_is, stored}
+use Rattle.argon2_rows.proofs.TableLemmas.{err_is}
+use Rattle.argon2_accounts.proofs.AccountLemmas.{stored}
 use Rattle.argon2_accounts.proofs.accounts.Accounts.register.Goals as goal
 
 pub returns-in_err-text-clause-names : goal.returns-in_err-text-clause-names

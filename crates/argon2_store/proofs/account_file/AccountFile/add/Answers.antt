@@ -1,10 +1,9 @@
-use Rattle.argon2_store.proofs.Imports.{arith, ◌≡◌, ◌∙◌, Some, refl, sym, string_bytes, text_of, adding, NameTaken, None-if_not_some}
-use Rattle.argon2_rows.proofs.TableLemmas.{err_is}
+use Rattle.argon2_store.proofs.Imports.{◌≡◌, ◌∙◌, Some, refl, sym, string_bytes, text_of, adding, NameTaken, None-if_not_some}
 use Rattle.argon2_store.proofs.FileLemmas.{cannot_serve, is_some-map, refuses, taken, writes}
 use Rattle.argon2_store.proofs.account_file.AccountFile.add.Goals as goal
 
 pub returns-in_err-text_of : goal.returns-in_err-text_of
-returns-in_err-text_of g c = search (arith, cannot_serve, err_is _ _ c.from_residual.ensures.1, c.in_err-text_of.ensures.reads)
+returns-in_err-text_of g c = cannot_serve c.in_err-text_of.ensures.reads c.from_residual.ensures.1
 
 pub returns-then-is_some : goal.returns-then-is_some
 returns-then-is_some g c =

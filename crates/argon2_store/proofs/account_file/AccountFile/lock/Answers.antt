@@ -1,10 +1,9 @@
-use Rattle.argon2_store.proofs.Imports.{arith, ◌≡◌, ◌∙◌, Some, OutOfMemory, refl, sym, string_bytes, locking, NameUnknown, is_locked, false, ◌∷◌, ap}
-use Rattle.argon2_rows.proofs.TableLemmas.{err_is}
+use Rattle.argon2_store.proofs.Imports.{◌≡◌, ◌∙◌, Some, refl, sym, string_bytes, locking, NameUnknown, is_locked, false, ◌∷◌, ap}
 use Rattle.argon2_store.proofs.FileLemmas.{cannot_serve, fails_after, locked_if, refuses, accepts, with_lock-bare, with_lock-locked, writes}
 use Rattle.argon2_store.proofs.account_file.AccountFile.lock.Goals as goal
 
 pub returns-in_err-text : goal.returns-in_err-text
-returns-in_err-text g c = search (arith, cannot_serve, err_is _ _ c.from_residual.ensures.1, c.in_err-text.ensures.reads)
+returns-in_err-text g c = cannot_serve c.in_err-text.ensures.reads c.from_residual.ensures.1
 
 pub returns-in_default : goal.returns-in_default
 returns-in_default g c =
@@ -18,8 +17,8 @@ returns-then-is_some g c =
 
 pub returns-in_err-locked : goal.returns-in_err-locked
 returns-in_err-locked g c =
-    fails_after (locking c.args.name.now) c.in_ok-text.ensures.reads c.in-Some.is c.in_ok-text.ensures.shows _
-    (err_is _ OutOfMemory c.from_residual-in_err-locked.ensures.1)
+    fails_after (locking c.args.name.now) c.in_ok-text.ensures.reads c.in-Some.is c.in_ok-text.ensures.shows
+    c.from_residual-in_err-locked.ensures.1
 
 pub returns : goal.returns
 returns g c =

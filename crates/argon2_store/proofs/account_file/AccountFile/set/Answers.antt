@@ -1,10 +1,9 @@
-use Rattle.argon2_store.proofs.Imports.{arith, ◌≡◌, ◌∙◌, Some, refl, text_of, setting, NameUnknown}
-use Rattle.argon2_rows.proofs.TableLemmas.{err_is}
+use Rattle.argon2_store.proofs.Imports.{◌≡◌, ◌∙◌, Some, refl, text_of, setting, NameUnknown}
 use Rattle.argon2_store.proofs.FileLemmas.{cannot_serve, refuses, writes}
 use Rattle.argon2_store.proofs.account_file.AccountFile.set.Goals as goal
 
 pub returns-in_err-old : goal.returns-in_err-old
-returns-in_err-old g c = search (arith, cannot_serve, err_is _ _ c.from_residual.ensures.1, c.in_err-old.ensures.reads)
+returns-in_err-old g c = cannot_serve c.in_err-old.ensures.reads c.from_residual.ensures.1
 
 pub returns-in_default : goal.returns-in_default
 returns-in_default g c =

@@ -1,10 +1,9 @@
-use Rattle.argon2_store.proofs.Imports.{arith, ◌≡◌, Some, None, refl, sym, string_bytes, unlocking, NameUnknown, behind_lock, ap}
-use Rattle.argon2_rows.proofs.TableLemmas.{err_is}
+use Rattle.argon2_store.proofs.Imports.{◌≡◌, Some, None, refl, sym, string_bytes, unlocking, NameUnknown, behind_lock, ap}
 use Rattle.argon2_store.proofs.FileLemmas.{cannot_serve, accepts, refuses, without_lock-bare, without_lock-locked, writes}
 use Rattle.argon2_store.proofs.account_file.AccountFile.unlock.Goals as goal
 
 pub returns-in_err-text : goal.returns-in_err-text
-returns-in_err-text g c = search (arith, cannot_serve, err_is _ _ c.from_residual.ensures.1, c.in_err-text.ensures.reads)
+returns-in_err-text g c = cannot_serve c.in_err-text.ensures.reads c.from_residual.ensures.1
 
 pub returns-in_default : goal.returns-in_default
 returns-in_default g c =
