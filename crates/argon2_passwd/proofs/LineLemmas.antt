@@ -1,11 +1,11 @@
--- The first line of a text.
-use Rattle.std.proofs.Common.{arith, ◌≡◌, ◌∙◌, ◌+◌, ◌<◌, ◌==◌, min, ℕ, length, List, [], ◌∷◌, ◌++◌, ap, sym, refl, ⊎_elim, false, take}
+-- The first line of a text, and what its lines come to one by one.
+use Rattle.std.proofs.Common.{arith, ◌≡◌, ◌∙◌, ◌+◌, ◌<◌, ◌==◌, min, ℕ, length, List, [], ◌∷◌, ◌++◌, map, ap, sym, refl, ⊎_elim, false, take}
 use Rattle.std.specs.Prelude.{All}
 use Rattle.std.proofs.lemmas.Bool.{cases_lt}
 use Rattle.std.proofs.lemmas.Grind.{common_steps}
 use Rattle.std.proofs.lemmas.List.Splits.{length-slice_split, slice_split_at, slice_split_none}
 use Rattle.std.specs.Io.BufRead.{strip_last}
-use Rattle.std.specs.List.{IsFirstMatchOrLen, slice_split}
+use Rattle.std.specs.List.{AllZip, IsFirstMatchOrLen, slice_split}
 use Rattle.std.specs.Str.Lines.{lines, lines_of_parts, strip_carriage_return}
 use Rattle.argon2_passwd.specs.Passwords.{line_of}
 
@@ -46,3 +46,13 @@ lines_first rest line after i some whole long first = ⊎_elim
     let all : rest ≡ line = grind (arith, common_steps) in
     rw (all, end) (lines-last line (grind (arith, common_steps)) (λ k d below. grind (arith, common_steps, first.0 k d))))
     (cases_lt i (length rest))
+
+-- a line more, and none
+pub map-push : {A B : Type 0} (f : A → B) (found : List A) (x : A) (rest : List B)
+    → map f found ++ f x ∷ rest ≡ map f (found ++ x ∷ []) ++ rest
+map-push f [] x rest = refl
+map-push f (y ∷ found) x rest = ap (λ l. f y ∷ l) (map-push f found x rest)
+
+pub none_left : {X : Type 0} (P : List ℕ → X → Type 0) (bytes : List ℕ) → length bytes ≡ 0 → AllZip P (lines bytes) []
+none_left P [] none = tt
+none_left P (b ∷ bytes) none = absurd (omega arith)

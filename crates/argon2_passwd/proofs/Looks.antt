@@ -2,7 +2,6 @@
 use Rattle.std.proofs.Common.{arith, ◌≡◌, ℕ, List, Option, None, Result, inl, inr, map, refl, subst, sym}
 use Rattle.std.proofs.lemmas.Option.{IfSome_then}
 use Rattle.sqlite_trees.specs.declared.error.StoreError.{StoreError}
-use Rattle.sqlite_trees.specs.declared.error.StoreError.TheVariants as below
 use Rattle.sqlite_trees.specs.declared.store.Store.{Ghosts}
 use Rattle.argon2_rows.proofs.TableLemmas.{quiet_then}
 use Rattle.argon2_rows.specs.Names.{Texts}
@@ -11,23 +10,13 @@ use Rattle.argon2_store.specs.AccountFile.{HasCause, HasFailedBy, HasNames, IsCl
 use Rattle.argon2_store.specs.Edits.{additions}
 use Rattle.argon2_store.specs.declared.account_file.AccountFile.{AccountFile}
 use Rattle.argon2_store.specs.declared.error.FileError.{FileError}
-use Rattle.argon2_store.specs.declared.error.FileError.TheVariants as file
 use Rattle.argon2_passwd.specs.Answers.{AddsEntries, Line, Looks, entries_in, flaws_from, unless_known}
 use Rattle.argon2_passwd.specs.declared.failure.Flaw.{Flaw}
 
 -- the same cause, of other facts
 caused : {closed shut : Type 0} {fault failed : StoreError → Type 0} (e : FileError) → (closed → shut)
     → ((f : StoreError) → fault f → failed f) → HasCause closed fault ⊥ e → HasCause shut failed ⊥ e
-caused file.Io closes fails why = fails below.Io why
-caused file.Damaged closes fails why = fails below.Corrupt why
-caused file.Full closes fails why = fails below.Full why
-caused file.TooLong closes fails why = why
-caused file.Closed closes fails why = closes why
-caused file.NameTaken closes fails why = tt
-caused file.NameUnknown closes fails why = tt
-caused file.Changed closes fails why = tt
-caused file.Locked closes fails why = tt
-caused file.OutOfMemory closes fails why = tt
+caused e closes fails why = grind arith
 
 module _ {S : Type 0} {g : Ghosts S} where
   stays_then : {error : Option FileError} {names : Texts} {a b c : AccountFile S g} → Stays None names a b → Stays error names b c

@@ -1,5 +1,5 @@
 -- How what is asked for ended, by how a call for it ended.
-use Rattle.std.proofs.Common.{arith, ◌≡◌, ◌⊎◌, ℕ, false, Bool, List, [], Option, None, Some, Result, Ok, Err, inl, inr, refl, ap, subst, sym, ◌∙◌}
+use Rattle.std.proofs.Common.{arith, ◌≡◌, ◌⊎◌, ℕ, false, Bool, List, [], Option, Result, Ok, Err, inl, inr, refl, subst, sym, ◌∙◌}
 use Rattle.std.specs.Io.KnownBytes.{Keeps}
 use Rattle.std.specs.Prelude.{◌≢◌, IfErr, IfSome, IsErrAnd, OnOk}
 use Rattle.sqlite_trees.specs.declared.store.Store.{Ghosts}
@@ -7,12 +7,12 @@ use Rattle.argon2_base.specs.PhcText.{Phc}
 use Rattle.argon2.specs.declared.bound.BoundError.{BoundError}
 use Rattle.argon2_policy.specs.Policy.{IsPolicy, Policy}
 use Rattle.argon2_rows.specs.Names.{Texts}
+pub use Rattle.argon2_rows.proofs.TableLemmas.{err_is}
 use Rattle.argon2_store.specs.AccountFile.{database_of, error_of}
 use Rattle.argon2_store.specs.Errors.{is_refusal, read_by}
 use Rattle.argon2_store.specs.declared.account_file.AccountFile.{AccountFile}
 use Rattle.argon2_store.specs.declared.error.FileError.{FileError}
 use Rattle.argon2_store.specs.declared.error.LineError.{LineError}
-use Rattle.argon2_store.specs.declared.error.LineError.TheVariants as lines
 use Rattle.argon2_passwd.specs.Answers.{AddsLines, AddsOthers, AreRead, IsAct, IsAnswered, IsDenied, IsEnded, IsImported, IsOnce, IsOpenFor, IsOpened, IsRefused, IsServed, IsSifted, IsUnfit, Under, breaks_lines}
 use Rattle.argon2_passwd.specs.Jobs.{Choices, Job, edit, import, import_others}
 use Rattle.argon2_passwd.specs.Failures.{IsMemory, IsOfFile, IsOfLines, status_of}
@@ -34,19 +34,9 @@ pub some_error : {X : Type 0} (Q : Failure → Type 0) (r : Result X Failure) �
 some_error Q (Ok x) is = absurd is
 some_error Q (Err f) is = (f, refl, is)
 
-pub err_is : {X : Type 0} (r : Result X Failure) (f : Failure) → IsErrAnd r (λ e. e ≡ f) → r ≡ Err f
-err_is (Ok x) f is = absurd is
-err_is (Err e) f is = ap Err is
-
-pub error_is : {X : Type 0} (r : Result X Failure) (f : Failure) → r ≡ Err f → IsErrAnd r (λ e. e ≡ f)
-error_is (Ok x) f is = absurd cc
-error_is (Err e) f is = let same : e ≡ f = cc in same
-
 -- what has no value refuses a call for whatever reason one that has may be refused
 pub denied_then : (Why : Phc → BoundError → Type 0) (o : Option (List ℕ)) (f : Failure) → IsDenied (λ v e. ⊥) o f → IsDenied Why o f
-denied_then Why None f is = is
-denied_then Why (Some text) f (inl shut) = inl shut
-denied_then Why (Some text) f (inr (v, e, says, never, of)) = absurd never
+denied_then Why o f is = grind arith
 
 -- what is asked for was done at most once if no file was opened
 unopened : {S : Type 0} (g : Ghosts S) (Has : List ℕ → Texts → Type 0) (Gives : List ℕ → Type 0) (Closed : List S → Type 0) (policy : Policy) (what : Job)
@@ -64,9 +54,7 @@ no_refusal e f is file = grind arith
 -- nor is one of lines
 no_line : (e : LineError) (f : Failure) → IsOfLines e f → IfSome (error_of (read_by (Err e))) (λ error. is_refusal error ≡ false)
     → status_of f ≡ 3
-no_line (lines.File e) f is file = no_refusal e f is file
-no_line lines.Breaks f is file = ap status_of is
-no_line (lines.Write e) f is file = grind arith
+no_line e f is file = grind (arith, no_refusal)
 
 module _ {S : Type 0} {g : Ghosts S} {Has : List ℕ → Texts → Type 0} {Gives : List ℕ → Type 0} {Closed : List S → Type 0} {policy : Policy} {what : Job}
     {input old new : Option (List ℕ)} where
@@ -92,12 +80,6 @@ module _ {S : Type 0} {g : Ghosts S} {Has : List ℕ → Texts → Type 0} {Give
   pub not_begun : (f : Failure) (r : Result (Unit {0}) Failure) → IsErrAnd r (λ e. e ≡ f)
       → status_of f ≡ 3 → Closed [] → IsServed g Has Gives policy what r input old new Closed
   not_begun f r is three shut = not_opened f r is (λ isnt. absurd (isnt three)) shut
-
-  -- it ended with an error of a call on the file that is no refusal
-  pub failed_by : (e : FileError) (r : Result (Unit {0}) Failure) → IsErrAnd r (IsOfFile e) → is_refusal e ≡ false
-      → IsOnce g Has Gives policy what input Closed → IsServed g Has Gives policy what r input old new Closed
-  failed_by e (Ok x) is file once = absurd is
-  failed_by e (Err f) is file once = record { ok = tt; err = λ isnt. absurd (isnt (no_refusal e f is file)); once = once }
 
   -- it ended with an error of lines that were to be written
   pub failed_lines : (e : LineError) (r : Result (Unit {0}) Failure) → IsErrAnd r (IsOfLines e)

@@ -1,4 +1,4 @@
-use Rattle.std.proofs.Common.{rules, arith, ◌≡◌, ◌∙◌, ◌+◌, ◌==◌, ℕ, length, length-append, Bool, Bor, suc, List, [], ◌∷◌, ◌++◌, map, ap, append-nil, subst, sym, refl, inl, inr, true, false}
+use Rattle.std.proofs.Common.{rules, arith, ◌≡◌, ◌∙◌, ◌+◌, ◌==◌, ℕ, length, length-append, Bor, suc, List, [], ◌∷◌, ◌++◌, ap, append-nil, subst, sym, inl, inr, true, false}
 use Rattle.std.proofs.lemmas.List.Sorted.{answers_always}
 use Rattle.std.specs.List.{AllZip}
 use Rattle.std.specs.Str.Lines.{lines}
@@ -7,21 +7,11 @@ use Rattle.argon2_rows.specs.declared.text.StoredText.{StoredText}
 use Rattle.argon2_passwd.specs.Answers.{AreEntries, HasNoText, IsEntry, IsFirstWithout, IsPair}
 use Rattle.argon2_passwd.specs.declared.failure.Failure.TheVariants.{Line}
 use Rattle.argon2_passwd.specs.declared.failure.Flaw.TheVariants.{Control, NoText}
-use Rattle.argon2_passwd.proofs.LineLemmas.{lines_first}
+use Rattle.argon2_passwd.proofs.LineLemmas.{lines_first, map-push, none_left}
 use Rattle.argon2_passwd.proofs.entries.entries.Goals as goal
-
--- an entry more, and none
-pushed : (found : List (Bor (List ℕ) × StoredText)) (x : Bor (List ℕ) × StoredText) (rest : List (List ℕ × List ℕ))
-    → map entry_of found ++ entry_of x ∷ rest ≡ map entry_of (found ++ x ∷ []) ++ rest
-pushed [] x rest = refl
-pushed (y ∷ found) x rest = ap (λ es. entry_of y ∷ es) (pushed found x rest)
 
 more_found : {A : Type 0} (found : List A) (x : A) (k : ℕ) → length found + suc k ≡ length (found ++ x ∷ []) + k
 more_found found x k = omega (arith, length-append found (x ∷ []))
-
-none_left : (any_text : Bool) (bytes : List ℕ) → length bytes ≡ 0 → AreEntries any_text bytes []
-none_left any_text [] none = tt
-none_left any_text (b ∷ bytes) none = absurd (omega arith)
 
 pub loop-line-preserved : goal.loop-line-preserved
 loop-line-preserved c =
@@ -36,7 +26,7 @@ loop-line-preserved c =
           let all = c.loop-line.invariant.0 (e ∷ rest)
           (subst (λ ls. AllZip (IsEntry c.args.any_text) ls (e ∷ rest)) (sym line) ((read, plain), are)) in
           rw c.in_ok-push.ensures.items
-          (subst (AreEntries c.args.any_text c.args.input.now) (pushed c.loop-line.found.items found rest) all)),
+          (subst (AreEntries c.args.any_text c.args.input.now) (map-push entry_of c.loop-line.found.items found rest) all)),
       (λ of_name k without.
           let all = c.loop-line.invariant.1 of_name (suc k)
           (subst (λ ls. IsFirstWithout c.args.any_text of_name ls (suc k)) (sym line)

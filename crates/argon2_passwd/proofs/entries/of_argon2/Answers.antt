@@ -1,14 +1,11 @@
-use Rattle.std.proofs.Common.{arith, ◌≡◌, ◌∙◌, ℕ, true, false, List, Result, ap, inr, subst, sym}
+use Rattle.std.proofs.Common.{arith, ◌≡◌, ◌∙◌, true, false, Result, inr, sym}
 use Rattle.std.specs.Prelude.{IsOk, is_ok}
 use Rattle.argon2_base.specs.Error.{Fault, outcome_of}
 use Rattle.argon2_base.specs.PhcFields.{phc_of}
-use Rattle.argon2_base.specs.PhcText.{PhcText}
 use Rattle.argon2_base.specs.declared.error.password_hash.Error.{Error}
 use Rattle.argon2.specs.Settings.{Settings}
 use Rattle.argon2.specs.StoredTexts.{settings_value}
 use Rattle.argon2.specs.declared.password_hash.stored.Settings.{Settings as OwnSettings}
-use Rattle.argon2_programs.specs.Prefixes.{bare}
-use Rattle.argon2_rows.specs.Locks.{without_lock}
 use Rattle.argon2_passwd.proofs.entries.of_argon2.Goals as goal
 
 -- what is not read shows nothing

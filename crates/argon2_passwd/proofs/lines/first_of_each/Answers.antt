@@ -4,14 +4,11 @@ use Rattle.std.specs.Str.{bytes_eq}
 use Rattle.argon2_rows.specs.declared.text.StoredText.{StoredText}
 use Rattle.argon2_passwd.specs.Answers.{Line, entry_or_flaw, first_of_each, line_has_name, new_line, with_name}
 use Rattle.argon2_passwd.specs.declared.failure.Flaw.{Flaw}
+use Rattle.argon2_passwd.proofs.LineLemmas.{map-push}
 use Rattle.argon2_passwd.proofs.lines.first_of_each.Goals as goal
 
 abbrev Own : Type 0
 Own = Result (Bor (List ℕ) × StoredText) Flaw
-
-pushed : (found : List Own) (x : Own) (rest : List Line) → map entry_or_flaw found ++ entry_or_flaw x ∷ rest ≡ map entry_or_flaw (found ++ x ∷ []) ++ rest
-pushed [] x rest = refl
-pushed (y ∷ found) x rest = ap (λ ls. entry_or_flaw y ∷ ls) (pushed found x rest)
 
 same_line : (line : Line) (p q : List ℕ → Bool) → ((name : List ℕ) → p name ≡ q name) → new_line p line ≡ new_line q line
 same_line (Ok e) p q same = rw (same e.0) refl
@@ -35,7 +32,7 @@ step : (names : List (List ℕ)) (ls found : List Own) (k : ℕ) (x y : Own) (ol
     → map entry_or_flaw (found ++ y ∷ []) ++ first_of_each (with_name (entry_or_flaw x) names) (map entry_or_flaw (drop (suc k) ls)) ≡ all
 step names ls found k x y old all within is has said sofar =
     let rest = first_of_each (with_name (entry_or_flaw x) names) (map entry_or_flaw (drop (suc k) ls)) in
-    sym (pushed found y rest) ∙ ap (λ l. map entry_or_flaw found ++ l ∷ rest) (said ∙ same_line (entry_or_flaw x) old (has_any names) has)
+    sym (map-push entry_or_flaw found y rest) ∙ ap (λ l. map entry_or_flaw found ++ l ∷ rest) (said ∙ same_line (entry_or_flaw x) old (has_any names) has)
     ∙ ap (λ (own : List Own). map entry_or_flaw found ++ first_of_each names (map entry_or_flaw own)) (sym (next ls k x within is)) ∙ sofar
 
 pub loop-line-preserved : goal.loop-line-preserved

@@ -1,22 +1,10 @@
-use Rattle.std.proofs.Common.{rules, arith, ◌≡◌, ◌==◌, ℕ, length, List, [], ◌∷◌, ◌++◌, map, ap, append-nil, subst, sym, refl, Bool, Result, Bor}
+use Rattle.std.proofs.Common.{rules, ◌==◌, [], ◌∷◌, append-nil, subst, sym}
 use Rattle.std.proofs.lemmas.List.Sorted.{answers_always}
 use Rattle.std.specs.List.{AllZip}
 use Rattle.std.specs.Str.Lines.{lines}
-use Rattle.argon2_rows.specs.declared.text.StoredText.{StoredText}
-use Rattle.argon2_passwd.specs.Answers.{IsEntryOrFlaw, Line, entry_or_flaw}
-use Rattle.argon2_passwd.specs.declared.failure.Flaw.{Flaw}
-use Rattle.argon2_passwd.proofs.LineLemmas.{lines_first}
+use Rattle.argon2_passwd.specs.Answers.{IsEntryOrFlaw, entry_or_flaw}
+use Rattle.argon2_passwd.proofs.LineLemmas.{lines_first, map-push, none_left}
 use Rattle.argon2_passwd.proofs.lines.read_lines.Goals as goal
-
--- a line more, and none
-pushed : (found : List (Result (Bor (List ℕ) × StoredText) Flaw)) (x : Result (Bor (List ℕ) × StoredText) Flaw) (rest : List Line)
-    → map entry_or_flaw found ++ entry_or_flaw x ∷ rest ≡ map entry_or_flaw (found ++ x ∷ []) ++ rest
-pushed [] x rest = refl
-pushed (y ∷ found) x rest = ap (λ ls. entry_or_flaw y ∷ ls) (pushed found x rest)
-
-none_left : (any_text : Bool) (bytes : List ℕ) → length bytes ≡ 0 → AllZip (IsEntryOrFlaw any_text) (lines bytes) []
-none_left any_text [] none = tt
-none_left any_text (b ∷ bytes) none = absurd (omega arith)
 
 pub loop-line-preserved : goal.loop-line-preserved
 loop-line-preserved c =
@@ -29,7 +17,7 @@ loop-line-preserved c =
     let all = c.loop-line.invariant (entry_or_flaw x ∷ rest)
     (subst (λ ls. AllZip (IsEntryOrFlaw c.args.any_text) ls (entry_or_flaw x ∷ rest)) (sym line) (said, are)) in
     rw c.in_ok-push.ensures.items
-    (subst (AllZip (IsEntryOrFlaw c.args.any_text) (lines c.args.input.now)) (pushed c.loop-line.found.items x rest) all)
+    (subst (AllZip (IsEntryOrFlaw c.args.any_text) (lines c.args.input.now)) (map-push entry_or_flaw c.loop-line.found.items x rest) all)
 
 pub returns : goal.returns
 returns c =

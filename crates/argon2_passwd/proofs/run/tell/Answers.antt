@@ -1,12 +1,10 @@
-use Rattle.std.proofs.Common.{arith, ◌≡◌, ◌∙◌, ℕ, List, Option, None, Some, Result, Ok, Err, subst, take}
+use Rattle.std.proofs.Common.{arith, ◌≡◌, ◌∙◌, ℕ, List, Option, Result, Ok, Err, subst, take}
 use Rattle.std.proofs.lemmas.Grind.{common_steps}
 use Rattle.std.specs.Io.KnownBytes.{Appends, Keeps, WriteAppends}
 use Rattle.argon2_passwd.proofs.run.tell.Goals as goal
 
 nothing_more : (old new : Option (List ℕ)) (text : List ℕ) → Keeps old new → Appends old new (take 0 text)
-nothing_more None new text is = tt
-nothing_more (Some xs) None text is = absurd is
-nothing_more (Some xs) (Some ys) text is = grind (arith, common_steps)
+nothing_more old new text is = grind (arith, common_steps)
 
 -- what was written begins the text
 written : {E : Type 0} (old new : Option (List ℕ)) (r : Result ℕ E) (bytes text : List ℕ) → WriteAppends old new r bytes → bytes ≡ text

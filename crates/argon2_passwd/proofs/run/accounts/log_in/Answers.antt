@@ -1,19 +1,18 @@
-use Rattle.std.proofs.Common.{arith, ◌≡◌, ℕ, List, Option, Some, None, Result, Ok, Err, inl, inr, refl}
+use Rattle.std.proofs.Common.{arith, ◌≡◌, Option, Some, None, Result, Ok, Err, inl, inr, refl}
 use Rattle.std.specs.Prelude.{◌↔◌, IsSome, string_bytes}
 use Rattle.argon2_base.specs.PhcFields.{phc_of}
-use Rattle.argon2_base.specs.PhcText.{Phc, phc_text}
+use Rattle.argon2_base.specs.PhcText.{phc_text}
 use Rattle.argon2_base.specs.declared.phc.hash.PasswordHash.{PasswordHash}
-use Rattle.argon2.specs.NamedTexts.{value_after}
 use Rattle.argon2.specs.declared.login.answers.Accepted.{Accepted}
 use Rattle.argon2.specs.declared.login.answers.Accepted.TheVariants.{Kept, Rehashed}
-use Rattle.argon2_policy.specs.Policy.{LogsIn, Policy, policy_value}
+use Rattle.argon2_policy.specs.Policy.{policy_value}
 use Rattle.argon2_store.specs.declared.error.FileError.{FileError}
-use Rattle.argon2_passwd.specs.Answers.{AcceptsLogin, SaysHash, TellsOf, TellsOfLogin, accepted, answer_without_text, denied, replaced, unread}
+use Rattle.argon2_passwd.specs.Answers.{AcceptsLogin, TellsOf, TellsOfLogin, accepted, answer_without_text, denied, replaced, unread}
 use Rattle.argon2_passwd.specs.declared.failure.Failure.{Failure}
 use Rattle.argon2_passwd.specs.Failures.{IsOfBound}
-use Rattle.argon2_passwd.specs.Salts.{IsSalt}
 use Rattle.argon2_passwd.proofs.Served.{denied_then, err_is, opened_for, some_error}
 use Rattle.argon2_passwd.proofs.run.accounts.log_in.Goals as goal
+use Rattle.argon2_passwd.proofs.run.accounts.log_in.Goals.{After-replace}
 
 -- a login without a fresh text has nothing to write
 not_renewed : (did : Accepted) (fresh : Option PasswordHash) → fresh ≡ None
@@ -33,13 +32,12 @@ not_written : (did : Accepted) (done : Result (Unit {0}) FileError) (f : Failure
     → TellsOfLogin (replaced did done) (Ok Kept)
 not_written did done f tells kept = grind arith
 
--- a login by what a text says, with the fresh text that was found
-logged_in : (Gives : List ℕ → Type 0) (policy : Policy) (password drawn was : List ℕ) (v : Phc) (did : Accepted)
-    (fresh found : Option PasswordHash) → fresh ≡ found → IsSalt Gives drawn → SaysHash was v
-    → LogsIn policy password drawn v (Ok did) (value_after v fresh)
-    → AcceptsLogin Gives policy password was did (phc_text (value_after v found))
-logged_in Gives policy password drawn was v did fresh found here salt says is =
-    (drawn, v, value_after v found, salt, says, (rw here at is), refl)
+-- the login by what the text says, with the fresh text
+login : (g : _) (c : After-replace g) → AcceptsLogin g.P.Outside.gives (policy_value c.args.access.now.policy.now)
+    c.args.password.now (string_bytes c.in_ok-text.text) c.in_ok-accepted.field-0.accepted (phc_text (phc_of c.in-Some.fresh))
+login g c =
+    let says = c.in_ok-text.ensures.0 in
+    (_, phc_of c.in_ok-text.hash, phc_of c.in-Some.fresh, c.requires.salt, says, (rw c.in-Some.is at c.in_ok-accepted.ensures.step), refl)
 
 pub returns-in_err-text : goal.returns-in_err-text
 returns-in_err-text g c =
@@ -66,16 +64,17 @@ pub returns-in_default : goal.returns-in_default
 returns-in_default g c =
     let (says, looked) = c.in_ok-text.ensures in
     let did = c.in_ok-accepted.field-0.accepted in
-    let login = logged_in g.P.Outside.gives (policy_value c.args.access.now.policy.now) c.args.password.now _ (string_bytes c.in_ok-text.text)
-    (phc_of c.in_ok-text.hash) did c.in_ok-accepted.field-0.fresh None c.in_default.is c.requires.salt says c.in_ok-accepted.ensures.step in
+    let v = phc_of c.in_ok-text.hash in
+    let login : AcceptsLogin g.P.Outside.gives (policy_value c.args.access.now.policy.now) c.args.password.now
+    (string_bytes c.in_ok-text.text) did (phc_text v) =
+    (_, v, v, c.requires.salt, says, (rw c.in_default.is at c.in_ok-accepted.ensures.step), refl) in
     inl (accepted did, not_renewed did _ c.in_default.is c.in_ok-accepted.ensures.fresh, (_, _, login, looked))
 
 pub returns-in-Ok : goal.returns-in-Ok
 returns-in-Ok g c =
-    let (says, looked) = c.in_ok-text.ensures in
+    let looked = c.in_ok-text.ensures.1 in
     let did = c.in_ok-accepted.field-0.accepted in
-    let login = logged_in g.P.Outside.gives (policy_value c.args.access.now.policy.now) c.args.password.now _ (string_bytes c.in_ok-text.text)
-    (phc_of c.in_ok-text.hash) did c.in_ok-accepted.field-0.fresh (Some c.in-Some.fresh) c.in-Some.is c.requires.salt says c.in_ok-accepted.ensures.step in
+    let login = login g (goal.at.returns-in-Ok g c).After-replace in
     elim (rw (c.in-Ok.is, c.as_str.ensures.value) at c.replace.ensures _ looked.next) [
       | inl (done, tells, last) ↦ inl (
         replaced did done,
@@ -87,10 +86,9 @@ returns-in-Ok g c =
 
 pub returns : goal.returns
 returns g c =
-    let (says, looked) = c.in_ok-text.ensures in
+    let looked = c.in_ok-text.ensures.1 in
     let did = c.in_ok-accepted.field-0.accepted in
-    let login = logged_in g.P.Outside.gives (policy_value c.args.access.now.policy.now) c.args.password.now _ (string_bytes c.in_ok-text.text)
-    (phc_of c.in_ok-text.hash) did c.in_ok-accepted.field-0.fresh (Some c.in-Some.fresh) c.in-Some.is c.requires.salt says c.in_ok-accepted.ensures.step in
+    let login = login g (goal.at.returns g c).After-replace in
     let kept = renewed did _ _ c.in-Some.is c.in_ok-accepted.ensures.fresh in
     elim (rw (c.in-Err.is, c.as_str.ensures.value) at c.replace.ensures _ looked.next) [
       | inl (done, tells, last) ↦ inl (

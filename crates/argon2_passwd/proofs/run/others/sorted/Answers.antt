@@ -1,4 +1,4 @@
-use Rattle.std.proofs.Common.{add-one, ◌≡◌, ◌∙◌, ◌<◌, suc, ℕ, Bor, List, [], ◌∷◌, ◌++◌, Result, Ok, Err, ap, append_assoc, drop, drop-cons, get_or, length, map, refl, sym}
+use Rattle.std.proofs.Common.{add-one, arith, ◌≡◌, ◌∙◌, ◌<◌, suc, ℕ, Bor, List, [], ◌∷◌, ◌++◌, Result, ap, append_assoc, drop, drop-cons, get_or, length, map, sym}
 use Rattle.std.specs.Prelude.{None, Some}
 use Rattle.argon2_rows.specs.declared.text.StoredText.{StoredText}
 use Rattle.argon2_passwd.specs.Answers.{Line, entries_in, entry_or_flaw, flaws_from, unless_known}
@@ -9,12 +9,10 @@ use Rattle.argon2_passwd.proofs.Served.{memory_is, no_refusal, some_error}
 use Rattle.argon2_passwd.proofs.run.others.sorted.Goals as goal
 
 entries-cons : (line : Line) (ls : List Line) → entries_in (line ∷ ls) ≡ entries_in (line ∷ []) ++ entries_in ls
-entries-cons (Ok e) ls = refl
-entries-cons (Err why) ls = refl
+entries-cons line ls = grind arith
 
 flaws-cons : (k : ℕ) (line : Line) (ls : List Line) → flaws_from k (line ∷ ls) ≡ flaws_from k (line ∷ []) ++ flaws_from (suc k) ls
-flaws-cons k (Ok e) ls = refl
-flaws-cons k (Err why) ls = refl
+flaws-cons k line ls = grind arith
 
 -- the next of the lines
 step : (f : Line → Line) (ls : List (Result (Bor (List ℕ) × StoredText) Flaw)) (k : ℕ) (x y : Result (Bor (List ℕ) × StoredText) Flaw)
