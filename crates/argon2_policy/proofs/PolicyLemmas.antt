@@ -97,10 +97,6 @@ under_any secret other password v e differs (inl is) =
     inl (same_fault (is_tag secret password) (is_tag other password) (stored_of v) e differs is)
 under_any secret other password v e differs (inr memory) = inr memory
 
-not_by : (secret password : List ℕ) (v : Phc) (e : Error) → IsVerifyAnswer secret password v (Err e)
-    → (e ≡ OutOfMemory) ⊎ ¬ (AcceptsBy secret password v)
-not_by secret password v e answer = exact secret password v (Err e) answer
-
 neither : {M A B C : Type 0} → M ⊎ ¬ A → M ⊎ ¬ C → M ⊎ ¬ (A ⊎ (B × C))
 neither a c = grind arith
 
@@ -108,20 +104,19 @@ module _ (policy : Policy) (password : List ℕ) (v : Phc) where
   any_old : (o : Option (List ℕ)) (e : Error) → ((secret : List ℕ) → IsVerifyAnswer secret password v (Err e))
       → (e ≡ OutOfMemory) ⊎ ¬ (IsSomeAnd o (λ secret. AcceptsBy secret password v))
   any_old None e answer = inr (λ absent. absent)
-  any_old (Some secret) e answer = not_by secret password v e (answer secret)
+  any_old (Some secret) e answer = exact secret password v (Err e) (answer secret)
 
   this_old : (o : Option (List ℕ)) (e : Error) → IsSomeAnd o (λ secret. IsVerifyAnswer secret password v (Err e))
       → (e ≡ OutOfMemory) ⊎ ¬ (IsSomeAnd o (λ secret. AcceptsBy secret password v))
   this_old None e answer = absurd answer
-  this_old (Some secret) e answer = not_by secret password v e answer
+  this_old (Some secret) e answer = exact secret password v (Err e) answer
 
   no_old : (o : Option (List ℕ)) → o ≡ None → ¬ (IsSomeAnd o (λ secret. AcceptsBy secret password v))
-  no_old None none absent = absent
-  no_old (Some secret) none accepts = absurd cc
+  no_old o none = grind arith
 
   not_by_target : (e : Error) → SecretsRefusal policy password v e
       → (e ≡ OutOfMemory) ⊎ ¬ (AcceptsBy policy.target.secret password v)
-  not_by_target e (inl why) = not_by policy.target.secret password v e why.0
+  not_by_target e (inl why) = exact policy.target.secret password v (Err e) why.0
   not_by_target e (inr why) = inr (wrong policy.target.secret password v why.0)
 
   not_by_either : (e : Error) → SecretsRefusal policy password v e
