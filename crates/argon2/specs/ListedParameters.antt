@@ -8,7 +8,7 @@ pub use Rattle.argon2_base.specs.Texts.{short_bytes}
 use Rattle.argon2_base.specs.PhcText.{Pair, ParamsText, Phc, value_of}
 use Rattle.argon2_base.specs.declared.error.password_hash.Error.{Error as HashError}
 use Rattle.argon2_base.specs.Error.{Fault, as_fault, bad_param, bad_params, outcome_of}
-use Rattle.argon2.specs.Settings.{Parameters, first_fault, plain}
+use Rattle.argon2.specs.Settings.{Parameters, first_fault, cost_parameters}
 use Rattle.argon2.specs.Argon2.{data_bytes, keyid_bytes, parameters_of}
 use Rattle.argon2.specs.declared.params.text.Found.{Found}
 use Rattle.argon2.specs.declared.params.Params.{Params}
@@ -21,14 +21,14 @@ bytes_item name [] = []
 bytes_item name (x ∷ b) = (name, strict_base64 (x ∷ b)) ∷ []
 
 -- the list of costs, a key identifier and associated data
-abbrev pub listed : ℕ → ℕ → ℕ → List ℕ → List ℕ → List Pair
-listed m t p keyid associated =
+abbrev pub parameter_items : ℕ → ℕ → ℕ → List ℕ → List ℕ → List Pair
+parameter_items m t p keyid associated =
     ((codes "m", decimal m) ∷ (codes "t", decimal t) ∷ (codes "p", decimal p) ∷ [])
     ++ bytes_item (codes "keyid") keyid ++ bytes_item (codes "data") associated
 
 -- the list of parameters; it has no output length
 abbrev pub list_of : Parameters → List Pair
-list_of v = listed v.m_cost v.t_cost v.p_cost v.keyid v.associated
+list_of v = parameter_items v.m_cost v.t_cost v.p_cost v.keyid v.associated
 
 -- ---- reading
 
@@ -60,22 +60,22 @@ abbrev pub bytes_at : ℕ → List ℕ → List Pair → List ℕ
 bytes_at most name ps = unwrap_or (option_and_then (short_bytes most) (value_of name ps)) []
 
 -- refused by the fault, if there is one
-abbrev pub checked : {X : Type 0} → Option Fault → Result X Fault → Result X Fault
-checked None next = next
-checked (Some fault) next = Err fault
+abbrev pub unless_fault : {X : Type 0} → Option Fault → Result X Fault → Result X Fault
+unless_fault None next = next
+unless_fault (Some fault) next = Err fault
 
 -- something read, or else its fault
-abbrev pub read : {X Y : Type 0} → Result X Fault → (X → Result Y Fault) → Result Y Fault
-read (Ok x) next = next x
-read (Err fault) next = Err fault
+abbrev pub result_and_then : {X Y : Type 0} → Result X Fault → (X → Result Y Fault) → Result Y Fault
+result_and_then (Ok x) next = next x
+result_and_then (Err fault) next = Err fault
 
 -- the parameters of a list, with this output length, or the first fault: each of m, t and p has to be there, and
 -- together they have to be valid
 abbrev pub params_of : Option ℕ → List Pair → Result Parameters Fault
-params_of output_len ps = checked (items_fault ps) (read (ok_or (number_at (codes "m") ps) bad_params) (λ m.
-    read (ok_or (number_at (codes "t") ps) bad_params) (λ t.
-    read (ok_or (number_at (codes "p") ps) bad_params) (λ p.
-    checked (option_map as_fault (first_fault m t p output_len)) (Ok (record {
+params_of output_len ps = unless_fault (items_fault ps) (result_and_then (ok_or (number_at (codes "m") ps) bad_params) (λ m.
+    result_and_then (ok_or (number_at (codes "t") ps) bad_params) (λ t.
+    result_and_then (ok_or (number_at (codes "p") ps) bad_params) (λ p.
+    unless_fault (option_map as_fault (first_fault m t p output_len)) (Ok (record {
       m_cost = m;
       t_cost = t;
       p_cost = p;
@@ -87,8 +87,8 @@ params_of output_len ps = checked (items_fault ps) (read (ok_or (number_at (code
 -- valid costs with bytes, listed, are read as the same, with no length of output
 abbrev pub AreReadAgain : ℕ → ℕ → ℕ → List ℕ → List ℕ → Type 0
 AreReadAgain m t p keyid associated = (output_len : Option ℕ) → IsNone (first_fault m t p output_len) →
-    params_of None (listed m t p keyid associated)
-    ≡ Ok (record (plain m t p None) { keyid = keyid; associated = associated })
+    params_of None (parameter_items m t p keyid associated)
+    ≡ Ok (record (cost_parameters m t p None) { keyid = keyid; associated = associated })
 
 -- ---- what has been read of a list, item after item
 
@@ -131,11 +131,11 @@ items_over ps before = record {
 
 -- one item more, or why it is refused
 abbrev pub item_taken : Pair → Items → Result Items Fault
-item_taken item before = checked (item_fault item) (Ok (items_over (item ∷ []) before))
+item_taken item before = unless_fault (item_fault item) (Ok (items_over (item ∷ []) before))
 
 -- what a list says, or why it is refused
 abbrev pub items_read : List Pair → Result Items Fault
-items_read ps = checked (items_fault ps) (Ok (items_of ps))
+items_read ps = unless_fault (items_fault ps) (Ok (items_of ps))
 
 -- ---- what reading and listing answer
 

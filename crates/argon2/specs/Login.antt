@@ -11,7 +11,7 @@ use Rattle.argon2.specs.declared.login.answers.Accepted.TheVariants.{Current, Ke
 use Rattle.argon2.specs.declared.login.answers.LoginError.{LoginError}
 use Rattle.argon2.specs.declared.login.answers.LoginError.TheVariants.{NameTaken, NameUnknown, OutOfMemory, Refused, Text}
 use Rattle.argon2.specs.declared.login.target.Target.{Target as LoginTarget}
-use Rattle.argon2.specs.TextHashing.{Target, IsTarget, made, tag_length, target_of}
+use Rattle.argon2.specs.TextHashing.{Target, IsTarget, hash_value, tag_length, target_of}
 use Rattle.argon2.specs.NamedTexts.{IsCurrent, IsText, Store, values_of}
 use Rattle.argon2.specs.StoredTexts.{AcceptsBy, IsVerifyAnswer}
 
@@ -72,7 +72,7 @@ LoginRefusal target password _ _ = ⊥
 abbrev pub AcceptedStep : Target → Store → List ℕ → List ℕ → List ℕ → Phc → Accepted → Store → Type 0
 AcceptedStep target before name password drawn v Current after = IsCurrent target v × (after ≡ before)
 AcceptedStep target before name password drawn v Rehashed after = ¬ (IsCurrent target v)
-    × HasBytes 8 48 drawn × (after ≡ insert before name (made target password drawn))
+    × HasBytes 8 48 drawn × (after ≡ insert before name (hash_value target password drawn))
 AcceptedStep target before name password drawn v Kept after = ¬ (IsCurrent target v) × (after ≡ before)
 
 -- what a login answers if the name has this text or none, and the store after it

@@ -12,7 +12,7 @@ use Rattle.argon2_base.specs.declared.phc.hash.PasswordHash.{PasswordHash}
 use Rattle.argon2.specs.declared.login.answers.Accepted.{Accepted}
 use Rattle.argon2.specs.declared.login.answers.Accepted.TheVariants.{Current, Kept, Rehashed}
 use Rattle.argon2.specs.declared.login.answers.LoggedIn.{LoggedIn}
-use Rattle.argon2.specs.TextHashing.{IsFresh, Target, sized}
+use Rattle.argon2.specs.TextHashing.{IsFresh, Target, with_tag_length}
 use Rattle.argon2.specs.StoredTexts.{shown_settings}
 
 -- ---- names with texts
@@ -51,7 +51,7 @@ IsText text = (v : Phc) × PhcText text v
 
 -- the text shows the target's settings, with the length of the target's hashes
 abbrev pub IsCurrent : Target → Phc → Type 0
-IsCurrent target v = shown_settings v ≡ Ok (sized target.settings)
+IsCurrent target v = shown_settings v ≡ Ok (with_tag_length target.settings)
 
 -- what an accepted login makes of a value
 abbrev pub Leaves : Target → List ℕ → List ℕ → Phc → Accepted → Phc → Type 0

@@ -7,7 +7,7 @@ use Rattle.argon2_base.specs.ByteList.{IsBase64Cause}
 use Rattle.argon2_base.specs.declared.error.Error.{Error}
 use Rattle.argon2_base.specs.declared.error.Error.TheVariants.{B64Encoding}
 use Rattle.argon2.specs.declared.params.Params.{Params}
-use Rattle.argon2.specs.Settings.{AreValid, Parameters, default_parameters, first_fault, plain}
+use Rattle.argon2.specs.Settings.{AreValid, Parameters, default_parameters, first_fault, cost_parameters}
 use Rattle.argon2.specs.Argon2.{data_bytes, keyid_bytes, parameters_of}
 use Rattle.argon2.specs.declared.params.builder.ParamsBuilder.{ParamsBuilder}
 
@@ -86,5 +86,5 @@ default_settings = record {
 
 -- the parameters of settings; bytes that are not set are none
 abbrev pub built : BuilderSettings → Parameters
-built s = record (plain s.m_cost s.t_cost s.p_cost s.output_len)
+built s = record (cost_parameters s.m_cost s.t_cost s.p_cost s.output_len)
     { keyid = unwrap_or s.keyid []; associated = unwrap_or s.associated [] }

@@ -7,7 +7,7 @@ use Rattle.argon2.specs.declared.login.answers.Accepted.{Accepted}
 use Rattle.argon2.specs.declared.login.answers.Accepted.TheVariants.{Rehashed}
 use Rattle.argon2.specs.Login.{Event, adding, logging_in, LoginStep}
 use Rattle.argon2.specs.NamedTexts.{Store}
-use Rattle.argon2.specs.TextHashing.{Target, made}
+use Rattle.argon2.specs.TextHashing.{Target, hash_value}
 
 -- the store is what these calls, the newest first, made of the empty one
 abbrev pub Run : Target → List Event → Store → Type 0
@@ -32,7 +32,7 @@ source name _ = None
 abbrev pub IsFrom : Target → Option Source → Option Phc → Type 0
 IsFrom target None None = Unit {0}
 IsFrom target (Some (text added)) (Some v) = PhcText added v
-IsFrom target (Some (password given drawn)) (Some v) = v ≡ made target given drawn
+IsFrom target (Some (password given drawn)) (Some v) = v ≡ hash_value target given drawn
 IsFrom target _ _ = ⊥
 
 -- ---- the last accepted login of a name

@@ -2,7 +2,7 @@
 use Rattle.std.specs.Prelude.{◌≡◌, ◌≢◌, ◌⊎◌, ℕ, suc, ◌+◌, ◌-◌, ◌*◌, ◌/◌, ◌<◌, ◌≤◌, List, [], drop, length, slice_index_or, take}
 use Rattle.argon2.specs.Rfc9106.{Context, FirstColumns, block_of, lane_length, segment_length, xor_lanes}
 use Rattle.argon2.specs.Layout.{Memory, Sizes}
-use Rattle.argon2.specs.WatchedFilling.{HasBlocksUpTo, begun}
+use Rattle.argon2.specs.WatchedFilling.{HasBlocksUpTo, columns_before}
 
 -- the blocks of a slice
 abbrev pub slice_length : Context → ℕ
@@ -58,7 +58,7 @@ pub record FillsSegment (ctx : Context) (pass slice lane : ℕ) (before old new 
     pub size : length new ≡ length old
     pub made : (first : FirstColumns) (memory : Memory) →
         AreParts ctx slice lane memory before old after →
-        HasBlocksUpTo ctx first pass (λ _. begun ctx pass slice) memory →
+        HasBlocksUpTo ctx first pass (λ _. columns_before ctx pass slice) memory →
         (index : ℕ) → index < segment_length ctx →
         slice_index_or new index [] ≡ block_of ctx first pass lane (slice * segment_length ctx + index)
 

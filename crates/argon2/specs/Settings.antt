@@ -77,8 +77,8 @@ abbrev pub AreValid : Parameters → Type 0
 AreValid v = IsNone (first_fault v.m_cost v.t_cost v.p_cost v.output_len)
 
 -- costs and an output length, with no key identifier and no associated data
-abbrev pub plain : ℕ → ℕ → ℕ → Option ℕ → Parameters
-plain m t p output_len = record {
+abbrev pub cost_parameters : ℕ → ℕ → ℕ → Option ℕ → Parameters
+cost_parameters m t p output_len = record {
   m_cost = m;
   t_cost = t;
   p_cost = p;
@@ -89,7 +89,7 @@ plain m t p output_len = record {
 
 -- the parameters that are used if none are given
 abbrev pub default_parameters : Parameters
-default_parameters = plain 19456 2 1 None
+default_parameters = cost_parameters 19456 2 1 None
 
 -- ---- settings
 

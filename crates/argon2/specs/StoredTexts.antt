@@ -8,7 +8,7 @@ use Rattle.argon2.specs.declared.password_hash.stored.Stored.{Stored as StoredHa
 use Rattle.argon2.specs.Settings.{Settings, algorithm_named, version_numbered}
 use Rattle.argon2.specs.Argon2.{context_with, settings_with}
 use Rattle.argon2.specs.ListedParameters.{asked_of, params_of}
-pub use Rattle.argon2.specs.ListedParameters.{read}
+pub use Rattle.argon2.specs.ListedParameters.{result_and_then}
 use Rattle.argon2_base.specs.declared.error.password_hash.Error.{Error}
 use Rattle.argon2.specs.Refusals.{max_len}
 use Rattle.argon2.specs.Rfc9106.{tag_of}
@@ -32,16 +32,16 @@ stored_value own =
 -- the settings that a value shows: parameters with the hash's length, an algorithm and a version, 16 if it has
 -- none; or the fault of the first that is not there
 abbrev pub shown_settings : Phc → Result Settings Fault
-shown_settings v = read (asked_of v) (λ parameters.
-    read (ok_or (algorithm_named v.algorithm) bad_algorithm) (λ algorithm.
-    read (ok_or (version_numbered (unwrap_or v.version 16)) bad_version) (λ version.
+shown_settings v = result_and_then (asked_of v) (λ parameters.
+    result_and_then (ok_or (algorithm_named v.algorithm) bad_algorithm) (λ algorithm.
+    result_and_then (ok_or (version_numbered (unwrap_or v.version 16)) bad_version) (λ version.
     Ok (record { algorithm = algorithm; version = version; parameters = parameters }))))
 
 -- a salt, a hash and settings, or the fault of the first that is not there
 abbrev pub stored_of : Phc → Result Stored Fault
-stored_of v = read (ok_or v.salt bad_password) (λ salt.
-    read (ok_or v.hash bad_password) (λ hash.
-    read (shown_settings v) (λ settings.
+stored_of v = result_and_then (ok_or v.salt bad_password) (λ salt.
+    result_and_then (ok_or v.hash bad_password) (λ hash.
+    result_and_then (shown_settings v) (λ settings.
     Ok (record { settings = settings; salt = salt; hash = hash }))))
 
 -- ---- when a text accepts a password
@@ -71,13 +71,13 @@ is_tag secret password stored = nat_le (length password) max_len && bytes_eq sto
     (tag_of (context_with stored.settings secret) password stored.salt (length stored.hash))
 
 -- what a value comes to: the fault of the first condition that fails, or none
-abbrev pub verified : List ℕ → List ℕ → Phc → Result (Unit {0}) Fault
-verified secret password v =
-    read (stored_of v) (λ stored. if is_tag secret password stored then Ok tt else Err bad_password)
+abbrev pub verify_outcome : List ℕ → List ℕ → Phc → Result (Unit {0}) Fault
+verify_outcome secret password v =
+    result_and_then (stored_of v) (λ stored. if is_tag secret password stored then Ok tt else Err bad_password)
 
 -- what verifying a value may answer: that, or no memory if the value can be checked
 abbrev pub IsVerifyAnswer : List ℕ → List ℕ → Phc → Result (Unit {0}) Error → Type 0
-IsVerifyAnswer secret password v r = (outcome_of (λ x. x) r ≡ verified secret password v)
+IsVerifyAnswer secret password v r = (outcome_of (λ x. x) r ≡ verify_outcome secret password v)
     ⊎ ((outcome_of (λ x. x) r ≡ Err no_memory) × IsOk (stored_of v))
 
 -- what verifying a text may answer: that of its value, or `EncodingInvalid` if it is no value's

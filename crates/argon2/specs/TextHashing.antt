@@ -12,7 +12,7 @@ use Rattle.argon2.specs.declared.version.Version.{Version}
 use Rattle.argon2.specs.Settings.{AreValid, Parameters, Settings, algorithm_name, algorithm_named, version_number, version_numbered}
 use Rattle.argon2.specs.Argon2.{context_of, context_with, secret_of, settings_of}
 use Rattle.argon2.specs.Rfc9106.{tag_of}
-use Rattle.argon2.specs.ListedParameters.{checked, list_of, read}
+use Rattle.argon2.specs.ListedParameters.{unless_fault, list_of, result_and_then}
 use Rattle.argon2.specs.Refusals.{first_of, max_len}
 
 -- what hashes are made under
@@ -29,8 +29,8 @@ abbrev pub tag_length : Settings → ℕ
 tag_length settings = unwrap_or settings.parameters.output_len 32
 
 -- the settings with that length set
-abbrev pub sized : Settings → Settings
-sized settings = record settings {
+abbrev pub with_tag_length : Settings → Settings
+with_tag_length settings = record settings {
   parameters = record settings.parameters { output_len = Some (tag_length settings) };
 }
 
@@ -47,8 +47,8 @@ IsTagAnswer argon2 password salt (Ok hash) = (length password ≤ max_len)
 IsTagAnswer argon2 password salt (Err e) = HashingRefusal password e
 
 -- the value that a password and a salt make
-abbrev pub made : Target → List ℕ → List ℕ → Phc
-made target password salt = record {
+abbrev pub hash_value : Target → List ℕ → List ℕ → Phc
+hash_value target password salt = record {
   algorithm = algorithm_name target.settings.algorithm;
   version = Some (version_number target.settings.version);
   params = list_of target.settings.parameters;
@@ -59,7 +59,7 @@ made target password salt = record {
 -- the value is a fresh one: it is made of the password and these drawn bytes
 abbrev pub IsFresh : Target → List ℕ → List ℕ → Phc → Type 0
 IsFresh target password drawn v =
-    HasBytes 8 48 drawn × (length password ≤ max_len) × (v ≡ made target password drawn)
+    HasBytes 8 48 drawn × (length password ≤ max_len) × (v ≡ hash_value target password drawn)
 
 -- settings whose hashes fit into texts
 pub record IsTarget (target : Target) : Type 0 where
@@ -82,31 +82,31 @@ abbrev pub password_faults : ℕ → List (Bool × Fault)
 password_faults password = (nat_lt max_len password, bad_password) ∷ []
 
 -- the value that is made, or the fault of the first length that is refused
-abbrev pub hashed : Target → List ℕ → List ℕ → Result Phc Fault
-hashed target password salt =
-    checked (first_of (text_faults (length salt) (tag_length target.settings)
-    ++ password_faults (length password))) (Ok (made target password salt))
+abbrev pub hash_outcome : Target → List ℕ → List ℕ → Result Phc Fault
+hash_outcome target password salt =
+    unless_fault (first_of (text_faults (length salt) (tag_length target.settings)
+    ++ password_faults (length password))) (Ok (hash_value target password salt))
 
 -- what hashing to a text may answer: that, or no memory if salt and hash fit into a text
 abbrev pub IsHashAnswer : Target → List ℕ → List ℕ → Result PasswordHash Error → Type 0
-IsHashAnswer target password salt r = (outcome_of phc_of r ≡ hashed target password salt)
+IsHashAnswer target password salt r = (outcome_of phc_of r ≡ hash_outcome target password salt)
     ⊎ ((outcome_of phc_of r ≡ Err no_memory)
     × IsNone (first_of (text_faults (length salt) (tag_length target.settings))))
 
 -- ---- settings that the caller gives
 
 -- the algorithm of this name, Argon2id if none is given, or the fault
-abbrev pub algorithm_asked : Option (List ℕ) → Result Algorithm Fault
-algorithm_asked name = ok_or (algorithm_named (unwrap_or name (codes "argon2id"))) bad_algorithm
+abbrev pub algorithm_or_default : Option (List ℕ) → Result Algorithm Fault
+algorithm_or_default name = ok_or (algorithm_named (unwrap_or name (codes "argon2id"))) bad_algorithm
 
 -- the version of this number, 0x13 if none is given, or the fault
-abbrev pub version_asked : Option ℕ → Result Version Fault
-version_asked number = ok_or (version_numbered (unwrap_or number 19)) bad_version
+abbrev pub version_or_default : Option ℕ → Result Version Fault
+version_or_default number = ok_or (version_numbered (unwrap_or number 19)) bad_version
 
 -- the settings of a name, a number and parameters, or the fault of the first that does not exist
-abbrev pub settings_asked : Option (List ℕ) → Option ℕ → Parameters → Result Settings Fault
-settings_asked name number parameters = read (algorithm_asked name) (λ algorithm.
-    read (version_asked number) (λ version.
+abbrev pub settings_or_default : Option (List ℕ) → Option ℕ → Parameters → Result Settings Fault
+settings_or_default name number parameters = result_and_then (algorithm_or_default name) (λ algorithm.
+    result_and_then (version_or_default number) (λ version.
     Ok (record { algorithm = algorithm; version = version; parameters = parameters })))
 
 -- what hashing under such settings may answer

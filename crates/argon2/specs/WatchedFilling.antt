@@ -67,14 +67,14 @@ Fills ctx pass done done' memory memory' places places' = (first : FirstColumns)
     IsFilledUpTo ctx first pass done memory old places → IsFilledUpTo ctx first pass done' memory' old places'
 
 -- how many columns of each lane are made when a slice begins
-abbrev pub begun : Context → ℕ → ℕ → ℕ
-begun ctx pass slice = (slice + 1) * segment_length ctx - turn_count ctx pass slice
+abbrev pub columns_before : Context → ℕ → ℕ → ℕ
+columns_before ctx pass slice = (slice + 1) * segment_length ctx - turn_count ctx pass slice
 
 -- how many of each are made when the lanes before one have finished the slice and that one has so many
 abbrev pub in_order : Context → ℕ → ℕ → ℕ → ℕ → ℕ → ℕ
 in_order ctx pass slice lane column other =
     if nat_lt other lane then (slice + 1) * segment_length ctx
-    else if other == lane then column else begun ctx pass slice
+    else if other == lane then column else columns_before ctx pass slice
 
 -- ---- the mixings
 

@@ -32,7 +32,7 @@ pub struct Params {
 impl Params {
     ghost use Rattle.std.specs.Prelude.{◌≤◌, ◌*◌};
     ghost use Rattle.argon2.specs.Params.{AreBytes, IsParamsOf, IsSetting};
-    ghost use Rattle.argon2.specs.Settings.{plain};
+    ghost use Rattle.argon2.specs.Settings.{cost_parameters};
     ghost use Rattle.argon2.specs.Argon2.{parameters_of};
     ghost use Rattle.argon2.specs.Rfc9106.{block_count_for, lane_length_for, segment_length_for};
 
@@ -103,7 +103,7 @@ impl Params {
     /// - [`Error::OutputTooShort`]: the output length is below 4.
     /// - [`Error::OutputTooLong`]: the output length is above 4294967295.
     pub fn new(m_cost: u32, t_cost: u32, p_cost: u32, output_len: Option<usize>) -> Result<Params>
-        ensures { IsParamsOf (plain m_cost t_cost p_cost output_len) result }
+        ensures { IsParamsOf (cost_parameters m_cost t_cost p_cost output_len) result }
     {
         if let Some(fault) = fault(m_cost, t_cost, p_cost, output_len) {
             return Err(fault);

@@ -11,7 +11,7 @@ use Rattle.argon2_base.specs.PhcText.{Phc, PhcText}
 use Rattle.argon2_base.specs.declared.error.password_hash.Error.{Error}
 use Rattle.argon2.specs.Argon2.{keyid_bytes}
 use Rattle.argon2.specs.Settings.{Settings, algorithm_number, version_number}
-use Rattle.argon2.specs.StoredTexts.{read, settings_value, shown_settings}
+use Rattle.argon2.specs.StoredTexts.{result_and_then, settings_value, shown_settings}
 use Rattle.argon2_audit.specs.declared.claim.Claim.{Claim}
 use Rattle.argon2_audit.specs.declared.claim.Claim.TheVariants.{Argon2, Other, Locked, Empty, Blank, Comment, NoField, Unknown}
 use Rattle.argon2_audit.specs.declared.field.Field.{Field}
@@ -111,7 +111,7 @@ entry_value entry = (settings_value entry.settings, entry.salt, entry.hash_len)
 
 -- what a value shows of these, or the fault of its settings
 abbrev pub shown_entry : Phc → Result (Settings × Option (List ℕ) × Option ℕ) Fault
-shown_entry v = read (shown_settings v) (λ settings. Ok (settings, v.salt, option_map length v.hash))
+shown_entry v = result_and_then (shown_settings v) (λ settings. Ok (settings, v.salt, option_map length v.hash))
 
 -- what a text shows by its value, or `EncodingInvalid` if it is no value's
 abbrev pub IsEntryAnswer : List ℕ → Result Entry Error → Type 0

@@ -12,7 +12,7 @@ use Rattle.argon2.specs.Refusals.{first_of, max_len}
 use Rattle.argon2.specs.Argon2.{context_with}
 use Rattle.argon2.specs.Rfc9106.{block_count_for, segment_length_for, tag_of}
 use Rattle.argon2.specs.Settings.{Parameters}
-use Rattle.argon2.specs.StoredTexts.{AcceptsBy, Stored, is_tag, stored_of, verified}
+use Rattle.argon2.specs.StoredTexts.{AcceptsBy, Stored, is_tag, stored_of, verify_outcome}
 use Rattle.argon2.proofs.password_hash_lemmas.Verified.{exact}
 use Rattle.argon2_c.specs.declared.code.TheConstants.{OK, PWD_TOO_LONG, SECRET_TOO_LONG, INCORRECT_PARAMETER, VERIFY_MISMATCH, ABOVE_BOUND, OUTPUT_OUT_OF_BOUND, TEXT_MEMORY, TEXT_PASSES, TEXT_LANES, TEXT_KEYID, TEXT_DATA}
 use Rattle.argon2_c.specs.declared.phc.verify.PhcBound.{PhcBound}
@@ -95,7 +95,7 @@ all_within : (bound : PhcBound) (parameters : Parameters) → is_within bound pa
 all_within bound parameters h = (grind (arith, nat_tests), grind (arith, nat_tests), grind (arith, nat_tests))
 
 is_verified : (secret password : List ℕ) (v : Phc) (stored : Stored) → stored_of v ≡ Ok stored
-    → is_tag secret password stored ≡ true → Ok tt ≡ verified secret password v
+    → is_tag secret password stored ≡ true → Ok tt ≡ verify_outcome secret password v
 is_verified secret password v stored is passes = rw (is, passes) refl
 
 short_tag : (secret password : List ℕ) (stored : Stored) → nat_lt max_len (length password) ≡ false

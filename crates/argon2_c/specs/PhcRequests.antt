@@ -4,7 +4,7 @@ use Rattle.std.specs.Option.{option_or}
 use Rattle.argon2_base.specs.PhcText.{Phc, phc_text}
 use Rattle.argon2_base.specs.declared.error.Error.{Error}
 use Rattle.argon2_base.specs.declared.error.Error.TheVariants.{OutputTooLong, OutputTooShort, ThreadsTooFew, ThreadsTooMany, TimeTooSmall}
-use Rattle.argon2.specs.ListedParameters.{listed}
+use Rattle.argon2.specs.ListedParameters.{parameter_items}
 use Rattle.argon2.specs.Refusals.{first_of, max_len}
 use Rattle.argon2.specs.Settings.{first_fault}
 use Rattle.argon2_c.specs.declared.code.TheConstants.{OK, OUTPUT_TOO_SHORT, OUTPUT_TOO_LONG, PWD_TOO_LONG, SALT_TOO_SHORT, SALT_TOO_LONG, AD_TOO_LONG, SECRET_TOO_LONG, TIME_TOO_SMALL, MEMORY_TOO_LITTLE, LANES_TOO_FEW, LANES_TOO_MANY, KEYID_TOO_LONG, NO_ALGORITHM, NO_VERSION, ROOM_TOO_SHORT}
@@ -66,7 +66,7 @@ abbrev pub value_with : Request → List ℕ → List ℕ → List ℕ → List 
 value_with r keyid associated salt hash = record {
   algorithm = name_numbered r.algorithm;
   version = Some r.version;
-  params = listed r.m_cost r.t_cost r.lanes keyid associated;
+  params = parameter_items r.m_cost r.t_cost r.lanes keyid associated;
   salt = Some salt;
   hash = Some hash;
 }

@@ -1,6 +1,6 @@
 -- Costs that are chosen by measured times.
 use Rattle.std.specs.Prelude.{◌≡◌, ◌⊎◌, ⊤, ℕ, ◌+◌, ◌-◌, ◌*◌, ◌<◌, ◌≤◌, ◌/◌, zero, suc, max, min, nat_le, nat_lt, if◌then◌else◌, List, [], ◌∷◌, length, Bool, Option, Some, None, unwrap_or, IsFalse}
-use Rattle.argon2.specs.Settings.{AreValid, plain}
+use Rattle.argon2.specs.Settings.{AreValid, cost_parameters}
 use Rattle.argon2_calibrate.specs.declared.choice.Choice.{Choice}
 use Rattle.argon2_calibrate.specs.declared.choice.Found.{Found}
 use Rattle.argon2_calibrate.specs.declared.options.Options.{Options}
@@ -30,7 +30,7 @@ pub record IsGreatest (target : ℕ) (first : Choice) (further passes : ℕ) : T
 
 -- there are 8 blocks for each lane in the most memory, and no fewer passes than one
 abbrev pub ArePossible : Options → Type 0
-ArePossible options = AreValid (plain options.most (unwrap_or options.min_t 1) options.lanes None)
+ArePossible options = AreValid (cost_parameters options.most (unwrap_or options.min_t 1) options.lanes None)
 
 -- the greatest of three times is above the least by more than a quarter
 abbrev pub scatter : ℕ → ℕ → ℕ → Bool
@@ -120,7 +120,7 @@ pub record IsBest (Takes : ℕ → ℕ → Option (List ℕ) → Type 0) (target
 -- least memory; the memory is the most that is there and with which the least passes are within it, by halves; and the
 -- passes are the least or more: the most that were tried and are within it
 pub record IsChoice (Takes : ℕ → ℕ → Option (List ℕ) → Type 0) (options : Options) (found : Found) : Type 0 where
-  pub valid : AreValid (plain found.choice.m_cost found.choice.t_cost options.lanes None)
+  pub valid : AreValid (cost_parameters found.choice.m_cost found.choice.t_cost options.lanes None)
   pub least : least_passes options.min_t found.choice.m_cost ≤ found.choice.t_cost
   pub within : (found.choice.time ≤ options.target)
       ⊎ ((found.choice.t_cost ≡ least_passes options.min_t found.choice.m_cost)

@@ -2,7 +2,7 @@
 
 ghost use Rattle.std.specs.Prelude.{None};
 ghost use Rattle.argon2.specs.Argon2.{IsContextOf};
-ghost use Rattle.argon2.specs.Settings.{AreValid, plain};
+ghost use Rattle.argon2.specs.Settings.{AreValid, cost_parameters};
 ghost use Rattle.argon2.specs.declared.algorithm.Algorithm.TheVariants.{Argon2id};
 ghost use Rattle.argon2.specs.declared.version.Version.TheVariants.{V0x13};
 
@@ -62,7 +62,7 @@ impl<'a, C: Clock> Machine<'a, C> {
 
 // What is timed: Argon2id with so many lanes, blocks and passes.
 fn argon2id(lanes: u32, m_cost: u32, t_cost: u32) -> argon2::Result<Argon2<'static>>
-    ensures { IsContextOf Argon2id V0x13 (plain m_cost t_cost lanes None) result }
+    ensures { IsContextOf Argon2id V0x13 (cost_parameters m_cost t_cost lanes None) result }
 {
     let params = Params::new(m_cost, t_cost, lanes, None)?;
     Ok(Argon2::new(Algorithm::Argon2id, Version::V0x13, params))
@@ -70,7 +70,7 @@ fn argon2id(lanes: u32, m_cost: u32, t_cost: u32) -> argon2::Result<Argon2<'stat
 
 impl<C: Clock> Stopwatch for Machine<'_, C> {
     // Only valid costs have a time.
-    ghost may_take = { λ lanes m_cost t_cost _. AreValid (plain m_cost t_cost lanes None) };
+    ghost may_take = { λ lanes m_cost t_cost _. AreValid (cost_parameters m_cost t_cost lanes None) };
 
     fn times(&mut self, lanes: u32, m_cost: u32, t_cost: u32) -> Result<Option<[u64; 3]>, Failure> {
         let argon2 = argon2id(lanes, m_cost, t_cost).or(Err(REFUSED))?;

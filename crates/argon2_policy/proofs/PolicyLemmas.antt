@@ -14,11 +14,11 @@ use Rattle.argon2.specs.declared.bound.BoundError.{BoundError}
 use Rattle.argon2.specs.declared.bound.BoundError.TheVariants.{Refused, TooExpensive}
 use Rattle.argon2.specs.declared.version.Version.{Version}
 use Rattle.argon2.specs.Bound.{AsksWithin, HashRefusal, IsWithin}
-use Rattle.argon2.specs.TextHashing.{IsFresh, IsHashAnswer, Target, hashed}
+use Rattle.argon2.specs.TextHashing.{IsFresh, IsHashAnswer, Target, hash_outcome}
 use Rattle.argon2.specs.Refusals.{max_len}
 use Rattle.argon2.specs.Rfc9106.{segment_length_for}
 use Rattle.argon2.specs.Settings.{Parameters, Settings}
-use Rattle.argon2.specs.StoredTexts.{AcceptsBy, IsVerifyAnswer, Stored, is_tag, read, shown_settings, stored_of}
+use Rattle.argon2.specs.StoredTexts.{AcceptsBy, IsVerifyAnswer, Stored, is_tag, result_and_then, shown_settings, stored_of}
 use Rattle.argon2.proofs.login_lemmas.LoginLemmas.{hash_made}
 use Rattle.argon2.proofs.password_hash_lemmas.MadeValues.{made_accepts, made_shows}
 use Rattle.argon2.proofs.password_hash_lemmas.Verified.{exact}
@@ -31,8 +31,8 @@ unfolding segment_length_for
 filled_within m p most within = let least = div-mul-le_self m (4 * p) in grind arith
 
 shown_parameters : (r : Result Parameters Fault) (algorithm : Option Algorithm) (version : Option Version)
-    (settings : Settings) → read r (λ parameters. read (ok_or algorithm bad_algorithm) (λ own.
-    read (ok_or version bad_version) (λ number.
+    (settings : Settings) → result_and_then r (λ parameters. result_and_then (ok_or algorithm bad_algorithm) (λ own.
+    result_and_then (ok_or version bad_version) (λ number.
     Ok (record { algorithm = own; version = number; parameters = parameters })))) ≡ Ok settings
     → r ≡ Ok settings.parameters
 shown_parameters r algorithm version settings is = grind arith
@@ -54,7 +54,7 @@ refused_asks bound v (Refused e) why asks = let a = asks.asked in absurd cc
 
 -- ---- fresh values
 
-short : (target : Target) (password salt : List ℕ) (v : Phc) → Ok v ≡ hashed target password salt → length password ≤ max_len
+short : (target : Target) (password salt : List ℕ) (v : Phc) → Ok v ≡ hash_outcome target password salt → length password ≤ max_len
 short target password salt v is = grind (arith, nat_tests)
 
 -- a hash that was answered is a fresh one
@@ -84,7 +84,7 @@ wrong secret password v answer = elim (exact secret password v (Err PasswordInva
 
 -- what a value comes to by such a test of its hash
 abbrev judged : (Stored → Bool) → Result Stored Fault → Result (Unit {0}) Fault
-judged is_right r = read r (λ stored. if is_right stored then Ok tt else Err bad_password)
+judged is_right r = result_and_then r (λ stored. if is_right stored then Ok tt else Err bad_password)
 
 -- what is wrong with the value itself is wrong under any secret
 same_fault : (one other : Stored → Bool) (r : Result Stored Fault) (e : Error) → e ≢ PasswordInvalid

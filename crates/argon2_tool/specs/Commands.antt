@@ -13,11 +13,11 @@ use Rattle.argon2.specs.declared.algorithm.Algorithm.{Algorithm}
 use Rattle.argon2.specs.declared.context.Argon2.{Argon2}
 use Rattle.argon2.specs.declared.version.Version.{Version}
 use Rattle.argon2.specs.Argon2.{context_with, secret_of, settings_of}
-use Rattle.argon2.specs.StoredTexts.{Accepts, verified}
+use Rattle.argon2.specs.StoredTexts.{Accepts, verify_outcome}
 use Rattle.argon2.specs.Rfc9106.{tag_of}
-use Rattle.argon2.specs.TextHashing.{hashed}
+use Rattle.argon2.specs.TextHashing.{hash_outcome}
 use Rattle.argon2.specs.Refusals.{answer_unless, length_refusal}
-use Rattle.argon2.specs.Settings.{Settings, algorithm_named, first_fault, plain, version_numbered}
+use Rattle.argon2.specs.Settings.{Settings, algorithm_named, first_fault, cost_parameters, version_numbered}
 use Rattle.argon2_tool.specs.Failures.{AppendsFront, IsOfInput, IsOfMemory}
 use Rattle.argon2_tool.specs.declared.arguments.Command.{Command}
 use Rattle.argon2_tool.specs.declared.arguments.Command.TheVariants.{Digest, Long, Tag, Phc as PhcCommand, Verify, Help, Version as VersionCommand}
@@ -66,7 +66,7 @@ abbrev pub settings_under : Option Algorithm → Option Version → Request → 
 settings_under None version r = Err AlgorithmInvalid
 settings_under (Some algorithm) None r = Err VersionInvalid
 settings_under (Some algorithm) (Some version) r = answer_unless (first_fault r.m_cost r.t_cost r.p_cost None)
-    (record { algorithm = algorithm; version = version; parameters = plain r.m_cost r.t_cost r.p_cost None })
+    (record { algorithm = algorithm; version = version; parameters = cost_parameters r.m_cost r.t_cost r.p_cost None })
 
 -- the settings that are asked for, under any length of output, or why they are refused
 abbrev pub request_settings : Request → Result Settings Error
@@ -92,7 +92,7 @@ tag_reply (Ok settings) len salt password =
 abbrev pub IsPhcReply : Result Settings Error → List ℕ → List ℕ → List ℕ → Type 0
 IsPhcReply (Err refusal) salt password line = ⊥
 IsPhcReply (Ok settings) salt password line = (v : Phc)
-    × (hashed (record { settings = settings; secret = [] }) password salt ≡ Ok v) × (line ≡ phc_text v)
+    × (hash_outcome (record { settings = settings; secret = [] }) password salt ≡ Ok v) × (line ≡ phc_text v)
 
 -- the line is what a command replies to an input
 abbrev pub Replies : Command → List ℕ → List ℕ → Type 0
@@ -110,11 +110,11 @@ Replies VersionCommand input line = line ≡ VERSION.now
 abbrev pub IsPhcFault : Result Settings Error → List ℕ → List ℕ → Fault → Type 0
 IsPhcFault (Err refusal) salt password fault = ⊥
 IsPhcFault (Ok settings) salt password fault =
-    hashed (record { settings = settings; secret = [] }) password salt ≡ Err fault
+    hash_outcome (record { settings = settings; secret = [] }) password salt ≡ Err fault
 
 -- the fault of a text that does not accept the password: that of its value, or one of the grammar
 abbrev pub IsVerifyFault : List ℕ → List ℕ → Fault → Type 0
-IsVerifyFault password text fault = ((v : Phc) × PhcText text v × (verified [] password v ≡ Err fault))
+IsVerifyFault password text fault = ((v : Phc) × PhcText text v × (verify_outcome [] password v ≡ Err fault))
     ⊎ (((v : Phc) → PhcText text v → ⊥) × (fault ≡ bad_encoding))
 
 -- why a command has no reply to an input: the refusal of a call, or a failure before there is one

@@ -10,7 +10,7 @@ use Rattle.std.specs.List.{AllByRecursion}
 use Rattle.std.specs.Ordering.{is_lt, nat_cmp}
 use Rattle.argon2.specs.Login.{AcceptedStep, AddStep, LoginAnswer, store_of, login_target}
 use Rattle.argon2.specs.NamedTexts.{Store, KeepsOthers}
-use Rattle.argon2.specs.TextHashing.{Target, IsHashAnswer, hashed, tag_length}
+use Rattle.argon2.specs.TextHashing.{Target, IsHashAnswer, hash_outcome, tag_length}
 use Rattle.argon2.specs.PhcText.{Phc, PhcText}
 use Rattle.argon2.specs.base_declared.phc.hash.PasswordHash.{PasswordHash}
 use Rattle.argon2.specs.declared.login.answers.Accepted.{Accepted}
@@ -34,14 +34,14 @@ add_gives (Err e) o text v w is same says = tt
 
 -- a text that was made is of lengths that are taken
 pub hashed_ok : (target : Target) (password salt : List ℕ) (h : PasswordHash) →
-    IsHashAnswer target password salt (Ok h) → IsOk (hashed target password salt)
+    IsHashAnswer target password salt (Ok h) → IsOk (hash_outcome target password salt)
 hashed_ok target password salt h (inl is) = rw (← is) refl
 hashed_ok target password salt h (inr is) = let no = is.0 in absurd cc
 
 -- `add` refuses a text of the grammar if the name is taken or memory is out
 pub add_refuses : (target : Target) (login : Login) (name password salt text : List ℕ) (v : Phc)
     (answer : Result (Unit {0}) LoginError) (after : Store) → PhcText text v →
-    IsOk (hashed target password salt) → AddStep (store_of login) name text answer after →
+    IsOk (hash_outcome target password salt) → AddStep (store_of login) name text answer after →
     IfErr answer (RegisterRefusal target login name password salt)
 add_refuses target login name password salt text v (Ok x) after is made step = tt
 add_refuses target login name password salt text v (Err Text) after is made step = absurd (step.0 v is)

@@ -4,7 +4,7 @@ use Rattle.std.specs.FinMap.{get}
 use Rattle.argon2.specs.StoredTexts.{AcceptsBy}
 use Rattle.argon2.specs.Login.{AcceptedStep, AddStep, IsNew, LoginAnswer, store_of, login_target}
 use Rattle.argon2.specs.NamedTexts.{Store}
-use Rattle.argon2.specs.TextHashing.{Target, IsHashAnswer, hashed, tag_length}
+use Rattle.argon2.specs.TextHashing.{Target, IsHashAnswer, hash_outcome, tag_length}
 use Rattle.argon2.specs.declared.login.Login.{Login}
 use Rattle.argon2.specs.declared.login.answers.Accepted.{Accepted}
 use Rattle.argon2.specs.declared.login.answers.LoginError.{LoginError}
@@ -25,9 +25,9 @@ FindsAndLeaves old name password drawn _ new = store_of new ≡ store_of old
 -- why a name is not registered with a password and a salt: no text is made, or else `add` refuses it
 abbrev pub RegisterRefusal : Target → Login → List ℕ → List ℕ → List ℕ → LoginError → Type 0
 RegisterRefusal target login name password salt NameTaken =
-    IsOk (hashed target password salt) × IsSome (get (store_of login) name)
+    IsOk (hash_outcome target password salt) × IsSome (get (store_of login) name)
 RegisterRefusal target login name password salt OutOfMemory =
-    IsOk (hashed target password salt) × (get (store_of login) name ≡ None)
+    IsOk (hash_outcome target password salt) × (get (store_of login) name ≡ None)
 RegisterRefusal target login name password salt (Refused e) = IsHashAnswer target password salt (Err e)
 RegisterRefusal target login name password salt _ = ⊥
 

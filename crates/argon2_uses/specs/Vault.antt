@@ -2,7 +2,7 @@
 use Rattle.std.specs.Prelude.{◌≡◌, ◌⊎◌, ℕ, List, None, Some, length, take, drop}
 use Rattle.argon2.specs.Argon2.{argon2id_with, own_parameters}
 use Rattle.argon2.specs.Rfc9106.{Context, tag_of}
-use Rattle.argon2.specs.Settings.{Settings, plain}
+use Rattle.argon2.specs.Settings.{Settings, cost_parameters}
 use Rattle.argon2.specs.Refusals.{length_refusal}
 use Rattle.argon2.specs.base_declared.error.Error.{Error}
 use Rattle.argon2.specs.base_declared.error.Error.TheVariants.{OutOfMemory}
@@ -11,7 +11,7 @@ use Rattle.argon2_uses.specs.declared.vault.Header.{Header}
 
 -- the second recommended option (RFC 9106, section 4)
 abbrev pub recommended : Settings
-recommended = argon2id_with (plain 65536 3 4 None)
+recommended = argon2id_with (cost_parameters 65536 3 4 None)
 
 -- the key of a passphrase and a salt: the first half of a tag of 64 bytes
 abbrev pub key_of : Context → List ℕ → List ℕ → List ℕ

@@ -6,7 +6,7 @@ ghost use Rattle.rand_core.specs.Stream.{fill_bytes};
 ghost use Rattle.argon2.specs.Argon2.{secret_of};
 ghost use Rattle.argon2.specs.Login.{HasPassword, store_of, login_target};
 ghost use Rattle.argon2.specs.NamedTexts.{IsCurrent, KeepsOthers};
-ghost use Rattle.argon2.specs.TextHashing.{made, target_of};
+ghost use Rattle.argon2.specs.TextHashing.{hash_value, target_of};
 ghost use Rattle.argon2.specs.base_declared.error.password_hash.Error.TheVariants.{OutOfMemory};
 ghost use Rattle.argon2.specs.declared.login.answers.Accepted.TheVariants.{Kept};
 ghost use Rattle.argon2.specs.declared.login.answers.LoginError.TheVariants.{Refused};
@@ -34,7 +34,7 @@ pub fn register<R: Rng>(
     ensures new_name { OnOk result (get (store_of store.old) name.now ≡ None) }
     ensures registered { OnOk result
         (HasPasswordUnder (secret_of argon2.now) store.new name.now password.now) }
-    ensures text { OnOk result (get (store_of store.new) name.now ≡ Some (made
+    ensures text { OnOk result (get (store_of store.new) name.now ≡ Some (hash_value
         (target_of argon2.now) password.now (fill_bytes 16 (R.stream rng.old)).0)) }
     ensures others { KeepsOthers name.now (store_of store.old) (store_of store.new) }
     ensures target { login_target store.new ≡ login_target store.old }

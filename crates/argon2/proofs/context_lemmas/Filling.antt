@@ -10,7 +10,7 @@ use Rattle.std.proofs.lemmas.Bool.Decides.{nat_tests}
 use Rattle.argon2.specs.Rfc9106.{Context, FirstColumns, Reference, block_count, block_of, lane_length, made_block, segment_length}
 use Rattle.argon2.specs.Layout.{Memory, Sizes, matrix, reference_places}
 use Rattle.argon2.specs.Steps.{IsStep, in_memory, step, reference_place, turns, turn_count, IsSchedule, run, run_slices, run_passes}
-use Rattle.argon2.specs.WatchedFilling.{begun, HasBlocksUpTo}
+use Rattle.argon2.specs.WatchedFilling.{columns_before, HasBlocksUpTo}
 use Rattle.argon2.specs.Laws.{Begins, AreSchedules}
 use Rattle.argon2.proofs.recurrence.PermittedPlaces.{InSlice}
 use Rattle.argon2.proofs.recurrence.Sources.{AgreeOn, made_cong, reference_of_cong}
@@ -124,21 +124,21 @@ turn_count-later_slice ctx pass slice = grind (arith, nat_tests)
 slices_fill : (ctx : Context) → Sizes ctx
     → (first : FirstColumns) (schedules : ℕ → List ℕ) (pass slice : ℕ) → slice ≤ 4
     → ((j : ℕ) → j < 4 → IsSchedule ctx pass j (schedules j)) → (memory : List (List ℕ))
-    → HasBlocksUpTo ctx first pass (λ _. begun ctx pass 0) memory
-    → HasBlocksUpTo ctx first pass (λ _. begun ctx pass slice) (run_slices ctx schedules pass slice memory)
+    → HasBlocksUpTo ctx first pass (λ _. columns_before ctx pass 0) memory
+    → HasBlocksUpTo ctx first pass (λ _. columns_before ctx pass slice) (run_slices ctx schedules pass slice memory)
 unfolding run_slices
 slices_fill ctx sizes first schedules pass zero four is memory h = h
 slices_fill ctx sizes first schedules pass (suc slice) four is memory h =
     let s = segment_length ctx in
     let before = run_slices ctx schedules pass slice memory in
-    let i : HasBlocksUpTo ctx first pass (λ _. begun ctx pass slice) before =
+    let i : HasBlocksUpTo ctx first pass (λ _. columns_before ctx pass slice) before =
     slices_fill ctx sizes first schedules pass slice (omega arith) is memory h in
     let schedule = schedules slice in
     let it : IsSchedule ctx pass slice schedule = is slice (omega arith) in
     let start : HasBlocksUpTo ctx first pass (done_before ctx slice schedule) before =
-    HasBlocksUpTo-like ctx first pass (λ _. begun ctx pass slice) (done_before ctx slice schedule) before
+    HasBlocksUpTo-like ctx first pass (λ _. columns_before ctx pass slice) (done_before ctx slice schedule) before
     (λ l below. ap (λ n. (slice + 1) * s - n) (sym (it.turns l below))) i in
-    HasBlocksUpTo-like ctx first pass (done_before ctx slice []) (λ _. begun ctx pass (suc slice))
+    HasBlocksUpTo-like ctx first pass (done_before ctx slice []) (λ _. columns_before ctx pass (suc slice))
     (run ctx pass slice schedule before)
     (λ l below. let w = turn_count-later_slice ctx pass slice in omega arith)
     (run_fills ctx sizes first pass slice (omega arith) schedule before (MayRun-from ctx pass slice schedule it) start)
@@ -150,8 +150,8 @@ turn_count-later_pass ctx pass = grind (arith, nat_tests)
 
 -- the end of a pass is the start of the next
 pub next_pass : (ctx : Context) (first : FirstColumns) (pass : ℕ) (memory : List (List ℕ))
-    → HasBlocksUpTo ctx first pass (λ _. begun ctx pass 4) memory
-    → HasBlocksUpTo ctx first (suc pass) (λ _. begun ctx (suc pass) 0) memory
+    → HasBlocksUpTo ctx first pass (λ _. columns_before ctx pass 4) memory
+    → HasBlocksUpTo ctx first (suc pass) (λ _. columns_before ctx (suc pass) 0) memory
 next_pass ctx first pass memory h =
     let s = segment_length ctx in
     let w = turn_count-later_pass ctx pass in
@@ -168,8 +168,8 @@ passes_fill : (ctx : Context) → Sizes ctx
     → (first : FirstColumns) (schedules : ℕ → ℕ → List ℕ) (passes : ℕ)
     → ((r slice : ℕ) → r < passes → slice < 4 → IsSchedule ctx r slice (schedules r slice))
     → (memory : List (List ℕ))
-    → HasBlocksUpTo ctx first 0 (λ _. begun ctx 0 0) memory
-    → HasBlocksUpTo ctx first passes (λ _. begun ctx passes 0) (run_passes ctx schedules passes memory)
+    → HasBlocksUpTo ctx first 0 (λ _. columns_before ctx 0 0) memory
+    → HasBlocksUpTo ctx first passes (λ _. columns_before ctx passes 0) (run_passes ctx schedules passes memory)
 unfolding run_passes
 passes_fill ctx sizes first schedules zero is memory h = h
 passes_fill ctx sizes first schedules (suc r) is memory h =
@@ -180,7 +180,7 @@ passes_fill ctx sizes first schedules (suc r) is memory h =
 
 -- a memory that begins with the first two columns is filled up to there
 pub filled_at_first : (ctx : Context) → Sizes ctx → (first : FirstColumns) (memory : List (List ℕ))
-    → Begins ctx first memory → HasBlocksUpTo ctx first 0 (λ _. begun ctx 0 0) memory
+    → Begins ctx first memory → HasBlocksUpTo ctx first 0 (λ _. columns_before ctx 0 0) memory
 filled_at_first ctx sizes first memory start =
     let two = sizes.two_columns in
     let w : turn_count ctx 0 0 ≡ segment_length ctx - 2 = refl in
@@ -195,7 +195,7 @@ filled_at_first ctx sizes first memory start =
 pub filled_at_last : (ctx : Context) → Sizes ctx
     → (first : FirstColumns) (passes : ℕ) (memory : List (List ℕ)) → passes ≡ ctx.t_cost
     → 0 < passes
-    → HasBlocksUpTo ctx first passes (λ _. begun ctx passes 0) memory → memory ≡ matrix ctx first
+    → HasBlocksUpTo ctx first passes (λ _. columns_before ctx passes 0) memory → memory ≡ matrix ctx first
 unfolding matrix
 filled_at_last ctx sizes first zero memory t some h = absurd (omega arith)
 filled_at_last ctx sizes first (suc r) memory t some h =

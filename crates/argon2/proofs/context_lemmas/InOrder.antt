@@ -5,7 +5,7 @@ use Rattle.std.proofs.lemmas.Bool.Decides.{nat_tests}
 use Rattle.argon2.specs.Rfc9106.{Context, FirstColumns, segment_length}
 use Rattle.argon2.specs.Layout.{Memory, Sizes}
 use Rattle.argon2.specs.Laws.{Begins}
-use Rattle.argon2.specs.WatchedFilling.{begun, in_order, position_index, IsFilledFrom, IsFilledUpTo}
+use Rattle.argon2.specs.WatchedFilling.{columns_before, in_order, position_index, IsFilledFrom, IsFilledUpTo}
 use Rattle.argon2.specs.Steps.{IsStep, reference_place, step}
 use Rattle.argon2.proofs.recurrence.PermittedPlaces.{InSlice}
 use Rattle.argon2.proofs.context_lemmas.Filling.{filled_at_first, filled_at_last, next_pass, step_answers, step_fills, turn_count-later_slice, HasBlocksUpTo-like}
@@ -22,18 +22,18 @@ IsFilledUpTo-like ctx first pass done done' memory old new same is = record {
 }
 
 -- before the first lane no lane has begun the slice
-pub in_order-first : (ctx : Context) (pass slice l : ℕ) → begun ctx pass slice ≡ in_order ctx pass slice 0 (begun ctx pass slice) l
+pub in_order-first : (ctx : Context) (pass slice l : ℕ) → columns_before ctx pass slice ≡ in_order ctx pass slice 0 (columns_before ctx pass slice) l
 in_order-first ctx pass slice l = grind (arith, nat_tests)
 
 -- a lane that is done is followed by the next
 pub in_order-next : (ctx : Context) (pass slice lane l : ℕ)
     → in_order ctx pass slice lane ((slice + 1) * segment_length ctx) l
-    ≡ in_order ctx pass slice (lane + 1) (begun ctx pass slice) l
+    ≡ in_order ctx pass slice (lane + 1) (columns_before ctx pass slice) l
 in_order-next ctx pass slice lane l = grind (arith, nat_tests)
 
 -- a slice whose lanes are done is followed by the next
 pub in_order-last : (ctx : Context) (pass slice lane l : ℕ) → l < lane
-    → in_order ctx pass slice lane (begun ctx pass slice) l ≡ begun ctx pass (slice + 1)
+    → in_order ctx pass slice lane (columns_before ctx pass slice) l ≡ columns_before ctx pass (slice + 1)
 in_order-last ctx pass slice lane l below = let turns = turn_count-later_slice ctx pass slice in grind (arith, nat_tests)
 
 -- in a slice each lane has the columns before it, and none behind it
@@ -68,7 +68,7 @@ filled_step ctx sizes first pass slice lane column memory old new t st here is =
 
 -- the first two columns are where pass 0 begins
 pub filled_first : (ctx : Context) → Sizes ctx → (first : FirstColumns) (memory : Memory) (positions : List ℕ)
-    → Begins ctx first memory → IsFilledUpTo ctx first 0 (λ _. begun ctx 0 0) memory positions positions
+    → Begins ctx first memory → IsFilledUpTo ctx first 0 (λ _. columns_before ctx 0 0) memory positions positions
 filled_first ctx sizes first memory positions begins = record {
   blocks = filled_at_first ctx sizes first memory begins;
   positions = first_positions ctx sizes first positions;
@@ -76,17 +76,17 @@ filled_first ctx sizes first memory positions begins = record {
 
 -- the end of a pass is the start of the next
 pub filled_next : (ctx : Context) (first : FirstColumns) (pass : ℕ) (memory : Memory) (old new : List ℕ)
-    → IsFilledUpTo ctx first pass (λ _. begun ctx pass 4) memory old new
-    → IsFilledUpTo ctx first (pass + 1) (λ _. begun ctx (pass + 1) 0) memory old new
+    → IsFilledUpTo ctx first pass (λ _. columns_before ctx pass 4) memory old new
+    → IsFilledUpTo ctx first (pass + 1) (λ _. columns_before ctx (pass + 1) 0) memory old new
 filled_next ctx first pass memory old new is =
-    subst (λ n. IsFilledUpTo ctx first n (λ _. begun ctx n 0) memory old new) (sym (add-one pass)) (record {
+    subst (λ n. IsFilledUpTo ctx first n (λ _. columns_before ctx n 0) memory old new) (sym (add-one pass)) (record {
       blocks = next_pass ctx first pass memory is.blocks;
       positions = λ size. next_positions ctx first pass old new (is.positions size);
     })
 
 -- after all passes stand the matrix and all references
 pub filled_last : (ctx : Context) → Sizes ctx → (first : FirstColumns) (passes : ℕ) (memory : Memory) (old new : List ℕ)
-    → passes ≡ ctx.t_cost → IsFilledUpTo ctx first passes (λ _. begun ctx passes 0) memory old new
+    → passes ≡ ctx.t_cost → IsFilledUpTo ctx first passes (λ _. columns_before ctx passes 0) memory old new
     → IsFilledFrom ctx first memory old new
 filled_last ctx sizes first passes memory old new all is =
     let some = sizes.some_pass in

@@ -7,7 +7,7 @@ use Rattle.std.proofs.lemmas.Bool.{cases_eq}
 use Rattle.argon2.specs.Rfc9106.{Context, FirstColumns, block_count, lane_length, segment_length}
 use Rattle.argon2.specs.Layout.{Sizes, reference_places}
 use Rattle.argon2.specs.Steps.{IsStep, turn_count}
-use Rattle.argon2.specs.WatchedFilling.{begun, place_count, position_index, HasPositionsUpTo}
+use Rattle.argon2.specs.WatchedFilling.{columns_before, place_count, position_index, HasPositionsUpTo}
 use Rattle.argon2.proofs.context_lemmas.Filling.{turn_count-later_slice, turn_count-later_pass}
 use Rattle.argon2.proofs.context_lemmas.InMemory.{place_below}
 
@@ -73,8 +73,8 @@ step_positions ctx sizes first pass lane column done done' old new place st t is
 
 -- the end of a pass is the start of the next
 pub next_positions : (ctx : Context) (first : FirstColumns) (pass : ℕ) (old new : List ℕ)
-    → HasPositionsUpTo ctx first pass (λ _. begun ctx pass 4) old new
-    → HasPositionsUpTo ctx first (suc pass) (λ _. begun ctx (suc pass) 0) old new
+    → HasPositionsUpTo ctx first pass (λ _. columns_before ctx pass 4) old new
+    → HasPositionsUpTo ctx first (suc pass) (λ _. columns_before ctx (suc pass) 0) old new
 next_positions ctx first pass old new has =
     let w = turn_count-later_pass ctx pass in
     let e = turn_count-later_slice ctx pass 3 in
@@ -86,7 +86,7 @@ next_positions ctx first pass old new has =
 
 -- before the first step the list is as it was
 pub first_positions : (ctx : Context) → Sizes ctx → (first : FirstColumns) (old : List ℕ) → length old ≡ place_count ctx
-    → HasPositionsUpTo ctx first 0 (λ _. begun ctx 0 0) old old
+    → HasPositionsUpTo ctx first 0 (λ _. columns_before ctx 0 0) old old
 first_positions ctx sizes first old size =
     let two = sizes.two_columns in
     let turns : turn_count ctx 0 0 ≡ segment_length ctx - 2 = refl in

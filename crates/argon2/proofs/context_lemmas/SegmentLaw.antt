@@ -12,7 +12,7 @@ use Rattle.argon2_base.specs.LongHash.{long_hash}
 use Rattle.argon2.specs.Rfc9106.{Context, FirstColumns, block_count, block_of, first_block, lane_length, last_block, segment_length, tag_of}
 use Rattle.argon2.specs.Layout.{Memory, Sizes}
 use Rattle.argon2.specs.Segments.{AreParts, BeginsSlices, FillsSegment, IsFilledBySegments, last_of_slice, segment_in, slice_length, slices_after, slices_before}
-use Rattle.argon2.specs.WatchedFilling.{HasBlocksUpTo, begun}
+use Rattle.argon2.specs.WatchedFilling.{HasBlocksUpTo, columns_before}
 use Rattle.argon2.proofs.recurrence.PermittedPlaces.{in_slice}
 use Rattle.argon2.proofs.context_lemmas.Filling.{filled_at_first, next_pass, turn_count-later_pass, turn_count-later_slice}
 use Rattle.argon2.proofs.context_lemmas.InMemory.{place_below}
@@ -88,8 +88,8 @@ pub slice_fills : (ctx : Context) → Sizes ctx → (first : FirstColumns) (pass
     (segment_in ctx slice lane memory) (segment_in ctx slice lane memory') (slices_after ctx slice memory))
     → slices_before ctx slice memory' ≡ slices_before ctx slice memory
     → slices_after ctx slice memory' ≡ slices_after ctx slice memory
-    → HasBlocksUpTo ctx first pass (λ _. begun ctx pass slice) (in_lanes ctx memory)
-    → HasBlocksUpTo ctx first pass (λ _. begun ctx pass (suc slice)) (in_lanes ctx memory')
+    → HasBlocksUpTo ctx first pass (λ _. columns_before ctx pass slice) (in_lanes ctx memory)
+    → HasBlocksUpTo ctx first pass (λ _. columns_before ctx pass (suc slice)) (in_lanes ctx memory')
 slice_fills ctx sizes first pass slice memory memory' four fills before after h =
     let s = segment_length ctx in
     let p = ctx.p_cost in
@@ -140,7 +140,7 @@ slice_fills ctx sizes first pass slice memory memory' four fills before after h 
 -- a first slice that was begun is where pass 0 begins
 pub slices_begun : (ctx : Context) (first : FirstColumns) (old memory : Memory)
     → BeginsSlices ctx first old (take (slice_length ctx) memory)
-    → HasBlocksUpTo ctx first 0 (λ _. begun ctx 0 0) (in_lanes ctx memory)
+    → HasBlocksUpTo ctx first 0 (λ _. columns_before ctx 0 0) (in_lanes ctx memory)
 slices_begun ctx first old memory is = filled_at_first ctx is.sizes first (in_lanes ctx memory) (record {
   size = length-in_lanes ctx memory;
   columns = λ lane column l small.
@@ -162,8 +162,8 @@ module _ (ctx : Context) (first : FirstColumns) (memory : ℕ → ℕ → Memory
 
   -- the slices of a pass are filled one after the other
   slices_filled : (pass slice : ℕ) → pass < ctx.t_cost → slice ≤ 4
-      → HasBlocksUpTo ctx first pass (λ _. begun ctx pass 0) (in_lanes ctx (memory pass 0))
-      → HasBlocksUpTo ctx first pass (λ _. begun ctx pass slice) (in_lanes ctx (memory pass slice))
+      → HasBlocksUpTo ctx first pass (λ _. columns_before ctx pass 0) (in_lanes ctx (memory pass 0))
+      → HasBlocksUpTo ctx first pass (λ _. columns_before ctx pass slice) (in_lanes ctx (memory pass slice))
   slices_filled pass zero t four h = h
   slices_filled pass (suc slice) t four h =
       slice_fills ctx sizes first pass slice (memory pass slice) (memory pass (suc slice)) (omega arith)
@@ -173,10 +173,10 @@ module _ (ctx : Context) (first : FirstColumns) (memory : ℕ → ℕ → Memory
 
   -- the passes are filled one after the other
   passes_filled : (pass : ℕ) → pass < ctx.t_cost
-      → HasBlocksUpTo ctx first pass (λ _. begun ctx pass 0) (in_lanes ctx (memory pass 0))
+      → HasBlocksUpTo ctx first pass (λ _. columns_before ctx pass 0) (in_lanes ctx (memory pass 0))
   passes_filled zero t = slices_begun ctx first is.begins.0 (memory 0 0) is.begins.1
   passes_filled (suc pass) t =
-      subst (λ (m : Memory). HasBlocksUpTo ctx first (suc pass) (λ _. begun ctx (suc pass) 0) (in_lanes ctx m))
+      subst (λ (m : Memory). HasBlocksUpTo ctx first (suc pass) (λ _. columns_before ctx (suc pass) 0) (in_lanes ctx m))
       (sym (is.next pass t))
       (next_pass ctx first pass (in_lanes ctx (memory pass 4))
       (slices_filled pass 4 (omega arith) (omega arith) (passes_filled pass (omega arith))))

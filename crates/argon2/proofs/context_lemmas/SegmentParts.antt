@@ -10,7 +10,7 @@ use Rattle.argon2.specs.Layout.{Memory, Sizes}
 use Rattle.argon2.specs.Segments.{AreParts}
 use Rattle.argon2.specs.SegmentSteps.{column_of, IsStepAt}
 use Rattle.argon2.specs.Steps.{IsStep, in_memory, step}
-use Rattle.argon2.specs.WatchedFilling.{HasBlocksUpTo, begun}
+use Rattle.argon2.specs.WatchedFilling.{HasBlocksUpTo, columns_before}
 use Rattle.argon2.specs.declared.context.fill.Step.{Step}
 use Rattle.argon2.proofs.recurrence.PermittedPlaces.{InSlice}
 use Rattle.argon2.proofs.recurrence.Sources.{Reads-place, reference_reads}
@@ -70,7 +70,7 @@ pub ruleset readable = (Reads-place, reference_reads)
 
 -- how many columns of each lane are made when one has so many and the others have not begun the slice
 abbrev pub ahead : Context → ℕ → ℕ → ℕ → ℕ → ℕ → ℕ
-ahead ctx pass slice lane column other = if other == lane then column else begun ctx pass slice
+ahead ctx pass slice lane column other = if other == lane then column else columns_before ctx pass slice
 
 -- a step fills a column more of it
 pub ahead_step : (ctx : Context) → Sizes ctx → (first : FirstColumns) (pass slice lane column : ℕ) (memory : Memory)
@@ -89,5 +89,5 @@ ahead_step ctx sizes first pass slice lane column memory st here is =
 
 -- it begins with the others
 pub ahead-first : (ctx : Context) (pass slice lane l : ℕ)
-    → begun ctx pass slice ≡ ahead ctx pass slice lane (begun ctx pass slice) l
+    → columns_before ctx pass slice ≡ ahead ctx pass slice lane (columns_before ctx pass slice) l
 ahead-first ctx pass slice lane l = grind (arith, nat_tests)

@@ -13,10 +13,10 @@ use Rattle.argon2.specs.declared.login.answers.Accepted.TheVariants.{Current, Ke
 use Rattle.argon2.specs.declared.login.answers.LoginError.{LoginError}
 use Rattle.argon2.specs.declared.login.answers.LoginError.TheVariants.{Refused}
 use Rattle.argon2.specs.StoredTexts.{AcceptsBy}
-use Rattle.argon2.specs.ListedParameters.{checked}
+use Rattle.argon2.specs.ListedParameters.{unless_fault}
 use Rattle.argon2.specs.Login.{AcceptedStep, HasPassword, LoginAnswer, LoginStep, logging_in}
 use Rattle.argon2.specs.NamedTexts.{Store, IsCurrent, Leaves}
-use Rattle.argon2.specs.TextHashing.{Target, IsTarget, made, IsHashAnswer}
+use Rattle.argon2.specs.TextHashing.{Target, IsTarget, hash_value, IsHashAnswer}
 use Rattle.argon2.proofs.login_lemmas.Stores.{insert-same}
 use Rattle.argon2.proofs.password_hash_lemmas.MadeValues.{made_accepts, made_shows}
 
@@ -56,13 +56,13 @@ refused_text e (inr never) = inr never
 pub false_refutes : {P : Type 0} (b : Bool) → b ≡ false → (P → b ≡ true) → ¬ P
 false_refutes b fails decides is = let passes = decides is in absurd cc
 
-checked_ok : (f : Option Fault) (v w : Phc) → Ok v ≡ checked f (Ok w) → v ≡ w
+checked_ok : (f : Option Fault) (v w : Phc) → Ok v ≡ unless_fault f (Ok w) → v ≡ w
 checked_ok f v w e = grind arith
 
 -- what a hash that was answered is
 pub hash_made : (target : Target) (password salt : List ℕ) (h : PasswordHash) →
-    IsHashAnswer target password salt (Ok h) → phc_of h ≡ made target password salt
-hash_made target password salt h (inl e) = checked_ok _ (phc_of h) (made target password salt) e
+    IsHashAnswer target password salt (Ok h) → phc_of h ≡ hash_value target password salt
+hash_made target password salt h (inl e) = checked_ok _ (phc_of h) (hash_value target password salt) e
 hash_made target password salt h (inr r) = let e = r.0 in absurd cc
 
 -- ---- what an accepted login leaves

@@ -14,7 +14,7 @@ use Rattle.argon2.specs.declared.login.answers.LoginError.{LoginError}
 use Rattle.argon2.specs.StoredTexts.{AcceptsBy, Accepts}
 use Rattle.argon2.specs.Login.{Event, adding, logging_in, AddStep, LoginAnswer, LoginStep}
 use Rattle.argon2.specs.NamedTexts.{IsCurrent, Store, newest}
-use Rattle.argon2.specs.TextHashing.{Target, made}
+use Rattle.argon2.specs.TextHashing.{Target, hash_value}
 use Rattle.argon2.specs.Runs.{Run, source, accepted, IsFrom}
 use Rattle.argon2.proofs.login_lemmas.Stores.{get-set}
 
@@ -36,10 +36,10 @@ reached_none target None o h = tt
 reached_none target (Some last) o h = absurd h
 
 module _ (target : Target)
-    (made_phc : (password salt : List ℕ) → HasBytes 8 48 salt → IsPhc (made target password salt))
+    (made_phc : (password salt : List ℕ) → HasBytes 8 48 salt → IsPhc (hash_value target password salt))
     (made_accepts : (password salt : List ℕ) → length password ≤ 4294967295 →
-    AcceptsBy target.secret password (made target password salt))
-    (made_current : (password salt : List ℕ) → IsCurrent target (made target password salt)) where
+    AcceptsBy target.secret password (hash_value target password salt))
+    (made_current : (password salt : List ℕ) → IsCurrent target (hash_value target password salt)) where
   add_keeps : (before after : Store) (n added : List ℕ) (answer : Result (Unit {0}) LoginError) (older : List Event) →
       AddStep before n added answer after → ((name : List ℕ) → Known target name older (get before name)) →
       (name : List ℕ) → Known target name (adding n added answer ∷ older) (get after name)
@@ -81,7 +81,7 @@ module _ (target : Target)
   login_keeps before after n given drawn (Some v) (Ok Kept) older is step known name =
       same_keeps before after n given drawn v Kept older name refl is step.0 (λ other. absurd (other refl)) step.1.1 (known name)
   login_keeps before after n given drawn (Some v) (Ok Rehashed) older is step known name =
-      let set = ap (λ m. get m name) step.1.2 ∙ get-set before n (made target given drawn) name in
+      let set = ap (λ m. get m name) step.1.2 ∙ get-set before n (hash_value target given drawn) name in
       elim (cases_Bool (bytes_eq name n)) [
         | inl hit ↦
             rw (set, hit) (

@@ -10,7 +10,7 @@ use Rattle.std.specs.Result.{IsErr, IsErrAnd}
 use Rattle.argon2_base.specs.Error.{Fault, fault_of, outcome_of}
 use Rattle.argon2_base.specs.declared.error.password_hash.Error.{Error as HashError}
 use Rattle.argon2_base.specs.PhcText.{Pair, are_distinct, are_params, is_param, params_text, value_of}
-use Rattle.argon2.specs.ListedParameters.{Items, checked, item_fault, item_taken, items_fault, items_of, items_over, items_read, short_bytes}
+use Rattle.argon2.specs.ListedParameters.{Items, unless_fault, item_fault, item_taken, items_fault, items_of, items_over, items_read, short_bytes}
 
 -- What was read, if `rest` is left.
 pub record Reading (list rest : List Pair) (found : Items) : Type 0 where
@@ -71,7 +71,7 @@ items_next item rest before once = rw (
 -- ---- one item more
 
 -- what an item that was taken says of its fault and of what was found
-taken_parts : (fault : Option Fault) (after items : Items) → Ok after ≡ checked fault (Ok items)
+taken_parts : (fault : Option Fault) (after items : Items) → Ok after ≡ unless_fault fault (Ok items)
     → (fault ≡ None) × (after ≡ items)
 taken_parts fault after items h = grind arith
 
@@ -88,7 +88,7 @@ one_more list rest item before after r taken =
     }
 
 -- if it is refused
-refusal_is : (fault : Option Fault) (items : Items) (f : Fault) → Err f ≡ checked fault (Ok items) → fault ≡ Some f
+refusal_is : (fault : Option Fault) (items : Items) (f : Fault) → Err f ≡ unless_fault fault (Ok items) → fault ≡ Some f
 refusal_is fault items f h = grind arith
 
 pub item_refused : (list rest : List Pair) (item : Pair) (before : Items) (f : Fault) → Reading list (item ∷ rest) before

@@ -7,7 +7,7 @@ use Rattle.std.specs.List.{list_all, sum_by}
 use Rattle.std.proofs.lemmas.List.Sums.{sum_by-cons}
 use Rattle.argon2_base.specs.Texts.{IsBytes, is_value, is_value_char, strict_base64}
 use Rattle.argon2_base.specs.PhcText.{Pair, are_params, params_text, is_param, are_distinct, item}
-use Rattle.argon2.specs.ListedParameters.{bytes_item, listed}
+use Rattle.argon2.specs.ListedParameters.{bytes_item, parameter_items}
 use Rattle.argon2_base.proofs.phc_lemmas.Base64Lemmas.{length-strict_base64}
 use Rattle.argon2_base.proofs.phc_lemmas.ParamsReading.{params_front}
 use Rattle.argon2_base.proofs.phc_lemmas.ValueCharacters.{decimal_chars, base64_chars}
@@ -48,21 +48,21 @@ good_from ps each names fits = rw (each, names, le-leb (length (params_text ps))
 
 -- what parameters are listed as
 pub listed_good : (m t p : ℕ) (k d : List ℕ) → m < 2 ^ 32 → t < 2 ^ 32 → p < 2 ^ 32 → IsBytes k → IsBytes d
-    → length k ≤ 8 → length d ≤ 32 → are_params (listed m t p k d) ≡ true
+    → length k ≤ 8 → length d ≤ 32 → are_params (parameter_items m t p k d) ≡ true
 listed_good m t p [] [] hm ht hp bk bd lk ld =
-    good_from (listed m t p [] []) (rw (decimal_value m hm, decimal_value t ht, decimal_value p hp) refl) refl
+    good_from (parameter_items m t p [] []) (rw (decimal_value m hm, decimal_value t ht, decimal_value p hp) refl) refl
     (omega (arith, length-cost))
 listed_good m t p (x ∷ k) [] hm ht hp bk bd lk ld =
-    good_from (listed m t p (x ∷ k) [])
+    good_from (parameter_items m t p (x ∷ k) [])
     (rw (decimal_value m hm, decimal_value t ht, decimal_value p hp, base64_value x k bk (omega (arith, lk))) refl) refl
     (omega (arith, length-cost, length-strict_base64))
 listed_good m t p [] (y ∷ d) hm ht hp bk bd lk ld =
-    good_from (listed m t p [] (y ∷ d))
+    good_from (parameter_items m t p [] (y ∷ d))
     (rw (decimal_value m hm, decimal_value t ht, decimal_value p hp, base64_value y d bd ld) refl) refl
     (omega (arith, length-cost, length-strict_base64))
 listed_good m t p (x ∷ k) (y ∷ d) hm ht hp bk bd lk ld =
     let keyid = base64_value x k bk (omega (arith, lk)) in
-    good_from (listed m t p (x ∷ k) (y ∷ d))
+    good_from (parameter_items m t p (x ∷ k) (y ∷ d))
     (rw (decimal_value m hm, decimal_value t ht, decimal_value p hp, keyid, base64_value y d bd ld) refl) refl
     (omega (arith, length-cost, length-strict_base64))
 
@@ -73,7 +73,7 @@ pub record Fronts (m t p : ℕ) (k d : List ℕ) : Type 0 where
   pub lanes : are_params (cost_item (codes "m") m ∷ cost_item (codes "t") t ∷ cost_item (codes "p") p ∷ []) ≡ true
   pub keyid : are_params
       (cost_item (codes "m") m ∷ cost_item (codes "t") t ∷ cost_item (codes "p") p ∷ bytes_item (codes "keyid") k) ≡ true
-  pub whole : are_params (listed m t p k d) ≡ true
+  pub whole : are_params (parameter_items m t p k d) ≡ true
 
 pub listed_fronts : (m t p : ℕ) (k d : List ℕ) → m < 2 ^ 32 → t < 2 ^ 32 → p < 2 ^ 32 → IsBytes k → IsBytes d
     → length k ≤ 8 → length d ≤ 32 → Fronts m t p k d
@@ -82,7 +82,7 @@ listed_fronts m t p k d hm ht hp bk bd lk ld =
     let mtp : List Pair = cost_item (codes "m") m ∷ cost_item (codes "t") t ∷ cost_item (codes "p") p ∷ [] in
     let keyid : List Pair = bytes_item (codes "keyid") k in
     let rest : List Pair = bytes_item (codes "data") d in
-    let whole : are_params (listed m t p k d) ≡ true = listed_good m t p k d hm ht hp bk bd lk ld in
+    let whole : are_params (parameter_items m t p k d) ≡ true = listed_good m t p k d hm ht hp bk bd lk ld in
     record {
       memory = params_front (cost_item (codes "m") m ∷ [])
           (cost_item (codes "t") t ∷ cost_item (codes "p") p ∷ (keyid ++ rest)) whole;

@@ -7,8 +7,8 @@ use Rattle.argon2_base.specs.Texts.{IsBytes}
 use Rattle.argon2_base.proofs.phc_lemmas.Base64Lemmas.{short_bytes_again}
 use Rattle.argon2_base.proofs.phc_lemmas.DecimalLemmas.{number_again}
 use Rattle.argon2_base.specs.Texts.{number_of, short_bytes, strict_base64}
-use Rattle.argon2.specs.ListedParameters.{listed, params_of}
-use Rattle.argon2.specs.Settings.{first_fault, plain}
+use Rattle.argon2.specs.ListedParameters.{parameter_items, params_of}
+use Rattle.argon2.specs.Settings.{first_fault, cost_parameters}
 
 -- costs that are valid with an output length are valid without one
 pub valid_without : (m t p : ℕ) (o : Option ℕ) → IsNone (first_fault m t p o) → first_fault m t p None ≡ None
@@ -26,7 +26,7 @@ some_bytes most x b bytes h = short_bytes_again most _ (x ∷ b) bytes h refl
 pub read_again : (m t p : ℕ) (k d : List ℕ) (o : Option ℕ) → m < 2 ^ 32 → t < 2 ^ 32 → p < 2 ^ 32
     → IsBytes k → IsBytes d → length k ≤ 8 → length d ≤ 32
     → first_fault m t p o ≡ None
-    → params_of o (listed m t p k d) ≡ Ok (record (plain m t p o) { keyid = k; associated = d })
+    → params_of o (parameter_items m t p k d) ≡ Ok (record (cost_parameters m t p o) { keyid = k; associated = d })
 read_again m t p [] [] o hm ht hp bk bd lk ld valid = rw (cost m hm, cost t ht, cost p hp, valid) refl
 read_again m t p (x ∷ k) [] o hm ht hp bk bd lk ld valid =
     rw (cost m hm, cost t ht, cost p hp, some_bytes 8 x k bk lk, valid) refl

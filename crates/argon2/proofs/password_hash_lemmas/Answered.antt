@@ -7,8 +7,8 @@ use Rattle.argon2_base.specs.Error.{Fault, as_fault, bad_algorithm, bad_params, 
 use Rattle.argon2_base.specs.PhcText.{Pair, Phc}
 use Rattle.argon2_base.specs.declared.error.password_hash.Error.{Error}
 use Rattle.argon2.specs.Settings.{Parameters, Settings, algorithm_named, first_fault, version_numbered}
-use Rattle.argon2.specs.ListedParameters.{checked, items_fault, number_at, params_of}
-use Rattle.argon2.specs.StoredTexts.{Stored, read, shown_settings, stored_of}
+use Rattle.argon2.specs.ListedParameters.{unless_fault, items_fault, number_at, params_of}
+use Rattle.argon2.specs.StoredTexts.{Stored, result_and_then, shown_settings, stored_of}
 
 -- a fault that was passed on
 pub passed_on : {A X : Type 0} (view : A → X) (e : Error) (r : Result A Error) → IsErrAnd r (λ f. f ≡ e)
@@ -17,13 +17,13 @@ passed_on view e (Ok _) h = absurd h
 passed_on view e (Err f) h = rw h refl
 
 -- what is read is read of something
-pub read_ok : {X Y : Type 0} (r : Result X Fault) (next : X → Result Y Fault) (y : Y) → Ok y ≡ read r next
+pub read_ok : {X Y : Type 0} (r : Result X Fault) (next : X → Result Y Fault) (y : Y) → Ok y ≡ result_and_then r next
     → (x : X) × (r ≡ Ok x) × (Ok y ≡ next x)
 read_ok (Ok x) next y is = (x, refl, is)
 read_ok (Err fault) next y is = absurd cc
 
 -- what is checked is as it was
-checked_ok : {X : Type 0} (fault : Option Fault) (r : Result X Fault) (x : X) → Ok x ≡ checked fault r → Ok x ≡ r
+checked_ok : {X : Type 0} (fault : Option Fault) (r : Result X Fault) (x : X) → Ok x ≡ unless_fault fault r → Ok x ≡ r
 checked_ok fault r x is = grind arith
 
 -- parameters that are read have the length that is given

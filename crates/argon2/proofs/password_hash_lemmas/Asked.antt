@@ -5,12 +5,12 @@ use Rattle.argon2_base.specs.declared.error.password_hash.Error.TheVariants.{Alg
 use Rattle.argon2_base.specs.Error.{outcome_of}
 use Rattle.argon2.specs.declared.algorithm.Algorithm.{Algorithm}
 use Rattle.argon2.specs.Settings.{IsReadBy, algorithm_name}
-use Rattle.argon2.specs.TextHashing.{algorithm_asked}
+use Rattle.argon2.specs.TextHashing.{algorithm_or_default}
 use Rattle.argon2.proofs.params_lemmas.Named.{algorithm_named-text}
 
 -- an algorithm that is asked for by its name
 pub named_asked : (name : List ℕ) (o : Option (List ℕ)) (r : Result Algorithm Error) → o ≡ Some name
     → IsReadBy algorithm_name NoAlgorithm name r
-    → outcome_of (λ algorithm. algorithm) r ≡ algorithm_asked o
+    → outcome_of (λ algorithm. algorithm) r ≡ algorithm_or_default o
 named_asked name o (Ok algorithm) e is = rw (e, algorithm_named-text name (Ok algorithm) is) refl
 named_asked name o (Err fault) e not = rw (e, algorithm_named-text name (Err fault) not, not.0) refl

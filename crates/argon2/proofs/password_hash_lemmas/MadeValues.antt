@@ -18,7 +18,7 @@ use Rattle.argon2.specs.Argon2.{context_with, settings_of}
 use Rattle.argon2.specs.Settings.{Parameters, algorithm_name, first_fault, version_number}
 use Rattle.argon2.specs.Rfc9106.{tag_of}
 use Rattle.argon2.specs.ListedParameters.{list_of, params_of}
-use Rattle.argon2.specs.TextHashing.{Target, IsTarget, target_of, tag_length, sized, made}
+use Rattle.argon2.specs.TextHashing.{Target, IsTarget, target_of, tag_length, with_tag_length, hash_value}
 use Rattle.argon2.proofs.params_lemmas.ListedLemmas.{listed_good}
 use Rattle.argon2.proofs.params_lemmas.Named.{algorithm_named-name, version_numbered-number}
 use Rattle.argon2.proofs.params_lemmas.ReadAgain.{read_again}
@@ -80,11 +80,11 @@ module _ (target : Target) (is : IsTarget target) (password salt : List ℕ) whe
   hash_bytes = tag_bytes (context_with target.settings target.secret) password salt (tag_length target.settings) is.tag_length
 
   -- its parameters are read again
-  parameters_shown : params_of (Some (length hash)) (list_of target.settings.parameters) ≡ Ok (sized target.settings).parameters
+  parameters_shown : params_of (Some (length hash)) (list_of target.settings.parameters) ≡ Ok (with_tag_length target.settings).parameters
   parameters_shown = rw hash_bytes.1 (read_again _ _ _ _ _ (Some (tag_length target.settings)) is.m_cost is.t_cost (lanes)
       is.keyid.0 is.associated.0 is.keyid.2 is.associated.2 sized_valid.0)
 
-  pub made_is_phc : HasBytes 8 48 salt → IsPhc (made target password salt)
+  pub made_is_phc : HasBytes 8 48 salt → IsPhc (hash_value target password salt)
   made_is_phc h = record {
     algorithm = is_name-name target.settings.algorithm;
     version = version_small target.settings.version;
@@ -94,11 +94,11 @@ module _ (target : Target) (is : IsTarget target) (password salt : List ℕ) whe
     salted = λ _. refl;
   }
 
-  pub made_accepts : length password ≤ 4294967295 → AcceptsBy target.secret password (made target password salt)
+  pub made_accepts : length password ≤ 4294967295 → AcceptsBy target.secret password (hash_value target password salt)
   made_accepts short = record {
     salt = salt;
     hash = hash;
-    settings = sized target.settings;
+    settings = with_tag_length target.settings;
     has_salt = refl;
     has_hash = refl;
     has_parameters = parameters_shown;
@@ -109,13 +109,13 @@ module _ (target : Target) (is : IsTarget target) (password salt : List ℕ) whe
   }
 
   -- a made value shows the target's settings
-  pub made_shows : (v : Phc) → v ≡ made target password salt → shown_settings v ≡ Ok (sized target.settings)
+  pub made_shows : (v : Phc) → v ≡ hash_value target password salt → shown_settings v ≡ Ok (with_tag_length target.settings)
   made_shows v e =
       let named = algorithm_named-name target.settings.algorithm in
       rw (e, parameters_shown, named, version_numbered-number target.settings.version) refl
 
   -- the text of a made value accepts the password
-  pub made_accepted : (v : Phc) → v ≡ made target password salt → HasBytes 8 48 salt → length password ≤ 4294967295
+  pub made_accepted : (v : Phc) → v ≡ hash_value target password salt → HasBytes 8 48 salt → length password ≤ 4294967295
       → Accepts target.secret password (phc_text v)
   made_accepted v e bytes short = (v, (rw e (made_is_phc bytes), refl), rw e (made_accepts short))
 
@@ -126,7 +126,7 @@ pub is_made : (target : Target) (password salt name : List ℕ) (number : ℕ) (
     → ◌≡◌ {A = Result (List Pair) HashError} (Ok ps) (Ok (list_of v)) → v ≡ target.settings.parameters → own ≡ salt → given ≡ own
     → tag ≡ tag_of (context_with target.settings target.secret) password given (tag_length target.settings)
     → record { algorithm = name; version = Some number; params = ps; salt = Some own; hash = Some tag }
-    ≡ made target password salt
+    ≡ hash_value target password salt
 is_made target password salt name number ps v own given tag named numbered listed of_target salted same tagged =
     let list : ps ≡ list_of v = cc in
     rw (named, numbered, list, of_target, tagged, same, salted) refl

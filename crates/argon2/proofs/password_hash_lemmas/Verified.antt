@@ -8,7 +8,7 @@ use Rattle.argon2_base.specs.Error.{bad_algorithm, bad_password, bad_version, fa
 use Rattle.argon2_base.specs.declared.error.password_hash.Error.{Error}
 use Rattle.argon2_base.specs.declared.error.password_hash.Error.TheVariants.{OutOfMemory}
 use Rattle.argon2_base.specs.PhcText.{Phc}
-use Rattle.argon2.specs.StoredTexts.{AcceptsBy, IsVerifyAnswer, Stored, is_tag, verified, shown_settings, stored_of}
+use Rattle.argon2.specs.StoredTexts.{AcceptsBy, IsVerifyAnswer, Stored, is_tag, verify_outcome, shown_settings, stored_of}
 use Rattle.argon2.specs.Settings.{algorithm_named, version_numbered}
 use Rattle.argon2.specs.Rfc9106.{tag_of}
 use Rattle.argon2.specs.Argon2.{context_with}
@@ -29,7 +29,7 @@ tag_again secret password stored h =
 
 module _ (secret password : List ℕ) (v : Phc) where
   -- Ok is answered only if the value accepts
-  accepts_verified : Ok tt ≡ verified secret password v → AcceptsBy secret password v
+  accepts_verified : Ok tt ≡ verify_outcome secret password v → AcceptsBy secret password v
   accepts_verified h =
       let stored = read_ok (stored_of v) _ tt h in
       let salt = read_ok (ok_or v.salt bad_password) _ stored.0 (sym stored.1) in
@@ -57,7 +57,7 @@ module _ (secret password : List ℕ) (v : Phc) where
       }
 
   -- if the value accepts, Ok is answered
-  verified_accepts : AcceptsBy secret password v → verified secret password v ≡ Ok tt
+  verified_accepts : AcceptsBy secret password v → verify_outcome secret password v ≡ Ok tt
   verified_accepts a =
       let same = (bytes_eq-Decides a.hash (tag_of (context_with a.settings secret) password a.salt (length a.hash))).1
       a.same_tag in

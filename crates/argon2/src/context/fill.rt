@@ -4,7 +4,7 @@ ghost use Rattle.std.specs.Prelude.{◌≡◌, ◌+◌, ◌-◌, ◌*◌, ◌^�
 ghost use Rattle.argon2.specs.Rfc9106.{AreShort, block_count, lane_length, segment_length};
 ghost use Rattle.argon2.specs.Layout.{addresses_at};
 ghost use Rattle.argon2.specs.Hashing.{FillsFront};
-ghost use Rattle.argon2.specs.WatchedFilling.{Fills, Watches, begun, in_order, mixing_calls, position_index, segment_calls};
+ghost use Rattle.argon2.specs.WatchedFilling.{Fills, Watches, columns_before, in_order, mixing_calls, position_index, segment_calls};
 ghost use Rattle.argon2.specs.SegmentSteps.{column_of, IsStepAt};
 ghost use Rattle.argon2.specs.Steps.{reference_place, step, turn_count, IsStep};
 
@@ -67,7 +67,7 @@ impl<'a> Instance<'a> {
         requires room { block_count self.now ≤ length memory.old }
         requires count { watch.old.work < 2 ^ 127 }
         ensures filled { Fills self.now pass
-            (in_order self.now pass slice lane (begun self.now pass slice))
+            (in_order self.now pass slice lane (columns_before self.now pass slice))
             (in_order self.now pass slice lane ((slice + 1) * segment_length self.now))
             (map B.words memory.old) (map B.words memory.new)
             watch.old.positions.now watch.new.positions.now }

@@ -30,7 +30,7 @@ impl<'key> Target<'key> {
     ghost use Rattle.argon2.specs.Argon2.{settings_of};
     ghost use Rattle.argon2.specs.NamedTexts.{IsCurrent, Leaves, Store, accepted_by, stream_after, value_after};
     ghost use Rattle.argon2.specs.Login.{IsNewTarget, LoginAnswer, target_value};
-    ghost use Rattle.argon2.specs.TextHashing.{HashingRefusal, IsFresh, sized};
+    ghost use Rattle.argon2.specs.TextHashing.{HashingRefusal, IsFresh, with_tag_length};
     ghost use Rattle.argon2.specs.declared.login.answers.Accepted.TheVariants.{Kept, Rehashed};
     ghost use Rattle.argon2.specs.declared.login.answers.LoginError.TheVariants.{Refused};
 
@@ -166,7 +166,7 @@ impl<'key> Target<'key> {
 
     // Whether the settings are these, with the length of the hashes.
     fn is_shown_by(&self, shown: &Settings) -> bool
-        ensures { IsTrue result ↔ (settings_value shown.now ≡ sized (settings_of self.now.argon2)) }
+        ensures { IsTrue result ↔ (settings_value shown.now ≡ with_tag_length (settings_of self.now.argon2)) }
     {
         let target = &self.argon2;
         if shown.algorithm != target.algorithm() || shown.version != target.version() {

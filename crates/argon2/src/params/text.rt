@@ -6,7 +6,7 @@ ghost use Rattle.argon2_base.specs.Texts.{number_of};
 ghost use Rattle.argon2_base.specs.PhcText.{are_params};
 ghost use Rattle.argon2_base.specs.Error.{bad_param, outcome_of};
 ghost use Rattle.argon2.specs.Argon2.{own_bytes};
-ghost use Rattle.argon2.specs.ListedParameters.{AreReadAgain, bytes_item, listed, short_bytes};
+ghost use Rattle.argon2.specs.ListedParameters.{AreReadAgain, bytes_item, parameter_items, short_bytes};
 
 use super::short_bytes::ShortBytes;
 use super::{AssociatedData, KeyId, Params, ParamsBuilder};
@@ -19,7 +19,7 @@ use std::str::FromStr;
 fn params_string(m: u32, t: u32, p: u32, keyid: &[u8], associated: &[u8]) -> ParamsString
     requires keyid_fits { length keyid.now ≤ 8 }
     requires data_fits { length associated.now ≤ 32 }
-    ensures list { result ≡ listed m t p keyid.now associated.now }
+    ensures list { result ≡ parameter_items m t p keyid.now associated.now }
     ensures again { AreReadAgain m t p keyid.now associated.now }
 {
     let mut list = ParamsString::new();

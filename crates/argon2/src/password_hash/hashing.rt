@@ -2,7 +2,7 @@
 
 ghost use Rattle.std.specs.Prelude.{◌≡◌, option_copied};
 ghost use Rattle.argon2_base.specs.Error.{outcome_of};
-ghost use Rattle.argon2.specs.TextHashing.{algorithm_asked, version_asked};
+ghost use Rattle.argon2.specs.TextHashing.{algorithm_or_default, version_or_default};
 
 use super::{CustomizedPasswordHasher, Error, PasswordHasher, Result};
 use crate::algorithm::Algorithm;
@@ -48,14 +48,14 @@ impl PasswordHasher<PasswordHash> for Argon2<'_> {
     ghost use Rattle.argon2_base.specs.PhcText.{phc_text};
     ghost use Rattle.argon2.specs.StoredTexts.{Accepts, shown_settings};
     ghost use Rattle.argon2.specs.Argon2.{secret_of, settings_of};
-    ghost use Rattle.argon2.specs.TextHashing.{target_of, sized, IsHashAnswer};
+    ghost use Rattle.argon2.specs.TextHashing.{target_of, with_tag_length, IsHashAnswer};
 
     ghost hash_gives = { λ argon2. IsHashAnswer (target_of argon2) };
 
     ghost accepts = { λ argon2 password hash.
         Accepts (secret_of argon2) password (phc_text (phc_of hash)) };
 
-    ghost shows = { λ argon2 hash. shown_settings (phc_of hash) ≡ Ok (sized (settings_of argon2)) };
+    ghost shows = { λ argon2 hash. shown_settings (phc_of hash) ≡ Ok (with_tag_length (settings_of argon2)) };
 
     fn hash_password_with_salt(
         &self,
@@ -91,7 +91,7 @@ impl PasswordHasher<PasswordHash> for Argon2<'_> {
 
 // The algorithm of a name, or Argon2id.
 fn asked_algorithm(name: Option<&str>) -> Result<Algorithm>
-    ensures { outcome_of (λ a. a) result ≡ algorithm_asked (option_copied name.entry) }
+    ensures { outcome_of (λ a. a) result ≡ algorithm_or_default (option_copied name.entry) }
 {
     let Some(name) = name else {
         return Ok(Algorithm::default());
@@ -101,7 +101,7 @@ fn asked_algorithm(name: Option<&str>) -> Result<Algorithm>
 
 // The version of a number, or 0x13.
 fn asked_version(number: Option<u32>) -> Result<Version>
-    ensures { outcome_of (λ v. v) result ≡ version_asked number }
+    ensures { outcome_of (λ v. v) result ≡ version_or_default number }
 {
     let Some(number) = number else {
         return Ok(Version::default());
@@ -114,12 +114,12 @@ impl CustomizedPasswordHasher<PasswordHash> for Argon2<'_> {
     ghost use Rattle.argon2_base.specs.PhcText.{phc_text};
     ghost use Rattle.argon2.specs.StoredTexts.{Accepts};
     ghost use Rattle.argon2.specs.Argon2.{parameters_of, secret_of};
-    ghost use Rattle.argon2.specs.TextHashing.{settings_asked, IsAskedAnswer};
+    ghost use Rattle.argon2.specs.TextHashing.{settings_or_default, IsAskedAnswer};
 
     type Params = Params;
 
     ghost customized_gives = { λ argon2 name number params.
-        IsAskedAnswer (settings_asked name number (parameters_of params)) (secret_of argon2) };
+        IsAskedAnswer (settings_or_default name number (parameters_of params)) (secret_of argon2) };
 
     ghost accepts = { λ argon2 password hash.
         Accepts (secret_of argon2) password (phc_text (phc_of hash)) };

@@ -2,14 +2,14 @@ use Rattle.std.proofs.Common.{arith, ◌≡◌, ◌*◌, ◌≤◌, ℕ, List, O
 use Rattle.std.specs.Prelude.{unwrap_or}
 use Rattle.std.proofs.lemmas.Bool.Decides.{nat_tests}
 use Rattle.std.proofs.lemmas.Result.{IfOk-weaker}
-use Rattle.argon2.specs.Settings.{AreValid, plain}
+use Rattle.argon2.specs.Settings.{AreValid, cost_parameters}
 use Rattle.argon2_calibrate.specs.Choice.{ArePossible, IsBest, IsChoice, IsFirst, least_passes}
 use Rattle.argon2_calibrate.specs.declared.choice.Choice.{Choice}
 use Rattle.argon2_calibrate.specs.declared.choice.Found.{Found}
 use Rattle.argon2_calibrate.specs.declared.options.Options.{Options}
 use Rattle.argon2_calibrate.proofs.search.search.Goals as goal
 
-valid_within : (most least p m t : ℕ) → AreValid (plain most least p None) → 8 * p ≤ m → 1 ≤ t → AreValid (plain m t p None)
+valid_within : (most least p m t : ℕ) → AreValid (cost_parameters most least p None) → 8 * p ≤ m → 1 ≤ t → AreValid (cost_parameters m t p None)
 valid_within most least p m t valid room some = grind (arith, nat_tests)
 
 choice_of : (Takes : ℕ → ℕ → Option (List ℕ) → Type 0) (options : Options) (first : Choice) (found : Found)

@@ -1,7 +1,7 @@
 use Rattle.std.proofs.Common.{◌≡◌, ◌+◌, ◌-◌, ◌*◌, ◌/◌, refl, ap, ◌∙◌, arith}
 use Rattle.argon2.specs.Rfc9106.{segment_length}
 use Rattle.argon2.specs.Layout.{addresses_at}
-use Rattle.argon2.specs.WatchedFilling.{address_mixings, begun, segment_calls}
+use Rattle.argon2.specs.WatchedFilling.{address_mixings, columns_before, segment_calls}
 use Rattle.argon2.proofs.recurrence.Addresses.{first_mixings, same_addresses, same_mixings}
 use Rattle.argon2.proofs.context_lemmas.InOrder.{filled_step}
 use Rattle.argon2.proofs.context_lemmas.SegmentColumns.{a_column, a_step}
@@ -11,7 +11,7 @@ pub loop-index-init : goal.loop-index-init
 loop-index-init g c =
     let ctx = c.args.self.now in
     let start = c.first_index-start.ensures in
-    let begins : begun ctx c.args.pass c.args.slice ≡ c.args.slice * segment_length ctx + c.first_index-start.result =
+    let begins : columns_before ctx c.args.pass c.args.slice ≡ c.args.slice * segment_length ctx + c.first_index-start.result =
     (let turns = start.turns in omega arith) in
     let serves : 0 / 128 ≡ (c.first_index-start.result - 1) / 128 = (let few = start.few in omega arith) in
     record {

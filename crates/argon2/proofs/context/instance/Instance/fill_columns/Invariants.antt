@@ -1,7 +1,7 @@
 use Rattle.std.proofs.Common.{◌≡◌, ◌+◌, ◌-◌, ◌*◌, map}
 use Rattle.argon2.specs.Rfc9106.{segment_length}
 use Rattle.argon2.specs.Layout.{addresses_at}
-use Rattle.argon2.specs.WatchedFilling.{address_mixings, begun, in_order, Fills, Watches}
+use Rattle.argon2.specs.WatchedFilling.{address_mixings, columns_before, in_order, Fills, Watches}
 use Rattle.argon2.proofs.context.instance.Instance.fill_columns.Given as goal
 
 -- the address block at hand serves the index before
@@ -9,7 +9,7 @@ abbrev pub invariant-loop-index : goal.invariant-loop-index
 invariant-loop-index g l =
     let blocks = map g.B.MemoryBlock.words in
     record {
-      filled : Fills l.self l.pass (in_order l.self l.pass l.slice l.lane (begun l.self l.pass l.slice))
+      filled : Fills l.self l.pass (in_order l.self l.pass l.slice l.lane (columns_before l.self l.pass l.slice))
           (in_order l.self l.pass l.slice l.lane (l.slice * segment_length l.self + l.index)) (blocks l.fn.memory) (blocks l.memory)
           l.fn.watch.positions.now l.watch.positions.now;
       addresses : l.addresses ≡ addresses_at l.self l.pass l.lane l.slice (l.index - 1);

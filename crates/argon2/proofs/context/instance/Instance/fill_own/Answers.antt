@@ -3,7 +3,7 @@ use Rattle.std.proofs.lemmas.Bool.Decides.{nat_tests}
 use Rattle.argon2.specs.Rfc9106.{segment_length}
 use Rattle.argon2.specs.Layout.{addresses_at}
 use Rattle.argon2.specs.Steps.{step}
-use Rattle.argon2.specs.WatchedFilling.{begun}
+use Rattle.argon2.specs.WatchedFilling.{columns_before}
 use Rattle.argon2.proofs.recurrence.Addresses.{same_addresses}
 use Rattle.argon2.proofs.context_lemmas.Filling.{HasBlocksUpTo-like}
 use Rattle.argon2.proofs.context_lemmas.SegmentColumns.{a_column, a_step, in_lane}
@@ -14,7 +14,7 @@ pub loop-index-init : goal.loop-index-init
 loop-index-init c =
     let ctx = c.args.self.now in
     let start = c.first_index-start.ensures in
-    let begins : begun ctx c.args.pass c.args.slice ≡ c.args.slice * segment_length ctx + c.first_index-start.result =
+    let begins : columns_before ctx c.args.pass c.args.slice ≡ c.args.slice * segment_length ctx + c.first_index-start.result =
     (let turns = start.turns in omega arith) in
     let serves : 0 / 128 ≡ (c.first_index-start.result - 1) / 128 = (let few = start.few in omega arith) in
     record {
@@ -24,7 +24,7 @@ loop-index-init c =
         (
           parts,
           rw (← begins)
-              (HasBlocksUpTo-like ctx first c.args.pass (λ _. begun ctx c.args.pass c.args.slice) _ memory
+              (HasBlocksUpTo-like ctx first c.args.pass (λ _. columns_before ctx c.args.pass c.args.slice) _ memory
               (λ l _. ahead-first ctx c.args.pass c.args.slice c.args.lane l) is),
         ),
       );

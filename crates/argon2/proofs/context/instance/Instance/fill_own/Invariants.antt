@@ -2,7 +2,7 @@ use Rattle.std.proofs.Common.{◌≡◌, ◌+◌, ◌-◌, ◌*◌, length}
 use Rattle.argon2.specs.Rfc9106.{FirstColumns, segment_length}
 use Rattle.argon2.specs.Layout.{Memory, addresses_at}
 use Rattle.argon2.specs.Segments.{AreParts}
-use Rattle.argon2.specs.WatchedFilling.{HasBlocksUpTo, begun}
+use Rattle.argon2.specs.WatchedFilling.{HasBlocksUpTo, columns_before}
 use Rattle.argon2.proofs.context_lemmas.SegmentParts.{ahead}
 use Rattle.argon2.proofs.context.instance.Instance.fill_own.Given as goal
 
@@ -11,7 +11,7 @@ abbrev pub invariant-loop-index : goal.invariant-loop-index
 invariant-loop-index l = record {
   size : length l.own ≡ length l.fn.own;
   filled : (first : FirstColumns) (memory : Memory) → AreParts l.self l.slice l.lane memory l.before l.fn.own l.after
-      → HasBlocksUpTo l.self first l.pass (λ _. begun l.self l.pass l.slice) memory
+      → HasBlocksUpTo l.self first l.pass (λ _. columns_before l.self l.pass l.slice) memory
       → (new : Memory) × (AreParts l.self l.slice l.lane new l.before l.own l.after
       × HasBlocksUpTo l.self first l.pass (ahead l.self l.pass l.slice l.lane (l.slice * segment_length l.self + l.index)) new);
   addresses : l.addresses ≡ addresses_at l.self l.pass l.lane l.slice (l.index - 1);
