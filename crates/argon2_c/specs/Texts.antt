@@ -51,18 +51,18 @@ costs_part m t p more =
     codes "m=" ++ (decimal m ++ (codes ",t=" ++ (decimal t ++ (codes ",p=" ++ (decimal p ++ 36 ∷ more)))))
 
 -- `$NAME$v=V$m=M,t=T,p=P$SALT$TAG`, with salt and tag as they stand here
-abbrev pub joined : List ℕ → Said → List ℕ
-joined name v =
+abbrev pub plain_spelling : List ℕ → Said → List ℕ
+plain_spelling name v =
     36 ∷ (name ++ 36 ∷ version_part v.version
     (costs_part v.m_cost v.t_cost v.lanes (v.salt ++ 36 ∷ v.tag)))
 
 -- with salt and tag in Base64
-abbrev pub written : Said → Said
-written v = record v { salt = strict_base64 v.salt; tag = strict_base64 v.tag }
+abbrev pub in_base64 : Said → Said
+in_base64 v = record v { salt = strict_base64 v.salt; tag = strict_base64 v.tag }
 
 -- the text of a value
 abbrev pub spelling : List ℕ → Said → List ℕ
-spelling name v = joined name (written v)
+spelling name v = plain_spelling name (in_base64 v)
 
 -- the text of these numbers, salt and hash
 abbrev pub text_of : ℕ → ℕ → ℕ → ℕ → ℕ → List ℕ → List ℕ → List ℕ

@@ -5,7 +5,7 @@ ghost use Rattle.std.specs.List.{list_all};
 ghost use Rattle.std.specs.Fmt.{decimal};
 ghost use Rattle.base64.specs.Decode.{IsWrittenOver, decoded_estimate};
 ghost use Rattle.argon2_base.specs.Texts.{IsBytes, is_value_char, strict_base64};
-ghost use Rattle.argon2_c.specs.Texts.{IsShown, Said, IsSaid, Says, costs_part, joined, said_of, spelling, version_part, written};
+ghost use Rattle.argon2_c.specs.Texts.{IsShown, Said, IsSaid, Says, costs_part, in_base64, plain_spelling, said_of, spelling, version_part};
 
 use crate::hash::name;
 use argon2_base::phc::read_decimal;
@@ -61,13 +61,13 @@ pub fn decode(algorithm: u32, text: &[u8], room: &mut [u8]) -> Option<Shown>
 #[tactic(auto, using(argon2_base::proofs::phc_lemmas::ValueCharacters::base64_chars))]
 fn split<'a>(name: &str, text: &'a str) -> Option<(Option<u32>, (u32, u32, u32), &'a str, &'a str)>
     ensures found { IfSome result (λ p. text.now
-        ≡ joined name.now (said_of p.0 p.1.0 p.1.1 p.1.2 p.2.now p.3.now)) }
+        ≡ plain_spelling name.now (said_of p.0 p.1.0 p.1.1 p.1.2 p.2.now p.3.now)) }
     ensures numbers { IfSome result (λ p. IfSome p.0 (λ n. n < 2 ^ 32)
         × (p.1.0 < 2 ^ 32) × (p.1.1 < 2 ^ 32) × (p.1.2 < 2 ^ 32)) }
     ensures short { IfSome result (λ p. length p.2.now + length p.3.now + 10
         ≤ length text.now) }
     ensures only { (v : Said) → IsSaid v → text.now ≡ spelling name.now v → IsSomeAnd result
-        (λ p. said_of p.0 p.1.0 p.1.1 p.1.2 p.2.now p.3.now ≡ written v) }
+        (λ p. said_of p.0 p.1.0 p.1.1 p.1.2 p.2.now p.3.now ≡ in_base64 v) }
 {
     let text = after_name(name, text)?;
     let (version, text) = version(text)?;
