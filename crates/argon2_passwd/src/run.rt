@@ -8,7 +8,7 @@ ghost use Rattle.argon2.specs.Login.{accepted_text};
 ghost use Rattle.argon2.specs.TextHashing.{target_of};
 ghost use Rattle.argon2_passwd.specs.Answers.{IsAnswered, IsCheckReply, IsEnded, IsHashReply, IsOnce, IsRefused, IsOldSecret, IsReplied, IsSecret, IsUnchecked, Under};
 ghost use Rattle.argon2_passwd.specs.Jobs.{choices_of, job_of, policy_by, target_by};
-ghost use Rattle.argon2_passwd.specs.News.{behind_text, made_text, news_of, news_text};
+ghost use Rattle.argon2_passwd.specs.News.{news_of, news_text};
 ghost use Rattle.argon2_passwd.specs.Failures.{status_of};
 ghost use Rattle.argon2_passwd.specs.Passwords.{IsUnread};
 ghost use Rattle.argon2_passwd.specs.Salts.{IsSalt, next_salt};
@@ -94,31 +94,17 @@ fn tell<E: Write>(alloc: Global, errors: &mut E, action: Action<'_>, news: News)
 fn news_text(alloc: Global, path: &str, news: News) -> Result<String, AllocError>
     ensures { IfOk result (λ text. string_bytes text ≡ news_text path.now news) }
 {
-    let made = made_text(alloc, path, news.is_made)?;
-    let behind = behind_text(alloc, path, news.is_behind)?;
+    let made = if news.is_made {
+        format!(in alloc; "{PROGRAM}: made {path}\n")?
+    } else {
+        String::new(alloc)
+    };
+    let behind = if news.is_behind {
+        format!(in alloc; "{PROGRAM}: {path}-wal has changes that {path} lacks: keep both\n")?
+    } else {
+        String::new(alloc)
+    };
     format!(in alloc; "{made}{behind}")
-}
-
-// The line that a file was made, if it was.
-fn made_text(alloc: Global, path: &str, is_made: bool) -> Result<String, AllocError>
-    ensures { IfOk result (λ text. string_bytes text ≡ made_text path.now is_made) }
-{
-    if is_made {
-        format!(in alloc; "{PROGRAM}: made {path}\n")
-    } else {
-        Ok(String::new(alloc))
-    }
-}
-
-// The line that a log has changes which its file lacks, if it has.
-fn behind_text(alloc: Global, path: &str, is_behind: bool) -> Result<String, AllocError>
-    ensures { IfOk result (λ text. string_bytes text ≡ behind_text path.now is_behind) }
-{
-    if is_behind {
-        format!(in alloc; "{PROGRAM}: {path}-wal has changes that {path} lacks: keep both\n")
-    } else {
-        Ok(String::new(alloc))
-    }
 }
 
 // Says why the program fails, and returns the exit status. If the reader of standard output has gone, nothing is said.
