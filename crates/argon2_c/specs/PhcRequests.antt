@@ -42,8 +42,8 @@ params_refusal r output most_associated keyid associated secret =
     (first_of (own_faults r most_associated keyid associated secret))
 
 -- why no text is made with a salt and a hash of so many bytes, of a password of so many
-abbrev pub text_faults : ℕ → ℕ → ℕ → List (Bool × ℤ)
-text_faults salt hash password =
+abbrev pub making_faults : ℕ → ℕ → ℕ → List (Bool × ℤ)
+making_faults salt hash password =
     (nat_lt salt 8, SALT_TOO_SHORT)
     ∷ (nat_lt 48 salt, SALT_TOO_LONG)
     ∷ (nat_lt hash 4, OUTPUT_TOO_SHORT)
@@ -75,5 +75,5 @@ value_with r keyid associated salt hash = record {
 abbrev pub phc_encode_code : Request → List ℕ → List ℕ → List ℕ → List ℕ → ℕ → ℤ
 phc_encode_code r keyid associated salt hash room = unwrap_or
     (option_or (params_refusal r None 32 (length keyid) (length associated) 0)
-    (first_of (text_faults (length salt) (length hash) 0)))
+    (first_of (making_faults (length salt) (length hash) 0)))
     (if nat_lt (length (phc_text (value_with r keyid associated salt hash))) room then OK else ROOM_TOO_SHORT)

@@ -65,12 +65,12 @@ abbrev pub spelling : List ℕ → Said → List ℕ
 spelling name v = plain_spelling name (in_base64 v)
 
 -- the text of these numbers, salt and hash
-abbrev pub text_of : ℕ → ℕ → ℕ → ℕ → ℕ → List ℕ → List ℕ → List ℕ
-text_of algorithm version m t p salt tag = spelling (name_numbered algorithm) (said_of (Some version) m t p salt tag)
+abbrev pub hash_text : ℕ → ℕ → ℕ → ℕ → ℕ → List ℕ → List ℕ → List ℕ
+hash_text algorithm version m t p salt tag = spelling (name_numbered algorithm) (said_of (Some version) m t p salt tag)
 
 -- the text of a request's numbers, a salt and a hash
 abbrev pub text_asked : Request → List ℕ → List ℕ → List ℕ
-text_asked r salt tag = text_of r.algorithm r.version r.m_cost r.t_cost r.lanes salt tag
+text_asked r salt tag = hash_text r.algorithm r.version r.m_cost r.t_cost r.lanes salt tag
 
 -- the code of writing a text into so much room: a zero byte has to fit too
 abbrev pub encode_code : ℕ → List ℕ → ℕ → ℤ
@@ -90,6 +90,6 @@ pub record IsShown (v : Said) (shown : Shown) : Type 0 where
   pub tag : shown.tag ≡ length v.tag
 
 -- behind a text that ends at `at`, more of it is written up to `end`, and nothing else
-abbrev pub Appends : ℕ → List ℕ → List ℕ → List ℕ → ℕ → Type 0
-Appends at more old new end = (front first : List ℕ) → length front ≡ at → IsWrittenOver front first old
+abbrev pub WritesBehind : ℕ → List ℕ → List ℕ → List ℕ → ℕ → Type 0
+WritesBehind at more old new end = (front first : List ℕ) → length front ≡ at → IsWrittenOver front first old
     → (length (front ++ more) ≡ end) × IsWrittenOver (front ++ more) first new

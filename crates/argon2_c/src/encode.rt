@@ -3,7 +3,7 @@
 ghost use Rattle.std.specs.Prelude.{◌≡◌, ◌≢◌, ◌++◌, ◌∷◌, ◌+◌, ◌*◌, ◌/◌, ◌<◌, ◌≤◌, ℕ, List, Some, suc, length, drop};
 ghost use Rattle.std.specs.Fmt.{decimal};
 ghost use Rattle.argon2_base.specs.Texts.{strict_base64};
-ghost use Rattle.argon2_c.specs.Texts.{Appends, costs_part, encode_code, name_numbered, text_asked, text_of, version_part};
+ghost use Rattle.argon2_c.specs.Texts.{WritesBehind, costs_part, encode_code, hash_text, name_numbered, text_asked, version_part};
 
 use crate::code::{ENCODING_FAIL, OK};
 use crate::hash::name;
@@ -76,7 +76,7 @@ fn push_number(text: &mut ArrayString<64>, name: &str, n: u32)
 pub fn put(bytes: &[u8], out: &mut [u8], at: usize) -> usize
     requires { at + length bytes.now ≤ length out.old }
     ensures at { result ≡ at + length bytes.now }
-    ensures appends { Appends at bytes.now out.old out.new result }
+    ensures appends { WritesBehind at bytes.now out.old out.new result }
 {
     let end = at + bytes.len();
     out[at..end].copy_from_slice(bytes);
@@ -87,7 +87,7 @@ pub fn put(bytes: &[u8], out: &mut [u8], at: usize) -> usize
 fn put_base64(bytes: &[u8], out: &mut [u8], at: usize) -> usize
     requires { at + (4 * length bytes.now + 2) / 3 ≤ length out.old }
     ensures at { result ≡ at + (4 * length bytes.now + 2) / 3 }
-    ensures appends { Appends at (strict_base64 bytes.now) out.old out.new result }
+    ensures appends { WritesBehind at (strict_base64 bytes.now) out.old out.new result }
 {
     at + STANDARD_NO_PAD.encode_slice(bytes, &mut out[at..]).unwrap()
 }
@@ -105,7 +105,7 @@ pub extern "C" fn argon2_c_encoded_length(
 ) -> usize
     ensures value { (salt tag : List ℕ) → algorithm ≤ 2 → length salt ≡ salt_len
         → length tag ≡ tag_len
-        → result ≡ length (text_of algorithm 19 m_cost t_cost lanes salt tag) + 1 }
+        → result ≡ length (hash_text algorithm 19 m_cost t_cost lanes salt tag) + 1 }
     ensures none { 2 < algorithm → result ≡ 0 }
 {
     if algorithm > 2 {

@@ -5,7 +5,7 @@ ghost use Rattle.std.specs.Option.{option_or};
 ghost use Rattle.argon2_base.specs.PhcFields.{phc_of};
 ghost use Rattle.argon2_base.specs.PhcText.{phc_text};
 ghost use Rattle.argon2.specs.Refusals.{first_of};
-ghost use Rattle.argon2_c.specs.PhcRequests.{length_set, params_refusal, phc_encode_code, tag_faults, text_faults, value_with};
+ghost use Rattle.argon2_c.specs.PhcRequests.{length_set, making_faults, params_refusal, phc_encode_code, tag_faults, value_with};
 
 use super::fault::error_code;
 use crate::code::*;
@@ -102,7 +102,7 @@ pub extern "C" fn argon2_c_text_refusal(
 ) -> i32
     ensures { let n = lengths.now in result ≡ unwrap_or (option_or
         (params_refusal request.now (length_set n.has_output n.output) 32 n.keyid n.associated
-        n.secret) (first_of (text_faults salt hash pwd))) OK }
+        n.secret) (first_of (making_faults salt hash pwd))) OK }
 {
     let most = AssociatedData::MAX_LEN;
     let (keyid, associated, secret) = (lengths.keyid, lengths.associated, lengths.secret);
@@ -114,7 +114,7 @@ pub extern "C" fn argon2_c_text_refusal(
 
 // Why no text is made with a salt and a hash of so many bytes, of a password of so many.
 fn text_refusal(salt: usize, hash: usize, pwd: usize) -> Option<i32>
-    ensures { result ≡ first_of (text_faults salt hash pwd) }
+    ensures { result ≡ first_of (making_faults salt hash pwd) }
 {
     if salt < Salt::MIN_LENGTH {
         Some(SALT_TOO_SHORT)
@@ -221,7 +221,7 @@ fn value_of(
 ) -> PasswordHash
     requires params { params_refusal request.now None 32 (length keyid.now) (length associated.now) 0
         ≡ None }
-    requires text { first_of (text_faults (length salt.now) (length hash.now) 0) ≡ None }
+    requires text { first_of (making_faults (length salt.now) (length hash.now) 0) ≡ None }
     ensures { phc_of result ≡ value_with request.now keyid.now associated.now salt.now hash.now }
 {
     let mut builder = ParamsBuilder::new();
