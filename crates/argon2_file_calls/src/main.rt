@@ -8,13 +8,12 @@ use argon2_lines::{Answer, Call, Contexts, Line, context, line};
 use argon2_policy::Policy;
 use argon2_rows::{StoredText, View};
 use argon2_store::{AccountFile, LineError, account_file_runs};
-use sqlite_disk::Disk;
 use sqlite_std_file::{FileFrom, Wary};
 use sqlite_store::FileStore;
 use sqlite_trees::store::Store;
 use std::io::{self, BufWriter, Read, Write};
 
-type Held<'a, D> = Accounts<'a, FileStore<D>>;
+type Held<'a> = Option<Accounts<'a, FileStore<FileFrom<Wary>>>>;
 
 fn main(rt: HostRuntime) -> io::Result<()> {
     let alloc = rt.alloc();
@@ -39,29 +38,33 @@ fn write_all<'a, W: Write>(
 fn write_each<'a, W: Write>(
     rt: &HostRuntime,
     output: &mut W,
-    accounts: &mut Option<Held<'a, FileFrom<Wary>>>,
+    accounts: &mut Held<'a>,
     contexts: &Contexts<'a>,
     lines: &'a [Line<'a>],
 ) -> io::Result<()> {
     let mut answer = Answer::new(rt.alloc());
     for line in lines {
         let call = Call::new(line, contexts);
-        match call.name {
-            "AccountFile::open" => open(rt, &call, &mut answer, accounts),
-            _ => make(&call, &mut answer, accounts),
-        }
+        make(rt, &call, &mut answer, accounts);
         answer.write(&call, output)?;
     }
     output.flush()
 }
 
+fn make<'a>(rt: &HostRuntime, call: &Call<'_, 'a>, answer: &mut Answer, accounts: &mut Held<'a>) {
+    match call.name {
+        "context" => context::define(call, answer),
+        "account_file_runs" => {
+            account_file_runs();
+            answer.say("Ok");
+        }
+        "AccountFile::open" => open(rt, call, answer, accounts),
+        _ => on_file(call, answer, accounts),
+    }
+}
+
 // `AccountFile::open PATH CONTEXT M T P`: a file, and the policy for its accounts that the last four make.
-fn open<'a>(
-    rt: &HostRuntime,
-    call: &Call<'_, 'a>,
-    answer: &mut Answer,
-    accounts: &mut Option<Held<'a, FileFrom<Wary>>>,
-) {
+fn open<'a>(rt: &HostRuntime, call: &Call<'_, 'a>, answer: &mut Answer, accounts: &mut Held<'a>) {
     let argon2 = call.context(2).clone().unwrap_or_default();
     let Ok(policy) = Policy::new(answer.alloc, argon2, call.bound(3)) else {
         answer.is_refused = true;
@@ -76,46 +79,47 @@ fn open<'a>(
     }
 }
 
-fn make<D: Disk + Drop>(
-    call: &Call<'_, '_>,
-    answer: &mut Answer,
-    accounts: &mut Option<Held<'_, D>>,
-) {
-    match call.name {
-        "context" => context::define(call, answer),
-        "account_file_runs" => {
-            account_file_runs();
+// Makes a call on the accounts that are open. No other function passes a file on as a store, since the prover takes long
+// for each that does: those below are over any store.
+fn on_file(call: &Call<'_, '_>, answer: &mut Answer, accounts: &mut Held<'_>) {
+    if call.name == "AccountFile::into_store" {
+        if let Some(Accounts { file, .. }) = accounts.take() {
+            file.into_store();
             answer.say("Ok");
         }
-        "AccountFile::into_store" => {
-            if let Some(Accounts { file, .. }) = accounts.take() {
-                file.into_store();
-                answer.say("Ok");
-            }
+        return;
+    }
+    let Some(held) = accounts else {
+        return call.refuse();
+    };
+    match call.name {
+        "AccountFile::checkpoint" => answer.done(held.file.checkpoint()),
+        // `NAME GENERATOR PASSWORD`.
+        "service::sign_up" => {
+            let mut rng = call.generator(2);
+            answer.done(argon2_service::sign_up(held, &mut rng, call.word(1), call.bytes(3)));
+            answer.drawn(&rng);
         }
-        _ => on_open(call, answer, accounts),
+        _ => {}
+    }
+    on_accounts(call, answer, held);
+    if held.file.is_closed() {
+        answer.say("closed");
     }
 }
 
-fn on_open<D: Disk>(call: &Call<'_, '_>, answer: &mut Answer, accounts: &mut Option<Held<'_, D>>) {
-    match accounts {
-        Some(held) => {
-            on_accounts(call, answer, held);
-            if held.file.is_closed() {
-                answer.say("closed");
-            }
-        }
-        None => call.refuse(),
-    }
-}
-
-fn on_accounts<D: Disk>(call: &Call<'_, '_>, answer: &mut Answer, held: &mut Held<'_, D>) {
+fn on_accounts<S: Store>(call: &Call<'_, '_>, answer: &mut Answer, held: &mut Accounts<'_, S>) {
     match call.name {
         "AccountFile::write_lines" => write_lines(answer, &mut held.file),
-        "AccountFile::checkpoint" => answer.done(held.file.checkpoint()),
+        "AccountFile::checkpoint" => {}
         "AccountFile::add_all" => add_all(call, answer, &mut held.file),
         name if name.starts_with("AccountFile::") => on_name(call, answer, &mut held.file),
-        _ => with_password(call, answer, held),
+        name => {
+            if name != "service::sign_up" {
+                with_password(call, answer, held);
+            }
+            show_text(call, answer, &mut held.file);
+        }
     }
 }
 
@@ -183,7 +187,7 @@ fn show_text<S: Store>(call: &Call<'_, '_>, answer: &mut Answer, file: &mut Acco
 }
 
 // `NAME GENERATOR PASSWORD`, or `NAME GENERATOR OLD NEW`.
-fn with_password<D: Disk>(call: &Call<'_, '_>, answer: &mut Answer, held: &mut Held<'_, D>) {
+fn with_password<S: Store>(call: &Call<'_, '_>, answer: &mut Answer, held: &mut Accounts<'_, S>) {
     let (name, mut rng, password) = (call.word(1), call.generator(2), call.bytes(3));
     match call.name {
         "Accounts::register" => answer.done(held.register(&mut rng, name, password)),
@@ -192,14 +196,10 @@ fn with_password<D: Disk>(call: &Call<'_, '_>, answer: &mut Answer, held: &mut H
         "Accounts::change_password" => {
             answer.done(held.change_password(&mut rng, name, password, call.bytes(4)));
         }
-        "service::sign_up" => {
-            answer.done(argon2_service::sign_up(held, &mut rng, name, password));
-        }
         "service::has_password" => {
             answer.said(argon2_service::has_password(held, &mut rng, name, password));
         }
         _ => call.refuse(),
     }
     answer.drawn(&rng);
-    show_text(call, answer, &mut held.file);
 }
