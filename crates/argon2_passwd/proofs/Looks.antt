@@ -10,7 +10,8 @@ use Rattle.argon2_store.specs.AccountFile.{HasCause, HasFailedBy, HasNames, IsCl
 use Rattle.argon2_store.specs.Edits.{additions}
 use Rattle.argon2_store.specs.declared.account_file.AccountFile.{AccountFile}
 use Rattle.argon2_store.specs.declared.error.FileError.{FileError}
-use Rattle.argon2_passwd.specs.Answers.{AddsEntries, Line, Looks, entries_in, flaws_from, unless_known}
+use Rattle.argon2_passwd.specs.Answers.{AddsEntries, Looks}
+use Rattle.argon2_passwd.specs.Lines.{Line, entries_in, flaws_from, unless_known}
 use Rattle.argon2_passwd.specs.declared.failure.Flaw.{Flaw}
 
 -- the same cause, of other facts

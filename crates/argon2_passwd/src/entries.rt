@@ -2,7 +2,7 @@
 
 ghost use Rattle.std.specs.Prelude.{◌≡◌, ◌⊎◌, false, true, IsTrue, IfErr, IfOk, IfSome, map, MatchOption};
 ghost use Rattle.argon2_rows.specs.Names.{entry_of};
-ghost use Rattle.argon2_passwd.specs.Answers.{AreEntries, HasNoText, IsForeign, IsNotTaken, IsPair, IsTaken, RefusesText, has_control, has_scheme, parts_now, parts_of};
+ghost use Rattle.argon2_passwd.specs.Lines.{AreEntries, HasNoText, IsForeign, IsNotTaken, IsPair, IsTaken, RefusesText, has_control, has_scheme, parts_now, parts_of};
 ghost use Rattle.argon2_passwd.specs.Failures.{IsMemory, status_of};
 
 use crate::failure::{Failure, Flaw, of_reading};

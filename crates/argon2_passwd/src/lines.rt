@@ -3,7 +3,7 @@
 ghost use Rattle.std.specs.Prelude.{◌≡◌, ◌||◌, [], ℕ, List, IfOk, OnOk, map};
 ghost use Rattle.std.specs.List.{AllZip};
 ghost use Rattle.std.specs.Str.Lines.{lines};
-ghost use Rattle.argon2_passwd.specs.Answers.{IsEntryOrFlaw, entry_or_flaw, first_of_each, has_name, line_has_name, new_line};
+ghost use Rattle.argon2_passwd.specs.Lines.{IsEntryOrFlaw, entry_or_flaw, first_of_each, has_name, line_has_name, new_line};
 
 use crate::entries::{entry, has_control};
 use crate::failure::Flaw;

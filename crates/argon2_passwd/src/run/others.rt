@@ -7,7 +7,8 @@ ghost use Rattle.argon2_rows.specs.Table.{IsHonest};
 ghost use Rattle.argon2_store.specs.AccountFile.{HasNames, Serves, database_of};
 ghost use Rattle.argon2_store.specs.Edits.{additions};
 ghost use Rattle.argon2_store.specs.Errors.{is_refusal};
-ghost use Rattle.argon2_passwd.specs.Answers.{AddsOthers, IsServed, Looks, entries_in, entry_or_flaw, flaws_from, unless_known};
+ghost use Rattle.argon2_passwd.specs.Answers.{AddsOthers, IsServed, Looks};
+ghost use Rattle.argon2_passwd.specs.Lines.{entries_in, entry_or_flaw, flaws_from, unless_known};
 ghost use Rattle.argon2_passwd.specs.Jobs.{Job};
 ghost use Rattle.argon2_passwd.specs.Failures.{status_of};
 

@@ -4,7 +4,7 @@ use Rattle.std.specs.List.{AllZip}
 use Rattle.std.specs.Str.Lines.{lines}
 use Rattle.argon2_rows.specs.Names.{entry_of}
 use Rattle.argon2_rows.specs.declared.text.StoredText.{StoredText}
-use Rattle.argon2_passwd.specs.Answers.{AreEntries, HasNoText, IsEntry, IsFirstWithout, IsPair}
+use Rattle.argon2_passwd.specs.Lines.{AreEntries, HasNoText, IsEntry, IsFirstWithout, IsPair}
 use Rattle.argon2_passwd.specs.declared.failure.Failure.TheVariants.{Line}
 use Rattle.argon2_passwd.specs.declared.failure.Flaw.TheVariants.{Control, NoText}
 use Rattle.argon2_passwd.proofs.LineLemmas.{lines_first, map-push, none_left}

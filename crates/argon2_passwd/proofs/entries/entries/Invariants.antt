@@ -2,7 +2,7 @@ use Rattle.std.proofs.Common.{map, ℕ, Bool, List, ◌++◌, ◌+◌, length}
 use Rattle.std.specs.Slice.Iter.{split_inclusive_rest}
 use Rattle.std.specs.Str.Lines.{lines}
 use Rattle.argon2_rows.specs.Names.{entry_of}
-use Rattle.argon2_passwd.specs.Answers.{AreEntries, IsFirstWithout}
+use Rattle.argon2_passwd.specs.Lines.{AreEntries, IsFirstWithout}
 use Rattle.argon2_passwd.proofs.entries.entries.Given as goal
 
 -- entries of what is left make those of all, and a line without one there is so many lines further on in all

@@ -1,6 +1,6 @@
 use Rattle.std.proofs.Common.{◌∙◌, ℕ, List, ap, subst, sym}
 use Rattle.argon2_programs.specs.Prefixes.{bare}
-use Rattle.argon2_passwd.specs.Answers.{IsTaken}
+use Rattle.argon2_passwd.specs.Lines.{IsTaken}
 use Rattle.argon2_passwd.proofs.entries.entry.Goals as goal
 
 pub returns-in-Some : goal.returns-in-Some

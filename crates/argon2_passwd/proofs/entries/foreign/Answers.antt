@@ -2,7 +2,7 @@ use Rattle.std.proofs.Common.{◌≡◌, ◌∙◌, ℕ, List, Option, Some, Non
 use Rattle.std.specs.Prelude.{IsTrue, MatchOption}
 use Rattle.argon2_rows.specs.Locks.{IsLine}
 use Rattle.argon2_rows.specs.declared.text.StoredText.{StoredText}
-use Rattle.argon2_passwd.specs.Answers.{IsForeign, has_scheme}
+use Rattle.argon2_passwd.specs.Lines.{IsForeign, has_scheme}
 use Rattle.argon2_passwd.proofs.entries.foreign.Goals as goal
 
 -- a text that begins so is taken if it is one line

@@ -2,7 +2,7 @@ use Rattle.std.proofs.Common.{◌≡◌, ℕ, List, Option, Some, None, inr, ◌
 use Rattle.std.specs.Prelude.{IsTrue, MatchOption}
 use Rattle.argon2_rows.specs.Locks.{IsStored}
 use Rattle.argon2_rows.specs.declared.text.StoredText.{StoredText}
-use Rattle.argon2_passwd.specs.Answers.{IsForeign, has_scheme}
+use Rattle.argon2_passwd.specs.Lines.{IsForeign, has_scheme}
 use Rattle.argon2_passwd.proofs.entries.of_any_scheme.Goals as goal
 
 -- a text outside the grammar

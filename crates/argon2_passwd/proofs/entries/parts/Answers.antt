@@ -5,7 +5,7 @@ use Rattle.std.proofs.lemmas.Str.Pattern.{IsSplitOnceResult, split_once_first}
 use Rattle.std.specs.List.{after_first, before_first}
 use Rattle.std.specs.Option.{unwrap_or}
 use Rattle.std.specs.Str.{is_utf8}
-use Rattle.argon2_passwd.specs.Answers.{parts_now}
+use Rattle.argon2_passwd.specs.Lines.{parts_now}
 use Rattle.argon2_passwd.proofs.entries.parts.Goals as goal
 
 -- a text at its first colon

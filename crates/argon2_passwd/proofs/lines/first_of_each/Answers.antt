@@ -2,7 +2,7 @@ use Rattle.std.proofs.Common.{add-one, ◌≡◌, ◌∙◌, ◌||◌, ◌<◌, 
 use Rattle.std.specs.List.{list_any}
 use Rattle.std.specs.Str.{bytes_eq}
 use Rattle.argon2_rows.specs.declared.text.StoredText.{StoredText}
-use Rattle.argon2_passwd.specs.Answers.{Line, entry_or_flaw, first_of_each, line_has_name, new_line, with_name}
+use Rattle.argon2_passwd.specs.Lines.{Line, entry_or_flaw, first_of_each, line_has_name, new_line, with_name}
 use Rattle.argon2_passwd.specs.declared.failure.Flaw.{Flaw}
 use Rattle.argon2_passwd.proofs.LineLemmas.{map-push}
 use Rattle.argon2_passwd.proofs.lines.first_of_each.Goals as goal

@@ -2,7 +2,7 @@ use Rattle.std.proofs.Common.{rules, ◌==◌, [], ◌∷◌, append-nil, subst,
 use Rattle.std.proofs.lemmas.List.Sorted.{answers_always}
 use Rattle.std.specs.List.{AllZip}
 use Rattle.std.specs.Str.Lines.{lines}
-use Rattle.argon2_passwd.specs.Answers.{IsEntryOrFlaw, entry_or_flaw}
+use Rattle.argon2_passwd.specs.Lines.{IsEntryOrFlaw, entry_or_flaw}
 use Rattle.argon2_passwd.proofs.LineLemmas.{lines_first, map-push, none_left}
 use Rattle.argon2_passwd.proofs.lines.read_lines.Goals as goal
 

@@ -1,6 +1,6 @@
 use Rattle.std.proofs.Common.{◌≡◌, ◌∙◌, ◌||◌, Bool, true, false, if◌then◌else◌, ap, refl}
 use Rattle.std.proofs.lemmas.Map.Text.{is_eq-slice_cmp}
-use Rattle.argon2_passwd.specs.Answers.{has_name}
+use Rattle.argon2_passwd.specs.Lines.{has_name}
 use Rattle.argon2_passwd.proofs.lines.unless_repeated.Goals as goal
 
 or_is_if : (a b : Bool) → (if a then true else b) ≡ (a || b)

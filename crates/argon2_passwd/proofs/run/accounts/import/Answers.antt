@@ -2,7 +2,7 @@ use Rattle.std.proofs.Common.{◌≡◌, ◌⊎◌, ◌∙◌, ℕ, Bool, List, 
 use Rattle.std.proofs.lemmas.Option.{IfSome_then}
 use Rattle.std.specs.Prelude.{◌≢◌, IfSome}
 use Rattle.argon2_rows.specs.Names.{entry_of}
-use Rattle.argon2_passwd.specs.Answers.{AreEntries, RefusesText, unmarked}
+use Rattle.argon2_passwd.specs.Lines.{AreEntries, RefusesText, unmarked}
 use Rattle.argon2_passwd.specs.Failures.{IsMemory, status_of}
 use Rattle.argon2_passwd.specs.declared.failure.Failure.{Failure}
 use Rattle.argon2_passwd.proofs.Served.{imported, keeps_same, memory_is, not_begun, not_opened, opened_for}

@@ -2,7 +2,8 @@ use Rattle.std.proofs.Common.{arith, ◌≡◌, [], inr, map, subst}
 use Rattle.std.proofs.lemmas.Grind.{common_steps}
 use Rattle.std.specs.Prelude.{Ok}
 use Rattle.argon2_rows.specs.Names.{entry_of}
-use Rattle.argon2_passwd.specs.Answers.{AddsEntries, entry_or_flaw}
+use Rattle.argon2_passwd.specs.Answers.{AddsEntries}
+use Rattle.argon2_passwd.specs.Lines.{entry_or_flaw}
 use Rattle.argon2_passwd.proofs.Looks.{added}
 use Rattle.argon2_passwd.proofs.Served.{err_is}
 use Rattle.argon2_passwd.proofs.run.others.add_others.Goals as goal

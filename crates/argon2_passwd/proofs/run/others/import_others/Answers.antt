@@ -2,7 +2,7 @@ use Rattle.std.proofs.Common.{◌∙◌, [], ap, map, subst}
 use Rattle.std.proofs.lemmas.Option.{IfSome_then}
 use Rattle.std.specs.List.{AllZip}
 use Rattle.std.specs.Str.Lines.{lines}
-use Rattle.argon2_passwd.specs.Answers.{IsEntryOrFlaw, entry_or_flaw, unmarked}
+use Rattle.argon2_passwd.specs.Lines.{IsEntryOrFlaw, entry_or_flaw, unmarked}
 use Rattle.argon2_passwd.proofs.Served.{opened_for, sifted}
 use Rattle.argon2_passwd.proofs.run.others.import_others.Goals as goal
 

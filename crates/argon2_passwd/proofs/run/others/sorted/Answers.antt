@@ -1,7 +1,7 @@
 use Rattle.std.proofs.Common.{add-one, arith, ◌≡◌, ◌∙◌, ◌<◌, suc, ℕ, Bor, List, [], ◌∷◌, ◌++◌, Result, ap, append_assoc, drop, drop-cons, get_or, length, map, sym}
 use Rattle.std.specs.Prelude.{None, Some}
 use Rattle.argon2_rows.specs.declared.text.StoredText.{StoredText}
-use Rattle.argon2_passwd.specs.Answers.{Line, entries_in, entry_or_flaw, flaws_from, unless_known}
+use Rattle.argon2_passwd.specs.Lines.{Line, entries_in, entry_or_flaw, flaws_from, unless_known}
 use Rattle.argon2_passwd.specs.Failures.{IsMemory, IsOfFile}
 use Rattle.argon2_passwd.specs.declared.failure.Flaw.{Flaw}
 use Rattle.argon2_passwd.proofs.Looks.{looks_then, names_stay, was_honest}

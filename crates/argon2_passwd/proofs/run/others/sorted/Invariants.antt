@@ -3,7 +3,8 @@ use Rattle.argon2_rows.specs.Names.{Texts, entry_of}
 use Rattle.argon2_rows.specs.Table.{IsHonest}
 use Rattle.argon2_store.specs.AccountFile.{HasNames, database_of}
 use Rattle.std.specs.Prelude.{None}
-use Rattle.argon2_passwd.specs.Answers.{Looks, entries_in, entry_or_flaw, flaws_from, unless_known}
+use Rattle.argon2_passwd.specs.Answers.{Looks}
+use Rattle.argon2_passwd.specs.Lines.{entries_in, entry_or_flaw, flaws_from, unless_known}
 use Rattle.argon2_passwd.proofs.run.others.sorted.Given as goal
 
 -- names were looked up, and what is left makes the rest of the entries and of the other lines

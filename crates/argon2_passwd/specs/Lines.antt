@@ -1,0 +1,155 @@
+-- The lines of an import: names with texts.
+use Rattle.std.specs.Prelude.{◌≡◌, ◌⊎◌, ℕ, zero, suc, ◌==◌, true, false, Bool, ◌+◌, IsOk, IsTrue, List, [], ◌∷◌, if◌then◌else◌, Result, Ok, Err}
+use Rattle.std.specs.Borrow.{Bor}
+use Rattle.std.specs.List.{AllZip, after_first, before_first, list_any}
+use Rattle.std.specs.Option.{is_some}
+use Rattle.std.specs.Char.{is_control}
+use Rattle.std.specs.BTreeSet.{BTreeSet, contains_by}
+use Rattle.std.specs.Cmp.Lexicographic.{slice_cmp}
+use Rattle.std.specs.Ordering.{nat_cmp}
+use Rattle.std.specs.Str.{bytes_eq, chars, is_utf8}
+use Rattle.std.specs.Str.Lines.{lines}
+use Rattle.std.specs.FinMap.{get}
+use Rattle.argon2_base.specs.PhcText.{Phc, PhcText}
+use Rattle.argon2.specs.StoredTexts.{shown_settings}
+use Rattle.argon2_programs.specs.Prefixes.{after_any, bare}
+use Rattle.argon2_programs.specs.Schemes.{scheme_of}
+use Rattle.argon2_rows.specs.Locks.{IsLine, IsStored, without_lock}
+use Rattle.argon2_rows.specs.Names.{Texts, entry_of}
+use Rattle.argon2_rows.specs.declared.text.StoredText.{StoredText}
+use Rattle.argon2_passwd.specs.declared.failure.Failure.{Failure}
+use Rattle.argon2_passwd.specs.declared.failure.Flaw.{Flaw}
+use Rattle.argon2_passwd.specs.declared.failure.Flaw.TheVariants.{Control, NoText, Taken}
+use Rattle.argon2_passwd.specs.declared.failure.Failure.TheVariants.{Line as AtLine}
+
+abbrev pub parts_now : Bor (List ℕ) × Bor (List ℕ) → List ℕ × List ℕ
+parts_now pair = (pair.0.now, pair.1.now)
+
+-- the parts of a line at its first colon: no text if it has none, and neither if it is not UTF-8
+abbrev pub parts_of : List ℕ → List ℕ × List ℕ
+parts_of line = if is_utf8 line then (before_first (λ b. b == 58) line, after_first (λ b. b == 58) line) else ([], [])
+
+-- the text of a value that shows settings of Argon2
+abbrev pub IsArgon2 : List ℕ → Type 0
+IsArgon2 text = (v : Phc) × PhcText text v × IsOk (shown_settings v)
+
+-- the text begins as one of another scheme, locked or not
+abbrev pub has_scheme : List ℕ → Bool
+has_scheme text = is_some (scheme_of (without_lock text))
+
+-- a text of Argon2, locked or not; if any is taken, one in the grammar, or of another scheme
+abbrev pub IsTaken : Bool → List ℕ → Type 0
+IsTaken false text = IsArgon2 (without_lock text)
+IsTaken true text = IsStored text ⊎ IsTrue (has_scheme text)
+
+-- the name has a control character
+abbrev pub has_control : List ℕ → Bool
+has_control name = list_any is_control (chars name)
+
+-- the name of a line, and its text without what other programs put before it
+abbrev pub IsPair : Bool → List ℕ → List ℕ × List ℕ → Type 0
+IsPair any_text line e = (e.0 ≡ (parts_of line).0) × (e.1 ≡ bare (parts_of line).1) × IsTaken any_text e.1
+
+-- the same, and the name may be added
+abbrev pub IsEntry : Bool → List ℕ → List ℕ × List ℕ → Type 0
+IsEntry any_text line e = IsPair any_text line e × (has_control e.0 ≡ false)
+
+-- one line with the text of another scheme
+abbrev pub IsForeign : List ℕ → Type 0
+IsForeign text = IsLine text × IsTrue (has_scheme text)
+
+-- a text outside the grammar, or one that says a value without settings of Argon2; if any is taken, one that is outside the
+-- grammar and of no other scheme
+abbrev pub IsNotTaken : Bool → List ℕ → Type 0
+IsNotTaken false text = ¬ (IsStored text) ⊎ ((v : Phc) × PhcText (without_lock text) v × ¬ (IsOk (shown_settings v)))
+IsNotTaken true text = ¬ (IsStored text) × ¬ (IsForeign text)
+
+abbrev pub HasNoText : Bool → List ℕ → Type 0
+HasNoText any_text line = IsNotTaken any_text (bare (parts_of line).1)
+
+-- the line has no text that is taken, or it has one, but its name may not be added
+abbrev pub LacksEntry : Bool → Bool → List ℕ → Type 0
+LacksEntry any_text false line = HasNoText any_text line
+LacksEntry any_text true line = IsTaken any_text (bare (parts_of line).1) × IsTrue (has_control (parts_of line).0)
+
+-- what lines say behind a byte order mark
+abbrev pub unmarked : List ℕ → List ℕ
+unmarked input = after_any ((239 ∷ 187 ∷ 191 ∷ []) ∷ []) input
+
+-- the entries of all lines
+abbrev pub AreEntries : Bool → List ℕ → List (List ℕ × List ℕ) → Type 0
+AreEntries any_text input es = AllZip (IsEntry any_text) (lines input) es
+
+-- the first of the lines without an entry has so many before it, and lacks its text or, if this is true, its name
+abbrev pub IsFirstWithout : Bool → Bool → List (List ℕ) → ℕ → Type 0
+IsFirstWithout any_text of_name [] k = ⊥
+IsFirstWithout any_text of_name (line ∷ lines) zero = LacksEntry any_text of_name line
+IsFirstWithout any_text of_name (line ∷ lines) (suc k) = IsTaken any_text (bare (parts_of line).1)
+    × (has_control (parts_of line).0 ≡ false) × IsFirstWithout any_text of_name lines k
+
+-- the failure has the number of that line
+abbrev pub RefusesText : Bool → List ℕ → Failure → Type 0
+RefusesText any_text input failure = (k : ℕ)
+    × (((failure ≡ AtLine (k + 1) NoText) × IsFirstWithout any_text false (lines input) k)
+    ⊎ ((failure ≡ AtLine (k + 1) Control) × IsFirstWithout any_text true (lines input) k))
+
+-- ---- lines that are passed over
+
+-- what a line says: a name and a text that may be added, or why it has none
+abbrev pub Line : Type 0
+Line = Result (List ℕ × List ℕ) Flaw
+
+abbrev pub entry_or_flaw : Result (Bor (List ℕ) × StoredText) Flaw → Line
+entry_or_flaw (Ok e) = Ok (entry_of e)
+entry_or_flaw (Err why) = Err why
+
+abbrev pub IsEntryOrFlaw : Bool → List ℕ → Line → Type 0
+IsEntryOrFlaw any_text line (Ok e) = IsEntry any_text line e
+IsEntryOrFlaw any_text line (Err NoText) = LacksEntry any_text false line
+IsEntryOrFlaw any_text line (Err Control) = LacksEntry any_text true line
+IsEntryOrFlaw any_text line (Err Taken) = ⊥
+
+-- the entry, unless its name is taken
+abbrev pub unless_taken : Bool → List ℕ × List ℕ → Line
+unless_taken is_taken e = if is_taken then Err Taken else Ok e
+
+-- the line, unless its name is taken
+abbrev pub new_line : (List ℕ → Bool) → Line → Line
+new_line is_taken (Ok e) = unless_taken (is_taken e.0) e
+new_line is_taken (Err why) = Err why
+
+-- these names with that of a line
+abbrev pub with_name : Line → List (List ℕ) → List (List ℕ)
+with_name (Ok e) names = e.0 ∷ names
+with_name (Err why) names = names
+
+-- the line has this name
+abbrev pub line_has_name : Line → List ℕ → Bool
+line_has_name (Ok e) name = bytes_eq e.0 name
+line_has_name (Err why) name = false
+
+-- the lines, of which only the first with a name has it, and none has one of these
+abbrev pub first_of_each : List (List ℕ) → List Line → List Line
+first_of_each names [] = []
+first_of_each names (line ∷ ls) =
+    new_line (λ name. list_any (λ other. bytes_eq other name) names) line ∷ first_of_each (with_name line names) ls
+
+-- the set has this name
+abbrev pub has_name : BTreeSet (Bor (List ℕ)) → List ℕ → Bool
+has_name names name = contains_by (λ k. slice_cmp nat_cmp name k.now) names
+
+-- the line, unless the file with these names has its name
+abbrev pub unless_known : Texts → Line → Line
+unless_known names line = new_line (λ name. is_some (get names name)) line
+
+-- the entries of lines
+abbrev pub entries_in : List Line → List (List ℕ × List ℕ)
+entries_in [] = []
+entries_in (Ok e ∷ ls) = e ∷ entries_in ls
+entries_in (Err why ∷ ls) = entries_in ls
+
+-- the lines without one, by their numbers from this one on
+abbrev pub flaws_from : ℕ → List Line → List (ℕ × Flaw)
+flaws_from k [] = []
+flaws_from k (Ok e ∷ ls) = flaws_from (suc k) ls
+flaws_from k (Err why ∷ ls) = (k, why) ∷ flaws_from (suc k) ls
