@@ -1,14 +1,14 @@
 -- Names to which several are added.
 use Rattle.argon2_rows.proofs.Imports.{◌≡◌, ℕ, List, [], ◌∷◌, ◌++◌, ◌≤◌, false, Some, Result, Ok, Err, refl, sym, Io, subst, ap, ◌∙◌, arith, inl, inr, map, Bor, get}
-use Rattle.argon2_rows.proofs.Imports.{Any, IfErr, MoreFaults, both_ways, on_ok_weaker, StoreError, Ghosts, Texts, AddsAll, IsAdded, WritesAll, IsPermutation, entry_of, Changes, bytes_eq-Decides, true, ◌≢◌}
-use Rattle.argon2_rows.proofs.Imports.{changed, HasRows, IsHonest, IsLong, IsOpen, StaysQuiet}
+use Rattle.argon2_rows.proofs.Imports.{Any, IfErr, MoreFaults, both_ways, on_ok_weaker, StoreError, Ghosts, Texts, AddsAll, AddsEach, AddsNames, IsAdded, WritesAll, IsPermutation, entry_of, Changes, bytes_eq-Decides, true, ◌≢◌}
+use Rattle.argon2_rows.proofs.Imports.{AddError, Finishes, HasBegun, IsKept, Store, Taken, Writes, changed, written_of, HasRows, IsHonest, IsLong, IsOpen, StaysQuiet}
 use Rattle.std.proofs.lemmas.List.Sorted.{Contains-permutation, IsPermutation-map, IsPermutation-sym}
 use Rattle.sqlite_trees.proofs.ListLemmas.{along_permutation}
 use Rattle.argon2_rows.specs.Table.{IsTold}
 use Rattle.sqlite_trees.specs.View.{HasCause}
 use Rattle.argon2_rows.specs.declared.text.StoredText.{StoredText}
 use Rattle.argon2_rows.proofs.RowLemmas.{changed_apart, get-at, get-changed}
-use Rattle.argon2_rows.proofs.TableLemmas.{Settled, cause_map, leaves_quiet, quiet_itself, quiet_then}
+use Rattle.argon2_rows.proofs.TableLemmas.{Settled, cause_map, changes_of, leaves_quiet, quiet_itself, quiet_then, taken_back, writes_less}
 
 pub add_last : (es : List (List ℕ × List ℕ)) (before mid after : Texts) (e : List ℕ × List ℕ) → AddsAll before es mid
     → IsAdded mid e.0 e.1 true after → AddsAll before (es ++ e ∷ []) after
@@ -59,14 +59,14 @@ module _ {S : Type 0} (g : Ghosts S) where
       )
 
   -- names that are written in another order
-  pub reordered : (old new : S) (xs ys : List (Bor (List ℕ) × StoredText)) (done : Result (Unit {0}) StoreError)
-      → (IsHonest g old → IsOpen g old) → IsPermutation xs ys
-      → WritesAll g old new (map entry_of ys) (Ok done) → WritesAll g old new (map entry_of xs) (Ok done)
-  reordered old new xs ys done was_open moved wrote before has =
+  pub reordered : (old new : S) (before : Texts) (xs ys : List (Bor (List ℕ) × StoredText)) (done : Result (Unit {0}) StoreError)
+      → (IsHonest g old → IsOpen g old) → IsPermutation xs ys → HasRows g old before
+      → AddsNames g old new before (map entry_of ys) done → AddsNames g old new before (map entry_of xs) done
+  reordered old new before xs ys done was_open moved has wrote =
       let back = IsPermutation-map entry_of ys xs (IsPermutation-sym xs ys moved) in
       let es = map entry_of ys in
       let fs = map entry_of xs in
-      let (after, may, all, change) = wrote before has in (
+      let (after, may, all, change) = wrote in (
         after,
         λ clean. let moves = any_order es fs back before after in let either = may clean in grind arith,
         on_ok_weaker done (λ f clean. any_order es fs back before after (f clean)) all,
@@ -77,25 +77,44 @@ module _ {S : Type 0} (g : Ghosts S) where
       some_moved es fs back (k, e, within, is, long) =
           let (j, there, at) = Contains-permutation es fs e back (k, within, is) in (j, e, there, at, long)
 
+  -- names that are not all written are taken back
+  pub undone : (old mid new : S) {before after : Texts} (es : List (List ℕ × List ℕ)) (error : AddError) → Settled g
+      → (IsHonest g old → IsOpen g old) → HasRows g old before
+      → Writes g old mid before after (Any IsLong es) (written_of (Err error))
+      → (IsHonest g mid → AddsEach before es after (Err error))
+      → ((names : Texts) → (IsHonest g new → HasBegun g mid names) → IsKept g new names) → g.blamed new ≡ g.blamed mid
+      → StaysQuiet g mid new → WritesAll g old new before es (Err error)
+  undone old mid new es (Taken k) settled was_open has wrote first kept blame quiet = (
+    taken_back settled was_open has wrote (kept _) quiet,
+    λ clean. first (omega (arith, clean, quiet.clean)),
+    quiet_then g old mid new wrote.quiet quiet,
+  )
+  undone old mid new {before} es (Store e) settled was_open has wrote first kept blame quiet =
+      let ends : Finishes g mid new (Err e) (Err e) = search arith in (
+        before,
+        λ clean. inl refl,
+        tt,
+        changes_of settled was_open (Err e) (Err e) has has.0 (writes_less e wrote wrote.cause) ends,
+      )
+
   -- after others were written and taken back
-  module _ (old mid : S) {Q : Texts → Type 0}
-      (refused : (names : Texts) → HasRows g old names → HasRows g mid names × Q names × StaysQuiet g old mid) where
-    -- names are written
-    pub written_later : (new : S) (es : List (List ℕ × List ℕ)) (r : Result (Result (Unit {0}) StoreError) ℕ)
-        → (IsHonest g mid → IsOpen g mid) → WritesAll g mid new es r → WritesAll g old new es r
-    written_later new es (Ok done) is_open wrote before has =
-        let (had, first, quiet) = refused before has in
-        let (after, may, all, change) = wrote before had in
+  module _ (old mid : S) (before : Texts) (had : HasRows g mid before) (quiet : StaysQuiet g old mid) where
+    later : (new : S) (es : List (List ℕ × List ℕ)) (done : Result (Unit {0}) StoreError) → (IsHonest g mid → IsOpen g mid)
+        → AddsNames g mid new before es done → AddsNames g old new before es done
+    later new es done is_open (after, may, all, change) =
         (after, may, all, changes_later quiet (λ clean. had.1.sound clean (is_open clean)) (λ l. l) change)
-    written_later new es (Err e) is_open wrote before has =
-        let (had, first, quiet) = refused before has in
-        let (names, refusal, later) = wrote before had in (names, refusal, quiet_then g old mid new quiet later)
+
+    -- names are written
+    pub written_later : (new : S) (es : List (List ℕ × List ℕ)) (r : Result (Unit {0}) AddError)
+        → (IsHonest g mid → IsOpen g mid) → WritesAll g mid new before es r → WritesAll g old new before es r
+    written_later new es (Ok x) is_open wrote = later new es (Ok tt) is_open wrote
+    written_later new es (Err (Store e)) is_open wrote = later new es (Err e) is_open wrote
+    written_later new es (Err (Taken k)) is_open (names, first, more) = (names, first, quiet_then g old mid new quiet more)
 
     -- names are not written, since taking others back has closed the file
-    pub unwritten : (es : List (List ℕ × List ℕ)) → Settled g → (IsHonest g old → IsOpen g old)
-        → (IsHonest g mid → (g.view mid).is_open ≡ false) → WritesAll g old mid es (Ok (Err Io))
-    unwritten es settled was_open shut before has =
-        let (had, first, quiet) = refused before has in
+    pub unwritten : (es : List (List ℕ × List ℕ)) → Settled g → (IsHonest g old → IsOpen g old) → IsKept g old before
+        → (IsHonest g mid → (g.view mid).is_open ≡ false) → AddsNames g old mid before es (Err Io)
+    unwritten es settled was_open has shut =
         let earlier : IsHonest g mid → IsHonest g old = λ clean. omega (arith, clean, quiet.clean) in (
           before,
           λ clean. inl refl,
@@ -104,7 +123,7 @@ module _ {S : Type 0} (g : Ghosts S) where
             honest = earlier;
             kept = had;
             crash = λ clean db found.
-                let left = leaves_quiet g settled old mid before has.1 quiet clean (was_open (earlier clean)) db found in
+                let left = leaves_quiet g settled old mid before has quiet clean (was_open (earlier clean)) db found in
                 (left.0, left.1, inl left.2);
             durable = tt;
             cause = λ clean.

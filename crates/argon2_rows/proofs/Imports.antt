@@ -33,8 +33,10 @@ pub use Rattle.sqlite_value.proofs.OrderLemmas.{value_cmp-Text}
 pub use Rattle.sqlite_value.specs.Keys.{entry_cmp, plain, prefix_cmp}
 pub use Rattle.sqlite_value.specs.Order.{Row, column, number, row_cmp}
 pub use Rattle.sqlite_value.specs.declared.value.Value.TheVariants.{Text}
-pub use Rattle.argon2_rows.specs.Names.{AddsAll, IsAdded, Texts, changed, entry_of}
+pub use Rattle.argon2_rows.specs.Names.{AddsAll, AddsEach, IsAdded, Texts, changed, entry_of}
 pub use Rattle.argon2_rows.specs.Rows.{AreLines, AreTexts, AreWritten, FitLines, IsLineOf, StopsAtBreak, HasNoneAfter, IsAccount, IsAfterAll, IsFoundAs, breaks_line, line, lines, lines_of, row_of, rows_of}
 pub use Rattle.argon2_rows.specs.Locks.{IsLine}
 pub use Rattle.argon2_rows.specs.Table.{Changes, EndsRead, Finishes, HasBegun, HasRows, HasSome, IsUnwritten, IsHonest, IsKept, IsLong, IsOpen, CrashLeaves, Sees, StaysQuiet}
-pub use Rattle.argon2_rows.specs.Table.{Writes, WritesAll, done_of}
+pub use Rattle.argon2_rows.specs.Table.{AddsNames, Writes, WritesAll, done_of, written_of}
+pub use Rattle.argon2_rows.specs.declared.table.AddError.{AddError}
+pub use Rattle.argon2_rows.specs.declared.table.AddError.TheVariants.{Store, Taken}

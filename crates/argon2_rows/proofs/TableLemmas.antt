@@ -1,6 +1,6 @@
 -- What the rows of a table are after each step of a change.
-use Rattle.argon2_rows.proofs.Imports.{◌≡◌, ℕ, List, Result, Ok, Err, false, refl, sym, subst, ap, ◌∙◌, ◌≤◌, IsTrue, arith, inl, inr, ◌⊎◌}
-use Rattle.argon2_rows.proofs.Imports.{All, IfErr, IsErrAnd, MatchResult, OnErr, OnOk, both_ways, true_from_ne_false, Coded-set, ∥∥₁_elim, ∥∥₁_map, MoreFaults, plain, Row, StoreError, Shape, Index, Ghosts}
+use Rattle.argon2_rows.proofs.Imports.{◌≡◌, ℕ, List, Result, Ok, Err, false, refl, sym, subst, ap, ◌∙◌, ◌≤◌, IsTrue, arith, inl, inr}
+use Rattle.argon2_rows.proofs.Imports.{IfErr, IsErrAnd, MatchResult, OnErr, OnOk, both_ways, true_from_ne_false, Coded-set, ∥∥₁_elim, ∥∥₁_map, MoreFaults, plain, Row, StoreError, Shape, Index, Ghosts}
 use Rattle.argon2_rows.proofs.Imports.{Trees, order_of, View, IsFailure, KeepsSchema, OnlyWrites, SetsTree, Texts, AreTexts, rows_of, Changes}
 use Rattle.argon2_rows.proofs.Imports.{EndsRead, Finishes, HasBegun, HasRows, HasSome, IsHonest, IsKept, IsOpen, CrashLeaves, Sees, StaysQuiet, Writes, done_of, on_ok_weaker}
 use Rattle.argon2_rows.specs.Table.{IsDue, IsTold}
@@ -15,11 +15,6 @@ err_is r e is = grind arith
 
 pub on_all : {T E P : Type 0} (r : Result T E) → P → OnOk r P
 on_all r p = search arith
-
--- what a commit keeps of what was written
-pub committed : {H P Q : Type 0} (A : Type 0) (done result : Result (Unit {0}) StoreError) → OnOk done P
-    → (H → MatchResult done (λ _. A) (λ e. result ≡ Err e)) → (H → P → Q) → OnOk result (H → Q)
-committed A done result p later f = search arith
 
 on_both : {T E P Q R : Type 0} (W : Type 0) (r : Result T E) → MatchResult r (λ _. P) (λ _. W) → OnOk r Q → (P → Q → R)
     → OnOk r R
@@ -151,16 +146,6 @@ module _ {S : Type 0} {g : Ghosts S} where
 
   pub some_kept : {old new : S} → HasSome g old → ((names : Texts) → HasRows g old names → HasRows g new names) → HasSome g new
   some_kept some keeps = ∥∥₁_map some (λ it. (it.0, keeps it.0 it.1))
-
-  -- several rows are written, or none counts
-  pub all_or_none : {old new : S} {before after : Texts} {long : Type 0} (done : Result (Unit {0}) StoreError)
-      (All : Texts → Type 0)
-      → AreTexts before → AreTexts after → Writes g old new before after long done → OnOk done (IsHonest g new → All after)
-      → (to : Texts) × AreTexts to × Writes g old new before to long done × (IsHonest g new → (to ≡ before) ⊎ All to)
-      × OnOk done (IsHonest g new → All to)
-  all_or_none {after = after} (Ok x) All texts good wrote all = (after, good, wrote, λ clean. inr (all clean), all)
-  all_or_none {before = before} (Err e) All texts good wrote all =
-      (before, texts, writes_less e wrote wrote.cause, λ clean. inl refl, tt)
 
   -- after a change it has either names
   pub has_either : {old new : S} {before after : Texts} {long : Type 0} (result : Result (Unit {0}) StoreError)

@@ -1,9 +1,11 @@
 -- Names with their texts, and several that are added, one after the other.
-use Rattle.std.specs.Prelude.{◌≡◌, ℕ, ◌<◌, List, [], ◌∷◌, length, slice_index_or, take, Bool, true, false, Option, Some, None, IsSome}
+use Rattle.std.specs.Prelude.{◌≡◌, ℕ, ◌<◌, List, [], ◌∷◌, length, slice_index_or, take, Bool, true, false, Option, Some, None, IsSome, Result, Ok, Err, ⊤}
 use Rattle.std.specs.Borrow.{Bor}
 use Rattle.std.specs.Cmp.Lexicographic.{slice_cmp}
 use Rattle.std.specs.FinMap.{FinMap, get, insert, remove}
 use Rattle.std.specs.Ordering.{nat_cmp}
+use Rattle.argon2_rows.specs.declared.table.AddError.{AddError}
+use Rattle.argon2_rows.specs.declared.table.AddError.TheVariants.{Store, Taken}
 use Rattle.argon2_rows.specs.declared.text.StoredText.{StoredText}
 
 -- texts by the bytes of their names
@@ -35,3 +37,9 @@ AddsAll before (e ∷ es) after = (get before e.0 ≡ None) × AddsAll (changed 
 abbrev pub IsFirstTaken : Texts → List (List ℕ × List ℕ) → ℕ → Type 0
 IsFirstTaken before es k = (mid : Texts) × AddsAll before (take k es) mid × (k < length es)
     × IsSome (get mid (slice_index_or es k ([], [])).0)
+
+-- adding each of these names: all of them are new, or this is the first that is not
+abbrev pub AddsEach : Texts → List (List ℕ × List ℕ) → Texts → Result (Unit {0}) AddError → Type 0
+AddsEach before es after (Ok _) = AddsAll before es after
+AddsEach before es after (Err (Taken k)) = IsFirstTaken before es k
+AddsEach before es after (Err (Store _)) = ⊤

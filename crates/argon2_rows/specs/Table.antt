@@ -13,6 +13,8 @@ use Rattle.sqlite_trees.specs.View.{View, IsClean, IsQuiet, HasCause, Tells, dou
 use Rattle.sqlite_store.specs.Listing.{listed_from}
 use Rattle.sqlite_store.specs.declared.catalog.Wanted.{Wanted}
 use Rattle.sqlite_value.specs.declared.value.Value.TheVariants.{Text}
+use Rattle.argon2_rows.specs.declared.table.AddError.{AddError}
+use Rattle.argon2_rows.specs.declared.table.AddError.TheVariants.{Store, Taken}
 use Rattle.argon2_rows.specs.Names.{AddsAll, IsFirstTaken, Texts}
 use Rattle.argon2_rows.specs.Rows.{AreTexts, rows_of}
 
@@ -54,10 +56,10 @@ abbrev pub done_of : {X : Type 0} → Result X StoreError → Result (Unit {0}) 
 done_of (Ok x) = Ok tt
 done_of (Err e) = Err e
 
--- what writing answered, if it was not refused
-abbrev pub written_of : {E : Type 0} → Result (Result (Unit {0}) StoreError) E → Result (Unit {0}) StoreError
-written_of (Ok done) = done
-written_of (Err e) = Ok tt
+-- what writing answered, if no name was taken
+abbrev pub written_of : Result (Unit {0}) AddError → Result (Unit {0}) StoreError
+written_of (Err (Store e)) = Err e
+written_of _ = Ok tt
 
 module _ {S : Type 0} (g : Ghosts S) where
   -- the disk has given no wrong answer that was taken as true
@@ -151,9 +153,12 @@ module _ {S : Type 0} (g : Ghosts S) where
         → IfErr result (λ e. HasCause (g.view old) (HasFailed old new) too_long e × IsTold new e)
     pub closes : IsHonest new → IsOpen new ⊎ HasFailed old new
 
-  -- A change that adds all of several names, or the index of the first that is there, which changes nothing.
-  abbrev pub WritesAll : S → S → List (List ℕ × List ℕ) → Result (Result (Unit {0}) StoreError) ℕ → Type 0
-  WritesAll old new es result = (before : Texts) → HasRows old before → MatchResult result
-      (λ done. (after : Texts) × (IsHonest new → (after ≡ before) ⊎ AddsAll before es after)
-      × OnOk done (IsHonest new → AddsAll before es after) × Changes old new before after (Any IsLong es) done)
-      (λ k. HasRows new before × (IsHonest new → IsFirstTaken before es k) × StaysQuiet old new)
+  -- A change that adds all of several names, or none if it fails.
+  abbrev pub AddsNames : S → S → Texts → List (List ℕ × List ℕ) → Result (Unit {0}) StoreError → Type 0
+  AddsNames old new before es done = (after : Texts) × (IsHonest new → (after ≡ before) ⊎ AddsAll before es after)
+      × OnOk done (IsHonest new → AddsAll before es after) × Changes old new before after (Any IsLong es) done
+
+  -- The same, or the index of the first name that is there, which changes nothing.
+  abbrev pub WritesAll : S → S → Texts → List (List ℕ × List ℕ) → Result (Unit {0}) AddError → Type 0
+  WritesAll old new before es (Err (Taken k)) = HasRows new before × (IsHonest new → IsFirstTaken before es k) × StaysQuiet old new
+  WritesAll old new before es result = AddsNames old new before es (written_of result)

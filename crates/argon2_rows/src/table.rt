@@ -1,7 +1,7 @@
 //! Writing rows.
 #![tactic(auto, using(crate::proofs::TableLemmas::kept))]
 
-ghost use Rattle.std.specs.Prelude.{◌≡◌, Any, None, Some, IsTrue, IfOk, OnOk, MatchResult, map};
+ghost use Rattle.std.specs.Prelude.{◌≡◌, Any, None, Some, IsTrue, IfOk, map};
 ghost use Rattle.std.specs.Cmp.Lexicographic.{slice_cmp};
 ghost use Rattle.std.specs.FinMap.{get};
 ghost use Rattle.std.specs.Ordering.{nat_cmp};
@@ -9,7 +9,7 @@ ghost use Rattle.std.specs.declared.cmp.Ordering.TheVariants.{Less};
 ghost use Rattle.sqlite_value.specs.Keys.{plain};
 ghost use Rattle.sqlite_trees.specs.View.{KeepsSchema};
 ghost use Rattle.sqlite_trees.specs.declared.store.Shape.TheVariants.{Index};
-ghost use Rattle.argon2_rows.specs.Names.{AddsAll, IsAdded, IsFirstTaken, Texts, changed, entry_of};
+ghost use Rattle.argon2_rows.specs.Names.{AddsEach, IsAdded, Texts, changed, entry_of};
 ghost use Rattle.argon2_rows.specs.Rows.{AreTexts, HasNoneAfter, IsAfterAll};
 ghost use Rattle.argon2_rows.specs.Table.{EndsRead, Finishes, HasBegun, IsHonest, IsKept, IsLong, Sees, StaysQuiet, Writes, done_of, written_of};
 
@@ -18,6 +18,25 @@ use crate::text::StoredText;
 use sqlite_trees::error::StoreError;
 use sqlite_trees::store::Store;
 use sqlite_value::row::Row;
+
+/// Why names are not all added.
+#[derive(Clone, Copy, Debug)]
+pub enum AddError {
+    /// The name at this index has a row.
+    Taken(usize),
+    /// The store can't be read or written.
+    Store(StoreError),
+}
+
+impl From<StoreError> for AddError {
+    ghost use Rattle.argon2_rows.specs.declared.table.AddError.TheVariants.{Store};
+
+    ghost from_gives = { λ e error. error ≡ Store e };
+
+    fn from(error: StoreError) -> AddError {
+        AddError::Store(error)
+    }
+}
 
 /// Writes the row of a name that has none. `row` is memory for a row.
 ///
@@ -124,35 +143,34 @@ fn comes_after(name: &str, is_last: bool, last: &[u8]) -> bool
     is_last && last.cmp(&name.as_bytes()).is_lt()
 }
 
-/// Writes the rows of new names with their texts, up to the first that has a row, whose index is the error. The inner
-/// result is that of writing. `row` and `key` are memory for rows.
+/// Writes the rows of new names with their texts, up to the first that has a row. `row` and `key` are memory for rows.
+///
+/// # Errors
+/// - [`AddError::Taken`]: a name has a row.
+/// - [`AddError::Store`]: those of the store, and out of memory.
 pub fn add_each<S: Store>(
     store: &mut S,
     row: &mut Row,
     key: &mut Row,
     new: &[(&str, StoredText<'_>)],
-) -> Result<Result<(), StoreError>, usize>
+) -> Result<(), AddError>
     requires { IsHonest S.Store store.old → (S.Store.view store.old).shape 0 ≡ Index plain }
     ensures { (before : Texts) → AreTexts before →
         (IsHonest S.Store store.old → Sees (S.Store.view store.old) before) →
         (after : Texts) × AreTexts after × Writes S.Store store.old store.new before after
         (Any IsLong (map entry_of new.now)) (written_of result)
-        × MatchResult result
-        (λ done. OnOk done (IsHonest S.Store store.new →
-        AddsAll before (map entry_of new.now) after))
-        (λ k. IsHonest S.Store store.new → IsFirstTaken before (map entry_of new.now) k) }
+        × (IsHonest S.Store store.new → AddsEach before (map entry_of new.now) after result) }
 {
     let mut is_last = false;
     let mut last: &[u8] = &[];
     for (k, &(name, text)) in new.iter().enumerate() {
         is_last = comes_after(name, is_last, last);
-        match add(store, row, key, &mut is_last, name, text.as_str()) {
-            Ok(true) => last = name.as_bytes(),
-            Ok(false) => return Err(k),
-            Err(error) => return Ok(Err(error)),
+        if !add(store, row, key, &mut is_last, name, text.as_str())? {
+            return Err(AddError::Taken(k));
         }
+        last = name.as_bytes();
     }
-    Ok(Ok(()))
+    Ok(())
 }
 
 /// Removes what was written since the last commit.

@@ -1,7 +1,7 @@
 -- What a call on an account file does if it is refused, writes nothing, or makes its edits.
 use Rattle.argon2_store.proofs.Imports.{arith, zero, suc, ◌≡◌, ◌⊎◌, ◌<◌, ◌∷◌, [], inl, inr, ℕ, List, Option, Some, None, Result, Ok, Err, Bool, true, false, refl, sym, subst, ◌∙◌, ap, IsTrue, get, Any}
 use Rattle.argon2_store.proofs.Imports.{is_some, option_map, string_bytes, ◌↔◌, IfErr, IsErrAnd, IsSomeAnd, OnOk, length, length-map, get_or-map, iff_false, true_from_ne_false}
-use Rattle.argon2_store.proofs.Imports.{StoreError, Ghosts, Texts, IfOk, IfSome, Answers, error_of, HasFailed, IsClosed, IsErrorAt, Makes, Serves, AddsAll, IsFirstTaken}
+use Rattle.argon2_store.proofs.Imports.{StoreError, Ghosts, Texts, IfOk, IfSome, AddsNames, on_ok_weaker, Answers, error_of, HasFailed, IsClosed, IsErrorAt, Makes, Serves, AddsAll, IsFirstTaken}
 use Rattle.argon2_store.proofs.Imports.{Stays, database_of, read_of, call_error, Changes, IsHonest, IsLong, IsOpen, CrashLeaves, StaysQuiet, changed}
 use Rattle.argon2_store.proofs.Imports.{AccountFile, FileError, Closed, NameTaken, OutOfMemory, String, IsSome, Edit, adding, replacing, Bor, option_copied, behind_lock, is_locked, with_lock, without_lock, bytes_eq, not, Locked, Changed, IsTooLong, additions, gives, is_refusal, names_after, name_of, refusal}
 use Rattle.argon2_store.specs.AccountFile.{HasCause, HasFailedBy, HasNames, WritesLines}
@@ -64,9 +64,9 @@ pub due_both : {S : Type 0} (g : Ghosts S) (old new : S) (long : Type 0) {X : Ty
 due_both g old new long r cause told = grind arith
 
 -- an error of writing comes with the number of entries
-pub writes_at : (before : Texts) (es : List (List ℕ × List ℕ)) (k : ℕ) → k ≡ length es → (done : Result (Unit {0}) StoreError)
-    (error : FileError) → ◌≡◌ {A = Result (Unit {0}) FileError} (Err error) (read_of done) → IsErrorAt before es (k, error)
-writes_at before es k is done error same = grind arith
+pub writes_at : (before : Texts) (es : List (List ℕ × List ℕ)) (k : ℕ) → k ≡ length es → (e : StoreError) (error : FileError)
+    → error ≡ call_error e → IsErrorAt before es (k, error)
+writes_at before es k is e error same = grind arith
 
 -- ---- lines
 
@@ -258,6 +258,15 @@ module _ {S : Type 0} {g : Ghosts S} {old mid : AccountFile S g} {before : Texts
             due old new (g.view (database_of mid)) (IsClosed old) (HasFailed g (database_of mid) (database_of new)) long (Any (IsTooLong before) edits) (reads.has.1.sound was (reads.is_open refl was))
             (λ failed. omega (arith, failed, reads.quiet.counts)) (too clean) f (change.cause clean))),
       )
+
+  -- names are added, or none
+  pub adds_names : (es : List (List ℕ × List ℕ)) {new : AccountFile S g} (done : Result (Unit {0}) StoreError)
+      → AddsNames g (database_of mid) (database_of new) before es done → (r : Result (Unit {0}) FileError) → r ≡ read_of done
+      → (after : Texts) × Makes (additions es) r old new before after
+  adds_names es done (to, may, all, change) r is =
+      writes_all (λ clean. long_additions es before)
+      (λ clean. elim (may clean) [ inl same ↦ inl same | inr adds ↦ inr (adds_made es before to adds) ]) done
+      (on_ok_weaker done (λ f clean. adds_made es before to (f clean)) all) change r is
 
 -- An edit of a name that has this text or none, in a file that was read and is not closed.
 module _ {S : Type 0} {g : Ghosts S} (edit : Edit) {old mid : AccountFile S g} (reads : NamesStay None old mid)

@@ -10,11 +10,11 @@ ghost use Rattle.argon2_rows.specs.Table.{HasSome, IsHonest, IsOpen};
 ghost use Rattle.argon2_store.specs.Errors.{IsOfDatabase, IsOfPath, is_refusal, read_by};
 ghost use Rattle.argon2_store.specs.declared.error.OpenError.TheVariants.{DamagedLog, Row as NoAccount};
 
-use crate::error::{FileError, LineError, OpenError, line_result, read};
+use crate::error::{FileError, LineError, OpenError, call_error, line_result, read};
 use crate::opening::{is_damaged, open_files, open_path};
 use argon2_base::phc::PasswordHash;
 use argon2_rows::rows::{load, look_up, write_rows};
-use argon2_rows::table::undo_failed;
+use argon2_rows::table::{AddError, undo_failed};
 use argon2_rows::text::behind_lock;
 use argon2_rows::{StoredText, View};
 use sqlite_disk::{Disk, Files};
@@ -182,11 +182,9 @@ impl<S: Store> AccountFile<S> {
             return Err((0, FileError::Closed));
         }
         match self.add_in_order(new) {
-            Ok(done) => match read(done) {
-                Ok(()) => Ok(()),
-                Err(error) => Err((new.len(), error)),
-            },
-            Err(index) => Err((index, FileError::NameTaken)),
+            Ok(()) => Ok(()),
+            Err(AddError::Taken(index)) => Err((index, FileError::NameTaken)),
+            Err(AddError::Store(error)) => Err((new.len(), call_error(error))),
         }
     }
 

@@ -8,7 +8,7 @@ ghost use Rattle.argon2_rows.specs.Table.{Changes, HasRows, IsHonest, IsLong, Is
 
 use crate::account_file::AccountFile;
 use argon2_rows::StoredText;
-use argon2_rows::table::{add_each, finish, insert, remove, replace, undo};
+use argon2_rows::table::{AddError, add_each, finish, insert, remove, replace, undo};
 use sqlite_trees::error::StoreError;
 use sqlite_trees::store::Store;
 
@@ -54,31 +54,27 @@ impl<S: Store> AccountFile<S> {
         finish(&mut self.store, done)
     }
 
-    // Gives new names their texts, and commits. If one is taken, nothing is written, and the error is its index.
-    fn add_listed(
-        &mut self,
-        new: &[(&str, StoredText<'_>)],
-    ) -> Result<Result<(), StoreError>, usize>
+    // Gives new names their texts, and commits. If one is taken, nothing is written.
+    fn add_listed(&mut self, new: &[(&str, StoredText<'_>)]) -> Result<(), AddError>
         requires { IsHonest S.Store (database_of self.old) → IsOpen S.Store (database_of self.old) }
-        ensures { WritesAll S.Store (database_of self.old) (database_of self.new) (map entry_of new.now) result }
+        ensures { (before : Texts) → HasRows S.Store (database_of self.old) before →
+            WritesAll S.Store (database_of self.old) (database_of self.new) before (map entry_of new.now) result }
     {
         match add_each(&mut self.store, &mut self.row, &mut self.key, new) {
-            Ok(done) => Ok(finish(&mut self.store, done)),
-            Err(taken) => {
+            Ok(()) => Ok(self.store.commit()?),
+            Err(error) => {
                 undo(&mut self.store);
-                Err(taken)
+                Err(error)
             }
         }
     }
 
     // The same, written in the order of the names, so that each page is written once. They are written as they are listed
     // if they are in order, if there is no memory for a list in order, or to find the first that is taken.
-    pub(crate) fn add_in_order(
-        &mut self,
-        new: &[(&str, StoredText<'_>)],
-    ) -> Result<Result<(), StoreError>, usize>
+    pub(crate) fn add_in_order(&mut self, new: &[(&str, StoredText<'_>)]) -> Result<(), AddError>
         requires { IsHonest S.Store (database_of self.old) → IsOpen S.Store (database_of self.old) }
-        ensures { WritesAll S.Store (database_of self.old) (database_of self.new) (map entry_of new.now) result }
+        ensures { (before : Texts) → HasRows S.Store (database_of self.old) before →
+            WritesAll S.Store (database_of self.old) (database_of self.new) before (map entry_of new.now) result }
     {
         if new.is_sorted() {
             return self.add_listed(new);
@@ -87,12 +83,14 @@ impl<S: Store> AccountFile<S> {
             return self.add_listed(new);
         };
         sorted.sort_unstable();
-        if let Ok(done) = self.add_listed(sorted.as_slice()) {
-            return Ok(done);
+        match self.add_listed(sorted.as_slice()) {
+            Ok(()) => return Ok(()),
+            Err(AddError::Store(error)) => return Err(AddError::Store(error)),
+            Err(AddError::Taken(_)) => {}
         }
         // Only a failure of the disk closes the file as the rows are taken back.
         if self.is_closed() {
-            return Ok(Err(StoreError::Io));
+            return Err(AddError::Store(StoreError::Io));
         }
         self.add_listed(new)
     }

@@ -1,7 +1,7 @@
 //! Why calls on an account file are refused.
 
 ghost use Rattle.std.specs.Prelude.{◌≡◌, Some};
-ghost use Rattle.argon2_store.specs.Errors.{IsOfDatabase, IsOfPath, file_error_text, files_error, is_refusal, lines_by, log_error, named, open_error_text, path_error, read_of, store_error};
+ghost use Rattle.argon2_store.specs.Errors.{IsOfDatabase, IsOfPath, call_error, file_error_text, files_error, is_refusal, lines_by, log_error, named, open_error_text, path_error, read_of, store_error};
 
 use argon2_rows::Written;
 use sqlite_std_file::OpenError as PathError;
@@ -95,16 +95,22 @@ impl From<StoreError> for FileError {
     }
 }
 
+// Why a call fails that reads or changes an open file.
+pub(crate) fn call_error(error: StoreError) -> FileError
+    ensures { result ≡ call_error error }
+{
+    match error {
+        // Only a wrong answer of the disk breaks a store that was open.
+        StoreError::Broken => FileError::Damaged,
+        error => error.into(),
+    }
+}
+
 // What a call returns that read or changed an open file.
 pub(crate) fn read<X>(done: Result<X, StoreError>) -> Result<X, FileError>
     ensures { result ≡ read_of done }
 {
-    match done {
-        Ok(answer) => Ok(answer),
-        // Only a wrong answer of the disk breaks a store that was open.
-        Err(StoreError::Broken) => Err(FileError::Damaged),
-        Err(error) => Err(error.into()),
-    }
+    done.map_err(call_error)
 }
 
 // What became of the lines of a file.

@@ -2,7 +2,7 @@ use Rattle.argon2_rows.proofs.Imports.{◌<◌, ◌≡◌, arith, length, ℕ, L
 use Rattle.argon2_rows.specs.declared.text.StoredText.{StoredText}
 use Rattle.argon2_rows.proofs.Imports.{◌∙◌, ap, IsAdded, true, take-map, take_all, Any, AddsAll, entry_of, IsLong, Texts, HasNoneAfter, IsAfterAll, Less, slice_cmp, nat_cmp, nat_list_cmp_total}
 use Rattle.argon2_rows.proofs.AddLemmas.{add_last}
-use Rattle.argon2_rows.proofs.TableLemmas.{keeps_index, writes_nothing, writes_then}
+use Rattle.argon2_rows.proofs.TableLemmas.{err_is, keeps_index, writes_nothing, writes_then}
 use Rattle.argon2_rows.proofs.table.add_each.Goals as goal
 
 some_long : (new : List (Bor (List ℕ) × StoredText)) (i : ℕ) (e : Bor (List ℕ) × StoredText) → i < length new
@@ -27,17 +27,22 @@ pub loop-k-init : goal.loop-k-init
 loop-k-init g c =
     (c.requires, λ before texts sees. (before, texts, λ clean. (refl, λ is. absurd cc), search (arith, writes_nothing)))
 
-pub returns-in-Err : goal.returns-in-Err
-returns-in-Err g c before texts sees =
+pub returns-in_err-add : goal.returns-in_err-add
+returns-in_err-add g c before texts sees =
     let (mid, fine, all, wrote) = c.loop-k.invariant.1 before texts sees in
-    let (after, good, more, done) = (rw c.as_str.ensures at (c.in-Err.ensures.writes mid fine (search arith)
+    let (after, good, more, done) = (rw c.as_str.ensures at (c.in_err-add.ensures.writes mid fine (search arith)
     (past mid _ _ c.comes_after-is_last.ensures (λ is clean. (all clean).1 is)))) in
-    (after, good, writes_then wrote more (some_long c.args.new.now c.loop-k.k _ c.loop-k-test.true (sym c.index-new-k.is)), tt)
+    rw (err_is c.from_residual.result _ c.from_residual.ensures.1) (
+      after,
+      good,
+      writes_then wrote more (some_long c.args.new.now c.loop-k.k _ c.loop-k-test.true (sym c.index-new-k.is)),
+      λ clean. tt,
+    )
 
-pub returns-in-Ok-false : goal.returns-in-Ok-false
-returns-in-Ok-false g c before texts sees =
+pub returns-then-not-branch : goal.returns-then-not-branch
+returns-then-not-branch g c before texts sees =
     let (mid, fine, all, wrote) = c.loop-k.invariant.1 before texts sees in
-    let (after, good, more, taken) = (rw (c.as_str.ensures, c.in-Ok-false.field-0-test) at (c.in-Ok-false.ensures.writes mid fine
+    let (after, good, more, taken) = (rw (c.as_str.ensures, c.if-not-branch.true) at (c.in_ok-add.ensures.writes mid fine
     (search arith) (past mid _ _ c.comes_after-is_last.ensures (λ is clean. (all clean).1 is)))) in
     let new = c.args.new.now in
     let item = c.index-new-k.result in
@@ -59,7 +64,7 @@ loop-k-preserved g c = (
   keeps_index g.S.Store c.add.ensures.schema c.add.ensures.quiet c.loop-k.invariant.0,
   λ before texts sees.
       let (mid, fine, all, wrote) = c.loop-k.invariant.1 before texts sees in
-      let (after, good, more, done) = (rw (c.as_str.ensures, c.in-Ok-true.field-0-test) at (c.in-Ok-true.ensures.writes mid fine
+      let (after, good, more, done) = (rw (c.as_str.ensures, c.if-not-branch.false) at (c.in_ok-add.ensures.writes mid fine
       (search arith) (past mid _ _ c.comes_after-is_last.ensures (λ is clean. (all clean).1 is)))) in
       let new = c.args.new.now in
       let item = c.index-new-k.result in

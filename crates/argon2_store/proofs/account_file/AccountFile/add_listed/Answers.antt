@@ -1,40 +1,45 @@
-use Rattle.argon2_store.proofs.Imports.{arith, Ok, WritesAll, map, ∥∥₁_map, AddsAll, entry_of}
-use Rattle.argon2_rows.proofs.TableLemmas.{all_or_none, changes_of, committed, has_either, quiet_then, some_kept, taken_back}
+use Rattle.argon2_store.proofs.Imports.{arith, inr, Ok, AddsNames, Finishes, HasRows, IsHonest, Texts, map, ∥∥₁_map, entry_of}
+use Rattle.argon2_rows.proofs.AddLemmas.{undone}
+use Rattle.argon2_rows.proofs.TableLemmas.{changes_of, err_is, has_either, on_all, some_kept, taken_back}
 use Rattle.argon2_store.proofs.account_file.AccountFile.add_listed.Goals as goal
-use Rattle.argon2_store.proofs.account_file.AccountFile.add_listed.Goals.{After-finish}
+use Rattle.argon2_store.proofs.account_file.AccountFile.add_listed.Goals.{After-commit}
 
 -- the names are committed, or taken back
-written : (g : _) (c : After-finish g)
-    → WritesAll g.S.Store c.args.self.now.store c.finish.new.store (map entry_of c.args.new.now) (Ok c.finish.result)
+written : (g : _) (c : After-commit g) (before : Texts) → HasRows g.S.Store c.args.self.now.store before
+    → AddsNames g.S.Store c.args.self.now.store c.commit.new.self before (map entry_of c.args.new.now) c.commit.result
 written g c before has =
     let (after, good, wrote, all) = c.in-Ok.ensures before has.0 (λ clean unbroken. has.1.seen clean (c.requires clean)) in
-    let (to, fine, written, may, then) = all_or_none c.in-Ok.done (AddsAll before (map entry_of c.args.new.now)) has.0 good wrote
-    all in (
-      to,
-      λ clean. may (search arith),
-      committed _ c.in-Ok.done c.finish.result then c.finish.ensures.cause (λ clean adds. adds (search arith)),
-      changes_of g.met.S.Store.settled c.requires c.in-Ok.done c.finish.result has fine written c.finish.ensures,
+    let ends : Finishes g.S.Store c.add_each.new.store c.commit.new.self (Ok tt) c.commit.result = search arith in
+    let adds = λ (clean : IsHonest g.S.Store c.commit.new.self). all (omega (arith, clean, ends.clean)) in (
+      after,
+      λ clean. inr (adds clean),
+      on_all c.commit.result adds,
+      changes_of g.met.S.Store.settled c.requires (Ok tt) c.commit.result has good wrote ends,
     )
 
-pub returns-in-Ok : goal.returns-in-Ok
-returns-in-Ok g c = written g (goal.at.returns-in-Ok g c).After-finish
+pub returns-in_ok-commit-in-Ok : goal.returns-in_ok-commit-in-Ok
+returns-in_ok-commit-in-Ok g c before has =
+    rw c.in_ok-commit-in-Ok.was at (written g (goal.at.returns-in_ok-commit-in-Ok g c).After-commit before has)
+
+pub returns-in_err-commit-in-Ok : goal.returns-in_err-commit-in-Ok
+returns-in_err-commit-in-Ok g c before has =
+    rw (err_is c.from_residual.result _ c.from_residual.ensures.1)
+    (rw c.in_err-commit-in-Ok.was at (written g (goal.at.returns-in_err-commit-in-Ok g c).After-commit before has))
 
 pub invariant_of-self : goal.invariant_of-self
 invariant_of-self g c = record {
-  kept = ∥∥₁_map c.args.self.now.kept (λ it. has_either c.finish.result (written g c it.0 it.1).3);
+  kept = ∥∥₁_map c.args.self.now.kept (λ it. has_either c.commit.result (written g c it.0 it.1).3);
 }
 
 pub returns-in-Err : goal.returns-in-Err
 returns-in-Err g c before has =
-    let (after, good, wrote, why) = c.in-Err.ensures before has.0 (λ clean unbroken. has.1.seen clean (c.requires clean)) in (
-      taken_back g.met.S.Store.settled c.requires has wrote (c.undo.ensures.kept before) c.undo.ensures.quiet,
-      λ clean. why (omega (arith, clean, c.undo.ensures.quiet.clean)),
-      quiet_then g.S.Store _ _ _ wrote.quiet c.undo.ensures.quiet,
-    )
+    let (after, good, wrote, adds) = c.in-Err.ensures before has.0 (λ clean unbroken. has.1.seen clean (c.requires clean)) in
+    undone g.S.Store c.args.self.now.store c.add_each.new.store c.undo.new.store (map entry_of c.args.new.now) c.in-Err.error
+    g.met.S.Store.settled c.requires has wrote adds c.undo.ensures.kept c.undo.ensures.blame c.undo.ensures.quiet
 
 pub invariant_of-self-in-Err : goal.invariant_of-self-in-Err
 invariant_of-self-in-Err g c = record {
   kept = some_kept c.args.self.now.kept (λ before has.
-      let (after, good, wrote, why) = c.in-Err.ensures before has.0 (λ clean unbroken. has.1.seen clean (c.requires clean)) in
+      let (after, good, wrote, adds) = c.in-Err.ensures before has.0 (λ clean unbroken. has.1.seen clean (c.requires clean)) in
       taken_back g.met.S.Store.settled c.requires has wrote (c.undo.ensures.kept before) c.undo.ensures.quiet);
 }
