@@ -30,9 +30,9 @@ abbrev pub values_of : {Y : Type 0} → BTreeMap (String Y) PasswordHash → Sto
 values_of texts = from_entries (named_values texts.entries)
 
 -- the store after these names are added with their texts, one after the other
-abbrev pub added : List (List ℕ × Phc) → Store → Store
-added [] store = store
-added (e ∷ es) store = added es (insert store e.0 e.1)
+abbrev pub with_texts : List (List ℕ × Phc) → Store → Store
+with_texts [] store = store
+with_texts (e ∷ es) store = with_texts es (insert store e.0 e.1)
 
 -- the texts of all other names stay
 abbrev pub KeepsOthers : List ℕ → Store → Store → Type 0

@@ -10,7 +10,7 @@ ghost use Rattle.argon2_base.specs.declared.error.password_hash.Error.TheVariant
 ghost use Rattle.argon2.specs.declared.login.answers.Accepted.TheVariants.{Kept};
 ghost use Rattle.argon2.specs.declared.login.answers.LoginError.TheVariants.{Refused};
 ghost use Rattle.argon2.specs.Login.{HasPassword, IsNew, Steps, adding, logging_in, store_of, login_target};
-ghost use Rattle.argon2.specs.NamedTexts.{IsCurrent, KeepsOthers, added, named_values, stream_after};
+ghost use Rattle.argon2.specs.NamedTexts.{IsCurrent, KeepsOthers, with_texts, named_values, stream_after};
 ghost use Rattle.argon2.specs.TextHashing.{target_of};
 
 use crate::context::Argon2;
@@ -134,7 +134,7 @@ impl<'key> Login<'key> {
     /// [`add`](Login::add) gives all of them has the same texts.
     pub fn texts(&self) -> Iter<'_, String, PasswordHash>
         ensures texts { named_values result ≡ entries (store_of self.now) }
-        ensures again { added (named_values result) empty ≡ store_of self.now }
+        ensures again { with_texts (named_values result) empty ≡ store_of self.now }
     {
         self.texts.iter()
     }

@@ -4,7 +4,7 @@ use Rattle.std.specs.Char.{is_ascii_digit}
 use Rattle.std.specs.List.{before_first, list_all, position_or_len}
 use Rattle.std.specs.Io.BufRead.{strip_last}
 use Rattle.std.specs.Str.{IsUtf8, bytes_eq}
-use Rattle.argon2_programs.specs.Prefixes.{after_any, bare, begins_any}
+use Rattle.argon2_programs.specs.Prefixes.{after_any, without_prefix, begins_any}
 use Rattle.argon2_programs.specs.Schemes.{scheme_of}
 use Rattle.argon2_base.specs.Error.{Fault, bad_encoding, outcome_of}
 use Rattle.argon2_base.specs.PhcText.{Phc, PhcText}
@@ -97,11 +97,11 @@ abbrev pub claim_of : Field → List ℕ → Claim
 claim_of field line =
     if list_all is_space (trimmed line) then Blank
     else if begins_any (codes "#" ∷ []) (trimmed line) then Comment
-    else unwrap_or (option_map (λ text. claim_of_text (bare text)) (field_in field (trimmed line))) NoField
+    else unwrap_or (option_map (λ text. claim_of_text (without_prefix text)) (field_in field (trimmed line))) NoField
 
 -- the text of a line, empty if it lacks the field
 abbrev pub stored_in : Field → List ℕ → List ℕ
-stored_in field line = unwrap_or (option_map bare (field_in field (trimmed line))) []
+stored_in field line = unwrap_or (option_map without_prefix (field_in field (trimmed line))) []
 
 -- ---- what a stored text shows
 

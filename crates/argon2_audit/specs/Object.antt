@@ -70,8 +70,8 @@ pub record AddsValue (old new : Written) (most : ℕ) (value : Json) : Type 0 wh
   pub flat : IsFlat most value
 
 -- the values of members, as a call takes them
-abbrev pub given : List (Bor (List ℕ) × Value) → Members
-given members = members_of (map (λ (m : Bor (List ℕ) × Value). (m.0.now, m.1)) members)
+abbrev pub members_now : List (Bor (List ℕ) × Value) → Members
+members_now members = members_of (map (λ (m : Bor (List ℕ) × Value). (m.0.now, m.1)) members)
 
 -- flat items were written behind these tokens, and more may follow
 pub record HasItems (front tokens : List Token) : Type 0 where

@@ -3,7 +3,7 @@
 ghost use Rattle.std.specs.Prelude.{IfOk, OnOk, IsTrue};
 ghost use Rattle.json.specs.Json.{Items, Json, array, object};
 ghost use Rattle.json.specs.Tree.{members_tokens};
-ghost use Rattle.argon2_audit.specs.Object.{Adds, AddsValue, HasFindings, IsFlat, counts_of, given, json_value};
+ghost use Rattle.argon2_audit.specs.Object.{Adds, AddsValue, HasFindings, IsFlat, counts_of, members_now, json_value};
 
 use crate::finding::Class;
 use crate::limits::Kind;
@@ -151,7 +151,7 @@ fn write_kinds(json: &mut Writer, kinds: &BTreeMap<Kind, u64>) -> Result<(), All
 
 // Writes an object.
 fn write_object(json: &mut Writer, members: &[(&str, Value<'_>)]) -> Result<(), AllocError>
-    ensures { OnOk result (AddsValue json.old json.new 1 (object (given members.now))) }
+    ensures { OnOk result (AddsValue json.old json.new 1 (object (members_now members.now))) }
 {
     json.begin_object()?;
     write_members(json, members)
@@ -159,8 +159,8 @@ fn write_object(json: &mut Writer, members: &[(&str, Value<'_>)]) -> Result<(), 
 
 // Writes the last members of an object.
 fn write_members(json: &mut Writer, members: &[(&str, Value<'_>)]) -> Result<(), AllocError>
-    ensures { OnOk result (Adds json.old json.new (members_tokens (given members.now))
-        × IsFlat 1 (object (given members.now))) }
+    ensures { OnOk result (Adds json.old json.new (members_tokens (members_now members.now))
+        × IsFlat 1 (object (members_now members.now))) }
 {
     let Some((member, rest)) = members.split_first() else {
         return json.end_object();

@@ -7,8 +7,8 @@ use Rattle.argon2_c.specs.declared.code.TheConstants.{OUTPUT_PTR_NULL, OUTPUT_TO
 use Rattle.argon2_c.specs.declared.request.Request.{Request}
 
 -- what the hash depends on beside the password, the salt and the output's length
-abbrev pub asked : Request → List ℕ → List ℕ → Context
-asked request secret associated = record {
+abbrev pub request_context : Request → List ℕ → List ℕ → Context
+request_context request secret associated = record {
   algorithm = request.algorithm;
   version = request.version;
   m_cost = request.m_cost;

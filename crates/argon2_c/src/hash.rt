@@ -8,7 +8,7 @@ ghost use Rattle.argon2.specs.Hashing.{blocks_of};
 ghost use Rattle.argon2.specs.Layout.{matrix_of};
 ghost use Rattle.argon2.specs.Rfc9106.{tag_of};
 ghost use Rattle.argon2.specs.Segments.{slice_length};
-ghost use Rattle.argon2_c.specs.Requests.{asked, IsFaultless};
+ghost use Rattle.argon2_c.specs.Requests.{request_context, IsFaultless};
 ghost use Rattle.argon2_c.specs.Texts.{name_numbered};
 
 use crate::code::{INCORRECT_PARAMETER, OK, VERIFY_MISMATCH};
@@ -33,12 +33,12 @@ pub extern "C" fn argon2_c_hash(
 ) -> i32
     ensures hashes { IsFaultless request.now (length out.old) (length pwd.now) (length salt.now)
         (length secret.now) (length associated.now)
-        → length memory.old ≡ 4 * slice_length (asked request.now [] []) → result ≡ OK }
+        → length memory.old ≡ 4 * slice_length (request_context request.now [] []) → result ≡ OK }
     ensures only { result ≡ OK → IsFaultless request.now (length out.old) (length pwd.now)
         (length salt.now) (length secret.now) (length associated.now)
-        × (length memory.old ≡ 4 * slice_length (asked request.now [] [])) }
+        × (length memory.old ≡ 4 * slice_length (request_context request.now [] [])) }
     ensures tag { result ≡ OK → out.new
-        ≡ tag_of (asked request.now secret.now associated.now) pwd.now salt.now (length out.old) }
+        ≡ tag_of (request_context request.now secret.now associated.now) pwd.now salt.now (length out.old) }
     ensures refused { result ≢ OK → (result ≡ INCORRECT_PARAMETER) × (out.new ≡ out.old)
         × (memory.new ≡ memory.old) }
 {
@@ -67,12 +67,12 @@ pub extern "C" fn argon2_c_fill(
     memory: &mut [Words],
 ) -> i32
     ensures fills { IsFaultless request.now 4 (length pwd.now) (length salt.now) (length secret.now)
-        (length associated.now) → length memory.old ≡ 4 * slice_length (asked request.now [] [])
+        (length associated.now) → length memory.old ≡ 4 * slice_length (request_context request.now [] [])
         → result ≡ OK }
     ensures only { result ≡ OK → IsFaultless request.now 4 (length pwd.now) (length salt.now)
         (length secret.now) (length associated.now)
-        × (length memory.old ≡ 4 * slice_length (asked request.now [] [])) }
-    ensures matrix { let ctx = asked request.now secret.now associated.now in
+        × (length memory.old ≡ 4 * slice_length (request_context request.now [] [])) }
+    ensures matrix { let ctx = request_context request.now secret.now associated.now in
         result ≡ OK → blocks_of ctx memory.new ≡ matrix_of ctx pwd.now salt.now 0 }
     ensures refused { result ≢ OK → (result ≡ INCORRECT_PARAMETER) × (memory.new ≡ memory.old) }
 {
@@ -100,7 +100,7 @@ pub fn hashing<'key>(
     ensures faultless { IfSome result (λ _. IsFaultless request.now 4 0 8 (length secret.now)
         associated) }
     ensures context { IfSome result (λ argon2. context_of argon2
-        ≡ asked request.now secret.now []) }
+        ≡ request_context request.now secret.now []) }
     ensures any_length { IfSome result (λ argon2. (own_parameters argon2).output_len ≡ None) }
 {
     if request.algorithm > 2 || associated > MAX_AD_LEN {

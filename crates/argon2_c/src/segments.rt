@@ -11,7 +11,7 @@ ghost use Rattle.argon2.specs.Rfc9106.{first_block, segment_length};
 ghost use Rattle.argon2.specs.Refusals.{max_len};
 ghost use Rattle.argon2.specs.Settings.{max_lanes};
 ghost use Rattle.argon2.specs.Segments.{AreLengths, BeginsSlices, FillsSegment, last_of_slice, slice_length};
-ghost use Rattle.argon2_c.specs.Requests.{asked, IsFaultless};
+ghost use Rattle.argon2_c.specs.Requests.{request_context, IsFaultless};
 
 use crate::code::{INCORRECT_PARAMETER, OK};
 use crate::hash::hashing;
@@ -46,11 +46,11 @@ pub extern "C" fn argon2_c_begin(
 ) -> i32
     ensures takes { IsFaultless request.now output (length pwd.now) (length salt.now)
         (length secret.now) (length associated.now)
-        → length slice.old ≡ slice_length (asked request.now [] []) → result ≡ OK }
+        → length slice.old ≡ slice_length (request_context request.now [] []) → result ≡ OK }
     ensures only { result ≡ OK → IsFaultless request.now output (length pwd.now) (length salt.now)
         (length secret.now) (length associated.now)
-        × (length slice.old ≡ slice_length (asked request.now [] [])) }
-    ensures begins { result ≡ OK → let ctx = asked request.now secret.now associated.now in
+        × (length slice.old ≡ slice_length (request_context request.now [] [])) }
+    ensures begins { result ≡ OK → let ctx = request_context request.now secret.now associated.now in
         BeginsSlices ctx (first_block ctx pwd.now salt.now output) slice.old slice.new }
     ensures refused { result ≢ OK → (result ≡ INCORRECT_PARAMETER) × (slice.new ≡ slice.old) }
 {
@@ -79,13 +79,13 @@ pub extern "C" fn argon2_c_segment(
     at: &Place,
 ) -> i32
     ensures takes { IsFaultless request.now 4 0 8 (length secret.now) (length associated.now)
-        → AreLengths (asked request.now [] []) at.now.slice at.now.lane (length before.now)
+        → AreLengths (request_context request.now [] []) at.now.slice at.now.lane (length before.now)
         (length own.old) (length after.now) → result ≡ OK }
     ensures only { result ≡ OK → IsFaultless request.now 4 0 8 (length secret.now)
         (length associated.now)
-        × AreLengths (asked request.now [] []) at.now.slice at.now.lane (length before.now)
+        × AreLengths (request_context request.now [] []) at.now.slice at.now.lane (length before.now)
         (length own.old) (length after.now) }
-    ensures fills { result ≡ OK → FillsSegment (asked request.now secret.now associated.now)
+    ensures fills { result ≡ OK → FillsSegment (request_context request.now secret.now associated.now)
         at.now.pass at.now.slice at.now.lane before.now own.old own.new after.now }
     ensures refused { result ≢ OK → (result ≡ INCORRECT_PARAMETER) × (own.new ≡ own.old) }
 {
@@ -111,12 +111,12 @@ pub extern "C" fn argon2_c_segment(
 #[tactic(auto, unfolding(argon2::specs::Rfc9106::xor_lanes))]
 pub extern "C" fn argon2_c_finish(request: &Request, last: &[Words], out: &mut [u8]) -> i32
     ensures takes { IsFaultless request.now (length out.old) 0 8 0 0
-        → length last.now ≡ slice_length (asked request.now [] []) → result ≡ OK }
+        → length last.now ≡ slice_length (request_context request.now [] []) → result ≡ OK }
     ensures only { result ≡ OK → IsFaultless request.now (length out.old) 0 8 0 0
-        × (length last.now ≡ slice_length (asked request.now [] [])) }
+        × (length last.now ≡ slice_length (request_context request.now [] [])) }
     ensures tag { (secret associated : List ℕ) → result ≡ OK → out.new ≡ long_hash
         (length out.old)
-        (bytes_of (last_of_slice (asked request.now secret associated) last.now)) }
+        (bytes_of (last_of_slice (request_context request.now secret associated) last.now)) }
     ensures refused { result ≢ OK → (result ≡ INCORRECT_PARAMETER) × (out.new ≡ out.old) }
 {
     let Some(argon2) = hashing(request, &[], 0) else {
@@ -144,7 +144,7 @@ fn are_lengths(output: usize, pwd: usize, salt: usize) -> bool
 /// How many blocks a segment has.
 pub fn segment_len(request: &Request) -> u32
     requires { (1 ≤ request.now.lanes) × (request.now.lanes ≤ max_lanes) }
-    ensures value { result ≡ segment_length (asked request.now [] []) }
+    ensures value { result ≡ segment_length (request_context request.now [] []) }
     ensures within { 4 * (request.now.lanes * result) ≤ request.now.m_cost }
 {
     request.m_cost / (4 * request.lanes)
@@ -153,7 +153,7 @@ pub fn segment_len(request: &Request) -> u32
 /// How many blocks a slice has.
 pub fn slice_len(request: &Request) -> u32
     requires { (1 ≤ request.now.lanes) × (request.now.lanes ≤ max_lanes) }
-    ensures value { result ≡ slice_length (asked request.now [] []) }
+    ensures value { result ≡ slice_length (request_context request.now [] []) }
     ensures within { 4 * result ≤ request.now.m_cost }
 {
     request.lanes * segment_len(request)
@@ -163,7 +163,7 @@ pub fn slice_len(request: &Request) -> u32
 // the slices after it.
 fn fits(request: &Request, before: usize, own: usize, after: usize, at: &Place) -> bool
     requires { (1 ≤ request.now.lanes) × (request.now.lanes ≤ max_lanes) }
-    ensures { IsTrue result ↔ AreLengths (asked request.now [] []) at.now.slice at.now.lane before
+    ensures { IsTrue result ↔ AreLengths (request_context request.now [] []) at.now.slice at.now.lane before
         own after }
 {
     let blocks = slice_len(request);

@@ -12,7 +12,7 @@ use Rattle.std.specs.Str.Lines.{lines}
 use Rattle.std.specs.FinMap.{get}
 use Rattle.argon2_base.specs.PhcText.{Phc, PhcText}
 use Rattle.argon2.specs.StoredTexts.{shown_settings}
-use Rattle.argon2_programs.specs.Prefixes.{after_any, bare}
+use Rattle.argon2_programs.specs.Prefixes.{after_any, without_prefix}
 use Rattle.argon2_programs.specs.Schemes.{scheme_of}
 use Rattle.argon2_rows.specs.Locks.{IsLine, IsStored, without_lock}
 use Rattle.argon2_rows.specs.Names.{Texts, entry_of}
@@ -48,7 +48,7 @@ has_control name = list_any is_control (chars name)
 
 -- the name of a line, and its text without what other programs put before it
 abbrev pub IsPair : Bool → List ℕ → List ℕ × List ℕ → Type 0
-IsPair any_text line e = (e.0 ≡ (parts_of line).0) × (e.1 ≡ bare (parts_of line).1) × IsTaken any_text e.1
+IsPair any_text line e = (e.0 ≡ (parts_of line).0) × (e.1 ≡ without_prefix (parts_of line).1) × IsTaken any_text e.1
 
 -- the same, and the name may be added
 abbrev pub IsEntry : Bool → List ℕ → List ℕ × List ℕ → Type 0
@@ -65,12 +65,12 @@ IsNotTaken false text = ¬ (IsStored text) ⊎ ((v : Phc) × PhcText (without_lo
 IsNotTaken true text = ¬ (IsStored text) × ¬ (IsForeign text)
 
 abbrev pub HasNoText : Bool → List ℕ → Type 0
-HasNoText any_text line = IsNotTaken any_text (bare (parts_of line).1)
+HasNoText any_text line = IsNotTaken any_text (without_prefix (parts_of line).1)
 
 -- the line has no text that is taken, or it has one, but its name may not be added
 abbrev pub LacksEntry : Bool → Bool → List ℕ → Type 0
 LacksEntry any_text false line = HasNoText any_text line
-LacksEntry any_text true line = IsTaken any_text (bare (parts_of line).1) × IsTrue (has_control (parts_of line).0)
+LacksEntry any_text true line = IsTaken any_text (without_prefix (parts_of line).1) × IsTrue (has_control (parts_of line).0)
 
 -- what lines say behind a byte order mark
 abbrev pub unmarked : List ℕ → List ℕ
@@ -84,7 +84,7 @@ AreEntries any_text input es = AllZip (IsEntry any_text) (lines input) es
 abbrev pub IsFirstWithout : Bool → Bool → List (List ℕ) → ℕ → Type 0
 IsFirstWithout any_text of_name [] k = ⊥
 IsFirstWithout any_text of_name (line ∷ lines) zero = LacksEntry any_text of_name line
-IsFirstWithout any_text of_name (line ∷ lines) (suc k) = IsTaken any_text (bare (parts_of line).1)
+IsFirstWithout any_text of_name (line ∷ lines) (suc k) = IsTaken any_text (without_prefix (parts_of line).1)
     × (has_control (parts_of line).0 ≡ false) × IsFirstWithout any_text of_name lines k
 
 -- the failure has the number of that line

@@ -24,7 +24,7 @@ abbrev pub after_django : List ℕ → List ℕ
 after_django text = after_any (codes "argon2" ∷ []) text
 
 -- a text without what Django puts before a `$`, or Dovecot and LDAP servers before a text
-abbrev pub bare : List ℕ → List ℕ
-bare text = if begins_any (codes "$" ∷ []) (after_django text) then after_django text
+abbrev pub without_prefix : List ℕ → List ℕ
+without_prefix text = if begins_any (codes "$" ∷ []) (after_django text) then after_django text
     else after_any (codes "{argon2}" ∷ codes "{ARGON2}" ∷ codes "{ARGON2I}" ∷ codes "{ARGON2ID}" ∷ codes "{CRYPT}"
     ∷ codes "{crypt}" ∷ []) text

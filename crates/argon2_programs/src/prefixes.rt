@@ -1,7 +1,7 @@
 //! How a stored text begins, and what other programs put before it.
 
 ghost use Rattle.std.specs.Prelude.{◌≡◌, map};
-ghost use Rattle.argon2_programs.specs.Prefixes.{after_any, bare, begins_any, is_named};
+ghost use Rattle.argon2_programs.specs.Prefixes.{after_any, without_prefix, begins_any, is_named};
 
 // What Django puts before a text of Argon2, which begins with `$`.
 const DJANGO: [&str; 1] = ["argon2"];
@@ -18,7 +18,7 @@ const SCHEMES: [&str; 6] = [
 
 /// The text without what other programs put before it: Django's word before a `$`, or the first scheme in braces.
 pub fn bare(text: &[u8]) -> &[u8]
-    ensures { result.now ≡ bare text.now }
+    ensures { result.now ≡ without_prefix text.now }
 {
     let rest = after_any(text, &DJANGO);
     if begins_any(rest, &["$"]) {
@@ -30,7 +30,7 @@ pub fn bare(text: &[u8]) -> &[u8]
 
 /// The same of a string.
 pub fn bare_str(text: &str) -> &str
-    ensures { result.now ≡ bare text.now }
+    ensures { result.now ≡ without_prefix text.now }
 {
     let rest = str_after_any(text, &DJANGO);
     if begins_any(rest.as_bytes(), &["$"]) {

@@ -20,18 +20,18 @@ use Rattle.argon2_store.specs.declared.error.OpenError.TheVariants as no
 use Rattle.argon2_store.specs.declared.error.OpenError.TheVariants.{Path, Busy, HotJournal, NotAccounts}
 
 -- what an error of the store is called
-abbrev pub named : StoreError → FileError
-named below.OutOfMemory = OutOfMemory
-named below.Io = Io
-named below.Corrupt = Damaged
-named below.Full = Full
-named below.Broken = Closed
-named below.Unstorable = TooLong
+abbrev pub file_error : StoreError → FileError
+file_error below.OutOfMemory = OutOfMemory
+file_error below.Io = Io
+file_error below.Corrupt = Damaged
+file_error below.Full = Full
+file_error below.Broken = Closed
+file_error below.Unstorable = TooLong
 
 -- why a read or a change of an open file fails: only a disk that lies breaks it without an error
 abbrev pub call_error : StoreError → FileError
 call_error below.Broken = Damaged
-call_error e = named e
+call_error e = file_error e
 
 -- what a call answers that read or changed an open file
 abbrev pub read_of : {X : Type 0} → Result X StoreError → Result X FileError

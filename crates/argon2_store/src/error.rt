@@ -1,7 +1,7 @@
 //! Why calls on an account file are refused.
 
 ghost use Rattle.std.specs.Prelude.{◌≡◌, Some};
-ghost use Rattle.argon2_store.specs.Errors.{IsOfDatabase, IsOfPath, call_error, file_error_text, files_error, is_refusal, lines_by, log_error, named, open_error_text, path_error, read_of, store_error};
+ghost use Rattle.argon2_store.specs.Errors.{IsOfDatabase, IsOfPath, call_error, file_error_text, files_error, is_refusal, lines_by, log_error, file_error, open_error_text, path_error, read_of, store_error};
 
 use argon2_rows::Written;
 use sqlite_std_file::OpenError as PathError;
@@ -81,7 +81,7 @@ impl From<AllocError> for FileError {
 }
 
 impl From<StoreError> for FileError {
-    ghost from_gives = { λ e error. error ≡ named e };
+    ghost from_gives = { λ e error. error ≡ file_error e };
 
     fn from(error: StoreError) -> FileError {
         match error {

@@ -22,7 +22,7 @@ use Rattle.argon2_base.specs.PhcFields.{phc_of}
 use Rattle.argon2_base.specs.PhcText.{Phc}
 use Rattle.argon2_base.specs.declared.phc.hash.PasswordHash.{PasswordHash}
 use Rattle.argon2.proofs.params_lemmas.ListReading.{or_none}
-use Rattle.argon2.specs.NamedTexts.{Store, KeepsOthers, added, named_values, values_of}
+use Rattle.argon2.specs.NamedTexts.{Store, KeepsOthers, with_texts, named_values, values_of}
 
 -- what a store with one name set has
 pub get-set : (m : Store) (n : List ℕ) (v : Phc) (q : List ℕ) →
@@ -60,7 +60,7 @@ none_below n q (x ∷ es) e h =
 
 -- what a store has after names in order are added
 get-added : (es : List (List ℕ × Phc)) (m : Store) (q : List ℕ) → is_sorted (slice_cmp nat_cmp) es ≡ true →
-    get (added es m) q ≡ option_or (find (slice_cmp nat_cmp) q es) (get m q)
+    get (with_texts es m) q ≡ option_or (find (slice_cmp nat_cmp) q es) (get m q)
 get-added [] m q h = refl
 get-added (x ∷ es) m q h =
     let parts = and_parts (below_all (slice_cmp nat_cmp) x.0 es) _ h in
@@ -143,7 +143,7 @@ module _ {Y : Type 0} where
 
   -- adding them to a store without names gives the store again
   pub added-values_of : (m : BTreeMap (String Y) PasswordHash) → IsOrdered string_cmp m →
-      added (named_values m.entries) empty ≡ values_of m
+      with_texts (named_values m.entries) empty ≡ values_of m
   added-values_of m ordered =
       let es = named_values m.entries in
       same_map nat_list_cmp_total (slice_cmp-IsAntisymmetric nat_cmp-IsAntisymmetric) _ _ (λ q.

@@ -1,6 +1,6 @@
 use Rattle.std.proofs.Common.{rules, ◌≡◌, ◌∙◌, ℕ, false, Some, List, [], ◌∷◌, codes, refl}
 use Rattle.std.specs.List.{list_all}
-use Rattle.argon2_programs.specs.Prefixes.{bare, begins_any}
+use Rattle.argon2_programs.specs.Prefixes.{without_prefix, begins_any}
 use Rattle.argon2_audit.specs.Finding.{IsTextFinding, claim_of, claim_of_text, field_in, is_space, stored_in, trimmed}
 use Rattle.argon2_audit.specs.declared.claim.Claim.{Claim}
 use Rattle.argon2_audit.specs.declared.field.Field.{Field}
@@ -8,7 +8,7 @@ use Rattle.argon2_audit.proofs.finding.found.Goals as goal
 
 text_of : (field : Field) (line within text bared : List ℕ) (claim : Claim) → within ≡ trimmed line
     → list_all is_space within ≡ false → begins_any (codes "#" ∷ []) within ≡ false → field_in field within ≡ Some text
-    → bared ≡ bare text → claim ≡ claim_of_text bared → (claim_of field line ≡ claim) × (stored_in field line ≡ bared)
+    → bared ≡ without_prefix text → claim ≡ claim_of_text bared → (claim_of field line ≡ claim) × (stored_in field line ≡ bared)
 text_of field line within text bared claim so some no_comment is cut claims =
     rw (claims, cut, ← so) (rw (some, no_comment, is) refl, rw is refl)
 

@@ -1,6 +1,6 @@
 use Rattle.std.proofs.Common.{ap, sym, ◌∙◌}
 use Rattle.std.specs.FinMap.{empty}
-use Rattle.argon2.specs.NamedTexts.{added, named_values}
+use Rattle.argon2.specs.NamedTexts.{with_texts, named_values}
 use Rattle.argon2.proofs.login_lemmas.Stores.{added-values_of, entries-values_of}
 use Rattle.argon2.proofs.login.Login.texts.Goals as goal
 
@@ -9,5 +9,5 @@ returns-clause-texts c =
     ap named_values c.iter.ensures.rest ∙ sym (entries-values_of c.args.self.now.texts c.iter.ensures.ordered)
 
 pub returns-clause-again : goal.returns-clause-again
-returns-clause-again c = ap (λ items. added (named_values items) empty) c.iter.ensures.rest
+returns-clause-again c = ap (λ items. with_texts (named_values items) empty) c.iter.ensures.rest
     ∙ added-values_of c.args.self.now.texts c.iter.ensures.ordered

@@ -6,7 +6,7 @@ use Rattle.json.specs.Token.{Token}
 use Rattle.json.specs.Tree.{json_tokens}
 use Rattle.json.specs.Written.{Written}
 use Rattle.json.proofs.Printed.Trees.{document-print}
-use Rattle.argon2_audit.specs.Object.{Adds, given, object_of}
+use Rattle.argon2_audit.specs.Object.{Adds, members_now, object_of}
 use Rattle.argon2_audit.proofs.Objects.{further, one}
 use Rattle.argon2_audit.proofs.findings.Findings.object.Goals as goal
 
@@ -24,7 +24,7 @@ returns c =
     (further (one c.key-3.ensures c.in_ok-key-3.ensures.ok) (further table.1.adds
     (one c.end_object.ensures c.in_ok-end_object.ensures.ok)))))) in
     let are = has.1.are no_items (tt, omega arith) in
-    let members = given c.as_slice.result.now in
+    let members = members_now c.as_slice.result.now in
     let whole = object_of c.args.session.now.tally (has.1.all no_items) members table.0 in
     let tokens : c.end_object.new.self.tokens ≡ json_tokens whole =
     behind added (c.in_ok-end_array.ensures.ok ∙ has.1.reads no_items) in
