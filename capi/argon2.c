@@ -262,6 +262,7 @@ static size_t used(const struct shown *shown, int answer, const char *text, size
     return text ? 2 * n : 0;
 }
 
+/* By the law `verifying` of argon2_c all three calls return 0 exactly if the text is taken and has the password's tag. */
 int argon2_verify(const char *encoded, const void *pwd, size_t pwdlen, argon2_type type) {
     const size_t n = encoded ? strlen(encoded) : 0;
     uint8_t *const room = malloc(2 * n); /* for what the text says, and for the tag that is made: two bytes for each of the text */

@@ -4,6 +4,7 @@
 //! - [`request`]: what a caller asks for, and the first reason to refuse it.
 //! - [`hash`], [`segments`]: the tag, by one call or by calls that threads share.
 //! - [`encode`], [`verify`]: texts, written and verified.
+//! - [`laws`]: what the calls answer by which a text is verified.
 //! - [`phc`]: the calls of `argon2_phc.h`.
 #![tactic(auto)]
 
@@ -11,6 +12,7 @@ mod code;
 mod decode;
 pub mod encode;
 pub mod hash;
+pub mod laws;
 pub mod phc;
 pub mod request;
 pub mod segments;

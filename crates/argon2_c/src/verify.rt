@@ -1,6 +1,8 @@
 //! What the text of a hash says, by which a password is verified.
 
-ghost use Rattle.std.specs.Prelude.{◌≡◌, ◌≤◌, ◌*◌, ◌++◌, ℤ, None, Some, IsNone, length, take};
+ghost use Rattle.std.specs.Prelude.{◌≡◌, ◌≤◌, ◌+◌, ◌*◌, ◌++◌, ℤ, None, Some, IsNone, length};
+ghost use Rattle.base64.specs.Decode.{IsWrittenOver};
+ghost use Rattle.argon2_c.specs.Requests.{IsFaultless};
 ghost use Rattle.argon2_c.specs.Texts.{IsShown, Said, Says};
 ghost use Rattle.argon2_c.specs.Verifying.{call_refusal, said_code, shown_request};
 
@@ -19,7 +21,7 @@ const MAX_TEXT_LEN: usize = 4294967295;
 /// variant's grammar; the code of the first fault of the request that the text stands for.
 ///
 /// Unless the call or the text is refused, `shown` is then what the text says, and the front of `room` its
-/// salt and then its hash.
+/// salt and then its hash, and the rest of `room` is as before. With 0 the room also has place for another hash.
 #[unsafe(no_mangle)]
 pub extern "C" fn argon2_c_decode(
     algorithm: u32,
@@ -36,11 +38,14 @@ pub extern "C" fn argon2_c_decode(
     ensures said { (v : Said) → call_refusal algorithm has_text (length text.now) pwd
         (length room.old) ≡ None → Says algorithm text.now v
         → (result ≡ said_code algorithm pwd lacks_pwd v)
-        × IsShown v shown.new × (take (length (v.salt ++ v.tag)) room.new ≡ v.salt ++ v.tag) }
+        × IsShown v shown.new × IsWrittenOver (v.salt ++ v.tag) room.old room.new }
     ensures unsaid { call_refusal algorithm has_text (length text.now) pwd (length room.old) ≡ None
         → ((v : Said) → Says algorithm text.now v → ⊥)
         → (result ≡ DECODING_FAIL) × (shown.new ≡ shown.old) }
     ensures found { result ≡ OK → (v : Said) × Says algorithm text.now v }
+    ensures faultless { (v : Said) → result ≡ OK → Says algorithm text.now v
+        → IsFaultless (shown_request algorithm lacks_pwd v) (length v.tag) pwd (length v.salt) 0 0 }
+    ensures within { result ≡ OK → shown.new.salt + 2 * shown.new.tag ≤ length room.old }
 {
     if let Some(code) = call_refusal(algorithm, has_text, text.len(), pwd, room.len()) {
         return code;
