@@ -1,5 +1,5 @@
 -- What a text of the grammar shows to a C caller, and when it accepts a password.
-use Rattle.std.specs.Prelude.{◌≡◌, ℕ, ◌+◌, ◌==◌, ◌&&◌, ◌||◌, nat_lt, nat_le, not, Bool, ℤ, Result, Ok, Err, if◌then◌else◌, List, [], ◌∷◌, codes, length, take, unwrap_or}
+use Rattle.std.specs.Prelude.{◌≡◌, ℕ, ◌+◌, ◌==◌, ◌&&◌, ◌||◌, nat_lt, nat_le, not, Bool, ℤ, Result, Ok, Err, if◌then◌else◌, List, [], ◌∷◌, ◌++◌, ◌-◌, codes, length, replicate, unwrap_or}
 use Rattle.std.specs.Str.{bytes_eq}
 use Rattle.argon2_base.specs.Error.{Fault, bad_algorithm, bad_param, bad_params, bad_password, bad_version}
 use Rattle.argon2_base.specs.PhcText.{Phc, fields_text, field, params_text, version_text}
@@ -47,9 +47,9 @@ code_of (Err code) next = code
 
 -- ---- what a text shows
 
--- the bytes, and how many they are
-abbrev pub Shows : List ℕ → ℕ → List ℕ → Type 0
-Shows bytes n room = (n ≡ length bytes) × (take n room ≡ bytes)
+-- how many the bytes are, and zeros behind them in room for so many
+abbrev pub Shows : ℕ → List ℕ → ℕ → List ℕ → Type 0
+Shows most bytes n room = (n ≡ length bytes) × (room ≡ bytes ++ replicate (most - length bytes) 0)
 
 -- where the list of parameters begins in a text, if there is one
 abbrev pub list_place : Phc → ℕ
@@ -63,8 +63,8 @@ pub record ShowsFields (v : Phc) (shown : PhcShown) : Type 0 where
   pub version : shown.text_version ≡ unwrap_or v.version 0
   pub params_at : shown.params_at ≡ list_place v
   pub params : shown.params_len ≡ length (params_text v.params)
-  pub salt : Shows (unwrap_or v.salt []) shown.salt_len shown.salt
-  pub output : Shows (unwrap_or v.hash []) shown.output_len shown.output
+  pub salt : Shows 48 (unwrap_or v.salt []) shown.salt_len shown.salt
+  pub output : Shows 64 (unwrap_or v.hash []) shown.output_len shown.output
 
 -- settings
 pub record ShowsSettings (settings : Settings) (shown : PhcShown) : Type 0 where
@@ -73,8 +73,18 @@ pub record ShowsSettings (settings : Settings) (shown : PhcShown) : Type 0 where
   pub m_cost : shown.m_cost ≡ settings.parameters.m_cost
   pub t_cost : shown.t_cost ≡ settings.parameters.t_cost
   pub p_cost : shown.p_cost ≡ settings.parameters.p_cost
-  pub keyid : Shows settings.parameters.keyid shown.keyid_len shown.keyid
-  pub associated : Shows settings.parameters.associated shown.associated_len shown.associated
+  pub keyid : Shows 8 settings.parameters.keyid shown.keyid_len shown.keyid
+  pub associated : Shows 32 settings.parameters.associated shown.associated_len shown.associated
+
+-- no settings
+pub record ShowsNoSettings (shown : PhcShown) : Type 0 where
+  pub algorithm : shown.algorithm ≡ 0
+  pub version : shown.version ≡ 0
+  pub m_cost : shown.m_cost ≡ 0
+  pub t_cost : shown.t_cost ≡ 0
+  pub p_cost : shown.p_cost ≡ 0
+  pub keyid : Shows 8 [] shown.keyid_len shown.keyid
+  pub associated : Shows 32 [] shown.associated_len shown.associated
 
 -- 0, or why a value shows no settings
 abbrev pub show_code : Phc → ℤ

@@ -1,12 +1,12 @@
 //! What a text shows, and whether it is to be renewed.
 
-ghost use Rattle.std.specs.Prelude.{◌≡◌, ◌≤◌, [], Ok, length, unwrap_or};
-ghost use Rattle.argon2_base.specs.ByteList.{list_bytes};
+ghost use Rattle.std.specs.Prelude.{◌≡◌, ◌≤◌, ◌-◌, ◌++◌, [], Ok, Err, length, replicate, unwrap_or};
+ghost use Rattle.argon2_base.specs.Error.{Fault};
 ghost use Rattle.argon2_base.specs.PhcFields.{phc_of};
 ghost use Rattle.argon2_base.specs.PhcText.{Phc, PhcText, field, fields_text, version_text};
 ghost use Rattle.argon2.specs.Settings.{Settings as Shown};
 ghost use Rattle.argon2.specs.StoredTexts.{settings_value, shown_settings};
-ghost use Rattle.argon2_c.specs.PhcReading.{ShowsFields, ShowsSettings, is_below, is_wanted, renewal_code, show_code};
+ghost use Rattle.argon2_c.specs.PhcReading.{ShowsFields, ShowsNoSettings, ShowsSettings, is_below, is_wanted, renewal_code, show_code};
 
 use super::fault::text_code;
 use super::reading::read;
@@ -73,6 +73,8 @@ pub extern "C" fn argon2_c_phc_show(text: &[u8], shown: &mut PhcShown) -> i32
         → (result ≡ show_code v) × ShowsFields v shown.new }
     ensures settings { (v : Phc) (s : Shown) → PhcText text.now v → shown_settings v ≡ Ok s
         → ShowsSettings s shown.new }
+    ensures no_settings { (v : Phc) (fault : Fault) → PhcText text.now v
+        → shown_settings v ≡ Err fault → ShowsNoSettings shown.new }
     ensures unsaid { ((v : Phc) → PhcText text.now v → ⊥)
         → (result ≡ TEXT_INVALID) × (shown.new ≡ shown.old) }
 {
@@ -88,6 +90,8 @@ fn show(hash: &PasswordHash, shown: &mut PhcShown) -> i32
     ensures fields { ShowsFields (phc_of hash.now) shown.new }
     ensures settings { (s : Shown) → shown_settings (phc_of hash.now) ≡ Ok s
         → ShowsSettings s shown.new }
+    ensures no_settings { (fault : Fault) → shown_settings (phc_of hash.now) ≡ Err fault
+        → ShowsNoSettings shown.new }
 {
     let fields = fields(hash);
     match Settings::try_from(hash) {
@@ -104,7 +108,8 @@ fn show(hash: &PasswordHash, shown: &mut PhcShown) -> i32
 
 // What the fields of a text show.
 fn fields(hash: &PasswordHash) -> PhcShown
-    ensures { ShowsFields (phc_of hash.now) result }
+    ensures fields { ShowsFields (phc_of hash.now) result }
+    ensures no_settings { ShowsNoSettings result }
 {
     let name_len = hash.algorithm.as_str().len() as u32;
     let params_len = hash.params.as_str().len() as u32;
@@ -177,7 +182,7 @@ fn output_of(hash: &PasswordHash) -> &[u8]
 // A list of bytes that fit.
 fn list<const N: usize>(bytes: &[u8]) -> ByteList<N>
     requires { length bytes.now ≤ N }
-    ensures bytes { list_bytes result ≡ bytes.now }
+    ensures bytes { result.bytes ≡ bytes.now ++ replicate (N - length bytes.now) 0 }
     ensures len { result.len ≡ length bytes.now }
 {
     let Some(list) = ByteList::new(bytes) else {
