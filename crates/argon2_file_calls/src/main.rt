@@ -31,8 +31,7 @@ fn write_all<'a, W: Write>(
 ) -> io::Result<()> {
     let mut contexts = Contexts::new(rt.alloc());
     contexts.add(lines)?;
-    let mut accounts = None;
-    write_each(rt, output, &mut accounts, &contexts, lines)
+    write_each(rt, output, &mut None, &contexts, lines)
 }
 
 fn write_each<'a, W: Write>(
@@ -79,9 +78,29 @@ fn open<'a>(rt: &HostRuntime, call: &Call<'_, 'a>, answer: &mut Answer, accounts
     }
 }
 
-// Makes a call on the accounts that are open. No other function passes a file on as a store, since the prover takes long
-// for each that does: those below are over any store.
+// Makes a call on the accounts that are open. The prover takes long for each call that passes a file on as a store, so
+// this makes only those that ask for a disk, and `on_store` all others.
 fn on_file(call: &Call<'_, '_>, answer: &mut Answer, accounts: &mut Held<'_>) {
+    if let Some(held) = accounts {
+        match call.name {
+            "AccountFile::checkpoint" => answer.done(held.file.checkpoint()),
+            // `NAME GENERATOR PASSWORD`.
+            "service::sign_up" => {
+                let (mut rng, password) = (call.generator(2), call.bytes(3));
+                answer.done(argon2_service::sign_up(held, &mut rng, call.word(1), password));
+                answer.drawn(&rng);
+            }
+            _ => {}
+        }
+    }
+    on_store(call, answer, accounts);
+}
+
+fn on_store<S: Store + Drop>(
+    call: &Call<'_, '_>,
+    answer: &mut Answer,
+    accounts: &mut Option<Accounts<'_, S>>,
+) {
     if call.name == "AccountFile::into_store" {
         if let Some(Accounts { file, .. }) = accounts.take() {
             file.into_store();
@@ -92,16 +111,6 @@ fn on_file(call: &Call<'_, '_>, answer: &mut Answer, accounts: &mut Held<'_>) {
     let Some(held) = accounts else {
         return call.refuse();
     };
-    match call.name {
-        "AccountFile::checkpoint" => answer.done(held.file.checkpoint()),
-        // `NAME GENERATOR PASSWORD`.
-        "service::sign_up" => {
-            let mut rng = call.generator(2);
-            answer.done(argon2_service::sign_up(held, &mut rng, call.word(1), call.bytes(3)));
-            answer.drawn(&rng);
-        }
-        _ => {}
-    }
     on_accounts(call, answer, held);
     if held.file.is_closed() {
         answer.say("closed");
