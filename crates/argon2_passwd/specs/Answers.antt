@@ -1,5 +1,5 @@
 -- What the program answers.
-use Rattle.std.specs.Prelude.{◌≡◌, ◌≢◌, ◌⊎◌, ⊤, ℕ, ◌||◌, false, Bool, ◌+◌, IsTrue, List, [], ◌∷◌, ◌++◌, Option, Some, None, IfSome, Result, Ok, Err, IfErr, IfOk, IsErrAnd, IsSomeAnd, OnOk, map}
+use Rattle.std.specs.Prelude.{◌≡◌, ◌≢◌, ◌⊎◌, ⊤, ℕ, ◌||◌, false, Bool, ◌+◌, IsTrue, List, [], ◌∷◌, ◌++◌, Option, Some, None, IfSome, Result, Ok, Err, IfErr, IfOk, IsErrAnd, is_ok, if◌then◌else◌, IsSomeAnd, OnOk, map}
 use Rattle.std.specs.Io.BufRead.{drop_through}
 use Rattle.std.specs.List.{AllZip}
 use Rattle.std.specs.Option.{option_map}
@@ -137,26 +137,18 @@ breaks_lines act name = false
 abbrev pub edit_of : Step → List ℕ → FileEdit
 edit_of (step.Add text) name = adding name (text_of text)
 edit_of (step.Set text) name = setting name (text_of text)
+edit_of (step.Replace old text) name = replacing name old.now (text_of text)
 edit_of step.Remove name = removing name
 edit_of step.Lock name = locking name
 edit_of step.Unlock name = unlocking name
 
--- one of the entries has the first name that is taken, and none is added; the failure has its line
-abbrev pub RefusesLine : {S : Type 0} {g : Ghosts S} → Failure → List (List ℕ × List ℕ) → AccountFile S g → AccountFile S g
-    → Type 0
-RefusesLine {g} failure es before after = (e : FileError) × Serves (additions es) (Err e) before after
-    × ((names : Texts) → HasNames before names → IsHonest g (database_of after)
-    → (k : ℕ) × (failure ≡ AtLine (k + 1) Taken) × IsFirstTaken names es k)
-
--- the entries were to be added, and this is some answer to it
-abbrev pub ServesAdditions : {S : Type 0} {g : Ghosts S} → List (List ℕ × List ℕ) → AccountFile S g → AccountFile S g → Type 0
-ServesAdditions es before after = (answer : Result (Unit {0}) FileError) × Serves (additions es) answer before after
-
--- how an addition of the entries ended
+-- How an addition of the entries ended: all are added, or none. A refusal has the line of the first one whose name is taken.
 abbrev pub AddsLines : {S : Type 0} {g : Ghosts S} → Result (Unit {0}) Failure → List (List ℕ × List ℕ) → AccountFile S g
     → AccountFile S g → Type 0
-AddsLines (Ok _) es before after = Serves (additions es) (Ok tt) before after
-AddsLines (Err failure) es before after = ServesAdditions es before after × (status_of failure ≢ 3 → RefusesLine failure es before after)
+AddsLines {g} (Ok _) es before after = Serves (additions es) (Ok tt) before after
+AddsLines {g} (Err failure) es before after = (e : FileError) × Serves (additions es) (Err e) before after
+    × (status_of failure ≢ 3 → (names : Texts) → HasNames before names → IsHonest g (database_of after)
+    → (k : ℕ) × (failure ≡ AtLine (k + 1) Taken) × IsFirstTaken names es k)
 
 -- ---- an import that passes over lines
 
@@ -173,34 +165,23 @@ AddsEntries {S} {g} answer ls passed before after = (mid : AccountFile S g) × (
     × ((names : Texts) → HasNames before names → IsHonest g (database_of after)
     → let marked = map (unless_known names) ls in (es ≡ entries_in marked) × (passed ≡ flaws_from 1 marked))
 
--- how far an addition of entries came: names were looked up, or their entries were to be added
-abbrev pub TriesOthers : {S : Type 0} {g : Ghosts S} → List Line → AccountFile S g → AccountFile S g → Type 0
-TriesOthers ls before after = ((error : Option FileError) × Looks error before after)
-    ⊎ ((answer : Result (Unit {0}) FileError) × (passed : List (ℕ × Flaw)) × AddsEntries answer ls passed before after)
-
 -- the entries were added, and the failure has the numbers of the other lines
 abbrev pub PassesOver : {S : Type 0} {g : Ghosts S} → Failure → List Line → AccountFile S g → AccountFile S g → Type 0
 PassesOver (Passed passed) ls before after = AddsEntries (Ok tt) ls passed.items before after
 PassesOver _ ls before after = ⊥
 
--- how an addition of the entries ended
+-- how an addition of their entries ended; before a failure that is no refusal names were looked up, or the entries were to be
+-- added
 abbrev pub AddsOthers : {S : Type 0} {g : Ghosts S} → Result (Unit {0}) Failure → List Line → AccountFile S g → AccountFile S g
     → Type 0
 AddsOthers (Ok _) ls before after = AddsEntries (Ok tt) ls [] before after
-AddsOthers (Err failure) ls before after = TriesOthers ls before after
-    × (status_of failure ≢ 3 → PassesOver failure ls before after)
+AddsOthers (Err failure) ls before after = PassesOver failure ls before after ⊎ ((status_of failure ≡ 3)
+    × (((error : Option FileError) × Looks error before after)
+    ⊎ ((answer : Result (Unit {0}) FileError) × (passed : List (ℕ × Flaw)) × AddsEntries answer ls passed before after)))
 
 -- a file at a path that was opened, with its names
 abbrev pub IsOpened : {S : Type 0} {g : Ghosts S} → (List ℕ → Texts → Type 0) → List ℕ → AccountFile S g → Type 0
 IsOpened Has path file = (names : Texts) × Has path names × IsReady names file
-
--- How far a call on a name came: its text can't be read; or what it has refuses the call, or accepts it, and no text is
--- replaced; or this answers the replacement of the text.
-pub data Outcome (X : Type 0) : Type 0 where
-  unread : FileError → Outcome X
-  denied : Failure → Outcome X
-  accepted : X → Outcome X
-  replaced : X → Result (Unit {0}) FileError → Outcome X
 
 -- what an accepted login did whose fresh text is not written
 abbrev pub answer_without_text : Accepted → Accepted
@@ -213,32 +194,11 @@ TellsOf (Ok x) (Ok y) = y ≡ x
 TellsOf (Err e) (Err failure) = IsOfFile e failure
 TellsOf _ _ = ⊥
 
--- a result of a login tells how far it came
-abbrev pub TellsOfLogin : Outcome Accepted → Result Accepted Failure → Type 0
-TellsOfLogin (unread e) (Err failure) = IsOfFile e failure
-TellsOfLogin (denied why) (Err failure) = failure ≡ why
-TellsOfLogin (accepted did) (Ok answer) = answer ≡ answer_without_text did
-TellsOfLogin (replaced did (Ok _)) (Ok answer) = answer ≡ did
-TellsOfLogin (replaced did (Err e)) (Ok answer) = answer ≡ answer_without_text did
-TellsOfLogin _ _ = ⊥
-
--- a result of a change tells how far it came; that the file can't be opened again is no refusal
-abbrev pub TellsOfChange : Outcome (Unit {0}) → Result (Unit {0}) Failure → Type 0
-TellsOfChange (unread e) (Err failure) = IsOfFile e failure
-TellsOfChange (denied why) (Err failure) = failure ≡ why
-TellsOfChange (accepted _) (Err failure) = status_of failure ≡ 3
-TellsOfChange (replaced _ done) result = TellsOf done result
-TellsOfChange _ _ = ⊥
-
--- a login by a text, with what it did and the text that is to stand then
-abbrev pub AcceptsLogin : (List ℕ → Type 0) → Policy → List ℕ → List ℕ → Accepted → List ℕ → Type 0
-AcceptsLogin Gives policy password old did new = (drawn : List ℕ) × (v w : Phc) × IsSalt Gives drawn × SaysHash old v
-    × LogsIn policy password drawn v (Ok did) w × (new ≡ phc_text w)
-
--- a change by a text, with the one of the new password
-abbrev pub AcceptsChange : (List ℕ → Type 0) → Policy → List ℕ → List ℕ → List ℕ → Unit {0} → List ℕ → Type 0
-AcceptsChange Gives policy first second old _ new = (drawn : List ℕ) × (v w : Phc) × IsSalt Gives drawn × SaysHash old v
-    × Admits policy first v × IsFresh policy.target second drawn w × (new ≡ phc_text w)
+-- what is written of a login, and the result: what it did, or nothing if it is refused
+abbrev pub SaysLogin : Result Accepted Failure → Result (Unit {0}) Failure → Option (List ℕ) → Option (List ℕ) → Type 0
+SaysLogin (Ok did) (Ok _) old new = Appends old new (accepted_text did ++ 10 ∷ [])
+SaysLogin (Ok did) (Err failure) old new = status_of failure ≡ 3
+SaysLogin (Err why) result old new = (result ≡ Err why) × Keeps old new
 
 -- a call of which its result tells, or a file that was not opened, which is no refusal
 abbrev pub Ends : {X : Type 0} → (Result X Failure → Type 0) → Type 0 → Result X Failure → Type 0
@@ -282,54 +242,39 @@ module _ {S : Type 0} (g : Ghosts S) (Has : List ℕ → Texts → Type 0) where
       → Stays (error_of found) names before after
       × IfOk found (λ text. IsHonest g (database_of after) → get names name ≡ text))
 
-  -- no value of the text of a name was read there: what it has refuses the call, or the file has an error
-  abbrev pub IsUnfound : List ℕ → List ℕ → Failure → (S → Type 0) → Type 0
-  IsUnfound path name failure Next =
-      ((o : Option (List ℕ)) × IsDenied (λ v e. ⊥) o failure × IsLooked path name (Ok o) Next)
+  -- a call on a name is refused by what was read there: its text can't be read, or what the name has refuses the call
+  abbrev pub IsUnfound : (Phc → BoundError → Type 0) → List ℕ → List ℕ → Failure → (S → Type 0) → Type 0
+  IsUnfound Why path name failure Next =
+      ((o : Option (List ℕ)) × IsDenied Why o failure × IsLooked path name (Ok o) Next)
       ⊎ ((e : FileError) × IsOfFile e failure × IsLooked path name (Err e) Next)
-
-  -- what was done with the file at a path for a call on a name, which was decided by the text that was read
-  abbrev pub IsOutcome : {X : Type 0} → List ℕ → List ℕ → (Phc → BoundError → Type 0) → (List ℕ → X → List ℕ → Type 0)
-      → Outcome X → (List S → Type 0) → Type 0
-  IsOutcome path name Why Accepts (unread e) Closed = IsLooked path name (Err e) (λ read. Closed (read ∷ []))
-  IsOutcome path name Why Accepts (denied failure) Closed =
-      (o : Option (List ℕ)) × IsDenied Why o failure × IsLooked path name (Ok o) (λ read. Closed (read ∷ []))
-  IsOutcome path name Why Accepts (accepted x) Closed = (old new : List ℕ) × Accepts old x new
-      × IsLooked path name (Ok (Some old)) (λ read. Closed (read ∷ []))
-  IsOutcome path name Why Accepts (replaced x done) Closed = (old new : List ℕ) × Accepts old x new
-      × IsLooked path name (Ok (Some old))
-      (λ read. IsCalled path (replacing name old new) (λ last. Closed (read ∷ last ∷ [])) done)
 
   -- no name was changed, with this error of the file if there was one, and this is a fact of its names
   abbrev pub IsOnlyRead : List ℕ → Option FileError → (Texts → Type 0) → (List S → Type 0) → Type 0
   IsOnlyRead path error Shows = IsDone path (λ before after. (names : Texts) → HasNames before names
       → Stays error names before after × (IsHonest g (database_of after) → Shows names))
 
-  -- adding the entries of a known input was all that was done with it, with this answer
-  abbrev pub IsImported : List ℕ → Bool → (List (List ℕ × List ℕ) → AccountFile S g → AccountFile S g → Type 0)
-      → Option (List ℕ) → (List S → Type 0) → Type 0
-  IsImported path any_text Adds input Closed = (es : List (List ℕ × List ℕ))
-      × IfSome input (λ bytes. AreEntries any_text (unmarked bytes) es) × IsDone path (Adds es) Closed
-
-  -- adding entries of the lines of a known input was all that was done with it; of lines with one name the first alone has it
-  abbrev pub IsSifted : List ℕ → Bool → (List Line → AccountFile S g → AccountFile S g → Type 0)
-      → Option (List ℕ) → (List S → Type 0) → Type 0
-  IsSifted path any_text Adds input Closed = (said : List Line)
-      × IfSome input (λ bytes. AllZip (IsEntryOrFlaw any_text) (lines (unmarked bytes)) said)
-      × IsDone path (Adds (first_of_each [] said)) Closed
-
 module _ {S : Type 0} (g : Ghosts S) (Has : List ℕ → Texts → Type 0) (Gives : List ℕ → Type 0) where
-  -- a login with the password was all that was done with the file at a path, with this result
+  -- A login with the password was all that was done with the file at a path, with this result. If the text accepts the
+  -- password, none is replaced, or a call to replace it ended so.
   abbrev pub IsLogin : Policy → List ℕ → List ℕ → List ℕ → Result Accepted Failure → (List S → Type 0) → Type 0
-  IsLogin policy path name password result Closed = (outcome : Outcome Accepted) × TellsOfLogin outcome result
-      × IsOutcome g Has path name (Denial policy password) (AcceptsLogin Gives policy password) outcome Closed
+  IsLogin policy path name password result Closed =
+      IsErrAnd result (λ failure. IsUnfound g Has (Denial policy password) path name failure (λ read. Closed (read ∷ [])))
+      ⊎ ((old drawn : List ℕ) × (v w : Phc) × (did : Accepted) × IsSalt Gives drawn × SaysHash old v
+      × LogsIn policy password drawn v (Ok did) w × IsLooked g Has path name (Ok (Some old))
+      (λ read. ((result ≡ Ok (answer_without_text did)) × Closed (read ∷ []))
+      ⊎ ((done : Result (Unit {0}) Failure) × (result ≡ Ok (if is_ok done then did else answer_without_text did))
+      × IsApplied g Has path (replacing name old (phc_text w)) (λ last. Closed (read ∷ last ∷ [])) done)))
 
-  -- a change of this kind was all that was done with the file at a path, by these passwords and with this result
+  -- A change of this kind was all that was done with the file at a path, by these passwords and with this result. That the file
+  -- can't be opened again is no refusal.
   abbrev pub IsChange : Policy → List ℕ → Edit → List ℕ → List ℕ → List ℕ → (List S → Type 0) → Result (Unit {0}) Failure → Type 0
   IsChange policy path Register name first second Closed result = (drawn : List ℕ) × (v : Phc)
       × IsSalt Gives drawn × IsFresh policy.target first drawn v × IsApplied g Has path (adding name (phc_text v)) (λ last. Closed (last ∷ [])) result
-  IsChange policy path Change name first second Closed result = (outcome : Outcome (Unit {0})) × TellsOfChange outcome result
-      × IsOutcome g Has path name (ChangeRefusal policy first second) (AcceptsChange Gives policy first second) outcome Closed
+  IsChange policy path Change name first second Closed result =
+      IsErrAnd result (λ failure. IsUnfound g Has (ChangeRefusal policy first second) path name failure (λ read. Closed (read ∷ [])))
+      ⊎ ((old drawn : List ℕ) × (v w : Phc) × IsSalt Gives drawn × SaysHash old v × Admits policy first v
+      × IsFresh policy.target second drawn w × IsLooked g Has path name (Ok (Some old))
+      (λ read. Ends (IsApplied g Has path (replacing name old (phc_text w)) (λ last. Closed (read ∷ last ∷ []))) (Closed (read ∷ [])) result))
   IsChange policy path Set name first second Closed result = (drawn : List ℕ) × (v : Phc)
       × IsSalt Gives drawn × IsFresh policy.target first drawn v × IsApplied g Has path (setting name (phc_text v)) (λ last. Closed (last ∷ [])) result
   IsChange policy path Remove name first second Closed result = IsApplied g Has path (removing name) (λ last. Closed (last ∷ [])) result
@@ -342,74 +287,43 @@ module _ {S : Type 0} (g : Ghosts S) (Has : List ℕ → Texts → Type 0) (Give
   IsAct policy path act name first second result Closed =
       Ends (IsChange policy path act name first second Closed) (Closed []) result
 
-  -- a login with the password that is read was all that was done with it
-  abbrev pub IsVerified : Policy → List ℕ → List ℕ → Result Accepted Failure → Option (List ℕ) → (List S → Type 0) → Type 0
-  IsVerified policy path name result input Closed =
-      OfPassword (λ password. IsLogin policy path name password result Closed) input
-
-  -- a change of the text of a name by the passwords that are read was all that was done with it
-  abbrev pub IsEdited : Policy → List ℕ → Edit → List ℕ → Result (Unit {0}) Failure → Option (List ℕ) → (List S → Type 0) → Type 0
-  IsEdited policy path act name result input Closed = (breaks_lines act name ≡ false) × (first second : List ℕ)
-      × AreRead act input first second × IsChange policy path act name first second Closed result
-
-  -- what is asked for is answered
-  abbrev pub IsAnswered : Policy → Job → Option (List ℕ) → Option (List ℕ) → Option (List ℕ) → (List S → Type 0) → Type 0
-  IsAnswered policy hash input old new Closed =
-      IsReplied Gives (λ drawn line. IsHashReply policy drawn input line) old new × Closed []
-  IsAnswered policy (check text) input old new Closed =
-      IsReplied Gives (λ drawn line. IsCheckReply policy drawn text input line) old new × Closed []
-  IsAnswered policy (verify path name) input old new Closed = (did : Accepted)
-      × IsVerified policy path name (Ok did) input Closed × Appends old new (accepted_text did ++ 10 ∷ [])
-  IsAnswered policy (edit path act name) input old new Closed =
-      IsEdited policy path act name (Ok tt) input Closed × Keeps old new
-  IsAnswered policy (show path view) input old new Closed =
+  -- all that was done with the file that is named, and how it ended
+  abbrev pub IsUsed : Policy → Job → Result (Unit {0}) Failure → Option (List ℕ) → Option (List ℕ) → Option (List ℕ)
+      → (List S → Type 0) → Type 0
+  IsUsed policy (verify path name) result input old new Closed = (login : Result Accepted Failure)
+      × SaysLogin login result old new × OfPassword (λ password. IsLogin policy path name password login Closed) input
+  IsUsed policy (edit path act name) result input old new Closed = Keeps old new × (breaks_lines act name ≡ false)
+      × (first second : List ℕ) × AreRead act input first second × IsChange policy path act name first second Closed result
+  IsUsed policy (show path view) (Ok _) input old new Closed =
       IsOnlyRead g Has path None (λ names. AreWritten view names old new All) Closed
-  IsAnswered policy (import path any_text) input old new Closed =
-      IsImported g Has path any_text (λ es. Serves (additions es) (Ok tt)) input Closed × Keeps old new
-  IsAnswered policy (import_others path any_text) input old new Closed =
-      IsSifted g Has path any_text (AddsOthers (Ok tt)) input Closed × Keeps old new
+  IsUsed policy (show path view) (Err failure) input old new Closed =
+      (status_of failure ≡ 3) × (error : Option FileError) × IsOnlyRead g Has path error (λ names. ⊤) Closed
+  IsUsed policy (import path any_text) result input old new Closed = Keeps old new × (es : List (List ℕ × List ℕ))
+      × IfSome input (λ bytes. AreEntries any_text (unmarked bytes) es) × IsDone g Has path (AddsLines result es) Closed
+  IsUsed policy (import_others path any_text) result input old new Closed = Keeps old new × (said : List Line)
+      × IfSome input (λ bytes. AllZip (IsEntryOrFlaw any_text) (lines (unmarked bytes)) said)
+      × IsDone g Has path (AddsOthers result (first_of_each [] said)) Closed
+  IsUsed policy _ result input old new Closed = ⊥
 
-  -- a call on the file is refused with this failure
-  abbrev pub IsRefusedBy : Policy → Job → Option (List ℕ) → Failure → (List S → Type 0) → Type 0
-  IsRefusedBy policy (verify path name) input failure Closed = IsVerified policy path name (Err failure) input Closed
-  IsRefusedBy policy (edit path act name) input failure Closed = IsEdited policy path act name (Err failure) input Closed
-  IsRefusedBy policy (import path any_text) input failure Closed =
-      IsImported g Has path any_text (RefusesLine failure) input Closed
-  IsRefusedBy policy (import_others path any_text) input failure Closed =
-      IsSifted g Has path any_text (PassesOver failure) input Closed
-  IsRefusedBy policy _ input failure Closed = ⊥
+  -- what is written without a file
+  abbrev pub IsWritten : Policy → Job → Option (List ℕ) → Option (List ℕ) → Option (List ℕ) → Type 0
+  IsWritten policy hash input old new = IsReplied Gives (λ drawn line. IsHashReply policy drawn input line) old new
+  IsWritten policy (check text) input old new = IsReplied Gives (λ drawn line. IsCheckReply policy drawn text input line) old new
+  IsWritten policy _ input old new = ⊥
 
-  -- what is asked for is refused with this failure: there is no such policy, or before a file is opened, or by a call on the
-  -- file
-  abbrev pub IsRefused : Policy → Job → Option (List ℕ) → Failure → (List S → Type 0) → Type 0
-  IsRefused policy what input failure Closed =
-      (((¬ (IsPolicy policy) × (failure ≡ Params)) ⊎ IsUnfit policy what input failure) × Closed [])
-      ⊎ IsRefusedBy policy what input failure Closed
+  -- how a command ended: its file was used, or no file was opened, and it is answered, or refused before
+  abbrev pub IsServed : Policy → Job → Result (Unit {0}) Failure → Option (List ℕ) → Option (List ℕ) → Option (List ℕ)
+      → (List S → Type 0) → Type 0
+  IsServed policy what result input old new Closed = IsUsed policy what result input old new Closed
+      ⊎ (Closed [] × OnOk result (IsWritten policy what input old new)
+      × IfErr result (λ failure. status_of failure ≢ 3 → IsUnfit policy what input failure × Keeps old new))
 
-  -- all that was done with a file, whatever the status: it was not opened, or the command was served, with some result
-  abbrev pub IsOnce : Policy → Job → Option (List ℕ) → (List S → Type 0) → Type 0
-  IsOnce policy (verify path name) input Closed =
-      Closed [] ⊎ ((result : Result Accepted Failure) × IsVerified policy path name result input Closed)
-  IsOnce policy (edit path act name) input Closed =
-      Closed [] ⊎ ((result : Result (Unit {0}) Failure) × IsEdited policy path act name result input Closed)
-  IsOnce policy (show path view) input Closed =
-      Closed [] ⊎ ((error : Option FileError) × IsOnlyRead g Has path error (λ names. ⊤) Closed)
-  IsOnce policy (import path any_text) input Closed = Closed [] ⊎ IsImported g Has path any_text ServesAdditions input Closed
-  IsOnce policy (import_others path any_text) input Closed = Closed [] ⊎ IsSifted g Has path any_text TriesOthers input Closed
-  IsOnce policy _ input Closed = Closed []
-
-  -- how a command ended: it is answered, or refused with this failure, and no more was done with a file
-  pub record IsServed (policy : Policy) (what : Job) (result : Result (Unit {0}) Failure)
-      (input old new : Option (List ℕ)) (Closed : List S → Type 0) : Type 0 where
-    pub ok : OnOk result (IsAnswered policy what input old new Closed)
-    pub err : IfErr result (λ failure. status_of failure ≢ 3
-        → IsRefused policy what input failure Closed × Keeps old new)
-    pub once : IsOnce policy what input Closed
-
--- how a command ended under the choices and their secret; or a failure that is no refusal came before
+-- How a command ended under the choices and their secrets, if these make a policy. A failure that is no refusal may come before.
 abbrev pub IsEnded : {S : Type 0} (g : Ghosts S) → (List ℕ → List ℕ → Type 0) → (List ℕ → Texts → Type 0)
     → (List ℕ → Type 0) → Choices → Job
     → Result (Unit {0}) Failure → Option (List ℕ) → Option (List ℕ) → Option (List ℕ) → (List S → Type 0) → Type 0
 IsEnded g Holds Has Gives choices what result input old new Closed =
     (Closed [] × IsErrAnd result (λ failure. status_of failure ≡ 3))
-    ⊎ Under Holds choices (λ policy. IsServed g Has Gives policy what result input old new Closed)
+    ⊎ Under Holds choices (λ policy.
+    (Closed [] × ¬ (IsPolicy policy) × IsErrAnd result (λ failure. failure ≡ Params) × Keeps old new)
+    ⊎ IsServed g Has Gives policy what result input old new Closed)

@@ -1,5 +1,5 @@
 -- Why the program fails.
-use Rattle.std.specs.Prelude.{◌≡◌, ◌≢◌, ⊤, ℕ, if◌then◌else◌}
+use Rattle.std.specs.Prelude.{◌≡◌, ◌≢◌, ⊤, ℕ, if◌then◌else◌, Result, Ok, Err}
 use Rattle.argon2_base.specs.declared.error.password_hash.Error.TheVariants.{OutOfMemory, PasswordInvalid}
 use Rattle.argon2.specs.declared.bound.BoundError.{BoundError}
 use Rattle.argon2.specs.declared.bound.BoundError.TheVariants as bound
@@ -27,6 +27,11 @@ status_of (Line number why) = 1
 status_of (Passed lines) = 4
 status_of (File error) = if is_refusal error then 1 else 3
 status_of _ = 3
+
+-- the exit status of a result
+abbrev pub status_by : Result (Unit {0}) Failure → ℕ
+status_by (Ok _) = 0
+status_by (Err failure) = status_of failure
 
 -- a request for memory was refused
 abbrev pub IsMemory : Failure → Type 0

@@ -67,11 +67,6 @@ IsNotTaken true text = ¬ (IsStored text) × ¬ (IsForeign text)
 abbrev pub HasNoText : Bool → List ℕ → Type 0
 HasNoText any_text line = IsNotTaken any_text (without_prefix (parts_of line).1)
 
--- the line has no text that is taken, or it has one, but its name may not be added
-abbrev pub LacksEntry : Bool → Bool → List ℕ → Type 0
-LacksEntry any_text false line = HasNoText any_text line
-LacksEntry any_text true line = IsTaken any_text (without_prefix (parts_of line).1) × IsTrue (has_control (parts_of line).0)
-
 -- what lines say behind a byte order mark
 abbrev pub unmarked : List ℕ → List ℕ
 unmarked input = after_any ((239 ∷ 187 ∷ 191 ∷ []) ∷ []) input
@@ -79,21 +74,6 @@ unmarked input = after_any ((239 ∷ 187 ∷ 191 ∷ []) ∷ []) input
 -- the entries of all lines
 abbrev pub AreEntries : Bool → List ℕ → List (List ℕ × List ℕ) → Type 0
 AreEntries any_text input es = AllZip (IsEntry any_text) (lines input) es
-
--- the first of the lines without an entry has so many before it, and lacks its text or, if this is true, its name
-abbrev pub IsFirstWithout : Bool → Bool → List (List ℕ) → ℕ → Type 0
-IsFirstWithout any_text of_name [] k = ⊥
-IsFirstWithout any_text of_name (line ∷ lines) zero = LacksEntry any_text of_name line
-IsFirstWithout any_text of_name (line ∷ lines) (suc k) = IsTaken any_text (without_prefix (parts_of line).1)
-    × (has_control (parts_of line).0 ≡ false) × IsFirstWithout any_text of_name lines k
-
--- the failure has the number of that line
-abbrev pub RefusesText : Bool → List ℕ → Failure → Type 0
-RefusesText any_text input failure = (k : ℕ)
-    × (((failure ≡ AtLine (k + 1) NoText) × IsFirstWithout any_text false (lines input) k)
-    ⊎ ((failure ≡ AtLine (k + 1) Control) × IsFirstWithout any_text true (lines input) k))
-
--- ---- lines that are passed over
 
 -- what a line says: a name and a text that may be added, or why it has none
 abbrev pub Line : Type 0
@@ -105,9 +85,22 @@ entry_or_flaw (Err why) = Err why
 
 abbrev pub IsEntryOrFlaw : Bool → List ℕ → Line → Type 0
 IsEntryOrFlaw any_text line (Ok e) = IsEntry any_text line e
-IsEntryOrFlaw any_text line (Err NoText) = LacksEntry any_text false line
-IsEntryOrFlaw any_text line (Err Control) = LacksEntry any_text true line
+IsEntryOrFlaw any_text line (Err NoText) = HasNoText any_text line
+IsEntryOrFlaw any_text line (Err Control) =
+    IsTaken any_text (without_prefix (parts_of line).1) × IsTrue (has_control (parts_of line).0)
 IsEntryOrFlaw any_text line (Err Taken) = ⊥
+
+-- the first of the lines without an entry has so many before it, and this flaw
+abbrev pub IsFirstWithout : Bool → Flaw → List (List ℕ) → ℕ → Type 0
+IsFirstWithout any_text why [] k = ⊥
+IsFirstWithout any_text why (line ∷ lines) zero = IsEntryOrFlaw any_text line (Err why)
+IsFirstWithout any_text why (line ∷ lines) (suc k) =
+    (e : List ℕ × List ℕ) × IsEntry any_text line e × IsFirstWithout any_text why lines k
+
+-- the failure has the number of that line, and its flaw
+abbrev pub RefusesText : Bool → List ℕ → Failure → Type 0
+RefusesText any_text input failure =
+    (k : ℕ) × (why : Flaw) × (failure ≡ AtLine (k + 1) why) × IsFirstWithout any_text why (lines input) k
 
 -- the entry, unless its name is taken
 abbrev pub unless_taken : Bool → List ℕ × List ℕ → Line

@@ -28,33 +28,6 @@ pub fn read_all<R: BufRead>(alloc: Global, input: &mut R) -> Result<Vec<u8>, Fai
     }
 }
 
-/// The name and the text of each line.
-///
-/// # Errors
-/// The first line that has none, or out of memory.
-pub fn entries<'a>(
-    alloc: Global,
-    input: &'a [u8],
-    any_text: bool,
-) -> Result<Vec<(&'a str, StoredText<'a>)>, Failure>
-    ensures ok { IfOk result (λ found. AreEntries any_text input.now (map entry_of found.items)) }
-    ensures err { IfErr result (λ failure. IsMemory failure
-        ⊎ RefusesText any_text input.now failure) }
-{
-    let mut found = Vec::new(alloc);
-    for line in input.split_inclusive(|byte| *byte == b'\n') {
-        let number = found.as_slice().len() + 1;
-        let Some(entry) = entry(&line[..line_len(line)], any_text) else {
-            return Err(Failure::Line(number, Flaw::NoText));
-        };
-        if has_control(entry.0) {
-            return Err(Failure::Line(number, Flaw::Control));
-        }
-        found.push(entry)?;
-    }
-    Ok(found)
-}
-
 // The name and the text of a line, without what other programs put before a text, if that may be added.
 pub fn entry(line: &[u8], any_text: bool) -> Option<(&str, StoredText<'_>)>
     ensures { MatchOption result (HasNoText any_text line.now)

@@ -1,12 +1,14 @@
 //! What each line of an import says.
 
-ghost use Rattle.std.specs.Prelude.{◌≡◌, ◌||◌, [], ℕ, List, IfOk, OnOk, map};
+ghost use Rattle.std.specs.Prelude.{◌≡◌, ◌||◌, ◌⊎◌, [], ℕ, List, IfErr, IfOk, OnOk, map};
 ghost use Rattle.std.specs.List.{AllZip};
 ghost use Rattle.std.specs.Str.Lines.{lines};
-ghost use Rattle.argon2_passwd.specs.Lines.{IsEntryOrFlaw, entry_or_flaw, first_of_each, has_name, line_has_name, new_line};
+ghost use Rattle.argon2_passwd.specs.Lines.{AreEntries, IsEntryOrFlaw, RefusesText, entry_or_flaw, first_of_each, has_name, line_has_name, new_line};
+ghost use Rattle.argon2_rows.specs.Names.{entry_of};
+ghost use Rattle.argon2_passwd.specs.Failures.{IsMemory};
 
 use crate::entries::{entry, has_control};
-use crate::failure::Flaw;
+use crate::failure::{Failure, Flaw};
 use crate::passwords::line_len;
 use argon2_rows::StoredText;
 use std::alloc::{AllocError, Global};
@@ -29,6 +31,29 @@ pub fn read_lines<'a>(
     let mut found = Vec::new(alloc);
     for line in input.split_inclusive(|byte| *byte == b'\n') {
         found.push(read_line(&line[..line_len(line)], any_text))?;
+    }
+    Ok(found)
+}
+
+/// The name and the text of each line.
+///
+/// # Errors
+/// The first line that has none, or out of memory.
+pub fn entries<'a>(
+    alloc: Global,
+    input: &'a [u8],
+    any_text: bool,
+) -> Result<Vec<(&'a str, StoredText<'a>)>, Failure>
+    ensures ok { IfOk result (λ found. AreEntries any_text input.now (map entry_of found.items)) }
+    ensures err { IfErr result (λ failure. IsMemory failure
+        ⊎ RefusesText any_text input.now failure) }
+{
+    let mut found = Vec::new(alloc);
+    for line in input.split_inclusive(|byte| *byte == b'\n') {
+        match read_line(&line[..line_len(line)], any_text) {
+            Ok(entry) => found.push(entry)?,
+            Err(flaw) => return Err(Failure::Line(found.as_slice().len() + 1, flaw)),
+        }
     }
     Ok(found)
 }

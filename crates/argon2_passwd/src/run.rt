@@ -1,15 +1,14 @@
 //! The program over any world outside it and any streams.
 
-ghost use Rattle.std.specs.Prelude.{◌≡◌, ◌≢◌, ◌≤◌, ◌⊎◌, ◌++◌, ◌∷◌, [], ℕ, vec_items, IfErr, IfOk, OnOk, string_bytes, take};
+ghost use Rattle.std.specs.Prelude.{◌≡◌, ◌≢◌, ◌≤◌, ◌⊎◌, [], ℕ, Ok, Result, vec_items, IfErr, IfOk, OnOk, string_bytes, take};
 ghost use Rattle.std.specs.Io.KnownBytes.{Appends, Keeps};
 ghost use Rattle.std.specs.Option.{option_map};
 ghost use Rattle.argon2_policy.specs.Policy.{IsPolicy, policy_value};
-ghost use Rattle.argon2.specs.Login.{accepted_text};
 ghost use Rattle.argon2.specs.TextHashing.{target_of};
-ghost use Rattle.argon2_passwd.specs.Answers.{IsAnswered, IsCheckReply, IsEnded, IsHashReply, IsOnce, IsRefused, IsOldSecret, IsReplied, IsSecret, IsUnchecked, Under};
+ghost use Rattle.argon2_passwd.specs.Answers.{IsCheckReply, IsEnded, IsHashReply, IsOldSecret, IsReplied, IsSecret, IsUnchecked, SaysLogin};
 ghost use Rattle.argon2_passwd.specs.Jobs.{choices_of, job_of, policy_by, target_by};
 ghost use Rattle.argon2_passwd.specs.News.{news_of, news_text};
-ghost use Rattle.argon2_passwd.specs.Failures.{status_of};
+ghost use Rattle.argon2_passwd.specs.Failures.{status_by, status_of};
 ghost use Rattle.argon2_passwd.specs.Passwords.{IsUnread};
 ghost use Rattle.argon2_passwd.specs.Salts.{IsSalt, next_salt};
 ghost use Rattle.argon2_passwd.specs.declared.failure.Failure.TheVariants.{Params};
@@ -20,7 +19,6 @@ use crate::failure::{Failure, Flaw};
 use crate::options::Options;
 use crate::outside::{News, Outside};
 use crate::passwords::password;
-use accounts::Access;
 use argon2::login::Accepted;
 use argon2::{Algorithm, Argon2, Version};
 use argon2_policy::Policy;
@@ -57,18 +55,12 @@ pub fn run<P: Outside, R: BufRead, W: Write, E: Write>(
 ) -> u8
     requires { P.closed outside.old [] }
     ensures status { result ≤ 4 }
-    ensures answered { result ≡ 0 → Under P.holds (choices_of command.entry.options) (λ policy.
-        IsAnswered P.File.Store P.keeps P.gives policy (job_of command.entry.action) (R.remaining input.old)
-        (W.contents output.old) (W.contents output.new) (P.closed outside.new)) }
+    ensures ended { (ended : Result (Unit {0}) Why) × (result ≡ status_by ended)
+        × IsEnded P.File.Store P.holds P.keeps P.gives (choices_of command.entry.options)
+        (job_of command.entry.action) ended (R.remaining input.old) (W.contents output.old)
+        (W.contents output.new) (P.closed outside.new) }
     ensures told { result ≡ 0 → (n : ℕ) × Appends (E.contents errors.old) (E.contents errors.new)
         (take n (news_of command.entry.action (P.news outside.new))) }
-    ensures refused { result ≢ 0 → result ≢ 3
-        → Under P.holds (choices_of command.entry.options) (λ policy. (why : Why) × (status_of why ≡ result)
-        × IsRefused P.File.Store P.keeps P.gives policy (job_of command.entry.action) (R.remaining input.old) why
-        (P.closed outside.new)) × Keeps (W.contents output.old) (W.contents output.new) }
-    ensures once { P.closed outside.new [] ⊎ Under P.holds (choices_of command.entry.options) (λ policy.
-        IsOnce P.File.Store P.keeps P.gives policy (job_of command.entry.action) (R.remaining input.old)
-        (P.closed outside.new)) }
 {
     let answered = answer(alloc, &command, outside, input, output);
     tell(alloc, errors, command.action, outside.news());
@@ -187,18 +179,7 @@ fn answer<P: Outside, R: BufRead, W: Write>(
     let secret = secret(alloc, outside, options)?;
     let old = old_secret(outside, options)?;
     let policy = policy(alloc, options, secret.as_slice(), &old)?;
-    match command.action {
-        Action::Hash => hash(alloc, outside, &policy, input, output),
-        Action::Check(text) => check(alloc, outside, &policy, text, input, output),
-        Action::OnFile(path, task) => {
-            let access = Access {
-                path,
-                makes: task.makes(),
-                policy: &policy,
-            };
-            accounts::serve(alloc, outside, &access, task, input, output)
-        }
-    }
+    accounts::serve(alloc, outside, &policy, command.action, input, output)
 }
 
 // Writes a text for the next password.
@@ -315,9 +296,7 @@ fn generator<P: Outside>(outside: &P) -> Result<ChaCha20Rng, Failure>
 
 // Writes what a login did.
 fn write_accepted<W: Write>(output: &mut W, accepted: Accepted) -> Result<(), Failure>
-    ensures err { IfErr result (λ failure. status_of failure ≡ 3) }
-    ensures ok { OnOk result (Appends (W.contents output.old) (W.contents output.new)
-        (accepted_text accepted ++ 10 ∷ [])) }
+    ensures { SaysLogin (Ok accepted) result (W.contents output.old) (W.contents output.new) }
 {
     writeln!(output, "{accepted}")?;
     output.flush()?;

@@ -4,20 +4,20 @@ ghost use Rattle.std.specs.Prelude.{◌≡◌, ◌∷◌, ◌⊎◌, [], ℕ, Li
 ghost use Rattle.argon2_base.specs.PhcFields.{phc_of};
 ghost use Rattle.argon2_policy.specs.Policy.{policy_value};
 ghost use Rattle.argon2_rows.specs.Names.{entry_of};
-ghost use Rattle.argon2_store.specs.Edits.{replacing, text_of};
-ghost use Rattle.argon2_passwd.specs.Answers.{AddsLines, Ends, IsApplied, IsLogin, IsLooked, IsOpened, IsServed, IsUnfound, SaysHash};
-ghost use Rattle.argon2_passwd.specs.Jobs.{Job, job_on};
+ghost use Rattle.argon2_passwd.specs.Answers.{AddsLines, Ends, IsLogin, IsLooked, IsOpened, IsServed, IsUnfound, SaysHash};
+ghost use Rattle.argon2_passwd.specs.Jobs.{Job, job_of};
 ghost use Rattle.argon2_passwd.specs.Failures.{status_of};
 ghost use Rattle.argon2_passwd.specs.Salts.{IsSalt};
 ghost use Rattle.rand_core.specs.Stream.{fill_bytes};
 
-use super::edits::edit;
+use super::edits::{Step, call, edit};
 use super::others::import_others;
 use super::texts::read;
-use super::{generator, write_accepted};
-use crate::command::Task;
-use crate::entries::{entries, read_all};
+use super::{check, generator, hash, write_accepted};
+use crate::command::{Action, Task};
+use crate::entries::read_all;
 use crate::failure::{Failure, Flaw};
+use crate::lines::entries;
 use crate::outside::Outside;
 use crate::passwords::password;
 use argon2::PasswordHash;
@@ -43,27 +43,40 @@ pub(super) struct Access<'a> {
     pub(super) policy: &'a Policy<'a>,
 }
 
-/// Does a task on a file.
+/// Does what is asked for, under a policy.
 pub(super) fn serve<P: Outside, R: BufRead, W: Write>(
     alloc: Global,
     outside: &mut P,
-    access: &Access<'_>,
-    task: Task<'_>,
+    policy: &Policy<'_>,
+    action: Action<'_>,
     input: &mut R,
     output: &mut W,
 ) -> Result<(), Failure>
     requires { P.closed outside.old [] }
-    ensures { IsServed P.File.Store P.keeps P.gives (policy_value access.now.policy.now)
-        (job_on access.now.path.now task.entry) result (R.remaining input.old)
-        (W.contents output.old) (W.contents output.new) (P.closed outside.new) }
+    ensures { IsServed P.File.Store P.keeps P.gives (policy_value policy.now) (job_of action.entry)
+        result (R.remaining input.old) (W.contents output.old) (W.contents output.new) (P.closed outside.new) }
 {
-    outside.look(access.path, access.makes)?;
-    match task {
-        Task::Verify(name) => verify(alloc, outside, access, name, input, output),
-        Task::Edit(change, name) => edit(alloc, outside, access, change, name, input),
-        Task::Show(view) => show(outside, access, view, output),
-        Task::Import(any_text) => import(alloc, outside, access, any_text, input),
-        Task::ImportOthers(any_text) => import_others(alloc, outside, access, any_text, input),
+    match action {
+        Action::Hash => hash(alloc, outside, policy, input, output),
+        Action::Check(text) => check(alloc, outside, policy, text, input, output),
+        Action::OnFile(path, task) => {
+            let makes = task.makes();
+            outside.look(path, makes)?;
+            let access = &Access {
+                path,
+                makes,
+                policy,
+            };
+            match task {
+                Task::Verify(name) => verify(alloc, outside, access, name, input, output),
+                Task::Edit(change, name) => edit(alloc, outside, access, change, name, input),
+                Task::Show(view) => show(outside, access, view, output),
+                Task::Import(any_text) => import(alloc, outside, access, any_text, input),
+                Task::ImportOthers(any_text) => {
+                    import_others(alloc, outside, access, any_text, input)
+                }
+            }
+        }
     }
 }
 
@@ -172,7 +185,8 @@ fn log_in<P: Outside, G: Rng>(
         return Ok(accepted);
     };
     // The password is accepted, whether the fresh text can be written or not.
-    match replace(outside, access, name, text.as_str(), &fresh) {
+    let step = Step::Replace(text.as_str(), fresh);
+    match call(outside, access, name, &step) {
         Ok(()) => Ok(accepted),
         Err(_) => Ok(Accepted::Kept),
     }
@@ -190,7 +204,7 @@ pub(super) fn look<P: Outside>(
         (λ found. SaysHash (string_bytes found.0) (phc_of found.1)
         × IsLooked P.File.Store P.keeps access.now.path.now name.now
         (Ok (Some (string_bytes found.0))) (λ read. P.closed outside.new (read ∷ [])))
-        (λ failure. IsUnfound P.File.Store P.keeps access.now.path.now name.now failure
+        (λ failure. IsUnfound P.File.Store P.keeps (λ v e. ⊥) access.now.path.now name.now failure
         (λ read. P.closed outside.new (read ∷ []))
         ⊎ (P.closed outside.new [] × (status_of failure ≡ 3))) }
 {
@@ -208,26 +222,6 @@ pub(super) fn look<P: Outside>(
             Err(failure)
         }
     }
-}
-
-// Replaces the text of a name in a file that was closed, if it is still the one that was read.
-pub(super) fn replace<P: Outside>(
-    outside: &mut P,
-    access: &Access<'_>,
-    name: &str,
-    old: &str,
-    new: &PasswordHash,
-) -> Result<(), Failure>
-    requires { (read : P.File) × P.closed outside.old (read ∷ []) }
-    ensures { (read : P.File) → P.closed outside.old (read ∷ []) → Ends
-        (IsApplied P.File.Store P.keeps access.now.path.now
-        (replacing name.now old.now (text_of new.now)) (λ last. P.closed outside.new (read ∷ last ∷ [])))
-        (P.closed outside.new (read ∷ [])) result }
-{
-    let mut accounts = open(outside, access)?;
-    let done = accounts.replace(name, old, new);
-    outside.close(accounts.into_store());
-    Ok(done?)
 }
 
 // Adds all entries, each a line, or none.

@@ -1,6 +1,6 @@
 //! Changes of the text of one name in a file.
 
-ghost use Rattle.std.specs.Prelude.{◌≡◌, ◌∷◌, [], ℕ, List, Option, IfErr, IfOk};
+ghost use Rattle.std.specs.Prelude.{◌≡◌, ◌∷◌, ◌++◌, [], ℕ, List, Option, IfErr, IfOk};
 ghost use Rattle.argon2_policy.specs.Policy.{policy_value};
 ghost use Rattle.argon2_store.specs.AccountFile.{Serves};
 ghost use Rattle.argon2_passwd.specs.Answers.{AreRead, AreUnread, Ends, IsAct, IsApplied, IsServed, breaks_lines, edit_of};
@@ -8,7 +8,7 @@ ghost use Rattle.argon2_passwd.specs.Jobs.{Job};
 ghost use Rattle.argon2_passwd.specs.Salts.{IsSalt};
 ghost use Rattle.rand_core.specs.Stream.{fill_bytes};
 
-use super::accounts::{Access, look, open, replace};
+use super::accounts::{Access, look, open};
 use super::generator;
 use super::texts::fresh;
 use crate::command::Edit;
@@ -23,11 +23,13 @@ use sqlite_trees::store::Store;
 use std::alloc::Global;
 use std::io::BufRead;
 
-// A change that is one call on a file.
+/// A change that is one call on a file.
 #[derive(Drop)]
-enum Step {
+pub(super) enum Step<'a> {
     Add(PasswordHash),
     Set(PasswordHash),
+    /// The text is replaced if it is still this one.
+    Replace(&'a str, PasswordHash),
     Remove,
     Lock,
     Unlock,
@@ -118,16 +120,17 @@ fn act<P: Outside, G: Rng>(
     }
 }
 
-// Opens the file for one call, and closes it.
-fn call<P: Outside>(
+/// Opens the file for one call, and closes it.
+pub(super) fn call<P: Outside>(
     outside: &mut P,
     access: &Access<'_>,
     name: &str,
-    step: &Step,
+    step: &Step<'_>,
 ) -> Result<(), Failure>
-    requires { P.closed outside.old [] }
-    ensures { Ends (IsApplied P.File.Store P.keeps access.now.path.now (edit_of step.now name.now)
-        (λ last. P.closed outside.new (last ∷ []))) (P.closed outside.new []) result }
+    requires { (before : List P.File) × P.closed outside.old before }
+    ensures { (before : List P.File) → P.closed outside.old before → Ends
+        (IsApplied P.File.Store P.keeps access.now.path.now (edit_of step.now name.now)
+        (λ last. P.closed outside.new (before ++ last ∷ []))) (P.closed outside.new before) result }
 {
     let mut accounts = open(outside, access)?;
     let done = apply(&mut accounts, name, step);
@@ -136,12 +139,17 @@ fn call<P: Outside>(
 }
 
 // Makes the call.
-fn apply<S: Store>(accounts: &mut AccountFile<S>, name: &str, step: &Step) -> Result<(), FileError>
+fn apply<S: Store>(
+    accounts: &mut AccountFile<S>,
+    name: &str,
+    step: &Step<'_>,
+) -> Result<(), FileError>
     ensures { Serves (edit_of step.now name.now ∷ []) result accounts.old accounts.new }
 {
     match step {
         Step::Add(text) => accounts.add(name, text),
         Step::Set(text) => accounts.set(name, text),
+        Step::Replace(old, new) => accounts.replace(name, old, new),
         Step::Remove => accounts.remove(name),
         Step::Lock => accounts.lock(name),
         Step::Unlock => accounts.unlock(name),
@@ -164,5 +172,5 @@ fn change<P: Outside, G: Rng>(
 {
     let (text, hash) = look(outside, access, name, first)?;
     let fresh = access.policy.change_password(rng, &hash, first, second)?;
-    replace(outside, access, name, text.as_str(), &fresh)
+    call(outside, access, name, &Step::Replace(text.as_str(), fresh))
 }

@@ -1,7 +1,7 @@
-use Rattle.std.proofs.Common.{Err, inl, inr, refl}
+use Rattle.std.proofs.Common.{inl, inr}
 use Rattle.std.specs.Option.{option_map}
 use Rattle.std.specs.Prelude.{vec_items}
-use Rattle.argon2_passwd.proofs.Served.{ended, err_is, keeps_same, not_opened}
+use Rattle.argon2_passwd.proofs.Served.{err_is, keeps_same}
 use Rattle.argon2_passwd.proofs.run.answer.Goals as goal
 
 pub returns-in_err-secret : goal.returns-in_err-secret
@@ -24,35 +24,9 @@ returns-in_err-policy g c =
         c.in_ok-secret.ensures.ok,
         option_map vec_items c.in_ok-old.old,
         c.in_ok-old.ensures.ok,
-        not_opened f (Err f) refl (λ isnt. (inl (unsound, is), keeps_same _)) c.requires,
+        inl (c.requires, unsound, is, keeps_same _),
       )
     ])
-
-pub returns-in-Hash : goal.returns-in-Hash
-returns-in-Hash g c =
-    let under = rw c.as_slice.ensures.value at c.in_ok-policy.ensures.ok in
-    inr (
-      c.in_ok-secret.secret.items,
-      c.in_ok-secret.ensures.ok,
-      option_map vec_items c.in_ok-old.old,
-      c.in_ok-old.ensures.ok,
-      rw (c.in-Hash.is, ← under)
-          (ended _ c.hash.result c.hash.ensures.ok c.hash.ensures.err (λ replied. (replied, c.requires))
-          (λ f isnt. (inl (inr isnt.0, c.requires), isnt.1)) c.requires),
-    )
-
-pub returns-in-Check : goal.returns-in-Check
-returns-in-Check g c =
-    let under = rw c.as_slice.ensures.value at c.in_ok-policy.ensures.ok in
-    inr (
-      c.in_ok-secret.secret.items,
-      c.in_ok-secret.ensures.ok,
-      option_map vec_items c.in_ok-old.old,
-      c.in_ok-old.ensures.ok,
-      rw (c.in-Check.is, ← under)
-          (ended _ c.check.result c.check.ensures.ok c.check.ensures.err (λ replied. (replied, c.requires))
-          (λ f isnt. (inl (inr isnt.0, c.requires), isnt.1)) c.requires),
-    )
 
 pub returns : goal.returns
 returns g c =
@@ -62,5 +36,5 @@ returns g c =
       c.in_ok-secret.ensures.ok,
       option_map vec_items c.in_ok-old.old,
       c.in_ok-old.ensures.ok,
-      rw (c.in-OnFile.is, ← under) c.serve.ensures,
+      rw (← under) (inr c.serve.ensures),
     )

@@ -17,25 +17,19 @@ other before es k e f at isnt of = grind arith
 
 pub returns-in-NameTaken : goal.returns-in-NameTaken
 returns-in-NameTaken g c = (
-  (_, c.in-Err.ensures.call),
-  λ isnt. (
-    _,
-    c.in-Err.ensures.call,
-    λ names has honest.
-        let first = rw c.in-NameTaken.is at c.in-Err.ensures.index names has honest in
-        let next : c.saturating_add.result ≡ c.in-Err.index + 1 = grind (arith, rules, common_steps) in
-        (c.in-Err.index, ap (λ n. Line n Taken) next, first),
-  ),
+  _,
+  c.in-Err.ensures.call,
+  λ isnt names has honest.
+      let first = rw c.in-NameTaken.is at c.in-Err.ensures.index names has honest in
+      let next : c.saturating_add.result ≡ c.in-Err.index + 1 = grind (arith, rules, common_steps) in
+      (c.in-Err.index, ap (λ n. Line n Taken) next, first),
 )
 
 pub returns-in_default : goal.returns-in_default
 returns-in_default g c = (
-  (_, c.in-Err.ensures.call),
-  λ isnt. (
-    _,
-    c.in-Err.ensures.call,
-    λ names has honest.
-        absurd (isnt (other names _ c.in-Err.index c.in-Err.error _ (c.in-Err.ensures.index names has honest) c.in_default.not-NameTaken
-        c.into.ensures)),
-  ),
+  _,
+  c.in-Err.ensures.call,
+  λ isnt names has honest.
+      absurd (isnt (other names _ c.in-Err.index c.in-Err.error _ (c.in-Err.ensures.index names has honest) c.in_default.not-NameTaken
+      c.into.ensures)),
 )

@@ -5,7 +5,7 @@ use Rattle.argon2_rows.specs.Names.{entry_of}
 use Rattle.argon2_passwd.specs.Lines.{AreEntries, RefusesText, unmarked}
 use Rattle.argon2_passwd.specs.Failures.{IsMemory, status_of}
 use Rattle.argon2_passwd.specs.declared.failure.Failure.{Failure}
-use Rattle.argon2_passwd.proofs.Served.{imported, keeps_same, memory_is, not_begun, not_opened, opened_for}
+use Rattle.argon2_passwd.proofs.Served.{err_is, keeps_same, memory_is, opened_for}
 use Rattle.argon2_passwd.proofs.run.accounts.import.Goals as goal
 
 -- a refusal for a text is one of a known input
@@ -17,30 +17,37 @@ refused any_text read f input same isnt (inr refuses) =
     IfSome_then input same (λ known all. subst (λ bytes. RefusesText any_text (unmarked bytes) f) all refuses)
 
 pub returns-in_err-bytes : goal.returns-in_err-bytes
-returns-in_err-bytes g c output = not_begun _ _ c.from_residual.ensures.1 c.in_err-bytes.ensures.err c.requires
+returns-in_err-bytes g c output =
+    rw (err_is c.from_residual.result c.in_err-bytes.field-0.0 c.from_residual.ensures.1)
+    (inr (c.requires, tt, λ isnt. absurd (isnt c.in_err-bytes.ensures.err)))
 
 pub returns-in_err-entries : goal.returns-in_err-entries
 returns-in_err-entries g c output =
     let f = c.in_err-entries.field-0.0 in
     let all = c.after_any-lines.ensures ∙ ap unmarked c.as_slice.ensures.value in
-    not_opened f _ c.from_residual-in_err-entries.ensures.1
-    (λ isnt. (
-      inr (refused _ _ _ (g.R.Read.remaining c.args.input.now) c.in_ok-bytes.ensures.ok isnt
-          (subst (λ text. IsMemory f ⊎ RefusesText c.args.any_text text f) all c.in_err-entries.ensures.err)),
-      keeps_same _,
-    )) c.requires
+    rw (err_is c.from_residual-in_err-entries.result f c.from_residual-in_err-entries.ensures.1)
+    (inr (
+      c.requires,
+      tt,
+      λ isnt. (
+        (refused _ _ _ (g.R.Read.remaining c.args.input.now) c.in_ok-bytes.ensures.ok isnt
+            (subst (λ text. IsMemory f ⊎ RefusesText c.args.any_text text f) all c.in_err-entries.ensures.err)),
+        keeps_same _,
+      ),
+    ))
 
 pub returns-in_err-accounts : goal.returns-in_err-accounts
 returns-in_err-accounts g c output =
-    not_begun c.in_err-accounts.field-0.0 _ c.from_residual-in_err-accounts.ensures.1 c.in_err-accounts.ensures.err
-    (c.in_err-accounts.ensures.untouched [] c.requires)
+    rw (err_is c.from_residual-in_err-accounts.result c.in_err-accounts.field-0.0 c.from_residual-in_err-accounts.ensures.1)
+    (inr (c.in_err-accounts.ensures.untouched [] c.requires, tt, λ isnt. absurd (isnt c.in_err-accounts.ensures.err)))
 
 pub returns : goal.returns
 returns g c output =
     let es = map entry_of c.in_ok-entries.entries.items in
     let adds = rw c.as_slice-2.ensures.value at c.add_all-added.ensures in
     let closed = rw c.into_store.ensures at c.close.ensures [] (c.in_ok-accounts.ensures.opened [] c.requires) in
-    imported _ (
+    inl (
+      keeps_same _,
       es,
       IfSome_then (g.R.Read.remaining c.args.input.now) c.in_ok-bytes.ensures.ok (λ known all.
           subst (λ text. AreEntries c.args.any_text text es)

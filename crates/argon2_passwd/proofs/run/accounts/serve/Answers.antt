@@ -1,20 +1,29 @@
-use Rattle.argon2_passwd.proofs.Served.{not_begun}
+use Rattle.std.proofs.Common.{inr}
+use Rattle.argon2_passwd.proofs.Served.{err_is}
 use Rattle.argon2_passwd.proofs.run.accounts.serve.Goals as goal
 
-pub returns-in_err-look : goal.returns-in_err-look
-returns-in_err-look g c = not_begun _ _ c.from_residual.ensures.1 c.in_err-look.ensures c.requires
+pub returns-in-Hash : goal.returns-in-Hash
+returns-in-Hash g c = rw c.in-Hash.is (inr (c.requires, c.hash.ensures.ok, c.hash.ensures.err))
+
+pub returns-in-Check : goal.returns-in-Check
+returns-in-Check g c = rw c.in-Check.is (inr (c.requires, c.check.ensures.ok, c.check.ensures.err))
+
+pub returns-in_err-look-in-OnFile : goal.returns-in_err-look-in-OnFile
+returns-in_err-look-in-OnFile g c =
+    rw (err_is c.from_residual.result c.in_err-look-in-OnFile.field-0.0 c.from_residual.ensures.1)
+    (inr (c.requires, tt, λ isnt. absurd (isnt c.in_err-look-in-OnFile.ensures)))
 
 pub returns-in-Verify : goal.returns-in-Verify
-returns-in-Verify g c = rw c.in-Verify.is c.verify.ensures
+returns-in-Verify g c = rw (c.in-OnFile.is, c.in-Verify.is) c.verify.ensures
 
 pub returns-in-Edit : goal.returns-in-Edit
-returns-in-Edit g c = rw c.in-Edit.is (c.edit.ensures _)
+returns-in-Edit g c = rw (c.in-OnFile.is, c.in-Edit.is) (c.edit.ensures _)
 
 pub returns-in-Show : goal.returns-in-Show
-returns-in-Show g c = rw c.in-Show.is (c.show.ensures _)
+returns-in-Show g c = rw (c.in-OnFile.is, c.in-Show.is) (c.show.ensures _)
 
 pub returns-in-Import : goal.returns-in-Import
-returns-in-Import g c = rw c.in-Import.is (c.import.ensures _)
+returns-in-Import g c = rw (c.in-OnFile.is, c.in-Import.is) (c.import.ensures _)
 
 pub returns-in-ImportOthers : goal.returns-in-ImportOthers
-returns-in-ImportOthers g c = rw c.in-ImportOthers.is (c.import_others.ensures _)
+returns-in-ImportOthers g c = rw (c.in-OnFile.is, c.in-ImportOthers.is) (c.import_others.ensures _)

@@ -1,41 +1,35 @@
-use Rattle.std.proofs.Common.{◌≡◌, Result, Ok, Err, inl, inr}
-use Rattle.std.specs.Prelude.{◌≢◌, IfErr}
-use Rattle.argon2_passwd.specs.Failures.{status_of}
-use Rattle.argon2_passwd.specs.declared.failure.Failure.{Failure}
-use Rattle.argon2_passwd.proofs.Served.{ended, failed, keeps_same, not_begun, not_opened}
+use Rattle.std.proofs.Common.{◌≡◌, Ok, Err, Some, inl, inr, refl, subst, sym}
+use Rattle.std.specs.Prelude.{IfSome}
+use Rattle.argon2_passwd.specs.Passwords.{password_of}
+use Rattle.argon2_passwd.proofs.Served.{err_is, keeps_same}
 use Rattle.argon2_passwd.proofs.run.accounts.verify.Goals as goal
 
-not_refused : {X : Type 0} (r : Result X Failure) → IfErr r (λ f. status_of f ≡ 3) → IfErr r (λ f. status_of f ≢ 3 → ⊥)
-not_refused (Ok x) is = tt
-not_refused (Err f) is = λ isnt. isnt is
-
 pub returns-in_err-rng : goal.returns-in_err-rng
-returns-in_err-rng g c = not_begun _ _ c.from_residual.ensures.1 c.in_err-rng.ensures.failed c.requires
+returns-in_err-rng g c =
+    rw (err_is c.from_residual.result c.in_err-rng.field-0.0 c.from_residual.ensures.1)
+    (inr (c.requires, tt, λ isnt. absurd (isnt c.in_err-rng.ensures.failed)))
 
 pub returns-in_err-password : goal.returns-in_err-password
 returns-in_err-password g c =
-    not_opened c.in_err-password.field-0.0 _ c.from_residual-in_err-password.ensures.1
-    (λ isnt. (inr c.in_err-password.ensures.refused, keeps_same _)) c.requires
+    rw (err_is c.from_residual-in_err-password.result c.in_err-password.field-0.0 c.from_residual-in_err-password.ensures.1)
+    (inr (c.requires, tt, λ isnt. (c.in_err-password.ensures.refused, keeps_same _)))
 
 pub returns-in_err-accepted : goal.returns-in_err-accepted
 returns-in_err-accepted g c =
-    let read = c.in_ok-password in
+    let found = subst (λ p. IfSome (g.R.Read.remaining c.args.input.now) (λ bytes. password_of bytes ≡ Some p))
+    (sym c.as_slice.ensures.value) c.in_ok-password.ensures.found in
     let f = c.in_err-accepted.field-0.0 in
-    elim (rw c.as_slice.ensures.value at c.in_err-accepted.ensures) [
-      | inl login ↦
-          failed f _ c.from_residual-in_err-accepted.ensures.1
-          (λ isnt. (inr (read.password.items, read.ensures.found, login), keeps_same _))
-          (inr (Err f, (read.password.items, read.ensures.found, login)))
-      | inr (shut, three) ↦ not_begun f _ c.from_residual-in_err-accepted.ensures.1 three shut
-    ]
+    rw (err_is c.from_residual-in_err-accepted.result f c.from_residual-in_err-accepted.ensures.1)
+    (elim c.in_err-accepted.ensures [
+      | inl login ↦ inl (Err f, (refl, keeps_same _), (_, found, login))
+      | inr (shut, three) ↦ inr (shut, tt, λ isnt. absurd (isnt three))
+    ])
 
 pub returns : goal.returns
 returns g c =
-    let read = c.in_ok-password in
-    elim (rw c.as_slice.ensures.value at c.in_ok-accepted.ensures) [
-      | inl login ↦
-          ended (λ f. ⊥) c.write_accepted.result c.write_accepted.ensures.ok (not_refused _ c.write_accepted.ensures.err)
-          (λ appended. (c.in_ok-accepted.accepted, (read.password.items, read.ensures.found, login), appended))
-          (λ f never. absurd never) (inr (Ok c.in_ok-accepted.accepted, (read.password.items, read.ensures.found, login)))
+    let found = subst (λ p. IfSome (g.R.Read.remaining c.args.input.now) (λ bytes. password_of bytes ≡ Some p))
+    (sym c.as_slice.ensures.value) c.in_ok-password.ensures.found in
+    elim c.in_ok-accepted.ensures [
+      | inl login ↦ inl (Ok c.in_ok-accepted.accepted, c.write_accepted.ensures, (_, found, login))
       | inr (shut, never) ↦ absurd never
     ]

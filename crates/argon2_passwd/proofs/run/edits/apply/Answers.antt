@@ -6,6 +6,9 @@ returns-in-Add g c = rw c.in-Add.is c.add.ensures
 pub returns-in-Set : goal.returns-in-Set
 returns-in-Set g c = rw c.in-Set.is c.set.ensures
 
+pub returns-in-Replace : goal.returns-in-Replace
+returns-in-Replace g c = rw c.in-Replace.is c.replace.ensures
+
 pub returns-in-Remove : goal.returns-in-Remove
 returns-in-Remove g c = rw c.in-Remove.is c.remove.ensures
 

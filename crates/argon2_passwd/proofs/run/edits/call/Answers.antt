@@ -1,15 +1,16 @@
-use Rattle.std.proofs.Common.{[], Ok, Err, inl, inr, refl}
+use Rattle.std.proofs.Common.{Ok, Err, inl, inr, refl}
 use Rattle.argon2_passwd.specs.Failures.{IsOfFile}
 use Rattle.argon2_passwd.proofs.Served.{err_is, opened_for, some_error}
 use Rattle.argon2_passwd.proofs.run.edits.call.Goals as goal
 
 pub returns-in_err-accounts : goal.returns-in_err-accounts
-returns-in_err-accounts g c =
-    rw (err_is c.from_residual.result c.in_err-accounts.field-0.0 c.from_residual.ensures.1) (inr (c.in_err-accounts.ensures.untouched [] c.requires, c.in_err-accounts.ensures.err))
+returns-in_err-accounts g c before was =
+    rw (err_is c.from_residual.result c.in_err-accounts.field-0.0 c.from_residual.ensures.1)
+    (inr (c.in_err-accounts.ensures.untouched before was, c.in_err-accounts.ensures.err))
 
 pub returns-in_err-done : goal.returns-in_err-done
-returns-in_err-done g c =
-    let closed = rw c.into_store.ensures at c.close.ensures [] (c.in_ok-accounts.ensures.opened [] c.requires) in
+returns-in_err-done g c before was =
+    let closed = rw c.into_store.ensures at c.close.ensures before (c.in_ok-accounts.ensures.opened before was) in
     let (f, is, of) = some_error (IsOfFile c.in_err-done.field-0.0) c.from_residual-in_err-done.result c.from_residual-in_err-done.ensures.1 in
     rw is (inl (
       Err c.in_err-done.field-0.0,
@@ -19,8 +20,8 @@ returns-in_err-done g c =
     ))
 
 pub returns : goal.returns
-returns g c =
-    let closed = rw c.into_store.ensures at c.close.ensures [] (c.in_ok-accounts.ensures.opened [] c.requires) in
+returns g c before was =
+    let closed = rw c.into_store.ensures at c.close.ensures before (c.in_ok-accounts.ensures.opened before was) in
     inl (
       Ok tt,
       refl,

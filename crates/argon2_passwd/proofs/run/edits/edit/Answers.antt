@@ -1,24 +1,30 @@
-use Rattle.std.proofs.Common.{inl, inr, refl, sym, ◌∙◌}
-use Rattle.argon2_passwd.specs.declared.failure.Failure.TheVariants.{Name}
-use Rattle.argon2_passwd.proofs.Served.{acted, keeps_same, not_begun, not_opened}
+use Rattle.std.proofs.Common.{◌≡◌, inl, inr, refl, sym, ◌∙◌}
+use Rattle.argon2_passwd.specs.Failures.{status_of}
+use Rattle.argon2_passwd.proofs.Served.{err_is, keeps_same, some_error}
 use Rattle.argon2_passwd.proofs.run.edits.edit.Goals as goal
 
 pub returns-then-breaks_lines : goal.returns-then-breaks_lines
 returns-then-breaks_lines g c output =
     let breaks = sym c.breaks_lines.ensures ∙ c.if-breaks_lines.true in
-    not_opened Name _ refl (λ isnt. (inr (inl (breaks, refl)), keeps_same _)) c.requires
+    inr (c.requires, tt, λ isnt. (inl (breaks, refl), keeps_same _))
 
 pub returns-in_err-rng : goal.returns-in_err-rng
-returns-in_err-rng g c output = not_begun _ _ c.from_residual.ensures.1 c.in_err-rng.ensures.failed c.requires
+returns-in_err-rng g c output =
+    rw (err_is c.from_residual.result c.in_err-rng.field-0.0 c.from_residual.ensures.1)
+    (inr (c.requires, tt, λ isnt. absurd (isnt c.in_err-rng.ensures.failed)))
 
 pub returns-in_err-first : goal.returns-in_err-first
 returns-in_err-first g c output =
-    not_opened c.in_err-first.field-0.0 _ c.from_residual-in_err-first.ensures.1
-    (λ isnt. (inr (inr c.in_err-first.ensures.err), keeps_same _)) c.requires
+    rw (err_is c.from_residual-in_err-first.result c.in_err-first.field-0.0 c.from_residual-in_err-first.ensures.1)
+    (inr (c.requires, tt, λ isnt. (inr c.in_err-first.ensures.err, keeps_same _)))
 
 pub returns : goal.returns
 returns g c output =
     let named = sym c.breaks_lines.ensures ∙ c.if-breaks_lines.false in
     let read = c.in_ok-first in
-    acted read.first.items read.second.items c.act.result named read.ensures.ok
-    (rw (c.as_slice-first.ensures.value, c.as_slice-second.ensures.value) at c.act.ensures)
+    elim (rw (c.as_slice-first.ensures.value, c.as_slice-second.ensures.value) at c.act.ensures) [
+      | inl change ↦ inl (keeps_same _, named, read.first.items, read.second.items, read.ensures.ok, change)
+      | inr (shut, why) ↦
+          let (f, is, three) = some_error (λ failure. status_of failure ≡ 3) c.act.result why in
+          rw is (inr (shut, tt, λ isnt. absurd (isnt three)))
+    ]

@@ -1,4 +1,4 @@
-use Rattle.std.proofs.Common.{arith, ◌≡◌, [], inr, map, subst}
+use Rattle.std.proofs.Common.{arith, ◌≡◌, [], inl, inr, map, subst}
 use Rattle.std.proofs.lemmas.Grind.{common_steps}
 use Rattle.std.specs.Prelude.{Ok}
 use Rattle.argon2_rows.specs.Names.{entry_of}
@@ -13,7 +13,7 @@ returns-in_err-add_new g c =
     let (three, answer, serves) = rw c.as_slice.ensures.value at c.in_err-add_new.ensures.err in
     let sorted = c.in_ok-entries.ensures in
     rw (err_is c.from_residual-in_err-add_new.result c.in_err-add_new.field-0.0 c.from_residual-in_err-add_new.ensures.1)
-    (inr (answer, _, added (map entry_or_flaw c.args.lines.now) answer _ _ sorted.looks serves sorted.sorts), λ isnt. absurd (isnt three))
+    (inr (three, inr (answer, _, added (map entry_or_flaw c.args.lines.now) answer _ _ sorted.looks serves sorted.sorts)))
 
 pub returns-then-is_empty : goal.returns-then-is_empty
 returns-then-is_empty g c =
@@ -28,5 +28,4 @@ pub returns : goal.returns
 returns g c =
     let sorted = c.in_ok-entries.ensures in
     let serves = rw c.as_slice.ensures.value at c.in_ok-add_new.ensures.ok in
-    let adds = added (map entry_or_flaw c.args.lines.now) (Ok tt) (map entry_of c.in_ok-entries.entries.items) c.in_ok-entries.passed.items sorted.looks serves sorted.sorts in
-    (inr (Ok tt, c.in_ok-entries.passed.items, adds), λ isnt. adds)
+    inl (added (map entry_or_flaw c.args.lines.now) (Ok tt) (map entry_of c.in_ok-entries.entries.items) c.in_ok-entries.passed.items sorted.looks serves sorted.sorts)
