@@ -1,5 +1,5 @@
 -- How what is asked for ended, by how a call for it ended.
-use Rattle.std.proofs.Common.{arith, ◌≡◌, ℕ, false, List, Option, Result, Ok, Err, inl, inr, refl, subst, sym}
+use Rattle.std.proofs.Common.{Some, arith, ◌≡◌, ℕ, false, List, Option, Result, Ok, Err, inl, inr, refl, subst, sym}
 use Rattle.std.specs.Io.KnownBytes.{Keeps}
 use Rattle.std.specs.Prelude.{◌≢◌, IfErr, IfSome, IsErrAnd}
 use Rattle.sqlite_trees.specs.declared.store.Store.{Ghosts}
@@ -13,7 +13,9 @@ use Rattle.argon2_store.specs.declared.account_file.AccountFile.{AccountFile}
 use Rattle.argon2_store.specs.declared.error.FileError.{FileError}
 use Rattle.argon2_store.specs.declared.error.LineError.{LineError}
 use Rattle.argon2_passwd.specs.Answers.{IsDenied, IsOpenFor, IsOpened, IsUnfound}
+use Rattle.argon2_passwd.specs.Passwords.{password_of}
 use Rattle.argon2_passwd.specs.Failures.{IsMemory, IsOfFile, IsOfLines, status_of}
+use Rattle.argon2_passwd.specs.declared.command.Action.{Action}
 use Rattle.argon2_passwd.specs.declared.failure.Failure.{Failure}
 
 pub passed : {X : Type 0} (P : Failure → Type 0) (f : Failure) (r : Result X Failure) → IsErrAnd r (λ e. e ≡ f)
@@ -23,6 +25,11 @@ passed P f (Err e) is why = subst (λ (x : Failure). status_of x ≢ 3 → P x) 
 
 pub keeps_same : (known : Option (List ℕ)) → Keeps known known
 keeps_same known = grind arith
+
+-- a password that is read, by its bytes
+pub found_as : (input : Option (List ℕ)) {p q : List ℕ} → p ≡ q → IfSome input (λ bytes. password_of bytes ≡ Some q)
+    → IfSome input (λ bytes. password_of bytes ≡ Some p)
+found_as input same found = subst (λ p. IfSome input (λ bytes. password_of bytes ≡ Some p)) (sym same) found
 
 -- a result that is an error
 pub some_error : {X : Type 0} (Q : Failure → Type 0) (r : Result X Failure) → IsErrAnd r Q

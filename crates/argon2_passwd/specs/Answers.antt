@@ -2,6 +2,7 @@
 use Rattle.std.specs.Prelude.{◌≡◌, ◌≢◌, ◌⊎◌, ⊤, ℕ, ◌||◌, false, Bool, ◌+◌, IsTrue, List, [], ◌∷◌, ◌++◌, Option, Some, None, IfSome, Result, Ok, Err, IfErr, IfOk, IsErrAnd, is_ok, if◌then◌else◌, IsSomeAnd, OnOk, map}
 use Rattle.std.specs.Io.BufRead.{drop_through}
 use Rattle.std.specs.List.{AllZip}
+use Rattle.std.specs.Borrow.{Bor}
 use Rattle.std.specs.Option.{option_map}
 use Rattle.std.specs.Io.KnownBytes.{Appends, Keeps}
 use Rattle.std.specs.Str.Lines.{lines}
@@ -28,7 +29,11 @@ use Rattle.argon2_store.specs.Edits.{Edit as FileEdit, adding, additions, lockin
 use Rattle.argon2_store.specs.declared.account_file.AccountFile.{AccountFile}
 use Rattle.argon2_store.specs.declared.error.FileError.{FileError}
 use Rattle.argon2_store.specs.declared.error.FileError.TheVariants.{NameUnknown}
-use Rattle.argon2_passwd.specs.Jobs.{Choices, Job, check, edit, hash, import, import_others, policy_by, show, verify}
+use Rattle.argon2_passwd.specs.Options.{policy_by}
+use Rattle.argon2_passwd.specs.declared.command.Action.{Action}
+use Rattle.argon2_passwd.specs.declared.command.Action.TheVariants.{Hash, Check, OnFile}
+use Rattle.argon2_passwd.specs.declared.command.Task.TheVariants.{Verify, Edit as Edits, Show, Import, ImportOthers}
+use Rattle.argon2_passwd.specs.declared.options.Options.{Options}
 use Rattle.argon2_passwd.specs.declared.command.Edit.{Edit}
 use Rattle.argon2_passwd.specs.declared.command.Edit.TheVariants.{Register, Change, Set, Remove, Lock, Unlock}
 use Rattle.argon2_passwd.specs.Failures.{IsOfBound, IsOfFile, status_of}
@@ -88,19 +93,19 @@ IsUnchecked policy text input failure = IsUnread input failure
     ⊎ OfPassword (λ password. IsDenied (Denial policy password) (Some text) failure) input
 
 -- the secret of the file at a path, if there is one
-abbrev pub IsSecret : (List ℕ → List ℕ → Type 0) → Option (List ℕ) → List ℕ → Type 0
+abbrev pub IsSecret : (List ℕ → List ℕ → Type 0) → Option (Bor (List ℕ)) → List ℕ → Type 0
 IsSecret Holds None secret = secret ≡ []
-IsSecret Holds (Some path) secret = Holds path secret
+IsSecret Holds (Some path) secret = Holds path.now secret
 
 -- the same of an old one
-abbrev pub IsOldSecret : (List ℕ → List ℕ → Type 0) → Option (List ℕ) → Option (List ℕ) → Type 0
+abbrev pub IsOldSecret : (List ℕ → List ℕ → Type 0) → Option (Bor (List ℕ)) → Option (List ℕ) → Type 0
 IsOldSecret Holds None secret = secret ≡ None
-IsOldSecret Holds (Some path) secret = IsSomeAnd secret (Holds path)
+IsOldSecret Holds (Some path) secret = IsSomeAnd secret (Holds path.now)
 
--- a fact of the policy that the choices and their secrets make
-abbrev pub Under : (List ℕ → List ℕ → Type 0) → Choices → (Policy → Type 0) → Type 0
-Under Holds choices P = (secret : List ℕ) × IsSecret Holds choices.secret_file secret
-    × (old : Option (List ℕ)) × IsOldSecret Holds choices.old_secret_file old × P (policy_by choices secret old)
+-- a fact of the policy that the options and their secrets make
+abbrev pub Under : (List ℕ → List ℕ → Type 0) → Options → (Policy → Type 0) → Type 0
+Under Holds options P = (secret : List ℕ) × IsSecret Holds options.secret_file secret
+    × (old : Option (List ℕ)) × IsOldSecret Holds options.old_secret_file old × P (policy_by options secret old)
 
 -- a line that is appended is a reply with a salt that the system gives
 abbrev pub IsReplied : (List ℕ → Type 0) → (List ℕ → List ℕ → Type 0) → Option (List ℕ) → Option (List ℕ) → Type 0
@@ -205,15 +210,15 @@ abbrev pub Ends : {X : Type 0} → (Result X Failure → Type 0) → Type 0 → 
 Ends Made untouched result = Made result ⊎ (untouched × IsErrAnd result (λ failure. status_of failure ≡ 3))
 
 -- the words or the input are refused with this failure before a file is opened
-abbrev pub IsUnfit : Policy → Job → Option (List ℕ) → Failure → Type 0
-IsUnfit policy hash input failure = IsUnread input failure
-IsUnfit policy (check text) input failure = IsUnchecked policy text input failure
-IsUnfit policy (verify path name) input failure = IsUnread input failure
-IsUnfit policy (edit path act name) input failure =
-    (IsTrue (breaks_lines act name) × (failure ≡ Name)) ⊎ AreUnread act input failure
-IsUnfit policy (show path view) input failure = ⊥
-IsUnfit policy (import_others path any_text) input failure = ⊥
-IsUnfit policy (import path any_text) input failure = IfSome input (λ bytes. RefusesText any_text (unmarked bytes) failure)
+abbrev pub IsUnfit : Policy → Action → Option (List ℕ) → Failure → Type 0
+IsUnfit policy Hash input failure = IsUnread input failure
+IsUnfit policy (Check text) input failure = IsUnchecked policy text.now input failure
+IsUnfit policy (OnFile path (Verify name)) input failure = IsUnread input failure
+IsUnfit policy (OnFile path (Edits act name)) input failure =
+    (IsTrue (breaks_lines act name.now) × (failure ≡ Name)) ⊎ AreUnread act input failure
+IsUnfit policy (OnFile path (Import any_text)) input failure =
+    IfSome input (λ bytes. RefusesText any_text (unmarked bytes) failure)
+IsUnfit policy _ input failure = ⊥
 
 module _ {S : Type 0} (g : Ghosts S) (Has : List ℕ → Texts → Type 0) where
   -- the file at a path was opened, used so, and closed with this store
@@ -228,13 +233,9 @@ module _ {S : Type 0} (g : Ghosts S) (Has : List ℕ → Texts → Type 0) where
   abbrev pub IsDone : List ℕ → (AccountFile S g → AccountFile S g → Type 0) → (List S → Type 0) → Type 0
   IsDone path Does Closed = IsOpenFor path Does (λ last. Closed (last ∷ []))
 
-  -- one call was done there, with this answer
-  abbrev pub IsCalled : List ℕ → FileEdit → (S → Type 0) → Result (Unit {0}) FileError → Type 0
-  IsCalled path change Next done = IsOpenFor path (Serves (change ∷ []) done) Next
-
-  -- the same, and this result tells of it
+  -- one call was done there, and this result tells of its answer
   abbrev pub IsApplied : List ℕ → FileEdit → (S → Type 0) → Result (Unit {0}) Failure → Type 0
-  IsApplied path change Next result = (done : Result (Unit {0}) FileError) × TellsOf done result × IsCalled path change Next done
+  IsApplied path change Next result = (done : Result (Unit {0}) FileError) × TellsOf done result × IsOpenFor path (Serves (change ∷ []) done) Next
 
   -- the text of a name was read in the file at a path, which was closed with this store
   abbrev pub IsLooked : List ℕ → List ℕ → Result (Option (List ℕ)) FileError → (S → Type 0) → Type 0
@@ -288,42 +289,42 @@ module _ {S : Type 0} (g : Ghosts S) (Has : List ℕ → Texts → Type 0) (Give
       Ends (IsChange policy path act name first second Closed) (Closed []) result
 
   -- all that was done with the file that is named, and how it ended
-  abbrev pub IsUsed : Policy → Job → Result (Unit {0}) Failure → Option (List ℕ) → Option (List ℕ) → Option (List ℕ)
+  abbrev pub IsUsed : Policy → Action → Result (Unit {0}) Failure → Option (List ℕ) → Option (List ℕ) → Option (List ℕ)
       → (List S → Type 0) → Type 0
-  IsUsed policy (verify path name) result input old new Closed = (login : Result Accepted Failure)
-      × SaysLogin login result old new × OfPassword (λ password. IsLogin policy path name password login Closed) input
-  IsUsed policy (edit path act name) result input old new Closed = Keeps old new × (breaks_lines act name ≡ false)
-      × (first second : List ℕ) × AreRead act input first second × IsChange policy path act name first second Closed result
-  IsUsed policy (show path view) (Ok _) input old new Closed =
-      IsOnlyRead g Has path None (λ names. AreWritten view names old new All) Closed
-  IsUsed policy (show path view) (Err failure) input old new Closed =
-      (status_of failure ≡ 3) × (error : Option FileError) × IsOnlyRead g Has path error (λ names. ⊤) Closed
-  IsUsed policy (import path any_text) result input old new Closed = Keeps old new × (es : List (List ℕ × List ℕ))
-      × IfSome input (λ bytes. AreEntries any_text (unmarked bytes) es) × IsDone g Has path (AddsLines result es) Closed
-  IsUsed policy (import_others path any_text) result input old new Closed = Keeps old new × (said : List Line)
+  IsUsed policy (OnFile path (Verify name)) result input old new Closed = (login : Result Accepted Failure)
+      × SaysLogin login result old new × OfPassword (λ password. IsLogin policy path.now name.now password login Closed) input
+  IsUsed policy (OnFile path (Edits act name)) result input old new Closed = Keeps old new × (breaks_lines act name.now ≡ false)
+      × (first second : List ℕ) × AreRead act input first second × IsChange policy path.now act name.now first second Closed result
+  IsUsed policy (OnFile path (Show view)) (Ok _) input old new Closed =
+      IsOnlyRead g Has path.now None (λ names. AreWritten view names old new All) Closed
+  IsUsed policy (OnFile path (Show view)) (Err failure) input old new Closed =
+      (status_of failure ≡ 3) × (error : Option FileError) × IsOnlyRead g Has path.now error (λ names. ⊤) Closed
+  IsUsed policy (OnFile path (Import any_text)) result input old new Closed = Keeps old new × (es : List (List ℕ × List ℕ))
+      × IfSome input (λ bytes. AreEntries any_text (unmarked bytes) es) × IsDone g Has path.now (AddsLines result es) Closed
+  IsUsed policy (OnFile path (ImportOthers any_text)) result input old new Closed = Keeps old new × (said : List Line)
       × IfSome input (λ bytes. AllZip (IsEntryOrFlaw any_text) (lines (unmarked bytes)) said)
-      × IsDone g Has path (AddsOthers result (first_of_each [] said)) Closed
+      × IsDone g Has path.now (AddsOthers result (first_of_each [] said)) Closed
   IsUsed policy _ result input old new Closed = ⊥
 
   -- what is written without a file
-  abbrev pub IsWritten : Policy → Job → Option (List ℕ) → Option (List ℕ) → Option (List ℕ) → Type 0
-  IsWritten policy hash input old new = IsReplied Gives (λ drawn line. IsHashReply policy drawn input line) old new
-  IsWritten policy (check text) input old new = IsReplied Gives (λ drawn line. IsCheckReply policy drawn text input line) old new
+  abbrev pub IsWritten : Policy → Action → Option (List ℕ) → Option (List ℕ) → Option (List ℕ) → Type 0
+  IsWritten policy Hash input old new = IsReplied Gives (λ drawn line. IsHashReply policy drawn input line) old new
+  IsWritten policy (Check text) input old new = IsReplied Gives (λ drawn line. IsCheckReply policy drawn text.now input line) old new
   IsWritten policy _ input old new = ⊥
 
   -- how a command ended: its file was used, or no file was opened, and it is answered, or refused before
-  abbrev pub IsServed : Policy → Job → Result (Unit {0}) Failure → Option (List ℕ) → Option (List ℕ) → Option (List ℕ)
+  abbrev pub IsServed : Policy → Action → Result (Unit {0}) Failure → Option (List ℕ) → Option (List ℕ) → Option (List ℕ)
       → (List S → Type 0) → Type 0
   IsServed policy what result input old new Closed = IsUsed policy what result input old new Closed
       ⊎ (Closed [] × OnOk result (IsWritten policy what input old new)
       × IfErr result (λ failure. status_of failure ≢ 3 → IsUnfit policy what input failure × Keeps old new))
 
--- How a command ended under the choices and their secrets, if these make a policy. A failure that is no refusal may come before.
+-- How a command ended under the options and their secrets, if these make a policy. A failure that is no refusal may come before.
 abbrev pub IsEnded : {S : Type 0} (g : Ghosts S) → (List ℕ → List ℕ → Type 0) → (List ℕ → Texts → Type 0)
-    → (List ℕ → Type 0) → Choices → Job
+    → (List ℕ → Type 0) → Options → Action
     → Result (Unit {0}) Failure → Option (List ℕ) → Option (List ℕ) → Option (List ℕ) → (List S → Type 0) → Type 0
-IsEnded g Holds Has Gives choices what result input old new Closed =
+IsEnded g Holds Has Gives options what result input old new Closed =
     (Closed [] × IsErrAnd result (λ failure. status_of failure ≡ 3))
-    ⊎ Under Holds choices (λ policy.
+    ⊎ Under Holds options (λ policy.
     (Closed [] × ¬ (IsPolicy policy) × IsErrAnd result (λ failure. failure ≡ Params) × Keeps old new)
     ⊎ IsServed g Has Gives policy what result input old new Closed)

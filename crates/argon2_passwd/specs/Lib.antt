@@ -1,7 +1,7 @@
 pub mod Answers
 pub mod Failures
-pub mod Jobs
 pub mod Lines
 pub mod News
+pub mod Options
 pub mod Passwords
 pub mod Salts

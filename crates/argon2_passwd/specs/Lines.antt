@@ -102,13 +102,9 @@ abbrev pub RefusesText : Bool → List ℕ → Failure → Type 0
 RefusesText any_text input failure =
     (k : ℕ) × (why : Flaw) × (failure ≡ AtLine (k + 1) why) × IsFirstWithout any_text why (lines input) k
 
--- the entry, unless its name is taken
-abbrev pub unless_taken : Bool → List ℕ × List ℕ → Line
-unless_taken is_taken e = if is_taken then Err Taken else Ok e
-
 -- the line, unless its name is taken
 abbrev pub new_line : (List ℕ → Bool) → Line → Line
-new_line is_taken (Ok e) = unless_taken (is_taken e.0) e
+new_line is_taken (Ok e) = if is_taken e.0 then Err Taken else Ok e
 new_line is_taken (Err why) = Err why
 
 -- these names with that of a line

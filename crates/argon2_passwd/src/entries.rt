@@ -2,7 +2,7 @@
 
 ghost use Rattle.std.specs.Prelude.{◌≡◌, ◌⊎◌, false, true, IsTrue, IfErr, IfOk, IfSome, map, MatchOption};
 ghost use Rattle.argon2_rows.specs.Names.{entry_of};
-ghost use Rattle.argon2_passwd.specs.Lines.{AreEntries, HasNoText, IsForeign, IsNotTaken, IsPair, IsTaken, RefusesText, has_control, has_scheme, parts_now, parts_of};
+ghost use Rattle.argon2_passwd.specs.Lines.{AreEntries, HasNoText, IsNotTaken, IsPair, IsTaken, RefusesText, has_control, has_scheme, parts_now, parts_of};
 ghost use Rattle.argon2_passwd.specs.Failures.{IsMemory, status_of};
 
 use crate::failure::{Failure, Flaw, of_reading};
@@ -74,19 +74,8 @@ fn of_any_scheme(text: &str) -> Option<StoredText<'_>>
 {
     match StoredText::new(text) {
         Ok((text, _)) => Some(text),
-        Err(_) => foreign(text),
-    }
-}
-
-// A text of another scheme.
-fn foreign(text: &str) -> Option<StoredText<'_>>
-    ensures { MatchOption result (¬ IsForeign text.now)
-        (λ it. (it.text.now ≡ text.now) × IsTrue (has_scheme text.now)) }
-{
-    if has_scheme(text) {
-        StoredText::of_line(text)
-    } else {
-        None
+        Err(_) if has_scheme(text) => StoredText::of_line(text),
+        Err(_) => None,
     }
 }
 

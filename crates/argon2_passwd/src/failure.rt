@@ -101,15 +101,10 @@ impl Failure {
         ensures some { (1 ≤ result) × (result ≤ 4) }
     {
         match self {
-            Failure::NoPassword => 1,
-            Failure::LongPassword => 1,
-            Failure::Name => 1,
+            Failure::NoPassword | Failure::LongPassword | Failure::Name | Failure::Line(_, _) => 1,
             Failure::Params => 2,
             Failure::Refused(BoundError::Refused(password_hash::Error::PasswordInvalid)) => 1,
-            Failure::Refused(_) => 4,
-            Failure::Scheme(_) => 4,
-            Failure::Line(_, _) => 1,
-            Failure::Passed(_) => 4,
+            Failure::Refused(_) | Failure::Scheme(_) | Failure::Passed(_) => 4,
             Failure::File(error) if error.is_refusal() => 1,
             _ => 3,
         }

@@ -21,7 +21,7 @@ pub struct Options<'a> {
 
 impl Options<'_> {
     ghost use Rattle.std.specs.Prelude.{◌≡◌};
-    ghost use Rattle.argon2_passwd.specs.Jobs.{bound_or_default, choices_of};
+    ghost use Rattle.argon2_passwd.specs.Options.{bound_or_default};
 
     /// The library's parameters, the bound that goes with them, and no secret.
     pub const DEFAULT: Options<'static> = Options {
@@ -35,7 +35,7 @@ impl Options<'_> {
     /// The most that a stored text may ask for: what was given, or 2 GiB, 64 passes and 64 lanes,
     /// and no less than the parameters.
     pub fn bound(&self) -> Bound
-        ensures { result ≡ bound_or_default (choices_of self.now) }
+        ensures { result ≡ bound_or_default self.now }
     {
         self.bound.unwrap_or(Bound {
             m_cost: self.params.m_cost().max(2_097_152),

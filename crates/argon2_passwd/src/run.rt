@@ -4,9 +4,8 @@ ghost use Rattle.std.specs.Prelude.{◌≡◌, ◌≢◌, ◌≤◌, ◌⊎◌, 
 ghost use Rattle.std.specs.Io.KnownBytes.{Appends, Keeps};
 ghost use Rattle.std.specs.Option.{option_map};
 ghost use Rattle.argon2_policy.specs.Policy.{IsPolicy, policy_value};
-ghost use Rattle.argon2.specs.TextHashing.{target_of};
 ghost use Rattle.argon2_passwd.specs.Answers.{IsCheckReply, IsEnded, IsHashReply, IsOldSecret, IsReplied, IsSecret, IsUnchecked, SaysLogin};
-ghost use Rattle.argon2_passwd.specs.Jobs.{choices_of, job_of, policy_by, target_by};
+ghost use Rattle.argon2_passwd.specs.Options.{policy_by};
 ghost use Rattle.argon2_passwd.specs.News.{news_of, news_text};
 ghost use Rattle.argon2_passwd.specs.Failures.{status_by, status_of};
 ghost use Rattle.argon2_passwd.specs.Passwords.{IsUnread};
@@ -56,8 +55,8 @@ pub fn run<P: Outside, R: BufRead, W: Write, E: Write>(
     requires { P.closed outside.old [] }
     ensures status { result ≤ 4 }
     ensures ended { (ended : Result (Unit {0}) Why) × (result ≡ status_by ended)
-        × IsEnded P.File.Store P.holds P.keeps P.gives (choices_of command.entry.options)
-        (job_of command.entry.action) ended (R.remaining input.old) (W.contents output.old)
+        × IsEnded P.File.Store P.holds P.keeps P.gives command.entry.options
+        command.entry.action ended (R.remaining input.old) (W.contents output.old)
         (W.contents output.new) (P.closed outside.new) }
     ensures told { result ≡ 0 → (n : ℕ) × Appends (E.contents errors.old) (E.contents errors.new)
         (take n (news_of command.entry.action (P.news outside.new))) }
@@ -171,8 +170,8 @@ fn answer<P: Outside, R: BufRead, W: Write>(
     output: &mut W,
 ) -> Result<(), Failure>
     requires { P.closed outside.old [] }
-    ensures { IsEnded P.File.Store P.holds P.keeps P.gives (choices_of command.now.options)
-        (job_of command.now.action) result (R.remaining input.old) (W.contents output.old)
+    ensures { IsEnded P.File.Store P.holds P.keeps P.gives command.now.options
+        command.now.action result (R.remaining input.old) (W.contents output.old)
         (W.contents output.new) (P.closed outside.new) }
 {
     let options = &command.options;
@@ -220,7 +219,9 @@ fn check<P: Outside, R: BufRead, W: Write>(
         × Keeps (W.contents output.old) (W.contents output.new)) }
 {
     let mut rng = generator(outside)?;
-    let reply = texts::check(alloc, policy, &mut rng, text, input)?;
+    let password = password(alloc, input)?;
+    let (accepted, hash) = texts::login(policy, &mut rng, text, password.as_slice())?;
+    let reply = texts::reply(alloc, accepted, &hash)?;
     write_line(output, reply.as_str().as_bytes())?;
     Ok(())
 }
@@ -228,7 +229,7 @@ fn check<P: Outside, R: BufRead, W: Write>(
 // The secret that the options name, none if they name no file.
 fn secret<P: Outside>(alloc: Global, outside: &P, options: &Options<'_>) -> Result<Vec<u8>, Failure>
     ensures ok { IfOk result (λ secret.
-        IsSecret P.holds (choices_of options.now).secret_file secret.items) }
+        IsSecret P.holds options.now.secret_file secret.items) }
     ensures err { IfErr result (λ failure. status_of failure ≡ 3) }
 {
     match options.secret_file {
@@ -239,7 +240,7 @@ fn secret<P: Outside>(alloc: Global, outside: &P, options: &Options<'_>) -> Resu
 
 // The old secret, if the options name its file.
 fn old_secret<P: Outside>(outside: &P, options: &Options<'_>) -> Result<Option<Vec<u8>>, Failure>
-    ensures ok { IfOk result (λ old. IsOldSecret P.holds (choices_of options.now).old_secret_file
+    ensures ok { IfOk result (λ old. IsOldSecret P.holds options.now.old_secret_file
         (option_map vec_items old)) }
     ensures err { IfErr result (λ failure. status_of failure ≡ 3) }
 {
@@ -257,32 +258,22 @@ fn policy<'key>(
     old: &'key Option<Vec<u8>>,
 ) -> Result<Policy<'key>, Failure>
     ensures ok { IfOk result (λ policy. policy_value policy
-        ≡ policy_by (choices_of options.now) secret.now (option_map vec_items old.now)) }
+        ≡ policy_by options.now secret.now (option_map vec_items old.now)) }
     ensures err { IfErr result (λ failure. (status_of failure ≡ 3) ⊎ ((failure ≡ Params)
-        × ¬ (IsPolicy (policy_by (choices_of options.now) secret.now (option_map vec_items old.now))))) }
+        × ¬ (IsPolicy (policy_by options.now secret.now (option_map vec_items old.now))))) }
 {
-    let Ok(policy) = Policy::new(alloc, target(options, secret)?, options.bound()) else {
+    let (algorithm, version) = (Algorithm::Argon2id, Version::V0x13);
+    let Ok(argon2) = Argon2::new_with_secret(secret, algorithm, version, options.params) else {
+        return Err(Failure::SecretLength(false));
+    };
+    let Ok(policy) = Policy::new(alloc, argon2, options.bound()) else {
         return Err(Failure::Params);
     };
     match old {
         None => Ok(policy),
-        Some(old) => match policy.with_old_secret(old.as_slice()) {
-            Ok(policy) => Ok(policy),
-            Err(_) => Err(Failure::SecretLength(true)),
-        },
-    }
-}
-
-// What new texts are made under.
-fn target<'key>(options: &Options<'_>, secret: &'key [u8]) -> Result<Argon2<'key>, Failure>
-    ensures ok { IfOk result (λ argon2.
-        target_of argon2 ≡ target_by (choices_of options.now) secret.now) }
-    ensures err { IfErr result (λ failure. status_of failure ≡ 3) }
-{
-    let (algorithm, version) = (Algorithm::Argon2id, Version::V0x13);
-    match Argon2::new_with_secret(secret, algorithm, version, options.params) {
-        Ok(argon2) => Ok(argon2),
-        Err(_) => Err(Failure::SecretLength(false)),
+        Some(old) => policy
+            .with_old_secret(old.as_slice())
+            .or(Err(Failure::SecretLength(true))),
     }
 }
 

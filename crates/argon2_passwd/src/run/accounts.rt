@@ -5,7 +5,6 @@ ghost use Rattle.argon2_base.specs.PhcFields.{phc_of};
 ghost use Rattle.argon2_policy.specs.Policy.{policy_value};
 ghost use Rattle.argon2_rows.specs.Names.{entry_of};
 ghost use Rattle.argon2_passwd.specs.Answers.{AddsLines, Ends, IsLogin, IsLooked, IsOpened, IsServed, IsUnfound, SaysHash};
-ghost use Rattle.argon2_passwd.specs.Jobs.{Job, job_of};
 ghost use Rattle.argon2_passwd.specs.Failures.{status_of};
 ghost use Rattle.argon2_passwd.specs.Salts.{IsSalt};
 ghost use Rattle.rand_core.specs.Stream.{fill_bytes};
@@ -53,7 +52,7 @@ pub(super) fn serve<P: Outside, R: BufRead, W: Write>(
     output: &mut W,
 ) -> Result<(), Failure>
     requires { P.closed outside.old [] }
-    ensures { IsServed P.File.Store P.keeps P.gives (policy_value policy.now) (job_of action.entry)
+    ensures { IsServed P.File.Store P.keeps P.gives (policy_value policy.now) action.entry
         result (R.remaining input.old) (W.contents output.old) (W.contents output.new) (P.closed outside.new) }
 {
     match action {
@@ -91,7 +90,7 @@ fn verify<P: Outside, R: BufRead, W: Write>(
 ) -> Result<(), Failure>
     requires { P.closed outside.old [] }
     ensures { IsServed P.File.Store P.keeps P.gives (policy_value access.now.policy.now)
-        (Job.verify access.now.path.now name.now) result (R.remaining input.old)
+        (Action.OnFile access.now.path (Task.Verify name.entry)) result (R.remaining input.old)
         (W.contents output.old) (W.contents output.new) (P.closed outside.new) }
 {
     let mut rng = generator(outside)?;
@@ -109,7 +108,7 @@ fn show<P: Outside, W: Write>(
 ) -> Result<(), Failure>
     requires { P.closed outside.old [] }
     ensures { (input : Option (List ℕ)) → IsServed P.File.Store P.keeps P.gives
-        (policy_value access.now.policy.now) (Job.show access.now.path.now view) result input
+        (policy_value access.now.policy.now) (Action.OnFile access.now.path (Task.Show view)) result input
         (W.contents output.old) (W.contents output.new) (P.closed outside.new) }
 {
     let mut accounts = open(outside, access)?;
@@ -128,7 +127,7 @@ fn import<P: Outside, R: BufRead>(
 ) -> Result<(), Failure>
     requires { P.closed outside.old [] }
     ensures { (output : Option (List ℕ)) → IsServed P.File.Store P.keeps P.gives
-        (policy_value access.now.policy.now) (Job.import access.now.path.now any_text) result
+        (policy_value access.now.policy.now) (Action.OnFile access.now.path (Task.Import any_text)) result
         (R.remaining input.old) output output (P.closed outside.new) }
 {
     let bytes = read_all(alloc, input)?;

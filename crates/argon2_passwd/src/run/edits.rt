@@ -4,14 +4,13 @@ ghost use Rattle.std.specs.Prelude.{◌≡◌, ◌∷◌, ◌++◌, [], ℕ, Lis
 ghost use Rattle.argon2_policy.specs.Policy.{policy_value};
 ghost use Rattle.argon2_store.specs.AccountFile.{Serves};
 ghost use Rattle.argon2_passwd.specs.Answers.{AreRead, AreUnread, Ends, IsAct, IsApplied, IsServed, breaks_lines, edit_of};
-ghost use Rattle.argon2_passwd.specs.Jobs.{Job};
 ghost use Rattle.argon2_passwd.specs.Salts.{IsSalt};
 ghost use Rattle.rand_core.specs.Stream.{fill_bytes};
 
 use super::accounts::{Access, look, open};
 use super::generator;
 use super::texts::fresh;
-use crate::command::Edit;
+use crate::command::{Action, Edit, Task};
 use crate::entries::has_control;
 use crate::failure::Failure;
 use crate::outside::Outside;
@@ -46,7 +45,7 @@ pub(super) fn edit<P: Outside, R: BufRead>(
 ) -> Result<(), Failure>
     requires { P.closed outside.old [] }
     ensures { (output : Option (List ℕ)) → IsServed P.File.Store P.keeps P.gives
-        (policy_value access.now.policy.now) (Job.edit access.now.path.now edit name.now) result
+        (policy_value access.now.policy.now) (Action.OnFile access.now.path (Task.Edit edit name.entry)) result
         (R.remaining input.old) output output (P.closed outside.new) }
 {
     if breaks_lines(edit, name) {

@@ -9,10 +9,10 @@ ghost use Rattle.argon2_store.specs.Edits.{additions};
 ghost use Rattle.argon2_store.specs.Errors.{is_refusal};
 ghost use Rattle.argon2_passwd.specs.Answers.{AddsOthers, IsServed, Looks};
 ghost use Rattle.argon2_passwd.specs.Lines.{entries_in, entry_or_flaw, flaws_from, unless_known};
-ghost use Rattle.argon2_passwd.specs.Jobs.{Job};
 ghost use Rattle.argon2_passwd.specs.Failures.{status_of};
 
 use super::accounts::{Access, BYTE_ORDER_MARK, open};
+use crate::command::{Action, Task};
 use crate::entries::read_all;
 use crate::failure::{Failure, Flaw};
 use crate::lines::{Line, first_of_each, read_lines};
@@ -34,7 +34,7 @@ pub(super) fn import_others<P: Outside, R: BufRead>(
 ) -> Result<(), Failure>
     requires { P.closed outside.old [] }
     ensures { (output : Option (List ℕ)) → IsServed P.File.Store P.keeps P.gives
-        (policy_value access.now.policy.now) (Job.import_others access.now.path.now any_text)
+        (policy_value access.now.policy.now) (Action.OnFile access.now.path (Task.ImportOthers any_text))
         result (R.remaining input.old) output output (P.closed outside.new) }
 {
     let bytes = read_all(alloc, input)?;

@@ -4,13 +4,12 @@ ghost use Rattle.std.specs.Prelude.{◌≡◌, Ok, Some, IfErr, IfOk, string_byt
 ghost use Rattle.argon2.specs.TextHashing.{IsFresh};
 ghost use Rattle.rand_core.specs.Stream.{fill_bytes};
 ghost use Rattle.argon2_policy.specs.Policy.{Denial, LogsIn, policy_value};
-ghost use Rattle.argon2_passwd.specs.Answers.{IsCheckReply, IsDenied, IsShut, IsUnchecked, SaysHash, login_text};
+ghost use Rattle.argon2_passwd.specs.Answers.{IsDenied, IsShut, SaysHash, login_text};
 ghost use Rattle.argon2_passwd.specs.Failures.{status_of};
 ghost use Rattle.argon2_base.specs.PhcFields.{phc_of};
 ghost use Rattle.argon2_base.specs.PhcText.{Phc};
 
 use crate::failure::Failure;
-use crate::passwords::password;
 use argon2::PasswordHash;
 use argon2::bound::BoundError;
 use argon2::login::{Accepted, LoggedIn};
@@ -20,7 +19,6 @@ use argon2_programs::scheme_of;
 use argon2_rows::text::behind_lock;
 use rand_core::Rng;
 use std::alloc::{AllocError, Global};
-use std::io::BufRead;
 
 /// A fresh text of a password.
 pub fn fresh<G: Rng>(
@@ -32,35 +30,14 @@ pub fn fresh<G: Rng>(
         (fill_bytes 16 (G.stream rng.old)).0 (phc_of text)) }
     ensures err { IfErr result (λ failure. status_of failure ≡ 3) }
 {
-    match policy.hash_password(rng, password) {
-        Ok(text) => Ok(text),
-        // A password that was read is short enough, so that only memory is refused.
-        Err(_) => Err(Failure::Memory(AllocError)),
-    }
+    // A password that was read is short enough, so that only memory is refused.
+    policy
+        .hash_password(rng, password)
+        .or(Err(Failure::Memory(AllocError)))
 }
 
-/// What the text does with the next password, if it accepts it, and a line with another text if it
-/// was made under other parameters.
-pub fn check<G: Rng, R: BufRead>(
-    alloc: Global,
-    policy: &Policy<'_>,
-    rng: &mut G,
-    text: &str,
-    input: &mut R,
-) -> Result<String, Failure>
-    ensures ok { IfOk result (λ reply. IsCheckReply (policy_value policy.now)
-        (fill_bytes 16 (G.stream rng.old)).0 text.now (R.remaining input.old)
-        (string_bytes reply)) }
-    ensures err { IfErr result (IsUnchecked (policy_value policy.now) text.now
-        (R.remaining input.old)) }
-{
-    let password = password(alloc, input)?;
-    let (accepted, hash) = login(policy, rng, text, password.as_slice())?;
-    Ok(reply(alloc, accepted, &hash)?)
-}
-
-// Checks a password by a text, and returns what was done and the text to keep.
-fn login<G: Rng>(
+/// Checks a password by a text, and returns what was done and the text to keep.
+pub fn login<G: Rng>(
     policy: &Policy<'_>,
     rng: &mut G,
     text: &str,
@@ -94,8 +71,8 @@ pub fn read(text: &str) -> Result<PasswordHash, Failure>
     }
 }
 
-// What `check` writes of a login that is accepted.
-fn reply(alloc: Global, accepted: Accepted, hash: &PasswordHash) -> Result<String, AllocError>
+/// What `check` writes of a login that is accepted: what was done, and a line with the fresh text if there is one.
+pub fn reply(alloc: Global, accepted: Accepted, hash: &PasswordHash) -> Result<String, AllocError>
     ensures { IfOk result (λ text. string_bytes text ≡ login_text accepted (phc_of hash.now)) }
 {
     match accepted {

@@ -1,16 +1,17 @@
-use Rattle.std.proofs.Common.{◌≡◌, ℕ, List, Option, Some, None, inr, ◌⊎◌}
+use Rattle.std.proofs.Common.{◌≡◌, ◌∙◌, ℕ, List, Option, Some, None, inr, ◌⊎◌, true, sym}
 use Rattle.std.specs.Prelude.{IsTrue, MatchOption}
-use Rattle.argon2_rows.specs.Locks.{IsStored}
+use Rattle.argon2_rows.specs.Locks.{IsLine, IsStored}
 use Rattle.argon2_rows.specs.declared.text.StoredText.{StoredText}
 use Rattle.argon2_passwd.specs.Lines.{IsForeign, has_scheme}
 use Rattle.argon2_passwd.proofs.entries.of_any_scheme.Goals as goal
 
--- a text outside the grammar
-outside : (text : List ℕ) (r : Option StoredText) → ¬ (IsStored text)
-    → MatchOption r (¬ (IsForeign text)) (λ it. (it.text.now ≡ text) × IsTrue (has_scheme text))
+-- a text outside the grammar that begins as one of another scheme is taken if it is one line
+named : (text : List ℕ) (r : Option StoredText) → ¬ (IsStored text) → has_scheme text ≡ true
+    → MatchOption r (¬ (IsLine text)) (λ it. it.text.now ≡ text)
     → MatchOption r (¬ (IsStored text) × ¬ (IsForeign text)) (λ it. (it.text.now ≡ text) × (IsStored text ⊎ IsTrue (has_scheme text)))
-outside text None isnt other = (isnt, other)
-outside text (Some it) isnt (same, other) = (same, inr other)
+named text None isnt is several = (isnt, λ foreign. several foreign.0)
+named text (Some it) isnt is same = (same, inr is)
 
 pub returns-in-Err : goal.returns-in-Err
-returns-in-Err c = outside c.args.text.now c.foreign.result c.in-Err.ensures.invalid.1 c.foreign.ensures
+returns-in-Err c =
+    named c.args.text.now c.of_line.result c.in-Err.ensures.invalid.1 (sym c.has_scheme.ensures ∙ c.if-has_scheme.true) c.of_line.ensures

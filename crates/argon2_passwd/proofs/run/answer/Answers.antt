@@ -4,15 +4,6 @@ use Rattle.std.specs.Prelude.{vec_items}
 use Rattle.argon2_passwd.proofs.Served.{err_is, keeps_same}
 use Rattle.argon2_passwd.proofs.run.answer.Goals as goal
 
-pub returns-in_err-secret : goal.returns-in_err-secret
-returns-in_err-secret g c =
-    rw (err_is c.from_residual.result c.in_err-secret.field-0.0 c.from_residual.ensures.1) (inl (c.requires, c.in_err-secret.ensures.err))
-
-pub returns-in_err-old : goal.returns-in_err-old
-returns-in_err-old g c =
-    rw (err_is c.from_residual-in_err-old.result c.in_err-old.field-0.0 c.from_residual-in_err-old.ensures.1)
-    (inl (c.requires, c.in_err-old.ensures.err))
-
 pub returns-in_err-policy : goal.returns-in_err-policy
 returns-in_err-policy g c =
     let f = c.in_err-policy.field-0.0 in

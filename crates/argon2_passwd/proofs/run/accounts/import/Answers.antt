@@ -16,11 +16,6 @@ refused any_text read f input same isnt (inl memory) = absurd (isnt (memory_is f
 refused any_text read f input same isnt (inr refuses) =
     IfSome_then input same (λ known all. subst (λ bytes. RefusesText any_text (unmarked bytes) f) all refuses)
 
-pub returns-in_err-bytes : goal.returns-in_err-bytes
-returns-in_err-bytes g c output =
-    rw (err_is c.from_residual.result c.in_err-bytes.field-0.0 c.from_residual.ensures.1)
-    (inr (c.requires, tt, λ isnt. absurd (isnt c.in_err-bytes.ensures.err)))
-
 pub returns-in_err-entries : goal.returns-in_err-entries
 returns-in_err-entries g c output =
     let f = c.in_err-entries.field-0.0 in
@@ -35,11 +30,6 @@ returns-in_err-entries g c output =
         keeps_same _,
       ),
     ))
-
-pub returns-in_err-accounts : goal.returns-in_err-accounts
-returns-in_err-accounts g c output =
-    rw (err_is c.from_residual-in_err-accounts.result c.in_err-accounts.field-0.0 c.from_residual-in_err-accounts.ensures.1)
-    (inr (c.in_err-accounts.ensures.untouched [] c.requires, tt, λ isnt. absurd (isnt c.in_err-accounts.ensures.err)))
 
 pub returns : goal.returns
 returns g c output =

@@ -25,10 +25,6 @@ module _ {S Y : Type 0} {g : Ghosts S} {Has : List ℕ → Texts → Type 0} {pa
   unread : (e : FileError) → found ≡ Err e → IsLooked g Has path name (Err e) Next
   unread e is = opened_for before after opened (λ names has. (rw is at reads names has, tt)) next
 
-pub returns-in_err-accounts : goal.returns-in_err-accounts
-returns-in_err-accounts g c =
-    rw (err_is c.from_residual.result c.in_err-accounts.field-0.0 c.from_residual.ensures.1) (inr (c.in_err-accounts.ensures.untouched [] c.requires, c.in_err-accounts.ensures.err))
-
 pub returns-in_err-text : goal.returns-in_err-text
 returns-in_err-text g c =
     let found = c.text_of-found.ensures in

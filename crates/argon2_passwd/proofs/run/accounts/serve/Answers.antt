@@ -8,19 +8,11 @@ returns-in-Hash g c = rw c.in-Hash.is (inr (c.requires, c.hash.ensures.ok, c.has
 pub returns-in-Check : goal.returns-in-Check
 returns-in-Check g c = rw c.in-Check.is (inr (c.requires, c.check.ensures.ok, c.check.ensures.err))
 
-pub returns-in_err-look-in-OnFile : goal.returns-in_err-look-in-OnFile
-returns-in_err-look-in-OnFile g c =
-    rw (err_is c.from_residual.result c.in_err-look-in-OnFile.field-0.0 c.from_residual.ensures.1)
-    (inr (c.requires, tt, λ isnt. absurd (isnt c.in_err-look-in-OnFile.ensures)))
-
 pub returns-in-Verify : goal.returns-in-Verify
 returns-in-Verify g c = rw (c.in-OnFile.is, c.in-Verify.is) c.verify.ensures
 
 pub returns-in-Edit : goal.returns-in-Edit
 returns-in-Edit g c = rw (c.in-OnFile.is, c.in-Edit.is) (c.edit.ensures _)
-
-pub returns-in-Show : goal.returns-in-Show
-returns-in-Show g c = rw (c.in-OnFile.is, c.in-Show.is) (c.show.ensures _)
 
 pub returns-in-Import : goal.returns-in-Import
 returns-in-Import g c = rw (c.in-OnFile.is, c.in-Import.is) (c.import.ensures _)

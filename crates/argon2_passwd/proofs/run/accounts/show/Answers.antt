@@ -3,11 +3,6 @@ use Rattle.argon2_passwd.specs.Failures.{IsOfLines}
 use Rattle.argon2_passwd.proofs.Served.{err_is, no_line, opened_for, some_error}
 use Rattle.argon2_passwd.proofs.run.accounts.show.Goals as goal
 
-pub returns-in_err-accounts : goal.returns-in_err-accounts
-returns-in_err-accounts g c input =
-    rw (err_is c.from_residual.result c.in_err-accounts.field-0.0 c.from_residual.ensures.1)
-    (inr (c.in_err-accounts.ensures.untouched [] c.requires, tt, λ isnt. absurd (isnt c.in_err-accounts.ensures.err)))
-
 pub returns-in_err-written : goal.returns-in_err-written
 returns-in_err-written g c input =
     let opened = c.in_ok-accounts.ensures.ok in

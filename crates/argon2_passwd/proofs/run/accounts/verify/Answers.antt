@@ -1,13 +1,6 @@
-use Rattle.std.proofs.Common.{◌≡◌, Ok, Err, Some, inl, inr, refl, subst, sym}
-use Rattle.std.specs.Prelude.{IfSome}
-use Rattle.argon2_passwd.specs.Passwords.{password_of}
-use Rattle.argon2_passwd.proofs.Served.{err_is, keeps_same}
+use Rattle.std.proofs.Common.{Ok, Err, inl, inr, refl}
+use Rattle.argon2_passwd.proofs.Served.{err_is, found_as, keeps_same}
 use Rattle.argon2_passwd.proofs.run.accounts.verify.Goals as goal
-
-pub returns-in_err-rng : goal.returns-in_err-rng
-returns-in_err-rng g c =
-    rw (err_is c.from_residual.result c.in_err-rng.field-0.0 c.from_residual.ensures.1)
-    (inr (c.requires, tt, λ isnt. absurd (isnt c.in_err-rng.ensures.failed)))
 
 pub returns-in_err-password : goal.returns-in_err-password
 returns-in_err-password g c =
@@ -16,8 +9,7 @@ returns-in_err-password g c =
 
 pub returns-in_err-accepted : goal.returns-in_err-accepted
 returns-in_err-accepted g c =
-    let found = subst (λ p. IfSome (g.R.Read.remaining c.args.input.now) (λ bytes. password_of bytes ≡ Some p))
-    (sym c.as_slice.ensures.value) c.in_ok-password.ensures.found in
+    let found = found_as (g.R.Read.remaining c.args.input.now) c.as_slice.ensures.value c.in_ok-password.ensures.found in
     let f = c.in_err-accepted.field-0.0 in
     rw (err_is c.from_residual-in_err-accepted.result f c.from_residual-in_err-accepted.ensures.1)
     (elim c.in_err-accepted.ensures [
@@ -27,8 +19,7 @@ returns-in_err-accepted g c =
 
 pub returns : goal.returns
 returns g c =
-    let found = subst (λ p. IfSome (g.R.Read.remaining c.args.input.now) (λ bytes. password_of bytes ≡ Some p))
-    (sym c.as_slice.ensures.value) c.in_ok-password.ensures.found in
+    let found = found_as (g.R.Read.remaining c.args.input.now) c.as_slice.ensures.value c.in_ok-password.ensures.found in
     elim c.in_ok-accepted.ensures [
       | inl login ↦ inl (Ok c.in_ok-accepted.accepted, c.write_accepted.ensures, (_, found, login))
       | inr (shut, never) ↦ absurd never

@@ -3,11 +3,6 @@ use Rattle.argon2_passwd.specs.Failures.{IsOfFile}
 use Rattle.argon2_passwd.proofs.Served.{err_is, opened_for, some_error}
 use Rattle.argon2_passwd.proofs.run.edits.call.Goals as goal
 
-pub returns-in_err-accounts : goal.returns-in_err-accounts
-returns-in_err-accounts g c before was =
-    rw (err_is c.from_residual.result c.in_err-accounts.field-0.0 c.from_residual.ensures.1)
-    (inr (c.in_err-accounts.ensures.untouched before was, c.in_err-accounts.ensures.err))
-
 pub returns-in_err-done : goal.returns-in_err-done
 returns-in_err-done g c before was =
     let closed = rw c.into_store.ensures at c.close.ensures before (c.in_ok-accounts.ensures.opened before was) in

@@ -3,16 +3,6 @@ use Rattle.argon2_passwd.specs.Failures.{status_of}
 use Rattle.argon2_passwd.proofs.Served.{err_is, keeps_same, some_error}
 use Rattle.argon2_passwd.proofs.run.edits.edit.Goals as goal
 
-pub returns-then-breaks_lines : goal.returns-then-breaks_lines
-returns-then-breaks_lines g c output =
-    let breaks = sym c.breaks_lines.ensures ∙ c.if-breaks_lines.true in
-    inr (c.requires, tt, λ isnt. (inl (breaks, refl), keeps_same _))
-
-pub returns-in_err-rng : goal.returns-in_err-rng
-returns-in_err-rng g c output =
-    rw (err_is c.from_residual.result c.in_err-rng.field-0.0 c.from_residual.ensures.1)
-    (inr (c.requires, tt, λ isnt. absurd (isnt c.in_err-rng.ensures.failed)))
-
 pub returns-in_err-first : goal.returns-in_err-first
 returns-in_err-first g c output =
     rw (err_is c.from_residual-in_err-first.result c.in_err-first.field-0.0 c.from_residual-in_err-first.ensures.1)

@@ -1,0 +1,27 @@
+-- What the options come to.
+use Rattle.std.specs.Prelude.{List, ℕ, Option, max, unwrap_or}
+use Rattle.argon2.specs.Argon2.{argon2id_with, parameters_of}
+use Rattle.argon2.specs.TextHashing.{Target}
+use Rattle.argon2.specs.declared.bound.Bound.{Bound}
+use Rattle.argon2_policy.specs.Policy.{Policy}
+use Rattle.argon2_passwd.specs.declared.options.Options.{Options}
+
+-- the bound that is given; if none is, 2 GiB, 64 passes and 64 lanes, each no less than the parameter
+abbrev pub bound_or_default : Options → Bound
+bound_or_default options = unwrap_or options.bound (record {
+  m_cost = max (parameters_of options.params).m_cost 2097152;
+  t_cost = max (parameters_of options.params).t_cost 64;
+  p_cost = max (parameters_of options.params).p_cost 64;
+})
+
+-- Argon2id of version 0x13 under the parameters and a secret
+abbrev pub target_by : Options → List ℕ → Target
+target_by options secret = record { settings = argon2id_with (parameters_of options.params); secret = secret }
+
+-- the same with an old secret, if there is one, and a bound
+abbrev pub policy_by : Options → List ℕ → Option (List ℕ) → Policy
+policy_by options secret old = record {
+  target = target_by options secret;
+  old_secret = old;
+  bound = bound_or_default options;
+}
