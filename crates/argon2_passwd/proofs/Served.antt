@@ -15,7 +15,6 @@ use Rattle.argon2_store.specs.declared.error.LineError.{LineError}
 use Rattle.argon2_passwd.specs.Answers.{IsDenied, IsOpenFor, IsOpened, IsUnfound}
 use Rattle.argon2_passwd.specs.Passwords.{password_of}
 use Rattle.argon2_passwd.specs.Failures.{IsMemory, IsOfFile, IsOfLines, status_of}
-use Rattle.argon2_passwd.specs.declared.command.Action.{Action}
 use Rattle.argon2_passwd.specs.declared.failure.Failure.{Failure}
 
 pub passed : {X : Type 0} (P : Failure → Type 0) (f : Failure) (r : Result X Failure) → IsErrAnd r (λ e. e ≡ f)

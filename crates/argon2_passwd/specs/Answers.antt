@@ -235,7 +235,8 @@ module _ {S : Type 0} (g : Ghosts S) (Has : List ℕ → Texts → Type 0) where
 
   -- one call was done there, and this result tells of its answer
   abbrev pub IsApplied : List ℕ → FileEdit → (S → Type 0) → Result (Unit {0}) Failure → Type 0
-  IsApplied path change Next result = (done : Result (Unit {0}) FileError) × TellsOf done result × IsOpenFor path (Serves (change ∷ []) done) Next
+  IsApplied path change Next result =
+      (done : Result (Unit {0}) FileError) × TellsOf done result × IsOpenFor path (Serves (change ∷ []) done) Next
 
   -- the text of a name was read in the file at a path, which was closed with this store
   abbrev pub IsLooked : List ℕ → List ℕ → Result (Option (List ℕ)) FileError → (S → Type 0) → Type 0
@@ -272,10 +273,12 @@ module _ {S : Type 0} (g : Ghosts S) (Has : List ℕ → Texts → Type 0) (Give
   IsChange policy path Register name first second Closed result = (drawn : List ℕ) × (v : Phc)
       × IsSalt Gives drawn × IsFresh policy.target first drawn v × IsApplied g Has path (adding name (phc_text v)) (λ last. Closed (last ∷ [])) result
   IsChange policy path Change name first second Closed result =
-      IsErrAnd result (λ failure. IsUnfound g Has (ChangeRefusal policy first second) path name failure (λ read. Closed (read ∷ [])))
+      IsErrAnd result
+      (λ failure. IsUnfound g Has (ChangeRefusal policy first second) path name failure (λ read. Closed (read ∷ [])))
       ⊎ ((old drawn : List ℕ) × (v w : Phc) × IsSalt Gives drawn × SaysHash old v × Admits policy first v
       × IsFresh policy.target second drawn w × IsLooked g Has path name (Ok (Some old))
-      (λ read. Ends (IsApplied g Has path (replacing name old (phc_text w)) (λ last. Closed (read ∷ last ∷ []))) (Closed (read ∷ [])) result))
+      (λ read. Ends (IsApplied g Has path (replacing name old (phc_text w)) (λ last. Closed (read ∷ last ∷ [])))
+      (Closed (read ∷ [])) result))
   IsChange policy path Set name first second Closed result = (drawn : List ℕ) × (v : Phc)
       × IsSalt Gives drawn × IsFresh policy.target first drawn v × IsApplied g Has path (setting name (phc_text v)) (λ last. Closed (last ∷ [])) result
   IsChange policy path Remove name first second Closed result = IsApplied g Has path (removing name) (λ last. Closed (last ∷ [])) result
@@ -294,7 +297,8 @@ module _ {S : Type 0} (g : Ghosts S) (Has : List ℕ → Texts → Type 0) (Give
   IsUsed policy (OnFile path (Verify name)) result input old new Closed = (login : Result Accepted Failure)
       × SaysLogin login result old new × OfPassword (λ password. IsLogin policy path.now name.now password login Closed) input
   IsUsed policy (OnFile path (Edits act name)) result input old new Closed = Keeps old new × (breaks_lines act name.now ≡ false)
-      × (first second : List ℕ) × AreRead act input first second × IsChange policy path.now act name.now first second Closed result
+      × (first second : List ℕ) × AreRead act input first second
+      × IsChange policy path.now act name.now first second Closed result
   IsUsed policy (OnFile path (Show view)) (Ok _) input old new Closed =
       IsOnlyRead g Has path.now None (λ names. AreWritten view names old new All) Closed
   IsUsed policy (OnFile path (Show view)) (Err failure) input old new Closed =
@@ -309,7 +313,8 @@ module _ {S : Type 0} (g : Ghosts S) (Has : List ℕ → Texts → Type 0) (Give
   -- what is written without a file
   abbrev pub IsWritten : Policy → Action → Option (List ℕ) → Option (List ℕ) → Option (List ℕ) → Type 0
   IsWritten policy Hash input old new = IsReplied Gives (λ drawn line. IsHashReply policy drawn input line) old new
-  IsWritten policy (Check text) input old new = IsReplied Gives (λ drawn line. IsCheckReply policy drawn text.now input line) old new
+  IsWritten policy (Check text) input old new =
+      IsReplied Gives (λ drawn line. IsCheckReply policy drawn text.now input line) old new
   IsWritten policy _ input old new = ⊥
 
   -- how a command ended: its file was used, or no file was opened, and it is answered, or refused before

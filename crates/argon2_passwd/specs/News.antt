@@ -1,5 +1,5 @@
 -- What is said of a file although nothing fails.
-use Rattle.std.specs.Prelude.{Bool, List, [], ◌++◌, ℕ, codes, if◌then◌else◌}
+use Rattle.std.specs.Prelude.{List, [], ◌++◌, ℕ, codes, if◌then◌else◌}
 use Rattle.argon2_passwd.specs.declared.command.Action.{Action}
 use Rattle.argon2_passwd.specs.declared.command.Action.TheVariants.{OnFile}
 use Rattle.argon2_passwd.specs.declared.outside.News.{News}

@@ -14,4 +14,5 @@ named text (Some it) isnt is same = (same, inr is)
 
 pub returns-in-Err : goal.returns-in-Err
 returns-in-Err c =
-    named c.args.text.now c.of_line.result c.in-Err.ensures.invalid.1 (sym c.has_scheme.ensures ∙ c.if-has_scheme.true) c.of_line.ensures
+    named c.args.text.now c.of_line.result c.in-Err.ensures.invalid.1
+    (sym c.has_scheme.ensures ∙ c.if-has_scheme.true) c.of_line.ensures

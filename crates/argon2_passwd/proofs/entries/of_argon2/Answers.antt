@@ -20,9 +20,3 @@ is_shown r shown is read = grind arith
 pub returns-else-is_ok : goal.returns-else-is_ok
 returns-else-is_ok c =
     inr (phc_of c.in-Ok.hash, c.in-Ok.ensures.found.1, not_shown _ _ c.try_from.ensures (sym c.is_ok.ensures.value ∙ c.if-is_ok.false))
-
-pub returns-then-is_ok : goal.returns-then-is_ok
-returns-then-is_ok c =
-    let found = c.in-Ok.ensures.found in
-    let v = phc_of c.in-Ok.hash in
-    (found.0, (v, found.1, is_shown _ _ c.try_from.ensures (sym c.is_ok.ensures.value ∙ c.if-is_ok.true)))

@@ -28,7 +28,8 @@ loop-line-preserved c =
       (λ why k without.
           let all = c.loop-line.invariant.1 why (suc k)
           (subst (λ ls. IsFirstWithout c.args.any_text why ls (suc k)) (sym line) (e, read, without)) in
-          rw c.in_ok-push-in-Ok.ensures.items (subst (IsFirstWithout c.args.any_text why (lines c.args.input.now)) (more_found c.loop-line.found.items found k) all)),
+          rw c.in_ok-push-in-Ok.ensures.items
+          (subst (IsFirstWithout c.args.any_text why (lines c.args.input.now)) (more_found c.loop-line.found.items found k) all)),
     )
 
 pub returns-in-Err-clause-err : goal.returns-in-Err-clause-err
@@ -37,7 +38,8 @@ returns-in-Err-clause-err c =
     let (always, first) = steps.1.2 (λ b. b == 10) (answers_always _ _ _ (λ f a r g h. search rules)) in
     let line = lines_first _ _ _ _ steps.2 steps.0 steps.1.1 first in
     let why = c.in-Err.flaw in
-    let without = subst (λ l. IsEntryOrFlaw c.args.any_text l (Err why)) c.line_len.ensures.value (rw c.in-Err.is at c.read_line.ensures) in
+    let without =
+    subst (λ l. IsEntryOrFlaw c.args.any_text l (Err why)) c.line_len.ensures.value (rw c.in-Err.is at c.read_line.ensures) in
     let all = c.loop-line.invariant.1 why 0 (subst (λ ls. IsFirstWithout c.args.any_text why ls 0) (sym line) without) in
     inr (
       length c.loop-line.found.items,

@@ -30,6 +30,6 @@ returns-in_default g c = (
   _,
   c.in-Err.ensures.call,
   λ isnt names has honest.
-      absurd (isnt (other names _ c.in-Err.index c.in-Err.error _ (c.in-Err.ensures.index names has honest) c.in_default.not-NameTaken
-      c.into.ensures)),
+      absurd (isnt (other names _ c.in-Err.index c.in-Err.error _ (c.in-Err.ensures.index names has honest)
+      c.in_default.not-NameTaken c.into.ensures)),
 )

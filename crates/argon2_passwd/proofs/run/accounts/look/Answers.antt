@@ -10,7 +10,7 @@ use Rattle.argon2_store.specs.declared.account_file.AccountFile.{AccountFile}
 use Rattle.argon2_store.specs.declared.error.FileError.{FileError}
 use Rattle.argon2_passwd.specs.Answers.{IsLooked, IsOpened}
 use Rattle.argon2_passwd.specs.Failures.{IsOfFile}
-use Rattle.argon2_passwd.proofs.Served.{err_is, opened_for, some_error}
+use Rattle.argon2_passwd.proofs.Served.{opened_for, some_error}
 use Rattle.argon2_passwd.proofs.run.accounts.look.Goals as goal
 
 module _ {S Y : Type 0} {g : Ghosts S} {Has : List ℕ → Texts → Type 0} {path : List ℕ} {Next : S → Type 0} (name : List ℕ)

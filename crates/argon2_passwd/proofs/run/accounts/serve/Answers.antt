@@ -1,15 +1,8 @@
 use Rattle.std.proofs.Common.{inr}
-use Rattle.argon2_passwd.proofs.Served.{err_is}
 use Rattle.argon2_passwd.proofs.run.accounts.serve.Goals as goal
-
-pub returns-in-Hash : goal.returns-in-Hash
-returns-in-Hash g c = rw c.in-Hash.is (inr (c.requires, c.hash.ensures.ok, c.hash.ensures.err))
 
 pub returns-in-Check : goal.returns-in-Check
 returns-in-Check g c = rw c.in-Check.is (inr (c.requires, c.check.ensures.ok, c.check.ensures.err))
-
-pub returns-in-Verify : goal.returns-in-Verify
-returns-in-Verify g c = rw (c.in-OnFile.is, c.in-Verify.is) c.verify.ensures
 
 pub returns-in-Edit : goal.returns-in-Edit
 returns-in-Edit g c = rw (c.in-OnFile.is, c.in-Edit.is) (c.edit.ensures _)

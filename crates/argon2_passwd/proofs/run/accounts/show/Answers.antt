@@ -1,6 +1,6 @@
-use Rattle.std.proofs.Common.{[], inl, inr}
+use Rattle.std.proofs.Common.{[], inl}
 use Rattle.argon2_passwd.specs.Failures.{IsOfLines}
-use Rattle.argon2_passwd.proofs.Served.{err_is, no_line, opened_for, some_error}
+use Rattle.argon2_passwd.proofs.Served.{no_line, opened_for, some_error}
 use Rattle.argon2_passwd.proofs.run.accounts.show.Goals as goal
 
 pub returns-in_err-written : goal.returns-in_err-written
@@ -10,7 +10,11 @@ returns-in_err-written g c input =
     let closed = rw c.into_store.ensures at c.close.ensures [] (c.in_ok-accounts.ensures.opened [] c.requires) in
     let e = c.in_err-written.field-0.0 in
     let (f, is, of) = some_error (IsOfLines e) c.from_residual-in_err-written.result c.from_residual-in_err-written.ensures.1 in
-    rw is (inl (no_line e f of (reads opened.0 opened.2.has).of_file, _, opened_for _ _ opened (λ names has. (reads names has, λ _. tt)) closed))
+    rw is (inl (
+      no_line e f of (reads opened.0 opened.2.has).of_file,
+      _,
+      opened_for _ _ opened (λ names has. (reads names has, λ _. tt)) closed,
+    ))
 
 pub returns : goal.returns
 returns g c input =

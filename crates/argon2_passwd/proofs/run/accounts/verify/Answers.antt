@@ -2,11 +2,6 @@ use Rattle.std.proofs.Common.{Ok, Err, inl, inr, refl}
 use Rattle.argon2_passwd.proofs.Served.{err_is, found_as, keeps_same}
 use Rattle.argon2_passwd.proofs.run.accounts.verify.Goals as goal
 
-pub returns-in_err-password : goal.returns-in_err-password
-returns-in_err-password g c =
-    rw (err_is c.from_residual-in_err-password.result c.in_err-password.field-0.0 c.from_residual-in_err-password.ensures.1)
-    (inr (c.requires, tt, λ isnt. (c.in_err-password.ensures.refused, keeps_same _)))
-
 pub returns-in_err-accepted : goal.returns-in_err-accepted
 returns-in_err-accepted g c =
     let found = found_as (g.R.Read.remaining c.args.input.now) c.as_slice.ensures.value c.in_ok-password.ensures.found in

@@ -1,7 +1,6 @@
 use Rattle.std.proofs.Common.{[], inl, inr}
 use Rattle.rand_core.specs.Stream.{fill_bytes}
 use Rattle.argon2_base.specs.PhcFields.{phc_of}
-use Rattle.argon2_passwd.proofs.Served.{err_is}
 use Rattle.argon2_passwd.proofs.run.edits.act.Goals as goal
 
 pub returns-in_ok-text-in-Register : goal.returns-in_ok-text-in-Register
@@ -29,9 +28,3 @@ returns-in_ok-text-in-Set g c =
       )
       | inr untouched ↦ inr untouched
     ])
-
-pub returns-in-Lock : goal.returns-in-Lock
-returns-in-Lock g c = rw c.in-Lock.is (c.call-in-Lock.ensures [] c.requires.shut)
-
-pub returns-in-Unlock : goal.returns-in-Unlock
-returns-in-Unlock g c = rw c.in-Unlock.is (c.call-in-Unlock.ensures [] c.requires.shut)

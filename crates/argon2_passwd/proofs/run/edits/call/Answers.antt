@@ -1,6 +1,6 @@
-use Rattle.std.proofs.Common.{Ok, Err, inl, inr, refl}
+use Rattle.std.proofs.Common.{Ok, Err, inl, refl}
 use Rattle.argon2_passwd.specs.Failures.{IsOfFile}
-use Rattle.argon2_passwd.proofs.Served.{err_is, opened_for, some_error}
+use Rattle.argon2_passwd.proofs.Served.{opened_for, some_error}
 use Rattle.argon2_passwd.proofs.run.edits.call.Goals as goal
 
 pub returns-in_err-done : goal.returns-in_err-done

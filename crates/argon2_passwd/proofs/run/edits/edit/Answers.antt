@@ -1,12 +1,7 @@
-use Rattle.std.proofs.Common.{◌≡◌, inl, inr, refl, sym, ◌∙◌}
+use Rattle.std.proofs.Common.{◌≡◌, inl, inr, sym, ◌∙◌}
 use Rattle.argon2_passwd.specs.Failures.{status_of}
-use Rattle.argon2_passwd.proofs.Served.{err_is, keeps_same, some_error}
+use Rattle.argon2_passwd.proofs.Served.{keeps_same, some_error}
 use Rattle.argon2_passwd.proofs.run.edits.edit.Goals as goal
-
-pub returns-in_err-first : goal.returns-in_err-first
-returns-in_err-first g c output =
-    rw (err_is c.from_residual-in_err-first.result c.in_err-first.field-0.0 c.from_residual-in_err-first.ensures.1)
-    (inr (c.requires, tt, λ isnt. (inr c.in_err-first.ensures.err, keeps_same _)))
 
 pub returns : goal.returns
 returns g c output =

@@ -1,11 +1,10 @@
-use Rattle.std.proofs.Common.{arith, ◌≡◌, ℕ, List, Option, Some, inl}
+use Rattle.std.proofs.Common.{arith, ◌≡◌, ℕ, List, Option, Some}
 use Rattle.std.specs.Prelude.{IfErr, IfSome, IsErrAnd, Result}
 use Rattle.argon2_passwd.specs.Answers.{AreRead, AreUnread}
 use Rattle.argon2_passwd.specs.Passwords.{IsUnread, password_of}
 use Rattle.argon2_passwd.specs.declared.command.Edit.{Edit}
 use Rattle.argon2_passwd.specs.declared.command.Edit.TheVariants.{Change, Lock, Remove, Unlock}
 use Rattle.argon2_passwd.specs.declared.failure.Failure.{Failure}
-use Rattle.argon2_passwd.proofs.Served.{err_is}
 use Rattle.argon2_passwd.proofs.run.edits.passwords.Goals as goal
 
 -- a change other than `change` reads at most one password
@@ -16,11 +15,6 @@ one_read act input first second isnt is = grind arith
 one_unread : {X : Type 0} (act : Edit) (input : Option (List ℕ)) (f : Failure) (r : Result X Failure) → ¬ (act ≡ Remove)
     → ¬ (act ≡ Lock) → ¬ (act ≡ Unlock) → IsUnread input f → IsErrAnd r (λ e. e ≡ f) → IfErr r (AreUnread act input)
 one_unread act input f r not_removed not_locked not_unlocked unread is = grind arith
-
-pub returns-in_err-old-in-Change-clause-err : goal.returns-in_err-old-in-Change-clause-err
-returns-in_err-old-in-Change-clause-err g c =
-    rw (err_is c.from_residual.result c.in_err-old-in-Change.field-0.0 c.from_residual.ensures.1, c.in-Change.is)
-    (inl c.in_err-old-in-Change.ensures.refused)
 
 pub returns-in_err-password-in_default-clause-err : goal.returns-in_err-password-in_default-clause-err
 returns-in_err-password-in_default-clause-err g c =

@@ -28,4 +28,5 @@ pub returns : goal.returns
 returns g c =
     let sorted = c.in_ok-entries.ensures in
     let serves = rw c.as_slice.ensures.value at c.in_ok-add_new.ensures.ok in
-    inl (added (map entry_or_flaw c.args.lines.now) (Ok tt) (map entry_of c.in_ok-entries.entries.items) c.in_ok-entries.passed.items sorted.looks serves sorted.sorts)
+    inl (added (map entry_or_flaw c.args.lines.now) (Ok tt) (map entry_of c.in_ok-entries.entries.items)
+    c.in_ok-entries.passed.items sorted.looks serves sorted.sorts)
