@@ -1,12 +1,11 @@
-//! Names with their texts, each a line of standard input.
+//! A name with its text, a line of standard input.
 
-ghost use Rattle.std.specs.Prelude.{◌≡◌, ◌⊎◌, false, true, IsTrue, IfErr, IfOk, IfSome, map, MatchOption};
+ghost use Rattle.std.specs.Prelude.{◌≡◌, false, true, IfErr, IfOk, IfSome, MatchOption};
 ghost use Rattle.argon2_rows.specs.Names.{entry_of};
-ghost use Rattle.argon2_passwd.specs.Lines.{AreEntries, HasNoText, IsNotTaken, IsPair, IsTaken, RefusesText, has_control, has_scheme, parts_now, parts_of};
-ghost use Rattle.argon2_passwd.specs.Failures.{IsMemory, status_of};
+ghost use Rattle.argon2_passwd.specs.Lines.{HasNoText, IsNotTaken, IsPair, IsTaken, has_control, has_scheme, parts_now, parts_of};
+ghost use Rattle.argon2_passwd.specs.Failures.{status_of};
 
-use crate::failure::{Failure, Flaw, of_reading};
-use crate::passwords::line_len;
+use crate::failure::{Failure, of_reading};
 use argon2::password_hash::Settings;
 use argon2_programs::{bare_str, scheme_of};
 use argon2_rows::StoredText;

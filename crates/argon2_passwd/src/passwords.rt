@@ -1,6 +1,6 @@
 //! The password, a line of standard input.
 
-ghost use Rattle.std.specs.Prelude.{◌≡◌, ◌≤◌, ℕ, List, None, Some, IfErr, IfOk, IfSome, OnOk, length, take};
+ghost use Rattle.std.specs.Prelude.{◌≡◌, Some, IfErr, IfOk, IfSome, OnOk, length, take};
 ghost use Rattle.std.specs.Io.BufRead.{DropsThrough};
 ghost use Rattle.argon2_passwd.specs.Passwords.{IsUnread, line_of, password_of};
 
