@@ -27,11 +27,11 @@ use std::io::BufRead;
 pub(super) enum Step<'a> {
     Add(PasswordHash),
     Set(PasswordHash),
-    /// The text is replaced if it is still this one.
-    Replace(&'a str, PasswordHash),
     Remove,
     Lock,
     Unlock,
+    /// The text is replaced if it is still this one.
+    Replace(&'a str, PasswordHash),
 }
 
 /// Changes the text of a name in a file, by the next passwords.
@@ -148,10 +148,10 @@ fn apply<S: Store>(
     match step {
         Step::Add(text) => accounts.add(name, text),
         Step::Set(text) => accounts.set(name, text),
-        Step::Replace(old, new) => accounts.replace(name, old, new),
         Step::Remove => accounts.remove(name),
         Step::Lock => accounts.lock(name),
         Step::Unlock => accounts.unlock(name),
+        Step::Replace(old, new) => accounts.replace(name, old, new),
     }
 }
 
