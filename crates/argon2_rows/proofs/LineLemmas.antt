@@ -60,22 +60,32 @@ begin_lines view first now names out shape is rows = record {
   fit = All-nil (λ (e : List ℕ × List ℕ). breaks_line view e.0 ≡ false);
 }
 
+-- the next row is that of a name, and the cursor has the rows of the names after it
+pub its_name : (view : View) (first now next : Shown) (names : Texts) (old mid : Option (List ℕ)) (row : Row)
+    → (writing : IsWriting view first now names old mid) → Advances now next 0 row true → AreTexts names
+    → (e : List ℕ × List ℕ) × (fs : List (List ℕ × List ℕ)) × IsUtf8 e.0 × (row ≡ row_of e)
+    × (entries names ≡ writing.done ++ e ∷ fs) × (next.cursors 0 ≡ Some (map row_of fs))
+its_name view first now next names old mid row writing moves texts =
+    let (e, fs, cut, at, rest) = next_name writing.left row moves.0 (sym writing.rows ∙ moves.1) in
+    let all = writing.all ∙ ap (λ l. writing.done ++ l) cut in
+    (e, fs, is_text names writing.done e fs texts all, at, all, ap (λ (w : Shown). w.cursors 0) moves.2 ∙ ap Some rest)
+
 -- one row more
 pub next_row : (view : View) (first now next : Shown) (names : Texts) (old mid new : Option (List ℕ)) (row : Row)
     → IsWriting view first now names old mid → Advances now next 0 row true
     → AreTexts names → ((e : List ℕ × List ℕ) → IsUtf8 e.0 → row ≡ row_of e → IsLineOf view e mid new written.All)
     → IsWriting view first next names old new
 next_row view first now next names old mid new row writing moves texts wrote =
-    let (e, fs, cut, at, rest) = next_name writing.left row moves.0 (sym writing.rows ∙ moves.1) in
-    let wrote = wrote e (is_text names writing.done e fs texts (writing.all ∙ ap (λ l. writing.done ++ l) cut)) at in
+    let (e, fs, good, at, all, rows) = its_name view first now next names old mid row writing moves texts in
+    let (wrote, fits) = wrote e good at in
     record {
       done = writing.done ++ e ∷ [];
       left = fs;
-      all = writing.all ∙ ap (λ l. writing.done ++ l) cut ∙ sym (append_assoc writing.done (e ∷ []) fs);
-      rows = ap (λ (w : Shown). w.cursors 0) moves.2 ∙ ap Some rest;
+      all = all ∙ sym (append_assoc writing.done (e ∷ []) fs);
+      rows = rows;
       written = rw (lines-append view writing.done (e ∷ []), append-nil (line view e))
-          (Appends-trans old mid new _ _ writing.written wrote.0);
-      fit = All-push (λ (e : List ℕ × List ℕ). breaks_line view e.0 ≡ false) writing.done e writing.fit wrote.1;
+          (Appends-trans old mid new _ _ writing.written wrote);
+      fit = All-push (λ (e : List ℕ × List ℕ). breaks_line view e.0 ≡ false) writing.done e writing.fit fits;
     }
 
 -- the next row's name breaks its line
@@ -84,24 +94,9 @@ pub stops : (view : View) (first now next : Shown) (names : Texts) (old mid new 
     → AreTexts names → ((e : List ℕ × List ℕ) → IsUtf8 e.0 → row ≡ row_of e → IsLineOf view e mid new Breaks)
     → StopsAtBreak view names old new
 stops view first now next names old mid new row writing moves texts broke =
-    let (e, fs, cut, at, rest) = next_name writing.left row moves.0 (sym writing.rows ∙ moves.1) in
-    let all = writing.all ∙ ap (λ l. writing.done ++ l) cut in
-    let broke = broke e (is_text names writing.done e fs texts all) at in (
-      writing.done,
-      fs,
-      e,
-      all,
-      writing.fit,
-      broke.1,
-      Appends-kept old mid new _ writing.written broke.0,
-    )
-
-pub its_name : (view : View) (first now next : Shown) (names : Texts) (old mid : Option (List ℕ)) (row : Row)
-    → IsWriting view first now names old mid → Advances now next 0 row true → AreTexts names
-    → (e : List ℕ × List ℕ) × IsUtf8 e.0 × (row ≡ row_of e)
-its_name view first now next names old mid row writing moves texts =
-    let (e, fs, cut, at, rest) = next_name writing.left row moves.0 (sym writing.rows ∙ moves.1) in
-    (e, is_text names writing.done e fs texts (writing.all ∙ ap (λ l. writing.done ++ l) cut), at)
+    let (e, fs, good, at, all, rows) = its_name view first now next names old mid row writing moves texts in
+    let (kept, breaks) = broke e good at in
+    (writing.done, fs, e, all, writing.fit, breaks, Appends-kept old mid new _ writing.written kept)
 
 -- the last row was written, and the output is flushed
 pub all_lines : (view : View) (first now next : Shown) (names : Texts) (old mid new : Option (List ℕ)) (row : Row)

@@ -55,7 +55,7 @@ returns-in-None-clause-reads g c names texts sees =
     let failed : Result (Unit {0}) StoreError = Err Corrupt in
     let quiet = (c.loop.invariant.1 names).quiet in
     let never : IsHonest g.S.Store c.next.new.self → ⊥ = λ clean.
-    let (e, good, is) = its_name c.args.view _ _ (g.S.Store.view c.next.new.self) names _ _ _
+    let (e, fs, good, is, all, left) = its_name c.args.view _ _ (g.S.Store.view c.next.new.self) names _ _ _
     (c.loop.invariant.2 (search arith) names texts (sees (search arith)))
     (rw c.if-not-branch.false at (c.in_ok-next.ensures.ok clean)) texts in
     c.in-None.ensures e good is in
