@@ -22,10 +22,9 @@ use Rattle.argon2_rows.specs.Table.{IsHonest}
 use Rattle.argon2_store.specs.AccountFile.{Answers, HasNames, Serves, database_of}
 use Rattle.argon2_store.specs.Edits.{Edit, and_then, gives, name_of, names_after, refusal, replacing, text_of, unless}
 use Rattle.argon2_store.specs.Errors.{is_refusal}
-use Rattle.argon2_store.specs.Runs.{Does, reads}
 use Rattle.argon2_store.specs.declared.account_file.AccountFile.{AccountFile}
 use Rattle.argon2_store.specs.declared.error.FileError.{FileError}
-use Rattle.argon2_accounts.specs.Accounts.{AdmitsName, AdmitsText, GivesPassword, LogsNameIn, RelatesNames, TextRefusal}
+use Rattle.argon2_accounts.specs.Accounts.{AdmitsName, AdmitsText, ChangesName, GivesPassword, LogsNameIn, OnlyReads, RelatesNames, TextRefusal}
 use Rattle.argon2_accounts.specs.Errors.{is_account_refusal, of_file, of_policy}
 
 -- ---- names
@@ -71,20 +70,19 @@ module _ {S : Type 0} {g : Ghosts S} where
       let it = serves before has in (it.0, it.1.has, λ honest. (it.1.answers honest).1)
 
   -- names that a call has only read
-  pub reads_leave : (P : Texts → Texts → Type 0) (old new : AccountFile S g) (error : Option FileError)
-      → Does (reads error) old new
+  pub reads_leave : (P : Texts → Texts → Type 0) (old new : AccountFile S g) → OnlyReads old new
       → ((names : Texts) → HasNames new names → IsHonest g (database_of new) → P names names) → RelatesNames P old new
-  reads_leave P old new error did holds = λ before has.
-      let stays = did before has in (before, stays.has, λ honest. holds before stays.has honest)
+  reads_leave P old new did holds = λ before has.
+      let stays = did.1 before has in (before, stays.has, λ honest. holds before stays.has honest)
 
   -- names that were read, and then edited
   pub edit_after_read : (P : Texts → Texts → Type 0) (edit : Edit) (done : Result (Unit {0}) FileError)
-      (old mid new : AccountFile S g) (error : Option FileError) → Does (reads error) old mid
+      (old mid new : AccountFile S g) → OnlyReads old mid
       → Serves (edit ∷ []) done mid new
       → ((before after : Texts) → HasNames mid before → IsHonest g (database_of mid) → Answers before (edit ∷ []) done after
       → P before after) → RelatesNames P old new
-  edit_after_read P edit done old mid new error did serves holds = λ before has.
-      let stays = did before has in
+  edit_after_read P edit done old mid new did serves holds = λ before has.
+      let stays = did.1 before has in
       let it = serves before stays.has in
       (it.0, it.1.has, λ honest. holds before it.0 stays.has (it.1.honest honest) (it.1.answers honest))
 
@@ -134,6 +132,18 @@ module _ (policy : Policy) (name password : List ℕ) (names : Texts) (h : Passw
   keeps fresh TooExpensive (inr making) is = absurd making.1
   keeps fresh (Refused e) (inr making) is =
       inr (has_password policy name password names h has making.0, long fresh e is making.1)
+
+  -- the text that was read is replaced, or the file fails
+  pub changes : (new old : List ℕ) (fresh : PasswordHash) (after : Texts) (done : Result (Unit {0}) FileError)
+      → old ≡ text_of h → Admits policy password (phc_of h) → Admits policy new (phc_of fresh)
+      → Answers names (replacing name old (text_of fresh) ∷ []) done after
+      → ChangesName policy name password new (result_map_both (λ x. x) of_file done) names after
+  changes new old fresh after (Ok x) same by next answers = (
+    has_password policy name password names h has by,
+    gives_password policy (replacing name old (text_of fresh)) new names after fresh answers refl next,
+  )
+  changes new old fresh after (Err e) same by next answers =
+      (answers.1, λ is. absurd (fails_to_edit name old (text_of fresh) h names after e same has answers is))
 
 -- ---- a login that renews a text
 

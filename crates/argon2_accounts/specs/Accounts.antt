@@ -56,13 +56,16 @@ module _ {S : Type 0} {g : Ghosts S} where
       ⊎ ((fresh : PasswordHash) × (done : Result (Unit {0}) FileError) × IsFresh target password drawn (phc_of fresh)
       × (result ≡ result_map_both (λ x. x) of_file done) × Serves (edit (text_of fresh) ∷ []) done old new)
 
+  -- a call that changes no name, with its error if it failed
+  abbrev pub OnlyReads : AccountFile S g → AccountFile S g → Type 0
+  OnlyReads old new = (error : Option FileError) × Does (reads error) old new
+
   -- The text of the name is read, and perhaps a fresh text of the password written in the place of the one that was read.
   abbrev pub Replaces : Target → List ℕ → List ℕ → List ℕ → AccountFile S g → AccountFile S g → Type 0
-  Replaces target name password drawn old new = (error : Option FileError) × (mid : AccountFile S g)
-      × Does (reads error) old mid × ((new ≡ mid)
-      ⊎ ((text : List ℕ) × (fresh : PasswordHash) × (done : Result (Unit {0}) FileError)
-      × IsFresh target password drawn (phc_of fresh)
-      × Serves (replacing name text (text_of fresh) ∷ []) done mid new))
+  Replaces target name password drawn old new = OnlyReads old new
+      ⊎ ((mid : AccountFile S g) × (text : List ℕ) × (fresh : PasswordHash) × (done : Result (Unit {0}) FileError)
+      × OnlyReads old mid × IsFresh target password drawn (phc_of fresh)
+      × Serves (replacing name text (text_of fresh) ∷ []) done mid new)
 
   -- the names after a call on a file with names, if the disk has given no wrong answer that was taken as true
   abbrev pub RelatesNames : (Texts → Texts → Type 0) → AccountFile S g → AccountFile S g → Type 0

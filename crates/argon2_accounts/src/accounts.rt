@@ -1,6 +1,6 @@
 //! Names with passwords in a file.
 
-ghost use Rattle.std.specs.Prelude.{◌≡◌, ◌⊎◌, IfErr, IfOk, IsTrue, Option, Some};
+ghost use Rattle.std.specs.Prelude.{◌≡◌, ◌⊎◌, IfErr, IfOk, IsTrue, Some};
 ghost use Rattle.std.specs.FinMap.{get};
 ghost use Rattle.rand_core.specs.Stream.{fill_bytes};
 ghost use Rattle.argon2_policy.specs.Policy.{policy_value};
@@ -8,9 +8,7 @@ ghost use Rattle.argon2_rows.specs.Names.{Texts};
 ghost use Rattle.argon2_rows.specs.Table.{IsHonest};
 ghost use Rattle.argon2_store.specs.AccountFile.{HasNames, IsClosed, database_of};
 ghost use Rattle.argon2_store.specs.Edits.{adding, setting, text_of};
-ghost use Rattle.argon2_store.specs.Runs.{Does, reads};
-ghost use Rattle.argon2_store.specs.declared.error.FileError.{FileError};
-ghost use Rattle.argon2_accounts.specs.Accounts.{ChangesName, DrawsForChange, DrawsForLogin, GivesPassword, LogsNameIn, RelatesNames, Replaces, Stores, TextRefusal};
+ghost use Rattle.argon2_accounts.specs.Accounts.{ChangesName, DrawsForChange, DrawsForLogin, GivesPassword, LogsNameIn, OnlyReads, RelatesNames, Replaces, Stores, TextRefusal};
 ghost use Rattle.argon2_accounts.specs.Errors.{is_account_refusal};
 
 use crate::error::AccountError;
@@ -56,7 +54,7 @@ impl<'key, S: Store> Accounts<'key, S> {
         ensures drawn { R.stream rng.new ≡ (fill_bytes 16 (R.stream rng.old)).1 }
     {
         let text = self.policy.hash_password(rng, password)?;
-        Ok(self.file.add(name, &text)?)
+        self.file.add(name, &text).map_err(AccountError::from)
     }
 
     /// Verifies a password against the text of a name, and renews the text, as [`Policy::log_in`]. It
@@ -128,7 +126,8 @@ impl<'key, S: Store> Accounts<'key, S> {
     {
         let text = stored(&self.policy, &mut self.file, name, old)?;
         let fresh = self.policy.change_password(rng, &text, old, new)?;
-        Ok(self.file.replace(name, text.text().as_str(), &fresh)?)
+        let done = self.file.replace(name, text.text().as_str(), &fresh);
+        done.map_err(AccountError::from)
     }
 
     /// Gives a name that is there a text of a new password, whatever text it has. A name that is locked is
@@ -152,7 +151,7 @@ impl<'key, S: Store> Accounts<'key, S> {
         ensures drawn { R.stream rng.new ≡ (fill_bytes 16 (R.stream rng.old)).1 }
     {
         let text = self.policy.hash_password(rng, new)?;
-        Ok(self.file.set(name, &text)?)
+        self.file.set(name, &text).map_err(AccountError::from)
     }
 }
 
@@ -163,7 +162,7 @@ fn stored<S: Store>(
     name: &str,
     password: &[u8],
 ) -> Result<PasswordHash, AccountError>
-    ensures reads { (error : Option FileError) × Does (reads error) file.old file.new }
+    ensures reads { OnlyReads file.old file.new }
     ensures found { (names : Texts) → HasNames file.new names → IfOk result (λ text.
         IsHonest S.Store (database_of file.new) → get names name.now ≡ Some (text_of text)) }
     ensures refused { (names : Texts) → HasNames file.new names → IfErr result (λ e.

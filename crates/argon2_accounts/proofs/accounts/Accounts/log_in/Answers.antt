@@ -13,22 +13,14 @@ use Rattle.argon2_accounts.proofs.AccountLemmas.{denies, edit_after_read, fails_
 use Rattle.argon2_accounts.proofs.accounts.Accounts.log_in.Goals as goal
 use Rattle.argon2_accounts.proofs.accounts.Accounts.log_in.Goals.{After-replace}
 
-pub returns-in_err-text-clause-call : goal.returns-in_err-text-clause-call
-returns-in_err-text-clause-call g c =
-    (c.in_err-text.ensures.reads.0, c.stored.new.file, c.in_err-text.ensures.reads.1, inl refl)
-
 pub returns-in_err-text-clause-names : goal.returns-in_err-text-clause-names
 returns-in_err-text-clause-names g c =
     let policy = policy_value c.args.self.now.policy in
     let drawn = (fill_bytes 16 (g.R.Rng.stream c.args.rng.now)).0 in
     rw (err_is c.from_residual.result _ c.from_residual.ensures.1)
     (reads_leave (LogsNameIn {X = Accepted} policy c.args.name.now c.args.password.now drawn (Err c.in_err-text.field-0.0))
-    c.args.self.now.file c.stored.new.file c.in_err-text.ensures.reads.0 c.in_err-text.ensures.reads.1
+    c.args.self.now.file c.stored.new.file c.in_err-text.ensures.reads
     (λ names has honest. (refl, c.in_err-text.ensures.refused names has honest)))
-
-pub returns-in_err-accepted-clause-call : goal.returns-in_err-accepted-clause-call
-returns-in_err-accepted-clause-call g c =
-    (c.in_ok-text.ensures.reads.0, c.stored.new.file, c.in_ok-text.ensures.reads.1, inl refl)
 
 pub returns-in_err-accepted-clause-names : goal.returns-in_err-accepted-clause-names
 returns-in_err-accepted-clause-names g c =
@@ -37,16 +29,12 @@ returns-in_err-accepted-clause-names g c =
     let why = c.in_err-accepted.field-0.0 in
     rw (err_is c.from_residual-in_err-accepted.result _ c.from_residual-in_err-accepted.ensures.1)
     (reads_leave (LogsNameIn {X = Accepted} policy c.args.name.now c.args.password.now drawn (Err (of_policy why)))
-    c.args.self.now.file c.stored.new.file c.in_ok-text.ensures.reads.0 c.in_ok-text.ensures.reads.1
+    c.args.self.now.file c.stored.new.file c.in_ok-text.ensures.reads
     (λ names has honest. (
       refl,
       λ is. denies policy c.args.name.now c.args.password.now names c.in_ok-text.text
           (c.in_ok-text.ensures.found names has honest) why c.in_err-accepted.ensures.step,
     )))
-
-pub returns-in_default-clause-call : goal.returns-in_default-clause-call
-returns-in_default-clause-call g c =
-    (c.in_ok-text.ensures.reads.0, c.stored.new.file, c.in_ok-text.ensures.reads.1, inl refl)
 
 pub returns-in_default-clause-names : goal.returns-in_default-clause-names
 returns-in_default-clause-names g c =
@@ -54,7 +42,7 @@ returns-in_default-clause-names g c =
     let drawn = (fill_bytes 16 (g.R.Rng.stream c.args.rng.now)).0 in
     reads_leave (LogsNameIn {X = Accepted} policy c.args.name.now c.args.password.now drawn
     (Ok c.in_ok-accepted.field-0.accepted))
-    c.args.self.now.file c.stored.new.file c.in_ok-text.ensures.reads.0 c.in_ok-text.ensures.reads.1
+    c.args.self.now.file c.stored.new.file c.in_ok-text.ensures.reads
     (λ names has honest.
     let it = has_password policy c.args.name.now c.args.password.now names c.in_ok-text.text
     (c.in_ok-text.ensures.found names has honest) c.in_ok-accepted.ensures.accepted.0 in (it, it, inl refl))
@@ -69,11 +57,14 @@ is_fresh g c =
 -- the file is to write it
 called : (g : _) (c : After-replace g) → Replaces (policy_value c.args.self.now.policy).target c.args.name.now
     c.args.password.now (fill_bytes 16 (g.R.Rng.stream c.args.rng.now)).0 c.args.self.now.file c.replace.new.self
-called g c = (
-  c.in_ok-text.ensures.reads.0,
+called g c = inr (
   c.stored.new.file,
-  c.in_ok-text.ensures.reads.1,
-  inr (c.as_str.result.now, c.in-Some.fresh, c.replace.result, is_fresh g c, c.replace.ensures),
+  c.as_str.result.now,
+  c.in-Some.fresh,
+  c.replace.result,
+  c.in_ok-text.ensures.reads,
+  is_fresh g c,
+  c.replace.ensures,
 )
 
 -- the password is accepted, whether the text is written or not
@@ -86,7 +77,7 @@ logged_in g c =
     let admits = rw c.in-Some.is at c.in_ok-accepted.ensures.accepted in
     edit_after_read (LogsNameIn policy c.args.name.now c.args.password.now drawn (Ok Kept))
     (replacing c.args.name.now c.as_str.result.now (text_of c.in-Some.fresh)) c.replace.result c.args.self.now.file
-    c.stored.new.file c.replace.new.self c.in_ok-text.ensures.reads.0 c.in_ok-text.ensures.reads.1 c.replace.ensures
+    c.stored.new.file c.replace.new.self c.in_ok-text.ensures.reads c.replace.ensures
     (λ before after has honest answers. renews policy c.args.name.now c.args.password.now drawn c.as_str.result.now
     c.in_ok-text.text c.in-Some.fresh Kept before after c.replace.result (c.in_ok-text.ensures.found before has honest)
     admits.0 admits.1 (is_fresh g c) answers)
@@ -116,7 +107,7 @@ returns-in-Err-2-clause-names g c =
     rw named
     (edit_after_read (LogsNameIn {X = Accepted} policy c.args.name.now c.args.password.now drawn (Err (of_file e)))
     (replacing c.args.name.now c.as_str.result.now (text_of c.in-Some.fresh)) (Err e)
-    c.args.self.now.file c.stored.new.file c.replace.new.self c.in_ok-text.ensures.reads.0 c.in_ok-text.ensures.reads.1
+    c.args.self.now.file c.stored.new.file c.replace.new.self c.in_ok-text.ensures.reads
     c.in-Err-2.ensures
     (λ before after has honest answers. (
       answers.1,
