@@ -4,7 +4,7 @@ use Rattle.argon2_store.proofs.Imports.{is_some, option_map, string_bytes, ◌�
 use Rattle.argon2_store.proofs.Imports.{StoreError, Ghosts, Texts, IfOk, IfSome, AddsNames, on_ok_weaker, Answers, error_of, HasFailed, IsClosed, IsErrorAt, Makes, Serves, AddsAll, IsFirstTaken}
 use Rattle.argon2_store.proofs.Imports.{Stays, database_of, read_of, call_error, Changes, IsHonest, IsLong, IsOpen, CrashLeaves, StaysQuiet, changed}
 use Rattle.argon2_store.proofs.Imports.{AccountFile, FileError, Closed, NameTaken, OutOfMemory, String, IsSome, Edit, adding, replacing, Bor, option_copied, behind_lock, is_locked, with_lock, without_lock, bytes_eq, not, Locked, Changed, IsTooLong, additions, gives, is_refusal, names_after, name_of, refusal}
-use Rattle.argon2_store.specs.AccountFile.{HasCause, HasFailedBy, HasNames, WritesLines}
+use Rattle.argon2_store.specs.AccountFile.{HasCause, HasFailedBy, HasNames, NamesStay, WritesLines}
 use Rattle.argon2_store.specs.Errors.{lines_by, read_by}
 use Rattle.argon2_rows.specs.Rows.{AreWritten}
 use Rattle.argon2_rows.specs.declared.view.View.{View as Lines}
@@ -21,10 +21,6 @@ module _ {S : Type 0} {g : Ghosts S} where
   -- the disk has given no wrong answer that was taken as true
   abbrev pub IsTrusted : AccountFile S g → Type 0
   IsTrusted file = IsHonest g (database_of file)
-
-  -- whatever names it has, the call changes none; it has this error if it failed
-  abbrev pub NamesStay : Option FileError → AccountFile S g → AccountFile S g → Type 0
-  NamesStay error old new = (names : Texts) → HasNames old names → Stays error names old new
 
 -- there is a text if and only if there are its bytes
 pub is_some-map : {X Y : Type 0} (f : X → Y) (o : Option X) {b : Bool} → is_some o ≡ b → is_some (option_map f o) ≡ b
@@ -227,18 +223,11 @@ module _ {S : Type 0} {g : Ghosts S} {old mid : AccountFile S g} {before : Texts
     honest = λ clean. omega (arith, change.honest clean, reads.quiet.clean);
     refused = refused;
     crash = λ clean is_open db found.
-        let left = change.crash clean db found in (
-          left.0,
-          left.1,
-          elim left.2 [
-            | inl b ↦ inl b
-            | inr a ↦ subst (λ t. (t ≡ before) ⊎ (names_after edits before ≡ Ok t)) (sym a) (then clean)
-          ],
-        );
+        let (names, held, is) = change.crash clean db found in
+        let ended = then clean in (names, held, grind arith);
     durable = durable;
     closed = λ clean h. absurd (live clean h);
-    closes = λ clean is_open.
-        elim (change.closes clean) [ inl yet ↦ inl yet | inr more ↦ inr (omega (arith, reads.quiet.counts, more)) ];
+    closes = λ clean is_open. let yet = change.closes clean in let counts = reads.quiet.counts in grind arith;
     cause = cause;
   }
 

@@ -1,10 +1,10 @@
 -- What calls make of a file, and what an open finds after them.
 use Rattle.argon2_store.proofs.Imports.{arith, ◌≡◌, ◌⊎◌, ℕ, Bool, cond, List, [], ◌∷◌, ◌++◌, false, true, Result, Ok, Err, inl, inr, refl, sym, subst, ◌∙◌, ap, append_assoc, cases_Bool, empty, get}
 use Rattle.argon2_store.proofs.Imports.{∥∥₁_elim, ∥∥₁_map, flat_map, Option, Some, None, SeenMayStay, settled_at, FileStore, Trees, Ghosts, bytes_eq, bytes_eq-Decides}
-use Rattle.argon2_store.proofs.Imports.{Texts, IsClosed, Makes, Serves, Stays, database_of, Edit, changed, gives, left_by, names_after, name_of, refusal, is_refusal}
+use Rattle.argon2_store.proofs.Imports.{Texts, IsClosed, Makes, Serves, database_of, Edit, changed, gives, left_by, names_after, name_of, refusal, is_refusal}
 use Rattle.argon2_store.proofs.Imports.{AreEventsOf, AreMade, Did, Does, EndsRun, FileEvent, FileCall, IsFoundAfter, IsLate, IsLateOf, IsShutOut, FileRun, events_of, makes, text_by}
 use Rattle.argon2_store.proofs.Imports.{over_file, reads, IsHonest, IsOpen, CrashLeaves, AccountFile, FileError, Closed}
-use Rattle.argon2_store.specs.AccountFile.{HasNames, IsReady}
+use Rattle.argon2_store.specs.AccountFile.{HasNames, IsReady, NamesStay}
 use Rattle.argon2_rows.proofs.TableLemmas.{Settled, leaves_quiet}
 use Rattle.argon2_store.proofs.NextOpenLemmas.{next_open}
 use Rattle.argon2_store.proofs.OpenLemmas.{left_table}
@@ -149,8 +149,7 @@ module _ {S : Type 0} {g : Ghosts S} (settled : Settled g) (first : Texts) where
               ],
             )) (λ is. refl))
 
-    keeps : (error : Option FileError) → ((names : Texts) → HasNames old names → Stays error names old new)
-        → Reached events (Now (λ late. ⊥) (error ≡ Some Closed)) new
+    keeps : (error : Option FileError) → NamesStay error old new → Reached events (Now (λ late. ⊥) (error ≡ Some Closed)) new
     keeps error stay =
         let does = stay before.names before.has in
         let honest : IsHonest g (database_of new) → IsHonest g (database_of old) = search arith in

@@ -104,9 +104,12 @@ module _ {S : Type 0} {g : Ghosts S} where
     pub of_file : IfSome error (λ e. is_refusal e ≡ false)
     pub cause : IsHonest g (database_of new) → IfSome error (HasCause (IsClosed old) (HasFailedBy old new) ⊥)
 
-  -- a call that changes no name
+  -- a call that changes no name, whatever names there are; it has this error if it failed
+  abbrev pub NamesStay : Option FileError → AccountFile S g → AccountFile S g → Type 0
+  NamesStay error old new = (names : Texts) → HasNames old names → Stays error names old new
+
   abbrev pub Reads : {X : Type 0} → Result X FileError → AccountFile S g → AccountFile S g → Type 0
-  Reads result old new = (names : Texts) → HasNames old names → Stays (error_of result) names old new
+  Reads result old new = NamesStay (error_of result) old new
 
   -- What a call does that is to make these edits, all or none. The clauses on the file hold while the disk has given no wrong
   -- answer that was taken as true.

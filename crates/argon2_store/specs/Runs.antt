@@ -9,7 +9,7 @@ use Rattle.sqlite_trees.specs.declared.store.Store.{Ghosts}
 use Rattle.sqlite_wal.specs.Recovery.{Image}
 use Rattle.argon2_rows.specs.Names.{Texts}
 use Rattle.argon2_rows.specs.Table.{IsHonest}
-use Rattle.argon2_store.specs.AccountFile.{Answers, HasNames, IsReady, Serves, Stays, database_of}
+use Rattle.argon2_store.specs.AccountFile.{Answers, IsReady, NamesStay, Serves, database_of}
 use Rattle.argon2_store.specs.Edits.{Edit, left_by}
 use Rattle.argon2_store.specs.Errors.{is_refusal}
 use Rattle.argon2_store.specs.Opening.{HoldsNames, IsAfterOpens, IsTableOf}
@@ -67,7 +67,7 @@ module _ {S : Type 0} {g : Ghosts S} where
   -- what a call did to a file, by its contract
   abbrev pub Does : FileCall → AccountFile S g → AccountFile S g → Type 0
   Does (makes edits result) old new = Serves edits result old new
-  Does (reads error) old new = (names : Texts) → HasNames old names → Stays error names old new
+  Does (reads error) old new = NamesStay error old new
 
   -- calls, the newest first, took the old file to the new one
   abbrev pub Did : List FileCall → AccountFile S g → AccountFile S g → Type 0

@@ -3,6 +3,7 @@
 
 ghost use Rattle.std.specs.Prelude.{◌≡◌, None, Some, map};
 ghost use Rattle.std.specs.FinMap.{get};
+ghost use Rattle.std.specs.Option.{option_copied};
 ghost use Rattle.argon2_rows.specs.Names.{Texts, changed, entry_of};
 ghost use Rattle.argon2_rows.specs.Table.{Changes, HasRows, IsHonest, IsLong, IsOpen, WritesAll};
 
@@ -15,29 +16,24 @@ use sqlite_trees::store::Store;
 impl<S: Store> AccountFile<S> {
     ghost use Rattle.argon2_store.specs.AccountFile.{database_of};
 
-    // Gives a name its first text, and commits.
-    pub(crate) fn insert_row(&mut self, name: &str, text: &str) -> Result<(), StoreError>
+    // Gives a name another text than `old`, which it has, or its first one, and commits.
+    pub(crate) fn write_row(
+        &mut self,
+        name: &str,
+        old: Option<&str>,
+        new: &str,
+    ) -> Result<(), StoreError>
         requires open { IsHonest S.Store (database_of self.old) → IsOpen S.Store (database_of self.old) }
         requires known { (names : Texts) → HasRows S.Store (database_of self.old) names →
-            IsHonest S.Store (database_of self.old) → get names name.now ≡ None }
-        ensures { (before : Texts) → HasRows S.Store (database_of self.old) before →
-            Changes S.Store (database_of self.old) (database_of self.new) before
-            (changed before name.now (Some text.now)) (IsLong (name.now, text.now)) result }
-    {
-        let done = insert(&mut self.store, &mut self.row, name, text);
-        finish(&mut self.store, done)
-    }
-
-    // Gives a name another text than `old`, which it has, and commits.
-    pub(crate) fn replace_row(&mut self, name: &str, old: &str, new: &str) -> Result<(), StoreError>
-        requires open { IsHonest S.Store (database_of self.old) → IsOpen S.Store (database_of self.old) }
-        requires known { (names : Texts) → HasRows S.Store (database_of self.old) names →
-            IsHonest S.Store (database_of self.old) → get names name.now ≡ Some old.now }
+            IsHonest S.Store (database_of self.old) → get names name.now ≡ option_copied old }
         ensures { (before : Texts) → HasRows S.Store (database_of self.old) before →
             Changes S.Store (database_of self.old) (database_of self.new) before
             (changed before name.now (Some new.now)) (IsLong (name.now, new.now)) result }
     {
-        let done = replace(&mut self.store, &mut self.row, name, old, new);
+        let done = match old {
+            Some(old) => replace(&mut self.store, &mut self.row, name, old, new),
+            None => insert(&mut self.store, &mut self.row, name, new),
+        };
         finish(&mut self.store, done)
     }
 

@@ -16,4 +16,4 @@ returns g c =
     let row : c.as_str.result.now ≡ text = c.as_str.ensures.value ∙ c.text.ensures.1 in
     writes (adding c.args.name.now text) c.in_ok-text_of.ensures.reads
     (None-if_not_some _ (sym c.is_some.ensures ∙ c.if-is_some.false)) c.in_ok-text_of.ensures.shows _ (Some text) refl refl _
-    (rw row at c.insert_row.ensures) (λ long. long) _ c.read.ensures
+    (rw row at c.write_row.ensures) (λ long. long) _ c.read.ensures

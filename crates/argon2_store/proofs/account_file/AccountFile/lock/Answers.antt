@@ -28,4 +28,4 @@ returns g c =
     let bare : is_locked text ≡ false = rw c.as_str.ensures.value at (locked_if c.behind_lock.result c.as_str.result.now c.behind_lock.ensures
     (sym c.is_some.ensures ∙ c.if-is_some.false)) in
     writes (locking c.args.name.now) c.in_ok-text.ensures.reads c.in-Some.is c.in_ok-text.ensures.shows _ (Some (33 ∷ text)) refl
-    (with_lock-bare text bare) _ (rw row at c.replace_row.ensures) (λ long. long) _ c.read.ensures
+    (with_lock-bare text bare) _ (rw row at c.write_row.ensures) (λ long. long) _ c.read.ensures

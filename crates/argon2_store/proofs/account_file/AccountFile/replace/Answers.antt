@@ -31,4 +31,4 @@ returns g c =
     (locked_if c.behind_lock.result c.as_str.result.now c.behind_lock.ensures (sym c.is_some.ensures ∙ c.if-is_some.false)) in
     writes (replacing c.args.name.now c.args.old.now (text_of c.args.new.now)) c.in_ok-text.ensures.reads c.in-Some.is c.in_ok-text.ensures.shows _ (Some text)
     (is_same c.args.name.now c.args.old.now text (string_bytes c.in-Some.text) bare (rw c.as_str-2.ensures.value at (sym c.if-ne.false ∙ c.ne.ensures))) refl _
-    (rw row at c.replace_row.ensures) (λ long. long) _ c.read.ensures
+    (rw row at c.write_row.ensures) (λ long. long) _ c.read.ensures

@@ -15,4 +15,4 @@ returns g c =
     let text = text_of c.args.text.now in
     let row : c.as_str-2.result.now ≡ text = c.as_str-2.ensures.value ∙ c.text.ensures.1 in
     writes (setting c.args.name.now text) c.in_ok-old.ensures.reads c.in-Some.is c.in_ok-old.ensures.shows _ (Some text) refl
-    refl _ (rw row at c.replace_row.ensures) (λ long. long) _ c.read.ensures
+    refl _ (rw row at c.write_row.ensures) (λ long. long) _ c.read.ensures

@@ -23,4 +23,4 @@ returns g c =
     let some : behind_lock text ≡ Some c.in-Some-behind_lock.bare.now =
     rw (c.in-Some-behind_lock.is, c.as_str.ensures.value) at (sym c.behind_lock.ensures) in
     writes (unlocking c.args.name.now) c.in_ok-text.ensures.reads c.in-Some.is c.in_ok-text.ensures.shows _ (Some c.in-Some-behind_lock.bare.now) refl
-    (ap Some (without_lock-locked text c.in-Some-behind_lock.bare.now some)) _ c.replace_row.ensures (λ long. long) _ c.read.ensures
+    (ap Some (without_lock-locked text c.in-Some-behind_lock.bare.now some)) _ c.write_row.ensures (λ long. long) _ c.read.ensures
