@@ -1,5 +1,5 @@
 -- What passwords make of a value: within a bound, accepted, no weaker than a target.
-use Rattle.std.proofs.Common.{◌≡◌, ℕ, ◌*◌, ◌≤◌, Bool, if◌then◌else◌, length, List, Option, Some, None, Result, Ok, Err, ◌⊎◌, inl, inr, ap, arith, div-mul-le_self}
+use Rattle.std.proofs.Common.{◌≡◌, ℕ, ◌*◌, ◌≤◌, Bool, if◌then◌else◌, length, List, Option, Some, None, Result, Ok, Err, ◌⊎◌, inl, inr, ap, refl, arith, div-mul-le_self}
 use Rattle.std.proofs.lemmas.Bool.Decides.{nat_tests}
 use Rattle.std.specs.Prelude.{◌≢◌, IsSomeAnd, ok_or}
 use Rattle.argon2_base.specs.Error.{Fault, bad_algorithm, bad_password, bad_version, fault_of}
@@ -101,18 +101,10 @@ neither : {M A B C : Type 0} → M ⊎ ¬ A → M ⊎ ¬ C → M ⊎ ¬ (A ⊎ (
 neither a c = grind arith
 
 module _ (policy : Policy) (password : List ℕ) (v : Phc) where
-  any_old : (o : Option (List ℕ)) (e : Error) → ((secret : List ℕ) → IsVerifyAnswer secret password v (Err e))
+  not_by_old : (o : Option (List ℕ)) (e : Error) → ((secret : List ℕ) → o ≡ Some secret → IsVerifyAnswer secret password v (Err e))
       → (e ≡ OutOfMemory) ⊎ ¬ (IsSomeAnd o (λ secret. AcceptsBy secret password v))
-  any_old None e answer = inr (λ absent. absent)
-  any_old (Some secret) e answer = exact secret password v (Err e) (answer secret)
-
-  this_old : (o : Option (List ℕ)) (e : Error) → IsSomeAnd o (λ secret. IsVerifyAnswer secret password v (Err e))
-      → (e ≡ OutOfMemory) ⊎ ¬ (IsSomeAnd o (λ secret. AcceptsBy secret password v))
-  this_old None e answer = absurd answer
-  this_old (Some secret) e answer = exact secret password v (Err e) answer
-
-  no_old : (o : Option (List ℕ)) → o ≡ None → ¬ (IsSomeAnd o (λ secret. AcceptsBy secret password v))
-  no_old o none = grind arith
+  not_by_old None e answer = inr (λ absent. absent)
+  not_by_old (Some secret) e answer = exact secret password v (Err e) (answer secret refl)
 
   not_by_target : (e : Error) → SecretsRefusal policy password v e
       → (e ≡ OutOfMemory) ⊎ ¬ (AcceptsBy policy.target.secret password v)
@@ -121,12 +113,11 @@ module _ (policy : Policy) (password : List ℕ) (v : Phc) where
 
   not_by_either : (e : Error) → SecretsRefusal policy password v e
       → (e ≡ OutOfMemory) ⊎ ¬ (IsSomeAnd policy.old_secret (λ secret. AcceptsBy secret password v))
-  not_by_either e (inl why) = elim why.1 [
-    | inl differs ↦ any_old policy.old_secret e
-        (λ secret. under_any policy.target.secret secret password v e differs why.0)
-    | inr none ↦ inr (no_old policy.old_secret none)
-  ]
-  not_by_either e (inr why) = this_old policy.old_secret e why.1
+  not_by_either e (inl why) = not_by_old policy.old_secret e (λ secret is. elim why.1 [
+    | inl differs ↦ under_any policy.target.secret secret password v e differs why.0
+    | inr none ↦ absurd cc
+  ])
+  not_by_either e (inr why) = not_by_old policy.old_secret e (λ secret is. rw is at why.1)
 
   -- a refusal other than of memory says that the password is not accepted within the bound
   pub denied : (e : BoundError) → Denial policy password v e → (e ≡ Refused OutOfMemory) ⊎ ¬ (Admits policy password v)
