@@ -100,11 +100,7 @@ pub never_refused : (name new : List ℕ) (h : PasswordHash) (before : Texts) (e
     → get before name ≡ Some (text_of h) → names_after (replacing name (text_of h) new ∷ []) before ≢ Err e
 never_refused name new h before e has is =
     let no : refusal (replacing name (text_of h) new) (get before name) ≡ None = rw has (not_refused name new h) in
-    go (refusal (replacing name (text_of h) new) (get before name)) _ no is
-  where
-    go : (r : Option FileError) (x : Texts) → r ≡ None → and_then (unless r x) (λ names. Ok names) ≡ Err e → ⊥
-    go None x none is = absurd cc
-    go (Some why) x none is = absurd cc
+    let never = rw no at is in absurd cc
 
 -- so an error of it is no refusal
 pub fails_to_edit : (name old new : List ℕ) (h : PasswordHash) (before after : Texts) (e : FileError) → old ≡ text_of h
