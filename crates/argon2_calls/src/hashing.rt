@@ -112,10 +112,8 @@ fn is_of_block(call: &Call<'_, '_>, answer: &mut Answer) -> bool {
         // `BLOCK BLOCK`: the digest of their mixing, and the count of mixings.
         "Block::mix" => {
             let mut work = Work::new();
-            say(
-                answer,
-                &Block::mix(&block(call, 1), &block(call, 2), &mut work),
-            );
+            let mixed = Block::mix(&block(call, 1), &block(call, 2), &mut work);
+            say(answer, &mixed);
             answer.say("mixes");
             answer.say(work.mixes());
         }
@@ -292,10 +290,8 @@ fn place_count(argon2: &Argon2<'_>) -> Option<usize>
         n ≡ (context_of argon2.now).t_cost * block_count (context_of argon2.now)) }
 {
     let params = argon2.params();
-    match params.block_count().checked_mul(params.t_cost() as usize) {
-        Some(count) => Some(count),
-        None => None,
-    }
+    let count = params.block_count().checked_mul(params.t_cost() as usize)?;
+    Some(count)
 }
 
 // `hash_password_into_watched .. PLACE..`, with the positions at these places.
@@ -452,10 +448,8 @@ fn lengths(argon2: &Argon2<'_>) -> Option<(usize, usize)>
 {
     let params = argon2.params();
     let segment = (params.lane_length() / 4) as usize;
-    match (params.p_cost() as usize).checked_mul(segment) {
-        Some(slice) => Some((segment, slice)),
-        None => None,
-    }
+    let slice = (params.p_cost() as usize).checked_mul(segment)?;
+    Some((segment, slice))
 }
 
 // Each of these makes its call, if its conditions hold, and returns whether they do.

@@ -60,29 +60,28 @@ fn is_of_params(call: &Call<'_, '_>, answer: &mut Answer) -> bool {
         }
         "Params::default" => shown(answer, Ok(Params::default())),
         "ParamsBuilder::new" => shown(answer, ParamsBuilder::new().build()),
-        "ParamsBuilder::build" => match context::settings(call, 1) {
-            Ok((params, _)) => shown(answer, Ok(params)),
-            Err(e) => answer.show(e),
-        },
+        "ParamsBuilder::build" => {
+            if let Some((params, _)) = answer.ok(context::settings(call, 1)) {
+                shown(answer, Ok(params));
+            }
+        }
         // An algorithm, and its name in three forms.
-        "Algorithm::new" => match Algorithm::new(call.word(1)) {
-            Ok(it) => {
+        "Algorithm::new" => {
+            if let Some(it) = answer.ok(Algorithm::new(call.word(1))) {
                 answer.show(it);
                 answer.say(it);
                 answer.say(it.as_str());
                 answer.say(it.ident());
             }
-            Err(e) => answer.show(e),
-        },
+        }
         "Algorithm::try_from" => answer.shown(Algorithm::try_from(call.word(1))),
         // `NUMBER`: a version and its number.
-        "Version::try_from" => match Version::try_from(call.count(1)) {
-            Ok(it) => {
+        "Version::try_from" => {
+            if let Some(it) = answer.ok(Version::try_from(call.count(1))) {
                 answer.show(it);
                 answer.say(u32::from(it));
             }
-            Err(e) => answer.show(e),
-        },
+        }
         "KeyId::new" => answer.shown(KeyId::new(call.bytes(1))),
         "KeyId::from_b64" => answer.shown(KeyId::from_b64(call.word(1))),
         // `BYTES BYTES`.
@@ -110,18 +109,15 @@ fn is_of_params(call: &Call<'_, '_>, answer: &mut Answer) -> bool {
 
 // All that parameters say: costs, key identifier, data, output length, and how many blocks all lanes and one have.
 fn shown(answer: &mut Answer, made: Outcome<Params, Error>) {
-    match made {
-        Ok(it) => {
-            answer.say(it.m_cost());
-            answer.say(it.t_cost());
-            answer.say(it.p_cost());
-            answer.show(it.keyid());
-            answer.show(it.data());
-            answer.say_or_none(it.output_len());
-            answer.say(it.block_count());
-            answer.say(it.lane_length());
-        }
-        Err(e) => answer.show(e),
+    if let Some(it) = answer.ok(made) {
+        answer.say(it.m_cost());
+        answer.say(it.t_cost());
+        answer.say(it.p_cost());
+        answer.show(it.keyid());
+        answer.show(it.data());
+        answer.say_or_none(it.output_len());
+        answer.say(it.block_count());
+        answer.say(it.lane_length());
     }
 }
 
@@ -136,24 +132,24 @@ fn is_of_texts(call: &Call<'_, '_>, answer: &mut Answer) -> bool {
         "ParamsString::try_from" => answer.shown(list_of(call.str(1))),
         "ParamsString::new" => answer.show(ParamsString::new()),
         // `TEXT VERSION SALT HASH`: the text with these for what it has; no bytes if it has no salt or no hash.
-        "PasswordHash::text" => match with_fields(call) {
-            Ok(value) => answer.say(value.text().as_str()),
-            Err(e) => answer.show(e),
-        },
+        "PasswordHash::text" => {
+            if let Some(value) = answer.ok(with_fields(call)) {
+                answer.say(value.text().as_str());
+            }
+        }
         "PasswordHash::new"
         | "PasswordHash::fmt"
         | "PasswordHash.fields"
         | "Params::try_from"
         | "Settings::try_from"
         | "Stored::try_from" => {
-            if let Some(value) = answer.value(call.str(1)) {
+            if let Some(value) = answer.ok(PasswordHash::new(call.str(1))) {
                 on_value(call, answer, &value);
             }
         }
         name if name.starts_with("ParamsString::") || name == "Value::decimal" => {
-            match call.str(1).parse::<ParamsString>() {
-                Ok(mut list) => on_list(call, answer, &mut list),
-                Err(e) => answer.show(e),
+            if let Some(mut list) = answer.ok(call.str(1).parse::<ParamsString>()) {
+                on_list(call, answer, &mut list);
             }
         }
         _ => return false,
@@ -183,54 +179,45 @@ fn on_value(call: &Call<'_, '_>, answer: &mut Answer, value: &PasswordHash) {
             answer.say_or_none(value.hash.as_ref());
         }
         // The parameters, and the output length.
-        "Params::try_from" => match Params::try_from(value) {
-            Ok(params) => shown_text(answer, &params),
-            Err(e) => answer.show(e),
-        },
+        "Params::try_from" => {
+            if let Some(params) = answer.ok(Params::try_from(value)) {
+                shown_text(answer, &params);
+            }
+        }
         // The same behind the algorithm and the version.
-        "Settings::try_from" => match Settings::try_from(value) {
-            Ok(it) => settings(answer, &it),
-            Err(e) => answer.show(e),
-        },
+        "Settings::try_from" => {
+            if let Some(it) = answer.ok(Settings::try_from(value)) {
+                settings(answer, &it);
+            }
+        }
         // The same, the salt and the hash.
-        _ => match Stored::try_from(value) {
-            Ok(it) => {
+        _ => {
+            if let Some(it) = answer.ok(Stored::try_from(value)) {
                 settings(answer, &it.settings);
                 answer.say(it.salt.text().as_str());
                 answer.say(it.hash.text().as_str());
             }
-            Err(e) => answer.show(e),
-        },
+        }
     }
 }
 
 // The value of a text with another version, salt and hash. There is no hash without a salt.
 fn with_fields(call: &Call<'_, '_>) -> Result<PasswordHash> {
     let (version, salt, hash) = (version(call, 2), call.bytes(3), call.bytes(4));
-    let value = PasswordHash::new(call.str(1))?;
-    let mut made = PasswordHash {
-        algorithm: value.algorithm,
-        version,
-        params: value.params,
-        salt: None,
-        hash: None,
-    };
+    let mut value = PasswordHash::new(call.str(1))?;
+    (value.version, value.salt, value.hash) = (version, None, None);
     if !salt.is_empty() {
-        made.salt = Some(Salt::new(salt)?);
+        value.salt = Some(Salt::new(salt)?);
         if !hash.is_empty() {
-            made.hash = Some(Output::new(hash)?);
+            value.hash = Some(Output::new(hash)?);
         }
     }
-    Ok(made)
+    Ok(value)
 }
 
 // A version, or `none`.
 fn version(call: &Call<'_, '_>, place: usize) -> Option<u32> {
-    if call.word(place) == "none" {
-        None
-    } else {
-        Some(call.count(place))
-    }
+    u32::try_from(call.number(place)?).ok()
 }
 
 fn settings(answer: &mut Answer, it: &Settings) {
@@ -317,7 +304,7 @@ fn is_of_passwords(call: &Call<'_, '_>, answer: &mut Answer) -> bool {
         // The same of the text's value.
         "verify_password::<PasswordHash>" => {
             let (argon2, password) = (call.context(1), call.bytes(2));
-            if let Some(value) = answer.value(call.str(3)) {
+            if let Some(value) = answer.ok(PasswordHash::new(call.str(3))) {
                 answer.done(argon2.verify_password(alloc, password, &value));
             }
         }
@@ -331,13 +318,14 @@ fn is_of_passwords(call: &Call<'_, '_>, answer: &mut Answer) -> bool {
 fn is_of_bounds(call: &Call<'_, '_>, answer: &mut Answer) -> bool {
     match call.name {
         // `.. TEXT`: the blocks.
-        "Bound::admit" => match call.bound(1).admit(call.word(4)) {
-            Ok(admitted) => answer.say(admitted.blocks),
-            Err(e) => answer.show(e),
-        },
+        "Bound::admit" => {
+            if let Some(admitted) = answer.ok(call.bound(1).admit(call.word(4))) {
+                answer.say(admitted.blocks);
+            }
+        }
         // The same of the text's value.
         "Bound::admit_hash" => {
-            if let Some(value) = answer.value(call.str(4)) {
+            if let Some(value) = answer.ok(PasswordHash::new(call.str(4))) {
                 answer.said(call.bound(1).admit_hash(&value));
             }
         }
@@ -350,9 +338,8 @@ fn is_of_bounds(call: &Call<'_, '_>, answer: &mut Answer) -> bool {
         }
         "Target::new" => answer.done(Target::new(own_context(call, 1)).and(Ok(()))),
         "Target::hash_password" | "Target::verify" | "Target::log_in" => {
-            match Target::new(own_context(call, 1)) {
-                Ok(target) => on_target(call, answer, &target),
-                Err(e) => answer.show(e),
+            if let Some(target) = answer.ok(Target::new(own_context(call, 1))) {
+                on_target(call, answer, &target);
             }
         }
         "Policy::new" => {
@@ -371,31 +358,29 @@ fn on_target(call: &Call<'_, '_>, answer: &mut Answer, target: &Target<'_>) {
     if call.name == "Target::hash_password" {
         answer.said(target.hash_password(alloc, &mut rng, password));
         answer.drawn(&rng);
-    } else if let Some(value) = answer.value(call.str(4)) {
-        match Stored::try_from(&value) {
-            Ok(it) if call.name == "Target::verify" => {
-                answer.done(target.verify(alloc, password, &it));
-            }
-            Ok(it) => {
-                let done = target.log_in(alloc, &mut rng, password, &it);
-                logged_in(answer, done, &rng);
-            }
-            Err(e) => answer.show(e),
+    } else if let Some(value) = answer.ok(PasswordHash::new(call.str(4))) {
+        let Some(it) = answer.ok(Stored::try_from(&value)) else {
+            return;
+        };
+        if call.name == "Target::verify" {
+            answer.done(target.verify(alloc, password, &it));
+        } else {
+            let done = target.log_in(alloc, &mut rng, password, &it);
+            logged_in(answer, done, &rng);
         }
     }
 }
 
 fn of_policy(call: &Call<'_, '_>, answer: &mut Answer) {
-    match Policy::new(answer.alloc, own_context(call, 1), call.bound(2)) {
-        // `.. SECRET GENERATOR PASSWORD TEXT`: a login, for which a text may also be one under the old secret.
-        Ok(policy) if call.name == "Policy::with_old_secret" => {
-            match policy.with_old_secret(call.bytes(5)) {
-                Ok(policy) => on_policy(call, 6, answer, &policy),
-                Err(e) => answer.show(e),
-            }
-        }
-        Ok(policy) => on_policy(call, 5, answer, &policy),
-        Err(e) => answer.show(e),
+    let made = Policy::new(answer.alloc, own_context(call, 1), call.bound(2));
+    let Some(policy) = answer.ok(made) else {
+        return;
+    };
+    // `.. SECRET GENERATOR PASSWORD TEXT`: a login, for which a text may also be one under the old secret.
+    if call.name != "Policy::with_old_secret" {
+        on_policy(call, 5, answer, &policy);
+    } else if let Some(policy) = answer.ok(policy.with_old_secret(call.bytes(5))) {
+        on_policy(call, 6, answer, &policy);
     }
 }
 
@@ -412,13 +397,13 @@ fn on_policy(call: &Call<'_, '_>, place: usize, answer: &mut Answer, policy: &Po
             answer.drawn(&rng);
         }
         "Policy::change_password" => {
-            if let Some(value) = answer.value(call.str(8)) {
+            if let Some(value) = answer.ok(PasswordHash::new(call.str(8))) {
                 answer.said(policy.change_password(&mut rng, &value, password, call.bytes(7)));
                 answer.drawn(&rng);
             }
         }
         _ => {
-            if let Some(value) = answer.value(call.str(place.saturating_add(2))) {
+            if let Some(value) = answer.ok(PasswordHash::new(call.str(place.saturating_add(2)))) {
                 let done = policy.log_in(&mut rng, &value, password);
                 logged_in(answer, done, &rng);
             }

@@ -31,13 +31,12 @@ fn is_of_store<'a>(
             login_runs();
             answer.say("Ok");
         }
-        "Login::new" => match Login::new(answer.alloc, own_context(call, 1)) {
-            Ok(new) => {
+        "Login::new" => {
+            if let Some(new) = answer.ok(Login::new(answer.alloc, own_context(call, 1))) {
                 *store = Some(new);
                 answer.say("Ok");
             }
-            Err(e) => answer.show(e),
-        },
+        }
         _ => {
             return match store {
                 Some(store) => is_on_store(call, answer, store),
@@ -89,13 +88,13 @@ fn is_on_store<'a>(call: &Call<'_, 'a>, answer: &mut Answer, store: &mut Login<'
             answer.shown(login::take_over(store, &mut rng, name, text, call.bytes(4)));
         }
         // `CONTEXT`.
-        "login::moved" => match login::moved(store, answer.alloc, own_context(call, 1)) {
-            Ok(new) => {
+        "login::moved" => {
+            let moved = login::moved(store, answer.alloc, own_context(call, 1));
+            if let Some(new) = answer.ok(moved) {
                 *store = new;
                 answer.say("Ok");
             }
-            Err(e) => answer.show(e),
-        },
+        }
         _ => return false,
     }
     true
@@ -117,10 +116,11 @@ fn is_of_example(call: &Call<'_, '_>, answer: &mut Answer) -> bool {
             answer.said(passwords::is_accepted(answer.alloc, call.bytes(1), call.word(2)));
         }
         // `SECRET`: the parameters.
-        "vault::lock" => match vault::lock(call.bytes(1)) {
-            Ok(argon2) => answer.say(argon2.params()),
-            Err(e) => answer.show(e),
-        },
+        "vault::lock" => {
+            if let Some(argon2) = answer.ok(vault::lock(call.bytes(1))) {
+                answer.say(argon2.params());
+            }
+        }
         "vault::seal" => sealed(call, answer),
         "vault::open" => opened(call, answer),
         "scheduler::hash_in_rounds" => hashed_in_rounds(call, answer),
@@ -147,15 +147,13 @@ fn sealed(call: &Call<'_, '_>, answer: &mut Answer) {
 // `CONTEXT PASSPHRASE SALT TAG`: the key, or `none`.
 fn opened(call: &Call<'_, '_>, answer: &mut Answer) {
     let (argon2, passphrase) = (call.context(1), call.bytes(2));
-    match (Salt::new(call.bytes(3)), Output::new(call.bytes(4))) {
-        (Ok(salt), Ok(tag)) => {
-            match vault::open(argon2, answer.alloc, passphrase, &Header { salt, tag }) {
-                Ok(Some(key)) => answer.hex(&key),
-                Ok(None) => answer.say("none"),
-                Err(e) => answer.show(e),
-            }
-        }
-        _ => call.refuse(),
+    let (Ok(salt), Ok(tag)) = (Salt::new(call.bytes(3)), Output::new(call.bytes(4))) else {
+        return call.refuse();
+    };
+    match vault::open(argon2, answer.alloc, passphrase, &Header { salt, tag }) {
+        Ok(Some(key)) => answer.hex(&key),
+        Ok(None) => answer.say("none"),
+        Err(e) => answer.show(e),
     }
 }
 
@@ -176,23 +174,16 @@ fn hashed_in_rounds(call: &Call<'_, '_>, answer: &mut Answer) {
 
 // `CONTEXT PASSWORD SALT PASSWORD SALT`: the two tags.
 fn hash_both(call: &Call<'_, '_>, answer: &mut Answer) {
+    let input = |password, salt| Input { password, salt };
     let inputs = [
-        Input {
-            password: call.bytes(2),
-            salt: call.bytes(3),
-        },
-        Input {
-            password: call.bytes(4),
-            salt: call.bytes(5),
-        },
+        input(call.bytes(2), call.bytes(3)),
+        input(call.bytes(4), call.bytes(5)),
     ];
     let argon2 = call.context(1);
     let (mut memory, mut tags) = (blocks(answer, argon2), [[0xff; 32]; 2]);
-    match hash_all(argon2, memory.as_mut_slice(), &inputs, &mut tags) {
-        Ok(()) => {
-            answer.hex(&tags[0]);
-            answer.hex(&tags[1]);
-        }
-        Err(e) => answer.show(e),
+    let done = hash_all(argon2, memory.as_mut_slice(), &inputs, &mut tags);
+    if answer.ok(done).is_some() {
+        answer.hex(&tags[0]);
+        answer.hex(&tags[1]);
     }
 }

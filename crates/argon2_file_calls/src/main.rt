@@ -3,6 +3,7 @@
 //! can't be read, and with `closed` if the file has to be opened again.
 #![tactic(auto)]
 
+use argon2::PasswordHash;
 use argon2_accounts::Accounts;
 use argon2_lines::{Answer, Call, Contexts, Line, context, line};
 use argon2_policy::Policy;
@@ -69,12 +70,9 @@ fn open<'a>(rt: &HostRuntime, call: &Call<'_, 'a>, answer: &mut Answer, accounts
         answer.is_refused = true;
         return;
     };
-    match AccountFile::open(rt, call.word(1), Wary) {
-        Ok(file) => {
-            *accounts = Some(Accounts { policy, file });
-            answer.say("Ok");
-        }
-        Err(e) => answer.show(e),
+    if let Some(file) = answer.ok(AccountFile::open(rt, call.word(1), Wary)) {
+        *accounts = Some(Accounts { policy, file });
+        answer.say("Ok");
     }
 }
 
@@ -167,18 +165,18 @@ fn on_name<S: Store>(call: &Call<'_, '_>, answer: &mut Answer, file: &mut Accoun
         "AccountFile::unlock" => answer.done(file.unlock(name)),
         // `.. TEXT`.
         "AccountFile::add" => {
-            if let Some(text) = answer.value(call.str(2)) {
+            if let Some(text) = answer.ok(PasswordHash::new(call.str(2))) {
                 answer.done(file.add(name, &text));
             }
         }
         "AccountFile::set" => {
-            if let Some(text) = answer.value(call.str(2)) {
+            if let Some(text) = answer.ok(PasswordHash::new(call.str(2))) {
                 answer.done(file.set(name, &text));
             }
         }
         // `.. OLD NEW`.
         "AccountFile::replace" => {
-            if let Some(new) = answer.value(call.str(3)) {
+            if let Some(new) = answer.ok(PasswordHash::new(call.str(3))) {
                 answer.done(file.replace(name, call.word(2), &new));
             }
         }
@@ -189,9 +187,8 @@ fn on_name<S: Store>(call: &Call<'_, '_>, answer: &mut Answer, file: &mut Accoun
 
 // The text of `NAME`, or why it can't be read.
 fn show_text<S: Store>(call: &Call<'_, '_>, answer: &mut Answer, file: &mut AccountFile<S>) {
-    match file.text_of(call.word(1)) {
-        Ok(text) => answer.say_or_none(text),
-        Err(e) => answer.show(e),
+    if let Some(text) = answer.ok(file.text_of(call.word(1))) {
+        answer.say_or_none(text);
     }
 }
 

@@ -2,7 +2,6 @@
 
 use crate::call::Call;
 use crate::drawn::Drawn;
-use argon2::PasswordHash;
 use std::alloc::{AllocError, Global};
 use std::fmt::{Debug, Display};
 use std::io::{self, Write};
@@ -135,9 +134,9 @@ impl Answer {
         self.say(if is_same { "same" } else { "changed" });
     }
 
-    /// The value of a PHC text. If it has none, the answer is the error.
-    pub fn value(&mut self, text: &str) -> Option<PasswordHash> {
-        match PasswordHash::new(text) {
+    /// The value that a call returned. If it returned an error, that is the answer.
+    pub fn ok<T: Drop, E: Debug + Drop>(&mut self, done: Result<T, E>) -> Option<T> {
+        match done {
             Ok(value) => Some(value),
             Err(e) => {
                 self.show(e);
