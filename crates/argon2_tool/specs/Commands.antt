@@ -40,6 +40,12 @@ IsCommand (Tag request len salt) = IsRequest request × (len ≤ 1024)
 IsCommand (PhcCommand request salt) = IsRequest request
 IsCommand command = ⊤
 
+-- the help or the version
+abbrev pub IsPage : Command → Type 0
+IsPage Help = ⊤
+IsPage VersionCommand = ⊤
+IsPage command = ⊥
+
 -- the words of a request
 abbrev pub request_words : Request → List (List ℕ)
 request_words r =

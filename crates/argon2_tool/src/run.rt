@@ -4,7 +4,7 @@ ghost use Rattle.std.specs.Prelude.{◌≡◌, ◌↔◌, ◌≤◌, ◌++◌, �
 ghost use Rattle.std.specs.Io.KnownBytes.{Keeps};
 ghost use Rattle.hex.specs.Hex.{encode_lower};
 ghost use Rattle.argon2_base.specs.Blake2b.{blake2b};
-ghost use Rattle.argon2_tool.specs.Commands.{AnswersCommand, FailsBy, IsCommand, IsReply, Spells};
+ghost use Rattle.argon2_tool.specs.Commands.{AnswersCommand, FailsBy, IsCommand, IsPage, IsReply, Spells};
 ghost use Rattle.argon2_tool.specs.Failures.{AppendsFront, IsOfInput, IsReported};
 
 use crate::arguments::{Command, Request};
@@ -56,7 +56,8 @@ const VERSION: &str = "argon2-tool 0.6.0+2";
 /// Status 0: the command's line is written to `output`, and nothing to `errors`. Status 1: the line of
 /// why it failed is written to `errors`. If that is not a write of `output`, nothing is written there.
 /// Status 2: the arguments spell no command, `errors` has the usage line, and neither `input` nor
-/// `output` is touched. If `errors` can't be written, the status stays.
+/// `output` is touched. The help and the version leave `input` too. If `errors` can't be written, the
+/// status stays.
 pub fn run<R: Read, W: Write, E: Write>(
     alloc: Global,
     args: &[String],
@@ -67,6 +68,8 @@ pub fn run<R: Read, W: Write, E: Write>(
     ensures status { result ≤ 2 }
     ensures usage { (result ≡ 2) ↔ ((c : Command) → ¬ Spells (map string_bytes args.now) c) }
     ensures unread { result ≡ 2 → input.new ≡ input.old }
+    ensures page { (c : Command) → Spells (map string_bytes args.now) c → IsPage c
+        → input.new ≡ input.old }
     ensures unwritten { result ≡ 2 → output.new ≡ output.old }
     ensures answered { result ≡ 0 → (c : Command) × Spells (map string_bytes args.now) c
         × AnswersCommand c (R.remaining input.old) (W.contents output.old) (W.contents output.new) }
@@ -110,6 +113,7 @@ fn answer<R: Read, W: Write>(
         (W.contents output.old) (W.contents output.new)) }
     ensures err { IfErr result (λ failure. FailsBy command.now failure (R.remaining input.old)
         (W.contents output.old) (W.contents output.new)) }
+    ensures page { IsPage command.now → input.new ≡ input.old }
 {
     let text = reply(alloc, command, input)?;
     match write_line(output, &[text.as_str()]) {
@@ -121,7 +125,9 @@ fn answer<R: Read, W: Write>(
 // What a command replies to the input.
 fn reply<R: Read>(alloc: Global, command: &Command<'_>, input: &mut R) -> Result<String, Failure>
     requires { IsCommand command.now }
-    ensures { IfSome (R.remaining input.old) (λ message. IsReply command.now message result) }
+    ensures reply { IfSome (R.remaining input.old) (λ message.
+        IsReply command.now message result) }
+    ensures page { IsPage command.now → input.new ≡ input.old }
 {
     match *command {
         Command::Digest(len) => digest(alloc, len as usize, input),
