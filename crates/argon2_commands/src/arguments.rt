@@ -1,9 +1,9 @@
 //! What is answered to words of a command line that ask for a page or are wrong.
 
-ghost use Rattle.std.specs.Prelude.{◌≡◌, ◌⊎◌};
+ghost use Rattle.std.specs.Prelude.{◌≡◌, ◌⊎◌, IfOk};
 ghost use Rattle.std.specs.Io.KnownBytes.{Keeps};
 ghost use Rattle.clap.specs.Words.{kind_of};
-ghost use Rattle.clap.specs.declared.error.kind.ErrorKind.TheVariants.{OutOfMemory};
+ghost use Rattle.clap.specs.declared.error.kind.ErrorKind.TheVariants.{OutOfMemory, ValueValidation};
 ghost use Rattle.argon2_commands.specs.Pages.{IsPage};
 
 use argon2_programs::Failure;
@@ -59,7 +59,9 @@ pub fn invalid(
     argument: &str,
     value: &str,
     why: &str,
-) -> Result<Error, AllocError> {
+) -> Result<Error, AllocError>
+    ensures { IfOk result (λ error. kind_of error ≡ ValueValidation) }
+{
     let message = format!(in alloc; "invalid value '{value}' for '{argument}': {why}")?;
     command.error(ErrorKind::ValueValidation, message.as_str())
 }
