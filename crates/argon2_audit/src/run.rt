@@ -61,7 +61,7 @@ pub fn run<R: Read + Named, W: Write, E: Write>(
     ensures audit { (result ≡ 0) ⊎ (result ≡ 1) → IsAudit options (R.remaining input.old)
         (W.contents output.old) (W.contents output.new) (result == 0) }
     ensures silent { options.form ≡ Form.Quiet → output.new ≡ output.old }
-    ensures quiet { IsFalse shows_progress → result ≡ 0
+    ensures quiet { IsFalse shows_progress → (result ≡ 0) ⊎ (result ≡ 1)
         → Keeps (E.contents errors.old) (E.contents errors.new) }
 {
     let report = write_report(alloc, options, input, output, errors, shows_progress);
