@@ -1,9 +1,10 @@
 -- What a C caller asks for: what its hash depends on, and why it is refused.
-use Rattle.std.specs.Prelude.{◌≡◌, ◌⊎◌, ℕ, ◌*◌, ◌≤◌, ◌&&◌, not, nat_lt, ◌==◌, Bool, ℤ, List, [], ◌∷◌}
-use Rattle.argon2.specs.Rfc9106.{Context}
+use Rattle.std.specs.Prelude.{◌≡◌, ◌⊎◌, ◌↔◌, ℕ, ◌*◌, ◌≤◌, ◌&&◌, not, nat_lt, ◌==◌, Bool, ℤ, List, [], ◌∷◌, length}
+use Rattle.argon2.specs.Rfc9106.{Context, tag_of}
 use Rattle.argon2.specs.Refusals.{max_len}
+use Rattle.argon2.specs.Segments.{slice_length}
 use Rattle.argon2.specs.Settings.{max_lanes}
-use Rattle.argon2_c.specs.declared.code.TheConstants.{OUTPUT_PTR_NULL, OUTPUT_TOO_SHORT, OUTPUT_TOO_LONG, PWD_TOO_LONG, SALT_TOO_SHORT, SALT_TOO_LONG, AD_TOO_LONG, SECRET_TOO_LONG, TIME_TOO_SMALL, MEMORY_TOO_LITTLE, LANES_TOO_FEW, LANES_TOO_MANY, PWD_PTR_MISMATCH, SALT_PTR_MISMATCH, SECRET_PTR_MISMATCH, AD_PTR_MISMATCH, FREE_MEMORY_CBK_NULL, ALLOCATE_MEMORY_CBK_NULL, INCORRECT_TYPE, THREADS_TOO_FEW, THREADS_TOO_MANY}
+use Rattle.argon2_c.specs.declared.code.TheConstants.{OK, OUTPUT_PTR_NULL, OUTPUT_TOO_SHORT, OUTPUT_TOO_LONG, PWD_TOO_LONG, SALT_TOO_SHORT, SALT_TOO_LONG, AD_TOO_LONG, SECRET_TOO_LONG, TIME_TOO_SMALL, MEMORY_TOO_LITTLE, LANES_TOO_FEW, LANES_TOO_MANY, PWD_PTR_MISMATCH, SALT_PTR_MISMATCH, SECRET_PTR_MISMATCH, AD_PTR_MISMATCH, FREE_MEMORY_CBK_NULL, ALLOCATE_MEMORY_CBK_NULL, INCORRECT_TYPE, THREADS_TOO_FEW, THREADS_TOO_MANY}
 use Rattle.argon2_c.specs.declared.request.Request.{Request}
 
 -- what the hash depends on beside the password, the salt and the output's length
@@ -71,3 +72,11 @@ pub record IsFaultless (r : Request) (output password salt secret associated : �
   pub lanes_most : r.lanes ≤ max_lanes
   pub is_variant : r.algorithm ≤ 2
   pub is_version : (r.version ≡ 16) ⊎ (r.version ≡ 19)
+
+-- what hashing on so many blocks answers: the code, and the tag in place of what was in `out`
+pub record IsTagged (r : Request) (password salt secret associated : List ℕ) (blocks : ℕ) (out : List ℕ)
+    (code : ℤ) (tag : List ℕ) : Type 0 where
+  pub taken : (code ≡ OK)
+      ↔ IsFaultless r (length out) (length password) (length salt) (length secret) (length associated)
+      × (blocks ≡ 4 * slice_length (request_context r [] []))
+  pub tagged : code ≡ OK → tag ≡ tag_of (request_context r secret associated) password salt (length out)

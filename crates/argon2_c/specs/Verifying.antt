@@ -1,10 +1,13 @@
--- Why the text of a hash is refused.
-use Rattle.std.specs.Prelude.{ℕ, ◌*◌, nat_lt, not, Bool, false, ℤ, Option, [], ◌∷◌, length, unwrap_or}
+-- How the text of a hash is read, and why it is refused.
+use Rattle.std.specs.Prelude.{◌≡◌, ℕ, ◌*◌, nat_lt, not, Bool, false, ℤ, Option, Some, None, List, [], ◌∷◌, ◌++◌, length, unwrap_or, if◌then◌else◌}
+use Rattle.std.specs.Str.{bytes_eq}
+use Rattle.base64.specs.Decode.{IsWrittenOver}
 use Rattle.argon2.specs.Refusals.{first_of, max_len}
-use Rattle.argon2_c.specs.declared.code.TheConstants.{OK, PWD_TOO_LONG, DECODING_FAIL, INCORRECT_TYPE, MEMORY_ALLOCATION_ERROR}
-use Rattle.argon2_c.specs.Requests.{request_faults}
-use Rattle.argon2_c.specs.Texts.{Said}
+use Rattle.argon2_c.specs.declared.code.TheConstants.{OK, PWD_TOO_LONG, DECODING_FAIL, INCORRECT_TYPE, MEMORY_ALLOCATION_ERROR, VERIFY_MISMATCH}
+use Rattle.argon2_c.specs.declared.decode.Shown.{Shown}
 use Rattle.argon2_c.specs.declared.request.Request.{Request}
+use Rattle.argon2_c.specs.Requests.{request_faults, IsFaultless}
+use Rattle.argon2_c.specs.Texts.{IsShown, Said, Says}
 
 -- Why a call is refused before the text is read. `room` is how many bytes are lent for what the text says.
 abbrev pub call_refusal : ℕ → Bool → ℕ → ℕ → ℕ → Option ℤ
@@ -38,3 +41,18 @@ shown_request algorithm lacks_password v = record {
 abbrev pub said_code : ℕ → ℕ → Bool → Said → ℤ
 said_code algorithm password lacks_password v = unwrap_or (first_of
     (request_faults (shown_request algorithm lacks_password v) (length v.tag) password (length v.salt) 0 0)) OK
+
+-- what reading answers: the code, what is shown, and what is then in the room that was lent, for a password of so many bytes
+pub record IsDecoded (algorithm : ℕ) (has_text : Bool) (text : List ℕ) (password : ℕ) (lacks_password : Bool) (lent : List ℕ)
+    (code : ℤ) (shown : Shown) (room : List ℕ) : Type 0 where
+  pub refused : (e : ℤ) → call_refusal algorithm has_text (length text) password (length lent) ≡ Some e → code ≡ e
+  pub said : (v : Said) → call_refusal algorithm has_text (length text) password (length lent) ≡ None
+      → Says algorithm text v → (code ≡ said_code algorithm password lacks_password v)
+      × IsShown v shown × IsWrittenOver (v.salt ++ v.tag) lent room
+  pub found : code ≡ OK → (v : Said) × Says algorithm text v
+  pub faultless : (v : Said) → code ≡ OK → Says algorithm text v
+      → IsFaultless (shown_request algorithm lacks_password v) (length v.tag) password (length v.salt) 0 0
+
+-- the code of comparing two hashes
+abbrev pub compare_code : List ℕ → List ℕ → ℤ
+compare_code a b = if bytes_eq a b then OK else VERIFY_MISMATCH

@@ -1,15 +1,14 @@
 //! Hashing, and comparing what was hashed.
 
-ghost use Rattle.std.specs.Prelude.{◌≡◌, ◌≢◌, ◌≤◌, ◌*◌, IfSome, IsSome, None, [], length, if◌then◌else◌};
-ghost use Rattle.std.specs.Str.{bytes_eq};
+ghost use Rattle.std.specs.Prelude.{◌≡◌, ◌≢◌, ◌↔◌, ◌≤◌, ◌*◌, IfSome, IsSome, None, [], length};
 ghost use Rattle.argon2.specs.Settings.{algorithm_number};
 ghost use Rattle.argon2.specs.Argon2.{context_of, own_parameters};
 ghost use Rattle.argon2.specs.Hashing.{blocks_of};
 ghost use Rattle.argon2.specs.Layout.{matrix_of};
-ghost use Rattle.argon2.specs.Rfc9106.{tag_of};
 ghost use Rattle.argon2.specs.Segments.{slice_length};
-ghost use Rattle.argon2_c.specs.Requests.{request_context, IsFaultless};
+ghost use Rattle.argon2_c.specs.Requests.{request_context, IsFaultless, IsTagged};
 ghost use Rattle.argon2_c.specs.Texts.{name_numbered};
+ghost use Rattle.argon2_c.specs.Verifying.{compare_code};
 
 use crate::code::{INCORRECT_PARAMETER, OK, VERIFY_MISMATCH};
 use crate::request::Request;
@@ -31,14 +30,8 @@ pub extern "C" fn argon2_c_hash(
     memory: &mut [Words],
     out: &mut [u8],
 ) -> i32
-    ensures hashes { IsFaultless request.now (length out.old) (length pwd.now) (length salt.now)
-        (length secret.now) (length associated.now)
-        → length memory.old ≡ 4 * slice_length (request_context request.now [] []) → result ≡ OK }
-    ensures only { result ≡ OK → IsFaultless request.now (length out.old) (length pwd.now)
-        (length salt.now) (length secret.now) (length associated.now)
-        × (length memory.old ≡ 4 * slice_length (request_context request.now [] [])) }
-    ensures tag { result ≡ OK → out.new
-        ≡ tag_of (request_context request.now secret.now associated.now) pwd.now salt.now (length out.old) }
+    ensures tagged { IsTagged request.now pwd.now salt.now secret.now associated.now (length memory.old)
+        out.old result out.new }
     ensures refused { result ≢ OK → (result ≡ INCORRECT_PARAMETER) × (out.new ≡ out.old)
         × (memory.new ≡ memory.old) }
 {
@@ -66,10 +59,7 @@ pub extern "C" fn argon2_c_fill(
     associated: &[u8],
     memory: &mut [Words],
 ) -> i32
-    ensures fills { IsFaultless request.now 4 (length pwd.now) (length salt.now) (length secret.now)
-        (length associated.now) → length memory.old ≡ 4 * slice_length (request_context request.now [] [])
-        → result ≡ OK }
-    ensures only { result ≡ OK → IsFaultless request.now 4 (length pwd.now) (length salt.now)
+    ensures taken { (result ≡ OK) ↔ IsFaultless request.now 4 (length pwd.now) (length salt.now)
         (length secret.now) (length associated.now)
         × (length memory.old ≡ 4 * slice_length (request_context request.now [] [])) }
     ensures matrix { let ctx = request_context request.now secret.now associated.now in
@@ -139,7 +129,7 @@ pub fn name(number: u32) -> &'static str
 /// Whether two slices are equal: 0, or -35. If they have one length, it reads each byte of both.
 #[unsafe(no_mangle)]
 pub extern "C" fn argon2_c_compare(a: &[u8], b: &[u8]) -> i32
-    ensures { result ≡ (if bytes_eq a.now b.now then OK else VERIFY_MISMATCH) }
+    ensures { result ≡ compare_code a.now b.now }
 {
     if are_equal(a, b) { OK } else { VERIFY_MISMATCH }
 }

@@ -44,10 +44,7 @@ pub extern "C" fn argon2_c_begin(
     output: usize,
     slice: &mut [Words],
 ) -> i32
-    ensures takes { IsFaultless request.now output (length pwd.now) (length salt.now)
-        (length secret.now) (length associated.now)
-        → length slice.old ≡ slice_length (request_context request.now [] []) → result ≡ OK }
-    ensures only { result ≡ OK → IsFaultless request.now output (length pwd.now) (length salt.now)
+    ensures taken { (result ≡ OK) ↔ IsFaultless request.now output (length pwd.now) (length salt.now)
         (length secret.now) (length associated.now)
         × (length slice.old ≡ slice_length (request_context request.now [] [])) }
     ensures begins { result ≡ OK → let ctx = request_context request.now secret.now associated.now in
@@ -78,10 +75,7 @@ pub extern "C" fn argon2_c_segment(
     after: &[Words],
     at: &Place,
 ) -> i32
-    ensures takes { IsFaultless request.now 4 0 8 (length secret.now) (length associated.now)
-        → AreLengths (request_context request.now [] []) at.now.slice at.now.lane (length before.now)
-        (length own.old) (length after.now) → result ≡ OK }
-    ensures only { result ≡ OK → IsFaultless request.now 4 0 8 (length secret.now)
+    ensures taken { (result ≡ OK) ↔ IsFaultless request.now 4 0 8 (length secret.now)
         (length associated.now)
         × AreLengths (request_context request.now [] []) at.now.slice at.now.lane (length before.now)
         (length own.old) (length after.now) }
@@ -110,9 +104,7 @@ pub extern "C" fn argon2_c_segment(
 #[unsafe(no_mangle)]
 #[tactic(auto, unfolding(argon2::specs::Rfc9106::xor_lanes))]
 pub extern "C" fn argon2_c_finish(request: &Request, last: &[Words], out: &mut [u8]) -> i32
-    ensures takes { IsFaultless request.now (length out.old) 0 8 0 0
-        → length last.now ≡ slice_length (request_context request.now [] []) → result ≡ OK }
-    ensures only { result ≡ OK → IsFaultless request.now (length out.old) 0 8 0 0
+    ensures taken { (result ≡ OK) ↔ IsFaultless request.now (length out.old) 0 8 0 0
         × (length last.now ≡ slice_length (request_context request.now [] [])) }
     ensures tag { (secret associated : List ℕ) → result ≡ OK → out.new ≡ long_hash
         (length out.old)

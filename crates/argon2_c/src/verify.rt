@@ -1,10 +1,8 @@
 //! What the text of a hash says, by which a password is verified.
 
-ghost use Rattle.std.specs.Prelude.{◌≡◌, ◌≤◌, ◌+◌, ◌*◌, ◌++◌, ℤ, None, Some, IsNone, length};
-ghost use Rattle.base64.specs.Decode.{IsWrittenOver};
-ghost use Rattle.argon2_c.specs.Requests.{IsFaultless};
+ghost use Rattle.std.specs.Prelude.{◌≡◌, ◌≤◌, ◌+◌, ◌*◌, ℤ, None, Some, IsNone, length};
 ghost use Rattle.argon2_c.specs.Texts.{IsShown, Said, Says};
-ghost use Rattle.argon2_c.specs.Verifying.{call_refusal, said_code, shown_request};
+ghost use Rattle.argon2_c.specs.Verifying.{call_refusal, shown_request, IsDecoded};
 
 use crate::code::{DECODING_FAIL, INCORRECT_TYPE, MEMORY_ALLOCATION_ERROR, OK, PWD_TOO_LONG};
 use crate::decode::{Shown, decode};
@@ -32,19 +30,13 @@ pub extern "C" fn argon2_c_decode(
     shown: &mut Shown,
     room: &mut [u8],
 ) -> i32
+    ensures decoded { IsDecoded algorithm has_text text.now pwd lacks_pwd room.old result shown.new
+        room.new }
     ensures refused { (e : ℤ) → call_refusal algorithm has_text (length text.now) pwd
-        (length room.old) ≡ Some e
-        → (result ≡ e) × (shown.new ≡ shown.old) × (room.new ≡ room.old) }
-    ensures said { (v : Said) → call_refusal algorithm has_text (length text.now) pwd
-        (length room.old) ≡ None → Says algorithm text.now v
-        → (result ≡ said_code algorithm pwd lacks_pwd v)
-        × IsShown v shown.new × IsWrittenOver (v.salt ++ v.tag) room.old room.new }
+        (length room.old) ≡ Some e → (shown.new ≡ shown.old) × (room.new ≡ room.old) }
     ensures unsaid { call_refusal algorithm has_text (length text.now) pwd (length room.old) ≡ None
         → ((v : Said) → Says algorithm text.now v → ⊥)
         → (result ≡ DECODING_FAIL) × (shown.new ≡ shown.old) }
-    ensures found { result ≡ OK → (v : Said) × Says algorithm text.now v }
-    ensures faultless { (v : Said) → result ≡ OK → Says algorithm text.now v
-        → IsFaultless (shown_request algorithm lacks_pwd v) (length v.tag) pwd (length v.salt) 0 0 }
     ensures within { result ≡ OK → shown.new.salt + 2 * shown.new.tag ≤ length room.old }
 {
     if let Some(code) = call_refusal(algorithm, has_text, text.len(), pwd, room.len()) {

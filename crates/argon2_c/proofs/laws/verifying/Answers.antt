@@ -34,7 +34,7 @@ record IsMade (c : Verification) (v : Said) : Type 0 where
 made : (c : Verification) (v : Said) → c.decoded ≡ OK → Says c.algorithm c.text v
     → call_refusal c.algorithm c.has_text (length c.text) (length c.password) (length c.lent) ≡ None → IsMade c v
 made c v ok says none =
-    let said = c.said v none says in
+    let said = c.decodes.said v none says in
     let shown = said.1 in
     let rest = drop (length (v.salt ++ v.tag)) c.lent in
     let room : c.room ≡ v.salt ++ (v.tag ++ rest) = said.2 ∙ append_assoc v.salt v.tag rest in
@@ -43,8 +43,9 @@ made c v ok says none =
     let hash = ap (take c.shown.tag) behind ∙ take_at v.tag rest c.shown.tag (sym shown.tag) in
     let request = c.asked v shown in
     let size = c.size ∙ shown.tag in
-    let hashed = c.hashes ok (rw (request, size, salt) (c.faultless v ok says)) c.blocks in
-    record { salt = salt; hash = hash; hashed = hashed; tag = rw (request, size, salt) at (c.makes ok hashed) }
+    let tagged = c.hashes ok in
+    let hashed = tagged.taken.1 (rw (request, size, salt) (c.decodes.faultless v ok says), refl) in
+    record { salt = salt; hash = hash; hashed = hashed; tag = rw (request, size, salt) at (tagged.tagged hashed) }
 
 if_true : (b : Bool) → (if b then OK else VERIFY_MISMATCH) ≡ OK → b ≡ true
 if_true true h = refl
@@ -53,25 +54,25 @@ if_true false h = absurd cc
 taken : (c : Verification) → c.decoded ≡ OK
     → call_refusal c.algorithm c.has_text (length c.text) (length c.password) (length c.lent) ≡ None
 taken c ok = none_refused (nat_lt max_len (length c.password)) (not c.has_text) (nat_lt max_len (length c.text))
-    (nat_lt 2 c.algorithm) (nat_lt (length c.lent) (2 * length c.text)) c.decoded ok c.refused
+    (nat_lt 2 c.algorithm) (nat_lt (length c.lent) (2 * length c.text)) c.decoded ok c.decodes.refused
 
 pub returns-clause-hashes : goal.returns-clause-hashes
 returns-clause-hashes g = λ c ok.
-    let found = c.found ok in
+    let found = c.decodes.found ok in
     (made c found.0 ok found.1 (taken c ok)).hashed
 
 pub returns-clause-accepts : goal.returns-clause-accepts
 returns-clause-accepts g = λ c. (
   (λ all.
-      let found = c.found all.0 in
+      let found = c.decodes.found all.0 in
       let v = found.0 in
       let none = taken c all.0 in
       let m = made c v all.0 found.1 none in
       let same = (bytes_eq-Decides _ _).0 (if_true _ (sym (c.compares all.0 all.1) ∙ all.2)) in
-      (v, found.1, none, sym (c.said v none found.1).0 ∙ all.0, sym m.hash ∙ same ∙ m.tag)),
+      (v, found.1, none, sym (c.decodes.said v none found.1).0 ∙ all.0, sym m.hash ∙ same ∙ m.tag)),
   (λ is.
       let v = is.0 in
-      let ok = (c.said v is.2 is.1).0 ∙ is.3 in
+      let ok = (c.decodes.said v is.2 is.1).0 ∙ is.3 in
       let m = made c v ok is.1 is.2 in
       let same = (bytes_eq-Decides (take c.shown.tag (drop c.shown.salt c.room)) c.tag).1 (m.hash ∙ is.4 ∙ sym m.tag) in
       (ok, m.hashed, c.compares ok m.hashed ∙ ap (λ b. if b then OK else VERIFY_MISMATCH) same)),
