@@ -38,7 +38,7 @@ pub enum Error {
 pub type Result<T> = std::result::Result<T, Error>;
 
 impl Error {
-    /// What is printed, in three parts: the second is the name of a parameter, or empty with the third.
+    /// What is printed, in three parts that follow one another.
     pub fn text(&self) -> (&'static str, &'static str, &'static str)
         ensures { result.0.now ++ result.1.now ++ result.2.now ≡ hash_error_text self.now }
     {
