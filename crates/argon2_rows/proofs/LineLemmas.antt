@@ -1,12 +1,11 @@
 -- Rows of names, one by one, and their lines.
-use Rattle.argon2_rows.proofs.Imports.{arith, ◌≡◌, ℕ, List, [], ◌∷◌, ◌++◌, map, append_assoc, append-nil, Option, Some, true, false, refl, sym, ap, ◌∙◌, entries}
-use Rattle.argon2_rows.proofs.Imports.{Row, Texts, plain, Index, Forward, order_of, sought, Advances, with_cursor, FitLines, IsLineOf, StopsAtBreak, breaks_line, line, AreWritten, Result, Ok, Err, MatchResult}
-use Rattle.argon2_rows.proofs.Imports.{lines, lines_of, row_of, rows_of, AreTexts, IsUtf8, subst, get-entries, entries_sorted, is_sorted}
-use Rattle.argon2_rows.proofs.RowLemmas.{is_true, its_entry, order}
-use Rattle.std.proofs.lemmas.List.{map-append}
-use Rattle.std.proofs.lemmas.List.Elements.{All-nil, All-push}
+use Rattle.argon2_rows.proofs.Imports.{◌≡◌, ℕ, List, [], ◌∷◌, map, Option, Some, refl, sym, subst, ap, ◌∙◌, Texts, AreTexts, IsUtf8, entries, false, true}
+use Rattle.argon2_rows.proofs.Imports.{Row, plain, Index, Forward, order_of, sought, Advances, with_cursor, IsLineOf, breaks_line, AreLinesOf, AreWritten, Result, Ok, Err, MatchResult}
+use Rattle.argon2_rows.proofs.Imports.{row_of, rows_of}
+use Rattle.argon2_rows.proofs.RowLemmas.{Follow, follow_names}
+use Rattle.std.proofs.lemmas.List.Elements.{All-cons, All-nil}
 use Rattle.std.proofs.KnownBytes.{Appends-kept, Appends-nil, Appends-trans}
-use Rattle.std.specs.Io.KnownBytes.{Appends, Keeps}
+use Rattle.std.specs.Io.KnownBytes.{Keeps}
 use Rattle.std.specs.declared.io.Error.{Error}
 use Rattle.sqlite_trees.specs.View.{View as Shown}
 use Rattle.sqlite_store.proofs.RowLemmas.{from_key-none}
@@ -16,97 +15,98 @@ use Rattle.argon2_rows.specs.declared.view.Written.{Written}
 use Rattle.argon2_rows.specs.declared.view.Written.TheVariants.{Breaks, Failed}
 
 -- the next row is that of the next name
-pub next_name : (es : List (List ℕ × List ℕ)) (row : Row) (left : List Row) → Some (map row_of es) ≡ Some (row ∷ left)
+next_name : (es : List (List ℕ × List ℕ)) (row : Row) (left : List Row) → Some (map row_of es) ≡ Some (row ∷ left)
     → (e : List ℕ × List ℕ) × (fs : List (List ℕ × List ℕ)) × (es ≡ e ∷ fs) × (row ≡ row_of e) × (left ≡ map row_of fs)
 next_name [] row left is = absurd cc
 next_name (e ∷ fs) row left is = (e, fs, refl, cc, cc)
 
-pub no_more : (es : List (List ℕ × List ℕ)) → Some (map row_of es) ≡ Some [] → es ≡ []
+no_more : (es : List (List ℕ × List ℕ)) → Some (map row_of es) ≡ Some [] → es ≡ []
 no_more [] is = refl
 no_more (e ∷ es) is = absurd cc
 
--- a name among others is UTF-8
-is_text : (names : Texts) (done : List (List ℕ × List ℕ)) (e : List ℕ × List ℕ) (fs : List (List ℕ × List ℕ)) → AreTexts names
-    → entries names ≡ done ++ e ∷ fs → IsUtf8 e.0
-is_text names done e fs texts all =
-    let rows = ap (λ l. map row_of l) all ∙ map-append row_of done (e ∷ fs) in
-    let sorted = is_true (is_sorted order (entries names)) (entries_sorted names) in
-    let (f, found, at) = its_entry (entries names) (map row_of done) (row_of e) (map row_of fs) rows sorted in
-    let same : f.0 ≡ e.0 = cc in
-    subst IsUtf8 same (texts f.0 f.1 (get-entries names f.0 ∙ found)).0
+-- if it is that of a name, the name is UTF-8
+abbrev IsNamed : Row → Type 0
+IsNamed row = (e : List ℕ × List ℕ) → row ≡ row_of e → IsUtf8 e.0
 
-pub lines-append : (view : View) (es fs : List (List ℕ × List ℕ)) → lines view (es ++ fs) ≡ lines view es ++ lines view fs
-lines-append view [] fs = refl
-lines-append view (e ∷ es) fs = ap (λ l. line view e ++ l) (lines-append view es fs) ∙ sym (append_assoc (line view e) _ _)
+-- the name does not break its line
+abbrev Fits : View → List ℕ × List ℕ → Type 0
+Fits view e = breaks_line view e.0 ≡ false
 
--- the names of some rows are written, and the cursor has the rest
-pub record IsWriting (view : View) (first now : Shown) (names : Texts) (old new : Option (List ℕ)) : Type 0 where
-  pub done : List (List ℕ × List ℕ)
+-- one line more before others
+line_more : (view : View) (e : List ℕ × List ℕ) (es : List (List ℕ × List ℕ)) (old mid new : Option (List ℕ)) (how : Written)
+    → IsLineOf view e old mid written.All → AreLinesOf view es mid new how → AreLinesOf view (e ∷ es) old new how
+line_more view e es old mid new written.All (wrote, fits) (more, fit) =
+    (Appends-trans old mid new _ _ wrote more, All-cons (Fits view) e es fits fit)
+line_more view e es old mid new Breaks (wrote, fits) (before, after, f, is, fit, breaks, more) =
+    let fit = All-cons (Fits view) e before fits fit in
+    (e ∷ before, after, f, ap (λ l. e ∷ l) is, fit, breaks, Appends-trans old mid new _ _ wrote more)
+line_more view e es old mid new (Failed why) wrote more = tt
+
+-- the cursor has the rows of some names, and if their lines are written too, those of all names are
+pub record IsWriting (view : View) (now : Shown) (names : Texts) (old mid : Option (List ℕ)) : Type 0 where
   pub left : List (List ℕ × List ℕ)
-  pub all : entries names ≡ done ++ left
   pub rows : now.cursors 0 ≡ Some (map row_of left)
-  pub written : Appends old new (lines view done)
-  pub fit : FitLines view done
+  pub last : Row
+  pub named : Follow IsNamed last (map row_of left)
+  pub all : (new : Option (List ℕ)) (how : Written) → AreLinesOf view left mid new how → AreWritten view names old new how
 
 pub begin_lines : (view : View) (first now : Shown) (names : Texts) (out : Option (List ℕ)) → first.shape 0 ≡ Index plain
     → now ≡ with_cursor first 0 (sought (order_of (first.shape 0)) Forward [] (first.trees 0)) → first.trees 0 ≡ rows_of names
-    → IsWriting view first now names out out
-begin_lines view first now names out shape is rows = record {
-  done = [];
+    → AreTexts names → IsWriting view now names out out
+begin_lines view first now names out shape is rows texts = record {
   left = entries names;
-  all = refl;
   rows = rw (is, shape) (ap Some (from_key-none plain (first.trees 0) ∙ rows));
-  written = Appends-nil out;
-  fit = All-nil (λ (e : List ℕ × List ℕ). breaks_line view e.0 ≡ false);
+  last = [];
+  named = follow_names IsNamed names (λ k v has e same. let name : k ≡ e.0 = cc in subst IsUtf8 name (texts k v has).0);
+  all = λ new how wrote. wrote;
 }
 
--- the next row is that of a name, and the cursor has the rows of the names after it
-pub its_name : (view : View) (first now next : Shown) (names : Texts) (old mid : Option (List ℕ)) (row : Row)
-    → (writing : IsWriting view first now names old mid) → Advances now next 0 row true → AreTexts names
-    → (e : List ℕ × List ℕ) × (fs : List (List ℕ × List ℕ)) × IsUtf8 e.0 × (row ≡ row_of e)
-    × (entries names ≡ writing.done ++ e ∷ fs) × (next.cursors 0 ≡ Some (map row_of fs))
-its_name view first now next names old mid row writing moves texts =
-    let (e, fs, cut, at, rest) = next_name writing.left row moves.0 (sym writing.rows ∙ moves.1) in
-    let all = writing.all ∙ ap (λ l. writing.done ++ l) cut in
-    (e, fs, is_text names writing.done e fs texts all, at, all, ap (λ (w : Shown). w.cursors 0) moves.2 ∙ ap Some rest)
+module _ {view : View} {now : Shown} {names : Texts} {old mid : Option (List ℕ)} (writing : IsWriting view now names old mid) where
+  -- the next row is that of a name, and the cursor has the rows of the names after it
+  pub its_name : {next : Shown} {row : Row} → Advances now next 0 row true
+      → (e : List ℕ × List ℕ) × (fs : List (List ℕ × List ℕ)) × IsUtf8 e.0 × (row ≡ row_of e)
+      × (next.cursors 0 ≡ Some (map row_of fs)) × Follow IsNamed (row_of e) (map row_of fs)
+      × ((new : Option (List ℕ)) (how : Written) → AreLinesOf view (e ∷ fs) mid new how → AreWritten view names old new how)
+  its_name {next} {row} moves =
+      let (e, fs, cut, at, rest) = next_name writing.left row moves.0 (sym writing.rows ∙ moves.1) in
+      let (named, new, more) = subst (λ es. Follow IsNamed writing.last (map row_of es)) cut writing.named in (
+        e,
+        fs,
+        named e refl,
+        at,
+        ap (λ (w : Shown). w.cursors 0) moves.2 ∙ ap Some rest,
+        more,
+        λ new how wrote. writing.all new how (subst (λ es. AreLinesOf view es mid new how) (sym cut) wrote),
+      )
 
--- one row more
-pub next_row : (view : View) (first now next : Shown) (names : Texts) (old mid new : Option (List ℕ)) (row : Row)
-    → IsWriting view first now names old mid → Advances now next 0 row true
-    → AreTexts names → ((e : List ℕ × List ℕ) → IsUtf8 e.0 → row ≡ row_of e → IsLineOf view e mid new written.All)
-    → IsWriting view first next names old new
-next_row view first now next names old mid new row writing moves texts wrote =
-    let (e, fs, good, at, all, rows) = its_name view first now next names old mid row writing moves texts in
-    let (wrote, fits) = wrote e good at in
-    record {
-      done = writing.done ++ e ∷ [];
-      left = fs;
-      all = all ∙ sym (append_assoc writing.done (e ∷ []) fs);
-      rows = rows;
-      written = rw (lines-append view writing.done (e ∷ []), append-nil (line view e))
-          (Appends-trans old mid new _ _ writing.written wrote);
-      fit = All-push (λ (e : List ℕ × List ℕ). breaks_line view e.0 ≡ false) writing.done e writing.fit fits;
-    }
+  -- one row more
+  pub next_row : {next : Shown} {row : Row} {out : Option (List ℕ)} → Advances now next 0 row true
+      → ((e : List ℕ × List ℕ) → IsUtf8 e.0 → row ≡ row_of e → IsLineOf view e mid out written.All)
+      → IsWriting view next names old out
+  next_row {out = out} moves wrote =
+      let (e, fs, good, at, rows, named, all) = its_name moves in
+      let its = wrote e good at in
+      record {
+        left = fs;
+        rows = rows;
+        last = row_of e;
+        named = named;
+        all = λ new how more. all new how (line_more view e fs mid out new how its more);
+      }
 
--- the next row's name breaks its line
-pub stops : (view : View) (first now next : Shown) (names : Texts) (old mid new : Option (List ℕ)) (row : Row)
-    → IsWriting view first now names old mid → Advances now next 0 row true
-    → AreTexts names → ((e : List ℕ × List ℕ) → IsUtf8 e.0 → row ≡ row_of e → IsLineOf view e mid new Breaks)
-    → StopsAtBreak view names old new
-stops view first now next names old mid new row writing moves texts broke =
-    let (e, fs, good, at, all, rows) = its_name view first now next names old mid row writing moves texts in
-    let (kept, breaks) = broke e good at in
-    (writing.done, fs, e, all, writing.fit, breaks, Appends-kept old mid new _ writing.written kept)
+  -- the next row's name breaks its line
+  pub stops : {next : Shown} {row : Row} (new : Option (List ℕ)) → Advances now next 0 row true
+      → ((e : List ℕ × List ℕ) → IsUtf8 e.0 → row ≡ row_of e → IsLineOf view e mid new Breaks)
+      → AreWritten view names old new Breaks
+  stops new moves broke =
+      let (e, fs, good, at, rows, named, all) = its_name moves in
+      let (kept, breaks) = broke e good at in
+      all new Breaks ([], fs, e, refl, All-nil (Fits view), breaks, Appends-kept mid mid new [] (Appends-nil mid) kept)
 
--- the last row was written, and the output is flushed
-pub all_lines : (view : View) (first now next : Shown) (names : Texts) (old mid new : Option (List ℕ)) (row : Row)
-    → IsWriting view first now names old mid → Advances now next 0 row false → Keeps mid new
-    → Appends old new (lines_of view names) × FitLines view (entries names)
-all_lines view first now next names old mid new row writing ended kept = search (arith, no_more, append-nil)
-
--- and what flushing answers
-pub all_written : (view : View) (names : Texts) (old new : Option (List ℕ)) (done : Result (Unit {0}) Error)
-    (how : Written) → MatchResult done (λ _. how ≡ written.All) (λ why. how ≡ Failed why)
-    → Appends old new (lines_of view names) × FitLines view (entries names) → AreWritten view names old new how
-all_written view names old new (Ok x) how is all = rw is all
-all_written view names old new (Err why) how is all = rw is tt
+  -- the last row was written, and the output is flushed
+  pub all_written : (new : Option (List ℕ)) → now.cursors 0 ≡ Some [] → Keeps mid new
+      → (done : Result (Unit {0}) Error) (how : Written) → MatchResult done (λ _. how ≡ written.All) (λ why. how ≡ Failed why)
+      → AreWritten view names old new how
+  all_written new ended kept (Ok x) how is = writing.all new how (rw (no_more writing.left (sym writing.rows ∙ ended), is)
+      (Appends-kept mid mid new [] (Appends-nil mid) kept, All-nil (Fits view)))
+  all_written new ended kept (Err why) how is = rw is tt

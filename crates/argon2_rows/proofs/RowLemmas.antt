@@ -6,15 +6,18 @@ use Rattle.argon2_rows.proofs.Imports.{Ordering, Less, Equal, Greater, is_eq, an
 use Rattle.argon2_rows.proofs.Imports.{entries_sorted, find, put, is_sorted, below_all, AllByRecursion, eq_by_cmp, is_lt, nat_cmp, ordering_reverse}
 use Rattle.argon2_rows.proofs.Imports.{ordering_then, Text, plain, entry_cmp, Row, column, number, row_cmp, value_cmp-Text, insert_entry, remove_entry, IsStorable, is_int}
 use Rattle.argon2_rows.proofs.Imports.{row_of, rows_of, IsLong, IsTrue, prefix_cmp, Index, Forward, from_key, order_of, sought, View, Advances, with_cursor}
-use Rattle.argon2_rows.proofs.Imports.{HasNoneAfter, IsAfterAll, IsFoundAs, ◌++◌, append_assoc, append-nil, empty, len-empty, len-entries, get-empty, Ghosts, IsIndex, IsOrdered, IsAccount, AreLines, IsLine}
-use Rattle.argon2_rows.proofs.Imports.{IsUnwritten, IsHonest, IsKept, cases_lt, nil_from_length, less}
+use Rattle.argon2_rows.proofs.Imports.{HasNoneAfter, IsAfterAll, IsFoundAs, Ghosts, IsIndex, IsOrdered, IsAccount, AreLines, IsLine, ◌↔◌, Trees}
+use Rattle.argon2_rows.proofs.Imports.{HasRows, IsUnwritten, IsHonest, IsKept, cases_lt, less, entries-from_sorted, from_sorted, get-from_sorted}
 use Rattle.std.proofs.lemmas.Map.Text.{is_eq-slice_cmp}
 use Rattle.std.proofs.lemmas.Option.{same_Some}
 use Rattle.std.specs.Float.{NotNan}
+use Rattle.std.specs.Prelude.{⊤}
 use Rattle.sqlite_store.proofs.RowLemmas.{from_key-none}
 use Rattle.sqlite_value.proofs.KeyLemmas.{entry_cmp-plain}
+use Rattle.sqlite_trees.proofs.Doubt.{never_clean, no_doubt}
 use Rattle.sqlite_trees.proofs.ListLemmas.{filter_all}
 use Rattle.sqlite_trees.proofs.TreeLemmas.{prefix_cmp-one}
+use Rattle.sqlite_trees.specs.View.{doubt}
 use Rattle.std.specs.Float.Ieee
 
 -- the texts of all other names stay
@@ -62,11 +65,6 @@ pub texts_changed : (names : Texts) (name : List ℕ) (o : Option (List ℕ)) �
 texts_changed names name o texts named good other text has =
     let at = get-at names name other o in let was = texts other text in let test = bytes_eq-Decides other name in grind arith
 
-pub lines_changed : (names : Texts) (name : List ℕ) (o : Option (List ℕ)) → AreLines names → IfSome o IsLine
-    → AreLines (changed names name o)
-lines_changed names name o lines good other text has =
-    let at = get-at names name other o in let was = lines other text in let test = bytes_eq-Decides other name in grind arith
-
 -- ---- the rows of names are those of one map
 
 one_list : (es fs : List (List ℕ × List ℕ)) → map row_of es ≡ map row_of fs → es ≡ fs
@@ -86,7 +84,7 @@ order = slice_cmp nat_cmp
 -- two rows compare by their names, and then by their texts
 row_cmp-row_of : (e f : List ℕ × List ℕ) → entry_cmp plain (row_of e) (row_of f)
     ≡ ordering_then (order e.0 f.0) (row_cmp (Text e.1 ∷ []) (Text f.1 ∷ []))
-row_cmp-row_of e f = search (arith, entry_cmp-plain, ordering_then, row_cmp, value_cmp-Text)
+row_cmp-row_of e f = search (arith, entry_cmp-plain, value_cmp-Text)
 
 untied : (b : Bool) (v : List ℕ) (o : Option (List ℕ)) → cond b (Some v) o ≡ None → (b ≡ false) × (o ≡ None)
 untied b v o h = grind arith
@@ -249,90 +247,10 @@ module _ (old mid new : View) (names : Texts) (k : List ℕ) (key met : Row) (sh
 
 -- ---- reading the rows of a table one by one
 
--- some of the tree's rows are read, and the names are theirs
-pub record IsReading (first now : View) (names : Texts) : Type 0 where
-  pub same : now ≡ record first { cursors = now.cursors }
-  pub rest : List Row
-  pub left : now.cursors 0 ≡ Some rest
-  pub all : rows_of names ++ rest ≡ first.trees 0
-
--- what stands before a row in an ascending list is below it
-below : (xs : List Row) (y : Row) (zs : List Row) → IsIndex plain (xs ++ y ∷ zs)
-    → AllByRecursion (λ x. entry_cmp plain x y ≡ Less) xs
-below [] y zs h = tt
-below (x ∷ xs) y zs h = (middle (λ z. entry_cmp plain x z ≡ Less) xs y zs h.0, below xs y zs h.1)
-  where
-    middle : (P : Row → Type 0) (xs : List Row) (y : Row) (zs : List Row) → AllByRecursion P (xs ++ y ∷ zs) → P y
-    middle P [] y zs h = h.0
-    middle P (x ∷ xs) y zs h = middle P xs y zs h.1
-
--- a row that all others are below comes after them
-insert-last : (row : Row) (rows : List Row) → AllByRecursion (λ x. entry_cmp plain x row ≡ Less) rows
-    → insert_entry plain row rows ≡ rows ++ row ∷ []
-insert-last row [] h = refl
-insert-last row (x ∷ xs) h = rw (h.0) (ap (λ l. x ∷ l) (insert-last row xs h.1))
-
-pub begin : (first now : View) (names : Texts) → first.shape 0 ≡ Index plain
-    → now ≡ with_cursor first 0 (sought (order_of (first.shape 0)) Forward [] (first.trees 0)) → rows_of names ≡ []
-    → IsReading first now names
-begin first now names shape is none = record {
-  same = rw is refl;
-  rest = first.trees 0;
-  left = rw (is, shape) (ap Some (from_key-none plain (first.trees 0)));
-  all = ap (λ l. l ++ first.trees 0) none;
-}
-
--- the last of these rows is this, or an empty one if there are none
-abbrev pub LastIs : List Row → Row → Type 0
-LastIs [] last = last ≡ []
-LastIs (r ∷ []) last = last ≡ r
-LastIs (r ∷ s ∷ rows) last = LastIs (s ∷ rows) last
-
-last_of : (rows : List Row) (row : Row) → LastIs (rows ++ row ∷ []) row
-last_of [] row = refl
-last_of (x ∷ []) row = refl
-last_of (x ∷ y ∷ rows) row = last_of (y ∷ rows) row
-
--- each name is below one whose row comes after theirs, if the last of them is another
-lower : (k v : List ℕ) (es : List (List ℕ × List ℕ)) (last : Row) → is_sorted order es ≡ true → LastIs (map row_of es) last
-    → (Text k ≡ column last 0 → ⊥) → AllByRecursion (λ x. entry_cmp plain x (row_of (k, v)) ≡ Less) (map row_of es)
-    → AllByRecursion (λ e. order e.0 k ≡ Less) es
-lower k v [] last sorted is other h = tt
-lower k v (e ∷ []) last sorted is other h =
-    let two = apart e.0 k (unequal e.0 k (λ one. other (ap Text (sym one) ∙ ap (λ r. column r 0) (sym is)))) in
-    let cmp = row_cmp-row_of e (k, v) in
-    grind arith
-lower k v (e ∷ f ∷ es) last sorted is other h =
-    let parts = and_parts (below_all order e.0 (f ∷ es)) _ sorted in
-    let rest = lower k v (f ∷ es) last parts.1 is other h.1 in
-    let first = and_parts (is_lt (order e.0 f.0)) _ parts.0 in
-    (nat_list_cmp_total.trans e.0 f.0 k (less _ first.0) rest.0, rest)
-
-pub step : (first now next : View) (met last : Row) (before : Texts) → IsOrdered first.shape first.trees
-    → first.shape 0 ≡ Index plain → IsReading first now before → LastIs (rows_of before) last
-    → Advances now next 0 met true → (is : IsAccount met) → (column met 0 ≡ column last 0 → ⊥)
-    → IsReading first next (insert before is.0.0 is.0.1) × LastIs (rows_of (insert before is.0.0 is.0.1)) met
-step first now next met last before ordered shape reading ended moves ((k, v), named, good, line, at) apart =
-    let all : rows_of before ++ met ∷ moves.0 ≡ first.trees 0 = rw (same_Some _ _ (sym reading.left ∙ moves.1)) at reading.all in
-    let index : IsIndex plain (first.trees 0) = rw shape at (ordered 0) in
-    let here = subst (λ r. AllByRecursion (λ x. entry_cmp plain x r ≡ Less) (rows_of before)) at
-    (below (rows_of before) met moves.0 (subst (IsIndex plain) (sym all) index)) in
-    let sorted = is_true (is_sorted order (entries before)) (entries_sorted before) in
-    let none : find order k (entries before) ≡ None = none_at k (entries before)
-    (lower k v (entries before) last sorted ended (λ is. apart (ap (λ r. column r 0) at ∙ is)) here) in
-    let after : rows_of (insert before k v) ≡ rows_of before ++ met ∷ [] =
-    sym (insert_entry-rows_of before k v (get-entries before k ∙ none)) ∙ insert-last (row_of (k, v)) (rows_of before) here
-    ∙ ap (λ r. rows_of before ++ r ∷ []) (sym at) in (
-      record {
-        same = rw (moves.2, reading.same) refl;
-        rest = moves.0;
-        left = ap (λ (w : View). w.cursors 0) moves.2;
-        all = ap (λ l. l ++ moves.0) after ∙ append_assoc (rows_of before) (met ∷ []) moves.0 ∙ all;
-      },
-      subst (λ rows. LastIs rows met) (sym after) (last_of (rows_of before) met),
-    )
-
--- ---- rows that are read are those of names
+-- so is each row, and each has another name than the row before it
+abbrev pub Follow : (Row → Type 0) → Row → List Row → Type 0
+Follow P last [] = ⊤
+Follow P last (row ∷ rows) = P row × (column row 0 ≡ column last 0 → ⊥) × Follow P row rows
 
 -- a name that all others are above is not among them
 not_above : (k : List ℕ) (es : List (List ℕ × List ℕ)) → below_all order k es ≡ true → find order k es ≡ None
@@ -342,85 +260,136 @@ not_above k (e ∷ es) h =
     let here = less _ parts.0 in
     rw here (not_above k es parts.1)
 
--- a row of names is that of a name with its text
-pub its_entry : (es : List (List ℕ × List ℕ)) (xs : List Row) (met : Row) (ys : List Row) → map row_of es ≡ xs ++ met ∷ ys
-    → is_sorted order es ≡ true → (e : List ℕ × List ℕ) × (find order e.0 es ≡ Some e.1) × (met ≡ row_of e)
-its_entry [] [] met ys is sorted = absurd cc
-its_entry [] (x ∷ xs) met ys is sorted = absurd cc
-its_entry (e ∷ es) [] met ys is sorted = (e, (let tied = tied_itself nat_list_cmp_total e.0 in grind arith), cc)
-its_entry (e ∷ es) (x ∷ xs) met ys is sorted =
+-- the rows of names do, if the row of each name is so
+follow_rows : (P : Row → Type 0) (last : Row) (es : List (List ℕ × List ℕ)) → is_sorted order es ≡ true
+    → ((k v : List ℕ) → find order k es ≡ Some v → P (row_of (k, v)) × (Text k ≡ column last 0 → ⊥))
+    → Follow P last (map row_of es)
+follow_rows P last [] sorted each = tt
+follow_rows P last (e ∷ es) sorted each =
     let parts = and_parts (below_all order e.0 es) _ sorted in
-    let rest : map row_of es ≡ xs ++ met ∷ ys = cc in
-    let (f, found, at) = its_entry es xs met ys rest parts.1 in
-    let far : f.0 ≡ e.0 → ⊥ = λ same.
-    let none = subst (λ k. find order k es ≡ None) (sym same) (not_above e.0 es parts.0) in let both = sym none ∙ found in cc in
-    (f, (let differ = unequal f.0 e.0 far in grind arith), at)
-
--- two rows of names, one behind the other, are of two names
-two_names : (es : List (List ℕ × List ℕ)) (xs : List Row) (last met : Row) (ys : List Row)
-    → map row_of es ≡ xs ++ last ∷ met ∷ ys → is_sorted order es ≡ true → column met 0 ≡ column last 0 → ⊥
-two_names [] [] last met ys is sorted same = absurd cc
-two_names [] (x ∷ xs) last met ys is sorted same = absurd cc
-two_names (e ∷ []) [] last met ys is sorted same = absurd cc
-two_names (e ∷ f ∷ es) [] last met ys is sorted same =
-    let parts = and_parts (below_all order e.0 (f ∷ es)) _ sorted in
-    let first = and_parts (is_lt (order e.0 f.0)) _ parts.0 in
-    let low = less _ first.0 in
     let tied = tied_itself nat_list_cmp_total e.0 in
-    let one : f.0 ≡ e.0 = cc in
-    let never = subst (λ k. order e.0 k ≡ Less) one low in cc
-two_names (e ∷ es) (x ∷ xs) last met ys is sorted same =
-    let rest : map row_of es ≡ xs ++ last ∷ met ∷ ys = cc in
-    two_names es xs last met ys rest (and_parts (below_all order e.0 es) _ sorted).1 same
+    let (its, new) = each e.0 e.1 (grind arith) in (
+      its,
+      new,
+      follow_rows P (row_of e) es parts.1 (λ k v found.
+          let other : k ≡ e.0 → ⊥ = λ same.
+          let both = sym (not_above e.0 es parts.0) ∙ subst (λ q. find order q es ≡ Some v) same found in cc in
+          let differ = unequal k e.0 other in
+          ((each k v (grind arith)).0, λ same. other cc)),
+    )
 
--- the last of some rows
-split_last : (rows : List Row) (last : Row) → LastIs rows last
-    → ((rows ≡ []) × (last ≡ [])) ⊎ ((xs : List Row) × (rows ≡ xs ++ last ∷ []))
-split_last [] last is = inl (refl, is)
-split_last (r ∷ []) last is = inr ([], ap (λ x. x ∷ []) (sym is))
-split_last (r ∷ s ∷ rows) last is = elim (split_last (s ∷ rows) last is) [
-  | inl none ↦ absurd (let never = none.0 in cc)
-  | inr more ↦ inr (r ∷ more.0, ap (λ l. r ∷ l) more.1)
-]
+pub follow_names : (P : Row → Type 0) (names : Texts)
+    → ((k v : List ℕ) → get names k ≡ Some v → P (row_of (k, v))) → Follow P [] (rows_of names)
+follow_names P names each = follow_rows P [] (entries names) (is_true _ (entries_sorted names))
+    (λ k v found. (each k v (get-entries names k ∙ found), λ same. absurd cc))
 
--- if the rows are those of names with texts of one line, the next is that of an account, and of another name than the last
-pub is_next : (first now next : View) (met last : Row) (before names : Texts) → IsReading first now before
-    → LastIs (rows_of before) last → Advances now next 0 met true → AreTexts names → AreLines names
-    → first.trees 0 ≡ rows_of names → IsAccount met × (column met 0 ≡ column last 0 → ⊥)
-is_next first now next met last before names reading ended moves texts lines is =
-    let all : rows_of names ≡ rows_of before ++ met ∷ moves.0 =
-    sym (rw (same_Some _ _ (sym reading.left ∙ moves.1)) at reading.all ∙ is) in
-    let sorted = is_true (is_sorted order (entries names)) (entries_sorted names) in
-    let (e, found, at) = its_entry (entries names) (rows_of before) met moves.0 all sorted in
-    let has = get-entries names e.0 ∙ found in
-    let good = texts e.0 e.1 has in (
-      (e, good.0, good.1, lines e.0 e.1 has, at),
-      elim (split_last (rows_of before) last ended) [
-        | inl (none, empty) ↦ λ same. let never = ap (λ r. column r 0) (sym at) ∙ same ∙ ap (λ r. column r 0) empty in cc
-        | inr (xs, split) ↦ two_names (entries names) xs last met moves.0
-            (all ∙ ap (λ l. l ++ met ∷ moves.0) split ∙ append_assoc xs (last ∷ []) (met ∷ moves.0)) sorted
+-- rows of accounts that do so in a tree are those of names
+below_less : (j k : List ℕ) (es : List (List ℕ × List ℕ)) → order j k ≡ Less → below_all order k es ≡ true
+    → below_all order j es ≡ true
+below_less j k [] low h = refl
+below_less j k (e ∷ es) low h =
+    let parts = and_parts (is_lt (order k e.0)) _ h in
+    let here = nat_list_cmp_total.trans j k e.0 low (less _ parts.0) in
+    rw here (below_less j k es low parts.1)
+
+ascend : (last : Row) (es : List (List ℕ × List ℕ)) → IsIndex plain (map row_of es) → Follow IsAccount last (map row_of es)
+    → is_sorted order es ≡ true
+ascend last [] index rows = refl
+ascend last (e ∷ []) index rows = refl
+ascend last (e ∷ f ∷ es) index (its, new, rows) =
+    let rest = ascend (row_of e) (f ∷ es) index.1 rows in
+    let two = apart e.0 f.0 (unequal e.0 f.0 (λ same. rows.1 (ap Text (sym same)))) in
+    let cmp = row_cmp-row_of e f in
+    let up = index.0.0 in
+    let low : order e.0 f.0 ≡ Less = grind arith in
+    rw (low, below_less e.0 f.0 es low (and_parts (below_all order f.0 es) _ rest).0) rest
+
+its_entries : (last : Row) (rows : List Row) → Follow IsAccount last rows → (es : List (List ℕ × List ℕ)) × (map row_of es ≡ rows)
+    × ((k v : List ℕ) → find order k es ≡ Some v → IsUtf8 k × IsUtf8 v × IsLine v)
+its_entries last [] h = ([], refl, λ k v found. absurd cc)
+its_entries last (row ∷ rows) ((e, named, good, line, at), new, more) =
+    let (es, is, all) = its_entries row rows more in (
+      e ∷ es,
+      cc,
+      λ k v found. elim (one_or_other k e.0) [
+        | inl same ↦
+            let tied = tied_itself nat_list_cmp_total k in
+            let text : e.1 ≡ v = grind arith in (rw same named, rw (← text) good, rw (← text) line)
+        | inr far ↦ let differ = unequal k e.0 far in all k v (grind arith)
       ],
     )
 
+its_names : (rows : List Row) → IsIndex plain rows → Follow IsAccount [] rows
+    → (names : Texts) × AreTexts names × AreLines names × (rows_of names ≡ rows)
+its_names rows index h =
+    let (es, is, all) = its_entries [] rows h in
+    let sorted = ascend [] es (subst (IsIndex plain) (sym is) index) (subst (Follow IsAccount []) (sym is) h) in
+    let good = subst T (sym sorted) tt in
+    let each = λ (k v : List ℕ) (has : get (from_sorted es) k ≡ Some v). all k v (sym (get-from_sorted order es k good) ∙ has) in (
+      from_sorted es,
+      (λ k v has. let e = each k v has in (e.0, e.1)),
+      (λ k v has. (each k v has).2),
+      ap (map row_of) (entries-from_sorted order es good) ∙ is,
+    )
+
+-- what the rows that are left say of all rows
+pub record IsReading (first now : View) (last : Row) : Type 0 where
+  pub same : now ≡ record first { cursors = now.cursors }
+  pub rest : List Row
+  pub left : now.cursors 0 ≡ Some rest
+  pub all : Follow IsAccount last rest ↔ Follow IsAccount [] (first.trees 0)
+
+pub begin : (first now : View) (last : Row) → first.shape 0 ≡ Index plain
+    → now ≡ with_cursor first 0 (sought (order_of (first.shape 0)) Forward [] (first.trees 0)) → last ≡ []
+    → IsReading first now last
+begin first now last shape is none = record {
+  same = rw is refl;
+  rest = first.trees 0;
+  left = rw (is, shape) (ap Some (from_key-none plain (first.trees 0)));
+  all = rw none ((λ h. h), (λ h. h));
+}
+
+module _ {first now next : View} {met last : Row} (reading : IsReading first now last) (moves : Advances now next 0 met true) where
+  rest_is : reading.rest ≡ met ∷ moves.0
+  rest_is = same_Some _ _ (sym reading.left ∙ moves.1)
+
+  pub step : IsAccount met → (column met 0 ≡ column last 0 → ⊥) → IsReading first next met
+  step is new = record {
+    same = rw (moves.2, reading.same) refl;
+    rest = moves.0;
+    left = ap (λ (w : View). w.cursors 0) moves.2;
+    all = (
+      λ more. reading.all.0 (subst (Follow IsAccount last) (sym rest_is) (is, new, more)),
+      λ every. (subst (Follow IsAccount last) rest_is (reading.all.1 every)).2,
+    );
+  }
+
+  -- if the rows are those of names with texts of one line, the next is that of an account, and of another name than the last
+  pub is_next : (names : Texts) → AreTexts names → AreLines names → first.trees 0 ≡ rows_of names
+      → Follow IsAccount last (met ∷ moves.0)
+  is_next names texts lines is = subst (Follow IsAccount last) rest_is (reading.all.1
+      (subst (Follow IsAccount []) (sym is) (follow_names IsAccount names (λ k v has.
+      let good = texts k v has in ((k, v), good.0, good.1, lines k v has, refl)))))
+
+-- rows that were read are those of names, unless the disk lied
+known : (clean : Bool) (rows : List Row) → (doubt clean ≡ 0 → IsIndex plain rows × Follow IsAccount [] rows)
+    → (names : Texts) × AreTexts names × AreLines names × (doubt clean ≡ 0 → rows_of names ≡ rows)
+known true rows is =
+    let (index, all) = is (no_doubt true refl) in
+    let (names, texts, lines, at) = its_names rows index all in (names, texts, lines, λ _. at)
+known false rows is =
+    let (names, texts, lines, at) = its_names [] tt tt in (names, texts, lines, λ clean. absurd (never_clean clean))
+
 -- all rows are read
-pub all_read : {S : Type 0} (g : Ghosts S) (old new : S) (names : Texts) (met : Row)
-    → (IsHonest g new → IsHonest g old) → (IsHonest g old → IsUnwritten (g.view old))
-    → (mid : S) → (IsHonest g new → IsReading (g.view old) (g.view mid) names)
+pub all_read : {S : Type 0} (g : Ghosts S) (old mid new : S) (last met : Row)
+    → (IsHonest g new → IsUnwritten (g.view old)) → (IsHonest g new → IsOrdered (g.view old).shape (g.view old).trees)
+    → (IsHonest g new → IsReading (g.view old) (g.view mid) last)
     → (IsHonest g new → Advances (g.view mid) (g.view new) 0 met false)
-    → IsKept g new names × (IsHonest g new → (g.view old).committed 0 ≡ rows_of names)
-all_read g old new names met earlier fresh mid reading ended = grind (arith, append-nil)
-
-abbrev empty_store : Texts
-empty_store = empty
-
-pub rows_of-empty : rows_of empty_store ≡ []
-rows_of-empty = ap (map row_of) (nil_from_length (entries empty_store) (sym (len-entries empty_store) ∙ len-empty order (List ℕ)))
-
-pub last-empty : (last : Row) → last ≡ [] → LastIs (rows_of empty_store) last
-last-empty last is = subst (λ rows. LastIs rows last) (sym rows_of-empty) is
-
-pub texts-empty : AreTexts empty_store × AreLines empty_store
-texts-empty = (
-  λ name text has. absurd (let gone = sym (get-empty order name) ∙ has in cc),
-  λ name text has. absurd (let gone = sym (get-empty order name) ∙ has in cc),
-)
+    → (names : Texts) × AreLines names × HasRows g new names × (IsHonest g new → (g.view old).committed 0 ≡ rows_of names)
+all_read g old mid new last met fresh ordered reading ended =
+    let (names, texts, lines, at) = known (g.view new).is_clean ((g.view old).trees 0) (λ clean.
+    let read = reading clean in
+    let none = same_Some _ _ (sym read.left ∙ (ended clean).0) in
+    (rw (fresh clean).indexed at (ordered clean 0), read.all.0 (subst (Follow IsAccount last) (sym none) tt))) in
+    let kept : IsKept g new names = grind arith in
+    (names, lines, (texts, kept), λ clean. sym (ap (λ (t : Trees). t 0) (fresh clean).settled) ∙ sym (at clean))

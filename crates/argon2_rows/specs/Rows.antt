@@ -73,13 +73,10 @@ abbrev pub line : View → List ℕ × List ℕ → List ℕ
 line Names e = shown e.0 ++ 10 ∷ []
 line Texts e = e.0 ++ 58 ∷ e.1 ++ 10 ∷ []
 
--- the lines of all names
+-- the lines of names
 abbrev pub lines : View → List (List ℕ × List ℕ) → List ℕ
 lines view [] = []
 lines view (e ∷ es) = line view e ++ lines view es
-
-abbrev pub lines_of : View → Named → List ℕ
-lines_of view names = lines view (entries names)
 
 -- the line of the name with its text would read as that of another: the name has a line break or a colon
 abbrev pub breaks_line : View → List ℕ → Bool
@@ -96,14 +93,13 @@ IsLineOf view e old new written.All = Appends old new (line view e) × (breaks_l
 IsLineOf view e old new Breaks = Keeps old new × (breaks_line view e.0 ≡ true)
 IsLineOf view e old new (Failed why) = ⊤
 
--- the lines before that of the first name that breaks it are written, and no more
-abbrev pub StopsAtBreak : View → Named → Option (List ℕ) → Option (List ℕ) → Type 0
-StopsAtBreak view names old new = (before after : List (List ℕ × List ℕ)) × (e : List ℕ × List ℕ)
-    × (entries names ≡ before ++ e ∷ after) × FitLines view before × (breaks_line view e.0 ≡ true)
-    × Appends old new (lines view before)
+-- the lines of these names are written, or those before the first name that breaks it, and no more
+abbrev pub AreLinesOf : View → List (List ℕ × List ℕ) → Option (List ℕ) → Option (List ℕ) → Written → Type 0
+AreLinesOf view es old new written.All = Appends old new (lines view es) × FitLines view es
+AreLinesOf view es old new Breaks = (before after : List (List ℕ × List ℕ)) × (e : List ℕ × List ℕ)
+    × (es ≡ before ++ e ∷ after) × FitLines view before × (breaks_line view e.0 ≡ true) × Appends old new (lines view before)
+AreLinesOf view es old new (Failed why) = ⊤
 
--- all lines are written, or those before the first name that breaks it
+-- the lines of all names
 abbrev pub AreWritten : View → Named → Option (List ℕ) → Option (List ℕ) → Written → Type 0
-AreWritten view names old new written.All = Appends old new (lines_of view names) × FitLines view (entries names)
-AreWritten view names old new Breaks = StopsAtBreak view names old new
-AreWritten view names old new (Failed why) = ⊤
+AreWritten view names = AreLinesOf view (entries names)

@@ -1,6 +1,6 @@
 use Rattle.argon2_rows.proofs.Imports.{rules, arith, Result, Err, StoreError, IsHonest}
 use Rattle.sqlite_trees.specs.declared.error.StoreError.TheVariants.{Corrupt, OutOfMemory}
-use Rattle.argon2_rows.proofs.LineLemmas.{all_lines, all_written, begin_lines, its_name, next_row, stops}
+use Rattle.argon2_rows.proofs.LineLemmas.{all_written, begin_lines, its_name, next_row, stops}
 use Rattle.argon2_rows.proofs.TableLemmas.{err_is, reads_ok, writes_less, writes_row, writes_then}
 use Rattle.argon2_rows.proofs.rows.write_rows.Goals as goal
 
@@ -14,8 +14,8 @@ pub loop-preserved : goal.loop-preserved
 loop-preserved g c = (
   search rules,
   λ names. writes_then (c.loop.invariant.1 names) (search (arith, reads_ok)) (λ never. never),
-  λ clean names texts sees. next_row c.args.view _ _ _ names _ _ _ _ (c.loop.invariant.2 (search arith) names texts sees)
-      (rw c.if-not-branch.false at (c.in_ok-next.ensures.ok clean)) texts
+  λ clean names texts sees. next_row (c.loop.invariant.2 (search arith) names texts sees)
+      (rw c.if-not-branch.false at (c.in_ok-next.ensures.ok clean))
       (λ e good is. rw c.in-Some-All.field-0-is at (c.in-Some-All.ensures e good is)),
 )
 
@@ -26,10 +26,8 @@ returns-in_err-next-clause-reads g c names texts sees =
 
 pub returns-then-not-branch-clause-shows : goal.returns-then-not-branch-clause-shows
 returns-then-not-branch-clause-shows g c names texts sees clean =
-    all_written c.args.view names _ _ c.flush.result _ c.outcome.ensures
-    (all_lines c.args.view _ _ (g.S.Store.view c.next.new.self) names _ _ _ c.next.new.row
-    (c.loop.invariant.2 (search arith) names texts sees) (rw c.if-not-branch.true at (c.in_ok-next.ensures.ok clean))
-    c.flush.ensures.bytes)
+    all_written (c.loop.invariant.2 (search arith) names texts sees) _ (rw c.if-not-branch.true at (c.in_ok-next.ensures.ok clean)).0
+    c.flush.ensures.bytes c.flush.result _ c.outcome.ensures
 
 pub returns-then-not-branch-clause-reads : goal.returns-then-not-branch-clause-reads
 returns-then-not-branch-clause-reads g c names texts sees =
@@ -41,9 +39,8 @@ returns-in-Some-Breaks-clause-reads g c names texts sees =
 
 pub returns-in-Some-Breaks-clause-shows : goal.returns-in-Some-Breaks-clause-shows
 returns-in-Some-Breaks-clause-shows g c names texts sees clean =
-    stops c.args.view _ _ (g.S.Store.view c.next.new.self) names _ _ _ c.next.new.row
-    (c.loop.invariant.2 (search arith) names texts sees) (rw c.if-not-branch.false at (c.in_ok-next.ensures.ok clean))
-    texts (λ e good is. rw c.in-Some-Breaks.field-0-is at (c.in-Some-Breaks.ensures e good is))
+    stops (c.loop.invariant.2 (search arith) names texts sees) _ (rw c.if-not-branch.false at (c.in_ok-next.ensures.ok clean))
+    (λ e good is. rw c.in-Some-Breaks.field-0-is at (c.in-Some-Breaks.ensures e good is))
 
 pub returns-in-Some-Failed-clause-reads : goal.returns-in-Some-Failed-clause-reads
 returns-in-Some-Failed-clause-reads g c names texts sees =
@@ -55,9 +52,8 @@ returns-in-None-clause-reads g c names texts sees =
     let failed : Result (Unit {0}) StoreError = Err Corrupt in
     let quiet = (c.loop.invariant.1 names).quiet in
     let never : IsHonest g.S.Store c.next.new.self → ⊥ = λ clean.
-    let (e, fs, good, is, all, left) = its_name c.args.view _ _ (g.S.Store.view c.next.new.self) names _ _ _
-    (c.loop.invariant.2 (search arith) names texts (sees (search arith)))
-    (rw c.if-not-branch.false at (c.in_ok-next.ensures.ok clean)) texts in
+    let (e, fs, good, is, rows, named, all) = its_name (c.loop.invariant.2 (search arith) names texts (sees (search arith)))
+    (rw c.if-not-branch.false at (c.in_ok-next.ensures.ok clean)) in
     c.in-None.ensures e good is in
     writes_then (c.loop.invariant.1 names) (writes_row g.S.Store failed tt (λ clean. absurd {0} (never clean)) tt
     (λ clean. absurd {0} (never clean)) (λ clean. absurd {0} (never clean)) c.next.ensures.schema c.next.ensures.quiet) (λ never. never)

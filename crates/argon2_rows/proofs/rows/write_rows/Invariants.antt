@@ -4,8 +4,6 @@ use Rattle.argon2_rows.proofs.rows.write_rows.Given as goal
 
 abbrev pub invariant-loop : goal.invariant-loop
 invariant-loop g l =
-    let first = g.S.Store.view l.fn.store in
-    let now = g.S.Store.view l.store in
-    IsSome (now.cursors 0) × ((names : Texts) → Writes g.S.Store l.fn.store l.store names names ⊥ (Ok tt))
-    × (IsHonest g.S.Store l.store → (names : Texts) → AreTexts names → Sees first names
-    → IsWriting l.view first now names (g.W.Write.contents l.fn.output) (g.W.Write.contents l.output))
+    IsSome ((g.S.Store.view l.store).cursors 0) × ((names : Texts) → Writes g.S.Store l.fn.store l.store names names ⊥ (Ok tt))
+    × (IsHonest g.S.Store l.store → (names : Texts) → AreTexts names → Sees (g.S.Store.view l.fn.store) names
+    → IsWriting l.view (g.S.Store.view l.store) names (g.W.Write.contents l.fn.output) (g.W.Write.contents l.output))
