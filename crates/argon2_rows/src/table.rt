@@ -1,7 +1,7 @@
 //! Writing rows.
 #![tactic(auto, using(crate::proofs::TableLemmas::kept))]
 
-ghost use Rattle.std.specs.Prelude.{◌≡◌, Any, None, Some, IsTrue, IfOk, map};
+ghost use Rattle.std.specs.Prelude.{◌≡◌, Any, None, Some, IsTrue, IsUtf8, IfOk, map};
 ghost use Rattle.std.specs.Cmp.Lexicographic.{slice_cmp};
 ghost use Rattle.std.specs.FinMap.{get};
 ghost use Rattle.std.specs.Ordering.{nat_cmp};
@@ -54,6 +54,7 @@ pub fn insert<S: Store>(
     ensures writes { (names : Texts) → (IsHonest S.Store store.old → get names name.now ≡ None) →
         Writes S.Store store.old store.new names (changed names name.now (Some text.now))
         (IsLong (name.now, text.now)) result }
+    ensures text { IsUtf8 text.now }
 {
     lay(row, name, text)?;
     store.insert(ACCOUNTS, row)
@@ -92,10 +93,11 @@ pub fn replace<S: Store>(
     new: &str,
 ) -> Result<(), StoreError>
     requires { IsHonest S.Store store.old → (S.Store.view store.old).shape 0 ≡ Index plain }
-    ensures { (names : Texts) →
+    ensures writes { (names : Texts) →
         (IsHonest S.Store store.old → get names name.now ≡ Some old.now) →
         Writes S.Store store.old store.new names (changed names name.now (Some new.now))
         (IsLong (name.now, new.now)) result }
+    ensures text { IsUtf8 new.now }
 {
     remove(store, row, name, old)?;
     insert(store, row, name, new)

@@ -266,52 +266,44 @@ module _ {S : Type 0} {g : Ghosts S} (edit : Edit) {old mid : AccountFile S g} (
       → get before (name_of edit) ≡ option_map string_bytes o
   has_text before has clean = shows before (reads before has).has clean ∙ ap (option_map string_bytes) is
 
-  -- one that is refused
-  pub refuses : (e : FileError) (r : Result (Unit {0}) FileError) → r ≡ Err e → is_refusal e ≡ true
-      → refusal edit (option_map string_bytes o) ≡ Some e → Serves (edit ∷ []) r old mid
-  refuses e r failed named why before has =
-      let read = reads before has in
-      rw failed (
+  -- one that writes nothing
+  unwritten : (r : Result (Unit {0}) FileError)
+      → ((before : Texts) → get before (name_of edit) ≡ option_map string_bytes o → Answers before (edit ∷ []) r before)
+      → ((closed long : Type 0) (fault : StoreError → Type 0) → IfErr r (HasCause closed fault long))
+      → Serves (edit ∷ []) r old mid
+  unwritten r answers cause before has =
+      let read = reads before has in (
         before,
-        ends_with (Err e) read.has read.quiet read.left (λ clean. (
-          (λ refused. one_refused edit before e
-              (rw (has_text before has clean) why)),
-          refl,
-        )) tt (search (arith, live read)) (λ clean. needs_no_cause (IsClosed old) (Any (IsTooLong before) (edit ∷ [])) (HasFailedBy old mid) e named),
+        ends_with r read.has read.quiet read.left (λ clean. answers before (has_text before has clean))
+            (on_all r (λ clean. read.left clean (was_open read clean))) (λ clean is. absurd (live read clean is))
+            (λ clean. cause (IsClosed old) (Any (IsTooLong before) (edit ∷ [])) (HasFailedBy old mid)),
       )
+
+  -- one that is refused
+  pub refuses : (e : FileError) → is_refusal e ≡ true → refusal edit (option_map string_bytes o) ≡ Some e
+      → Serves (edit ∷ []) (Err e) old mid
+  refuses e named why = unwritten (Err e) (λ before had. ((λ refused. one_refused edit before e (rw had why)), refl))
+      (λ closed long fault. needs_no_cause closed long fault e named)
 
   -- one that there is no memory for
   pub fails_after : {r : Result (Unit {0}) FileError} → IsErrAnd r (λ e. e ≡ OutOfMemory) → Serves (edit ∷ []) r old mid
-  fails_after failed before has =
-      let read = reads before has in
-      rw (err_is _ _ failed) (
-        before,
-        ends_with (Err OutOfMemory) read.has read.quiet read.left (λ clean. ((λ is. absurd cc), refl)) tt
-            (search (arith, live read)) (λ clean. tt),
-      )
+  fails_after failed = rw (err_is _ _ failed)
+      (unwritten (Err OutOfMemory) (λ before had. ((λ is. absurd cc), refl)) (λ closed long fault. tt))
 
   -- one that leaves the text
   pub accepts : refusal edit (option_map string_bytes o) ≡ None
       → gives edit (option_map string_bytes o) ≡ option_map string_bytes o → Serves (edit ∷ []) (Ok tt) old mid
-  accepts none same before has =
-      let read = reads before has in (
-        before,
-        ends_with (Ok tt) read.has read.quiet read.left (λ clean.
-            let had = has_text before has clean in
-            one_made edit before (rw had none) ∙ ap Ok (changed_back before before (name_of edit)
-            (gives edit (get before (name_of edit))) (λ q far. refl)
-            (had ∙ sym (ap (gives edit) had ∙ same))))
-            (λ clean. read.left clean (was_open read clean)) (search (arith, live read)) (λ clean. tt),
-      )
+  accepts none same = unwritten (Ok tt) (λ before had. one_made edit before (rw had none) ∙ ap Ok (changed_back before before
+      (name_of edit) (gives edit (get before (name_of edit))) (λ q far. refl) (had ∙ sym (ap (gives edit) had ∙ same))))
+      (λ closed long fault. tt)
 
   -- one that is written
-  pub writes : (new : AccountFile S g) (p : Option (List ℕ)) {long : Type 0} → refusal edit (option_map string_bytes o) ≡ None
+  pub writes : (new : AccountFile S g) (p : Option (List ℕ)) → refusal edit (option_map string_bytes o) ≡ None
       → gives edit (option_map string_bytes o) ≡ p → (done : Result (Unit {0}) StoreError)
       → ((names : Texts) → HasNames mid names → Changes g (database_of mid) (database_of new) names
-      (changed names (name_of edit) p) long done)
-      → (long → IsSomeAnd p (λ text. IsLong (name_of edit, text)))
+      (changed names (name_of edit) p) (IsSomeAnd p (λ text. IsLong (name_of edit, text))) done)
       → (r : Result (Unit {0}) FileError) → r ≡ read_of done → Serves (edit ∷ []) r old new
-  writes new p none given done change too r e before has =
+  writes new p none given done change r e before has =
       let read = reads before has in
       let wrote = change before read.has in
       let left : IsTrusted new → gives edit (get before (name_of edit)) ≡ p = λ clean.
@@ -325,7 +317,7 @@ module _ {S : Type 0} {g : Ghosts S} (edit : Edit) {old mid : AccountFile S g} (
         within_one edit,
         refl,
         subst (λ q. IsSomeAnd q (λ text. IsLong (name_of edit, text)))
-            (sym (left clean)) (too long),
+            (sym (left clean)) long,
       )) (λ clean. inr (all clean)) done (on_all done all) wrote r e
 
 -- a call on a file that can't be read

@@ -64,7 +64,7 @@ impl<S: Store> AccountFile<S> {
         if self.text_of(name)?.is_some() {
             return Err(FileError::NameTaken);
         }
-        read(self.write_row(name, None, text.text().as_str()))
+        read(self.write_row(name, None, Some(text.text().as_str())))
     }
 
     /// Gives a name that has a text another one, whatever text it has, also a locked one.
@@ -80,7 +80,7 @@ impl<S: Store> AccountFile<S> {
         let Some(old) = self.text_of(name)? else {
             return Err(FileError::NameUnknown);
         };
-        read(self.write_row(name, Some(old.as_str()), text.text().as_str()))
+        read(self.write_row(name, Some(old.as_str()), Some(text.text().as_str())))
     }
 
     /// Gives a name the text `new` if it still has the text `old`, and that is not locked. So a text that was read,
@@ -105,7 +105,7 @@ impl<S: Store> AccountFile<S> {
         if text.as_str() != old {
             return Err(FileError::Changed);
         }
-        read(self.write_row(name, Some(text.as_str()), new.text().as_str()))
+        read(self.write_row(name, Some(text.as_str()), Some(new.text().as_str())))
     }
 
     /// Removes a name and its text.
@@ -121,7 +121,7 @@ impl<S: Store> AccountFile<S> {
         let Some(text) = self.text_of(name)? else {
             return Err(FileError::NameUnknown);
         };
-        read(self.remove_row(name, text.as_str()))
+        read(self.write_row(name, Some(text.as_str()), None))
     }
 
     /// Locks a name: its text is kept behind `!`, and accepts no password until [`unlock`](AccountFile::unlock) or
@@ -142,7 +142,7 @@ impl<S: Store> AccountFile<S> {
             return Ok(());
         }
         let locked = locked(self.alloc, text.as_str())?;
-        read(self.write_row(name, Some(text.as_str()), locked.as_str()))
+        read(self.write_row(name, Some(text.as_str()), Some(locked.as_str())))
     }
 
     /// Unlocks a name: it has the text again that it had when it was locked. A text that is not locked stays as it
@@ -159,7 +159,7 @@ impl<S: Store> AccountFile<S> {
         let Some(bare) = behind_lock(text.as_str()) else {
             return Ok(());
         };
-        read(self.write_row(name, Some(text.as_str()), bare))
+        read(self.write_row(name, Some(text.as_str()), Some(bare)))
     }
 
     /// Adds all of these new names with their texts, or none. They are written together: after a crash in the

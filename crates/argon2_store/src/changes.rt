@@ -1,7 +1,7 @@
 //! Changes of the rows, each a transaction.
 #![tactic(auto, using(argon2_rows::proofs::TableLemmas::kept))]
 
-ghost use Rattle.std.specs.Prelude.{◌≡◌, None, Some, map};
+ghost use Rattle.std.specs.Prelude.{◌≡◌, IsSomeAnd, map};
 ghost use Rattle.std.specs.FinMap.{get};
 ghost use Rattle.std.specs.Option.{option_copied};
 ghost use Rattle.argon2_rows.specs.Names.{Texts, changed, entry_of};
@@ -16,37 +16,27 @@ use sqlite_trees::store::Store;
 impl<S: Store> AccountFile<S> {
     ghost use Rattle.argon2_store.specs.AccountFile.{database_of};
 
-    // Gives a name another text than `old`, which it has, or its first one, and commits.
+    // Gives a name another text than `old`, which it has, or its first one, or takes its text away, and commits.
     pub(crate) fn write_row(
         &mut self,
         name: &str,
         old: Option<&str>,
-        new: &str,
+        new: Option<&str>,
     ) -> Result<(), StoreError>
         requires open { IsHonest S.Store (database_of self.old) → IsOpen S.Store (database_of self.old) }
         requires known { (names : Texts) → HasRows S.Store (database_of self.old) names →
             IsHonest S.Store (database_of self.old) → get names name.now ≡ option_copied old }
         ensures { (before : Texts) → HasRows S.Store (database_of self.old) before →
             Changes S.Store (database_of self.old) (database_of self.new) before
-            (changed before name.now (Some new.now)) (IsLong (name.now, new.now)) result }
+            (changed before name.now (option_copied new.entry))
+            (IsSomeAnd (option_copied new.entry) (λ text. IsLong (name.now, text))) result }
     {
-        let done = match old {
-            Some(old) => replace(&mut self.store, &mut self.row, name, old, new),
-            None => insert(&mut self.store, &mut self.row, name, new),
+        let done = match (old, new) {
+            (Some(old), Some(new)) => replace(&mut self.store, &mut self.row, name, old, new),
+            (Some(old), None) => remove(&mut self.store, &mut self.row, name, old),
+            (None, Some(new)) => insert(&mut self.store, &mut self.row, name, new),
+            (None, None) => Ok(()),
         };
-        finish(&mut self.store, done)
-    }
-
-    // Removes a name with the text that it has, and commits.
-    pub(crate) fn remove_row(&mut self, name: &str, text: &str) -> Result<(), StoreError>
-        requires open { IsHonest S.Store (database_of self.old) → IsOpen S.Store (database_of self.old) }
-        requires known { (names : Texts) → HasRows S.Store (database_of self.old) names →
-            IsHonest S.Store (database_of self.old) → get names name.now ≡ Some text.now }
-        ensures { (before : Texts) → HasRows S.Store (database_of self.old) before →
-            Changes S.Store (database_of self.old) (database_of self.new) before
-            (changed before name.now None) ⊥ result }
-    {
-        let done = remove(&mut self.store, &mut self.row, name, text);
         finish(&mut self.store, done)
     }
 

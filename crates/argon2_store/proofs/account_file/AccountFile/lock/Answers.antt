@@ -7,7 +7,7 @@ returns-in_err-text g c = cannot_serve c.in_err-text.ensures.reads c.from_residu
 
 pub returns-in_default : goal.returns-in_default
 returns-in_default g c =
-    refuses (locking c.args.name.now) c.in_ok-text.ensures.reads c.in_default.is c.in_ok-text.ensures.shows NameUnknown _ refl refl refl
+    refuses (locking c.args.name.now) c.in_ok-text.ensures.reads c.in_default.is c.in_ok-text.ensures.shows NameUnknown refl refl
 
 pub returns-then-is_some : goal.returns-then-is_some
 returns-then-is_some g c =
@@ -28,4 +28,4 @@ returns g c =
     let bare : is_locked text ≡ false = rw c.as_str.ensures.value at (locked_if c.behind_lock.result c.as_str.result.now c.behind_lock.ensures
     (sym c.is_some.ensures ∙ c.if-is_some.false)) in
     writes (locking c.args.name.now) c.in_ok-text.ensures.reads c.in-Some.is c.in_ok-text.ensures.shows _ (Some (33 ∷ text)) refl
-    (with_lock-bare text bare) _ (rw row at c.write_row.ensures) (λ long. long) _ c.read.ensures
+    (with_lock-bare text bare) _ (rw row at c.write_row.ensures) _ c.read.ensures

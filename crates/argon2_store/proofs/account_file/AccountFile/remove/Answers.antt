@@ -7,10 +7,9 @@ returns-in_err-text g c = cannot_serve c.in_err-text.ensures.reads c.from_residu
 
 pub returns-in_default : goal.returns-in_default
 returns-in_default g c =
-    refuses (removing c.args.name.now) c.in_ok-text.ensures.reads c.in_default.is c.in_ok-text.ensures.shows NameUnknown _ refl
-    refl refl
+    refuses (removing c.args.name.now) c.in_ok-text.ensures.reads c.in_default.is c.in_ok-text.ensures.shows NameUnknown refl refl
 
 pub returns : goal.returns
 returns g c =
     writes (removing c.args.name.now) c.in_ok-text.ensures.reads c.in-Some.is c.in_ok-text.ensures.shows _ None refl refl _
-    c.remove_row.ensures (λ never. absurd never) _ c.read.ensures
+    c.write_row.ensures _ c.read.ensures

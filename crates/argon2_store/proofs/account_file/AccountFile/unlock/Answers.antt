@@ -7,7 +7,7 @@ returns-in_err-text g c = cannot_serve c.in_err-text.ensures.reads c.from_residu
 
 pub returns-in_default : goal.returns-in_default
 returns-in_default g c =
-    refuses (unlocking c.args.name.now) c.in_ok-text.ensures.reads c.in_default.is c.in_ok-text.ensures.shows NameUnknown _ refl refl refl
+    refuses (unlocking c.args.name.now) c.in_ok-text.ensures.reads c.in_default.is c.in_ok-text.ensures.shows NameUnknown refl refl
 
 pub returns-in_default-behind_lock : goal.returns-in_default-behind_lock
 returns-in_default-behind_lock g c =
@@ -23,4 +23,4 @@ returns g c =
     let some : behind_lock text ≡ Some c.in-Some-behind_lock.bare.now =
     rw (c.in-Some-behind_lock.is, c.as_str.ensures.value) at (sym c.behind_lock.ensures) in
     writes (unlocking c.args.name.now) c.in_ok-text.ensures.reads c.in-Some.is c.in_ok-text.ensures.shows _ (Some c.in-Some-behind_lock.bare.now) refl
-    (ap Some (without_lock-locked text c.in-Some-behind_lock.bare.now some)) _ c.write_row.ensures (λ long. long) _ c.read.ensures
+    (ap Some (without_lock-locked text c.in-Some-behind_lock.bare.now some)) _ c.write_row.ensures _ c.read.ensures

@@ -1,21 +1,34 @@
-use Rattle.argon2_store.proofs.Imports.{Some, ∥∥₁_map, Texts, HasRows, Changes, IsLong, changed}
-use Rattle.argon2_rows.proofs.RowLemmas.{texts_changed}
-use Rattle.argon2_rows.proofs.TableLemmas.{changes_of, has_either}
+use Rattle.argon2_store.proofs.Imports.{refl, None, IfSome, IsUtf8, IsSomeAnd, option_copied, ∥∥₁_map, Texts, HasRows, Changes, IsLong, Writes, changed}
+use Rattle.argon2_rows.proofs.RowLemmas.{changed_back, texts_changed}
+use Rattle.argon2_rows.proofs.TableLemmas.{changes_of, has_either, writes_nothing}
 use Rattle.argon2_store.proofs.account_file.AccountFile.write_row.Goals as goal
-use Rattle.argon2_store.proofs.account_file.AccountFile.write_row.Goals.{After-finish, in-Some, in-None}
+use Rattle.argon2_store.proofs.account_file.AccountFile.write_row.Goals.{After-finish, in-Some-Some, in-Some-None, in-None-Some, in-None-None}
 
 -- the row is committed, or taken back
 written : (g : _) (c : After-finish g) (before : Texts) → HasRows g.S.Store c.args.self.now.store before
     → Changes g.S.Store c.args.self.now.store c.finish.new.store before
-    (changed before c.args.name.now (Some c.args.new.now)) (IsLong (c.args.name.now, c.args.new.now)) c.finish.result
+    (changed before c.args.name.now (option_copied c.args.new))
+    (IsSomeAnd (option_copied c.args.new) (λ text. IsLong (c.args.name.now, text))) c.finish.result
 written g c before has =
+    let name = c.args.name.now in
+    let known = c.requires.known before has in
+    let both : IfSome (option_copied c.args.new) IsUtf8 × Writes g.S.Store c.args.self.now.store c.match-old.self.1.0 before
+    (changed before name (option_copied c.args.new)) (IsSomeAnd (option_copied c.args.new) (λ text. IsLong (name, text)))
+    c.match-old.done = elim c.match-old.branch [
+      | in-Some-Some w ↦ rw (w.self-is, w.done-is, w.in-Some-Some.is-1)
+          (w.replace-done.ensures.text, w.replace-done.ensures.writes before (rw w.in-Some-Some.is-0 at known))
+      | in-Some-None w ↦ rw (w.self-is, w.done-is, w.in-Some-None.is-1)
+          (tt, w.remove-done.ensures.writes before (rw w.in-Some-None.is-0 at known))
+      | in-None-Some w ↦ rw (w.self-is, w.done-is, w.in-None-Some.is-1)
+          (w.insert-done.ensures.text, w.insert-done.ensures.writes before (rw w.in-None-Some.is-0 at known))
+      | in-None-None w ↦ rw (w.self-is, w.done-is, w.in-None-None.is-1) (
+        tt,
+        writes_nothing g.S.Store (λ clean.
+            changed_back before before name None (λ other far. refl) (rw w.in-None-None.is-0 at known clean)),
+      )
+    ] in
     changes_of g.met.S.Store.settled c.requires.open c.match-old.done c.finish.result has
-    (texts_changed before c.args.name.now (Some c.args.new.now) has.0 c.utf8.name c.utf8.new) (elim c.match-old.branch [
-      | in-Some w ↦ rw (w.self-is, w.done-is)
-          (w.replace-done.ensures before (rw w.in-Some.is at (c.requires.known before has)))
-      | in-None w ↦ rw (w.self-is, w.done-is)
-          (w.insert-done.ensures.writes before (rw w.in-None.is at (c.requires.known before has)))
-    ]) c.finish.ensures
+    (texts_changed before name (option_copied c.args.new) has.0 c.utf8.name both.0) both.1 c.finish.ensures
 
 pub returns : goal.returns
 returns g c = written g (goal.at.returns g c).After-finish
