@@ -184,17 +184,15 @@ pub ends_with : {S : Type 0} {g : Ghosts S} {edits : List Edit} {old new : Accou
     (r : Result (Unit {0}) FileError) → HasNames new before → StaysQuiet g (database_of old) (database_of new)
     → (IsTrusted new → IsOpen g (database_of old) → CrashLeaves g (database_of new) (λ left. left ≡ before))
     → (IsTrusted new → Answers before edits r before)
-    → OnOk r (IsTrusted new → CrashLeaves g (database_of new) (λ left. left ≡ before))
     → (IsTrusted old → IsClosed old → (r ≡ Err Closed) × (database_of new ≡ database_of old))
     → (IsTrusted new → IfErr r (HasCause (IsClosed old) (HasFailedBy old new) (Any (IsTooLong before) edits)))
     → Makes edits r old new before before
-ends_with r has quiet left answers durable closed cause = record {
+ends_with r has quiet left answers closed cause = record {
   has = has;
   answers = answers;
   honest = λ clean. omega (arith, clean, quiet.clean);
   refused = grind arith;
   crash = λ clean is_open db found. let (names, held, is) = left clean is_open db found in (names, held, inl is);
-  durable = durable;
   closed = closed;
   closes = quiet.closes;
   cause = cause;
@@ -205,27 +203,21 @@ module _ {S : Type 0} {g : Ghosts S} {old mid : AccountFile S g} {before : Texts
   live : IsTrusted old → IsClosed old → ⊥
   live clean is = let never = (reads.closed clean is).0 in cc
 
-  was_open : IsTrusted mid → IsOpen g (database_of old)
-  was_open clean = true_from_ne_false _ (live (omega (arith, clean, reads.quiet.clean)))
-
   -- the end of a call that changes the names, or leaves them
   ends : {edits : List Edit} {other : Type 0} {new : AccountFile S g} {to : Texts} {done : Result (Unit {0}) StoreError}
-      → (IsTrusted new → (to ≡ before) ⊎ (names_after edits before ≡ Ok to))
       → Changes g (database_of mid) (database_of new) before to other done
       → (r : Result (Unit {0}) FileError) (after : Texts) → HasNames new after → (IsTrusted new → Answers before edits r after)
       → IfErr r (λ e. IsTrue (is_refusal e) → StaysQuiet g (database_of old) (database_of new))
-      → OnOk r (IsTrusted new → CrashLeaves g (database_of new) (λ left. left ≡ after))
+      → (IsTrusted new → CrashLeaves g (database_of new) (λ left.
+      (left ≡ after) ⊎ (IsErrAnd r (λ e. is_refusal e ≡ false) × (names_after edits before ≡ Ok left))))
       → (IsTrusted new → IfErr r (HasCause (IsClosed old) (HasFailedBy old new) (Any (IsTooLong before) edits)))
       → Makes edits r old new before after
-  ends {edits} then change r after has answers refused durable cause = record {
+  ends {edits} change r after has answers refused crash cause = record {
     has = has;
     answers = answers;
     honest = λ clean. omega (arith, change.honest clean, reads.quiet.clean);
     refused = refused;
-    crash = λ clean is_open db found.
-        let (names, held, is) = change.crash clean db found in
-        let ended = then clean in (names, held, grind arith);
-    durable = durable;
+    crash = λ clean is_open. crash clean;
     closed = λ clean h. absurd (live clean h);
     closes = λ clean is_open. let yet = change.closes clean in let counts = reads.quiet.counts in grind arith;
     cause = cause;
@@ -237,13 +229,17 @@ module _ {S : Type 0} {g : Ghosts S} {old mid : AccountFile S g} {before : Texts
       → (done : Result (Unit {0}) StoreError) → OnOk done (IsTrusted new → names_after edits before ≡ Ok to)
       → Changes g (database_of mid) (database_of new) before to long done
       → (r : Result (Unit {0}) FileError) → r ≡ read_of done → (after : Texts) × Makes edits r old new before after
-  writes_all {to = to} too then (Ok _) all change r e =
-      (to, rw e (ends then change (Ok tt) to change.kept all tt (λ clean. (change.durable clean).1) (λ clean. tt)))
+  writes_all {to = to} too then (Ok _) all change r e = (
+    to,
+    rw e (ends change (Ok tt) to change.kept all tt
+        (λ clean db found. let (names, held, is) = (change.durable clean).1 db found in (names, held, inl is)) (λ clean. tt)),
+  )
   writes_all {edits = edits} {long = long} {new = new} too then (Err f) all change r e =
-      let never = is_of_file f in (
+      let of_file = is_of_file f in (
         before,
-        rw e (ends then change (Err (call_error f)) before change.kept (λ clean. ((λ is. absurd cc), refl))
-            (λ is. absurd cc) tt (λ clean. let was = change.honest clean in
+        rw e (ends change (Err (call_error f)) before change.kept (λ clean. ((λ is. absurd cc), refl)) (λ is. absurd cc)
+            (λ clean db found. let (names, held, is) = change.crash clean db found in
+            let ended = then clean in (names, held, grind arith)) (λ clean. let was = change.honest clean in
             due old new (g.view (database_of mid)) (IsClosed old) (HasFailed g (database_of mid) (database_of new)) long (Any (IsTooLong before) edits) (reads.has.1.sound was (reads.is_open refl was))
             (λ failed. omega (arith, failed, reads.quiet.counts)) (too clean) f (change.cause clean))),
       )
@@ -275,7 +271,7 @@ module _ {S : Type 0} {g : Ghosts S} (edit : Edit) {old mid : AccountFile S g} (
       let read = reads before has in (
         before,
         ends_with r read.has read.quiet read.left (λ clean. answers before (has_text before has clean))
-            (on_all r (λ clean. read.left clean (was_open read clean))) (λ clean is. absurd (live read clean is))
+            (λ clean is. absurd (live read clean is))
             (λ clean. cause (IsClosed old) (Any (IsTooLong before) (edit ∷ [])) (HasFailedBy old mid)),
       )
 
@@ -325,7 +321,7 @@ pub fails : {S : Type 0} {g : Ghosts S} {edits : List Edit} {old mid : AccountFi
     → Stays (Some e) before old mid → Makes edits (Err e) old mid before before
 fails {e = e} reads =
     let never = reads.of_file in
-    ends_with (Err e) reads.has reads.quiet reads.left (λ clean. ((λ is. absurd cc), refl)) tt
+    ends_with (Err e) reads.has reads.quiet reads.left (λ clean. ((λ is. absurd cc), refl))
     (λ clean is. let shut = reads.closed clean is in (cc, shut.1)) (λ clean. let why = reads.cause clean in grind arith)
 
 pub cannot_serve : {S : Type 0} {g : Ghosts S} {edits : List Edit} {old mid : AccountFile S g} {e : FileError}

@@ -1,11 +1,11 @@
 -- What calls make of a file, and what an open finds after them.
-use Rattle.argon2_store.proofs.Imports.{arith, ◌≡◌, ◌⊎◌, ℕ, Bool, cond, List, [], ◌∷◌, ◌++◌, false, true, Result, Ok, Err, inl, inr, refl, sym, subst, ◌∙◌, ap, append_assoc, cases_Bool, empty, get}
+use Rattle.argon2_store.proofs.Imports.{arith, ◌≡◌, ◌⊎◌, ℕ, cond, List, [], ◌∷◌, ◌++◌, false, Result, Ok, Err, inl, inr, refl, sym, subst, ◌∙◌, ap, append_assoc, cases_Bool, empty, get}
 use Rattle.argon2_store.proofs.Imports.{∥∥₁_elim, ∥∥₁_map, flat_map, Option, Some, None, SeenMayStay, settled_at, FileStore, Trees, Ghosts, bytes_eq, bytes_eq-Decides}
-use Rattle.argon2_store.proofs.Imports.{Texts, IsClosed, Makes, Serves, database_of, Edit, changed, gives, left_by, names_after, name_of, refusal, is_refusal}
+use Rattle.argon2_store.proofs.Imports.{Answers, IsErrAnd, Texts, IsClosed, database_of, Edit, changed, gives, left_by, names_after, name_of, refusal, is_refusal}
 use Rattle.argon2_store.proofs.Imports.{AreEventsOf, AreMade, Did, Does, EndsRun, FileEvent, FileCall, IsFoundAfter, IsLate, IsLateOf, IsShutOut, FileRun, events_of, makes, text_by}
 use Rattle.argon2_store.proofs.Imports.{over_file, reads, IsHonest, IsOpen, CrashLeaves, AccountFile, FileError, Closed}
-use Rattle.argon2_store.specs.AccountFile.{HasNames, IsReady, NamesStay}
-use Rattle.argon2_rows.proofs.TableLemmas.{Settled, leaves_quiet}
+use Rattle.argon2_store.specs.AccountFile.{HasNames, IsReady}
+use Rattle.argon2_rows.proofs.TableLemmas.{Settled}
 use Rattle.argon2_store.proofs.NextOpenLemmas.{next_open}
 use Rattle.argon2_store.proofs.OpenLemmas.{left_table}
 use Rattle.argon2_store.specs.Opening.{IsTableOf}
@@ -53,6 +53,26 @@ texts_of_events ((edits, Err e) ∷ older) names (before, earlier, step) name =
     ap (λ (m : Texts). get m name) step.1 ∙ texts_of_events older before earlier name
 
 -- ---- calls
+
+-- what a call made of the names, and what may come late of it
+its_events : (before after : Texts) (edits : List Edit) (result : Result (Unit {0}) FileError) → Answers before edits result after
+    → AreMade before (events_of (makes edits result)) after
+its_events before after edits (Ok x) is = (before, refl, is)
+its_events before after edits (Err e) is =
+    elim (cases_Bool (is_refusal e)) [ inl refused ↦ rw refused (before, refl, is) | inr of_file ↦ rw of_file is.1 ]
+
+its_late : (before after left : Texts) (edits : List Edit) (result : Result (Unit {0}) FileError)
+    → Answers before edits result after
+    → (left ≡ after) ⊎ (IsErrAnd result (λ e. is_refusal e ≡ false) × (names_after edits before ≡ Ok left))
+    → (left ≡ after) ⊎ ((late : List FileEvent) × IsLateOf (makes edits result) late × AreMade after late left)
+its_late before after left edits result answers (inl is) = inl is
+its_late before after left edits (Ok x) answers (inr never) = absurd never.0
+its_late before after left edits (Err e) answers (inr (of_file, is)) =
+    inr ((edits, Ok tt) ∷ [], (of_file, refl), (after, refl, ap (names_after edits) answers.1 ∙ is))
+
+no_event : (edits : List Edit) (result : Result (Unit {0}) FileError) → result ≡ Err Closed → events_of (makes edits result) ≡ []
+no_event edits (Ok x) shut = absurd cc
+no_event edits (Err e) shut = let is : e ≡ Closed = cc in rw is refl
 
 module _ {S : Type 0} {g : Ghosts S} (settled : Settled g) (first : Texts) where
   -- what these events made of the first names, and what a crash leaves: that, or some that come late too
@@ -109,58 +129,22 @@ module _ {S : Type 0} {g : Ghosts S} (settled : Settled g) (first : Texts) where
           ];
         }
 
-    -- a call that answers so
-    runs : {edits : List Edit} {result : Result (Unit {0}) FileError} {after : Texts} (Late : List FileEvent → Type 0)
-        (newer : List FileEvent) → Makes edits result old new before.names after
-        → (IsHonest g (database_of new) → AreMade before.names newer after)
-        → (IsHonest g (database_of new) → IsOpen g (database_of old) → CrashLeaves g (database_of new)
-        (λ left. (left ≡ after) ⊎ ((late : List FileEvent) × Late late × AreMade after late left)))
-        → (result ≡ Err Closed → newer ≡ []) → Reached (newer ++ events) (Now Late (result ≡ Err Closed)) new
-    runs Late newer does step crash none = reaches Late _ newer _ does.has does.honest step crash
-        (λ clean is_closed. let (shut, same) = does.closed (does.honest clean) is_closed in
-        (shut, none shut, λ db found. rw same at found))
-
-    serves : (edits : List Edit) (result : Result (Unit {0}) FileError) → Serves edits result old new
-        → Reached (events_of (makes edits result) ++ events) (Now (IsLateOf (makes edits result)) (result ≡ Err Closed)) new
-    serves edits (Ok x) serve =
+    pub one_more : (call : FileCall) → Does call old new
+        → Reached (events_of call ++ events) (Now (IsLateOf call) (IsShutOut call)) new
+    one_more (makes edits result) serve =
         let (after, does) = serve before.names before.has in
-        runs (λ late. ⊥) ((edits, Ok tt) ∷ []) does (λ clean. (before.names, refl, does.answers clean))
-        (λ clean is_open db found. let (names, has, is) = does.durable clean db found in (names, has, inl is)) (λ is. absurd cc)
-    serves edits (Err e) serve = go (is_refusal e) refl
-      where
-        go : (b : Bool) → is_refusal e ≡ b → Reached (events_of (makes edits (Err e)) ++ events)
-            (Now (IsLateOf (makes edits (Err e))) (◌≡◌ {A = Result (Unit {0}) FileError} (Err e) (Err Closed))) new
-        go true refused =
-            let (after, does) = serve before.names before.has in
-            rw refused (runs (IsLateOf (makes edits (Err e))) ((edits, Err e) ∷ []) does (λ clean. (before.names, refl, does.answers clean))
-            (λ clean is_open db found. let (names, has, is) = leaves_quiet g settled (database_of old) (database_of new)
-            before.names before.has.1 (does.refused refused) clean is_open db found in
-            (names, has, inl (is ∙ sym (does.answers clean).1))) (λ is. absurd cc))
-        go false of_file =
-            let (after, does) = serve before.names before.has in
-            rw of_file (runs (IsLateOf (makes edits (Err e))) [] does (λ clean. (does.answers clean).1)
-            (λ clean is_open db found. let (names, has, left) = does.crash clean is_open db found in
-            let same = (does.answers clean).1 in (
-              names,
-              has,
-              elim left [
-                | inl is ↦ inl (is ∙ sym same)
-                | inr is ↦ inr ((edits, Ok tt) ∷ [], (of_file, refl), (after, refl, ap (names_after edits) same ∙ is))
-              ],
-            )) (λ is. refl))
-
-    keeps : (error : Option FileError) → NamesStay error old new → Reached events (Now (λ late. ⊥) (error ≡ Some Closed)) new
-    keeps error stay =
+        reaches (IsLateOf (makes edits result)) _ _ after does.has does.honest
+        (λ clean. its_events before.names after edits result (does.answers clean))
+        (λ clean is_open db found. let (names, held, left) = does.crash clean is_open db found in
+        (names, held, its_late before.names after names edits result (does.answers clean) left))
+        (λ clean is_closed. let (shut, same) = does.closed (does.honest clean) is_closed in
+        (shut, no_event edits result shut, λ db found. rw same at found))
+    one_more (reads error) stay =
         let does = stay before.names before.has in
         let honest : IsHonest g (database_of new) → IsHonest g (database_of old) = search arith in
         reaches (λ late. ⊥) _ [] before.names does.has honest (λ clean. refl)
         (λ clean is_open db found. let (names, has, is) = does.left clean is_open db found in (names, has, inl is))
         (λ clean is_closed. ((does.closed (honest clean) is_closed).0, refl, does.quiet.outcomes))
-
-    pub one_more : (call : FileCall) → Does call old new
-        → Reached (events_of call ++ events) (Now (IsLateOf call) (IsShutOut call)) new
-    one_more (makes edits result) does = serves edits result does
-    one_more (reads error) does = keeps error does
 
   pub reached : (begun : AccountFile S g) → IsReady first begun → (calls : List FileCall) (last : AccountFile S g)
       → Did calls begun last → Reached (flat_map events_of calls) (IsLate calls) last

@@ -1,5 +1,5 @@
 -- What callers see of accounts in a file, and what each call does.
-use Rattle.std.specs.Prelude.{◌≡◌, ◌⊎◌, ℕ, List, false, Any, Option, Some, None, IfSome, Result, Ok, Err, IfErr, IsTrue, OnOk, ⊤, length}
+use Rattle.std.specs.Prelude.{◌≡◌, ◌⊎◌, ℕ, List, false, Any, Option, Some, None, IfSome, Result, Ok, Err, IfErr, IsErrAnd, IsTrue, ⊤, length}
 use Rattle.sqlite_trees.specs.declared.error.StoreError.{StoreError}
 use Rattle.sqlite_trees.specs.declared.error.StoreError.TheVariants as below
 use Rattle.sqlite_trees.specs.declared.store.Store.{Ghosts}
@@ -120,11 +120,10 @@ module _ {S : Type 0} {g : Ghosts S} where
     pub honest : IsHonest g (database_of new) → IsHonest g (database_of old)
     -- a refusal writes nothing: no fault is forgotten, and a crash has no new outcome
     pub refused : IfErr result (λ e. IsTrue (is_refusal e) → StaysQuiet g (database_of old) (database_of new))
-    -- a crash at any moment of the call leaves the names from before it, or those that it was to leave
-    pub crash : IsHonest g (database_of new) → IsOpen g (database_of old) → CrashLeaves g (database_of new)
-        (λ left. (left ≡ before) ⊎ (names_after edits before ≡ Ok left))
-    -- once it has returned `Ok`, every crash leaves the names that there are now
-    pub durable : OnOk result (IsHonest g (database_of new) → CrashLeaves g (database_of new) (λ left. left ≡ after))
+    -- A crash at any moment of the call, and after it, leaves the names after it. If it has an error of the file, those that it was
+    -- to leave may be there instead.
+    pub crash : IsHonest g (database_of new) → IsOpen g (database_of old) → CrashLeaves g (database_of new) (λ left.
+        (left ≡ after) ⊎ (IsErrAnd result (λ e. is_refusal e ≡ false) × (names_after edits before ≡ Ok left)))
     -- a file that is closed stays so, and is as it was
     pub closed : IsHonest g (database_of old) → IsClosed old → (result ≡ Err Closed) × (database_of new ≡ database_of old)
     -- nothing but a failure of the disk closes it

@@ -27,7 +27,7 @@ returns-in-Err-Taken-clause-call g c before has =
         (λ refused. taken_made (map entry_of c.args.new.now) before c.in-Err-Taken.index
             (first clean)),
         refl,
-      )) tt (search arith) (λ clean. tt),
+      )) (search arith) (λ clean. tt),
     )
 
 pub returns-in-Err-Taken-clause-index : goal.returns-in-Err-Taken-clause-index
