@@ -5,7 +5,7 @@ pub use Rattle.std.proofs.Common.{sym, take, true, ℕ, ◌++◌, ◌+◌, ◌<�
 pub use Rattle.std.proofs.Math.Logic.{∥∥₁_elim, ∥∥₁_map}
 pub use Rattle.std.proofs.lemmas.Bool.{and_parts, both_ways, cases_lt, true_from_ne_false}
 pub use Rattle.std.proofs.lemmas.Cmp.{tied_itself}
-pub use Rattle.std.proofs.lemmas.List.{get_or-map, length-map, map_more, nil_from_length, take-map, take_all}
+pub use Rattle.std.proofs.lemmas.List.{get_or-map, length-map, map_more, take-map, take_all}
 pub use Rattle.std.proofs.lemmas.Result.{IfErr-weaker, on_ok_weaker}
 pub use Rattle.std.proofs.lemmas.Slice.Eq.{bytes_eq-Decides}
 pub use Rattle.std.specs.Borrow.{Bor}
@@ -34,7 +34,7 @@ pub use Rattle.sqlite_value.specs.Keys.{entry_cmp, plain, prefix_cmp}
 pub use Rattle.sqlite_value.specs.Order.{Row, column, number, row_cmp}
 pub use Rattle.sqlite_value.specs.declared.value.Value.TheVariants.{Text}
 pub use Rattle.argon2_rows.specs.Names.{AddsAll, AddsEach, IsAdded, Texts, changed, entry_of}
-pub use Rattle.argon2_rows.specs.Rows.{AreLines, AreTexts, AreLinesOf, AreWritten, IsLineOf, HasNoneAfter, IsAccount, IsAfterAll, IsFoundAs, breaks_line, line, row_of, rows_of}
+pub use Rattle.argon2_rows.specs.Rows.{AreLines, AreTexts, AreLinesOf, AreWritten, IsLineOf, HasNoneAfter, IsAccount, IsAfterAll, IsFoundAs, breaks_line, row_of, rows_of}
 pub use Rattle.argon2_rows.specs.Locks.{IsLine}
 pub use Rattle.argon2_rows.specs.Table.{Changes, EndsRead, Finishes, HasBegun, HasRows, HasSome, IsUnwritten, IsHonest, IsKept, IsLong, IsOpen, CrashLeaves, Sees, StaysQuiet}
 pub use Rattle.argon2_rows.specs.Table.{AddsNames, Writes, WritesAll, done_of, written_of}

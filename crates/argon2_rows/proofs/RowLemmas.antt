@@ -178,14 +178,22 @@ is_long reals row e is not = elim (cases_lt (10 ^ 9) (36 + (length e.0 + length 
 row_by_name : (e : List ℕ × List ℕ) (k : List ℕ) → prefix_cmp plain (row_of e) (Text k ∷ []) ≡ order e.0 k
 row_by_name e k = grind (arith, prefix_cmp-one (Text e.0) (Text e.1 ∷ []) (Text k), value_cmp-Text)
 
--- a name below one that all others are above has no text
-none_below : (k n : List ℕ) (es : List (List ℕ × List ℕ)) → order k n ≡ Less → below_all order n es ≡ true
-    → find order k es ≡ None
-none_below k n [] low h = refl
-none_below k n (e ∷ es) low h =
-    let parts = and_parts (is_lt (order n e.0)) _ h in
-    let here = nat_list_cmp_total.trans k n e.0 low (less _ parts.0) in
-    rw here (none_below k n es low parts.1)
+-- a name that all others are above is not among them
+not_above : (k : List ℕ) (es : List (List ℕ × List ℕ)) → below_all order k es ≡ true → find order k es ≡ None
+not_above k [] h = refl
+not_above k (e ∷ es) h =
+    let parts = and_parts (is_lt (order k e.0)) _ h in
+    let here = less _ parts.0 in
+    rw here (not_above k es parts.1)
+
+-- a name below one that all others are above is below them too
+below_less : (j k : List ℕ) (es : List (List ℕ × List ℕ)) → order j k ≡ Less → below_all order k es ≡ true
+    → below_all order j es ≡ true
+below_less j k [] low h = refl
+below_less j k (e ∷ es) low h =
+    let parts = and_parts (is_lt (order k e.0)) _ h in
+    let here = nat_list_cmp_total.trans j k e.0 low (less _ parts.0) in
+    rw here (below_less j k es low parts.1)
 
 -- where a seek by a name stands, if the name has this text or none: at the row of the name, or it has none
 abbrev Stands : List ℕ → Option (List ℕ) → List Row → Type 0
@@ -203,7 +211,7 @@ stands k (e ∷ es) sorted =
     let two = apart k e.0 in
     let far = unequal k e.0 in
     let by = row_by_name e k in
-    let low = none_below k e.0 es in
+    let low = λ (less : order k e.0 ≡ Less) (above : below_all order e.0 es ≡ true). not_above k es (below_less k e.0 es less above) in
     let tied = tied_itself nat_list_cmp_total k in
     grind arith
 
@@ -252,14 +260,6 @@ abbrev pub Follow : (Row → Type 0) → Row → List Row → Type 0
 Follow P last [] = ⊤
 Follow P last (row ∷ rows) = P row × (column row 0 ≡ column last 0 → ⊥) × Follow P row rows
 
--- a name that all others are above is not among them
-not_above : (k : List ℕ) (es : List (List ℕ × List ℕ)) → below_all order k es ≡ true → find order k es ≡ None
-not_above k [] h = refl
-not_above k (e ∷ es) h =
-    let parts = and_parts (is_lt (order k e.0)) _ h in
-    let here = less _ parts.0 in
-    rw here (not_above k es parts.1)
-
 -- the rows of names do, if the row of each name is so
 follow_rows : (P : Row → Type 0) (last : Row) (es : List (List ℕ × List ℕ)) → is_sorted order es ≡ true
     → ((k v : List ℕ) → find order k es ≡ Some v → P (row_of (k, v)) × (Text k ≡ column last 0 → ⊥))
@@ -284,14 +284,6 @@ follow_names P names each = follow_rows P [] (entries names) (is_true _ (entries
     (λ k v found. (each k v (get-entries names k ∙ found), λ same. absurd cc))
 
 -- rows of accounts that do so in a tree are those of names
-below_less : (j k : List ℕ) (es : List (List ℕ × List ℕ)) → order j k ≡ Less → below_all order k es ≡ true
-    → below_all order j es ≡ true
-below_less j k [] low h = refl
-below_less j k (e ∷ es) low h =
-    let parts = and_parts (is_lt (order k e.0)) _ h in
-    let here = nat_list_cmp_total.trans j k e.0 low (less _ parts.0) in
-    rw here (below_less j k es low parts.1)
-
 ascend : (last : Row) (es : List (List ℕ × List ℕ)) → IsIndex plain (map row_of es) → Follow IsAccount last (map row_of es)
     → is_sorted order es ≡ true
 ascend last [] index rows = refl
