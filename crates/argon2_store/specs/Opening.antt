@@ -82,11 +82,9 @@ IsOfDamage g old new e = (e ≡ no.DamagedLog) ⊎ ((e ≡ no.Io) × MoreFaults 
 abbrev pub AreSynced : {D : Type 0} → Ghosts D → D × D → Type 0
 AreSynced g files = Only (g.seen files.0) (g.may_leave files.0) × Only (g.seen files.1) (g.may_leave files.1)
 
--- An open of two files that hold this image has failed so: their log is damaged, they hold no names with texts of one line, or
--- it is an error of the database. They are unharmed.
-pub record IsOfPair {D : Type 0} (g : Ghosts D) (image : Image) (e : OpenError) (old new : D × D) : Type 0 where
-  pub synced : AreSynced g old
-  pub holds : seen_image g old.0 old.1 ≡ image
+-- An open of a log and a database file has failed so: the log is damaged, they hold no names with texts of one line, or it is an
+-- error of the database. They are unharmed.
+pub record IsOfPair {D : Type 0} (g : Ghosts D) (old new : D × D) (e : OpenError) : Type 0 where
   pub kind : (e ≡ no.Row) ⊎ ((e ≡ no.DamagedLog) ⊎ IsOfDatabase e)
   pub row : e ≡ no.Row → AreClean g new.0 new.1 → (names : Texts) → AreLines names
       → ¬ HoldsNames (seen_image g old.0 old.1) names
@@ -95,8 +93,9 @@ pub record IsOfPair {D : Type 0} (g : Ghosts D) (image : Image) (e : OpenError) 
   pub damage : AreClean g new.0 new.1 → IsDamaged (g.seen old.0) → IsOfDamage g old.0 new.0 e
   pub unharmed : AreUnharmed g old new
 
+-- an open of files that were synced and held this image has failed so
 abbrev pub IsOfFiles : {D : Type 0} → Ghosts D → Image → OpenError → Type 0
-IsOfFiles {D} g image e = (old new : D × D) × IsOfPair g image e old new
+IsOfFiles {D} g image e = (old new : D × D) × AreSynced g old × (seen_image g old.0 old.1 ≡ image) × IsOfPair g old new e
 
 -- Opens that failed, the newest first, with the files that each found: the first found `before`, and each left files that stand
 -- for those that it found. Files that have just been opened are synced, so a crash leaves just these. One during an open counts

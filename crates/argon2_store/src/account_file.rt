@@ -5,10 +5,8 @@ ghost use Rattle.std.specs.Prelude.{◌≡◌, ◌⊎◌, ◌↔◌, [], ◌∷�
 ghost use Rattle.std.specs.FinMap.{get};
 ghost use Rattle.std.specs.Option.{option_map};
 ghost use Rattle.argon2_rows.specs.Names.{Texts as Named, entry_of};
-ghost use Rattle.argon2_rows.specs.Rows.{AreLines};
 ghost use Rattle.argon2_rows.specs.Table.{HasSome, IsHonest, IsOpen};
-ghost use Rattle.argon2_store.specs.Errors.{IsOfDatabase, IsOfPath, is_refusal, read_by};
-ghost use Rattle.argon2_store.specs.declared.error.OpenError.TheVariants.{DamagedLog, Row as NoAccount};
+ghost use Rattle.argon2_store.specs.Errors.{IsOfPath, is_refusal, read_by};
 
 use crate::error::{FileError, LineError, OpenError, call_error, line_result, read};
 use crate::opening::{is_damaged, open_files, open_path};
@@ -298,9 +296,8 @@ impl<T: Start> AccountsAt<T> {
 
 impl<D: Disk + Drop> AccountFile<FileStore<D>> {
     ghost use Rattle.argon2_store.specs.AccountFile.{IsFileFrom};
-    ghost use Rattle.argon2_store.specs.Opening.{AreUnharmed, HoldsNames, IsDamaged, IsOfDamage};
+    ghost use Rattle.argon2_store.specs.Opening.{IsOfPair};
     ghost use Rattle.sqlite_wal.specs.Files.{seen_image};
-    ghost use Rattle.sqlite_wal.specs.Reads.{AreClean, OnlyReads};
 
     /// Opens the accounts in a database file and its log, or makes them if there is no table yet.
     /// [`open`](AccountFile::open) does so with the files at a path. `seed` is a random number, for the
@@ -317,18 +314,8 @@ impl<D: Disk + Drop> AccountFile<FileStore<D>> {
     ) -> Result<AccountFile<FileStore<D>>, (OpenError, Files<D>)>
         requires { IsTrue (D.Disk.is_usable files.log) × IsTrue (D.Disk.is_usable files.db) }
         ensures ready { IfOk result (IsFileFrom (seen_image D.Disk files.log files.db)) }
-        ensures error { IfErr result (λ e.
-            (e.0 ≡ NoAccount) ⊎ ((e.0 ≡ DamagedLog) ⊎ IsOfDatabase e.0)) }
-        ensures row { IfErr result (λ e. e.0 ≡ NoAccount → AreClean D.Disk e.1.log e.1.db →
-            (names : Named) → AreLines names →
-            ¬ HoldsNames (seen_image D.Disk files.log files.db) names) }
-        ensures damaged { IfErr result (λ e. e.0 ≡ DamagedLog →
-            (IsTrue (D.Disk.is_clean e.1.log) → IsDamaged (D.Disk.seen files.log))
-            × OnlyReads D.Disk files.log e.1.log × (e.1.db ≡ files.db)) }
-        ensures damage { IfErr result (λ e. AreClean D.Disk e.1.log e.1.db →
-            IsDamaged (D.Disk.seen files.log) → IsOfDamage D.Disk files.log e.1.log e.0) }
-        ensures unharmed { IfErr result (λ e.
-            AreUnharmed D.Disk (files.log, files.db) (e.1.log, e.1.db)) }
+        ensures err { IfErr result (λ e.
+            IsOfPair D.Disk (files.log, files.db) (e.1.log, e.1.db) e.0) }
     {
         match is_damaged(&mut files.log) {
             Ok(false) => {}

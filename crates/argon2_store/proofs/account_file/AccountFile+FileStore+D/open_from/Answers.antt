@@ -1,4 +1,4 @@
-use Rattle.argon2_store.proofs.Imports.{arith, inl, subst, subst₂, sym, halves, no_doubt, settled_at, over_file, view, FoundIn, IsClean}
+use Rattle.argon2_store.proofs.Imports.{arith, rules, inl, subst, subst₂, sym, halves, no_doubt, settled_at, over_file, view, FoundIn, IsClean}
 use Rattle.argon2_store.proofs.NextOpenLemmas.{found_once}
 use Rattle.argon2_store.proofs.OpenLemmas.{is_honest, seen_same, unharmed_by_reads, unharmed_then}
 use Rattle.argon2_rows.proofs.TableLemmas.{leaves_kept}
@@ -24,47 +24,51 @@ returns-in-Ok-true-load-clause-ready g c =
       λ clean damaged. search (arith, halves),
     )
 
-pub returns-in-Err-clause-unharmed : goal.returns-in-Err-clause-unharmed
-returns-in-Err-clause-unharmed g c clean left may = inl (c.is_damaged.ensures.same.crash left.log may.0, may.1)
+pub returns-in-Err-clause-err : goal.returns-in-Err-clause-err
+returns-in-Err-clause-err g c = record {
+  kind = search rules;
+  row = search (arith, rules);
+  damaged = search (arith, rules);
+  damage = search (arith, rules);
+  unharmed = λ clean left may. inl (c.is_damaged.ensures.same.crash left.log may.0, may.1);
+}
 
-pub returns-clause-unharmed : goal.returns-clause-unharmed
-returns-clause-unharmed g c =
-    unharmed_then c.args.files.log c.is_damaged.new.log c.args.files.db _ c.is_damaged.ensures.same
-    (unharmed_by_reads (c.is_damaged.new.log, c.args.files.db) c.in-Ok.store c.load.new.store _
-    g.met.D.Disk.seen_may_stay c.load.ensures.quiet c.in-Ok.ensures.fresh c.in-Ok.ensures.found
-    c.close.ensures)
+pub returns-in-Err-open_files-clause-err : goal.returns-in-Err-open_files-clause-err
+returns-in-Err-open_files-clause-err g c = record {
+  kind = search rules;
+  row = search (arith, rules);
+  damaged = search (arith, rules);
+  damage = λ clean damaged. let was = c.in-Err-open_files.ensures.falls clean in search (arith, halves);
+  unharmed = unharmed_then c.args.files.log c.is_damaged.new.log c.args.files.db _ c.is_damaged.ensures.same
+      c.in-Err-open_files.ensures.left;
+}
 
-pub returns-in-Err-open_files-clause-unharmed : goal.returns-in-Err-open_files-clause-unharmed
-returns-in-Err-open_files-clause-unharmed g c =
-    unharmed_then c.args.files.log c.is_damaged.new.log c.args.files.db _ c.is_damaged.ensures.same
-    c.in-Err-open_files.ensures.left
-
--- behind a log that is not damaged
-pub returns-clause-damaged : goal.returns-clause-damaged
-returns-clause-damaged g c is = elim c.match-load.branch [
-  | in-Ok-false-load w ↦ let same = w.error-is in grind arith
-  | in-Err-load w ↦ let same = w.error-is in let of = w.into-error.ensures in grind arith
-]
-
--- a row that is no account
-pub returns-clause-row : goal.returns-clause-row
-returns-clause-row g c is clean names lines holds = elim c.match-load.branch [
-  | in-Ok-false-load w ↦
-      let honest = no_doubt _ (is_honest c.load.new.store.pool _ (sym c.close.ensures) clean) in
-      let found = subst (λ i. FoundIn 4096 i ((view c.in-Ok.store).committed 0)) (seen_same c.args.files.log
-      c.is_damaged.new.log c.args.files.db c.is_damaged.ensures.same) (c.in-Ok.ensures.found (search arith)) in
-      w.in-Ok-false-load.ensures.refused w.in-Ok-false-load.field-0-test honest names holds.0 lines
-      (sym (found_once _ _ _ found holds.1))
-  | in-Err-load w ↦ let same = w.error-is in let of = w.into-error.ensures in grind arith
-]
-
--- behind a log that is not damaged
-pub returns-in-Err-open_files-clause-damage : goal.returns-in-Err-open_files-clause-damage
-returns-in-Err-open_files-clause-damage g c clean damaged =
-    let was = c.in-Err-open_files.ensures.falls clean in search (arith, halves)
-
-pub returns-clause-damage : goal.returns-clause-damage
-returns-clause-damage g c clean damaged =
-    let honest = no_doubt _ (is_honest c.load.new.store.pool _ (sym c.close.ensures) clean) in
-    let was : IsClean (view c.in-Ok.store) = omega (arith, c.load.ensures.quiet.clean, honest) in
-    let held = c.in-Ok.ensures.honest was in search (arith, halves)
+-- a row is no account, or the rows can't be read
+pub returns-clause-err : goal.returns-clause-err
+returns-clause-err g c =
+    record {
+      kind = elim c.match-load.branch [
+        | in-Ok-false-load w ↦ let same = w.error-is in grind arith
+        | in-Err-load w ↦ let same = w.error-is in let of = w.into-error.ensures in grind arith
+      ];
+      row = λ is clean names lines holds. elim c.match-load.branch [
+        | in-Ok-false-load w ↦
+            let now = no_doubt _ (is_honest c.load.new.store.pool _ (sym c.close.ensures) clean) in
+            let found = subst (λ i. FoundIn 4096 i ((view c.in-Ok.store).committed 0)) (seen_same c.args.files.log
+            c.is_damaged.new.log c.args.files.db c.is_damaged.ensures.same) (c.in-Ok.ensures.found (search arith)) in
+            w.in-Ok-false-load.ensures.refused w.in-Ok-false-load.field-0-test now names holds.0 lines
+            (sym (found_once _ _ _ found holds.1))
+        | in-Err-load w ↦ let same = w.error-is in let of = w.into-error.ensures in grind arith
+      ];
+      damaged = λ is. elim c.match-load.branch [
+        | in-Ok-false-load w ↦ let same = w.error-is in grind arith
+        | in-Err-load w ↦ let same = w.error-is in let of = w.into-error.ensures in grind arith
+      ];
+      damage = λ clean damaged.
+          let now = no_doubt _ (is_honest c.load.new.store.pool _ (sym c.close.ensures) clean) in
+          let was : IsClean (view c.in-Ok.store) = omega (arith, c.load.ensures.quiet.clean, now) in
+          let held = c.in-Ok.ensures.honest was in search (arith, halves);
+      unharmed = unharmed_then c.args.files.log c.is_damaged.new.log c.args.files.db _ c.is_damaged.ensures.same
+          (unharmed_by_reads (c.is_damaged.new.log, c.args.files.db) c.in-Ok.store c.load.new.store _
+          g.met.D.Disk.seen_may_stay c.load.ensures.quiet c.in-Ok.ensures.fresh c.in-Ok.ensures.found c.close.ensures);
+    }

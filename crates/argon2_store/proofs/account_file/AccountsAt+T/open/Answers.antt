@@ -21,13 +21,7 @@ returns-clause-err g c =
     inr (
       (c.in_ok-files.files.log, c.in_ok-files.files.db),
       (c.in-Err.field-0-1.log, c.in-Err.field-0-1.db),
-      record {
-        synced = c.in_ok-files.ensures.synced;
-        holds = ap₂ image (ap₂ (seen g.T.Start.log g.T.Start.db) log.0 log.1) (ap₂ (seen g.T.Start.log g.T.Start.db) db.0 db.1);
-        kind = c.in-Err.ensures.error;
-        row = c.in-Err.ensures.row;
-        damaged = c.in-Err.ensures.damaged;
-        damage = c.in-Err.ensures.damage;
-        unharmed = c.in-Err.ensures.unharmed;
-      },
+      c.in_ok-files.ensures.synced,
+      ap₂ image (ap₂ (seen g.T.Start.log g.T.Start.db) log.0 log.1) (ap₂ (seen g.T.Start.log g.T.Start.db) db.0 db.1),
+      c.in-Err.ensures.err,
     )
