@@ -3,7 +3,7 @@ use Rattle.argon2_store.proofs.Imports.{arith, zero, suc, ◌≡◌, ◌⊎◌, 
 use Rattle.argon2_store.proofs.Imports.{is_some, option_map, string_bytes, ◌↔◌, IfErr, IsErrAnd, IsSomeAnd, OnOk, length, length-map, get_or-map, iff_false, true_from_ne_false}
 use Rattle.argon2_store.proofs.Imports.{StoreError, Ghosts, Texts, IfOk, IfSome, AddsNames, on_ok_weaker, Answers, error_of, HasFailed, IsClosed, IsErrorAt, Makes, Serves, AddsAll, IsFirstTaken}
 use Rattle.argon2_store.proofs.Imports.{Stays, database_of, read_of, call_error, Changes, IsHonest, IsLong, IsOpen, CrashLeaves, StaysQuiet, changed}
-use Rattle.argon2_store.proofs.Imports.{AccountFile, FileError, Closed, NameTaken, OutOfMemory, String, IsSome, Edit, adding, replacing, Bor, option_copied, behind_lock, is_locked, with_lock, without_lock, bytes_eq, not, Locked, Changed, IsTooLong, additions, gives, is_refusal, names_after, name_of, refusal}
+use Rattle.argon2_store.proofs.Imports.{AccountFile, FileError, Closed, NameTaken, OutOfMemory, String, IsSome, Edit, adding, Bor, option_copied, behind_lock, is_locked, without_lock, IsTooLong, additions, gives, is_refusal, names_after, name_of, refusal}
 use Rattle.argon2_store.specs.AccountFile.{HasCause, HasFailedBy, HasNames, NamesStay, WritesLines}
 use Rattle.argon2_store.specs.Errors.{lines_by, read_by}
 use Rattle.argon2_rows.specs.Rows.{AreWritten}
@@ -114,27 +114,10 @@ long_additions es before (i, e, within, is, long) =
 -- ---- locked texts
 
 -- a text is locked if there is something behind its lock
-pub locked_if : (r : Option (Bor (List ℕ))) (text : List ℕ) {b : Bool} → option_copied r ≡ behind_lock text → is_some r ≡ b
-    → is_locked text ≡ b
-locked_if None text same is = rw (← same) is
-locked_if (Some x) text same is = rw (← same) is
-
-module _ (name old new text : List ℕ) where
-  pub is_shut : is_locked text ≡ true → refusal (replacing name old new) (Some text) ≡ Some Locked
-  is_shut shut = rw shut refl
-
-  pub is_changed : is_locked text ≡ false → true ≡ not (bytes_eq text old)
-      → refusal (replacing name old new) (Some text) ≡ Some Changed
-  is_changed bare differs = rw bare (grind arith)
-
-  pub is_same : is_locked text ≡ false → false ≡ not (bytes_eq text old) → refusal (replacing name old new) (Some text) ≡ None
-  is_same bare same = rw bare (grind arith)
-
-pub with_lock-locked : (text : List ℕ) → is_locked text ≡ true → Some (with_lock text) ≡ Some text
-with_lock-locked text shut = rw shut refl
-
-pub with_lock-bare : (text : List ℕ) → is_locked text ≡ false → Some (with_lock text) ≡ Some (33 ∷ text)
-with_lock-bare text bare = rw bare refl
+pub locked_if : (r : Option (Bor (List ℕ))) {text s : List ℕ} {b t : Bool} → option_copied r ≡ behind_lock text → text ≡ s
+    → b ≡ is_some r → b ≡ t → is_locked s ≡ t
+locked_if None same is some test = rw (← is, ← same) (sym some ∙ test)
+locked_if (Some x) same is some test = rw (← is, ← same) (sym some ∙ test)
 
 pub without_lock-bare : (text : List ℕ) → behind_lock text ≡ None → without_lock text ≡ text
 without_lock-bare [] none = refl

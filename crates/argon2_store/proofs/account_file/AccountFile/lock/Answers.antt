@@ -1,5 +1,5 @@
-use Rattle.argon2_store.proofs.Imports.{◌≡◌, ◌∙◌, Some, refl, sym, string_bytes, locking, NameUnknown, is_locked, false, ◌∷◌, ap}
-use Rattle.argon2_store.proofs.FileLemmas.{cannot_serve, fails_after, locked_if, refuses, accepts, with_lock-bare, with_lock-locked, writes}
+use Rattle.argon2_store.proofs.Imports.{◌≡◌, ◌∙◌, Some, refl, string_bytes, locking, NameUnknown, ◌∷◌, ap}
+use Rattle.argon2_store.proofs.FileLemmas.{cannot_serve, fails_after, locked_if, refuses, accepts, writes}
 use Rattle.argon2_store.proofs.account_file.AccountFile.lock.Goals as goal
 
 pub returns-in_err-text : goal.returns-in_err-text
@@ -11,9 +11,8 @@ returns-in_default g c =
 
 pub returns-then-is_some : goal.returns-then-is_some
 returns-then-is_some g c =
-    accepts (locking c.args.name.now) c.in_ok-text.ensures.reads c.in-Some.is c.in_ok-text.ensures.shows refl
-    (with_lock-locked (string_bytes c.in-Some.text) (rw c.as_str.ensures.value at (locked_if c.behind_lock.result c.as_str.result.now
-    c.behind_lock.ensures (sym c.is_some.ensures ∙ c.if-is_some.true))))
+    let shut = locked_if c.behind_lock.result c.behind_lock.ensures c.as_str.ensures.value c.is_some.ensures c.if-is_some.true in
+    accepts (locking c.args.name.now) c.in_ok-text.ensures.reads c.in-Some.is c.in_ok-text.ensures.shows refl (rw shut refl)
 
 pub returns-in_err-locked : goal.returns-in_err-locked
 returns-in_err-locked g c =
@@ -25,7 +24,6 @@ returns g c =
     let text = string_bytes c.in-Some.text in
     let row : c.as_str-4.result.now ≡ 33 ∷ text = c.as_str-4.ensures.value ∙ c.in_ok-locked.ensures
     ∙ ap (λ l. 33 ∷ l) c.as_str-2.ensures.value in
-    let bare : is_locked text ≡ false = rw c.as_str.ensures.value at (locked_if c.behind_lock.result c.as_str.result.now c.behind_lock.ensures
-    (sym c.is_some.ensures ∙ c.if-is_some.false)) in
+    let bare = locked_if c.behind_lock.result c.behind_lock.ensures c.as_str.ensures.value c.is_some.ensures c.if-is_some.false in
     writes (locking c.args.name.now) c.in_ok-text.ensures.reads c.in-Some.is c.in_ok-text.ensures.shows _ (Some (33 ∷ text)) refl
-    (with_lock-bare text bare) _ (rw row at c.write_row.ensures) _ c.read.ensures
+    (rw bare refl) _ (rw row at c.write_row.ensures) _ c.read.ensures
