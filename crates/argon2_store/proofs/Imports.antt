@@ -1,7 +1,7 @@
 -- The words that the proofs of this crate use.
 pub use Rattle.std.proofs.Common.{Bool, Err, IsPermutation, IsTrue, IsUtf8, List, None, Ok, Option, Result, Some, [], ap}
 pub use Rattle.std.proofs.Common.{append_assoc, ap₂, arith, cond, false, inl, inr, length, map, refl, rules, slice_index, string_bytes, subst}
-pub use Rattle.std.proofs.Common.{not, suc, zero, subst₂, sym, true, unwrap_or, ℕ, ◌++◌, ◌<◌, ◌↔◌, ◌∙◌, ◌∷◌, ◌≡◌, ◌≤◌, ◌⊎◌}
+pub use Rattle.std.proofs.Common.{suc, zero, subst₂, sym, true, unwrap_or, ℕ, ◌++◌, ◌<◌, ◌↔◌, ◌∙◌, ◌∷◌, ◌≡◌, ◌≤◌, ◌⊎◌}
 pub use Rattle.std.proofs.Math.Logic.{∥∥₁_elim, ∥∥₁_map}
 pub use Rattle.std.proofs.lemmas.Bool.{cases_Bool, cases_eq, iff_false, true_from_ne_false}
 pub use Rattle.std.proofs.lemmas.List.{get_or-map, length-map, nil_from_length}
@@ -53,7 +53,7 @@ pub use Rattle.argon2_rows.specs.Locks.{behind_lock, is_locked, without_lock}
 pub use Rattle.argon2_rows.specs.Names.{AddsAll, IsFirstTaken, Texts, changed, entry_of}
 pub use Rattle.argon2_rows.specs.Table.{AddsNames, Finishes, Writes}
 pub use Rattle.argon2_store.specs.AccountFile.{Answers, IsClosed, IsErrorAt, IsFileFrom, Makes, Serves, Stays, error_of, database_of}
-pub use Rattle.argon2_store.specs.Edits.{Edit, IsTooLong, adding, additions, gives, left_by, locking, name_of, names_after, refusal, removing, replacing, setting, text_of, unlocking, with_lock}
+pub use Rattle.argon2_store.specs.Edits.{Edit, IsTooLong, adding, additions, gives, left_by, locking, name_of, names_after, refusal, removing, replacing, setting, text_of, unlocking}
 pub use Rattle.argon2_store.specs.Errors.{call_error, is_refusal, read_of}
 pub use Rattle.argon2_store.specs.Runs.{AreEventsOf, AreMade, Did, Does, EndsRun, FileCall, FileEvent, FileRun, IsFoundAfter, IsLate, IsLateOf, IsShutOut, events_of, makes, over_file, reads, text_by}
 pub use Rattle.argon2_store.specs.declared.error.FileError.TheVariants.{Changed, Closed, Locked, NameTaken, NameUnknown, OutOfMemory}

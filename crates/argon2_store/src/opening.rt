@@ -1,14 +1,11 @@
 //! Opening the file at a path, or making it.
 #![tactic(auto, using(sqlite_trees::proofs::Doubt::clean_of))]
 
-ghost use Rattle.std.specs.Prelude.{◌≡◌, ◌+◌, ◌≤◌, ◌↔◌, [], ◌∷◌, true, false, IsTrue, IfErr, IfOk, OnErr, OnOk};
+ghost use Rattle.std.specs.Prelude.{◌≡◌, ◌+◌, ◌≤◌, ◌↔◌, [], ◌∷◌, true, false, IsTrue, IfErr, IfOk};
 ghost use Rattle.sqlite_store.specs.FileStore.{view};
-ghost use Rattle.sqlite_store.specs.Unopened.{AreUsable, Opens, image, state_of, wanted_by};
-ghost use Rattle.sqlite_store.specs.Unopened as below;
+ghost use Rattle.sqlite_store.specs.Unopened.{AreUsable, image, state_of, wanted_by};
 ghost use Rattle.sqlite_disk.specs.Disk.{CountsFault};
-ghost use Rattle.sqlite_pages.specs.PageMap.{PageMap};
 ghost use Rattle.sqlite_pool.specs.Opening.{IsBlankFile};
-ghost use Rattle.sqlite_pool.specs.Stored.{Recovers};
 ghost use Rattle.sqlite_std_file.specs.File.{IsFresh, file_is_usable};
 ghost use Rattle.sqlite_trees.specs.View.{IsClean};
 ghost use Rattle.sqlite_wal.specs.Files.{seen_image};
@@ -16,7 +13,7 @@ ghost use Rattle.sqlite_wal.specs.Format.{IsSigned, be32};
 ghost use Rattle.sqlite_wal.specs.Reads.{AreClean, OnlyReads};
 ghost use Rattle.sqlite_wal.specs.Recovery.{Image};
 ghost use Rattle.argon2_store.specs.Errors.{IsOfDatabase, IsOfPath};
-ghost use Rattle.argon2_store.specs.Opening.{AreSynced, AreUnharmed, FoundIn, IsDamaged, IsUnstarted, ListsOne, StandsFor};
+ghost use Rattle.argon2_store.specs.Opening.{AreSynced, AreUnharmed, FoundIn, IsDamaged, StandsFor};
 ghost use Rattle.argon2_rows.specs.Table as table;
 ghost use Rattle.argon2_rows.specs.Table.{account};
 
@@ -70,41 +67,8 @@ const FIRST: [u8; 106] = [
 // The first byte of a log's magic number.
 const MAGIC: u8 = 0x37;
 
-// Whether the database in the files lists nothing, or there is none. One that lists more than one thing is refused.
-fn is_bare<D: Disk + Drop>(files: &mut Unopened<D>, is_new: bool) -> Result<bool, OpenError>
-    requires usable { AreUsable files.old }
-    requires blank { IsTrue is_new → IsTrue (state_of files.old).is_clean →
-        IsBlankFile (state_of files.old).page_size (image files.old) }
-    ensures usable { OnOk result (AreUsable files.new) }
-    ensures bare { IsTrue (state_of files.new).is_clean → IfOk result (λ is. IsTrue is →
-        ∥ IsUnstarted (state_of files.old).page_size (image files.old) ∥₁) }
-    ensures one { IsTrue (state_of files.new).is_clean → IfOk result (λ is. is ≡ false →
-        (pages : PageMap) → Recovers (state_of files.old).page_size (image files.new) pages →
-        ListsOne (state_of files.old).page_size pages) }
-    ensures same { IsTrue (state_of files.new).is_clean → OnOk result ((pages : PageMap) →
-        Recovers (state_of files.old).page_size (image files.new) pages →
-        Recovers (state_of files.old).page_size (image files.old) pages) }
-    ensures before { IsTrue (state_of files.new).is_clean → OnOk result ((left : Image) →
-        below.IsAsBefore files.new left → below.IsAsBefore files.old left) }
-    ensures schema { wanted_by files.new ≡ wanted_by files.old }
-    ensures size { IsTrue (state_of files.new).is_clean →
-        (state_of files.new).page_size ≡ (state_of files.old).page_size }
-    ensures honest { IsTrue (state_of files.new).is_clean → IsTrue (state_of files.old).is_clean }
-    ensures kept { IsTrue (state_of files.new).is_clean →
-        OnErr result (Opens files.old (state_of files.new)) }
-    ensures error { IfErr result IsOfDatabase }
-{
-    if is_new {
-        return Ok(true);
-    }
-    let rows = files.read_catalog()?;
-    if rows.len() > 1 {
-        return Err(OpenError::NotAccounts);
-    }
-    Ok(rows.is_empty())
-}
-
-// Opens the table, or makes it in a database without tables, such as a first open that was cut off leaves.
+// Opens the table, or makes it in a database without tables, such as a first open that was cut off leaves. One that lists more
+// than one thing is refused.
 fn attach<D: Disk + Drop>(
     mut files: Unopened<D>,
     is_new: bool,
@@ -124,16 +88,24 @@ fn attach<D: Disk + Drop>(
         IsTrue (state_of e.1).is_clean → (left : Image) → (state_of e.1).may_leave left →
         StandsFor (state_of files).may_leave (image files) left) }
 {
-    match is_bare(&mut files, is_new) {
-        Ok(true) => match files.create() {
-            Ok(store) => Ok(store),
-            Err((error, left)) => Err((error.into(), left)),
-        },
-        Ok(false) => match files.open() {
-            Ok(store) => Ok(store),
-            Err((error, left)) => Err((error.into(), left)),
-        },
-        Err(error) => Err((error, files)),
+    if !is_new {
+        let rows = match files.read_catalog() {
+            Ok(rows) => rows,
+            Err(error) => return Err((error.into(), files)),
+        };
+        if rows.len() > 1 {
+            return Err((OpenError::NotAccounts, files));
+        }
+        if rows.len() == 1 {
+            match files.open() {
+                Ok(store) => return Ok(store),
+                Err((error, left)) => return Err((error.into(), left)),
+            }
+        }
+    }
+    match files.create() {
+        Ok(store) => Ok(store),
+        Err((error, left)) => Err((error.into(), left)),
     }
 }
 

@@ -1,33 +1,55 @@
-use Rattle.argon2_store.proofs.Imports.{arith, rules, ℕ, [], ◌∷◌, inl, inr, ◌≡◌, subst, subst₂, ◌∙◌, IsTrue, ∥∥₁_map, Recovers}
-use Rattle.argon2_store.proofs.Imports.{clean_of, IsFile, FileStore, schema_of, state, view, file_trees, kept_schema, state_of, image, account}
+use Rattle.argon2_store.proofs.Imports.{arith, rules, ℕ, [], ◌∷◌, ap, inl, inr, ◌≡◌, sym, length, subst, subst₂, ◌∙◌, IsTrue, ∥∥₁_map, Recovers, recovers_once}
+use Rattle.argon2_store.proofs.Imports.{clean_of, IsFile, FileStore, schema_of, state, view, file_trees, kept_schema, state_of, image, account, Image, IsUnstarted, nil_from_length, refl, wanted_by}
 use Rattle.sqlite_disk.specs.declared.Disk.{Ghosts}
-use Rattle.argon2_store.proofs.OpenLemmas.{as_before, fresh, made}
+use Rattle.argon2_store.specs.Opening.{ListsOne}
+use Rattle.sqlite_store.specs.Unopened as below
+use Rattle.argon2_store.proofs.OpenLemmas.{after, as_before, bare, fresh, made}
 use Rattle.argon2_store.proofs.opening.attach.Goals as goal
+use Rattle.argon2_store.proofs.opening.attach.Goals.{After-create, then-not-is_new+in-Ok+else-len-gt1+else-len-eq1, else-not-is_new}
 
 committed_as : {D : Type 0} {g : Ghosts D} (it : FileStore D g) (size : ℕ)
     → IsTrue (state it).is_clean → (state it).page_size ≡ size → kept_schema it.saved (schema_of it) ≡ account ∷ []
     → file_trees size (account ∷ []) (state it).committed 0 ≡ (view it).committed 0
 committed_as it size clean sized same = grind arith
 
-pub returns-in-Ok-clause-found : goal.returns-in-Ok-clause-found
-returns-in-Ok-clause-found g c clean = search (arith, clean_of)
-
-pub returns-in-Err-create-clause-left : goal.returns-in-Err-create-clause-left
-returns-in-Err-create-clause-left g c sized clean left may =
-    let was = c.in-Err-create.ensures.falls clean in
-    elim ((c.in-Err-create.ensures.unharmed clean).crash left may) [
-      | inl is ↦ as_before c.args.files sized left (c.in-Ok-true.ensures.before was left is)
-      | inr way ↦ made c.args.files c.is_bare.new.files sized (c.is_bare.ensures.size was) left
-          (c.is_bare.ensures.schema ∙ c.requires.schema) (c.in-Ok-true.ensures.bare was (search rules)) way
-    ]
+-- the files list nothing, or there is no database yet
+looked : (g : _) (c : After-create g) → (wanted_by c.if-not-is_new.files ≡ account ∷ [])
+    × (IsTrue (state_of c.if-not-is_new.files).is_clean
+    → ((state_of c.if-not-is_new.files).page_size ≡ (state_of c.args.files).page_size)
+    × ∥ IsUnstarted (state_of c.args.files).page_size (image c.args.files) ∥₁
+    × ((left : Image) → below.IsAsBefore c.if-not-is_new.files left → below.IsAsBefore c.args.files left))
+looked g c = elim c.if-not-is_new.branch [
+  | then-not-is_new+in-Ok+else-len-gt1+else-len-eq1 w ↦ rw (w.files-is) (
+    w.read_catalog.ensures.schema ∙ c.requires.schema,
+    λ clean.
+        let kept = w.read_catalog.ensures.kept clean in
+        let listed = w.in-Ok.ensures.ok clean in
+        let none : w.in-Ok.rows.items ≡ [] = nil_from_length w.in-Ok.rows.items (search rules) in (
+          kept.size,
+          bare c.args.files w.read_catalog.new.self _ listed kept.size none,
+          after c.args.files w.read_catalog.new.self _ listed kept.size kept,
+        ),
+  )
+  | else-not-is_new w ↦ rw (w.files-is) (
+    c.requires.schema,
+    λ clean.
+        (refl, ∣ inl (c.requires.blank (search rules) clean) ∣₁, λ left is. is),
+  )
+]
 
 pub returns-in-Err-clause-left : goal.returns-in-Err-clause-left
 returns-in-Err-clause-left g c sized clean left may =
-    as_before c.args.files sized left ((c.in-Err.ensures.kept clean).crash left may)
+    as_before c.args.files sized left ((c.read_catalog.ensures.kept clean).crash left may)
+
+pub returns-then-len-gt1-clause-left : goal.returns-then-len-gt1-clause-left
+returns-then-len-gt1-clause-left g c sized clean left may =
+    as_before c.args.files sized left ((c.read_catalog.ensures.kept clean).crash left may)
 
 pub returns-in-Err-open-clause-left : goal.returns-in-Err-open-clause-left
-returns-in-Err-open-clause-left g c sized clean left may = as_before c.args.files sized left
-    (c.in-Ok-false.ensures.before (c.in-Err-open.ensures.falls clean) left
+returns-in-Err-open-clause-left g c sized clean left may =
+    let was = c.in-Err-open.ensures.falls clean in
+    let kept = c.read_catalog.ensures.kept was in
+    as_before c.args.files sized left (after c.args.files c.read_catalog.new.self _ (c.in-Ok.ensures.ok was) kept.size kept left
     ((c.in-Err-open.ensures.unharmed clean).crash left may))
 
 pub returns-in-Ok-open-clause-found : goal.returns-in-Ok-open-clause-found
@@ -36,22 +58,40 @@ returns-in-Ok-open-clause-found g c clean =
     let store = c.in-Ok-open.store in
     let ready = c.in-Ok-open.ensures.ready in
     let was = c.in-Ok-open.ensures.honest now in
-    let size = c.is_bare.ensures.size was in
+    let size = (c.read_catalog.ensures.kept was).size in
     let sized = (c.in-Ok-open.ensures.kept now).size ∙ size in
     let schema : kept_schema store.saved (schema_of store) ≡ account ∷ [] = search arith in
-    let recs =
-    subst (λ n. Recovers n (image c.is_bare.new.files) (state store).committed) size (c.in-Ok-open.ensures.found now) in
+    let listed = c.in-Ok.ensures.ok was in
+    let once = recovers_once _ _ _ _ listed.again
+    (subst (λ n. Recovers n (image c.read_catalog.new.self) (state store).committed) size (c.in-Ok-open.ensures.found now)) in
+    let one : length c.in-Ok.rows.items ≡ 1 = search rules in
     inl (
       (state store).committed,
-      c.in-Ok-false.ensures.same was (state store).committed recs,
+      subst (Recovers _ _) once listed.found,
       ∥∥₁_map (store.stored (ready.is_open clean))
           (λ stored. subst₂ (λ n s. IsFile n s (state store).committed) sized schema stored.ours.file),
       committed_as store (state_of c.args.files).page_size now sized schema,
-      c.in-Ok-false.ensures.one was (search rules) (state store).committed recs,
+      subst (ListsOne _) once (ap length (sym listed.lists) ∙ one),
     )
-
-pub returns-in-Ok-clause-fresh : goal.returns-in-Ok-clause-fresh
-returns-in-Ok-clause-fresh g c = search (arith, fresh)
 
 pub returns-in-Ok-open-clause-fresh : goal.returns-in-Ok-open-clause-fresh
 returns-in-Ok-open-clause-fresh g c = search (arith, fresh)
+
+pub returns-in-Ok-create-clause-fresh : goal.returns-in-Ok-create-clause-fresh
+returns-in-Ok-create-clause-fresh g c =
+    let wants = (looked g (goal.at.returns-in-Ok-create-clause-fresh g c).After-create).0 in search (arith, fresh)
+
+pub returns-in-Ok-create-clause-found : goal.returns-in-Ok-create-clause-found
+returns-in-Ok-create-clause-found g c clean =
+    let now = clean_of _ clean in
+    let (size, none, before) = (looked g (goal.at.returns-in-Ok-create-clause-found g c).After-create).1 (c.in-Ok-create.ensures.honest now) in
+    inr (none, c.in-Ok-create.ensures.empty now 0 (omega arith))
+
+pub returns-in-Err-create-clause-left : goal.returns-in-Err-create-clause-left
+returns-in-Err-create-clause-left g c sized clean left may =
+    let (wants, bare) = looked g (goal.at.returns-in-Err-create-clause-left g c).After-create in
+    let (size, none, before) = bare (c.in-Err-create.ensures.falls clean) in
+    elim ((c.in-Err-create.ensures.unharmed clean).crash left may) [
+      | inl is ↦ as_before c.args.files sized left (before left is)
+      | inr way ↦ made c.args.files c.if-not-is_new.files sized size left wants none way
+    ]
