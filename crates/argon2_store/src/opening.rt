@@ -46,6 +46,9 @@ const ACCOUNT: Object<'static> = Object {
     sql: Some(SQL),
 };
 
+// The things that a database of accounts lists: its table alone.
+const LISTED: usize = 1;
+
 // The bytes of a page.
 const PAGE: usize = 4096;
 
@@ -93,10 +96,10 @@ fn attach<D: Disk + Drop>(
             Ok(rows) => rows,
             Err(error) => return Err((error.into(), files)),
         };
-        if rows.len() > 1 {
+        if rows.len() > LISTED {
             return Err((OpenError::NotAccounts, files));
         }
-        if rows.len() == 1 {
+        if rows.len() == LISTED {
             match files.open() {
                 Ok(store) => return Ok(store),
                 Err((error, left)) => return Err((error.into(), left)),

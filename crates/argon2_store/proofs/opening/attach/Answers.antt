@@ -5,7 +5,7 @@ use Rattle.argon2_store.specs.Opening.{ListsOne}
 use Rattle.sqlite_store.specs.Unopened as below
 use Rattle.argon2_store.proofs.OpenLemmas.{after, as_before, bare, fresh, made}
 use Rattle.argon2_store.proofs.opening.attach.Goals as goal
-use Rattle.argon2_store.proofs.opening.attach.Goals.{After-create, then-not-is_new+in-Ok+else-len-gt1+else-len-eq1, else-not-is_new}
+use Rattle.argon2_store.proofs.opening.attach.Goals.{After-create, then-not-is_new+in-Ok+else-len-gt-LISTED+else-len-eq-LISTED, else-not-is_new}
 
 committed_as : {D : Type 0} {g : Ghosts D} (it : FileStore D g) (size : ℕ)
     → IsTrue (state it).is_clean → (state it).page_size ≡ size → kept_schema it.saved (schema_of it) ≡ account ∷ []
@@ -19,7 +19,7 @@ looked : (g : _) (c : After-create g) → (wanted_by c.if-not-is_new.files ≡ a
     × ∥ IsUnstarted (state_of c.args.files).page_size (image c.args.files) ∥₁
     × ((left : Image) → below.IsAsBefore c.if-not-is_new.files left → below.IsAsBefore c.args.files left))
 looked g c = elim c.if-not-is_new.branch [
-  | then-not-is_new+in-Ok+else-len-gt1+else-len-eq1 w ↦ rw (w.files-is) (
+  | then-not-is_new+in-Ok+else-len-gt-LISTED+else-len-eq-LISTED w ↦ rw (w.files-is) (
     w.read_catalog.ensures.schema ∙ c.requires.schema,
     λ clean.
         let kept = w.read_catalog.ensures.kept clean in
@@ -41,8 +41,8 @@ pub returns-in-Err-clause-left : goal.returns-in-Err-clause-left
 returns-in-Err-clause-left g c sized clean left may =
     as_before c.args.files sized left ((c.read_catalog.ensures.kept clean).crash left may)
 
-pub returns-then-len-gt1-clause-left : goal.returns-then-len-gt1-clause-left
-returns-then-len-gt1-clause-left g c sized clean left may =
+pub returns-then-len-gt-LISTED-clause-left : goal.returns-then-len-gt-LISTED-clause-left
+returns-then-len-gt-LISTED-clause-left g c sized clean left may =
     as_before c.args.files sized left ((c.read_catalog.ensures.kept clean).crash left may)
 
 pub returns-in-Err-open-clause-left : goal.returns-in-Err-open-clause-left
