@@ -1,6 +1,6 @@
 -- Names to which several are added.
-use Rattle.argon2_rows.proofs.Imports.{◌≡◌, ℕ, List, [], ◌∷◌, ◌++◌, ◌≤◌, false, Some, Result, Ok, Err, refl, sym, Io, subst, ap, ◌∙◌, arith, inl, inr, map, Bor, get}
-use Rattle.argon2_rows.proofs.Imports.{Any, IfErr, MoreFaults, both_ways, on_ok_weaker, StoreError, Ghosts, Texts, AddsAll, AddsEach, AddsNames, IsAdded, WritesAll, IsPermutation, entry_of, Changes, bytes_eq-Decides, true, ◌≢◌}
+use Rattle.argon2_rows.proofs.Imports.{◌≡◌, ℕ, List, [], ◌∷◌, ◌++◌, false, Some, Result, Ok, Err, refl, sym, Io, subst, ap, ◌∙◌, arith, inl, inr, map, Bor, get}
+use Rattle.argon2_rows.proofs.Imports.{Any, IfErr, IfErr-weaker, MoreFaults, both_ways, on_ok_weaker, StoreError, Ghosts, Texts, AddsAll, AddsEach, AddsNames, IsAdded, WritesAll, IsPermutation, entry_of, Changes, bytes_eq-Decides, true, ◌≢◌}
 use Rattle.argon2_rows.proofs.Imports.{AddError, Finishes, HasBegun, IsKept, Store, Taken, Writes, changed, written_of, HasRows, IsHonest, IsLong, IsOpen, StaysQuiet}
 use Rattle.std.proofs.lemmas.List.Sorted.{Contains-permutation, IsPermutation-map, IsPermutation-sym}
 use Rattle.sqlite_trees.proofs.ListLemmas.{along_permutation}
@@ -45,18 +45,13 @@ module _ {S : Type 0} (g : Ghosts S) where
   changes_later : {a b c : S} {x y : Texts} {P Q : Type 0} {r : Result (Unit {0}) StoreError} → StaysQuiet g a b
       → (IsHonest g b → (g.view b).is_broken ≡ false) → (P → Q) → Changes g b c x y P r → Changes g a c x y Q r
   changes_later {a} {b} {c} {P = P} {Q = Q} {r = r} quiet sound more change =
-      let cause = λ (clean : IsHonest g c). caused r (sound (change.honest clean)) more quiet.counts (change.cause clean) in
-      search arith
-    where
-      caused : (r : Result (Unit {0}) StoreError) → (g.view b).is_broken ≡ false → (P → Q) → g.faults a ≤ g.faults b
-          → IfErr r (λ e. HasCause (g.view b) (MoreFaults (g.faults b) (g.faults c)) P e × IsTold g c e)
-          → IfErr r (λ e. HasCause (g.view a) (MoreFaults (g.faults a) (g.faults c)) Q e × IsTold g c e)
-      caused (Ok x) sound more counts why = tt
-      caused (Err e) sound more counts why = (
-        cause_map (g.view b) (g.view a) (λ broken. absurd (both_ways (g.view b).is_broken sound broken))
-            (λ f. omega (arith, f, counts)) more e why.0,
+      let cause : IsHonest g c → IfErr r (λ e. HasCause (g.view a) (MoreFaults (g.faults a) (g.faults c)) Q e × IsTold g c e) =
+      λ clean. IfErr-weaker r _ _ (λ e why. (
+        cause_map (g.view b) (g.view a) (λ broken. absurd (both_ways (g.view b).is_broken (sound (change.honest clean)) broken))
+            (λ f. omega (arith, f, quiet.counts)) more e why.0,
         why.1,
-      )
+      )) (change.cause clean) in
+      search arith
 
   -- names that are written in another order
   pub reordered : (old new : S) (before : Texts) (xs ys : List (Bor (List ℕ) × StoredText)) (done : Result (Unit {0}) StoreError)
