@@ -1,5 +1,5 @@
--- The first line of a text, and what its lines come to one by one.
-use Rattle.std.proofs.Common.{arith, ◌≡◌, ◌∙◌, ◌+◌, ◌<◌, ◌==◌, min, ℕ, length, List, [], ◌∷◌, ◌++◌, map, ap, sym, refl, ⊎_elim, false, take}
+-- The first line of a text, and what lines come to one by one.
+use Rattle.std.proofs.Common.{arith, ◌≡◌, ◌∙◌, ◌+◌, ◌<◌, ◌==◌, min, ℕ, suc, length, Bor, List, [], ◌∷◌, ◌++◌, Result, map, ap, sym, refl, ⊎_elim, false, drop, drop-cons, get_or, take}
 use Rattle.std.specs.Prelude.{All}
 use Rattle.std.proofs.lemmas.Bool.{cases_lt}
 use Rattle.std.proofs.lemmas.Grind.{common_steps}
@@ -7,7 +7,9 @@ use Rattle.std.proofs.lemmas.List.Splits.{length-slice_split, slice_split_at, sl
 use Rattle.std.specs.Io.BufRead.{strip_last}
 use Rattle.std.specs.List.{AllZip, IsFirstMatchOrLen, slice_split}
 use Rattle.std.specs.Str.Lines.{lines, lines_of_parts, strip_carriage_return}
+use Rattle.argon2_rows.specs.declared.text.StoredText.{StoredText}
 use Rattle.argon2_passwd.specs.Passwords.{line_of}
+use Rattle.argon2_passwd.specs.declared.failure.Flaw.{Flaw}
 
 parts-cons : (part : List ℕ) (parts : List (List ℕ)) → 0 < length parts
     → lines_of_parts (part ∷ parts) ≡ strip_carriage_return part ∷ lines_of_parts parts
@@ -46,6 +48,14 @@ lines_first rest line after i some whole long first = ⊎_elim
     let all : rest ≡ line = grind (arith, common_steps) in
     rw (all, end) (lines-last line (grind (arith, common_steps)) (λ k d below. grind (arith, common_steps, first.0 k d))))
     (cases_lt i (length rest))
+
+-- a line, as the code has it
+abbrev pub Own : Type 0
+Own = Result (Bor (List ℕ) × StoredText) Flaw
+
+-- the next of the lines
+pub next_line : (ls : List Own) (k : ℕ) (x : Own) → k < length ls → x ≡ get_or ls k x → drop k ls ≡ x ∷ drop (suc k) ls
+next_line ls k x within is = drop-cons ls k x within ∙ ap (λ y. y ∷ drop (suc k) ls) (sym is)
 
 -- a line more, and none
 pub map-push : {A B : Type 0} (f : A → B) (found : List A) (x : A) (rest : List B)

@@ -55,16 +55,17 @@ module _ {S : Type 0} {g : Ghosts S} where
   was_honest error a b (inr looks) names has clean = let quiet = (looks names has).quiet in omega (arith, clean, quiet.clean)
 
   -- entries of lines were to be added, after look-ups
-  pub added : {a b c : AccountFile S g} (ls : List Line) (answer : Result (Unit {0}) FileError) (es : List (List ℕ × List ℕ))
-      (passed : List (ℕ × Flaw)) → Looks None a b → Serves (additions es) answer b c
-      → ((names : Texts) → HasNames a names → IsHonest g (database_of b)
-      → let marked = map (unless_known names) ls in (es ≡ entries_in marked) × (passed ≡ flaws_from 1 marked))
+  pub added : {a b c : AccountFile S g} (ls new : List Line) (answer : Result (Unit {0}) FileError) {es : List (List ℕ × List ℕ)}
+      {passed : List (ℕ × Flaw)} → Looks None a b → Serves (additions es) answer b c
+      → (es ≡ entries_in new) × (passed ≡ flaws_from 1 new)
+      → ((names : Texts) → HasNames a names → IsHonest g (database_of b) → new ≡ map (unless_known names) ls)
       → AddsEntries answer ls passed a c
-  added {a} {b} ls answer es passed looks serves sorts = (
+  added {a} {b} {c} ls new answer looks serves (made, flawed) is = (
     b,
-    es,
+    new,
     looks,
-    serves,
+    subst (λ es. Serves (additions es) answer b c) made serves,
+    flawed,
     λ names has clean.
-        let made = (serves names (names_stay None a b looks names has)).1 in sorts names has (made.honest clean),
+        let done = (serves names (names_stay None a b looks names has)).1 in is names has (done.honest clean),
   )

@@ -1,7 +1,9 @@
 -- How what is asked for ended, by how a call for it ended.
-use Rattle.std.proofs.Common.{Some, arith, ◌≡◌, ℕ, false, List, Option, Result, Ok, Err, inl, inr, refl, subst, sym}
+use Rattle.std.proofs.Common.{None, Some, arith, ◌≡◌, ℕ, Bool, false, List, Option, Result, Ok, Err, inl, inr, refl, subst, sym}
+use Rattle.std.proofs.lemmas.Option.{IfSome_then}
+use Rattle.std.specs.Io.BufRead.{DropsThrough, drop_through}
 use Rattle.std.specs.Io.KnownBytes.{Keeps}
-use Rattle.std.specs.Prelude.{◌≢◌, IfErr, IfSome, IsErrAnd}
+use Rattle.std.specs.Prelude.{IfSome, IsErrAnd}
 use Rattle.sqlite_trees.specs.declared.store.Store.{Ghosts}
 use Rattle.argon2_base.specs.PhcText.{Phc}
 use Rattle.argon2.specs.declared.bound.BoundError.{BoundError}
@@ -12,15 +14,11 @@ use Rattle.argon2_store.specs.Errors.{is_refusal, read_by}
 use Rattle.argon2_store.specs.declared.account_file.AccountFile.{AccountFile}
 use Rattle.argon2_store.specs.declared.error.FileError.{FileError}
 use Rattle.argon2_store.specs.declared.error.LineError.{LineError}
-use Rattle.argon2_passwd.specs.Answers.{IsDenied, IsOpenFor, IsOpened, IsUnfound}
+use Rattle.argon2_passwd.specs.Answers.{IsDenied, IsOpenFor, IsOpened, IsUnfound, behind}
+use Rattle.argon2_passwd.specs.Lines.{AreSaid, Line}
 use Rattle.argon2_passwd.specs.Passwords.{password_of}
 use Rattle.argon2_passwd.specs.Failures.{IsMemory, IsOfFile, IsOfLines, status_of}
 use Rattle.argon2_passwd.specs.declared.failure.Failure.{Failure}
-
-pub passed : {X : Type 0} (P : Failure → Type 0) (f : Failure) (r : Result X Failure) → IsErrAnd r (λ e. e ≡ f)
-    → (status_of f ≢ 3 → P f) → IfErr r (λ e. status_of e ≢ 3 → P e)
-passed P f (Ok x) is why = tt
-passed P f (Err e) is why = subst (λ (x : Failure). status_of x ≢ 3 → P x) (sym is) why
 
 pub keeps_same : (known : Option (List ℕ)) → Keeps known known
 keeps_same known = grind arith
@@ -29,6 +27,18 @@ keeps_same known = grind arith
 pub found_as : (input : Option (List ℕ)) {p q : List ℕ} → p ≡ q → IfSome input (λ bytes. password_of bytes ≡ Some q)
     → IfSome input (λ bytes. password_of bytes ≡ Some p)
 found_as input same found = subst (λ p. IfSome input (λ bytes. password_of bytes ≡ Some p)) (sym same) found
+
+-- the password behind the first line, by its bytes
+pub behind_as : (input rest : Option (List ℕ)) {p q : List ℕ} → p ≡ q → DropsThrough input rest 10
+    → IfSome rest (λ bytes. password_of bytes ≡ Some q) → IfSome (behind input) (λ bytes. password_of bytes ≡ Some p)
+behind_as None rest same drops found = tt
+behind_as (Some bytes) rest same drops found = found_as (Some (drop_through 10 bytes)) same (rw drops at found)
+
+-- what the lines of the bytes that are read say
+pub said_of : (input : Option (List ℕ)) (any_text : Bool) (read : List ℕ) (said : List Line) → IfSome input (λ known. read ≡ known)
+    → AreSaid any_text read said → IfSome input (λ bytes. AreSaid any_text bytes said)
+said_of input any_text read said same are =
+    IfSome_then input same (λ known all. subst (λ bytes. AreSaid any_text bytes said) all are)
 
 -- a result that is an error
 pub some_error : {X : Type 0} (Q : Failure → Type 0) (r : Result X Failure) → IsErrAnd r Q

@@ -1,11 +1,9 @@
 -- What the program answers.
-use Rattle.std.specs.Prelude.{◌≡◌, ◌≢◌, ◌⊎◌, ⊤, ℕ, ◌||◌, false, Bool, ◌+◌, IsTrue, List, [], ◌∷◌, ◌++◌, Option, Some, None, IfSome, Result, Ok, Err, IfErr, IfOk, IsErrAnd, is_ok, if◌then◌else◌, IsSomeAnd, OnOk, map}
+use Rattle.std.specs.Prelude.{◌≡◌, ◌≢◌, ◌⊎◌, ⊤, ℕ, ◌||◌, false, Bool, ◌+◌, IsTrue, List, [], ◌∷◌, ◌++◌, Option, Some, None, IfSome, Result, Ok, Err, IfOk, IsErrAnd, is_ok, if◌then◌else◌, IsSomeAnd, map}
 use Rattle.std.specs.Io.BufRead.{drop_through}
-use Rattle.std.specs.List.{AllZip}
 use Rattle.std.specs.Borrow.{Bor}
 use Rattle.std.specs.Option.{option_map}
 use Rattle.std.specs.Io.KnownBytes.{Appends, Keeps}
-use Rattle.std.specs.Str.Lines.{lines}
 use Rattle.std.specs.FinMap.{get}
 use Rattle.argon2_base.specs.PhcText.{Phc, PhcText, phc_text}
 use Rattle.argon2_base.specs.declared.error.password_hash.Error.TheVariants.{EncodingInvalid, PasswordInvalid}
@@ -45,17 +43,17 @@ use Rattle.argon2_passwd.specs.declared.failure.Flaw.TheVariants.{Taken}
 use Rattle.argon2_passwd.specs.declared.failure.Failure.TheVariants.{File, Line as AtLine, Name, Params, Passed, Refused, Scheme}
 use Rattle.argon2_passwd.specs.declared.run.edits.Step.{Step}
 use Rattle.argon2_passwd.specs.declared.run.edits.Step.TheVariants as step
-use Rattle.argon2_passwd.specs.Lines.{AreEntries, IsEntryOrFlaw, Line, RefusesText, entries_in, first_of_each, flaws_from, has_control, unless_known, unmarked}
+use Rattle.argon2_passwd.specs.Lines.{AreSaid, IsOfFirst, Line, entries_in, first_of_each, flaws_from, has_control, unless_known}
 
 -- a fact of a password, the first line of a known input
 abbrev pub OfPassword : (List ℕ → Type 0) → Option (List ℕ) → Type 0
 OfPassword P input =
     (password : List ℕ) × IfSome input (λ bytes. password_of bytes ≡ Some password) × P password
 
--- a fresh text of the password
-abbrev pub IsHashReply : Policy → List ℕ → Option (List ℕ) → List ℕ → Type 0
-IsHashReply policy drawn input reply =
-    OfPassword (λ password. (v : Phc) × IsFresh policy.target password drawn v × (reply ≡ phc_text v)) input
+-- a fresh text of the password, with a salt that the system gives
+abbrev pub IsNewText : (List ℕ → Type 0) → Policy → Option (List ℕ) → Phc → Type 0
+IsNewText Gives policy input v = OfPassword (λ password. (drawn : List ℕ)
+    × IsSalt Gives drawn × IsFresh policy.target password drawn v) input
 
 -- what a login did with a text, and a line with the fresh one if there is one
 abbrev pub login_text : Accepted → Phc → List ℕ
@@ -65,12 +63,6 @@ login_text did fresh = accepted_text did
 -- what a text says that is not locked, and not of another scheme
 abbrev pub SaysHash : List ℕ → Phc → Type 0
 SaysHash text v = (is_locked text ≡ false) × (scheme_of text ≡ None) × PhcText text v
-
--- a login with the password and the text
-abbrev pub IsCheckReply : Policy → List ℕ → List ℕ → Option (List ℕ) → List ℕ → Type 0
-IsCheckReply policy drawn text input reply =
-    OfPassword (λ password. (v : Phc) × (did : Accepted) × (w : Phc) × SaysHash text v
-    × LogsIn policy password drawn v (Ok did) w × (reply ≡ login_text did w)) input
 
 -- Why no password opens a text: it is locked, and is refused as a wrong password is; or it is of another scheme; or it is
 -- outside the grammar.
@@ -93,24 +85,14 @@ IsUnchecked policy text input failure = IsUnread input failure
     ⊎ OfPassword (λ password. IsDenied (Denial policy password) (Some text) failure) input
 
 -- the secret of the file at a path, if there is one
-abbrev pub IsSecret : (List ℕ → List ℕ → Type 0) → Option (Bor (List ℕ)) → List ℕ → Type 0
-IsSecret Holds None secret = secret ≡ []
-IsSecret Holds (Some path) secret = Holds path.now secret
-
--- the same of an old one
-abbrev pub IsOldSecret : (List ℕ → List ℕ → Type 0) → Option (Bor (List ℕ)) → Option (List ℕ) → Type 0
-IsOldSecret Holds None secret = secret ≡ None
-IsOldSecret Holds (Some path) secret = IsSomeAnd secret (Holds path.now)
+abbrev pub IsSecret : (List ℕ → List ℕ → Type 0) → Option (Bor (List ℕ)) → Option (List ℕ) → Type 0
+IsSecret Holds None secret = secret ≡ None
+IsSecret Holds (Some path) secret = IsSomeAnd secret (Holds path.now)
 
 -- a fact of the policy that the options and their secrets make
 abbrev pub Under : (List ℕ → List ℕ → Type 0) → Options → (Policy → Type 0) → Type 0
-Under Holds options P = (secret : List ℕ) × IsSecret Holds options.secret_file secret
-    × (old : Option (List ℕ)) × IsOldSecret Holds options.old_secret_file old × P (policy_by options secret old)
-
--- a line that is appended is a reply with a salt that the system gives
-abbrev pub IsReplied : (List ℕ → Type 0) → (List ℕ → List ℕ → Type 0) → Option (List ℕ) → Option (List ℕ) → Type 0
-IsReplied Gives IsReply old new =
-    (drawn line : List ℕ) × IsSalt Gives drawn × IsReply drawn line × Appends old new (line ++ 10 ∷ [])
+Under Holds options P = (secret old : Option (List ℕ)) × IsSecret Holds options.secret_file secret
+    × IsSecret Holds options.old_secret_file old × P (policy_by options secret old)
 
 -- ---- accounts in a file
 
@@ -118,25 +100,9 @@ IsReplied Gives IsReply old new =
 abbrev pub behind : Option (List ℕ) → Option (List ℕ)
 behind input = option_map (drop_through 10) input
 
--- the passwords that a change takes
-abbrev pub AreRead : Edit → Option (List ℕ) → List ℕ → List ℕ → Type 0
-AreRead Register input first second = IfSome input (λ bytes. password_of bytes ≡ Some first)
-AreRead Change input first second = IfSome input (λ bytes. password_of bytes ≡ Some first)
-    × IfSome (behind input) (λ bytes. password_of bytes ≡ Some second)
-AreRead Set input first second = IfSome input (λ bytes. password_of bytes ≡ Some first)
-AreRead act input first second = ⊤
-
--- an input does not have them, or reading fails
-abbrev pub AreUnread : Edit → Option (List ℕ) → Failure → Type 0
-AreUnread Register input failure = IsUnread input failure
-AreUnread Change input failure = IsUnread input failure ⊎ IsUnread (behind input) failure
-AreUnread Set input failure = IsUnread input failure
-AreUnread act input failure = ⊥
-
 -- the name of a new text would break its line in an export, or has a control character
-abbrev pub breaks_lines : Edit → List ℕ → Bool
-breaks_lines Register name = breaks_line views.Texts name || has_control name
-breaks_lines act name = false
+abbrev pub breaks_lines : List ℕ → Bool
+breaks_lines name = breaks_line views.Texts name || has_control name
 
 -- what a step does to the text of a name
 abbrev pub edit_of : Step → List ℕ → FileEdit
@@ -146,6 +112,10 @@ edit_of (step.Replace old text) name = replacing name old.now (text_of text)
 edit_of step.Remove name = removing name
 edit_of step.Lock name = locking name
 edit_of step.Unlock name = unlocking name
+
+-- a fact of what the lines of a known input say
+abbrev pub OfLines : Bool → Option (List ℕ) → (List Line → Type 0) → Type 0
+OfLines any_text input P = (said : List Line) × IfSome input (λ bytes. AreSaid any_text bytes said) × P said
 
 -- How an addition of the entries ended: all are added, or none. A refusal has the line of the first one whose name is taken.
 abbrev pub AddsLines : {S : Type 0} {g : Ghosts S} → Result (Unit {0}) Failure → List (List ℕ × List ℕ) → AccountFile S g
@@ -165,10 +135,9 @@ Looks error before after = ((error ≡ None) × (after ≡ before))
 -- names were looked up, and entries of lines were to be added together, with this answer: those whose names the file did not have
 abbrev pub AddsEntries : {S : Type 0} {g : Ghosts S} → Result (Unit {0}) FileError → List Line → List (ℕ × Flaw)
     → AccountFile S g → AccountFile S g → Type 0
-AddsEntries {S} {g} answer ls passed before after = (mid : AccountFile S g) × (es : List (List ℕ × List ℕ))
-    × Looks None before mid × Serves (additions es) answer mid after
-    × ((names : Texts) → HasNames before names → IsHonest g (database_of after)
-    → let marked = map (unless_known names) ls in (es ≡ entries_in marked) × (passed ≡ flaws_from 1 marked))
+AddsEntries {S} {g} answer ls passed before after = (mid : AccountFile S g) × (new : List Line)
+    × Looks None before mid × Serves (additions (entries_in new)) answer mid after × (passed ≡ flaws_from 1 new)
+    × ((names : Texts) → HasNames before names → IsHonest g (database_of after) → new ≡ map (unless_known names) ls)
 
 -- the entries were added, and the failure has the numbers of the other lines
 abbrev pub PassesOver : {S : Type 0} {g : Ghosts S} → Failure → List Line → AccountFile S g → AccountFile S g → Type 0
@@ -214,11 +183,29 @@ abbrev pub IsUnfit : Policy → Action → Option (List ℕ) → Failure → Typ
 IsUnfit policy Hash input failure = IsUnread input failure
 IsUnfit policy (Check text) input failure = IsUnchecked policy text.now input failure
 IsUnfit policy (OnFile path (Verify name)) input failure = IsUnread input failure
-IsUnfit policy (OnFile path (Edits act name)) input failure =
-    (IsTrue (breaks_lines act name.now) × (failure ≡ Name)) ⊎ AreUnread act input failure
+IsUnfit policy (OnFile path (Edits Register name)) input failure =
+    (IsTrue (breaks_lines name.now) × (failure ≡ Name)) ⊎ IsUnread input failure
+IsUnfit policy (OnFile path (Edits Change name)) input failure = IsUnread input failure ⊎ IsUnread (behind input) failure
+IsUnfit policy (OnFile path (Edits Set name)) input failure = IsUnread input failure
 IsUnfit policy (OnFile path (Import any_text)) input failure =
-    IfSome input (λ bytes. RefusesText any_text (unmarked bytes) failure)
+    OfLines any_text input (λ said. IsOfFirst (flaws_from 1 said) failure)
 IsUnfit policy _ input failure = ⊥
+
+-- what is written without a file
+abbrev pub IsWritten : (List ℕ → Type 0) → Policy → Action → Option (List ℕ) → Option (List ℕ) → Option (List ℕ) → Type 0
+IsWritten Gives policy Hash input old new =
+    (v : Phc) × IsNewText Gives policy input v × Appends old new (phc_text v ++ 10 ∷ [])
+IsWritten Gives policy (Check text) input old new = OfPassword (λ password. (drawn : List ℕ) × (v : Phc) × (did : Accepted)
+    × (w : Phc) × IsSalt Gives drawn × SaysHash text.now v × LogsIn policy password drawn v (Ok did) w
+    × Appends old new (login_text did w ++ 10 ∷ [])) input
+IsWritten Gives policy _ input old new = ⊥
+
+-- how a command ended that opened no file: it is answered, or refused before
+abbrev pub IsAnswered : (List ℕ → Type 0) → Policy → Action → Result (Unit {0}) Failure
+    → Option (List ℕ) → Option (List ℕ) → Option (List ℕ) → Type 0
+IsAnswered Gives policy what (Ok _) input old new = IsWritten Gives policy what input old new
+IsAnswered Gives policy what (Err failure) input old new =
+    status_of failure ≢ 3 → IsUnfit policy what input failure × Keeps old new
 
 module _ {S : Type 0} (g : Ghosts S) (Has : List ℕ → Texts → Type 0) where
   -- the file at a path was opened, used so, and closed with this store
@@ -233,10 +220,10 @@ module _ {S : Type 0} (g : Ghosts S) (Has : List ℕ → Texts → Type 0) where
   abbrev pub IsDone : List ℕ → (AccountFile S g → AccountFile S g → Type 0) → (List S → Type 0) → Type 0
   IsDone path Does Closed = IsOpenFor path Does (λ last. Closed (last ∷ []))
 
-  -- one call was done there, and this result tells of its answer
-  abbrev pub IsApplied : List ℕ → FileEdit → (S → Type 0) → Result (Unit {0}) Failure → Type 0
-  IsApplied path change Next result =
-      (done : Result (Unit {0}) FileError) × TellsOf done result × IsOpenFor path (Serves (change ∷ []) done) Next
+  -- all that was done there is one call, and this result tells of its answer
+  abbrev pub IsApplied : List ℕ → FileEdit → (List S → Type 0) → Result (Unit {0}) Failure → Type 0
+  IsApplied path change Closed result =
+      (done : Result (Unit {0}) FileError) × TellsOf done result × IsDone path (Serves (change ∷ []) done) Closed
 
   -- the text of a name was read in the file at a path, which was closed with this store
   abbrev pub IsLooked : List ℕ → List ℕ → Result (Option (List ℕ)) FileError → (S → Type 0) → Type 0
@@ -265,64 +252,50 @@ module _ {S : Type 0} (g : Ghosts S) (Has : List ℕ → Texts → Type 0) (Give
       × LogsIn policy password drawn v (Ok did) w × IsLooked g Has path name (Ok (Some old))
       (λ read. ((result ≡ Ok (answer_without_text did)) × Closed (read ∷ []))
       ⊎ ((done : Result (Unit {0}) Failure) × (result ≡ Ok (if is_ok done then did else answer_without_text did))
-      × IsApplied g Has path (replacing name old (phc_text w)) (λ last. Closed (read ∷ last ∷ [])) done)))
+      × IsApplied g Has path (replacing name old (phc_text w)) (λ more. Closed (read ∷ more)) done)))
 
-  -- A change of this kind was all that was done with the file at a path, by these passwords and with this result. That the file
-  -- can't be opened again is no refusal.
-  abbrev pub IsChange : Policy → List ℕ → Edit → List ℕ → List ℕ → List ℕ → (List S → Type 0) → Result (Unit {0}) Failure → Type 0
-  IsChange policy path Register name first second Closed result = (drawn : List ℕ) × (v : Phc)
-      × IsSalt Gives drawn × IsFresh policy.target first drawn v × IsApplied g Has path (adding name (phc_text v)) (λ last. Closed (last ∷ [])) result
-  IsChange policy path Change name first second Closed result =
+  -- A change of this kind was all that was done with the file at a path, by the passwords of the input and with this result.
+  -- That the file can't be opened again is no refusal.
+  abbrev pub IsChange : Policy → List ℕ → Edit → List ℕ → Option (List ℕ) → (List S → Type 0) → Result (Unit {0}) Failure → Type 0
+  IsChange policy path Register name input Closed result = (breaks_lines name ≡ false)
+      × (v : Phc) × IsNewText Gives policy input v × IsApplied g Has path (adding name (phc_text v)) Closed result
+  IsChange policy path Change name input Closed result = OfPassword (λ first. OfPassword (λ second.
       IsErrAnd result
       (λ failure. IsUnfound g Has (ChangeRefusal policy first second) path name failure (λ read. Closed (read ∷ [])))
       ⊎ ((old drawn : List ℕ) × (v w : Phc) × IsSalt Gives drawn × SaysHash old v × Admits policy first v
       × IsFresh policy.target second drawn w × IsLooked g Has path name (Ok (Some old))
-      (λ read. Ends (IsApplied g Has path (replacing name old (phc_text w)) (λ last. Closed (read ∷ last ∷ [])))
-      (Closed (read ∷ [])) result))
-  IsChange policy path Set name first second Closed result = (drawn : List ℕ) × (v : Phc)
-      × IsSalt Gives drawn × IsFresh policy.target first drawn v × IsApplied g Has path (setting name (phc_text v)) (λ last. Closed (last ∷ [])) result
-  IsChange policy path Remove name first second Closed result = IsApplied g Has path (removing name) (λ last. Closed (last ∷ [])) result
-  IsChange policy path Lock name first second Closed result = IsApplied g Has path (locking name) (λ last. Closed (last ∷ [])) result
-  IsChange policy path Unlock name first second Closed result =
-      IsApplied g Has path (unlocking name) (λ last. Closed (last ∷ [])) result
-
-  -- what a change of a name's text comes to: it is made, or the file is not opened
-  abbrev pub IsAct : Policy → List ℕ → Edit → List ℕ → List ℕ → List ℕ → Result (Unit {0}) Failure → (List S → Type 0) → Type 0
-  IsAct policy path act name first second result Closed =
-      Ends (IsChange policy path act name first second Closed) (Closed []) result
+      (λ read. Ends (IsApplied g Has path (replacing name old (phc_text w)) (λ more. Closed (read ∷ more)))
+      (Closed (read ∷ [])) result))) (behind input)) input
+  IsChange policy path Set name input Closed result =
+      (v : Phc) × IsNewText Gives policy input v × IsApplied g Has path (setting name (phc_text v)) Closed result
+  IsChange policy path Remove name input Closed result = IsApplied g Has path (removing name) Closed result
+  IsChange policy path Lock name input Closed result = IsApplied g Has path (locking name) Closed result
+  IsChange policy path Unlock name input Closed result = IsApplied g Has path (unlocking name) Closed result
 
   -- all that was done with the file that is named, and how it ended
   abbrev pub IsUsed : Policy → Action → Result (Unit {0}) Failure → Option (List ℕ) → Option (List ℕ) → Option (List ℕ)
       → (List S → Type 0) → Type 0
   IsUsed policy (OnFile path (Verify name)) result input old new Closed = (login : Result Accepted Failure)
       × SaysLogin login result old new × OfPassword (λ password. IsLogin policy path.now name.now password login Closed) input
-  IsUsed policy (OnFile path (Edits act name)) result input old new Closed = Keeps old new × (breaks_lines act name.now ≡ false)
-      × (first second : List ℕ) × AreRead act input first second
-      × IsChange policy path.now act name.now first second Closed result
+  IsUsed policy (OnFile path (Edits act name)) result input old new Closed =
+      Keeps old new × IsChange policy path.now act name.now input Closed result
   IsUsed policy (OnFile path (Show view)) (Ok _) input old new Closed =
       IsOnlyRead g Has path.now None (λ names. AreWritten view names old new All) Closed
   IsUsed policy (OnFile path (Show view)) (Err failure) input old new Closed =
       (status_of failure ≡ 3) × (error : Option FileError) × IsOnlyRead g Has path.now error (λ names. ⊤) Closed
-  IsUsed policy (OnFile path (Import any_text)) result input old new Closed = Keeps old new × (es : List (List ℕ × List ℕ))
-      × IfSome input (λ bytes. AreEntries any_text (unmarked bytes) es) × IsDone g Has path.now (AddsLines result es) Closed
-  IsUsed policy (OnFile path (ImportOthers any_text)) result input old new Closed = Keeps old new × (said : List Line)
-      × IfSome input (λ bytes. AllZip (IsEntryOrFlaw any_text) (lines (unmarked bytes)) said)
-      × IsDone g Has path.now (AddsOthers result (first_of_each [] said)) Closed
+  IsUsed policy (OnFile path (Import any_text)) result input old new Closed =
+      Keeps old new × OfLines any_text input (λ said.
+      (flaws_from 1 said ≡ []) × IsDone g Has path.now (AddsLines result (entries_in said)) Closed)
+  IsUsed policy (OnFile path (ImportOthers any_text)) result input old new Closed =
+      Keeps old new × OfLines any_text input (λ said.
+      IsDone g Has path.now (AddsOthers result (first_of_each [] said)) Closed)
   IsUsed policy _ result input old new Closed = ⊥
 
-  -- what is written without a file
-  abbrev pub IsWritten : Policy → Action → Option (List ℕ) → Option (List ℕ) → Option (List ℕ) → Type 0
-  IsWritten policy Hash input old new = IsReplied Gives (λ drawn line. IsHashReply policy drawn input line) old new
-  IsWritten policy (Check text) input old new =
-      IsReplied Gives (λ drawn line. IsCheckReply policy drawn text.now input line) old new
-  IsWritten policy _ input old new = ⊥
-
-  -- how a command ended: its file was used, or no file was opened, and it is answered, or refused before
+  -- how a command ended: its file was used, or no file was opened
   abbrev pub IsServed : Policy → Action → Result (Unit {0}) Failure → Option (List ℕ) → Option (List ℕ) → Option (List ℕ)
       → (List S → Type 0) → Type 0
   IsServed policy what result input old new Closed = IsUsed policy what result input old new Closed
-      ⊎ (Closed [] × OnOk result (IsWritten policy what input old new)
-      × IfErr result (λ failure. status_of failure ≢ 3 → IsUnfit policy what input failure × Keeps old new))
+      ⊎ (Closed [] × IsAnswered Gives policy what result input old new)
 
 -- How a command ended under the options and their secrets, if these make a policy. A failure that is no refusal may come before.
 abbrev pub IsEnded : {S : Type 0} (g : Ghosts S) → (List ℕ → List ℕ → Type 0) → (List ℕ → Texts → Type 0)

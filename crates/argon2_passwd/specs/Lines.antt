@@ -1,5 +1,5 @@
 -- The lines of an import: names with texts.
-use Rattle.std.specs.Prelude.{◌≡◌, ◌⊎◌, ℕ, zero, suc, ◌==◌, true, false, Bool, ◌+◌, IsOk, IsTrue, List, [], ◌∷◌, if◌then◌else◌, Result, Ok, Err}
+use Rattle.std.specs.Prelude.{◌≡◌, ◌⊎◌, ℕ, suc, ◌==◌, true, false, Bool, IsOk, IsTrue, List, [], ◌∷◌, if◌then◌else◌, Result, Ok, Err}
 use Rattle.std.specs.Borrow.{Bor}
 use Rattle.std.specs.List.{AllZip, after_first, before_first, list_any}
 use Rattle.std.specs.Option.{is_some}
@@ -46,13 +46,10 @@ IsTaken true text = IsStored text ⊎ IsTrue (has_scheme text)
 abbrev pub has_control : List ℕ → Bool
 has_control name = list_any is_control (chars name)
 
--- the name of a line, and its text without what other programs put before it
-abbrev pub IsPair : Bool → List ℕ → List ℕ × List ℕ → Type 0
-IsPair any_text line e = (e.0 ≡ (parts_of line).0) × (e.1 ≡ without_prefix (parts_of line).1) × IsTaken any_text e.1
-
--- the same, and the name may be added
+-- the name of a line, and its text without what other programs put before it, if these may be added
 abbrev pub IsEntry : Bool → List ℕ → List ℕ × List ℕ → Type 0
-IsEntry any_text line e = IsPair any_text line e × (has_control e.0 ≡ false)
+IsEntry any_text line e = (e.0 ≡ (parts_of line).0) × (e.1 ≡ without_prefix (parts_of line).1)
+    × IsTaken any_text e.1 × (has_control e.0 ≡ false)
 
 -- one line with the text of another scheme
 abbrev pub IsForeign : List ℕ → Type 0
@@ -64,16 +61,9 @@ abbrev pub IsNotTaken : Bool → List ℕ → Type 0
 IsNotTaken false text = ¬ (IsStored text) ⊎ ((v : Phc) × PhcText (without_lock text) v × ¬ (IsOk (shown_settings v)))
 IsNotTaken true text = ¬ (IsStored text) × ¬ (IsForeign text)
 
-abbrev pub HasNoText : Bool → List ℕ → Type 0
-HasNoText any_text line = IsNotTaken any_text (without_prefix (parts_of line).1)
-
 -- what lines say behind a byte order mark
 abbrev pub unmarked : List ℕ → List ℕ
 unmarked input = after_any ((239 ∷ 187 ∷ 191 ∷ []) ∷ []) input
-
--- the entries of all lines
-abbrev pub AreEntries : Bool → List ℕ → List (List ℕ × List ℕ) → Type 0
-AreEntries any_text input es = AllZip (IsEntry any_text) (lines input) es
 
 -- what a line says: a name and a text that may be added, or why it has none
 abbrev pub Line : Type 0
@@ -85,22 +75,14 @@ entry_or_flaw (Err why) = Err why
 
 abbrev pub IsEntryOrFlaw : Bool → List ℕ → Line → Type 0
 IsEntryOrFlaw any_text line (Ok e) = IsEntry any_text line e
-IsEntryOrFlaw any_text line (Err NoText) = HasNoText any_text line
+IsEntryOrFlaw any_text line (Err NoText) = IsNotTaken any_text (without_prefix (parts_of line).1)
 IsEntryOrFlaw any_text line (Err Control) =
     IsTaken any_text (without_prefix (parts_of line).1) × IsTrue (has_control (parts_of line).0)
 IsEntryOrFlaw any_text line (Err Taken) = ⊥
 
--- the first of the lines without an entry has so many before it, and this flaw
-abbrev pub IsFirstWithout : Bool → Flaw → List (List ℕ) → ℕ → Type 0
-IsFirstWithout any_text why [] k = ⊥
-IsFirstWithout any_text why (line ∷ lines) zero = IsEntryOrFlaw any_text line (Err why)
-IsFirstWithout any_text why (line ∷ lines) (suc k) =
-    (e : List ℕ × List ℕ) × IsEntry any_text line e × IsFirstWithout any_text why lines k
-
--- the failure has the number of that line, and its flaw
-abbrev pub RefusesText : Bool → List ℕ → Failure → Type 0
-RefusesText any_text input failure =
-    (k : ℕ) × (why : Flaw) × (failure ≡ AtLine (k + 1) why) × IsFirstWithout any_text why (lines input) k
+-- what the lines of an input say
+abbrev pub AreSaid : Bool → List ℕ → List Line → Type 0
+AreSaid any_text input said = AllZip (IsEntryOrFlaw any_text) (lines (unmarked input)) said
 
 -- the line, unless its name is taken
 abbrev pub new_line : (List ℕ → Bool) → Line → Line
@@ -142,3 +124,8 @@ abbrev pub flaws_from : ℕ → List Line → List (ℕ × Flaw)
 flaws_from k [] = []
 flaws_from k (Ok e ∷ ls) = flaws_from (suc k) ls
 flaws_from k (Err why ∷ ls) = (k, why) ∷ flaws_from (suc k) ls
+
+-- the failure has the number of the first of these lines, and its flaw
+abbrev pub IsOfFirst : List (ℕ × Flaw) → Failure → Type 0
+IsOfFirst [] failure = ⊥
+IsOfFirst ((number, why) ∷ more) failure = failure ≡ AtLine number why

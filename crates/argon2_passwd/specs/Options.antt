@@ -1,7 +1,6 @@
 -- What the options come to.
-use Rattle.std.specs.Prelude.{List, ℕ, Option, max, unwrap_or}
+use Rattle.std.specs.Prelude.{List, [], ℕ, Option, max, unwrap_or}
 use Rattle.argon2.specs.Argon2.{argon2id_with, parameters_of}
-use Rattle.argon2.specs.TextHashing.{Target}
 use Rattle.argon2.specs.declared.bound.Bound.{Bound}
 use Rattle.argon2_policy.specs.Policy.{Policy}
 use Rattle.argon2_passwd.specs.declared.options.Options.{Options}
@@ -14,14 +13,10 @@ bound_or_default options = unwrap_or options.bound (record {
   p_cost = max (parameters_of options.params).p_cost 64;
 })
 
--- Argon2id of version 0x13 under the parameters and a secret
-abbrev pub target_by : Options → List ℕ → Target
-target_by options secret = record { settings = argon2id_with (parameters_of options.params); secret = secret }
-
--- the same with an old secret, if there is one, and a bound
-abbrev pub policy_by : Options → List ℕ → Option (List ℕ) → Policy
+-- Argon2id of version 0x13 under the parameters and a secret, with an old one, if there are such, and a bound
+abbrev pub policy_by : Options → Option (List ℕ) → Option (List ℕ) → Policy
 policy_by options secret old = record {
-  target = target_by options secret;
+  target = record { settings = argon2id_with (parameters_of options.params); secret = unwrap_or secret [] };
   old_secret = old;
   bound = bound_or_default options;
 }

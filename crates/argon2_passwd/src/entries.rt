@@ -1,13 +1,12 @@
 //! A name with its text, a line of standard input.
 
 ghost use Rattle.std.specs.Prelude.{◌≡◌, false, true, IfErr, IfOk, IfSome, MatchOption};
-ghost use Rattle.argon2_rows.specs.Names.{entry_of};
-ghost use Rattle.argon2_passwd.specs.Lines.{HasNoText, IsNotTaken, IsPair, IsTaken, has_control, has_scheme, parts_now, parts_of};
+ghost use Rattle.argon2_passwd.specs.Lines.{IsNotTaken, IsTaken, has_control, has_scheme, parts_now, parts_of};
 ghost use Rattle.argon2_passwd.specs.Failures.{status_of};
 
 use crate::failure::{Failure, of_reading};
 use argon2::password_hash::Settings;
-use argon2_programs::{bare_str, scheme_of};
+use argon2_programs::scheme_of;
 use argon2_rows::StoredText;
 use argon2_rows::text::behind_lock;
 use std::alloc::Global;
@@ -27,20 +26,8 @@ pub fn read_all<R: BufRead>(alloc: Global, input: &mut R) -> Result<Vec<u8>, Fai
     }
 }
 
-// The name and the text of a line, without what other programs put before a text, if that may be added.
-pub fn entry(line: &[u8], any_text: bool) -> Option<(&str, StoredText<'_>)>
-    ensures { MatchOption result (HasNoText any_text line.now)
-        (λ found. IsPair any_text line.now (entry_of found)) }
-{
-    let (name, text) = parts(line);
-    match stored(bare_str(text), any_text) {
-        Some(text) => Some((name, text)),
-        None => None,
-    }
-}
-
-// A text that may be added.
-fn stored(text: &str, any_text: bool) -> Option<StoredText<'_>>
+/// A text that may be added.
+pub fn stored(text: &str, any_text: bool) -> Option<StoredText<'_>>
     ensures { MatchOption result (IsNotTaken any_text text.now)
         (λ it. (it.text.now ≡ text.now) × IsTaken any_text text.now) }
 {
@@ -92,8 +79,8 @@ pub fn has_control(name: &str) -> bool
     name.chars().any(|c| c.is_control())
 }
 
-// The parts of a line at its first colon. Without a colon there is no text; if it is not UTF-8, there is neither.
-fn parts(line: &[u8]) -> (&str, &str)
+/// The parts of a line at its first colon. Without a colon there is no text; if it is not UTF-8, there is neither.
+pub fn parts(line: &[u8]) -> (&str, &str)
     ensures { parts_now result ≡ parts_of line.now }
 {
     match str::from_utf8(line) {

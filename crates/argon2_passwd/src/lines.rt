@@ -1,15 +1,13 @@
 //! What each line of an import says.
 
-ghost use Rattle.std.specs.Prelude.{◌≡◌, ◌||◌, ◌⊎◌, [], ℕ, List, IfErr, IfOk, OnOk, map};
-ghost use Rattle.std.specs.List.{AllZip};
-ghost use Rattle.std.specs.Str.Lines.{lines};
-ghost use Rattle.argon2_passwd.specs.Lines.{AreEntries, IsEntryOrFlaw, RefusesText, entry_or_flaw, first_of_each, has_name, line_has_name, new_line};
+ghost use Rattle.std.specs.Prelude.{◌≡◌, ◌||◌, ℕ, List, [], IfOk, OnOk, map};
+ghost use Rattle.argon2_passwd.specs.Lines.{AreSaid, IsEntryOrFlaw, entries_in, entry_or_flaw, first_of_each, flaws_from, has_name, line_has_name, new_line};
 ghost use Rattle.argon2_rows.specs.Names.{entry_of};
-ghost use Rattle.argon2_passwd.specs.Failures.{IsMemory};
 
-use crate::entries::{entry, has_control};
-use crate::failure::{Failure, Flaw};
+use crate::entries::{has_control, parts, stored};
+use crate::failure::Flaw;
 use crate::passwords::line_len;
+use argon2_programs::{after_any, bare_str};
 use argon2_rows::StoredText;
 use std::alloc::{AllocError, Global};
 use std::collections::BTreeSet;
@@ -17,7 +15,10 @@ use std::collections::BTreeSet;
 /// What a line says: a name and a text that may be added, or why it has none.
 pub type Line<'a> = Result<(&'a str, StoredText<'a>), Flaw>;
 
-/// What each line says.
+// What some programs put before the first line.
+const BYTE_ORDER_MARK: &str = "\u{feff}";
+
+/// What each line says behind a byte order mark.
 ///
 /// # Errors
 /// Memory may be refused.
@@ -26,34 +27,12 @@ pub fn read_lines<'a>(
     input: &'a [u8],
     any_text: bool,
 ) -> Result<Vec<Line<'a>>, AllocError>
-    ensures { IfOk result (λ found. AllZip (IsEntryOrFlaw any_text) (lines input.now) (map entry_or_flaw found.items)) }
+    ensures { IfOk result (λ found. AreSaid any_text input.now (map entry_or_flaw found.items)) }
 {
     let mut found = Vec::new(alloc);
-    for line in input.split_inclusive(|byte| *byte == b'\n') {
+    let text = after_any(input, &[BYTE_ORDER_MARK]);
+    for line in text.split_inclusive(|byte| *byte == b'\n') {
         found.push(read_line(&line[..line_len(line)], any_text))?;
-    }
-    Ok(found)
-}
-
-/// The name and the text of each line.
-///
-/// # Errors
-/// The first line that has none, or out of memory.
-pub fn entries<'a>(
-    alloc: Global,
-    input: &'a [u8],
-    any_text: bool,
-) -> Result<Vec<(&'a str, StoredText<'a>)>, Failure>
-    ensures ok { IfOk result (λ found. AreEntries any_text input.now (map entry_of found.items)) }
-    ensures err { IfErr result (λ failure. IsMemory failure
-        ⊎ RefusesText any_text input.now failure) }
-{
-    let mut found = Vec::new(alloc);
-    for line in input.split_inclusive(|byte| *byte == b'\n') {
-        match read_line(&line[..line_len(line)], any_text) {
-            Ok(entry) => found.push(entry)?,
-            Err(flaw) => return Err(Failure::Line(found.as_slice().len() + 1, flaw)),
-        }
     }
     Ok(found)
 }
@@ -62,11 +41,34 @@ pub fn entries<'a>(
 fn read_line(line: &[u8], any_text: bool) -> Line<'_>
     ensures { IsEntryOrFlaw any_text line.now (entry_or_flaw result) }
 {
-    match entry(line, any_text) {
+    let (name, text) = parts(line);
+    match stored(bare_str(text), any_text) {
         None => Err(Flaw::NoText),
-        Some((name, _)) if has_control(name) => Err(Flaw::Control),
-        Some(entry) => Ok(entry),
+        Some(_) if has_control(name) => Err(Flaw::Control),
+        Some(text) => Ok((name, text)),
     }
+}
+
+/// The names and the texts of lines, and the numbers of the other lines with their flaws.
+///
+/// # Errors
+/// Memory may be refused.
+pub fn entries_and_flaws<'a>(
+    alloc: Global,
+    lines: &[Line<'a>],
+) -> Result<(Vec<(&'a str, StoredText<'a>)>, Vec<(usize, Flaw)>), AllocError>
+    ensures { IfOk result (λ found. let said = map entry_or_flaw lines.now in
+        (map entry_of found.0.items ≡ entries_in said) × (found.1.items ≡ flaws_from 1 said)) }
+{
+    let mut entries = Vec::new(alloc);
+    let mut flaws = Vec::new(alloc);
+    for (k, line) in lines.iter().enumerate() {
+        match line {
+            Ok(entry) => entries.push(*entry)?,
+            Err(flaw) => flaws.push((k + 1, *flaw))?,
+        }
+    }
+    Ok((entries, flaws))
 }
 
 /// The lines, of which only the first with a name has it.

@@ -1,10 +1,11 @@
 //! The program over any world outside it and any streams.
 
-ghost use Rattle.std.specs.Prelude.{◌≡◌, ◌≢◌, ◌≤◌, ◌⊎◌, [], ℕ, Ok, Result, vec_items, IfErr, IfOk, OnOk, string_bytes, take};
-ghost use Rattle.std.specs.Io.KnownBytes.{Appends, Keeps};
+ghost use Rattle.std.specs.Prelude.{◌≡◌, ◌≢◌, ◌≤◌, ◌⊎◌, [], ℕ, Ok, Result, vec_items, IfErr, IfOk, string_bytes, take};
+ghost use Rattle.argon2_base.specs.PhcFields.{phc_of};
+ghost use Rattle.std.specs.Io.KnownBytes.{Appends};
 ghost use Rattle.std.specs.Option.{option_map};
 ghost use Rattle.argon2_policy.specs.Policy.{IsPolicy, policy_value};
-ghost use Rattle.argon2_passwd.specs.Answers.{IsCheckReply, IsEnded, IsHashReply, IsOldSecret, IsReplied, IsSecret, IsUnchecked, SaysLogin};
+ghost use Rattle.argon2_passwd.specs.Answers.{IsAnswered, IsEnded, IsNewText, IsSecret, SaysLogin};
 ghost use Rattle.argon2_passwd.specs.Options.{policy_by};
 ghost use Rattle.argon2_passwd.specs.News.{news_of, news_text};
 ghost use Rattle.argon2_passwd.specs.Failures.{status_by, status_of};
@@ -19,7 +20,7 @@ use crate::options::Options;
 use crate::outside::{News, Outside};
 use crate::passwords::password;
 use argon2::login::Accepted;
-use argon2::{Algorithm, Argon2, Version};
+use argon2::{Algorithm, Argon2, PasswordHash, Version};
 use argon2_policy::Policy;
 use argon2_programs::write_line;
 use argon2_store::FileError;
@@ -175,9 +176,9 @@ fn answer<P: Outside, R: BufRead, W: Write>(
         (W.contents output.new) (P.closed outside.new) }
 {
     let options = &command.options;
-    let secret = secret(alloc, outside, options)?;
-    let old = old_secret(outside, options)?;
-    let policy = policy(alloc, options, secret.as_slice(), &old)?;
+    let current = secret(outside, options.secret_file, false)?;
+    let old = secret(outside, options.old_secret_file, true)?;
+    let policy = policy(alloc, options, &current, &old)?;
     accounts::serve(alloc, outside, &policy, command.action, input, output)
 }
 
@@ -189,17 +190,28 @@ fn hash<P: Outside, R: BufRead, W: Write>(
     input: &mut R,
     output: &mut W,
 ) -> Result<(), Failure>
-    ensures ok { OnOk result (IsReplied P.gives
-        (λ drawn line. IsHashReply (policy_value policy.now) drawn (R.remaining input.old) line)
-        (W.contents output.old) (W.contents output.new)) }
-    ensures err { IfErr result (λ failure. status_of failure ≢ 3 → IsUnread (R.remaining input.old) failure
-        × Keeps (W.contents output.old) (W.contents output.new)) }
+    ensures { IsAnswered P.gives (policy_value policy.now) Action.Hash result
+        (R.remaining input.old) (W.contents output.old) (W.contents output.new) }
+{
+    let hash = new_text(alloc, outside, policy, input)?;
+    write_line(output, hash.text().as_str().as_bytes())?;
+    Ok(())
+}
+
+// A fresh text of the next password.
+fn new_text<P: Outside, R: BufRead>(
+    alloc: Global,
+    outside: &P,
+    policy: &Policy<'_>,
+    input: &mut R,
+) -> Result<PasswordHash, Failure>
+    ensures ok { IfOk result (λ text.
+        IsNewText P.gives (policy_value policy.now) (R.remaining input.old) (phc_of text)) }
+    ensures err { IfErr result (λ failure. status_of failure ≢ 3 → IsUnread (R.remaining input.old) failure) }
 {
     let mut rng = generator(outside)?;
     let password = password(alloc, input)?;
-    let hash = texts::fresh(policy, &mut rng, password.as_slice())?;
-    write_line(output, hash.text().as_str().as_bytes())?;
-    Ok(())
+    texts::fresh(policy, &mut rng, password.as_slice())
 }
 
 // Writes what a text does with the next password.
@@ -211,12 +223,8 @@ fn check<P: Outside, R: BufRead, W: Write>(
     input: &mut R,
     output: &mut W,
 ) -> Result<(), Failure>
-    ensures ok { OnOk result (IsReplied P.gives
-        (λ drawn line. IsCheckReply (policy_value policy.now) drawn text.now (R.remaining input.old) line)
-        (W.contents output.old) (W.contents output.new)) }
-    ensures err { IfErr result (λ failure. status_of failure ≢ 3
-        → IsUnchecked (policy_value policy.now) text.now (R.remaining input.old) failure
-        × Keeps (W.contents output.old) (W.contents output.new)) }
+    ensures { IsAnswered P.gives (policy_value policy.now) (Action.Check text.entry) result
+        (R.remaining input.old) (W.contents output.old) (W.contents output.new) }
 {
     let mut rng = generator(outside)?;
     let password = password(alloc, input)?;
@@ -226,27 +234,18 @@ fn check<P: Outside, R: BufRead, W: Write>(
     Ok(())
 }
 
-// The secret that the options name, none if they name no file.
-fn secret<P: Outside>(alloc: Global, outside: &P, options: &Options<'_>) -> Result<Vec<u8>, Failure>
-    ensures ok { IfOk result (λ secret.
-        IsSecret P.holds options.now.secret_file secret.items) }
+// The secret in the file at a path, if there is one.
+fn secret<P: Outside>(
+    outside: &P,
+    path: Option<&str>,
+    is_old: bool,
+) -> Result<Option<Vec<u8>>, Failure>
+    ensures ok { IfOk result (λ secret. IsSecret P.holds path.entry (option_map vec_items secret)) }
     ensures err { IfErr result (λ failure. status_of failure ≡ 3) }
 {
-    match options.secret_file {
-        None => Ok(Vec::new(alloc)),
-        Some(path) => outside.secret(path, false),
-    }
-}
-
-// The old secret, if the options name its file.
-fn old_secret<P: Outside>(outside: &P, options: &Options<'_>) -> Result<Option<Vec<u8>>, Failure>
-    ensures ok { IfOk result (λ old. IsOldSecret P.holds options.now.old_secret_file
-        (option_map vec_items old)) }
-    ensures err { IfErr result (λ failure. status_of failure ≡ 3) }
-{
-    match options.old_secret_file {
+    match path {
         None => Ok(None),
-        Some(path) => Ok(Some(outside.secret(path, true)?)),
+        Some(path) => Ok(Some(outside.secret(path, is_old)?)),
     }
 }
 
@@ -254,15 +253,19 @@ fn old_secret<P: Outside>(outside: &P, options: &Options<'_>) -> Result<Option<V
 fn policy<'key>(
     alloc: Global,
     options: &Options<'_>,
-    secret: &'key [u8],
+    secret: &'key Option<Vec<u8>>,
     old: &'key Option<Vec<u8>>,
 ) -> Result<Policy<'key>, Failure>
     ensures ok { IfOk result (λ policy. policy_value policy
-        ≡ policy_by options.now secret.now (option_map vec_items old.now)) }
-    ensures err { IfErr result (λ failure. (status_of failure ≡ 3) ⊎ ((failure ≡ Params)
-        × ¬ (IsPolicy (policy_by options.now secret.now (option_map vec_items old.now))))) }
+        ≡ policy_by options.now (option_map vec_items secret.now) (option_map vec_items old.now)) }
+    ensures err { IfErr result (λ failure. (status_of failure ≡ 3) ⊎ ((failure ≡ Params) × ¬ (IsPolicy
+        (policy_by options.now (option_map vec_items secret.now) (option_map vec_items old.now))))) }
 {
     let (algorithm, version) = (Algorithm::Argon2id, Version::V0x13);
+    let secret: &'key [u8] = match secret {
+        None => &[],
+        Some(secret) => secret.as_slice(),
+    };
     let Ok(argon2) = Argon2::new_with_secret(secret, algorithm, version, options.params) else {
         return Err(Failure::SecretLength(false));
     };

@@ -16,22 +16,18 @@ use super::{check, generator, hash, write_accepted};
 use crate::command::{Action, Task};
 use crate::entries::read_all;
 use crate::failure::{Failure, Flaw};
-use crate::lines::entries;
+use crate::lines::{entries_and_flaws, read_lines};
 use crate::outside::Outside;
 use crate::passwords::password;
 use argon2::PasswordHash;
 use argon2::login::{Accepted, LoggedIn};
 use argon2_policy::Policy;
-use argon2_programs::after_any;
 use argon2_rows::StoredText;
 use argon2_store::{AccountFile, FileError, OpenError, View};
 use rand_core::Rng;
 use sqlite_trees::store::Store;
 use std::alloc::Global;
 use std::io::{BufRead, Write};
-
-// What some programs put before the first line.
-pub(super) const BYTE_ORDER_MARK: &str = "\u{feff}";
 
 /// Where the accounts are, and under what they are served.
 #[derive(Clone, Copy)]
@@ -131,8 +127,11 @@ fn import<P: Outside, R: BufRead>(
         (R.remaining input.old) output output (P.closed outside.new) }
 {
     let bytes = read_all(alloc, input)?;
-    let lines = after_any(bytes.as_slice(), &[BYTE_ORDER_MARK]);
-    let entries = entries(alloc, lines, any_text)?;
+    let lines = read_lines(alloc, bytes.as_slice(), any_text)?;
+    let (entries, flaws) = entries_and_flaws(alloc, lines.as_slice())?;
+    if let Some((number, flaw)) = flaws.first() {
+        return Err(Failure::Line(*number, *flaw));
+    }
     let mut accounts = open(outside, access)?;
     let added = add_all(&mut accounts, entries.as_slice());
     outside.close(accounts.into_store());

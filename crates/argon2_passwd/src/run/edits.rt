@@ -1,15 +1,12 @@
 //! Changes of the text of one name in a file.
 
-ghost use Rattle.std.specs.Prelude.{◌≡◌, ◌∷◌, ◌++◌, [], ℕ, List, Option, IfErr, IfOk};
+ghost use Rattle.std.specs.Prelude.{◌≡◌, ◌∷◌, ◌++◌, [], ℕ, List, Option};
 ghost use Rattle.argon2_policy.specs.Policy.{policy_value};
 ghost use Rattle.argon2_store.specs.AccountFile.{Serves};
-ghost use Rattle.argon2_passwd.specs.Answers.{AreRead, AreUnread, Ends, IsAct, IsApplied, IsServed, breaks_lines, edit_of};
-ghost use Rattle.argon2_passwd.specs.Salts.{IsSalt};
-ghost use Rattle.rand_core.specs.Stream.{fill_bytes};
+ghost use Rattle.argon2_passwd.specs.Answers.{Ends, IsApplied, IsServed, breaks_lines, edit_of};
 
 use super::accounts::{Access, look, open};
-use super::generator;
-use super::texts::fresh;
+use super::{generator, new_text};
 use crate::command::{Action, Edit, Task};
 use crate::entries::has_control;
 use crate::failure::Failure;
@@ -17,7 +14,6 @@ use crate::outside::Outside;
 use crate::passwords::password;
 use argon2::PasswordHash;
 use argon2_store::{AccountFile, FileError, View};
-use rand_core::Rng;
 use sqlite_trees::store::Store;
 use std::alloc::Global;
 use std::io::BufRead;
@@ -48,75 +44,28 @@ pub(super) fn edit<P: Outside, R: BufRead>(
         (policy_value access.now.policy.now) (Action.OnFile access.now.path (Task.Edit edit name.entry)) result
         (R.remaining input.old) output output (P.closed outside.new) }
 {
-    if breaks_lines(edit, name) {
-        return Err(Failure::Name);
-    }
-    let mut rng = generator(outside)?;
-    let (first, second) = passwords(alloc, edit, input)?;
-    let (first, second) = (first.as_slice(), second.as_slice());
-    act(outside, access, edit, name, &mut rng, first, second)
-}
-
-// Whether the name of a new text would break its line in an export, or has a control character.
-fn breaks_lines(edit: Edit, name: &str) -> bool
-    ensures { result ≡ breaks_lines edit name.now }
-{
     match edit {
-        Edit::Register => View::Texts.breaks_line(name.as_bytes()) || has_control(name),
-        _ => false,
-    }
-}
-
-// The passwords that a change takes: the first line, and the one after it if there are two.
-fn passwords<R: BufRead>(
-    alloc: Global,
-    edit: Edit,
-    input: &mut R,
-) -> Result<(Vec<u8>, Vec<u8>), Failure>
-    ensures ok { IfOk result (λ read.
-        AreRead edit (R.remaining input.old) read.0.items read.1.items) }
-    ensures err { IfErr result (AreUnread edit (R.remaining input.old)) }
-{
-    match edit {
-        Edit::Remove | Edit::Lock | Edit::Unlock => Ok((Vec::new(alloc), Vec::new(alloc))),
-        Edit::Change => {
-            let old = password(alloc, input)?;
-            Ok((old, password(alloc, input)?))
-        }
-        _ => Ok((password(alloc, input)?, Vec::new(alloc))),
-    }
-}
-
-// Changes the text of a name. A text that is made of the new password alone is made before the file
-// is opened.
-fn act<P: Outside, G: Rng>(
-    outside: &mut P,
-    access: &Access<'_>,
-    edit: Edit,
-    name: &str,
-    rng: &mut G,
-    first: &[u8],
-    second: &[u8],
-) -> Result<(), Failure>
-    requires shut { P.closed outside.old [] }
-    requires salt { IsSalt P.gives (fill_bytes 16 (G.stream rng.old)).0 }
-    ensures { IsAct P.File.Store P.keeps P.gives (policy_value access.now.policy.now) access.now.path.now
-        edit name.now first.now second.now result (P.closed outside.new) }
-{
-    match edit {
+        Edit::Register if breaks_lines(name) => Err(Failure::Name),
         Edit::Register => {
-            let text = fresh(access.policy, rng, first)?;
+            let text = new_text(alloc, outside, access.policy, input)?;
             call(outside, access, name, &Step::Add(text))
         }
-        Edit::Change => change(outside, access, name, rng, first, second),
+        Edit::Change => change(alloc, outside, access, name, input),
         Edit::Set => {
-            let text = fresh(access.policy, rng, first)?;
+            let text = new_text(alloc, outside, access.policy, input)?;
             call(outside, access, name, &Step::Set(text))
         }
         Edit::Remove => call(outside, access, name, &Step::Remove),
         Edit::Lock => call(outside, access, name, &Step::Lock),
         Edit::Unlock => call(outside, access, name, &Step::Unlock),
     }
+}
+
+// Whether the name of a new text would break its line in an export, or has a control character.
+fn breaks_lines(name: &str) -> bool
+    ensures { result ≡ breaks_lines name.now }
+{
+    View::Texts.breaks_line(name.as_bytes()) || has_control(name)
 }
 
 /// Opens the file for one call, and closes it.
@@ -129,7 +78,7 @@ pub(super) fn call<P: Outside>(
     requires { (before : List P.File) × P.closed outside.old before }
     ensures { (before : List P.File) → P.closed outside.old before → Ends
         (IsApplied P.File.Store P.keeps access.now.path.now (edit_of step.now name.now)
-        (λ last. P.closed outside.new (before ++ last ∷ []))) (P.closed outside.new before) result }
+        (λ more. P.closed outside.new (before ++ more))) (P.closed outside.new before) result }
 {
     let mut accounts = open(outside, access)?;
     let done = apply(&mut accounts, name, step);
@@ -155,21 +104,27 @@ fn apply<S: Store>(
     }
 }
 
-// Changes the text of a name if it accepts the first password. No file is open while passwords are hashed.
-fn change<P: Outside, G: Rng>(
+// Gives a name a text of the next password but one if its text accepts the next. No file is open while passwords are
+// hashed.
+fn change<P: Outside, R: BufRead>(
+    alloc: Global,
     outside: &mut P,
     access: &Access<'_>,
     name: &str,
-    rng: &mut G,
-    first: &[u8],
-    second: &[u8],
+    input: &mut R,
 ) -> Result<(), Failure>
-    requires shut { P.closed outside.old [] }
-    requires salt { IsSalt P.gives (fill_bytes 16 (G.stream rng.old)).0 }
-    ensures { IsAct P.File.Store P.keeps P.gives (policy_value access.now.policy.now) access.now.path.now
-        Edit.Change name.now first.now second.now result (P.closed outside.new) }
+    requires { P.closed outside.old [] }
+    ensures { (output : Option (List ℕ)) → IsServed P.File.Store P.keeps P.gives
+        (policy_value access.now.policy.now) (Action.OnFile access.now.path (Task.Edit Edit.Change name.entry)) result
+        (R.remaining input.old) output output (P.closed outside.new) }
 {
+    let mut rng = generator(outside)?;
+    let first = password(alloc, input)?;
+    let second = password(alloc, input)?;
+    let (first, second) = (first.as_slice(), second.as_slice());
     let (text, hash) = look(outside, access, name, first)?;
-    let fresh = access.policy.change_password(rng, &hash, first, second)?;
+    let fresh = access
+        .policy
+        .change_password(&mut rng, &hash, first, second)?;
     call(outside, access, name, &Step::Replace(text.as_str(), fresh))
 }

@@ -1,6 +1,6 @@
 //! An import that passes over lines.
 
-ghost use Rattle.std.specs.Prelude.{◌≡◌, ◌∷◌, ◌++◌, [], ℕ, List, None, Ok, Option, Some, Result, false, IfErr, IfOk, MatchResult, OnOk, map};
+ghost use Rattle.std.specs.Prelude.{◌≡◌, [], ℕ, List, None, Ok, Option, Some, Result, false, IfErr, IfOk, MatchResult, OnOk, map};
 ghost use Rattle.argon2_policy.specs.Policy.{policy_value};
 ghost use Rattle.argon2_rows.specs.Names.{Texts, entry_of};
 ghost use Rattle.argon2_rows.specs.Table.{IsHonest};
@@ -8,20 +8,19 @@ ghost use Rattle.argon2_store.specs.AccountFile.{HasNames, Serves, database_of};
 ghost use Rattle.argon2_store.specs.Edits.{additions};
 ghost use Rattle.argon2_store.specs.Errors.{is_refusal};
 ghost use Rattle.argon2_passwd.specs.Answers.{AddsOthers, IsServed, Looks};
-ghost use Rattle.argon2_passwd.specs.Lines.{entries_in, entry_or_flaw, flaws_from, unless_known};
+ghost use Rattle.argon2_passwd.specs.Lines.{entry_or_flaw, unless_known};
 ghost use Rattle.argon2_passwd.specs.Failures.{status_of};
 
-use super::accounts::{Access, BYTE_ORDER_MARK, open};
+use super::accounts::{Access, open};
 use crate::command::{Action, Task};
 use crate::entries::read_all;
 use crate::failure::{Failure, Flaw};
-use crate::lines::{Line, first_of_each, read_lines};
+use crate::lines::{Line, entries_and_flaws, first_of_each, read_lines};
 use crate::outside::Outside;
-use argon2_programs::after_any;
 use argon2_rows::StoredText;
 use argon2_store::{AccountFile, FileError};
 use sqlite_trees::store::Store;
-use std::alloc::{AllocError, Global};
+use std::alloc::Global;
 use std::io::BufRead;
 
 /// Adds names and texts of the input, each a line, to a file, together, and fails with the lines that it passes over.
@@ -38,8 +37,7 @@ pub(super) fn import_others<P: Outside, R: BufRead>(
         result (R.remaining input.old) output output (P.closed outside.new) }
 {
     let bytes = read_all(alloc, input)?;
-    let text = after_any(bytes.as_slice(), &[BYTE_ORDER_MARK]);
-    let said = read_lines(alloc, text, any_text)?;
+    let said = read_lines(alloc, bytes.as_slice(), any_text)?;
     let lines = first_of_each(alloc, said.as_slice())?;
     let mut accounts = open(outside, access)?;
     let added = add_others(alloc, &mut accounts, lines.as_slice());
@@ -55,7 +53,8 @@ fn add_others<S: Store>(
 ) -> Result<(), Failure>
     ensures { AddsOthers result (map entry_or_flaw lines.now) accounts.old accounts.new }
 {
-    let (entries, passed) = sorted(alloc, accounts, lines)?;
+    let new = new_lines(alloc, accounts, lines)?;
+    let (entries, passed) = entries_and_flaws(alloc, new.as_slice())?;
     add_new(accounts, entries.as_slice())?;
     if passed.is_empty() {
         Ok(())
@@ -64,46 +63,24 @@ fn add_others<S: Store>(
     }
 }
 
-// The entries of lines whose names a file does not have, and the numbers of the other lines.
-fn sorted<'a, S: Store>(
+// The lines, unless a file has their names.
+fn new_lines<'a, S: Store>(
     alloc: Global,
     accounts: &mut AccountFile<S>,
     lines: &[Line<'a>],
-) -> Result<(Vec<(&'a str, StoredText<'a>)>, Vec<(usize, Flaw)>), Failure>
+) -> Result<Vec<Line<'a>>, Failure>
     ensures looks { OnOk result (Looks None accounts.old accounts.new) }
     ensures fails { IfErr result (λ failure. (status_of failure ≡ 3)
         × (error : Option FileError) × Looks error accounts.old accounts.new) }
-    ensures sorts { (names : Texts) → HasNames accounts.old names → IfOk result (λ found.
-        IsHonest S.Store (database_of accounts.new)
-        → let marked = map (unless_known names) (map entry_or_flaw lines.now) in
-        (map entry_of found.0.items ≡ entries_in marked) × (found.1.items ≡ flaws_from 1 marked)) }
+    ensures new { (names : Texts) → HasNames accounts.old names → IfOk result (λ found.
+        IsHonest S.Store (database_of accounts.new) → map entry_or_flaw found.items
+        ≡ map (unless_known names) (map entry_or_flaw lines.now)) }
 {
-    let mut entries = Vec::new(alloc);
-    let mut passed = Vec::new(alloc);
-    for (k, line) in lines.iter().enumerate() {
-        let line = unless_known(accounts, *line)?;
-        sort(line, k + 1, &mut entries, &mut passed)?;
+    let mut found = Vec::new(alloc);
+    for line in lines {
+        found.push(unless_known(accounts, *line)?)?;
     }
-    Ok((entries, passed))
-}
-
-// Puts a line to the entries, or its number to the other lines.
-fn sort<'a>(
-    line: Line<'a>,
-    number: usize,
-    entries: &mut Vec<(&'a str, StoredText<'a>)>,
-    passed: &mut Vec<(usize, Flaw)>,
-) -> Result<(), AllocError>
-    ensures { OnOk result
-        ((map entry_of entries.new.items
-        ≡ map entry_of entries.old.items ++ entries_in (entry_or_flaw line.entry ∷ []))
-        × (passed.new.items ≡ passed.old.items ++ flaws_from number (entry_or_flaw line.entry ∷ []))) }
-{
-    match line {
-        Ok(entry) => entries.push(entry)?,
-        Err(why) => passed.push((number, why))?,
-    }
-    Ok(())
+    Ok(found)
 }
 
 // A line, unless a file has its name.

@@ -1,14 +1,9 @@
-use Rattle.std.proofs.Common.{add-one, ◌≡◌, ◌∙◌, ◌||◌, ◌<◌, suc, ℕ, Bool, Bor, List, [], ◌∷◌, ◌++◌, Result, Ok, Err, ap, drop, drop-cons, get_or, length, map, refl, sym}
+use Rattle.std.proofs.Common.{add-one, ◌≡◌, ◌∙◌, ◌||◌, ◌<◌, suc, ℕ, Bool, List, [], ◌∷◌, ◌++◌, Ok, Err, ap, drop, get_or, length, map, refl, sym}
 use Rattle.std.specs.List.{list_any}
 use Rattle.std.specs.Str.{bytes_eq}
-use Rattle.argon2_rows.specs.declared.text.StoredText.{StoredText}
 use Rattle.argon2_passwd.specs.Lines.{Line, entry_or_flaw, first_of_each, line_has_name, new_line, with_name}
-use Rattle.argon2_passwd.specs.declared.failure.Flaw.{Flaw}
-use Rattle.argon2_passwd.proofs.LineLemmas.{map-push}
+use Rattle.argon2_passwd.proofs.LineLemmas.{Own, map-push, next_line}
 use Rattle.argon2_passwd.proofs.lines.first_of_each.Goals as goal
-
-abbrev Own : Type 0
-Own = Result (Bor (List ℕ) × StoredText) Flaw
 
 same_line : (line : Line) (p q : List ℕ → Bool) → ((name : List ℕ) → p name ≡ q name) → new_line p line ≡ new_line q line
 same_line (Ok e) p q same = rw (same e.0) refl
@@ -22,10 +17,6 @@ joined : (line : Line) (names : List (List ℕ)) (old new : List ℕ → Bool) �
 joined (Ok e) names old new has is name = is name ∙ ap (λ b. bytes_eq e.0 name || b) (has name)
 joined (Err why) names old new has is name = is name ∙ has name
 
--- the next of the lines
-next : (ls : List Own) (k : ℕ) (x : Own) → k < length ls → x ≡ get_or ls k x → drop k ls ≡ x ∷ drop (suc k) ls
-next ls k x within is = drop-cons ls k x within ∙ ap (λ y. y ∷ drop (suc k) ls) (sym is)
-
 step : (names : List (List ℕ)) (ls found : List Own) (k : ℕ) (x y : Own) (old : List ℕ → Bool) (all : List Line) → k < length ls
     → x ≡ get_or ls k x → ((name : List ℕ) → old name ≡ has_any names name) → entry_or_flaw y ≡ new_line old (entry_or_flaw x)
     → map entry_or_flaw found ++ first_of_each names (map entry_or_flaw (drop k ls)) ≡ all
@@ -33,7 +24,7 @@ step : (names : List (List ℕ)) (ls found : List Own) (k : ℕ) (x y : Own) (ol
 step names ls found k x y old all within is has said sofar =
     let rest = first_of_each (with_name (entry_or_flaw x) names) (map entry_or_flaw (drop (suc k) ls)) in
     sym (map-push entry_or_flaw found y rest) ∙ ap (λ l. map entry_or_flaw found ++ l ∷ rest) (said ∙ same_line (entry_or_flaw x) old (has_any names) has)
-    ∙ ap (λ (own : List Own). map entry_or_flaw found ++ first_of_each names (map entry_or_flaw own)) (sym (next ls k x within is)) ∙ sofar
+    ∙ ap (λ (own : List Own). map entry_or_flaw found ++ first_of_each names (map entry_or_flaw own)) (sym (next_line ls k x within is)) ∙ sofar
 
 pub loop-line-preserved : goal.loop-line-preserved
 loop-line-preserved c =

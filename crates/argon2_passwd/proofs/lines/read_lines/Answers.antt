@@ -2,7 +2,7 @@ use Rattle.std.proofs.Common.{rules, ◌==◌, [], ◌∷◌, append-nil, subst,
 use Rattle.std.proofs.lemmas.List.Sorted.{answers_always}
 use Rattle.std.specs.List.{AllZip}
 use Rattle.std.specs.Str.Lines.{lines}
-use Rattle.argon2_passwd.specs.Lines.{IsEntryOrFlaw, entry_or_flaw}
+use Rattle.argon2_passwd.specs.Lines.{IsEntryOrFlaw, entry_or_flaw, unmarked}
 use Rattle.argon2_passwd.proofs.LineLemmas.{lines_first, map-push, none_left}
 use Rattle.argon2_passwd.proofs.lines.read_lines.Goals as goal
 
@@ -17,9 +17,9 @@ loop-line-preserved c =
     let all = c.loop-line.invariant (entry_or_flaw x ∷ rest)
     (subst (λ ls. AllZip (IsEntryOrFlaw c.args.any_text) ls (entry_or_flaw x ∷ rest)) (sym line) (said, are)) in
     rw c.in_ok-push.ensures.items
-    (subst (AllZip (IsEntryOrFlaw c.args.any_text) (lines c.args.input.now)) (map-push entry_or_flaw c.loop-line.found.items x rest) all)
+    (subst (AllZip (IsEntryOrFlaw c.args.any_text) (lines (unmarked c.args.input.now))) (map-push entry_or_flaw c.loop-line.found.items x rest) all)
 
 pub returns : goal.returns
 returns c =
-    subst (AllZip (IsEntryOrFlaw c.args.any_text) (lines c.args.input.now)) (append-nil _)
+    subst (AllZip (IsEntryOrFlaw c.args.any_text) (lines (unmarked c.args.input.now))) (append-nil _)
     (c.loop-line.invariant [] (none_left _ _ c.in-None.ensures.steps.0))

@@ -2,10 +2,10 @@ use Rattle.std.proofs.Common.{map, List, ◌++◌}
 use Rattle.std.specs.List.{AllZip}
 use Rattle.std.specs.Slice.Iter.{split_inclusive_rest}
 use Rattle.std.specs.Str.Lines.{lines}
-use Rattle.argon2_passwd.specs.Lines.{IsEntryOrFlaw, Line, entry_or_flaw}
+use Rattle.argon2_passwd.specs.Lines.{IsEntryOrFlaw, Line, entry_or_flaw, unmarked}
 use Rattle.argon2_passwd.proofs.lines.read_lines.Given as goal
 
 -- what is left says what all lines lack
 abbrev pub invariant-loop-line : goal.invariant-loop-line
 invariant-loop-line l = (rest : List Line) → AllZip (IsEntryOrFlaw l.any_text) (lines (split_inclusive_rest l.line-iterator)) rest
-    → AllZip (IsEntryOrFlaw l.any_text) (lines l.fn.input) (map entry_or_flaw l.found.items ++ rest)
+    → AllZip (IsEntryOrFlaw l.any_text) (lines (unmarked l.fn.input)) (map entry_or_flaw l.found.items ++ rest)

@@ -2,7 +2,7 @@ use Rattle.std.proofs.Common.{inr}
 use Rattle.argon2_passwd.proofs.run.accounts.serve.Goals as goal
 
 pub returns-in-Check : goal.returns-in-Check
-returns-in-Check g c = rw c.in-Check.is (inr (c.requires, c.check.ensures.ok, c.check.ensures.err))
+returns-in-Check g c = rw c.in-Check.is (inr (c.requires, c.check.ensures))
 
 pub returns-in-Edit : goal.returns-in-Edit
 returns-in-Edit g c = rw (c.in-OnFile.is, c.in-Edit.is) (c.edit.ensures _)
