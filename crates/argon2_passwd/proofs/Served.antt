@@ -71,7 +71,7 @@ module _ {S : Type 0} {g : Ghosts S} {Has : List ℕ → Texts → Type 0} where
       record { before = before; after = after; opened = opened; does = does; next = next }
 
   -- what refuses a call refuses it for whatever reason a value may be refused
-  pub unfound_then : {Why : Phc → BoundError → Type 0} {path : List ℕ} (name : List ℕ) {f : Failure} {Next : S → Type 0}
-      → IsUnfound g Has (λ v e. ⊥) path name f Next → IsUnfound g Has Why path name f Next
-  unfound_then {Why} name {f} (inl (o, why, looked)) = inl (o, denied_then Why o f why, looked)
-  unfound_then name (inr failed) = inr failed
+  pub unfound_then : {Why : Phc → BoundError → Type 0} {path : List ℕ} (name : List ℕ) (Closed : List S → Type 0) {f : Failure}
+      → IsUnfound g Has (λ v e. ⊥) path name Closed f → IsUnfound g Has Why path name Closed f
+  unfound_then {Why} name Closed {f} (inl (o, why, looked)) = inl (o, denied_then Why o f why, looked)
+  unfound_then name Closed (inr failed) = inr failed

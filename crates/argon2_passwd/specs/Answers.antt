@@ -45,13 +45,21 @@ use Rattle.argon2_passwd.specs.declared.run.edits.Step.{Step}
 use Rattle.argon2_passwd.specs.declared.run.edits.Step.TheVariants as step
 use Rattle.argon2_passwd.specs.Lines.{AreSaid, IsOfFirst, Line, entries_in, first_of_each, flaws_from, has_control, unless_known}
 
+-- the bytes of a stream, if these are known
+abbrev pub Known : Type 0
+Known = Option (List ℕ)
+
+-- whether a command is done
+abbrev pub Outcome : Type 0
+Outcome = Result (Unit {0}) Failure
+
 -- a fact of a password, the first line of a known input
-abbrev pub OfPassword : (List ℕ → Type 0) → Option (List ℕ) → Type 0
+abbrev pub OfPassword : (List ℕ → Type 0) → Known → Type 0
 OfPassword P input =
     (password : List ℕ) × IfSome input (λ bytes. password_of bytes ≡ Some password) × P password
 
 -- a fresh text of the password, with a salt that the system gives
-abbrev pub IsNewText : (List ℕ → Type 0) → Policy → Option (List ℕ) → Phc → Type 0
+abbrev pub IsNewText : (List ℕ → Type 0) → Policy → Known → Phc → Type 0
 IsNewText Gives policy input v = OfPassword (λ password. (drawn : List ℕ)
     × IsSalt Gives drawn × IsFresh policy.target password drawn v) input
 
@@ -80,7 +88,7 @@ IsDenied Why (Some text) failure = IsShut text failure
     ⊎ ((v : Phc) × (e : BoundError) × SaysHash text v × Why v e × IsOfBound e failure)
 
 -- why a check by a text is refused, or fails: there is no password, or the text does not accept it
-abbrev pub IsUnchecked : Policy → List ℕ → Option (List ℕ) → Failure → Type 0
+abbrev pub IsUnchecked : Policy → List ℕ → Known → Failure → Type 0
 IsUnchecked policy text input failure = IsUnread input failure
     ⊎ OfPassword (λ password. IsDenied (Denial policy password) (Some text) failure) input
 
@@ -97,7 +105,7 @@ Under Holds options P = (secret old : Option (List ℕ)) × IsSecret Holds optio
 -- ---- accounts in a file
 
 -- what an input has behind its first line
-abbrev pub behind : Option (List ℕ) → Option (List ℕ)
+abbrev pub behind : Known → Known
 behind input = option_map (drop_through 10) input
 
 -- the name of a new text would break its line in an export, or has a control character
@@ -114,48 +122,49 @@ edit_of step.Lock name = locking name
 edit_of step.Unlock name = unlocking name
 
 -- a fact of what the lines of a known input say
-abbrev pub OfLines : Bool → Option (List ℕ) → (List Line → Type 0) → Type 0
+abbrev pub OfLines : Bool → Known → (List Line → Type 0) → Type 0
 OfLines any_text input P = (said : List Line) × IfSome input (λ bytes. AreSaid any_text bytes said) × P said
 
--- How an addition of the entries ended: all are added, or none. A refusal has the line of the first one whose name is taken.
-abbrev pub AddsLines : {S : Type 0} {g : Ghosts S} → Result (Unit {0}) Failure → List (List ℕ × List ℕ) → AccountFile S g
-    → AccountFile S g → Type 0
-AddsLines {g} (Ok _) es before after = Serves (additions es) (Ok tt) before after
-AddsLines {g} (Err failure) es before after = (e : FileError) × Serves (additions es) (Err e) before after
-    × (status_of failure ≢ 3 → (names : Texts) → HasNames before names → IsHonest g (database_of after)
-    → (k : ℕ) × (failure ≡ AtLine (k + 1) Taken) × IsFirstTaken names es k)
+module _ {S : Type 0} {g : Ghosts S} where
+  -- How an addition of the entries ended: all are added, or none. A refusal has the line of the first one whose name
+  -- is taken.
+  abbrev pub AddsLines : Outcome → List (List ℕ × List ℕ) → AccountFile S g → AccountFile S g → Type 0
+  AddsLines (Ok _) es before after = Serves (additions es) (Ok tt) before after
+  AddsLines (Err failure) es before after = (e : FileError) × Serves (additions es) (Err e) before after
+      × (status_of failure ≢ 3 → (names : Texts) → HasNames before names → IsHonest g (database_of after)
+      → (k : ℕ) × (failure ≡ AtLine (k + 1) Taken) × IsFirstTaken names es k)
 
--- ---- an import that passes over lines
+  -- names were looked up in a file, which changes none, up to this error if there was one
+  abbrev pub Looks : Option FileError → AccountFile S g → AccountFile S g → Type 0
+  Looks error before after = ((error ≡ None) × (after ≡ before))
+      ⊎ ((names : Texts) → HasNames before names → Stays error names before after)
 
--- names were looked up in a file, which changes none, up to this error if there was one
-abbrev pub Looks : {S : Type 0} {g : Ghosts S} → Option FileError → AccountFile S g → AccountFile S g → Type 0
-Looks error before after = ((error ≡ None) × (after ≡ before))
-    ⊎ ((names : Texts) → HasNames before names → Stays error names before after)
+  -- Names were looked up, and entries of lines were to be added together, with this answer: those whose names the file
+  -- did not have. The other lines have these flaws.
+  abbrev pub AddsEntries : Result (Unit {0}) FileError → List Line → List (ℕ × Flaw) → AccountFile S g → AccountFile S g
+      → Type 0
+  AddsEntries answer ls passed before after = (mid : AccountFile S g) × (new : List Line)
+      × Looks None before mid × Serves (additions (entries_in new)) answer mid after × (passed ≡ flaws_from 1 new)
+      × ((names : Texts) → HasNames before names → IsHonest g (database_of after)
+      → new ≡ map (unless_known names) ls)
 
--- names were looked up, and entries of lines were to be added together, with this answer: those whose names the file did not have
-abbrev pub AddsEntries : {S : Type 0} {g : Ghosts S} → Result (Unit {0}) FileError → List Line → List (ℕ × Flaw)
-    → AccountFile S g → AccountFile S g → Type 0
-AddsEntries {S} {g} answer ls passed before after = (mid : AccountFile S g) × (new : List Line)
-    × Looks None before mid × Serves (additions (entries_in new)) answer mid after × (passed ≡ flaws_from 1 new)
-    × ((names : Texts) → HasNames before names → IsHonest g (database_of after) → new ≡ map (unless_known names) ls)
+  -- the entries were added, and the failure has the numbers of the other lines
+  abbrev pub PassesOver : Failure → List Line → AccountFile S g → AccountFile S g → Type 0
+  PassesOver (Passed passed) ls before after = AddsEntries (Ok tt) ls passed.items before after
+  PassesOver _ ls before after = ⊥
 
--- the entries were added, and the failure has the numbers of the other lines
-abbrev pub PassesOver : {S : Type 0} {g : Ghosts S} → Failure → List Line → AccountFile S g → AccountFile S g → Type 0
-PassesOver (Passed passed) ls before after = AddsEntries (Ok tt) ls passed.items before after
-PassesOver _ ls before after = ⊥
+  -- how an addition of their entries ended; before a failure that is no refusal names were looked up, or the entries
+  -- were to be added
+  abbrev pub AddsOthers : Outcome → List Line → AccountFile S g → AccountFile S g → Type 0
+  AddsOthers (Ok _) ls before after = AddsEntries (Ok tt) ls [] before after
+  AddsOthers (Err failure) ls before after = PassesOver failure ls before after ⊎ ((status_of failure ≡ 3)
+      × (((error : Option FileError) × Looks error before after)
+      ⊎ ((answer : Result (Unit {0}) FileError) × (passed : List (ℕ × Flaw))
+      × AddsEntries answer ls passed before after)))
 
--- how an addition of their entries ended; before a failure that is no refusal names were looked up, or the entries were to be
--- added
-abbrev pub AddsOthers : {S : Type 0} {g : Ghosts S} → Result (Unit {0}) Failure → List Line → AccountFile S g → AccountFile S g
-    → Type 0
-AddsOthers (Ok _) ls before after = AddsEntries (Ok tt) ls [] before after
-AddsOthers (Err failure) ls before after = PassesOver failure ls before after ⊎ ((status_of failure ≡ 3)
-    × (((error : Option FileError) × Looks error before after)
-    ⊎ ((answer : Result (Unit {0}) FileError) × (passed : List (ℕ × Flaw)) × AddsEntries answer ls passed before after)))
-
--- a file at a path that was opened, with its names
-abbrev pub IsOpened : {S : Type 0} {g : Ghosts S} → (List ℕ → Texts → Type 0) → List ℕ → AccountFile S g → Type 0
-IsOpened Has path file = (names : Texts) × Has path names × IsReady names file
+  -- a file at a path that was opened, with its names
+  abbrev pub IsOpened : (List ℕ → Texts → Type 0) → List ℕ → AccountFile S g → Type 0
+  IsOpened Has path file = (names : Texts) × Has path names × IsReady names file
 
 -- what an accepted login did whose fresh text is not written
 abbrev pub answer_without_text : Accepted → Accepted
@@ -169,7 +178,7 @@ TellsOf (Err e) (Err failure) = IsOfFile e failure
 TellsOf _ _ = ⊥
 
 -- what is written of a login, and the result: what it did, or nothing if it is refused
-abbrev pub SaysLogin : Result Accepted Failure → Result (Unit {0}) Failure → Option (List ℕ) → Option (List ℕ) → Type 0
+abbrev pub SaysLogin : Result Accepted Failure → Outcome → Known → Known → Type 0
 SaysLogin (Ok did) (Ok _) old new = Appends old new (accepted_text did ++ 10 ∷ [])
 SaysLogin (Ok did) (Err failure) old new = status_of failure ≡ 3
 SaysLogin (Err why) result old new = (result ≡ Err why) × Keeps old new
@@ -179,30 +188,30 @@ abbrev pub Ends : {X : Type 0} → (Result X Failure → Type 0) → Type 0 → 
 Ends Made untouched result = Made result ⊎ (untouched × IsErrAnd result (λ failure. status_of failure ≡ 3))
 
 -- the words or the input are refused with this failure before a file is opened
-abbrev pub IsUnfit : Policy → Action → Option (List ℕ) → Failure → Type 0
+abbrev pub IsUnfit : Policy → Action → Known → Failure → Type 0
 IsUnfit policy Hash input failure = IsUnread input failure
 IsUnfit policy (Check text) input failure = IsUnchecked policy text.now input failure
 IsUnfit policy (OnFile path (Verify name)) input failure = IsUnread input failure
 IsUnfit policy (OnFile path (Edits Register name)) input failure =
     (IsTrue (breaks_lines name.now) × (failure ≡ Name)) ⊎ IsUnread input failure
-IsUnfit policy (OnFile path (Edits Change name)) input failure = IsUnread input failure ⊎ IsUnread (behind input) failure
+IsUnfit policy (OnFile path (Edits Change name)) input failure =
+    IsUnread input failure ⊎ IsUnread (behind input) failure
 IsUnfit policy (OnFile path (Edits Set name)) input failure = IsUnread input failure
 IsUnfit policy (OnFile path (Import any_text)) input failure =
     OfLines any_text input (λ said. IsOfFirst (flaws_from 1 said) failure)
 IsUnfit policy _ input failure = ⊥
 
 -- what is written without a file
-abbrev pub IsWritten : (List ℕ → Type 0) → Policy → Action → Option (List ℕ) → Option (List ℕ) → Option (List ℕ) → Type 0
+abbrev pub IsWritten : (List ℕ → Type 0) → Policy → Action → Known → Known → Known → Type 0
 IsWritten Gives policy Hash input old new =
     (v : Phc) × IsNewText Gives policy input v × Appends old new (phc_text v ++ 10 ∷ [])
-IsWritten Gives policy (Check text) input old new = OfPassword (λ password. (drawn : List ℕ) × (v : Phc) × (did : Accepted)
-    × (w : Phc) × IsSalt Gives drawn × SaysHash text.now v × LogsIn policy password drawn v (Ok did) w
-    × Appends old new (login_text did w ++ 10 ∷ [])) input
+IsWritten Gives policy (Check text) input old new = OfPassword (λ password.
+    (drawn : List ℕ) × (v : Phc) × (did : Accepted) × (w : Phc) × IsSalt Gives drawn × SaysHash text.now v
+    × LogsIn policy password drawn v (Ok did) w × Appends old new (login_text did w ++ 10 ∷ [])) input
 IsWritten Gives policy _ input old new = ⊥
 
 -- how a command ended that opened no file: it is answered, or refused before
-abbrev pub IsAnswered : (List ℕ → Type 0) → Policy → Action → Result (Unit {0}) Failure
-    → Option (List ℕ) → Option (List ℕ) → Option (List ℕ) → Type 0
+abbrev pub IsAnswered : (List ℕ → Type 0) → Policy → Action → Outcome → Known → Known → Known → Type 0
 IsAnswered Gives policy what (Ok _) input old new = IsWritten Gives policy what input old new
 IsAnswered Gives policy what (Err failure) input old new =
     status_of failure ≢ 3 → IsUnfit policy what input failure × Keeps old new
@@ -221,7 +230,7 @@ module _ {S : Type 0} (g : Ghosts S) (Has : List ℕ → Texts → Type 0) where
   IsDone path Does Closed = IsOpenFor path Does (λ last. Closed (last ∷ []))
 
   -- all that was done there is one call, and this result tells of its answer
-  abbrev pub IsApplied : List ℕ → FileEdit → (List S → Type 0) → Result (Unit {0}) Failure → Type 0
+  abbrev pub IsApplied : List ℕ → FileEdit → (List S → Type 0) → Outcome → Type 0
   IsApplied path change Closed result =
       (done : Result (Unit {0}) FileError) × TellsOf done result × IsDone path (Serves (change ∷ []) done) Closed
 
@@ -232,10 +241,10 @@ module _ {S : Type 0} (g : Ghosts S) (Has : List ℕ → Texts → Type 0) where
       × IfOk found (λ text. IsHonest g (database_of after) → get names name ≡ text))
 
   -- a call on a name is refused by what was read there: its text can't be read, or what the name has refuses the call
-  abbrev pub IsUnfound : (Phc → BoundError → Type 0) → List ℕ → List ℕ → Failure → (S → Type 0) → Type 0
-  IsUnfound Why path name failure Next =
-      ((o : Option (List ℕ)) × IsDenied Why o failure × IsLooked path name (Ok o) Next)
-      ⊎ ((e : FileError) × IsOfFile e failure × IsLooked path name (Err e) Next)
+  abbrev pub IsUnfound : (Phc → BoundError → Type 0) → List ℕ → List ℕ → (List S → Type 0) → Failure → Type 0
+  IsUnfound Why path name Closed failure =
+      ((o : Option (List ℕ)) × IsDenied Why o failure × IsLooked path name (Ok o) (λ read. Closed (read ∷ [])))
+      ⊎ ((e : FileError) × IsOfFile e failure × IsLooked path name (Err e) (λ read. Closed (read ∷ [])))
 
   -- no name was changed, with this error of the file if there was one, and this is a fact of its names
   abbrev pub IsOnlyRead : List ℕ → Option FileError → (Texts → Type 0) → (List S → Type 0) → Type 0
@@ -247,21 +256,20 @@ module _ {S : Type 0} (g : Ghosts S) (Has : List ℕ → Texts → Type 0) (Give
   -- password, none is replaced, or a call to replace it ended so.
   abbrev pub IsLogin : Policy → List ℕ → List ℕ → List ℕ → Result Accepted Failure → (List S → Type 0) → Type 0
   IsLogin policy path name password result Closed =
-      IsErrAnd result (λ failure. IsUnfound g Has (Denial policy password) path name failure (λ read. Closed (read ∷ [])))
+      IsErrAnd result (IsUnfound g Has (Denial policy password) path name Closed)
       ⊎ ((old drawn : List ℕ) × (v w : Phc) × (did : Accepted) × IsSalt Gives drawn × SaysHash old v
       × LogsIn policy password drawn v (Ok did) w × IsLooked g Has path name (Ok (Some old))
       (λ read. ((result ≡ Ok (answer_without_text did)) × Closed (read ∷ []))
-      ⊎ ((done : Result (Unit {0}) Failure) × (result ≡ Ok (if is_ok done then did else answer_without_text did))
+      ⊎ ((done : Outcome) × (result ≡ Ok (if is_ok done then did else answer_without_text did))
       × IsApplied g Has path (replacing name old (phc_text w)) (λ more. Closed (read ∷ more)) done)))
 
-  -- A change of this kind was all that was done with the file at a path, by the passwords of the input and with this result.
-  -- That the file can't be opened again is no refusal.
-  abbrev pub IsChange : Policy → List ℕ → Edit → List ℕ → Option (List ℕ) → (List S → Type 0) → Result (Unit {0}) Failure → Type 0
+  -- A change of this kind was all that was done with the file at a path, by the passwords of the input and with this
+  -- result. That the file can't be opened again is no refusal.
+  abbrev pub IsChange : Policy → List ℕ → Edit → List ℕ → Known → (List S → Type 0) → Outcome → Type 0
   IsChange policy path Register name input Closed result = (breaks_lines name ≡ false)
       × (v : Phc) × IsNewText Gives policy input v × IsApplied g Has path (adding name (phc_text v)) Closed result
   IsChange policy path Change name input Closed result = OfPassword (λ first. OfPassword (λ second.
-      IsErrAnd result
-      (λ failure. IsUnfound g Has (ChangeRefusal policy first second) path name failure (λ read. Closed (read ∷ [])))
+      IsErrAnd result (IsUnfound g Has (ChangeRefusal policy first second) path name Closed)
       ⊎ ((old drawn : List ℕ) × (v w : Phc) × IsSalt Gives drawn × SaysHash old v × Admits policy first v
       × IsFresh policy.target second drawn w × IsLooked g Has path name (Ok (Some old))
       (λ read. Ends (IsApplied g Has path (replacing name old (phc_text w)) (λ more. Closed (read ∷ more)))
@@ -273,10 +281,10 @@ module _ {S : Type 0} (g : Ghosts S) (Has : List ℕ → Texts → Type 0) (Give
   IsChange policy path Unlock name input Closed result = IsApplied g Has path (unlocking name) Closed result
 
   -- all that was done with the file that is named, and how it ended
-  abbrev pub IsUsed : Policy → Action → Result (Unit {0}) Failure → Option (List ℕ) → Option (List ℕ) → Option (List ℕ)
-      → (List S → Type 0) → Type 0
-  IsUsed policy (OnFile path (Verify name)) result input old new Closed = (login : Result Accepted Failure)
-      × SaysLogin login result old new × OfPassword (λ password. IsLogin policy path.now name.now password login Closed) input
+  abbrev pub IsUsed : Policy → Action → Outcome → Known → Known → Known → (List S → Type 0) → Type 0
+  IsUsed policy (OnFile path (Verify name)) result input old new Closed =
+      (login : Result Accepted Failure) × SaysLogin login result old new
+      × OfPassword (λ password. IsLogin policy path.now name.now password login Closed) input
   IsUsed policy (OnFile path (Edits act name)) result input old new Closed =
       Keeps old new × IsChange policy path.now act name.now input Closed result
   IsUsed policy (OnFile path (Show view)) (Ok _) input old new Closed =
@@ -292,17 +300,16 @@ module _ {S : Type 0} (g : Ghosts S) (Has : List ℕ → Texts → Type 0) (Give
   IsUsed policy _ result input old new Closed = ⊥
 
   -- how a command ended: its file was used, or no file was opened
-  abbrev pub IsServed : Policy → Action → Result (Unit {0}) Failure → Option (List ℕ) → Option (List ℕ) → Option (List ℕ)
-      → (List S → Type 0) → Type 0
+  abbrev pub IsServed : Policy → Action → Outcome → Known → Known → Known → (List S → Type 0) → Type 0
   IsServed policy what result input old new Closed = IsUsed policy what result input old new Closed
       ⊎ (Closed [] × IsAnswered Gives policy what result input old new)
 
--- How a command ended under the options and their secrets, if these make a policy. A failure that is no refusal may come before.
-abbrev pub IsEnded : {S : Type 0} (g : Ghosts S) → (List ℕ → List ℕ → Type 0) → (List ℕ → Texts → Type 0)
-    → (List ℕ → Type 0) → Options → Action
-    → Result (Unit {0}) Failure → Option (List ℕ) → Option (List ℕ) → Option (List ℕ) → (List S → Type 0) → Type 0
-IsEnded g Holds Has Gives options what result input old new Closed =
-    (Closed [] × IsErrAnd result (λ failure. status_of failure ≡ 3))
-    ⊎ Under Holds options (λ policy.
-    (Closed [] × ¬ (IsPolicy policy) × IsErrAnd result (λ failure. failure ≡ Params) × Keeps old new)
-    ⊎ IsServed g Has Gives policy what result input old new Closed)
+  -- How a command ended under the options and their secrets, if these make a policy. A failure that is no refusal may
+  -- come before.
+  abbrev pub IsEnded : (List ℕ → List ℕ → Type 0) → Options → Action → Outcome → Known → Known → Known
+      → (List S → Type 0) → Type 0
+  IsEnded Holds options what result input old new Closed =
+      (Closed [] × IsErrAnd result (λ failure. status_of failure ≡ 3))
+      ⊎ Under Holds options (λ policy.
+      (Closed [] × ¬ (IsPolicy policy) × IsErrAnd result (λ failure. failure ≡ Params) × Keeps old new)
+      ⊎ IsServed policy what result input old new Closed)

@@ -56,7 +56,7 @@ pub fn run<P: Outside, R: BufRead, W: Write, E: Write>(
     requires { P.closed outside.old [] }
     ensures status { result ≤ 4 }
     ensures ended { (ended : Result (Unit {0}) Why) × (result ≡ status_by ended)
-        × IsEnded P.File.Store P.holds P.keeps P.gives command.entry.options
+        × IsEnded P.File.Store P.keeps P.gives P.holds command.entry.options
         command.entry.action ended (R.remaining input.old) (W.contents output.old)
         (W.contents output.new) (P.closed outside.new) }
     ensures told { result ≡ 0 → (n : ℕ) × Appends (E.contents errors.old) (E.contents errors.new)
@@ -171,7 +171,7 @@ fn answer<P: Outside, R: BufRead, W: Write>(
     output: &mut W,
 ) -> Result<(), Failure>
     requires { P.closed outside.old [] }
-    ensures { IsEnded P.File.Store P.holds P.keeps P.gives command.now.options
+    ensures { IsEnded P.File.Store P.keeps P.gives P.holds command.now.options
         command.now.action result (R.remaining input.old) (W.contents output.old)
         (W.contents output.new) (P.closed outside.new) }
 {

@@ -202,9 +202,8 @@ pub(super) fn look<P: Outside>(
         (λ found. SaysHash (string_bytes found.0) (phc_of found.1)
         × IsLooked P.File.Store P.keeps access.now.path.now name.now
         (Ok (Some (string_bytes found.0))) (λ read. P.closed outside.new (read ∷ [])))
-        (λ failure. IsUnfound P.File.Store P.keeps (λ v e. ⊥) access.now.path.now name.now failure
-        (λ read. P.closed outside.new (read ∷ []))
-        ⊎ (P.closed outside.new [] × (status_of failure ≡ 3))) }
+        (λ failure. IsUnfound P.File.Store P.keeps (λ v e. ⊥) access.now.path.now name.now
+        (P.closed outside.new) failure ⊎ (P.closed outside.new [] × (status_of failure ≡ 3))) }
 {
     let mut accounts = open(outside, access)?;
     let found = accounts.text_of(name);

@@ -21,7 +21,10 @@ renewed did fresh text some is = grind arith
 pub returns-in_err-text : goal.returns-in_err-text
 returns-in_err-text g c =
     rw (err_is c.from_residual.result c.in_err-text.field-0.0 c.from_residual.ensures.1)
-    (elim c.in_err-text.ensures [ inl missing ↦ inl (inl (unfound_then _ missing)) | inr untouched ↦ inr untouched ])
+    (elim c.in_err-text.ensures [
+      | inl missing ↦ inl (inl (unfound_then _ (g.P.Outside.closed c.look.new.outside) missing))
+      | inr untouched ↦ inr untouched
+    ])
 
 pub returns-in_err-accepted : goal.returns-in_err-accepted
 returns-in_err-accepted g c =
