@@ -1,0 +1,51 @@
+use Rattle.std.proofs.Common.{◌≡◌, ℕ, ◌+◌, ◌-◌, ◌*◌, ◌<◌, [], inl, inr, ap, sym, ◌∙◌, add-one, arith}
+use Rattle.std.specs.Prelude.{slice_index_or}
+use Rattle.argon2.specs.Rfc9106.{lane_length, segment_length}
+use Rattle.argon2.proofs.context_lemmas.SegmentColumns.{slice_of_column}
+use Rattle.argon2.proofs.recurrence.PermittedPlaces.{InSlice, in_slice}
+use Rattle.argon2.proofs.context.instance.Instance.block.Goals as goal
+
+-- a column is that of its index in its slice
+index_in : (s column slice : ℕ) → InSlice s column slice
+    → (column - slice * s < s) × (slice * s + (column - slice * s) ≡ column)
+index_in s column slice here = let low = here.above in let high = here.below in (omega arith, omega arith)
+
+pub returns-then-slice-at : goal.returns-then-slice-at
+returns-then-slice-at c = λ memory parts.
+    let ctx = c.args.self.now in
+    let at = c.args.at in
+    let column = c.args.column in
+    let is = sym c.if-slice-at.true ∙ c.slice_of-slice.ensures in
+    let s = segment_length ctx in
+    let two = c.segment_length.ensures.sizes.two_columns in
+    let here = index_in s column at.slice (rw (← is) at (in_slice s column two c.requires.place.in_columns)) in
+    let own : c.args.lane ≡ at.lane = elim c.requires.place.apart [
+      | inl e ↦ e
+      | inr ne ↦ absurd (ne (sym is ∙ sym (slice_of_column ctx at c.requires.in_segment)))
+    ] in
+    rw (c.if-slice-at.true, c.segment_length.ensures.value, own) (parts.in_own (column - at.slice * s) here.0
+    ∙ ap (λ n. slice_index_or memory (at.lane * lane_length ctx + n) []) here.1)
+
+pub returns-then-slice-at-2 : goal.returns-then-slice-at-2
+returns-then-slice-at-2 c = λ memory parts.
+    let ctx = c.args.self.now in
+    let s = segment_length ctx in
+    let k = c.slice_of-slice.result in
+    let two = c.segment_length.ensures.sizes.two_columns in
+    let slice = rw (← c.slice_of-slice.ensures) at (in_slice s c.args.column two c.requires.place.in_columns) in
+    let here = index_in s c.args.column k slice in
+    rw (c.place_in_slices.ensures.value, c.segment_length.ensures.value)
+    (parts.in_before k c.args.lane (c.args.column - k * s) c.if-slice-at-2.true c.requires.place.in_lanes here.0
+    ∙ ap (λ n. slice_index_or memory (c.args.lane * lane_length ctx + n) []) here.1)
+
+pub returns-else-slice-at-2 : goal.returns-else-slice-at-2
+returns-else-slice-at-2 c = λ memory parts.
+    let ctx = c.args.self.now in
+    let s = segment_length ctx in
+    let k = c.slice_of-slice.result in
+    let two = c.segment_length.ensures.sizes.two_columns in
+    let slice = rw (← c.slice_of-slice.ensures) at (in_slice s c.args.column two c.requires.place.in_columns) in
+    let here = index_in s c.args.column k slice in
+    rw (c.place_in_slices-else-slice-at-2.ensures.value, c.segment_length.ensures.value, add-one)
+    (parts.in_after k c.args.lane (c.args.column - k * s) (omega arith) slice.one_of_four c.requires.place.in_lanes here.0
+    ∙ ap (λ n. slice_index_or memory (c.args.lane * lane_length ctx + n) []) here.1)
