@@ -5,6 +5,7 @@ pub mod InMemory
 pub mod InOrder
 pub mod LastColumn
 pub mod ReferencePlaces
+pub mod Refusing
 pub mod Schedules
 pub mod SegmentColumns
 pub mod SegmentLaw

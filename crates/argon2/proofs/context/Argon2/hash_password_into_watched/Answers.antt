@@ -1,0 +1,10 @@
+use Rattle.std.proofs.Common.{Ok, ap, ◌∙◌, arith}
+use Rattle.argon2.specs.Argon2.{context_under}
+use Rattle.argon2.specs.WatchedFilling.{mixing_calls}
+use Rattle.argon2.proofs.context_lemmas.Refusing.{answered}
+use Rattle.argon2.proofs.context.Argon2.hash_password_into_watched.Goals as goal
+
+pub returns-clause-answer : goal.returns-clause-answer
+returns-clause-answer c =
+    let mixings = ap (λ bytes. mixing_calls (context_under c.args.self.now bytes)) c.data.ensures.value in
+    ap Ok (c.replace.ensures.value ∙ c.in_ok-hash.ensures.count ∙ omega arith) ∙ answered _ _ _ _ c.in_ok-hash.ensures.answer
