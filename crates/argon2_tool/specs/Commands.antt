@@ -1,5 +1,5 @@
 -- What the program is asked for, what it replies, and why it fails.
-use Rattle.std.specs.Prelude.{ℕ, ◌≡◌, ◌≤◌, ◌<◌, ◌^◌, ◌==◌, if◌then◌else◌, Option, Some, None, IfSome, Result, Ok, Err, MatchResult, ⊤, List, [], ◌∷◌, ◌++◌, ◌⊎◌, length, String, codes, string_bytes}
+use Rattle.std.specs.Prelude.{ℕ, ◌≡◌, ◌≤◌, ◌<◌, ◌^◌, ◌==◌, if◌then◌else◌, Option, Some, None, IfSome, IsSome, Result, Ok, Err, MatchResult, ⊤, List, [], ◌∷◌, ◌++◌, ◌⊎◌, length, String, codes, string_bytes}
 use Rattle.std.specs.Io.KnownBytes.{Appends, Keeps}
 use Rattle.std.specs.Fmt.{decimal}
 use Rattle.hex.specs.Hex.{encode_lower}
@@ -64,6 +64,11 @@ command_words VersionCommand = codes "--version" ∷ []
 -- the words spell the command
 abbrev pub Spells : List (List ℕ) → Command → Type 0
 Spells words command = IsCommand command × (words ≡ command_words command)
+
+-- a command that the words spell, if they spell one
+pub record IsSpelled (words : List (List ℕ)) (r : Option Command) : Type 0 where
+  pub found : IfSome r (λ command. Spells words command)
+  pub only : (command : Command) → Spells words command → IsSome r
 
 -- ---- replies
 

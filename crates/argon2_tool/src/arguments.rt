@@ -74,38 +74,45 @@ pub enum Command<'a> {
 }
 
 impl<'a> Command<'a> {
-    ghost use Rattle.std.specs.Prelude.{IfSome, IsSome, map, string_bytes};
-    ghost use Rattle.argon2_tool.specs.declared.arguments.Command.{Command};
-    ghost use Rattle.argon2_tool.specs.Commands.{Spells};
+    ghost use Rattle.std.specs.Prelude.{◌∷◌, codes, map, string_bytes};
+    ghost use Rattle.argon2_tool.specs.Commands.{IsSpelled};
 
     /// The command that the arguments spell, if they spell one.
     pub fn parsed(args: &'a [String]) -> Option<Command<'a>>
-        ensures found { IfSome result (λ command. Spells (map string_bytes args.now) command) }
-        ensures only { (command : Command) → Spells (map string_bytes args.now) command
-            → IsSome result }
+        ensures { IsSpelled (map string_bytes args.now) result }
     {
         let (name, values) = args.split_first()?;
         match (name.as_str(), values) {
             ("digest", [len]) => Some(Command::Digest(number_within(len.as_str(), 1, 64)?)),
             ("long", [len]) => Some(Command::Long(number_within(len.as_str(), 0, 1024)?)),
-            ("tag", _) => {
-                let (request, [len, salt]) = Request::split(values)? else {
-                    return None;
-                };
-                let len = number_within(len.as_str(), 0, 1024)?;
-                Some(Command::Tag(request, len, salt.as_str()))
-            }
-            ("phc", _) => {
-                let (request, [salt]) = Request::split(values)? else {
-                    return None;
-                };
-                Some(Command::Phc(request, salt.as_str()))
-            }
+            ("tag", _) => Command::tag(values),
+            ("phc", _) => Command::phc(values),
             ("verify", [text]) => Some(Command::Verify(text.as_str())),
             ("--help", []) => Some(Command::Help),
             ("--version", []) => Some(Command::Version),
             _ => None,
         }
+    }
+
+    // The command `tag` with these values, if they are its own.
+    fn tag(values: &'a [String]) -> Option<Command<'a>>
+        ensures { IsSpelled (codes "tag" ∷ map string_bytes values.now) result }
+    {
+        let (request, [len, salt]) = Request::split(values)? else {
+            return None;
+        };
+        let len = number_within(len.as_str(), 0, 1024)?;
+        Some(Command::Tag(request, len, salt.as_str()))
+    }
+
+    // The command `phc` with these values, if they are its own.
+    fn phc(values: &'a [String]) -> Option<Command<'a>>
+        ensures { IsSpelled (codes "phc" ∷ map string_bytes values.now) result }
+    {
+        let (request, [salt]) = Request::split(values)? else {
+            return None;
+        };
+        Some(Command::Phc(request, salt.as_str()))
     }
 }
 
