@@ -13,6 +13,21 @@ overflow_mul-first g c =
     let fits = lane_fits _ c.lanes-lane-end.ensures.sizes c.loop-lane.lane c.args.width (omega arith) c.requires.most in
     omega (arith, fits.0, fits.1)
 
+pub overflow_add-first : goal.overflow_add-first
+overflow_add-first g c =
+    let fits = lane_fits _ c.lanes-lane-end.ensures.sizes c.loop-lane.lane c.args.width (omega arith) c.requires.most in
+    omega (arith, fits.0, fits.1, c.requires.two)
+
+pub offset_bounds-blocks-first : goal.offset_bounds-blocks-first
+offset_bounds-blocks-first g c =
+    let n = c.loop-lane.lane in
+    let fits = lane_fits _ c.lanes-lane-end.ensures.sizes n c.args.width (omega arith) c.requires.most in
+    let end = fits.0 in
+    let two = c.requires.two in
+    let size = c.loop-lane.auto.blocks ∙ c.requires.size in
+    let room : n * c.args.width < length c.loop-lane.blocks = omega arith in
+    search rules
+
 pub offset_bounds-blocks-first-in-loop-lane : goal.offset_bounds-blocks-first-in-loop-lane
 offset_bounds-blocks-first-in-loop-lane g c =
     let n = c.loop-lane.lane in

@@ -31,6 +31,12 @@ loop-index-init c =
       addresses = c.addresses-addresses.ensures.block ∙ same_addresses ctx c.args.pass c.args.lane c.args.slice _ _ serves;
     }
 
+pub step_own-requires-clause-step : goal.step_own-requires-clause-step
+step_own-requires-clause-step c =
+    a_step c.args.self.now c.segment_length-segment.ensures.sizes _ c.requires.in_lanes c.requires.in_slices
+    (rw c.segment_length-segment.ensures.value at c.loop-index-test.true)
+    (λ first. let two = c.first_index-start.ensures.later first in omega arith)
+
 pub loop-index-preserved : goal.loop-index-preserved
 loop-index-preserved c =
     let ctx = c.args.self.now in
