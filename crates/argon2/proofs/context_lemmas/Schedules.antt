@@ -1,59 +1,25 @@
--- Two steps of different lanes in one slice commute, so all schedules of a slice give the same blocks.
-use Rattle.std.proofs.Common.{◌≡◌, ℕ, suc, ◌+◌, ◌-◌, ◌*◌, ◌<◌, ◌≤◌, ◌≢◌, inl, inr, ◌&&◌, List, [], ◌∷◌, ◌++◌, refl, sym, ap, ◌∙◌, subst, arith}
+-- A lane sees what its own turns in a slice alone make, so all schedules of a slice give the same blocks.
+use Rattle.std.proofs.Common.{◌≡◌, ℕ, zero, suc, ◌+◌, ◌-◌, ◌*◌, ◌/◌, ◌%◌, ◌<◌, ◌≤◌, ◌≢◌, ◌⊎◌, inl, inr, ◌&&◌, List, [], ◌∷◌, ◌++◌, length, refl, sym, ap, ◌∙◌, subst, arith}
 use Rattle.std.specs.Prelude.{slice_index_or, slice_set, ◌==◌, if◌then◌else◌}
-use Rattle.std.proofs.Math.Nat.{mul-le-mul_right, div-eq_of_lt-le}
+use Rattle.std.proofs.Math.Nat.{mul-le-mul_right, div-eq_of_lt-le, mod-lt, div-add-mod'}
 use Rattle.std.specs.List.{AllByRecursion}
-use Rattle.std.proofs.lemmas.List.{get_or-set_other, set_comm}
+use Rattle.std.proofs.lemmas.List.{ext_get_or, get_or-set_other, get_or-set_same, length-set}
 use Rattle.std.proofs.lemmas.List.Sums.{sum_by-cons, sum_by-append}
-use Rattle.std.proofs.lemmas.Nat.{same_from_place}
+use Rattle.std.proofs.lemmas.Nat.{div_below, same_from_place}
 use Rattle.std.proofs.lemmas.Bool.{cond_both, cases_eq}
 use Rattle.std.proofs.lemmas.Bool.Decides.{nat_tests}
-use Rattle.argon2.specs.Rfc9106.{Context, lane_length, made_block, segment_length}
-use Rattle.argon2.specs.Layout.{Sizes}
+use Rattle.argon2.specs.Rfc9106.{Context, block_count, lane_length, segment_length}
+use Rattle.argon2.specs.Layout.{Memory, Sizes}
 use Rattle.argon2.specs.Steps.{IsStep, in_memory, step, turns, turn_count, IsSchedule, run}
+use Rattle.argon2.proofs.context_lemmas.InMemory.{place_below}
 use Rattle.argon2.proofs.recurrence.PermittedPlaces.{InSlice}
 use Rattle.argon2.proofs.recurrence.Sources.{made_cong}
 
--- other lanes or columns have other places
-pub place_apart : (q l c m d : ℕ) → c < q → d < q → (l ≡ m → c ≡ d → ⊥) → l * q + c ≢ m * q + d
-place_apart q l c m d hc hd ne e = let s = same_from_place l c m d q hc hd e in ne s.0 s.1
-
--- a block that is written leaves those at other places
-pub set_apart : (q l c m d : ℕ) (memory : List (List ℕ)) (b : List ℕ) → c < q → d < q → (l ≡ m → c ≡ d → ⊥)
+-- a block that is written leaves those of other lanes or columns
+pub set_apart : (q l c m d : ℕ) (memory : Memory) (b : List ℕ) → c < q → d < q → (l ≡ m → c ≡ d → ⊥)
     → slice_index_or (slice_set memory (m * q + d) b) (l * q + c) [] ≡ slice_index_or memory (l * q + c) []
-set_apart q l c m d memory b hc hd ne = get_or-set_other memory (m * q + d) (l * q + c) b [] (place_apart q l c m d hc hd ne)
-
--- what another lane writes in the slice leaves a step's block as it is
-made_kept : (ctx : Context) → Sizes ctx → (pass lane column l c slice : ℕ)
-    → IsStep ctx pass lane column → InSlice (segment_length ctx) column slice
-    → l ≢ lane → c < lane_length ctx → InSlice (segment_length ctx) c slice
-    → (memory : List (List ℕ)) (b : List ℕ)
-    → made_block ctx (in_memory ctx (slice_set memory (l * lane_length ctx + c) b)) pass lane column
-    ≡ made_block ctx (in_memory ctx memory) pass lane column
-unfolding in_memory
-made_kept ctx sizes pass lane column l c slice st here other below there memory b =
-    let e = div-eq_of_lt-le (segment_length ctx) here.above here.below in
-    made_cong ctx sizes pass lane column st _ _ (λ r l' c' reads.
-    let apart = rw e at reads.apart in
-    set_apart (lane_length ctx) l' c' l c memory b reads.in_columns below (λ p q. grind arith))
-
--- two steps of different lanes in one slice may change places
-steps_commute : (ctx : Context) → Sizes ctx → (pass slice : ℕ) (l c m d : ℕ) → l ≢ m
-    → IsStep ctx pass l c → InSlice (segment_length ctx) c slice → IsStep ctx pass m d
-    → InSlice (segment_length ctx) d slice → (memory : List (List ℕ))
-    → step ctx (step ctx memory pass l c) pass m d ≡ step ctx (step ctx memory pass m d) pass l c
-unfolding step
-steps_commute ctx sizes pass slice l c m d ne sc ic sd id memory =
-    let q = lane_length ctx in
-    let i = l * q + c in
-    let j = m * q + d in
-    let b = made_block ctx (in_memory ctx memory) pass l c in
-    let e = made_block ctx (in_memory ctx memory) pass m d in
-    let apart : i ≢ j = place_apart q l c m d sc.in_columns sd.in_columns (λ p _. ne p) in
-    ap (slice_set (slice_set memory i b) j) (made_kept ctx sizes pass m d l c slice sd id ne sc.in_columns ic memory b)
-    ∙ set_comm memory i j b e apart
-    ∙ sym (ap (slice_set (slice_set memory j e) i)
-    (made_kept ctx sizes pass l c m d slice sc ic (λ p. ne (sym p)) sd.in_columns id memory e))
+set_apart q l c m d memory b hc hd ne =
+    get_or-set_other memory (m * q + d) (l * q + c) b [] (λ e. let s = same_from_place l c m d q hc hd e in ne s.0 s.1)
 
 -- ---- turns
 
@@ -141,115 +107,101 @@ head_step ctx sizes pass slice lane schedule four m =
     turn_step ctx sizes pass slice lane (turns lane schedule) four m.lanes.0
     (let a = m.few lane m.lanes.0 in let b = turns-same lane schedule in omega arith)
 
--- the lanes of a list without one of them
-lanes_without : (p x : ℕ) (xs ys : List ℕ) → AllByRecursion (λ lane. lane < p) (xs ++ x ∷ ys)
-    → AllByRecursion (λ lane. lane < p) (xs ++ ys)
-lanes_without p x [] ys h = h.1
-lanes_without p x (y ∷ xs) ys h = (h.0, lanes_without p x xs ys h.1)
-
--- a lane that stands in a list of lanes is a lane
-lane_among : (p x : ℕ) (xs ys : List ℕ) → AllByRecursion (λ lane. lane < p) (xs ++ x ∷ ys) → x < p
-lane_among p x [] ys h = h.0
-lane_among p x (y ∷ xs) ys h = lane_among p x xs ys h.1
-
--- a lane's first turn may come before the turns of other lanes
-first_to_front : (ctx : Context) → Sizes ctx → (pass slice lane : ℕ) → slice < 4 → (xs ys : List ℕ)
-    → turns lane xs ≡ 0 → MayRun ctx pass slice (xs ++ lane ∷ ys) → (memory : List (List ℕ))
-    → run ctx pass slice (xs ++ lane ∷ ys) memory ≡ run ctx pass slice (lane ∷ (xs ++ ys)) memory
-unfolding run
-first_to_front ctx sizes pass slice lane four [] ys none m memory = refl
-first_to_front ctx sizes pass slice lane four (x ∷ xs) ys none m memory =
-    let ne : x ≢ lane = λ e. let s = turns-same lane xs in
-    let t : turns lane (lane ∷ xs) ≡ 0 = subst (λ y. turns lane (y ∷ xs) ≡ 0) e none in omega arith in
-    let rest : turns lane xs ≡ 0 = sym (turns-other lane x xs ne) ∙ none in
-    let later = xs ++ ys in
-    let tail : MayRun ctx pass slice (xs ++ lane ∷ ys) = MayRun-tail ctx pass slice x (xs ++ lane ∷ ys) m in
-    let tx : turns x (xs ++ lane ∷ ys) ≡ turns x later =
-    omega (arith, turns-append x xs (lane ∷ ys), turns-append x xs ys, turns-other x lane ys (λ e. ne (sym e))) in
-    let tl : turns lane (x ∷ later) ≡ turns lane later = turns-other lane x later ne in
-    let w : turns lane (xs ++ lane ∷ ys) ≡ suc (turns lane later) =
-    omega (arith, turns-append lane xs (lane ∷ ys), turns-append lane xs ys, turns-same lane ys) in
-    let lane_in : lane < ctx.p_cost = lane_among ctx.p_cost lane xs ys m.lanes.1 in
-    let px = turn_step ctx sizes pass slice x (turns x later) four m.lanes.0
-    (let a = m.few x m.lanes.0 in let b = turns-same x (xs ++ lane ∷ ys) in omega arith) in
-    let pl = turn_step ctx sizes pass slice lane (turns lane later) four lane_in (let a = tail.few lane lane_in in omega arith) in
-    let cx = turn_column ctx slice (turns x later) in
-    let cl = turn_column ctx slice (turns lane later) in
-    ap (λ n. run ctx pass slice (xs ++ lane ∷ ys) (step ctx memory pass x (turn_column ctx slice n))) tx
-    ∙ first_to_front ctx sizes pass slice lane four xs ys rest tail (step ctx memory pass x cx)
-    ∙ ap (run ctx pass slice later) (steps_commute ctx sizes pass slice x cx lane cl ne px.0 px.1 pl.0 pl.1 memory)
-    ∙ sym (ap (λ n. run ctx pass slice later (step ctx (step ctx memory pass lane (turn_column ctx slice n)) pass x cx)) tl)
-
--- the first turn of a lane that has one
-record FirstTurn (lane : ℕ) (ys : List ℕ) : Type 0 where
-  before : List ℕ
-  after : List ℕ
-  is : ys ≡ before ++ lane ∷ after
-  none : turns lane before ≡ 0
-
--- a lane with some turn has a first
-first_turn : (lane : ℕ) (ys : List ℕ) → 0 < turns lane ys → FirstTurn lane ys
-first_turn lane [] h = absurd (omega arith)
-first_turn lane (y ∷ ys) h =
-    elim (cases_eq y lane) [
-      | inl e ↦ (record { before = []; after = ys; is = ap (λ z. z ∷ ys) e; none = refl })
-      | inr ne ↦ (
-          let t = first_turn lane ys (let o = turns-other lane y ys ne in omega arith) in
-          record {
-            before = y ∷ t.before;
-            after = t.after;
-            is = ap (λ zs. y ∷ zs) t.is;
-            none = turns-other lane y t.before ne
-                ∙ t.none;
-          })
-    ]
-
--- a list without turns is empty
-no_turns : (p : ℕ) (ys : List ℕ) → AllByRecursion (λ lane. lane < p) ys
-    → ((lane : ℕ) → lane < p → 0 ≡ turns lane ys) → ys ≡ []
-no_turns p [] h none = refl
-no_turns p (y ∷ ys) h none = absurd (let a = none y h.0 in let b = turns-same y ys in omega arith)
-
--- schedules with the same turns give the same blocks
-same_turns : (ctx : Context) → Sizes ctx → (pass slice : ℕ) → slice < 4 → (xs ys : List ℕ)
-    → MayRun ctx pass slice xs → MayRun ctx pass slice ys
-    → ((lane : ℕ) → lane < ctx.p_cost → turns lane xs ≡ turns lane ys) → (memory : List (List ℕ))
-    → run ctx pass slice xs memory ≡ run ctx pass slice ys memory
-unfolding run
-same_turns ctx sizes pass slice four [] ys mx my same memory =
-    ap (λ zs. run ctx pass slice zs memory) (sym (no_turns ctx.p_cost ys my.lanes same))
-same_turns ctx sizes pass slice four (x ∷ xs) ys mx my same memory =
-    let t = first_turn x ys (let a = same x mx.lanes.0 in let b = turns-same x xs in omega arith) in
-    let later = t.before ++ t.after in
-    let my' : MayRun ctx pass slice (t.before ++ x ∷ t.after) = subst (MayRun ctx pass slice) t.is my in
-    let same' : (lane : ℕ) → lane < ctx.p_cost → turns lane xs ≡ turns lane later = λ lane h. omega (
-      arith,
-      same lane h,
-      ap (turns lane) t.is,
-      turns-cons lane x xs,
-      turns-cons lane x t.after,
-      turns-append lane t.before (x ∷ t.after),
-      turns-append lane t.before t.after,
-    ) in
-    let mlater : MayRun ctx pass slice later = record {
-      lanes = lanes_without ctx.p_cost x t.before t.after my'.lanes;
-      few = λ lane h. let a = same' lane h in let b = (MayRun-tail ctx pass slice x xs mx).few lane h in omega arith;
-    } in
-    ap (λ n. run ctx pass slice xs (step ctx memory pass x (turn_column ctx slice n))) (same' x mx.lanes.0)
-    ∙ same_turns ctx sizes pass slice four xs later (MayRun-tail ctx pass slice x xs mx) mlater same'
-    (step ctx memory pass x (turn_column ctx slice (turns x later)))
-    ∙ sym (ap (λ zs. run ctx pass slice zs memory) t.is
-    ∙ first_to_front ctx sizes pass slice x four t.before t.after t.none my' memory)
-
 -- a whole schedule may run
 pub MayRun-from : (ctx : Context) (pass slice : ℕ) (schedule : List ℕ)
     → IsSchedule ctx pass slice schedule → MayRun ctx pass slice schedule
 MayRun-from ctx pass slice schedule is = record { lanes = is.lanes; few = λ lane h. let e = is.turns lane h in omega arith }
 
--- any two schedules of a slice give the same blocks, whatever the list holds
+-- ---- what a lane sees
+
+-- the memories agree, but for the blocks of other lanes in the slice
+record SeenAlike (ctx : Context) (slice lane : ℕ) (memory memory' : Memory) : Type 0 where
+  size : length memory ≡ block_count ctx
+  size' : length memory' ≡ block_count ctx
+  same : (l c : ℕ) → l < ctx.p_cost → c < lane_length ctx
+      → (l ≡ lane) ⊎ ((c < slice * segment_length ctx) ⊎ ((slice + 1) * segment_length ctx ≤ c))
+      → slice_index_or memory (l * lane_length ctx + c) [] ≡ slice_index_or memory' (l * lane_length ctx + c) []
+
+-- they do so after a step of another lane
+step_of_other : (ctx : Context) (pass slice lane x d : ℕ) (memory memory' : Memory) → x ≢ lane → d < lane_length ctx
+    → InSlice (segment_length ctx) d slice → SeenAlike ctx slice lane memory memory'
+    → SeenAlike ctx slice lane (step ctx memory pass x d) memory'
+unfolding step
+step_of_other ctx pass slice lane x d memory memory' ne within here h = record {
+  size = length-set memory _ _ ∙ h.size;
+  size' = h.size';
+  same = λ l c a below far. set_apart (lane_length ctx) l c x d memory _ below within (λ p q. grind arith)
+      ∙ h.same l c a below far;
+}
+
+-- and after the same step of the lane in both
+step_of_own : (ctx : Context) → Sizes ctx → (pass slice lane d : ℕ) (memory memory' : Memory) → IsStep ctx pass lane d
+    → InSlice (segment_length ctx) d slice → SeenAlike ctx slice lane memory memory'
+    → SeenAlike ctx slice lane (step ctx memory pass lane d) (step ctx memory' pass lane d)
+unfolding step in_memory
+step_of_own ctx sizes pass slice lane d memory memory' st here h =
+    let q = lane_length ctx in
+    let at = lane * q + d in
+    let size = h.size in
+    let size' = h.size' in
+    let within = place_below ctx lane d st.in_lanes st.in_columns in
+    let e = div-eq_of_lt-le (segment_length ctx) here.above here.below in
+    let made = made_cong ctx sizes pass lane d st (in_memory ctx memory) (in_memory ctx memory')
+    (λ r l c reads. h.same l c reads.in_lanes reads.in_columns (rw e at reads.apart)) in
+    record {
+      size = length-set memory _ _ ∙ h.size;
+      size' = length-set memory' _ _ ∙ h.size';
+      same = λ l c a below far. elim (cases_eq (l * q + c) at) [
+        | inl i ↦ rw i (get_or-set_same memory at _ [] (omega arith) ∙ made ∙ sym (get_or-set_same memory' at _ [] (omega arith)))
+        | inr ne ↦ (get_or-set_other memory at (l * q + c) _ [] ne ∙ h.same l c a below far
+            ∙ sym (get_or-set_other memory' at (l * q + c) _ [] ne))
+      ];
+    }
+
+-- the last n turns of a lane alone
+alone : Context → ℕ → ℕ → ℕ → ℕ → Memory → Memory
+alone ctx pass slice lane zero memory = memory
+alone ctx pass slice lane (suc n) memory = alone ctx pass slice lane n (step ctx memory pass lane (turn_column ctx slice n))
+
+-- a lane sees what its own turns alone make
+run_alone : (ctx : Context) → Sizes ctx → (pass slice lane : ℕ) → slice < 4 → (schedule : List ℕ) → MayRun ctx pass slice schedule
+    → (memory memory' : Memory) → SeenAlike ctx slice lane memory memory'
+    → SeenAlike ctx slice lane (run ctx pass slice schedule memory) (alone ctx pass slice lane (turns lane schedule) memory')
+unfolding run alone
+run_alone ctx sizes pass slice lane four [] m memory memory' h = h
+run_alone ctx sizes pass slice lane four (x ∷ xs) m memory memory' h =
+    let Seen = λ (n : ℕ). SeenAlike ctx slice lane (run ctx pass slice (x ∷ xs) memory) (alone ctx pass slice lane n memory') in
+    let st = head_step ctx sizes pass slice x xs four m in
+    let rest = run_alone ctx sizes pass slice lane four xs (MayRun-tail ctx pass slice x xs m) in
+    elim (cases_eq x lane) [
+      | inl e ↦ subst Seen (sym (ap (λ y. turns lane (y ∷ xs)) e ∙ turns-same lane xs)) (rest _ _
+          (subst (λ y. SeenAlike ctx slice y memory memory' → SeenAlike ctx slice y (step ctx memory pass x (turn_column ctx slice
+          (turns x xs))) (step ctx memory' pass y (turn_column ctx slice (turns y xs)))) e
+          (step_of_own ctx sizes pass slice x _ memory memory' st.0 st.1) h))
+      | inr ne ↦ subst Seen (sym (turns-other lane x xs ne)) (rest _ _
+          (step_of_other ctx pass slice lane x _ memory memory' ne st.0.in_columns st.1 h))
+    ]
+
+-- any two schedules of a slice give the same blocks, whatever they hold
 pub schedules_agree : (ctx : Context) → Sizes ctx → (pass slice : ℕ) → slice < 4 → (xs ys : List ℕ)
     → IsSchedule ctx pass slice xs → IsSchedule ctx pass slice ys
-    → (memory : List (List ℕ)) → run ctx pass slice xs memory ≡ run ctx pass slice ys memory
-schedules_agree ctx sizes pass slice four xs ys ix iy memory =
-    same_turns ctx sizes pass slice four xs ys (MayRun-from ctx pass slice xs ix) (MayRun-from ctx pass slice ys iy)
-    (λ lane h. ix.turns lane h ∙ sym (iy.turns lane h)) memory
+    → (memory : Memory) → length memory ≡ block_count ctx
+    → run ctx pass slice xs memory ≡ run ctx pass slice ys memory
+schedules_agree ctx sizes pass slice four xs ys ix iy memory size =
+    let q = lane_length ctx in
+    let seen : (lane : ℕ) (zs : List ℕ) → IsSchedule ctx pass slice zs
+    → SeenAlike ctx slice lane (run ctx pass slice zs memory) (alone ctx pass slice lane (turns lane zs) memory) =
+    λ lane zs is. run_alone ctx sizes pass slice lane four zs (MayRun-from ctx pass slice zs is) memory memory
+    (record { size = size; size' = size; same = λ l c a below far. refl }) in
+    let one = (seen 0 xs ix).size in
+    let other = (seen 0 ys iy).size in
+    let two = sizes.two_columns in
+    ext_get_or [] _ _ (one ∙ sym other) (λ n lt.
+    let lane : n / q < ctx.p_cost = div_below n q ctx.p_cost (omega arith) (omega arith) in
+    let column : n % q < q = mod-lt n (omega arith) in
+    subst (λ place. slice_index_or (run ctx pass slice xs memory) place [] ≡ slice_index_or (run ctx pass slice ys memory) place [])
+    (div-add-mod' n q)
+    ((seen (n / q) xs ix).same (n / q) (n % q) lane column (inl refl)
+    ∙ ap (λ turns. slice_index_or (alone ctx pass slice (n / q) turns memory) (n / q * q + n % q) [])
+    (ix.turns (n / q) lane ∙ sym (iy.turns (n / q) lane))
+    ∙ sym ((seen (n / q) ys iy).same (n / q) (n % q) lane column (inl refl))))

@@ -1,5 +1,5 @@
 -- One login as a step.
-use Rattle.std.proofs.Common.{◌≡◌, ℕ, Bool, true, false, List, Option, Some, None, Result, Ok, ◌⊎◌, inl, inr, refl, ap, ◌∙◌, arith}
+use Rattle.std.proofs.Common.{◌≡◌, ℕ, List, Option, Some, None, Result, Ok, ◌⊎◌, inl, inr, refl, ap, ◌∙◌, arith}
 use Rattle.std.specs.Prelude.{◌≢◌, IfOk, IsSomeAnd, MatchResult}
 use Rattle.std.specs.FinMap.{get, insert}
 use Rattle.argon2_base.specs.Error.{Fault}
@@ -51,10 +51,6 @@ has_current target after name w answer has h = rw has h
 pub refused_text : {P : Type 0} (e : Error) → (e ≡ OutOfMemory) ⊎ (P → ⊥) → (Refused e ≡ Refused OutOfMemory) ⊎ (P → ⊥)
 refused_text e (inl memory) = inl (ap Refused memory)
 refused_text e (inr never) = inr never
-
--- if a test fails, what it decides is not so
-pub false_refutes : {P : Type 0} (b : Bool) → b ≡ false → (P → b ≡ true) → ¬ P
-false_refutes b fails decides is = let passes = decides is in absurd cc
 
 checked_ok : (f : Option Fault) (v w : Phc) → Ok v ≡ unless_fault f (Ok w) → v ≡ w
 checked_ok f v w e = grind arith

@@ -3,12 +3,12 @@ use Rattle.std.proofs.Common.{◌≡◌, ℕ, List, length, Option, Result, Ok, 
 use Rattle.std.specs.Option.{option_map}
 use Rattle.std.specs.Prelude.{codes, ok_or, unwrap_or}
 use Rattle.std.specs.Result.{IsErrAnd}
-use Rattle.argon2_base.specs.Error.{Fault, as_fault, bad_algorithm, bad_params, bad_password, bad_version, fault_of, outcome_of}
+use Rattle.argon2_base.specs.Error.{Fault, as_fault, bad_algorithm, bad_params, bad_version, fault_of, outcome_of}
 use Rattle.argon2_base.specs.PhcText.{Pair, Phc}
 use Rattle.argon2_base.specs.declared.error.password_hash.Error.{Error}
 use Rattle.argon2.specs.Settings.{Parameters, Settings, algorithm_named, first_fault, version_numbered}
 use Rattle.argon2.specs.ListedParameters.{unless_fault, items_fault, number_at, params_of}
-use Rattle.argon2.specs.StoredTexts.{Stored, result_and_then, shown_settings, stored_of}
+use Rattle.argon2.specs.StoredTexts.{result_and_then, shown_settings}
 
 -- a fault that was passed on
 pub passed_on : {A X : Type 0} (view : A → X) (e : Error) (r : Result A Error) → IsErrAnd r (λ f. f ≡ e)
@@ -44,12 +44,4 @@ shown_length v settings is =
     let own = read_ok (ok_or (algorithm_named v.algorithm) bad_algorithm) _ settings parameters.2 in
     let number = read_ok (ok_or (version_numbered (unwrap_or v.version 16)) bad_version) _ settings own.2 in
     let same = read_length (option_map length v.hash) v.params parameters.0 (sym parameters.1) in
-    grind arith
-
--- what a value is verified by has the settings that it shows
-pub stored_shows : (v : Phc) (stored : Stored) → Ok stored ≡ stored_of v → shown_settings v ≡ Ok stored.settings
-stored_shows v stored is =
-    let salt = read_ok (ok_or v.salt bad_password) _ stored is in
-    let hash = read_ok (ok_or v.hash bad_password) _ stored salt.2 in
-    let own = read_ok (shown_settings v) _ stored hash.2 in
     grind arith

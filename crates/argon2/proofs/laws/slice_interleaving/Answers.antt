@@ -11,7 +11,7 @@ use Rattle.argon2.proofs.laws.slice_interleaving.Goals as goal
 pub returns-clause-agree : goal.returns-clause-agree
 returns-clause-agree c =
     λ ctx v memory size pass slice _ four one other a b. schedules_agree ctx
-    (sizes-valid ctx v) pass slice four one other a b memory
+    (sizes-valid ctx v) pass slice four one other a b memory size
 
 pub returns-clause-fill : goal.returns-clause-fill
 returns-clause-fill c =
