@@ -21,13 +21,6 @@ position_index-same ctx pass lane column r l c a b x y e =
     let inner = same_from_place l c lane column (lane_length ctx) y b outer.1 in
     (outer.0, inner.0, inner.1)
 
--- the index of a block is within the list of positions
-position_index-below : (ctx : Context) (pass lane column : ℕ) → pass < ctx.t_cost → lane < ctx.p_cost
-    → column < lane_length ctx → position_index ctx pass lane column < place_count ctx
-position_index-below ctx pass lane column t a b =
-    let place = place_below ctx lane column a b in
-    omega (arith, mul-add-lt pass (block_count ctx) (lane * lane_length ctx + column) ctx.t_cost t place)
-
 -- counts of made columns that agree say the same
 pub HasPositionsUpTo-like : (ctx : Context) (first : FirstColumns) (pass : ℕ) (done done' : ℕ → ℕ) (old new : List ℕ)
     → ((l : ℕ) → l < ctx.p_cost → done l ≡ done' l)
@@ -47,7 +40,8 @@ pub step_positions : (ctx : Context) → Sizes ctx → (first : FirstColumns) (p
     → HasPositionsUpTo ctx first pass done' old (slice_set new (position_index ctx pass lane column) place)
 step_positions ctx sizes first pass lane column done done' old new place st t is now then' others has =
     let size = has.size in
-    let room = position_index-below ctx pass lane column t st.in_lanes st.in_columns in
+    let place' = place_below ctx lane column st.in_lanes st.in_columns in
+    let room = mul-add-lt pass (block_count ctx) (lane * lane_length ctx + column) ctx.t_cost t place' in
     let two = sizes.two_columns in
     let i = position_index ctx pass lane column in
     record {

@@ -78,23 +78,16 @@ newest_column ctx first n lane h =
     (get_or_push (history ctx first n) (map f (range_with_len 0 ctx.p_cost)) [] n (length-history ctx first n))
     ∙ get_or-map-range_with_len f 0 ctx.p_cost lane lane [] h (omega arith)
 
--- a block is read from the history that ends with its column
-read_at_newest : (ctx : Context) (first : FirstColumns) (pass lane column : ℕ)
-    → block_of ctx first pass lane column
-    ≡ slice_index_or (slice_index_or (history ctx first (suc (moment ctx pass column))) (moment ctx pass column) []) lane []
-unfolding block_of in_history
-read_at_newest ctx first pass lane column = refl
-
 -- each block is as the rule says
 pub recurrence : (ctx : Context) → Sizes ctx → (first : FirstColumns) (pass lane column : ℕ)
     → lane < ctx.p_cost → column < lane_length ctx
     → block_of ctx first pass lane column ≡ rule ctx first (block_of ctx first) pass lane column
+unfolding block_of in_history
 recurrence ctx sizes first pass lane column in_lanes in_columns =
     let q = lane_length ctx in
     let n = moment ctx pass column in
     let f = in_history ctx (history ctx first n) in
-    read_at_newest ctx first pass lane column
-    ∙ newest_column ctx first n lane in_lanes
+    newest_column ctx first n lane in_lanes
     ∙ ap (λ r. rule ctx first f r lane (n % q)) (div-mul-add pass q column in_columns)
     ∙ ap (λ c. rule ctx first f pass lane c) (mod-mul-add pass q column in_columns)
     ∙ rule_cong ctx sizes first pass lane column in_lanes in_columns f (block_of ctx first)
