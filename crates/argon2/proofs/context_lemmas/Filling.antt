@@ -211,10 +211,9 @@ filled_at_last ctx sizes first (suc r) memory t some h =
     ∙ ap (λ x. block_of ctx first x (n / q) (n % q)) p)
 
 -- any schedules lead from the first two columns to the matrix
-pub schedules_fill : (ctx : Context) → Sizes ctx → 0 < ctx.t_cost
-    → (first : FirstColumns) (schedules : ℕ → ℕ → List ℕ) → AreSchedules ctx schedules
+pub schedules_fill : (ctx : Context) → Sizes ctx → (first : FirstColumns) (schedules : ℕ → ℕ → List ℕ) → AreSchedules ctx schedules
     → (memory : List (List ℕ)) → Begins ctx first memory
     → run_passes ctx schedules ctx.t_cost memory ≡ matrix ctx first
-schedules_fill ctx sizes some first schedules is memory start =
-    filled_at_last ctx sizes first ctx.t_cost _ refl some
+schedules_fill ctx sizes first schedules is memory start =
+    filled_at_last ctx sizes first ctx.t_cost _ refl sizes.some_pass
     (passes_fill ctx sizes first schedules ctx.t_cost is memory (filled_at_first ctx sizes first memory start))

@@ -10,9 +10,7 @@ use Rattle.argon2.specs.Rfc9106.{Context, FirstColumns, block_count, block_of, f
 use Rattle.argon2.specs.Layout.{Memory, Sizes, matrix, matrix_of}
 use Rattle.argon2_base.specs.Block.{bytes_of, xor_blocks, zero_block}
 use Rattle.argon2.specs.Hashing.{blocks_of}
-use Rattle.argon2.specs.Steps.{run_passes, last_column}
-use Rattle.argon2.specs.Laws.{Begins, AreSchedules}
-use Rattle.argon2.proofs.context_lemmas.Filling.{schedules_fill}
+use Rattle.argon2.specs.Steps.{last_column}
 
 -- the matrix has the last pass's blocks at their places
 matrix_at : (ctx : Context) → Sizes ctx → (first : FirstColumns) (lane column : ℕ)
@@ -36,17 +34,6 @@ xor_lanes_cong ctx f g h =
     (fill_by_all g (map f (range_with_len 0 ctx.p_cost)) ctx.p_cost [] (length-map-range_with_len f 0 ctx.p_cost)
     (λ k lt. get_or-map-range_with_len f 0 ctx.p_cost k k [] lt (omega arith) ∙ h k lt))
 
--- the exclusive or of the matrix's last column is the recurrence's
-pub last_of_matrix : (ctx : Context) → Sizes ctx → (first : FirstColumns) (memory : List (List ℕ))
-    → memory ≡ matrix ctx first
-    → last_column ctx memory ≡ last_block ctx first
-unfolding last_block
-last_of_matrix ctx sizes first memory e =
-    let two = sizes.two_columns in
-    xor_lanes_cong ctx _ _
-    (λ lane h. ap (λ (m : List (List ℕ)). slice_index_or m (lane * lane_length ctx + (lane_length ctx - 1)) []) e
-    ∙ matrix_at ctx sizes first lane (lane_length ctx - 1) h (omega arith))
-
 -- the last column of the first blocks, by their lanes
 pub last_of_front : {B : Type 0} (words : B → List ℕ) (ctx : Context) (memory : List B) (count width : ℕ)
     → count ≡ block_count ctx → width ≡ lane_length ctx
@@ -55,20 +42,13 @@ pub last_of_front : {B : Type 0} (words : B → List ℕ) (ctx : Context) (memor
 last_of_front words ctx memory count width all wide =
     rw (wide, all) (ap (last_column ctx) (sym (take-map words (block_count ctx) memory)))
 
--- however the lanes take turns, the exclusive or of the last column is the recurrence's
-pub steps_give_last : (ctx : Context) → Sizes ctx → 0 < ctx.t_cost
-    → (first : FirstColumns) (schedules : ℕ → ℕ → List ℕ) → AreSchedules ctx schedules
-    → (memory : List (List ℕ)) → Begins ctx first memory
-    → last_column ctx (run_passes ctx schedules ctx.t_cost memory) ≡ last_block ctx first
-steps_give_last ctx sizes some first schedules are memory start =
-    last_of_matrix ctx sizes first (run_passes ctx schedules ctx.t_cost memory)
-    (schedules_fill ctx sizes some first schedules are memory start)
-
 -- the hash of the matrix's last column is the tag
 pub tag_of_matrix : (ctx : Context) → Sizes ctx → (password salt : List ℕ) (n : ℕ) (memory : Memory) → memory
     ≡ matrix_of ctx password salt n
     → long_hash n (bytes_of (last_column ctx memory)) ≡ tag_of ctx password salt n
-unfolding matrix_of tag_of
+unfolding matrix_of tag_of last_block
 tag_of_matrix ctx sizes password salt n memory e =
-    ap (λ block. long_hash n (bytes_of block))
-    (last_of_matrix ctx sizes (first_block ctx password salt n) memory e)
+    let two = sizes.two_columns in
+    ap (λ block. long_hash n (bytes_of block)) (xor_lanes_cong ctx _ _
+    (λ lane h. ap (λ (m : Memory). slice_index_or m (lane * lane_length ctx + (lane_length ctx - 1)) []) e
+    ∙ matrix_at ctx sizes (first_block ctx password salt n) lane (lane_length ctx - 1) h (omega arith)))

@@ -9,19 +9,10 @@ use Rattle.argon2.specs.Rfc9106.{Context, IsValid, segment_length_for}
 use Rattle.argon2.specs.Layout.{Sizes}
 
 -- the inequalities of RFC 9106, section 3.1
-pub record AreCosts (m t p : ℕ) : Type 0 where
-  pub lanes : (1 ≤ p) × (p < 2 ^ 24)
-  pub memory : (8 * p ≤ m) × (m < 2 ^ 32)
-  pub passes : (1 ≤ t) × (t < 2 ^ 32)
-
--- they hold for costs that are not refused
-pub costs_of_none : (m t p : ℕ) → m < 2 ^ 32 → t < 2 ^ 32 → IsNone (first_fault m t p None) → AreCosts m t p
-costs_of_none m t p small_m small_t none =
-    let some : 1 ≤ p = grind (arith, nat_tests) in
-    let most : p ≤ 16777215 = grind (arith, nat_tests) in
-    let room : 8 * p ≤ m = grind (arith, nat_tests) in
-    let pass : 1 ≤ t = grind (arith, nat_tests) in
-    record { lanes = (some, omega arith); memory = (room, small_m); passes = (pass, small_t) }
+record AreCosts (m t p : ℕ) : Type 0 where
+  lanes : (1 ≤ p) × (p < 2 ^ 24)
+  memory : (8 * p ≤ m) × (m < 2 ^ 32)
+  passes : (1 ≤ t) × (t < 2 ^ 32)
 
 -- what they give
 sizes_of_costs : (ctx : Context) → AreCosts ctx.m_cost ctx.t_cost ctx.p_cost → Sizes ctx
@@ -47,7 +38,11 @@ sizes_of_costs ctx costs =
 pub sizes_of_none : (ctx : Context) → ctx.m_cost < 2 ^ 32 → ctx.t_cost < 2 ^ 32
     → IsNone (first_fault ctx.m_cost ctx.t_cost ctx.p_cost None) → Sizes ctx
 sizes_of_none ctx small_m small_t none =
-    sizes_of_costs ctx (costs_of_none ctx.m_cost ctx.t_cost ctx.p_cost small_m small_t none)
+    let some : 1 ≤ ctx.p_cost = grind (arith, nat_tests) in
+    let most : ctx.p_cost ≤ 16777215 = grind (arith, nat_tests) in
+    let room : 8 * ctx.p_cost ≤ ctx.m_cost = grind (arith, nat_tests) in
+    let pass : 1 ≤ ctx.t_cost = grind (arith, nat_tests) in
+    sizes_of_costs ctx (record { lanes = (some, omega arith); memory = (room, small_m); passes = (pass, small_t) })
 
 -- a valid context has these sizes
 pub sizes-valid : (ctx : Context) → IsValid ctx → Sizes ctx
