@@ -7,7 +7,7 @@ use Rattle.argon2.specs.declared.login.answers.Accepted.TheVariants.{Kept}
 use Rattle.argon2_policy.specs.Policy.{policy_value}
 use Rattle.argon2_store.specs.Edits.{replacing, text_of}
 use Rattle.argon2_accounts.specs.Accounts.{LogsNameIn, RelatesNames, Replaces}
-use Rattle.argon2_accounts.specs.Errors.{of_file, of_policy}
+use Rattle.argon2_accounts.specs.Errors.{of_file}
 use Rattle.argon2_rows.proofs.TableLemmas.{err_is}
 use Rattle.argon2_accounts.proofs.AccountLemmas.{denies, edit_after_read, fails_to_edit, has_password, reads_leave, renewed, renews}
 use Rattle.argon2_accounts.proofs.accounts.Accounts.log_in.Goals as goal
@@ -15,36 +15,22 @@ use Rattle.argon2_accounts.proofs.accounts.Accounts.log_in.Goals.{After-replace}
 
 pub returns-in_err-text-clause-names : goal.returns-in_err-text-clause-names
 returns-in_err-text-clause-names g c =
-    let policy = policy_value c.args.self.now.policy in
-    let drawn = (fill_bytes 16 (g.R.Rng.stream c.args.rng.now)).0 in
     rw (err_is c.from_residual.result _ c.from_residual.ensures.1)
-    (reads_leave (LogsNameIn {X = Accepted} policy c.args.name.now c.args.password.now drawn (Err c.in_err-text.field-0.0))
-    c.args.self.now.file c.stored.new.file c.in_err-text.ensures.reads
-    (λ names has honest. (refl, c.in_err-text.ensures.refused names has honest)))
+    (reads_leave _ _ _ c.in_err-text.ensures.reads (λ names has honest. (refl, c.in_err-text.ensures.refused names has honest)))
 
 pub returns-in_err-accepted-clause-names : goal.returns-in_err-accepted-clause-names
 returns-in_err-accepted-clause-names g c =
-    let policy = policy_value c.args.self.now.policy in
-    let drawn = (fill_bytes 16 (g.R.Rng.stream c.args.rng.now)).0 in
-    let why = c.in_err-accepted.field-0.0 in
     rw (err_is c.from_residual-in_err-accepted.result _ c.from_residual-in_err-accepted.ensures.1)
-    (reads_leave (LogsNameIn {X = Accepted} policy c.args.name.now c.args.password.now drawn (Err (of_policy why)))
-    c.args.self.now.file c.stored.new.file c.in_ok-text.ensures.reads
-    (λ names has honest. (
+    (reads_leave _ _ _ c.in_ok-text.ensures.reads (λ names has honest. (
       refl,
-      λ is. denies policy c.args.name.now c.args.password.now names c.in_ok-text.text
-          (c.in_ok-text.ensures.found names has honest) why c.in_err-accepted.ensures.step,
+      λ is. denies (policy_value c.args.self.now.policy) _ _ names c.in_ok-text.text (c.in_ok-text.ensures.found names has honest) _
+          c.in_err-accepted.ensures.step,
     )))
 
 pub returns-in_default-clause-names : goal.returns-in_default-clause-names
 returns-in_default-clause-names g c =
-    let policy = policy_value c.args.self.now.policy in
-    let drawn = (fill_bytes 16 (g.R.Rng.stream c.args.rng.now)).0 in
-    reads_leave (LogsNameIn {X = Accepted} policy c.args.name.now c.args.password.now drawn
-    (Ok c.in_ok-accepted.field-0.accepted))
-    c.args.self.now.file c.stored.new.file c.in_ok-text.ensures.reads
-    (λ names has honest.
-    let it = has_password policy c.args.name.now c.args.password.now names c.in_ok-text.text
+    reads_leave _ _ _ c.in_ok-text.ensures.reads (λ names has honest.
+    let it = has_password (policy_value c.args.self.now.policy) c.args.name.now c.args.password.now names c.in_ok-text.text
     (c.in_ok-text.ensures.found names has honest) c.in_ok-accepted.ensures.accepted.0 in (it, it, inl refl))
 
 -- the fresh text of a login
@@ -72,15 +58,10 @@ logged_in : (g : _) (c : After-replace g) → RelatesNames (LogsNameIn (policy_v
     c.args.name.now c.args.password.now (fill_bytes 16 (g.R.Rng.stream c.args.rng.now)).0 (Ok Kept))
     c.args.self.now.file c.replace.new.self
 logged_in g c =
-    let policy = policy_value c.args.self.now.policy in
-    let drawn = (fill_bytes 16 (g.R.Rng.stream c.args.rng.now)).0 in
     let admits = rw c.in-Some.is at c.in_ok-accepted.ensures.accepted in
-    edit_after_read (LogsNameIn policy c.args.name.now c.args.password.now drawn (Ok Kept))
-    (replacing c.args.name.now c.as_str.result.now (text_of c.in-Some.fresh)) c.replace.result c.args.self.now.file
-    c.stored.new.file c.replace.new.self c.in_ok-text.ensures.reads c.replace.ensures
-    (λ before after has honest answers. renews policy c.args.name.now c.args.password.now drawn c.as_str.result.now
-    c.in_ok-text.text c.in-Some.fresh Kept before after c.replace.result (c.in_ok-text.ensures.found before has honest)
-    admits.0 admits.1 (is_fresh g c) answers)
+    edit_after_read _ _ _ _ _ _ c.in_ok-text.ensures.reads c.replace.ensures (λ before after has honest answers.
+    renews (policy_value c.args.self.now.policy) _ _ _ _ c.in_ok-text.text c.in-Some.fresh Kept before after c.replace.result
+    (c.in_ok-text.ensures.found before has honest) admits.0 admits.1 (is_fresh g c) answers)
 
 pub returns-in-Ok-clause-call : goal.returns-in-Ok-clause-call
 returns-in-Ok-clause-call g c = called g (goal.at.returns-in-Ok-clause-call g c).After-replace
