@@ -1,0 +1,5 @@
+use Rattle.std.proofs.Common.{arith}
+use Rattle.argon2.proofs.params.Params.block_count.Goals as goal
+
+pub returns-clause-value : goal.returns-clause-value
+returns-clause-value c = grind arith

@@ -1,0 +1,5 @@
+use Rattle.std.proofs.Common.{arith}
+use Rattle.argon2.proofs.params.builder.ParamsBuilder.build.Goals as goal
+
+pub returns : goal.returns
+returns c = grind arith

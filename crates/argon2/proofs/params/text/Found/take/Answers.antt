@@ -1,0 +1,5 @@
+use Rattle.std.proofs.Common.{arith}
+use Rattle.argon2.proofs.params.text.Found.take.Goals as goal
+
+pub returns-in-t : goal.returns-in-t
+returns-in-t c = grind arith
