@@ -1,0 +1,5 @@
+use Rattle.std.proofs.Common.{arith}
+use Rattle.argon2_c.proofs.hash.argon2_c_hash.Goals as goal
+
+pub returns-then-memory-slice_len-clause-refused : goal.returns-then-memory-slice_len-clause-refused
+returns-then-memory-slice_len-clause-refused c = grind arith
