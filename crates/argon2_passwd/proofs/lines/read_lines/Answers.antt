@@ -1,4 +1,4 @@
-use Rattle.std.proofs.Common.{rules, ◌==◌, [], ◌∷◌, append-nil, subst, sym}
+use Rattle.std.proofs.Common.{arith, rules, ◌==◌, [], ◌∷◌, append-nil, subst, sym}
 use Rattle.std.proofs.lemmas.List.Sorted.{answers_always}
 use Rattle.std.specs.List.{AllZip}
 use Rattle.std.specs.Str.Lines.{lines}
@@ -23,3 +23,6 @@ pub returns : goal.returns
 returns c =
     subst (AllZip (IsEntryOrFlaw c.args.any_text) (lines (unmarked c.args.input.now))) (append-nil _)
     (c.loop-line.invariant [] (none_left _ _ c.in-None.ensures.steps.0))
+
+pub loop-line-init : goal.loop-line-init
+loop-line-init c = grind arith

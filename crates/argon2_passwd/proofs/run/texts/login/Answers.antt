@@ -14,3 +14,8 @@ pub returns-in-Some-clause-ok : goal.returns-in-Some-clause-ok
 returns-in-Some-clause-ok g c =
     let logs_in = rw c.in-Some.is at c.in_ok-accepted.ensures.step in
     (phc_of c.in_ok-hash.hash, c.in_ok-hash.ensures.ok, logs_in)
+
+pub returns-in-None-clause-ok : goal.returns-in-None-clause-ok
+returns-in-None-clause-ok g c =
+    let logs_in = rw c.in-None.is at c.in_ok-accepted.ensures.step in
+    (phc_of c.in_ok-hash.hash, c.in_ok-hash.ensures.ok, logs_in)
