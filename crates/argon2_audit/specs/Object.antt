@@ -1,11 +1,13 @@
 -- The report as a JSON object.
-use Rattle.std.specs.Prelude.{◌≡◌, ◌≤◌, ◌↔◌, Bool, IsTrue, ℕ, List, [], ◌∷◌, ◌++◌, codes, decimal, map, Option, Some, IfSome}
+use Rattle.std.specs.Prelude.{◌≡◌, ◌≤◌, ◌↔◌, ⊤, Bool, IsTrue, ℕ, List, [], ◌∷◌, ◌++◌, codes, decimal, map, Option, Some, IfSome}
 use Rattle.std.specs.Borrow.{Bor}
 use Rattle.std.specs.Io.KnownBytes.{Appends}
 use Rattle.json.specs.Json.{Json, Items, Members, array, document, member, no_members, number, object, string}
 use Rattle.json.specs.Token.{Token, begin_array, begin_object, key}
 use Rattle.json.specs.Tree.{HasNumbers, depth, items_tokens, json_tokens}
 use Rattle.json.specs.Written.{Written}
+use Rattle.argon2_programs.specs.declared.failure.Failure.{Failure}
+use Rattle.argon2_programs.specs.declared.failure.Failure.TheVariants.{Output}
 use Rattle.argon2_audit.specs.Audit.{IsClean, IsTallied, count_of}
 use Rattle.argon2_audit.specs.declared.finding.Class.TheVariants.{Outside, NoHash, Below, Sound, Other, Locked, Empty, Blank, Comment, Unknown}
 use Rattle.argon2_audit.specs.declared.findings.Value.{Value}
@@ -48,6 +50,11 @@ IsObject tally text = ∥ ((findings : Items) × (schemes : Members) × (table :
 abbrev pub IsReport : Options → Tally → Option (List ℕ) → Option (List ℕ) → Type 0
 IsReport options tally old new =
     options.form ≡ JsonForm → (text : List ℕ) × IsObject tally text × Appends old new (text ++ 10 ∷ [])
+
+-- standard output can't be written
+abbrev pub IsOfOutput : Failure → Type 0
+IsOfOutput (Output error) = ⊤
+IsOfOutput _ = ⊥
 
 -- the lines are counted if the input is known, are clean or not, and are reported
 abbrev pub IsAudit : Options → Option (List ℕ) → Option (List ℕ) → Option (List ℕ) → Bool → Type 0

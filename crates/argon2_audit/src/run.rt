@@ -1,9 +1,9 @@
 //! The program over any streams.
 
-ghost use Rattle.std.specs.Prelude.{◌≡◌, ◌==◌, ◌⊎◌, IfOk, IfSome, IsFalse};
+ghost use Rattle.std.specs.Prelude.{◌≡◌, ◌==◌, ◌⊎◌, IfErr, IfOk, IfSome, IsFalse};
 ghost use Rattle.std.specs.Io.KnownBytes.{Keeps};
 ghost use Rattle.argon2_audit.specs.Audit.{IsTallied};
-ghost use Rattle.argon2_audit.specs.Object.{IsAudit, IsReport};
+ghost use Rattle.argon2_audit.specs.Object.{IsAudit, IsOfOutput, IsReport};
 
 use crate::findings::Findings;
 use crate::limits::{Form, Options};
@@ -88,6 +88,8 @@ fn write_report<R: Read + Named, W: Write, E: Write>(
         (λ bytes. IsTallied options bytes tally)) }
     ensures object { IfOk result (λ tally. IsReport options tally
         (W.contents output.old) (W.contents output.new)) }
+    ensures unwritten { options.form ≡ Form.Json → IfErr result (λ failure. IsOfOutput failure
+        ⊎ Keeps (W.contents output.old) (W.contents output.new)) }
     ensures silent { options.form ≡ Form.Quiet → output.new ≡ output.old }
     ensures quiet { IsFalse shows_progress → Keeps (E.contents errors.old) (E.contents errors.new) }
 {
