@@ -1,4 +1,4 @@
-use Rattle.std.proofs.Common.{arith, ◌≡◌, List, [], ℕ, Err, inl, inr, sym}
+use Rattle.std.proofs.Common.{arith, List, [], ℕ, Err, inl, inr, sym}
 use Rattle.std.proofs.lemmas.Result.{err_from_is_err_and}
 use Rattle.std.specs.Borrow.{Bor}
 use Rattle.argon2.specs.StoredTexts.{IsVerifyTextAnswer}
