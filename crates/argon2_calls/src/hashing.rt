@@ -1,31 +1,24 @@
-//! Calls on BLAKE2b, blocks and hashing. Those on hashing take `CONTEXT PASSWORD SALT LENGTH`: the name of a context, two
-//! lists of bytes, and the length of the output, whose bytes are ff before the call. They answer the tag, or `Ok` if they
-//! write none, or the error and whether the output is the same.
+//! Calls on hashing. They take `CONTEXT PASSWORD SALT LENGTH`: the name of a context, two lists of bytes, and the length of the
+//! output, whose bytes are ff before the call. They answer the tag, or `Ok` if they write none, or the error and whether the
+//! output is the same.
 //!
-//! A block is 1024 bytes; a digest is that of BLAKE2b of 8 bytes. A call on lent memory answers also with the digest of the
-//! blocks that are filled; for steps and watched calls, that of the places of references as 32-bit numbers; and whether the
-//! other blocks are the same. After an error it says whether all blocks are.
+//! A call on lent memory answers also with the digest of the blocks that are filled; for steps and watched calls, that of the
+//! places of references as 32-bit numbers; and whether the other blocks are the same. After an error it says whether all
+//! blocks are.
 
-ghost use Rattle.std.specs.Prelude.{◌≡◌, ◌*◌, ◌≤◌, IfSome, length};
+ghost use Rattle.std.specs.Prelude.{◌≡◌, ◌*◌, IfSome};
 ghost use Rattle.argon2.specs.Argon2.{context_of};
 ghost use Rattle.argon2.specs.Rfc9106.{block_count, segment_length};
 ghost use Rattle.argon2.specs.Segments.{slice_length};
 
-use crate::plain;
-use argon2::blake2b::Blake2b;
-use argon2::blake2b_long::blake2b_long;
-use argon2::block::{Words, mix_words};
-use argon2::{
-    Argon2, Block, Error, Kdf, MAX_AD_LEN, MAX_PWD_LEN, MAX_SALT_LEN, Segment, Work, laws,
-};
+use crate::blocks::{alike_pairs, digest_of, digest_of_places};
+use argon2::block::Words;
+use argon2::{Argon2, Block, Error, Kdf, MAX_AD_LEN, MAX_PWD_LEN, MAX_SALT_LEN, Segment, laws};
 use argon2_lines::{Answer, Call};
 use std::convert::AsSlice;
-use std::slice;
 
 pub(crate) fn is_made(call: &Call<'_, '_>, answer: &mut Answer, memory: &mut Vec<Block>) -> bool {
     match call.name {
-        "Blake2b" => digest(call, answer),
-        "blake2b_long" => long_digest(call, answer),
         "derive_key" => derived(call, answer),
         "hash_password_into" | "hash_password_into_with_data" | "hash_password_into_with_words" => {
             hashed(call, answer);
@@ -42,99 +35,6 @@ pub(crate) fn is_made(call: &Call<'_, '_>, answer: &mut Answer, memory: &mut Vec
         }
         "hash_password_into_watched" => watched(call, answer, memory.as_mut_slice()),
         "step_block" => stepped(call, answer, memory.as_mut_slice()),
-        _ => return is_of_block(call, answer),
-    }
-    true
-}
-
-// ---- BLAKE2b
-
-// `LENGTH MESSAGE CUT`: the hash of a message in three pieces: so many bytes, none, and the others.
-fn long_digest(call: &Call<'_, '_>, answer: &mut Answer) {
-    let (message, cut) = (call.bytes(2), call.count(3) as usize);
-    let mut out = answer.ones(call.count(1));
-    let (first, second) = message.split_at(cut.min(message.len()));
-    let done = blake2b_long(&[first, b"", second], out.as_mut_slice());
-    answer.written(done, &out);
-}
-
-// `LENGTH MESSAGE PIECE`: the digest of a message whose pieces have so many bytes, but for the last.
-fn digest(call: &Call<'_, '_>, answer: &mut Answer) {
-    let (mut buffer, len) = ([0; 64], call.count(1) as usize);
-    if len == 0 || len > 64 {
-        return call.refuse();
-    }
-    let out = &mut buffer[..len];
-    write_digest(call.bytes(2), call.count(3) as usize, out);
-    answer.hex(out);
-}
-
-fn write_digest(message: &[u8], piece: usize, out: &mut [u8])
-    requires some { 1 ≤ length out.old }
-    requires few { length out.old ≤ 64 }
-{
-    let mut hasher = Blake2b::new(out.len());
-    let mut rest = message;
-    for _ in 0..message.len() {
-        let (first, others) = rest.split_at(piece.min(rest.len()));
-        hasher.update(first);
-        rest = others;
-    }
-    hasher.finalize_into(out);
-}
-
-// The digest of blocks.
-fn digest_of(blocks: &[Block]) -> [u8; 8] {
-    let mut out = [0; 8];
-    let mut hasher = Blake2b::new(8);
-    for block in blocks {
-        hasher.update(&block.to_bytes());
-    }
-    hasher.finalize_into(&mut out);
-    out
-}
-
-// The digest of numbers of four bytes.
-fn digest_of_places(places: &[u32]) -> [u8; 8] {
-    let mut out = [0; 8];
-    let mut hasher = Blake2b::new(8);
-    for place in places {
-        hasher.update(&place.to_le_bytes());
-    }
-    hasher.finalize_into(&mut out);
-    out
-}
-
-// ---- blocks
-
-fn is_of_block(call: &Call<'_, '_>, answer: &mut Answer) -> bool {
-    match call.name {
-        // `BLOCK BLOCK`: the digest of their mixing, and the count of mixings.
-        "Block::mix" => {
-            let mut work = Work::new();
-            let mixed = Block::mix(&block(call, 1), &block(call, 2), &mut work);
-            say(answer, &mixed);
-            answer.say("mixes");
-            answer.say(work.mixes());
-        }
-        // `BLOCK BLOCK`: the digests of their exclusive or, made in a new block and in the first.
-        "Block::bitxor" => {
-            let (mut x, y) = (block(call, 1), block(call, 2));
-            say(answer, &(x ^ &y));
-            x ^= &y;
-            say(answer, &x);
-        }
-        // `BLOCK`: the digest of the block then.
-        "Block::zeroize" => {
-            let mut x = block(call, 1);
-            x.zeroize();
-            say(answer, &x);
-        }
-        // `BLOCK PLACE`: the word at the place.
-        "Block::as_slice" => {
-            answer.say_or_none(block(call, 1).as_slice().get(call.count(2) as usize));
-        }
-        "Block::fmt" => answer.show(block(call, 1)),
         "laws" => {
             laws::mixing_symmetric();
             laws::mixing_with_itself();
@@ -149,43 +49,6 @@ fn is_of_block(call: &Call<'_, '_>, answer: &mut Answer) -> bool {
     }
     true
 }
-
-// The block of 1024 bytes.
-fn block(call: &Call<'_, '_>, place: usize) -> Block {
-    let mut block = Block::default();
-    match call.bytes(place).as_chunks::<1024>() {
-        ([bytes], []) => block.load(bytes),
-        _ => call.refuse(),
-    }
-    block
-}
-
-fn say(answer: &mut Answer, block: &Block) {
-    answer.hex(&digest_of(slice::from_ref(block)));
-}
-
-fn words(block: &Block) -> Words {
-    let mut words = [0; 128];
-    words.copy_from_slice(block.as_slice());
-    words
-}
-
-// How many pairs of blocks, each with each of the others, both calls that mix and the plain body mix alike.
-fn alike_pairs(blocks: &[Block], others: &[Block]) -> u32 {
-    let mut count: u32 = 0;
-    for x in blocks {
-        for y in others {
-            let (left, right) = (words(x), words(y));
-            let mixed = words(&Block::mix(x, y, &mut Work::new()));
-            let is_plain = mixed == plain::mix(&left, &right);
-            let is_alike = is_plain && mixed == mix_words(&left, &right, &mut Work::new());
-            count = count.wrapping_add(is_alike as u32);
-        }
-    }
-    count
-}
-
-// ---- hashing
 
 fn derived(call: &Call<'_, '_>, answer: &mut Answer) {
     let (argon2, password, salt) = (call.context(1), call.bytes(2), call.bytes(3));

@@ -8,6 +8,7 @@ use argon2_lines::{Answer, Call, Contexts, Line, line};
 use std::alloc::Global;
 use std::io::{self, BufWriter, Read, Write};
 
+mod blocks;
 mod hashing;
 mod plain;
 mod texts;
@@ -23,23 +24,12 @@ fn main(rt: HostRuntime) -> io::Result<()> {
 }
 
 fn write_all<'a, W: Write>(alloc: Global, output: &mut W, lines: &'a [Line<'a>]) -> io::Result<()> {
-    let mut contexts = Contexts::new(alloc);
+    let (mut contexts, mut answer) = (Contexts::new(alloc), Answer::new(alloc));
     contexts.add(lines)?;
     let (mut memory, mut login) = (Vec::new(alloc), None);
-    write_each(output, &mut memory, &mut login, &contexts, lines)
-}
-
-fn write_each<'a, W: Write>(
-    output: &mut W,
-    memory: &mut Vec<Block>,
-    login: &mut Option<Login<'a>>,
-    contexts: &Contexts<'a>,
-    lines: &'a [Line<'a>],
-) -> io::Result<()> {
-    let mut answer = Answer::new(*memory.allocator());
     for line in lines {
-        let call = Call::new(line, contexts);
-        if !is_made(&call, &mut answer, memory, login) {
+        let call = Call::new(line, &contexts);
+        if !is_made(&call, &mut answer, &mut memory, &mut login) {
             call.refuse();
         }
         answer.write(&call, output)?;
@@ -54,7 +44,8 @@ fn is_made<'a>(
     memory: &mut Vec<Block>,
     login: &mut Option<Login<'a>>,
 ) -> bool {
-    hashing::is_made(call, answer, memory)
+    blocks::is_made(call, answer)
+        || hashing::is_made(call, answer, memory)
         || texts::is_made(call, answer)
         || uses::is_made(call, answer, login)
 }

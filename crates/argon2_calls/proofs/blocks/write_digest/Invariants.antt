@@ -1,5 +1,5 @@
 use Rattle.std.proofs.Common.{◌≡◌, ◌+◌, length}
-use Rattle.argon2_calls.proofs.hashing.write_digest.Given as goal
+use Rattle.argon2_calls.proofs.blocks.write_digest.Given as goal
 
 abbrev pub invariant-loop : goal.invariant-loop
 invariant-loop l =
