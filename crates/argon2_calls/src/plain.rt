@@ -47,8 +47,8 @@ fn permute(z: &mut [u64; 128], first: usize, stride: usize) {
 /// G of two blocks.
 pub fn mix(x: &[u64; 128], y: &[u64; 128]) -> [u64; 128] {
     let mut r = *x;
-    for (word, other) in r.iter_mut().zip(y) {
-        *word ^= other;
+    for i in 0..128usize {
+        r[i] ^= y[i];
     }
     let mut z = r;
     for i in 0..8usize {
@@ -57,8 +57,8 @@ pub fn mix(x: &[u64; 128], y: &[u64; 128]) -> [u64; 128] {
     for j in 0..8usize {
         permute(&mut z, j.wrapping_mul(2), 16);
     }
-    for (word, other) in z.iter_mut().zip(&r) {
-        *word ^= other;
+    for i in 0..128usize {
+        z[i] ^= r[i];
     }
     z
 }
