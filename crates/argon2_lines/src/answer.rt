@@ -35,19 +35,19 @@ impl Answer {
         if text.is_empty() || text.starts_with('#') {
             writeln!(output, "{text}")?;
         } else {
-            writeln!(output, "{text} = {}", self.to(call))?;
+            writeln!(output, "{text} ={}", self.to(call))?;
         }
         self.text.clear();
         self.is_refused = false;
         Ok(())
     }
 
-    // The answer to a call.
+    // The answer to a call, each word behind a space.
     fn to(&self, call: &Call<'_, '_>) -> &str {
         if self.is_refused {
-            "no memory"
+            " no memory"
         } else if call.is_unread() {
-            "?"
+            " ?"
         } else {
             self.text.as_str()
         }
@@ -66,14 +66,12 @@ impl Answer {
 
     /// A value.
     pub fn say<T: Display + Drop>(&mut self, value: T) {
-        let space = if self.text.is_empty() { "" } else { " " };
-        self.is_refused |= write!(self.text, "{space}{value}").is_err();
+        self.is_refused |= write!(self.text, " {value}").is_err();
     }
 
     /// An error, or another value by its name.
     pub fn show<T: Debug + Drop>(&mut self, value: T) {
-        let space = if self.text.is_empty() { "" } else { " " };
-        self.is_refused |= write!(self.text, "{space}{value:?}").is_err();
+        self.is_refused |= write!(self.text, " {value:?}").is_err();
     }
 
     /// A value, or `none`.

@@ -41,11 +41,10 @@ impl<'a> Contexts<'a> {
     // The name and the context that a line defines, if it does.
     fn defined(&self, line: &'a Line<'a>) -> Option<(&'a str, Argon2<'a>)> {
         let call = Call::new(line, self);
-        if call.name != "context" {
-            return None;
+        match call.name {
+            "context" => Some((call.word(1), read(&call).ok()?)),
+            _ => None,
         }
-        let context = read(&call).ok()?;
-        Some((call.word(1), context))
     }
 
     /// The context of this name.
@@ -55,10 +54,9 @@ impl<'a> Contexts<'a> {
                 return Some(context);
             }
         }
-        if name == "default" {
-            Some(&self.default)
-        } else {
-            None
+        match name {
+            "default" => Some(&self.default),
+            _ => None,
         }
     }
 }
