@@ -294,7 +294,7 @@ fn filled_apart(call: &Call<'_, '_>, answer: &mut Answer) {
         for (slice, lanes) in (0..4u32).zip(lanes) {
             for lane in lanes.as_bytes() {
                 let lane = lane.wrapping_sub(b'0') as u32;
-                is_done &= fill(argon2, memory.as_mut_slice(), [pass, slice, lane]);
+                is_done &= fill(argon2, memory.as_mut_slice(), Segment { pass, slice, lane });
             }
         }
     }
@@ -329,33 +329,31 @@ fn begin(argon2: &Argon2<'_>, pwd: &[u8], salt: &[u8], len: usize, memory: &mut 
     fits
 }
 
-fn fill(argon2: &Argon2<'_>, memory: &mut [Words], at: [u32; 3]) -> bool {
-    let ([pass, slice, lane], Some((segment, width))) = (at, lengths(argon2)) else {
+fn fill(argon2: &Argon2<'_>, memory: &mut [Words], at: Segment) -> bool {
+    let Some((segment, width)) = lengths(argon2) else {
         return false;
     };
-    if slice > 3 || lane >= argon2.params().p_cost() {
+    if at.slice > 3 || at.lane >= argon2.params().p_cost() {
         return false;
     }
-    let start = (slice as usize).checked_mul(width);
-    let behind = ((3 - slice) as usize).checked_mul(width);
-    let (Some(start), Some(behind)) = (start, behind) else {
-        return false;
-    };
-    let (before, rest) = split(memory, start);
-    let (lanes, after) = split(rest, width);
-    let (own, _) = split(split(lanes, segment.wrapping_mul(lane as usize)).1, segment);
-    let fits = before.len() == start && own.len() == segment && after.len() == behind;
+    let start = (at.slice as usize).checked_mul(width);
+    let behind = ((3 - at.slice) as usize).checked_mul(width);
+    let (before, lanes, after) = apart(memory, start.unwrap_or(0), width);
+    let own = apart(lanes, segment.wrapping_mul(at.lane as usize), segment).1;
+    let fits = start == Some(before.len()) && own.len() == segment && behind == Some(after.len());
     if fits {
-        let at = Segment { pass, slice, lane };
         argon2.fill_segment(argon2.params().data(), before, own, after, at);
     }
     fits
 }
 
-// The first blocks, at most so many, and the others.
-fn split(memory: &mut [Words], count: usize) -> (&mut [Words], &mut [Words]) {
-    let count = count.min(memory.len());
-    memory.split_at_mut(count)
+// The blocks before a place, so many behind it, and the others, as far as there are so many.
+fn apart(memory: &mut [Words], place: usize, count: usize) -> (&[Words], &mut [Words], &[Words]) {
+    let place = place.min(memory.len());
+    let (before, rest) = memory.split_at_mut(place);
+    let count = count.min(rest.len());
+    let (own, after) = rest.split_at_mut(count);
+    (before, own, after)
 }
 
 fn finish_apart(argon2: &Argon2<'_>, memory: &[Words], out: &mut [u8]) -> bool {

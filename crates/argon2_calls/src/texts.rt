@@ -336,20 +336,20 @@ fn is_of_bounds(call: &Call<'_, '_>, answer: &mut Answer) -> bool {
             let (argon2, password, text) = (call.context(4), call.bytes(5), call.word(6));
             answer.done(call.bound(1).verify(answer.alloc, argon2, password, text));
         }
-        "Target::new" => answer.done(Target::new(own_context(call, 1)).and(Ok(()))),
-        "Target::hash_password" | "Target::verify" | "Target::log_in" => {
-            if let Some(target) = answer.ok(Target::new(own_context(call, 1))) {
-                on_target(call, answer, &target);
-            }
-        }
-        "Policy::new" => {
-            let made = Policy::new(answer.alloc, own_context(call, 1), call.bound(2));
-            answer.done(made.and(Ok(())));
-        }
+        name if name.starts_with("Target::") => of_target(call, answer),
         name if name.starts_with("Policy::") => of_policy(call, answer),
         _ => return false,
     }
     true
+}
+
+fn of_target(call: &Call<'_, '_>, answer: &mut Answer) {
+    let made = Target::new(own_context(call, 1));
+    if call.name == "Target::new" {
+        answer.done(made.and(Ok(())));
+    } else if let Some(target) = answer.ok(made) {
+        on_target(call, answer, &target);
+    }
 }
 
 // `.. GENERATOR PASSWORD`, and a text unless one is made.
@@ -373,6 +373,9 @@ fn on_target(call: &Call<'_, '_>, answer: &mut Answer, target: &Target<'_>) {
 
 fn of_policy(call: &Call<'_, '_>, answer: &mut Answer) {
     let made = Policy::new(answer.alloc, own_context(call, 1), call.bound(2));
+    if call.name == "Policy::new" {
+        return answer.done(made.and(Ok(())));
+    }
     let Some(policy) = answer.ok(made) else {
         return;
     };
