@@ -10,20 +10,29 @@ use std::test::Fail;
 // The constants, as the source crate and RFC 9106, section 3.1, have them.
 #[test]
 fn bounds_each_cost_and_length(rt: HostRuntime) {
-    assert!(rt; (Params::MIN_M_COST, Params::MAX_M_COST) == (8, 4294967295));
-    assert!(rt; (Params::MIN_T_COST, Params::MAX_T_COST) == (1, 4294967295));
-    assert!(rt; (Params::MIN_P_COST, Params::MAX_P_COST) == (1, 16777215));
-    assert!(rt; (Params::MIN_OUTPUT_LEN, Params::MAX_OUTPUT_LEN) == (4, 4294967295));
-    assert!(rt; (Params::MAX_KEYID_LEN, KeyId::MAX_LEN) == (8, 8));
-    assert!(rt; (Params::MAX_DATA_LEN, AssociatedData::MAX_LEN) == (32, 32));
-    assert!(rt; (MAX_PWD_LEN, MAX_SECRET_LEN) == (4294967295, 4294967295));
-    assert!(rt; (MIN_SALT_LEN, MAX_SALT_LEN) == (8, 4294967295));
-    assert!(rt; (Salt::MIN_LENGTH, Salt::MAX_LENGTH) == (8, 48));
-    assert!(rt; (Output::MIN_LENGTH, Output::MAX_LENGTH) == (4, 64));
-    assert!(rt; (Params::DEFAULT_M_COST, Params::DEFAULT_T_COST) == (19456, 2));
-    assert!(rt; (Params::DEFAULT_P_COST, Params::DEFAULT_OUTPUT_LEN) == (1, 32));
-    assert!(rt; (RECOMMENDED_SALT_LEN, Salt::RECOMMENDED_LENGTH) == (16, 16));
-    assert!(rt; Block::SIZE == 1024);
+    let costs = [
+        [Params::MIN_M_COST, Params::MAX_M_COST],
+        [Params::MIN_T_COST, Params::MAX_T_COST],
+        [Params::MIN_P_COST, Params::MAX_P_COST],
+        [Params::DEFAULT_M_COST, Params::DEFAULT_T_COST],
+    ];
+    assert!(rt; costs == [[8, 4294967295], [1, 4294967295], [1, 16777215], [19456, 2]]);
+    assert!(rt; Params::DEFAULT_P_COST == 1);
+    let lengths = [
+        [Params::MIN_OUTPUT_LEN, Params::MAX_OUTPUT_LEN],
+        [MIN_SALT_LEN, MAX_SALT_LEN],
+        [MAX_PWD_LEN, MAX_SECRET_LEN],
+    ];
+    assert!(rt; lengths == [[4, 4294967295], [8, 4294967295], [4294967295, 4294967295]]);
+    let of_texts = [
+        [Salt::MIN_LENGTH, Salt::MAX_LENGTH],
+        [Output::MIN_LENGTH, Output::MAX_LENGTH],
+        [Params::MAX_KEYID_LEN, KeyId::MAX_LEN],
+        [Params::MAX_DATA_LEN, AssociatedData::MAX_LEN],
+        [RECOMMENDED_SALT_LEN, Salt::RECOMMENDED_LENGTH],
+        [Params::DEFAULT_OUTPUT_LEN, Block::SIZE],
+    ];
+    assert!(rt; of_texts == [[8, 48], [4, 64], [8, 8], [32, 32], [16, 16], [32, 1024]]);
 }
 
 // Whether a context gives the tag of four bytes of Argon2id, 0x13, in one pass over 8 blocks, for `abc` and `somesalt`.
