@@ -5,7 +5,7 @@ use Rattle.std.proofs.lemmas.List.{get_or-map, get_or_append_left}
 use Rattle.std.specs.Simd.Lanes.{pick_l}
 use Rattle.argon2_base.specs.Block.{gb, mix_diagonals, perm}
 use Rattle.argon2_base.specs.Lanes.{column_lanes, exchanged_left, exchanged_right, fours, group, lane_word, pairs, vector_words}
-use Rattle.argon2_base.proofs.block_lemmas.LaneLemmas.{columns_mixed, diagonals_mixed, row_at, Shuffled, two_vectors, word_at}
+use Rattle.argon2_base.proofs.block_lemmas.LaneLemmas.{columns_mixed, diagonals_mixed, Exchanges, row_at, two_vectors, word_at}
 
 -- what is true of 0 to 3 is true of each number below 4
 pub below_four : (P : ℕ → Type 0) → P 0 → P 1 → P 2 → P 3 → (k : ℕ) → k < 4 → P k
@@ -55,14 +55,13 @@ group_permuted lane x a b c d at ct dt e f g h ea gc hd first to_a to_c to_d sec
     ∙ ap mix_diagonals (columns_mixed _ _ _ _ _ _ _ _ _ _ _ _ _ _ _ _ _ _ _ _
     (first 0 (lit< tt)) (first 1 (lit< tt)) (first 2 (lit< tt)) (first 3 (lit< tt)))
 
-pub exchanged_fours_of_sixteen : (a : List ℕ) → length a ≡ 16 → (b : List ℕ) → length b ≡ 16
-    → Shuffled (0 ∷ 1 ∷ 2 ∷ 3 ∷ 16 ∷ 17 ∷ 18 ∷ 19 ∷ 8 ∷ 9 ∷ 10 ∷ 11 ∷ 24 ∷ 25 ∷ 26 ∷ 27 ∷ [])
-    (4 ∷ 5 ∷ 6 ∷ 7 ∷ 20 ∷ 21 ∷ 22 ∷ 23 ∷ 12 ∷ 13 ∷ 14 ∷ 15 ∷ 28 ∷ 29 ∷ 30 ∷ 31 ∷ []) (exchanged_left 16 4) (exchanged_right 16 4) a b
+pub exchanged_fours_of_sixteen : Exchanges 16 4
+    (0 ∷ 1 ∷ 2 ∷ 3 ∷ 16 ∷ 17 ∷ 18 ∷ 19 ∷ 8 ∷ 9 ∷ 10 ∷ 11 ∷ 24 ∷ 25 ∷ 26 ∷ 27 ∷ [])
+    (4 ∷ 5 ∷ 6 ∷ 7 ∷ 20 ∷ 21 ∷ 22 ∷ 23 ∷ 12 ∷ 13 ∷ 14 ∷ 15 ∷ 28 ∷ 29 ∷ 30 ∷ 31 ∷ [])
 exchanged_fours_of_sixteen = two_vectors 16 _ (λ a b. (refl, refl))
 
-pub exchanged_halves : (a : List ℕ) → length a ≡ 16 → (b : List ℕ) → length b ≡ 16
-    → Shuffled (0 ∷ 1 ∷ 2 ∷ 3 ∷ 4 ∷ 5 ∷ 6 ∷ 7 ∷ 16 ∷ 17 ∷ 18 ∷ 19 ∷ 20 ∷ 21 ∷ 22 ∷ 23 ∷ [])
-    (8 ∷ 9 ∷ 10 ∷ 11 ∷ 12 ∷ 13 ∷ 14 ∷ 15 ∷ 24 ∷ 25 ∷ 26 ∷ 27 ∷ 28 ∷ 29 ∷ 30 ∷ 31 ∷ []) (exchanged_left 16 8) (exchanged_right 16 8) a b
+pub exchanged_halves : Exchanges 16 8 (0 ∷ 1 ∷ 2 ∷ 3 ∷ 4 ∷ 5 ∷ 6 ∷ 7 ∷ 16 ∷ 17 ∷ 18 ∷ 19 ∷ 20 ∷ 21 ∷ 22 ∷ 23 ∷ [])
+    (8 ∷ 9 ∷ 10 ∷ 11 ∷ 12 ∷ 13 ∷ 14 ∷ 15 ∷ 24 ∷ 25 ∷ 26 ∷ 27 ∷ 28 ∷ 29 ∷ 30 ∷ 31 ∷ [])
 exchanged_halves = two_vectors 16 _ (λ a b. (refl, refl))
 
 -- four vectors of which groups of four lanes, and then halves, changed places

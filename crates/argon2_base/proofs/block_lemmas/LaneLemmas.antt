@@ -47,30 +47,19 @@ two_vectors n P p =
     any_vector n (λ x. (y : List ℕ) → length y ≡ n → P x y) (λ x.
     any_vector n (P (map (slice_index x) (range_with_len 0 n))) (p x))
 
--- a sum and twice a product, each kept below 2 ^ 64
-wrapped_sum : (s x : ℕ) → (s % 2 ^ 64 + (x % 2 ^ 64 + x % 2 ^ 64) % 2 ^ 64) % 2 ^ 64 ≡ (s + 2 * x) % 2 ^ 64
-wrapped_sum s x = omega arith
-
--- the steps of one word
-abbrev add_mul_steps : ℕ → ℕ → ℕ
-add_mul_steps a b =
-    let p = bit_and a 0xffffffff * bit_and b 0xffffffff % 2 ^ 64 in
-    ((a + b) % 2 ^ 64 + (p + p) % 2 ^ 64) % 2 ^ 64
-
--- these steps give u + v + 2 * low32(u) * low32(v)
-add_mul_word : (a b : ℕ) → add_mul_steps a b ≡ add_mul a b
+-- the steps of one word give u + v + 2 * low32(u) * low32(v)
+add_mul_word : (a b : ℕ) → (let p = bit_and a 0xffffffff * bit_and b 0xffffffff % 2 ^ 64 in
+    ((a + b) % 2 ^ 64 + (p + p) % 2 ^ 64) % 2 ^ 64) ≡ add_mul a b
 unfolding add_mul
-add_mul_word a b =
-    let product : 2 * (a % 2 ^ 32) * (b % 2 ^ 32) ≡ 2 * (a % 2 ^ 32 * (b % 2 ^ 32)) = omega arith in
-    rw (and_mask a 32, and_mask b 32, product) (wrapped_sum (a + b) (a % 2 ^ 32 * (b % 2 ^ 32)))
+add_mul_word a b = rw (and_mask a 32, and_mask b 32) (omega arith)
 
 -- an element of two vectors of n lanes that are put together
-zipped : (f : ℕ → ℕ → ℕ) (n : ℕ) (a b : List ℕ) → length a ≡ n → length b ≡ n → (j : ℕ) → j < n
+zipped : (n : ℕ) (f : ℕ → ℕ → ℕ) (a b : List ℕ) → length a ≡ n → length b ≡ n → (j : ℕ) → j < n
     → slice_index (zip2 f a b) j ≡ f (slice_index a j) (slice_index b j)
-zipped f n a b long_a long_b j h = get_or-zip2 f a b j 0 0 0 (omega arith) (omega arith)
+zipped n f a b long_a long_b j h = get_or-zip2 f a b j 0 0 0 (omega arith) (omega arith)
 
-length-zipped : (f : ℕ → ℕ → ℕ) (n : ℕ) (a b : List ℕ) → length a ≡ n → length b ≡ n → length (zip2 f a b) ≡ n
-length-zipped f n a b long_a long_b = length-zip2 f a b (long_a ∙ sym long_b) ∙ long_a
+length-zipped : (n : ℕ) (f : ℕ → ℕ → ℕ) (a b : List ℕ) → length a ≡ n → length b ≡ n → length (zip2 f a b) ≡ n
+length-zipped n f a b long_a long_b = length-zip2 f a b (long_a ∙ sym long_b) ∙ long_a
 
 -- n words at once
 abbrev wrapped_add : List ℕ → List ℕ → List ℕ
@@ -84,23 +73,9 @@ pub add_mul_lanes : (n : ℕ) (a b : List ℕ) → length a ≡ n → length b �
     → slice_index (wrapped_add (wrapped_add a b) (wrapped_add (masked_product n a b) (masked_product n a b))) j
     ≡ add_mul (slice_index a j) (slice_index b j)
 add_mul_lanes n a b long_a long_b j h =
-    let low = replicate n 0xffffffff in
-    let long_low = length-replicate n 0xffffffff in
-    let mask_a = zip2 bit_and a low in
-    let mask_b = zip2 bit_and b low in
-    let long_mask_a = length-zipped bit_and n a low long_a long_low in
-    let long_mask_b = length-zipped bit_and n b low long_b long_low in
-    let p = masked_product n a b in
-    let long_p = length-zipped (λ x y. x * y % 2 ^ 64) n mask_a mask_b long_mask_a long_mask_b in
-    let add = λ (x y : ℕ). (x + y) % 2 ^ 64 in
-    let masked : (c : List ℕ) → length c ≡ n → slice_index (zip2 bit_and c low) j ≡ bit_and (slice_index c j) 0xffffffff =
-    λ c long_c. zipped bit_and n c low long_c long_low j h ∙ ap (bit_and (slice_index c j)) (get_or-replicate n j 0xffffffff 0 h) in
-    let product : slice_index p j ≡ bit_and (slice_index a j) 0xffffffff * bit_and (slice_index b j) 0xffffffff % 2 ^ 64 =
-    zipped (λ x y. x * y % 2 ^ 64) n mask_a mask_b long_mask_a long_mask_b j h
-    ∙ ap₂ (λ x y. x * y % 2 ^ 64) (masked a long_a) (masked b long_b) in
-    zipped add n (wrapped_add a b) (wrapped_add p p) (length-zipped add n a b long_a long_b) (length-zipped add n p p long_p long_p) j h
-    ∙ ap₂ add (zipped add n a b long_a long_b j h) (zipped add n p p long_p long_p j h ∙ ap₂ add product product)
-    ∙ add_mul_word (slice_index a j) (slice_index b j)
+    let long : length (masked_product n a b) ≡ n = simp (length-zipped n, length-replicate) in
+    simp (zipped n, length-zipped n, get_or-replicate, length-replicate, long)
+    (add_mul_word (slice_index a j) (slice_index b j))
 
 -- two shifts of each lane and an or are a rotation
 pub shifts_rotate : (n k : ℕ) → 0 < k → k < 64 → (a b : List ℕ) → length a ≡ n → length b ≡ n → (j : ℕ) → j < n
@@ -110,18 +85,9 @@ pub shifts_rotate : (n k : ℕ) → 0 < k → k < 64 → (a b : List ℕ) → le
     ≡ xor_rotate (slice_index a j) (slice_index b j) k
 unfolding xor_rotate
 shifts_rotate n k low high a b long_a long_b j h =
-    let x = zip2 bit_xor a b in
-    let long_x = length-zipped bit_xor n a b long_a long_b in
-    let is_x = zipped bit_xor n a b long_a long_b j h in
-    let shifted : (f : ℕ → ℕ → ℕ) (m : ℕ) → slice_index (zip2 f x (replicate n m)) j ≡ f (bit_xor (slice_index a j) (slice_index b j)) m =
-    λ f m. zipped f n x (replicate n m) long_x (length-replicate n m) j h ∙ ap₂ f is_x (get_or-replicate n j m 0 h) in
-    let long : (f : ℕ → ℕ → ℕ) (m : ℕ) → length (zip2 f x (replicate n m)) ≡ n =
-    λ f m. length-zipped f n x (replicate n m) long_x (length-replicate n m) in
     let left : (64 - k) % 64 ≡ 64 - k = omega arith in
     let right : k % 64 ≡ k = omega arith in
-    zipped bit_or n _ _ (long _ k) (long _ (64 - k)) j h
-    ∙ ap₂ bit_or (shifted (λ x m. x / 2 ^ m) k) (shifted (λ x m. x * 2 ^ m % 2 ^ 64) (64 - k))
-    ∙ rw (right, left) refl
+    simp (zipped n, length-zipped n, get_or-replicate, length-replicate, left, right)
 
 -- the words that four mixings make, each of a column
 pub columns_mixed : (m0 m1 m2 m3 : ℕ × ℕ × ℕ × ℕ) (a0 a1 a2 a3 b0 b1 b2 b3 c0 c1 c2 c3 d0 d1 d2 d3 : ℕ)
@@ -139,20 +105,18 @@ pub diagonals_mixed : (m0 m1 m2 m3 : ℕ × ℕ × ℕ × ℕ) (a0 a1 a2 a3 b0 b
 unfolding mix_diagonals
 diagonals_mixed m0 m1 m2 m3 a0 a1 a2 a3 b0 b1 b2 b3 c0 c1 c2 c3 d0 d1 d2 d3 e0 e1 e2 e3 = rw (e0, e1, e2, e3) refl
 
--- what two shuffles of two vectors are
-abbrev pub Shuffled : List ℕ → List ℕ → (List ℕ → List ℕ → List ℕ) → (List ℕ → List ℕ → List ℕ) → List ℕ → List ℕ → Type 0
-Shuffled lefts rights left right a b = (pick_l 0 (a ++ b) lefts ≡ left a b) × (pick_l 0 (a ++ b) rights ≡ right a b)
+-- two shuffles of two vectors exchange lanes
+abbrev pub Exchanges : ℕ → ℕ → List ℕ → List ℕ → Type 0
+Exchanges lanes n lefts rights = (a : List ℕ) → length a ≡ lanes → (b : List ℕ) → length b ≡ lanes
+    → (pick_l 0 (a ++ b) lefts ≡ exchanged_left lanes n a b) × (pick_l 0 (a ++ b) rights ≡ exchanged_right lanes n a b)
 
-pub exchanged_ones : (a : List ℕ) → length a ≡ 8 → (b : List ℕ) → length b ≡ 8
-    → Shuffled (0 ∷ 8 ∷ 2 ∷ 10 ∷ 4 ∷ 12 ∷ 6 ∷ 14 ∷ []) (1 ∷ 9 ∷ 3 ∷ 11 ∷ 5 ∷ 13 ∷ 7 ∷ 15 ∷ []) (exchanged_left 8 1) (exchanged_right 8 1) a b
+pub exchanged_ones : Exchanges 8 1 (0 ∷ 8 ∷ 2 ∷ 10 ∷ 4 ∷ 12 ∷ 6 ∷ 14 ∷ []) (1 ∷ 9 ∷ 3 ∷ 11 ∷ 5 ∷ 13 ∷ 7 ∷ 15 ∷ [])
 exchanged_ones = two_vectors 8 _ (λ a b. (refl, refl))
 
-pub exchanged_twos : (a : List ℕ) → length a ≡ 8 → (b : List ℕ) → length b ≡ 8
-    → Shuffled (0 ∷ 1 ∷ 8 ∷ 9 ∷ 4 ∷ 5 ∷ 12 ∷ 13 ∷ []) (2 ∷ 3 ∷ 10 ∷ 11 ∷ 6 ∷ 7 ∷ 14 ∷ 15 ∷ []) (exchanged_left 8 2) (exchanged_right 8 2) a b
+pub exchanged_twos : Exchanges 8 2 (0 ∷ 1 ∷ 8 ∷ 9 ∷ 4 ∷ 5 ∷ 12 ∷ 13 ∷ []) (2 ∷ 3 ∷ 10 ∷ 11 ∷ 6 ∷ 7 ∷ 14 ∷ 15 ∷ [])
 exchanged_twos = two_vectors 8 _ (λ a b. (refl, refl))
 
-pub exchanged_fours : (a : List ℕ) → length a ≡ 8 → (b : List ℕ) → length b ≡ 8
-    → Shuffled (0 ∷ 1 ∷ 2 ∷ 3 ∷ 8 ∷ 9 ∷ 10 ∷ 11 ∷ []) (4 ∷ 5 ∷ 6 ∷ 7 ∷ 12 ∷ 13 ∷ 14 ∷ 15 ∷ []) (exchanged_left 8 4) (exchanged_right 8 4) a b
+pub exchanged_fours : Exchanges 8 4 (0 ∷ 1 ∷ 2 ∷ 3 ∷ 8 ∷ 9 ∷ 10 ∷ 11 ∷ []) (4 ∷ 5 ∷ 6 ∷ 7 ∷ 12 ∷ 13 ∷ 14 ∷ 15 ∷ [])
 exchanged_fours = two_vectors 8 _ (λ a b. (refl, refl))
 
 -- lane i of each of eight vectors
@@ -167,38 +131,23 @@ turned_lanes x v i same k h =
     rw same (below_eight (λ k. slice_index (lanes x i) k ≡ lane_word x k i) refl refl refl refl refl refl refl refl k h)
 
 -- the lanes of two vectors in turn
-abbrev Interleaved : List ℕ → List ℕ → Type 0
-Interleaved a b =
-    ((j : ℕ) → j < 8
-    → slice_index (pick_l 0 (a ++ b) (0 ∷ 8 ∷ 1 ∷ 9 ∷ 2 ∷ 10 ∷ 3 ∷ 11 ∷ [])) j
+pub interleaved_words : (a : List ℕ) → length a ≡ 8 → (b : List ℕ) → length b ≡ 8
+    → ((j : ℕ) → j < 8 → slice_index (pick_l 0 (a ++ b) (0 ∷ 8 ∷ 1 ∷ 9 ∷ 2 ∷ 10 ∷ 3 ∷ 11 ∷ [])) j
     ≡ slice_index (if j % 2 == 0 then a else b) (j / 2))
-    × ((j : ℕ) → j < 8
-    → slice_index (pick_l 0 (a ++ b) (4 ∷ 12 ∷ 5 ∷ 13 ∷ 6 ∷ 14 ∷ 7 ∷ 15 ∷ [])) j
+    × ((j : ℕ) → j < 8 → slice_index (pick_l 0 (a ++ b) (4 ∷ 12 ∷ 5 ∷ 13 ∷ 6 ∷ 14 ∷ 7 ∷ 15 ∷ [])) j
     ≡ slice_index (if j % 2 == 0 then a else b) (4 + j / 2))
-
-pub interleaved_words : (a : List ℕ) → length a ≡ 8 → (b : List ℕ) → length b ≡ 8 → Interleaved a b
-interleaved_words =
-    two_vectors 8 Interleaved (λ a b.
+interleaved_words = two_vectors 8 _ (λ a b.
     (below_eight _ refl refl refl refl refl refl refl refl, below_eight _ refl refl refl refl refl refl refl refl))
 
 -- a word of sixteen
 pub word_at : (f : ℕ → ℕ) (k : ℕ) → k < 16 → slice_index (map f (range_with_len 0 16)) k ≡ f k
 word_at f k h = get_or-map-range_with_len f 0 16 k k 0 h (omega arith)
 
--- word k of a lane
-pub slice_index-lane : (x : List (List ℕ)) (j k : ℕ) → k < 16 → slice_index (lane j x) k ≡ lane_word x k j
-slice_index-lane x j = word_at (λ k. lane_word x k j)
-
 -- sixteen words, given by number
 pub words_are : (f g : ℕ → ℕ) → ((k : ℕ) → k < 16 → f k ≡ g k) → map f (range_with_len 0 16) ≡ map g (range_with_len 0 16)
 words_are f g h =
     ext_get_or 0 (map f (range_with_len 0 16)) (map g (range_with_len 0 16)) refl (λ k below.
     word_at f k below ∙ h k below ∙ sym (word_at g k below))
-
--- the words of a lane, given by number
-pub lane_is : (x : List (List ℕ)) (j : ℕ) (f : ℕ → ℕ) → ((k : ℕ) → k < 16 → lane_word x k j ≡ f k)
-    → lane j x ≡ map f (range_with_len 0 16)
-lane_is x j f = words_are (λ k. lane_word x k j) f
 
 -- the vector of a number
 abbrev pub row_at : List (List ℕ) → ℕ → List ℕ
@@ -272,7 +221,7 @@ pub rows_from : (y z : List (List ℕ)) (words : List ℕ) (i : ℕ)
     → lane i (one_after_the_other y z) ≡ row i words
 unfolding row
 rows_from y z words i left right =
-    lane_is (one_after_the_other y z) i (λ k. slice_index words (16 * i + k)) (below_sixteen _ (left 0 (lit< tt))
-    (left 1 (lit< tt)) (left 2 (lit< tt)) (left 3 (lit< tt)) (left 4 (lit< tt)) (left 5 (lit< tt)) (left 6 (lit< tt))
-    (left 7 (lit< tt)) (right 0 (lit< tt)) (right 1 (lit< tt)) (right 2 (lit< tt)) (right 3 (lit< tt)) (right 4 (lit< tt))
-    (right 5 (lit< tt)) (right 6 (lit< tt)) (right 7 (lit< tt)))
+    words_are (λ k. lane_word (one_after_the_other y z) k i) (λ k. slice_index words (16 * i + k)) (below_sixteen _
+    (left 0 (lit< tt)) (left 1 (lit< tt)) (left 2 (lit< tt)) (left 3 (lit< tt)) (left 4 (lit< tt)) (left 5 (lit< tt))
+    (left 6 (lit< tt)) (left 7 (lit< tt)) (right 0 (lit< tt)) (right 1 (lit< tt)) (right 2 (lit< tt))
+    (right 3 (lit< tt)) (right 4 (lit< tt)) (right 5 (lit< tt)) (right 6 (lit< tt)) (right 7 (lit< tt)))

@@ -1,12 +1,13 @@
 -- From the vectors of the kernel to the mixing that the standard defines.
-use Rattle.std.proofs.Common.{◌≡◌, ℕ, Bool, true, false, ◌<◌, ◌≤◌, ◌+◌, ◌-◌, ◌*◌, ◌/◌, ◌%◌, List, [], inl, inr, length, slice_index, slice_index_or, ◌==◌, if◌then◌else◌, bit_xor, arith, refl, sym, ap, ap₂, ◌∙◌, zero-add}
+use Rattle.std.proofs.Common.{◌≡◌, ℕ, Bool, true, false, ◌<◌, ◌≤◌, ◌+◌, ◌-◌, ◌*◌, ◌/◌, ◌%◌, List, [], inl, inr, length, map, slice_index, slice_index_or, ◌==◌, if◌then◌else◌, bit_xor, arith, refl, sym, ap, ap₂, ◌∙◌, zero-add}
 use Rattle.std.proofs.lemmas.Bool.{cases_lt}
 use Rattle.std.proofs.lemmas.List.{ext_get_or}
 use Rattle.std.proofs.lemmas.List.FromFn.{get_or-map-range_with_len, length-map-range_with_len}
 use Rattle.std.proofs.lemmas.Simd.{get_or-zip2, length-zip2}
+use Rattle.std.specs.List.{range_with_len}
 use Rattle.argon2_base.specs.Block.{by_columns, by_rows, column, perm, row, xor_blocks}
 use Rattle.argon2_base.specs.Lanes.{column_lanes, half_word, lane, lane_word, pairs, vector_words, written}
-use Rattle.argon2_base.proofs.block_lemmas.LaneLemmas.{below_two, lane_is, slice_index-lane, word_at, words_are}
+use Rattle.argon2_base.proofs.block_lemmas.LaneLemmas.{below_two, word_at, words_are}
 
 -- lane q of the vector of an even or an odd number, of two neighbours
 abbrev one_of : List (List ℕ) → ℕ → ℕ → ℕ → ℕ
@@ -47,12 +48,15 @@ row_stored x r out i left right w low high =
           (omega arith) (omega arith) (omega arith) (omega arith)
     ]
 
--- a word of the rows that P mixed
-by_rows_word : (r : List ℕ) (i k : ℕ) → i < 8 → k < 16 → slice_index (by_rows r) (16 * i + k) ≡ slice_index (perm (row i r)) k
+-- words that P made of each row stand in the rows that P mixed
+in_rows : (r : List ℕ) (word : ℕ → ℕ → ℕ) → ((i : ℕ) → i < 8 → map (word i) (range_with_len 0 16) ≡ perm (row i r))
+    → (i k : ℕ) → i < 8 → k < 16 → word i k ≡ slice_index (by_rows r) (16 * i + k)
 unfolding by_rows
-by_rows_word r i k hi hk =
-    get_or-map-range_with_len (λ w. slice_index (perm (row (w / 16) r)) (w % 16)) 0 128 (16 * i + k) _ 0 (omega arith) refl
+in_rows r word are i k hi hk =
+    sym (word_at (word i) k hk) ∙ ap (λ l. slice_index l k) (are i hi)
     ∙ ap₂ (λ a b. slice_index (perm (row a r)) b) (omega arith) (omega arith)
+    ∙ sym (get_or-map-range_with_len (λ w. slice_index (perm (row (w / 16) r)) (w % 16)) 0 128
+    (16 * i + k) _ 0 (omega arith) refl)
 
 -- a word of the columns that P mixed
 by_columns_word : (q : List ℕ) (w : ℕ) → w < 128
@@ -80,17 +84,22 @@ word_of_mixed r long_r w h =
     ap (λ a. bit_xor a (slice_index r w)) (sym (by_columns_word q w h))
     ∙ sym (get_or-zip2 bit_xor (by_columns q) r w 0 0 0 (omega arith) (omega arith))
 
+-- a block whose words are each the exclusive or of two words is that of two blocks
+pub xored_words : (x y out : List ℕ) → length x ≡ 128 → length y ≡ 128 → length out ≡ 128
+    → ((w : ℕ) → w < 128 → slice_index out w ≡ bit_xor (slice_index x w) (slice_index y w)) → out ≡ xor_blocks x y
+unfolding xor_blocks
+xored_words x y out long_x long_y long_out xored =
+    let long = length-zip2 bit_xor x y (omega arith) in
+    ext_get_or 0 out (xor_blocks x y) (omega arith) (λ w h.
+    xored w (omega arith) ∙ sym (get_or-zip2 bit_xor x y w 0 0 0 (omega arith) (omega arith)))
+
 -- the words of the columns of the rows, each xored with the word of r, are G
 stored_mixed : (r out : List ℕ) → length r ≡ 128 → length out ≡ 128
     → ((w : ℕ) → w < 128 → slice_index out w ≡ bit_xor (mixed_word r w) (slice_index r w))
     → out ≡ xor_blocks (by_columns (by_rows r)) r
-unfolding xor_blocks
 stored_mixed r out long_r long_out stored =
-    let q = by_rows r in
-    let long = length-by_columns q in
-    let long_xor = length-zip2 bit_xor (by_columns q) r (omega arith) in
-    ext_get_or 0 out (xor_blocks (by_columns q) r) (omega arith) (λ w h.
-    stored w (omega arith) ∙ word_of_mixed r long_r w (omega arith))
+    xored_words (by_columns (by_rows r)) r out (length-by_columns (by_rows r)) long_r long_out (λ w h.
+    stored w h ∙ ap (λ a. bit_xor a (slice_index r w)) (sym (by_columns_word (by_rows r) w h)))
 
 -- and if they are written over a block, so is G, or its exclusive or with the block
 pub mixed_written : (xors : Bool) (r old out : List ℕ) → length r ≡ 128 → length old ≡ 128 → length out ≡ 128
@@ -101,13 +110,10 @@ unfolding xor_blocks
 mixed_written false r old out long_r long_old long_out stored = stored_mixed r out long_r long_out stored
 mixed_written true r old out long_r long_old long_out stored =
     let q = by_rows r in
-    let m = xor_blocks (by_columns q) r in
     let long = length-by_columns q in
     let long_m = length-zip2 bit_xor (by_columns q) r (omega arith) in
-    let long_xor = length-zip2 bit_xor old m (omega arith) in
-    ext_get_or 0 out (xor_blocks old m) (omega arith) (λ w h.
-    stored w (omega arith) ∙ ap (bit_xor (slice_index old w)) (word_of_mixed r long_r w (omega arith))
-    ∙ sym (get_or-zip2 bit_xor old m w 0 0 0 (omega arith) (omega arith)))
+    xored_words old (xor_blocks (by_columns q) r) out long_old (omega arith) long_out (λ w h.
+    stored w h ∙ ap (bit_xor (slice_index old w)) (word_of_mixed r long_r w h))
 
 -- the vectors of the rows, mixed, turned, mixed and stored, are G
 pub kernel_mixes : (r out : List ℕ) (rows across cols down : List (List ℕ)) → length r ≡ 128 → length out ≡ 128
@@ -120,14 +126,9 @@ pub kernel_mixes : (r out : List ℕ) (rows across cols down : List (List ℕ)) 
 unfolding column
 kernel_mixes r out rows across cols down long_r long_out rows_are across_are cols_are down_are stored =
     let q = by_rows r in
-    let across_word : (i k : ℕ) → i < 8 → k < 16 → lane_word across k i ≡ slice_index q (16 * i + k) =
-    λ i k hi hk.
-    sym (slice_index-lane across i k hk)
-    ∙ ap (λ l. slice_index l k) (across_are i hi ∙ ap perm (rows_are i hi))
-    ∙ sym (by_rows_word r i k hi hk)
-    in
+    let across_word = in_rows r (λ i k. lane_word across k i) (λ i hi. across_are i hi ∙ ap perm (rows_are i hi)) in
     let column_is : (j : ℕ) → j < 8 → lane j cols ≡ column j q =
-    λ j hj. lane_is cols j (λ k. slice_index q (16 * (k / 2) + 2 * j + k % 2)) (λ k hk.
+    λ j hj. words_are (λ k. lane_word cols k j) (λ k. slice_index q (16 * (k / 2) + 2 * j + k % 2)) (λ k hk.
     ap (λ n. lane_word cols n j) (omega arith)
     ∙ cols_are (k / 2) j (k % 2) (omega arith) hj (omega arith)
     ∙ across_word (k / 2) (2 * j + k % 2) (omega arith) (omega arith)
@@ -135,7 +136,7 @@ kernel_mixes r out rows across cols down long_r long_out rows_are across_are col
     in
     let down_word : (j k : ℕ) → j < 8 → k < 16 → lane_word down k j ≡ slice_index (perm (column j q)) k =
     λ j k hj hk.
-    sym (slice_index-lane down j k hk)
+    sym (word_at (λ k. lane_word down k j) k hk)
     ∙ ap (λ l. slice_index l k) (down_are j hj ∙ ap perm (column_is j hj))
     in
     stored_mixed r out long_r long_out (λ w h.
@@ -152,12 +153,8 @@ half_mixed r x across v h x_is across_are v_are w below half =
     let q = by_rows r in
     let j = w % 8 / 2 in
     let k = 2 * (w / 16) + w % 2 in
-    let across_word : (i k : ℕ) → i < 8 → k < 16 → lane_word across i k ≡ slice_index q (16 * i + k) =
-    λ i k hi hk.
-    sym (word_at (lane_word across i) k hk)
-    ∙ ap (λ l. slice_index l k) (across_are i hi ∙ ap perm (words_are (lane_word x i) (λ k. slice_index r (16 * i + k)) (x_is i hi)))
-    ∙ sym (by_rows_word r i k hi hk)
-    in
+    let across_word = in_rows r (lane_word across) (λ i hi. across_are i hi
+    ∙ ap perm (words_are (lane_word x i) (λ k. slice_index r (16 * i + k)) (x_is i hi))) in
     let column_is : (j : ℕ) → j < 8 → column_lanes j across ≡ column j q =
     λ j hj. words_are (λ k. lane_word across (k / 2) (2 * j + k % 2)) (λ k. slice_index q (16 * (k / 2) + 2 * j + k % 2)) (λ k hk.
     across_word (k / 2) (2 * j + k % 2) (omega arith) (omega arith) ∙ ap (slice_index q) (omega arith))
