@@ -21,11 +21,6 @@ flat_map_more : (f : ℕ → List ℕ) (a n m : ℕ) → a + n ≡ m
 flat_map_more f a zero m e = rw (← e, add-zero) (append-nil (f a))
 flat_map_more f a (suc n) m e = rw (flat_map_more f (a + 1) n m (omega arith), append_assoc) refl
 
--- V(i + 1) is the digest of V(i)
-chain_more : (first : List ℕ) (i : ℕ) → chain first (i + 1) ≡ blake2b 64 (chain first i)
-unfolding chain
-chain_more first i = rw add-one refl
-
 -- what stands in the output after the first half ys
 pub first_piece : (first s ys rest : List ℕ) (i : ℕ) → s ≡ chain first 1 → ys ≡ take 32 s
     → length ys ≡ 32 → i ≡ 1 → take (32 * i) (ys ++ rest) ≡ first_halves first i
@@ -39,8 +34,9 @@ pub next_piece : (first out before now ys : List ℕ) (i n k : ℕ)
     → before ≡ chain first i → now ≡ blake2b n before → n ≡ 64 → ys ≡ take 32 now → length ys ≡ 32
     → (now ≡ chain first (i + 1))
     × (take (32 * (i + 1)) (put_mid (32 * i) k out ys) ≡ first_halves first (i + 1))
+unfolding chain
 next_piece first out before now ys i n k held fits eb en e64 ey len =
-    let at : now ≡ chain first (i + 1) = rw (en, e64, eb) (sym (chain_more first i)) in
+    let at : now ≡ chain first (i + 1) = rw (en, e64, eb, add-one) refl in
     let front : take (32 * (i + 1)) (put_mid (32 * i) k out ys) ≡ take (32 * i) out ++ ys =
     take-put_mid (32 * i) k out ys (32 * (i + 1)) (omega arith) fits in
     let piece : ys ≡ half first (i + 1) = rw (ey, at) refl in

@@ -1,6 +1,6 @@
-use Rattle.std.proofs.Common.{◌∙◌, ap, arith, refl}
+use Rattle.std.proofs.Common.{◌≡◌, ◌∙◌, ◌+◌, ◌-◌, ◌*◌, add-one, ap, arith, refl, take, drop, false}
+use Rattle.argon2_base.specs.Blake2b.{compress}
 use Rattle.argon2_base.specs.Hasher.{hash_on}
-use Rattle.argon2_base.proofs.blake2b_lemmas.HasherFields.{hash_on_next}
 use Rattle.argon2_base.proofs.blake2b.compress_all_but_last.Goals as goal
 
 pub blocks-2-init : goal.blocks-2-init
@@ -8,9 +8,12 @@ unfolding hash_on
 blocks-2-init c = refl
 
 pub blocks-2-preserved : goal.blocks-2-preserved
+unfolding hash_on
 blocks-2-preserved c =
-    hash_on_next c.args.h.now _ _ _ c.args.input.now c.args.total c.blocks-2.i _ _ _ c.blocks-2.invariant
-    refl (omega arith) (omega arith) (omega arith) c.compress.ensures
+    let a : 128 * c.blocks-2.i ≡ c.blocks-2.i * 128 = omega arith in
+    let n : 128 * c.blocks-2.i + 128 - 128 * c.blocks-2.i ≡ 128 = omega arith in
+    rw add-one (c.compress.ensures ∙ (λ p. compress (c.blocks-2.invariant p) (take (n p) (drop (a p) c.args.input.now))
+    (c.args.total + (a p + 128)) false))
 
 pub returns-clause-hash : goal.returns-clause-hash
 returns-clause-hash c = c.blocks-2.invariant ∙ ap (hash_on c.args.h.now c.args.total c.args.input.now) (omega arith)
