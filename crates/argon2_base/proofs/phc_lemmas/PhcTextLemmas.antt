@@ -1,10 +1,12 @@
 -- The fields of a text, and the text of the fields.
-use Rattle.std.proofs.Common.{◌≡◌, ◌≢◌, ℕ, ◌<◌, ◌^◌, true, false, List, [], ◌∷◌, ◌++◌, length, refl, sym, ap, ◌∙◌, subst, arith, Option, Some, None, Ok, Err, append_assoc, codes, ◌==◌}
+use Rattle.std.proofs.Common.{◌≡◌, ◌≢◌, ℕ, ◌<◌, ◌^◌, true, false, List, [], ◌∷◌, ◌++◌, length, refl, sym, ap, ◌∙◌, subst, arith, Option, Some, None, Ok, Err, append_assoc, codes, ◌==◌, ◌+◌, drop, lit<}
 use Rattle.std.proofs.lemmas.List.{append-nil}
 use Rattle.std.proofs.lemmas.Grind.{flat_map-append}
 use Rattle.std.proofs.lemmas.Bool.{and_parts}
 use Rattle.std.specs.Prelude.{IfSome, IsSome, IsNone, is_some}
 use Rattle.std.specs.Borrow.{Bor}
+use Rattle.std.specs.Str.Pattern.{FindsCharPrefix}
+use Rattle.std.proofs.lemmas.Str.Pattern.{strip_prefix_char}
 use Rattle.std.proofs.lemmas.List.Splits.{join_with_byte-slice_split, length-slice_split}
 use Rattle.std.specs.List.{list_all, flat_map, AllByRecursion, join_with_byte}
 use Rattle.std.specs.Fmt.{decimal}
@@ -63,7 +65,8 @@ fields_lack v h = (
 -- ---- the fields joined
 
 -- fields behind a `$` each are fields joined by `$` behind one
-flat_map-dollar : (x : List ℕ) (xs : List (List ℕ)) → flat_map (λ f. 36 ∷ f) (x ∷ xs) ≡ 36 ∷ join_with_byte 36 (x ∷ xs)
+pub flat_map-dollar : (x : List ℕ) (xs : List (List ℕ))
+    → flat_map (λ f. 36 ∷ f) (x ∷ xs) ≡ 36 ∷ join_with_byte 36 (x ∷ xs)
 flat_map-dollar x [] = ap (λ (t : List ℕ). 36 ∷ t) (append-nil x)
 flat_map-dollar x (y ∷ xs) = ap (λ (t : List ℕ). 36 ∷ (x ++ t)) (flat_map-dollar y xs)
 
@@ -76,21 +79,23 @@ abbrev pub from_salt : Phc → List (List ℕ)
 from_salt v = field strict_base64 v.salt ++ field strict_base64 v.hash
 
 -- what a text that is in the grammar begins with
-pub first_and_left : {text t first : List ℕ} {left : List (List ℕ)} (v : Phc) → PhcText text v → text ≡ 36 ∷ t
-    → fields_of t ≡ first ∷ left → (first ≡ v.algorithm) × (left ≡ field version_text v.version ++ from_params v)
-first_and_left {text} {t} {first} {left} v h e f =
+pub first_and_left : (text : List ℕ) (t : Bor (List ℕ)) {first : List ℕ} {left : List (List ℕ)} (v : Phc)
+    → PhcText text v → (n : ℕ) × FindsCharPrefix 36 text (Some n) × (t.now ≡ drop n text)
+    × (length t.now + n ≡ length text) → fields_of t.now ≡ first ∷ left
+    → (first ≡ v.algorithm) × (left ≡ field version_text v.version ++ from_params v)
+first_and_left text t v h cases f =
     let behind : List (List ℕ) = field version_text v.version ++ from_params v in
+    let e = strip_prefix_char 36 text (Some t) cases (lit< tt) in
     let same = flat_map-dollar v.algorithm behind in
     let cut = cut_joined 36 v.algorithm behind (fields_lack v h.0) in
     (cc h.1, cc h.1)
 
--- a text in the grammar begins with a `$`
-pub begins_with_dollar : (text : List ℕ) (v : Phc) → PhcText text v → (rest : List ℕ) × (text ≡ 36 ∷ rest)
-begins_with_dollar text v h = (_, h.1 ∙ flat_map-dollar v.algorithm (field version_text v.version ++ from_params v))
-
--- the text of the fields
-pub text_of_fields : (text t : List ℕ) (v : Phc) → text ≡ 36 ∷ t → fields_of t ≡ fields v → text ≡ phc_text v
-text_of_fields text t v e f =
+-- the text of the fields that were read one by one
+pub text_of_fields : (text t : List ℕ) {first : List ℕ} (v : Phc) {f0 f1 f2 : List (List ℕ)} → text ≡ 36 ∷ t
+    → fields_of t ≡ first ∷ f0 → v.algorithm ≡ first → f0 ≡ field version_text v.version ++ f1
+    → f1 ≡ list_field v.params ++ f2 → f2 ≡ from_salt v → text ≡ phc_text v
+text_of_fields text t v e f a e1 e2 e3 =
+    let same : fields_of t ≡ fields v = rw (f, e1, e2, e3, a) refl in
     let back = join_with_byte-slice_split 36 t in
     let whole = flat_map-dollar v.algorithm (field version_text v.version ++ from_params v) in
     cc
@@ -201,23 +206,6 @@ pub salt_before_hash : (s o : Option (List ℕ)) (left left' : Option (Bor (List
     → fields_left left ≡ field strict_base64 o ++ fields_left left' → is_some o ≡ true → is_some s ≡ true
 salt_before_hash s o left more h e some = grind arith
 
--- values with the same fields are one
-pub same_phc : (v : Phc) (a : List ℕ) (n : Option ℕ) (ps : List Pair) (s o : Option (List ℕ)) → a ≡ v.algorithm
-    → n ≡ v.version → ps ≡ v.params → s ≡ v.salt → o ≡ v.hash
-    → ◌≡◌ {A = Phc} (record { algorithm = a; version = n; params = ps; salt = s; hash = o }) v
-same_phc v a n ps s o e1 e2 e3 e4 e5 = λ i. record { algorithm = e1 i; version = e2 i; params = e3 i; salt = e4 i; hash = e5 i }
-
--- a salt and a hash that were read one by one, with nothing behind them
-pub both_read : {f2 f3 f4 : List (List ℕ)} (s o : Option (List ℕ)) → f2 ≡ field strict_base64 s ++ f3
-    → f3 ≡ field strict_base64 o ++ f4 → f4 ≡ [] → f2 ≡ field strict_base64 s ++ field strict_base64 o
-both_read s o e1 e2 e3 = rw (e1, e2, e3, append-nil) refl
-
--- the fields that were read one by one
-pub fields_of_parts : (t : List ℕ) {first : List ℕ} (v : Phc) {f0 f1 f2 : List (List ℕ)}
-    → fields_of t ≡ first ∷ f0 → v.algorithm ≡ first → f0 ≡ field version_text v.version ++ f1
-    → f1 ≡ list_field v.params ++ f2 → f2 ≡ from_salt v → fields_of t ≡ fields v
-fields_of_parts t v e a e1 e2 e3 = rw (e, e1, e2, e3, a) refl
-
 -- ---- printing
 
 -- the fields that were printed one after the other
@@ -226,14 +214,4 @@ pub text_of_printed : (v : Phc) {t0 t1 t2 t3 t4 t5 first : List ℕ} {salt hash 
     → t3 ≡ t2 ++ fields_text (list_field v.params) → t4 ≡ t3 ++ fields_text salt → salt ≡ field strict_base64 v.salt
     → t5 ≡ t4 ++ fields_text hash → hash ≡ field strict_base64 v.hash → t5 ≡ phc_text v
 text_of_printed v {first = first} e0 e1 ea e2 e3 e4 es e5 eh =
-    let f : List ℕ → List ℕ = λ x. 36 ∷ x in
-    let a : List (List ℕ) = field version_text v.version in
-    let b : List (List ℕ) = list_field v.params in
-    let s : List (List ℕ) = field strict_base64 v.salt in
-    let h : List (List ℕ) = field strict_base64 v.hash in
-    let p : List ℕ = 36 ∷ v.algorithm in
-    rw (e5, eh, e4, es, e3, e2, e1, e0, ea)
-    (rw (flat_map-append f a (b ++ (s ++ h)), flat_map-append f b (s ++ h), flat_map-append f s h)
-    (append_assoc ((p ++ flat_map f a) ++ flat_map f b) (flat_map f s) (flat_map f h)
-    ∙ append_assoc (p ++ flat_map f a) (flat_map f b) (flat_map f s ++ flat_map f h)
-    ∙ append_assoc p (flat_map f a) (flat_map f b ++ (flat_map f s ++ flat_map f h))))
+    rw (e5, eh, e4, es, e3, e2) (simp append_assoc (rw (e1, e0, ea) (simp flat_map-append)))

@@ -2,7 +2,7 @@ use Rattle.std.proofs.Common.{[], refl, sym, ◌∙◌}
 use Rattle.std.proofs.lemmas.List.{append-nil}
 use Rattle.argon2_base.specs.Texts.{strict_base64}
 use Rattle.argon2_base.specs.PhcText.{field}
-use Rattle.argon2_base.proofs.phc_lemmas.PhcTextLemmas.{none_after, left_none, none_left, salt_before_hash, both_read}
+use Rattle.argon2_base.proofs.phc_lemmas.PhcTextLemmas.{none_after, left_none, none_left, salt_before_hash}
 use Rattle.argon2_base.proofs.phc.fields.salt_and_hash.Goals as goal
 
 pub returns-in_err-salt-clause-only : goal.returns-in_err-salt-clause-only
@@ -32,7 +32,7 @@ returns-clause-found c =
     let salt = c.in_ok-salt.ensures in
     let hash = c.in_ok-hash.ensures in
     let none = none_left c.in_ok-hash.left (sym c.if-is_some.ensures) in (
-      both_read c.in_ok-salt.salt c.in_ok-hash.hash salt.found.0 hash.found.0 none,
+      rw (salt.found.0, hash.found.0, none, append-nil) refl,
       salt.found.1,
       hash.found.1,
       salt_before_hash c.in_ok-salt.salt c.in_ok-hash.hash c.in_ok-salt.left c.in_ok-hash.left salt.end hash.found.0,
