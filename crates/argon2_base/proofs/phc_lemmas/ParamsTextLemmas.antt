@@ -96,16 +96,11 @@ value_of-more : (n : List ℕ) (ps : List Pair) (p : Pair)
 value_of-more n [] p = grind arith
 value_of-more n (q ∷ ps) p = let more = value_of-more n ps p in grind arith
 
--- whether a name is there, by the first parameter
-value_of-first : (n : List ℕ) (q : Pair) (ps : List Pair)
-    → is_none (value_of n (q ∷ ps)) ≡ (not (bytes_eq q.0 n) && is_none (value_of n ps))
-value_of-first n q ps = grind arith
-
 -- whether names are distinct with one more
 pub are_distinct-more : (ps : List Pair) (p : Pair) → are_distinct (ps ++ p ∷ []) ≡ (are_distinct ps && is_none (value_of p.0 ps))
 are_distinct-more [] p = refl
 are_distinct-more (q ∷ ps) p =
-    rw (value_of-more q.0 ps p, are_distinct-more ps p, value_of-first p.0 q ps, nat_list_eq_equiv.symm p.0 q.0) (grind arith)
+    rw (value_of-more q.0 ps p, are_distinct-more ps p, nat_list_eq_equiv.symm p.0 q.0) (grind arith)
 
 -- whether all are parameters with one more
 list_all-more : (ps : List Pair) (p : Pair) → list_all is_param (ps ++ p ∷ []) ≡ (list_all is_param ps && is_param p)

@@ -11,7 +11,7 @@ use Rattle.std.proofs.lemmas.List.Splits.{join_with_byte-slice_split, length-sli
 use Rattle.std.specs.List.{list_all, flat_map, AllByRecursion, join_with_byte}
 use Rattle.std.specs.Fmt.{decimal}
 use Rattle.argon2_base.specs.Texts.{IsBytes, is_value_char, strict_base64}
-use Rattle.argon2_base.specs.PhcText.{HasBytes, IsPhc, Pair, Phc, PhcText, are_params, field, fields, fields_text, is_param, item, list_field, pair_of, params_text, phc_text, version_text}
+use Rattle.argon2_base.specs.PhcText.{HasBytes, IsPhc, Pair, Phc, PhcText, are_params, field, fields, fields_text, is_param, item, list_field, params_text, phc_text, version_text}
 use Rattle.argon2_base.specs.PhcFields.{fields_of, fields_left, IsBytesField, NoVersionFirst, NoItemFirst}
 use Rattle.argon2_base.specs.declared.error.password_hash.Error.TheVariants.{EncodingInvalid}
 use Rattle.argon2_base.proofs.phc_lemmas.Base64Lemmas.{decode_of-strict_base64, strict_base64_unique}
@@ -127,11 +127,8 @@ list_no_version [] rest h k d more e = k (codes "v", d) more e
 list_no_version (p ∷ ps) rest h k d more e =
     let one = and_parts (is_param p) (list_all is_param ps) (all_params (p ∷ ps) h) in
     let t = text_item p ps in
-    let same : item (p.0, t.0) ≡ item (codes "v", d) = sym t.1 ∙ cc in
     let again = pair_again p.0 t.0 (name_lacks 61 refl p.0 (param_name p one.0)) in
-    let named : p.0 ≡ codes "v" = ap (λ (q : Pair). q.0) (sym again ∙ ap pair_of same) in
-    let wrong = rw named at one.0 in
-    absurd cc
+    grind arith
 
 -- behind the version there is no version
 pub no_version : (v : Phc) → IsPhc v → NoVersionFirst (from_params v)

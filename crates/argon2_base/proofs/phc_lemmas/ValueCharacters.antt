@@ -31,19 +31,14 @@ encoded_chars : (p : ℕ → Bool) (t : List ℕ) (m : List ℕ) → ((i : ℕ) 
 unfolding encode_symbols
 encoded_chars p t [] passes bytes = refl
 encoded_chars p t (a ∷ []) passes bytes =
-    let a8 : a < 256 = bytes 0 in
-    rw (passes (a / 4) (omega arith), passes (a % 4 * 16) (omega arith)) refl
+    rw (passes (a / 4) (omega (arith, bytes 0)), passes (a % 4 * 16) (omega arith)) refl
 encoded_chars p t (a ∷ b ∷ []) passes bytes =
-    let a8 : a < 256 = bytes 0 in
-    let b8 : b < 256 = bytes 1 in
-    rw (passes (a / 4) (omega arith), passes (a % 4 * 16 + b / 16) (omega arith), passes (b % 16 * 4) (omega arith)) refl
+    rw (passes (a / 4) (omega (arith, bytes 0)), passes (a % 4 * 16 + b / 16) (omega (arith, bytes 1)))
+    (rw (passes (b % 16 * 4) (omega arith)) refl)
 encoded_chars p t (a ∷ b ∷ c ∷ m) passes bytes =
-    let a8 : a < 256 = bytes 0 in
-    let b8 : b < 256 = bytes 1 in
-    let c8 : c < 256 = bytes 2 in
-    let rest = encoded_chars p t m passes (λ i. bytes (suc (suc (suc i)))) in
-    rw (passes (a / 4) (omega arith), passes (a % 4 * 16 + b / 16) (omega arith), passes (b % 16 * 4 + c / 64) (omega arith))
-    (rw (passes (c % 64) (omega arith), rest) refl)
+    rw (passes (a / 4) (omega (arith, bytes 0)), passes (a % 4 * 16 + b / 16) (omega (arith, bytes 1)))
+    (rw (passes (b % 16 * 4 + c / 64) (omega (arith, bytes 2)), passes (c % 64) (omega arith))
+    (rw (encoded_chars p t m passes (λ i. bytes (suc (suc (suc i))))) refl))
 
 -- each strict Base64 text is made of characters of values
 pub base64_chars : (b : List ℕ) → IsBytes b → list_all is_value_char (strict_base64 b) ≡ true
