@@ -1,10 +1,6 @@
-use Rattle.std.proofs.Common.{subst, rules}
-use Rattle.argon2.specs.Layout.{Sizes}
-use Rattle.argon2.proofs.recurrence.Validity.{sizes_of_none}
+use Rattle.std.proofs.Common.{refl, rules}
+use Rattle.argon2.proofs.recurrence.Validity.{is_size}
 use Rattle.argon2.proofs.context.instance.Instance.lanes.Goals as goal
 
 pub returns : goal.returns
-returns c = record {
-  value = search rules;
-  sizes = subst Sizes c.self.view_is (sizes_of_none _ (search rules) (search rules) c.self.invariant.0);
-}
+returns c = is_size (λ ctx. ctx.p_cost) _ _ _ c.self.view_is refl (search rules) (search rules) c.self.invariant.0
