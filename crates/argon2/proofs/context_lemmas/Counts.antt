@@ -1,5 +1,5 @@
 -- The mixings of all segments are t * B - 2p, and two for each address block.
-use Rattle.std.proofs.Common.{◌≡◌, ℕ, zero, suc, ◌+◌, ◌-◌, ◌*◌, ◌/◌, ◌^◌, ◌<◌, ◌≤◌, inl, inr, Bool, true, false, refl, ap, arith}
+use Rattle.std.proofs.Common.{◌≡◌, ℕ, zero, suc, ◌+◌, ◌-◌, ◌*◌, ◌/◌, ◌^◌, ◌<◌, ◌≤◌, inl, inr, Bool, true, false, ap, arith}
 use Rattle.std.specs.Prelude.{◌==◌, if◌then◌else◌}
 use Rattle.std.proofs.Math.Nat.{mul-le-mul, mul-le-mul_left, mul-le-mul_right}
 use Rattle.std.proofs.lemmas.Bool.{cases_lt}
@@ -42,12 +42,7 @@ module _ (ctx : Context) (sizes : Sizes ctx) where
   -- the mixings of a pass's four slices are those of its lanes
   slices_calls-4 : (pass : ℕ) → slices_calls ctx pass 4 ≡ ctx.p_cost * pass_calls pass
   unfolding slices_calls pass_calls
-  slices_calls-4 pass =
-      let p = ctx.p_cost in
-      let e : slices_calls ctx pass 4
-      ≡ 0 + p * segment_calls ctx pass 0 + p * segment_calls ctx pass 1 + p * segment_calls ctx pass 2
-      + p * segment_calls ctx pass 3 = refl in
-      omega arith
+  slices_calls-4 pass = grind arith
 
   -- the mixings of all passes
   passes_calls-sum : (r : ℕ) → passes_calls ctx (suc r) + 2 * ctx.p_cost

@@ -21,11 +21,7 @@ use Rattle.argon2.proofs.recurrence.History.{first_columns, made_blocks}
 pub HasBlocksUpTo-like : (ctx : Context) (first : FirstColumns) (pass : ℕ) (done done' : ℕ → ℕ) (memory : List (List ℕ))
     → ((l : ℕ) → l < ctx.p_cost → done l ≡ done' l)
     → HasBlocksUpTo ctx first pass done memory → HasBlocksUpTo ctx first pass done' memory
-HasBlocksUpTo-like ctx first pass done done' memory same h = record {
-  size = h.size;
-  new = λ l c a b lt. let e = same l a in h.new l c a b (omega arith);
-  old = λ r l c p a b le. let e = same l a in h.old r l c p a b (omega arith);
-}
+HasBlocksUpTo-like ctx first pass done done' memory same h = grind arith
 
 -- ---- a step of a slice, in which each lane has so many columns
 
@@ -153,15 +149,9 @@ pub next_pass : (ctx : Context) (first : FirstColumns) (pass : ℕ) (memory : Li
     → HasBlocksUpTo ctx first pass (λ _. columns_before ctx pass 4) memory
     → HasBlocksUpTo ctx first (suc pass) (λ _. columns_before ctx (suc pass) 0) memory
 next_pass ctx first pass memory h =
-    let s = segment_length ctx in
     let w = turn_count-later_pass ctx pass in
     let e = turn_count-later_slice ctx pass 3 in
-    record {
-      size = h.size;
-      new = λ l c a b lt. absurd (omega arith);
-      old = λ r l c p a b le. h.new l c a b (omega arith)
-          ∙ ap (λ x. block_of ctx first x l c) (let o : pass ≡ r = omega arith in o);
-    }
+    grind arith
 
 -- the first passes fill the memory, each slice by its schedule
 passes_fill : (ctx : Context) → Sizes ctx
@@ -183,13 +173,8 @@ pub filled_at_first : (ctx : Context) → Sizes ctx → (first : FirstColumns) (
     → Begins ctx first memory → HasBlocksUpTo ctx first 0 (λ _. columns_before ctx 0 0) memory
 filled_at_first ctx sizes first memory start =
     let two = sizes.two_columns in
-    let w : turn_count ctx 0 0 ≡ segment_length ctx - 2 = refl in
-    record {
-      size = start.size;
-      new = λ l c a b lt. let low : c < 2 = omega arith in
-          start.columns l c a low ∙ sym (first_columns ctx sizes first l c a low);
-      old = λ r l c p a b le. absurd (omega arith);
-    }
+    let columns = first_columns ctx sizes first in
+    grind (arith, nat_tests)
 
 -- after the last pass the memory is the matrix
 pub filled_at_last : (ctx : Context) → Sizes ctx

@@ -1,8 +1,9 @@
 -- Writing the first two columns of a lane after those of the lanes before.
 use Rattle.std.proofs.Common.{◌≡◌, ℕ, ◌+◌, ◌*◌, ◌^◌, ◌<◌, ◌≤◌, ◌≢◌, inl, inr, List, [], length, ◌∙◌, arith}
 use Rattle.std.specs.Prelude.{slice_index_or, slice_set}
+use Rattle.std.proofs.lemmas.Grind.{common_steps}
 use Rattle.std.proofs.lemmas.Bool.{cases_eq}
-use Rattle.std.proofs.lemmas.List.{get_or-set_other, get_or-set_same, length-set}
+use Rattle.std.proofs.lemmas.List.{get_or-set_other}
 use Rattle.std.proofs.lemmas.Nat.{same_from_place}
 use Rattle.std.proofs.Math.Nat.{mul-le-mul_left, mul-le-mul_right}
 use Rattle.argon2.specs.Rfc9106.{Context, lane_length}
@@ -36,14 +37,7 @@ module _ (q lane : ℕ) (two : 2 ≤ q) (memory : List (List ℕ)) (f : ℕ → 
   -- the lane has the two blocks
   with_pair-same : lane * q + 1 < length memory → (c : ℕ) → c < 2
       → slice_index_or (with_pair q lane memory f) (lane * q + c) [] ≡ f c
-  with_pair-same room c small = elim (cases_eq c 0) [
-    | inl e ↦ rw e
-        (get_or-set_other (slice_set memory (lane * q + 0) (f 0)) (lane * q + 1) (lane * q + 0) (f 1) [] (λ e. omega arith)
-        ∙ get_or-set_same memory (lane * q + 0) (f 0) [] (omega arith))
-    | inr ne ↦ (let one : c ≡ 1 = omega arith in rw one
-        (get_or-set_same (slice_set memory (lane * q + 0) (f 0)) (lane * q + 1) (f 1) []
-        (omega (arith, length-set memory (lane * q + 0) (f 0)))))
-  ]
+  with_pair-same room c small = grind (arith, common_steps)
 
 -- if the lanes before have their blocks, one lane more has
 pub with_pair-lanes : (q lane : ℕ) → 2 ≤ q → (memory : List (List ℕ)) (f : ℕ → ℕ → List ℕ) → lane * q + 1 < length memory

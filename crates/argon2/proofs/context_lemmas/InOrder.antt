@@ -1,5 +1,5 @@
 -- How far the memory and the positions are filled while the lanes of a slice come one after the other.
-use Rattle.std.proofs.Common.{◌≡◌, ℕ, suc, ◌+◌, ◌*◌, ◌<◌, ◌≤◌, ◌≢◌, inl, List, subst, sym, add-one, arith}
+use Rattle.std.proofs.Common.{◌≡◌, ℕ, suc, ◌+◌, ◌*◌, ◌<◌, ◌≤◌, ◌≢◌, List, subst, sym, add-one, arith}
 use Rattle.std.specs.Prelude.{slice_set}
 use Rattle.std.proofs.lemmas.Bool.Decides.{nat_tests}
 use Rattle.argon2.specs.Rfc9106.{Context, FirstColumns, segment_length}
@@ -90,10 +90,5 @@ pub filled_last : (ctx : Context) → Sizes ctx → (first : FirstColumns) (pass
     → IsFilledFrom ctx first memory old new
 filled_last ctx sizes first passes memory old new all is =
     let some = sizes.some_pass in
-    record {
-      matrix = filled_at_last ctx sizes first passes memory all (omega arith) is.blocks;
-      positions = λ size. record {
-        of_steps = λ pass lane column t st. (is.positions size).of_steps pass lane column t st (inl (omega arith));
-        of_first_columns = (is.positions size).of_first_columns;
-      };
-    }
+    let matrix = filled_at_last ctx sizes first passes memory all (omega arith) is.blocks in
+    grind arith

@@ -1,12 +1,12 @@
 -- The places that the steps record are those of the recurrence's references.
-use Rattle.std.proofs.Common.{◌≡◌, ℕ, suc, ◌+◌, ◌-◌, ◌*◌, ◌<◌, ◌≤◌, ◌≢◌, inl, inr, List, length, refl, sym, ◌∙◌, arith}
+use Rattle.std.proofs.Common.{◌≡◌, ℕ, suc, ◌+◌, ◌*◌, ◌<◌, ◌≤◌, ◌≢◌, inl, inr, List, length, sym, ◌∙◌, arith}
 use Rattle.std.specs.Prelude.{slice_set}
 use Rattle.std.proofs.lemmas.List.{length-set, get_or-set_same, get_or-set_other}
 use Rattle.std.proofs.lemmas.Nat.{mul-add-lt, same_from_place}
 use Rattle.std.proofs.lemmas.Bool.{cases_eq}
-use Rattle.argon2.specs.Rfc9106.{Context, FirstColumns, block_count, lane_length, segment_length}
+use Rattle.argon2.specs.Rfc9106.{Context, FirstColumns, block_count, lane_length}
 use Rattle.argon2.specs.Layout.{Sizes, reference_places}
-use Rattle.argon2.specs.Steps.{IsStep, turn_count}
+use Rattle.argon2.specs.Steps.{IsStep}
 use Rattle.argon2.specs.WatchedFilling.{columns_before, place_count, position_index, HasPositionsUpTo}
 use Rattle.argon2.proofs.context_lemmas.Filling.{turn_count-later_slice, turn_count-later_pass}
 use Rattle.argon2.proofs.context_lemmas.InMemory.{place_below}
@@ -25,12 +25,7 @@ position_index-same ctx pass lane column r l c a b x y e =
 pub HasPositionsUpTo-like : (ctx : Context) (first : FirstColumns) (pass : ℕ) (done done' : ℕ → ℕ) (old new : List ℕ)
     → ((l : ℕ) → l < ctx.p_cost → done l ≡ done' l)
     → HasPositionsUpTo ctx first pass done old new → HasPositionsUpTo ctx first pass done' old new
-HasPositionsUpTo-like ctx first pass done done' old new same has = record {
-  size = has.size;
-  of_steps = λ r l c t st h. has.of_steps r l c t st
-      (elim h [ inl x ↦ inl x | inr x ↦ inr (x.0, (let e = same l st.in_lanes in let lt = x.1 in omega arith)) ]);
-  of_first_columns = has.of_first_columns;
-}
+HasPositionsUpTo-like ctx first pass done done' old new same has = grind arith
 
 -- a step records its reference's place
 pub step_positions : (ctx : Context) → Sizes ctx → (first : FirstColumns) (pass lane column : ℕ) (done done' : ℕ → ℕ)
@@ -72,20 +67,10 @@ pub next_positions : (ctx : Context) (first : FirstColumns) (pass : ℕ) (old ne
 next_positions ctx first pass old new has =
     let w = turn_count-later_pass ctx pass in
     let e = turn_count-later_slice ctx pass 3 in
-    record {
-      size = has.size;
-      of_steps = λ r l c t st h. has.of_steps r l c t st (let b = st.in_columns in let o = cases_eq r pass in grind arith);
-      of_first_columns = has.of_first_columns;
-    }
+    grind arith
 
 -- before the first step the list is as it was
 pub first_positions : (ctx : Context) → Sizes ctx → (first : FirstColumns) (old : List ℕ) → length old ≡ place_count ctx
     → HasPositionsUpTo ctx first 0 (λ _. columns_before ctx 0 0) old old
 first_positions ctx sizes first old size =
-    let two = sizes.two_columns in
-    let turns : turn_count ctx 0 0 ≡ segment_length ctx - 2 = refl in
-    record {
-      size = size;
-      of_steps = λ r l c t st h. absurd (let later = st.later in grind arith);
-      of_first_columns = λ l c a b. refl;
-    }
+    let two = sizes.two_columns in grind arith

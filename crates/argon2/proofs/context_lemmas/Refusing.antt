@@ -1,5 +1,5 @@
 -- What a call answers that its table of faults does not refuse.
-use Rattle.std.proofs.Common.{◌≡◌, ℕ, ◌≤◌, false, true, Bool, List, [], ◌∷◌, ◌++◌, Option, Some, None, Result, Ok, length, refl, arith}
+use Rattle.std.proofs.Common.{◌≡◌, ℕ, ◌≤◌, false, true, Bool, List, [], ◌∷◌, ◌++◌, Option, None, Result, Ok, length, refl, arith}
 use Rattle.std.specs.Prelude.{nat_lt}
 use Rattle.std.proofs.lemmas.Bool.Decides.{nat_tests}
 use Rattle.argon2_base.specs.declared.error.Error.{Error}
@@ -11,8 +11,7 @@ use Rattle.argon2.specs.Refusals.{answer_unless, data_refusal, first_of, input_f
 
 -- an answer says that there is no fault
 unrefused : {A : Type 0} (refusal : Option Error) (x y : A) → Ok x ≡ answer_unless refusal y → refusal ≡ None
-unrefused None x y is = refl
-unrefused (Some fault) x y is = cc
+unrefused refusal x y is = grind arith
 
 -- so that any other value is an answer
 pub answered : {A B : Type 0} (refusal : Option Error) (x y : A) (v : B) → Ok x ≡ answer_unless refusal y → Ok v ≡ answer_unless refusal v

@@ -69,19 +69,9 @@ turn_step ctx sizes pass slice lane n four below room =
     let s = segment_length ctx in
     let two : 2 ≤ s = sizes.two_columns in
     let le = turn_count-le ctx pass slice in
-    let whole : (slice + 1) * s ≤ 4 * s = mul-le-mul_right s (omega arith) in (
-      record {
-        in_lanes = below;
-        in_columns = omega arith;
-        later = λ first. elim (cases_eq slice 0) [
-          | inl z ↦
-              (let w : turn_count ctx pass slice ≡ s - 2 = turn_count-first ctx pass slice first z in
-              let m : 1 * s ≤ (slice + 1) * s = mul-le-mul_right s (omega arith) in omega arith)
-          | inr some ↦ (let m : 1 * s ≤ slice * s = mul-le-mul_right s (omega arith) in omega arith)
-        ];
-      },
-      record { above = omega arith; below = omega arith; whole = whole; one_of_four = four },
-    )
+    let whole : (slice + 1) * s ≤ 4 * s = mul-le-mul_right s (omega arith) in
+    let more : 0 < slice → 1 * s ≤ slice * s = λ some. mul-le-mul_right s some in
+    (grind (arith, nat_tests), grind arith)
 
 -- ---- schedules, whole or what is left of them
 
@@ -93,10 +83,8 @@ pub record MayRun (ctx : Context) (pass slice : ℕ) (schedule : List ℕ) : Typ
 -- what is left after the first turn may run too
 pub MayRun-tail : (ctx : Context) (pass slice lane : ℕ) (schedule : List ℕ)
     → MayRun ctx pass slice (lane ∷ schedule) → MayRun ctx pass slice schedule
-MayRun-tail ctx pass slice lane schedule m = record {
-  lanes = m.lanes.1;
-  few = λ l h. let a = m.few l h in let b = turns-tail l lane schedule in omega arith;
-}
+MayRun-tail ctx pass slice lane schedule m =
+    record { lanes = m.lanes.1; few = λ l h. omega (arith, m.few l h, turns-tail l lane schedule) }
 
 -- the first turn is a step
 pub head_step : (ctx : Context) → Sizes ctx → (pass slice lane : ℕ) (schedule : List ℕ) → slice < 4

@@ -65,5 +65,4 @@ pub ruleset references = (nat_tests, length-permitted, get_or-permitted, slice_o
 
 -- a later slice begins at column 2 or above
 pub later_slice : (slice segment start : ℕ) → slice ≢ 0 → 2 ≤ segment → 2 ≤ slice * segment + start
-later_slice zero segment start some two = absurd (some refl)
-later_slice (suc s) segment start some two = omega arith
+later_slice slice segment start some two = grind arith

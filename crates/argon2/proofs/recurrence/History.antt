@@ -42,20 +42,15 @@ unfolding history
 length-history ctx first zero = refl
 length-history ctx first (suc n) = length_push (history ctx first n) _ ∙ (let i = length-history ctx first n in omega arith)
 
--- one more column leaves those before
-history_grows : (ctx : Context) (first : FirstColumns) (n k : ℕ) → k < n
-    → slice_index_or (history ctx first (suc n)) k [] ≡ slice_index_or (history ctx first n) k []
-unfolding history
-history_grows ctx first n k lt =
-    get_or_append_left (history ctx first n) _ [] k (let l = length-history ctx first n in omega arith)
-
 -- more columns leave those before
 history_stays : (ctx : Context) (first : FirstColumns) (n k : ℕ) → k < n
     → slice_index_or (history ctx first n) k [] ≡ slice_index_or (history ctx first (suc k)) k []
+unfolding history
 history_stays ctx first zero k h = absurd (omega arith)
 history_stays ctx first (suc n) k h =
     elim (cases_lt k n) [
-      | inl lt ↦ (history_grows ctx first n k lt ∙ history_stays ctx first n k lt)
+      | inl lt ↦ (let l = length-history ctx first n in
+          get_or_append_left (history ctx first n) _ [] k (omega arith) ∙ history_stays ctx first n k lt)
       | inr le ↦ (let e : suc n ≡ suc k = omega arith in ap (λ m. slice_index_or (history ctx first m) k []) e)
     ]
 
@@ -94,7 +89,7 @@ recurrence ctx sizes first pass lane column in_lanes in_columns =
     (λ r l c _ _ lt. in_history_is ctx first n r l c lt)
 
 -- two recurrences agree up to any moment
-recurrence_unique_up_to : (ctx : Context) → Sizes ctx → (first : FirstColumns) (f g : Blocks)
+pub recurrence_unique_up_to : (ctx : Context) → Sizes ctx → (first : FirstColumns) (f g : Blocks)
     → IsRecurrence ctx first f → IsRecurrence ctx first g → (n pass lane column : ℕ)
     → lane < ctx.p_cost → column < lane_length ctx → moment ctx pass column < n
     → f pass lane column ≡ g pass lane column
@@ -104,15 +99,6 @@ recurrence_unique_up_to ctx sizes first f g hf hg (suc n) pass lane column a b l
     ∙ rule_cong ctx sizes first pass lane column a b f g
     (λ r l c u v earlier. recurrence_unique_up_to ctx sizes first f g hf hg n r l c u v (omega arith))
     ∙ sym (hg pass lane column a b)
-
--- no other blocks are as the rule says
-pub recurrence_unique : (ctx : Context) → Sizes ctx → (first : FirstColumns) (f : Blocks)
-    → IsRecurrence ctx first f → (pass lane column : ℕ) → lane < ctx.p_cost
-    → column < lane_length ctx
-    → f pass lane column ≡ block_of ctx first pass lane column
-recurrence_unique ctx sizes first f h pass lane column a b =
-    recurrence_unique_up_to ctx sizes first f (block_of ctx first) h (recurrence ctx sizes first)
-    (suc (moment ctx pass column)) pass lane column a b (omega arith)
 
 -- ---- the rule's two cases
 

@@ -1,12 +1,12 @@
 -- What may be referred to, as numbers: how many blocks, and in which columns.
 use Rattle.std.proofs.Common.{◌≡◌, ℕ, zero, suc, ◌+◌, ◌-◌, ◌*◌, ◌/◌, ◌%◌, ◌<◌, ◌≤◌, inl, inr, List, [], ◌++◌, take, length, refl, ap, ◌∙◌, arith}
 use Rattle.std.specs.Prelude.{slice_index_or, nat_lt, ◌==◌, if◌then◌else◌}
-use Rattle.std.proofs.Math.Nat.{mul-le-mul_right, div-lt_iff_lt-mul, div-mul-le_self, lt-mul-div-succ, div-add-mod', zero-mul}
+use Rattle.std.proofs.Math.Nat.{mul-le-mul_right, div-lt_iff_lt-mul, div-mul-le_self, lt-mul-div-succ, div-add-mod'}
 use Rattle.std.specs.List.{range_with_len}
 use Rattle.std.proofs.lemmas.List.{length-append, length-map, length-take, get_or_append_left, get_or-append_right, get_or-take}
 use Rattle.std.proofs.lemmas.List.FromFn.{get_or-map-range_with_len, length-range_with_len}
 use Rattle.std.proofs.lemmas.Bool.Decides.{nat_tests}
-use Rattle.std.proofs.lemmas.Bool.{cond_both, cases_eq, cases_lt}
+use Rattle.std.proofs.lemmas.Bool.{cond_both, cases_lt}
 use Rattle.argon2.specs.Rfc9106.{Context, columns, finished_segments, lane_length, permitted, segment_length}
 use Rattle.argon2.specs.Layout.{Sizes}
 
@@ -110,15 +110,8 @@ module _ (ctx : Context) (sizes : Sizes ctx) (column : ℕ) (in_columns : column
       let two = sizes.two_columns in
       let here = bounds in
       let split : column / s * s + column % s ≡ column = div-add-mod' column s in
-      elim (cases_eq (column / s) 0) [
-        | inl none ↦ (
-            let zeros : column / s * s ≡ 0 = ap (λ x. x * s) none ∙ zero-mul s in
-            let own : pass ≡ 0 → other ≡ lane = λ first. alone first none in
-            rw (length-permitted pass lane other later) (grind (arith, nat_tests)))
-        | inr some ↦ (
-            let more : 1 * s ≤ column / s * s = mul-le-mul_right s (omega arith) in
-            rw (length-permitted pass lane other later) (grind (arith, nat_tests)))
-      ]
+      let more : 0 < column / s → 1 * s ≤ column / s * s = λ some. mul-le-mul_right s some in
+      rw (length-permitted pass lane other later) (grind (arith, nat_tests))
 
   -- behind the finished segments the own one goes on
   wraps : (pass i : ℕ) → finished_count ctx pass (column / segment_length ctx) ≤ i

@@ -1,6 +1,6 @@
 -- Which blocks a block is made of. All else rests on two laws, `reference_reads` and `made_cong`.
 use Rattle.std.proofs.Common.{◌≡◌, ℕ, zero, suc, ◌+◌, ◌-◌, ◌*◌, ◌/◌, ◌%◌, ◌^◌, ◌<◌, ◌≤◌, ◌⊎◌, inl, inr, [], length, refl, sym, subst, arith}
-use Rattle.std.specs.Prelude.{◌==◌, if◌then◌else◌}
+use Rattle.std.specs.Prelude.{◌==◌}
 use Rattle.std.proofs.Math.Nat.{mod-lt}
 use Rattle.std.specs.List.{range_with_len, All}
 use Rattle.std.proofs.lemmas.List.FromFn.{length-range_with_len, get_or-range_with_len}
@@ -58,22 +58,17 @@ module _ (ctx : Context) (sizes : Sizes ctx) (lane column other : ℕ) (in_lanes
       let b = bounds in
       record { in_lanes = in_lanes; in_columns = omega arith; newest = inl (refl, omega arith); apart = inr (inl high) }))
 
-  -- the own segment's blocks so far, but for the previous one, are sources
-  own_sources : (pass : ℕ)
-      → All (IsSource pass)
-      (if other == lane then columns pass (column / segment_length ctx * segment_length ctx) (column - 1) else [])
-  own_sources pass = cond_both (other == lane) _ [] (All (IsSource pass))
-      (λ e. All-columns (IsSource pass) pass _ _ (λ c low high.
-      let own = eqb-true other lane e in
-      record { in_lanes = in_lanes; in_columns = omega arith; newest = inl (refl, omega arith); apart = inl own }))
-      (λ _. All-nil (IsSource pass))
-
   -- all permitted blocks are sources
   permitted_sources : (pass : ℕ) → All (IsSource pass) (permitted ctx pass lane column other)
   unfolding permitted
   permitted_sources pass = cond_both (column % segment_length ctx == 0) _ _ (All (IsSource pass))
       (λ _. All-take (IsSource pass) _ _ (finished_sources pass))
-      (λ _. All-append (IsSource pass) _ _ (finished_sources pass) (own_sources pass))
+      (λ _. All-append (IsSource pass) _ _ (finished_sources pass) (cond_both (other == lane) _ [] (All (IsSource pass))
+      (λ e. All-columns (IsSource pass) pass _ _ (λ c low high.
+      let b = bounds in
+      let own = eqb-true other lane e in
+      record { in_lanes = in_lanes; in_columns = omega arith; newest = inl (refl, omega arith); apart = inl own }))
+      (λ _. All-nil (IsSource pass))))
 
 -- ---- each block is made of its sources alone
 
@@ -145,25 +140,17 @@ pub reference_of_cong : (ctx : Context) → Sizes ctx → (pass lane column : �
 unfolding reference_of reference_word
 reference_of_cong ctx sizes pass lane column st f g h = rw (previous_cong ctx sizes pass lane column st f g h) refl
 
--- the reference is a source
-reference_of_reads : (ctx : Context) → Sizes ctx → (pass lane column : ℕ)
-    → IsStep ctx pass lane column → (f : Blocks)
-    → Reads ctx pass lane column (reference_of ctx f pass lane column).pass (reference_of ctx f pass lane column).lane
-    (reference_of ctx f pass lane column).column
-unfolding reference_of
-reference_of_reads ctx sizes pass lane column st f =
-    reference_reads ctx sizes pass lane column (reference_word ctx f pass lane column) st
-
 -- such blocks make one block
 pub made_cong : (ctx : Context) → Sizes ctx → (pass lane column : ℕ) → IsStep ctx pass lane column
     → (f g : Blocks) → AgreeOn ctx pass lane column f g
     → made_block ctx f pass lane column ≡ made_block ctx g pass lane column
-unfolding made_block
+unfolding made_block reference_of
 made_cong ctx sizes pass lane column st f g h =
     let from = reference_of ctx f pass lane column in
     let same = reference_of_cong ctx sizes pass lane column st f g h in
     let previous = previous_cong ctx sizes pass lane column st f g h in
-    let read = h from.pass from.lane from.column (reference_of_reads ctx sizes pass lane column st f) in
+    let read = h from.pass from.lane from.column
+    (reference_reads ctx sizes pass lane column (reference_word ctx f pass lane column) st) in
     let own : 0 < pass → f (pass - 1) lane column ≡ g (pass - 1) lane column = λ some. h (pass - 1) lane column
     (record { in_lanes = st.in_lanes; in_columns = st.in_columns; newest = inr (omega arith, omega arith); apart = inl refl }) in
     grind (arith, nat_tests)

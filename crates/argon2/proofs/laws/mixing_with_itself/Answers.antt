@@ -15,11 +15,7 @@ mixed_zeros : xor_blocks (by_columns (by_rows zero_block)) zero_block ≡ zero_b
 unfolding xor_blocks zero_block by_columns by_rows column row perm mix_columns mix_diagonals gb xor_rotate add_mul
 mixed_zeros = refl
 
-from_zeros : (x r : List ℕ) → xor_blocks x x ≡ r → mixed x x ≡ xor_blocks (by_columns (by_rows r)) r
-unfolding mixed
-from_zeros x r e = ap (λ r. xor_blocks (by_columns (by_rows r)) r) e
-
 pub returns : goal.returns
-unfolding zero_block
+unfolding zero_block mixed
 returns c = λ x size.
-    from_zeros x zero_block (xor_blocks-self x ∙ ap (λ n. replicate n 0) size) ∙ mixed_zeros
+    ap (λ r. xor_blocks (by_columns (by_rows r)) r) (xor_blocks-self x ∙ ap (λ n. replicate n 0) size) ∙ mixed_zeros

@@ -22,9 +22,6 @@ pub offset_bounds-blocks-first : goal.offset_bounds-blocks-first
 offset_bounds-blocks-first g c =
     let n = c.loop-lane.lane in
     let fits = lane_fits _ c.lanes-lane-end.ensures.sizes n c.args.width (omega arith) c.requires.most in
-    let end = fits.0 in
-    let two = c.requires.two in
-    let size = c.loop-lane.auto.blocks ∙ c.requires.size in
     let room : n * c.args.width < length c.loop-lane.blocks = omega arith in
     search rules
 
@@ -32,9 +29,6 @@ pub offset_bounds-blocks-first-in-loop-lane : goal.offset_bounds-blocks-first-in
 offset_bounds-blocks-first-in-loop-lane g c =
     let n = c.loop-lane.lane in
     let fits = lane_fits _ c.lanes-lane-end.ensures.sizes n c.args.width (omega arith) c.requires.most in
-    let end = fits.0 in
-    let two = c.requires.two in
-    let size = c.loop-lane.auto.blocks ∙ c.requires.size in
     let room : n * c.args.width + 1 < length c.loop-lane.blocks = omega arith in
     search rules
 
