@@ -1,8 +1,7 @@
 -- One login as a step.
-use Rattle.std.proofs.Common.{◌≡◌, ℕ, List, Option, Some, None, Result, Ok, ◌⊎◌, inl, inr, refl, ap, ◌∙◌, arith}
+use Rattle.std.proofs.Common.{◌≡◌, ℕ, List, Option, Some, None, Result, Ok, ◌⊎◌, arith}
 use Rattle.std.specs.Prelude.{◌≢◌, IfOk, IsSomeAnd, MatchResult}
 use Rattle.std.specs.FinMap.{get, insert}
-use Rattle.argon2_base.specs.Error.{Fault}
 use Rattle.argon2_base.specs.PhcFields.{phc_of}
 use Rattle.argon2_base.specs.PhcText.{Phc}
 use Rattle.argon2_base.specs.declared.error.password_hash.Error.{Error}
@@ -13,7 +12,6 @@ use Rattle.argon2.specs.declared.login.answers.Accepted.TheVariants.{Current, Ke
 use Rattle.argon2.specs.declared.login.answers.LoginError.{LoginError}
 use Rattle.argon2.specs.declared.login.answers.LoginError.TheVariants.{Refused}
 use Rattle.argon2.specs.StoredTexts.{AcceptsBy}
-use Rattle.argon2.specs.ListedParameters.{unless_fault}
 use Rattle.argon2.specs.Login.{AcceptedStep, HasPassword, LoginAnswer, LoginStep, logging_in}
 use Rattle.argon2.specs.NamedTexts.{Store, IsCurrent, Leaves}
 use Rattle.argon2.specs.TextHashing.{Target, IsTarget, hash_value, IsHashAnswer}
@@ -49,29 +47,19 @@ has_current target after name w answer has h = rw has h
 
 -- a refusal of a text as the store's
 pub refused_text : {P : Type 0} (e : Error) → (e ≡ OutOfMemory) ⊎ (P → ⊥) → (Refused e ≡ Refused OutOfMemory) ⊎ (P → ⊥)
-refused_text e (inl memory) = inl (ap Refused memory)
-refused_text e (inr never) = inr never
-
-checked_ok : (f : Option Fault) (v w : Phc) → Ok v ≡ unless_fault f (Ok w) → v ≡ w
-checked_ok f v w e = grind arith
+refused_text e refused = grind arith
 
 -- what a hash that was answered is
 pub hash_made : (target : Target) (password salt : List ℕ) (h : PasswordHash) →
     IsHashAnswer target password salt (Ok h) → phc_of h ≡ hash_value target password salt
-hash_made target password salt h (inl e) = checked_ok _ (phc_of h) (hash_value target password salt) e
-hash_made target password salt h (inr r) = let e = r.0 in absurd cc
+hash_made target password salt h answer = grind arith
 
 -- ---- what an accepted login leaves
 
 pub leaves_step : (target : Target) (store : Store) (name password drawn : List ℕ) (v w : Phc) (did : Accepted)
     → get store name ≡ Some v → Leaves target password drawn v did w
     → AcceptedStep target store name password drawn v did (insert store name w)
-leaves_step target store name password drawn v w Current has left =
-    (left.0, ap (insert store name) left.1 ∙ insert-same store name v has)
-leaves_step target store name password drawn v w Rehashed has left =
-    (left.0, left.1.0, ap (insert store name) left.1.2)
-leaves_step target store name password drawn v w Kept has left =
-    (left.0, ap (insert store name) left.1 ∙ insert-same store name v has)
+leaves_step target store name password drawn v w did has left = let same = insert-same store name v has in grind arith
 
 pub leaves_accepts : (target : Target) → IsTarget target → (password drawn : List ℕ) (v w : Phc) (did : Accepted)
     → Leaves target password drawn v did w → AcceptsBy target.secret password v → AcceptsBy target.secret password w
@@ -82,6 +70,5 @@ leaves_accepts target fits password drawn v w Kept left accepts = rw left.1 acce
 
 pub leaves_current : (target : Target) → IsTarget target → (password drawn : List ℕ) (v w : Phc) (did : Accepted)
     → Leaves target password drawn v did w → did ≢ Kept → IsCurrent target w
-leaves_current target fits password drawn v w Current left other = rw left.1 left.0
-leaves_current target fits password drawn v w Rehashed left other = made_shows target fits password drawn w left.1.2
-leaves_current target fits password drawn v w Kept left other = absurd (other refl)
+leaves_current target fits password drawn v w did left other =
+    let made = made_shows target fits password drawn w in grind arith

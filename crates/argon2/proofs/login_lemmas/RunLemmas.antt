@@ -1,12 +1,10 @@
 -- What each call keeps of a name, and so every list of calls.
-use Rattle.std.proofs.Common.{◌≡◌, ◌≢◌, ℕ, ◌≤◌, List, [], ◌∷◌, length, Option, Some, None, Result, Ok, Err, inl, inr, refl, ap, ◌∙◌}
-use Rattle.std.proofs.lemmas.Bool.{cases_Bool}
+use Rattle.std.proofs.Common.{arith, ◌≡◌, ◌≢◌, ℕ, ◌≤◌, List, [], ◌∷◌, length, Option, Some, None, Result, Ok, Err, refl, ap, ◌∙◌}
 use Rattle.std.proofs.lemmas.Slice.Eq.{bytes_eq-Decides}
 use Rattle.std.specs.Prelude.{IfSome, IsSomeAnd}
 use Rattle.std.specs.FinMap.{get, get-empty}
 use Rattle.std.specs.Cmp.Lexicographic.{slice_cmp}
 use Rattle.std.specs.Ordering.{nat_cmp}
-use Rattle.std.specs.Str.{bytes_eq}
 use Rattle.argon2_base.specs.PhcText.{Phc, IsPhc, HasBytes, phc_text}
 use Rattle.argon2.specs.declared.login.answers.Accepted.{Accepted}
 use Rattle.argon2.specs.declared.login.answers.Accepted.TheVariants.{Current, Rehashed, Kept}
@@ -29,12 +27,6 @@ abbrev Known : Target → List ℕ → List Event → Option Phc → Type 0
 Known target name events o = IsFrom target (newest (source name) events) o × IfSome o IsPhc
     × Reached target (newest (accepted name) events) o
 
--- a name without a text had no accepted login
-reached_none : (target : Target) (last : Option (List ℕ × Accepted)) (o : Option Phc) →
-    Reached target last None → Reached target last o
-reached_none target None o h = tt
-reached_none target (Some last) o h = absurd h
-
 module _ (target : Target)
     (made_phc : (password salt : List ℕ) → HasBytes 8 48 salt → IsPhc (hash_value target password salt))
     (made_accepts : (password salt : List ℕ) → length password ≤ 4294967295 →
@@ -45,28 +37,10 @@ module _ (target : Target)
       (name : List ℕ) → Known target name (adding n added answer ∷ older) (get after name)
   add_keeps before after n added (Err e) older step known name = rw step.1 (known name)
   add_keeps before after n added (Ok x) older step known name =
-      let v = step.1 in
-      let set = ap (λ m. get m name) step.3 ∙ get-set before n v name in
-      elim (cases_Bool (bytes_eq name n)) [
-        | inl hit ↦
-            let none : get before name ≡ None = ap (get before) ((bytes_eq-Decides name n).0 hit) ∙ step.0 in
-            let reached = reached_none target (newest (accepted name) older) (Some v) (rw none at (known name).2) in
-            rw (set, hit) (step.2, step.2.0, reached)
-        | inr miss ↦ rw (set, miss) (known name)
-      ]
-
-  -- an accepted login that leaves the name's text
-  same_keeps : (before after : Store) (n given drawn : List ℕ) (v : Phc) (did : Accepted) (older : List Event) (name : List ℕ) →
-      source name (logging_in n given drawn (Ok did)) ≡ None → get before n ≡ Some v → AcceptsBy target.secret given v →
-      (did ≢ Kept → IsCurrent target v) → after ≡ before → Known target name older (get before name) →
-      Known target name (logging_in n given drawn (Ok did) ∷ older) (get after name)
-  same_keeps before after n given drawn v did older name none is accepts shows same known = elim (cases_Bool (bytes_eq name n)) [
-    | inl hit ↦
-        let found : get before name ≡ Some v = ap (get before) ((bytes_eq-Decides name n).0 hit) ∙ is in
-        let old = rw found at known in
-        rw (same, none, hit, found) (old.0, old.1, (accepts, shows))
-    | inr miss ↦ rw (same, none, miss) known
-  ]
+      let set = ap (λ m. get m name) step.3 ∙ get-set before n step.1 name in
+      let hit = (bytes_eq-Decides name n).0 in
+      let here = known name in
+      grind arith
 
   login_keeps : (before after : Store) (n given drawn : List ℕ) (o : Option Phc)
       (answer : Result Accepted LoginError) (older : List Event) →
@@ -77,20 +51,16 @@ module _ (target : Target)
   login_keeps before after n given drawn (Some v) (Err e) older is step known name = rw step.1 (known name)
   login_keeps before after n given drawn None (Ok did) older is step known name = absurd step
   login_keeps before after n given drawn (Some v) (Ok Current) older is step known name =
-      same_keeps before after n given drawn v Current older name refl is step.0 (λ _. step.1.0) step.1.1 (known name)
+      let here = known name in let hit = (bytes_eq-Decides name n).0 in grind arith
   login_keeps before after n given drawn (Some v) (Ok Kept) older is step known name =
-      same_keeps before after n given drawn v Kept older name refl is step.0 (λ other. absurd (other refl)) step.1.1 (known name)
+      let here = known name in let hit = (bytes_eq-Decides name n).0 in grind arith
   login_keeps before after n given drawn (Some v) (Ok Rehashed) older is step known name =
       let set = ap (λ m. get m name) step.1.2 ∙ get-set before n (hash_value target given drawn) name in
-      elim (cases_Bool (bytes_eq name n)) [
-        | inl hit ↦
-            rw (set, hit) (
-              refl,
-              made_phc given drawn step.1.1,
-              (made_accepts given drawn step.0.short, λ _. made_current given drawn),
-            )
-        | inr miss ↦ rw (set, miss) (known name)
-      ]
+      let here = known name in
+      let made = made_phc given drawn step.1.1 in
+      let accepts = made_accepts given drawn step.0.short in
+      let current = made_current given drawn in
+      grind arith
 
   step_keeps : (before after : Store) (event : Event) (older : List Event) → LoginStep target before event after →
       ((name : List ℕ) → Known target name older (get before name)) →

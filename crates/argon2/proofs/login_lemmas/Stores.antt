@@ -1,6 +1,6 @@
 -- Stores: one name set, names added, and the tree that a store stands for.
-use Rattle.std.proofs.Common.{◌≡◌, ℕ, List, [], ◌∷◌, Option, Some, None, Bool, true, false, if◌then◌else◌, string_bytes, inl, inr, refl, sym, ap, ◌∙◌, arith}
-use Rattle.std.proofs.lemmas.Bool.{and_parts, cases_Bool}
+use Rattle.std.proofs.Common.{◌≡◌, ℕ, List, [], ◌∷◌, Option, Some, None, Bool, true, false, if◌then◌else◌, string_bytes, refl, sym, ap, ◌∙◌, arith}
+use Rattle.std.proofs.lemmas.Bool.{and_parts}
 use Rattle.std.proofs.lemmas.Map.Text.{is_eq-slice_cmp}
 use Rattle.std.proofs.lemmas.Slice.Eq.{bytes_eq-Decides}
 use Rattle.std.specs.Prelude.{String, IsSome}
@@ -13,8 +13,7 @@ use Rattle.std.specs.List.Sorted.{IsStrictlySortedBy}
 use Rattle.std.specs.Map.{update, lookup, keys_of}
 use Rattle.std.specs.Option.{is_some, option_map, option_or}
 use Rattle.std.specs.Cmp.{Equal-is}
-use Rattle.std.specs.Ordering.{eq_by_cmp, is_eq, is_lt, nat_cmp}
-use Rattle.std.specs.declared.cmp.Ordering.{Ordering}
+use Rattle.std.specs.Ordering.{is_lt, nat_cmp}
 use Rattle.std.specs.declared.cmp.Ordering.TheVariants.{Equal, Less}
 use Rattle.std.specs.String.{string_cmp}
 use Rattle.std.specs.Str.{bytes_eq}
@@ -47,16 +46,15 @@ insert-same m n v has =
 
 -- ---- names that are added
 
-is_eq-less : (r s : Ordering) → r ≡ s → is_lt s ≡ true → is_eq r ≡ false
-is_eq-less r s e h = grind arith
-
 -- a name that stands before all others is not among them
 none_below : (n q : List ℕ) (es : List (List ℕ × Phc)) → slice_cmp nat_cmp q n ≡ Equal →
     below_all (slice_cmp nat_cmp) n es ≡ true → find (slice_cmp nat_cmp) q es ≡ None
 none_below n q [] e h = refl
 none_below n q (x ∷ es) e h =
     let parts = and_parts (is_lt (slice_cmp nat_cmp n x.0)) _ h in
-    rw (is_eq-less _ _ (nat_list_cmp_total.congr q n x.0 e) parts.0) (none_below n q es e parts.1)
+    let same = nat_list_cmp_total.congr q n x.0 e in
+    let rest = none_below n q es e parts.1 in
+    grind arith
 
 -- what a store has after names in order are added
 get-added : (es : List (List ℕ × Phc)) (m : Store) (q : List ℕ) → is_sorted (slice_cmp nat_cmp) es ≡ true →
@@ -64,13 +62,11 @@ get-added : (es : List (List ℕ × Phc)) (m : Store) (q : List ℕ) → is_sort
 get-added [] m q h = refl
 get-added (x ∷ es) m q h =
     let parts = and_parts (below_all (slice_cmp nat_cmp) x.0 es) _ h in
-    let rest = get-added es (insert m x.0 x.1) q parts.1
-    ∙ ap (option_or (find (slice_cmp nat_cmp) q es)) (get-insert nat_list_cmp_total m x.0 x.1 q) in
-    elim (cases_Bool (eq_by_cmp (slice_cmp nat_cmp) q x.0)) [
-      | inl hit ↦
-          rest ∙ rw (hit, none_below x.0 q es ((Equal-is (slice_cmp nat_cmp q x.0)).0 hit) parts.0) refl
-      | inr miss ↦ rest ∙ rw miss refl
-    ]
+    let rest = get-added es (insert m x.0 x.1) q parts.1 in
+    let set = get-insert nat_list_cmp_total m x.0 x.1 q in
+    let none = none_below x.0 q es in
+    let hit = Equal-is (slice_cmp nat_cmp q x.0) in
+    grind arith
 
 map_cond : (b : Bool) (h : PasswordHash) (o : Option PasswordHash) →
     (if b then Some (phc_of h) else option_map phc_of o) ≡ option_map phc_of (if b then Some h else o)
