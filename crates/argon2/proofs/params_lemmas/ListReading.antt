@@ -1,15 +1,12 @@
 -- Reading the items of a parameter list one after another.
-use Rattle.std.proofs.Common.{◌≡◌, ℕ, ◌&&◌, true, List, [], ◌∷◌, codes, length, Option, Some, None, Result, Ok, Err, refl, arith}
+use Rattle.std.proofs.Common.{◌≡◌, ℕ, true, List, [], ◌∷◌, codes, Option, Some, None, Result, Ok, Err, refl, arith}
 use Rattle.std.specs.Option.{option_or, option_and_then}
-use Rattle.std.specs.List.{list_all}
-use Rattle.std.specs.Prelude.{is_none, nat_le}
 use Rattle.argon2_base.specs.Texts.{number_of}
-use Rattle.std.proofs.lemmas.Bool.{and_parts}
 use Rattle.std.proofs.lemmas.Slice.Eq.{bytes_eq-Decides}
 use Rattle.std.specs.Result.{IsErr, IsErrAnd}
 use Rattle.argon2_base.specs.Error.{Fault, fault_of, outcome_of}
 use Rattle.argon2_base.specs.declared.error.password_hash.Error.{Error as HashError}
-use Rattle.argon2_base.specs.PhcText.{Pair, are_distinct, are_params, is_param, params_text, value_of}
+use Rattle.argon2_base.specs.PhcText.{Pair, are_distinct, are_params, value_of}
 use Rattle.argon2.specs.ListedParameters.{Items, unless_fault, item_fault, item_taken, items_fault, items_of, items_over, items_read, short_bytes}
 
 -- What was read, if `rest` is left.
@@ -31,20 +28,12 @@ over_none ps = simp or_none
 
 -- before the first item nothing is read
 pub nothing_read : (list : List Pair) → are_params list ≡ true → Reading list list no_items
-nothing_read list params =
-    let grammar = and_parts (list_all is_param list && are_distinct list) (nat_le (length (params_text list)) 127) params in
-    record {
-      names = (and_parts (list_all is_param list) (are_distinct list) grammar.0).1;
-      fault = refl;
-      items = over_none list;
-    }
+nothing_read list params = record { names = grind arith; fault = refl; items = over_none list }
 
 -- the name of the first item stands in no other
 named_once : (item : Pair) (rest : List Pair) → are_distinct (item ∷ rest) ≡ true
     → (value_of item.0 rest ≡ None) × (are_distinct rest ≡ true)
-named_once item rest names =
-    let parts = and_parts (is_none (value_of item.0 rest)) (are_distinct rest) names in
-    (grind arith, parts.1)
+named_once item rest names = grind arith
 
 -- a value that is read by `read`, if there is one, else what was found before
 abbrev found_over : {X : Type 0} → (List ℕ → Option X) → Option (List ℕ) → Option X → Option X
@@ -81,11 +70,8 @@ pub one_more : (list rest : List Pair) (item : Pair) (before after : Items) → 
 one_more list rest item before after r taken =
     let parts = taken_parts (item_fault item) after (items_over (item ∷ []) before) taken in
     let once = named_once item rest r.names in
-    record {
-      names = once.1;
-      fault = rw parts.0 at r.fault;
-      items = rw (parts.1, items_next item rest before once.0) r.items;
-    }
+    let next = items_next item rest before once.0 in
+    record { names = once.1; fault = rw parts.0 at r.fault; items = rw (parts.1, next) r.items }
 
 -- if it is refused
 refusal_is : (fault : Option Fault) (items : Items) (f : Fault) → Err f ≡ unless_fault fault (Ok items) → fault ≡ Some f

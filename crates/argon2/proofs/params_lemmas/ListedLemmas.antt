@@ -1,5 +1,5 @@
 -- What parameters are listed as is in the grammar.
-use Rattle.std.proofs.Common.{◌≡◌, ℕ, ◌+◌, ◌^◌, ◌<◌, ◌≤◌, true, List, [], ◌∷◌, ◌++◌, length, codes, refl, arith, length-append}
+use Rattle.std.proofs.Common.{◌≡◌, ℕ, ◌+◌, ◌^◌, ◌<◌, ◌≤◌, true, List, [], ◌∷◌, length, refl, arith, length-append}
 use Rattle.std.proofs.lemmas.Bool.{le-leb}
 use Rattle.std.proofs.lemmas.Fmt.{decimal_nonempty, length-decimal-le}
 use Rattle.std.specs.Fmt.{decimal}
@@ -7,9 +7,8 @@ use Rattle.std.specs.List.{list_all, sum_by}
 use Rattle.std.proofs.lemmas.List.Sums.{sum_by-cons}
 use Rattle.argon2_base.specs.Texts.{IsBytes, is_value, is_value_char, strict_base64}
 use Rattle.argon2_base.specs.PhcText.{Pair, are_params, params_text, is_param, are_distinct, item}
-use Rattle.argon2.specs.ListedParameters.{bytes_item, parameter_items}
+use Rattle.argon2.specs.ListedParameters.{parameter_items}
 use Rattle.argon2_base.proofs.phc_lemmas.Base64Lemmas.{length-strict_base64}
-use Rattle.argon2_base.proofs.phc_lemmas.ParamsReading.{params_front}
 use Rattle.argon2_base.proofs.phc_lemmas.ValueCharacters.{decimal_chars, base64_chars}
 
 -- a cost under its name
@@ -65,29 +64,3 @@ listed_good m t p (x ∷ k) (y ∷ d) hm ht hp bk bd lk ld =
     good_from (parameter_items m t p (x ∷ k) (y ∷ d))
     (rw (decimal_value m hm, decimal_value t ht, decimal_value p hp, keyid, base64_value y d bd ld) refl) refl
     (omega (arith, length-cost, length-strict_base64))
-
--- the list as it grows
-pub record Fronts (m t p : ℕ) (k d : List ℕ) : Type 0 where
-  pub memory : are_params (cost_item (codes "m") m ∷ []) ≡ true
-  pub passes : are_params (cost_item (codes "m") m ∷ cost_item (codes "t") t ∷ []) ≡ true
-  pub lanes : are_params (cost_item (codes "m") m ∷ cost_item (codes "t") t ∷ cost_item (codes "p") p ∷ []) ≡ true
-  pub keyid : are_params
-      (cost_item (codes "m") m ∷ cost_item (codes "t") t ∷ cost_item (codes "p") p ∷ bytes_item (codes "keyid") k) ≡ true
-  pub whole : are_params (parameter_items m t p k d) ≡ true
-
-pub listed_fronts : (m t p : ℕ) (k d : List ℕ) → m < 2 ^ 32 → t < 2 ^ 32 → p < 2 ^ 32 → IsBytes k → IsBytes d
-    → length k ≤ 8 → length d ≤ 32 → Fronts m t p k d
-listed_fronts m t p k d hm ht hp bk bd lk ld =
-    let mt : List Pair = cost_item (codes "m") m ∷ cost_item (codes "t") t ∷ [] in
-    let mtp : List Pair = cost_item (codes "m") m ∷ cost_item (codes "t") t ∷ cost_item (codes "p") p ∷ [] in
-    let keyid : List Pair = bytes_item (codes "keyid") k in
-    let rest : List Pair = bytes_item (codes "data") d in
-    let whole : are_params (parameter_items m t p k d) ≡ true = listed_good m t p k d hm ht hp bk bd lk ld in
-    record {
-      memory = params_front (cost_item (codes "m") m ∷ [])
-          (cost_item (codes "t") t ∷ cost_item (codes "p") p ∷ (keyid ++ rest)) whole;
-      passes = params_front mt (cost_item (codes "p") p ∷ (keyid ++ rest)) whole;
-      lanes = params_front mtp (keyid ++ rest) whole;
-      keyid = params_front (mtp ++ keyid) rest whole;
-      whole = whole;
-    }

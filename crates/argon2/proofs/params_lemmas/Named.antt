@@ -1,8 +1,7 @@
 -- Algorithms by their names and versions by their numbers.
-use Rattle.std.proofs.Common.{◌≡◌, ◌≢◌, ℕ, List, Bool, false, Some, None, Result, Ok, Err, refl, arith}
-use Rattle.std.specs.Bool.{Decides}
+use Rattle.std.proofs.Common.{◌≡◌, ◌≢◌, ℕ, List, Some, None, Result, Ok, Err, arith}
 use Rattle.std.specs.Result.{result_ok}
-use Rattle.std.proofs.lemmas.Bool.Decides.{Decides-eqb}
+use Rattle.std.proofs.lemmas.Bool.Decides.{nat_tests}
 use Rattle.std.proofs.lemmas.Slice.Eq.{bytes_eq-Decides}
 use Rattle.argon2.specs.declared.algorithm.Algorithm.{Algorithm}
 use Rattle.argon2.specs.declared.algorithm.Algorithm.TheVariants.{Argon2d, Argon2i, Argon2id}
@@ -12,36 +11,22 @@ use Rattle.argon2.specs.Settings.{IsReadBy, algorithm_name, algorithm_named, ver
 use Rattle.argon2_base.specs.declared.error.password_hash.Error.{Error as HashError}
 use Rattle.argon2_base.specs.declared.error.password_hash.Error.TheVariants.{Algorithm as NoAlgorithm}
 
--- a test of what does not hold fails
-false_by_decides : {P : Type 0} (test : Bool) → Decides test P → (P → ⊥) → test ≡ false
-false_by_decides test d not = grind arith
-
 -- a variant is found by its name
 pub algorithm_named-name : (algorithm : Algorithm) → algorithm_named (algorithm_name algorithm) ≡ Some algorithm
-algorithm_named-name Argon2d = refl
-algorithm_named-name Argon2i = refl
-algorithm_named-name Argon2id = refl
+algorithm_named-name algorithm = grind arith
 
 -- by a name that no variant has none is found
 pub algorithm_named-no : (name : List ℕ) → ((algorithm : Algorithm) → name ≢ algorithm_name algorithm)
     → algorithm_named name ≡ None
-algorithm_named-no name other =
-    let d = false_by_decides _ (bytes_eq-Decides name (algorithm_name Argon2d)) (other Argon2d) in
-    let i = false_by_decides _ (bytes_eq-Decides name (algorithm_name Argon2i)) (other Argon2i) in
-    let id = false_by_decides _ (bytes_eq-Decides name (algorithm_name Argon2id)) (other Argon2id) in
-    rw (d, i, id) refl
+algorithm_named-no name other = grind (arith, bytes_eq-Decides, other Argon2d, other Argon2i, other Argon2id)
 
 -- a version is found by its number
 pub version_numbered-number : (version : Version) → version_numbered (version_number version) ≡ Some version
-version_numbered-number V0x10 = refl
-version_numbered-number V0x13 = refl
+version_numbered-number version = grind arith
 
 -- by a number that no version has none is found
 pub version_numbered-no : (number : ℕ) → ((version : Version) → number ≢ version_number version) → version_numbered number ≡ None
-version_numbered-no number other =
-    let old = false_by_decides _ (Decides-eqb number 16) (other V0x10) in
-    let new = false_by_decides _ (Decides-eqb number 19) (other V0x13) in
-    rw (old, new) refl
+version_numbered-no number other = grind (arith, nat_tests, other V0x10, other V0x13)
 
 -- what a name in a text is answered is what is found by it
 pub algorithm_named-text : (name : List ℕ) (r : Result Algorithm HashError)
