@@ -1,6 +1,6 @@
 -- What is made is in the grammar, is accepted, and shows the settings.
 use Rattle.std.proofs.Common.{◌≡◌, ℕ, ◌^◌, ◌<◌, ◌≤◌, true, List, length, Option, Some, None, Result, Ok, refl, sym, ap, arith}
-use Rattle.std.specs.Prelude.{IsNone, unwrap_or}
+use Rattle.std.specs.Prelude.{IsNone}
 use Rattle.std.proofs.lemmas.Bool.Decides.{nat_tests}
 use Rattle.std.proofs.lemmas.List.{length-take}
 use Rattle.argon2_base.specs.Texts.{IsBytes, is_name}
@@ -10,7 +10,6 @@ use Rattle.argon2_base.specs.PhcText.{HasBytes, IsPhc, Pair, Phc, phc_text}
 use Rattle.argon2_base.specs.declared.error.Error.{Error}
 use Rattle.argon2_base.specs.declared.error.password_hash.Error.{Error as HashError}
 use Rattle.argon2.specs.declared.algorithm.Algorithm.{Algorithm}
-use Rattle.argon2.specs.declared.algorithm.Algorithm.TheVariants.{Argon2d, Argon2i, Argon2id}
 use Rattle.argon2.specs.declared.version.Version.{Version}
 use Rattle.argon2.specs.StoredTexts.{Accepts, AcceptsBy, shown_settings}
 use Rattle.argon2.specs.declared.context.Argon2.{Argon2}
@@ -46,18 +45,8 @@ is_target argon2 fits = record {
 abbrev fault_with : Parameters → Option ℕ → Option Error
 fault_with v o = first_fault v.m_cost v.t_cost v.p_cost o
 
-few_lanes : (v : Parameters) (o : Option ℕ) → fault_with v o ≡ None → v.p_cost < 2 ^ 32
-few_lanes v o h = grind (arith, nat_tests)
-
--- an output length is at least 4, and so is the one of a hash if none is set
-set_length : (v : Parameters) (o : Option ℕ) → fault_with v o ≡ None
-    → (fault_with v (Some (unwrap_or o 32)) ≡ None) × (4 ≤ unwrap_or o 32)
-set_length v o h = grind (arith, nat_tests)
-
 is_name-name : (algorithm : Algorithm) → is_name (algorithm_name algorithm) ≡ true
-is_name-name Argon2d = refl
-is_name-name Argon2i = refl
-is_name-name Argon2id = refl
+is_name-name algorithm = grind arith
 
 version_small : (version : Version) → version_number version < 2 ^ 32
 version_small version = grind arith
@@ -67,11 +56,12 @@ module _ (target : Target) (is : IsTarget target) (password salt : List ℕ) whe
   valid = none_of (fault_with target.settings.parameters target.settings.parameters.output_len) is.valid
 
   lanes : target.settings.parameters.p_cost < 2 ^ 32
-  lanes = few_lanes target.settings.parameters target.settings.parameters.output_len valid
+  lanes = let costs = valid in grind (arith, nat_tests)
 
+  -- an output length is at least 4, and so is the one of a hash if none is set
   sized_valid : (fault_with target.settings.parameters (Some (tag_length target.settings)) ≡ None)
       × (4 ≤ tag_length target.settings)
-  sized_valid = set_length target.settings.parameters target.settings.parameters.output_len valid
+  sized_valid = let costs = valid in grind (arith, nat_tests)
 
   abbrev hash : List ℕ
   hash = tag_of (context_with target.settings target.secret) password salt (tag_length target.settings)

@@ -1,13 +1,12 @@
 -- How long a tag is that fits into a text, and that it is of bytes.
 use Rattle.std.proofs.lemmas.Grind.{common_steps}
-use Rattle.std.proofs.Common.{◌-◌, ◌≡◌, ℕ, zero, suc, ◌+◌, ◌*◌, ◌<◌, ◌≤◌, List, [], ◌∷◌, ◌++◌, length, take, refl, arith, length-append}
+use Rattle.std.proofs.Common.{◌-◌, ◌≡◌, ℕ, zero, suc, ◌+◌, ◌*◌, ◌≤◌, List, [], ◌∷◌, ◌++◌, length, take, refl, arith, length-append}
 use Rattle.std.proofs.lemmas.List.{length-take}
-use Rattle.std.specs.Int.{w32, w64, to_le_bytes, byte_at, bytes_low_first}
+use Rattle.std.specs.Int.{w32, w64, to_le_bytes, bytes_low_first}
 use Rattle.std.specs.List.{flat_map}
 use Rattle.argon2_base.specs.Texts.{IsBytes}
 use Rattle.argon2_base.specs.Blake2b.{blake2b, blocks, compress, hash_blocks, initial_state}
 use Rattle.argon2_base.specs.Block.{bytes_of}
-use Rattle.argon2_base.specs.LongHash.{long_hash}
 use Rattle.argon2_base.proofs.blake2b_lemmas.Pieces.{long_hash_short}
 use Rattle.argon2.specs.Rfc9106.{Context, first_block, last_block, tag_of}
 
@@ -19,12 +18,9 @@ IsBytes-append a b ha hb i = grind (arith, common_steps, ha i, hb (i - length a)
 IsBytes-take : (n : ℕ) (a : List ℕ) → IsBytes a → IsBytes (take n a)
 IsBytes-take n a h i = grind (arith, common_steps, h i)
 
-byte_small : (i n : ℕ) → byte_at i n < 256
-byte_small i n = grind arith
-
 IsBytes-low_first : (i k n : ℕ) → IsBytes (bytes_low_first i k n)
 IsBytes-low_first i zero n j = omega arith
-IsBytes-low_first i (suc k) n zero = byte_small i n
+IsBytes-low_first i (suc k) n zero = grind arith
 IsBytes-low_first i (suc k) n (suc j) = IsBytes-low_first (suc i) k n j
 
 -- ---- digests
@@ -56,14 +52,11 @@ HasBytes-digest n m h =
 
 -- ---- tags
 
-hashed_short : (n : ℕ) (m : List ℕ) → n ≤ 64 → IsBytes (long_hash n m) × (length (long_hash n m) ≡ n)
-hashed_short n m h =
-    let prefixed : List ℕ = to_le_bytes w32 n ++ m in
-    let is : blake2b n prefixed ≡ long_hash n m = long_hash_short n m (blake2b n prefixed) h refl in
-    rw is at (HasBytes-digest n prefixed h)
-
 -- a tag of at most 64 bytes
 pub tag_bytes : (ctx : Context) (password salt : List ℕ) (n : ℕ) → n ≤ 64
     → IsBytes (tag_of ctx password salt n) × (length (tag_of ctx password salt n) ≡ n)
 unfolding tag_of
-tag_bytes ctx password salt n h = hashed_short n (bytes_of (last_block ctx (first_block ctx password salt n))) h
+tag_bytes ctx password salt n h =
+    let last : List ℕ = bytes_of (last_block ctx (first_block ctx password salt n)) in
+    rw (long_hash_short n last (blake2b n (to_le_bytes w32 n ++ last)) h refl) at
+    (HasBytes-digest n (to_le_bytes w32 n ++ last) h)
