@@ -1,5 +1,5 @@
 -- The engine without padding reads and writes strict Base64, and nothing else.
-use Rattle.std.proofs.Common.{◌≡◌, ◌≢◌, ℕ, zero, suc, ◌+◌, ◌*◌, ◌/◌, ◌<◌, ◌≤◌, Bool, true, ◌&&◌, nat_le, nat_lt, List, [], ◌∷◌, ◌++◌, length, take, drop, Ok, Err, codes, refl, sym, ◌∙◌, ap, arith, Result, Option, Some, None}
+use Rattle.std.proofs.Common.{◌≡◌, ◌≢◌, ℕ, zero, suc, ◌+◌, ◌*◌, ◌/◌, ◌<◌, ◌≤◌, Bool, true, ◌&&◌, nat_le, nat_lt, List, [], ◌∷◌, ◌++◌, length, take, drop, Ok, Err, refl, sym, ◌∙◌, ap, arith, Result, Option, Some, None}
 use Rattle.std.proofs.lemmas.Bool.{and_parts, le-leb, leb-true, lt-ltb, ltb-true}
 use Rattle.std.proofs.lemmas.List.{append-nil}
 use Rattle.std.proofs.lemmas.Str.{IsUtf8-from_ascii}
@@ -117,16 +117,3 @@ strict_base64_written b old new len same fits small put =
 pub IsUtf8-strict_base64 : (b : List ℕ) → IsUtf8 (strict_base64 b)
 IsUtf8-strict_base64 b = rw (encode_of-strict b) at
     (IsUtf8-from_ascii (encode_of standard_no_pad b) (IsAscii-encode_of standard_no_pad b))
-
--- the values of RFC 4648, section 10, without their padding
-pub fooba : strict_base64 (codes "fooba") ≡ codes "Zm9vYmE"
-unfolding encode_symbols strict_base64
-fooba = refl
-
-pub foob : strict_base64 (codes "foob") ≡ codes "Zm9vYg"
-unfolding encode_symbols strict_base64
-foob = refl
-
-pub foobar : strict_base64 (codes "foobar") ≡ codes "Zm9vYmFy"
-unfolding encode_symbols strict_base64
-foobar = refl
