@@ -1,30 +1,22 @@
 -- What calls of the login store leave, why `add` refuses, and the names of a store one after the other.
 use Rattle.std.proofs.Common.{◌≡◌, ℕ, ◌≤◌, List, [], ◌∷◌, Option, Some, None, true, Result, Ok, Err, inl, inr, refl, ap, ◌∙◌}
 use Rattle.std.proofs.lemmas.Bool.{and_parts, cases_Bool}
-use Rattle.std.specs.Prelude.{◌≢◌, IfErr, IsErr, IsErrAnd, IsOk, IsSomeAnd, OnOk}
+use Rattle.std.specs.Prelude.{◌≢◌, IfErr, IsErr, IsErrAnd, IsOk, OnOk}
 use Rattle.std.specs.Cmp.{tied_itself}
 use Rattle.std.specs.Cmp.Lexicographic.{slice_cmp, nat_list_cmp_total}
 use Rattle.std.specs.FinMap.{empty, entries, entries_sorted, get, get-empty, is_sorted}
 use Rattle.std.specs.FinMap.Entries.{below_all}
 use Rattle.std.specs.List.{AllByRecursion}
 use Rattle.std.specs.Ordering.{is_lt, nat_cmp}
-use Rattle.argon2.specs.Login.{AcceptedStep, AddStep, LoginAnswer, store_of, login_target}
+use Rattle.argon2.specs.Login.{AddStep, store_of}
 use Rattle.argon2.specs.NamedTexts.{Store, KeepsOthers}
 use Rattle.argon2.specs.TextHashing.{Target, IsHashAnswer, hash_outcome, tag_length}
 use Rattle.argon2.specs.PhcText.{Phc, PhcText}
 use Rattle.argon2.specs.base_declared.phc.hash.PasswordHash.{PasswordHash}
-use Rattle.argon2.specs.declared.login.answers.Accepted.{Accepted}
 use Rattle.argon2.specs.declared.login.Login.{Login}
 use Rattle.argon2.specs.declared.login.answers.LoginError.{LoginError}
 use Rattle.argon2.specs.declared.login.answers.LoginError.TheVariants.{NameTaken, NameUnknown, OutOfMemory, Refused, Text}
 use Rattle.argon2_uses.specs.Login.{MoveRefusal, RegisterRefusal}
-
--- what an accepted `login` leaves
-pub login_leaves : (old : Login) (name password drawn : List ℕ) (found : Option Phc) (did : Accepted) (after : Store) →
-    LoginAnswer (login_target old) (store_of old) name password drawn found (Ok did) after →
-    IsSomeAnd found (λ v. AcceptedStep (login_target old) (store_of old) name password drawn v did after)
-login_leaves old name password drawn None did after step = absurd step
-login_leaves old name password drawn (Some v) did after step = step.1
 
 -- what `add` of a text leaves
 pub add_gives : (answer : Result (Unit {0}) LoginError) (o : Option Phc) (text : List ℕ) (v w : Phc) → PhcText text v →

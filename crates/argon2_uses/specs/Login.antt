@@ -1,26 +1,29 @@
 -- What a service asks of its login store.
-use Rattle.std.specs.Prelude.{◌≡◌, ◌≤◌, ◌⊎◌, ℕ, List, Option, Some, None, Result, Ok, Err, IsErrAnd, IsOk, IsSome, IsSomeAnd}
+use Rattle.std.specs.Prelude.{◌≡◌, ◌≢◌, ◌≤◌, ◌⊎◌, ℕ, List, Option, Some, None, Result, Ok, Err, IsErrAnd, IsOk, IsSome, IsSomeAnd}
 use Rattle.std.specs.FinMap.{get}
 use Rattle.argon2.specs.StoredTexts.{AcceptsBy}
-use Rattle.argon2.specs.Login.{AcceptedStep, AddStep, IsNew, LoginAnswer, store_of, login_target}
+use Rattle.argon2.specs.Login.{AddStep, IsNew, LoginAnswer, Steps, logging_in, login_target, store_of}
 use Rattle.argon2.specs.NamedTexts.{Store}
 use Rattle.argon2.specs.TextHashing.{Target, IsHashAnswer, hash_outcome, tag_length}
 use Rattle.argon2.specs.declared.login.Login.{Login}
 use Rattle.argon2.specs.declared.login.answers.Accepted.{Accepted}
 use Rattle.argon2.specs.declared.login.answers.LoginError.{LoginError}
-use Rattle.argon2.specs.declared.login.answers.LoginError.TheVariants.{NameTaken, OutOfMemory, Refused}
+use Rattle.argon2.specs.declared.login.answers.LoginError.TheVariants.{NameTaken, NameUnknown, OutOfMemory, Refused}
+use Rattle.argon2.specs.base_declared.error.password_hash.Error.TheVariants.{PasswordInvalid}
 
 -- under a secret, the name's text accepts the password
 abbrev pub HasPasswordUnder : List ℕ → Login → List ℕ → List ℕ → Type 0
 HasPasswordUnder secret login name password =
     IsSomeAnd (get (store_of login) name) (AcceptsBy secret password)
 
--- what a login finds and leaves: a current text that stays, one that was not current and was made
--- anew, or one that is not current and stays; else all is as it was
+-- what a login answers and leaves, of which an unknown name and a wrong password are no errors here
 abbrev pub FindsAndLeaves : Login → List ℕ → List ℕ → List ℕ → Result (Option Accepted) LoginError → Login → Type 0
-FindsAndLeaves old name password drawn (Ok (Some did)) new = IsSomeAnd (get (store_of old) name) (λ v.
-    AcceptedStep (login_target old) (store_of old) name password drawn v did (store_of new))
-FindsAndLeaves old name password drawn _ new = store_of new ≡ store_of old
+FindsAndLeaves old name password drawn (Ok (Some did)) new = Steps (logging_in name password drawn (Ok did)) old new
+FindsAndLeaves old name password drawn (Ok None) new =
+    Steps (logging_in name password drawn (Err NameUnknown)) old new
+    ⊎ Steps (logging_in name password drawn (Err (Refused PasswordInvalid))) old new
+FindsAndLeaves old name password drawn (Err e) new =
+    Steps (logging_in name password drawn (Err e)) old new × (e ≢ NameUnknown) × (e ≢ Refused PasswordInvalid)
 
 -- why a name is not registered with a password and a salt: no text is made, or else `add` refuses it
 abbrev pub RegisterRefusal : Target → Login → List ℕ → List ℕ → List ℕ → LoginError → Type 0
