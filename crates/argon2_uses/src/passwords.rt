@@ -1,13 +1,13 @@
 //! Passwords as stored texts, under the default settings and no secret.
 
-ghost use Rattle.std.specs.Prelude.{◌≡◌, ◌↔◌, ◌⊎◌, [], Err, IsTrue, IfOk, IfErr, MatchResult};
+ghost use Rattle.std.specs.Prelude.{◌≡◌, ◌↔◌, ◌⊎◌, [], IsTrue, IfOk, MatchResult};
 ghost use Rattle.rand_core.specs.Stream.{fill_bytes};
-ghost use Rattle.argon2.specs.StoredTexts.{Accepts, IsVerifyTextAnswer};
+ghost use Rattle.argon2.specs.StoredTexts.{Accepts};
 ghost use Rattle.argon2.specs.TextHashing.{IsHashAnswer};
 ghost use Rattle.argon2.specs.PhcFields.{phc_of};
 ghost use Rattle.argon2.specs.PhcText.{phc_text};
 ghost use Rattle.argon2.specs.base_declared.error.password_hash.Error.TheVariants.{OutOfMemory};
-ghost use Rattle.argon2_uses.specs.Passwords.{default_target};
+ghost use Rattle.argon2_uses.specs.Passwords.{default_target, IsAcceptedAnswer};
 
 use argon2::password_hash::{Error, Result};
 use argon2::{Argon2, PasswordHash, PasswordHasher, PasswordVerifier};
@@ -24,10 +24,13 @@ pub fn stored<R: Rng>(alloc: Global, rng: &mut R, password: &[u8]) -> Result<Pas
 }
 
 /// Whether a stored text accepts a password.
+///
+/// # Errors
+/// Those of [`PasswordVerifier::verify_password`] but `PasswordInvalid`, for which the answer is false.
 pub fn is_accepted(alloc: Global, password: &[u8], text: &str) -> Result<bool>
     ensures answer { MatchResult result (λ yes. IsTrue yes ↔ Accepts [] password.now text.now)
         (λ e. (e ≡ OutOfMemory) ⊎ (Accepts [] password.now text.now → ⊥)) }
-    ensures refused { IfErr result (λ e. IsVerifyTextAnswer [] password.now text.now (Err e)) }
+    ensures verified { IsAcceptedAnswer password.now text.now result }
 {
     match Argon2::default().verify_password(alloc, password, text) {
         Ok(()) => Ok(true),
