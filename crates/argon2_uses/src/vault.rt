@@ -3,8 +3,8 @@
 //! A passphrase and the salt of the vault's header give 64 bytes. The first half of them is the key,
 //! which is stored nowhere; the other half is the tag in the header.
 
-ghost use Rattle.std.specs.Prelude.{◌≡◌, ◌≤◌, ◌↔◌, IsOk, IfOk, IfErr, MatchOption, length, take, drop};
-ghost use Rattle.argon2.specs.Argon2.{context_of, secret_of, settings_of};
+ghost use Rattle.std.specs.Prelude.{◌≡◌, IfOk, IfErr, MatchOption, take, drop};
+ghost use Rattle.argon2.specs.Argon2.{IsKeyed, context_of};
 ghost use Rattle.argon2.specs.Rfc9106.{tag_of};
 ghost use Rattle.argon2_uses.specs.Vault.{recommended, key_of, Opens, VaultRefusal};
 
@@ -23,10 +23,11 @@ pub struct Header {
 
 /// What vaults are sealed under: a secret, and the second of the options that RFC 9106, section 4,
 /// recommends, which takes 64 MiB.
+///
+/// # Errors
+/// [`Error::SecretTooLong`](argon2::error::Error::SecretTooLong) if the secret has more than 4294967295 bytes.
 pub fn lock(secret: &[u8]) -> Result<Argon2<'_>>
-    ensures short { IsOk result ↔ (length secret.now ≤ 4294967295) }
-    ensures settings { IfOk result (λ argon2. settings_of argon2 ≡ recommended) }
-    ensures secret { IfOk result (λ argon2. secret_of argon2 ≡ secret.now) }
+    ensures { IsKeyed recommended secret.now result }
 {
     let params = Params::new(65536, 3, 4, None)?;
     Ok(Argon2::new_with_secret(secret, Algorithm::Argon2id, Version::V0x13, params)?)
