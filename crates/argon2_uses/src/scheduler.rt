@@ -7,7 +7,7 @@
 ghost use Rattle.std.specs.Prelude.{◌≡◌, ◌<◌, ◌≤◌, OnOk, OnErr, length};
 ghost use Rattle.argon2.specs.Argon2.{context_of};
 ghost use Rattle.argon2.specs.Rfc9106.{IsValid, block_count, tag_of};
-ghost use Rattle.argon2.specs.Hashing.{blocks_of, refusal_of};
+ghost use Rattle.argon2.specs.Hashing.{KeepsRest, blocks_of, refusal_of};
 ghost use Rattle.argon2.specs.Refusals.{answer_unless};
 ghost use Rattle.argon2.specs.Steps.{run};
 ghost use Rattle.argon2_uses.specs.Scheduler.{lanes_in_rounds};
@@ -15,7 +15,8 @@ ghost use Rattle.argon2_uses.specs.Scheduler.{lanes_in_rounds};
 use argon2::laws::slice_interleaving;
 use argon2::{Argon2, Block, Result};
 
-/// Writes the tag of a password and a salt into `out`, by single steps.
+/// Writes the tag of a password and a salt into `out`, by single steps on the first blocks of `memory`; the
+/// blocks behind them stay.
 ///
 /// # Errors
 /// Those of [`Argon2::hash_password_into_with_memory`]; output and memory are then as before.
@@ -30,6 +31,7 @@ pub fn hash_in_rounds(
         salt.now (length memory.old)) tt }
     ensures tag { OnOk result (out.new
         ≡ tag_of (context_of argon2.now) password.now salt.now (length out.old)) }
+    ensures rest { KeepsRest (context_of argon2.now) memory.old memory.new }
     ensures same_output { OnErr result (out.new ≡ out.old) }
     ensures same_memory { OnErr result (memory.new ≡ memory.old) }
 {
@@ -50,8 +52,9 @@ fn fill_slice(argon2: &Argon2<'_>, memory: &mut [Block], pass: u32, slice: u32)
     requires in_passes { pass < (context_of argon2.now).t_cost }
     requires in_slices { slice < 4 }
     requires room { block_count (context_of argon2.now) ≤ length memory.old }
-    ensures { let ctx = context_of argon2.now in blocks_of ctx memory.new
+    ensures blocks { let ctx = context_of argon2.now in blocks_of ctx memory.new
         ≡ run ctx pass slice (lanes_in_rounds ctx pass slice) (blocks_of ctx memory.old) }
+    ensures rest { KeepsRest (context_of argon2.now) memory.old memory.new }
 {
     let params = argon2.params();
     let segment = params.lane_length() / 4;

@@ -13,8 +13,11 @@ loop-lane-init c =
     let ctx = context_of c.args.argon2.now in
     let columns = c.lane_length-segment.ensures
     ∙ ap (λ v. lane_length_for v.m_cost v.p_cost) c.params-params.ensures in
-    sym (run_begin ctx c.args.pass c.args.slice c.loop-index.index (blocks_of ctx c.loop-index.memory) (omega arith))
-    ∙ c.loop-index.invariant
+    record {
+      turns = sym (run_begin ctx c.args.pass c.args.slice c.loop-index.index (blocks_of ctx c.loop-index.memory) (omega arith))
+          ∙ c.loop-index.invariant.rounds;
+      rest = c.loop-index.invariant.rest;
+    }
 
 pub step_block-requires-clause-step : goal.step_block-requires-clause-step
 step_block-requires-clause-step c =
@@ -55,9 +58,12 @@ loop-lane-preserved c =
     let lanes = c.p_cost-lane-end.ensures.value ∙ ap (λ v. v.p_cost) c.params-params.ensures in
     let quarter : c.lane_length-segment.result / 4 ≡ s = omega arith in
     let stepped = c.step_block.ensures.step ∙ ap (λ x. step ctx memory c.args.pass lane (c.args.slice * x + i)) quarter in
-    ap (run ctx c.args.pass c.args.slice (left ctx (lane + 1) (s - (i + 1)))) stepped
-    ∙ sym (run_turn ctx c.args.pass c.args.slice lane i memory (omega arith) (omega arith))
-    ∙ c.loop-lane.invariant
+    record {
+      turns = ap (run ctx c.args.pass c.args.slice (left ctx (lane + 1) (s - (i + 1)))) stepped
+          ∙ sym (run_turn ctx c.args.pass c.args.slice lane i memory (omega arith) (omega arith))
+          ∙ c.loop-lane.invariant.turns;
+      rest = c.step_block.ensures.rest ∙ c.loop-lane.invariant.rest;
+    }
 
 pub loop-index-preserved : goal.loop-index-preserved
 loop-index-preserved c =
@@ -66,13 +72,16 @@ loop-index-preserved c =
     let memory = blocks_of ctx c.loop-lane.memory in
     let lanes = c.p_cost-lane-end.ensures.value ∙ ap (λ v. v.p_cost) c.params-params.ensures in
     let all : ctx.p_cost ≡ c.loop-lane.lane = omega arith in
-    sym (run_end ctx c.args.pass c.args.slice n memory)
-    ∙ ap (λ lane. run ctx c.args.pass c.args.slice (left ctx lane n) memory) all ∙ c.loop-lane.invariant
+    record {
+      rounds = sym (run_end ctx c.args.pass c.args.slice n memory)
+          ∙ ap (λ lane. run ctx c.args.pass c.args.slice (left ctx lane n) memory) all ∙ c.loop-lane.invariant.turns;
+      rest = c.loop-lane.invariant.rest;
+    }
 
-pub returns : goal.returns
-returns c =
+pub returns-clause-blocks : goal.returns-clause-blocks
+returns-clause-blocks c =
     let ctx = context_of c.args.argon2.now in
     let columns = c.lane_length-segment.ensures
     ∙ ap (λ v. lane_length_for v.m_cost v.p_cost) c.params-params.ensures in
     sym (run_no_round ctx c.args.pass c.args.slice c.loop-index.index (blocks_of ctx c.loop-index.memory) (omega arith))
-    ∙ c.loop-index.invariant
+    ∙ c.loop-index.invariant.rounds
