@@ -1,6 +1,6 @@
 //! Whether a text accepts a password under a secret, within a bound.
 
-ghost use Rattle.std.specs.Prelude.{◌≡◌, ◌⊎◌, ◌≤◌, ◌+◌, length};
+ghost use Rattle.std.specs.Prelude.{◌≡◌, ◌⊎◌, ◌≤◌, length};
 ghost use Rattle.std.specs.Result.{result_map_both};
 ghost use Rattle.argon2_base.specs.PhcFields.{phc_of};
 ghost use Rattle.argon2_base.specs.PhcText.{Phc, PhcText};
