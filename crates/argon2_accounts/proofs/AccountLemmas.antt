@@ -4,9 +4,9 @@ use Rattle.std.specs.FinMap.{get}
 use Rattle.std.proofs.lemmas.Slice.Eq.{bytes_eq-Decides}
 use Rattle.std.specs.Prelude.{◌≢◌, ◌<◌, IsTrue, length}
 use Rattle.std.specs.Result.{result_map_both}
+use Rattle.rand_core.specs.Stream.{Stream, fill_bytes}
 use Rattle.sqlite_trees.specs.declared.store.Store.{Ghosts}
 use Rattle.argon2_base.specs.PhcFields.{phc_of}
-use Rattle.argon2_base.specs.PhcText.{Phc}
 use Rattle.argon2_base.specs.declared.phc.hash.PasswordHash.{PasswordHash}
 use Rattle.argon2.specs.TextHashing.{HashingRefusal, IsFresh}
 use Rattle.argon2.specs.declared.bound.BoundError.{BoundError}
@@ -14,8 +14,9 @@ use Rattle.argon2.specs.Refusals.{max_len}
 use Rattle.argon2_base.specs.declared.error.password_hash.Error.{Error}
 use Rattle.argon2.specs.declared.bound.BoundError.TheVariants.{Refused, TooExpensive}
 use Rattle.argon2.specs.declared.login.answers.Accepted.{Accepted}
-use Rattle.argon2.specs.declared.login.answers.Accepted.TheVariants.{Rehashed}
-use Rattle.argon2_policy.specs.Policy.{Admits, ChangeRefusal, Denial, LogsIn, Policy}
+use Rattle.argon2.specs.declared.login.answers.Accepted.TheVariants.{Current, Kept, Rehashed}
+use Rattle.argon2_policy.proofs.PolicyLemmas.{denied}
+use Rattle.argon2_policy.specs.Policy.{Admits, ChangeRefusal, Denial, DrawsIfAdmitted, LogsIn, Policy}
 use Rattle.argon2_rows.proofs.RowLemmas.{get-changed}
 use Rattle.argon2_rows.specs.Names.{Texts, changed}
 use Rattle.argon2_rows.specs.Table.{IsHonest}
@@ -121,42 +122,61 @@ module _ (policy : Policy) (name password : List ℕ) (names : Texts) (h : Passw
   denies why denial = rw has (inr (inr (phc_of h, why, (h.grammatical, refl), denial, refl)))
 
   -- why a password is not changed
-  pub keeps : (fresh : List ℕ) (why : BoundError) → ChangeRefusal policy password fresh (phc_of h) why
-      → IsTrue (is_account_refusal (of_policy why)) → TextRefusal policy password (get names name) (of_policy why)
+  pub keeps : (fresh : List ℕ) (why : BoundError) (rng left : Stream)
+      → ChangeRefusal policy password fresh (phc_of h) why
+      → DrawsIfAdmitted {X = PasswordHash} policy password (phc_of h) (Err why) rng left
+      → IsTrue (is_account_refusal (of_policy why)) → (TextRefusal policy password (get names name) (of_policy why) × (left ≡ rng))
       ⊎ (AdmitsName policy names name password × (max_len < length fresh))
-  keeps fresh why (inl denial) is = inl (denies why denial)
-  keeps fresh TooExpensive (inr making) is = absurd making.1
-  keeps fresh (Refused e) (inr making) is =
+  keeps fresh why rng left (inl denial) (inl (admits, drawn)) is = elim (denied policy password (phc_of h) why denial) [
+    | inl memory ↦ let never = rw memory at is in absurd cc
+    | inr never ↦ absurd (never admits)
+  ]
+  keeps fresh why rng left (inl denial) (inr (denied, same)) is = inl (denies why denial, same)
+  keeps fresh TooExpensive rng left (inr making) drawn is = absurd making.1
+  keeps fresh (Refused e) rng left (inr making) drawn is =
       inr (has_password policy name password names h has making.0, long fresh e is making.1)
 
   -- the text that was read is replaced, or the file fails
-  pub changes : (new old : List ℕ) (fresh : PasswordHash) (after : Texts) (done : Result (Unit {0}) FileError)
-      → old ≡ text_of h → Admits policy password (phc_of h) → Admits policy new (phc_of fresh)
+  pub changes : (new old : List ℕ) (rng left : Stream) (fresh : PasswordHash) (after : Texts)
+      (done : Result (Unit {0}) FileError) → old ≡ text_of h → Admits policy password (phc_of h)
+      → Admits policy new (phc_of fresh) → IsFresh policy.target new (fill_bytes 16 rng).0 (phc_of fresh)
       → Answers names (replacing name old (text_of fresh) ∷ []) done after
-      → ChangesName policy name password new (result_map_both (λ x. x) of_file done) names after
-  changes new old fresh after (Ok x) same by next answers = (
+      → ChangesName policy name password new rng left (result_map_both (λ x. x) of_file done) names after
+  changes new old rng left fresh after (Ok x) same by next made answers = (
     has_password policy name password names h has by,
     gives_password policy (replacing name old (text_of fresh)) new names after fresh answers refl next,
+    (phc_of fresh, made, edit_leaves (replacing name old (text_of fresh)) names after answers),
   )
-  changes new old fresh after (Err e) same by next answers =
+  changes new old rng left fresh after (Err e) same by next made answers =
       (answers.1, λ is. absurd (fails_to_edit name old (text_of fresh) h names after e same has answers is))
 
--- ---- a login that renews a text
+-- ---- a login
 
-pub renewed : (policy : Policy) (password drawn : List ℕ) (v w : Phc) (did : Accepted)
-    → LogsIn policy password drawn v (Ok did) w → did ≡ Rehashed → IsFresh policy.target password drawn w
-renewed policy password drawn v w did step is = (rw is at step).2
+-- a login that makes no fresh text
+pub stays : (policy : Policy) (name password drawn : List ℕ) (names : Texts) (h : PasswordHash) (did : Accepted)
+    → get names name ≡ Some (text_of h) → Admits policy password (phc_of h) → ¬ (did ≡ Rehashed)
+    → LogsIn policy password drawn (phc_of h) (Ok did) (phc_of h)
+    → LogsNameIn policy name password drawn (Ok did) names names
+stays policy name password drawn names h Current has by isnt step =
+    let it = has_password policy name password names h has by in (it, it, (phc_of h, phc_of h, has, step, refl))
+stays policy name password drawn names h Kept has by isnt step =
+    let it = has_password policy name password names h has by in (it, it, (phc_of h, phc_of h, has, step, refl))
+stays policy name password drawn names h Rehashed has by isnt step = absurd (isnt refl)
 
-pub renews : (policy : Policy) (name password drawn old : List ℕ) (text fresh : PasswordHash) (did : Accepted)
-    (before after : Texts) (done : Result (Unit {0}) FileError) → get before name ≡ Some (text_of text)
-    → Admits policy password (phc_of text) → Admits policy password (phc_of fresh)
-    → IsFresh policy.target password drawn (phc_of fresh) → Answers before (replacing name old (text_of fresh) ∷ []) done after
-    → LogsNameIn {X = Accepted} policy name password drawn (Ok did) before after
-renews policy name password drawn old text fresh did before after (Ok x) has by next made_of answers = (
-  has_password policy name password before text has by,
-  gives_password policy (replacing name old (text_of fresh)) password before after fresh answers refl next,
-  inr (fresh, made_of, edit_leaves (replacing name old (text_of fresh)) before after answers),
-)
-renews policy name password drawn old text fresh did before after (Err e) has by next made_of answers =
-    let it = has_password policy name password before text has by in
-    (it, rw answers.1 it, inl answers.1)
+-- one that makes a fresh text, which is written, or the file fails
+module _ (policy : Policy) (name password old drawn : List ℕ) (text fresh : PasswordHash) (before after : Texts)
+    (has : get before name ≡ Some (text_of text)) (by : Admits policy password (phc_of text))
+    (step : LogsIn policy password drawn (phc_of text) (Ok Rehashed) (phc_of fresh)) where
+  pub renews : Admits policy password (phc_of fresh)
+      → Answers before (replacing name old (text_of fresh) ∷ []) (Ok tt) after
+      → LogsNameIn policy name password drawn (Ok Rehashed) before after
+  renews next answers = (
+    has_password policy name password before text has by,
+    gives_password policy (replacing name old (text_of fresh)) password before after fresh answers refl next,
+    (phc_of text, phc_of fresh, has, step, edit_leaves (replacing name old (text_of fresh)) before after answers),
+  )
+
+  pub keeps_text : (e : FileError) → Answers before (replacing name old (text_of fresh) ∷ []) (Err e) after
+      → LogsNameIn policy name password drawn (Ok Kept) before after
+  keeps_text e answers = let it = has_password policy name password before text has by in
+      (it, rw answers.1 it, (phc_of text, phc_of text, has, (step.0, step.1, refl), answers.1))

@@ -5,7 +5,7 @@ use Rattle.std.specs.Result.{result_map_both}
 use Rattle.rand_core.specs.Stream.{Stream, fill_bytes}
 use Rattle.sqlite_trees.specs.declared.store.Store.{Ghosts}
 use Rattle.argon2_base.specs.PhcFields.{phc_of}
-use Rattle.argon2_base.specs.PhcText.{Phc, PhcText}
+use Rattle.argon2_base.specs.PhcText.{Phc, PhcText, phc_text}
 use Rattle.argon2_base.specs.declared.error.password_hash.Error.TheVariants.{EncodingInvalid, PasswordInvalid}
 use Rattle.argon2_base.specs.declared.phc.hash.PasswordHash.{PasswordHash}
 use Rattle.argon2.specs.TextHashing.{IsFresh, Target}
@@ -13,7 +13,8 @@ use Rattle.argon2.specs.NamedTexts.{IsText, stream_after}
 use Rattle.argon2.specs.Refusals.{max_len}
 use Rattle.argon2.specs.declared.bound.BoundError.{BoundError}
 use Rattle.argon2.specs.declared.login.answers.Accepted.{Accepted}
-use Rattle.argon2_policy.specs.Policy.{Admits, Denial, MakingRefusal, Policy}
+use Rattle.argon2.specs.declared.login.answers.Accepted.TheVariants.{Rehashed}
+use Rattle.argon2_policy.specs.Policy.{Admits, Denial, LogsIn, MakingRefusal, Policy}
 use Rattle.argon2_rows.specs.Locks.{is_locked}
 use Rattle.argon2_rows.specs.Names.{Texts, changed}
 use Rattle.argon2_rows.specs.Table.{IsHonest}
@@ -41,11 +42,10 @@ TextRefusal policy password (Some text) e = (IsTrue (is_locked text) × (e ≡ R
     ⊎ (((is_locked text ≡ false) × ¬ (IsText text) × (e ≡ Refused EncodingInvalid))
     ⊎ ((v : Phc) × (why : BoundError) × PhcText text v × Denial policy password v why × (e ≡ of_policy why)))
 
--- the names stay, or this one has a fresh text of the password
-abbrev pub StaysOrRenews : Target → List ℕ → List ℕ → List ℕ → Texts → Texts → Type 0
-StaysOrRenews target name password drawn before after = (after ≡ before)
-    ⊎ ((fresh : PasswordHash) × IsFresh target password drawn (phc_of fresh)
-    × (after ≡ changed before name (Some (text_of fresh))))
+-- the names after a login that left this value: its text is written exactly if it is a fresh one
+abbrev pub Renews : List ℕ → Accepted → Phc → Texts → Texts → Type 0
+Renews name Rehashed w before after = after ≡ changed before name (Some (phc_text w))
+Renews name did w before after = after ≡ before
 
 module _ {S : Type 0} {g : Ghosts S} where
   -- A fresh text of the password is made, and the file makes this edit with it; without a text nothing is asked of the file.
@@ -77,19 +77,22 @@ abbrev pub GivesPassword : {X : Type 0} → Policy → List ℕ → List ℕ →
 GivesPassword policy name password (Ok _) before after = AdmitsName policy after name password
 GivesPassword policy name password (Err e) before after = after ≡ before
 
--- a login
-abbrev pub LogsNameIn : {X : Type 0} → Policy → List ℕ → List ℕ → List ℕ → Result X AccountError → Texts → Texts → Type 0
-LogsNameIn policy name password drawn (Ok _) before after = AdmitsName policy before name password
-    × AdmitsName policy after name password × StaysOrRenews policy.target name password drawn before after
+-- a login, which says what it did with the text of the name
+abbrev pub LogsNameIn : Policy → List ℕ → List ℕ → List ℕ → Result Accepted AccountError → Texts → Texts → Type 0
+LogsNameIn policy name password drawn (Ok did) before after = AdmitsName policy before name password
+    × AdmitsName policy after name password × ((v w : Phc) × (get before name ≡ Some (phc_text v))
+    × LogsIn policy password drawn v (Ok did) w × Renews name did w before after)
 LogsNameIn policy name password drawn (Err e) before after = (after ≡ before)
     × (IsTrue (is_account_refusal e) → TextRefusal policy password (get before name) e)
 
--- a change of a password
-abbrev pub ChangesName : {X : Type 0} → Policy → List ℕ → List ℕ → List ℕ → Result X AccountError → Texts → Texts → Type 0
-ChangesName policy name old password (Ok _) before after =
-    AdmitsName policy before name old × AdmitsName policy after name password
-ChangesName policy name old password (Err e) before after = (after ≡ before)
-    × (IsTrue (is_account_refusal e) → TextRefusal policy old (get before name) e
+-- a change of a password: the name has a fresh text then; a refusal of the old password draws nothing
+abbrev pub ChangesName : {X : Type 0} → Policy → List ℕ → List ℕ → List ℕ → Stream → Stream → Result X AccountError
+    → Texts → Texts → Type 0
+ChangesName policy name old password rng left (Ok _) before after = AdmitsName policy before name old
+    × AdmitsName policy after name password × ((fresh : Phc) × IsFresh policy.target password (fill_bytes 16 rng).0 fresh
+    × (after ≡ changed before name (Some (phc_text fresh))))
+ChangesName policy name old password rng left (Err e) before after = (after ≡ before)
+    × (IsTrue (is_account_refusal e) → (TextRefusal policy old (get before name) e × (left ≡ rng))
     ⊎ (AdmitsName policy before name old × (max_len < length password)))
 
 -- What the generator has left after a login: 16 bytes are drawn for a fresh text, and else nothing is. An error comes before

@@ -1,6 +1,6 @@
 //! Names with passwords in a file.
 
-ghost use Rattle.std.specs.Prelude.{◌≡◌, ◌⊎◌, IfErr, IfOk, IsTrue, Some};
+ghost use Rattle.std.specs.Prelude.{◌≡◌, ◌⊎◌, IfErr, IfOk, IsTrue, OnErr, Some};
 ghost use Rattle.std.specs.FinMap.{get};
 ghost use Rattle.rand_core.specs.Stream.{fill_bytes};
 ghost use Rattle.argon2_policy.specs.Policy.{policy_value};
@@ -86,9 +86,8 @@ impl<'key, S: Store> Accounts<'key, S> {
             (fill_bytes 16 (R.stream rng.old)).0 result) self.old.file self.new.file }
         ensures policy { self.new.policy ≡ self.old.policy }
         ensures drawn { DrawsForLogin result (R.stream rng.old) (R.stream rng.new) }
-        ensures served { IsHonest S.Store (database_of self.new.file) → IfErr result (λ e.
-            IsTrue (is_account_refusal e) ⊎ (IsClosed self.new.file
-            ⊎ (R.stream rng.new ≡ R.stream rng.old))) }
+        ensures served { IsHonest S.Store (database_of self.new.file) → OnErr result
+            (IsClosed self.new.file ⊎ (R.stream rng.new ≡ R.stream rng.old)) }
     {
         let text = stored(&self.policy, &mut self.file, name, password)?;
         let LoggedIn { accepted, fresh } = self.policy.log_in(rng, &text, password)?;
@@ -120,7 +119,7 @@ impl<'key, S: Store> Accounts<'key, S> {
         ensures call { Replaces (policy_value self.old.policy).target name.now new.now
             (fill_bytes 16 (R.stream rng.old)).0 self.old.file self.new.file }
         ensures names { RelatesNames (ChangesName (policy_value self.old.policy) name.now old.now new.now
-            result) self.old.file self.new.file }
+            (R.stream rng.old) (R.stream rng.new) result) self.old.file self.new.file }
         ensures policy { self.new.policy ≡ self.old.policy }
         ensures drawn { DrawsForChange result (R.stream rng.old) (R.stream rng.new) }
     {

@@ -12,21 +12,23 @@ pub returns-in_err-text-clause-names : goal.returns-in_err-text-clause-names
 returns-in_err-text-clause-names g c =
     let policy = policy_value c.args.self.now.policy in
     rw (err_is c.from_residual.result _ c.from_residual.ensures.1)
-    (reads_leave (ChangesName {X = Unit {0}} policy c.args.name.now c.args.old.now c.args.new.now (Err c.in_err-text.field-0.0))
+    (reads_leave (ChangesName {X = Unit {0}} policy c.args.name.now c.args.old.now c.args.new.now
+    (g.R.Rng.stream c.args.rng.now) (g.R.Rng.stream c.args.rng.now) (Err c.in_err-text.field-0.0))
     c.args.self.now.file c.stored.new.file c.in_err-text.ensures.reads
-    (λ names has honest. (refl, λ is. inl (c.in_err-text.ensures.refused names has honest is))))
+    (λ names has honest. (refl, λ is. inl (c.in_err-text.ensures.refused names has honest is, refl))))
 
 pub returns-in_err-fresh-clause-names : goal.returns-in_err-fresh-clause-names
 returns-in_err-fresh-clause-names g c =
     let policy = policy_value c.args.self.now.policy in
     let why = c.in_err-fresh.field-0.0 in
     rw (err_is c.from_residual-in_err-fresh.result _ c.from_residual-in_err-fresh.ensures.1)
-    (reads_leave (ChangesName {X = Unit {0}} policy c.args.name.now c.args.old.now c.args.new.now (Err (of_policy why)))
+    (reads_leave (ChangesName {X = Unit {0}} policy c.args.name.now c.args.old.now c.args.new.now
+    (g.R.Rng.stream c.args.rng.now) (g.R.Rng.stream c.change_password.new.rng) (Err (of_policy why)))
     c.args.self.now.file c.stored.new.file c.in_ok-text.ensures.reads
     (λ names has honest. (
       refl,
       λ is. keeps policy c.args.name.now c.args.old.now names c.in_ok-text.text (c.in_ok-text.ensures.found names has honest)
-          c.args.new.now why c.in_err-fresh.ensures.made is,
+          c.args.new.now why _ _ c.in_err-fresh.ensures.made c.in_err-fresh.ensures.drawn is,
     )))
 
 pub returns-clause-call : goal.returns-clause-call
@@ -47,9 +49,10 @@ returns-clause-names g c =
     let is : c.map_err.result ≡ answer = search rules in
     let same : c.as_str.result.now ≡ text_of c.in_ok-text.text = search rules in
     rw is
-    (edit_after_read (ChangesName policy c.args.name.now c.args.old.now c.args.new.now answer)
+    (edit_after_read (ChangesName policy c.args.name.now c.args.old.now c.args.new.now (g.R.Rng.stream c.args.rng.now)
+    (g.R.Rng.stream c.change_password.new.rng) answer)
     (replacing c.args.name.now c.as_str.result.now (text_of c.in_ok-fresh.fresh)) c.replace-done.result c.args.self.now.file
     c.stored.new.file c.replace-done.new.self c.in_ok-text.ensures.reads c.replace-done.ensures
     (λ before after has honest answers. changes policy c.args.name.now c.args.old.now before c.in_ok-text.text
-    (c.in_ok-text.ensures.found before has honest) c.args.new.now c.as_str.result.now c.in_ok-fresh.fresh after
-    c.replace-done.result same c.in_ok-fresh.ensures.made.0 c.in_ok-fresh.ensures.accepted answers))
+    (c.in_ok-text.ensures.found before has honest) c.args.new.now c.as_str.result.now _ _ c.in_ok-fresh.fresh after
+    c.replace-done.result same c.in_ok-fresh.ensures.made.0 c.in_ok-fresh.ensures.accepted c.in_ok-fresh.ensures.made.1 answers))

@@ -1,15 +1,13 @@
-use Rattle.std.proofs.Common.{◌≡◌, inl, inr, refl, rules, Ok, Err}
+use Rattle.std.proofs.Common.{◌≡◌, inr, refl, rules, Ok, Err}
 use Rattle.rand_core.specs.Stream.{fill_bytes}
 use Rattle.argon2_base.specs.PhcFields.{phc_of}
-use Rattle.argon2.specs.TextHashing.{IsFresh}
-use Rattle.argon2.specs.declared.login.answers.Accepted.{Accepted}
-use Rattle.argon2.specs.declared.login.answers.Accepted.TheVariants.{Kept}
-use Rattle.argon2_policy.specs.Policy.{policy_value}
+use Rattle.argon2.specs.declared.login.answers.Accepted.TheVariants.{Rehashed}
+use Rattle.argon2_policy.specs.Policy.{LogsIn, policy_value}
 use Rattle.argon2_store.specs.Edits.{replacing, text_of}
-use Rattle.argon2_accounts.specs.Accounts.{LogsNameIn, RelatesNames, Replaces}
+use Rattle.argon2_accounts.specs.Accounts.{LogsNameIn, Replaces}
 use Rattle.argon2_accounts.specs.Errors.{of_file}
 use Rattle.argon2_rows.proofs.TableLemmas.{err_is}
-use Rattle.argon2_accounts.proofs.AccountLemmas.{denies, edit_after_read, fails_to_edit, has_password, reads_leave, renewed, renews}
+use Rattle.argon2_accounts.proofs.AccountLemmas.{denies, edit_after_read, fails_to_edit, keeps_text, reads_leave, renews, stays}
 use Rattle.argon2_accounts.proofs.accounts.Accounts.log_in.Goals as goal
 use Rattle.argon2_accounts.proofs.accounts.Accounts.log_in.Goals.{After-replace}
 
@@ -29,16 +27,19 @@ returns-in_err-accepted-clause-names g c =
 
 pub returns-in_default-clause-names : goal.returns-in_default-clause-names
 returns-in_default-clause-names g c =
+    let isnt = rw c.in_default.is at c.in_ok-accepted.ensures.fresh in
     reads_leave _ _ _ c.in_ok-text.ensures.reads (λ names has honest.
-    let it = has_password (policy_value c.args.self.now.policy) c.args.name.now c.args.password.now names c.in_ok-text.text
-    (c.in_ok-text.ensures.found names has honest) c.in_ok-accepted.ensures.accepted.0 in (it, it, inl refl))
+    stays (policy_value c.args.self.now.policy) _ _ _ names c.in_ok-text.text c.in_ok-accepted.field-0.accepted
+    (c.in_ok-text.ensures.found names has honest) c.in_ok-accepted.ensures.accepted.0 (λ is. let never = isnt.1 is in cc)
+    (rw c.in_default.is at c.in_ok-accepted.ensures.step))
 
--- the fresh text of a login
-is_fresh : (g : _) (c : After-replace g) → IsFresh (policy_value c.args.self.now.policy).target c.args.password.now
-    (fill_bytes 16 (g.R.Rng.stream c.args.rng.now)).0 (phc_of c.in-Some.fresh)
-is_fresh g c =
-    renewed (policy_value c.args.self.now.policy) c.args.password.now _ _ _ c.in_ok-accepted.field-0.accepted
-    (rw c.in-Some.is at c.in_ok-accepted.ensures.step) ((rw c.in-Some.is at c.in_ok-accepted.ensures.fresh).0 refl)
+-- a login that has a fresh text has made it
+is_rehashed : (g : _) (c : After-replace g) → c.in_ok-accepted.field-0.accepted ≡ Rehashed
+is_rehashed g c = (rw c.in-Some.is at c.in_ok-accepted.ensures.fresh).0 refl
+
+renewed : (g : _) (c : After-replace g) → LogsIn (policy_value c.args.self.now.policy) c.args.password.now
+    (fill_bytes 16 (g.R.Rng.stream c.args.rng.now)).0 (phc_of c.in_ok-text.text) (Ok Rehashed) (phc_of c.in-Some.fresh)
+renewed g c = rw (is_rehashed g c) at (rw c.in-Some.is at c.in_ok-accepted.ensures.step)
 
 -- the file is to write it
 called : (g : _) (c : After-replace g) → Replaces (policy_value c.args.self.now.policy).target c.args.name.now
@@ -49,19 +50,9 @@ called g c = inr (
   c.in-Some.fresh,
   c.replace.result,
   c.in_ok-text.ensures.reads,
-  is_fresh g c,
+  (renewed g c).2,
   c.replace.ensures,
 )
-
--- the password is accepted, whether the text is written or not
-logged_in : (g : _) (c : After-replace g) → RelatesNames (LogsNameIn (policy_value c.args.self.now.policy)
-    c.args.name.now c.args.password.now (fill_bytes 16 (g.R.Rng.stream c.args.rng.now)).0 (Ok Kept))
-    c.args.self.now.file c.replace.new.self
-logged_in g c =
-    let admits = rw c.in-Some.is at c.in_ok-accepted.ensures.accepted in
-    edit_after_read _ _ _ _ _ _ c.in_ok-text.ensures.reads c.replace.ensures (λ before after has honest answers.
-    renews (policy_value c.args.self.now.policy) _ _ _ _ c.in_ok-text.text c.in-Some.fresh Kept before after c.replace.result
-    (c.in_ok-text.ensures.found before has honest) admits.0 admits.1 (is_fresh g c) answers)
 
 pub returns-in-Ok-clause-call : goal.returns-in-Ok-clause-call
 returns-in-Ok-clause-call g c = called g (goal.at.returns-in-Ok-clause-call g c).After-replace
@@ -73,10 +64,21 @@ pub returns-in-Err-2-clause-call : goal.returns-in-Err-2-clause-call
 returns-in-Err-2-clause-call g c = called g (goal.at.returns-in-Err-2-clause-call g c).After-replace
 
 pub returns-in-Ok-clause-names : goal.returns-in-Ok-clause-names
-returns-in-Ok-clause-names g c = logged_in g (goal.at.returns-in-Ok-clause-names g c).After-replace
+returns-in-Ok-clause-names g c =
+    let to = (goal.at.returns-in-Ok-clause-names g c).After-replace in
+    let admits = rw c.in-Some.is at c.in_ok-accepted.ensures.accepted in
+    rw (is_rehashed g to)
+    (edit_after_read _ _ _ _ _ _ c.in_ok-text.ensures.reads c.in-Ok.ensures (λ before after has honest answers.
+    renews (policy_value c.args.self.now.policy) _ _ _ _ c.in_ok-text.text c.in-Some.fresh before after
+    (c.in_ok-text.ensures.found before has honest) admits.0 (renewed g to) admits.1 answers))
 
 pub returns-in-Err-clause-names : goal.returns-in-Err-clause-names
-returns-in-Err-clause-names g c = logged_in g (goal.at.returns-in-Err-clause-names g c).After-replace
+returns-in-Err-clause-names g c =
+    let to = (goal.at.returns-in-Err-clause-names g c).After-replace in
+    let admits = rw c.in-Some.is at c.in_ok-accepted.ensures.accepted in
+    edit_after_read _ _ _ _ _ _ c.in_ok-text.ensures.reads c.in-Err.ensures (λ before after has honest answers.
+    keeps_text (policy_value c.args.self.now.policy) _ _ _ _ c.in_ok-text.text c.in-Some.fresh before after
+    (c.in_ok-text.ensures.found before has honest) admits.0 (renewed g to) _ answers)
 
 pub returns-in-Err-2-clause-names : goal.returns-in-Err-2-clause-names
 returns-in-Err-2-clause-names g c =
@@ -86,7 +88,7 @@ returns-in-Err-2-clause-names g c =
     let same : c.as_str.result.now ≡ text_of c.in_ok-text.text = search rules in
     let named : c.into.result ≡ of_file e = search rules in
     rw named
-    (edit_after_read (LogsNameIn {X = Accepted} policy c.args.name.now c.args.password.now drawn (Err (of_file e)))
+    (edit_after_read (LogsNameIn policy c.args.name.now c.args.password.now drawn (Err (of_file e)))
     (replacing c.args.name.now c.as_str.result.now (text_of c.in-Some.fresh)) (Err e)
     c.args.self.now.file c.stored.new.file c.replace.new.self c.in_ok-text.ensures.reads
     c.in-Err-2.ensures
