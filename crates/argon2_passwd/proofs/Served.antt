@@ -9,15 +9,14 @@ use Rattle.argon2_base.specs.PhcText.{Phc}
 use Rattle.argon2.specs.declared.bound.BoundError.{BoundError}
 use Rattle.argon2_rows.specs.Names.{Texts}
 pub use Rattle.argon2_rows.proofs.TableLemmas.{err_is}
-use Rattle.argon2_store.specs.AccountFile.{database_of, error_of}
-use Rattle.argon2_store.specs.Errors.{is_refusal, read_by}
+use Rattle.argon2_store.specs.AccountFile.{database_of}
+use Rattle.argon2_store.specs.Errors.{is_refusal}
 use Rattle.argon2_store.specs.declared.account_file.AccountFile.{AccountFile}
 use Rattle.argon2_store.specs.declared.error.FileError.{FileError}
-use Rattle.argon2_store.specs.declared.error.LineError.{LineError}
 use Rattle.argon2_passwd.specs.Answers.{IsDenied, IsOpenFor, IsOpened, IsUnfound, behind}
 use Rattle.argon2_passwd.specs.Lines.{AreSaid, Line}
 use Rattle.argon2_passwd.specs.Passwords.{password_of}
-use Rattle.argon2_passwd.specs.Failures.{IsMemory, IsOfFile, IsOfLines, status_of}
+use Rattle.argon2_passwd.specs.Failures.{IsMemory, IsOfFile, status_of}
 use Rattle.argon2_passwd.specs.declared.failure.Failure.{Failure}
 
 pub keeps_same : (known : Option (List ℕ)) → Keeps known known
@@ -53,11 +52,6 @@ memory_is f memory = grind arith
 -- nor is an error of the file
 pub no_refusal : (e : FileError) (f : Failure) → IsOfFile e f → is_refusal e ≡ false → status_of f ≡ 3
 no_refusal e f is file = grind arith
-
--- nor is one of lines
-pub no_line : (e : LineError) (f : Failure) → IsOfLines e f → IfSome (error_of (read_by (Err e))) (λ error. is_refusal error ≡ false)
-    → status_of f ≡ 3
-no_line e f is file = grind (arith, no_refusal)
 
 denied_then : (Why : Phc → BoundError → Type 0) (o : Option (List ℕ)) (f : Failure) → IsDenied (λ v e. ⊥) o f → IsDenied Why o f
 denied_then Why o f is = grind arith

@@ -1,5 +1,5 @@
 -- What the program answers.
-use Rattle.std.specs.Prelude.{◌≡◌, ◌≢◌, ◌⊎◌, ⊤, ℕ, ◌||◌, false, Bool, ◌+◌, IsTrue, List, [], ◌∷◌, ◌++◌, Option, Some, None, IfSome, Result, Ok, Err, IfOk, IsErrAnd, is_ok, if◌then◌else◌, IsSomeAnd, map}
+use Rattle.std.specs.Prelude.{◌≡◌, ◌≢◌, ◌⊎◌, ℕ, ◌||◌, false, Bool, ◌+◌, IsTrue, List, [], ◌∷◌, ◌++◌, Option, Some, None, IfSome, Result, Ok, Err, IfOk, IsErrAnd, is_ok, if◌then◌else◌, IsSomeAnd, map}
 use Rattle.std.specs.Io.BufRead.{drop_through}
 use Rattle.std.specs.Borrow.{Bor}
 use Rattle.std.specs.Option.{option_map}
@@ -18,15 +18,16 @@ use Rattle.argon2_policy.specs.Policy.{Admits, ChangeRefusal, Denial, IsPolicy, 
 use Rattle.argon2_programs.specs.Schemes.{scheme_of}
 use Rattle.argon2_rows.specs.Locks.{is_locked}
 use Rattle.argon2_rows.specs.Names.{IsFirstTaken, Texts}
-use Rattle.argon2_rows.specs.Rows.{AreWritten, breaks_line}
-use Rattle.argon2_rows.specs.declared.view.Written.TheVariants.{All}
+use Rattle.argon2_rows.specs.Rows.{breaks_line}
 use Rattle.argon2_rows.specs.Table.{IsHonest}
 use Rattle.argon2_rows.specs.declared.view.View.TheVariants as views
-use Rattle.argon2_store.specs.AccountFile.{HasNames, IsReady, Serves, Stays, error_of, database_of}
+use Rattle.argon2_store.specs.AccountFile.{HasNames, IsReady, Serves, Stays, WritesLines, error_of, database_of}
 use Rattle.argon2_store.specs.Edits.{Edit as FileEdit, adding, additions, locking, removing, replacing, setting, text_of, unlocking}
+use Rattle.argon2_store.specs.Errors.{read_by}
 use Rattle.argon2_store.specs.declared.account_file.AccountFile.{AccountFile}
 use Rattle.argon2_store.specs.declared.error.FileError.{FileError}
-use Rattle.argon2_store.specs.declared.error.FileError.TheVariants.{NameUnknown}
+use Rattle.argon2_store.specs.declared.error.FileError.TheVariants.{NameTaken, NameUnknown}
+use Rattle.argon2_store.specs.declared.error.LineError.{LineError}
 use Rattle.argon2_passwd.specs.Options.{policy_by}
 use Rattle.argon2_passwd.specs.declared.command.Action.{Action}
 use Rattle.argon2_passwd.specs.declared.command.Action.TheVariants.{Hash, Check, OnFile}
@@ -34,7 +35,7 @@ use Rattle.argon2_passwd.specs.declared.command.Task.TheVariants.{Verify, Edit a
 use Rattle.argon2_passwd.specs.declared.options.Options.{Options}
 use Rattle.argon2_passwd.specs.declared.command.Edit.{Edit}
 use Rattle.argon2_passwd.specs.declared.command.Edit.TheVariants.{Register, Change, Set, Remove, Lock, Unlock}
-use Rattle.argon2_passwd.specs.Failures.{IsOfBound, IsOfFile, status_of}
+use Rattle.argon2_passwd.specs.Failures.{IsOfBound, IsOfFile, IsOfLines, status_of}
 use Rattle.argon2_passwd.specs.Passwords.{IsUnread, password_of}
 use Rattle.argon2_passwd.specs.Salts.{IsSalt}
 use Rattle.argon2_passwd.specs.declared.failure.Failure.{Failure}
@@ -126,13 +127,17 @@ abbrev pub OfLines : Bool → Known → (List Line → Type 0) → Type 0
 OfLines any_text input P = (said : List Line) × IfSome input (λ bytes. AreSaid any_text bytes said) × P said
 
 module _ {S : Type 0} {g : Ghosts S} where
-  -- How an addition of the entries ended: all are added, or none. A refusal has the line of the first one whose name
-  -- is taken.
+  -- why the entries are not added: a refusal has the line of the first one whose name is taken
+  abbrev pub FailsToAdd : FileError → List (List ℕ × List ℕ) → Failure → AccountFile S g → AccountFile S g → Type 0
+  FailsToAdd NameTaken es failure before after = (names : Texts) → HasNames before names → IsHonest g (database_of after)
+      → (k : ℕ) × (failure ≡ AtLine (k + 1) Taken) × IsFirstTaken names es k
+  FailsToAdd e es failure before after = IsOfFile e failure
+
+  -- how an addition of the entries ended: all are added, or none
   abbrev pub AddsLines : Outcome → List (List ℕ × List ℕ) → AccountFile S g → AccountFile S g → Type 0
   AddsLines (Ok _) es before after = Serves (additions es) (Ok tt) before after
-  AddsLines (Err failure) es before after = (e : FileError) × Serves (additions es) (Err e) before after
-      × (status_of failure ≢ 3 → (names : Texts) → HasNames before names → IsHonest g (database_of after)
-      → (k : ℕ) × (failure ≡ AtLine (k + 1) Taken) × IsFirstTaken names es k)
+  AddsLines (Err failure) es before after =
+      (e : FileError) × Serves (additions es) (Err e) before after × FailsToAdd e es failure before after
 
   -- names were looked up in a file, which changes none, up to this error if there was one
   abbrev pub Looks : Option FileError → AccountFile S g → AccountFile S g → Type 0
@@ -148,9 +153,9 @@ module _ {S : Type 0} {g : Ghosts S} where
       × ((names : Texts) → HasNames before names → IsHonest g (database_of after)
       → new ≡ map (unless_known names) ls)
 
-  -- the entries were added, and the failure has the numbers of the other lines
+  -- the entries were added, and the failure has the numbers of the other lines, of which there are some
   abbrev pub PassesOver : Failure → List Line → AccountFile S g → AccountFile S g → Type 0
-  PassesOver (Passed passed) ls before after = AddsEntries (Ok tt) ls passed.items before after
+  PassesOver (Passed passed) ls before after = (passed.items ≢ []) × AddsEntries (Ok tt) ls passed.items before after
   PassesOver _ ls before after = ⊥
 
   -- how an addition of their entries ended; before a failure that is no refusal names were looked up, or the entries
@@ -159,8 +164,7 @@ module _ {S : Type 0} {g : Ghosts S} where
   AddsOthers (Ok _) ls before after = AddsEntries (Ok tt) ls [] before after
   AddsOthers (Err failure) ls before after = PassesOver failure ls before after ⊎ ((status_of failure ≡ 3)
       × (((error : Option FileError) × Looks error before after)
-      ⊎ ((answer : Result (Unit {0}) FileError) × (passed : List (ℕ × Flaw))
-      × AddsEntries answer ls passed before after)))
+      ⊎ ((e : FileError) × (passed : List (ℕ × Flaw)) × AddsEntries (Err e) ls passed before after)))
 
   -- a file at a path that was opened, with its names
   abbrev pub IsOpened : (List ℕ → Texts → Type 0) → List ℕ → AccountFile S g → Type 0
@@ -172,10 +176,10 @@ answer_without_text Rehashed = Kept
 answer_without_text did = did
 
 -- a result of the program tells how a call on a file ended
-abbrev pub TellsOf : {X : Type 0} → Result X FileError → Result X Failure → Type 0
-TellsOf (Ok x) (Ok y) = y ≡ x
-TellsOf (Err e) (Err failure) = IsOfFile e failure
-TellsOf _ _ = ⊥
+abbrev pub TellsOf : {E X : Type 0} → (E → Failure → Type 0) → Result X E → Result X Failure → Type 0
+TellsOf IsOf (Ok x) (Ok y) = y ≡ x
+TellsOf IsOf (Err e) (Err failure) = IsOf e failure
+TellsOf IsOf _ _ = ⊥
 
 -- what is written of a login, and the result: what it did, or nothing if it is refused
 abbrev pub SaysLogin : Result Accepted Failure → Outcome → Known → Known → Type 0
@@ -232,7 +236,7 @@ module _ {S : Type 0} (g : Ghosts S) (Has : List ℕ → Texts → Type 0) where
   -- all that was done there is one call, and this result tells of its answer
   abbrev pub IsApplied : List ℕ → FileEdit → (List S → Type 0) → Outcome → Type 0
   IsApplied path change Closed result =
-      (done : Result (Unit {0}) FileError) × TellsOf done result × IsDone path (Serves (change ∷ []) done) Closed
+      (done : Result (Unit {0}) FileError) × TellsOf IsOfFile done result × IsDone path (Serves (change ∷ []) done) Closed
 
   -- the text of a name was read in the file at a path, which was closed with this store
   abbrev pub IsLooked : List ℕ → List ℕ → Result (Option (List ℕ)) FileError → (S → Type 0) → Type 0
@@ -287,10 +291,9 @@ module _ {S : Type 0} (g : Ghosts S) (Has : List ℕ → Texts → Type 0) (Give
       × OfPassword (λ password. IsLogin policy path.now name.now password login Closed) input
   IsUsed policy (OnFile path (Edits act name)) result input old new Closed =
       Keeps old new × IsChange policy path.now act name.now input Closed result
-  IsUsed policy (OnFile path (Show view)) (Ok _) input old new Closed =
-      IsOnlyRead g Has path.now None (λ names. AreWritten view names old new All) Closed
-  IsUsed policy (OnFile path (Show view)) (Err failure) input old new Closed =
-      (status_of failure ≡ 3) × (error : Option FileError) × IsOnlyRead g Has path.now error (λ names. ⊤) Closed
+  IsUsed policy (OnFile path (Show view)) result input old new Closed =
+      (done : Result (Unit {0}) LineError) × TellsOf IsOfLines done result
+      × IsOnlyRead g Has path.now (error_of (read_by done)) (λ names. WritesLines view names old new done) Closed
   IsUsed policy (OnFile path (Import any_text)) result input old new Closed =
       Keeps old new × OfLines any_text input (λ said.
       (flaws_from 1 said ≡ []) × IsDone g Has path.now (AddsLines result (entries_in said)) Closed)

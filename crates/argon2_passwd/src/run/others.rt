@@ -1,6 +1,6 @@
 //! An import that passes over lines.
 
-ghost use Rattle.std.specs.Prelude.{◌≡◌, [], ℕ, List, None, Ok, Option, Some, Result, false, IfErr, IfOk, MatchResult, OnOk, map};
+ghost use Rattle.std.specs.Prelude.{◌≡◌, [], ℕ, List, None, Err, Ok, Option, Some, false, IfErr, IfOk, MatchResult, OnOk, map};
 ghost use Rattle.argon2_policy.specs.Policy.{policy_value};
 ghost use Rattle.argon2_rows.specs.Names.{Texts, entry_of};
 ghost use Rattle.argon2_rows.specs.Table.{IsHonest};
@@ -112,8 +112,8 @@ fn add_new<S: Store>(
 ) -> Result<(), Failure>
     ensures ok { OnOk result
         (Serves (additions (map entry_of entries.now)) (Ok tt) accounts.old accounts.new) }
-    ensures err { IfErr result (λ failure. (status_of failure ≡ 3) × (answer : Result _ FileError)
-        × Serves (additions (map entry_of entries.now)) answer accounts.old accounts.new) }
+    ensures err { IfErr result (λ failure. (status_of failure ≡ 3) × (e : FileError)
+        × Serves (additions (map entry_of entries.now)) (Err e) accounts.old accounts.new) }
 {
     let Err((_, error)) = accounts.add_all(entries) else {
         return Ok(());

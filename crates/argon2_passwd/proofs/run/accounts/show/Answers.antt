@@ -1,19 +1,19 @@
-use Rattle.std.proofs.Common.{[], inl}
+use Rattle.std.proofs.Common.{[], Ok, Err, inl, refl}
 use Rattle.argon2_passwd.specs.Failures.{IsOfLines}
-use Rattle.argon2_passwd.proofs.Served.{no_line, opened_for, some_error}
+use Rattle.argon2_passwd.proofs.Served.{opened_for, some_error}
 use Rattle.argon2_passwd.proofs.run.accounts.show.Goals as goal
 
 pub returns-in_err-written : goal.returns-in_err-written
 returns-in_err-written g c input =
-    let opened = c.in_ok-accounts.ensures.ok in
     let reads = rw c.in_err-written.was at c.write_lines-written.ensures.reads in
+    let shows = rw c.in_err-written.was at c.write_lines-written.ensures.shows in
     let closed = rw c.into_store.ensures at c.close.ensures [] (c.in_ok-accounts.ensures.opened [] c.requires) in
     let e = c.in_err-written.field-0.0 in
     let (f, is, of) = some_error (IsOfLines e) c.from_residual-in_err-written.result c.from_residual-in_err-written.ensures.1 in
     rw is (inl (
-      no_line e f of (reads opened.0 opened.2.has).of_file,
-      _,
-      opened_for _ _ opened (λ names has. (reads names has, λ _. tt)) closed,
+      Err e,
+      of,
+      opened_for _ _ c.in_ok-accounts.ensures.ok (λ names has. (reads names has, shows names has)) closed,
     ))
 
 pub returns : goal.returns
@@ -21,4 +21,4 @@ returns g c input =
     let reads = rw c.in_ok-written.was at c.write_lines-written.ensures.reads in
     let shows = rw c.in_ok-written.was at c.write_lines-written.ensures.shows in
     let closed = rw c.into_store.ensures at c.close.ensures [] (c.in_ok-accounts.ensures.opened [] c.requires) in
-    inl (opened_for _ _ c.in_ok-accounts.ensures.ok (λ names has. (reads names has, shows names has)) closed)
+    inl (Ok tt, refl, opened_for _ _ c.in_ok-accounts.ensures.ok (λ names has. (reads names has, shows names has)) closed)

@@ -1,6 +1,6 @@
 use Rattle.std.proofs.Common.{arith, ◌≡◌, [], inl, inr, map, subst}
 use Rattle.std.proofs.lemmas.Grind.{common_steps}
-use Rattle.std.specs.Prelude.{None, Ok}
+use Rattle.std.specs.Prelude.{◌≢◌, None, Err, Ok}
 use Rattle.argon2_passwd.specs.Answers.{AddsEntries}
 use Rattle.argon2_passwd.specs.Lines.{entry_or_flaw}
 use Rattle.argon2_passwd.proofs.Looks.{added}
@@ -20,16 +20,16 @@ returns-in_err-entries g c =
 
 pub returns-in_err-add_new : goal.returns-in_err-add_new
 returns-in_err-add_new g c =
-    let (three, answer, serves) = rw c.as_slice-2.ensures.value at c.in_err-add_new.ensures.err in
+    let (three, e, serves) = rw c.as_slice-2.ensures.value at c.in_err-add_new.ensures.err in
     let new = c.in_ok-new in
     let split = rw c.as_slice.ensures.value at c.in_ok-entries.ensures in
     rw (err_is c.from_residual-in_err-add_new.result c.in_err-add_new.field-0.0 c.from_residual-in_err-add_new.ensures.1)
     (inr (
       three,
       inr (
-        answer,
+        e,
         _,
-        added (map entry_or_flaw c.args.lines.now) (map entry_or_flaw new.new.items) answer
+        added (map entry_or_flaw c.args.lines.now) (map entry_or_flaw new.new.items) (Err e)
             new.ensures.looks serves split new.ensures.new,
       ),
     ))
@@ -49,5 +49,9 @@ returns g c =
     let serves = rw c.as_slice-2.ensures.value at c.in_ok-add_new.ensures.ok in
     let new = c.in_ok-new in
     let split = rw c.as_slice.ensures.value at c.in_ok-entries.ensures in
-    inl (added (map entry_or_flaw c.args.lines.now) (map entry_or_flaw new.new.items) (Ok tt)
-    new.ensures.looks serves split new.ensures.new)
+    let some : c.in_ok-entries.passed.items ≢ [] = λ none. absurd {0} (grind (arith, common_steps)) in
+    inl (
+      some,
+      added (map entry_or_flaw c.args.lines.now) (map entry_or_flaw new.new.items) (Ok tt)
+          new.ensures.looks serves split new.ensures.new,
+    )
