@@ -24,8 +24,9 @@ use Rattle.argon2_store.specs.AccountFile.{Answers, HasNames, Serves, database_o
 use Rattle.argon2_store.specs.Edits.{Edit, and_then, gives, name_of, names_after, refusal, replacing, text_of, unless}
 use Rattle.argon2_store.specs.Errors.{is_refusal}
 use Rattle.argon2_store.specs.declared.account_file.AccountFile.{AccountFile}
+use Rattle.argon2_store.specs.Runs.{Does, reads}
 use Rattle.argon2_store.specs.declared.error.FileError.{FileError}
-use Rattle.argon2_accounts.specs.Accounts.{AdmitsName, AdmitsText, ChangesName, GivesPassword, LogsNameIn, OnlyReads, RelatesNames, TextRefusal}
+use Rattle.argon2_accounts.specs.Accounts.{AdmitsName, AdmitsText, ChangesName, GivesPassword, IsOfReading, LogsNameIn, RelatesNames, TextRefusal}
 use Rattle.argon2_accounts.specs.Errors.{is_account_refusal, of_file, of_policy}
 
 -- ---- names
@@ -71,19 +72,20 @@ module _ {S : Type 0} {g : Ghosts S} where
       let it = serves before has in (it.0, it.1.has, λ honest. (it.1.answers honest).1)
 
   -- names that a call has only read
-  pub reads_leave : (P : Texts → Texts → Type 0) (old new : AccountFile S g) → OnlyReads old new
+  pub reads_leave : (P : Texts → Texts → Type 0) (error : Option FileError) (old new : AccountFile S g)
+      → Does (reads error) old new
       → ((names : Texts) → HasNames new names → IsHonest g (database_of new) → P names names) → RelatesNames P old new
-  reads_leave P old new did holds = λ before has.
-      let stays = did.1 before has in (before, stays.has, λ honest. holds before stays.has honest)
+  reads_leave P error old new did holds = λ before has.
+      let stays = did before has in (before, stays.has, λ honest. holds before stays.has honest)
 
   -- names that were read, and then edited
   pub edit_after_read : (P : Texts → Texts → Type 0) (edit : Edit) (done : Result (Unit {0}) FileError)
-      (old mid new : AccountFile S g) → OnlyReads old mid
+      (error : Option FileError) (old mid new : AccountFile S g) → Does (reads error) old mid
       → Serves (edit ∷ []) done mid new
       → ((before after : Texts) → HasNames mid before → IsHonest g (database_of mid) → Answers before (edit ∷ []) done after
       → P before after) → RelatesNames P old new
-  edit_after_read P edit done old mid new did serves holds = λ before has.
-      let stays = did.1 before has in
+  edit_after_read P edit done error old mid new did serves holds = λ before has.
+      let stays = did before has in
       let it = serves before stays.has in
       (it.0, it.1.has, λ honest. holds before it.0 stays.has (it.1.honest honest) (it.1.answers honest))
 
@@ -111,6 +113,10 @@ fails_to_edit name old new h before after e same has answers is =
     never_refused name new h before e has (rw same at (answers.0 (of_names e is)))
 
 -- ---- answers of a policy
+
+-- an error of the policy is none of the file
+pub of_no_file : (why : BoundError) → IsOfReading None (of_policy why)
+of_no_file why = grind arith
 
 long : (password : List ℕ) (e : Error) → IsTrue (is_account_refusal (of_policy (Refused e))) → HashingRefusal password e
     → max_len < length password

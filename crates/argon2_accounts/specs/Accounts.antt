@@ -1,5 +1,5 @@
 -- What calls on accounts do to the names of their file.
-use Rattle.std.specs.Prelude.{◌≡◌, ◌⊎◌, ℕ, ◌<◌, List, [], ◌∷◌, false, Option, Some, None, IsSomeAnd, Result, Ok, Err, IsTrue, length}
+use Rattle.std.specs.Prelude.{◌≡◌, ◌⊎◌, ℕ, ◌<◌, List, [], ◌∷◌, false, Option, Some, None, IsSomeAnd, MatchResult, Result, Ok, Err, IsTrue, length}
 use Rattle.std.specs.FinMap.{get}
 use Rattle.std.specs.Result.{result_map_both}
 use Rattle.rand_core.specs.Stream.{Stream, fill_bytes}
@@ -13,7 +13,7 @@ use Rattle.argon2.specs.NamedTexts.{IsText, stream_after}
 use Rattle.argon2.specs.Refusals.{max_len}
 use Rattle.argon2.specs.declared.bound.BoundError.{BoundError}
 use Rattle.argon2.specs.declared.login.answers.Accepted.{Accepted}
-use Rattle.argon2.specs.declared.login.answers.Accepted.TheVariants.{Rehashed}
+use Rattle.argon2.specs.declared.login.answers.Accepted.TheVariants.{Kept, Rehashed}
 use Rattle.argon2_policy.specs.Policy.{Admits, Denial, LogsIn, MakingRefusal, Policy}
 use Rattle.argon2_rows.specs.Locks.{is_locked}
 use Rattle.argon2_rows.specs.Names.{Texts, changed}
@@ -25,7 +25,7 @@ use Rattle.argon2_store.specs.declared.account_file.AccountFile.{AccountFile}
 use Rattle.argon2_store.specs.declared.error.FileError.{FileError}
 use Rattle.argon2_accounts.specs.Errors.{is_account_refusal, of_file, of_policy}
 use Rattle.argon2_accounts.specs.declared.error.AccountError.{AccountError}
-use Rattle.argon2_accounts.specs.declared.error.AccountError.TheVariants.{NameUnknown, Refused}
+use Rattle.argon2_accounts.specs.declared.error.AccountError.TheVariants.{NameUnknown, OutOfMemory, Refused}
 
 -- the text accepts the password within the bound
 abbrev pub AdmitsText : Policy → List ℕ → List ℕ → Type 0
@@ -47,6 +47,20 @@ abbrev pub Renews : List ℕ → Accepted → Phc → Texts → Texts → Type 0
 Renews name Rehashed w before after = after ≡ changed before name (Some (phc_text w))
 Renews name did w before after = after ≡ before
 
+-- an error of a call that reads a file, which has this error if it can't be read
+abbrev pub IsOfReading : Option FileError → AccountError → Type 0
+IsOfReading (Some e) why = why ≡ of_file e
+IsOfReading None why = IsTrue (is_account_refusal why) ⊎ (why ≡ OutOfMemory)
+
+-- the result is the answer of the file
+abbrev pub TellsOf : Result (Unit {0}) AccountError → Result (Unit {0}) FileError → Type 0
+TellsOf result done = result ≡ result_map_both (λ x. x) of_file done
+
+-- so is that of a login whose fresh text was to be written, which is also accepted without it
+abbrev pub TellsOfRenewal : Result Accepted AccountError → Result (Unit {0}) FileError → Type 0
+TellsOfRenewal result (Ok _) = result ≡ Ok Rehashed
+TellsOfRenewal result (Err e) = (result ≡ Ok Kept) ⊎ (result ≡ Err (of_file e))
+
 module _ {S : Type 0} {g : Ghosts S} where
   -- A fresh text of the password is made, and the file makes this edit with it; without a text nothing is asked of the file.
   abbrev pub Stores : (List ℕ → Edit) → Target → List ℕ → List ℕ → Result (Unit {0}) AccountError
@@ -54,18 +68,21 @@ module _ {S : Type 0} {g : Ghosts S} where
   Stores edit target password drawn result old new =
       ((why : BoundError) × MakingRefusal password why × (result ≡ Err (of_policy why)) × (new ≡ old))
       ⊎ ((fresh : PasswordHash) × (done : Result (Unit {0}) FileError) × IsFresh target password drawn (phc_of fresh)
-      × (result ≡ result_map_both (λ x. x) of_file done) × Serves (edit (text_of fresh) ∷ []) done old new)
+      × TellsOf result done × Serves (edit (text_of fresh) ∷ []) done old new)
 
-  -- a call that changes no name, with its error if it failed
-  abbrev pub OnlyReads : AccountFile S g → AccountFile S g → Type 0
-  OnlyReads old new = (error : Option FileError) × Does (reads error) old new
+  -- a call that changes no name: if the file can't be read, its error is that of the result
+  abbrev pub OnlyReads : {X : Type 0} → Result X AccountError → AccountFile S g → AccountFile S g → Type 0
+  OnlyReads result old new = (error : Option FileError) × Does (reads error) old new
+      × MatchResult result (λ x. error ≡ None) (IsOfReading error)
 
-  -- The text of the name is read, and perhaps a fresh text of the password written in the place of the one that was read.
-  abbrev pub Replaces : Target → List ℕ → List ℕ → List ℕ → AccountFile S g → AccountFile S g → Type 0
-  Replaces target name password drawn old new = OnlyReads old new
+  -- The text of the name is read, and perhaps a fresh text of the password written in the place of the one that was read,
+  -- of which the result tells.
+  abbrev pub Replaces : {X : Type 0} → Target → List ℕ → List ℕ → List ℕ → Result X AccountError
+      → (Result (Unit {0}) FileError → Type 0) → AccountFile S g → AccountFile S g → Type 0
+  Replaces target name password drawn result Tells old new = OnlyReads result old new
       ⊎ ((mid : AccountFile S g) × (text : List ℕ) × (fresh : PasswordHash) × (done : Result (Unit {0}) FileError)
-      × OnlyReads old mid × IsFresh target password drawn (phc_of fresh)
-      × Serves (replacing name text (text_of fresh) ∷ []) done mid new)
+      × Does (reads None) old mid × IsFresh target password drawn (phc_of fresh)
+      × Serves (replacing name text (text_of fresh) ∷ []) done mid new × Tells done)
 
   -- the names after a call on a file with names, if the disk has given no wrong answer that was taken as true
   abbrev pub RelatesNames : (Texts → Texts → Type 0) → AccountFile S g → AccountFile S g → Type 0

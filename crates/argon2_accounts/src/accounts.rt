@@ -8,7 +8,7 @@ ghost use Rattle.argon2_rows.specs.Names.{Texts};
 ghost use Rattle.argon2_rows.specs.Table.{IsHonest};
 ghost use Rattle.argon2_store.specs.AccountFile.{HasNames, IsClosed, database_of};
 ghost use Rattle.argon2_store.specs.Edits.{adding, setting, text_of};
-ghost use Rattle.argon2_accounts.specs.Accounts.{ChangesName, DrawsForChange, DrawsForLogin, GivesPassword, LogsNameIn, OnlyReads, RelatesNames, Replaces, Stores, TextRefusal};
+ghost use Rattle.argon2_accounts.specs.Accounts.{ChangesName, DrawsForChange, DrawsForLogin, GivesPassword, LogsNameIn, OnlyReads, RelatesNames, Replaces, Stores, TellsOf, TellsOfRenewal, TextRefusal};
 ghost use Rattle.argon2_accounts.specs.Errors.{is_account_refusal};
 
 use crate::error::AccountError;
@@ -81,7 +81,8 @@ impl<'key, S: Store> Accounts<'key, S> {
         password: &[u8],
     ) -> Result<Accepted, AccountError>
         ensures call { Replaces (policy_value self.old.policy).target name.now password.now
-            (fill_bytes 16 (R.stream rng.old)).0 self.old.file self.new.file }
+            (fill_bytes 16 (R.stream rng.old)).0 result (TellsOfRenewal result)
+            self.old.file self.new.file }
         ensures names { RelatesNames (LogsNameIn (policy_value self.old.policy) name.now password.now
             (fill_bytes 16 (R.stream rng.old)).0 result) self.old.file self.new.file }
         ensures policy { self.new.policy ≡ self.old.policy }
@@ -117,7 +118,7 @@ impl<'key, S: Store> Accounts<'key, S> {
         new: &[u8],
     ) -> Result<(), AccountError>
         ensures call { Replaces (policy_value self.old.policy).target name.now new.now
-            (fill_bytes 16 (R.stream rng.old)).0 self.old.file self.new.file }
+            (fill_bytes 16 (R.stream rng.old)).0 result (TellsOf result) self.old.file self.new.file }
         ensures names { RelatesNames (ChangesName (policy_value self.old.policy) name.now old.now new.now
             (R.stream rng.old) (R.stream rng.new) result) self.old.file self.new.file }
         ensures policy { self.new.policy ≡ self.old.policy }
@@ -161,7 +162,7 @@ fn stored<S: Store>(
     name: &str,
     password: &[u8],
 ) -> Result<PasswordHash, AccountError>
-    ensures reads { OnlyReads file.old file.new }
+    ensures reads { OnlyReads result file.old file.new }
     ensures found { (names : Texts) → HasNames file.new names → IfOk result (λ text.
         IsHonest S.Store (database_of file.new) → get names name.now ≡ Some (text_of text)) }
     ensures refused { (names : Texts) → HasNames file.new names → IfErr result (λ e.

@@ -1,5 +1,10 @@
-use Rattle.std.proofs.Common.{Some}
+use Rattle.std.proofs.Common.{Some, refl}
+use Rattle.argon2_rows.proofs.TableLemmas.{err_is}
 use Rattle.argon2_accounts.proofs.accounts.stored.Goals as goal
 
 pub returns-in_err-text-clause-reads : goal.returns-in_err-text-clause-reads
-returns-in_err-text-clause-reads g c = (Some c.in_err-text.field-0.0, c.in_err-text.ensures.reads)
+returns-in_err-text-clause-reads g c = (
+  Some c.in_err-text.field-0.0,
+  c.in_err-text.ensures.reads,
+  rw (err_is c.from_residual.result _ c.from_residual.ensures.1) refl,
+)

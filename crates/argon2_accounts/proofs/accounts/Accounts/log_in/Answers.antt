@@ -1,25 +1,29 @@
-use Rattle.std.proofs.Common.{◌≡◌, inr, refl, rules, Ok, Err}
+use Rattle.std.proofs.Common.{◌≡◌, ◌∷◌, [], inl, inr, refl, rules, None, Result, Ok, Err}
 use Rattle.rand_core.specs.Stream.{fill_bytes}
 use Rattle.argon2_base.specs.PhcFields.{phc_of}
-use Rattle.argon2.specs.declared.login.answers.Accepted.TheVariants.{Rehashed}
+use Rattle.argon2.specs.declared.login.answers.Accepted.{Accepted}
+use Rattle.argon2.specs.declared.login.answers.Accepted.TheVariants.{Kept, Rehashed}
 use Rattle.argon2_policy.specs.Policy.{LogsIn, policy_value}
+use Rattle.argon2_store.specs.AccountFile.{Serves}
 use Rattle.argon2_store.specs.Edits.{replacing, text_of}
-use Rattle.argon2_accounts.specs.Accounts.{LogsNameIn, Replaces}
+use Rattle.argon2_store.specs.declared.error.FileError.{FileError}
+use Rattle.argon2_accounts.specs.Accounts.{LogsNameIn, Replaces, TellsOfRenewal}
 use Rattle.argon2_accounts.specs.Errors.{of_file}
+use Rattle.argon2_accounts.specs.declared.error.AccountError.{AccountError}
 use Rattle.argon2_rows.proofs.TableLemmas.{err_is}
-use Rattle.argon2_accounts.proofs.AccountLemmas.{denies, edit_after_read, fails_to_edit, keeps_text, reads_leave, renews, stays}
+use Rattle.argon2_accounts.proofs.AccountLemmas.{denies, edit_after_read, fails_to_edit, keeps_text, of_no_file, reads_leave, renews, stays}
 use Rattle.argon2_accounts.proofs.accounts.Accounts.log_in.Goals as goal
 use Rattle.argon2_accounts.proofs.accounts.Accounts.log_in.Goals.{After-replace}
 
 pub returns-in_err-text-clause-names : goal.returns-in_err-text-clause-names
 returns-in_err-text-clause-names g c =
     rw (err_is c.from_residual.result _ c.from_residual.ensures.1)
-    (reads_leave _ _ _ c.in_err-text.ensures.reads (λ names has honest. (refl, c.in_err-text.ensures.refused names has honest)))
+    (reads_leave _ _ _ _ c.in_err-text.ensures.reads.1 (λ names has honest. (refl, c.in_err-text.ensures.refused names has honest)))
 
 pub returns-in_err-accepted-clause-names : goal.returns-in_err-accepted-clause-names
 returns-in_err-accepted-clause-names g c =
     rw (err_is c.from_residual-in_err-accepted.result _ c.from_residual-in_err-accepted.ensures.1)
-    (reads_leave _ _ _ c.in_ok-text.ensures.reads (λ names has honest. (
+    (reads_leave _ _ _ _ c.in_ok-text.ensures.reads.1 (λ names has honest. (
       refl,
       λ is. denies (policy_value c.args.self.now.policy) _ _ names c.in_ok-text.text (c.in_ok-text.ensures.found names has honest) _
           c.in_err-accepted.ensures.step,
@@ -28,7 +32,7 @@ returns-in_err-accepted-clause-names g c =
 pub returns-in_default-clause-names : goal.returns-in_default-clause-names
 returns-in_default-clause-names g c =
     let isnt = rw c.in_default.is at c.in_ok-accepted.ensures.fresh in
-    reads_leave _ _ _ c.in_ok-text.ensures.reads (λ names has honest.
+    reads_leave _ _ _ _ c.in_ok-text.ensures.reads.1 (λ names has honest.
     stays (policy_value c.args.self.now.policy) _ _ _ names c.in_ok-text.text c.in_ok-accepted.field-0.accepted
     (c.in_ok-text.ensures.found names has honest) c.in_ok-accepted.ensures.accepted.0 (λ is. let never = isnt.1 is in cc)
     (rw c.in_default.is at c.in_ok-accepted.ensures.step))
@@ -41,34 +45,54 @@ renewed : (g : _) (c : After-replace g) → LogsIn (policy_value c.args.self.now
     (fill_bytes 16 (g.R.Rng.stream c.args.rng.now)).0 (phc_of c.in_ok-text.text) (Ok Rehashed) (phc_of c.in-Some.fresh)
 renewed g c = rw (is_rehashed g c) at (rw c.in-Some.is at c.in_ok-accepted.ensures.step)
 
--- the file is to write it
-called : (g : _) (c : After-replace g) → Replaces (policy_value c.args.self.now.policy).target c.args.name.now
-    c.args.password.now (fill_bytes 16 (g.R.Rng.stream c.args.rng.now)).0 c.args.self.now.file c.replace.new.self
-called g c = inr (
+-- the file is to write it, and this is the answer
+called : (g : _) (c : After-replace g) (done : Result (Unit {0}) FileError) (result : Result Accepted AccountError)
+    → Serves (replacing c.args.name.now c.as_str.result.now (text_of c.in-Some.fresh) ∷ []) done c.stored.new.file
+    c.replace.new.self → TellsOfRenewal result done → Replaces (policy_value c.args.self.now.policy).target c.args.name.now
+    c.args.password.now (fill_bytes 16 (g.R.Rng.stream c.args.rng.now)).0 result (TellsOfRenewal result)
+    c.args.self.now.file c.replace.new.self
+called g c done result serves tells = inr (
   c.stored.new.file,
   c.as_str.result.now,
   c.in-Some.fresh,
-  c.replace.result,
-  c.in_ok-text.ensures.reads,
+  done,
+  rw c.in_ok-text.ensures.reads.2 at c.in_ok-text.ensures.reads.1,
   (renewed g c).2,
-  c.replace.ensures,
+  serves,
+  tells,
 )
 
+pub returns-in_err-text-clause-call : goal.returns-in_err-text-clause-call
+returns-in_err-text-clause-call g c =
+    rw (err_is c.from_residual.result _ c.from_residual.ensures.1) (inl c.in_err-text.ensures.reads)
+
+pub returns-in_err-accepted-clause-call : goal.returns-in_err-accepted-clause-call
+returns-in_err-accepted-clause-call g c =
+    rw (err_is c.from_residual-in_err-accepted.result _ c.from_residual-in_err-accepted.ensures.1)
+    (inl (None, rw c.in_ok-text.ensures.reads.2 at c.in_ok-text.ensures.reads.1, of_no_file _))
+
 pub returns-in-Ok-clause-call : goal.returns-in-Ok-clause-call
-returns-in-Ok-clause-call g c = called g (goal.at.returns-in-Ok-clause-call g c).After-replace
+returns-in-Ok-clause-call g c =
+    let to = (goal.at.returns-in-Ok-clause-call g c).After-replace in
+    rw (is_rehashed g to) (called g to (Ok tt) (Ok Rehashed) c.in-Ok.ensures refl)
 
 pub returns-in-Err-clause-call : goal.returns-in-Err-clause-call
-returns-in-Err-clause-call g c = called g (goal.at.returns-in-Err-clause-call g c).After-replace
+returns-in-Err-clause-call g c =
+    called g (goal.at.returns-in-Err-clause-call g c).After-replace (Err _) (Ok Kept) c.in-Err.ensures (inl refl)
 
 pub returns-in-Err-2-clause-call : goal.returns-in-Err-2-clause-call
-returns-in-Err-2-clause-call g c = called g (goal.at.returns-in-Err-2-clause-call g c).After-replace
+returns-in-Err-2-clause-call g c =
+    let e = c.in-Err-2.error in
+    let named : c.into.result ≡ of_file e = search rules in
+    rw named (called g (goal.at.returns-in-Err-2-clause-call g c).After-replace (Err e) (Err (of_file e)) c.in-Err-2.ensures
+    (inr refl))
 
 pub returns-in-Ok-clause-names : goal.returns-in-Ok-clause-names
 returns-in-Ok-clause-names g c =
     let to = (goal.at.returns-in-Ok-clause-names g c).After-replace in
     let admits = rw c.in-Some.is at c.in_ok-accepted.ensures.accepted in
     rw (is_rehashed g to)
-    (edit_after_read _ _ _ _ _ _ c.in_ok-text.ensures.reads c.in-Ok.ensures (λ before after has honest answers.
+    (edit_after_read _ _ _ _ _ _ _ c.in_ok-text.ensures.reads.1 c.in-Ok.ensures (λ before after has honest answers.
     renews (policy_value c.args.self.now.policy) _ _ _ _ c.in_ok-text.text c.in-Some.fresh before after
     (c.in_ok-text.ensures.found before has honest) admits.0 (renewed g to) admits.1 answers))
 
@@ -76,7 +100,7 @@ pub returns-in-Err-clause-names : goal.returns-in-Err-clause-names
 returns-in-Err-clause-names g c =
     let to = (goal.at.returns-in-Err-clause-names g c).After-replace in
     let admits = rw c.in-Some.is at c.in_ok-accepted.ensures.accepted in
-    edit_after_read _ _ _ _ _ _ c.in_ok-text.ensures.reads c.in-Err.ensures (λ before after has honest answers.
+    edit_after_read _ _ _ _ _ _ _ c.in_ok-text.ensures.reads.1 c.in-Err.ensures (λ before after has honest answers.
     keeps_text (policy_value c.args.self.now.policy) _ _ _ _ c.in_ok-text.text c.in-Some.fresh before after
     (c.in_ok-text.ensures.found before has honest) admits.0 (renewed g to) _ answers)
 
@@ -89,8 +113,8 @@ returns-in-Err-2-clause-names g c =
     let named : c.into.result ≡ of_file e = search rules in
     rw named
     (edit_after_read (LogsNameIn policy c.args.name.now c.args.password.now drawn (Err (of_file e)))
-    (replacing c.args.name.now c.as_str.result.now (text_of c.in-Some.fresh)) (Err e)
-    c.args.self.now.file c.stored.new.file c.replace.new.self c.in_ok-text.ensures.reads
+    (replacing c.args.name.now c.as_str.result.now (text_of c.in-Some.fresh)) (Err e) _
+    c.args.self.now.file c.stored.new.file c.replace.new.self c.in_ok-text.ensures.reads.1
     c.in-Err-2.ensures
     (λ before after has honest answers. (
       answers.1,
