@@ -35,7 +35,7 @@ use Rattle.argon2_passwd.specs.declared.command.Task.TheVariants.{Verify, Edit a
 use Rattle.argon2_passwd.specs.declared.options.Options.{Options}
 use Rattle.argon2_passwd.specs.declared.command.Edit.{Edit}
 use Rattle.argon2_passwd.specs.declared.command.Edit.TheVariants.{Register, Change, Set, Remove, Lock, Unlock}
-use Rattle.argon2_passwd.specs.Failures.{IsOfBound, IsOfFile, IsOfLines, status_of}
+use Rattle.argon2_passwd.specs.Failures.{IsOfBound, IsOfFile, IsOfLines, IsOfWrite, status_of}
 use Rattle.argon2_passwd.specs.Passwords.{IsUnread, password_of}
 use Rattle.argon2_passwd.specs.Salts.{IsSalt}
 use Rattle.argon2_passwd.specs.declared.failure.Failure.{Failure}
@@ -184,7 +184,7 @@ TellsOf IsOf _ _ = ⊥
 -- what is written of a login, and the result: what it did, or nothing if it is refused
 abbrev pub SaysLogin : Result Accepted Failure → Outcome → Known → Known → Type 0
 SaysLogin (Ok did) (Ok _) old new = Appends old new (accepted_text did ++ 10 ∷ [])
-SaysLogin (Ok did) (Err failure) old new = status_of failure ≡ 3
+SaysLogin (Ok did) (Err failure) old new = IsOfWrite failure
 SaysLogin (Err why) result old new = (result ≡ Err why) × Keeps old new
 
 -- a call of which its result tells, or a file that was not opened, which is no refusal
@@ -214,11 +214,12 @@ IsWritten Gives policy (Check text) input old new = OfPassword (λ password.
     × LogsIn policy password drawn v (Ok did) w × Appends old new (login_text did w ++ 10 ∷ [])) input
 IsWritten Gives policy _ input old new = ⊥
 
--- how a command ended that opened no file: it is answered, or refused before
+-- How a command ended that opened no file: it is answered, or refused before. Nothing but a failed write leaves a part of an
+-- answer.
 abbrev pub IsAnswered : (List ℕ → Type 0) → Policy → Action → Outcome → Known → Known → Known → Type 0
 IsAnswered Gives policy what (Ok _) input old new = IsWritten Gives policy what input old new
 IsAnswered Gives policy what (Err failure) input old new =
-    status_of failure ≢ 3 → IsUnfit policy what input failure × Keeps old new
+    (status_of failure ≢ 3 → IsUnfit policy what input failure) × (IsOfWrite failure ⊎ Keeps old new)
 
 module _ {S : Type 0} (g : Ghosts S) (Has : List ℕ → Texts → Type 0) where
   -- the file at a path was opened, used so, and closed with this store
@@ -312,7 +313,7 @@ module _ {S : Type 0} (g : Ghosts S) (Has : List ℕ → Texts → Type 0) (Give
   abbrev pub IsEnded : (List ℕ → List ℕ → Type 0) → Options → Action → Outcome → Known → Known → Known
       → (List S → Type 0) → Type 0
   IsEnded Holds options what result input old new Closed =
-      (Closed [] × IsErrAnd result (λ failure. status_of failure ≡ 3))
+      (Closed [] × IsErrAnd result (λ failure. status_of failure ≡ 3) × Keeps old new)
       ⊎ Under Holds options (λ policy.
       (Closed [] × ¬ (IsPolicy policy) × IsErrAnd result (λ failure. failure ≡ Params) × Keeps old new)
       ⊎ IsServed policy what result input old new Closed)

@@ -7,7 +7,7 @@ returns-in_err-policy g c =
     let f = c.in_err-policy.field-0.0 in
     rw (err_is c.from_residual-in_err-policy.result f c.from_residual-in_err-policy.ensures.1)
     (elim c.in_err-policy.ensures.err [
-      | inl three ↦ inl (c.requires, three)
+      | inl three ↦ inl (c.requires, three, keeps_same _)
       | inr (is, unsound) ↦
           inr (_, _, c.in_ok-current.ensures.ok, c.in_ok-old.ensures.ok, inl (c.requires, unsound, is, keeps_same _))
     ])

@@ -8,7 +8,7 @@ returns-in_err-accepted g c =
     let read = c.in_ok-password in
     let denied = rw c.as_slice.ensures.value at c.in_err-accepted.ensures.err in
     rw (err_is c.from_residual-in_err-accepted.result c.in_err-accepted.field-0.0 c.from_residual-in_err-accepted.ensures.1)
-    (λ isnt. (inr (read.password.items, read.ensures.found, denied), keeps_same _))
+    ((λ isnt. inr (read.password.items, read.ensures.found, denied)), inr (keeps_same _))
 
 pub returns : goal.returns
 returns g c =

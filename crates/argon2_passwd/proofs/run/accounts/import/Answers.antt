@@ -23,9 +23,13 @@ returns-in-Some g c output =
     let split = rw c.as_slice-2.ensures.value at c.in_ok-entries.ensures in
     inr (
       c.requires,
-      λ isnt. (
-        (said, lines, rw (← split.1) (of_first _ c.first.result _ (rw c.deref.ensures.value at c.first.ensures.value) c.in-Some.is)),
-        keeps_same _,
+      (
+        λ isnt. (
+          said,
+          lines,
+          rw (← split.1) (of_first _ c.first.result _ (rw c.deref.ensures.value at c.first.ensures.value) c.in-Some.is),
+        ),
+        inr (keeps_same _),
       ),
     )
 

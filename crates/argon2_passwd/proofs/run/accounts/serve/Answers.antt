@@ -1,5 +1,11 @@
 use Rattle.std.proofs.Common.{inr}
+use Rattle.argon2_passwd.proofs.Served.{err_is, keeps_same}
 use Rattle.argon2_passwd.proofs.run.accounts.serve.Goals as goal
+
+pub returns-in_err-look-in-OnFile : goal.returns-in_err-look-in-OnFile
+returns-in_err-look-in-OnFile g c =
+    rw (c.in-OnFile.is, err_is c.from_residual.result c.in_err-look-in-OnFile.field-0.0 c.from_residual.ensures.1)
+    (inr (c.requires, ((λ isnt. absurd (isnt c.in_err-look-in-OnFile.ensures)), inr (keeps_same _))))
 
 pub returns-in-Check : goal.returns-in-Check
 returns-in-Check g c = rw c.in-Check.is (inr (c.requires, c.check.ensures))

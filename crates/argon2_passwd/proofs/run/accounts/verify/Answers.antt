@@ -9,7 +9,7 @@ returns-in_err-accepted g c =
     rw (err_is c.from_residual-in_err-accepted.result f c.from_residual-in_err-accepted.ensures.1)
     (elim c.in_err-accepted.ensures [
       | inl login ↦ inl (Err f, (refl, keeps_same _), (_, found, login))
-      | inr (shut, three) ↦ inr (shut, λ isnt. absurd (isnt three))
+      | inr (shut, three) ↦ inr (shut, ((λ isnt. absurd (isnt three)), inr (keeps_same _)))
     ])
 
 pub returns : goal.returns

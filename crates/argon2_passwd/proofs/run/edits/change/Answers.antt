@@ -13,7 +13,7 @@ returns-in_err-text g c output =
     rw (err_is c.from_residual-in_err-text.result c.in_err-text.field-0.0 c.from_residual-in_err-text.ensures.1)
     (elim c.in_err-text.ensures [
       | inl missing ↦ inl (keeps_same _, (_, first, (_, second, inl (unfound_then _ (g.P.Outside.closed c.look.new.outside) missing))))
-      | inr (shut, three) ↦ inr (shut, λ isnt. absurd (isnt three))
+      | inr (shut, three) ↦ inr (shut, ((λ isnt. absurd (isnt three)), inr (keeps_same _)))
     ])
 
 pub returns-in_err-fresh : goal.returns-in_err-fresh

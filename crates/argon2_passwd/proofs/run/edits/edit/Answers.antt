@@ -12,7 +12,7 @@ returns-in_ok-text-in-Register-2 g c output =
           inl (keeps_same _, (sym c.breaks_lines.ensures ∙ c.if-breaks_lines.false, phc_of new.text, new.ensures.ok, applied))
       | inr (shut, why) ↦
           let (f, is, three) = some_error (λ failure. status_of failure ≡ 3) c.call.result why in
-          rw is (inr (shut, λ isnt. absurd (isnt three)))
+          rw is (inr (shut, ((λ isnt. absurd (isnt three)), inr (keeps_same _))))
     ])
 
 pub returns-in_ok-text-in-Set : goal.returns-in_ok-text-in-Set
@@ -22,5 +22,5 @@ returns-in_ok-text-in-Set g c output =
       | inl applied ↦ inl (keeps_same _, (phc_of new.text, new.ensures.ok, applied))
       | inr (shut, why) ↦
           let (f, is, three) = some_error (λ failure. status_of failure ≡ 3) c.call-in-Set.result why in
-          rw is (inr (shut, λ isnt. absurd (isnt three)))
+          rw is (inr (shut, ((λ isnt. absurd (isnt three)), inr (keeps_same _))))
     ])
