@@ -1,5 +1,6 @@
 -- The key of a vault, and what opens it.
-use Rattle.std.specs.Prelude.{◌≡◌, ◌⊎◌, ℕ, List, None, Some, length, take, drop}
+use Rattle.std.specs.Prelude.{◌≡◌, ◌⊎◌, ℕ, List, None, Result, Err, length, take, drop}
+use Rattle.std.specs.Result.{result_err}
 use Rattle.argon2.specs.Argon2.{argon2id_with, own_parameters}
 use Rattle.argon2.specs.Rfc9106.{Context, tag_of}
 use Rattle.argon2.specs.Settings.{Settings, cost_parameters}
@@ -21,7 +22,7 @@ key_of ctx passphrase salt = take 32 (tag_of ctx passphrase salt 64)
 abbrev pub Opens : Context → List ℕ → Header → Type 0
 Opens ctx passphrase header = header.tag ≡ drop 32 (tag_of ctx passphrase header.salt 64)
 
--- no memory, or the first length that is refused if 64 bytes are derived
-abbrev pub VaultRefusal : Argon2 → List ℕ → List ℕ → Error → Type 0
-VaultRefusal argon2 passphrase salt e = (e ≡ OutOfMemory)
-    ⊎ (length_refusal (own_parameters argon2).output_len 64 (length passphrase) (length salt) ≡ Some e)
+-- what deriving 64 bytes answers: no memory, or the first length that is refused, and Ok if none is
+abbrev pub IsDerived : {X : Type 0} → Argon2 → List ℕ → List ℕ → Result X Error → Type 0
+IsDerived argon2 passphrase salt result = (result ≡ Err OutOfMemory)
+    ⊎ (result_err result ≡ length_refusal (own_parameters argon2).output_len 64 (length passphrase) (length salt))

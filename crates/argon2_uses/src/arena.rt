@@ -1,10 +1,10 @@
 //! One arena of blocks for many hashes: none of them asks for memory.
 
-ghost use Rattle.std.specs.Prelude.{◌≡◌, ℕ, Some, IfOk, IfErr, OnOk, OnErr, length, map, slice_get};
+ghost use Rattle.std.specs.Prelude.{◌≡◌, IfOk, OnErr, OnOk, length, map};
+ghost use Rattle.std.specs.Result.{result_err};
 ghost use Rattle.argon2.specs.Argon2.{context_of};
 ghost use Rattle.argon2.specs.Hashing.{IsHashed, KeepsRest};
-ghost use Rattle.argon2_uses.specs.declared.arena.Input.{Input};
-ghost use Rattle.argon2_uses.specs.Arena.{input_tag, ArenaRefuses};
+ghost use Rattle.argon2_uses.specs.Arena.{first_refusal, input_refusal, input_tag};
 
 use argon2::{Argon2, Block, Result};
 
@@ -26,7 +26,7 @@ pub fn hash_in(argon2: &Argon2<'_>, arena: &mut [Block], input: Input<'_>) -> Re
     ensures hashed { IfOk result (λ tag.
         IsHashed argon2.now input.entry.password.now input.entry.salt.now tag arena.old arena.new) }
     ensures rest { KeepsRest (context_of argon2.now) arena.old arena.new }
-    ensures refused { IfErr result (λ e. ArenaRefuses argon2.now arena.old input.entry e) }
+    ensures answer { result_err result ≡ input_refusal argon2.now arena.old input.entry }
     ensures same { OnErr result (arena.new ≡ arena.old) }
 {
     let mut tag = [0; 32];
@@ -37,7 +37,7 @@ pub fn hash_in(argon2: &Argon2<'_>, arena: &mut [Block], input: Input<'_>) -> Re
 /// The tags of many inputs, one after another on the same blocks.
 ///
 /// # Errors
-/// The error of an input that is refused.
+/// The error of the first input that is refused.
 pub fn hash_all(
     argon2: &Argon2<'_>,
     arena: &mut [Block],
@@ -47,8 +47,7 @@ pub fn hash_all(
     requires { length tags.old ≡ length inputs.now }
     ensures tags { OnOk result (tags.new ≡ map (input_tag (context_of argon2.now)) inputs.now) }
     ensures rest { KeepsRest (context_of argon2.now) arena.old arena.new }
-    ensures refused { IfErr result (λ e. (k : ℕ) × (input : Input)
-        × (slice_get inputs.now k ≡ Some input) × ArenaRefuses argon2.now arena.old input e) }
+    ensures answer { result_err result ≡ first_refusal argon2.now arena.old inputs.now }
 {
     for i in 0..inputs.len() {
         tags[i] = hash_in(argon2, arena, inputs[i])?;

@@ -3,10 +3,10 @@
 //! A passphrase and the salt of the vault's header give 64 bytes. The first half of them is the key,
 //! which is stored nowhere; the other half is the tag in the header.
 
-ghost use Rattle.std.specs.Prelude.{◌≡◌, IfOk, IfErr, MatchOption, take, drop};
+ghost use Rattle.std.specs.Prelude.{◌≡◌, IfOk, MatchOption, take, drop};
 ghost use Rattle.argon2.specs.Argon2.{IsKeyed, context_of};
 ghost use Rattle.argon2.specs.Rfc9106.{tag_of};
-ghost use Rattle.argon2_uses.specs.Vault.{recommended, key_of, Opens, VaultRefusal};
+ghost use Rattle.argon2_uses.specs.Vault.{IsDerived, Opens, key_of, recommended};
 
 use argon2::phc::{Output, Salt};
 use argon2::{Algorithm, Argon2, Params, Result, Version};
@@ -41,7 +41,7 @@ pub fn seal(
     salt: Salt,
 ) -> Result<(Header, [u8; 32])>
     ensures salt { IfOk result (λ sealed. sealed.0.salt ≡ salt) }
-    ensures refused { IfErr result (VaultRefusal argon2.now passphrase.now salt) }
+    ensures answer { IsDerived argon2.now passphrase.now salt result }
     ensures opens { IfOk result (λ sealed. Opens (context_of argon2.now) passphrase.now sealed.0) }
     ensures key { IfOk result (λ sealed.
         sealed.1 ≡ key_of (context_of argon2.now) passphrase.now salt) }
@@ -57,7 +57,7 @@ pub fn open(
     passphrase: &[u8],
     header: &Header,
 ) -> Result<Option<[u8; 32]>>
-    ensures refused { IfErr result (VaultRefusal argon2.now passphrase.now header.now.salt) }
+    ensures answer { IsDerived argon2.now passphrase.now header.now.salt result }
     ensures opened { let ctx = context_of argon2.now in IfOk result (λ opened. MatchOption opened
         (Opens ctx passphrase.now header.now → ⊥)
         (λ key. Opens ctx passphrase.now header.now
@@ -77,7 +77,7 @@ fn derived(
     passphrase: &[u8],
     salt: &Salt,
 ) -> Result<([u8; 32], Output)>
-    ensures refused { IfErr result (VaultRefusal argon2.now passphrase.now salt.now) }
+    ensures answer { IsDerived argon2.now passphrase.now salt.now result }
     ensures made { let both = tag_of (context_of argon2.now) passphrase.now salt.now 64 in
         IfOk result (λ made. (made.0 ≡ take 32 both) × (made.1 ≡ drop 32 both)) }
 {
