@@ -28,7 +28,7 @@ use sqlite_trees::store::Shape;
 use sqlite_value::keys::Order;
 use sqlite_wal::checksum_of;
 use std::alloc::{AllocFailed, Global};
-use std::fs::{self, File, OpenOptions};
+use std::fs::{self, File, OpenOptions, TryLockError};
 use std::hash::{BuildHasher, RandomState};
 use std::io::{self, ErrorKind, Write};
 use std::os::unix::fs::{MetadataExt, OpenOptionsExt};
@@ -259,14 +259,18 @@ fn make(rt: &HostRuntime, path: &str) -> Result<(), OpenError>
         Err(error) => return Err(refused(error)),
     };
     // Of the processes that open the file by this call one writes the page. SQLite takes another lock, for which std has no call.
-    if file.try_lock().is_err() {
-        return Err(OpenError::Busy);
-    }
-    // Before the lock another process may have written or replaced the file.
-    if file.metadata()?.len() != 0 || !is_at(rt, &file, path)? {
-        return Ok(());
-    }
-    match begin(&mut file) {
+    let begun = match file.try_lock() {
+        Ok(()) => {
+            // Before the lock another process may have written or replaced the file.
+            if file.metadata()?.len() != 0 || !is_at(rt, &file, path)? {
+                return Ok(());
+            }
+            begin(&mut file)
+        }
+        Err(TryLockError::WouldBlock) => return Err(OpenError::Busy),
+        Err(TryLockError::Error(error)) => Err(error),
+    };
+    match begun {
         Ok(()) => Ok(()),
         Err(error) => {
             if is_new {
