@@ -1,19 +1,18 @@
 -- Names to which several are added.
-use Rattle.argon2_rows.proofs.Imports.{◌≡◌, ℕ, List, [], ◌∷◌, ◌++◌, false, Some, Result, Ok, Err, refl, sym, Io, subst, ap, ◌∙◌, arith, inl, inr, map, Bor, get}
-use Rattle.argon2_rows.proofs.Imports.{Any, IfErr, IfErr-weaker, MoreFaults, both_ways, on_ok_weaker, StoreError, Ghosts, Texts, AddsAll, AddsEach, AddsNames, IsAdded, WritesAll, IsPermutation, entry_of, Changes, bytes_eq-Decides, true, ◌≢◌}
-use Rattle.argon2_rows.proofs.Imports.{AddError, Finishes, HasBegun, IsKept, Store, Taken, Writes, changed, written_of, HasRows, IsHonest, IsLong, IsOpen, StaysQuiet}
+use Rattle.argon2_rows.proofs.Imports.{◌≡◌, ℕ, List, [], ◌∷◌, ◌++◌, false, Some, Result, Ok, Err, refl, Io, arith, inl, map, Bor, Any, StoreError, Ghosts, Texts, AddsAll, AddsEach, AddsNames, IsAdded}
+use Rattle.argon2_rows.proofs.Imports.{WritesAll, IsPermutation, entry_of, Changes, bytes_eq-Decides, true, HasBegun, IsKept, Writes, written_of, HasRows, IsHonest, IsLong, IsOpen, StaysQuiet}
+use Rattle.argon2_rows.proofs.Imports.{StoredText}
+use Rattle.std.proofs.lemmas.Result.{on_ok_weaker}
+use Rattle.argon2_rows.specs.declared.table.AddError.{AddError}
+use Rattle.argon2_rows.specs.declared.table.AddError.TheVariants.{Store, Taken}
 use Rattle.std.proofs.lemmas.List.Sorted.{Contains-permutation, IsPermutation-map, IsPermutation-sym}
 use Rattle.sqlite_trees.proofs.ListLemmas.{along_permutation}
-use Rattle.argon2_rows.specs.Table.{IsTold}
-use Rattle.sqlite_trees.specs.View.{HasCause}
-use Rattle.argon2_rows.specs.declared.text.StoredText.{StoredText}
 use Rattle.argon2_rows.proofs.RowLemmas.{changed_apart, get-at, get-changed}
 use Rattle.argon2_rows.proofs.TableLemmas.{Settled, cause_map, changes_of, leaves_quiet, quiet_itself, quiet_then, taken_back, writes_less}
 
 pub add_last : (es : List (List ℕ × List ℕ)) (before mid after : Texts) (e : List ℕ × List ℕ) → AddsAll before es mid
     → IsAdded mid e.0 e.1 true after → AddsAll before (es ++ e ∷ []) after
-add_last [] before mid after e same last =
-    let last = subst (λ (m : Texts). IsAdded m e.0 e.1 true after) same last in (last.0, last.1)
+add_last [] before mid after e same last = rw same at last
 add_last (x ∷ xs) before mid after e all last = (all.0, add_last xs _ mid after e all.1 last)
 
 -- ---- the order of the names
@@ -24,15 +23,10 @@ Reorders es fs = (before after : Texts) → AddsAll before es after → AddsAll 
 -- the first two may change places
 turn : (x y : List ℕ × List ℕ) (es : List (List ℕ × List ℕ)) → Reorders (x ∷ y ∷ es) (y ∷ x ∷ es)
 turn x y es before after (none, (gone, rest)) =
-    let apart : x.0 ≢ y.0 = λ is.
-    let never = sym (get-changed before x.0 (Some x.1)) ∙ ap (get (changed before x.0 (Some x.1))) is ∙ gone in cc in
-    let first = get-at before x.0 y.0 (Some x.1) in
-    let second = get-at before y.0 x.0 (Some y.1) in
     let test = bytes_eq-Decides y.0 x.0 in
-    let back = bytes_eq-Decides x.0 y.0 in (
-      (grind arith),
-      ((grind arith), subst (λ m. AddsAll m es after) (changed_apart before x.0 y.0 (Some x.1) (Some y.1) apart) rest),
-    )
+    let back = bytes_eq-Decides x.0 y.0 in
+    let turned = changed_apart before x.0 y.0 (Some x.1) (Some y.1) in
+    grind (arith, get-at before x.0 y.0 (Some x.1), get-at before y.0 x.0 (Some y.1), get-changed before x.0 (Some x.1))
 
 -- names may be added in any order
 any_order : (es fs : List (List ℕ × List ℕ)) → IsPermutation es fs → Reorders es fs
@@ -44,33 +38,21 @@ module _ {S : Type 0} (g : Ghosts S) where
   -- a change is the same after a call that changed nothing, and may have more causes
   changes_later : {a b c : S} {x y : Texts} {P Q : Type 0} {r : Result (Unit {0}) StoreError} → StaysQuiet g a b
       → (IsHonest g b → (g.view b).is_broken ≡ false) → (P → Q) → Changes g b c x y P r → Changes g a c x y Q r
-  changes_later {a} {b} {c} {P = P} {Q = Q} {r = r} quiet sound more change =
-      let cause : IsHonest g c → IfErr r (λ e. HasCause (g.view a) (MoreFaults (g.faults a) (g.faults c)) Q e × IsTold g c e) =
-      λ clean. IfErr-weaker r _ _ (λ e why. (
-        cause_map (g.view b) (g.view a) (λ broken. absurd (both_ways (g.view b).is_broken (sound (change.honest clean)) broken))
-            (λ f. omega (arith, f, quiet.counts)) more e why.0,
-        why.1,
-      )) (change.cause clean) in
-      search arith
+  changes_later quiet sound more change = search (arith, cause_map)
 
   -- names that are written in another order
   pub reordered : (old new : S) (before : Texts) (xs ys : List (Bor (List ℕ) × StoredText)) (done : Result (Unit {0}) StoreError)
       → (IsHonest g old → IsOpen g old) → IsPermutation xs ys → HasRows g old before
       → AddsNames g old new before (map entry_of ys) done → AddsNames g old new before (map entry_of xs) done
-  reordered old new before xs ys done was_open moved has wrote =
+  reordered old new before xs ys done was_open moved has (after, may, all, change) =
       let back = IsPermutation-map entry_of ys xs (IsPermutation-sym xs ys moved) in
-      let es = map entry_of ys in
-      let fs = map entry_of xs in
-      let (after, may, all, change) = wrote in (
+      let moves = any_order _ _ back before after in (
         after,
-        λ clean. let moves = any_order es fs back before after in let either = may clean in grind arith,
-        on_ok_weaker done (λ f clean. any_order es fs back before after (f clean)) all,
-        changes_later (quiet_itself g old) (λ clean. has.1.sound clean (was_open clean)) (some_moved es fs back) change,
+        λ clean. grind arith,
+        on_ok_weaker done (λ f clean. moves (f clean)) all,
+        changes_later (quiet_itself g old) (λ clean. has.1.sound clean (was_open clean)) (λ (k, e, within, is, long).
+            let (j, there, at) = Contains-permutation _ _ e back (k, within, is) in (j, e, there, at, long)) change,
       )
-    where
-      some_moved : (es fs : List (List ℕ × List ℕ)) → IsPermutation es fs → Any IsLong es → Any IsLong fs
-      some_moved es fs back (k, e, within, is, long) =
-          let (j, there, at) = Contains-permutation es fs e back (k, within, is) in (j, e, there, at, long)
 
   -- names that are not all written are taken back
   pub undone : (old mid new : S) {before after : Texts} (es : List (List ℕ × List ℕ)) (error : AddError) → Settled g
@@ -85,25 +67,17 @@ module _ {S : Type 0} (g : Ghosts S) where
     quiet_then g old mid new wrote.quiet quiet,
   )
   undone old mid new {before} es (Store e) settled was_open has wrote first kept blame quiet =
-      let ends : Finishes g mid new (Err e) (Err e) = search arith in (
-        before,
-        λ clean. inl refl,
-        tt,
-        changes_of settled was_open (Err e) (Err e) has has.0 (writes_less e wrote wrote.cause) ends,
-      )
+      (before, λ clean. inl refl, tt, changes_of settled was_open (Err e) (Err e) has has.0 (writes_less e wrote wrote.cause) (search arith))
 
   -- after others were written and taken back
   module _ (old mid : S) (before : Texts) (had : HasRows g mid before) (quiet : StaysQuiet g old mid) where
-    later : (new : S) (es : List (List ℕ × List ℕ)) (done : Result (Unit {0}) StoreError) → (IsHonest g mid → IsOpen g mid)
-        → AddsNames g mid new before es done → AddsNames g old new before es done
-    later new es done is_open (after, may, all, change) =
-        (after, may, all, changes_later quiet (λ clean. had.1.sound clean (is_open clean)) (λ l. l) change)
-
     -- names are written
     pub written_later : (new : S) (es : List (List ℕ × List ℕ)) (r : Result (Unit {0}) AddError)
         → (IsHonest g mid → IsOpen g mid) → WritesAll g mid new before es r → WritesAll g old new before es r
-    written_later new es (Ok x) is_open wrote = later new es (Ok tt) is_open wrote
-    written_later new es (Err (Store e)) is_open wrote = later new es (Err e) is_open wrote
+    written_later new es (Ok x) is_open (after, may, all, change) =
+        (after, may, all, changes_later quiet (λ clean. had.1.sound clean (is_open clean)) (λ l. l) change)
+    written_later new es (Err (Store e)) is_open (after, may, all, change) =
+        (after, may, all, changes_later quiet (λ clean. had.1.sound clean (is_open clean)) (λ l. l) change)
     written_later new es (Err (Taken k)) is_open (names, first, more) = (names, first, quiet_then g old mid new quiet more)
 
     -- names are not written, since taking others back has closed the file
@@ -121,9 +95,7 @@ module _ {S : Type 0} (g : Ghosts S) where
                 let left = leaves_quiet g settled old mid before has quiet clean (was_open (earlier clean)) db found in
                 (left.0, left.1, inl left.2);
             durable = tt;
-            cause = λ clean.
-                let end = quiet.closes clean (was_open (earlier clean)) in let closed = shut clean in
-                (grind arith, inr (refl, closed));
+            cause = λ clean. grind (arith, quiet.closes clean (was_open (earlier clean)));
             closes = λ clean. quiet.closes clean (was_open (earlier clean));
           },
         )

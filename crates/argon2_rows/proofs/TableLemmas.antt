@@ -1,12 +1,11 @@
 -- What the rows of a table are after each step of a change.
-use Rattle.argon2_rows.proofs.Imports.{◌≡◌, ℕ, List, Result, Ok, Err, false, refl, sym, subst, ap, ◌∙◌, ◌≤◌, IsTrue, arith, inl, inr}
-use Rattle.argon2_rows.proofs.Imports.{IfErr, IsErrAnd, MatchResult, OnErr, OnOk, both_ways, true_from_ne_false, Coded-set, ∥∥₁_elim, ∥∥₁_map, MoreFaults, plain, Row, StoreError, Shape, Index, Ghosts}
-use Rattle.argon2_rows.proofs.Imports.{Trees, order_of, View, IsFailure, KeepsSchema, OnlyWrites, SetsTree, Texts, AreTexts, rows_of, Changes}
-use Rattle.argon2_rows.proofs.Imports.{EndsRead, Finishes, HasBegun, HasRows, HasSome, IsHonest, IsKept, IsOpen, CrashLeaves, Sees, StaysQuiet, Writes, done_of, on_ok_weaker}
-use Rattle.argon2_rows.specs.Table.{IsDue, IsTold}
+use Rattle.argon2_rows.proofs.Imports.{◌≡◌, Result, Ok, Err, false, refl, IsTrue, arith, inl, inr, IfErr, IsErrAnd, MatchResult, OnOk, plain, StoreError, Index, Ghosts, Trees, View, IsFailure}
+use Rattle.argon2_rows.proofs.Imports.{KeepsSchema, OnlyWrites, Texts, AreTexts, Changes, EndsRead, Finishes, HasBegun, HasRows, HasSome, IsHonest, IsKept, IsOpen, CrashLeaves, Sees, StaysQuiet}
+use Rattle.argon2_rows.proofs.Imports.{Writes, done_of, IsDue, IsTold, HasCause, Tells}
+use Rattle.std.specs.Coded.{Coded-set}
+use Rattle.std.proofs.Math.Logic.{∥∥₁_elim, ∥∥₁_map}
+use Rattle.sqlite_disk.specs.Disk.{MoreFaults}
 use Rattle.sqlite_trees.specs.contracts.store.Shape.{the_row}
-use Rattle.sqlite_trees.specs.View.{HasCause, Tells}
-use Rattle.sqlite_value.specs.declared.keys.Order.{Order}
 
 -- ---- answers
 
@@ -24,7 +23,7 @@ on_both W r p q then = grind arith
 
 -- a store that is sound is open
 pub open_if_sound : (v : View) → (v.is_open ≡ false → IsTrue v.is_broken) → v.is_broken ≡ false → IsTrue v.is_open
-open_if_sound v broken sound = true_from_ne_false v.is_open (λ shut. both_ways v.is_broken sound (broken shut))
+open_if_sound v broken sound = grind arith
 
 -- while a store is open, a crash leaves its last commit
 abbrev pub Settled : {S : Type 0} → Ghosts S → Type 0
@@ -48,22 +47,6 @@ leaves_quiet g settled old new names kept quiet clean is_open db found =
 pub cause_map : (old new : View) {P Q R U : Type 0} → (IsTrue old.is_broken → IsTrue new.is_broken) → (P → Q) → (R → U)
     → (e : StoreError) → HasCause old P R e → HasCause new Q U e
 cause_map old new b f h e cause = grind arith
-
--- what finishing answers has the cause of what failed in writing, or in the commit
-cause_of : {S : Type 0} (g : Ghosts S) (old mid new : S) (long : Type 0) (done result : Result (Unit {0}) StoreError)
-    → IfErr done (IsDue g old mid long) → MatchResult done (λ _. IfErr result (IsDue g mid new ⊥)) (λ e. result ≡ Err e)
-    → OnErr done (g.blamed new ≡ g.blamed mid) → OnOk done ((g.view mid).is_broken ≡ (g.view old).is_broken)
-    → g.faults old ≤ g.faults mid → g.faults mid ≤ g.faults new
-    → IfErr result (λ e. HasCause (g.view old) (MoreFaults (g.faults old) (g.faults new)) long e × IsTold g new e)
-cause_of g old mid new long (Ok x) (Ok y) first later blame same begun ended = tt
-cause_of g old mid new long (Ok x) (Err e) first later blame same begun ended = (
-  cause_map (g.view mid) (g.view old) (search arith) (λ more. omega (arith, more, begun)) (λ never. absurd never) e later.0,
-  inl later.1,
-)
-cause_of g old mid new long (Err e) result first later blame same begun ended = rw later (
-  cause_map (g.view old) (g.view old) (λ b. b) (λ more. omega (arith, more, ended)) (λ long. long) e first.0,
-  inl (subst (λ b. Tells b e) (sym blame) first.1),
-)
 
 -- ---- writing
 
@@ -89,17 +72,6 @@ module _ {S : Type 0} (g : Ghosts S) where
       → KeepsSchema (g.view old) (g.view new) → StaysQuiet g old new → Writes g old new before after long r
   writes_row r frame failed sees cause told schema quiet = search arith
 
-  -- a call that puts the row of a name in, or takes it out
-  pub edits_row : {old new : S} {names after : Texts} {long : Type 0} {row its : Row} (edit : Order → Row → List Row → List Row)
-      (r : Result (Unit {0}) StoreError) → (IsHonest g old → (g.view old).shape 0 ≡ Index plain) → row ≡ its
-      → (IsHonest g old → edit plain its (rows_of names) ≡ rows_of after)
-      → OnOk r (IsHonest g new → SetsTree (g.view old) (g.view new) 0 (edit (order_of ((g.view old).shape 0)) row))
-      → OnOk r (IsHonest g new → OnlyWrites (g.view old) (g.view new)) → IfErr r (IsFailure (g.view old) (g.view new))
-      → (IsHonest g new → IfErr r (HasCause (g.view old) (MoreFaults (g.faults old) (g.faults new)) long))
-      → IfErr r (Tells (g.blamed new))
-      → KeepsSchema (g.view old) (g.view new) → StaysQuiet g old new → Writes g old new names after long r
-  edits_row edit r shape is gives set frame failed cause told schema quiet = search arith
-
   -- a call that reads
   pub reads_ok : {old new : S} {names : Texts}
       → (IsHonest g new → g.view new ≡ record (g.view old) { cursors = (g.view new).cursors })
@@ -108,8 +80,7 @@ module _ {S : Type 0} (g : Ghosts S) where
 
   pub keeps_index : {a b : S} → KeepsSchema (g.view a) (g.view b) → StaysQuiet g a b
       → (IsHonest g a → (g.view a).shape 0 ≡ Index plain) → IsHonest g b → (g.view b).shape 0 ≡ Index plain
-  keeps_index schema quiet had clean =
-      ap (λ (f : ℕ → Shape). f 0) schema.shape ∙ had (omega (arith, clean, quiet.clean))
+  keeps_index schema quiet had clean = search arith
 
   -- a store that has names is a tree in their order
   pub shape_of : {s : S} → HasSome g s → (IsHonest g s → IsOpen g s) → IsHonest g s → (g.view s).shape 0 ≡ Index plain
@@ -142,6 +113,15 @@ module _ {S : Type 0} {g : Ghosts S} where
       → Writes g a b x z Q (Err e)
   writes_less e wrote cause = search arith
 
+  -- what finishing answers has the cause of what failed in writing, or in the commit
+  cause_of : {a b c : S} {x y : Texts} {P : Type 0} (done result : Result (Unit {0}) StoreError) → Writes g a b x y P done
+      → Finishes g b c done result → IsHonest g c
+      → IfErr result (λ e. HasCause (g.view a) (MoreFaults (g.faults a) (g.faults c)) P e × IsTold g c e)
+  cause_of (Ok x) result wrote ends clean = grind (arith, cause_map)
+  cause_of (Err e) result wrote ends clean =
+      let first = wrote.cause (omega (arith, clean, ends.clean)) in
+      rw (ends.cause clean) (grind (arith, cause_map), inl (rw ends.blame first.1))
+
   -- ---- a store with names
 
   pub some_kept : {old new : S} → HasSome g old → ((names : Texts) → HasRows g old names → HasRows g new names) → HasSome g new
@@ -154,10 +134,6 @@ module _ {S : Type 0} {g : Ghosts S} where
   has_either {before = before} (Err e) change = (before, change.kept)
 
   module _ (settled : Settled g) {old : S} (was_open : IsHonest g old → IsOpen g old) where
-    -- nothing is written yet
-    begun_over : {names : Texts} → IsKept g old names → IsHonest g old → HasBegun g old names
-    begun_over kept clean = search arith
-
     -- what was written is taken back
     pub taken_back : {mid new : S} {before after : Texts} {long : Type 0} {r : Result (Unit {0}) StoreError}
         → HasRows g old before → Writes g old mid before after long r
@@ -169,11 +145,8 @@ module _ {S : Type 0} {g : Ghosts S} where
         → ((s : S) → (g.view s).is_open ≡ false → IsTrue (g.view s).is_broken) → HasRows g old names
         → (AreTexts names → (IsHonest g old → Sees (g.view old) names) → Writes g old mid names names ⊥ (done_of done))
         → EndsRead g mid new done → Keeps g old new names done
-    reads_keep (Ok x) shut has writes ends = search arith
-    reads_keep (Err e) shut has writes ends =
-        let wrote = writes has.0 (λ clean unbroken. has.1.seen clean (was_open clean)) in
-        let quiet = quiet_then g _ _ _ wrote.quiet ends.quiet in
-        (taken_back has wrote (ends.kept _) ends.quiet, tt, (let later = ends.quiet in let same = ends.blame in search (arith, cause_map)), quiet)
+    reads_keep done shut has writes ends =
+        let wrote = writes has.0 (λ clean unbroken. has.1.seen clean (was_open clean)) in search (arith, cause_map, taken_back)
 
     -- rows that are written, and then committed or taken back
     pub changes_of : {mid new : S} {before after : Texts} {long : Type 0} (done result : Result (Unit {0}) StoreError)
@@ -182,12 +155,9 @@ module _ {S : Type 0} {g : Ghosts S} where
     changes_of {mid} {new} {before} {after} {long} done result (texts, kept) fine wrote ends =
         let to_mid : IsHonest g new → IsHonest g mid = λ now. omega (arith, now, ends.clean) in
         let to_old : IsHonest g new → IsHonest g old = λ now. omega (arith, now, ends.clean, wrote.quiet.clean) in
-        let begun : IsHonest g new → HasBegun g mid before = λ now.
-        wrote.begun before (to_mid now) (begun_over kept (to_old now)) in
-        let sees : IsHonest g new → OnOk done (Sees (g.view mid) after) = λ now. on_ok_weaker done (λ f.
-        f (to_mid now) (λ unbroken. kept.seen (to_old now) (was_open (to_old now)))) wrote.sees in
+        let begun : IsHonest g new → HasBegun g mid before = λ now. wrote.begun before (to_mid now) (search arith) in
+        let sees : IsHonest g new → OnOk done (Sees (g.view mid) after) = λ now. search arith in
         let is = ends.kept before after (λ now. (begun now, sees now)) in
-        let leaves = leaves_kept g new after (settled new) in
         record {
           honest = to_old;
           kept = grind arith;
@@ -195,14 +165,10 @@ module _ {S : Type 0} {g : Ghosts S} where
             | inl made ↦ (after, (let seen = sees now in grind arith), inr refl)
             | inr earlier ↦ (before, (begun now).left db earlier, inl refl)
           ];
-          durable = on_both _ result is ends.is_open (λ ended opens clean. (opens clean, leaves ended clean (opens clean)));
-          cause = λ now. cause_of g old mid new long done result (wrote.cause (to_mid now)) (ends.cause now) ends.blame
-              (on_ok_weaker done (λ same. same (to_mid now)) wrote.broken) wrote.quiet.counts ends.counts;
-          closes = λ now.
-              let first = wrote.quiet.closes (to_mid now) (was_open (to_old now)) in
-              let later = ends.closes now in
-              let counts = ends.counts in
-              grind arith;
+          durable = on_both _ result is ends.is_open (λ ended opens clean.
+              (opens clean, leaves_kept g new after (settled new) ended clean (opens clean)));
+          cause = cause_of done result wrote ends;
+          closes = λ now. grind arith;
         }
 
 -- what no call changes

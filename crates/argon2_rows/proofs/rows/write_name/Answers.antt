@@ -1,35 +1,19 @@
-use Rattle.argon2_rows.proofs.Imports.{rules, [], ◌++◌, ◌∙◌, ◌≡◌, ap, append-nil, append_assoc, subst, sym}
-use Rattle.argon2_rows.specs.Rows.{shown_char}
-use Rattle.std.proofs.KnownBytes.{Appends-nil, Appends-trans}
-use Rattle.std.proofs.StrCases.{chars_of_empty}
-use Rattle.std.proofs.lemmas.Str.{IsUtf8-past_char, chars_past_char}
-use Rattle.std.specs.Io.KnownBytes.{Appends}
-use Rattle.std.specs.List.{flat_map}
-use Rattle.std.specs.Str.{chars}
-use Rattle.std.specs.Str.Iter.{chars_rest}
+use Rattle.argon2_rows.proofs.Imports.{◌≡◌, ◌∙◌, append-nil, sym, shown_char, Appends-nil, Appends-trans, map-id, chars}
+use Rattle.std.proofs.lemmas.Grind.{flat_map-append}
+use Rattle.std.proofs.lemmas.Iterator.{YieldsList-from_chars}
+use Rattle.std.proofs.lemmas.Iterator.Consumers.{YieldsList-end}
 use Rattle.argon2_rows.proofs.rows.write_name.Goals as goal
 
 pub loop-c-init : goal.loop-c-init
-loop-c-init g c =
-    let whole : chars_rest c.into_iter-c-iterator.result ≡ c.args.name.now = search rules in
-    (search rules, ([], Appends-nil (g.W.Write.contents c.args.output.now), ap (λ s. flat_map shown_char (chars s)) whole))
+loop-c-init g c = Appends-nil (g.W.Write.contents c.args.output.now)
 
 pub loop-c-preserved : goal.loop-c-preserved
-loop-c-preserved g c =
-    let (good, (done, wrote, all)) = c.loop-c.invariant in
-    let parts = c.in-Some.ensures.steps.0 in
-    let step = chars_past_char _ _ c.in-Some.c good parts in (
-      IsUtf8-past_char _ _ c.in-Some.c good parts,
-      (
-        done ++ shown_char c.in-Some.c,
-        Appends-trans _ _ _ _ _ wrote c.in_ok-write_char.ensures,
-        append_assoc done (shown_char c.in-Some.c) _ ∙ ap (λ cs. done ++ flat_map shown_char cs) (sym step) ∙ all,
-      ),
-    )
+loop-c-preserved g c = rw (flat_map-append shown_char c.loop-c.yielded, append-nil (shown_char c.in-Some.c))
+    (Appends-trans _ _ _ _ _ c.loop-c.invariant c.in_ok-write_char.ensures)
 
 pub returns : goal.returns
 returns g c =
-    let (good, (done, wrote, all)) = c.loop-c.invariant in
-    let none = chars_of_empty _ c.in-None.ensures.steps.0.0 in
-    let whole = sym (append-nil done) ∙ ap (λ cs. done ++ flat_map shown_char cs) (sym none) ∙ all in
-    subst (Appends (g.W.Write.contents c.args.output.now) (g.W.Write.contents c.loop-c.output)) whole wrote
+    let all = YieldsList-end (YieldsList-from_chars c.args.name.now c.utf8.name cc) c.loop-c.yielded _ c.loop-c.yielded_by _ _
+    c.in-None.is c.next.ensures.steps in
+    let text : c.loop-c.yielded ≡ chars c.args.name.now = sym (map-id c.loop-c.yielded) ∙ all.0 in
+    rw (← text) c.loop-c.invariant

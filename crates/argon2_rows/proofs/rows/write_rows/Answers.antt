@@ -1,14 +1,15 @@
-use Rattle.argon2_rows.proofs.Imports.{rules, arith, Result, Err, StoreError, IsHonest}
-use Rattle.sqlite_trees.specs.declared.error.StoreError.TheVariants.{Corrupt, OutOfMemory}
-use Rattle.argon2_rows.proofs.LineLemmas.{all_written, begin_lines, its_name, next_row, stops}
+use Rattle.argon2_rows.proofs.Imports.{rules, arith, IsHonest, OutOfMemory}
+use Rattle.argon2_rows.proofs.LineLemmas.{all_written, begin_lines, next_row, some_row, stops}
 use Rattle.argon2_rows.proofs.TableLemmas.{err_is, reads_ok, writes_less, writes_row, writes_then}
 use Rattle.argon2_rows.proofs.rows.write_rows.Goals as goal
 
 pub loop-init : goal.loop-init
-loop-init g c = search (arith, reads_ok, begin_lines)
-
-pub next-requires : goal.next-requires
-next-requires g c = c.loop.invariant.0
+loop-init g c = (
+  c.in_ok-seek.ensures.live,
+  λ names. search (arith, reads_ok),
+  λ clean names texts sees. begin_lines _ _ _ names _ (search arith)
+      (rw c.clear.ensures at (c.in_ok-seek.ensures.ok clean)) (search arith) texts,
+)
 
 pub loop-preserved : goal.loop-preserved
 loop-preserved g c = (
@@ -26,37 +27,31 @@ returns-in_err-next-clause-reads g c names texts sees =
 
 pub returns-then-not-branch-clause-shows : goal.returns-then-not-branch-clause-shows
 returns-then-not-branch-clause-shows g c names texts sees clean =
-    all_written (c.loop.invariant.2 (search arith) names texts sees) _ (rw c.if-not-branch.true at (c.in_ok-next.ensures.ok clean)).0
+    all_written _ (c.loop.invariant.2 (search arith) names texts sees) (rw c.if-not-branch.true at (c.in_ok-next.ensures.ok clean)).0
     c.flush.ensures.bytes c.flush.result _ c.outcome.ensures
 
 pub returns-then-not-branch-clause-reads : goal.returns-then-not-branch-clause-reads
-returns-then-not-branch-clause-reads g c names texts sees =
-    writes_then (c.loop.invariant.1 names) (search (arith, reads_ok)) (λ never. never)
+returns-then-not-branch-clause-reads g c names _ _ = writes_then (c.loop.invariant.1 names) (search (arith, reads_ok)) (λ l. l)
 
 pub returns-in-Some-Breaks-clause-reads : goal.returns-in-Some-Breaks-clause-reads
-returns-in-Some-Breaks-clause-reads g c names texts sees =
-    writes_then (c.loop.invariant.1 names) (search (arith, reads_ok)) (λ never. never)
+returns-in-Some-Breaks-clause-reads g c names _ _ = writes_then (c.loop.invariant.1 names) (search (arith, reads_ok)) (λ l. l)
 
 pub returns-in-Some-Breaks-clause-shows : goal.returns-in-Some-Breaks-clause-shows
 returns-in-Some-Breaks-clause-shows g c names texts sees clean =
-    stops (c.loop.invariant.2 (search arith) names texts sees) _ (rw c.if-not-branch.false at (c.in_ok-next.ensures.ok clean))
+    stops _ (c.loop.invariant.2 (search arith) names texts sees) (rw c.if-not-branch.false at (c.in_ok-next.ensures.ok clean))
     (λ e good is. rw c.in-Some-Breaks.field-0-is at (c.in-Some-Breaks.ensures e good is))
 
 pub returns-in-Some-Failed-clause-reads : goal.returns-in-Some-Failed-clause-reads
-returns-in-Some-Failed-clause-reads g c names texts sees =
-    writes_then (c.loop.invariant.1 names) (search (arith, reads_ok)) (λ never. never)
+returns-in-Some-Failed-clause-reads g c names _ _ = writes_then (c.loop.invariant.1 names) (search (arith, reads_ok)) (λ l. l)
 
 -- each row has two texts
 pub returns-in-None-clause-reads : goal.returns-in-None-clause-reads
 returns-in-None-clause-reads g c names texts sees =
-    let failed : Result (Unit {0}) StoreError = Err Corrupt in
     let quiet = (c.loop.invariant.1 names).quiet in
-    let never : IsHonest g.S.Store c.next.new.self → ⊥ = λ clean.
-    let (e, fs, good, is, rows, named, all) = its_name (c.loop.invariant.2 (search arith) names texts (sees (search arith)))
-    (rw c.if-not-branch.false at (c.in_ok-next.ensures.ok clean)) in
-    c.in-None.ensures e good is in
-    writes_then (c.loop.invariant.1 names) (writes_row g.S.Store failed tt (λ clean. absurd {0} (never clean)) tt
-    (λ clean. absurd {0} (never clean)) (λ clean. absurd {0} (never clean)) c.next.ensures.schema c.next.ensures.quiet) (λ never. never)
+    let never : IsHonest g.S.Store c.next.new.self → ⊥ = λ clean. some_row
+    (c.loop.invariant.2 (search arith) names texts (sees (search arith)))
+    (rw c.if-not-branch.false at (c.in_ok-next.ensures.ok clean)) c.in-None.ensures in
+    writes_then (c.loop.invariant.1 names) (search (arith, writes_row)) (λ long. long)
 
 pub returns-clause-reads : goal.returns-clause-reads
 returns-clause-reads g c names texts sees = writes_less OutOfMemory (c.loop.invariant.1 names) (λ clean. search arith)

@@ -1,8 +1,9 @@
-use Rattle.argon2_rows.proofs.Imports.{arith, refl, ◌≡◌, ◌∙◌, sym, subst, IsTrue, HasNoneAfter, Texts, List, [], ℕ, Writes, IsFoundAs, Bool, Option, None, Some, Ok, get, IsHonest, Row, Sees, IsAfterAll, tied_itself, nat_list_cmp_total, bytes_eq-Decides, changed, true, false, not}
-use Rattle.argon2_rows.proofs.RowLemmas.{get-at, texts_changed}
-use Rattle.argon2_rows.proofs.TableLemmas.{err_is, reads_ok, writes_more, writes_nothing, writes_row, writes_then}
+use Rattle.argon2_rows.proofs.Imports.{arith, refl, ◌≡◌, ◌∙◌, sym, IsTrue, HasNoneAfter, IsSome, Texts, List, [], ℕ, Writes, IsFoundAs, Bool, Option, None, Some, Ok, get, IsHonest, Row, Sees}
+use Rattle.argon2_rows.proofs.Imports.{IsAfterAll, tied_itself, nat_list_cmp_total, bytes_eq-Decides, changed, true, false, not}
 use Rattle.std.specs.Option.{is_some, option_eq}
 use mathlib.Core.Bool.{beq}
+use Rattle.argon2_rows.proofs.RowLemmas.{get-at, texts_changed}
+use Rattle.argon2_rows.proofs.TableLemmas.{err_is, reads_ok, writes_more, writes_nothing, writes_row, writes_then}
 use Rattle.argon2_rows.proofs.table.add.Goals as goal
 use Rattle.argon2_rows.proofs.table.add.Goals.{After-eq, then-is_last, else-is_last+in_ok-found}
 
@@ -21,14 +22,18 @@ sought g c before sees last = elim c.if-is_last.branch [
       )
 ]
 
-is_found : (o : Option Bool) → true ≡ option_eq beq o (Some true) → o ≡ Some true
-is_found o is = grind arith
+is_there : (before : Texts) (name : List ℕ) (o : Option Bool) → true ≡ option_eq beq o (Some true)
+    → (row : Row) × IsFoundAs before name o row → IsSome (get before name)
+is_there before name o test found = grind arith
 
-not_found : (before : Texts) (name : List ℕ) (o : Option Bool) (row : Row) (b : Bool) → false ≡ option_eq beq o (Some true)
-    → is_some o ≡ not b → IsFoundAs before name o row → (get before name ≡ None) × (IsTrue b → HasNoneAfter before name)
-not_found before name None row b far test found = (found.0, λ is. found.1)
-not_found before name (Some true) row b far test found = absurd cc
-not_found before name (Some false) row b far test found = (found, λ is. absurd {0} (grind arith))
+none_there : (before : Texts) (name : List ℕ) (o : Option Bool) (b : Bool) → false ≡ option_eq beq o (Some true) → is_some o ≡ not b
+    → (row : Row) × IsFoundAs before name o row → (get before name ≡ None) × (IsTrue b → HasNoneAfter before name)
+none_there before name o b test far found = grind arith
+
+-- no name after a new one has a text if none had one
+none_after_new : (before : Texts) (name text : List ℕ) → HasNoneAfter before name → HasNoneAfter (changed before name (Some text)) name
+none_after_new before name text none later less =
+    grind (arith, get-at before name later (Some text), bytes_eq-Decides later name, tied_itself nat_list_cmp_total name, none later less)
 
 pub returns-in_err-found-clause-writes : goal.returns-in_err-found-clause-writes
 returns-in_err-found-clause-writes g c before texts sees last =
@@ -42,9 +47,7 @@ returns-then-eq-clause-writes g c before texts sees last =
       texts,
       writes_more read (λ never. absurd never),
       λ clean. (
-        let (row, is) = found clean in
-            let (text, has, at) = subst (λ o. IsFoundAs before c.args.name.now o row)
-            (is_found _ (sym c.if-eq.true ∙ c.eq.ensures)) is in (rw has refl, refl),
+        (is_there before _ _ (sym c.if-eq.true ∙ c.eq.ensures) (found clean), refl),
         λ is. (last is (omega (arith, clean, read.quiet.clean))).1,
       ),
     )
@@ -52,33 +55,23 @@ returns-then-eq-clause-writes g c before texts sees last =
 pub returns-in_err-insert-clause-writes : goal.returns-in_err-insert-clause-writes
 returns-in_err-insert-clause-writes g c before texts sees last =
     let (read, found) = sought g (goal.at.returns-in_err-insert-clause-writes g c).After-eq before sees last in
-    let wrote = c.in_err-insert.ensures.writes before (λ clean. let (row, is) = found clean in
-    (not_found before _ _ row c.is_none.result (sym c.if-eq.false ∙ c.eq.ensures) c.is_none.ensures is).0) in
+    let none = λ (clean : _). none_there before _ _ _ (sym c.if-eq.false ∙ c.eq.ensures) c.is_none.ensures (found clean) in
     rw (err_is c.from_residual-in_err-insert.result _ c.from_residual-in_err-insert.ensures.1) (
       changed before c.args.name.now (Some c.args.text.now),
       texts_changed before c.args.name.now (Some c.args.text.now) texts c.utf8.name c.utf8.text,
-      writes_then read wrote (λ long. long),
+      writes_then read (c.in_err-insert.ensures.writes before (λ clean. (none clean).0)) (λ long. long),
       tt,
     )
 
 pub returns-clause-writes : goal.returns-clause-writes
 returns-clause-writes g c before texts sees last =
     let (read, found) = sought g (goal.at.returns-clause-writes g c).After-eq before sees last in
-    let name = c.args.name.now in
-    let none = λ (clean : IsHonest g.S.Store c.if-is_last.store). let (row, is) = found clean in
-    not_found before name c.if-is_last.found row c.is_none.result (sym c.if-eq.false ∙ c.eq.ensures) c.is_none.ensures is in
+    let none = λ (clean : _). none_there before _ _ _ (sym c.if-eq.false ∙ c.eq.ensures) c.is_none.ensures (found clean) in
     let wrote = c.in_ok-insert.ensures.writes before (λ clean. (none clean).0) in (
-      changed before name (Some c.args.text.now),
-      texts_changed before name (Some c.args.text.now) texts c.utf8.name c.utf8.text,
+      changed before c.args.name.now (Some c.args.text.now),
+      texts_changed before c.args.name.now (Some c.args.text.now) texts c.utf8.name c.utf8.text,
       writes_then read wrote (λ long. long),
       λ clean.
-          let first = none (omega (arith, clean, wrote.quiet.clean)) in (
-            (first.0, refl),
-            λ is later less.
-                let gone = first.1 is later less in
-                let at = get-at before name later (Some c.args.text.now) in
-                let test = bytes_eq-Decides later name in
-                let tied = tied_itself nat_list_cmp_total name in
-                grind arith,
-          ),
+          let first = none (omega (arith, clean, wrote.quiet.clean)) in
+          ((first.0, refl), λ is. none_after_new before c.args.name.now c.args.text.now (first.1 is)),
     )

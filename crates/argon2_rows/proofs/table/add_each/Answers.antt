@@ -1,27 +1,18 @@
-use Rattle.argon2_rows.proofs.Imports.{◌<◌, ◌≡◌, arith, length, ℕ, List, [], IsSome, refl, subst, take, map, get_or, sym, Bor, get, get_or-map, length-map, map_more}
-use Rattle.argon2_rows.specs.declared.text.StoredText.{StoredText}
-use Rattle.argon2_rows.proofs.Imports.{◌∙◌, ap, IsAdded, true, take-map, take_all, Any, AddsAll, entry_of, IsLong, Texts, HasNoneAfter, IsAfterAll, Less, slice_cmp, nat_cmp, nat_list_cmp_total}
+use Rattle.argon2_rows.proofs.Imports.{◌<◌, ◌≡◌, arith, length, ℕ, List, [], refl, map, get_or, sym, Bor, get_or-map, length-map, map_more, StoredText, ◌∙◌, ap, take-map, take_all, Any, entry_of}
+use Rattle.argon2_rows.proofs.Imports.{IsLong, Texts, HasNoneAfter, IsAfterAll, Less, slice_cmp, nat_cmp, nat_list_cmp_total}
 use Rattle.argon2_rows.proofs.AddLemmas.{add_last}
 use Rattle.argon2_rows.proofs.TableLemmas.{err_is, keeps_index, writes_nothing, writes_then}
 use Rattle.argon2_rows.proofs.table.add_each.Goals as goal
 
 some_long : (new : List (Bor (List ℕ) × StoredText)) (i : ℕ) (e : Bor (List ℕ) × StoredText) → i < length new
     → get_or new i e ≡ e → IsLong (entry_of e) → Any IsLong (map entry_of new)
-some_long new i e within is long = (
-  i,
-  entry_of e,
-  rw length-map within,
-  get_or-map entry_of new i e (entry_of e) within ∙ ap entry_of is,
-  long,
-)
+some_long new i e within is long =
+    (i, entry_of e, rw length-map within, get_or-map entry_of new i e (entry_of e) within ∙ ap entry_of is, long)
 
 -- a name after the last one is after all if that is
 past : {P Q : Type 0} (names : Texts) (last name : List ℕ) → (P → Q × (slice_cmp nat_cmp last name ≡ Less))
     → {H : Type 0} → (Q → H → HasNoneAfter names last) → P → H → IsAfterAll names name
 past names last name later none is clean = search (arith, nat_list_cmp_total.trans)
-
-pub add-requires : goal.add-requires
-add-requires g c = c.loop-k.invariant.0
 
 pub loop-k-init : goal.loop-k-init
 loop-k-init g c =
@@ -32,30 +23,24 @@ returns-in_err-add g c before texts sees =
     let (mid, fine, all, wrote) = c.loop-k.invariant.1 before texts sees in
     let (after, good, more, done) = (rw c.as_str.ensures at (c.in_err-add.ensures.writes mid fine (search arith)
     (past mid _ _ c.comes_after-is_last.ensures (λ is clean. (all clean).1 is)))) in
-    rw (err_is c.from_residual.result _ c.from_residual.ensures.1) (
-      after,
-      good,
-      writes_then wrote more (some_long c.args.new.now c.loop-k.k _ c.loop-k-test.true (sym c.index-new-k.is)),
-      λ clean. tt,
-    )
+    let long = some_long c.args.new.now c.loop-k.k _ c.loop-k-test.true (sym c.index-new-k.is) in
+    rw (err_is c.from_residual.result _ c.from_residual.ensures.1) (after, good, writes_then wrote more long, λ clean. tt)
 
 pub returns-then-not-branch : goal.returns-then-not-branch
 returns-then-not-branch g c before texts sees =
     let (mid, fine, all, wrote) = c.loop-k.invariant.1 before texts sees in
     let (after, good, more, taken) = (rw (c.as_str.ensures, c.if-not-branch.true) at (c.in_ok-add.ensures.writes mid fine
     (search arith) (past mid _ _ c.comes_after-is_last.ensures (λ is clean. (all clean).1 is)))) in
-    let new = c.args.new.now in
-    let item = c.index-new-k.result in
-    let within : c.loop-k.k < length new = c.loop-k-test.true in (
+    let within : c.loop-k.k < length c.args.new.now = c.loop-k-test.true in
+    let is = get_or-map entry_of c.args.new.now c.loop-k.k c.index-new-k.result ([], []) within in (
       after,
       good,
-      writes_then wrote more (some_long new c.loop-k.k item within (sym c.index-new-k.is)),
+      writes_then wrote more (some_long c.args.new.now c.loop-k.k _ within (sym c.index-new-k.is)),
       λ clean. (
         mid,
         rw take-map (all (omega (arith, clean, more.quiet.clean))).0,
         rw length-map within,
-        subst (λ (x : List ℕ × List ℕ). IsSome (get mid x.0))
-            (ap entry_of c.index-new-k.is ∙ sym (get_or-map entry_of new c.loop-k.k item ([], []) within)) (taken clean).0.0,
+        rw (is, ← c.index-new-k.is) (taken clean).0.0,
       ),
     )
 
@@ -66,25 +51,20 @@ loop-k-preserved g c = (
       let (mid, fine, all, wrote) = c.loop-k.invariant.1 before texts sees in
       let (after, good, more, done) = (rw (c.as_str.ensures, c.if-not-branch.false) at (c.in_ok-add.ensures.writes mid fine
       (search arith) (past mid _ _ c.comes_after-is_last.ensures (λ is clean. (all clean).1 is)))) in
-      let new = c.args.new.now in
-      let item = c.index-new-k.result in
-      let within : c.loop-k.k < length new = c.loop-k-test.true in (
+      let within : c.loop-k.k < length c.args.new.now = c.loop-k-test.true in (
         after,
         good,
         λ clean. (
-          rw (map_more entry_of new c.loop-k.k item)
-              (add_last (map entry_of (take c.loop-k.k new)) before mid after (entry_of (get_or new c.loop-k.k item))
-              (all (omega (arith, clean, more.quiet.clean))).0
-              (subst (λ x. IsAdded mid (entry_of x).0 (entry_of x).1 true after) c.index-new-k.is (done clean).0)),
+          rw (map_more entry_of c.args.new.now c.loop-k.k c.index-new-k.result, ← c.index-new-k.is)
+              (add_last _ before mid after _ (all (omega (arith, clean, more.quiet.clean))).0 (done clean).0),
           λ is. rw c.as_bytes-last.ensures.value ((done clean).1 is),
         ),
-        writes_then wrote more (some_long new c.loop-k.k item within (sym c.index-new-k.is)),
+        writes_then wrote more (some_long c.args.new.now c.loop-k.k _ within (sym c.index-new-k.is)),
       ),
 )
 
 pub returns : goal.returns
 returns g c before texts sees =
     let (mid, fine, all, wrote) = c.loop-k.invariant.1 before texts sees in
-    let end : take c.loop-k.k c.args.new.now ≡ c.args.new.now =
-    take_all c.loop-k.k c.args.new.now (omega (arith, c.loop-k-test.false)) in
-    (mid, fine, wrote, λ clean. subst (λ l. AddsAll before (map entry_of l) mid) end (all clean).0)
+    let end = take_all c.loop-k.k c.args.new.now (omega (arith, c.loop-k-test.false)) in
+    (mid, fine, wrote, λ clean. rw end at (all clean).0)
